@@ -1,10 +1,10 @@
 -- What stands at the front of a whole frame.
-use Rattle.std.proofs.Common.{◌≡◌, ℕ, ◌+◌, ◌-◌, ◌≤◌, List, [], ◌∷◌, length, get_or, take, drop, refl, arith, ◌∙◌, length-drop, Bool, true, false}
+use Rattle.std.proofs.Common.{◌≡◌, ℕ, ◌+◌, ◌-◌, ◌≤◌, List, [], ◌∷◌, length, get_or, take, drop, refl, arith, ◌∙◌, length-drop, true, false}
 use Rattle.std.specs.Prelude.{nat_lt}
 use Rattle.std.proofs.lemmas.Bool.{le-ltb}
 use Rattle.std.proofs.lemmas.List.{drop-drop}
 use Rattle.frame_view.specs.declared.Side.{Side}
-use Rattle.frame_view.specs.Frames.{Front, AFrame, front, at_head, number, is_type}
+use Rattle.frame_view.specs.Frames.{AFrame, front, at_head, number, is_type}
 
 pub front-long : (side : Side) (limit : ℕ) (bytes : List ℕ) → 5 ≤ length bytes → front side limit bytes ≡ at_head side limit (get_or bytes 0 0) (number (get_or bytes 1 0) (get_or bytes 2 0) (get_or bytes 3 0) (get_or bytes 4 0)) (drop 5 bytes)
 front-long side limit (k ∷ a ∷ b ∷ c ∷ d ∷ rest) h = refl

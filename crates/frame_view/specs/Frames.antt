@@ -1,5 +1,5 @@
 -- Frames of the frontend/backend protocol 3.0 (PostgreSQL manual, "Message Formats").
-use Rattle.std.specs.Prelude.{◌≡◌, ℕ, zero, suc, ◌+◌, ◌-◌, ◌*◌, ◌^◌, ◌<◌, ◌≤◌, List, [], ◌∷◌, ◌++◌, length, take, drop, slice_index, nat_lt, ◌==◌, ◌||◌, if◌then◌else◌, Bool, true, false, IsTrue}
+use Rattle.std.specs.Prelude.{◌≡◌, ℕ, zero, suc, ◌+◌, ◌-◌, ◌*◌, ◌^◌, ◌<◌, ◌≤◌, List, [], ◌∷◌, ◌++◌, length, take, drop, slice_index, nat_lt, ◌==◌, ◌||◌, if◌then◌else◌, Bool, true, IsTrue}
 use Rattle.std.specs.List.{flat_map, AllByRecursion}
 use Rattle.std.specs.Int.{w32, to_be_bytes}
 use Rattle.frame_view.specs.declared.FrameFault.{FrameFault}
@@ -43,7 +43,7 @@ after_head kind size rest =
 abbrev pub at_head : Side → ℕ → ℕ → ℕ → List ℕ → Front
 at_head side limit kind len rest =
     if is_type side kind then
-      (if nat_lt len 4 then Faulty TooShort else (if nat_lt limit len then Faulty TooLong else after_head kind (len - 4) rest))
+    (if nat_lt len 4 then Faulty TooShort else (if nat_lt limit len then Faulty TooLong else after_head kind (len - 4) rest))
     else Faulty UnknownType
 
 abbrev pub front : Side → ℕ → List ℕ → Front
@@ -141,7 +141,7 @@ after_code size asks rest =
 abbrev pub cancel_of : List ℕ → FirstOf
 cancel_of words =
     Cancels (number (slice_index words 0) (slice_index words 1) (slice_index words 2) (slice_index words 3))
-      (number (slice_index words 4) (slice_index words 5) (slice_index words 6) (slice_index words 7))
+    (number (slice_index words 4) (slice_index words 5) (slice_index words 6) (slice_index words 7))
 
 -- what a code asks for in a packet of this length, and the bytes after the code
 abbrev pub of_code : ℕ → ℕ → List ℕ → FirstFront

@@ -40,7 +40,10 @@ fn cancel_at(rest: &[u8]) -> FirstStep<'_>
     if rest.len() < 8 {
         return FirstStep::Need(8 - rest.len());
     }
-    FirstStep::Cancel { pid: number_at(rest, 0), secret: number_at(rest, 4) }
+    FirstStep::Cancel {
+        pid: number_at(rest, 0),
+        secret: number_at(rest, 4),
+    }
 }
 
 fn code_at(length: u32, code: u32, rest: &[u8]) -> FirstStep<'_>

@@ -5,7 +5,7 @@ ghost use Rattle.frame_view.specs.Answers.{LiesIn, Tells};
 ghost use Rattle.frame_view.specs.Frames.{front, is_client_type, is_type};
 
 use crate::numbers::number_at;
-use crate::{client, Frame, FrameFault, Side, Step};
+use crate::{Frame, FrameFault, Side, Step, client};
 
 /// The bytes of a type and a length.
 const HEAD: usize = 5;
@@ -65,7 +65,11 @@ fn step_at(bytes: &[u8], limit: u32, side: Side) -> Step<'_>
     if bytes.len() < end {
         return Step::Need(end - bytes.len());
     }
-    Step::Whole(Frame { kind, body: &bytes[HEAD..end], whole: &bytes[..end] })
+    Step::Whole(Frame {
+        kind,
+        body: &bytes[HEAD..end],
+        whole: &bytes[..end],
+    })
 }
 
 /// Tells what stands in `buf` at the place `from`: a whole frame, the number of bytes that are known to

@@ -15,7 +15,9 @@ pub mod server;
 #[cfg(test)]
 mod tests;
 
-pub use first::{first_packet, CANCEL_REQUEST, GSSENC_REQUEST, LONGEST_FIRST_PACKET, PROTOCOL_3_0, SSL_REQUEST};
+pub use first::{
+    CANCEL_REQUEST, GSSENC_REQUEST, LONGEST_FIRST_PACKET, PROTOCOL_3_0, SSL_REQUEST, first_packet,
+};
 pub use frames::next_frame;
 
 /// Which end of the connection sent the bytes.
