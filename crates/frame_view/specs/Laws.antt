@@ -1,9 +1,23 @@
 -- Laws of frames and of first packets. Each is the whole contract of a function of src/laws.rt.
-use Rattle.std.specs.Prelude.{◌≡◌, ℕ, ◌+◌, ◌-◌, ◌^◌, ◌<◌, ◌≤◌, List, ◌++◌, length}
+use Rattle.std.specs.Prelude.{◌≡◌, ℕ, ◌+◌, ◌-◌, ◌*◌, ◌^◌, ◌<◌, ◌≤◌, List, [], ◌∷◌, ◌++◌, length, codes}
 use Rattle.frame_view.specs.declared.Side.{Side}
 use Rattle.frame_view.specs.declared.FrameFault.{FrameFault}
-use Rattle.frame_view.specs.declared.first.TheConstants.{LONGEST_FIRST_PACKET}
+use Rattle.frame_view.specs.declared.client.TheConstants as client
+use Rattle.frame_view.specs.declared.server.TheConstants as server
+use Rattle.frame_view.specs.declared.first.TheConstants.{PROTOCOL_3_0, CANCEL_REQUEST, SSL_REQUEST, GSSENC_REQUEST, LONGEST_FIRST_PACKET}
 use Rattle.frame_view.specs.Frames.{AreBytes, Front, AFrame, Lacks, Faulty, front, FrameOf, spelling, IsFrame, Splits, Cut, before, frames, FirstOf, first_spelling, IsFirst, FirstFront, AFirst, LacksFirst, FaultyFirst, first_front}
+
+-- The types of a client's messages and of a server's are these letters.
+pub record KindsAreTheStandards : Type 0 where
+  pub of_client : client.BIND ∷ client.CLOSE ∷ client.DESCRIBE ∷ client.EXECUTE ∷ client.FUNCTION_CALL ∷ client.FLUSH ∷ client.PARSE ∷ client.QUERY ∷ client.SYNC ∷ client.TERMINATE ∷ client.COPY_DONE ∷ client.COPY_DATA ∷ client.COPY_FAIL ∷ client.PASSWORD_MESSAGE ∷ [] ≡ codes "BCDEFHPQSXcdfp"
+  pub of_server : server.PARSE_COMPLETE ∷ server.BIND_COMPLETE ∷ server.CLOSE_COMPLETE ∷ server.COMMAND_COMPLETE ∷ server.DATA_ROW ∷ server.ERROR_RESPONSE ∷ server.EMPTY_QUERY_RESPONSE ∷ server.BACKEND_KEY_DATA ∷ server.NOTICE_RESPONSE ∷ server.AUTHENTICATION ∷ server.PARAMETER_STATUS ∷ server.ROW_DESCRIPTION ∷ server.READY_FOR_QUERY ∷ server.NO_DATA ∷ server.PORTAL_SUSPENDED ∷ server.PARAMETER_DESCRIPTION ∷ [] ≡ codes "123CDEIKNRSTZnst"
+
+-- The codes are a version's or a request's two numbers of 16 bits: 3.0, 1234.5678 and the two after it.
+pub record CodesAreTheStandards : Type 0 where
+  pub protocol : PROTOCOL_3_0 ≡ 3 * 2 ^ 16 + 0
+  pub cancel : CANCEL_REQUEST ≡ 1234 * 2 ^ 16 + 5678
+  pub ssl : SSL_REQUEST ≡ 1234 * 2 ^ 16 + 5679
+  pub gssenc : GSSENC_REQUEST ≡ 1234 * 2 ^ 16 + 5680
 
 -- A frame's spelling is cut out again, whatever follows it.
 abbrev pub SpelledIsFront : Type 0

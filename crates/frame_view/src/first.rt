@@ -18,10 +18,17 @@ pub const GSSENC_REQUEST: u32 = 80_877_104;
 
 /// The greatest length of a first packet.
 pub const LONGEST_FIRST_PACKET: u32 = 10_000;
-/// A length and a code.
+/// The length of a packet that is a length and a code alone.
 const LEAST_FIRST_PACKET: u32 = 8;
-/// A length, a code, a process number and a secret.
+/// The length of a CancelRequest.
 const CANCEL_LENGTH: u32 = 16;
+
+/// The bytes of a length, and those of a code.
+const NUMBER: usize = 4;
+/// The bytes of a length and a code.
+const HEAD: usize = 8;
+/// The bytes of a CancelRequest's process number and secret.
+const CANCEL_WORDS: usize = 8;
 
 fn startup_of(size: usize, rest: &[u8]) -> FirstStep<'_>
     ensures tells { TellsFirst result (after_code size Start rest.now) }
@@ -37,12 +44,12 @@ fn cancel_at(rest: &[u8]) -> FirstStep<'_>
     ensures tells { TellsFirst result (after_code 8 cancel_of rest.now) }
     ensures place { LiesInFirst result rest.entry 0 }
 {
-    if rest.len() < 8 {
-        return FirstStep::Need(8 - rest.len());
+    if rest.len() < CANCEL_WORDS {
+        return FirstStep::Need(CANCEL_WORDS - rest.len());
     }
     FirstStep::Cancel {
         pid: number_at(rest, 0),
-        secret: number_at(rest, 4),
+        secret: number_at(rest, NUMBER),
     }
 }
 
@@ -52,7 +59,7 @@ fn code_at(length: u32, code: u32, rest: &[u8]) -> FirstStep<'_>
     ensures place { LiesInFirst result rest.entry 0 }
 {
     match code {
-        PROTOCOL_3_0 => startup_of(length as usize - 8, rest),
+        PROTOCOL_3_0 => startup_of(length as usize - HEAD, rest),
         CANCEL_REQUEST if length == CANCEL_LENGTH => cancel_at(rest),
         SSL_REQUEST if length == LEAST_FIRST_PACKET => FirstStep::Tls,
         GSSENC_REQUEST if length == LEAST_FIRST_PACKET => FirstStep::Gss,
@@ -66,10 +73,10 @@ fn length_at(length: u32, rest: &[u8]) -> FirstStep<'_>
     ensures tells { TellsFirst result (at_code length rest.now) }
     ensures place { LiesInFirst result rest.entry 4 }
 {
-    if rest.len() < 4 {
-        return FirstStep::Need(4 - rest.len());
+    if rest.len() < NUMBER {
+        return FirstStep::Need(NUMBER - rest.len());
     }
-    code_at(length, number_at(rest, 0), &rest[4..])
+    code_at(length, number_at(rest, 0), &rest[NUMBER..])
 }
 
 /// Reads a client's first packet from the front of `buf`.
@@ -83,8 +90,8 @@ pub fn first_packet(buf: &[u8]) -> FirstStep<'_>
     ensures tells { TellsFirst result (first_front buf.now) }
     ensures place { LiesInFirst result buf.entry 8 }
 {
-    if buf.len() < 4 {
-        return FirstStep::Need(8 - buf.len());
+    if buf.len() < NUMBER {
+        return FirstStep::Need(HEAD - buf.len());
     }
     let length = number_at(buf, 0);
     if length < LEAST_FIRST_PACKET {
@@ -93,5 +100,5 @@ pub fn first_packet(buf: &[u8]) -> FirstStep<'_>
     if length > LONGEST_FIRST_PACKET {
         return FirstStep::Bad(FrameFault::TooLong);
     }
-    length_at(length, &buf[4..])
+    length_at(length, &buf[NUMBER..])
 }

@@ -1,7 +1,13 @@
 //! Laws of frames and of first packets, each the contract of a function that does nothing: a caller that
 //! needs a law calls its function.
 
-ghost use Rattle.frame_view.specs.Laws.{FirstGrows, FirstReadIsSpelled, FirstSpelledIsRead, FramesGoOn, FramesSplit, FrontGrows, FrontIsSpelled, SpelledIsFirst, SpelledIsFront, SplitsOneWay};
+ghost use Rattle.frame_view.specs.Laws.{CodesAreTheStandards, FirstGrows, FirstReadIsSpelled, FirstSpelledIsRead, FramesGoOn, FramesSplit, FrontGrows, FrontIsSpelled, KindsAreTheStandards, SpelledIsFirst, SpelledIsFront, SplitsOneWay};
+
+/// The types of [`crate::client`] and [`crate::server`] and the codes of first packets are the standard's.
+pub fn names_are_the_standards()
+    ensures kinds { KindsAreTheStandards }
+    ensures codes { CodesAreTheStandards }
+{}
 
 /// A frame's spelling is cut out again, whatever follows it.
 pub fn spelled_is_front()
