@@ -2,7 +2,7 @@
 use Rattle.std.proofs.Common.{◌≡◌, ℕ, zero, suc, ◌+◌, ◌^◌, ◌<◌, ◌≤◌, List, [], ◌∷◌, ◌++◌, length, drop, refl, sym, ap, arith, ◌∙◌, length-append, append_assoc}
 use Rattle.std.specs.Int.{w32, to_be_bytes}
 use Rattle.std.specs.List.{flat_map, AllByRecursion}
-use Rattle.std.proofs.lemmas.List.{drop_at}
+use Rattle.std.proofs.lemmas.List.{append-nil, drop_at}
 use Rattle.frame_view.specs.declared.Side.{Side}
 use Rattle.frame_view.specs.Frames.{AreBytes, Front, AFrame, Lacks, Faulty, front, FrameOf, spelling, IsFrame, Stops, Splits, Cut, before, cut_after, frames}
 use Rattle.frame_view.specs.Laws.{following}
@@ -87,15 +87,17 @@ stopped-at side limit b bytes (AFrame kind body rest) s = absurd s
 stopped-at side limit b bytes (Lacks n) s = refl
 stopped-at side limit b bytes (Faulty fault) s = refl
 
-frames-stopped : (side : Side) (limit : ℕ) (bytes : List ℕ) → Stops (front side limit bytes) → frames side limit bytes ≡ record { frames = []; rest = bytes }
+pub frames-stopped : (side : Side) (limit : ℕ) (bytes : List ℕ) → Stops (front side limit bytes) → frames side limit bytes ≡ record { frames = []; rest = bytes }
 unfolding cut_after
 frames-stopped side limit [] s = refl
 frames-stopped side limit (b ∷ bytes) s = stopped-at side limit b bytes (front side limit (b ∷ bytes)) s
 
-spelled-frames : (side : Side) (limit : ℕ) (fs : List FrameOf) (rest : List ℕ) → limit < 2 ^ 32 → AllByRecursion (IsFrame side limit) fs → Stops (front side limit rest) → frames side limit (flat_map spelling fs ++ rest) ≡ record { frames = fs; rest = rest }
-spelled-frames side limit [] rest low each s = frames-stopped side limit rest s
-spelled-frames side limit (f ∷ fs) rest low each s =
-    ap (λ (t : List ℕ). frames side limit t) (append_assoc (spelling f) (flat_map spelling fs) rest) ∙ frames-spelling side limit f (flat_map spelling fs ++ rest) low each.0 ∙ ap (before f) (spelled-frames side limit fs rest low each.1 s)
+pub frames-spellings : (side : Side) (limit : ℕ) (fs : List FrameOf) (rest : List ℕ) → limit < 2 ^ 32 → AllByRecursion (IsFrame side limit) fs → frames side limit (flat_map spelling fs ++ rest) ≡ following fs (frames side limit rest)
+frames-spellings side limit [] rest low each = refl
+frames-spellings side limit (f ∷ fs) rest low each =
+    ap (λ (t : List ℕ). frames side limit t) (append_assoc (spelling f) (flat_map spelling fs) rest) ∙ frames-spelling side limit f (flat_map spelling fs ++ rest) low each.0 ∙ ap (before f) (frames-spellings side limit fs rest low each.1)
 
 pub splits-one_way : (side : Side) (limit : ℕ) (bytes : List ℕ) (fs : List FrameOf) (rest : List ℕ) → limit < 2 ^ 32 → Splits side limit bytes fs rest → frames side limit bytes ≡ record { frames = fs; rest = rest }
-splits-one_way side limit bytes fs rest low s = ap (λ (t : List ℕ). frames side limit t) s.whole ∙ spelled-frames side limit fs rest low s.each s.stops
+splits-one_way side limit bytes fs rest low s =
+    ap (λ (t : List ℕ). frames side limit t) s.whole ∙ frames-spellings side limit fs rest low s.each ∙ ap (following fs) (frames-stopped side limit rest s.stops)
+    ∙ ap (λ (t : List FrameOf). record { frames = t; rest = rest }) (append-nil fs)

@@ -21,20 +21,14 @@ LiesAt part buf i = (part.ref_ptr.0 ≡ buf.ref_ptr.0) × (part.ref_ptr.1 ≡ i 
 -- a frame that is handed out is the buffer's own memory at this place, its body five bytes later
 abbrev pub LiesIn : Step → Bor (List ℕ) → ℕ → Type 0
 LiesIn (Whole frame) buf i = LiesAt frame.whole buf i × LiesAt frame.body buf (5 + i)
-LiesIn (Need n) buf i = Unit {0}
-LiesIn (Bad fault) buf i = Unit {0}
+LiesIn _ buf i = Unit {0}
 
 -- the answer says what stands at the front of the bytes
 abbrev pub Tells : Step → List ℕ → Front → Type 0
 Tells (Whole frame) bytes (AFrame kind body rest) = IsCut frame bytes kind body rest
 Tells (Need n) bytes (Lacks m) = (n ≡ m) × (0 < m)
 Tells (Bad fault) bytes (Faulty other) = fault ≡ other
-Tells (Whole frame) bytes (Lacks m) = ⊥
-Tells (Whole frame) bytes (Faulty other) = ⊥
-Tells (Need n) bytes (AFrame kind body rest) = ⊥
-Tells (Need n) bytes (Faulty other) = ⊥
-Tells (Bad fault) bytes (AFrame kind body rest) = ⊥
-Tells (Bad fault) bytes (Lacks m) = ⊥
+Tells _ _ _ = ⊥
 
 -- the same for a first packet
 abbrev pub TellsFirst : FirstStep → FirstFront → Type 0
@@ -46,6 +40,7 @@ TellsFirst (first.Need n) (LacksFirst m) = (n ≡ m) × (0 < m)
 TellsFirst (first.Bad fault) (FaultyFirst other) = fault ≡ other
 TellsFirst _ _ = ⊥
 
+-- the bytes of a startup message are the buffer's own memory at this place
 abbrev pub LiesInFirst : FirstStep → Bor (List ℕ) → ℕ → Type 0
 LiesInFirst (first.Startup part) buf i = LiesAt part buf i
 LiesInFirst _ buf i = Unit {0}

@@ -1,5 +1,6 @@
 -- Laws of frames and of first packets. Each is the whole contract of a function of src/laws.rt.
 use Rattle.std.specs.Prelude.{◌≡◌, ℕ, ◌+◌, ◌-◌, ◌*◌, ◌^◌, ◌<◌, ◌≤◌, List, [], ◌∷◌, ◌++◌, length, codes}
+use Rattle.std.specs.List.{flat_map, AllByRecursion}
 use Rattle.frame_view.specs.declared.Side.{Side}
 use Rattle.frame_view.specs.declared.FrameFault.{FrameFault}
 use Rattle.frame_view.specs.declared.client.TheConstants as client
@@ -26,6 +27,14 @@ SpelledIsFront = (side : Side) (limit : ℕ) (f : FrameOf) (rest : List ℕ) →
 -- It is the first of the frames, and the others are those of what follows it.
 abbrev pub SpelledIsFirst : Type 0
 SpelledIsFirst = (side : Side) (limit : ℕ) (f : FrameOf) (rest : List ℕ) → limit < 2 ^ 32 → IsFrame side limit f → frames side limit (spelling f ++ rest) ≡ before f (frames side limit rest)
+
+-- these frames, and then those of a cut, with its rest
+abbrev pub following : List FrameOf → Cut → Cut
+following fs cut = record { frames = fs ++ cut.frames; rest = cut.rest }
+
+-- So it is with any frames that are spelled one after the other.
+abbrev pub SpelledAreFirst : Type 0
+SpelledAreFirst = (side : Side) (limit : ℕ) (fs : List FrameOf) (rest : List ℕ) → limit < 2 ^ 32 → AllByRecursion (IsFrame side limit) fs → frames side limit (flat_map spelling fs ++ rest) ≡ following fs (frames side limit rest)
 
 -- What stands at the front as a frame is spelled so.
 abbrev pub FrontIsSpelled : Type 0
@@ -60,10 +69,6 @@ FramesSplit = (side : Side) (limit : ℕ) (bytes : List ℕ) → AreBytes bytes 
 -- No other frames and rest do.
 abbrev pub SplitsOneWay : Type 0
 SplitsOneWay = (side : Side) (limit : ℕ) (bytes : List ℕ) (fs : List FrameOf) (rest : List ℕ) → limit < 2 ^ 32 → Splits side limit bytes fs rest → frames side limit bytes ≡ record { frames = fs; rest = rest }
-
--- these frames, and then those of a cut, with its rest
-abbrev pub following : List FrameOf → Cut → Cut
-following fs cut = record { frames = fs ++ cut.frames; rest = cut.rest }
 
 -- The frames of a beginning, and then those of its rest and what comes after, are the frames of all: any
 -- cutting gives the same frames.

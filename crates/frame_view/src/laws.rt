@@ -1,7 +1,7 @@
 //! Laws of frames and of first packets, each the contract of a function that does nothing: a caller that
 //! needs a law calls its function.
 
-ghost use Rattle.frame_view.specs.Laws.{CodesAreTheStandards, FirstGrows, FirstReadIsSpelled, FirstSpelledIsRead, FramesGoOn, FramesSplit, FrontGrows, FrontIsSpelled, KindsAreTheStandards, SpelledIsFirst, SpelledIsFront, SplitsOneWay};
+ghost use Rattle.frame_view.specs.Laws.{CodesAreTheStandards, FirstGrows, FirstReadIsSpelled, FirstSpelledIsRead, FramesGoOn, FramesSplit, FrontGrows, FrontIsSpelled, KindsAreTheStandards, SpelledAreFirst, SpelledIsFirst, SpelledIsFront, SplitsOneWay};
 
 /// The types of [`crate::client`] and [`crate::server`] and the codes of first packets are the standard's.
 pub fn names_are_the_standards()
@@ -17,6 +17,11 @@ pub fn spelled_is_front()
 /// A frame's spelling is the first of the frames, and the others are those of what follows it.
 pub fn spelled_is_first()
     ensures { SpelledIsFirst }
+{}
+
+/// Frames that are spelled one after the other are the first of the frames.
+pub fn spelled_are_first()
+    ensures { SpelledAreFirst }
 {}
 
 /// What stands at the front as a frame is spelled so.

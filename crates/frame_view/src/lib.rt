@@ -32,13 +32,13 @@ pub enum Side {
 /// Why no message stands at the front of the bytes, whatever comes after them.
 #[derive(Clone, Copy, Debug, PartialEq, Eq, Drop)]
 pub enum FrameFault {
-    /// F1: the length is below the least one, or isn't the one that a first packet's code wants.
+    /// The length is below the least one, or isn't the one that a first packet's code wants.
     TooShort,
-    /// F2: the length is above the limit.
+    /// The length is above the limit.
     TooLong,
-    /// F3: on the client's side, the type byte is none of the client's.
+    /// On the client's side, the type byte is none of the client's.
     UnknownType,
-    /// F4: the code of a first packet is none of the four.
+    /// The code of a first packet is none of the four.
     UnknownCode,
 }
 
