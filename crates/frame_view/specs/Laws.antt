@@ -10,8 +10,12 @@ use Rattle.frame_view.specs.Frames.{AreBytes, Front, AFrame, Lacks, Faulty, fron
 
 -- The types of a client's messages and of a server's are these letters.
 pub record KindsAreTheStandards : Type 0 where
-  pub of_client : client.BIND ∷ client.CLOSE ∷ client.DESCRIBE ∷ client.EXECUTE ∷ client.FUNCTION_CALL ∷ client.FLUSH ∷ client.PARSE ∷ client.QUERY ∷ client.SYNC ∷ client.TERMINATE ∷ client.COPY_DONE ∷ client.COPY_DATA ∷ client.COPY_FAIL ∷ client.PASSWORD_MESSAGE ∷ [] ≡ codes "BCDEFHPQSXcdfp"
-  pub of_server : server.PARSE_COMPLETE ∷ server.BIND_COMPLETE ∷ server.CLOSE_COMPLETE ∷ server.COMMAND_COMPLETE ∷ server.DATA_ROW ∷ server.ERROR_RESPONSE ∷ server.EMPTY_QUERY_RESPONSE ∷ server.BACKEND_KEY_DATA ∷ server.NOTICE_RESPONSE ∷ server.AUTHENTICATION ∷ server.PARAMETER_STATUS ∷ server.ROW_DESCRIPTION ∷ server.READY_FOR_QUERY ∷ server.NO_DATA ∷ server.PORTAL_SUSPENDED ∷ server.PARAMETER_DESCRIPTION ∷ [] ≡ codes "123CDEIKNRSTZnst"
+  pub of_client : client.BIND ∷ client.CLOSE ∷ client.DESCRIBE ∷ client.EXECUTE ∷ client.FUNCTION_CALL ∷ client.FLUSH
+      ∷ client.PARSE ∷ client.QUERY ∷ client.SYNC ∷ client.TERMINATE
+      ∷ client.COPY_DONE ∷ client.COPY_DATA ∷ client.COPY_FAIL ∷ client.PASSWORD_MESSAGE ∷ [] ≡ codes "BCDEFHPQSXcdfp"
+  pub of_server : server.PARSE_COMPLETE ∷ server.BIND_COMPLETE ∷ server.CLOSE_COMPLETE ∷ server.COMMAND_COMPLETE ∷ server.DATA_ROW ∷ server.ERROR_RESPONSE
+      ∷ server.EMPTY_QUERY_RESPONSE ∷ server.BACKEND_KEY_DATA ∷ server.NOTICE_RESPONSE ∷ server.AUTHENTICATION ∷ server.PARAMETER_STATUS
+      ∷ server.ROW_DESCRIPTION ∷ server.READY_FOR_QUERY ∷ server.NO_DATA ∷ server.PORTAL_SUSPENDED ∷ server.PARAMETER_DESCRIPTION ∷ [] ≡ codes "123CDEIKNRSTZnst"
 
 -- The codes are a version's or a request's two numbers of 16 bits: 3.0, 1234.5678 and the two after it.
 pub record CodesAreTheStandards : Type 0 where
