@@ -1,5 +1,5 @@
 -- Which statement a text spells.
-use Rattle.std.specs.Prelude.{ℕ, List, [], ◌∷◌, length, max, Option, Some, None, Bool, true, false, nat_le, ◌==◌, ◌||◌, ◌&&◌, if◌then◌else◌, codes, option_and_then}
+use Rattle.std.specs.Prelude.{ℕ, List, [], ◌∷◌, length, max, Option, Some, None, Bool, true, false, nat_le, ◌==◌, ◌||◌, ◌&&◌, if◌then◌else◌, codes}
 use Rattle.mini_sql.specs.Words.{Text, same_word, folded}
 use Rattle.mini_sql.specs.Tokens.{Token, Name, Literal, Digits, Parameter, Sign, tokens, opening, closing, star, comma, semicolon, equal}
 
@@ -62,34 +62,39 @@ abbrev pub column_of : Token → Option Text
 column_of (Name n) = Some (folded n)
 column_of _ = None
 
+-- what is read from tokens, where there are any
+unfoldable pub read : {A B : Type 0} → (A → Option B) → Option A → Option B
+read f None = None
+read f (Some a) = f a
+
 -- A form is how tokens are read as a statement.
 abbrev pub Form : Type 0
 Form = List Token → Option Statement
 
 -- the end
-abbrev pub ends : Statement → Form
+unfoldable pub ends : Statement → Form
 ends s [] = Some s
 ends s (t ∷ ts) = None
 
 -- a token that passes a test, and then the rest
-abbrev pub pass : (Token → Bool) → Form → Form
+unfoldable pub pass : (Token → Bool) → Form → Form
 pass test rest [] = None
 pass test rest (t ∷ ts) = if test t then rest ts else None
 
 -- a token that is read as a value, and then the rest
-abbrev pub take_value : {A : Type 0} → (Token → Option A) → (A → Form) → Form
+unfoldable pub take_value : {A : Type 0} → (Token → Option A) → (A → Form) → Form
 take_value value_of rest [] = None
-take_value value_of rest (t ∷ ts) = option_and_then (λ a. rest a ts) (value_of t)
+take_value value_of rest (t ∷ ts) = read (λ a. rest a ts) (value_of t)
 
 abbrev pub or_else : {A : Type 0} → Option A → Option A → Option A
 or_else None b = b
 or_else (Some a) b = Some a
 
-abbrev pub either : Form → Form → Form
+unfoldable pub either : Form → Form → Form
 either first second ts = or_else (first ts) (second ts)
 
 -- An item before the items that follow it, and the tokens after them.
-abbrev pub with_item : {A : Type 0} → Option A → Option (List A × List Token) → Option (List A × List Token)
+unfoldable pub with_item : {A : Type 0} → Option A → Option (List A × List Token) → Option (List A × List Token)
 with_item (Some a) (Some p) = Some (a ∷ p.0, p.1)
 with_item _ _ = None
 
@@ -108,67 +113,67 @@ definitions (t ∷ k ∷ s ∷ ts) =
     if is_word (codes "text") k then with_item (column_of t) (if is_sign comma s then definitions ts else Some ([], s ∷ ts)) else None
 
 -- the columns of a CREATE, with their type, or those of a SELECT
-abbrev pub columns_at : Bool → List Token → Option (List Text × List Token)
+unfoldable pub columns_at : Bool → List Token → Option (List Text × List Token)
 columns_at true ts = definitions ts
 columns_at false ts = items column_of ts
 
 -- a list of columns is 1 to 64 long
-abbrev pub at_most_64 : Option (List Text × List Token) → Option (List Text × List Token)
+unfoldable pub at_most_64 : Option (List Text × List Token) → Option (List Text × List Token)
 at_most_64 None = None
 at_most_64 (Some p) = if nat_le (length p.0) 64 then Some p else None
 
-abbrev pub take_columns : Bool → (List Text → Form) → Form
-take_columns typed rest ts = option_and_then (λ p. rest p.0 p.1) (at_most_64 (columns_at typed ts))
+unfoldable pub take_columns : Bool → (List Text → Form) → Form
+take_columns typed rest ts = read (λ p. rest p.0 p.1) (at_most_64 (columns_at typed ts))
 
-abbrev pub take_operands : (List Operand → Form) → Form
-take_operands rest ts = option_and_then (λ p. rest p.0 p.1) (items operand_of ts)
+unfoldable pub take_operands : (List Operand → Form) → Form
+take_operands rest ts = read (λ p. rest p.0 p.1) (items operand_of ts)
 
 -- The forms, each after its first word.
-abbrev pub block : Statement → Form
+unfoldable pub block : Statement → Form
 block s = either (ends s) (pass (λ t. is_word (codes "work") t || is_word (codes "transaction") t) (ends s))
 
 -- `name TO v` or `name = v`
-abbrev pub assignment : Form
+unfoldable pub assignment : Form
 assignment = take_value name_of (λ n. pass (λ t. is_word (codes "to") t || is_sign equal t) (take_value setting_of (λ v. ends (Set n v))))
 
-abbrev pub set : Form
+unfoldable pub set : Form
 set = either (pass (is_word (codes "session")) assignment) assignment
 
-abbrev pub reset : Form
+unfoldable pub reset : Form
 reset = either (pass (is_word (codes "all")) (ends ResetAll)) (take_value name_of (λ n. ends (Reset n)))
 
-abbrev pub show : Form
+unfoldable pub show : Form
 show = take_value name_of (λ n. ends (Show n))
 
-abbrev pub discard : Form
+unfoldable pub discard : Form
 discard = pass (is_word (codes "all")) (ends DiscardAll)
 
-abbrev pub definition_list : Text → Form
+unfoldable pub definition_list : Text → Form
 definition_list t = pass (is_sign opening) (take_columns true (λ cs. pass (is_sign closing) (ends (Create t cs))))
 
-abbrev pub create : Form
+unfoldable pub create : Form
 create = pass (λ t. is_word (codes "temp") t || is_word (codes "temporary") t) (pass (is_word (codes "table")) (take_value column_of definition_list))
 
-abbrev pub drop_table : Form
+unfoldable pub drop_table : Form
 drop_table = pass (is_word (codes "table")) (take_value column_of (λ t. ends (Drop t)))
 
-abbrev pub value_list : Text → Form
+unfoldable pub value_list : Text → Form
 value_list t = pass (is_sign opening) (take_operands (λ vs. pass (is_sign closing) (ends (Insert t vs))))
 
-abbrev pub insert : Form
+unfoldable pub insert : Form
 insert = pass (is_word (codes "into")) (take_value column_of (λ t. pass (is_word (codes "values")) (value_list t)))
 
-abbrev pub where_of : List Text → Text → Form
+unfoldable pub where_of : List Text → Text → Form
 where_of cs t =
     pass (is_word (codes "where")) (take_value column_of (λ c. pass (is_sign equal) (take_value operand_of (λ v. ends (Select cs t (Some (record { column = c; to = v })))))))
 
-abbrev pub from_of : List Text → Form
+unfoldable pub from_of : List Text → Form
 from_of cs = pass (is_word (codes "from")) (take_value column_of (λ t. either (ends (Select cs t None)) (where_of cs t)))
 
-abbrev pub select : Form
+unfoldable pub select : Form
 select = either (pass (is_sign star) (from_of [])) (take_columns false from_of)
 
-abbrev pub of_tokens : Form
+unfoldable pub of_tokens : Form
 of_tokens [] = Some Empty
 of_tokens (t ∷ ts) =
     if is_word (codes "begin") t then block Begin ts else
@@ -193,7 +198,7 @@ without_semicolon [] = []
 without_semicolon (t ∷ ts) = if is_last_semicolon t ts then [] else (t ∷ without_semicolon ts)
 
 -- the tokens of a text, less one last semicolon
-abbrev pub less_semicolon : Option (List Token) → Option (List Token)
+unfoldable pub less_semicolon : Option (List Token) → Option (List Token)
 less_semicolon None = None
 less_semicolon (Some ts) = Some (without_semicolon ts)
 
@@ -202,7 +207,7 @@ phrase t = less_semicolon (tokens t)
 
 -- the statement that a text spells; None: a syntax error
 unfoldable pub statement : Text → Option Statement
-statement t = option_and_then of_tokens (phrase t)
+statement t = read of_tokens (phrase t)
 
 -- the greatest number of a parameter, or 0
 abbrev pub operand_parameter : Operand → ℕ
