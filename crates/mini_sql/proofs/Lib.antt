@@ -2,3 +2,5 @@ mod Examples
 pub mod Lexing
 pub mod Quotes
 pub mod Reading
+pub mod Steps
+pub mod Skipping

@@ -1,0 +1,10 @@
+use Rattle.std.proofs.Common.{◌≡◌, ◌∙◌, sym, ap}
+use Rattle.mini_sql.specs.Statements.{read}
+use Rattle.mini_sql.proofs.Steps.{reads-err, reads-to, pass-to, pass-no, sign-to, value-to, value-no, end-to, end-no, either-first, either-second, columns-to, columns-no, operands-to, operands-no}
+use Rattle.mini_sql.proofs.forms.all.Goals as goal
+
+pub returns-in_err-rest : goal.returns-in_err-rest
+returns-in_err-rest c = reads-err _ _ c.from_residual.ensures.0 (pass-no _ _ _ c.in_err-rest.ensures)
+
+pub returns : goal.returns
+returns c = reads-to _ _ _ (pass-to _ _ _ _ c.in_ok-rest.ensures) c.finish.ensures
