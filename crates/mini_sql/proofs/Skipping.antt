@@ -1,6 +1,7 @@
 -- Lists that are passed over, item by item.
 use Rattle.std.proofs.Common.{◌≡◌, ℕ, zero, suc, ◌+◌, ◌<◌, ◌≤◌, List, [], ◌∷◌, length, Option, Some, None, refl, sym, ap, ◌∙◌, arith, Bool, true, false, add_assoc}
-use Rattle.std.specs.Prelude.{if◌then◌else◌, nat_le}
+use Rattle.std.specs.Prelude.{if◌then◌else◌, nat_le, max}
+use Rattle.mini_sql.specs.Statements.{Operand, greatest, operand_parameter}
 use Rattle.std.specs.Borrow.{Bor}
 use Rattle.std.proofs.lemmas.Bool.{le-leb, lt-leb}
 use Rattle.mini_sql.specs.Words.{Text}
@@ -129,3 +130,12 @@ nothing_rest A (Some ts) = refl
 pub rest-stops : {A : Type 0} (list : List Token → Listing A) (a : A) (x : Listing A) (o rest : Option (List Token)) → rest_of x ≡ rest_of (read list o)
     → read list o ≡ with_item (Some a) (more list rest) → GoesOn None rest → rest_of x ≡ rest
 rest-stops {A} list a x o rest so_far e g = so_far ∙ ap rest_of e ∙ rest-item a _ ∙ ap rest_of (more-end list rest g) ∙ nothing_rest A rest
+
+-- the greatest parameter, by one more value
+pub greatest-more : (most next : ℕ) (o : Operand) (xs ys : List Operand) (whole : ℕ) → xs ≡ o ∷ ys → max most (greatest xs) ≡ whole → next ≡ max most (operand_parameter o) → max next (greatest ys) ≡ whole
+greatest-more most next o xs ys whole e so_far n =
+    let all : greatest xs ≡ max (operand_parameter o) (greatest ys) = ap greatest e in
+    omega (arith, all, so_far, n)
+
+pub greatest-all : (most : ℕ) (xs : List Operand) (whole : ℕ) → xs ≡ [] → max most (greatest xs) ≡ whole → most ≡ whole
+greatest-all most xs whole e so_far = let none : greatest xs ≡ 0 = ap greatest e in omega (arith, none, so_far)

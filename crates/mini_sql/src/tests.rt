@@ -1,0 +1,116 @@
+use crate::{Operand, Setting, SqlFault, Stmt, is_same_word, read_statement};
+use std::alloc::Global;
+use std::process::Abort;
+use std::test::Fail;
+
+/// A statement as one line, to be compared with what the rules say.
+fn shown(alloc: Global, text: &[u8]) -> Result<Vec<u8>, Fail> {
+    let mut line = Vec::new(alloc);
+    match read_statement(text) {
+        Err(SqlFault::Syntax) => put(&mut line, b"syntax")?,
+        Ok(stmt) => put_stmt(&mut line, &stmt)?,
+    }
+    Ok(line)
+}
+
+fn put(line: &mut Vec<u8>, text: &[u8]) -> Result<(), Fail> {
+    for byte in text {
+        line.push(*byte)?;
+    }
+    Ok(())
+}
+
+fn put_named(line: &mut Vec<u8>, word: &[u8], name: &[u8]) -> Result<(), Fail> {
+    put(line, word)?;
+    put(line, b" ")?;
+    put(line, name)
+}
+
+fn put_setting(line: &mut Vec<u8>, to: &Setting<'_>) -> Result<(), Fail> {
+    match to {
+        Setting::Default => put(line, b" default"),
+        Setting::Word(name) => put_named(line, b" word", name),
+        Setting::Digits(digits) => put_named(line, b" digits", digits),
+        Setting::Literal(literal) => {
+            put(line, b" '")?;
+            for byte in literal.bytes() {
+                line.push(byte)?;
+            }
+            put(line, b"'")
+        }
+    }
+}
+
+fn put_operand(line: &mut Vec<u8>, operand: &Operand<'_>) -> Result<(), Fail> {
+    match operand {
+        Operand::Null => put(line, b" null"),
+        Operand::Parameter(number) => {
+            put(line, b" $")?;
+            line.push(b'0' + number / 10)?;
+            line.push(b'0' + number % 10)?;
+            Ok(())
+        }
+        Operand::Literal(literal) => {
+            put(line, b" '")?;
+            for byte in literal.bytes() {
+                line.push(byte)?;
+            }
+            put(line, b"'")
+        }
+    }
+}
+
+fn put_stmt(line: &mut Vec<u8>, stmt: &Stmt<'_>) -> Result<(), Fail> {
+    match stmt {
+        Stmt::Empty => put(line, b"empty"),
+        Stmt::Begin => put(line, b"begin"),
+        Stmt::Commit => put(line, b"commit"),
+        Stmt::Rollback => put(line, b"rollback"),
+        Stmt::Set { name, to } => {
+            put_named(line, b"set", name)?;
+            put_setting(line, to)
+        }
+        Stmt::Reset { name } => put_named(line, b"reset", name),
+        Stmt::ResetAll => put(line, b"reset all"),
+        Stmt::Show { name } => put_named(line, b"show", name),
+        Stmt::DiscardAll => put(line, b"discard all"),
+        Stmt::Create { table, columns } => {
+            put_named(line, b"create", table)?;
+            for column in *columns {
+                put_named(line, b" column", column)?;
+            }
+            Ok(())
+        }
+        Stmt::Drop { table } => put_named(line, b"drop", table),
+        Stmt::Insert { table, operands } => {
+            put_named(line, b"insert", table)?;
+            for operand in *operands {
+                put_operand(line, &operand)?;
+            }
+            Ok(())
+        }
+        Stmt::Select {
+            columns,
+            table,
+            filter,
+        } => {
+            put_named(line, b"select", table)?;
+            for column in *columns {
+                put_named(line, b" column", column)?;
+            }
+            if let Some(filter) = filter {
+                put_named(line, b" where", filter.column)?;
+                put_operand(line, &filter.value)?;
+            }
+            Ok(())
+        }
+    }
+}
+
+fn check<A: Abort>(rt: &A, alloc: Global, table: &[(&[u8], &[u8])]) -> Result<(), Fail> {
+    for (text, expected) in table {
+        let line = shown(alloc, text)?;
+        assert!(rt; line.as_slice() == *expected, "a text is read otherwise");
+    }
+    Ok(())
+}
