@@ -4,3 +4,5 @@ pub mod Quotes
 pub mod Reading
 pub mod Steps
 pub mod Skipping
+pub mod Deriving
+pub mod Derived
