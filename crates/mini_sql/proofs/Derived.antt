@@ -1,11 +1,11 @@
 -- What is derived is read.
 use Rattle.std.proofs.Common.{◌≡◌, ℕ, ◌≤◌, List, [], ◌∷◌, ◌++◌, length, Option, Some, None, refl, sym, ap, ◌∙◌, Bool, true, false, eqb-true}
-use Rattle.std.specs.Prelude.{if◌then◌else◌, nat_le, codes, ◌||◌, ◌==◌}
+use Rattle.std.specs.Prelude.{if◌then◌else◌, nat_le, codes, ◌||◌}
 use Rattle.std.proofs.lemmas.Bool.{le-leb}
 use Rattle.std.proofs.lemmas.Slice.Eq.{bytes_eq-Decides}
-use Rattle.mini_sql.specs.Words.{Text, same_word, folded}
-use Rattle.mini_sql.specs.Tokens.{tokens, Token, Name, Literal, Digits, Parameter, Sign, opening, closing, star, comma, equal}
-use Rattle.mini_sql.specs.Statements.{Form, Statement, Empty, Begin, Commit, Rollback, Set, Reset, ResetAll, Show, DiscardAll, Create, Drop, Insert, Select, Equals, Operand, read, ends, pass, take_value, either, or_else, items, definitions, columns_at, at_most_64, with_item, take_columns, take_operands, name_of, column_of, setting_of, operand_of, is_word, is_sign, block, assignment, set, reset, show, discard, create, definition_list, drop_table, insert, value_list, where_of, end_of, from_of, select, of_word, of_tokens, phrase, statement, less_semicolon, without_semicolon}
+use Rattle.mini_sql.specs.Words.{Text, folded}
+use Rattle.mini_sql.specs.Tokens.{Token, Name, Literal, Digits, Parameter, Sign, closing, star, comma, equal}
+use Rattle.mini_sql.specs.Statements.{Form, Statement, Begin, Commit, Rollback, Set, Select, Equals, Operand, read, ends, pass, take_value, either, or_else, items, definitions, columns_at, at_most_64, with_item, take_columns, take_operands, name_of, column_of, operand_of, is_word, is_sign, block, assignment, set, reset, show, discard, create, definition_list, drop_table, insert, value_list, where_of, end_of, from_of, select, of_tokens, phrase, statement, less_semicolon}
 use Rattle.mini_sql.specs.Grammar.{Says, Marks, IsBlock, Columns, Definitions, Operands, Assignment, Filter, Chosen, IsTemporary, Derives}
 use Rattle.mini_sql.specs.Grammar as g
 use Rattle.mini_sql.specs.Laws.{DerivedIsStatement, DerivesOne}

@@ -2,9 +2,9 @@
 use Rattle.std.proofs.Common.{◌≡◌, ℕ, ◌≤◌, List, [], ◌∷◌, ◌++◌, length, Option, Some, None, refl, sym, ap, ◌∙◌, arith, Bool, true, false, subst, append_assoc}
 use Rattle.std.proofs.lemmas.Bool.Decides.{nat_tests}
 use Rattle.std.specs.Prelude.{if◌then◌else◌, nat_le, codes, ◌||◌}
-use Rattle.mini_sql.specs.Words.{Text, same_word, folded}
-use Rattle.mini_sql.specs.Tokens.{tokens, Token, Name, Sign, opening, closing, star, comma, equal}
-use Rattle.mini_sql.specs.Statements.{Form, Statement, Empty, Begin, Commit, Rollback, Set, Reset, ResetAll, Show, DiscardAll, Create, Drop, Insert, Select, Equals, Operand, read, ends, pass, take_value, either, or_else, items, definitions, columns_at, at_most_64, with_item, take_columns, take_operands, name_of, column_of, setting_of, operand_of, is_word, is_sign, block, assignment, set, reset, show, discard, create, definition_list, drop_table, insert, value_list, where_of, end_of, from_of, select, of_word, of_other, of_tokens, fails, phrase, statement, less_semicolon, without_semicolon}
+use Rattle.mini_sql.specs.Words.{Text}
+use Rattle.mini_sql.specs.Tokens.{tokens, Token, closing, comma}
+use Rattle.mini_sql.specs.Statements.{Form, Statement, Empty, Begin, Commit, Rollback, Set, Reset, ResetAll, Show, DiscardAll, Create, Drop, Insert, Select, Equals, Operand, read, ends, pass, take_value, either, or_else, items, definitions, columns_at, at_most_64, with_item, take_columns, take_operands, name_of, column_of, setting_of, operand_of, is_word, is_sign, block, assignment, set, reset, show, discard, create, definition_list, drop_table, insert, value_list, where_of, end_of, from_of, select, of_word, of_other, of_tokens, phrase, statement, less_semicolon, without_semicolon}
 use Rattle.mini_sql.specs.Laws.{StatementIsDerived}
 use Rattle.mini_sql.specs.Grammar.{Says, Marks, Spells, Names, Sets, Gives, IsBlock, Columns, Definitions, Operands, Assignment, Filter, Chosen, IsTemporary, Derives}
 use Rattle.mini_sql.specs.Grammar as g

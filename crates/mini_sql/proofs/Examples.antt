@@ -1,8 +1,7 @@
 -- Texts and what they spell, by the definitions alone.
-use Rattle.std.specs.Prelude.{◌≡◌, ℕ, List, [], ◌∷◌, ◌++◌, Option, Some, None, refl, codes}
-use Rattle.mini_sql.specs.Words.{Text}
-use Rattle.mini_sql.specs.Tokens.{Token, Name, Literal, Digits, Sign, tokens, tokens_after, literal_length, unquoted}
-use Rattle.mini_sql.specs.Statements.{statement, phrase, read, of_tokens, less_semicolon, ends, pass, take_value, either, block, assignment, set, reset, show, discard, definition_list, create, drop_table, value_list, insert, where_of, end_of, from_of, select, take_columns, take_operands, at_most_64, columns_at, with_item, items, definitions, Statement, Empty, Begin, Set, Reset, ResetAll, Show, Create, Drop, Insert, Select, Operand, Constant, Placeholder, Null}
+use Rattle.std.specs.Prelude.{◌≡◌, [], ◌∷◌, Some, None, refl, codes}
+use Rattle.mini_sql.specs.Tokens.{tokens_after, literal_length, unquoted}
+use Rattle.mini_sql.specs.Statements.{statement, phrase, read, of_tokens, less_semicolon, ends, pass, take_value, either, block, assignment, set, reset, show, discard, definition_list, create, drop_table, value_list, insert, where_of, end_of, from_of, select, take_columns, take_operands, at_most_64, columns_at, with_item, items, definitions, Empty, Set, Create, Insert, Select, Constant, Placeholder, Null}
 
 empty : statement (codes " ; ") ≡ Some Empty
 unfolding statement read of_tokens less_semicolon ends pass take_value either block assignment set reset show discard definition_list create drop_table value_list insert where_of end_of from_of select take_columns take_operands at_most_64 columns_at with_item phrase tokens_after

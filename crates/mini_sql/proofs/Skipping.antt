@@ -1,13 +1,12 @@
 -- Lists that are passed over, item by item.
-use Rattle.std.proofs.Common.{◌≡◌, ℕ, zero, suc, ◌+◌, ◌<◌, ◌≤◌, List, [], ◌∷◌, length, Option, Some, None, refl, sym, ap, ◌∙◌, arith, Bool, true, false, add_assoc}
+use Rattle.std.proofs.Common.{◌≡◌, ℕ, suc, ◌+◌, ◌<◌, ◌≤◌, List, [], ◌∷◌, length, Option, Some, None, refl, sym, ap, ◌∙◌, arith, Bool, true, false, add_assoc}
 use Rattle.std.specs.Prelude.{if◌then◌else◌, nat_le, max}
 use Rattle.mini_sql.specs.Statements.{Operand, greatest, operand_parameter}
-use Rattle.std.specs.Borrow.{Bor}
 use Rattle.std.proofs.lemmas.Bool.{le-leb, lt-leb}
 use Rattle.mini_sql.specs.Words.{Text}
 use Rattle.mini_sql.specs.Tokens.{Token, Sign, after_token, comma}
-use Rattle.mini_sql.specs.Statements.{phrase, read, items, definitions, columns_at, at_most_64, with_item, column_of, is_word, is_sign}
-use Rattle.mini_sql.specs.Lists.{Listing, items_of, rest_of, more, GoesOn}
+use Rattle.mini_sql.specs.Statements.{read, items, definitions, columns_at, at_most_64, with_item, column_of}
+use Rattle.mini_sql.specs.Lists.{Listing, rest_of, more, GoesOn}
 use Rattle.mini_sql.proofs.Reading.{more-comma, more-end, nothing_more}
 
 -- how many items a list has, and what follows it

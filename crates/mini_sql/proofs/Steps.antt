@@ -1,6 +1,6 @@
 -- Forms of statements, read token by token.
-use Rattle.std.proofs.Common.{◌≡◌, ℕ, ◌≤◌, List, [], ◌∷◌, length, Option, Some, None, Result, Ok, Err, refl, sym, ap, ◌∙◌, arith, Bool, true, false, eq-eqb, subst}
-use Rattle.std.specs.Prelude.{if◌then◌else◌, nat_le, IsErr, is_some, MatchResult}
+use Rattle.std.proofs.Common.{◌≡◌, ℕ, List, [], ◌∷◌, length, Option, Some, None, Result, Ok, Err, refl, sym, ap, ◌∙◌, Bool, true, false, eq-eqb, subst}
+use Rattle.std.specs.Prelude.{if◌then◌else◌, nat_le, IsErr, is_some}
 use Rattle.std.specs.Borrow.{Bor}
 use Rattle.mini_sql.specs.declared.SqlFault.{SqlFault}
 use Rattle.mini_sql.specs.declared.stmt.Stmt.{Stmt}

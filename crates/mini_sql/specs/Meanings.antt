@@ -1,5 +1,5 @@
 -- What the code's statements are.
-use Rattle.std.specs.Prelude.{◌≡◌, List, [], ◌∷◌, Option, Some, None, Result, MatchResult}
+use Rattle.std.specs.Prelude.{◌≡◌, List, Option, Some, None, Result, MatchResult}
 use Rattle.mini_sql.specs.Words.{Text, folded}
 use Rattle.mini_sql.specs.Tokens.{Token, unquoted}
 use Rattle.mini_sql.specs.Statements as spec

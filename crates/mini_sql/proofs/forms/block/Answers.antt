@@ -1,6 +1,6 @@
-use Rattle.std.proofs.Common.{◌≡◌, ◌∙◌, sym, ap}
+use Rattle.std.proofs.Common.{◌∙◌, sym}
 use Rattle.mini_sql.specs.Statements.{block}
-use Rattle.mini_sql.proofs.Steps.{reads-err, reads-to, pass-to, pass-no, sign-to, value-to, value-no, end-to, end-no, either-first, either-second, columns-to, columns-no, operands-to, operands-no}
+use Rattle.mini_sql.proofs.Steps.{reads-err, reads-to, pass-to, pass-no, end-to, end-no, either-first, either-second}
 use Rattle.mini_sql.proofs.forms.block.Goals as goal
 
 pub returns-then-is_end : goal.returns-then-is_end

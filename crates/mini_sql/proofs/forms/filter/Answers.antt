@@ -1,7 +1,6 @@
-use Rattle.std.proofs.Common.{◌≡◌, ◌∙◌, sym, ap, Some, true, false}
-use Rattle.mini_sql.specs.Words.{folded}
+use Rattle.std.proofs.Common.{◌∙◌, sym}
 use Rattle.mini_sql.specs.Statements.{end_of, where_of}
-use Rattle.mini_sql.proofs.Steps.{reads-err, source-err, filter-err, pass-to, pass-no, sign-to, value-to, value-no, end-to, end-no, either-first, either-second, columns-to, columns-no, operands-to, operands-no, after-some, rest-some, limited-some, read-some}
+use Rattle.mini_sql.proofs.Steps.{filter-err, pass-to, pass-no, sign-to, value-to, value-no, end-to, end-no, either-first, either-second}
 use Rattle.mini_sql.proofs.forms.filter.Goals as goal
 
 pub returns-then-is_end : goal.returns-then-is_end

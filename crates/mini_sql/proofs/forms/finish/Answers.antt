@@ -1,6 +1,5 @@
-use Rattle.std.proofs.Common.{◌≡◌, ◌∙◌, sym, ap}
-use Rattle.mini_sql.specs.Statements.{read}
-use Rattle.mini_sql.proofs.Steps.{reads-err, reads-to, pass-to, pass-no, sign-to, value-to, value-no, end-to, end-no, either-first, either-second, columns-to, columns-no, operands-to, operands-no}
+use Rattle.std.proofs.Common.{sym}
+use Rattle.mini_sql.proofs.Steps.{end-to, end-no}
 use Rattle.mini_sql.proofs.forms.finish.Goals as goal
 
 pub returns-then-is_end : goal.returns-then-is_end

@@ -1,6 +1,6 @@
-use Rattle.std.proofs.Common.{◌≡◌, ◌∙◌, sym, ap}
+use Rattle.std.proofs.Common.{◌∙◌}
 use Rattle.mini_sql.specs.Statements.{insert}
-use Rattle.mini_sql.proofs.Steps.{reads-err, reads-to, pass-to, pass-no, sign-to, value-to, value-no, end-to, end-no, either-first, either-second, columns-to, columns-no, operands-to, operands-no}
+use Rattle.mini_sql.proofs.Steps.{reads-err, reads-to, pass-to, pass-no, value-to, value-no}
 use Rattle.mini_sql.proofs.forms.insert.Goals as goal
 
 pub returns-in_err-after_into : goal.returns-in_err-after_into

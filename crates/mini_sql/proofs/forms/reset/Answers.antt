@@ -1,6 +1,5 @@
-use Rattle.std.proofs.Common.{◌≡◌, ◌∙◌, sym, ap}
 use Rattle.mini_sql.specs.Statements.{reset}
-use Rattle.mini_sql.proofs.Steps.{reads-err, reads-to, pass-to, pass-no, sign-to, value-to, value-no, end-to, end-no, either-first, either-second, columns-to, columns-no, operands-to, operands-no}
+use Rattle.mini_sql.proofs.Steps.{reads-to, either-first, either-second}
 use Rattle.mini_sql.proofs.forms.reset.Goals as goal
 
 pub returns-in-Ok : goal.returns-in-Ok

@@ -1,7 +1,7 @@
-use Rattle.std.proofs.Common.{[], ◌≡◌, ◌∙◌, sym, ap, Some, true, false}
+use Rattle.std.proofs.Common.{[], ◌∙◌, sym, ap, Some}
 use Rattle.mini_sql.specs.Words.{folded}
 use Rattle.mini_sql.specs.Statements.{Select, from_of}
-use Rattle.mini_sql.proofs.Steps.{reads-err, source-err, filter-err, pass-to, pass-no, sign-to, value-to, value-no, end-to, end-no, either-first, either-second, columns-to, columns-no, operands-to, operands-no, after-some, rest-some, limited-some, read-some}
+use Rattle.mini_sql.proofs.Steps.{reads-err, columns-to, columns-no, rest-some, limited-some, read-some}
 use Rattle.mini_sql.proofs.forms.select_columns.Goals as goal
 use Rattle.mini_sql.specs.Meanings.{filter_of}
 

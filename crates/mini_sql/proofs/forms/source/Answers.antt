@@ -1,7 +1,6 @@
-use Rattle.std.proofs.Common.{◌≡◌, ◌∙◌, sym, ap, Some, true, false}
-use Rattle.mini_sql.specs.Words.{folded}
+use Rattle.std.proofs.Common.{◌∙◌}
 use Rattle.mini_sql.specs.Statements.{from_of}
-use Rattle.mini_sql.proofs.Steps.{reads-err, source-err, filter-err, pass-to, pass-no, sign-to, value-to, value-no, end-to, end-no, either-first, either-second, columns-to, columns-no, operands-to, operands-no, after-some, rest-some, limited-some, read-some}
+use Rattle.mini_sql.proofs.Steps.{source-err, pass-to, pass-no, value-to, value-no}
 use Rattle.mini_sql.proofs.forms.source.Goals as goal
 
 pub returns-in_err-after_word : goal.returns-in_err-after_word

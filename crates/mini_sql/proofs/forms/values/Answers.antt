@@ -1,7 +1,7 @@
-use Rattle.std.proofs.Common.{◌≡◌, ◌∙◌, sym, ap, Some, true, false}
+use Rattle.std.proofs.Common.{◌∙◌, sym, ap, Some}
 use Rattle.mini_sql.specs.Words.{folded}
 use Rattle.mini_sql.specs.Statements.{value_list, Insert}
-use Rattle.mini_sql.proofs.Steps.{reads-err, source-err, filter-err, pass-to, pass-no, sign-to, value-to, value-no, end-to, end-no, either-first, either-second, columns-to, columns-no, operands-to, operands-no, after-some, rest-some, limited-some, read-some}
+use Rattle.mini_sql.proofs.Steps.{reads-err, pass-no, sign-to, end-to, end-no, operands-to, operands-no, after-some, rest-some}
 use Rattle.mini_sql.proofs.forms.values.Goals as goal
 
 pub returns-in_err-list : goal.returns-in_err-list

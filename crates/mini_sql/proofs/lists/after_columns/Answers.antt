@@ -1,8 +1,5 @@
-use Rattle.std.proofs.Common.{◌≡◌, ◌<◌, ℕ, arith, sym, subst}
-use Rattle.std.specs.Borrow.{Bor}
-use Rattle.mini_sql.specs.Words.{folded}
+use Rattle.std.proofs.Common.{◌≡◌, ℕ, arith, subst}
 use Rattle.mini_sql.specs.Statements.{columns_at, phrase, read}
-use Rattle.mini_sql.specs.Lists.{GoesOn}
 use Rattle.mini_sql.proofs.Skipping.{size_of, plus, goes-on, stops, faults, too_many}
 use Rattle.mini_sql.proofs.Reading.{follows-err}
 use Rattle.mini_sql.proofs.lists.after_columns.Goals as goal

@@ -1,5 +1,5 @@
-use Rattle.std.proofs.Common.{◌≡◌, sym, ◌∙◌, ap}
-use Rattle.mini_sql.specs.Statements.{items, operand_of, phrase, read}
+use Rattle.std.proofs.Common.{◌∙◌, ap}
+use Rattle.mini_sql.specs.Statements.{items, operand_of}
 use Rattle.mini_sql.specs.Lists.{rest_of}
 use Rattle.mini_sql.proofs.Skipping.{rest-goes_on, rest-stops}
 use Rattle.mini_sql.proofs.Reading.{follows-err}

@@ -1,4 +1,4 @@
-use Rattle.std.proofs.Common.{◌≡◌, ◌∙◌, ap}
+use Rattle.std.proofs.Common.{◌∙◌, ap}
 use Rattle.std.specs.Prelude.{max}
 use Rattle.mini_sql.proofs.Skipping.{greatest-more, greatest-all}
 use Rattle.mini_sql.proofs.stmt.greatest_parameter.Goals as goal
