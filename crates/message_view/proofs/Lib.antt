@@ -1,1 +1,6 @@
-pub mod Lists
+pub mod Writers
+pub mod Ints
+pub mod Texts
+pub mod Counted
+pub mod NumberLists
+pub mod Places

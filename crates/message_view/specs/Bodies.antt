@@ -1,5 +1,5 @@
 -- How the parts of a message spell its body (PostgreSQL manual, "Message Formats").
-use Rattle.std.specs.Prelude.{◌≡◌, ℕ, ◌+◌, ◌-◌, ◌*◌, ◌^◌, ◌<◌, ◌≤◌, List, [], ◌∷◌, ◌++◌, length, map, Option, Some, None, IfSome, Bool, true, false, IsTrue, ◌==◌, ◌&&◌, not, codes}
+use Rattle.std.specs.Prelude.{ℕ, List, [], ◌∷◌, ◌++◌, length, Option, Some, None, Bool, IsTrue, ◌==◌, not}
 use Rattle.std.specs.List.{flat_map, list_all}
 use Rattle.std.specs.Int.{w16, w32, to_be_bytes}
 

@@ -1,7 +1,7 @@
 -- Messages as frames: those of a server, and three of a client.
 use Rattle.std.specs.Prelude.{ℕ, ◌+◌, List, [], ◌∷◌, ◌++◌, length, Option}
 use Rattle.frame_view.specs.Frames.{FrameOf}
-use Rattle.message_view.specs.Bodies.{Text, text, int16, int32, values, numbers32, status_body, text_columns, columns_body, startup_body, fault_body}
+use Rattle.message_view.specs.Bodies.{Text, text, int32, values, numbers32, status_body, text_columns, columns_body, startup_body, fault_body}
 
 abbrev pub message : ℕ → List ℕ → FrameOf
 message kind body = record { kind = kind; body = body }

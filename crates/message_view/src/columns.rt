@@ -137,7 +137,7 @@ pub fn put_row_description(out: &mut BytesMut, columns: &[Column<'_>]) -> Result
     put_columns(out, columns)
 }
 
-#[tactic(auto, using(crate::proofs::Lists::length_numbers))]
+#[tactic(auto, using(crate::proofs::Writers::length_numbers))]
 fn oids_length(oids: &[u32]) -> usize
     requires { length oids.now < 2 ^ 16 }
     ensures size { result ≡ length (flat_map int32 oids.now) }

@@ -3,11 +3,21 @@
 
 mod columns;
 mod kinds;
+mod lists;
+mod numbers;
+mod parts;
 mod startup;
+mod values;
+mod views;
 mod writing;
 
 pub use columns::{Column, put_data_row, put_parameter_description, put_row_description};
+pub use lists::{Codes, Oids, Values};
 pub use startup::put_startup_message;
+pub use views::{
+    AuthView, CloseView, DescribeView, ExecuteView, KeyView, PasswordView, QueryView, ReadyView,
+    StatusView, TagView, Target,
+};
 pub use writing::{
     put_authentication_ok, put_backend_key_data, put_bind_complete, put_cleartext_password,
     put_close_complete, put_command_complete, put_empty_query_response, put_error_response,

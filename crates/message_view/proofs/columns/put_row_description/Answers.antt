@@ -1,4 +1,4 @@
-use Rattle.message_view.proofs.Lists.{text_columns_of}
+use Rattle.message_view.proofs.Writers.{text_columns_of}
 use Rattle.message_view.proofs.columns.put_row_description.Goals as goal
 
 pub returns : goal.returns

@@ -1,6 +1,5 @@
-use Rattle.std.proofs.Common.{◌≡◌, ◌≤◌, ◌+◌, ◌++◌, length, drop}
-use Rattle.std.specs.List.{flat_map}
-use Rattle.message_view.specs.Bodies.{pair, startup_body}
+use Rattle.std.proofs.Common.{◌≡◌, ◌≤◌, ◌++◌, length, drop}
+use Rattle.message_view.specs.Bodies.{startup_body}
 use Rattle.message_view.specs.Messages.{startup_message}
 use Rattle.message_view.specs.Parts.{pairs_of}
 use Rattle.message_view.proofs.startup.put_startup_message.Given as goal

@@ -1,8 +1,8 @@
 -- Lists that the writers of rows go along.
-use Rattle.std.proofs.Common.{◌≡◌, ℕ, ◌+◌, ◌*◌, List, [], ◌∷◌, length, map, refl, ap, arith}
+use Rattle.std.proofs.Common.{◌≡◌, ℕ, ◌*◌, List, [], ◌∷◌, length, map, refl, ap, arith}
 use Rattle.std.specs.List.{flat_map}
 use Rattle.message_view.specs.declared.columns.Column.{Column}
-use Rattle.message_view.specs.Bodies.{int32, text_column, text_columns}
+use Rattle.message_view.specs.Bodies.{int32, text_columns}
 use Rattle.message_view.specs.Parts.{names_of, formats_of, text_column_of}
 
 pub length_numbers : (ns : List ℕ) → length (flat_map int32 ns) ≡ 4 * length ns

@@ -1,0 +1,22 @@
+-- The parts that a view shows.
+use Rattle.std.specs.Prelude.{ℕ, List}
+use Rattle.std.specs.Borrow.{Bor}
+use Rattle.std.specs.Int.{w32, cast_unsigned}
+use Rattle.frame_view.specs.Answers.{LiesAt}
+use Rattle.message_view.specs.declared.views.Target as declared
+use Rattle.message_view.specs.declared.views.Target.TheVariants.{Statement, Portal}
+use Rattle.message_view.specs.declared.views.ExecuteView.{ExecuteView}
+use Rattle.message_view.specs.Bodies.{Text, Target, OfStatement, OfPortal}
+
+abbrev pub shown_target : declared.Target → Target
+shown_target (Statement name) = OfStatement name.now
+shown_target (Portal name) = OfPortal name.now
+
+-- the name of a target lies there
+abbrev pub TargetLiesAt : declared.Target → Bor (List ℕ) → ℕ → Type 0
+TargetLiesAt (Statement name) body i = LiesAt name body i
+TargetLiesAt (Portal name) body i = LiesAt name body i
+
+-- the row limit as the unsigned number of the same bytes
+abbrev pub shown_execute : ExecuteView → Text × ℕ
+shown_execute v = (v.portal.now, cast_unsigned w32 v.limit)
