@@ -2,7 +2,12 @@
 use Rattle.std.proofs.Common.{◌≡◌, ◌<◌, ℕ, zero, suc, List, [], ◌∷◌, length, Ok, Err, refl, ap, sym, ◌∙◌, true, false, arith}
 use Rattle.std.specs.Prelude.{is_ok}
 use Rattle.message_view.specs.declared.ViewFault.{ViewFault}
-use Rattle.message_view.specs.Reading.{Part, ◌>>=◌, rest_of, items_of, list_at}
+use Rattle.message_view.specs.declared.ViewFault.TheVariants.{LeftOver}
+use Rattle.message_view.specs.Reading.{Part, ◌>>=◌, rest_of, items_of, list_at, at_end}
+
+pub left_over : {A : Type 0} (x : A) (bytes : List ℕ) → 0 < length bytes → at_end x bytes ≡ Err LeftOver
+left_over x [] h = absurd (omega arith)
+left_over x (b ∷ bytes) h = refl
 
 module _ {A : Type 0} (item : List ℕ → Part A) where
   -- ---- the rest after a list

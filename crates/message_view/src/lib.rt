@@ -2,17 +2,21 @@
 #![tactic(auto)]
 
 mod columns;
+mod extended;
 mod kinds;
 mod lists;
 mod numbers;
 mod parts;
+mod rows;
 mod startup;
 mod values;
 mod views;
 mod writing;
 
 pub use columns::{Column, put_data_row, put_parameter_description, put_row_description};
+pub use extended::{BindView, ParseView};
 pub use lists::{Codes, Oids, Values};
+pub use rows::DataRowView;
 pub use startup::put_startup_message;
 pub use views::{
     AuthView, CloseView, DescribeView, ExecuteView, KeyView, PasswordView, QueryView, ReadyView,
