@@ -1,7 +1,7 @@
 -- Numbers at the front of some bytes.
 use Rattle.std.proofs.Common.{◌≡◌, ℕ, ◌-◌, ◌^◌, ◌<◌, ◌≤◌, List, [], ◌∷◌, length, take, drop, ◌∙◌, Ok, Err, refl, ap, arith, length-drop}
 use Rattle.std.proofs.lemmas.List.{take_all}
-use Rattle.std.specs.Int.{w32, cast_signed, cast_unsigned}
+use Rattle.std.specs.Int.{w16, w32, cast_signed, cast_unsigned}
 use Rattle.std.proofs.lemmas.Int.{of_z-to_z}
 use Rattle.byteorder.specs.Endian.{big_number}
 use Rattle.message_view.specs.declared.ViewFault.TheVariants.{TooShort}
@@ -47,3 +47,6 @@ int32_at_long bytes n h e = int32_at_whole bytes h ∙ rw (e, to_end 4 bytes) re
 
 pub signed_back : (n : ℕ) → n < 2 ^ 32 → cast_unsigned w32 (cast_signed w32 n) ≡ n
 signed_back n h = of_z-to_z w32 n h
+
+pub signed_back_16 : (n : ℕ) → n < 2 ^ 16 → cast_unsigned w16 (cast_signed w16 n) ≡ n
+signed_back_16 n h = of_z-to_z w16 n h

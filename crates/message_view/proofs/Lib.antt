@@ -4,3 +4,7 @@ pub mod Texts
 pub mod Counted
 pub mod NumberLists
 pub mod Places
+pub mod Ended
+pub mod Pairings
+pub mod Fieldings
+pub mod Pieces

@@ -21,11 +21,17 @@ abbrev pub LiesIfAny : Option (Bor (List ℕ)) → Bor (List ℕ) → ℕ → Ty
 LiesIfAny None bytes i = Unit {0}
 LiesIfAny (Some part) bytes i = LiesAt part bytes i
 
+abbrev pub texts_of : Bor (List ℕ) × Bor (List ℕ) → Text × Text
+texts_of p = (p.0.now, p.1.now)
+
+abbrev pub code_and_text_of : ℕ × Bor (List ℕ) → ℕ × Text
+code_and_text_of f = (f.0, f.1.now)
+
 abbrev pub shown_pair : Option (Bor (List ℕ) × Bor (List ℕ)) → Option (Text × Text)
-shown_pair pair = option_map (λ p. (p.0.now, p.1.now)) pair
+shown_pair pair = option_map texts_of pair
 
 abbrev pub shown_field : Option (ℕ × Bor (List ℕ)) → Option (ℕ × Text)
-shown_field field = option_map (λ f. (f.0, f.1.now)) field
+shown_field field = option_map code_and_text_of field
 
 -- where the i-th of these values lies after the place of the first one's length
 abbrev pub value_place : List (Option Text) → ℕ → ℕ

@@ -5,7 +5,9 @@ mod columns;
 mod extended;
 mod kinds;
 mod lists;
+mod notes;
 mod numbers;
+mod openings;
 mod parts;
 mod rows;
 mod startup;
@@ -15,8 +17,10 @@ mod writing;
 
 pub use columns::{Column, put_data_row, put_parameter_description, put_row_description};
 pub use extended::{BindView, ParseView};
-pub use lists::{Codes, Oids, Values};
-pub use rows::DataRowView;
+pub use lists::{Codes, ColumnView, Columns, Fields, Oids, Pairs, Values};
+pub use notes::NoteView;
+pub use openings::StartupView;
+pub use rows::{DataRowView, RowDescView};
 pub use startup::put_startup_message;
 pub use views::{
     AuthView, CloseView, DescribeView, ExecuteView, KeyView, PasswordView, QueryView, ReadyView,

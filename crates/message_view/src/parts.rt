@@ -75,7 +75,7 @@ pub(crate) fn take_value(bytes: &[u8]) -> Result<(Option<&[u8]>, &[u8]), ViewFau
 #[tactic(auto, unfolding(crate::specs::Reading::pair_at))]
 pub(crate) fn take_pair(bytes: &[u8]) -> Result<(Option<(&[u8], &[u8])>, &[u8]), ViewFault>
     ensures part { Gives shown_pair result (pair_at bytes.now) }
-    ensures place { IfOk result (λ x. IfSome x.0 (λ p. LiesAt p.0 bytes.entry 0 × LiesAt p.1 bytes.entry (1 + length p.0.now))) }
+    ensures place { IfOk result (λ x. IfSome x.0 (λ p. LiesAt p.0 bytes.entry 0 × LiesAt p.1 bytes.entry (1 + length p.0.now) × LiesAt x.1 bytes.entry (2 + length p.0.now + length p.1.now))) }
 {
     let (name, rest) = take_text(bytes)?;
     if name.is_empty() {
@@ -89,7 +89,7 @@ pub(crate) fn take_pair(bytes: &[u8]) -> Result<(Option<(&[u8], &[u8])>, &[u8]),
 #[tactic(auto, unfolding(crate::specs::Reading::field_at))]
 pub(crate) fn take_field(bytes: &[u8]) -> Result<(Option<(u8, &[u8])>, &[u8]), ViewFault>
     ensures part { Gives shown_field result (field_at bytes.now) }
-    ensures place { IfOk result (λ x. IfSome x.0 (λ f. LiesAt f.1 bytes.entry 1)) }
+    ensures place { IfOk result (λ x. IfSome x.0 (λ f. LiesAt f.1 bytes.entry 1 × LiesAt x.1 bytes.entry (2 + length f.1.now))) }
 {
     let [code, rest @ ..] = bytes else {
         return Err(ViewFault::TooShort);
