@@ -8,3 +8,5 @@ pub mod Ended
 pub mod Pairings
 pub mod Fieldings
 pub mod Pieces
+pub mod Trips
+pub mod ListTrips

@@ -1,17 +1,14 @@
 -- How the parts of a message spell its body (PostgreSQL manual, "Message Formats").
-use Rattle.std.specs.Prelude.{ℕ, List, [], ◌∷◌, ◌++◌, length, Option, Some, None, Bool, IsTrue, ◌==◌, not}
-use Rattle.std.specs.List.{flat_map, list_all}
+use Rattle.std.specs.Prelude.{ℕ, ◌<◌, List, [], ◌∷◌, ◌++◌, length, Option, Some, None}
+use Rattle.std.specs.List.{flat_map, AllByRecursion}
 use Rattle.std.specs.Int.{w16, w32, to_be_bytes}
 
 -- text of any encoding, as bytes
 abbrev pub Text : Type 0
 Text = List ℕ
 
-abbrev pub is_not_zero : ℕ → Bool
-is_not_zero b = not (b == 0)
-
 abbrev pub HasNoZero : Text → Type 0
-HasNoZero t = IsTrue (list_all is_not_zero t)
+HasNoZero t = AllByRecursion (λ b. 0 < b) t
 
 -- a text, and the zero byte that ends it
 abbrev pub text : Text → List ℕ

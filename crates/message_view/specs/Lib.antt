@@ -5,3 +5,6 @@ pub mod Reading
 pub mod Views
 pub mod Left
 pub mod Shown
+pub mod Refusals
+pub mod Spelled
+pub mod Laws

@@ -9,6 +9,7 @@ mod notes;
 mod numbers;
 mod openings;
 mod parts;
+mod refusal;
 mod rows;
 mod startup;
 mod values;
@@ -20,6 +21,7 @@ pub use extended::{BindView, ParseView};
 pub use lists::{Codes, ColumnView, Columns, Fields, Oids, Pairs, Values};
 pub use notes::NoteView;
 pub use openings::StartupView;
+pub use refusal::{Refusal, refusal_bytes};
 pub use rows::{DataRowView, RowDescView};
 pub use startup::put_startup_message;
 pub use views::{
