@@ -10,3 +10,5 @@ pub mod Fieldings
 pub mod Pieces
 pub mod Trips
 pub mod ListTrips
+pub mod Alone
+pub mod PartTrips
