@@ -12,3 +12,5 @@ pub mod Trips
 pub mod ListTrips
 pub mod Alone
 pub mod PartTrips
+pub mod BindTrips
+pub mod EndTrips

@@ -117,6 +117,10 @@ text_columns (name ∷ names) [] = text_column name 0 ∷ text_columns names []
 abbrev pub field : ℕ → Text → List ℕ
 field code t = code ∷ text t
 
+-- the fields of an error or a notice, and the zero byte that ends them
+abbrev pub fields_body : List (ℕ × Text) → List ℕ
+fields_body fs = flat_map (λ f. field f.0 f.1) fs ++ 0 ∷ []
+
 -- severity, severity, SQLSTATE, text
 abbrev pub fault_body : Text → Text → Text → List ℕ
 fault_body severity code message = field 83 severity ++ field 86 severity ++ field 67 code ++ field 77 message ++ 0 ∷ []
