@@ -39,7 +39,7 @@ named-spelled (b ∷ name) after x rest h e =
     let v = bind-inv (text_at after) (some-pair b name) (x, rest) e in
     let p = text_spelled after v.0.0 v.0.1 v.1 in
     carry (λ (y : Option (Text × Text)) (r : List ℕ). HoldsPair (text (b ∷ name) ++ after) y r) (Some (b ∷ name, v.0.0), v.0.1) (x, rest) v.2
-      (ap (λ (z : List ℕ). text (b ∷ name) ++ z) p.0 ∙ sym (append_assoc (text (b ∷ name)) (text v.0.0) v.0.1), record { some = omega arith; name = h; value = p.1 })
+    (ap (λ (z : List ℕ). text (b ∷ name) ++ z) p.0 ∙ sym (append_assoc (text (b ∷ name)) (text v.0.0) v.0.1), record { some = omega arith; name = h; value = p.1 })
 
 held-pair : (bytes : List ℕ) (x : Option (Text × Text)) (rest : List ℕ) → pair_at bytes ≡ Ok (x, rest) → HoldsPair bytes x rest
 unfolding pair_at
@@ -90,7 +90,7 @@ coded b after x rest false z e =
     let t = bind-inv (text_at after) (some-field b) (x, rest) e in
     let p = text_spelled after t.0.0 t.0.1 t.1 in
     carry (λ (y : Option (ℕ × Text)) (r : List ℕ). HoldsField (b ∷ after) y r) (Some (b, t.0.0), t.0.1) (x, rest) t.2
-      (ap (λ (k : List ℕ). b ∷ k) p.0, record { some = omega (arith, eqb-false b 0 z); text = p.1 })
+    (ap (λ (k : List ℕ). b ∷ k) p.0, record { some = omega (arith, eqb-false b 0 z); text = p.1 })
 
 held-field : (bytes : List ℕ) (x : Option (ℕ × Text)) (rest : List ℕ) → field_at bytes ≡ Ok (x, rest) → HoldsField bytes x rest
 unfolding field_at

@@ -14,3 +14,4 @@ pub mod Alone
 pub mod PartTrips
 pub mod BindTrips
 pub mod EndTrips
+pub mod ByteTrips

@@ -33,7 +33,7 @@ module _ {A : Type 0} (item : List ℕ → Part A) (spell : A → List ℕ) (Fit
       let head = spelled bytes first.0.0 first.0.1 fits first.1 in
       let tail = list_spelled n first.0.1 others.0.0 others.0.1 (bytes_behind bytes (spell first.0.0) first.0.1 head.0 fits) others.1 in
       carry (λ (ys : List A) (r : List ℕ). (bytes ≡ flat_map spell ys ++ r) × AllByRecursion Fits ys × (length ys ≡ suc n)) (first.0.0 ∷ others.0.0, others.0.1) (xs, rest) others.2
-        (head.0 ∙ ap (λ (b : List ℕ). spell first.0.0 ++ b) tail.0 ∙ sym (append_assoc (spell first.0.0) (flat_map spell others.0.0) others.0.1), (head.1, tail.1), ap suc tail.2)
+      (head.0 ∙ ap (λ (b : List ℕ). spell first.0.0 ++ b) tail.0 ∙ sym (append_assoc (spell first.0.0) (flat_map spell others.0.0) others.0.1), (head.1, tail.1), ap suc tail.2)
 
   pub counted_reads : (xs : List A) (rest : List ℕ) → FitsList Fits xs → counted_at item (int16 (length xs) ++ flat_map spell xs ++ rest) ≡ Ok (xs, rest)
   counted_reads xs rest h =
@@ -44,9 +44,10 @@ module _ {A : Type 0} (item : List ℕ → Part A) (spell : A → List ℕ) (Fit
   counted_spelled bytes xs rest fits e =
       let count = bind-inv (int16_at bytes) _ (xs, rest) e in
       let head = int16_spelled bytes count.0.0 count.0.1 fits count.1 in
-      let tail = list_spelled count.0.0 count.0.1 xs rest (bytes_behind bytes (int16 count.0.0) count.0.1 head.0 fits) count.2 in
-      (head.0 ∙ ap (λ (b : List ℕ). int16 count.0.0 ++ b) tail.0 ∙ ap (λ (n : ℕ). int16 n ++ flat_map spell xs ++ rest) (sym tail.2),
-       record { count = subst Fits16 (sym tail.2) head.1; each = tail.1 })
+      let tail = list_spelled count.0.0 count.0.1 xs rest (bytes_behind bytes (int16 count.0.0) count.0.1 head.0 fits) count.2 in (
+        head.0 ∙ ap (λ (b : List ℕ). int16 count.0.0 ++ b) tail.0 ∙ ap (λ (n : ℕ). int16 n ++ flat_map spell xs ++ rest) (sym tail.2),
+        record { count = subst Fits16 (sym tail.2) head.1; each = tail.1 },
+      )
 
 module _ {A : Type 0} (item : List ℕ → Part (Option A)) (spell : A → List ℕ) (Fits : A → Type 0)
     (shrinks : (bytes rest : List ℕ) (x : Option A) → item bytes ≡ Ok (x, rest) → length rest < length bytes)
@@ -73,7 +74,7 @@ module _ {A : Type 0} (item : List ℕ → Part (Option A)) (spell : A → List 
       let head = spelled bytes x after is in
       let tail = more after others.0.0 others.0.1 others.1 in
       carry (λ (ys : List A) (r : List ℕ). (bytes ≡ flat_map spell ys ++ 0 ∷ r) × AllByRecursion Fits ys) (x ∷ others.0.0, others.0.1) (xs, rest) others.2
-        (head.0 ∙ ap (λ (b : List ℕ). spell x ++ b) tail.0 ∙ sym (append_assoc (spell x) (flat_map spell others.0.0) (0 ∷ others.0.1)), (head.1, tail.1))
+      (head.0 ∙ ap (λ (b : List ℕ). spell x ++ b) tail.0 ∙ sym (append_assoc (spell x) (flat_map spell others.0.0) (0 ∷ others.0.1)), (head.1, tail.1))
 
   until-spelled : (n : ℕ) (bytes : List ℕ) (xs : List A) (rest : List ℕ) → list_until item n bytes ≡ Ok (xs, rest) → (bytes ≡ flat_map spell xs ++ 0 ∷ rest) × AllByRecursion Fits xs
   unfolding list_until

@@ -41,7 +41,7 @@ status_spelled bytes x rest fits e =
     let p = text_spelled bytes a.0.0 a.0.1 a.1 in
     let q = text_spelled a.0.1 b.0.0 b.0.1 b.1 in
     carry (λ (y : Text × Text) (r : List ℕ). (bytes ≡ status_body y.0 y.1 ++ r) × (HasNoZero y.0 × HasNoZero y.1)) ((a.0.0, b.0.0), b.0.1) (x, rest) b.2
-      (p.0 ∙ ap (λ (r : List ℕ). text a.0.0 ++ r) q.0 ∙ sym (append_assoc (text a.0.0) (text b.0.0) b.0.1), (p.1, q.1))
+    (p.0 ∙ ap (λ (r : List ℕ). text a.0.0 ++ r) q.0 ∙ sym (append_assoc (text a.0.0) (text b.0.0) b.0.1), (p.1, q.1))
 
 pub key_reads : (x : ℕ × ℕ) (rest : List ℕ) → Fits32 x.0 × Fits32 x.1 → key_at (int32 x.0 ++ int32 x.1 ++ rest) ≡ Ok (x, rest)
 key_reads x rest h = rw (int32_reads x.0 (int32 x.1 ++ rest) h.0, int32_reads x.1 rest h.1) refl
@@ -53,7 +53,7 @@ key_spelled bytes x rest fits e =
     let p = int32_spelled bytes a.0.0 a.0.1 fits a.1 in
     let q = int32_spelled a.0.1 b.0.0 b.0.1 (bytes_behind bytes (int32 a.0.0) a.0.1 p.0 fits) b.1 in
     carry (λ (y : ℕ × ℕ) (r : List ℕ). (bytes ≡ int32 y.0 ++ int32 y.1 ++ r) × (Fits32 y.0 × Fits32 y.1)) ((a.0.0, b.0.0), b.0.1) (x, rest) b.2
-      (p.0 ∙ ap (λ (r : List ℕ). int32 a.0.0 ++ r) q.0, (p.1, q.1))
+    (p.0 ∙ ap (λ (r : List ℕ). int32 a.0.0 ++ r) q.0, (p.1, q.1))
 
 pub execute_reads : (x : Text × ℕ) (rest : List ℕ) → HasNoZero x.0 × Fits32 x.1 → execute_at (execute_body x.0 x.1 ++ rest) ≡ Ok (x, rest)
 execute_reads x rest h = rw (append_assoc (text x.0) (int32 x.1) rest, text_reads x.0 (int32 x.1 ++ rest) h.0, int32_reads x.1 rest h.1) refl
@@ -65,14 +65,19 @@ execute_spelled bytes x rest fits e =
     let p = text_spelled bytes a.0.0 a.0.1 a.1 in
     let q = int32_spelled a.0.1 b.0.0 b.0.1 (bytes_behind bytes (text a.0.0) a.0.1 p.0 fits) b.1 in
     carry (λ (y : Text × ℕ) (r : List ℕ). (bytes ≡ execute_body y.0 y.1 ++ r) × (HasNoZero y.0 × Fits32 y.1)) ((a.0.0, b.0.0), b.0.1) (x, rest) b.2
-      (p.0 ∙ ap (λ (r : List ℕ). text a.0.0 ++ r) q.0 ∙ sym (append_assoc (text a.0.0) (int32 b.0.0) b.0.1), (p.1, q.1))
+    (p.0 ∙ ap (λ (r : List ℕ). text a.0.0 ++ r) q.0 ∙ sym (append_assoc (text a.0.0) (int32 b.0.0) b.0.1), (p.1, q.1))
 
 -- ---- Parse
 
 pub parse_reads : (p : Parse) (rest : List ℕ) → FitsParse p → parse_at (parse_body p ++ rest) ≡ Ok (p, rest)
 parse_reads p rest h =
-    rw (append_assoc (text p.name ++ text p.query) (numbers32 p.oids) rest, append_assoc (text p.name) (text p.query) (numbers32 p.oids ++ rest),
-        text_reads p.name (text p.query ++ (numbers32 p.oids ++ rest)) h.name, text_reads p.query (numbers32 p.oids ++ rest) h.query, oids_read p.oids rest h.oids) refl
+    rw (
+      append_assoc (text p.name ++ text p.query) (numbers32 p.oids) rest,
+      append_assoc (text p.name) (text p.query) (numbers32 p.oids ++ rest),
+      text_reads p.name (text p.query ++ (numbers32 p.oids ++ rest)) h.name,
+      text_reads p.query (numbers32 p.oids ++ rest) h.query,
+      oids_read p.oids rest h.oids,
+    ) refl
 
 pub parse_spelled : (bytes : List ℕ) (x : Parse) (rest : List ℕ) → IsBytes bytes → parse_at bytes ≡ Ok (x, rest) → (bytes ≡ parse_body x ++ rest) × FitsParse x
 parse_spelled bytes x rest fits e =
@@ -85,6 +90,6 @@ parse_spelled bytes x rest fits e =
     let fits-b = bytes_behind a.0.1 (text b.0.0) b.0.1 q.0 fits-a in
     let r = oids_spelled b.0.1 c.0.0 c.0.1 fits-b c.1 in
     let whole : text a.0.0 ++ (text b.0.0 ++ (numbers32 c.0.0 ++ c.0.1)) ≡ text a.0.0 ++ text b.0.0 ++ numbers32 c.0.0 ++ c.0.1 =
-        sym (append_assoc (text a.0.0) (text b.0.0) (numbers32 c.0.0 ++ c.0.1)) ∙ sym (append_assoc (text a.0.0 ++ text b.0.0) (numbers32 c.0.0) c.0.1) in
+    sym (append_assoc (text a.0.0) (text b.0.0) (numbers32 c.0.0 ++ c.0.1)) ∙ sym (append_assoc (text a.0.0 ++ text b.0.0) (numbers32 c.0.0) c.0.1) in
     carry (λ (y : Parse) (z : List ℕ). (bytes ≡ parse_body y ++ z) × FitsParse y) (record { name = a.0.0; query = b.0.0; oids = c.0.0 }, c.0.1) (x, rest) c.2
-      (p.0 ∙ ap (λ (z : List ℕ). text a.0.0 ++ z) (q.0 ∙ ap (λ (z : List ℕ). text b.0.0 ++ z) r.0) ∙ whole, record { name = p.1; query = q.1; oids = r.1 })
+    (p.0 ∙ ap (λ (z : List ℕ). text a.0.0 ++ z) (q.0 ∙ ap (λ (z : List ℕ). text b.0.0 ++ z) r.0) ∙ whole, record { name = p.1; query = q.1; oids = r.1 })

@@ -115,7 +115,7 @@ bytes-spelled n bytes rest v false low s e =
     let size : length (take n bytes) ≡ n = omega (arith, length-take n bytes, ltb-false _ _ s) in
     let small : length (take n bytes) < 2 ^ 31 = omega arith in
     let whole : int32 n ++ bytes ≡ value (Some (take n bytes)) ++ drop n bytes =
-        ap (λ (x : List ℕ). int32 n ++ x) (sym (take-append-drop n bytes)) ∙ ap (λ (k : ℕ). int32 k ++ take n bytes ++ drop n bytes) (sym size) in
+    ap (λ (x : List ℕ). int32 n ++ x) (sym (take-append-drop n bytes)) ∙ ap (λ (k : ℕ). int32 k ++ take n bytes ++ drop n bytes) (sym size) in
     rw (← (same_part e), ← (same_rest e)) (whole, small)
 
 value-spelled : (n : ℕ) (bytes rest : List ℕ) (v : Option Text) (low null : Bool) → nat_lt n 2147483648 ≡ low → (n == 4294967295) ≡ null

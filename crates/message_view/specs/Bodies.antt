@@ -121,6 +121,6 @@ field code t = code ∷ text t
 abbrev pub fields_body : List (ℕ × Text) → List ℕ
 fields_body fs = flat_map (λ f. field f.0 f.1) fs ++ 0 ∷ []
 
--- severity, severity, SQLSTATE, text
+-- S and V the severity, C the SQLSTATE, M the text
 abbrev pub fault_body : Text → Text → Text → List ℕ
-fault_body severity code message = field 83 severity ++ field 86 severity ++ field 67 code ++ field 77 message ++ 0 ∷ []
+fault_body severity code message = fields_body ((83, severity) ∷ (86, severity) ∷ (67, code) ∷ (77, message) ∷ [])

@@ -1,10 +1,11 @@
 -- What is written is cut out and read again, and what is read is spelled so.
 use Rattle.std.specs.Prelude.{◌≡◌, ℕ, ◌+◌, ◌^◌, ◌<◌, ◌≤◌, List, ◌++◌, length, Result, Ok}
-use Rattle.frame_view.specs.declared.Side.TheVariants.{Server}
-use Rattle.frame_view.specs.Frames.{FrameOf, spelling, before, frames, Start, first_front}
+use Rattle.frame_view.specs.declared.Side.TheVariants.{Client, Server}
+use Rattle.frame_view.specs.declared.first.TheConstants.{LONGEST_FIRST_PACKET}
+use Rattle.frame_view.specs.Frames.{FrameOf, spelling, before, frames, Start, AFirst, first_front}
 use Rattle.message_view.specs.declared.ViewFault.{ViewFault}
 use Rattle.message_view.specs.Bodies.{Text, startup_body}
-use Rattle.message_view.specs.Messages.{startup_message}
+use Rattle.message_view.specs.Messages.{password_message, query, startup_message}
 use Rattle.message_view.specs.Spelled.{IsBytes}
 
 -- Parts that fit are read again from the body that they spell, and a body is read as parts only
@@ -17,6 +18,14 @@ pub record IsReaderOf {A : Type 0} (read : List ℕ → Result A ViewFault) (spe
 abbrev pub ServerFrameIsCut : Type 0
 ServerFrameIsCut = (limit : ℕ) (f : FrameOf) (rest : List ℕ) → limit < 2 ^ 32 → 4 + length f.body ≤ limit → frames Server limit (spelling f ++ rest) ≡ before f (frames Server limit rest)
 
--- So is a first packet cut out, of the length that a first packet may have.
-abbrev pub StartupIsCut : Type 0
-StartupIsCut = (pairs : List (Text × Text)) (rest : List ℕ) → length (startup_message pairs) ≤ 10000 → first_front (startup_message pairs ++ rest) ≡ Start (startup_body pairs)
+-- So is a client's Query, and its PasswordMessage.
+abbrev pub QueryIsCut : Type 0
+QueryIsCut = (limit : ℕ) (t : Text) (rest : List ℕ) → limit < 2 ^ 32 → 4 + length (query t).body ≤ limit → frames Client limit (spelling (query t) ++ rest) ≡ before (query t) (frames Client limit rest)
+
+abbrev pub PasswordMessageIsCut : Type 0
+PasswordMessageIsCut = (limit : ℕ) (t : Text) (rest : List ℕ) → limit < 2 ^ 32 → 4 + length (password_message t).body ≤ limit
+    → frames Client limit (spelling (password_message t) ++ rest) ≡ before (password_message t) (frames Client limit rest)
+
+-- A StartupMessage is the first packet, whatever follows it, where it has a first packet's length.
+abbrev pub StartupMessageIsCut : Type 0
+StartupMessageIsCut = (pairs : List (Text × Text)) (rest : List ℕ) → length (startup_message pairs) ≤ LONGEST_FIRST_PACKET → first_front (startup_message pairs ++ rest) ≡ AFirst (Start (startup_body pairs)) rest

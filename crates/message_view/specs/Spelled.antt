@@ -56,3 +56,12 @@ pub record FitsPair (p : Text × Text) : Type 0 where
 pub record FitsField (f : ℕ × Text) : Type 0 where
   pub some : 0 < f.0
   pub text : HasNoZero f.1
+
+abbrev pub FitsStatus : Text × Text → Type 0
+FitsStatus x = HasNoZero x.0 × HasNoZero x.1
+
+abbrev pub FitsExecute : Text × ℕ → Type 0
+FitsExecute x = HasNoZero x.0 × Fits32 x.1
+
+abbrev pub FitsKey : ℕ × ℕ → Type 0
+FitsKey x = Fits32 x.0 × Fits32 x.1

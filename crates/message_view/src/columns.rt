@@ -6,9 +6,10 @@ ghost use Rattle.message_view.specs.Bodies.{value as spelled_value, column as sp
 ghost use Rattle.message_view.specs.Messages.{message, data_row, parameter_description, row_description};
 ghost use Rattle.message_view.specs.Parts.{HasRoom, names_of, formats_of, row_of, shown_value, text_column_of};
 
-use crate::kinds::{DATA_ROW, PARAMETER_DESCRIPTION, ROW_DESCRIPTION, TEXT_TYPE};
+use crate::kinds::TEXT_TYPE;
 use crate::writing::{GREATEST_BODY, put_head};
 use bytes::BytesMut;
+use frame_view::server::{DATA_ROW, PARAMETER_DESCRIPTION, ROW_DESCRIPTION};
 use std::alloc::AllocError;
 
 /// A column of text: its name, and the format of its values (0 text, 1 binary).

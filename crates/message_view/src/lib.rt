@@ -4,6 +4,7 @@
 mod columns;
 mod extended;
 mod kinds;
+pub mod laws;
 mod lists;
 mod notes;
 mod numbers;

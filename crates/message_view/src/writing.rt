@@ -6,14 +6,15 @@ ghost use Rattle.message_view.specs.Messages.{message, authentication, backend_k
 ghost use Rattle.message_view.specs.Bodies.{fault_body};
 ghost use Rattle.message_view.specs.Parts.{joined, HasRoom, severity_text, status_byte};
 
-use crate::kinds::{
-    ASKS_CLEARTEXT, ASKS_MD5, ASKS_NOTHING, AUTHENTICATION, BACKEND_KEY_DATA, BIND_COMPLETE,
-    CLOSE_COMPLETE, COMMAND_COMPLETE, EMPTY_QUERY_RESPONSE, ERROR_RESPONSE, NO_DATA,
-    NOTICE_RESPONSE, PARAMETER_STATUS, PARSE_COMPLETE, PASSWORD_MESSAGE, PORTAL_SUSPENDED, QUERY,
-    READY_FOR_QUERY,
-};
+use crate::kinds::{ASKS_CLEARTEXT, ASKS_MD5, ASKS_NOTHING};
 use crate::{Severity, Status};
 use bytes::BytesMut;
+use frame_view::client::{PASSWORD_MESSAGE, QUERY};
+use frame_view::server::{
+    AUTHENTICATION, BACKEND_KEY_DATA, BIND_COMPLETE, CLOSE_COMPLETE, COMMAND_COMPLETE,
+    EMPTY_QUERY_RESPONSE, ERROR_RESPONSE, NO_DATA, NOTICE_RESPONSE, PARAMETER_STATUS,
+    PARSE_COMPLETE, PORTAL_SUSPENDED, READY_FOR_QUERY,
+};
 use std::alloc::AllocError;
 
 /// The greatest length of a body: with its own four bytes the length field is 2,147,483,647.
