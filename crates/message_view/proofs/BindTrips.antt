@@ -1,8 +1,8 @@
 -- A Bind's parts and a column's, spelled and read again.
-use Rattle.std.proofs.Common.{◌≡◌, ℕ, List, [], ◌∷◌, ◌++◌, Option, Ok, refl, ap, sym, ◌∙◌, append_assoc}
-use Rattle.message_view.specs.Bodies.{Text, HasNoZero, text, int16, int32, values, numbers16, ColumnOf, column, Bind, bind_body}
+use Rattle.std.proofs.Common.{◌≡◌, ℕ, List, ◌++◌, Ok, refl, ap, sym, ◌∙◌, append_assoc}
+use Rattle.message_view.specs.Bodies.{text, int16, int32, values, numbers16, ColumnOf, column, Bind, bind_body}
 use Rattle.message_view.specs.Spelled.{IsBytes, FitsColumn, FitsBind}
-use Rattle.message_view.specs.Reading.{Part, ◌>>=◌, text_at, int16_at, int32_at, value_at, column_at, counted_at, bind_at}
+use Rattle.message_view.specs.Reading.{text_at, int16_at, int32_at, value_at, column_at, counted_at, bind_at}
 use Rattle.message_view.proofs.Pieces.{bind-inv, carry}
 use Rattle.message_view.proofs.Trips.{bytes_behind, text_reads, text_spelled, int16_reads, int16_spelled, int32_reads, int32_spelled}
 use Rattle.message_view.proofs.PartTrips.{codes_read, codes_spelled, values_read, values_spelled}

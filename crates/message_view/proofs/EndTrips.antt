@@ -1,12 +1,12 @@
 -- Pairs and fields, spelled and read again.
-use Rattle.std.proofs.Common.{◌≡◌, ◌<◌, ◌+◌, ℕ, zero, suc, List, [], ◌∷◌, ◌++◌, length, Option, Some, None, Ok, Err, refl, ap, sym, ◌∙◌, arith, append_assoc, subst, Bool, true, false}
+use Rattle.std.proofs.Common.{◌≡◌, ◌<◌, ℕ, List, [], ◌∷◌, ◌++◌, length, Option, Some, None, Ok, refl, ap, sym, ◌∙◌, arith, append_assoc, subst, Bool, true, false}
 use Rattle.std.specs.Prelude.{◌==◌, if◌then◌else◌}
 use Rattle.std.specs.List.{flat_map, AllByRecursion}
 use Rattle.std.proofs.lemmas.Bool.{ne_eqb, eqb-true, eqb-false}
 use Rattle.message_view.specs.Bodies.{Text, HasNoZero, text, pair, field, fields_body, startup_body}
 use Rattle.message_view.specs.Spelled.{IsBytes, FitsPair, FitsField}
 use Rattle.message_view.specs.Reading.{Part, ◌>>=◌, text_at, pair_named, pair_at, field_at, ended_at}
-use Rattle.message_view.proofs.Pieces.{same_rest, same_part, bind-inv, carry}
+use Rattle.message_view.proofs.Pieces.{bind-inv, carry}
 use Rattle.message_view.proofs.Trips.{text_reads, text_spelled}
 use Rattle.message_view.proofs.ListTrips.{ended_reads, ended_spelled}
 use Rattle.message_view.proofs.Pairings.{pair_shrinks}

@@ -1,7 +1,6 @@
 -- Lists that are spelled are read again, and what is read is spelled so.
-use Rattle.std.proofs.Common.{◌≡◌, ◌<◌, ◌+◌, ◌^◌, ℕ, zero, suc, List, [], ◌∷◌, ◌++◌, length, Option, Some, None, Result, Ok, Err, refl, ap, sym, ◌∙◌, arith, append_assoc, subst}
+use Rattle.std.proofs.Common.{◌≡◌, ◌<◌, ℕ, zero, suc, List, [], ◌∷◌, ◌++◌, length, Option, Some, None, Ok, refl, ap, sym, ◌∙◌, append_assoc, subst}
 use Rattle.std.specs.List.{flat_map, AllByRecursion}
-use Rattle.message_view.specs.declared.ViewFault.{ViewFault}
 use Rattle.message_view.specs.Bodies.{int16}
 use Rattle.message_view.specs.Spelled.{IsBytes, Fits16, FitsList}
 use Rattle.message_view.specs.Reading.{Part, ◌>>=◌, int16_at, list_at, counted_at, and_more, list_until, ended_at}

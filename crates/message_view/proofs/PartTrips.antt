@@ -1,12 +1,9 @@
 -- Parts of several that are spelled are read again, and what is read is spelled so.
-use Rattle.std.proofs.Common.{◌≡◌, ◌<◌, ◌+◌, ◌^◌, ℕ, zero, suc, List, [], ◌∷◌, ◌++◌, length, Option, Some, None, Ok, Err, refl, ap, sym, ◌∙◌, arith, append_assoc, subst, Bool, true, false}
-use Rattle.std.specs.Prelude.{◌==◌, if◌then◌else◌}
-use Rattle.std.specs.List.{flat_map}
-use Rattle.std.proofs.lemmas.Bool.{ne_eqb, eqb-true, eqb-false}
-use Rattle.message_view.specs.Bodies.{Text, HasNoZero, text, int16, int32, value, values, numbers16, numbers32, ColumnOf, column, Parse, parse_body, Bind, bind_body, execute_body, status_body, pair, field}
-use Rattle.message_view.specs.Spelled.{IsBytes, Fits16, Fits32, FitsValue, FitsList, FitsColumn, FitsParse, FitsBind, FitsPair, FitsField}
-use Rattle.message_view.specs.Reading.{Part, ◌>>=◌, text_at, int16_at, int32_at, value_at, column_at, counted_at, parse_at, bind_at, execute_at, key_at, status_at, pair_named, pair_at, field_at}
-use Rattle.message_view.proofs.Pieces.{same_rest, same_part, bind-inv, carry}
+use Rattle.std.proofs.Common.{◌≡◌, ℕ, List, ◌++◌, Option, Ok, refl, ap, sym, ◌∙◌, append_assoc}
+use Rattle.message_view.specs.Bodies.{Text, HasNoZero, text, int16, int32, value, values, numbers16, numbers32, Parse, parse_body, execute_body, status_body}
+use Rattle.message_view.specs.Spelled.{IsBytes, Fits16, Fits32, FitsValue, FitsList, FitsParse}
+use Rattle.message_view.specs.Reading.{text_at, int16_at, int32_at, value_at, counted_at, parse_at, execute_at, key_at, status_at}
+use Rattle.message_view.proofs.Pieces.{bind-inv, carry}
 use Rattle.message_view.proofs.Trips.{bytes_behind, text_reads, text_spelled, int16_reads, int16_spelled, int32_reads, int32_spelled, value_reads, value_spelled}
 use Rattle.message_view.proofs.ListTrips.{counted_reads, counted_spelled}
 

@@ -1,14 +1,12 @@
 -- Parts that are spelled are read again, and what is read is spelled so.
-use Rattle.std.proofs.Common.{◌≡◌, ◌<◌, ◌≤◌, ◌+◌, ◌-◌, ◌*◌, ◌^◌, ℕ, zero, suc, List, [], ◌∷◌, ◌++◌, length, get_or, take, drop, Option, Some, None, Result, Ok, Err, refl, ap, sym, ◌∙◌, Bool, true, false, arith, append_assoc, length-append, length-take, subst}
+use Rattle.std.proofs.Common.{◌≡◌, ◌<◌, ◌+◌, ◌^◌, ℕ, zero, suc, List, [], ◌∷◌, ◌++◌, length, get_or, take, drop, Option, Some, None, Ok, Err, refl, ap, sym, ◌∙◌, Bool, true, false, arith, length-append, length-take, subst}
 use Rattle.std.specs.Prelude.{nat_lt, ◌==◌, if◌then◌else◌}
-use Rattle.std.specs.Int.{w16, w32, to_be_bytes, from_be_bytes}
 use Rattle.std.proofs.lemmas.Nat.{from_be_bytes-to_be_bytes_2, from_be_bytes-to_be_bytes_4, be_bytes_2, be_bytes_4}
 use Rattle.std.proofs.lemmas.List.{get_or-append-add, take-append-drop}
 use Rattle.std.proofs.lemmas.Bool.{ne_eqb, eqb-true, eqb-false, ltb-true, ltb-false, lt-ltb, le-ltb}
 use Rattle.std.proofs.Math.Seq.{take-append_seam, drop-append_seam}
-use Rattle.frame_view.specs.Frames.{number}
 use Rattle.message_view.specs.declared.ViewFault.TheVariants.{TooShort, BadLength}
-use Rattle.message_view.specs.Bodies.{Text, HasNoZero, text, int16, int32, value, minus_one}
+use Rattle.message_view.specs.Bodies.{Text, HasNoZero, text, int16, int32, value}
 use Rattle.message_view.specs.Spelled.{IsBytes, Fits16, Fits32, FitsValue}
 use Rattle.message_view.specs.Reading.{Part, ◌>>=◌, with_first, text_at, int16_at, int32_at, bytes_at, value_of_length, value_at}
 use Rattle.message_view.proofs.Pieces.{same_rest, same_part, bind-inv}

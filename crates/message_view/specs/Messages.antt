@@ -1,5 +1,5 @@
 -- Messages as frames: those of a server, and three of a client.
-use Rattle.std.specs.Prelude.{ℕ, ◌+◌, List, [], ◌∷◌, ◌++◌, length, Option}
+use Rattle.std.specs.Prelude.{ℕ, List, [], ◌∷◌, ◌++◌, Option}
 use Rattle.frame_view.specs.declared.client.TheConstants as client
 use Rattle.frame_view.specs.declared.server.TheConstants as server
 use Rattle.frame_view.specs.Frames.{FrameOf, Start, first_spelling}

@@ -1,5 +1,5 @@
 -- Which parts spell a body: texts without a zero byte, numbers and counts that fit their fields.
-use Rattle.std.specs.Prelude.{◌≡◌, ℕ, ◌+◌, ◌^◌, ◌<◌, List, [], ◌∷◌, length, Option, Some, None, slice_index}
+use Rattle.std.specs.Prelude.{ℕ, ◌^◌, ◌<◌, List, length, Option, Some, None, slice_index}
 use Rattle.std.specs.List.{AllByRecursion}
 use Rattle.message_view.specs.Bodies.{Text, HasNoZero, ColumnOf, Parse, Bind, Target, OfStatement, OfPortal}
 

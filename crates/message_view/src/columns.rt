@@ -109,9 +109,9 @@ fn put_column(out: &mut BytesMut, column: Column<'_>)
 
 fn put_columns(out: &mut BytesMut, columns: &[Column<'_>]) -> Result<(), AllocError>
     requires { length columns.now < 2 ^ 16 }
-    ensures ok { OnOk result (out.new.items ≡ out.old.items ++ spelling (message 84 (columns_body (map text_column_of columns.now)))) }
+    ensures ok { OnOk result (out.new.items ≡ out.old.items ++ spelling (message ROW_DESCRIPTION (columns_body (map text_column_of columns.now)))) }
     ensures err { OnErr result (out.new.items ≡ out.old.items) }
-    ensures room { HasRoom out.old.spare (message 84 (columns_body (map text_column_of columns.now))) → IsOk result }
+    ensures room { HasRoom out.old.spare (message ROW_DESCRIPTION (columns_body (map text_column_of columns.now))) → IsOk result }
 {
     let size = columns_length(columns);
     if size > GREATEST_BODY - SIZE_OF_COUNT {

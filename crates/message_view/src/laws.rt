@@ -38,77 +38,77 @@ pub fn startup_message_is_cut()
     first_spelled_is_read();
 }
 
-/// Of a StartupMessage.
+/// A StartupMessage's pairs are read again, and only where they spell the body.
 pub fn startup_is_read()
     ensures { IsReaderOf startup_of startup_body (AllByRecursion FitsPair) }
 {}
 
-/// Of a PasswordMessage.
+/// So is a PasswordMessage's text.
 pub fn password_is_read()
     ensures { IsReaderOf password_of text HasNoZero }
 {}
 
-/// Of a Query.
+/// So is a Query's text.
 pub fn query_is_read()
     ensures { IsReaderOf query_of text HasNoZero }
 {}
 
-/// Of a Parse.
+/// So are a Parse's parts.
 pub fn parse_is_read()
     ensures { IsReaderOf parse_of parse_body FitsParse }
 {}
 
-/// Of a Bind.
+/// So are a Bind's parts.
 pub fn bind_is_read()
     ensures { IsReaderOf bind_of bind_body FitsBind }
 {}
 
-/// Of a Describe and a Close.
+/// So is what a Describe or a Close names.
 pub fn target_is_read()
     ensures { IsReaderOf target_of target_body FitsTarget }
 {}
 
-/// Of an Execute.
+/// So are an Execute's parts.
 pub fn execute_is_read()
     ensures { IsReaderOf execute_of (λ x. execute_body x.0 x.1) FitsExecute }
 {}
 
-/// Of an authentication message.
+/// So are an authentication message's number and the rest.
 pub fn authentication_is_read()
     ensures { IsReaderOf authentication_of (λ x. int32 x.0 ++ x.1) (λ x. Fits32 x.0) }
 {}
 
-/// Of a BackendKeyData.
+/// So are a BackendKeyData's numbers.
 pub fn key_is_read()
     ensures { IsReaderOf key_of (λ x. int32 x.0 ++ int32 x.1) FitsKey }
 {}
 
-/// Of a ParameterStatus.
+/// So are a ParameterStatus's name and value.
 pub fn status_is_read()
     ensures { IsReaderOf status_of (λ x. status_body x.0 x.1) FitsStatus }
 {}
 
-/// Of a ReadyForQuery.
+/// So is a ReadyForQuery's status.
 pub fn ready_is_read()
     ensures { IsReaderOf ready_of (λ s. status_byte s ∷ []) (λ _. Unit {0}) }
 {}
 
-/// Of a CommandComplete.
+/// So is a CommandComplete's tag.
 pub fn tag_is_read()
     ensures { IsReaderOf tag_of text HasNoZero }
 {}
 
-/// Of a RowDescription.
+/// So are a RowDescription's columns.
 pub fn row_description_is_read()
     ensures { IsReaderOf row_description_of columns_body (FitsList FitsColumn) }
 {}
 
-/// Of a DataRow.
+/// So are a DataRow's values.
 pub fn data_row_is_read()
     ensures { IsReaderOf data_row_of values (FitsList FitsValue) }
 {}
 
-/// Of an ErrorResponse and a NoticeResponse.
+/// So are an ErrorResponse's and a NoticeResponse's fields.
 pub fn note_is_read()
     ensures { IsReaderOf note_of fields_body (AllByRecursion FitsField) }
 {}

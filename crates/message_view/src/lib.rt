@@ -13,6 +13,8 @@ mod parts;
 mod refusal;
 mod rows;
 mod startup;
+#[cfg(test)]
+mod tests;
 mod values;
 mod views;
 mod writing;
