@@ -111,7 +111,7 @@ impl Codes<'_> {
     pub fn len(&self) -> usize
         ensures { result ≡ length (codes_left self.now) }
     {
-        self.left as usize
+        usize::from(self.left)
     }
 }
 
