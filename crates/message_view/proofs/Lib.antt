@@ -1,0 +1,17 @@
+pub mod Writers
+pub mod Ints
+pub mod Texts
+pub mod Counted
+pub mod NumberLists
+pub mod Places
+pub mod Ended
+pub mod Pairings
+pub mod Fieldings
+pub mod Pieces
+pub mod Trips
+pub mod ListTrips
+pub mod Alone
+pub mod PartTrips
+pub mod BindTrips
+pub mod EndTrips
+pub mod ByteTrips

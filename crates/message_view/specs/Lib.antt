@@ -1,0 +1,10 @@
+pub mod Bodies
+pub mod Messages
+pub mod Parts
+pub mod Reading
+pub mod Views
+pub mod Left
+pub mod Shown
+pub mod Refusals
+pub mod Spelled
+pub mod Laws
