@@ -1,0 +1,4 @@
+pub mod DatabaseValues
+pub mod Lines
+pub mod Tables
+pub mod Values

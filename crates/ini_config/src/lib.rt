@@ -1,0 +1,16 @@
+//! The settings file of the pooler: an ini file as PgBouncer has it, read whole or refused by the first faulty line.
+#![tactic(auto)]
+
+mod database_rows;
+mod database_values;
+mod faults;
+mod lines;
+mod name_lists;
+mod row_table;
+mod seen_keys;
+mod values;
+
+pub use database_rows::DbRow;
+pub use faults::{Cause, IniFault};
+pub use name_lists::Names;
+pub use row_table::Rows;
