@@ -1,5 +1,5 @@
 //! The value of a database row.
-ghost use Rattle.std.specs.Prelude.{◌≡◌, option_map};
+ghost use Rattle.std.specs.Prelude.{◌≡◌, option_map, IfSome};
 ghost use Rattle.ini_config.specs.DatabaseValues as spec;
 
 use crate::values::{address, number, port, split_at_first};
@@ -86,7 +86,8 @@ fn is_database(name: &[u8]) -> bool
 /// The row of a name and a value. None where the row isn't served or the value can't be read.
 #[tactic(auto, unfolding(crate::specs::DatabaseValues::row_of))]
 pub(crate) fn read_row<'a>(name: &'a [u8], value: &'a [u8]) -> Option<RowText<'a>>
-    ensures { option_map spec.row_in result ≡ spec.row_of name.entry.now value.entry.now }
+    ensures value { option_map spec.row_in result ≡ spec.row_of name.entry.now value.entry.now }
+    ensures name { IfSome result (λ r. r.name.now ≡ name.entry.now) }
 {
     if is_refused(name) || value.contains(&b'\'') {
         return None;

@@ -1,6 +1,6 @@
 //! Lists of names, as the values of some settings have them.
 ghost use Rattle.std.specs.Prelude.{◌≡◌, [], ◌∷◌, ◌==◌, length, map, IfOk, bytes_eq};
-ghost use Rattle.std.specs.Str.{str_to_ascii_lowercase};
+ghost use Rattle.std.specs.Str.{str_eq_ignore_ascii_case};
 ghost use Rattle.std.specs.List.{list_any};
 ghost use Rattle.ini_config.specs.Values as spec;
 
@@ -31,6 +31,15 @@ impl Names {
         Names {
             list: Vec::new(alloc),
         }
+    }
+
+    /// One name. The only error is want of memory.
+    pub fn one(alloc: Global, name: &[u8]) -> Result<Names, AllocError>
+        ensures { IfOk result (λ n. n ≡ name.now ∷ []) }
+    {
+        let mut list = Vec::new(alloc);
+        list.push(Text::copy(alloc, name)?)?;
+        Ok(Names { list })
     }
 
     /// The names of a text, parted by commas. Spaces and tabs round a name are dropped, and empty names are left out. The only
@@ -79,7 +88,7 @@ impl Names {
 
     /// Whether the name is among them, without regard to the case of ASCII letters.
     pub fn has_folded(&self, name: &[u8]) -> bool
-        ensures { result ≡ list_any (λ n. bytes_eq (str_to_ascii_lowercase n) (str_to_ascii_lowercase name.now)) self.now }
+        ensures { result ≡ list_any (λ n. str_eq_ignore_ascii_case n name.now) self.now }
     {
         self.list
             .iter()
