@@ -1,6 +1,7 @@
 -- What the lines of a settings file spell, or their first fault (PgBouncer manual, "Configuration file format").
-use Rattle.std.specs.Prelude.{◌≡◌, ◌⊎◌, ℕ, ◌+◌, List, [], ◌∷◌, ◌++◌, if◌then◌else◌, length, take, fold, Option, Some, None, Result, Ok, Err, is_some, bytes_eq}
+use Rattle.std.specs.Prelude.{◌≡◌, List, [], ◌∷◌, ◌++◌, if◌then◌else◌, Option, Some, None, Result, Ok, Err, is_some, bytes_eq}
 use Rattle.std.specs.List.{list_any}
+use Rattle.text_lines.specs.Files.{IsFaultless, IsTold, said_by}
 use Rattle.ini_config.specs.DatabaseValues.{row_of}
 use Rattle.ini_config.specs.Lines.{Said, Nothing, Opens, OpensUnknown, Gives, Unreadable, said}
 use Rattle.ini_config.specs.OptionValues.{Text, key_named, change_of, refusal, defaults}
@@ -56,10 +57,6 @@ with_line r line = with_said r (said line)
 abbrev pub empty_file : Reading
 empty_file = record { section = Preamble; keys = []; settings = defaults }
 
--- what the lines of a file say, one after another
-unfoldable pub reading_of : List Text → Reading
-reading_of lines = fold with_line empty_file lines
-
 -- ---- the fault of a line after what was read before it: of several the first of the list of causes
 
 abbrev pub twice_or : List DbRow → Text → Option DbRow → Option Cause
@@ -108,23 +105,8 @@ fault_of r line = said_fault r (said line)
 
 -- ---- the whole file
 
-abbrev pub or_later : Option Cause → ℕ → Option IniFault → Option IniFault
-or_later None n later = later
-or_later (Some c) n later = Some (record { cause = c; line = n })
-
--- the first faulty line among those that follow lines without a fault
-abbrev pub first_fault : List Text → List Text → Option IniFault
-first_fault before [] = None
-first_fault before (line ∷ lines) =
-    or_later (fault_of (reading_of before) line) (length before + 1) (first_fault (before ++ line ∷ []) lines)
-
--- the settings that the lines spell, or their first fault; for want of memory, a line up to which there is none
+-- the settings that the lines spell, or their first fault
 abbrev pub IsReadOf : List Text → Result Settings IniFault → Type 0
-IsReadOf lines (Ok settings) = (first_fault [] lines ≡ None) × (settings ≡ (reading_of lines).settings)
-IsReadOf lines (Err fault) =
-    (first_fault [] lines ≡ Some fault) ⊎ ((fault.cause ≡ cause.Memory) × (first_fault [] (take fault.line lines) ≡ None))
-
--- what taking a line answers, where it has this fault and else leaves this
-abbrev pub Took : Option Cause → Reading → Reading → Result (Unit {0}) Cause → Type 0
-Took fault next new (Ok done) = (fault ≡ None) × (new ≡ next)
-Took fault next new (Err c) = (fault ≡ Some c) ⊎ ((fault ≡ None) × (c ≡ cause.Memory))
+IsReadOf lines (Ok settings) =
+    IsFaultless with_line fault_of empty_file lines × (settings ≡ (said_by with_line fault_of empty_file lines).settings)
+IsReadOf lines (Err fault) = IsTold with_line fault_of empty_file cause.Memory lines fault.cause fault.line

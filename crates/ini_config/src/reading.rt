@@ -1,5 +1,6 @@
 //! The reading of a settings file, line by line.
 ghost use Rattle.std.specs.Prelude.{◌≡◌, ◌+◌};
+ghost use Rattle.text_lines.specs.Files.{Took};
 ghost use Rattle.text_lines.specs.Lines.{lines as lines_of_file};
 ghost use Rattle.ini_config.specs.Reading as spec;
 
@@ -25,7 +26,7 @@ impl<'a> Reading<'a> {
     /// Takes a line of the section `[databases]`.
     #[tactic(auto, unfolding(crate::specs::Reading::row_fault, crate::specs::Reading::with_row))]
     fn take_row(&mut self, alloc: Global, name: &'a [u8], value: &'a [u8]) -> Result<(), Cause>
-        ensures { spec.Took (spec.row_fault self.old name.entry.now value.entry.now) (spec.with_row self.old name.entry.now value.entry.now) self.new result }
+        ensures { Took Cause.Memory (spec.row_fault self.old name.entry.now value.entry.now) (spec.with_row self.old name.entry.now value.entry.now) self.new result }
     {
         let Some(row) = read_row(name, value) else {
             return Err(Cause::BadValue);
@@ -43,7 +44,7 @@ impl<'a> Reading<'a> {
     /// Takes a line of the section `[pgbouncer]`.
     #[tactic(auto, unfolding(crate::specs::Reading::option_fault, crate::specs::Reading::with_option))]
     fn take_option(&mut self, alloc: Global, name: &'a [u8], value: &'a [u8]) -> Result<(), Cause>
-        ensures { spec.Took (spec.option_fault self.old name.entry.now value.entry.now) (spec.with_option self.old name.entry.now value.entry.now) self.new result }
+        ensures { Took Cause.Memory (spec.option_fault self.old name.entry.now value.entry.now) (spec.with_option self.old name.entry.now value.entry.now) self.new result }
     {
         let Some(key) = key_named(name) else {
             return Err(Cause::UnknownKey);
@@ -65,7 +66,7 @@ impl<'a> Reading<'a> {
 
     /// Takes a key and its value.
     fn take_pair(&mut self, alloc: Global, name: &'a [u8], value: &'a [u8]) -> Result<(), Cause>
-        ensures { spec.Took (spec.pair_fault self.old name.entry.now value.entry.now) (spec.with_pair self.old name.entry.now value.entry.now) self.new result }
+        ensures { Took Cause.Memory (spec.pair_fault self.old name.entry.now value.entry.now) (spec.with_pair self.old name.entry.now value.entry.now) self.new result }
     {
         match self.section {
             Section::Databases => self.take_row(alloc, name, value),
@@ -77,7 +78,7 @@ impl<'a> Reading<'a> {
 
     /// Takes a trimmed line, or tells its first fault. Want of memory comes after all others.
     fn take_line(&mut self, alloc: Global, line: &'a [u8]) -> Result<(), Cause>
-        ensures { spec.Took (spec.fault_of self.old line.entry.now) (spec.with_line self.old line.entry.now) self.new result }
+        ensures { Took Cause.Memory (spec.fault_of self.old line.entry.now) (spec.with_line self.old line.entry.now) self.new result }
     {
         match read_line(line) {
             Line::Ignored => Ok(()),

@@ -1,6 +1,6 @@
 use Rattle.std.proofs.Common.{ap, ◌∙◌}
 use Rattle.std.specs.Prelude.{map}
-use Rattle.ini_config.proofs.Tables.{keys-added}
+use Rattle.text_lines.proofs.Tables.{keys-added}
 use Rattle.ini_config.proofs.seen_keys.SeenKeys.add.Goals as goal
 
 pub returns : goal.returns
