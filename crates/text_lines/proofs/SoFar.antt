@@ -87,16 +87,18 @@ module _ {S C : Type 0} (add : S → Line → S) (fault : S → Line → Option 
         ∙ ap (said_by add fault empty) (sym (take-next all n (trimmed line) (map trimmed rest) so_far.rest_is));
     }
 
-    -- or the file is refused
-    pub refused : (memory : C) (next new : S) (c : C) → Took memory (fault read (trimmed line)) next new (Err c) → IsTold add fault empty memory all c (n + 1)
-    refused memory next new c (inr want) = inr (want.1, faultless-next want.0)
-    refused memory next new c (inl own) =
+    -- or it is the first faulty one
+    pub first_faulty : (c : C) → fault read (trimmed line) ≡ Some c → first_fault add fault empty [] all ≡ Some (c, n + 1)
+    first_faulty c own =
         let later = first_fault add fault empty (take n all ++ trimmed line ∷ []) (map trimmed rest) in
         let short : length (take n all) ≡ n = length-take-le n all (let k = so_far.counted in omega arith) in
-        inl (
-          ap (first_fault add fault empty []) (sym (take-append-drop n all) ∙ ap (λ d. take n all ++ d) (sym so_far.rest_is))
-          ∙ first_fault-append [] (take n all) (trimmed line ∷ map trimmed rest) so_far.faultless
-          ∙ ap (λ s. or_later (fault s (trimmed line)) (length (take n all) + 1) later) (sym so_far.read_is)
-          ∙ ap (λ f. or_later f (length (take n all) + 1) later) own
-          ∙ ap (λ k. Some (c, k + 1)) short
-        )
+        ap (first_fault add fault empty []) (sym (take-append-drop n all) ∙ ap (λ d. take n all ++ d) (sym so_far.rest_is))
+        ∙ first_fault-append [] (take n all) (trimmed line ∷ map trimmed rest) so_far.faultless
+        ∙ ap (λ s. or_later (fault s (trimmed line)) (length (take n all) + 1) later) (sym so_far.read_is)
+        ∙ ap (λ f. or_later f (length (take n all) + 1) later) own
+        ∙ ap (λ k. Some (c, k + 1)) short
+
+    -- so the file is refused
+    pub refused : (memory : C) (next new : S) (c : C) → Took memory (fault read (trimmed line)) next new (Err c) → IsTold add fault empty memory all c (n + 1)
+    refused memory next new c (inr want) = inr (want.1, faultless-next want.0)
+    refused memory next new c (inl own) = inl (first_faulty c own)
