@@ -1,5 +1,5 @@
 -- What a line of the settings file says (PgBouncer manual, "Configuration file format").
-use Rattle.std.specs.Prelude.{ℕ, Bool, List, [], ◌∷◌, ◌&&◌, if◌then◌else◌, nat_eq, Option, Some, None, bytes_eq, codes}
+use Rattle.std.specs.Prelude.{ℕ, List, ◌&&◌, if◌then◌else◌, nat_eq, Option, Some, None, bytes_eq, codes}
 use Rattle.std.specs.List.{starts_with, ends_with}
 use Rattle.text_lines.specs.Lines.{trimmed, is_ignored}
 pub use Rattle.ini_config.specs.Values.{split_at_first}

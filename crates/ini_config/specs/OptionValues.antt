@@ -1,6 +1,6 @@
 -- The keys of the section [pgbouncer] (PgBouncer manual, "Generic settings" and after).
 use Rattle.std.specs.Prelude.{ℕ, Bool, List, [], ◌∷◌, if◌then◌else◌, Option, Some, None, option_map, bytes_eq, codes}
-use Rattle.std.specs.Str.{str_to_ascii_lowercase, str_eq_ignore_ascii_case}
+use Rattle.std.specs.Str.{str_eq_ignore_ascii_case}
 use Rattle.std.specs.List.{list_any, find}
 use Rattle.ini_config.specs.Values.{number_between, listen_address, names}
 use Rattle.ini_config.specs.declared.faults.Cause.{Cause}

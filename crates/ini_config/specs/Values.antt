@@ -1,5 +1,5 @@
 -- The values of settings (PgBouncer manual, "Generic settings", "Section [databases]").
-use Rattle.std.specs.Prelude.{ℕ, ◌+◌, ◌-◌, ◌*◌, Bool, not, List, [], ◌∷◌, ◌==◌, ◌&&◌, ◌||◌, if◌then◌else◌, nat_lt, nat_le, length, take, drop, fold, filter, map, slice_index, Option, Some, None, option_map, option_and_then, bytes_eq, codes}
+use Rattle.std.specs.Prelude.{ℕ, ◌+◌, ◌-◌, ◌*◌, not, List, [], ◌∷◌, ◌==◌, ◌&&◌, if◌then◌else◌, nat_lt, nat_le, length, take, drop, fold, filter, map, slice_index, Option, Some, None, option_map, option_and_then, bytes_eq, codes}
 use Rattle.std.specs.Char.{is_ascii_digit}
 use Rattle.std.specs.List.{list_all}
 use Rattle.memchr.specs.Find.{first_of, matches}

@@ -1,5 +1,5 @@
 -- Lines that were read so far, and the rest of the file.
-use Rattle.std.proofs.Common.{◌≡◌, ◌+◌, ◌<◌, ◌≤◌, ℕ, zero, suc, List, [], ◌∷◌, ◌++◌, length, take, drop, Option, Some, None, Ok, Err, refl, sym, ap, ◌∙◌, inl, inr, arith, append_assoc, append-nil, length-take-le, take_all}
+use Rattle.std.proofs.Common.{◌≡◌, ◌+◌, ℕ, zero, suc, List, [], ◌∷◌, ◌++◌, length, take, drop, Option, Some, None, Err, refl, sym, ap, ◌∙◌, inl, inr, arith, append_assoc, append-nil, length-take-le, take_all}
 use Rattle.std.specs.Prelude.{map}
 use Rattle.std.proofs.Math.Numerals.{add-one}
 use Rattle.std.proofs.lemmas.Grind.{fold-append}
@@ -83,8 +83,8 @@ module _ {S C : Type 0} (add : S → Line → S) (fault : S → Line → Option 
       rest_is = drop-next all n (trimmed line) (map trimmed rest) so_far.rest_is;
       faultless = faultless-next none;
       read_is =
-        is ∙ ap (λ s. add s (trimmed line)) so_far.read_is ∙ sym (said_by-push (take n all) (trimmed line))
-        ∙ ap (said_by add fault empty) (sym (take-next all n (trimmed line) (map trimmed rest) so_far.rest_is));
+          is ∙ ap (λ s. add s (trimmed line)) so_far.read_is ∙ sym (said_by-push (take n all) (trimmed line))
+          ∙ ap (said_by add fault empty) (sym (take-next all n (trimmed line) (map trimmed rest) so_far.rest_is));
     }
 
     -- or it is the first faulty one

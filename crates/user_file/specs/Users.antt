@@ -1,5 +1,5 @@
 -- What the lines of a user file spell, or their first fault (PgBouncer manual, "Authentication file format").
-use Rattle.std.specs.Prelude.{◌≡◌, ◌⊎◌, ℕ, ◌-◌, List, [], ◌∷◌, ◌++◌, if◌then◌else◌, take, Option, Some, None, Result, Ok, Err, is_some, option_map, bytes_eq}
+use Rattle.std.specs.Prelude.{◌≡◌, ◌⊎◌, ◌-◌, List, [], ◌∷◌, ◌++◌, if◌then◌else◌, take, Option, Some, None, Result, Ok, Err, is_some, option_map, bytes_eq}
 use Rattle.std.specs.List.{find}
 use Rattle.text_lines.specs.Files.{IsFaultless, first_fault, said_by}
 use Rattle.text_lines.specs.Lines.{is_ignored}

@@ -1,4 +1,4 @@
-use Rattle.std.proofs.Common.{rules, ◌≡◌, ◌∷◌, subst, sym, ap, arith, length, None, Err}
+use Rattle.std.proofs.Common.{rules, ◌≡◌, subst, sym, ap, arith, length, None, Err}
 use Rattle.std.specs.Prelude.{map}
 use Rattle.std.proofs.lemmas.List.{length-map}
 use Rattle.text_lines.specs.Files.{Took}

@@ -1,5 +1,4 @@
-use Rattle.std.proofs.Common.{◌≡◌, ◌<◌, ◌≤◌, sym, ◌∙◌, arith, rules, length}
-use Rattle.std.proofs.lemmas.Grind.{common_steps}
+use Rattle.std.proofs.Common.{◌<◌, rules, length}
 use Rattle.ini_config.proofs.Numbers.{stops_at, stops_above, nothing, below, whole, at_end}
 use Rattle.ini_config.proofs.values.number.Goals as goal
 

@@ -1,4 +1,4 @@
-use Rattle.std.proofs.Common.{rules, arith}
+use Rattle.std.proofs.Common.{rules}
 use Rattle.user_file.proofs.Quotes.{searched-plain, searched-doubled}
 use Rattle.user_file.proofs.fields.quoted.Goals as goal
 

@@ -1,11 +1,10 @@
-use Rattle.std.proofs.Common.{rules, ◌≡◌, ◌⊎◌, ◌+◌, ◌-◌, [], ◌∷◌, refl, subst, sym, ap, ◌∙◌, inl, inr, arith, length, take, None, Some, Err}
+use Rattle.std.proofs.Common.{rules, ◌≡◌, ◌⊎◌, ◌+◌, ◌-◌, [], subst, sym, ap, ◌∙◌, inl, inr, arith, length, take, None, Some}
 use Rattle.std.specs.Prelude.{map}
 use Rattle.std.proofs.lemmas.List.{length-map}
-use Rattle.text_lines.specs.Files.{IsFaultless, first_fault}
+use Rattle.text_lines.specs.Files.{first_fault}
 use Rattle.text_lines.specs.Lines.{lines, raw_lines, trimmed}
 use Rattle.text_lines.proofs.SoFar.{ReadUpTo, at_start, at_end, taken, first_faulty}
 use Rattle.user_file.specs.Users.{with_line, fault_of}
-use Rattle.user_file.specs.declared.faults.Cause.{Cause}
 use Rattle.user_file.specs.declared.faults.Cause.TheVariants.{Memory}
 use Rattle.user_file.proofs.reading.read_users.Goals as goal
 

@@ -1,4 +1,4 @@
-use Rattle.std.proofs.Common.{rules, sym, ◌∙◌, ap}
+use Rattle.std.proofs.Common.{◌∙◌, ap}
 use Rattle.ini_config.specs.Tables.{row_named}
 use Rattle.text_lines.proofs.Tables.{lookup-named}
 use Rattle.ini_config.proofs.row_table.Rows.get.Goals as goal

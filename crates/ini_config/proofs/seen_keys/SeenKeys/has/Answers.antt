@@ -1,4 +1,4 @@
-use Rattle.std.proofs.Common.{rules, sym, ◌∙◌, ap, bytes_eq}
+use Rattle.std.proofs.Common.{sym, ◌∙◌, ap, bytes_eq}
 use Rattle.std.specs.List.{list_any}
 use Rattle.text_lines.proofs.Tables.{list_any-map}
 use Rattle.ini_config.proofs.seen_keys.SeenKeys.has.Goals as goal

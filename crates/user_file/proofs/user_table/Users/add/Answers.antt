@@ -1,6 +1,5 @@
-use Rattle.std.proofs.Common.{◌≡◌, sym, ◌∙◌, ap, bytes_eq, Vec, Global, ℕ, List, None}
+use Rattle.std.proofs.Common.{sym, ◌∙◌, ap, bytes_eq}
 use Rattle.std.specs.Prelude.{map}
-use Rattle.indexmap.specs.IndexMap.{get}
 use Rattle.indexmap.proofs.CallerLemmas.{insert_entry-new}
 use Rattle.user_file.specs.Users.{user_named}
 use Rattle.text_lines.proofs.Tables.{lookup-named, rows-added, named-added}

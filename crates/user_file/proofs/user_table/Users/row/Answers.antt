@@ -1,4 +1,4 @@
-use Rattle.std.proofs.Common.{rules, sym, ◌∙◌, ap}
+use Rattle.std.proofs.Common.{◌∙◌, ap}
 use Rattle.user_file.specs.Users.{user_named}
 use Rattle.text_lines.proofs.Tables.{lookup-named}
 use Rattle.user_file.proofs.user_table.Users.row.Goals as goal
