@@ -1,7 +1,7 @@
 -- The command line of the program, and what its words ask for.
-use Rattle.std.specs.Prelude.{◌≡◌, pos, ℕ, List, Option, Some, None, true, codes, option_map, option_and_then}
+use Rattle.std.specs.Prelude.{◌≡◌, pos, ℕ, List, Option, Some, true, codes, option_map, option_and_then}
 use Rattle.std.specs.Str.Parse.{digits_value, without_leading_plus}
-use Rattle.clap.specs.Words.{App, Row, Rule, Shape, Text, first_of, one_of, new_app, new_rule, with_rule, with_subcommand}
+use Rattle.clap.specs.Words.{App, Row, Rule, Text, first_of, one_of, new_app, new_rule, with_rule, with_subcommand}
 use Rattle.clap.specs.declared.builder.value_parser.ValueParser.TheVariants.{Signed}
 use Rattle.pool_app.specs.declared.line.Job.{Job}
 use Rattle.pool_app.specs.declared.line.Job.TheVariants.{Replay, Serve, Stub}
