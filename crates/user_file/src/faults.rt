@@ -10,7 +10,7 @@ pub enum Cause {
     /// A name for the second time.
     #[error("U2")]
     NameTwice,
-    /// No memory was left to keep what the line says.
+    /// No memory was left to keep what the line says. It may hide that the name came before.
     #[error("U3")]
     Memory,
 }

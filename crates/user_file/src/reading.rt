@@ -42,8 +42,8 @@ fn take_line(users: &mut Users, alloc: Global, line: &[u8]) -> Result<(), Cause>
 /// The users of a file, or its first faulty line.
 ///
 /// A line ends with LF or CR LF or the end of the file; spaces and tabs at its ends are dropped. Of several faults on one line the
-/// one with the lowest number is told. Want of memory is told with the line whose name or secret found none; no line before it
-/// has a fault, and that line itself none of quoting.
+/// one with the lowest number is told. Want of memory is told with the line whose texts found none; no line before it has a
+/// fault. That line is quoted well; whether its name came before is open, since a name is looked up by its own copy.
 pub fn read_users(alloc: Global, text: &[u8]) -> Result<Users, UserFault>
     ensures { spec.IsReadOf (lines_of_file text.now) result }
 {
