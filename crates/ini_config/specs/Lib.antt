@@ -1,0 +1,6 @@
+pub mod DatabaseValues
+pub mod Lines
+pub mod OptionValues
+pub mod Reading
+pub mod Tables
+pub mod Values

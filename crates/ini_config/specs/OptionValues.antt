@@ -1,0 +1,136 @@
+-- The keys of the section [pgbouncer] (PgBouncer manual, "Generic settings" and after).
+use Rattle.std.specs.Prelude.{ℕ, Bool, List, [], ◌∷◌, if◌then◌else◌, Option, Some, None, option_map, bytes_eq, codes}
+use Rattle.std.specs.Str.{str_eq_ignore_ascii_case}
+use Rattle.std.specs.List.{list_any, find}
+use Rattle.ini_config.specs.Values.{number_between, listen_address, names}
+use Rattle.ini_config.specs.declared.faults.Cause.{Cause}
+use Rattle.ini_config.specs.declared.faults.Cause.TheVariants as cause
+use Rattle.ini_config.specs.declared.option_keys.Key.{Key}
+use Rattle.ini_config.specs.declared.option_keys.Key.TheVariants as key
+use Rattle.ini_config.specs.declared.option_keys.Setting.{Setting}
+use Rattle.ini_config.specs.declared.option_keys.Setting.TheVariants as setting
+use Rattle.ini_config.specs.declared.option_values.AuthType.{AuthType}
+use Rattle.ini_config.specs.declared.option_values.AuthType.TheVariants.{Trust, Plain, Md5}
+use Rattle.ini_config.specs.declared.option_values.Settings.{Settings}
+
+abbrev pub Text : Type 0
+Text = List ℕ
+
+-- ---- names of keys
+
+-- the keys that are served
+abbrev pub served : List (Text × Key)
+served =
+    (codes "listen_addr", key.ListenAddr) ∷ (codes "listen_port", key.ListenPort) ∷ (codes "auth_type", key.AuthType)
+    ∷ (codes "admin_users", key.AdminUsers) ∷ (codes "pool_mode", key.PoolMode) ∷ (codes "server_reset_query", key.ServerResetQuery)
+    ∷ (codes "max_client_conn", key.MaxClientConn) ∷ (codes "default_pool_size", key.DefaultPoolSize) ∷ (codes "max_links", key.MaxLinks)
+    ∷ (codes "query_wait_timeout", key.QueryWaitTimeout) ∷ (codes "server_lifetime", key.ServerLifetime)
+    ∷ (codes "server_idle_timeout", key.ServerIdleTimeout) ∷ (codes "max_packet_size", key.MaxPacketSize)
+    ∷ (codes "ignore_startup_parameters", key.IgnoreStartupParameters) ∷ (codes "track_extra_parameters", key.TrackExtraParameters) ∷ []
+
+-- keys of PgBouncer that are read, with any value, and not used
+abbrev pub unused : List Text
+unused =
+    codes "auth_file" ∷ codes "logfile" ∷ codes "pidfile" ∷ codes "unix_socket_dir" ∷ codes "syslog" ∷ codes "verbose" ∷ codes "stats_users"
+    ∷ codes "stats_period" ∷ codes "log_connections" ∷ codes "log_disconnections" ∷ codes "log_pooler_errors" ∷ codes "log_stats"
+    ∷ codes "job_name" ∷ codes "pkt_buf" ∷ codes "listen_backlog" ∷ codes "tcp_keepalive" ∷ codes "server_check_delay"
+    ∷ codes "server_connect_timeout" ∷ codes "server_login_retry" ∷ codes "server_reset_query_always" ∷ []
+
+abbrev pub is_unused : Text → Bool
+is_unused name = list_any (λ k. bytes_eq k name) unused
+
+unfoldable pub key_named : Text → Option Key
+key_named name = if is_unused name then Some key.Unused else option_map (λ e. e.1) (find (λ e. bytes_eq e.0 name) served)
+
+-- ---- values of keys
+
+unfoldable pub auth_type : Text → Option AuthType
+auth_type text =
+    if bytes_eq text (codes "trust") then Some Trust else (
+    if bytes_eq text (codes "plain") then Some Plain else (
+    if bytes_eq text (codes "md5") then Some Md5 else None))
+
+-- a count of clients or links, and a time
+abbrev pub count : Text → Option ℕ
+count text = number_between 1 10000 text
+
+abbrev pub seconds : Text → Option ℕ
+seconds text = number_between 0 2147483647 text
+
+-- what a key's value makes of the settings; none where it isn't a value of the key
+unfoldable pub change_of : Key → Text → Option (Settings → Settings)
+change_of key.ListenAddr text = option_map (λ a s. record s { listen_addr = a }) (listen_address text)
+change_of key.ListenPort text = option_map (λ n s. record s { listen_port = n }) (number_between 1 65535 text)
+change_of key.AuthType text = option_map (λ a s. record s { auth_type = a }) (auth_type text)
+change_of key.AdminUsers text = Some (λ s. record s { admin_users = names text })
+change_of key.PoolMode text = Some (λ s. s)
+change_of key.ServerResetQuery text = Some (λ s. s)
+change_of key.MaxClientConn text = option_map (λ n s. record s { max_client_conn = n }) (count text)
+change_of key.DefaultPoolSize text = option_map (λ n s. record s { default_pool_size = n }) (count text)
+change_of key.MaxLinks text = option_map (λ n s. record s { max_links = n }) (count text)
+change_of key.QueryWaitTimeout text = option_map (λ n s. record s { query_wait_timeout = n }) (seconds text)
+change_of key.ServerLifetime text = option_map (λ n s. record s { server_lifetime = n }) (seconds text)
+change_of key.ServerIdleTimeout text = option_map (λ n s. record s { server_idle_timeout = n }) (seconds text)
+change_of key.MaxPacketSize text = option_map (λ n s. record s { max_packet_size = n }) (number_between 1024 2147483647 text)
+change_of key.IgnoreStartupParameters text = Some (λ s. record s { ignore_startup_parameters = names text })
+change_of key.TrackExtraParameters text = Some (λ s. record s { track_extra_parameters = names text })
+change_of key.Unused text = Some (λ s. s)
+
+-- what a value asks for that isn't served
+unfoldable pub refusal : Key → Text → Option Cause
+refusal key.PoolMode text = if bytes_eq text (codes "session") then None else Some cause.PoolMode
+refusal key.ServerResetQuery text = if str_eq_ignore_ascii_case text (codes "discard all") then None else Some cause.ResetQuery
+refusal other text = None
+
+-- the settings of an empty file
+abbrev pub defaults : Settings
+defaults = record {
+  rows = [];
+  listen_addr = 127 ∷ 0 ∷ 0 ∷ 1 ∷ [];
+  listen_port = 6432;
+  auth_type = Md5;
+  admin_users = [];
+  max_client_conn = 100;
+  default_pool_size = 20;
+  max_links = 1000;
+  query_wait_timeout = 120;
+  server_lifetime = 3600;
+  server_idle_timeout = 600;
+  max_packet_size = 2147483647;
+  ignore_startup_parameters = [];
+  track_extra_parameters = codes "IntervalStyle" ∷ [];
+}
+
+-- ---- what the lists of names are for
+
+-- the users of the console, byte for byte
+abbrev pub is_admin : Settings → Text → Bool
+is_admin s user = list_any (λ n. bytes_eq n user) s.admin_users
+
+-- startup parameters, without regard to the case of ASCII letters
+abbrev pub has_folded : List Text → Text → Bool
+has_folded list name = list_any (λ n. str_eq_ignore_ascii_case n name) list
+
+abbrev pub ignores : Settings → Text → Bool
+ignores s name = has_folded s.ignore_startup_parameters name
+
+abbrev pub tracks : Settings → Text → Bool
+tracks s name = has_folded s.track_extra_parameters name
+
+-- ---- the same of a value that was read
+
+abbrev pub changed_by : Setting → Settings → Settings
+changed_by (setting.ListenAddr a) s = record s { listen_addr = a }
+changed_by (setting.ListenPort n) s = record s { listen_port = n }
+changed_by (setting.AuthType a) s = record s { auth_type = a }
+changed_by (setting.AdminUsers text) s = record s { admin_users = names text.now }
+changed_by (setting.MaxClientConn n) s = record s { max_client_conn = n }
+changed_by (setting.DefaultPoolSize n) s = record s { default_pool_size = n }
+changed_by (setting.MaxLinks n) s = record s { max_links = n }
+changed_by (setting.QueryWaitTimeout n) s = record s { query_wait_timeout = n }
+changed_by (setting.ServerLifetime n) s = record s { server_lifetime = n }
+changed_by (setting.ServerIdleTimeout n) s = record s { server_idle_timeout = n }
+changed_by (setting.MaxPacketSize n) s = record s { max_packet_size = n }
+changed_by (setting.IgnoreStartupParameters text) s = record s { ignore_startup_parameters = names text.now }
+changed_by (setting.TrackExtraParameters text) s = record s { track_extra_parameters = names text.now }
+changed_by setting.Nothing s = s

@@ -1,0 +1,108 @@
+//! The value of a database row.
+ghost use Rattle.std.specs.Prelude.{◌≡◌, option_map, IfSome};
+ghost use Rattle.ini_config.specs.DatabaseValues as spec;
+
+use crate::values::{address, number, port, split_at_first};
+use bstr::ByteSlice;
+
+/// What the items of a row's value say.
+#[derive(Clone, Copy, Debug)]
+pub(crate) struct Items<'a> {
+    host: Option<[u8; 4]>,
+    port: Option<u16>,
+    dbname: Option<&'a [u8]>,
+    pool_size: Option<u32>,
+}
+
+/// A row whose texts are still those of the file.
+#[derive(Clone, Copy, Debug)]
+pub(crate) struct RowText<'a> {
+    pub(crate) name: &'a [u8],
+    pub(crate) host: [u8; 4],
+    pub(crate) port: u16,
+    pub(crate) dbname: &'a [u8],
+    pub(crate) pool_size: Option<u32>,
+}
+
+const DEFAULT_PORT: u16 = 5432;
+
+/// The items with one more. None where its key is unknown or there already, or its value isn't one of the key.
+fn with_item<'a>(items: Items<'a>, key: &[u8], value: &'a [u8]) -> Option<Items<'a>>
+    ensures { option_map spec.values_of result ≡ spec.with_item (spec.values_of items.entry) key.now value.entry.now }
+{
+    if key == b"host".as_slice() && items.host.is_none() {
+        let host = Some(address(value)?);
+        return Some(Items { host, ..items });
+    }
+    if key == b"port".as_slice() && items.port.is_none() {
+        let port = Some(port(value)?);
+        return Some(Items { port, ..items });
+    }
+    if key == b"dbname".as_slice() && items.dbname.is_none() {
+        let dbname = Some(value);
+        return Some(Items { dbname, ..items });
+    }
+    if key == b"pool_size".as_slice() && items.pool_size.is_none() {
+        let pool_size = Some(number(value, 1, 10_000)?);
+        return Some(Items { pool_size, ..items });
+    }
+    None
+}
+
+/// The items of a value, parted by spaces.
+#[tactic(auto, using(crate::proofs::Items::no_texts), unfolding(crate::specs::DatabaseValues::values_in))]
+fn items_of(value: &[u8]) -> Option<Items<'_>>
+    ensures { option_map spec.values_of result ≡ spec.values_in value.now }
+{
+    let mut items = Items {
+        host: None,
+        port: None,
+        dbname: None,
+        pool_size: None,
+    };
+    for item in value.split_str(b" ") {
+        if !item.is_empty() {
+            let (key, given) = split_at_first(item, b'=')?;
+            items = with_item(items, key, given)?;
+        }
+    }
+    Some(items)
+}
+
+/// Whether the name of a row is one that isn't served: the console's, and the row for all other names.
+fn is_refused(name: &[u8]) -> bool
+    ensures { result ≡ spec.is_refused name.now }
+{
+    name == b"pgbouncer".as_slice() || name == b"*".as_slice()
+}
+
+/// Whether a server can have a database of this name.
+fn is_database(name: &[u8]) -> bool
+    ensures { result ≡ spec.is_database name.now }
+{
+    !name.is_empty() && !name.contains(&0)
+}
+
+/// The row of a name and a value. None where the row isn't served or the value can't be read.
+#[tactic(auto, unfolding(crate::specs::DatabaseValues::row_of))]
+pub(crate) fn read_row<'a>(name: &'a [u8], value: &'a [u8]) -> Option<RowText<'a>>
+    ensures value { option_map spec.row_in result ≡ spec.row_of name.entry.now value.entry.now }
+    ensures name { IfSome result (λ r. r.name.now ≡ name.entry.now) }
+{
+    if is_refused(name) || value.contains(&b'\'') {
+        return None;
+    }
+    let items = items_of(value)?;
+    let host = items.host?;
+    let dbname = items.dbname.unwrap_or(name);
+    if !is_database(dbname) {
+        return None;
+    }
+    Some(RowText {
+        name,
+        host,
+        port: items.port.unwrap_or(DEFAULT_PORT),
+        dbname,
+        pool_size: items.pool_size,
+    })
+}

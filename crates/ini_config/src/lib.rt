@@ -1,0 +1,24 @@
+//! The settings file of the pooler: an ini file as PgBouncer has it, read whole or refused by the first faulty line.
+#![tactic(auto)]
+
+mod database_rows;
+mod database_values;
+mod faults;
+mod lines;
+mod name_lists;
+mod option_keys;
+mod option_values;
+mod reading;
+mod row_table;
+mod seen_keys;
+mod values;
+
+pub use database_rows::DbRow;
+pub use faults::{Cause, IniFault};
+pub use name_lists::Names;
+pub use option_values::{AuthType, Settings};
+pub use reading::read_settings;
+pub use row_table::Rows;
+
+#[cfg(test)]
+mod tests;

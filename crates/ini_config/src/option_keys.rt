@@ -1,0 +1,198 @@
+//! The keys of the section `[pgbouncer]` and what their values say.
+ghost use Rattle.std.specs.Prelude.{◌≡◌, option_map, bytes_eq};
+ghost use Rattle.std.specs.List.{find, list_any};
+ghost use Rattle.ini_config.specs.OptionValues as spec;
+
+use crate::faults::Cause;
+use crate::option_values::AuthType;
+use crate::values::{listen_address, number, port};
+
+/// A key that the file may have.
+#[derive(Clone, Copy, Debug, PartialEq, Eq)]
+pub(crate) enum Key {
+    ListenAddr,
+    ListenPort,
+    AuthType,
+    AdminUsers,
+    PoolMode,
+    ServerResetQuery,
+    MaxClientConn,
+    DefaultPoolSize,
+    MaxLinks,
+    QueryWaitTimeout,
+    ServerLifetime,
+    ServerIdleTimeout,
+    MaxPacketSize,
+    IgnoreStartupParameters,
+    TrackExtraParameters,
+    /// A key of PgBouncer that is read, with any value, and not used.
+    Unused,
+}
+
+/// What a value changes.
+#[derive(Clone, Copy, Debug)]
+pub(crate) enum Setting<'a> {
+    ListenAddr([u8; 4]),
+    ListenPort(u16),
+    AuthType(AuthType),
+    AdminUsers(&'a [u8]),
+    MaxClientConn(u32),
+    DefaultPoolSize(u32),
+    MaxLinks(u32),
+    QueryWaitTimeout(u32),
+    ServerLifetime(u32),
+    ServerIdleTimeout(u32),
+    MaxPacketSize(u32),
+    IgnoreStartupParameters(&'a [u8]),
+    TrackExtraParameters(&'a [u8]),
+    Nothing,
+}
+
+static SERVED: [(&str, Key); 15] = [
+    ("listen_addr", Key::ListenAddr),
+    ("listen_port", Key::ListenPort),
+    ("auth_type", Key::AuthType),
+    ("admin_users", Key::AdminUsers),
+    ("pool_mode", Key::PoolMode),
+    ("server_reset_query", Key::ServerResetQuery),
+    ("max_client_conn", Key::MaxClientConn),
+    ("default_pool_size", Key::DefaultPoolSize),
+    ("max_links", Key::MaxLinks),
+    ("query_wait_timeout", Key::QueryWaitTimeout),
+    ("server_lifetime", Key::ServerLifetime),
+    ("server_idle_timeout", Key::ServerIdleTimeout),
+    ("max_packet_size", Key::MaxPacketSize),
+    ("ignore_startup_parameters", Key::IgnoreStartupParameters),
+    ("track_extra_parameters", Key::TrackExtraParameters),
+];
+
+static UNUSED: [&str; 20] = [
+    "auth_file",
+    "logfile",
+    "pidfile",
+    "unix_socket_dir",
+    "syslog",
+    "verbose",
+    "stats_users",
+    "stats_period",
+    "log_connections",
+    "log_disconnections",
+    "log_pooler_errors",
+    "log_stats",
+    "job_name",
+    "pkt_buf",
+    "listen_backlog",
+    "tcp_keepalive",
+    "server_check_delay",
+    "server_connect_timeout",
+    "server_login_retry",
+    "server_reset_query_always",
+];
+
+const MOST_LINKS: u32 = 10_000;
+
+const MOST_SECONDS: u32 = 2_147_483_647;
+
+const SMALLEST_PACKET: u32 = 1024;
+
+const LARGEST_PACKET: u32 = 2_147_483_647;
+
+/// Whether the name is in a list.
+fn is_among(list: &[&str], name: &[u8]) -> bool
+    ensures { result ≡ list_any (λ k. bytes_eq k.now name.now) list.now }
+{
+    for key in list {
+        if key.as_bytes() == name {
+            return true;
+        }
+    }
+    false
+}
+
+/// The key at the name in a table.
+fn find_key(table: &[(&str, Key)], name: &[u8]) -> Option<Key>
+    ensures { result ≡ option_map (λ e. e.1) (find (λ e. bytes_eq e.0.now name.now) table.now) }
+{
+    for (text, key) in table {
+        if text.as_bytes() == name {
+            return Some(*key);
+        }
+    }
+    None
+}
+
+/// The key of this name.
+#[tactic(auto, unfolding(crate::specs::OptionValues::key_named))]
+pub(crate) fn key_named(name: &[u8]) -> Option<Key>
+    ensures { result ≡ spec.key_named name.now }
+{
+    if is_among(UNUSED.as_slice(), name) {
+        return Some(Key::Unused);
+    }
+    find_key(SERVED.as_slice(), name)
+}
+
+#[tactic(auto, unfolding(crate::specs::OptionValues::auth_type))]
+fn auth_type(value: &[u8]) -> Option<AuthType>
+    ensures { result ≡ spec.auth_type value.now }
+{
+    if value == b"trust".as_slice() {
+        return Some(AuthType::Trust);
+    }
+    if value == b"plain".as_slice() {
+        return Some(AuthType::Plain);
+    }
+    if value == b"md5".as_slice() {
+        return Some(AuthType::Md5);
+    }
+    None
+}
+
+/// What a key's value says. None where it isn't a value of the key.
+#[tactic(auto, unfolding(crate::specs::OptionValues::change_of))]
+pub(crate) fn read_setting(key: Key, value: &[u8]) -> Option<Setting<'_>>
+    ensures { option_map spec.changed_by result ≡ spec.change_of key value.now }
+{
+    match key {
+        Key::ListenAddr => Some(Setting::ListenAddr(listen_address(value)?)),
+        Key::ListenPort => Some(Setting::ListenPort(port(value)?)),
+        Key::AuthType => Some(Setting::AuthType(auth_type(value)?)),
+        Key::AdminUsers => Some(Setting::AdminUsers(value)),
+        Key::PoolMode | Key::ServerResetQuery | Key::Unused => Some(Setting::Nothing),
+        Key::MaxClientConn => Some(Setting::MaxClientConn(number(value, 1, MOST_LINKS)?)),
+        Key::DefaultPoolSize => Some(Setting::DefaultPoolSize(number(value, 1, MOST_LINKS)?)),
+        Key::MaxLinks => Some(Setting::MaxLinks(number(value, 1, MOST_LINKS)?)),
+        Key::QueryWaitTimeout => Some(Setting::QueryWaitTimeout(number(value, 0, MOST_SECONDS)?)),
+        Key::ServerLifetime => Some(Setting::ServerLifetime(number(value, 0, MOST_SECONDS)?)),
+        Key::ServerIdleTimeout => Some(Setting::ServerIdleTimeout(number(value, 0, MOST_SECONDS)?)),
+        Key::MaxPacketSize => Some(Setting::MaxPacketSize(number(
+            value,
+            SMALLEST_PACKET,
+            LARGEST_PACKET,
+        )?)),
+        Key::IgnoreStartupParameters => Some(Setting::IgnoreStartupParameters(value)),
+        Key::TrackExtraParameters => Some(Setting::TrackExtraParameters(value)),
+    }
+}
+
+/// What a value asks for that isn't served: another way of pooling, another reset query.
+#[tactic(auto, unfolding(crate::specs::OptionValues::refusal))]
+pub(crate) fn refusal(key: Key, value: &[u8]) -> Option<Cause>
+    ensures { result ≡ spec.refusal key value.now }
+{
+    match key {
+        Key::PoolMode => {
+            if value == b"session".as_slice() {
+                return None;
+            }
+            Some(Cause::PoolMode)
+        }
+        Key::ServerResetQuery => {
+            if value.eq_ignore_ascii_case(b"discard all") {
+                return None;
+            }
+            Some(Cause::ResetQuery)
+        }
+        _ => None,
+    }
+}

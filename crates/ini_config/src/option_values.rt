@@ -1,0 +1,235 @@
+//! The settings.
+ghost use Rattle.std.specs.Prelude.{◌≡◌, ◌||◌, IfOk, OnOk, OnErr, option_copied, unwrap_or, bytes_eq, codes};
+ghost use Rattle.std.specs.Str.{str_to_ascii_lowercase};
+ghost use Rattle.std.specs.List.{list_any};
+ghost use Rattle.ini_config.specs.OptionValues as spec;
+ghost use Rattle.ini_config.specs.Tables.{row_named};
+
+use crate::database_rows::DbRow;
+use crate::name_lists::Names;
+use crate::option_keys::Setting;
+use crate::row_table::Rows;
+use std::alloc::{AllocError, Global};
+
+/// How clients prove who they are.
+#[derive(Clone, Copy, Debug, PartialEq, Eq)]
+pub enum AuthType {
+    /// They don't: the user file's users are let in.
+    Trust,
+    /// By the password as it is.
+    Plain,
+    /// By the MD5 answer.
+    Md5,
+}
+
+/// Everything that a settings file says, defaults included.
+#[derive(Drop)]
+pub struct Settings {
+    pub rows: Rows,
+    pub listen_addr: [u8; 4],
+    pub listen_port: u16,
+    pub auth_type: AuthType,
+    pub admin_users: Names,
+    pub max_client_conn: u32,
+    pub default_pool_size: u32,
+    pub max_links: u32,
+    pub query_wait_timeout: u32,
+    pub server_lifetime: u32,
+    pub server_idle_timeout: u32,
+    pub max_packet_size: u32,
+    pub ignore_startup_parameters: Names,
+    pub track_extra_parameters: Names,
+}
+
+impl Settings {
+    /// What an empty file says. The only error is want of memory.
+    pub fn defaults(alloc: Global) -> Result<Settings, AllocError>
+        ensures { IfOk result (λ s. s ≡ spec.defaults) }
+    {
+        let track_extra_parameters = Names::one(alloc, b"IntervalStyle")?;
+        Ok(Settings {
+            rows: Rows::new(alloc),
+            listen_addr: [127, 0, 0, 1],
+            listen_port: 6432,
+            auth_type: AuthType::Md5,
+            admin_users: Names::new(alloc),
+            max_client_conn: 100,
+            default_pool_size: 20,
+            max_links: 1000,
+            query_wait_timeout: 120,
+            server_lifetime: 3600,
+            server_idle_timeout: 600,
+            max_packet_size: 2_147_483_647,
+            ignore_startup_parameters: Names::new(alloc),
+            track_extra_parameters,
+        })
+    }
+
+    /// The settings changed by a value. The only error is want of memory, which leaves them as they were.
+    pub(crate) fn apply(&mut self, alloc: Global, setting: Setting<'_>) -> Result<(), AllocError>
+        ensures ok { OnOk result (self.new ≡ spec.changed_by setting.entry self.old) }
+        ensures err { OnErr result (self.new ≡ self.old) }
+    {
+        match setting {
+            Setting::ListenAddr(address) => self.listen_addr = address,
+            Setting::ListenPort(port) => self.listen_port = port,
+            Setting::AuthType(auth_type) => self.auth_type = auth_type,
+            Setting::AdminUsers(text) => self.admin_users = Names::read(alloc, text)?,
+            Setting::MaxClientConn(n) => self.max_client_conn = n,
+            Setting::DefaultPoolSize(n) => self.default_pool_size = n,
+            Setting::MaxLinks(n) => self.max_links = n,
+            Setting::QueryWaitTimeout(n) => self.query_wait_timeout = n,
+            Setting::ServerLifetime(n) => self.server_lifetime = n,
+            Setting::ServerIdleTimeout(n) => self.server_idle_timeout = n,
+            Setting::MaxPacketSize(n) => self.max_packet_size = n,
+            Setting::IgnoreStartupParameters(text) => {
+                self.ignore_startup_parameters = Names::read(alloc, text)?
+            }
+            Setting::TrackExtraParameters(text) => {
+                self.track_extra_parameters = Names::read(alloc, text)?
+            }
+            Setting::Nothing => {}
+        }
+        Ok(())
+    }
+
+    /// The row of a database, by the name that clients ask for.
+    pub fn row(&self, name: &[u8]) -> Option<&DbRow>
+        ensures { option_copied result ≡ row_named name.now self.now.rows }
+    {
+        self.rows.get(name)
+    }
+
+    /// How many links a pool of this row may have.
+    pub fn pool_size(&self, row: &DbRow) -> u32
+        ensures { result ≡ unwrap_or row.now.pool_size self.now.default_pool_size }
+    {
+        row.pool_size.unwrap_or(self.default_pool_size)
+    }
+
+    /// Whether the user may use the console.
+    pub fn is_admin(&self, user: &[u8]) -> bool
+        ensures { result ≡ spec.is_admin self.now user.now }
+    {
+        self.admin_users.has(user)
+    }
+
+    /// Whether a startup parameter of this name is dropped, where it isn't followed. The case of ASCII letters doesn't count.
+    pub fn ignores(&self, name: &[u8]) -> bool
+        ensures { result ≡ spec.ignores self.now name.now }
+    {
+        self.ignore_startup_parameters.has_folded(name)
+    }
+
+    /// Whether `track_extra_parameters` names this startup parameter. The case of ASCII letters doesn't count.
+    pub fn tracks(&self, name: &[u8]) -> bool
+        ensures { result ≡ spec.tracks self.now name.now }
+    {
+        self.track_extra_parameters.has_folded(name)
+    }
+
+    /// The address that the pooler listens on; 0.0.0.0 means all.
+    pub fn listen_addr(&self) -> [u8; 4]
+        ensures { result ≡ self.now.listen_addr }
+    {
+        self.listen_addr
+    }
+
+    /// The port that the pooler listens on.
+    pub fn listen_port(&self) -> u16
+        ensures { result ≡ self.now.listen_port }
+    {
+        self.listen_port
+    }
+
+    /// How clients prove who they are.
+    pub fn auth_type(&self) -> AuthType
+        ensures { result ≡ self.now.auth_type }
+    {
+        self.auth_type
+    }
+
+    /// The users of the console, byte for byte.
+    pub fn admin_users(&self) -> &Names
+        ensures { result.now ≡ self.now.admin_users }
+    {
+        &self.admin_users
+    }
+
+    /// The way of pooling: the only one that is served.
+    pub fn pool_mode(&self) -> &'static str
+        ensures { result.now ≡ codes "session" }
+    {
+        "session"
+    }
+
+    /// The query that resets a server session: the only one that is served.
+    pub fn server_reset_query(&self) -> &'static str
+        ensures { result.now ≡ codes "DISCARD ALL" }
+    {
+        "DISCARD ALL"
+    }
+
+    /// How many clients may be connected.
+    pub fn max_client_conn(&self) -> u32
+        ensures { result ≡ self.now.max_client_conn }
+    {
+        self.max_client_conn
+    }
+
+    /// How many links a pool may have whose row says nothing else.
+    pub fn default_pool_size(&self) -> u32
+        ensures { result ≡ self.now.default_pool_size }
+    {
+        self.default_pool_size
+    }
+
+    /// How many links there may be in all.
+    pub fn max_links(&self) -> u32
+        ensures { result ≡ self.now.max_links }
+    {
+        self.max_links
+    }
+
+    /// For how many seconds a client waits for a link; 0 is without limit.
+    pub fn query_wait_timeout(&self) -> u32
+        ensures { result ≡ self.now.query_wait_timeout }
+    {
+        self.query_wait_timeout
+    }
+
+    /// After how many seconds a link is closed when it comes back; 0: after its first use.
+    pub fn server_lifetime(&self) -> u32
+        ensures { result ≡ self.now.server_lifetime }
+    {
+        self.server_lifetime
+    }
+
+    /// After how many seconds an idle link is closed; 0: never.
+    pub fn server_idle_timeout(&self) -> u32
+        ensures { result ≡ self.now.server_idle_timeout }
+    {
+        self.server_idle_timeout
+    }
+
+    /// The greatest length field of a message.
+    pub fn max_packet_size(&self) -> u32
+        ensures { result ≡ self.now.max_packet_size }
+    {
+        self.max_packet_size
+    }
+
+    /// The startup parameters that are dropped.
+    pub fn ignore_startup_parameters(&self) -> &Names
+        ensures { result.now ≡ self.now.ignore_startup_parameters }
+    {
+        &self.ignore_startup_parameters
+    }
+
+    /// The startup parameters that are followed beside the five that always are.
+    pub fn track_extra_parameters(&self) -> &Names
+        ensures { result.now ≡ self.now.track_extra_parameters }
+    {
+        &self.track_extra_parameters
+    }
+}

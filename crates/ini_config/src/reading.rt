@@ -1,0 +1,138 @@
+//! The reading of a settings file, line by line.
+ghost use Rattle.std.specs.Prelude.{◌≡◌, ◌+◌};
+ghost use Rattle.text_lines.specs.Files.{Took};
+ghost use Rattle.text_lines.specs.Lines.{lines as lines_of_file};
+ghost use Rattle.ini_config.specs.Reading as spec;
+
+use crate::database_values::read_row;
+use crate::faults::{Cause, IniFault};
+use crate::lines::{Line, Section, read_line};
+use crate::option_keys::{key_named, read_setting, refusal};
+use crate::option_values::Settings;
+use crate::seen_keys::SeenKeys;
+use bstr::ByteSlice;
+use std::alloc::Global;
+use text_lines::trimmed;
+
+/// What was read so far.
+#[derive(Drop)]
+pub(crate) struct Reading<'a> {
+    section: Section,
+    keys: SeenKeys<'a>,
+    settings: Settings,
+}
+
+impl<'a> Reading<'a> {
+    /// Takes a line of the section `[databases]`.
+    #[tactic(auto, unfolding(crate::specs::Reading::row_fault, crate::specs::Reading::with_row))]
+    fn take_row(&mut self, alloc: Global, name: &'a [u8], value: &'a [u8]) -> Result<(), Cause>
+        ensures { Took Cause.Memory (spec.row_fault self.old name.entry.now value.entry.now) (spec.with_row self.old name.entry.now value.entry.now) self.new result }
+    {
+        let Some(row) = read_row(name, value) else {
+            return Err(Cause::BadValue);
+        };
+        if self.settings.rows.get(name).is_some() {
+            return Err(Cause::KeyTwice);
+        }
+        let row = row.copy(alloc).map_err(|_| Cause::Memory)?;
+        self.settings
+            .rows
+            .add(alloc, row)
+            .map_err(|_| Cause::Memory)
+    }
+
+    /// Takes a line of the section `[pgbouncer]`.
+    #[tactic(auto, unfolding(crate::specs::Reading::option_fault, crate::specs::Reading::with_option))]
+    fn take_option(&mut self, alloc: Global, name: &'a [u8], value: &'a [u8]) -> Result<(), Cause>
+        ensures { Took Cause.Memory (spec.option_fault self.old name.entry.now value.entry.now) (spec.with_option self.old name.entry.now value.entry.now) self.new result }
+    {
+        let Some(key) = key_named(name) else {
+            return Err(Cause::UnknownKey);
+        };
+        let Some(setting) = read_setting(key, value) else {
+            return Err(Cause::BadValue);
+        };
+        if self.keys.has(name) {
+            return Err(Cause::KeyTwice);
+        }
+        if let Some(cause) = refusal(key, value) {
+            return Err(cause);
+        }
+        self.keys.add(name).map_err(|_| Cause::Memory)?;
+        self.settings
+            .apply(alloc, setting)
+            .map_err(|_| Cause::Memory)
+    }
+
+    /// Takes a key and its value.
+    fn take_pair(&mut self, alloc: Global, name: &'a [u8], value: &'a [u8]) -> Result<(), Cause>
+        ensures { Took Cause.Memory (spec.pair_fault self.old name.entry.now value.entry.now) (spec.with_pair self.old name.entry.now value.entry.now) self.new result }
+    {
+        match self.section {
+            Section::Databases => self.take_row(alloc, name, value),
+            Section::Pgbouncer => self.take_option(alloc, name, value),
+            Section::Preamble => Err(Cause::NotALine),
+            Section::Users | Section::Peers => Err(Cause::UnknownSection),
+        }
+    }
+
+    /// Takes a trimmed line, or tells its first fault. Want of memory comes after all others.
+    fn take_line(&mut self, alloc: Global, line: &'a [u8]) -> Result<(), Cause>
+        ensures { Took Cause.Memory (spec.fault_of self.old line.entry.now) (spec.with_line self.old line.entry.now) self.new result }
+    {
+        match read_line(line) {
+            Line::Ignored => Ok(()),
+            Line::Header(section) => {
+                self.section = section;
+                Ok(())
+            }
+            Line::UnknownHeader => Err(Cause::UnknownSection),
+            Line::Pair(name, value) => self.take_pair(alloc, name, value),
+            Line::Other => Err(other_fault(self.section)),
+        }
+    }
+}
+
+/// The fault of a line that is neither a header nor a pair.
+fn other_fault(section: Section) -> Cause
+    ensures { result ≡ spec.other_fault section }
+{
+    match section {
+        Section::Users | Section::Peers => Cause::UnknownSection,
+        _ => Cause::NotALine,
+    }
+}
+
+/// The settings of a file, or its first faulty line.
+///
+/// A line ends with LF or CR LF or the end of the file; spaces and tabs at its ends are dropped. Of several faults on one line the
+/// one with the lowest number is told. Want of memory is told with the line that was read then (0: the defaults found none), and
+/// neither that line nor one before it has another fault.
+pub fn read_settings(alloc: Global, text: &[u8]) -> Result<Settings, IniFault>
+    ensures { spec.IsReadOf (lines_of_file text.now) result }
+{
+    let mut reading = match Settings::defaults(alloc) {
+        Ok(settings) => Reading {
+            section: Section::Preamble,
+            keys: SeenKeys::new(alloc),
+            settings,
+        },
+        Err(_) => {
+            return Err(IniFault {
+                cause: Cause::Memory,
+                line: 0,
+            });
+        }
+    };
+    let mut number = 0usize;
+    for line in text.lines() {
+        number += 1;
+        if let Err(cause) = reading.take_line(alloc, trimmed(line)) {
+            return Err(IniFault {
+                cause,
+                line: number,
+            });
+        }
+    }
+    Ok(reading.settings)
+}

@@ -1,0 +1,69 @@
+//! The table of database rows.
+ghost use Rattle.std.specs.Prelude.{◌≡◌, [], ◌∷◌, ◌++◌, length, option_copied, slice_get, OnOk, OnErr, None, bytes_eq};
+ghost use Rattle.ini_config.specs.Tables.{row_named};
+
+use crate::database_rows::DbRow;
+use indexmap::IndexMap;
+use std::alloc::{AllocError, Global};
+use std::marker::Model;
+
+/// Database rows in the order of the file, found by name.
+#[derive(Drop)]
+pub struct Rows {
+    by_name: IndexMap<Vec<u8>, DbRow>,
+}
+
+impl Model for Rows {
+    ghost use Rattle.std.specs.Prelude.{◌≡◌, List, map};
+    ghost use Rattle.ini_config.specs.declared.database_rows.DbRow.{DbRow};
+
+    ghost Value = { List DbRow };
+
+    ghost view = { λ r. map (λ e. e.1) r.by_name.entries };
+
+    ghost invariant = { λ r. map (λ e. e.0.items) r.by_name.entries ≡ map (λ e. e.1.name) r.by_name.entries };
+}
+
+impl Rows {
+    /// No rows. It takes no memory.
+    pub fn new(alloc: Global) -> Rows
+        ensures { result ≡ [] }
+    {
+        Rows {
+            by_name: IndexMap::new(alloc),
+        }
+    }
+
+    /// The row of this name.
+    pub fn get(&self, name: &[u8]) -> Option<&DbRow>
+        ensures { option_copied result ≡ row_named name.now self.now }
+    {
+        self.by_name.get(name)
+    }
+
+    /// How many rows there are.
+    pub fn len(&self) -> usize
+        ensures { result ≡ length self.now }
+    {
+        self.by_name.len()
+    }
+
+    /// The row at a place, counted from 0.
+    pub fn at(&self, place: usize) -> Option<&DbRow>
+        ensures { option_copied result ≡ slice_get self.now place }
+    {
+        let (_, row) = self.by_name.get_index(place)?;
+        Some(row)
+    }
+
+    /// Adds a row at the end. The only error is want of memory, which leaves the rows as they were.
+    pub fn add(&mut self, alloc: Global, row: DbRow) -> Result<(), AllocError>
+        requires { row_named row.name self.old ≡ None }
+        ensures ok { OnOk result (self.new ≡ self.old ++ row ∷ []) }
+        ensures err { OnErr result (self.new ≡ self.old) }
+    {
+        let key = Vec::from_slice(alloc, row.name.as_bytes())?;
+        self.by_name.insert(key, row)?;
+        Ok(())
+    }
+}

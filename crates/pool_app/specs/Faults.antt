@@ -1,0 +1,54 @@
+-- The line that tells a fault, and the status of the program after it.
+use Rattle.std.specs.Prelude.{ℕ, List, ◌++◌, codes, decimal}
+use Rattle.ini_config.specs.declared.faults.Cause.{Cause as IniCause}
+use Rattle.ini_config.specs.declared.faults.Cause.TheVariants as ini
+use Rattle.user_file.specs.declared.faults.Cause.{Cause as UsersCause}
+use Rattle.user_file.specs.declared.faults.Cause.TheVariants as users
+use Rattle.pool_app.specs.declared.fault.CatalogueCause.{CatalogueCause}
+use Rattle.pool_app.specs.declared.fault.CatalogueCause.TheVariants as catalogue
+use Rattle.pool_app.specs.declared.fault.AppFault.{AppFault}
+use Rattle.pool_app.specs.declared.fault.AppFault.TheVariants.{File, Ini, Users, Catalogue, Stdin, Stdout, Memory, Port}
+
+abbrev pub Text : Type 0
+Text = List ℕ
+
+abbrev pub ini_code : IniCause → Text
+ini_code ini.UnknownSection = codes "C1"
+ini_code ini.UnknownKey = codes "C2"
+ini_code ini.BadValue = codes "C3"
+ini_code ini.KeyTwice = codes "C4"
+ini_code ini.PoolMode = codes "C5"
+ini_code ini.ResetQuery = codes "C6"
+ini_code ini.NotALine = codes "C7"
+ini_code ini.Memory = codes "C8"
+
+abbrev pub users_code : UsersCause → Text
+users_code users.BadQuoting = codes "U1"
+users_code users.NameTwice = codes "U2"
+users_code users.Memory = codes "U3"
+
+abbrev pub catalogue_code : CatalogueCause → Text
+catalogue_code catalogue.NotALine = codes "K1"
+catalogue_code catalogue.NameTwice = codes "K2"
+catalogue_code catalogue.WrongCount = codes "K3"
+catalogue_code catalogue.Memory = codes "K4"
+
+abbrev pub joined : Text → Text → Text
+joined first second = first ++ second
+
+abbrev pub line_fault : Text → ℕ → Text
+line_fault code line = codes "pgsess: " ++ code ++ codes " line " ++ decimal line
+
+abbrev pub fault_line : AppFault → Text
+fault_line (File path) = codes "pgsess: file " ++ path.now
+fault_line (Ini fault) = line_fault (ini_code fault.cause) fault.line
+fault_line (Users fault) = line_fault (users_code fault.cause) fault.line
+fault_line (Catalogue cause line) = line_fault (catalogue_code cause) line
+fault_line Stdin = codes "pgsess: stdin"
+fault_line Stdout = codes "pgsess: stdout"
+fault_line Memory = codes "pgsess: memory"
+fault_line (Port port) = codes "pgsess: port " ++ decimal port
+
+abbrev pub status : AppFault → ℕ
+status (Port port) = 3
+status other = 1

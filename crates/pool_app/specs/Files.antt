@@ -1,0 +1,26 @@
+-- What the files of the pooler come to.
+use Rattle.std.specs.Prelude.{◌≡◌, ◌≢◌, ℕ, List, length, Result, Ok, Err}
+use Rattle.std.specs.Borrow.{Bor}
+use Rattle.ini_config.specs.Reading as ini
+use Rattle.ini_config.specs.declared.option_values.Settings.{Settings}
+use Rattle.user_file.specs.Users as users
+use Rattle.user_file.specs.declared.user_table.UserRow.{UserRow}
+use Rattle.pool_app.specs.declared.fault.AppFault.{AppFault}
+use Rattle.pool_app.specs.declared.fault.AppFault.TheVariants.{File, Ini, Users}
+
+-- the settings that the lines spell, or their fault
+abbrev pub IsSettingsOf : List (List ℕ) → Result Settings AppFault → Type 0
+IsSettingsOf lines (Ok settings) = ini.IsReadOf lines (Ok settings)
+IsSettingsOf lines (Err (Ini fault)) = ini.IsReadOf lines (Err fault)
+IsSettingsOf lines (Err other) = ⊥
+
+-- the users that the lines spell, or their fault
+abbrev pub IsUsersOf : List (List ℕ) → Result (List UserRow) AppFault → Type 0
+IsUsersOf lines (Ok read) = users.IsReadOf lines (Ok read)
+IsUsersOf lines (Err (Users fault)) = users.IsReadOf lines (Err fault)
+IsUsersOf lines (Err other) = ⊥
+
+-- the bytes themselves, where there are 32; else a fault of the file
+abbrev pub IsSeedOf : Bor (List ℕ) → List ℕ → Result (List ℕ) AppFault → Type 0
+IsSeedOf path bytes (Ok seed) = (length bytes ≡ 32) × (seed ≡ bytes)
+IsSeedOf path bytes (Err fault) = (length bytes ≢ 32) × (fault ≡ File path)

@@ -1,0 +1,59 @@
+-- The command line of the program, and what its words ask for.
+use Rattle.std.specs.Prelude.{◌≡◌, pos, ℕ, List, Option, Some, true, codes, option_map, option_and_then}
+use Rattle.std.specs.Str.Parse.{digits_value, without_leading_plus}
+use Rattle.clap.specs.Words.{App, Row, Rule, Text, first_of, one_of, new_app, new_rule, with_rule, with_subcommand}
+use Rattle.clap.specs.declared.builder.value_parser.ValueParser.TheVariants.{Signed}
+use Rattle.pool_app.specs.declared.line.Job.{Job}
+use Rattle.pool_app.specs.declared.line.Job.TheVariants.{Replay, Serve, Stub}
+
+-- an option with a value that must be there
+abbrev pub needed : Text → Rule
+needed name = record (new_rule name) { long = Some name; required = true; value_names = 1 }
+
+-- one whose value is a port
+abbrev pub port_option : Rule
+port_option = record (needed (codes "port")) { parser = Some (Signed (pos 1) (pos 65535)) }
+
+abbrev pub replay : App
+replay = new_app (codes "replay")
+
+abbrev pub serve : App
+serve = with_rule (with_rule (with_rule (new_app (codes "serve")) (needed (codes "ini"))) (needed (codes "users"))) (needed (codes "key-seed"))
+
+abbrev pub stub : App
+stub = with_rule (with_rule (new_app (codes "stub")) port_option) (needed (codes "catalogue"))
+
+-- a line must name a subcommand
+abbrev pub program : App
+program = let app = new_app (codes "pgsess") in record app { top = record app.top { subcommand_required = true } }
+
+-- the whole command line
+abbrev pub pgsess : App
+pgsess = with_subcommand (with_subcommand (with_subcommand program replay.top) serve.top) stub.top
+
+-- the subcommand that was named, with its options
+abbrev pub Named : Type 0
+Named = Option (Text × List Row)
+
+abbrev pub name_of : Named → Option Text
+name_of sub = option_map (λ p. p.0) sub
+
+-- the value of an option
+abbrev pub option_of : Text → Named → Option Text
+option_of id sub = option_and_then (λ p. first_of id p.1) sub
+
+-- the text of an option whose value is a number
+abbrev pub number_of : Text → Named → Option Text
+number_of id sub = option_and_then (λ p. one_of id p.1) sub
+
+-- the job is the one that the subcommand and its options name
+abbrev pub IsJobOf : Named → Job → Type 0
+IsJobOf sub Replay = name_of sub ≡ Some (codes "replay")
+IsJobOf sub (Serve ini users key_seed) =
+    (name_of sub ≡ Some (codes "serve"))
+    × (option_of (codes "ini") sub ≡ Some ini.now) × (option_of (codes "users") sub ≡ Some users.now)
+    × (option_of (codes "key-seed") sub ≡ Some key_seed.now)
+IsJobOf sub (Stub port catalogue) =
+    (name_of sub ≡ Some (codes "stub"))
+    × ((text : List ℕ) × (number_of (codes "port") sub ≡ Some text) × (port ≡ digits_value 10 (without_leading_plus text)))
+    × (option_of (codes "catalogue") sub ≡ Some catalogue.now)

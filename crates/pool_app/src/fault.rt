@@ -1,0 +1,134 @@
+//! The faults that end the program, as it tells them.
+ghost use Rattle.std.specs.Prelude.{◌≡◌, IfOk, string_bytes};
+ghost use Rattle.pool_app.specs.Faults as spec;
+
+use itoa::Buffer;
+use std::alloc::{AllocError, Global};
+use std::io;
+
+/// What is wrong with a line of a catalogue.
+#[derive(Clone, Copy, Debug, PartialEq, Eq)]
+pub enum CatalogueCause {
+    /// Not a line of a catalogue, or a line that is missing or out of place.
+    NotALine,
+    /// The name of a database, a table or a column for the second time.
+    NameTwice,
+    /// A row with more or fewer values than its table has columns.
+    WrongCount,
+    /// No memory was left to keep what the line says.
+    Memory,
+}
+
+/// A fault that ends the program. Its texts are those of the command line.
+#[derive(Debug, Drop, PartialEq, Eq)]
+pub enum AppFault<'a> {
+    /// The file can't be read, is too long, or is a key seed that isn't 32 bytes long.
+    File(&'a str),
+    /// A faulty line of the settings.
+    Ini(ini_config::IniFault),
+    /// A faulty line of the user file.
+    Users(user_file::UserFault),
+    /// A faulty line of the catalogue: its cause and its number.
+    Catalogue(CatalogueCause, usize),
+    /// Standard input can't be read, or is too long.
+    Stdin,
+    /// Standard output can't be written.
+    Stdout,
+    /// No memory was left.
+    Memory,
+    /// The port can't be had.
+    Port(u16),
+}
+
+fn ini_code(cause: ini_config::Cause) -> &'static str
+    ensures { result.now ≡ spec.ini_code cause }
+{
+    match cause {
+        ini_config::Cause::UnknownSection => "C1",
+        ini_config::Cause::UnknownKey => "C2",
+        ini_config::Cause::BadValue => "C3",
+        ini_config::Cause::KeyTwice => "C4",
+        ini_config::Cause::PoolMode => "C5",
+        ini_config::Cause::ResetQuery => "C6",
+        ini_config::Cause::NotALine => "C7",
+        ini_config::Cause::Memory => "C8",
+    }
+}
+
+fn users_code(cause: user_file::Cause) -> &'static str
+    ensures { result.now ≡ spec.users_code cause }
+{
+    match cause {
+        user_file::Cause::BadQuoting => "U1",
+        user_file::Cause::NameTwice => "U2",
+        user_file::Cause::Memory => "U3",
+    }
+}
+
+fn catalogue_code(cause: CatalogueCause) -> &'static str
+    ensures { result.now ≡ spec.catalogue_code cause }
+{
+    match cause {
+        CatalogueCause::NotALine => "K1",
+        CatalogueCause::NameTwice => "K2",
+        CatalogueCause::WrongCount => "K3",
+        CatalogueCause::Memory => "K4",
+    }
+}
+
+/// A text, and one that follows it.
+fn joined(alloc: Global, first: &str, second: &str) -> Result<String, AllocError>
+    ensures { IfOk result (λ t. string_bytes t ≡ spec.joined first.now second.now) }
+{
+    let mut text = String::from_str(alloc, first)?;
+    text.push_str(second)?;
+    Ok(text)
+}
+
+/// A fault of a file's text.
+fn line_fault(alloc: Global, code: &str, line: usize) -> Result<String, AllocError>
+    ensures { IfOk result (λ t. string_bytes t ≡ spec.line_fault code.now line) }
+{
+    let mut text = joined(alloc, "pgsess: ", code)?;
+    text.push_str(" line ")?;
+    let mut digits = Buffer::new();
+    text.push_str(digits.format(line))?;
+    Ok(text)
+}
+
+/// The line that tells a fault, without its end. The only error is want of memory.
+pub fn fault_line(alloc: Global, fault: &AppFault<'_>) -> Result<String, AllocError>
+    ensures { IfOk result (λ t. string_bytes t ≡ spec.fault_line fault.now) }
+{
+    match fault {
+        AppFault::File(path) => joined(alloc, "pgsess: file ", path),
+        AppFault::Ini(fault) => line_fault(alloc, ini_code(fault.cause), fault.line),
+        AppFault::Users(fault) => line_fault(alloc, users_code(fault.cause), fault.line),
+        AppFault::Catalogue(cause, line) => line_fault(alloc, catalogue_code(*cause), *line),
+        AppFault::Stdin => String::from_str(alloc, "pgsess: stdin"),
+        AppFault::Stdout => String::from_str(alloc, "pgsess: stdout"),
+        AppFault::Memory => String::from_str(alloc, "pgsess: memory"),
+        AppFault::Port(port) => {
+            let mut digits = Buffer::new();
+            joined(alloc, "pgsess: port ", digits.format(*port))
+        }
+    }
+}
+
+/// The status that the program ends with: 3 where the port can't be had, 1 for every other fault.
+pub fn status(fault: &AppFault<'_>) -> u8
+    ensures { result ≡ spec.status fault.now }
+{
+    match fault {
+        AppFault::Port(_) => 3,
+        _ => 1,
+    }
+}
+
+/// Tells a fault on standard error. Where there is no memory for its line, it tells that.
+pub fn tell<R: Eprint>(rt: &R, alloc: Global, fault: &AppFault<'_>) -> io::Result<()> {
+    match fault_line(alloc, fault) {
+        Ok(line) => eprintln!(rt; "{line}"),
+        Err(_) => eprintln!(rt; "pgsess: memory"),
+    }
+}

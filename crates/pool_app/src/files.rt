@@ -1,0 +1,131 @@
+//! The files that a command line names.
+ghost use Rattle.std.specs.Prelude.{◌≡◌, ◌<◌, ◌≤◌, ◌^◌, IfOk, IfSome, length};
+ghost use Rattle.text_lines.specs.Lines.{lines};
+ghost use Rattle.pool_app.specs.Files as spec;
+
+use crate::fault::AppFault;
+use ini_config::{Settings, read_settings};
+use std::alloc::Global;
+use std::io::{ErrorKind, Read};
+use std::rt::Files;
+use std::{fs, io};
+use user_file::{Users, read_users};
+
+/// How many bytes a file, or standard input, may have.
+pub const MOST_BYTES: u64 = 16_777_216;
+
+/// What a whole read came to: more bytes than allowed, or a fault of the reader.
+#[derive(Debug, Drop)]
+pub enum ReadFault {
+    TooLong,
+    Io(io::Error),
+}
+
+/// Everything that the pooler reads before it listens.
+#[derive(Drop)]
+pub struct Inputs {
+    pub settings: Settings,
+    pub users: Users,
+    pub seed: [u8; 32],
+}
+
+/// All bytes of a reader, of which there are at most `most`.
+pub fn read_all<R: Read + Drop>(alloc: Global, input: R, most: u64) -> Result<Vec<u8>, ReadFault>
+    requires { most < 2 ^ 63 }
+    ensures all { IfOk result (λ v. IfSome (R.remaining input) (λ xs. v.items ≡ xs)) }
+    ensures bound { IfOk result (λ v. length v.items ≤ most) }
+{
+    let mut all = Vec::new(alloc);
+    let mut limited = input.take(most + 1);
+    match limited.read_to_end(&mut all) {
+        Ok(_) => {}
+        Err(error) => return Err(ReadFault::Io(error)),
+    }
+    if all.len() as u64 > most {
+        return Err(ReadFault::TooLong);
+    }
+    Ok(all)
+}
+
+/// The fault of a file that wasn't read.
+fn unread<'a>(path: &'a str, fault: ReadFault) -> AppFault<'a> {
+    match fault {
+        ReadFault::Io(error) if error.kind() == ErrorKind::OutOfMemory => AppFault::Memory,
+        _ => AppFault::File(path),
+    }
+}
+
+/// The bytes of a file.
+pub fn read_file<'a, R: Files>(
+    rt: &R,
+    alloc: Global,
+    path: &'a str,
+) -> Result<Vec<u8>, AppFault<'a>> {
+    let file = match fs::open(rt, path) {
+        Ok(file) => file,
+        Err(error) => return Err(unread(path, ReadFault::Io(error))),
+    };
+    read_all(alloc, file, MOST_BYTES).map_err(|fault| unread(path, fault))
+}
+
+/// The key seed of a file's bytes.
+pub fn seed_of<'a>(path: &'a str, bytes: &[u8]) -> Result<[u8; 32], AppFault<'a>>
+    ensures { spec.IsSeedOf path.entry bytes.now result }
+{
+    if bytes.len() != 32 {
+        return Err(AppFault::File(path));
+    }
+    let mut seed = [0u8; 32];
+    seed.copy_from_slice(bytes);
+    Ok(seed)
+}
+
+/// The settings of a file's text.
+pub fn settings_of<'a>(alloc: Global, text: &[u8]) -> Result<Settings, AppFault<'a>>
+    ensures { spec.IsSettingsOf (lines text.now) result }
+{
+    match read_settings(alloc, text) {
+        Ok(settings) => Ok(settings),
+        Err(fault) => Err(AppFault::Ini(fault)),
+    }
+}
+
+/// The users of a file's text.
+pub fn users_of<'a>(alloc: Global, text: &[u8]) -> Result<Users, AppFault<'a>>
+    ensures { spec.IsUsersOf (lines text.now) result }
+{
+    match read_users(alloc, text) {
+        Ok(users) => Ok(users),
+        Err(fault) => Err(AppFault::Users(fault)),
+    }
+}
+
+/// The files of the pooler. Each is read and checked before the next: settings, users, key seed.
+pub fn read_inputs<'a, R: Files>(
+    rt: &R,
+    alloc: Global,
+    ini: &'a str,
+    users: &'a str,
+    key_seed: &'a str,
+) -> Result<Inputs, AppFault<'a>> {
+    let text = read_file(rt, alloc, ini)?;
+    let settings = settings_of(alloc, text.as_slice())?;
+    let text = read_file(rt, alloc, users)?;
+    let users = users_of(alloc, text.as_slice())?;
+    let bytes = read_file(rt, alloc, key_seed)?;
+    let seed = seed_of(key_seed, bytes.as_slice())?;
+    Ok(Inputs {
+        settings,
+        users,
+        seed,
+    })
+}
+
+/// The text of the stand-in server's catalogue.
+pub fn read_catalogue<'a, R: Files>(
+    rt: &R,
+    alloc: Global,
+    path: &'a str,
+) -> Result<Vec<u8>, AppFault<'a>> {
+    read_file(rt, alloc, path)
+}

@@ -1,0 +1,8 @@
+//! The program `pgsess` but for its `main`: the command line, the files that it names, and the faults that end it.
+#![tactic(auto)]
+
+pub mod fault;
+pub mod files;
+pub mod line;
+#[cfg(test)]
+mod tests;

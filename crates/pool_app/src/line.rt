@@ -1,0 +1,219 @@
+//! The command line.
+ghost use Rattle.std.specs.Prelude.{◌≡◌, IfOk, IfSome, map, false, string_bytes};
+ghost use Rattle.clap.specs.Words.{app_of, rule_of, subcommand_of, subcommand_rows_of};
+ghost use Rattle.clap.specs.declared.builder.command.Command.TheViews.{out-Command as fields_of};
+ghost use Rattle.pool_app.specs.Line as spec;
+
+use clap::error::ErrorKind;
+use clap::{Arg, ArgMatches, Command, Error};
+use std::alloc::{AllocError, Global};
+use std::io;
+
+/// What a command line asks for. Its texts are those of the words.
+#[derive(Debug, Drop, PartialEq, Eq)]
+pub enum Job<'a> {
+    /// One client's bytes on standard input, its replies on standard output.
+    Replay,
+    /// The pooler. Each text is the path of a file.
+    Serve {
+        ini: &'a str,
+        users: &'a str,
+        key_seed: &'a str,
+    },
+    /// The stand-in server on a port from 1 to 65,535. The text is the path of its catalogue.
+    Stub {
+        port: u16,
+        catalogue: &'a str,
+    },
+}
+
+/// A command line that asks for no job: for help, or a faulty one.
+#[derive(Debug, Drop)]
+pub enum LineFault {
+    /// What clap says: help, a fault of the words, or want of memory.
+    Refused(Error),
+    /// Words that clap accepts and that name no job.
+    NoJob,
+}
+
+impl LineFault {
+    /// The status that the program ends with: 0 after help, 1 for want of memory, 2 for every other fault.
+    pub fn status(&self) -> u8 {
+        match self {
+            LineFault::Refused(error) => match error.kind() {
+                ErrorKind::DisplayHelp => 0,
+                ErrorKind::OutOfMemory => 1,
+                _ => 2,
+            },
+            LineFault::NoJob => 2,
+        }
+    }
+
+    /// Prints help on standard output, and every fault on standard error.
+    pub fn print<R: Print + Eprint>(&self, rt: &R) -> io::Result<()> {
+        match self {
+            LineFault::Refused(error) => match error.kind() {
+                ErrorKind::OutOfMemory => eprintln!(rt; "pgsess: memory"),
+                _ => error.print(rt),
+            },
+            LineFault::NoJob => eprintln!(rt; "pgsess: no job"),
+        }
+    }
+}
+
+impl From<Error> for LineFault {
+    fn from(error: Error) -> LineFault {
+        LineFault::Refused(error)
+    }
+}
+
+/// A required option whose value is the path of a file.
+fn file_option<'a>(alloc: Global, name: &'a str, help: &'a str) -> Arg<'a>
+    ensures rule { rule_of result ≡ spec.needed name.entry.now }
+    ensures local { result.global ≡ false }
+{
+    Arg::new(alloc, name)
+        .long(name)
+        .required(true)
+        .value_name("FILE")
+        .help(help)
+}
+
+/// The option that names a port.
+fn port_option<'a>(alloc: Global) -> Arg<'a>
+    ensures rule { rule_of result ≡ spec.port_option }
+    ensures local { result.global ≡ false }
+{
+    Arg::new(alloc, "port")
+        .long("port")
+        .required(true)
+        .value_name("N")
+        .help("The port of 127.0.0.1 to listen on, from 1 to 65535")
+        .value_parser(clap::value_parser!(u16).range(1..))
+}
+
+/// The subcommand `replay`.
+fn replay_command<'a>(alloc: Global) -> Command<'a>
+    ensures app { app_of result ≡ spec.replay }
+    ensures local { (fields_of result).has_globals ≡ false }
+{
+    Command::new(alloc, "replay")
+        .about("Serve one client: its bytes from standard input, the replies to standard output")
+        .after_help("Example: pgsess replay < client.bin > replies.bin")
+}
+
+/// The subcommand `serve`.
+fn serve_command<'a>(alloc: Global) -> Result<Command<'a>, AllocError>
+    ensures app { IfOk result (λ c. app_of c ≡ spec.serve) }
+    ensures local { IfOk result (λ c. (fields_of c).has_globals ≡ false) }
+{
+    let ini = file_option(alloc, "ini", "The settings, in the format of pgbouncer.ini");
+    let users = file_option(
+        alloc,
+        "users",
+        "The users and their secrets, in the format of userlist.txt",
+    );
+    let seed = file_option(
+        alloc,
+        "key-seed",
+        "32 random bytes, from which the clients' cancel keys and salts are made",
+    );
+    Ok(
+        Command::new(alloc, "serve")
+            .about("Pool the sessions of PostgreSQL servers")
+            .after_help(
+                "Example: pgsess serve --ini pgsess.ini --users users.txt --key-seed seed.bin",
+            )
+            .arg(ini)?
+            .arg(users)?
+            .arg(seed)?,
+    )
+}
+
+/// The subcommand `stub`.
+fn stub_command<'a>(alloc: Global) -> Result<Command<'a>, AllocError>
+    ensures app { IfOk result (λ c. app_of c ≡ spec.stub) }
+    ensures local { IfOk result (λ c. (fields_of c).has_globals ≡ false) }
+{
+    let port = port_option(alloc);
+    let catalogue = file_option(
+        alloc,
+        "catalogue",
+        "The version, databases, tables and rows that the server has",
+    );
+    Ok(
+        Command::new(alloc, "stub")
+            .about("Stand in for a PostgreSQL server, for tests: any user is let in")
+            .after_help("Example: pgsess stub --port 5432 --catalogue catalogue.tsv")
+            .arg(port)?
+            .arg(catalogue)?,
+    )
+}
+
+/// The program without its subcommands, of which a line must name one.
+fn program<'a>(alloc: Global) -> Command<'a>
+    ensures app { app_of result ≡ spec.program }
+    ensures local { (fields_of result).has_globals ≡ false }
+{
+    Command::new(alloc, "pgsess")
+        .about("A session-mode PostgreSQL connection pooler with clean hand-over")
+        .subcommand_required(true)
+}
+
+/// The whole command line.
+fn command<'a>(alloc: Global) -> Result<Command<'a>, AllocError>
+    ensures { IfOk result (λ c. app_of c ≡ spec.pgsess) }
+{
+    let replay = replay_command(alloc);
+    let serve = serve_command(alloc)?;
+    let stub = stub_command(alloc)?;
+    program(alloc)
+        .subcommand(replay)?
+        .subcommand(serve)?
+        .subcommand(stub)
+}
+
+/// The matches of the words, of which the subcommand's are a function of the words.
+fn matches_of_line<'a>(alloc: Global, words: &'a [String]) -> Result<ArgMatches<'a>, Error>
+    ensures { IfOk result (λ m. subcommand_rows_of m ≡ subcommand_of spec.pgsess (map string_bytes words.entry.now)) }
+{
+    let command = command(alloc)?;
+    command.try_get_matches_from(words)
+}
+
+/// The job of the matches.
+fn job_of<'a>(matches: &ArgMatches<'a>) -> Option<Job<'a>>
+    ensures { IfSome result (λ job. spec.IsJobOf (subcommand_rows_of matches.now) job) }
+{
+    let (name, sub) = matches.subcommand()?;
+    if name == "replay" {
+        return Some(Job::Replay);
+    }
+    if name == "serve" {
+        let ini = sub.get_str("ini")?;
+        let users = sub.get_str("users")?;
+        let key_seed = sub.get_str("key-seed")?;
+        return Some(Job::Serve {
+            ini,
+            users,
+            key_seed,
+        });
+    }
+    if name == "stub" {
+        let port = sub.get_one::<u16>("port")?;
+        let catalogue = sub.get_str("catalogue")?;
+        return Some(Job::Stub { port, catalogue });
+    }
+    None
+}
+
+/// The job that the words name, the first of which is the program's own name.
+pub fn read_line<'a>(alloc: Global, words: &'a [String]) -> Result<Job<'a>, LineFault>
+    ensures { IfOk result (λ job. spec.IsJobOf (subcommand_of spec.pgsess (map string_bytes words.entry.now)) job) }
+{
+    let matches = matches_of_line(alloc, words)?;
+    match job_of(&matches) {
+        Some(job) => Ok(job),
+        None => Err(LineFault::NoJob),
+    }
+}

@@ -1,0 +1,130 @@
+//! The command line, the lines of faults, and key seeds.
+use crate::fault::{AppFault, CatalogueCause, fault_line, status};
+use crate::files::{read_all, seed_of, settings_of, users_of};
+use crate::line::{Job, LineFault, read_line};
+use std::alloc::{AllocError, Global};
+use std::test::Fail;
+
+fn words_of(alloc: Global, text: &str) -> Result<Vec<String>, AllocError> {
+    let mut words = Vec::new(alloc);
+    for word in text.split(' ') {
+        words.push(String::from_str(alloc, word)?)?;
+    }
+    Ok(words)
+}
+
+#[test]
+fn jobs(rt: HostRuntime) -> Result<(), Fail> {
+    let words = words_of(rt.alloc(), "pgsess replay")?;
+    assert!(rt; matches!(read_line(rt.alloc(), words.as_slice()), Ok(Job::Replay)));
+    let words = words_of(rt.alloc(), "pgsess serve --users u --ini=i --key-seed k")?;
+    match read_line(rt.alloc(), words.as_slice()) {
+        Ok(
+            Job::Serve {
+                ini,
+                users,
+                key_seed,
+            },
+        ) => {
+            assert_eq!(rt; ini, "i");
+            assert_eq!(rt; users, "u");
+            assert_eq!(rt; key_seed, "k");
+        }
+        _ => assert!(rt; false),
+    }
+    let words = words_of(rt.alloc(), "pgsess stub --port 65535 --catalogue c")?;
+    match read_line(rt.alloc(), words.as_slice()) {
+        Ok(Job::Stub { port, catalogue }) => {
+            assert_eq!(rt; port, 65535);
+            assert_eq!(rt; catalogue, "c");
+        }
+        _ => assert!(rt; false),
+    }
+    Ok(())
+}
+
+#[test]
+fn statuses_of_the_line(rt: HostRuntime) -> Result<(), Fail> {
+    let rows = [
+        ("pgsess --help", 0),
+        ("pgsess serve --help", 0),
+        ("pgsess help", 0),
+        ("pgsess", 2),
+        ("pgsess bogus", 2),
+        ("pgsess replay x", 2),
+        ("pgsess serve --ini i --users u", 2),
+        ("pgsess stub --port 0 --catalogue c", 2),
+        ("pgsess stub --port 65536 --catalogue c", 2),
+        ("pgsess stub --port 1", 2),
+    ];
+    for (text, want) in rows {
+        let words = words_of(rt.alloc(), text)?;
+        match read_line(rt.alloc(), words.as_slice()) {
+            Ok(_) => assert!(rt; false, "{text}"),
+            Err(fault) => assert_eq!(rt; fault.status(), want, "{text}"),
+        }
+    }
+    assert_eq!(rt; LineFault::NoJob.status(), 2);
+    Ok(())
+}
+
+#[test]
+fn lines_and_statuses_of_faults(rt: HostRuntime) -> Result<(), Fail> {
+    let ini = match settings_of(rt.alloc(), b"[pgbouncer]\n\n\n\n\n\nlisten_port = x\n") {
+        Ok(_) => AppFault::Memory,
+        Err(fault) => fault,
+    };
+    let users = match users_of(rt.alloc(), b"\"a\" \"b\"\n\"a\" \"c\"") {
+        Ok(_) => AppFault::Memory,
+        Err(fault) => fault,
+    };
+    let rows = [
+        (ini, "pgsess: C3 line 7", 1),
+        (users, "pgsess: U2 line 2", 1),
+        (
+            AppFault::Catalogue(CatalogueCause::NotALine, 1),
+            "pgsess: K1 line 1",
+            1,
+        ),
+        (
+            AppFault::Catalogue(CatalogueCause::NameTwice, 20),
+            "pgsess: K2 line 20",
+            1,
+        ),
+        (
+            AppFault::Catalogue(CatalogueCause::WrongCount, 300),
+            "pgsess: K3 line 300",
+            1,
+        ),
+        (
+            AppFault::Catalogue(CatalogueCause::Memory, 4),
+            "pgsess: K4 line 4",
+            1,
+        ),
+        (AppFault::File("a b.ini"), "pgsess: file a b.ini", 1),
+        (AppFault::Stdin, "pgsess: stdin", 1),
+        (AppFault::Stdout, "pgsess: stdout", 1),
+        (AppFault::Memory, "pgsess: memory", 1),
+        (AppFault::Port(5432), "pgsess: port 5432", 3),
+    ];
+    for (fault, text, want) in rows.iter() {
+        let line = fault_line(rt.alloc(), fault)?;
+        assert_eq!(rt; line.as_str(), *text);
+        assert_eq!(rt; status(fault), *want);
+    }
+    Ok(())
+}
+
+#[test]
+fn seeds_and_whole_reads(rt: HostRuntime) -> Result<(), Fail> {
+    assert!(rt; seed_of("k", &[7; 32]) == Ok([7; 32]));
+    assert!(rt; seed_of("k", &[7; 31]) == Err(AppFault::File("k")));
+    assert!(rt; seed_of("k", &[7; 33]) == Err(AppFault::File("k")));
+    let bytes = b"abcd";
+    match read_all(rt.alloc(), bytes.as_slice(), 4) {
+        Ok(all) => assert_eq!(rt; all.as_slice(), bytes.as_slice()),
+        Err(_) => assert!(rt; false),
+    }
+    assert!(rt; read_all(rt.alloc(), bytes.as_slice(), 3).is_err());
+    Ok(())
+}

@@ -1,0 +1,49 @@
+-- What the lines of a user file spell, or their first fault (PgBouncer manual, "Authentication file format").
+use Rattle.std.specs.Prelude.{◌≡◌, ◌⊎◌, ◌-◌, List, [], ◌∷◌, ◌++◌, if◌then◌else◌, take, Option, Some, None, Result, Ok, Err, is_some, option_map, bytes_eq}
+use Rattle.std.specs.List.{find}
+use Rattle.text_lines.specs.Files.{IsFaultless, first_fault, said_by}
+use Rattle.text_lines.specs.Lines.{is_ignored}
+use Rattle.user_file.specs.Fields.{fields, unquoted}
+use Rattle.user_file.specs.Secrets.{Text, secret_of}
+use Rattle.user_file.specs.declared.faults.Cause.{Cause}
+use Rattle.user_file.specs.declared.faults.Cause.TheVariants.{BadQuoting, NameTwice, Memory}
+use Rattle.user_file.specs.declared.faults.UserFault.{UserFault}
+use Rattle.user_file.specs.declared.user_table.UserRow.{UserRow}
+
+-- the first user of the name
+abbrev pub user_named : Text → List UserRow → Option UserRow
+user_named name users = find (λ user. bytes_eq name user.name) users
+
+-- the user of a line's fields
+abbrev pub user_with : Text × Text → UserRow
+user_with p = record { name = unquoted p.0; secret = secret_of (unquoted p.1) }
+
+unfoldable pub user_of : Text → Option UserRow
+user_of line = option_map user_with (fields line)
+
+-- what a line adds to the users before it
+abbrev pub add_user : List UserRow → Option UserRow → List UserRow
+add_user users None = users
+add_user users (Some user) = users ++ user ∷ []
+
+abbrev pub with_line : List UserRow → Text → List UserRow
+with_line users line = if is_ignored line then users else add_user users (user_of line)
+
+-- and its fault after them
+abbrev pub user_fault : List UserRow → Option UserRow → Option Cause
+user_fault users None = Some BadQuoting
+user_fault users (Some user) = if is_some (user_named user.name users) then Some NameTwice else None
+
+abbrev pub fault_of : List UserRow → Text → Option Cause
+fault_of users line = if is_ignored line then None else user_fault users (user_of line)
+
+-- the users that the lines spell, or their first fault, or want of memory after lines without one
+abbrev pub IsReadOf : List Text → Result (List UserRow) UserFault → Type 0
+IsReadOf lines (Ok users) = IsFaultless with_line fault_of [] lines × (users ≡ said_by with_line fault_of [] lines)
+IsReadOf lines (Err f) =
+    (first_fault with_line fault_of [] [] lines ≡ Some (f.cause, f.line)) ⊎ ((f.cause ≡ Memory) × IsFaultless with_line fault_of [] (take (f.line - 1) lines))
+
+-- what taking a line answers
+abbrev pub TookUser : List UserRow → Text → List UserRow → Result (Unit {0}) Cause → Type 0
+TookUser users line new (Ok done) = (fault_of users line ≡ None) × (new ≡ with_line users line)
+TookUser users line new (Err c) = (fault_of users line ≡ Some c) ⊎ (c ≡ Memory)

@@ -1,0 +1,16 @@
+//! The user file of the pooler: names and secrets as PgBouncer's `auth_file` has them, and what a client must answer to a question.
+#![tactic(auto)]
+
+mod faults;
+mod fields;
+mod reading;
+mod secrets;
+mod user_table;
+
+pub use faults::{Cause, UserFault};
+pub use reading::read_users;
+pub use secrets::Secret;
+pub use user_table::{UserRow, Users};
+
+#[cfg(test)]
+mod tests;

@@ -1,0 +1,81 @@
+//! The table of users.
+ghost use Rattle.std.specs.Prelude.{◌≡◌, [], ◌∷◌, ◌++◌, length, option_copied, OnOk, None};
+ghost use Rattle.user_file.specs.Users.{user_named};
+
+use crate::secrets::Secret;
+use indexmap::IndexMap;
+use std::alloc::{AllocError, Global};
+use std::fmt;
+use std::marker::Model;
+use text_lines::Text;
+
+/// A user: a name that isn't empty, and a secret. It shows without name and secret.
+#[derive(Drop)]
+pub struct UserRow {
+    pub name: Text,
+    pub secret: Secret,
+}
+
+impl fmt::Debug for UserRow {
+    fn fmt<W: fmt::Write>(&self, f: &mut fmt::Formatter<W>) -> fmt::Result {
+        f.write_str("UserRow(..)")
+    }
+}
+
+/// Users in the order of the file, found by name.
+#[derive(Drop)]
+pub struct Users {
+    by_name: IndexMap<Vec<u8>, UserRow>,
+}
+
+impl Model for Users {
+    ghost use Rattle.std.specs.Prelude.{◌≡◌, List, map};
+    ghost use Rattle.user_file.specs.declared.user_table.UserRow.{UserRow};
+
+    ghost Value = { List UserRow };
+
+    ghost view = { λ u. map (λ e. e.1) u.by_name.entries };
+
+    ghost invariant = { λ u. map (λ e. e.0.items) u.by_name.entries ≡ map (λ e. e.1.name) u.by_name.entries };
+}
+
+impl fmt::Debug for Users {
+    fn fmt<W: fmt::Write>(&self, f: &mut fmt::Formatter<W>) -> fmt::Result {
+        f.write_str("Users(..)")
+    }
+}
+
+impl Users {
+    /// No users. It takes no memory.
+    pub fn new(alloc: Global) -> Users
+        ensures { result ≡ [] }
+    {
+        Users {
+            by_name: IndexMap::new(alloc),
+        }
+    }
+
+    /// The user of this name, byte for byte.
+    pub fn row(&self, name: &[u8]) -> Option<&UserRow>
+        ensures { option_copied result ≡ user_named name.now self.now }
+    {
+        self.by_name.get(name)
+    }
+
+    /// How many users there are.
+    pub fn len(&self) -> usize
+        ensures { result ≡ length self.now }
+    {
+        self.by_name.len()
+    }
+
+    /// Adds a user at the end. The only error is want of memory.
+    pub(crate) fn add(&mut self, alloc: Global, row: UserRow) -> Result<(), AllocError>
+        requires { user_named row.name self.old ≡ None }
+        ensures { OnOk result (self.new ≡ self.old ++ row ∷ []) }
+    {
+        let key = Vec::from_slice(alloc, row.name.as_bytes())?;
+        self.by_name.insert(key, row)?;
+        Ok(())
+    }
+}

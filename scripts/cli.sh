@@ -1,0 +1,182 @@
+#!/bin/bash
+# The command line of the built program: each fault of the line, of a file and of a standard stream,
+# with its status and its exact line. PGSESS names the program.
+set -u
+cd "$(dirname "$0")/.." || exit 1
+program=$(realpath "${PGSESS:-crates/pgsess/out/pgsess}") || exit 1
+here=$PWD
+work=$(mktemp -d) || exit 1
+trap 'rm -rf "$work"' EXIT
+cd "$work" || exit 1
+
+passed=0
+failed=0
+
+# result NAME WANT GOT
+result() {
+    if [ "$2" = "$3" ]; then
+        passed=$((passed + 1))
+    else
+        failed=$((failed + 1))
+        printf 'FAILED %s\n  want: %s\n  got:  %s\n' "$1" "$2" "$3"
+    fi
+}
+
+# ends NAME STATUS LINE WORD.. : the program ends so, with this line on standard error and nothing on standard output
+ends() {
+    local name=$1 status=$2 line=$3 got
+    shift 3
+    "$program" "$@" >out.txt 2>err.txt </dev/null
+    got=$?
+    result "$name: status" "$status" "$got"
+    result "$name: standard error" "$line" "$(cat err.txt)"
+    result "$name: lines" "$([ -n "$line" ] && echo 1 || echo 0)" "$(wc -l <err.txt)"
+    result "$name: standard output" 0 "$(wc -c <out.txt)"
+}
+
+# refused NAME TEXT WORD.. : a fault of the command line, whose text on standard error has TEXT
+refused() {
+    local name=$1 text=$2 got
+    shift 2
+    "$program" "$@" >out.txt 2>err.txt </dev/null
+    got=$?
+    result "$name: status" 2 "$got"
+    result "$name: standard output" 0 "$(wc -c <out.txt)"
+    grep -qF -- "$text" err.txt
+    result "$name: has '$text'" 0 $?
+}
+
+# helped NAME TEXT WORD.. : help on standard output
+helped() {
+    local name=$1 text=$2 got
+    shift 2
+    "$program" "$@" >out.txt 2>err.txt </dev/null
+    got=$?
+    result "$name: status" 0 "$got"
+    result "$name: standard error" 0 "$(wc -c <err.txt)"
+    grep -qF -- "$text" out.txt
+    result "$name: has '$text'" 0 $?
+}
+
+# ---- the command line
+
+helped help 'Commands:' --help
+helped help 'replay  ' --help
+helped 'short help' 'Usage: pgsess <COMMAND>' -h
+helped 'help of serve' 'Example: pgsess serve --ini pgsess.ini --users users.txt --key-seed seed.bin' serve --help
+helped 'help of stub' 'Example: pgsess stub --port 5432 --catalogue catalogue.tsv' stub --help
+helped 'help of replay' 'Example: pgsess replay' replay --help
+helped 'help subcommand' 'Commands:' help
+refused 'no subcommand' "error: 'pgsess' requires a subcommand but one was not provided"
+refused 'unknown subcommand' "error: unrecognized subcommand 'bogus'" bogus
+refused 'unknown option' "error: unexpected argument '--version' found" --version
+refused 'a word too many' "error: unexpected argument 'x' found" replay x
+refused 'no ini' '--ini <FILE>' serve --users u --key-seed k
+refused 'no users' '--users <FILE>' serve --ini i --key-seed k
+refused 'no seed' '--key-seed <FILE>' serve --ini i --users u
+refused 'ini twice' 'cannot be used multiple times' serve --ini a --ini b --users u --key-seed k
+refused 'ini without a value' '--ini <FILE>' serve --users u --key-seed k --ini
+refused 'port 0' "error: invalid value '0' for '--port <N>': 0 is not in 1..=65535" stub --port 0 --catalogue c
+refused 'port 65536' "error: invalid value '65536' for '--port <N>': 65536 is not in 1..=65535" stub --port 65536 --catalogue c
+refused 'port x' "error: invalid value 'x' for '--port <N>'" stub --port x --catalogue c
+refused 'no port' '--port <N>' stub --catalogue c
+refused 'no catalogue' '--catalogue <FILE>' stub --port 5432
+
+# ---- files that can't be read, and their order
+
+printf '[databases]\nshop = host=127.0.0.1\n' >good.ini
+printf '"ann" "secret"\n' >good.txt
+head -c 32 /dev/zero >good.bin
+head -c 31 /dev/zero >short.bin
+head -c 33 /dev/zero >long.bin
+: >empty
+printf '[pgbouncer]\nbogus = 1\n' >bad.ini
+printf 'bogus\n' >bad.txt
+mkdir folder
+{
+    head -c 16777215 /dev/zero | tr '\0' ';'
+    echo
+} >largest
+cp largest too_long
+echo >>too_long
+
+serve() {
+    local name=$1 status=$2 line=$3
+    shift 3
+    ends "$name" "$status" "$line" serve --ini "$1" --users "$2" --key-seed "$3"
+}
+
+serve 'good files' 0 '' good.ini good.txt good.bin
+serve 'empty files' 0 '' empty empty good.bin
+serve 'the example' 0 '' "$here/examples/pgsess.ini" "$here/examples/users.txt" good.bin
+result 'the example in the gate' 0 "$(cmp "$here/examples/pgsess.ini" "$here/crates/pgsess/data/pgsess.ini" && cmp "$here/examples/users.txt" "$here/crates/pgsess/data/users.txt"; echo $?)"
+serve 'no ini file' 1 'pgsess: file nowhere.ini' nowhere.ini nowhere.txt nowhere.bin
+serve 'no user file' 1 'pgsess: file nowhere.txt' good.ini nowhere.txt nowhere.bin
+serve 'no seed file' 1 'pgsess: file nowhere.bin' good.ini good.txt nowhere.bin
+serve 'ini text before the user file' 1 'pgsess: C2 line 2' bad.ini nowhere.txt nowhere.bin
+serve 'user text before the seed' 1 'pgsess: U1 line 1' good.ini bad.txt nowhere.bin
+serve 'a folder' 1 'pgsess: file folder' folder good.txt good.bin
+serve 'the empty path' 1 'pgsess: file ' '' good.txt good.bin
+serve 'a path with spaces' 1 'pgsess: file no where' 'no where' good.txt good.bin
+serve 'a seed of 31 bytes' 1 'pgsess: file short.bin' good.ini good.txt short.bin
+serve 'a seed of 33 bytes' 1 'pgsess: file long.bin' good.ini good.txt long.bin
+serve 'an empty seed' 1 'pgsess: file empty' good.ini good.txt empty
+serve 'the largest file' 0 '' largest good.txt good.bin
+serve 'a file that is too long' 1 'pgsess: file too_long' too_long good.txt good.bin
+serve 'a user file that is too long' 1 'pgsess: file too_long' good.ini too_long good.bin
+ends 'stub' 0 '' stub --port 5432 --catalogue "$here/examples/catalogue.tsv"
+ends 'no catalogue file' 1 'pgsess: file nowhere.tsv' stub --port 5432 --catalogue nowhere.tsv
+ends 'a catalogue that is too long' 1 'pgsess: file too_long' stub --port 65535 --catalogue too_long
+
+# ---- faults of texts
+
+ini() {
+    printf '%b' "$3" >fault.ini
+    serve "$1" 1 "pgsess: $2" fault.ini good.txt good.bin
+}
+
+users() {
+    printf '%b' "$3" >fault.txt
+    serve "$1" 1 "pgsess: $2" good.ini fault.txt good.bin
+}
+
+ini 'unknown section' 'C1 line 2' '; c\n[PgBouncer]\n'
+ini 'line in users' 'C1 line 2' '[users]\nann = x\n'
+ini 'unknown key' 'C2 line 3' '[pgbouncer]\r\n\r\nauth_query = x\r\n'
+ini 'bad value' 'C3 line 2' '[pgbouncer]\nlisten_port = 70000\n'
+ini 'bad row' 'C3 line 2' '[databases]\nshop = port=5432\n'
+ini 'key twice' 'C4 line 3' '[pgbouncer]\nlisten_port = 1\nlisten_port = 2\n'
+ini 'C3 before C4' 'C3 line 3' '[pgbouncer]\nlisten_port = 1\nlisten_port = 0\n'
+ini 'another pool mode' 'C5 line 2' '[pgbouncer]\npool_mode = transaction\n'
+ini 'another reset query' 'C6 line 2' '[pgbouncer]\nserver_reset_query = RESET ALL\n'
+ini 'include' 'C7 line 1' '%%include x\n'
+ini 'the first faulty line' 'C7 line 2' '[pgbouncer]\nx\npool_mode = statement\n'
+users 'bad quoting' 'U1 line 2' '"x" "y"\n"a" "b\n'
+users 'empty name' 'U1 line 1' '"" "b"\n'
+users 'name twice' 'U2 line 4' '"a" "x"\n\n; c\n"a" "y"\n'
+
+# ---- standard streams, once the program replays
+
+if printf '\0\0\0\10\4\322\26\57' | "$program" replay 2>err.txt | head -c 1 | grep -q N; then
+    head -c 16777217 /dev/zero | "$program" replay >out.txt 2>err.txt
+    result 'oversized input: status' 1 $?
+    result 'oversized input' 'pgsess: stdin' "$(cat err.txt)"
+    result 'oversized input: standard output' 0 "$(wc -c <out.txt)"
+    "$program" replay >out.txt 2>err.txt <&-
+    result 'closed input: status' 1 $?
+    result 'closed input' 'pgsess: stdin' "$(cat err.txt)"
+    ends 'empty input' 0 '' replay
+    printf '\0\0\0\10\4\322\26\57' | "$program" replay 2>err.txt >/dev/full
+    result 'full output: status' 1 $?
+    result 'full output' 'pgsess: stdout' "$(cat err.txt)"
+    printf '\0\0\0\10\4\322\26\57' | "$program" replay 2>err.txt >&-
+    result 'closed output: status' 1 $?
+    result 'closed output' 'pgsess: stdout' "$(cat err.txt)"
+else
+    echo 'replay has no such job yet: its streams were skipped'
+fi
+"$program" --help >/dev/full 2>err.txt
+result 'help on a full output: status' 0 $?
+
+echo "cli.sh: $passed passed, $failed failed"
+[ "$failed" -eq 0 ]
