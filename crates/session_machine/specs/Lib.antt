@@ -1,0 +1,15 @@
+pub mod Parameters
+pub mod Words
+pub mod Errors
+pub mod Named
+pub mod State
+pub mod Portals
+pub mod Lookups
+pub mod Found
+pub mod Runs
+pub mod Picks
+pub mod Extended
+pub mod Step
+pub mod Service
+pub mod Answers
+pub mod Laws
