@@ -36,12 +36,12 @@ frames-front side most (b ∷ bytes) k body rest e =
     ap pick e ∙ ap (before (record { kind = k; body = body })) (cut_after-drop side most (4 + length body) bytes ∙ ap (λ (bs : List ℕ). cut_after side most 0 bs) one)
 
 -- what is known of a frame that was cut out
-record Taken (frame : Frame) (bytes : List ℕ) : Type 0 where
-  first : client_frames bytes ≡ frame_of frame ∷ client_frames (drop (length frame.whole.now) bytes)
-  within : length frame.whole.now ≤ length bytes
-  some : 5 ≤ length frame.whole.now
+pub record Taken (frame : Frame) (bytes : List ℕ) : Type 0 where
+  pub first : client_frames bytes ≡ frame_of frame ∷ client_frames (drop (length frame.whole.now) bytes)
+  pub within : length frame.whole.now ≤ length bytes
+  pub some : 5 ≤ length frame.whole.now
 
-taken : (frame : Frame) (bytes : List ℕ) (f : Front) → front Client limit bytes ≡ f → Tells (Whole frame) bytes f → Taken frame bytes
+pub taken : (frame : Frame) (bytes : List ℕ) (f : Front) → front Client limit bytes ≡ f → Tells (Whole frame) bytes f → Taken frame bytes
 taken frame bytes (AFrame k body rest) e t =
     let size : length frame.whole.now ≡ 5 + length body = sizes (length frame.whole.now) (length rest) (length bytes) (length body) (sym (length-append frame.whole.now rest) ∙ ap length t.whole_is) (front-fits Client limit bytes k body rest e) in
     let one : record { kind = k; body = body } ≡ frame_of frame = made k body frame (sym t.kind_is) (sym t.body_is) in
@@ -89,7 +89,7 @@ taken_within frame bytes at h t = let k = taken frame (drop at bytes) (front Cli
 pub taken_some : (frame : Frame) (bytes : List ℕ) (at : ℕ) → Tells (Whole frame) (drop at bytes) (front Client limit (drop at bytes)) → 5 ≤ length frame.whole.now
 taken_some frame bytes at t = (taken frame (drop at bytes) (front Client limit (drop at bytes)) refl t).some
 
-not-whole : (x : Step) (bytes : List ℕ) (f : Front) → ((frame : Frame) → x ≡ Whole frame → ⊥) → Tells x bytes f → Stops f
+pub not-whole : (x : Step) (bytes : List ℕ) (f : Front) → ((frame : Frame) → x ≡ Whole frame → ⊥) → Tells x bytes f → Stops f
 not-whole (Whole frame) bytes f n t = absurd (n frame refl)
 not-whole (Need n) bytes (AFrame k body rest) m t = t
 not-whole (Need n) bytes (Lacks l) m t = tt
