@@ -5,3 +5,4 @@ pub mod Growth
 pub mod Splitting
 pub mod FirstPackets
 pub mod FirstGrowth
+pub mod Taking
