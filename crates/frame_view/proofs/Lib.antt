@@ -6,3 +6,4 @@ pub mod Splitting
 pub mod FirstPackets
 pub mod FirstGrowth
 pub mod Taking
+pub mod FirstTaken

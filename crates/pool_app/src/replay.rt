@@ -174,3 +174,31 @@ fn put_startup(
         Err(_) => put_refusal(out, Refusal::UnsupportedProtocol),
     }
 }
+
+/// The length of a startup message's length and code.
+const HEAD: usize = 8;
+
+/// Appends what a client of the standing settings is answered.
+fn put_replies(
+    alloc: Global,
+    catalogue: &Catalogue,
+    bytes: &[u8],
+    out: &mut BytesMut,
+) -> Result<(), AllocError>
+    ensures { OnOk result (out.new.items ≡ out.old.items ++ replies_from catalogue.now (first_front bytes.now)) }
+{
+    match first_packet(bytes) {
+        FirstStep::Startup(text) => put_startup(
+            alloc,
+            catalogue,
+            text,
+            &bytes[HEAD + text.len()..],
+            out,
+        ),
+        FirstStep::Need(_) => Ok(()),
+        FirstStep::Cancel { .. } => put_refusal(out, Refusal::UnsupportedProtocol),
+        FirstStep::Tls => put_refusal(out, Refusal::UnsupportedProtocol),
+        FirstStep::Gss => put_refusal(out, Refusal::UnsupportedProtocol),
+        FirstStep::Bad(_) => put_refusal(out, Refusal::UnsupportedProtocol),
+    }
+}
