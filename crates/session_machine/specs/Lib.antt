@@ -1,0 +1,10 @@
+pub mod Parameters
+pub mod Errors
+pub mod State
+pub mod Lookups
+pub mod Runs
+pub mod Extended
+pub mod Step
+pub mod Service
+pub mod Answers
+pub mod Laws

@@ -1,0 +1,8 @@
+/// Where a session stands to a transaction block (PostgreSQL manual, "BEGIN").
+#[derive(Clone, Copy, Debug, PartialEq, Eq, Drop)]
+pub enum Block {
+    Outside,
+    Inside,
+    /// Inside, after an error.
+    Failed,
+}
