@@ -1,0 +1,79 @@
+ghost use Rattle.std.specs.Prelude.{◌≡◌, ℕ, List, [], ◌∷◌, ◌++◌, map, IfOk};
+ghost use Rattle.std.specs.Arc.{arc_value};
+
+use crate::shared::{Shared, push_items};
+use std::alloc::{AllocError, Global};
+use std::marker::Model;
+use std::sync::Arc;
+
+const CHUNK: usize = 64;
+
+/// A list that grows at its end, and whose copies share their items. Contracts see it as the list.
+#[derive(Drop)]
+pub struct Log<T> {
+    /// Lists of `CHUNK` items each.
+    full: Shared<Shared<T>>,
+    tail: Shared<T>,
+}
+
+impl<T> Model for Log<T> {
+    ghost use Rattle.std.specs.Prelude.{List, ◌++◌};
+    ghost use Rattle.shared_list.specs.Lists.{all_of};
+
+    ghost Value = { List T };
+
+    ghost view = { λ l. all_of l.full ++ l.tail };
+}
+
+impl<T: Drop> Log<T> {
+    /// The empty list.
+    pub fn new(alloc: Global) -> Result<Log<T>, AllocError>
+        ensures { IfOk result (λ l. l ≡ []) }
+    {
+        Ok(Log {
+            full: Shared::new(alloc)?,
+            tail: Shared::new(alloc)?,
+        })
+    }
+
+    /// The same list.
+    pub fn copied(&self) -> Result<Log<T>, AllocError>
+        ensures { IfOk result (λ l. l ≡ self.now) }
+    {
+        Ok(Log {
+            full: self.full.copied()?,
+            tail: self.tail.copied()?,
+        })
+    }
+
+    /// This list with `item` at its end.
+    #[tactic(auto, using(crate::proofs::Lists::all_push, std::proofs::Common::append_assoc))]
+    pub fn pushed(&self, alloc: Global, item: T) -> Result<Log<T>, AllocError>
+        ensures { IfOk result (λ l. l ≡ self.now ++ item ∷ []) }
+    {
+        if self.tail.len() < CHUNK {
+            return Ok(Log {
+                full: self.full.copied()?,
+                tail: self.tail.pushed(alloc, item)?,
+            });
+        }
+        Ok(Log {
+            full: self.full.pushed(alloc, self.tail.copied()?)?,
+            tail: Shared::new(alloc)?.pushed(alloc, item)?,
+        })
+    }
+
+    /// The items, in order.
+    pub fn to_vec(&self, alloc: Global) -> Result<Vec<Arc<T>>, AllocError>
+        ensures { IfOk result (λ v. map arc_value v.items ≡ self.now) }
+    {
+        let mut items = Vec::new(alloc);
+        let mut place = 0;
+        while place < self.full.len() {
+            push_items(self.full.at(place).as_slice(), &mut items)?;
+            place += 1;
+        }
+        push_items(self.tail.as_slice(), &mut items)?;
+        Ok(items)
+    }
+}
