@@ -1,4 +1,5 @@
 pub mod Parameters
+pub mod Words
 pub mod Errors
 pub mod State
 pub mod Lookups

@@ -1,6 +1,6 @@
 -- The run-time parameters of the stand-in server (PostgreSQL manual, "Server Configuration"; which
 -- values are accepted, and how they are kept, is this project's own profile).
-use Rattle.std.specs.Prelude.{ℕ, zero, suc, ◌+◌, ◌-◌, List, [], ◌∷◌, ◌++◌, length, filter, find, position, Option, Some, None, Bool, true, false, nat_le, ◌==◌, ◌&&◌, ◌||◌, if◌then◌else◌, codes, slice_index_or, slice_set}
+use Rattle.std.specs.Prelude.{ℕ, zero, suc, ◌+◌, ◌-◌, List, [], ◌∷◌, ◌++◌, length, filter, find, option_map, Option, Some, None, Bool, true, false, nat_le, ◌==◌, ◌&&◌, ◌||◌, if◌then◌else◌, codes, slice_index_or, slice_set}
 use Rattle.std.specs.List.{list_all}
 use Rattle.mini_sql.specs.Words.{Text, folded, same_text, same_word, is_digit, is_letter, digits_value}
 use Rattle.session_machine.specs.declared.parameter.Parameter.{Parameter}
@@ -31,12 +31,11 @@ name SearchPath = codes "search_path"
 name StatementTimeout = codes "statement_timeout"
 
 -- the parameter of a name, without regard to ASCII case
-abbrev pub parameter_from : List Parameter → Text → Option Parameter
-parameter_from [] n = None
-parameter_from (p ∷ ps) n = if same_word n (name p) then Some p else parameter_from ps n
+abbrev pub is_called : Text → Parameter → Bool
+is_called n p = same_word n (name p)
 
 abbrev pub parameter_named : Text → Option Parameter
-parameter_named n = parameter_from parameters n
+parameter_named n = find (is_called n) parameters
 
 -- the default value, where the catalogue gives the version
 abbrev pub default : Text → Parameter → Text
@@ -89,13 +88,13 @@ with_value vs p t = slice_set vs (place p) t
 
 -- ---- the value that is kept for a text, or none where it isn't accepted
 
-abbrev pub up_to : ℕ → Text → Option Text
-up_to n t = if nat_le (length t) n then Some t else None
+-- a word, and the value that is kept for it
+abbrev pub is_word : Text → Text × Text → Bool
+is_word t w = same_text w.0 t
 
 -- the value that is kept for the first of these words that is the text
 abbrev pub kept_for : List (Text × Text) → Text → Option Text
-kept_for [] t = None
-kept_for (w ∷ ws) t = if same_text w.0 t then Some w.1 else kept_for ws t
+kept_for words t = option_map (λ w. w.1) (find (is_word t) words)
 
 abbrev pub is_letter_or_digit : ℕ → Bool
 is_letter_or_digit b = is_letter b || is_digit b
@@ -104,7 +103,7 @@ abbrev pub encodings : List (Text × Text)
 encodings = (codes "utf8", codes "UTF8") ∷ (codes "unicode", codes "UTF8") ∷ (codes "sqlascii", codes "SQL_ASCII") ∷ []
 
 -- an order of day, month and year after each style
-abbrev pub date_styles : List (Text × Text)
+unfoldable pub date_styles : List (Text × Text)
 date_styles =
     (codes "iso", codes "ISO, MDY") ∷
     (codes "iso,mdy", codes "ISO, MDY") ∷ (codes "iso, mdy", codes "ISO, MDY") ∷
@@ -130,8 +129,11 @@ switches =
 abbrev pub is_in_zone : ℕ → Bool
 is_in_zone b = is_letter b || is_digit b || b == 47 || b == 95 || b == 43 || b == 45
 
-abbrev pub zone : Text → Option Text
-zone t = if nat_le 1 (length t) && nat_le (length t) 63 && list_all is_in_zone t then Some t else None
+abbrev pub is_zone : Text → Bool
+is_zone t = nat_le 1 (length t) && nat_le (length t) 63 && list_all is_in_zone t
+
+abbrev pub when : Bool → Text → Option Text
+when b t = if b then Some t else None
 
 abbrev pub are_digits : Text → Bool
 are_digits ds = nat_le 1 (length ds) && list_all is_digit ds
@@ -142,17 +144,14 @@ is_whole low high [] = false
 is_whole low high (b ∷ ds) =
     if b == 45 then are_digits ds && nat_le (digits_value ds) low else (are_digits (b ∷ ds) && nat_le (digits_value (b ∷ ds)) high)
 
-abbrev pub whole : ℕ → ℕ → Text → Option Text
-whole low high t = if is_whole low high t then Some t else None
-
 unfoldable pub accepted_of : Parameter → Text → Option Text
-accepted_of ApplicationName t = up_to 63 t
+accepted_of ApplicationName t = when (nat_le (length t) 63) t
 accepted_of ClientEncoding t = kept_for encodings (filter is_letter_or_digit (folded t))
 accepted_of DateStyle t = kept_for date_styles (folded t)
 accepted_of IntervalStyle t = kept_for interval_styles t
 accepted_of StandardConformingStrings t = kept_for switches (folded t)
-accepted_of TimeZone t = zone t
-accepted_of ExtraFloatDigits t = whole 15 3 t
-accepted_of SearchPath t = up_to 255 t
-accepted_of StatementTimeout t = whole 0 2147483647 t
+accepted_of TimeZone t = when (is_zone t) t
+accepted_of ExtraFloatDigits t = when (is_whole 15 3 t) t
+accepted_of SearchPath t = when (nat_le (length t) 255) t
+accepted_of StatementTimeout t = when (is_whole 0 2147483647 t) t
 accepted_of _ t = None

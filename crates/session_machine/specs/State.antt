@@ -234,8 +234,16 @@ has_text (x ∷ xs) t = same_text x t || has_text xs t
 -- a session at its start, with these values
 abbrev pub begun : Values → State
 begun vs = record {
-  defaults = vs; current = vs; reported = reported_of vs; saved = None; block = Outside;
-  skipping = false; ended = false; statements = []; portals = []; tables = [];
+  defaults = vs;
+  current = vs;
+  reported = reported_of vs;
+  saved = None;
+  block = Outside;
+  skipping = false;
+  ended = false;
+  statements = [];
+  portals = [];
+  tables = [];
 }
 
 abbrev pub started : Result Values Cause → Result State Cause

@@ -3,9 +3,10 @@
 
 mod block;
 mod cause;
-pub mod laws;
 mod parameter;
+mod text;
 
 pub use block::Block;
 pub use cause::Cause;
 pub use parameter::Parameter;
+pub use text::Text;
