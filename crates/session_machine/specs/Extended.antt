@@ -12,7 +12,8 @@ use Rattle.session_machine.specs.declared.block.Block.TheVariants.{Outside, Insi
 use Rattle.session_machine.specs.declared.cause.Cause.{Cause}
 use Rattle.session_machine.specs.declared.cause.Cause.TheVariants.{Syntax, Aborted, StatementExists, PortalExists, NoStatement, NoPortal, MalformedMessage, InvalidValue, PortalIsDone}
 use Rattle.session_machine.specs.Errors.{error}
-use Rattle.session_machine.specs.State.{State, CatalogueOf, Row, PreparedOf, prepared_name, PortalOf, portal_name, ProgressOf, NotRun, Remaining, Finished, Answer, answers, named, without, bound, ◌>>=◌, failed}
+use Rattle.session_machine.specs.Named.{named, without}
+use Rattle.session_machine.specs.State.{State, CatalogueOf, Row, PreparedOf, prepared_name, PortalOf, portal_name, ProgressOf, NotRun, Remaining, Finished, Answer, answers, bound, ◌>>=◌, failed}
 use Rattle.session_machine.specs.Lookups.{Columns, look_up, found}
 use Rattle.session_machine.specs.Runs.{Ran, run, rows_of, row_tag, end_of}
 

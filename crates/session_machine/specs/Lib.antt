@@ -1,6 +1,7 @@
 pub mod Parameters
 pub mod Words
 pub mod Errors
+pub mod Named
 pub mod State
 pub mod Lookups
 pub mod Runs

@@ -6,7 +6,8 @@ use Rattle.session_machine.specs.declared.parameter.Parameter.{Parameter}
 use Rattle.session_machine.specs.declared.cause.Cause.{Cause}
 use Rattle.session_machine.specs.declared.cause.Cause.TheVariants.{NoTable, NotSupported, NoColumn, Syntax, NoParameter}
 use Rattle.session_machine.specs.Parameters.{name, parameter_named}
-use Rattle.session_machine.specs.State.{State, CatalogueOf, TableOf, table_name, named, bound, has_text}
+use Rattle.session_machine.specs.Named.{named}
+use Rattle.session_machine.specs.State.{State, CatalogueOf, TableOf, table_name, bound, has_text}
 
 abbrev pub or_else : {A : Type 0} → Option A → Option A → Option A
 or_else (Some x) o = Some x

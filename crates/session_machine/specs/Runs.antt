@@ -12,7 +12,8 @@ use Rattle.session_machine.specs.declared.cause.Cause.{Cause}
 use Rattle.session_machine.specs.declared.cause.Cause.TheVariants.{NoTable, InTransaction, ColumnTwice, TableExists, InvalidValue}
 use Rattle.session_machine.specs.Parameters.{Values, parameters, parameter_named, is_fixed, value_of}
 use Rattle.session_machine.specs.Errors.{already_in_transaction, no_transaction}
-use Rattle.session_machine.specs.State.{State, CatalogueOf, TableOf, Row, table_name, named, without, with_named, bound, has_text, commit, roll_back, set_parameter}
+use Rattle.session_machine.specs.Named.{named, without, with_named}
+use Rattle.session_machine.specs.State.{State, CatalogueOf, TableOf, Row, table_name, bound, has_text, commit, roll_back, set_parameter}
 use Rattle.session_machine.specs.Lookups.{to_read, selected}
 
 -- what a run leaves: the state, the notices before its tag, and the tag; None: the empty statement

@@ -1,6 +1,6 @@
 -- The state of a session, its transactions, its reports, and how it begins
 -- (PostgreSQL manual, "Frontend/Backend Protocol" and "SET").
-use Rattle.std.specs.Prelude.{ℕ, zero, suc, List, [], ◌∷◌, ◌++◌, take, filter, find, Option, Some, None, Result, Ok, Err, Bool, true, false, ◌||◌, not, if◌then◌else◌}
+use Rattle.std.specs.Prelude.{ℕ, zero, suc, List, [], ◌∷◌, ◌++◌, take, Option, Some, None, Result, Ok, Err, Bool, true, false, ◌||◌, if◌then◌else◌}
 use Rattle.frame_view.specs.Frames.{FrameOf}
 use Rattle.message_view.specs.Messages.{parameter_status, ready_for_query}
 use Rattle.mini_sql.specs.Words.{Text, same_text}
@@ -10,27 +10,6 @@ use Rattle.session_machine.specs.declared.parameter.Parameter.{Parameter}
 use Rattle.session_machine.specs.declared.cause.Cause.{Cause}
 use Rattle.session_machine.specs.declared.cause.Cause.TheVariants.{NoParameter, FixedParameter, InvalidValue, NoDatabase}
 use Rattle.session_machine.specs.Parameters.{Values, reported_parameters, name, parameter_named, defaults, value_of, with_value, is_fixed, accepted_of}
-
--- ---- lists of what has a name
-
-abbrev pub is_named : {A : Type 0} → (A → Text) → Text → A → Bool
-is_named name_of n x = same_text (name_of x) n
-
-abbrev pub is_other : {A : Type 0} → (A → Text) → Text → A → Bool
-is_other name_of n x = not (is_named name_of n x)
-
--- the first of this name
-abbrev pub named : {A : Type 0} → (A → Text) → List A → Text → Option A
-named name_of xs n = find (is_named name_of n) xs
-
--- all that have another name
-abbrev pub without : {A : Type 0} → (A → Text) → List A → Text → List A
-without name_of xs n = filter (is_other name_of n) xs
-
--- the list with x in the place of the first of its name
-abbrev pub with_named : {A : Type 0} → (A → Text) → List A → A → List A
-with_named name_of [] x = []
-with_named name_of (y ∷ ys) x = if same_text (name_of y) (name_of x) then x ∷ ys else y ∷ with_named name_of ys x
 
 -- ---- tables
 

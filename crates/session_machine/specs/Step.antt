@@ -10,7 +10,8 @@ use Rattle.mini_sql.specs.Statements.{Statement, parameters_of}
 use Rattle.session_machine.specs.declared.cause.Cause.{Cause}
 use Rattle.session_machine.specs.declared.cause.Cause.TheVariants.{MalformedMessage, NotSupported, NoPlaceholder}
 use Rattle.session_machine.specs.Errors.{error}
-use Rattle.session_machine.specs.State.{State, CatalogueOf, Row, portal_name, without, Answer, answers, and_then, bound, ◌>>=◌, save, failed, commit_outside, ready}
+use Rattle.session_machine.specs.Named.{without}
+use Rattle.session_machine.specs.State.{State, CatalogueOf, Row, portal_name, Answer, answers, and_then, bound, ◌>>=◌, save, failed, commit_outside, ready}
 use Rattle.session_machine.specs.Lookups.{Columns, look_up}
 use Rattle.session_machine.specs.Runs.{Ran, run, rows_of, row_tag, end_of}
 use Rattle.session_machine.specs.Extended.{usable, unless, settle, without_statement, parse, bind, describe, close, execute, formats_of}

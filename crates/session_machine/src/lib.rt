@@ -3,6 +3,7 @@
 
 mod block;
 mod cause;
+mod naming;
 mod parameter;
 mod text;
 
