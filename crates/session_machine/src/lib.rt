@@ -6,6 +6,7 @@ mod cause;
 mod naming;
 mod parameter;
 mod text;
+mod values;
 
 pub use block::Block;
 pub use cause::Cause;

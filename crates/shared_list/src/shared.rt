@@ -1,4 +1,4 @@
-ghost use Rattle.std.specs.Prelude.{◌≡◌, ℕ, ◌<◌, List, [], ◌∷◌, ◌++◌, map, length, slice_get, slice_set, IfOk, OnOk, Some};
+ghost use Rattle.std.specs.Prelude.{◌≡◌, ℕ, ◌<◌, ◌≤◌, List, [], ◌∷◌, ◌++◌, map, length, take, slice_get, slice_set, IfOk, OnOk, Some};
 ghost use Rattle.std.specs.Arc.{arc_value};
 
 use std::alloc::{AllocError, Global};
@@ -83,6 +83,15 @@ impl<T: Drop> Shared<T> {
         ensures { slice_get self.now place ≡ Some result.now }
     {
         &self.list[place]
+    }
+
+    /// The first `count` items.
+    #[tactic(auto, using(crate::proofs::Lists::take_map))]
+    pub fn front(&self, alloc: Global, count: usize) -> Result<Shared<T>, AllocError>
+        requires { count ≤ length self.now }
+        ensures { IfOk result (λ s. s ≡ take count self.now) }
+    {
+        Shared::from_shared(alloc, copied_list(alloc, &self.list[..count])?)
     }
 
     /// This list with `item` after it.
