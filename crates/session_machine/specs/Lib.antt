@@ -3,6 +3,7 @@ pub mod Words
 pub mod Errors
 pub mod Named
 pub mod State
+pub mod Portals
 pub mod Lookups
 pub mod Runs
 pub mod Extended

@@ -5,8 +5,12 @@ mod block;
 mod cause;
 mod naming;
 mod parameter;
+mod portal;
+mod row;
+mod table;
 mod text;
 mod values;
+mod work;
 
 pub use block::Block;
 pub use cause::Cause;

@@ -1,0 +1,89 @@
+//! Frames, each a type byte, a length and a body.
+
+ghost use Rattle.std.specs.Prelude.{◌≡◌, ◌≤◌, length, drop};
+ghost use Rattle.frame_view.specs.Answers.{LiesIn, Tells};
+ghost use Rattle.frame_view.specs.Frames.{front, is_client_type, is_type};
+
+use crate::numbers::number_at;
+use crate::{Frame, FrameFault, Side, Step, client};
+
+/// The bytes of a type and a length.
+const HEAD: usize = 5;
+/// A length counts its own four bytes.
+const LEAST_LENGTH: u32 = 4;
+
+fn is_client_kind(kind: u8) -> bool
+    ensures { result ≡ is_client_type kind }
+{
+    matches!(
+        kind,
+        client::BIND
+            | client::CLOSE
+            | client::COPY_DATA
+            | client::COPY_DONE
+            | client::COPY_FAIL
+            | client::DESCRIBE
+            | client::EXECUTE
+            | client::FLUSH
+            | client::FUNCTION_CALL
+            | client::PARSE
+            | client::PASSWORD_MESSAGE
+            | client::QUERY
+            | client::SYNC
+            | client::TERMINATE
+    )
+}
+
+fn is_kind(side: Side, kind: u8) -> bool
+    ensures { result ≡ is_type side kind }
+{
+    match side {
+        Side::Client => is_client_kind(kind),
+        Side::Server => true,
+    }
+}
+
+fn step_at(bytes: &[u8], limit: u32, side: Side) -> Step<'_>
+    ensures tells { Tells result bytes.now (front side limit bytes.now) }
+    ensures place { LiesIn result bytes.entry 0 }
+{
+    if bytes.len() < HEAD {
+        return Step::Need(HEAD - bytes.len());
+    }
+    let kind = bytes[0];
+    if !is_kind(side, kind) {
+        return Step::Bad(FrameFault::UnknownType);
+    }
+    let length = number_at(bytes, 1);
+    if length < LEAST_LENGTH {
+        return Step::Bad(FrameFault::TooShort);
+    }
+    if length > limit {
+        return Step::Bad(FrameFault::TooLong);
+    }
+    let end = length as usize + 1;
+    if bytes.len() < end {
+        return Step::Need(end - bytes.len());
+    }
+    Step::Whole(Frame {
+        kind,
+        body: &bytes[HEAD..end],
+        whole: &bytes[..end],
+    })
+}
+
+/// Tells what stands in `buf` at the place `from`: a whole frame, the number of bytes that are known to
+/// be missing, or a fault.
+///
+/// A frame's slices are those of `buf`, at their place. `limit` is the greatest length that is
+/// accepted; the length counts its own four bytes and the body. A fault is told once five bytes are
+/// there, and of several the first of these: [`FrameFault::UnknownType`] (on the client's side alone),
+/// [`FrameFault::TooShort`] (a length below 4), [`FrameFault::TooLong`] (a length above `limit`).
+/// Takes no memory.
+pub fn next_frame(buf: &[u8], from: usize, limit: u32, side: Side) -> Step<'_>
+    requires { from ≤ length buf.now }
+    ensures tells { Tells result (drop from buf.now) (front side limit (drop from buf.now)) }
+    ensures place { LiesIn result buf.entry from }
+{
+    step_at(&buf[from..], limit, side)
+}
