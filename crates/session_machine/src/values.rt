@@ -164,7 +164,8 @@ impl Values {
 
     /// The values of the reported parameters.
     pub fn reported(&self, alloc: Global) -> Result<Shared<Text>, AllocError>
-        ensures { IfOk result (λ v. v ≡ reported_of self.now) }
+        ensures values { IfOk result (λ v. v ≡ reported_of self.now) }
+        ensures count { IfOk result (λ v. length v ≡ 9) }
     {
         self.list.front(alloc, REPORTED)
     }
