@@ -1,79 +1,138 @@
--- Which parts a client's body spells, if any.
-use Rattle.std.specs.Prelude.{◌≡◌, ℕ, zero, suc, ◌+◌, ◌-◌, ◌*◌, List, [], ◌∷◌, ◌++◌, length, take, drop, Option, Some, None, Bool, true, false, nat_lt, nat_le, ◌==◌, ◌&&◌, ◌||◌, not, if◌then◌else◌}
-use Rattle.std.specs.Int.{w16, w32, from_be_bytes}
-use Rattle.std.specs.Prelude.{Result, Ok, Err}
-use Rattle.message_view.specs.declared.reading.ViewFault.{ViewFault}
-use Rattle.message_view.specs.declared.reading.ViewFault.TheVariants.{TooShort}
-use Rattle.message_view.specs.Bodies.{Text, Parse, Bind, Target, OfStatement, OfPortal}
+-- Which parts a body spells, or else the first fault from the left.
+use Rattle.std.specs.Prelude.{ℕ, zero, suc, ◌+◌, ◌*◌, List, [], ◌∷◌, length, take, drop, Option, Some, None, Result, Ok, Err, nat_lt, ◌==◌, if◌then◌else◌}
+use Rattle.frame_view.specs.Frames.{number}
+use Rattle.message_view.specs.declared.ViewFault.{ViewFault}
+use Rattle.message_view.specs.declared.ViewFault.TheVariants.{TooShort, NoZero, LeftOver, BadLength}
+use Rattle.message_view.specs.declared.Status.{Status}
+use Rattle.message_view.specs.declared.Status.TheVariants.{Idle, InTransaction, Failed}
+use Rattle.message_view.specs.Bodies.{Text, ColumnOf, Parse, Bind, Target, OfStatement, OfPortal}
 
 -- what a reader gives: a part, and the bytes after it
 abbrev pub Part : Type 0 → Type 0
-Part A = Option (A × List ℕ)
+Part A = Result (A × List ℕ) ViewFault
 
 infixl 10 ◌>>=◌
-abbrev pub ◌>>=◌ : {A B : Type 0} → Option A → (A → Option B) → Option B
-None >>= f = None
-(Some x) >>= f = f x
+abbrev pub ◌>>=◌ : {A B : Type 0} → Result A ViewFault → (A → Result B ViewFault) → Result B ViewFault
+(Err e) >>= f = Err e
+(Ok x) >>= f = f x
+
+-- the bytes after the part
+abbrev pub rest_of : {A : Type 0} → Part A → Result (List ℕ) ViewFault
+rest_of part = part >>= λ x. Ok x.1
 
 abbrev pub with_first : ℕ → Part Text → Part Text
-with_first b None = None
-with_first b (Some x) = Some (b ∷ x.0, x.1)
+with_first b text = text >>= λ x. Ok (b ∷ x.0, x.1)
 
 -- a text up to its zero byte
 unfoldable pub text_at : List ℕ → Part Text
-text_at [] = None
-text_at (b ∷ bytes) = if b == 0 then Some ([], bytes) else with_first b (text_at bytes)
+text_at [] = Err NoZero
+text_at (b ∷ bytes) = if b == 0 then Ok ([], bytes) else with_first b (text_at bytes)
 
-abbrev pub int16_at : List ℕ → Part ℕ
-int16_at bytes = if nat_lt (length bytes) 2 then None else Some (from_be_bytes w16 (take 2 bytes), drop 2 bytes)
+unfoldable pub int16_at : List ℕ → Part ℕ
+int16_at (a ∷ b ∷ bytes) = Ok (a * 256 + b, bytes)
+int16_at short = Err TooShort
 
-abbrev pub int32_at : List ℕ → Part ℕ
-int32_at bytes = if nat_lt (length bytes) 4 then None else Some (from_be_bytes w32 (take 4 bytes), drop 4 bytes)
+unfoldable pub int32_at : List ℕ → Part ℕ
+int32_at (a ∷ b ∷ c ∷ d ∷ bytes) = Ok (number a b c d, bytes)
+int32_at short = Err TooShort
 
 abbrev pub bytes_at : ℕ → List ℕ → Part (Option Text)
-bytes_at n bytes = if nat_lt (length bytes) n then None else Some (Some (take n bytes), drop n bytes)
+bytes_at n bytes = if nat_lt (length bytes) n then Err TooShort else Ok (Some (take n bytes), drop n bytes)
 
--- -1 is null, what is below it is refused
+-- -1 is null, and what is below it a fault
 abbrev pub value_of_length : ℕ × List ℕ → Part (Option Text)
 value_of_length x =
-    if nat_lt x.0 2147483648 then bytes_at x.0 x.1 else (if x.0 == 4294967295 then Some (None, x.1) else None)
+    if nat_lt x.0 2147483648 then bytes_at x.0 x.1 else (if x.0 == 4294967295 then Ok (None, x.1) else Err BadLength)
 
-abbrev pub value_at : List ℕ → Part (Option Text)
+unfoldable pub value_at : List ℕ → Part (Option Text)
 value_at bytes = int32_at bytes >>= value_of_length
 
-abbrev pub list_at : {A : Type 0} → (List ℕ → Part A) → ℕ → List ℕ → Part (List A)
-list_at item zero bytes = Some ([], bytes)
+unfoldable pub column_at : List ℕ → Part ColumnOf
+column_at bytes = do
+  name ← text_at bytes
+  table ← int32_at name.1
+  number ← int16_at table.1
+  type_oid ← int32_at number.1
+  size ← int16_at type_oid.1
+  modifier ← int32_at size.1
+  format ← int16_at modifier.1
+  Ok (record { name = name.0; table = table.0; number = number.0; type_oid = type_oid.0; size = size.0; modifier = modifier.0; format = format.0 }, format.1)
+
+-- ---- lists with a count before them
+
+unfoldable pub list_at : {A : Type 0} → (List ℕ → Part A) → ℕ → List ℕ → Part (List A)
+list_at item zero bytes = Ok ([], bytes)
 list_at item (suc n) bytes = do
   first ← item bytes
   others ← list_at item n first.1
-  Some (first.0 ∷ others.0, others.1)
+  Ok (first.0 ∷ others.0, others.1)
 
--- a count and as many items
+-- the list that is there, where one is
+abbrev pub items_of : {A : Type 0} → Part (List A) → List A
+items_of (Ok x) = x.0
+items_of (Err e) = []
+
 abbrev pub counted_at : {A : Type 0} → (List ℕ → Part A) → List ℕ → Part (List A)
 counted_at item bytes = do
   n ← int16_at bytes
   list_at item n.0 n.1
 
-abbrev pub at_end : {A : Type 0} → A → List ℕ → Option A
-at_end x [] = Some x
-at_end x (b ∷ bytes) = None
+-- ---- lists that a zero byte ends
 
-abbrev pub told_of : {A : Type 0} → Option A → Result A ViewFault
-told_of None = Err TooShort
-told_of (Some x) = Ok x
+-- an empty name is the zero byte that ends the pairs
+abbrev pub pair_named : Text → List ℕ → Part (Option (Text × Text))
+pair_named [] bytes = Ok (None, bytes)
+pair_named (b ∷ name) bytes = text_at bytes >>= λ setting. Ok (Some (b ∷ name, setting.0), setting.1)
 
-unfoldable pub query_option : List ℕ → Option Text
-query_option body = text_at body >>= λ t. at_end t.0 t.1
+unfoldable pub pair_at : List ℕ → Part (Option (Text × Text))
+pair_at bytes = text_at bytes >>= λ name. pair_named name.0 name.1
 
-unfoldable pub parse_option : List ℕ → Option Parse
-parse_option body = do
+-- a field of an error or a notice: its code, which is no zero byte, and its text
+unfoldable pub field_at : List ℕ → Part (Option (ℕ × Text))
+field_at [] = Err TooShort
+field_at (b ∷ bytes) = if b == 0 then Ok (None, bytes) else (text_at bytes >>= λ t. Ok (Some (b, t.0), t.1))
+
+abbrev pub and_more : {A : Type 0} → Option A → List ℕ → (List ℕ → Part (List A)) → Part (List A)
+and_more None bytes more = Ok ([], bytes)
+and_more (Some x) bytes more = more bytes >>= λ others. Ok (x ∷ others.0, others.1)
+
+-- the items up to the end of the list, which are at most n
+unfoldable pub list_until : {A : Type 0} → (List ℕ → Part (Option A)) → ℕ → List ℕ → Part (List A)
+list_until item zero bytes = Err TooShort
+list_until item (suc n) bytes = item bytes >>= λ x. and_more x.0 x.1 (list_until item n)
+
+-- each item takes a byte at least
+unfoldable pub ended_at : {A : Type 0} → (List ℕ → Part (Option A)) → List ℕ → Part (List A)
+ended_at item bytes = list_until item (suc (length bytes)) bytes
+
+-- ---- bodies
+
+abbrev pub at_end : {A : Type 0} → A → List ℕ → Result A ViewFault
+at_end x [] = Ok x
+at_end x (b ∷ bytes) = Err LeftOver
+
+abbrev pub alone : {A : Type 0} → Part A → Result A ViewFault
+alone part = part >>= λ x. at_end x.0 x.1
+
+-- what follows the code of a StartupMessage
+unfoldable pub startup_of : List ℕ → Result (List (Text × Text)) ViewFault
+startup_of body = alone (ended_at pair_at body)
+
+unfoldable pub password_of : List ℕ → Result Text ViewFault
+password_of body = alone (text_at body)
+
+unfoldable pub query_of : List ℕ → Result Text ViewFault
+query_of body = alone (text_at body)
+
+unfoldable pub parse_of : List ℕ → Result Parse ViewFault
+parse_of body = do
   name ← text_at body
   query ← text_at name.1
   oids ← counted_at int32_at query.1
   at_end (record { name = name.0; query = query.0; oids = oids.0 }) oids.1
 
-unfoldable pub bind_option : List ℕ → Option Bind
-bind_option body = do
+unfoldable pub bind_of : List ℕ → Result Bind ViewFault
+bind_of body = do
   portal ← text_at body
   statement ← text_at portal.1
   formats ← counted_at int16_at statement.1
@@ -81,43 +140,52 @@ bind_option body = do
   results ← counted_at int16_at given.1
   at_end (record { portal = portal.0; statement = statement.0; formats = formats.0; given = given.0; results = results.0 }) results.1
 
-abbrev pub target_named : ℕ → Text → Option Target
-target_named b t = if b == 83 then Some (OfStatement t) else (if b == 80 then Some (OfPortal t) else None)
+-- the body of a Describe or a Close: S or P, and a name
+unfoldable pub target_of : List ℕ → Result Target ViewFault
+target_of [] = Err TooShort
+target_of (b ∷ body) =
+    if b == 83 then (alone (text_at body) >>= λ t. Ok (OfStatement t))
+    else (if b == 80 then (alone (text_at body) >>= λ t. Ok (OfPortal t)) else Err TooShort)
 
-unfoldable pub target_option : List ℕ → Option Target
-target_option [] = None
-target_option (b ∷ body) = do
-  t ← text_at body
-  all ← at_end t.0 t.1
-  target_named b all
-
-unfoldable pub execute_option : List ℕ → Option (Text × ℕ)
-execute_option body = do
+unfoldable pub execute_of : List ℕ → Result (Text × ℕ) ViewFault
+execute_of body = do
   portal ← text_at body
   limit ← int32_at portal.1
   at_end (portal.0, limit.0) limit.1
 
--- a StatusView's parts
-unfoldable pub status_option : List ℕ → Option (Text × Text)
-status_option body = do
+-- the number of an authentication message, and the rest
+unfoldable pub authentication_of : List ℕ → Result (ℕ × List ℕ) ViewFault
+authentication_of body = int32_at body
+
+unfoldable pub key_of : List ℕ → Result (ℕ × ℕ) ViewFault
+key_of body = do
+  pid ← int32_at body
+  secret ← int32_at pid.1
+  at_end (pid.0, secret.0) secret.1
+
+unfoldable pub status_of : List ℕ → Result (Text × Text) ViewFault
+status_of body = do
   name ← text_at body
   setting ← text_at name.1
   at_end (name.0, setting.0) setting.1
 
-unfoldable pub query_of : List ℕ → Result Text ViewFault
-query_of body = told_of (query_option body)
+-- I, T and E
+abbrev pub status_named : ℕ → Result Status ViewFault
+status_named b = if b == 73 then Ok Idle else (if b == 84 then Ok InTransaction else (if b == 69 then Ok Failed else Err TooShort))
 
-unfoldable pub parse_of : List ℕ → Result Parse ViewFault
-parse_of body = told_of (parse_option body)
+unfoldable pub ready_of : List ℕ → Result Status ViewFault
+ready_of [] = Err TooShort
+ready_of (b ∷ body) = status_named b >>= λ status. at_end status body
 
-unfoldable pub bind_of : List ℕ → Result Bind ViewFault
-bind_of body = told_of (bind_option body)
+unfoldable pub tag_of : List ℕ → Result Text ViewFault
+tag_of body = alone (text_at body)
 
-unfoldable pub target_of : List ℕ → Result Target ViewFault
-target_of body = told_of (target_option body)
+unfoldable pub row_description_of : List ℕ → Result (List ColumnOf) ViewFault
+row_description_of body = alone (counted_at column_at body)
 
-unfoldable pub execute_of : List ℕ → Result (Text × ℕ) ViewFault
-execute_of body = told_of (execute_option body)
+unfoldable pub data_row_of : List ℕ → Result (List (Option Text)) ViewFault
+data_row_of body = alone (counted_at value_at body)
 
-unfoldable pub status_of : List ℕ → Result (Text × Text) ViewFault
-status_of body = told_of (status_option body)
+-- the fields of an error or a notice
+unfoldable pub note_of : List ℕ → Result (List (ℕ × Text)) ViewFault
+note_of body = alone (ended_at field_at body)

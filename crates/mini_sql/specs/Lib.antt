@@ -1,3 +1,9 @@
 pub mod Words
 pub mod Tokens
 pub mod Statements
+pub mod Grammar
+pub mod Laws
+pub mod Lexing
+pub mod Reading
+pub mod Lists
+pub mod Meanings

@@ -1,7 +1,7 @@
 -- Which statement a text spells.
-use Rattle.std.specs.Prelude.{ℕ, zero, suc, ◌+◌, ◌-◌, List, [], ◌∷◌, ◌++◌, length, map, max, Option, Some, None, Bool, true, false, nat_lt, nat_le, ◌==◌, ◌&&◌, ◌||◌, not, if◌then◌else◌, codes}
+use Rattle.std.specs.Prelude.{ℕ, List, [], ◌∷◌, length, max, Option, Some, None, Bool, true, false, nat_le, ◌==◌, ◌||◌, ◌&&◌, if◌then◌else◌, codes}
 use Rattle.mini_sql.specs.Words.{Text, same_word, folded}
-use Rattle.mini_sql.specs.Tokens.{Token, Name, Literal, Digits, Parameter, Sign, tokens}
+use Rattle.mini_sql.specs.Tokens.{Token, Name, Literal, Digits, Parameter, Sign, tokens, opening, closing, star, comma, semicolon, equal}
 
 -- what a value in a statement is
 pub data Operand : Type 0 where
@@ -13,6 +13,7 @@ pub record Equals : Type 0 where
   pub column : Text
   pub to : Operand
 
+-- Names of tables and columns are folded to lower case; those of SET, RESET and SHOW stand as they came.
 pub data Statement : Type 0 where
   Empty : Statement
   Begin : Statement
@@ -30,138 +31,183 @@ pub data Statement : Type 0 where
   -- no columns: all of them
   Select : List Text → Text → Option Equals → Statement
 
-abbrev pub is : Token → Text → Bool
-is (Name n) word = same_word n word
-is _ word = false
+-- What a token is.
+abbrev pub is_word : Text → Token → Bool
+is_word w (Name n) = same_word n w
+is_word w _ = false
 
--- the name of a token
+abbrev pub is_sign : ℕ → Token → Bool
+is_sign s (Sign c) = c == s
+is_sign s _ = false
+
 abbrev pub name_of : Token → Option Text
 name_of (Name n) = Some n
 name_of _ = None
 
-abbrev pub setting_of : Text → Token → Option Statement
-setting_of name (Literal t) = Some (Set name (Some t))
-setting_of name (Digits t) = Some (Set name (Some t))
-setting_of name (Name t) = Some (Set name (if same_word t (codes "default") then None else Some (folded t)))
-setting_of name _ = None
+-- a literal, a name, digits, or DEFAULT
+abbrev pub setting_of : Token → Option (Option Text)
+setting_of (Literal t) = Some (Some t)
+setting_of (Digits t) = Some (Some t)
+setting_of (Name n) = Some (if same_word n (codes "default") then None else Some (folded n))
+setting_of _ = None
 
--- `name TO v` or `name = v`
-abbrev pub set_of : List Token → Option Statement
-set_of (Name name ∷ Sign s ∷ v ∷ []) = if s == 61 then setting_of name v else None
-set_of (Name name ∷ Name to ∷ v ∷ []) = if same_word to (codes "to") then setting_of name v else None
-set_of _ = None
-
-abbrev pub block_of : Statement → List Token → Option Statement
-block_of s [] = Some s
-block_of s (t ∷ []) = if is t (codes "work") || is t (codes "transaction") then Some s else None
-block_of s _ = None
-
+-- a literal, a parameter or NULL
 abbrev pub operand_of : Token → Option Operand
 operand_of (Literal t) = Some (Constant t)
 operand_of (Parameter n) = Some (Placeholder n)
 operand_of (Name n) = if same_word n (codes "null") then Some Null else None
 operand_of _ = None
 
-abbrev pub cons_option : {A : Type 0} → Option A → Option (List A) → Option (List A)
-cons_option (Some x) (Some xs) = Some (x ∷ xs)
-cons_option _ _ = None
+abbrev pub column_of : Token → Option Text
+column_of (Name n) = Some (folded n)
+column_of _ = None
 
--- items parted by commas, and then a closing bracket and no more
-abbrev pub listed : {A : Type 0} → (Token → Option A) → List Token → Option (List A)
-listed item (t ∷ Sign s ∷ []) = if s == 41 then cons_option (item t) (Some []) else None
-listed item (t ∷ Sign s ∷ ts) = if s == 44 then cons_option (item t) (listed item ts) else None
-listed item _ = None
+-- what is read from tokens, where there are any
+unfoldable pub read : {A B : Type 0} → (A → Option B) → Option A → Option B
+read f None = None
+read f (Some a) = f a
 
--- `c text` parted by commas
-abbrev pub columns_of : List Token → Option (List Text)
-columns_of (Name c ∷ Name k ∷ Sign s ∷ []) = if same_word k (codes "text") && s == 41 then Some (folded c ∷ []) else None
-columns_of (Name c ∷ Name k ∷ Sign s ∷ ts) = if same_word k (codes "text") && s == 44 then cons_option (Some (folded c)) (columns_of ts) else None
-columns_of _ = None
+-- A form is how tokens are read as a statement.
+abbrev pub Form : Type 0
+Form = List Token → Option Statement
 
-abbrev pub create_with : Text → Option (List Text) → Option Statement
-create_with t (Some cs) = if nat_le (length cs) 64 then Some (Create t cs) else None
-create_with t None = None
+-- the end
+unfoldable pub ends : Statement → Form
+ends s [] = Some s
+ends s (t ∷ ts) = None
 
-abbrev pub create_of : List Token → Option Statement
-create_of (Name temp ∷ Name table ∷ Name t ∷ Sign s ∷ ts) =
-    if (same_word temp (codes "temp") || same_word temp (codes "temporary")) && same_word table (codes "table") && s == 40 then create_with (folded t) (columns_of ts) else None
-create_of _ = None
+-- a token that passes a test, and then the rest
+unfoldable pub pass : (Token → Bool) → Form → Form
+pass test rest [] = None
+pass test rest (t ∷ ts) = if test t then rest ts else None
 
-abbrev pub insert_with : Text → Option (List Operand) → Option Statement
-insert_with t (Some vs) = Some (Insert t vs)
-insert_with t None = None
+-- a token that is read as a value, and then the rest
+unfoldable pub take_value : {A : Type 0} → (Token → Option A) → (A → Form) → Form
+take_value value_of rest [] = None
+take_value value_of rest (t ∷ ts) = read (λ a. rest a ts) (value_of t)
 
-abbrev pub insert_of : List Token → Option Statement
-insert_of (Name into ∷ Name t ∷ Name vals ∷ Sign s ∷ ts) =
-    if same_word into (codes "into") && same_word vals (codes "values") && s == 40 then insert_with (folded t) (listed operand_of ts) else None
-insert_of _ = None
+abbrev pub or_else : {A : Type 0} → Option A → Option A → Option A
+or_else None b = b
+or_else (Some a) b = Some a
 
--- `FROM t` and a WHERE, or none
-abbrev pub from_of : List Text → List Token → Option Statement
-from_of cs (Name from ∷ Name t ∷ []) = if same_word from (codes "from") then Some (Select cs (folded t) None) else None
-from_of cs (Name from ∷ Name t ∷ Name where' ∷ Name c ∷ Sign s ∷ v ∷ []) =
-    if same_word from (codes "from") && same_word where' (codes "where") && s == 61 then
-      (elim (operand_of v) [ Some o ↦ Some (Select cs (folded t) (Some (record { column = folded c; to = o }))) | None ↦ None ])
-    else None
-from_of cs _ = None
+unfoldable pub either : Form → Form → Form
+either first second ts = or_else (first ts) (second ts)
 
--- what is selected, with the columns that were read before
-abbrev pub chosen_of : List Text → List Token → Option Statement
-chosen_of cs (Name c ∷ Sign s ∷ ts) = if s == 44 then chosen_of (cs ++ folded c ∷ []) ts else None
-chosen_of cs (Name c ∷ ts) = if nat_lt (length cs) 64 then from_of (cs ++ folded c ∷ []) ts else None
-chosen_of cs _ = None
+-- An item before the items that follow it, and the tokens after them.
+unfoldable pub with_item : {A : Type 0} → Option A → Option (List A × List Token) → Option (List A × List Token)
+with_item (Some a) (Some p) = Some (a ∷ p.0, p.1)
+with_item _ _ = None
 
-abbrev pub select_of : List Token → Option Statement
-select_of (Sign s ∷ ts) = if s == 42 then from_of [] ts else None
-select_of ts = chosen_of [] ts
+-- items of one token each, parted by commas, and the tokens after them
+unfoldable pub items : {A : Type 0} → (Token → Option A) → List Token → Option (List A × List Token)
+items item_of [] = None
+items item_of (t ∷ []) = with_item (item_of t) (Some ([], []))
+items item_of (t ∷ s ∷ ts) = with_item (item_of t) (if is_sign comma s then items item_of ts else Some ([], s ∷ ts))
 
-abbrev pub named : (Text → Statement) → List Token → Option Statement
-named f (Name n ∷ []) = Some (f n)
-named f _ = None
+-- `c text`, parted by commas, and the tokens after them
+unfoldable pub definitions : List Token → Option (List Text × List Token)
+definitions [] = None
+definitions (t ∷ []) = None
+definitions (t ∷ k ∷ []) = if is_word (codes "text") k then with_item (column_of t) (Some ([], [])) else None
+definitions (t ∷ k ∷ s ∷ ts) =
+    if is_word (codes "text") k then with_item (column_of t) (if is_sign comma s then definitions ts else Some ([], s ∷ ts)) else None
 
-abbrev pub is_word : List Token → Text → Bool
-is_word (t ∷ []) word = is t word
-is_word _ word = false
+-- the columns of a CREATE, with their type, or those of a SELECT
+unfoldable pub columns_at : Bool → List Token → Option (List Text × List Token)
+columns_at true ts = definitions ts
+columns_at false ts = items column_of ts
 
-abbrev pub drop_of : List Token → Option Statement
-drop_of (t ∷ ts) = if is t (codes "table") then named (λ n. Drop (folded n)) ts else None
-drop_of [] = None
+-- a list of columns is 1 to 64 long
+unfoldable pub at_most_64 : Option (List Text × List Token) → Option (List Text × List Token)
+at_most_64 None = None
+at_most_64 (Some p) = if nat_le (length p.0) 64 then Some p else None
 
-abbrev pub set_or_session : List Token → Option Statement
-set_or_session (Name w ∷ a ∷ b ∷ c ∷ []) = if same_word w (codes "session") then set_of (a ∷ b ∷ c ∷ []) else None
-set_or_session ts = set_of ts
+unfoldable pub take_columns : Bool → (List Text → Form) → Form
+take_columns typed rest ts = read (λ p. rest p.0 p.1) (at_most_64 (columns_at typed ts))
 
-abbrev pub of_word : Text → List Token → Option Statement
-of_word w ts =
-    if same_word w (codes "begin") then block_of Begin ts else
-    (if same_word w (codes "commit") then block_of Commit ts else
-    (if same_word w (codes "rollback") then block_of Rollback ts else
-    (if same_word w (codes "set") then set_or_session ts else
-    (if same_word w (codes "reset") then (if is_word ts (codes "all") then Some ResetAll else named Reset ts) else
-    (if same_word w (codes "show") then named Show ts else
-    (if same_word w (codes "discard") then (if is_word ts (codes "all") then Some DiscardAll else None) else
-    (if same_word w (codes "create") then create_of ts else
-    (if same_word w (codes "drop") then drop_of ts else
-    (if same_word w (codes "insert") then insert_of ts else
-    (if same_word w (codes "select") then select_of ts else None))))))))))
+unfoldable pub take_operands : (List Operand → Form) → Form
+take_operands rest ts = read (λ p. rest p.0 p.1) (items operand_of ts)
 
-abbrev pub of_tokens : List Token → Option Statement
+-- The forms, each after its first word.
+unfoldable pub block : Statement → Form
+block s = either (ends s) (pass (λ t. is_word (codes "work") t || is_word (codes "transaction") t) (ends s))
+
+-- `name TO v` or `name = v`
+unfoldable pub assignment : Form
+assignment = take_value name_of (λ n. pass (λ t. is_word (codes "to") t || is_sign equal t) (take_value setting_of (λ v. ends (Set n v))))
+
+unfoldable pub set : Form
+set = either (pass (is_word (codes "session")) assignment) assignment
+
+unfoldable pub reset : Form
+reset = either (pass (is_word (codes "all")) (ends ResetAll)) (take_value name_of (λ n. ends (Reset n)))
+
+unfoldable pub show : Form
+show = take_value name_of (λ n. ends (Show n))
+
+unfoldable pub discard : Form
+discard = pass (is_word (codes "all")) (ends DiscardAll)
+
+unfoldable pub definition_list : Text → Form
+definition_list t = pass (is_sign opening) (take_columns true (λ cs. pass (is_sign closing) (ends (Create t cs))))
+
+unfoldable pub create : Form
+create = pass (λ t. is_word (codes "temp") t || is_word (codes "temporary") t) (pass (is_word (codes "table")) (take_value column_of definition_list))
+
+unfoldable pub drop_table : Form
+drop_table = pass (is_word (codes "table")) (take_value column_of (λ t. ends (Drop t)))
+
+unfoldable pub value_list : Text → Form
+value_list t = pass (is_sign opening) (take_operands (λ vs. pass (is_sign closing) (ends (Insert t vs))))
+
+unfoldable pub insert : Form
+insert = pass (is_word (codes "into")) (take_value column_of (λ t. pass (is_word (codes "values")) (value_list t)))
+
+unfoldable pub where_of : List Text → Text → Form
+where_of cs t =
+    pass (is_word (codes "where")) (take_value column_of (λ c. pass (is_sign equal) (take_value operand_of (λ v. ends (Select cs t (Some (record { column = c; to = v })))))))
+
+unfoldable pub from_of : List Text → Form
+from_of cs = pass (is_word (codes "from")) (take_value column_of (λ t. either (ends (Select cs t None)) (where_of cs t)))
+
+unfoldable pub select : Form
+select = either (pass (is_sign star) (from_of [])) (take_columns false from_of)
+
+unfoldable pub of_tokens : Form
 of_tokens [] = Some Empty
-of_tokens (Name w ∷ ts) = of_word w ts
-of_tokens _ = None
+of_tokens (t ∷ ts) =
+    if is_word (codes "begin") t then block Begin ts else
+    (if is_word (codes "commit") t then block Commit ts else
+    (if is_word (codes "rollback") t then block Rollback ts else
+    (if is_word (codes "set") t then set ts else
+    (if is_word (codes "reset") t then reset ts else
+    (if is_word (codes "show") t then show ts else
+    (if is_word (codes "discard") t then discard ts else
+    (if is_word (codes "create") t then create ts else
+    (if is_word (codes "drop") t then drop_table ts else
+    (if is_word (codes "insert") t then insert ts else
+    (if is_word (codes "select") t then select ts else None))))))))))
 
 -- one semicolon may end the text
 abbrev pub is_last_semicolon : Token → List Token → Bool
-is_last_semicolon (Sign s) [] = s == 59
-is_last_semicolon _ _ = false
+is_last_semicolon t [] = is_sign semicolon t
+is_last_semicolon t (u ∷ ts) = false
 
 abbrev pub without_semicolon : List Token → List Token
 without_semicolon [] = []
 without_semicolon (t ∷ ts) = if is_last_semicolon t ts then [] else (t ∷ without_semicolon ts)
 
+-- the tokens of a text, less one last semicolon
+unfoldable pub less_semicolon : Option (List Token) → Option (List Token)
+less_semicolon None = None
+less_semicolon (Some ts) = Some (without_semicolon ts)
+
+unfoldable pub phrase : Text → Option (List Token)
+phrase t = less_semicolon (tokens t)
+
 -- the statement that a text spells; None: a syntax error
 unfoldable pub statement : Text → Option Statement
-statement t = elim (tokens t) [ None ↦ None | Some ts ↦ of_tokens (without_semicolon ts) ]
+statement t = read of_tokens (phrase t)
 
 -- the greatest number of a parameter, or 0
 abbrev pub operand_parameter : Operand → ℕ

@@ -1,65 +1,102 @@
--- The tokens of a statement's text.
-use Rattle.std.specs.Prelude.{ℕ, zero, suc, ◌+◌, ◌-◌, List, [], ◌∷◌, ◌++◌, length, map, Option, Some, None, Bool, true, false, nat_lt, nat_le, ◌==◌, ◌&&◌, ◌||◌, not, if◌then◌else◌, take_while}
-use Rattle.mini_sql.specs.Words.{Text, folded, is_digit, is_white, starts_name, is_in_name, digits_value}
+-- The tokens of a statement's text. Each is as long as it can be, and white space may stand between any two.
+use Rattle.std.specs.Prelude.{ℕ, zero, suc, ◌+◌, ◌-◌, ◌*◌, List, [], ◌∷◌, ◌++◌, length, Option, Some, None, Bool, nat_le, ◌==◌, ◌&&◌, ◌||◌, if◌then◌else◌, take, take_while}
+use Rattle.mini_sql.specs.Words.{Text, is_between, is_digit, is_white, starts_name, is_in_name}
 
 pub data Token : Type 0 where
+  -- as it stands in the text, in any case
   Name : Text → Token
+  -- what it stands for, with each doubled quote undone
   Literal : Text → Token
   -- whole digits, with a minus before them or none
   Digits : Text → Token
   Parameter : ℕ → Token
-  -- one of ( ) , ; = *
+  -- by its byte
   Sign : ℕ → Token
 
--- the text of a literal after its first quote, and how many bytes it takes with its last quote
-abbrev pub with_byte : ℕ → ℕ → Option (Text × ℕ) → Option (Text × ℕ)
-with_byte b n None = None
-with_byte b n (Some (t, m)) = Some (b ∷ t, n + m)
+-- the bytes of the signs
+abbrev pub opening : ℕ
+opening = 40
 
-unfoldable pub literal_after : List ℕ → Option (Text × ℕ)
-literal_after [] = None
-literal_after (b ∷ []) = if b == 39 then Some ([], 1) else None
-literal_after (b ∷ c ∷ rest) =
-    if b == 39 then (if c == 39 then with_byte 39 2 (literal_after rest) else Some ([], 1)) else with_byte b 1 (literal_after (c ∷ rest))
+abbrev pub closing : ℕ
+closing = 41
 
--- a token and how many bytes it takes, of bytes of which the first is not white
-abbrev pub literal_token : Option (Text × ℕ) → Option (Token × ℕ)
-literal_token None = None
-literal_token (Some (t, n)) = Some (Literal t, suc n)
+abbrev pub star : ℕ
+star = 42
+
+abbrev pub comma : ℕ
+comma = 44
+
+abbrev pub semicolon : ℕ
+semicolon = 59
+
+abbrev pub equal : ℕ
+equal = 61
+
+abbrev pub quote : ℕ
+quote = 39
+
+abbrev pub further : ℕ → Option ℕ → Option ℕ
+further n None = None
+further n (Some m) = Some (n + m)
+
+-- how many bytes stand before a literal's last quote, the first that isn't doubled; none where a zero byte or the end comes before it
+unfoldable pub literal_length : Text → Option ℕ
+literal_length [] = None
+literal_length (b ∷ []) = if b == quote then Some 0 else None
+literal_length (b ∷ c ∷ rest) =
+    if b == quote then (if c == quote then further 2 (literal_length rest) else Some 0) else
+    (if b == 0 then None else further 1 (literal_length (c ∷ rest)))
+
+-- a text in which each quote was doubled
+unfoldable pub unquoted : Text → Text
+unquoted [] = []
+unquoted (b ∷ []) = b ∷ []
+unquoted (b ∷ c ∷ rest) = if b == quote then b ∷ unquoted rest else b ∷ unquoted (c ∷ rest)
+
+-- A token and how many bytes it takes.
+abbrev pub literal_token : Text → Option ℕ → Option (Token × ℕ)
+literal_token rest None = None
+literal_token rest (Some n) = Some (Literal (unquoted (take n rest)), n + 2)
 
 abbrev pub name_token : Text → Option (Token × ℕ)
 name_token t = if nat_le (length t) 63 then Some (Name t, length t) else None
 
 abbrev pub digits_token : Text → Text → Option (Token × ℕ)
 digits_token sign [] = None
-digits_token sign ds = Some (Digits (sign ++ ds), length sign + length ds)
+digits_token sign (d ∷ ds) = Some (Digits (sign ++ d ∷ ds), length sign + length (d ∷ ds))
 
+-- 1 to 99, with no zero before them
 abbrev pub parameter_token : Text → Option (Token × ℕ)
-parameter_token ds = if nat_le 1 (length ds) && nat_le 1 (digits_value ds) && nat_le (digits_value ds) 99 then Some (Parameter (digits_value ds), suc (length ds)) else None
+parameter_token (d ∷ []) = if d == 48 then None else Some (Parameter (d - 48), 2)
+parameter_token (d ∷ e ∷ []) = if d == 48 then None else Some (Parameter (10 * (d - 48) + (e - 48)), 3)
+parameter_token _ = None
 
-abbrev pub is_sign : ℕ → Bool
-is_sign b = b == 40 || b == 41 || b == 44 || b == 59 || b == 61 || b == 42
+abbrev pub is_sign_byte : ℕ → Bool
+is_sign_byte b = b == opening || b == closing || b == star || b == comma || b == semicolon || b == equal
 
-abbrev pub token_at : ℕ → List ℕ → Option (Token × ℕ)
+-- the token at a byte that isn't white and what follows it
+abbrev pub token_at : ℕ → Text → Option (Token × ℕ)
 token_at b rest =
     if starts_name b then name_token (take_while is_in_name (b ∷ rest)) else
     (if is_digit b then digits_token [] (take_while is_digit (b ∷ rest)) else
     (if b == 45 then digits_token (45 ∷ []) (take_while is_digit rest) else
     (if b == 36 then parameter_token (take_while is_digit rest) else
-    (if b == 39 then literal_token (literal_after rest) else
-    (if is_sign b then Some (Sign b, 1) else None)))))
+    (if b == quote then literal_token rest (literal_length rest) else
+    (if is_sign_byte b then Some (Sign b, 1) else None)))))
 
 abbrev pub after_token : Token → Option (List Token) → Option (List Token)
 after_token t None = None
 after_token t (Some ts) = Some (t ∷ ts)
 
+abbrev pub token_then : Option (Token × ℕ) → (ℕ → Option (List Token)) → Option (List Token)
+token_then None rest = None
+token_then (Some x) rest = after_token x.0 (rest (x.1 - 1))
+
 -- The tokens of a text, or none where a byte begins no token. The bytes of a token after its first are passed over.
-unfoldable pub tokens_after : ℕ → List ℕ → Option (List Token)
+unfoldable pub tokens_after : ℕ → Text → Option (List Token)
 tokens_after passed [] = Some []
 tokens_after (suc n) (b ∷ bytes) = tokens_after n bytes
-tokens_after zero (b ∷ bytes) =
-    if is_white b then tokens_after 0 bytes else
-    (elim (token_at b bytes) [ None ↦ None | Some x ↦ after_token x.0 (tokens_after (x.1 - 1) bytes) ])
+tokens_after zero (b ∷ bytes) = if is_white b then tokens_after 0 bytes else token_then (token_at b bytes) (λ n. tokens_after n bytes)
 
 abbrev pub tokens : Text → Option (List Token)
 tokens t = tokens_after 0 t

@@ -1,8 +1,8 @@
 -- Characters of statements, and texts compared without regard to ASCII case.
-use Rattle.std.specs.Prelude.{ℕ, ◌+◌, ◌-◌, ◌*◌, List, [], ◌∷◌, ◌++◌, length, map, Option, Some, None, Bool, true, false, nat_lt, nat_le, ◌==◌, ◌&&◌, ◌||◌, not, if◌then◌else◌, codes}
-use Rattle.std.specs.Str.{bytes_eq, str_to_ascii_lowercase, str_to_ascii_uppercase}
+use Rattle.std.specs.Prelude.{ℕ, List, Bool, nat_le, ◌==◌, ◌&&◌, ◌||◌}
+use Rattle.std.specs.Str.{bytes_eq, str_to_ascii_lowercase}
 
--- text of any encoding, as bytes
+-- bytes
 abbrev pub Text : Type 0
 Text = List ℕ
 
@@ -29,15 +29,9 @@ is_letter b = is_between 65 90 b || is_between 97 122 b
 abbrev pub is_white : ℕ → Bool
 is_white b = b == 32 || b == 9 || b == 10 || b == 13 || b == 12
 
+-- a letter or an underscore
 abbrev pub starts_name : ℕ → Bool
 starts_name b = is_letter b || b == 95
 
 abbrev pub is_in_name : ℕ → Bool
 is_in_name b = starts_name b || is_digit b
-
-abbrev pub digits_value_from : ℕ → Text → ℕ
-digits_value_from n [] = n
-digits_value_from n (d ∷ ds) = digits_value_from (10 * n + (d - 48)) ds
-
-abbrev pub digits_value : Text → ℕ
-digits_value ds = digits_value_from 0 ds

@@ -1,2 +1,19 @@
-//! Statements.
+//! The statements of a small SQL, read from a text without taking memory.
 #![tactic(auto)]
+
+mod lists;
+mod literal;
+mod parts;
+mod stmt;
+mod token;
+
+pub use lists::{Columns, Operands};
+pub use literal::{Literal, LiteralBytes};
+pub use parts::is_same_word;
+pub use stmt::{Filter, Operand, Setting, Stmt};
+
+/// Why a text is no statement.
+#[derive(Clone, Copy, Debug, PartialEq, Eq, Drop)]
+pub enum SqlFault {
+    Syntax,
+}

@@ -2,7 +2,8 @@
 use Rattle.std.proofs.Common.{◌≡◌, ℕ, suc, ap, ◌+◌, ◌-◌, ◌*◌, ◌<◌, ◌≤◌, List, [], ◌∷◌, length, get_or, drop, arith, sym, ◌∙◌, Bool, true, false, drop-cons, add-one}
 use Rattle.std.specs.Prelude.{nat_le}
 use Rattle.std.proofs.lemmas.Bool.{lt-leb}
-use Rattle.mini_sql.specs.Words.{Text, digits_value, digits_value_from}
+use Rattle.mini_sql.specs.Words.{Text}
+use Rattle.session_machine.specs.Parameters.{digits_value, digits_value_from}
 
 -- digits that follow make no number smaller
 from_low : (n : ℕ) (ds : Text) → n ≤ digits_value_from n ds

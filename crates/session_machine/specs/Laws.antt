@@ -3,7 +3,7 @@ use Rattle.std.specs.Prelude.{◌≡◌, ℕ, zero, suc, ◌+◌, ◌<◌, ◌�
 use Rattle.std.specs.List.{AllByRecursion}
 use Rattle.frame_view.specs.Frames.{FrameOf, IsFrame}
 use Rattle.frame_view.specs.declared.Side.TheVariants.{Client, Server}
-use Rattle.message_view.specs.declared.reading.ViewFault.{ViewFault}
+use Rattle.message_view.specs.declared.ViewFault.{ViewFault}
 use Rattle.message_view.specs.Bodies.{text, HasNoZero}
 use Rattle.message_view.specs.Messages.{command_complete, parameter_status, ready_for_query}
 use Rattle.message_view.specs.Reading.{status_of}

@@ -1,8 +1,8 @@
 -- The run-time parameters of the stand-in server (PostgreSQL manual, "Server Configuration"; which
 -- values are accepted, and how they are kept, is this project's own profile).
-use Rattle.std.specs.Prelude.{ℕ, zero, suc, ◌+◌, ◌-◌, List, [], ◌∷◌, ◌++◌, length, filter, find, option_map, Option, Some, None, Bool, true, false, nat_le, ◌==◌, ◌&&◌, ◌||◌, if◌then◌else◌, codes, slice_index_or, slice_set}
+use Rattle.std.specs.Prelude.{ℕ, zero, suc, ◌+◌, ◌-◌, ◌*◌, List, [], ◌∷◌, ◌++◌, length, filter, find, option_map, Option, Some, None, Bool, true, false, nat_le, ◌==◌, ◌&&◌, ◌||◌, if◌then◌else◌, codes, slice_index_or, slice_set}
 use Rattle.std.specs.List.{list_all}
-use Rattle.mini_sql.specs.Words.{Text, folded, same_text, same_word, is_digit, is_letter, digits_value}
+use Rattle.mini_sql.specs.Words.{Text, folded, same_text, same_word, is_digit, is_letter}
 use Rattle.session_machine.specs.declared.parameter.Parameter.{Parameter}
 use Rattle.session_machine.specs.declared.parameter.Parameter.TheVariants.{ApplicationName, ClientEncoding, DateStyle, IntegerDatetimes, IntervalStyle, ServerEncoding, ServerVersion, StandardConformingStrings, TimeZone, ExtraFloatDigits, SearchPath, StatementTimeout}
 
@@ -134,6 +134,14 @@ is_zone t = nat_le 1 (length t) && nat_le (length t) 63 && list_all is_in_zone t
 
 abbrev pub when : Bool → Text → Option Text
 when b t = if b then Some t else None
+
+-- the number that decimal digits stand for, after a number that was read before them
+abbrev pub digits_value_from : ℕ → Text → ℕ
+digits_value_from n [] = n
+digits_value_from n (d ∷ ds) = digits_value_from (10 * n + (d - 48)) ds
+
+abbrev pub digits_value : Text → ℕ
+digits_value ds = digits_value_from 0 ds
 
 abbrev pub are_digits : Text → Bool
 are_digits ds = nat_le 1 (length ds) && list_all is_digit ds

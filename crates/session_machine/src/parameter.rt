@@ -1,6 +1,6 @@
 ghost use Rattle.std.specs.Prelude.{◌≡◌, true, nat_le, IfOk, filter, map, option_map};
-ghost use Rattle.session_machine.specs.Parameters.{accepted_of, are_digits, date_styles, encodings, interval_styles, switches, when, is_in_zone, is_letter_or_digit, is_whole, is_zone, kept_for};
-ghost use Rattle.mini_sql.specs.Words.{digits_value, folded, is_digit};
+ghost use Rattle.session_machine.specs.Parameters.{accepted_of, digits_value, are_digits, date_styles, encodings, interval_styles, switches, when, is_in_zone, is_letter_or_digit, is_whole, is_zone, kept_for};
+ghost use Rattle.mini_sql.specs.Words.{folded, is_digit};
 ghost use Rattle.std.specs.List.{list_all};
 ghost use Rattle.std.specs.Option.{option_copied};
 ghost use Rattle.mini_sql.specs.Words.{same_word};
@@ -50,7 +50,7 @@ fn is_same_word(a: &[u8], b: &[u8]) -> bool
 }
 
 impl Parameter {
-    ghost use Rattle.session_machine.specs.Parameters.{accepted_of, is_called, is_fixed, name, parameter_named, place};
+    ghost use Rattle.session_machine.specs.Parameters.{accepted_of, digits_value, is_called, is_fixed, name, parameter_named, place};
 
     /// The parameter of a name, without regard to ASCII case.
     pub fn named(wanted: &[u8]) -> Option<Parameter>

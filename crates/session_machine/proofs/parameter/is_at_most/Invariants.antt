@@ -1,6 +1,7 @@
 use Rattle.std.proofs.Common.{◌≡◌, ◌≤◌, drop, true}
 use Rattle.std.specs.List.{list_all}
-use Rattle.mini_sql.specs.Words.{digits_value, digits_value_from, is_digit}
+use Rattle.mini_sql.specs.Words.{is_digit}
+use Rattle.session_machine.specs.Parameters.{digits_value, digits_value_from}
 use Rattle.session_machine.proofs.parameter.is_at_most.Given as goal
 
 abbrev pub invariant-loop-digit : goal.invariant-loop-digit

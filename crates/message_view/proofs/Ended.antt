@@ -1,0 +1,72 @@
+-- Lists that an item of their own ends.
+use Rattle.std.proofs.Common.{◌≡◌, ◌<◌, ℕ, zero, suc, List, [], ◌∷◌, length, Option, Some, None, Ok, Err, refl, ap, sym, ◌∙◌, true, arith}
+use Rattle.std.specs.Prelude.{is_ok}
+use Rattle.message_view.specs.declared.ViewFault.{ViewFault}
+use Rattle.message_view.specs.Reading.{Part, ◌>>=◌, rest_of, items_of, and_more, list_until, ended_at}
+
+module _ {A : Type 0} (item : List ℕ → Part (Option A)) (shrinks : (bytes rest : List ℕ) (x : Option A) → item bytes ≡ Ok (x, rest) → length rest < length bytes) where
+  same-more : (n m : ℕ) (bytes : List ℕ) (x : Part (Option A)) → item bytes ≡ x → ((rest : List ℕ) → length rest < length bytes → list_until item n rest ≡ list_until item m rest)
+      → (x >>= λ y. and_more y.0 y.1 (list_until item n)) ≡ (x >>= λ y. and_more y.0 y.1 (list_until item m))
+  same-more n m bytes (Err f) is same = refl
+  same-more n m bytes (Ok (None, rest)) is same = refl
+  same-more n m bytes (Ok (Some x, rest)) is same = ap (λ (p : Part (List A)). p >>= λ others. Ok (x ∷ others.0, others.1)) (same rest (shrinks bytes rest (Some x) is))
+
+  -- any number that is not too small does
+  enough : (n m : ℕ) (bytes : List ℕ) → length bytes < n → length bytes < m → list_until item n bytes ≡ list_until item m bytes
+  unfolding list_until
+  enough zero m bytes low high = absurd (omega arith)
+  enough (suc n) zero bytes low high = absurd (omega arith)
+  enough (suc n) (suc m) bytes low high = same-more n m bytes (item bytes) refl (λ rest h. enough n m rest (omega arith) (omega arith))
+
+  unrolled : (bytes : List ℕ) (x : Part (Option A)) → item bytes ≡ x → (x >>= λ y. and_more y.0 y.1 (list_until item (length bytes))) ≡ (x >>= λ y. and_more y.0 y.1 (ended_at item))
+  unfolding ended_at
+  unrolled bytes (Err f) is = refl
+  unrolled bytes (Ok (None, rest)) is = refl
+  unrolled bytes (Ok (Some x, rest)) is =
+      ap (λ (p : Part (List A)). p >>= λ others. Ok (x ∷ others.0, others.1)) (enough (length bytes) (suc (length rest)) rest (shrinks bytes rest (Some x) is) (omega arith))
+
+  pub ended : (bytes : List ℕ) → ended_at item bytes ≡ (item bytes >>= λ x. and_more x.0 x.1 (ended_at item))
+  unfolding ended_at list_until
+  ended bytes = unrolled bytes (item bytes) refl
+
+  pub ended_none : (bytes rest : List ℕ) → item bytes ≡ Ok (None, rest) → ended_at item bytes ≡ Ok ([], rest)
+  ended_none bytes rest is = ended bytes ∙ rw is refl
+
+  pub ended_fault : (bytes : List ℕ) (f : ViewFault) → item bytes ≡ Err f → ended_at item bytes ≡ Err f
+  ended_fault bytes f is = ended bytes ∙ rw is refl
+
+  ended-more : (bytes rest : List ℕ) (x : A) → item bytes ≡ Ok (Some x, rest) → ended_at item bytes ≡ (ended_at item rest >>= λ others. Ok (x ∷ others.0, others.1))
+  ended-more bytes rest x is = ended bytes ∙ rw is refl
+
+  rest-more : (x : A) (others : Part (List A)) → rest_of (others >>= λ o. Ok (x ∷ o.0, o.1)) ≡ rest_of others
+  rest-more x (Ok o) = refl
+  rest-more x (Err e) = refl
+
+  pub ended_rest : (bytes rest : List ℕ) (x : A) → item bytes ≡ Ok (Some x, rest) → rest_of (ended_at item bytes) ≡ rest_of (ended_at item rest)
+  ended_rest bytes rest x is = ap rest_of (ended-more bytes rest x is) ∙ rest-more x (ended_at item rest)
+
+  more-items : (x : A) (others : Part (List A)) → is_ok {T = List A × List ℕ} (others >>= λ o. Ok (x ∷ o.0, o.1)) ≡ true
+      → (items_of {A = A} (others >>= λ o. Ok (x ∷ o.0, o.1)) ≡ x ∷ items_of others) × (is_ok others ≡ true)
+  more-items x (Ok o) ok = (refl, refl)
+  more-items x (Err e) ok = absurd (cc)
+
+  pub ended_items : (bytes rest : List ℕ) (x : A) → item bytes ≡ Ok (Some x, rest) → is_ok (ended_at item bytes) ≡ true
+      → (items_of (ended_at item bytes) ≡ x ∷ items_of (ended_at item rest)) × (is_ok (ended_at item rest) ≡ true)
+  ended_items bytes rest x is ok =
+      let whole = ended-more bytes rest x is in
+      let parts = more-items x (ended_at item rest) (sym (ap is_ok whole) ∙ ok) in
+      (ap items_of whole ∙ parts.0, parts.1)
+
+found : {A : Type 0} (part : Part (List A)) (rest : List ℕ) → rest_of part ≡ Ok rest → part ≡ Ok (items_of part, rest)
+found (Ok x) rest e = ap (λ r. Ok (x.0, r)) (cc)
+found (Err f) rest e = absurd (cc)
+
+fault : {A : Type 0} (part : Part (List A)) (f : ViewFault) → rest_of part ≡ Err f → part ≡ Err f
+fault (Ok x) f e = absurd (cc)
+fault (Err g) f e = ap Err (cc)
+
+pub ended_found : {A : Type 0} (item : List ℕ → Part (Option A)) (bytes rest : List ℕ) → rest_of (ended_at item bytes) ≡ Ok rest → ended_at item bytes ≡ Ok (items_of (ended_at item bytes), rest)
+ended_found item bytes rest e = found (ended_at item bytes) rest e
+
+pub ended_broken : {A : Type 0} (item : List ℕ → Part (Option A)) (bytes : List ℕ) (f : ViewFault) → rest_of (ended_at item bytes) ≡ Err f → ended_at item bytes ≡ Err f
+ended_broken item bytes f e = fault (ended_at item bytes) f e

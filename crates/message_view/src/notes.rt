@@ -1,0 +1,92 @@
+//! The view of an ErrorResponse or a NoticeResponse.
+ghost use Rattle.std.specs.Prelude.{◌≡◌, ℕ, ◌+◌, ◌<◌, length, IfOk, IfSome, ⊤};
+ghost use Rattle.std.specs.Iterator.{MakesProgress, YieldsFirstBy, item_count};
+ghost use Rattle.frame_view.specs.Answers.{LiesAt};
+ghost use Rattle.message_view.specs.Left.{fields_left};
+ghost use Rattle.message_view.specs.Reading.{ended_at, field_at, rest_of, note_of};
+ghost use Rattle.message_view.specs.Views.{Gives, Shows, code_and_text_of};
+
+use crate::parts::take_field;
+use crate::{Fields, ViewFault};
+
+/// A server's ErrorResponse or NoticeResponse.
+#[derive(Clone, Copy, Drop)]
+pub struct NoteView<'a> {
+    pub fields: Fields<'a>,
+}
+
+impl<'a> Iterator for Fields<'a> {
+    ghost use Rattle.std.specs.Iterator.{YieldsFirstBy, item_count};
+    ghost use Rattle.message_view.specs.Left.{fields_left};
+    ghost use Rattle.message_view.specs.Views.{code_and_text_of};
+
+    type Item = (u8, &'a [u8]);
+
+    ghost next_gives = { YieldsFirstBy code_and_text_of fields_left };
+
+    ghost remaining = { item_count fields_left };
+
+    #[tactic(auto, using(crate::proofs::Fieldings::no_field, crate::proofs::Fieldings::no_more_fields, crate::proofs::Fieldings::field_is_first, crate::proofs::Fieldings::rest_is_fields))]
+    fn next(&mut self) -> Option<(u8, &'a [u8])>
+        ensures steps { YieldsFirstBy code_and_text_of fields_left self.old result self.new }
+        ensures goes { MakesProgress (λ _. ⊤) (item_count fields_left) self.old result self.new }
+        ensures text { IfSome result (λ f. LiesAt f.1 self.old.rest 1) }
+        ensures after { IfSome result (λ f. LiesAt self.new.rest self.old.rest (2 + length f.1.now)) }
+    {
+        match take_field(self.rest) {
+            Ok((Some(field), rest)) => {
+                *self = Fields { rest };
+                Some(field)
+            }
+            Ok((None, _)) => None,
+            Err(_) => None,
+        }
+    }
+}
+
+/// What follows the zero byte that ends the fields.
+#[tactic(auto, using(crate::proofs::Fieldings::fields_end, crate::proofs::Fieldings::fields_go_on, crate::proofs::Fieldings::fields_break, crate::proofs::Fieldings::field_shrinks))]
+fn skip_fields(bytes: &[u8]) -> Result<&[u8], ViewFault>
+    ensures { Shows (λ r. r.now) result (rest_of (ended_at field_at bytes.now)) }
+{
+    let mut rest = bytes;
+    loop {
+        match take_field(rest) {
+            Ok((Some(_), after)) => rest = after,
+            Ok((None, after)) => return Ok(after),
+            Err(fault) => return Err(fault),
+        }
+    }
+}
+
+#[tactic(auto, using(crate::proofs::Fieldings::fields_found, crate::proofs::Fieldings::fields_fault))]
+fn fields_at(bytes: &[u8]) -> Result<(Fields<'_>, &[u8]), ViewFault>
+    ensures part { Gives fields_left result (ended_at field_at bytes.now) }
+    ensures place { IfOk result (λ x. LiesAt x.0.rest bytes.entry 0) }
+{
+    let after = skip_fields(bytes)?;
+    Ok((Fields { rest: bytes }, after))
+}
+
+impl<'a> NoteView<'a> {
+    /// Reads the body of an ErrorResponse or a NoticeResponse: fields of a code (V1) and a text
+    /// (V2), a zero byte (V1), and no more (V3).
+    #[tactic(auto, unfolding(crate::specs::Reading::note_of))]
+    pub fn read(body: &'a [u8]) -> Result<NoteView<'a>, ViewFault>
+        ensures parts { Shows (λ v. fields_left v.fields) result (note_of body.now) }
+        ensures place { IfOk result (λ v. LiesAt v.fields.rest body.entry 0) }
+    {
+        let (fields, rest) = fields_at(body)?;
+        if !rest.is_empty() {
+            return Err(ViewFault::LeftOver);
+        }
+        Ok(NoteView { fields })
+    }
+
+    /// The fields, a code and its text, from the first on.
+    pub fn fields(&self) -> Fields<'a>
+        ensures { result ≡ self.now.fields }
+    {
+        self.fields
+    }
+}

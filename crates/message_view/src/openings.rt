@@ -1,0 +1,93 @@
+//! The view of a StartupMessage.
+ghost use Rattle.std.specs.Prelude.{◌≡◌, ℕ, ◌+◌, ◌<◌, length, IfOk, IfSome, ⊤};
+ghost use Rattle.std.specs.Iterator.{MakesProgress, YieldsFirstBy, item_count};
+ghost use Rattle.frame_view.specs.Answers.{LiesAt};
+ghost use Rattle.message_view.specs.Left.{pairs_left};
+ghost use Rattle.message_view.specs.Reading.{ended_at, pair_at, rest_of, startup_of};
+ghost use Rattle.message_view.specs.Views.{Gives, Shows, texts_of};
+
+use crate::parts::take_pair;
+use crate::{Pairs, ViewFault};
+
+/// A client's StartupMessage.
+#[derive(Clone, Copy, Drop)]
+pub struct StartupView<'a> {
+    pub pairs: Pairs<'a>,
+}
+
+impl<'a> Iterator for Pairs<'a> {
+    ghost use Rattle.std.specs.Iterator.{YieldsFirstBy, item_count};
+    ghost use Rattle.message_view.specs.Left.{pairs_left};
+    ghost use Rattle.message_view.specs.Views.{texts_of};
+
+    type Item = (&'a [u8], &'a [u8]);
+
+    ghost next_gives = { YieldsFirstBy texts_of pairs_left };
+
+    ghost remaining = { item_count pairs_left };
+
+    #[tactic(auto, using(crate::proofs::Pairings::no_pair, crate::proofs::Pairings::no_more_pairs, crate::proofs::Pairings::pair_is_first, crate::proofs::Pairings::rest_is_pairs))]
+    fn next(&mut self) -> Option<(&'a [u8], &'a [u8])>
+        ensures steps { YieldsFirstBy texts_of pairs_left self.old result self.new }
+        ensures goes { MakesProgress (λ _. ⊤) (item_count pairs_left) self.old result self.new }
+        ensures name { IfSome result (λ p. LiesAt p.0 self.old.rest 0) }
+        ensures value { IfSome result (λ p. LiesAt p.1 self.old.rest (1 + length p.0.now)) }
+        ensures after { IfSome result (λ p. LiesAt self.new.rest self.old.rest (2 + length p.0.now + length p.1.now)) }
+    {
+        match take_pair(self.rest) {
+            Ok((Some(pair), rest)) => {
+                *self = Pairs { rest };
+                Some(pair)
+            }
+            Ok((None, _)) => None,
+            Err(_) => None,
+        }
+    }
+}
+
+/// What follows the zero byte that ends the pairs.
+#[tactic(auto, using(crate::proofs::Pairings::pairs_end, crate::proofs::Pairings::pairs_go_on, crate::proofs::Pairings::pairs_break, crate::proofs::Pairings::pair_shrinks))]
+fn skip_pairs(bytes: &[u8]) -> Result<&[u8], ViewFault>
+    ensures { Shows (λ r. r.now) result (rest_of (ended_at pair_at bytes.now)) }
+{
+    let mut rest = bytes;
+    loop {
+        match take_pair(rest) {
+            Ok((Some(_), after)) => rest = after,
+            Ok((None, after)) => return Ok(after),
+            Err(fault) => return Err(fault),
+        }
+    }
+}
+
+#[tactic(auto, using(crate::proofs::Pairings::pairs_found, crate::proofs::Pairings::pairs_fault))]
+fn pairs_at(bytes: &[u8]) -> Result<(Pairs<'_>, &[u8]), ViewFault>
+    ensures part { Gives pairs_left result (ended_at pair_at bytes.now) }
+    ensures place { IfOk result (λ x. LiesAt x.0.rest bytes.entry 0) }
+{
+    let after = skip_pairs(bytes)?;
+    Ok((Pairs { rest: bytes }, after))
+}
+
+impl<'a> StartupView<'a> {
+    /// Reads what follows the code of a StartupMessage: pairs of texts (V2), a zero byte (V2), and
+    /// no more (V3).
+    #[tactic(auto, unfolding(crate::specs::Reading::startup_of))]
+    pub fn read(body: &'a [u8]) -> Result<StartupView<'a>, ViewFault>
+        ensures parts { Shows (λ v. pairs_left v.pairs) result (startup_of body.now) }
+        ensures place { IfOk result (λ v. LiesAt v.pairs.rest body.entry 0) }
+    {
+        let (pairs, rest) = pairs_at(body)?;
+        if !rest.is_empty() {
+            return Err(ViewFault::LeftOver);
+        }
+        Ok(StartupView { pairs })
+    }
+
+    /// The pairs of a parameter's name and its value, from the first on.
+    pub fn pairs(&self) -> Pairs<'a>
+        ensures { result ≡ self.now.pairs }
+    {
+        self.pairs
+    }
+}

@@ -1,0 +1,63 @@
+//! The writer of a client's first packet.
+ghost use Rattle.std.specs.Prelude.{◌≡◌, ℕ, ◌+◌, ◌-◌, ◌^◌, ◌<◌, ◌≤◌, ◌++◌, ◌∷◌, [], length, map, min, OnOk, OnErr, IsOk};
+ghost use Rattle.std.specs.List.{flat_map};
+ghost use Rattle.message_view.specs.Bodies.{pair as spelled_pair};
+ghost use Rattle.message_view.specs.Messages.{startup_message};
+ghost use Rattle.message_view.specs.Parts.{pairs_of};
+
+use crate::kinds::PROTOCOL_3_0;
+use bytes::BytesMut;
+use std::alloc::AllocError;
+
+/// The bytes of a StartupMessage beside its pairs: length, code, and the zero byte at its end.
+const SIZE_OF_FRAME: usize = 9;
+
+const GREATEST_LENGTH: usize = 2_147_483_647;
+
+fn pairs_length(pairs: &[(&[u8], &[u8])]) -> usize
+    ensures { result ≡ min (length (flat_map spelled_pair (pairs_of pairs.now))) (2 ^ 64 - 1) }
+{
+    let mut size: usize = 0;
+    for (name, value) in pairs {
+        size = size
+            .saturating_add(name.len())
+            .saturating_add(value.len())
+            .saturating_add(2);
+    }
+    size
+}
+
+fn put_pair(out: &mut BytesMut, name: &[u8], value: &[u8])
+    requires { length (spelled_pair (name.now, value.now)) ≤ out.old.spare }
+    ensures items { out.new.items ≡ out.old.items ++ spelled_pair (name.now, value.now) }
+    ensures spare { out.new.spare + length (spelled_pair (name.now, value.now)) ≡ out.old.spare }
+{
+    out.extend_reserved(name);
+    out.extend_reserved(b"\0");
+    out.extend_reserved(value);
+    out.extend_reserved(b"\0");
+}
+
+/// StartupMessage of protocol 3.0, with these pairs of a parameter's name and its value.
+///
+/// `AllocError` where a growth of `out` is refused, or the length field would be above
+/// 2,147,483,647; then `out` is unchanged.
+pub fn put_startup_message(out: &mut BytesMut, pairs: &[(&[u8], &[u8])]) -> Result<(), AllocError>
+    ensures ok { OnOk result (out.new.items ≡ out.old.items ++ startup_message (pairs_of pairs.now)) }
+    ensures err { OnErr result (out.new.items ≡ out.old.items) }
+    ensures room { length (startup_message (pairs_of pairs.now)) ≤ out.old.spare → length (startup_message (pairs_of pairs.now)) ≤ 2147483647 → IsOk result }
+{
+    let size = pairs_length(pairs);
+    if size > GREATEST_LENGTH - SIZE_OF_FRAME {
+        return Err(AllocError);
+    }
+    let length = size + SIZE_OF_FRAME;
+    out.reserve(length)?;
+    out.extend_reserved(&(length as u32).to_be_bytes());
+    out.extend_reserved(&PROTOCOL_3_0.to_be_bytes());
+    for (name, value) in pairs {
+        put_pair(out, name, value);
+    }
+    out.extend_reserved(b"\0");
+    Ok(())
+}

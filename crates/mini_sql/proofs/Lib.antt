@@ -1,0 +1,4 @@
+mod Examples
+pub mod Lexing
+pub mod Quotes
+pub mod Reading

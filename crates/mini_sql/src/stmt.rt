@@ -1,0 +1,72 @@
+use crate::lists::{Columns, Operands};
+use crate::literal::Literal;
+
+/// What a parameter is set to.
+#[derive(Clone, Copy, Drop)]
+pub enum Setting<'a> {
+    /// DEFAULT.
+    Default,
+    Literal(Literal<'a>),
+    /// A name, as it stands in the text; it stands for itself in lower case.
+    Word(&'a [u8]),
+    /// Whole digits, with a minus before them or none.
+    Digits(&'a [u8]),
+}
+
+/// A value of INSERT or WHERE.
+#[derive(Clone, Copy, Drop)]
+pub enum Operand<'a> {
+    Literal(Literal<'a>),
+    /// `$1` to `$99`.
+    Parameter(u8),
+    Null,
+}
+
+/// `WHERE column = value`.
+#[derive(Clone, Copy, Drop)]
+pub struct Filter<'a> {
+    /// As it stands in the text, in any case.
+    pub column: &'a [u8],
+    pub value: Operand<'a>,
+}
+
+/// A statement, by slices of its text: names as they stand there, in any case.
+#[derive(Clone, Copy, Drop)]
+pub enum Stmt<'a> {
+    /// No token, or a semicolon alone.
+    Empty,
+    Begin,
+    Commit,
+    Rollback,
+    Set {
+        name: &'a [u8],
+        to: Setting<'a>,
+    },
+    Reset {
+        name: &'a [u8],
+    },
+    ResetAll,
+    Show {
+        name: &'a [u8],
+    },
+    DiscardAll,
+    /// A temporary table of 1 to 64 columns.
+    Create {
+        table: &'a [u8],
+        columns: Columns<'a>,
+    },
+    Drop {
+        table: &'a [u8],
+    },
+    /// One row of one or more values.
+    Insert {
+        table: &'a [u8],
+        operands: Operands<'a>,
+    },
+    /// 1 to 64 columns, or an empty list for all of them.
+    Select {
+        columns: Columns<'a>,
+        table: &'a [u8],
+        filter: Option<Filter<'a>>,
+    },
+}
