@@ -5,6 +5,7 @@ pub mod Named
 pub mod State
 pub mod Portals
 pub mod Lookups
+pub mod Found
 pub mod Runs
 pub mod Extended
 pub mod Step

@@ -2,7 +2,9 @@
 #![tactic(auto)]
 
 mod block;
+mod catalogue;
 mod cause;
+mod lookup;
 mod naming;
 mod parameter;
 mod portal;
@@ -14,6 +16,7 @@ mod values;
 mod work;
 
 pub use block::Block;
+pub use catalogue::Catalogue;
 pub use cause::Cause;
 pub use parameter::Parameter;
 pub use session::Session;
