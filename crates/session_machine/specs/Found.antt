@@ -1,6 +1,10 @@
--- What the code finds, in the definitions' words.
-use Rattle.std.specs.Prelude.{Option, option_map, Result, Ok, Err}
-use Rattle.session_machine.specs.Lookups.{Columns}
+-- What the code's look-ups find, in the definitions' words.
+use Rattle.std.specs.Prelude.{Result, Ok, Err}
+use Rattle.std.specs.Borrow.{Bor}
+use Rattle.session_machine.specs.declared.cause.Cause.{Cause}
+use Rattle.session_machine.specs.State.{TableOf}
 
-abbrev pub found_columns : Columns → Columns
-found_columns c = c
+-- a table that is found, or why none is
+abbrev pub found_table : Result (Bor TableOf) Cause → Result TableOf Cause
+found_table (Ok t) = Ok t.now
+found_table (Err c) = Err c

@@ -5,6 +5,7 @@ mod block;
 mod catalogue;
 mod cause;
 mod lookup;
+mod names;
 mod naming;
 mod parameter;
 mod portal;
