@@ -2,6 +2,7 @@
 #![tactic(auto)]
 
 mod block;
+mod blocks;
 mod catalogue;
 mod cause;
 mod lookup;
@@ -11,6 +12,7 @@ mod parameter;
 mod portal;
 mod row;
 mod session;
+mod settings;
 mod table;
 mod text;
 mod values;
