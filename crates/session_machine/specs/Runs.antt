@@ -1,5 +1,5 @@
 -- Running a statement whose look-ups are done.
-use Rattle.std.specs.Prelude.{ℕ, zero, suc, ◌+◌, ◌-◌, List, [], ◌∷◌, ◌++◌, length, map, filter, Option, Some, None, Result, Ok, Err, Bool, true, false, nat_le, ◌&&◌, not, if◌then◌else◌, codes}
+use Rattle.std.specs.Prelude.{ℕ, zero, suc, ◌+◌, ◌-◌, List, [], ◌∷◌, ◌++◌, length, map, filter, slice_get, Option, Some, None, Result, Ok, Err, Bool, true, false, nat_le, ◌&&◌, not, if◌then◌else◌, codes}
 use Rattle.std.specs.Fmt.{decimal}
 use Rattle.frame_view.specs.Frames.{FrameOf}
 use Rattle.message_view.specs.Messages.{command_complete, empty_query_response}
@@ -80,11 +80,13 @@ create_run s t cs None = if are_distinct cs then ran (with_table s t cs) [] (cod
 abbrev pub drop_run : State → Text → Result Ran Cause
 drop_run s t = ran (record s { tables = without table_name s.tables t }) [] (codes "DROP TABLE")
 
+abbrev pub or_null : Option (Option Text) → Option Text
+or_null None = None
+or_null (Some v) = v
+
 -- the value at a place of a row, null past its end
 abbrev pub cell_at : Row → ℕ → Option Text
-cell_at [] n = None
-cell_at (v ∷ vs) zero = v
-cell_at (v ∷ vs) (suc n) = cell_at vs n
+cell_at r n = or_null (slice_get r n)
 
 -- the value of an operand, with the values that a portal was given
 abbrev pub operand_value : Row → Operand → Option Text

@@ -5,6 +5,7 @@ mod block;
 mod blocks;
 mod catalogue;
 mod cause;
+mod changes;
 mod lookup;
 mod names;
 mod naming;

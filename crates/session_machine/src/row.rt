@@ -1,26 +1,29 @@
-ghost use Rattle.std.specs.Prelude.{◌≡◌, IfOk};
+ghost use Rattle.std.specs.Prelude.{◌≡◌, ◌<◌, ◌^◌, length, IfOk};
 
 use crate::text::Text;
 use std::alloc::AllocError;
 use std::marker::Model;
 
 /// Values, of which some may be null. Contracts see a list.
-#[derive(Clone, Drop)]
+#[derive(Drop)]
 pub struct Row {
     values: Vec<Option<Text>>,
 }
 
 impl Model for Row {
-    ghost use Rattle.std.specs.Prelude.{List, Option, ℕ};
+    ghost use Rattle.std.specs.Prelude.{◌<◌, ◌^◌, List, Option, ℕ, length};
 
     ghost Value = { List (Option (List ℕ)) };
 
     ghost view = { λ r. r.values.items };
+
+    ghost invariant = { λ r. length r.values.items < 2 ^ 16 };
 }
 
 impl Row {
-    /// The row of these values.
+    /// The row of these values, of which there are fewer than 65,536.
     pub fn from_vec(values: Vec<Option<Text>>) -> Row
+        requires { length values.items < 2 ^ 16 }
         ensures { result ≡ values.items }
     {
         Row { values }
@@ -28,7 +31,8 @@ impl Row {
 
     /// The values.
     pub fn as_slice(&self) -> &[Option<Text>]
-        ensures { result.now ≡ self.now }
+        ensures values { result.now ≡ self.now }
+        ensures width { length self.now < 2 ^ 16 }
     {
         self.values.as_slice()
     }
@@ -37,6 +41,8 @@ impl Row {
     pub fn copied(&self) -> Result<Row, AllocError>
         ensures { IfOk result (λ r. r ≡ self.now) }
     {
-        self.clone()
+        Ok(Row {
+            values: self.values.clone()?,
+        })
     }
 }

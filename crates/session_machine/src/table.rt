@@ -1,4 +1,4 @@
-ghost use Rattle.std.specs.Prelude.{◌≡◌, IfOk, [], ◌∷◌, ◌++◌};
+ghost use Rattle.std.specs.Prelude.{◌≡◌, ◌≤◌, length, IfOk, [], ◌∷◌, ◌++◌};
 
 use crate::naming::HasName;
 use crate::row::Row;
@@ -16,11 +16,14 @@ pub struct Table {
 }
 
 impl Model for Table {
+    ghost use Rattle.std.specs.Prelude.{◌≤◌, length};
     ghost use Rattle.session_machine.specs.State.{TableOf};
 
     ghost Value = { TableOf };
 
     ghost view = { λ t. record { name = t.name; columns = t.columns; rows = t.rows } };
+
+    ghost invariant = { λ t. length t.columns ≤ 64 };
 }
 
 impl HasName for Table {
@@ -36,8 +39,9 @@ impl HasName for Table {
 impl Table {
     ghost use Rattle.session_machine.specs.State.{TableOf};
 
-    /// A table without rows.
+    /// A table without rows, of at most 64 columns.
     pub fn new(alloc: Global, name: Text, columns: Shared<Text>) -> Result<Table, AllocError>
+        requires { length columns ≤ 64 }
         ensures { IfOk result (λ t. t ≡ record { name = name; columns = columns; rows = [] }) }
     {
         Ok(Table {
@@ -49,7 +53,8 @@ impl Table {
 
     /// The names of its columns.
     pub fn columns(&self) -> &Shared<Text>
-        ensures { result.now ≡ self.now.columns }
+        ensures columns { result.now ≡ self.now.columns }
+        ensures width { length result.now ≤ 64 }
     {
         &self.columns
     }

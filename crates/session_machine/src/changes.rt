@@ -1,0 +1,127 @@
+//! CREATE TEMP TABLE, DROP TABLE and INSERT (PostgreSQL manual, "SQL Commands").
+ghost use Rattle.std.specs.Prelude.{◌≡◌, ◌++◌, ◌≤◌, ◌<◌, ◌^◌, length, map, OnOk, IfOk, Ok, codes};
+ghost use Rattle.std.specs.Arc.{arc_value};
+ghost use Rattle.mini_sql.specs.Meanings.{columns_left, operand_value as meant, operands_left};
+ghost use Rattle.mini_sql.specs.Words.{folded};
+ghost use Rattle.session_machine.specs.Answers.{RunGives};
+ghost use Rattle.session_machine.specs.Named.{named};
+ghost use Rattle.session_machine.specs.Runs.{all_fit, are_distinct, cell_at, create_run, drop_run, fits, insert_run, operand_value, padded};
+ghost use Rattle.session_machine.specs.State.{has_text, table_name};
+
+use crate::cause::Cause;
+use crate::names::Names;
+use crate::naming::{find_named, with_named, without_named};
+use crate::row::Row;
+use crate::session::Session;
+use crate::settings::literal_text;
+use crate::table::Table;
+use crate::text::Text;
+use bytes::BytesMut;
+use message_view::put_command_complete;
+use mini_sql::{Columns, Operand, Operands};
+use std::alloc::{AllocError, Global};
+use std::sync::Arc;
+
+/// The greatest length of a value in a row, in bytes.
+const LONGEST_VALUE: usize = 1_048_576;
+
+/// The value at a place of a row, null past its end.
+pub(crate) fn cell_at(row: &[Option<Text>], place: usize) -> Result<Option<Text>, AllocError>
+    ensures { IfOk result (λ v. v ≡ cell_at row.now place) }
+{
+    match row.get(place) {
+        Some(Some(text)) => Ok(Some(text.copied()?)),
+        Some(None) => Ok(None),
+        None => Ok(None),
+    }
+}
+
+/// The value of an operand, with the values that a portal was given.
+pub(crate) fn operand_text(
+    alloc: Global,
+    given: &[Option<Text>],
+    operand: &Operand<'_>,
+) -> Result<Option<Text>, AllocError>
+    ensures { IfOk result (λ v. v ≡ operand_value given.now (meant operand.now)) }
+{
+    match operand {
+        Operand::Literal(literal) => Ok(Some(literal_text(alloc, literal)?)),
+        Operand::Parameter(number) => cell_at(given, (*number as usize).saturating_sub(1)),
+        Operand::Null => Ok(None),
+    }
+}
+
+fn operand_texts(
+    alloc: Global,
+    given: &[Option<Text>],
+    operands: Operands<'_>,
+) -> Result<Vec<Option<Text>>, AllocError>
+    ensures { IfOk result (λ v. v.items ≡ map (operand_value given.now) (operands_left operands.entry)) }
+{
+    let mut values = Vec::new(alloc);
+    for operand in operands {
+        values.push(operand_text(alloc, given, &operand)?)?;
+    }
+    Ok(values)
+}
+
+fn fits(value: &Option<Text>) -> bool
+    ensures { result ≡ fits value.now }
+{
+    match value {
+        None => true,
+        Some(text) => text.as_slice().len() <= LONGEST_VALUE,
+    }
+}
+
+fn all_fit(values: &[Option<Text>]) -> bool
+    ensures { result ≡ all_fit values.now }
+{
+    for value in values {
+        if !fits(value) {
+            return false;
+        }
+    }
+    true
+}
+
+/// As many values as there are columns, the missing ones null.
+#[tactic(auto, using(crate::proofs::Padding::padded_step))]
+fn padded(
+    alloc: Global,
+    columns: &[Arc<Text>],
+    values: &[Option<Text>],
+) -> Result<Vec<Option<Text>>, AllocError>
+    ensures row { IfOk result (λ v. v.items ≡ padded (map arc_value columns.now) values.now) }
+    ensures width { IfOk result (λ v. length v.items ≡ length columns.now) }
+{
+    let mut row = Vec::with_capacity(alloc, columns.len())?;
+    for place in 0..columns.len() {
+        row.push(cell_at(values, place)?)?;
+    }
+    Ok(row)
+}
+
+fn are_distinct(names: &[Text]) -> bool
+    ensures { result ≡ are_distinct names.now }
+{
+    let mut rest = names;
+    while let [first, others @ ..] = rest {
+        if is_among(others, first.as_slice()) {
+            return false;
+        }
+        rest = others;
+    }
+    true
+}
+
+fn is_among(names: &[Text], name: &[u8]) -> bool
+    ensures { result ≡ has_text names.now name.now }
+{
+    for candidate in names {
+        if candidate.is(name) {
+            return true;
+        }
+    }
+    false
+}
