@@ -5,7 +5,7 @@ ghost use Rattle.mini_sql.specs.Meanings.{columns_left, operand_value as meant, 
 ghost use Rattle.mini_sql.specs.Words.{folded};
 ghost use Rattle.session_machine.specs.Answers.{RunGives};
 ghost use Rattle.session_machine.specs.Named.{named};
-ghost use Rattle.session_machine.specs.Runs.{all_fit, are_distinct, cell_at, create_run, drop_run, fits, insert_run, operand_value, padded};
+ghost use Rattle.session_machine.specs.Runs.{all_fit, are_distinct, cell_at, create_run, drop_run, fits, insert_into, insert_run, operand_value, padded};
 ghost use Rattle.session_machine.specs.State.{has_text, table_name};
 
 use crate::cause::Cause;
@@ -19,6 +19,7 @@ use crate::text::Text;
 use bytes::BytesMut;
 use message_view::put_command_complete;
 use mini_sql::{Columns, Operand, Operands};
+use shared_list::Shared;
 use std::alloc::{AllocError, Global};
 use std::sync::Arc;
 
@@ -124,4 +125,94 @@ fn is_among(names: &[Text], name: &[u8]) -> bool
         }
     }
     false
+}
+
+/// Names, each behind its own count.
+fn shared_names(alloc: Global, names: Names) -> Result<Shared<Text>, AllocError>
+    ensures { IfOk result (λ s. s ≡ names) }
+{
+    let mut list = Vec::with_capacity(alloc, names.as_slice().len())?;
+    for name in names.as_slice() {
+        list.push(Arc::new(alloc, name.copied()?)?)?;
+    }
+    Shared::from_shared(alloc, list)
+}
+
+impl Session {
+    /// CREATE TEMP TABLE.
+    pub(crate) fn create(
+        &mut self,
+        alloc: Global,
+        name: &[u8],
+        columns: Columns<'_>,
+        out: &mut BytesMut,
+    ) -> Result<Result<(), Cause>, AllocError>
+        requires { length (columns_left columns) ≤ 64 }
+        ensures { IfOk result (λ done. RunGives done self.old self.new out.old.items out.new.items (create_run self.old (folded name.now) (columns_left columns.entry) (named table_name self.old.tables (folded name.now)))) }
+    {
+        let name = Text::folded(alloc, name)?;
+        if find_named(&self.work.tables, name.as_slice()).is_some() {
+            return Ok(Err(Cause::TableExists));
+        }
+        let columns = Names::listed(alloc, columns)?;
+        if !are_distinct(columns.as_slice()) {
+            return Ok(Err(Cause::ColumnTwice));
+        }
+        let table = Table::new(alloc, name, shared_names(alloc, columns)?)?;
+        self.work.tables = self.work.tables.pushed(alloc, table)?;
+        put_command_complete(out, b"CREATE TABLE")?;
+        Ok(Ok(()))
+    }
+
+    /// DROP TABLE of a temporary table.
+    pub(crate) fn drop_table(
+        &mut self,
+        alloc: Global,
+        name: &[u8],
+        out: &mut BytesMut,
+    ) -> Result<(), AllocError>
+        ensures { OnOk result (RunGives (Ok tt) self.old self.new out.old.items out.new.items (drop_run self.old (folded name.now))) }
+    {
+        let name = Text::folded(alloc, name)?;
+        self.work.tables = without_named(alloc, &self.work.tables, name.as_slice())?;
+        put_command_complete(out, b"DROP TABLE")
+    }
+
+    fn insert_into(
+        &mut self,
+        alloc: Global,
+        name: &[u8],
+        values: &[Option<Text>],
+    ) -> Result<(), AllocError>
+        ensures { OnOk result (self.new ≡ insert_into self.old (named table_name self.old.tables name.now) values.now) }
+    {
+        let Some(table) = find_named(&self.work.tables, name) else {
+            return Ok(());
+        };
+        let row = padded(alloc, table.columns().as_slice(), values)?;
+        let table = table.with_row(alloc, Row::from_vec(row))?;
+        self.work.tables = with_named(alloc, &self.work.tables, table)?;
+        Ok(())
+    }
+
+    /// INSERT of one row into a temporary table.
+    pub(crate) fn insert(
+        &mut self,
+        alloc: Global,
+        given: &Row,
+        name: &[u8],
+        operands: Operands<'_>,
+        out: &mut BytesMut,
+    ) -> Result<Result<(), Cause>, AllocError>
+        ensures { IfOk result (λ done. RunGives done self.old self.new out.old.items out.new.items (insert_run self.old (folded name.now) (map (operand_value given.now) (operands_left operands.entry)))) }
+    {
+        let name = Text::folded(alloc, name)?;
+        let values = operand_texts(alloc, given.as_slice(), operands)?;
+        if !all_fit(&values) {
+            return Ok(Err(Cause::InvalidValue));
+        }
+        self.insert_into(alloc, name.as_slice(), &values)?;
+        put_command_complete(out, b"INSERT 0 1")?;
+        Ok(Ok(()))
+    }
 }
