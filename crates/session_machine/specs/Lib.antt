@@ -7,6 +7,7 @@ pub mod Portals
 pub mod Lookups
 pub mod Found
 pub mod Runs
+pub mod Picks
 pub mod Extended
 pub mod Step
 pub mod Service

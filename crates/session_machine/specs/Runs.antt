@@ -158,18 +158,31 @@ abbrev pub same_value : Option Text → Option Text → Bool
 same_value (Some a) (Some b) = same_text a b
 same_value _ _ = false
 
-abbrev pub meets : Row → List Text → Option Equals → Row → Bool
-meets given columns None r = true
-meets given columns (Some w) r = same_value (cell r (column_of columns w.column)) (operand_value given w.to)
+-- what WHERE asks of a row: a value, at the place of a column
+pub record ConditionOf : Type 0 where
+  pub place : Option ℕ
+  pub wanted : Option Text
 
-abbrev pub cell_named : List Text → Row → Text → Option Text
-cell_named columns r c = cell r (column_of columns c)
+abbrev pub condition_of : Row → List Text → Option Equals → Option ConditionOf
+condition_of given columns None = None
+condition_of given columns (Some w) = Some (record { place = column_of columns w.column; wanted = operand_value given w.to })
 
-abbrev pub picked : List Text → List Text → Row → Row
-picked columns cs r = map (cell_named columns r) (selected columns cs)
+abbrev pub meets : Option ConditionOf → Row → Bool
+meets None r = true
+meets (Some c) r = same_value (cell r c.place) c.wanted
+
+-- the places of the selected columns
+abbrev pub places_of : List Text → List Text → List (Option ℕ)
+places_of columns cs = map (column_of columns) (selected columns cs)
+
+abbrev pub picked : List (Option ℕ) → Row → Row
+picked places r = map (cell r) places
+
+abbrev pub picked_rows : Option ConditionOf → List (Option ℕ) → List Row → List Row
+picked_rows c places rows = map (picked places) (filter (meets c) rows)
 
 abbrev pub rows_from : Row → Option Equals → List Text → TableOf → List Row
-rows_from given w cs t = map (picked t.columns cs) (filter (meets given t.columns w) t.rows)
+rows_from given w cs t = picked_rows (condition_of given t.columns w) (places_of t.columns cs) t.rows
 
 abbrev pub shown_rows : Values → Option Parameter → List Row
 shown_rows vs None = []

@@ -12,6 +12,7 @@ mod naming;
 mod parameter;
 mod portal;
 mod row;
+mod rows;
 mod session;
 mod settings;
 mod table;
