@@ -130,9 +130,13 @@ commit_outside s Failed = s
 
 -- ---- reports and the end of an answer
 
--- one ParameterStatus for each of these parameters whose value isn't the last reported one
+-- a ParameterStatus, where the value isn't the last reported one
+abbrev pub report_of : Parameter → Text → Text → List FrameOf
+report_of p v r = if same_text v r then [] else (parameter_status (name p) v ∷ [])
+
+-- the reports of these parameters
 abbrev pub reports_from : List Parameter → List Text → List Text → List FrameOf
-reports_from (p ∷ ps) (v ∷ vs) (r ∷ rs) = if same_text v r then reports_from ps vs rs else (parameter_status (name p) v ∷ reports_from ps vs rs)
+reports_from (p ∷ ps) (v ∷ vs) (r ∷ rs) = report_of p v r ++ reports_from ps vs rs
 reports_from _ _ _ = []
 
 abbrev pub reports : State → List FrameOf

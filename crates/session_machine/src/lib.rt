@@ -11,6 +11,7 @@ mod names;
 mod naming;
 mod parameter;
 mod portal;
+mod ready;
 mod row;
 mod rows;
 mod session;
