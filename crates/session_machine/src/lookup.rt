@@ -1,4 +1,4 @@
-ghost use Rattle.std.specs.Prelude.{◌≡◌, ◌++◌, [], map, length, nat_le, IfOk, IfSome, option_map};
+ghost use Rattle.std.specs.Prelude.{◌≡◌, ◌++◌, [], ◌≤◌, map, length, nat_le, IfOk, IfSome, option_map};
 ghost use Rattle.std.specs.Option.{option_copied};
 ghost use Rattle.std.specs.Arc.{arc_value};
 ghost use Rattle.mini_sql.specs.Meanings.{columns_left, filter_of, meaning, operands_left};
@@ -7,6 +7,7 @@ ghost use Rattle.mini_sql.specs.Words.{folded};
 ghost use Rattle.session_machine.specs.Parameters.{parameter_named};
 ghost use Rattle.session_machine.specs.State.{has_text};
 ghost use Rattle.session_machine.specs.Found.{found_table};
+ghost use Rattle.session_machine.specs.Picks.{IsNarrow};
 ghost use Rattle.session_machine.specs.Lookups.{changeable, has_all, has_filter, look_up, look_up_select, readable, selected, shown, to_change};
 
 use crate::catalogue::Catalogue;
@@ -60,6 +61,7 @@ fn has_filter(
 
 /// `*` selects all columns.
 fn selected(alloc: Global, texts: &[Arc<Text>], wanted: Names) -> Result<Names, AllocError>
+    requires { length texts.now ≤ 64 }
     ensures { IfOk result (λ n. n ≡ selected (map arc_value texts.now) wanted) }
 {
     if wanted.as_slice().is_empty() {
@@ -75,6 +77,8 @@ fn look_up_select(
     columns: Columns<'_>,
     filter: &Option<Filter<'_>>,
 ) -> Result<Result<Option<Names>, Cause>, AllocError>
+    requires width { length texts.now ≤ 64 }
+    requires count { length (columns_left columns) ≤ 64 }
     ensures { IfOk result (λ r. r ≡ look_up_select (map arc_value texts.now) (columns_left columns.entry) (filter_of filter.now)) }
 {
     let wanted = Names::listed(alloc, columns)?;
@@ -118,6 +122,7 @@ impl Session {
         catalogue: &Catalogue,
         statement: &Stmt<'_>,
     ) -> Result<Result<Option<Names>, Cause>, AllocError>
+        requires { IsNarrow (meaning statement.now) }
         ensures { IfOk result (λ r. r ≡ look_up catalogue.now self.now (meaning statement.now)) }
     {
         match statement {
@@ -151,6 +156,7 @@ impl Session {
         columns: Columns<'_>,
         filter: &Option<Filter<'_>>,
     ) -> Result<Result<Option<Names>, Cause>, AllocError>
+        requires { length (columns_left columns) ≤ 64 }
         ensures { IfOk result (λ r. r ≡ look_up catalogue.now self.now (Select (columns_left columns.entry) (folded name.now) (filter_of filter.now))) }
     {
         let name = Text::folded(alloc, name)?;

@@ -1,4 +1,4 @@
-ghost use Rattle.std.specs.Prelude.{◌≡◌, ◌++◌, ◌∷◌, [], IfOk, map, take};
+ghost use Rattle.std.specs.Prelude.{◌≡◌, ◌≤◌, ◌++◌, ◌∷◌, [], length, IfOk, map, take};
 ghost use Rattle.std.specs.Arc.{arc_value};
 ghost use Rattle.mini_sql.specs.Meanings.{columns_left};
 
@@ -8,28 +8,23 @@ use std::alloc::{AllocError, Global};
 use std::marker::Model;
 use std::sync::Arc;
 
-/// The names of columns. Contracts see a list.
+/// The names of at most 64 columns. Contracts see a list.
 #[derive(Drop)]
 pub struct Names {
     list: Vec<Text>,
 }
 
 impl Model for Names {
-    ghost use Rattle.std.specs.Prelude.{List, ℕ};
+    ghost use Rattle.std.specs.Prelude.{◌≤◌, List, ℕ, length};
 
     ghost Value = { List (List ℕ) };
 
     ghost view = { λ n. n.list.items };
+
+    ghost invariant = { λ n. length n.list.items ≤ 64 };
 }
 
 impl Names {
-    /// These names.
-    pub fn from_vec(list: Vec<Text>) -> Names
-        ensures { result ≡ list.items }
-    {
-        Names { list }
-    }
-
     /// One name.
     pub fn one(alloc: Global, name: &[u8]) -> Result<Names, AllocError>
         ensures { IfOk result (λ n. n ≡ name.now ∷ []) }
@@ -41,6 +36,7 @@ impl Names {
 
     /// The names that a text lists, in lower case.
     pub fn listed(alloc: Global, columns: Columns<'_>) -> Result<Names, AllocError>
+        requires { length (columns_left columns) ≤ 64 }
         ensures { IfOk result (λ n. n ≡ columns_left columns.entry) }
     {
         let mut list = Vec::new(alloc);
@@ -52,6 +48,7 @@ impl Names {
 
     /// The same names.
     pub fn copied(alloc: Global, names: &[Arc<Text>]) -> Result<Names, AllocError>
+        requires { length names.now ≤ 64 }
         ensures { IfOk result (λ n. n ≡ map arc_value names.now) }
     {
         let mut list = Vec::with_capacity(alloc, names.len())?;
@@ -63,7 +60,8 @@ impl Names {
 
     /// The names in order.
     pub fn as_slice(&self) -> &[Text]
-        ensures { result.now ≡ self.now }
+        ensures names { result.now ≡ self.now }
+        ensures count { length self.now ≤ 64 }
     {
         self.list.as_slice()
     }
