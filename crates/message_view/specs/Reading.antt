@@ -124,21 +124,27 @@ password_of body = alone (text_at body)
 unfoldable pub query_of : List ℕ → Result Text ViewFault
 query_of body = alone (text_at body)
 
-unfoldable pub parse_of : List ℕ → Result Parse ViewFault
-parse_of body = do
+abbrev pub parse_at : List ℕ → Part Parse
+parse_at body = do
   name ← text_at body
   query ← text_at name.1
   oids ← counted_at int32_at query.1
-  at_end (record { name = name.0; query = query.0; oids = oids.0 }) oids.1
+  Ok (record { name = name.0; query = query.0; oids = oids.0 }, oids.1)
 
-unfoldable pub bind_of : List ℕ → Result Bind ViewFault
-bind_of body = do
+unfoldable pub parse_of : List ℕ → Result Parse ViewFault
+parse_of body = alone (parse_at body)
+
+abbrev pub bind_at : List ℕ → Part Bind
+bind_at body = do
   portal ← text_at body
   statement ← text_at portal.1
   formats ← counted_at int16_at statement.1
   given ← counted_at value_at formats.1
   results ← counted_at int16_at given.1
-  at_end (record { portal = portal.0; statement = statement.0; formats = formats.0; given = given.0; results = results.0 }) results.1
+  Ok (record { portal = portal.0; statement = statement.0; formats = formats.0; given = given.0; results = results.0 }, results.1)
+
+unfoldable pub bind_of : List ℕ → Result Bind ViewFault
+bind_of body = alone (bind_at body)
 
 -- the body of a Describe or a Close: S or P, and a name
 unfoldable pub target_of : List ℕ → Result Target ViewFault
@@ -147,27 +153,36 @@ target_of (b ∷ body) =
     if b == 83 then (alone (text_at body) >>= λ t. Ok (OfStatement t))
     else (if b == 80 then (alone (text_at body) >>= λ t. Ok (OfPortal t)) else Err TooShort)
 
-unfoldable pub execute_of : List ℕ → Result (Text × ℕ) ViewFault
-execute_of body = do
+abbrev pub execute_at : List ℕ → Part (Text × ℕ)
+execute_at body = do
   portal ← text_at body
   limit ← int32_at portal.1
-  at_end (portal.0, limit.0) limit.1
+  Ok ((portal.0, limit.0), limit.1)
+
+unfoldable pub execute_of : List ℕ → Result (Text × ℕ) ViewFault
+execute_of body = alone (execute_at body)
 
 -- the number of an authentication message, and the rest
 unfoldable pub authentication_of : List ℕ → Result (ℕ × List ℕ) ViewFault
 authentication_of body = int32_at body
 
-unfoldable pub key_of : List ℕ → Result (ℕ × ℕ) ViewFault
-key_of body = do
+abbrev pub key_at : List ℕ → Part (ℕ × ℕ)
+key_at body = do
   pid ← int32_at body
   secret ← int32_at pid.1
-  at_end (pid.0, secret.0) secret.1
+  Ok ((pid.0, secret.0), secret.1)
 
-unfoldable pub status_of : List ℕ → Result (Text × Text) ViewFault
-status_of body = do
+unfoldable pub key_of : List ℕ → Result (ℕ × ℕ) ViewFault
+key_of body = alone (key_at body)
+
+abbrev pub status_at : List ℕ → Part (Text × Text)
+status_at body = do
   name ← text_at body
   setting ← text_at name.1
-  at_end (name.0, setting.0) setting.1
+  Ok ((name.0, setting.0), setting.1)
+
+unfoldable pub status_of : List ℕ → Result (Text × Text) ViewFault
+status_of body = alone (status_at body)
 
 -- I, T and E
 abbrev pub status_named : ℕ → Result Status ViewFault

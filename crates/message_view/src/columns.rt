@@ -6,9 +6,10 @@ ghost use Rattle.message_view.specs.Bodies.{value as spelled_value, column as sp
 ghost use Rattle.message_view.specs.Messages.{message, data_row, parameter_description, row_description};
 ghost use Rattle.message_view.specs.Parts.{HasRoom, names_of, formats_of, row_of, shown_value, text_column_of};
 
-use crate::kinds::{DATA_ROW, PARAMETER_DESCRIPTION, ROW_DESCRIPTION, TEXT_TYPE};
+use crate::kinds::TEXT_TYPE;
 use crate::writing::{GREATEST_BODY, put_head};
 use bytes::BytesMut;
+use frame_view::server::{DATA_ROW, PARAMETER_DESCRIPTION, ROW_DESCRIPTION};
 use std::alloc::AllocError;
 
 /// A column of text: its name, and the format of its values (0 text, 1 binary).
@@ -108,9 +109,9 @@ fn put_column(out: &mut BytesMut, column: Column<'_>)
 
 fn put_columns(out: &mut BytesMut, columns: &[Column<'_>]) -> Result<(), AllocError>
     requires { length columns.now < 2 ^ 16 }
-    ensures ok { OnOk result (out.new.items ≡ out.old.items ++ spelling (message 84 (columns_body (map text_column_of columns.now)))) }
+    ensures ok { OnOk result (out.new.items ≡ out.old.items ++ spelling (message ROW_DESCRIPTION (columns_body (map text_column_of columns.now)))) }
     ensures err { OnErr result (out.new.items ≡ out.old.items) }
-    ensures room { HasRoom out.old.spare (message 84 (columns_body (map text_column_of columns.now))) → IsOk result }
+    ensures room { HasRoom out.old.spare (message ROW_DESCRIPTION (columns_body (map text_column_of columns.now))) → IsOk result }
 {
     let size = columns_length(columns);
     if size > GREATEST_BODY - SIZE_OF_COUNT {

@@ -81,7 +81,7 @@ impl<'a> BindView<'a> {
         ensures value { option_map shown_value result ≡ slice_get (values_left self.now.given) index }
         ensures place { IfSome result (λ v. LiesIfAny v self.now.given.rest (value_place (values_left self.now.given) index)) }
     {
-        self.given.value(index)
+        self.values().value(index)
     }
 
     /// The values from the first on.

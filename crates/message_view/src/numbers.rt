@@ -104,3 +104,23 @@ pub(crate) fn take_oids(bytes: &[u8]) -> Result<(Oids<'_>, &[u8]), ViewFault>
     let (left, rest) = take_u16(bytes)?;
     oids_at(rest, left)
 }
+
+impl Codes<'_> {
+    /// How many codes are left.
+    #[tactic(auto, using(crate::proofs::Counted::items_count))]
+    pub fn len(&self) -> usize
+        ensures { result ≡ length (codes_left self.now) }
+    {
+        usize::from(self.left)
+    }
+}
+
+impl Oids<'_> {
+    /// How many oids are left.
+    #[tactic(auto, using(crate::proofs::Counted::items_count))]
+    pub fn len(&self) -> usize
+        ensures { result ≡ length (oids_left self.now) }
+    {
+        self.left as usize
+    }
+}

@@ -36,7 +36,7 @@ impl<'a> DataRowView<'a> {
         ensures value { option_map shown_value result ≡ slice_get (values_left self.now.row) index }
         ensures place { IfSome result (λ v. LiesIfAny v self.now.row.rest (value_place (values_left self.now.row) index)) }
     {
-        self.row.value(index)
+        self.values().value(index)
     }
 
     /// The values from the first on.
@@ -155,5 +155,15 @@ impl<'a> RowDescView<'a> {
         ensures { result ≡ self.now.columns }
     {
         self.columns
+    }
+}
+
+impl Columns<'_> {
+    /// How many columns are left.
+    #[tactic(auto, using(crate::proofs::Counted::items_count))]
+    pub fn len(&self) -> usize
+        ensures { result ≡ length (columns_left self.now) }
+    {
+        self.left as usize
     }
 }

@@ -5,8 +5,8 @@ ghost use Rattle.message_view.specs.Bodies.{pair as spelled_pair};
 ghost use Rattle.message_view.specs.Messages.{startup_message};
 ghost use Rattle.message_view.specs.Parts.{pairs_of};
 
-use crate::kinds::PROTOCOL_3_0;
 use bytes::BytesMut;
+use frame_view::PROTOCOL_3_0;
 use std::alloc::AllocError;
 
 /// The bytes of a StartupMessage beside its pairs: length, code, and the zero byte at its end.

@@ -95,3 +95,13 @@ impl<'a> Values<'a> {
         left.next()
     }
 }
+
+impl Values<'_> {
+    /// How many values are left.
+    #[tactic(auto, using(crate::proofs::Counted::items_count))]
+    pub fn len(&self) -> usize
+        ensures { result ≡ length (values_left self.now) }
+    {
+        self.left as usize
+    }
+}

@@ -1,17 +1,16 @@
 -- Tokens, one after the other.
 use Rattle.std.proofs.Common.{◌≡◌, ℕ, zero, suc, ◌+◌, ◌-◌, ◌<◌, ◌≤◌, List, [], ◌∷◌, length, get_or, take, drop, Option, Some, None, refl, sym, ap, ◌∙◌, arith, Bool, true, false, length-take, length-drop}
 use Rattle.std.proofs.lemmas.List.{take_all}
-use Rattle.std.specs.Prelude.{take_while, nat_le, nat_lt, ◌||◌, ◌&&◌, ◌==◌, if◌then◌else◌}
-use Rattle.std.proofs.lemmas.Bool.{le-leb, lt-leb}
+use Rattle.std.specs.Prelude.{take_while, ◌==◌}
 use Rattle.std.proofs.lemmas.Bool.Decides.{nat_tests}
 use Rattle.std.proofs.lemmas.List.Sums.{prefix_len-le-length}
 use Rattle.std.proofs.lemmas.List.Folds.{length-prefix_len}
 use Rattle.mini_sql.specs.Lexing.{front}
-use Rattle.mini_sql.specs.Words.{Text, is_white, is_in_name, starts_name, is_letter, is_between, is_digit}
+use Rattle.mini_sql.specs.Words.{Text, is_white, is_digit}
 use Rattle.std.proofs.Math.Numerals.{add-one}
 use Rattle.std.specs.Prelude.{◌++◌, ◌≢◌, MatchBool}
-use Rattle.mini_sql.specs.Statements.{is_sign, less_semicolon, phrase, without_semicolon}
-use Rattle.mini_sql.specs.Tokens.{Token, Digits, Literal, semicolon, digits_token, further, literal_length, quote, unquoted, Name, tokens_after, tokens, after_token, token_at, token_then, name_token}
+use Rattle.mini_sql.specs.Statements.{is_sign, less_semicolon, phrase}
+use Rattle.mini_sql.specs.Tokens.{Token, Digits, Literal, semicolon, digits_token, literal_length, unquoted, tokens_after, tokens, after_token, token_at, token_then}
 
 pub tokens-white : (xs : Text) → 0 < length xs → is_white (get_or xs 0 0) ≡ true → tokens xs ≡ tokens (drop 1 xs)
 unfolding tokens_after

@@ -1,15 +1,15 @@
 -- Reading tokens one by one.
-use Rattle.std.proofs.Common.{◌≡◌, ℕ, ◌+◌, ◌<◌, ◌≤◌, List, [], ◌∷◌, length, Option, Some, None, Result, Ok, Err, refl, sym, ap, ◌∙◌, arith, Bool, true, false}
-use Rattle.std.specs.Prelude.{if◌then◌else◌, ◌||◌, option_map, IsErr, is_some, codes, MatchOption, MatchResult}
+use Rattle.std.proofs.Common.{◌≡◌, ℕ, ◌<◌, List, [], ◌∷◌, length, Option, Some, None, Result, Ok, Err, refl, sym, ap, ◌∙◌, arith, Bool, true, false}
+use Rattle.std.specs.Prelude.{if◌then◌else◌, ◌||◌, IsErr, is_some, codes, MatchResult}
 use Rattle.std.specs.Borrow.{Bor}
 use Rattle.std.specs.Iterator.{MakesProgress, item_count}
 use Rattle.std.proofs.Common.{subst}
 use Rattle.mini_sql.specs.declared.SqlFault.{SqlFault}
-use Rattle.mini_sql.specs.Words.{Text, folded}
-use Rattle.mini_sql.specs.Tokens.{Token, Name, Sign, after_token, comma}
-use Rattle.mini_sql.specs.Statements.{phrase, read, is_sign, is_word, items, definitions, columns_at, with_item, column_of, name_of}
-use Rattle.mini_sql.specs.Reading.{has_token, is_end, passed, taken, with_value, with_tokens, Follows, Takes}
-use Rattle.mini_sql.specs.Lists.{Listing, items_of, rest_of, more, IsItem, GoesOn, listing_from}
+use Rattle.mini_sql.specs.Words.{Text}
+use Rattle.mini_sql.specs.Tokens.{Token, Sign, after_token, comma}
+use Rattle.mini_sql.specs.Statements.{phrase, read, is_sign, is_word, items, definitions, columns_at, with_item, column_of}
+use Rattle.mini_sql.specs.Reading.{has_token, passed, taken, with_value, with_tokens, Follows, Takes}
+use Rattle.mini_sql.specs.Lists.{Listing, items_of, more, IsItem, GoesOn, listing_from}
 
 -- an answer that is a fault
 pub follows-err : (r : Result (Bor Text) SqlFault) (o : Option (List Token)) → IsErr r → o ≡ None → Follows r o

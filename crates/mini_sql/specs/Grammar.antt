@@ -1,7 +1,7 @@
 -- The grammar of statements, as derivations from their tokens. No word is reserved: where a keyword and a name both fit, as at DEFAULT, NULL and RESET ALL,
 -- it is the keyword.
 use Rattle.std.specs.Prelude.{◌≡◌, ℕ, ◌≤◌, List, [], ◌∷◌, ◌++◌, length, Option, Some, None, true, false, codes}
-use Rattle.mini_sql.specs.Words.{Text, folded}
+use Rattle.mini_sql.specs.Words.{Text}
 use Rattle.mini_sql.specs.Tokens.{Token, opening, closing, star, comma, equal}
 use Rattle.mini_sql.specs.Statements.{Operand, Statement, Empty, Begin, Commit, Rollback, Set, Reset, ResetAll, Show, DiscardAll, Create, Drop, Insert, Select, Equals, is_word, is_sign, name_of, column_of, setting_of, operand_of}
 

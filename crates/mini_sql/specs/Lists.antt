@@ -1,5 +1,5 @@
 -- Lists that stand in a text.
-use Rattle.std.specs.Prelude.{◌≡◌, ℕ, List, [], ◌∷◌, Option, Some, None, Bool, true, false, if◌then◌else◌, Result, MatchResult, MatchOption}
+use Rattle.std.specs.Prelude.{◌≡◌, List, [], ◌∷◌, Option, Some, None, Bool, if◌then◌else◌, Result, MatchResult, MatchOption}
 use Rattle.std.specs.Borrow.{Bor}
 use Rattle.mini_sql.specs.Words.{Text}
 use Rattle.mini_sql.specs.Tokens.{Token, Sign, after_token, comma}

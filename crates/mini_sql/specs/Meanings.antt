@@ -1,9 +1,10 @@
 -- What the code's statements are.
-use Rattle.std.specs.Prelude.{◌≡◌, List, [], ◌∷◌, Option, Some, None, Result, MatchResult}
+use Rattle.std.specs.Prelude.{◌≡◌, List, Option, Some, None, Result, MatchResult}
 use Rattle.mini_sql.specs.Words.{Text, folded}
-use Rattle.mini_sql.specs.Tokens.{unquoted}
+use Rattle.mini_sql.specs.Tokens.{Token, unquoted}
 use Rattle.mini_sql.specs.Statements as spec
-use Rattle.mini_sql.specs.Statements.{Equals}
+use Rattle.std.specs.Borrow.{Bor}
+use Rattle.mini_sql.specs.Statements.{Equals, read, from_of, end_of}
 use Rattle.mini_sql.specs.Lists.{items_of, columns_from, operands_from}
 use Rattle.mini_sql.specs.declared.SqlFault.{SqlFault}
 use Rattle.mini_sql.specs.declared.literal.Literal.{Literal}
@@ -72,3 +73,13 @@ meaning (stmt.Select columns table filter) = spec.Select (columns_left columns) 
 -- a statement is answered exactly where one is read, and it is that one
 abbrev pub Reads : Result Stmt SqlFault → Option spec.Statement → Type 0
 Reads result statement = MatchResult result (λ s. statement ≡ Some (meaning s)) (λ e. statement ≡ None)
+
+-- the end of a SELECT is this filter, whatever is selected
+abbrev pub IsFilter : Result (Option Filter) SqlFault → Option (List Token) → Type 0
+IsFilter result tokens =
+    (cs : List Text) → (t : Text) → MatchResult result (λ f. read (end_of cs t) tokens ≡ Some (spec.Select cs t (filter_of f))) (λ e. read (end_of cs t) tokens ≡ None)
+
+-- the table and the filter of a SELECT, whatever is selected
+abbrev pub IsSource : Result (Bor Text × Option Filter) SqlFault → Option (List Token) → Type 0
+IsSource result tokens =
+    (cs : List Text) → MatchResult result (λ p. read (from_of cs) tokens ≡ Some (spec.Select cs (folded p.0.now) (filter_of p.1))) (λ e. read (from_of cs) tokens ≡ None)

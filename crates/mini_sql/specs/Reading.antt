@@ -1,5 +1,5 @@
 -- Tokens read one by one, with the rest of the text.
-use Rattle.std.specs.Prelude.{◌≡◌, ℕ, List, [], ◌∷◌, Option, Some, None, Bool, true, false, if◌then◌else◌, Result, MatchResult, length}
+use Rattle.std.specs.Prelude.{◌≡◌, List, [], ◌∷◌, Option, Some, None, Bool, true, false, if◌then◌else◌, Result, MatchResult}
 use Rattle.std.specs.Borrow.{Bor}
 use Rattle.mini_sql.specs.Words.{Text}
 use Rattle.mini_sql.specs.Tokens.{Token}

@@ -1,5 +1,5 @@
 -- Which statement a text spells.
-use Rattle.std.specs.Prelude.{ℕ, List, [], ◌∷◌, length, max, Option, Some, None, Bool, true, false, nat_le, ◌==◌, ◌||◌, ◌&&◌, if◌then◌else◌, codes}
+use Rattle.std.specs.Prelude.{ℕ, List, [], ◌∷◌, length, max, Option, Some, None, Bool, true, false, nat_le, ◌==◌, ◌||◌, if◌then◌else◌, codes}
 use Rattle.mini_sql.specs.Words.{Text, same_word, folded}
 use Rattle.mini_sql.specs.Tokens.{Token, Name, Literal, Digits, Parameter, Sign, tokens, opening, closing, star, comma, semicolon, equal}
 
@@ -167,26 +167,40 @@ unfoldable pub where_of : List Text → Text → Form
 where_of cs t =
     pass (is_word (codes "where")) (take_value column_of (λ c. pass (is_sign equal) (take_value operand_of (λ v. ends (Select cs t (Some (record { column = c; to = v })))))))
 
+-- nothing, or `WHERE c = v`
+unfoldable pub end_of : List Text → Text → Form
+end_of cs t = either (ends (Select cs t None)) (where_of cs t)
+
 unfoldable pub from_of : List Text → Form
-from_of cs = pass (is_word (codes "from")) (take_value column_of (λ t. either (ends (Select cs t None)) (where_of cs t)))
+from_of cs = pass (is_word (codes "from")) (take_value column_of (end_of cs))
 
 unfoldable pub select : Form
 select = either (pass (is_sign star) (from_of [])) (take_columns false from_of)
 
+abbrev pub fails : Form
+fails ts = None
+
+abbrev pub of_other : Token → Form
+of_other t =
+    if is_word (codes "discard") t then discard else
+    (if is_word (codes "create") t then create else
+    (if is_word (codes "drop") t then drop_table else
+    (if is_word (codes "insert") t then insert else
+    (if is_word (codes "select") t then select else fails))))
+
+-- by the first word
+abbrev pub of_word : Token → Form
+of_word t =
+    if is_word (codes "begin") t then block Begin else
+    (if is_word (codes "commit") t then block Commit else
+    (if is_word (codes "rollback") t then block Rollback else
+    (if is_word (codes "set") t then set else
+    (if is_word (codes "reset") t then reset else
+    (if is_word (codes "show") t then show else of_other t)))))
+
 unfoldable pub of_tokens : Form
 of_tokens [] = Some Empty
-of_tokens (t ∷ ts) =
-    if is_word (codes "begin") t then block Begin ts else
-    (if is_word (codes "commit") t then block Commit ts else
-    (if is_word (codes "rollback") t then block Rollback ts else
-    (if is_word (codes "set") t then set ts else
-    (if is_word (codes "reset") t then reset ts else
-    (if is_word (codes "show") t then show ts else
-    (if is_word (codes "discard") t then discard ts else
-    (if is_word (codes "create") t then create ts else
-    (if is_word (codes "drop") t then drop_table ts else
-    (if is_word (codes "insert") t then insert ts else
-    (if is_word (codes "select") t then select ts else None))))))))))
+of_tokens (t ∷ ts) = of_word t ts
 
 -- one semicolon may end the text
 abbrev pub is_last_semicolon : Token → List Token → Bool

@@ -1,6 +1,6 @@
 -- The tokens of a statement's text. Each is as long as it can be, and white space may stand between any two.
-use Rattle.std.specs.Prelude.{ℕ, zero, suc, ◌+◌, ◌-◌, ◌*◌, List, [], ◌∷◌, ◌++◌, length, Option, Some, None, Bool, nat_le, ◌==◌, ◌&&◌, ◌||◌, if◌then◌else◌, take, take_while}
-use Rattle.mini_sql.specs.Words.{Text, is_between, is_digit, is_white, starts_name, is_in_name}
+use Rattle.std.specs.Prelude.{ℕ, zero, suc, ◌+◌, ◌-◌, ◌*◌, List, [], ◌∷◌, ◌++◌, length, Option, Some, None, Bool, nat_le, ◌==◌, ◌||◌, if◌then◌else◌, take, take_while}
+use Rattle.mini_sql.specs.Words.{Text, is_digit, is_white, starts_name, is_in_name}
 
 pub data Token : Type 0 where
   -- as it stands in the text, in any case

@@ -1,6 +1,9 @@
-ghost use Rattle.std.specs.Prelude.{◌≡◌, Some, true, is_some};
-ghost use Rattle.mini_sql.specs.Lists.{columns_from, operands_from};
+ghost use Rattle.std.specs.Prelude.{◌≡◌, ◌<◌, [], Some, true, is_some};
+ghost use Rattle.mini_sql.specs.Statements.{at_most_64, columns_at, items, operand_of, phrase, read};
+ghost use Rattle.mini_sql.specs.Reading.{Follows};
+ghost use Rattle.mini_sql.specs.Lists.{columns_from, items_of, operands_from, rest_of};
 
+use crate::SqlFault;
 use crate::parts::{next_item, take_column, take_operand};
 use crate::stmt::Operand;
 
@@ -10,6 +13,31 @@ pub struct Columns<'a> {
     typed: bool,
     rest: Option<&'a [u8]>,
     ghost listed: { is_some (columns_from typed rest) ≡ true },
+}
+
+impl<'a> Columns<'a> {
+    ghost use Rattle.mini_sql.specs.Meanings.{columns_left};
+
+    /// The columns at the front of a text.
+    pub(crate) fn new(typed: bool, text: &'a [u8]) -> Columns<'a>
+        requires { is_some (read (columns_at typed) (phrase text.now)) ≡ true }
+        ensures { columns_left result ≡ items_of (read (columns_at typed) (phrase text.now)) }
+    {
+        Columns {
+            typed,
+            rest: Some(text),
+        }
+    }
+
+    /// No columns.
+    pub(crate) fn none() -> Columns<'a>
+        ensures { columns_left result ≡ [] }
+    {
+        Columns {
+            typed: false,
+            rest: None,
+        }
+    }
 }
 
 impl<'a> Iterator for Columns<'a> {
@@ -42,6 +70,18 @@ pub struct Operands<'a> {
     ghost listed: { is_some (operands_from rest) ≡ true },
 }
 
+impl<'a> Operands<'a> {
+    ghost use Rattle.mini_sql.specs.Meanings.{operands_left};
+
+    /// The values at the front of a text.
+    pub(crate) fn new(text: &'a [u8]) -> Operands<'a>
+        requires { is_some (read (items operand_of) (phrase text.now)) ≡ true }
+        ensures { operands_left result ≡ items_of (read (items operand_of) (phrase text.now)) }
+    {
+        Operands { rest: Some(text) }
+    }
+}
+
 impl<'a> Iterator for Operands<'a> {
     ghost use Rattle.std.specs.Iterator.{YieldsFirstBy, item_count};
     ghost use Rattle.mini_sql.specs.Meanings.{operand_value, operands_left};
@@ -60,6 +100,38 @@ impl<'a> Iterator for Operands<'a> {
                 Some(operand)
             }
             Err(_) => unreachable!(),
+        }
+    }
+}
+
+/// The most columns that a list may have.
+const MOST_COLUMNS: usize = 64;
+
+/// What follows a list of columns.
+pub(crate) fn after_columns(typed: bool, text: &[u8]) -> Result<&[u8], SqlFault>
+    ensures { Follows result (rest_of (at_most_64 (read (columns_at typed) (phrase text.now)))) }
+{
+    let mut rest = text;
+    for count in 0..MOST_COLUMNS {
+        let (_, after) = take_column(typed, rest)?;
+        match next_item(after) {
+            Some(next) => rest = next,
+            None => return Ok(after),
+        }
+    }
+    Err(SqlFault::Syntax)
+}
+
+/// What follows a list of values.
+pub(crate) fn after_operands(text: &[u8]) -> Result<&[u8], SqlFault>
+    ensures { Follows result (rest_of (read (items operand_of) (phrase text.now))) }
+{
+    let mut rest = text;
+    loop {
+        let (_, after) = take_operand(rest)?;
+        match next_item(after) {
+            Some(next) => rest = next,
+            None => return Ok(after),
         }
     }
 }

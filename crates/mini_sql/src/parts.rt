@@ -43,7 +43,7 @@ pub(crate) fn is_end(text: &[u8]) -> bool
     }
 }
 
-fn is_word(token: &Token<'_>, word: &[u8]) -> bool
+pub(crate) fn is_word(token: &Token<'_>, word: &[u8]) -> bool
     ensures { result ≡ is_word word.now (token_of token.now) }
 {
     match token {

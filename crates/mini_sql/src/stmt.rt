@@ -1,3 +1,7 @@
+ghost use Rattle.std.specs.Prelude.{◌≡◌, max};
+ghost use Rattle.mini_sql.specs.Statements.{greatest, operand_parameter, parameters_of};
+ghost use Rattle.mini_sql.specs.Meanings.{meaning, operand_value, operands_left};
+
 use crate::lists::{Columns, Operands};
 use crate::literal::Literal;
 
@@ -69,4 +73,49 @@ pub enum Stmt<'a> {
         table: &'a [u8],
         filter: Option<Filter<'a>>,
     },
+}
+
+impl<'a> Operand<'a> {
+    /// The number of the parameter, or 0.
+    fn parameter(&self) -> u8
+        ensures { result ≡ operand_parameter (operand_value self.now) }
+    {
+        match self {
+            Operand::Parameter(number) => *number,
+            _ => 0,
+        }
+    }
+}
+
+fn larger(a: u8, b: u8) -> u8
+    ensures { result ≡ max a b }
+{
+    if a < b { b } else { a }
+}
+
+/// The greatest parameter of a row's values, or 0.
+fn greatest_parameter(operands: Operands<'_>) -> u8
+    ensures { result ≡ greatest (operands_left operands.entry) }
+{
+    let mut most = 0;
+    for operand in operands {
+        most = larger(most, operand.parameter());
+    }
+    most
+}
+
+impl<'a> Stmt<'a> {
+    /// How many parameters the statement has: the greatest number after a `$` in it, or 0.
+    pub fn parameters(&self) -> u8
+        ensures { result ≡ parameters_of (meaning self.now) }
+    {
+        match self {
+            Stmt::Insert { operands, .. } => greatest_parameter(*operands),
+            Stmt::Select {
+                filter: Some(filter),
+                ..
+            } => filter.value.parameter(),
+            _ => 0,
+        }
+    }
 }

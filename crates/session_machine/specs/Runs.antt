@@ -118,7 +118,7 @@ insert_into s (Some t) r = record s { tables = with_named table_name s.tables (w
 abbrev pub insert_run : State → Text → Row → Result Ran Cause
 insert_run s t r = if all_fit r then ran (insert_into s (named table_name s.tables t) r) [] (codes "INSERT 0 1") else Err InvalidValue
 
--- Runs a statement that gives no rows.
+-- Runs a statement; one that gives rows changes nothing, and neither does the empty one.
 abbrev pub run : State → Row → Statement → Result Ran Cause
 run s given Begin = begin_run s s.block
 run s given Commit = commit_run s s.block
@@ -130,9 +130,7 @@ run s given DiscardAll = discard_run s s.block
 run s given (Create t cs) = create_run s t cs (named table_name s.tables t)
 run s given (Drop t) = drop_run s t
 run s given (Insert t vs) = insert_run s t (map (operand_value given) vs)
-run s given Empty = Ok (record { after = s; notices = []; tag = None })
-run s given (Show n) = Ok (record { after = s; notices = []; tag = None })
-run s given (Select cs t w) = Ok (record { after = s; notices = []; tag = None })
+run s given _ = Ok (record { after = s; notices = []; tag = None })
 
 -- the empty statement has no tag
 abbrev pub end_of : Option Text → FrameOf

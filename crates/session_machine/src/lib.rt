@@ -14,6 +14,7 @@ mod portal;
 mod ready;
 mod row;
 mod rows;
+mod run;
 mod session;
 mod settings;
 mod table;

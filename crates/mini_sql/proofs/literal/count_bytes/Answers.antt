@@ -1,4 +1,4 @@
-use Rattle.std.proofs.Common.{◌≡◌, ◌<◌, ◌≤◌, ◌+◌, ◌^◌, ℕ, length, arith, ap, inl, sym, ◌∙◌}
+use Rattle.std.proofs.Common.{arith, inl}
 use Rattle.mini_sql.proofs.Quotes.{unquoted-short}
 use Rattle.mini_sql.proofs.literal.count_bytes.Goals as goal
 

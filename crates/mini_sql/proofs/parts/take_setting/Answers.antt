@@ -1,4 +1,4 @@
-use Rattle.std.proofs.Common.{refl, sym}
+use Rattle.std.proofs.Common.{sym}
 use Rattle.mini_sql.proofs.Reading.{takes-err, taken-none, taken-token, taken-other}
 use Rattle.mini_sql.proofs.parts.take_setting.Goals as goal
 

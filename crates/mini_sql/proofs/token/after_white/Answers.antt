@@ -1,5 +1,4 @@
-use Rattle.std.proofs.Common.{◌≡◌, ◌<◌, ℕ, length, drop, take, arith, sym, ◌∙◌, ◌-◌, true}
-use Rattle.mini_sql.specs.Words.{is_white}
+use Rattle.std.proofs.Common.{arith, sym, ◌∙◌}
 use Rattle.mini_sql.proofs.Lexing.{white-goes-on, after-shorter}
 use Rattle.mini_sql.proofs.token.after_white.Goals as goal
 

@@ -1,4 +1,4 @@
-use Rattle.std.proofs.Common.{◌≡◌, ◌<◌, ◌-◌, ◌+◌, ℕ, length, take, drop, arith, length-drop, sym, ap, ◌∙◌, true, false}
+use Rattle.std.proofs.Common.{◌≡◌, ◌-◌, length, take, drop, arith, length-drop, sym, ap, ◌∙◌}
 use Rattle.std.proofs.lemmas.List.{take_all}
 use Rattle.mini_sql.specs.Words.{Text}
 use Rattle.mini_sql.specs.Lexing.{token_of}

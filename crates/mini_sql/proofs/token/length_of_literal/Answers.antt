@@ -1,4 +1,4 @@
-use Rattle.std.proofs.Common.{◌≡◌, ◌+◌, ◌<◌, ◌≤◌, ℕ, length, arith, sym, ◌∙◌, ap, get_or, true, Some, None}
+use Rattle.std.proofs.Common.{◌+◌, ◌<◌, length, arith, sym, ◌∙◌, ap}
 use Rattle.mini_sql.proofs.Quotes.{to_stop, no_stop, stop-zero, stop-end, stop-last, stop-doubled, joined, ended, further-further}
 use Rattle.mini_sql.specs.Tokens.{further}
 use Rattle.mini_sql.proofs.token.length_of_literal.Goals as goal

@@ -1,4 +1,4 @@
-use Rattle.std.proofs.Common.{◌<◌, ◌-◌, ◌+◌, ℕ, length, take, drop, arith, length-drop, length-take}
+use Rattle.std.proofs.Common.{◌<◌, ◌-◌, length, arith}
 use Rattle.mini_sql.specs.Words.{Text}
 use Rattle.mini_sql.proofs.Lexing.{literal-front, after-first}
 use Rattle.mini_sql.proofs.token.literal.Goals as goal

@@ -1,4 +1,4 @@
-use Rattle.std.proofs.Common.{◌≡◌, ◌≢◌, ◌<◌, ◌≤◌, ◌+◌, ℕ, length, drop, take, arith, sym, ap, ◌∙◌, ◌-◌, true, List, length-drop}
+use Rattle.std.proofs.Common.{◌≡◌, length, drop, take, arith, ap, ◌∙◌, ◌-◌, length-drop}
 use Rattle.std.specs.Prelude.{take_while}
 use Rattle.std.proofs.lemmas.List.{take_all}
 use Rattle.mini_sql.specs.Words.{Text, is_digit}

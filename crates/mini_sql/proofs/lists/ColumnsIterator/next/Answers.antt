@@ -1,10 +1,9 @@
-use Rattle.std.proofs.Common.{◌≡◌, sym, ap, ◌∙◌, List, true}
+use Rattle.std.proofs.Common.{sym, ap, ◌∙◌}
 use Rattle.std.specs.Prelude.{is_some}
-use Rattle.std.specs.Borrow.{Bor}
 use Rattle.mini_sql.specs.Words.{folded}
-use Rattle.mini_sql.specs.Statements.{columns_at, items, operand_of, phrase}
-use Rattle.mini_sql.specs.Lists.{items_of, columns_from, operands_from}
-use Rattle.mini_sql.specs.Meanings.{columns_left, operand_value}
+use Rattle.mini_sql.specs.Statements.{columns_at, phrase}
+use Rattle.mini_sql.specs.Lists.{items_of, columns_from}
+use Rattle.mini_sql.specs.Meanings.{columns_left}
 use Rattle.mini_sql.proofs.Reading.{next-some, next-items, goes-first}
 use Rattle.mini_sql.proofs.lists.ColumnsIterator.next.Goals as goal
 

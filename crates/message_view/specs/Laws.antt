@@ -1,0 +1,31 @@
+-- What is written is cut out and read again, and what is read is spelled so.
+use Rattle.std.specs.Prelude.{◌≡◌, ℕ, ◌+◌, ◌^◌, ◌<◌, ◌≤◌, List, ◌++◌, length, Result, Ok}
+use Rattle.frame_view.specs.declared.Side.TheVariants.{Client, Server}
+use Rattle.frame_view.specs.declared.first.TheConstants.{LONGEST_FIRST_PACKET}
+use Rattle.frame_view.specs.Frames.{FrameOf, spelling, before, frames, Start, AFirst, first_front}
+use Rattle.message_view.specs.declared.ViewFault.{ViewFault}
+use Rattle.message_view.specs.Bodies.{Text, startup_body}
+use Rattle.message_view.specs.Messages.{password_message, query, startup_message}
+use Rattle.message_view.specs.Spelled.{IsBytes}
+
+-- Parts that fit are read again from the body that they spell, and a body is read as parts only
+-- where they fit and spell it.
+pub record IsReaderOf {A : Type 0} (read : List ℕ → Result A ViewFault) (spell : A → List ℕ) (Fits : A → Type 0) : Type 0 where
+  pub again : (parts : A) → Fits parts → read (spell parts) ≡ Ok parts
+  pub only : (body : List ℕ) (parts : A) → IsBytes body → read body ≡ Ok parts → Fits parts × (body ≡ spell parts)
+
+-- A server's frame is the first of the frames, whatever follows it, under a limit not below its length.
+abbrev pub ServerFrameIsCut : Type 0
+ServerFrameIsCut = (limit : ℕ) (f : FrameOf) (rest : List ℕ) → limit < 2 ^ 32 → 4 + length f.body ≤ limit → frames Server limit (spelling f ++ rest) ≡ before f (frames Server limit rest)
+
+-- So is a client's Query, and its PasswordMessage.
+abbrev pub QueryIsCut : Type 0
+QueryIsCut = (limit : ℕ) (t : Text) (rest : List ℕ) → limit < 2 ^ 32 → 4 + length (query t).body ≤ limit → frames Client limit (spelling (query t) ++ rest) ≡ before (query t) (frames Client limit rest)
+
+abbrev pub PasswordMessageIsCut : Type 0
+PasswordMessageIsCut = (limit : ℕ) (t : Text) (rest : List ℕ) → limit < 2 ^ 32 → 4 + length (password_message t).body ≤ limit
+    → frames Client limit (spelling (password_message t) ++ rest) ≡ before (password_message t) (frames Client limit rest)
+
+-- A StartupMessage is the first packet, whatever follows it, where it has a first packet's length.
+abbrev pub StartupMessageIsCut : Type 0
+StartupMessageIsCut = (pairs : List (Text × Text)) (rest : List ℕ) → length (startup_message pairs) ≤ LONGEST_FIRST_PACKET → first_front (startup_message pairs ++ rest) ≡ AFirst (Start (startup_body pairs)) rest
