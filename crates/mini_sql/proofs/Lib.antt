@@ -6,3 +6,4 @@ pub mod Steps
 pub mod Skipping
 pub mod Deriving
 pub mod Derived
+pub mod Short

@@ -1,4 +1,5 @@
--- Which statement a text spells.
+-- Which statement a text spells: a part of SQL of this project's own (PostgreSQL manual, pages BEGIN, COMMIT, ROLLBACK, SET, RESET, SHOW, DISCARD, CREATE TABLE,
+-- DROP TABLE, INSERT and SELECT).
 use Rattle.std.specs.Prelude.{ℕ, List, [], ◌∷◌, length, max, Option, Some, None, Bool, true, false, nat_le, ◌==◌, ◌||◌, if◌then◌else◌, codes}
 use Rattle.mini_sql.specs.Words.{Text, same_word, folded}
 use Rattle.mini_sql.specs.Tokens.{Token, Name, Literal, Digits, Parameter, Sign, tokens, opening, closing, star, comma, semicolon, equal}

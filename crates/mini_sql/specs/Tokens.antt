@@ -1,4 +1,5 @@
--- The tokens of a statement's text. Each is as long as it can be, and white space may stand between any two.
+-- The tokens of a statement's text (PostgreSQL manual, Lexical Structure; names and signs of this project's own choice). Each is as long as it can be, and white
+-- space may stand between any two.
 use Rattle.std.specs.Prelude.{ℕ, zero, suc, ◌+◌, ◌-◌, ◌*◌, List, [], ◌∷◌, ◌++◌, length, Option, Some, None, Bool, nat_le, ◌==◌, ◌||◌, if◌then◌else◌, take, take_while}
 use Rattle.mini_sql.specs.Words.{Text, is_digit, is_white, starts_name, is_in_name}
 

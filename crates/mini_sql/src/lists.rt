@@ -1,4 +1,4 @@
-ghost use Rattle.std.specs.Prelude.{◌≡◌, ◌<◌, [], Some, true, is_some};
+ghost use Rattle.std.specs.Prelude.{length, ◌≡◌, ◌<◌, [], Some, true, is_some};
 ghost use Rattle.mini_sql.specs.Statements.{at_most_64, columns_at, items, operand_of, phrase, read};
 ghost use Rattle.mini_sql.specs.Reading.{Follows};
 ghost use Rattle.mini_sql.specs.Lists.{columns_from, items_of, operands_from, rest_of};
@@ -26,6 +26,16 @@ impl<'a> Columns<'a> {
         Columns {
             typed,
             rest: Some(text),
+        }
+    }
+
+    /// How many columns are still to come.
+    pub fn len(&self) -> usize
+        ensures { result ≡ length (columns_left self.now) }
+    {
+        match self.rest {
+            Some(text) => count_columns(self.typed, text),
+            None => 0,
         }
     }
 
@@ -80,6 +90,16 @@ impl<'a> Operands<'a> {
     {
         Operands { rest: Some(text) }
     }
+
+    /// How many values are still to come.
+    pub fn len(&self) -> usize
+        ensures { result ≡ length (operands_left self.now) }
+    {
+        match self.rest {
+            Some(text) => count_operands(text),
+            None => 0,
+        }
+    }
 }
 
 impl<'a> Iterator for Operands<'a> {
@@ -106,6 +126,20 @@ impl<'a> Iterator for Operands<'a> {
 
 /// The most columns that a list may have.
 const MOST_COLUMNS: usize = 64;
+
+fn count_columns(typed: bool, text: &[u8]) -> usize
+    requires { is_some (read (columns_at typed) (phrase text.now)) ≡ true }
+    ensures { result ≡ length (items_of (read (columns_at typed) (phrase text.now))) }
+{
+    Columns::new(typed, text).count()
+}
+
+fn count_operands(text: &[u8]) -> usize
+    requires { is_some (read (items operand_of) (phrase text.now)) ≡ true }
+    ensures { result ≡ length (items_of (read (items operand_of) (phrase text.now))) }
+{
+    Operands::new(text).count()
+}
 
 /// What follows a list of columns.
 pub(crate) fn after_columns(typed: bool, text: &[u8]) -> Result<&[u8], SqlFault>

@@ -376,6 +376,14 @@ fn parameters_and_lengths(rt: HostRuntime) -> Result<(), Fail> {
             Err(fault) => assert_eq!(rt; fault, SqlFault::Syntax, "a statement was refused"),
         }
     }
+    match read_statement(b"insert into t values ($1, 'a', null)") {
+        Ok(Stmt::Insert { operands, .. }) => assert_eq!(rt; operands.len(), 3),
+        _ => assert!(rt; false, "no row was read"),
+    }
+    match read_statement(b"select a, b from t") {
+        Ok(Stmt::Select { columns, .. }) => assert_eq!(rt; columns.len(), 2),
+        _ => assert!(rt; false, "no columns were read"),
+    }
     match read_statement(b"set x to 'it''s'") {
         Ok(
             Stmt::Set {

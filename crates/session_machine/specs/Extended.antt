@@ -1,6 +1,6 @@
 -- The extended query: prepared statements, portals and their runs
 -- (PostgreSQL manual, "Frontend/Backend Protocol", "Extended Query").
-use Rattle.std.specs.Prelude.{ℕ, zero, suc, List, [], ◌∷◌, ◌++◌, length, map, filter, take, drop, max, Option, Some, None, Result, Ok, Err, Bool, true, false, nat_lt, nat_le, ◌==◌, ◌&&◌, ◌||◌, not, if◌then◌else◌}
+use Rattle.std.specs.Prelude.{ℕ, zero, suc, ◌+◌, slice_index, List, [], ◌∷◌, ◌++◌, length, map, filter, take, drop, max, Option, Some, None, Result, Ok, Err, Bool, true, false, nat_lt, nat_le, ◌==◌, ◌&&◌, ◌||◌, not, if◌then◌else◌}
 use Rattle.std.specs.List.{list_all}
 use Rattle.frame_view.specs.Frames.{FrameOf}
 use Rattle.message_view.specs.Bodies.{Parse, Bind, Target, OfStatement, OfPortal}
@@ -130,12 +130,20 @@ bind cat s b = bound (bindable cat s b) (λ p. Ok (answers (with_portal s (porta
 
 -- ---- descriptions
 
+-- the format of the column at a place: none asked for means text, and one stands for all columns
+abbrev pub format_at : List ℕ → ℕ → ℕ
+format_at [] i = 0
+format_at (f ∷ []) i = f
+format_at (f ∷ g ∷ fs) i = slice_index (f ∷ g ∷ fs) i
+
+-- the formats of these columns, of which the first stands at a place
+abbrev pub formats_from : ℕ → List Text → List ℕ → List ℕ
+formats_from i [] fs = []
+formats_from i (c ∷ cs) fs = format_at fs i ∷ formats_from (i + 1) cs fs
+
 -- one format for each column
 abbrev pub formats_of : List Text → List ℕ → List ℕ
-formats_of [] fs = []
-formats_of (c ∷ cs) [] = 0 ∷ formats_of cs []
-formats_of (c ∷ cs) (f ∷ []) = f ∷ formats_of cs (f ∷ [])
-formats_of (c ∷ cs) (f ∷ g ∷ fs) = f ∷ formats_of cs (g ∷ fs)
+formats_of cs fs = formats_from 0 cs fs
 
 abbrev pub description : List ℕ → Columns → FrameOf
 description fs None = no_data

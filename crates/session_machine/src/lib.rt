@@ -10,6 +10,7 @@ mod key;
 mod lookup;
 mod names;
 mod naming;
+mod output;
 mod parameter;
 mod portal;
 mod ready;
