@@ -13,6 +13,7 @@ mod naming;
 mod output;
 mod parameter;
 mod portal;
+mod query;
 mod ready;
 mod row;
 mod rows;

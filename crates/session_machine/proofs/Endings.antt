@@ -1,0 +1,34 @@
+-- An answer that goes on to reports and ReadyForQuery.
+use Rattle.std.proofs.Common.{◌≡◌, ℕ, List, [], ◌∷◌, ◌++◌, Result, Ok, Err, refl, sym, ap, ◌∙◌, append_assoc}
+use Rattle.std.specs.Prelude.{OnOk}
+use Rattle.std.specs.List.{flat_map}
+use Rattle.std.proofs.lemmas.List.Concat.{flat_map-append}
+use Rattle.frame_view.specs.Frames.{FrameOf, spelling}
+use Rattle.session_machine.specs.declared.cause.Cause.{Cause}
+use Rattle.session_machine.specs.State.{State, Answer, and_then, commit_outside, ready}
+use Rattle.session_machine.specs.Step.{end_query}
+use Rattle.session_machine.specs.Answers.{Gave, Gives}
+
+on_ok : {E : Type 0} {P Q : Type 0} (r : Result (Unit {0}) E) → (P → Q) → OnOk r P → OnOk r Q
+on_ok (Ok u) f p = f p
+on_ok (Err e) f p = tt
+
+-- first the replies of an answer, and then what follows from the state after it
+Gave-then : (a : Answer) (f : State → Answer) (mid new : State) (before between after : List ℕ) → mid ≡ a.next → between ≡ before ++ flat_map spelling a.replies → Gave new between after (f mid) → Gave new before after (and_then a f)
+Gave-then a f mid new before between after s w g = record {
+  next = g.next ∙ ap (λ (t : State). (f t).next) s;
+  written = g.written ∙ ap (λ (b : List ℕ). b ++ flat_map spelling (f mid).replies) w ∙ append_assoc before (flat_map spelling a.replies) (flat_map spelling (f mid).replies)
+      ∙ ap (λ (b : List ℕ). before ++ b) (sym (flat_map-append spelling a.replies (f mid).replies)) ∙ ap (λ (t : State). before ++ flat_map spelling (a.replies ++ (f t).replies)) s;
+}
+
+-- a Query that ran
+pub query_ends : {E : Type 0} (old mid new : State) (before between after : List ℕ) (x : Result Answer Cause) (r : Result (Unit {0}) E)
+    → Gives (Ok tt) old mid before between x → OnOk r (Gave new between after (ready (commit_outside mid mid.block))) → OnOk r (Gave new before after (end_query old x))
+query_ends old mid new before between after (Ok a) r (s, w) g = on_ok r (Gave-then a (λ t. ready (commit_outside t t.block)) mid new before between after s w) g
+query_ends old mid new before between after (Err d) r ran g = absurd ran
+
+-- a Query that was refused
+pub query_fails : {E : Type 0} (old mid new : State) (before between after : List ℕ) (c : Cause) (x : Result Answer Cause) (r : Result (Unit {0}) E)
+    → Gives (Err c) old mid before between x → OnOk r (Gave new between after (end_query mid (Err c))) → OnOk r (Gave new before after (end_query old x))
+query_fails old mid new before between after c (Ok a) r ran g = absurd ran
+query_fails old mid new before between after c (Err d) r (e, s, w) g = rw (e, ← s, ← w) g
