@@ -109,7 +109,8 @@ impl Codes<'_> {
     /// How many codes are left.
     #[tactic(auto, using(crate::proofs::Counted::items_count))]
     pub fn len(&self) -> usize
-        ensures { result ≡ length (codes_left self.now) }
+        ensures count { result ≡ length (codes_left self.now) }
+        ensures short { result < 2 ^ 16 }
     {
         usize::from(self.left)
     }
@@ -119,7 +120,8 @@ impl Oids<'_> {
     /// How many oids are left.
     #[tactic(auto, using(crate::proofs::Counted::items_count))]
     pub fn len(&self) -> usize
-        ensures { result ≡ length (oids_left self.now) }
+        ensures count { result ≡ length (oids_left self.now) }
+        ensures short { result < 2 ^ 16 }
     {
         self.left as usize
     }

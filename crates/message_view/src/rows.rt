@@ -1,5 +1,5 @@
 //! Views of a RowDescription and a DataRow.
-ghost use Rattle.std.specs.Prelude.{◌≡◌, ℕ, ◌+◌, length, IfOk, IfSome, option_map, slice_get, ⊤};
+ghost use Rattle.std.specs.Prelude.{◌≡◌, ℕ, ◌+◌, length, IfOk, IfSome, option_map, slice_get, ⊤, ◌<◌, ◌^◌};
 ghost use Rattle.std.specs.Iterator.{MakesProgress, YieldsFirstBy, item_count};
 ghost use Rattle.frame_view.specs.Answers.{LiesAt};
 ghost use Rattle.message_view.specs.Left.{columns_left, shown_column, values_left};
@@ -162,7 +162,8 @@ impl Columns<'_> {
     /// How many columns are left.
     #[tactic(auto, using(crate::proofs::Counted::items_count))]
     pub fn len(&self) -> usize
-        ensures { result ≡ length (columns_left self.now) }
+        ensures count { result ≡ length (columns_left self.now) }
+        ensures short { result < 2 ^ 16 }
     {
         self.left as usize
     }

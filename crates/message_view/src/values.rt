@@ -100,7 +100,8 @@ impl Values<'_> {
     /// How many values are left.
     #[tactic(auto, using(crate::proofs::Counted::items_count))]
     pub fn len(&self) -> usize
-        ensures { result ≡ length (values_left self.now) }
+        ensures count { result ≡ length (values_left self.now) }
+        ensures short { result < 2 ^ 16 }
     {
         self.left as usize
     }

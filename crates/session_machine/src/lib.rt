@@ -6,6 +6,7 @@ mod blocks;
 mod catalogue;
 mod cause;
 mod changes;
+mod extended;
 mod key;
 mod lookup;
 mod names;

@@ -1,4 +1,4 @@
-ghost use Rattle.std.specs.Prelude.{◌≡◌, ◌≤◌, ℕ, length, drop, map, take, IfOk, slice_get, Some};
+ghost use Rattle.std.specs.Prelude.{◌≡◌, ◌≤◌, ◌<◌, ◌^◌, ℕ, length, drop, map, take, IfOk, slice_get, Some};
 ghost use Rattle.std.specs.Arc.{arc_value};
 ghost use Rattle.session_machine.specs.Portals.{progress_of};
 
@@ -19,11 +19,14 @@ pub struct Prepared {
 }
 
 impl Model for Prepared {
+    ghost use Rattle.std.specs.Prelude.{◌<◌, ◌^◌, length};
     ghost use Rattle.session_machine.specs.State.{PreparedOf};
 
     ghost Value = { PreparedOf };
 
     ghost view = { λ p. record { name = p.name; query = p.query; oids = p.oids.items } };
+
+    ghost invariant = { λ p. length p.oids.items < 2 ^ 16 };
 }
 
 impl HasName for Prepared {
@@ -39,8 +42,9 @@ impl HasName for Prepared {
 impl Prepared {
     ghost use Rattle.session_machine.specs.State.{PreparedOf};
 
-    /// A prepared statement of this name and text.
+    /// A prepared statement of this name and text, with fewer than 65,536 oids.
     pub fn new(name: Text, query: Text, oids: Vec<u32>) -> Prepared
+        requires { length oids.items < 2 ^ 16 }
         ensures { result ≡ record { name = name; query = query; oids = oids.items } }
     {
         Prepared { name, query, oids }
@@ -55,7 +59,8 @@ impl Prepared {
 
     /// The types that its Parse asked for.
     pub fn oids(&self) -> &[u32]
-        ensures { result.now ≡ self.now.oids }
+        ensures oids { result.now ≡ self.now.oids }
+        ensures count { length self.now.oids < 2 ^ 16 }
     {
         self.oids.as_slice()
     }
