@@ -104,9 +104,14 @@ pub record IsLawfulCatalogue (cat : CatalogueOf) : Type 0 where
   pub version : HasNoZero cat.version × IsShort 63 cat.version
   pub tables : AllByRecursion IsLawfulTable cat.tables
 
--- no value has a zero byte
+-- no value has a zero byte, nor more than 10,000 bytes, the greatest length of a first packet
 abbrev pub IsLawfulKey : StartKeyOf → Type 0
-IsLawfulKey key = AllByRecursion (λ p. HasNoZero p.1) key.parameters
+IsLawfulKey key = AllByRecursion (λ p. HasNoZero p.1 × IsShort 10000 p.1) key.parameters
+
+-- what a client sends: a whole frame, whose body is bytes
+pub record IsSent (f : FrameOf) : Type 0 where
+  pub whole : IsFrame Client 2147483647 f
+  pub bytes : AreBytes f.body
 
 -- a state to which some frames lead from the fresh session of a key
 pub record Reaches (cat : CatalogueOf) (key : StartKeyOf) (s : State) : Type 0 where
@@ -115,7 +120,7 @@ pub record Reaches (cat : CatalogueOf) (key : StartKeyOf) (s : State) : Type 0 w
   pub origin : State
   pub is_fresh : fresh cat key ≡ Ok origin
   pub frames : List FrameOf
-  pub bytes : AllByRecursion (λ f. AreBytes f.body) frames
+  pub sent : AllByRecursion IsSent frames
   pub after : s ≡ (run_frames cat origin frames).next
 
 -- a ParameterStatus of a reported parameter, whose value has no zero byte and at most 63 bytes
@@ -133,10 +138,10 @@ IsReportIf f = f.kind ≡ 83 → IsReport f
 -- From a state that a fresh session reaches: the replies are whole frames, and the ParameterStatus
 -- among them are reports.
 abbrev pub RepliesAreFrames : Type 0
-RepliesAreFrames = (cat : CatalogueOf) (key : StartKeyOf) (s : State) (f : FrameOf) → Reaches cat key s → AreBytes f.body → AllByRecursion (IsFrame Server 2147483647) (step cat s f).replies
+RepliesAreFrames = (cat : CatalogueOf) (key : StartKeyOf) (s : State) (f : FrameOf) → Reaches cat key s → IsSent f → AllByRecursion (IsFrame Server 2147483647) (step cat s f).replies
 
 abbrev pub StatusesAreReports : Type 0
-StatusesAreReports = (cat : CatalogueOf) (key : StartKeyOf) (s : State) (f : FrameOf) → Reaches cat key s → AreBytes f.body → AllByRecursion IsReportIf (step cat s f).replies
+StatusesAreReports = (cat : CatalogueOf) (key : StartKeyOf) (s : State) (f : FrameOf) → Reaches cat key s → IsSent f → AllByRecursion IsReportIf (step cat s f).replies
 
 -- ---- the reported values are what the reports told
 
@@ -158,7 +163,7 @@ after_replies vs [] = vs
 after_replies vs (f ∷ fs) = after_replies (after_reply vs f) fs
 
 abbrev pub ReportsTellValues : Type 0
-ReportsTellValues = (cat : CatalogueOf) (key : StartKeyOf) (s : State) (f : FrameOf) → Reaches cat key s → AreBytes f.body → (step cat s f).next.reported ≡ after_replies s.reported (step cat s f).replies
+ReportsTellValues = (cat : CatalogueOf) (key : StartKeyOf) (s : State) (f : FrameOf) → Reaches cat key s → IsSent f → (step cat s f).next.reported ≡ after_replies s.reported (step cat s f).replies
 
 -- ---- the frames of a start
 

@@ -8,6 +8,7 @@ mod cause;
 mod changes;
 mod extended;
 mod key;
+pub mod laws;
 mod lookup;
 mod names;
 mod naming;
