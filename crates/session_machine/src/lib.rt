@@ -4,6 +4,10 @@
 mod block;
 mod blocks;
 mod catalogue;
+mod catalogue_draft;
+mod catalogue_fault;
+mod catalogue_fields;
+mod catalogue_lines;
 mod cause;
 mod changes;
 mod extended;
@@ -29,6 +33,7 @@ mod work;
 
 pub use block::Block;
 pub use catalogue::Catalogue;
+pub use catalogue_fault::{CatalogueCause, CatalogueFault};
 pub use cause::Cause;
 pub use key::{StartKey, StartParameter};
 pub use parameter::Parameter;
