@@ -8,6 +8,8 @@ mod catalogue_draft;
 mod catalogue_fault;
 mod catalogue_fields;
 mod catalogue_lines;
+#[cfg(test)]
+mod catalogue_tests;
 mod cause;
 mod changes;
 mod extended;
