@@ -18,7 +18,7 @@ use Rattle.session_machine.specs.Named.{named, without, is_named, is_other, set_
 use Rattle.session_machine.specs.State.{State, CatalogueOf, TableOf, table_name, Row, SavedOf, PreparedOf, prepared_name, portal_name, PortalOf, ProgressOf, NotRun, Remaining, Finished, Answer, answers, bound, set_parameter, roll_back, roll_back_to, commit}
 use Rattle.session_machine.specs.Lookups.{Columns, look_up, found}
 use Rattle.session_machine.specs.Runs.{Ran, ran, run, begin_run, commit_run, rollback_run, discard_run, create_run, insert_run, set_run, reset_from, rows_of, row_tag, end_of, are_distinct, fits, all_fit, padded, with_row, operand_value, with_table, insert_into}
-use Rattle.session_machine.specs.Extended.{parse, bind, bindable, prepared_of, with_statement, without_statement, portal_to, with_portal, orphaned, describe, described, describable, is_count, is_format, is_result_count, parameter_count, oids_of, Described, close, is_of_other, execute, execute_on, execute_first, execute_rows, execute_ran, sent_rows, progressed, at_progress, description, formats_of, is_limit, usable, reading, unless, is_taken, is_there}
+use Rattle.session_machine.specs.Extended.{values_fault, unless_some, parse, bind, bindable, prepared_of, with_statement, without_statement, portal_to, with_portal, orphaned, describe, described, describable, is_count, is_format, is_result_count, parameter_count, oids_of, Described, close, is_of_other, execute, execute_on, execute_first, execute_rows, execute_ran, sent_rows, progressed, at_progress, description, formats_of, is_limit, usable, reading, unless, is_taken, is_there}
 use Rattle.session_machine.specs.Laws.{IsShort, IsValue}
 use Rattle.session_machine.proofs.Alls.{OfSome, all-append, all-map, all-filter, all-find, all-set, all-take, all-drop, and-first, and-second}
 use Rattle.session_machine.proofs.GoodValues.{AreSettings, IsGiven, OfOk, set-settings, reset-settings}
@@ -189,16 +189,18 @@ past : {B : Type 0} (Q : B → Type 0) (b : Bool) (c : Cause) (r : Result B Caus
 past Q true c r h = tt
 past Q false c r h = h
 
+past-some : {B : Type 0} (Q : B → Type 0) (o : Option Cause) (r : Result B Cause) → OfOk Q r → OfOk Q (bound (unless_some o) (λ u. r))
+past-some Q (Some c) r h = tt
+past-some Q None r h = h
+
 bindable-prepared : (cat : CatalogueOf) (s : State) (b : Bind) → Lawful s → OfOk IsPrepared (bindable cat s b)
 bindable-prepared cat s b h =
     bound-ok IsPrepared IsPrepared (found NoStatement (named prepared_name s.statements b.statement)) _ (found-ok IsPrepared NoStatement (named prepared_name s.statements b.statement) (all-find IsPrepared (is_named prepared_name b.statement) s.statements h.statements)) (λ p g.
     bound-ok Any IsPrepared (usable s p.query) _ (any _) (λ x u.
     past IsPrepared (is_taken b.portal (is_there (named portal_name s.portals b.portal))) PortalExists _ (
-    past IsPrepared (not (length b.given == parameter_count x p)) MalformedMessage _ (
-    past IsPrepared (not (is_count (length b.formats) (length b.given))) MalformedMessage _ (
-    past IsPrepared (not (list_all is_format b.formats && list_all is_format b.results)) InvalidValue _ (
+    past-some IsPrepared (values_fault b p x) _ (
     bound-ok Any IsPrepared (look_up cat s x) _ (any _) (λ d k.
-    past IsPrepared (not (is_result_count (length b.results) d)) MalformedMessage (Ok p) g)))))))
+    past IsPrepared (not (is_result_count (length b.results) d)) MalformedMessage (Ok p) g)))))
 
 -- a statement's parameters are few, and its columns short
 abbrev IsDescribed : Described → Type 0

@@ -112,15 +112,24 @@ portal_to b p = record { name = b.portal; statement = Some p.name; query = p.que
 abbrev pub with_portal : State → PortalOf → State
 with_portal s p = record s { portals = without portal_name s.portals p.name ++ p ∷ [] }
 
+-- why a Bind's values aren't those that its statement asks for
+abbrev pub values_fault : Bind → PreparedOf → Statement → Option Cause
+values_fault b p st =
+    if not (length b.given == parameter_count st p) then Some MalformedMessage else
+    (if not (is_count (length b.formats) (length b.given)) then Some MalformedMessage else
+    (if not (list_all is_format b.formats && list_all is_format b.results) then Some InvalidValue else None))
+
+abbrev pub unless_some : Option Cause → Result (Unit {0}) Cause
+unless_some (Some c) = Err c
+unless_some None = Ok tt
+
 -- the statement that a Bind may bind now
 abbrev pub bindable : CatalogueOf → State → Bind → Result PreparedOf Cause
 bindable cat s b = do
   p ← found NoStatement (named prepared_name s.statements b.statement)
   st ← usable s p.query
   free ← unless (is_taken b.portal (is_there (named portal_name s.portals b.portal))) PortalExists
-  enough ← unless (not (length b.given == parameter_count st p)) MalformedMessage
-  counted ← unless (not (is_count (length b.formats) (length b.given))) MalformedMessage
-  known ← unless (not (list_all is_format b.formats && list_all is_format b.results)) InvalidValue
+  given ← unless_some (values_fault b p st)
   columns ← look_up cat s st
   results ← unless (not (is_result_count (length b.results) columns)) MalformedMessage
   Ok p

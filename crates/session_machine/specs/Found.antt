@@ -5,7 +5,7 @@ use Rattle.session_machine.specs.declared.cause.Cause.{Cause}
 use Rattle.mini_sql.specs.declared.stmt.Stmt.{Stmt}
 use Rattle.mini_sql.specs.Statements.{Statement}
 use Rattle.mini_sql.specs.Meanings.{meaning}
-use Rattle.session_machine.specs.State.{TableOf}
+use Rattle.session_machine.specs.State.{PreparedOf, TableOf}
 
 -- a table that is found, or why none is
 abbrev pub found_table : Result (Bor TableOf) Cause → Result TableOf Cause
@@ -16,3 +16,8 @@ found_table (Err c) = Err c
 abbrev pub meant : Result Stmt Cause → Result Statement Cause
 meant (Ok s) = Ok (meaning s)
 meant (Err c) = Err c
+
+-- a prepared statement that is found, or why none is
+abbrev pub found_prepared : Result (Bor PreparedOf) Cause → Result PreparedOf Cause
+found_prepared (Ok p) = Ok p.now
+found_prepared (Err c) = Err c

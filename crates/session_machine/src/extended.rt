@@ -24,7 +24,7 @@ use message_view::{Oids, ParseView, put_parse_complete};
 use std::alloc::{AllocError, Global};
 
 /// Only what has no name may be replaced.
-fn is_taken(name: &[u8], is_there: bool) -> bool
+pub(crate) fn is_taken(name: &[u8], is_there: bool) -> bool
     ensures { result ≡ is_taken name.now is_there }
 {
     match name {

@@ -1,6 +1,7 @@
 //! The stand-in server's session: one frame in, the next state and the reply frames out.
 #![tactic(auto)]
 
+mod bind;
 mod block;
 mod blocks;
 mod catalogue;
