@@ -1,4 +1,6 @@
 -- Every handler keeps a lawful session lawful, and its reported values as they are; it replies plain frames.
+use Rattle.std.proofs.Common.{length-append}
+use Rattle.session_machine.specs.declared.cause.Cause.TheVariants.{Aborted}
 use Rattle.std.proofs.Common.{◌≡◌, ℕ, zero, suc, ◌≤◌, List, [], ◌∷◌, ◌++◌, length, take, drop, map, Option, Some, None, Result, Ok, Err, refl, ap, ◌∙◌, Bool, true, false, ◌&&◌, arith, leb-true}
 use Rattle.std.specs.Prelude.{◌==◌, not, nat_le, nat_lt, if◌then◌else◌, codes}
 use Rattle.std.specs.List.{AllByRecursion, list_all, position_from}
@@ -18,7 +20,7 @@ use Rattle.session_machine.specs.Named.{named, without, is_named, is_other, set_
 use Rattle.session_machine.specs.State.{State, CatalogueOf, TableOf, table_name, Row, SavedOf, PreparedOf, prepared_name, portal_name, PortalOf, ProgressOf, NotRun, Remaining, Finished, Answer, answers, bound, set_parameter, roll_back, roll_back_to, commit}
 use Rattle.session_machine.specs.Lookups.{Columns, look_up, found}
 use Rattle.session_machine.specs.Runs.{Ran, ran, run, begin_run, commit_run, rollback_run, discard_run, create_run, insert_run, set_run, reset_from, rows_of, row_tag, end_of, are_distinct, fits, all_fit, padded, with_row, operand_value, with_table, insert_into}
-use Rattle.session_machine.specs.Extended.{values_fault, unless_some, parse, bind, bindable, prepared_of, with_statement, without_statement, portal_to, with_portal, orphaned, describe, described, describable, is_count, is_format, is_result_count, parameter_count, oids_of, Described, close, is_of_other, execute, execute_on, execute_first, execute_rows, execute_ran, sent_rows, progressed, at_progress, description, formats_of, is_limit, usable, reading, unless, is_taken, is_there}
+use Rattle.session_machine.specs.Extended.{values_fault, unless_some, parse, bind, bindable, prepared_of, with_statement, without_statement, portal_to, with_portal, orphaned, describe, described, is_describable, is_count, is_format, is_result_count, parameter_count, oid_at, oids_of, Described, close, is_of_other, execute, execute_on, execute_first, execute_rows, execute_ran, sent_rows, progressed, at_progress, description, formats_of, is_limit, usable, reading, unless, is_taken, is_there}
 use Rattle.session_machine.specs.Laws.{IsShort, IsValue}
 use Rattle.session_machine.proofs.Alls.{OfSome, all-append, all-map, all-filter, all-find, all-set, all-take, all-drop, and-first, and-second}
 use Rattle.session_machine.proofs.GoodValues.{AreSettings, IsGiven, OfOk, set-settings, reset-settings}
@@ -212,8 +214,7 @@ description-plain fs (Some cs) h = columns-plain cs (formats_of cs fs) h.0 h.1
 
 oids_of-length : (n : ℕ) (os : List ℕ) → length (oids_of n os) ≡ n
 oids_of-length zero os = refl
-oids_of-length (suc n) [] = ap suc (oids_of-length n [])
-oids_of-length (suc n) (o ∷ os) = ap suc (oids_of-length n os)
+oids_of-length (suc n) os = length-append (oids_of n os) (oid_at os n ∷ []) ∙ omega (arith, oids_of-length n os)
 
 oids_of-few : (n : ℕ) (os : List ℕ) → n ≤ 65535 → length (oids_of n os) ≤ 65535
 oids_of-few n os h = omega (arith, oids_of-length n os)
@@ -282,7 +283,7 @@ module _ (cat : CatalogueOf) (lawful_tables : AllByRecursion IsTable cat.tables)
   described-ok : (s : State) (t : Text) → Lawful s → IsSource t → OfOk IsDescribed (described cat s t)
   described-ok s t h k =
       bound-ok IsRead IsDescribed (reading t) _ (reading-read t k) (λ x g.
-      bound-ok Any IsDescribed (describable s x) _ (any _) (λ y u.
+      bound-ok Any IsDescribed (unless (not (is_describable s.block x)) Aborted) _ (any _) (λ y u.
       bound-ok AreColumns IsDescribed (look_up cat s x) _ (look_up-columns cat lawful_tables s x h g) (λ cs c. (few-parameters 2147483642 x g, c))))
 
   pub describe-kept : (s : State) (t : Target) → Lawful s → AllKept s (describe cat s t)

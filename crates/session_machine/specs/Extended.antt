@@ -1,6 +1,6 @@
 -- The extended query: prepared statements, portals and their runs
 -- (PostgreSQL manual, "Frontend/Backend Protocol", "Extended Query").
-use Rattle.std.specs.Prelude.{ℕ, zero, suc, ◌+◌, slice_index, List, [], ◌∷◌, ◌++◌, length, map, filter, take, drop, max, Option, Some, None, Result, Ok, Err, Bool, true, false, nat_lt, nat_le, ◌==◌, ◌&&◌, ◌||◌, not, if◌then◌else◌}
+use Rattle.std.specs.Prelude.{ℕ, zero, suc, ◌+◌, slice_get, slice_index, List, [], ◌∷◌, ◌++◌, length, map, filter, take, drop, max, Option, Some, None, Result, Ok, Err, Bool, true, false, nat_lt, nat_le, ◌==◌, ◌&&◌, ◌||◌, not, if◌then◌else◌}
 use Rattle.std.specs.List.{list_all}
 use Rattle.frame_view.specs.Frames.{FrameOf}
 use Rattle.message_view.specs.Bodies.{Parse, Bind, Target, OfStatement, OfPortal}
@@ -158,20 +158,29 @@ abbrev pub description : List ℕ → Columns → FrameOf
 description fs None = no_data
 description fs (Some cs) = row_description cs (formats_of cs fs)
 
--- each oid as it came, that of text for 0 or a missing one
-abbrev pub oid_of : ℕ → ℕ
-oid_of n = if n == 0 then 25 else n
+abbrev pub oid_or_text : Option ℕ → ℕ
+oid_or_text None = 25
+oid_or_text (Some n) = if n == 0 then 25 else n
 
+-- the oid of a parameter: as it came, that of text for 0 or a missing one
+abbrev pub oid_at : List ℕ → ℕ → ℕ
+oid_at os i = oid_or_text (slice_get os i)
+
+-- the oids of so many parameters: those of one less, and the last one's
 abbrev pub oids_of : ℕ → List ℕ → List ℕ
 oids_of zero os = []
-oids_of (suc n) [] = 25 ∷ oids_of n []
-oids_of (suc n) (o ∷ os) = oid_of o ∷ oids_of n os
+oids_of (suc n) os = oids_of n os ++ oid_at os n ∷ []
+
+abbrev pub gives_rows : Statement → Bool
+gives_rows (Show n) = true
+gives_rows (Select cs t w) = true
+gives_rows _ = false
 
 -- in a failed block a statement that gives rows isn't described
-abbrev pub describable : State → Statement → Result Statement Cause
-describable s (Show n) = let_through s.block (Show n)
-describable s (Select cs t w) = let_through s.block (Select cs t w)
-describable s st = Ok st
+abbrev pub is_describable : Block → Statement → Bool
+is_describable Failed st = not (gives_rows st)
+is_describable Outside st = true
+is_describable Inside st = true
 
 -- a statement and the columns of its rows
 pub record Described : Type 0 where
@@ -181,7 +190,7 @@ pub record Described : Type 0 where
 abbrev pub described : CatalogueOf → State → Text → Result Described Cause
 described cat s t = do
   st ← reading t
-  may ← describable s st
+  may ← unless (not (is_describable s.block st)) Aborted
   columns ← look_up cat s st
   Ok (record { it = st; columns = columns })
 

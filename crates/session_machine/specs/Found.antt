@@ -5,6 +5,8 @@ use Rattle.session_machine.specs.declared.cause.Cause.{Cause}
 use Rattle.mini_sql.specs.declared.stmt.Stmt.{Stmt}
 use Rattle.mini_sql.specs.Statements.{Statement}
 use Rattle.mini_sql.specs.Meanings.{meaning}
+use Rattle.session_machine.specs.declared.describe.Described.{Described}
+use Rattle.session_machine.specs.Extended as spec
 use Rattle.session_machine.specs.State.{PreparedOf, TableOf}
 
 -- a table that is found, or why none is
@@ -21,3 +23,11 @@ meant (Err c) = Err c
 abbrev pub found_prepared : Result (Bor PreparedOf) Cause → Result PreparedOf Cause
 found_prepared (Ok p) = Ok p.now
 found_prepared (Err c) = Err c
+
+abbrev pub described_of : Described → spec.Described
+described_of d = record { it = meaning d.statement; columns = d.names }
+
+-- a statement that is described, or why it isn't
+abbrev pub found_described : Result Described Cause → Result spec.Described Cause
+found_described (Ok d) = Ok (described_of d)
+found_described (Err c) = Err c

@@ -7,6 +7,7 @@ mod blocks;
 mod catalogue;
 mod cause;
 mod changes;
+mod describe;
 mod extended;
 mod key;
 pub mod laws;

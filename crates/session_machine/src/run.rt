@@ -25,7 +25,7 @@ fn may_end_block(statement: &Stmt<'_>) -> bool
 }
 
 /// A statement that is read, with at most 64 columns in a list.
-fn read_narrow(text: &[u8]) -> Result<Stmt<'_>, SqlFault>
+pub(crate) fn read_narrow(text: &[u8]) -> Result<Stmt<'_>, SqlFault>
     ensures reads { Reads result (statement text.now) }
     ensures narrow { IfOk result (λ s. IsNarrow (meaning s)) }
 {
