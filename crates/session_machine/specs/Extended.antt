@@ -229,10 +229,13 @@ is_limit n = nat_lt 0 n && nat_lt n 2147483648
 abbrev pub sent_rows : State → Text → List Row → List Row → FrameOf → Answer
 sent_rows s n now later last = answers (progressed s n (Remaining later)) (map data_row now ++ last ∷ [])
 
--- Where as many rows as the limit were sent the portal is suspended, else it is complete.
+-- Where as many rows as the limit are left, so many are sent and the portal is suspended.
+abbrev pub is_suspended : ℕ → ℕ → Bool
+is_suspended limit left = is_limit limit && nat_le limit left
+
 abbrev pub execute_rows : State → Text → Statement → ℕ → List Row → Answer
 execute_rows s n st limit rows =
-    if is_limit limit && nat_le limit (length rows) then sent_rows s n (take limit rows) (drop limit rows) portal_suspended
+    if is_suspended limit (length rows) then sent_rows s n (take limit rows) (drop limit rows) portal_suspended
     else sent_rows s n rows [] (command_complete (row_tag st (length rows)))
 
 abbrev pub execute_ran : Text → Ran → Answer

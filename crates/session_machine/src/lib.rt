@@ -8,6 +8,7 @@ mod catalogue;
 mod cause;
 mod changes;
 mod describe;
+mod execute;
 mod extended;
 mod key;
 pub mod laws;

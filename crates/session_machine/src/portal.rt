@@ -105,6 +105,15 @@ impl Rows {
         &self.list.as_slice()[self.from..]
     }
 
+    /// The first `count` rows that are left.
+    #[tactic(auto, using(crate::proofs::Mapped::take_mapped))]
+    pub fn first(&self, count: usize) -> &[Arc<Row>]
+        requires { count ≤ length self.now }
+        ensures { map arc_value result.now ≡ take count self.now }
+    {
+        &self.as_slice()[..count]
+    }
+
     /// What is left after the first `count`.
     pub fn after(&self, count: usize) -> Result<Rows, AllocError>
         requires { count ≤ length self.now }
