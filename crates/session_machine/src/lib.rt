@@ -25,6 +25,7 @@ mod rows;
 mod run;
 mod session;
 mod settings;
+mod step;
 mod table;
 mod text;
 mod values;
