@@ -6,8 +6,9 @@ use Rattle.std.proofs.lemmas.List.Concat.{flat_map-append}
 use Rattle.frame_view.specs.Frames.{FrameOf, spelling}
 use Rattle.session_machine.specs.declared.cause.Cause.{Cause}
 use Rattle.session_machine.specs.State.{State, Answer, and_then, commit_outside, ready}
-use Rattle.session_machine.specs.Step.{end_query}
-use Rattle.session_machine.specs.Answers.{Gave, Gives}
+use Rattle.session_machine.specs.Step.{end_query, saved}
+use Rattle.session_machine.specs.Extended.{settle}
+use Rattle.session_machine.specs.Answers.{Gave, Gives, Settles}
 
 on_ok : {E : Type 0} {P Q : Type 0} (r : Result (Unit {0}) E) → (P → Q) → OnOk r P → OnOk r Q
 on_ok (Ok u) f p = f p
@@ -32,3 +33,15 @@ pub query_fails : {E : Type 0} (old mid new : State) (before between after : Lis
     → Gives (Err c) old mid before between x → OnOk r (Gave new between after (end_query mid (Err c))) → OnOk r (Gave new before after (end_query old x))
 query_fails old mid new before between after c (Ok a) r ran g = absurd ran
 query_fails old mid new before between after c (Err d) r (e, s, w) g = rw (e, ← s, ← w) g
+
+-- an extended message, before which work was saved
+pub settled : {E : Type 0} (done : Result (Unit {0}) Cause) (start old mid new : State) (before between after : List ℕ) (x : State → Result Answer Cause) (r : Result (Unit {0}) E)
+    → old ≡ saved start → Gives done old mid before between (x old) → OnOk r (Settles done mid new between after) → OnOk r (Gave new before after (settle (saved start) (x (saved start))))
+settled done start old mid new before between after x r e ran g = rw (← e) (settled-at done old mid new before between after (x old) r ran g)
+  where
+    settled-at : {E : Type 0} (done : Result (Unit {0}) Cause) (old mid new : State) (before between after : List ℕ) (y : Result Answer Cause) (r : Result (Unit {0}) E)
+        → Gives done old mid before between y → OnOk r (Settles done mid new between after) → OnOk r (Gave new before after (settle old y))
+    settled-at (Ok u) old mid new before between after (Ok a) r (s, w) g = on_ok r (λ h. record { next = h.0 ∙ s; written = h.1 ∙ w }) g
+    settled-at (Ok u) old mid new before between after (Err d) r ran g = absurd ran
+    settled-at (Err c) old mid new before between after (Ok a) r ran g = absurd ran
+    settled-at (Err c) old mid new before between after (Err d) r (e, s, w) g = rw (e, ← s, ← w) g

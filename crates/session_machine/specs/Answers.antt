@@ -6,6 +6,7 @@ use Rattle.frame_view.specs.declared.Frame.{Frame}
 use Rattle.session_machine.specs.declared.cause.Cause.{Cause}
 use Rattle.session_machine.specs.State.{State, Answer, bound}
 use Rattle.session_machine.specs.Runs.{Ran}
+use Rattle.session_machine.specs.Extended.{refused}
 use Rattle.session_machine.specs.Step.{query_ran}
 
 -- a frame without where it lies in memory
@@ -26,3 +27,8 @@ Gives (Err c) old new before after (Ok a) = ⊥
 
 abbrev pub RunGives : Result (Unit {0}) Cause → State → State → List ℕ → List ℕ → Result Ran Cause → Type 0
 RunGives done old new before after r = Gives done old new before after (bound r (λ x. Ok (query_ran x)))
+
+-- what settling an extended message left: nothing new, or what its error makes of the session
+abbrev pub Settles : Result (Unit {0}) Cause → State → State → List ℕ → List ℕ → Type 0
+Settles (Ok u) old new before after = (new ≡ old) × (after ≡ before)
+Settles (Err c) old new before after = Gave new before after (refused old c)

@@ -1,0 +1,10 @@
+use Rattle.std.proofs.Common.{Ok}
+use Rattle.message_view.specs.Reading.{target_of}
+use Rattle.session_machine.specs.Extended.{close}
+use Rattle.session_machine.specs.State.{State, bound}
+use Rattle.session_machine.specs.Step.{reading_body}
+use Rattle.session_machine.proofs.Endings.{settled}
+use Rattle.session_machine.proofs.session.Session.answer_close.Goals as goal
+
+pub returns : goal.returns
+returns c = settled c.in_ok-done.done c.args.self.now c.save.new.self c.close_body.new.self _ _ _ _ (λ (s : State). bound (reading_body (target_of c.args.body.now)) (λ t. Ok (close s t))) c.settle.result c.in_ok-save.ensures c.in_ok-done.ensures c.settle.ensures
