@@ -1,4 +1,5 @@
 -- A session keeps its defaults, and DISCARD ALL makes it fresh again.
+use Rattle.session_machine.specs.State.{started_over}
 use Rattle.std.proofs.Common.{◌≡◌, ℕ, List, [], ◌∷◌, ◌++◌, Result, Ok, Err, refl, sym, ap, ◌∙◌, Bool, true, false}
 use Rattle.std.specs.Prelude.{if◌then◌else◌, codes}
 use Rattle.frame_view.specs.Frames.{FrameOf}
@@ -96,7 +97,7 @@ started-begun (Ok vs) s e = let e' : begun vs ≡ s = ok-inj (begun vs) s e in s
 started-begun (Err c) s e = absurd cc
 
 pub fresh-begun : (cat : CatalogueOf) (key : StartKeyOf) (s : State) → fresh cat key ≡ Ok s → s ≡ begun s.defaults
-unfolding fresh
+unfolding fresh started_over
 fresh-begun cat key s e = by_test (has_text cat.databases key.dbname) e
   where
     by_test : (b : Bool) → (if b then started (set_all (defaults cat.version) (defaults cat.version) key.parameters) else Err NoDatabase) ≡ Ok s → s ≡ begun s.defaults

@@ -1,4 +1,5 @@
 -- The values of parameters: none has a zero byte, and each is short enough for the messages that carry it.
+use Rattle.session_machine.specs.State.{started_over}
 use Rattle.std.proofs.Common.{◌≡◌, ℕ, ◌≤◌, List, [], ◌∷◌, length, filter, find, get_or, Option, Some, None, Result, Ok, Err, refl, Bool, true, false, cond, ◌&&◌, arith, leb-true, subst}
 use Rattle.std.specs.Prelude.{nat_le, option_map, if◌then◌else◌, nat_lt}
 use Rattle.std.specs.List.{AllByRecursion, AllZip, list_all}
@@ -183,7 +184,7 @@ started-settings (Ok vs) s h e = let e' : begun vs ≡ s = ok-inj (begun vs) s e
 started-settings (Err c) s h e = absurd cc
 
 pub fresh-settings : (cat : CatalogueOf) (key : StartKeyOf) (s : State) → HasNoZero cat.version × IsShort 63 cat.version → AllByRecursion IsPair key.parameters → fresh cat key ≡ Ok s → AreSettings s.defaults
-unfolding fresh
+unfolding fresh started_over
 fresh-settings cat key s v h e = by_test (has_text cat.databases key.dbname) e
   where
     by_test : (b : Bool) → (if b then started (set_all (defaults cat.version) (defaults cat.version) key.parameters) else Err NoDatabase) ≡ Ok s → AreSettings s.defaults

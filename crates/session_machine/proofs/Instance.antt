@@ -1,5 +1,6 @@
 -- The premises of the laws about reached sessions are met: a session that began fresh from a lawful
 -- catalogue and key, and was sent two frames.
+use Rattle.session_machine.specs.State.{started_over}
 use Rattle.std.proofs.Common.{◌≡◌, ℕ, ◌<◌, ◌≤◌, length, length-append, List, [], ◌∷◌, Some, None, Ok, true, refl, ltb-true, arith}
 use Rattle.std.specs.Prelude.{codes, nat_lt}
 use Rattle.std.specs.List.{AllByRecursion, list_all}
@@ -25,7 +26,7 @@ abbrev origin : State
 origin = begun (codes "" ∷ codes "UTF8" ∷ codes "ISO, MDY" ∷ codes "on" ∷ codes "postgres" ∷ codes "UTF8" ∷ codes "16.0" ∷ codes "on" ∷ codes "Europe/Zurich" ∷ codes "1" ∷ codes "public" ∷ codes "0" ∷ [])
 
 is_fresh : fresh catalogue key ≡ Ok origin
-unfolding fresh accepted_of
+unfolding fresh started_over accepted_of
 is_fresh = refl
 
 city-lawful : IsLawfulTable city

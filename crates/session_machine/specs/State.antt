@@ -233,8 +233,12 @@ abbrev pub started : Result Values Cause → Result State Cause
 started (Ok vs) = Ok (begun vs)
 started (Err c) = Err c
 
+-- the defaults of the catalogue's version, changed by the key's parameters
+unfoldable pub started_over : CatalogueOf → StartKeyOf → Result State Cause
+started_over cat key = started (set_all (defaults cat.version) (defaults cat.version) key.parameters)
+
 unfoldable pub fresh : CatalogueOf → StartKeyOf → Result State Cause
-fresh cat key = if has_text cat.databases key.dbname then started (set_all (defaults cat.version) (defaults cat.version) key.parameters) else Err NoDatabase
+fresh cat key = if has_text cat.databases key.dbname then started_over cat key else Err NoDatabase
 
 abbrev pub all_reports_from : List Parameter → List Text → List FrameOf
 all_reports_from (p ∷ ps) (v ∷ vs) = parameter_status (name p) v ∷ all_reports_from ps vs

@@ -5,7 +5,7 @@ ghost use Rattle.std.specs.Arc.{arc_value};
 ghost use Rattle.frame_view.specs.Frames.{spelling};
 ghost use Rattle.session_machine.specs.Answers.{Gave};
 ghost use Rattle.session_machine.specs.Parameters.{reported_parameters};
-ghost use Rattle.session_machine.specs.State.{all_reports_from, ready, report_of, reports_from, status};
+ghost use Rattle.session_machine.specs.State.{all_reports, all_reports_from, ready, report_of, reports_from, status};
 ghost use Rattle.message_view.specs.Parts.{status_byte};
 
 use crate::block::Block;
@@ -94,5 +94,12 @@ impl Session {
         )?;
         self.reported = self.work.values.reported(alloc)?;
         put_ready_for_query(out, status_of(self.block))
+    }
+
+    /// Writes one ParameterStatus for each reported parameter.
+    pub(crate) fn put_all_reports(&self, out: &mut BytesMut) -> Result<(), AllocError>
+        ensures { OnOk result (out.new.items ≡ out.old.items ++ flat_map spelling (all_reports self.now)) }
+    {
+        put_all_reports(reported_parameters(), self.reported.as_slice(), out)
     }
 }

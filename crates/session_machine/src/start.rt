@@ -1,6 +1,6 @@
 //! The start of a session (PostgreSQL manual, "Start-up").
 ghost use Rattle.std.specs.Prelude.{◌≡◌, IfOk};
-ghost use Rattle.session_machine.specs.State.{fresh, set_all};
+ghost use Rattle.session_machine.specs.State.{fresh, set_all, started, started_over};
 
 use crate::catalogue::Catalogue;
 use crate::cause::Cause;
@@ -34,6 +34,32 @@ fn set_all(
     Ok(Ok(values))
 }
 
+/// A session at its start, with these defaults changed by the parameters of a key.
+fn started(
+    alloc: Global,
+    defaults: &Values,
+    parameters: &[StartParameter],
+) -> Result<Result<Session, StartError>, AllocError>
+    ensures { IfOk result (λ r. r ≡ started (set_all defaults.now defaults.now parameters.now)) }
+{
+    match set_all(alloc, defaults, parameters)? {
+        Ok(values) => Ok(Ok(Session::begun(alloc, values)?)),
+        Err(cause) => Ok(Err(cause)),
+    }
+}
+
+#[tactic(auto, unfolding(crate::specs::State::started_over))]
+fn started_over(
+    alloc: Global,
+    catalogue: &Catalogue,
+    key: &StartKey,
+) -> Result<Result<Session, StartError>, AllocError>
+    ensures { IfOk result (λ r. r ≡ started_over catalogue.now key.now) }
+{
+    let defaults = Values::defaults(alloc, catalogue.version().as_slice())?;
+    started(alloc, &defaults, &key.parameters)
+}
+
 impl Session {
     /// A fresh session of a start key over a catalogue, or why there is none. The outer error is
     /// want of memory.
@@ -48,10 +74,6 @@ impl Session {
         if !has_text(catalogue.databases().as_slice(), key.dbname.as_slice()) {
             return Ok(Err(Cause::NoDatabase));
         }
-        let defaults = Values::defaults(alloc, catalogue.version().as_slice())?;
-        match set_all(alloc, &defaults, &key.parameters)? {
-            Ok(values) => Ok(Ok(Session::begun(alloc, values)?)),
-            Err(cause) => Ok(Err(cause)),
-        }
+        started_over(alloc, catalogue, key)
     }
 }
