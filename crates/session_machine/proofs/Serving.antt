@@ -54,7 +54,6 @@ taken frame bytes (AFrame k body rest) e t =
   where
     sizes : (w r b n : ℕ) → w + r ≡ b → b ≡ 5 + n + r → w ≡ 5 + n
     sizes w r b n x y = omega (arith, x, y)
-
     made : (k : ℕ) (body : List ℕ) (frame : Frame) → k ≡ frame.kind → body ≡ frame.body.now → record { kind = k; body = body } ≡ frame_of frame
     made k body frame x y = rw (x, y) refl
 taken frame bytes (Lacks n) e t = absurd t
@@ -75,14 +74,14 @@ module _ (cat : CatalogueOf) (old new : State) (bytes : List ℕ) (at : ℕ) (wr
       let after : List FrameOf = client_frames (drop (length frame.whole.now) (drop at bytes)) in
       let sent : List FrameOf = (step cat old (frame_of frame)).replies in
       let on : (run_frames cat old (client_frames (drop at bytes))).replies ≡ sent ++ (run_frames cat (step cat old (frame_of frame)).next after).replies =
-      ap (λ (fs : List FrameOf). (run_frames cat old fs).replies) k.first ∙ answered-on cat old (frame_of frame) after in
+          ap (λ (fs : List FrameOf). (run_frames cat old fs).replies) k.first ∙ answered-on cat old (frame_of frame) after in
       let place : drop (at + length frame.whole.now) bytes ≡ drop (length frame.whole.now) (drop at bytes) = sym (drop-drop (length frame.whole.now) at bytes) in
       ap (λ (b : List ℕ). b ++ flat_map spelling (run_frames cat new (client_frames (drop (at + length frame.whole.now) bytes))).replies) g.written
-      ∙ ap (λ (bs : List ℕ). (written ++ flat_map spelling sent) ++ flat_map spelling (run_frames cat new (client_frames bs)).replies) place
-      ∙ ap (λ (s : State). (written ++ flat_map spelling sent) ++ flat_map spelling (run_frames cat s after).replies) g.next
-      ∙ append_assoc written (flat_map spelling sent) (flat_map spelling (run_frames cat (step cat old (frame_of frame)).next after).replies)
-      ∙ ap (λ (b : List ℕ). written ++ b) (sym (flat_map-append spelling sent (run_frames cat (step cat old (frame_of frame)).next after).replies))
-      ∙ ap (λ (rs : List FrameOf). written ++ flat_map spelling rs) (sym on) ∙ so_far
+          ∙ ap (λ (bs : List ℕ). (written ++ flat_map spelling sent) ++ flat_map spelling (run_frames cat new (client_frames bs)).replies) place
+          ∙ ap (λ (s : State). (written ++ flat_map spelling sent) ++ flat_map spelling (run_frames cat s after).replies) g.next
+          ∙ append_assoc written (flat_map spelling sent) (flat_map spelling (run_frames cat (step cat old (frame_of frame)).next after).replies)
+          ∙ ap (λ (b : List ℕ). written ++ b) (sym (flat_map-append spelling sent (run_frames cat (step cat old (frame_of frame)).next after).replies))
+          ∙ ap (λ (rs : List FrameOf). written ++ flat_map spelling rs) (sym on) ∙ so_far
 
 pub taken_within : (frame : Frame) (bytes : List ℕ) (at : ℕ) → at ≤ length bytes → Tells (Whole frame) (drop at bytes) (front Client limit (drop at bytes)) → at + length frame.whole.now ≤ length bytes
 taken_within frame bytes at h t = let k = taken frame (drop at bytes) (front Client limit (drop at bytes)) refl t in omega (arith, k.within, length-drop at bytes, h)
