@@ -2,3 +2,4 @@ pub mod Faults
 pub mod Files
 pub mod Line
 pub mod Replay
+pub mod Told

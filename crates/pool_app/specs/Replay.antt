@@ -20,7 +20,8 @@ use Rattle.session_machine.specs.Service.{service}
 
 abbrev pub city : TableOf
 city = record {
-  name = codes "city"; columns = codes "name" ∷ codes "country" ∷ [];
+  name = codes "city";
+  columns = codes "name" ∷ codes "country" ∷ [];
   rows = (Some (codes "Bern") ∷ Some (codes "CH") ∷ []) ∷ (Some (codes "Oslo") ∷ Some (codes "NO") ∷ []) ∷ (Some (codes "Nuuk") ∷ None ∷ []) ∷ [];
 }
 
@@ -81,21 +82,21 @@ abbrev pub no_database : List ℕ
 no_database = spelling (error_response (codes "FATAL") (codes "3D000") (codes "database does not exist"))
 
 -- the key word of the standing settings has pid 1 and secret 2
-abbrev pub passed : Text → List ℕ → List ℕ
-passed user rest = spelling (authentication 0 []) ++ service standing_catalogue (key_of user) 1 2 rest ++ ending (frames Client 2147483647 rest)
+abbrev pub passed : CatalogueOf → Text → List ℕ → List ℕ
+passed cat user rest = spelling (authentication 0 []) ++ service cat (key_of user) 1 2 rest ++ ending (frames Client 2147483647 rest)
 
-abbrev pub logged_in : Option (Text × Text) → List ℕ → List ℕ
-logged_in None rest = refusal UnsupportedProtocol
-logged_in (Some p) rest = if has_text users p.0 then (if same_text p.1 (codes "shop") then passed p.0 rest else no_database) else no_password
+abbrev pub logged_in : CatalogueOf → Option (Text × Text) → List ℕ → List ℕ
+logged_in cat None rest = refusal UnsupportedProtocol
+logged_in cat (Some p) rest = if has_text users p.0 then (if same_text p.1 (codes "shop") then passed cat p.0 rest else no_database) else no_password
 
 -- a first packet that isn't whole is answered by nothing
-abbrev pub replies_from : FirstFront → List ℕ
-replies_from (LacksFirst n) = []
-replies_from (AFirst (Start text) rest) = logged_in (wanted (startup_of text)) rest
-replies_from (AFirst (Cancels pid secret) rest) = refusal UnsupportedProtocol
-replies_from (AFirst AsksTls rest) = refusal UnsupportedProtocol
-replies_from (AFirst AsksGss rest) = refusal UnsupportedProtocol
-replies_from (FaultyFirst f) = refusal UnsupportedProtocol
+abbrev pub replies_from : CatalogueOf → FirstFront → List ℕ
+replies_from cat (LacksFirst n) = []
+replies_from cat (AFirst (Start text) rest) = logged_in cat (wanted (startup_of text)) rest
+replies_from cat (AFirst (Cancels pid secret) rest) = refusal UnsupportedProtocol
+replies_from cat (AFirst AsksTls rest) = refusal UnsupportedProtocol
+replies_from cat (AFirst AsksGss rest) = refusal UnsupportedProtocol
+replies_from cat (FaultyFirst f) = refusal UnsupportedProtocol
 
 unfoldable pub replies : List ℕ → List ℕ
-replies bytes = replies_from (first_front bytes)
+replies bytes = replies_from standing_catalogue (first_front bytes)

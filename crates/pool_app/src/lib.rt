@@ -4,5 +4,7 @@
 pub mod fault;
 pub mod files;
 pub mod line;
+pub mod replay;
+mod standing;
 #[cfg(test)]
 mod tests;

@@ -1,10 +1,10 @@
 //! The standing settings of `replay`: its users, its database and its key word.
-ghost use Rattle.std.specs.Prelude.{◌≡◌, IfOk, Some};
-ghost use Rattle.pool_app.specs.Replay.{key_of, standing_catalogue, users};
+ghost use Rattle.std.specs.Prelude.{◌≡◌, IfOk};
+ghost use Rattle.pool_app.specs.Replay.{key_of, users};
 ghost use Rattle.session_machine.specs.State.{has_text};
 
 use message_view::KeyWord;
-use session_machine::{Catalogue, Row, StartKey, Table, Text};
+use session_machine::{StartKey, Text};
 use std::alloc::{AllocError, Global};
 
 /// The name of the standing database.

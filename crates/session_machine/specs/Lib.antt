@@ -13,3 +13,7 @@ pub mod Step
 pub mod Service
 pub mod Answers
 pub mod Laws
+pub mod CatalogueCodes
+pub mod Catalogues
+pub mod FieldsLeft
+pub mod Drafts

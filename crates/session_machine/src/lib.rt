@@ -5,6 +5,12 @@ mod bind;
 mod block;
 mod blocks;
 mod catalogue;
+mod catalogue_draft;
+mod catalogue_fault;
+mod catalogue_fields;
+mod catalogue_lines;
+#[cfg(test)]
+mod catalogue_tests;
 mod cause;
 mod changes;
 mod describe;
@@ -35,6 +41,7 @@ mod work;
 
 pub use block::Block;
 pub use catalogue::Catalogue;
+pub use catalogue_fault::{CatalogueCause, CatalogueFault};
 pub use cause::Cause;
 pub use key::{StartKey, StartParameter};
 pub use parameter::Parameter;

@@ -1,18 +1,18 @@
-use Rattle.std.proofs.Common.{arith, ◌+◌, ◌≤◌, length}
-use Rattle.frame_view.specs.Answers.{Tells}
-use Rattle.session_machine.proofs.Serving.{frame_answered, frames_ended, taken_some, taken_within}
+use Rattle.std.proofs.Common.{arith}
+use Rattle.frame_view.specs.declared.Side.TheVariants.{Client}
+use Rattle.frame_view.proofs.Taking.{taken_at}
+use Rattle.session_machine.proofs.Serving.{frame_answered, frames_ended}
 use Rattle.session_machine.proofs.session.Session.answer_all.Goals as goal
 
 pub loop-frame-smaller : goal.loop-frame-smaller
 loop-frame-smaller c =
-    let within = taken_within c.in-Whole.frame c.args.bytes.now c.loop-frame.at c.loop-frame.invariant.within c.in-Whole.ensures.tells in
-    let some = taken_some c.in-Whole.frame c.args.bytes.now c.loop-frame.at c.in-Whole.ensures.tells in
-    omega (arith, within, some)
+    let k = taken_at Client 2147483647 c.in-Whole.frame c.args.bytes.now c.loop-frame.at c.loop-frame.invariant.within c.in-Whole.ensures.tells in
+    omega (arith, k.within, k.some)
 
 pub loop-frame-preserved : goal.loop-frame-preserved
 loop-frame-preserved c = record {
-  within = taken_within c.in-Whole.frame c.args.bytes.now c.loop-frame.at c.loop-frame.invariant.within c.in-Whole.ensures.tells;
-  so_far = frame_answered c.args.catalogue.now c.loop-frame.self c.step.new.self c.args.bytes.now c.loop-frame.at c.loop-frame.out.items c.step.new.out.items _ c.in-Whole.frame c.in-Whole.ensures.tells c.in_ok-step.ensures.ok c.loop-frame.invariant.so_far;
+  within = (taken_at Client 2147483647 c.in-Whole.frame c.args.bytes.now c.loop-frame.at c.loop-frame.invariant.within c.in-Whole.ensures.tells).within;
+  so_far = frame_answered c.args.catalogue.now c.loop-frame.self c.step.new.self c.args.bytes.now c.loop-frame.at c.loop-frame.out.items c.step.new.out.items _ c.in-Whole.frame c.loop-frame.invariant.within c.in-Whole.ensures.tells c.in_ok-step.ensures.ok c.loop-frame.invariant.so_far;
 }
 
 pub returns : goal.returns
