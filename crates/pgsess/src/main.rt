@@ -4,15 +4,20 @@
 use pool_app::fault::{self, AppFault};
 use pool_app::files;
 use pool_app::line::{self, Job};
+use pool_app::replay::replay;
 use std::alloc::Global;
 use std::process::ExitCode;
-use std::rt::Files;
+use std::rt::{Files, Input, Print};
 use std::{env, io};
 
 /// Does the job. Until the pooler serves, `serve` and `stub` read and check their files.
-fn run<'a, R: Files>(rt: &R, alloc: Global, job: Job<'a>) -> Result<(), AppFault<'a>> {
+fn run<'a, R: Files + Input + Print>(
+    rt: &R,
+    alloc: Global,
+    job: Job<'a>,
+) -> Result<(), AppFault<'a>> {
     match job {
-        Job::Replay => Ok(()),
+        Job::Replay => replay(alloc, rt.reader(), &mut io::writer(rt)),
         Job::Serve {
             ini,
             users,

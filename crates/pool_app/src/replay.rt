@@ -8,10 +8,13 @@ ghost use Rattle.frame_view.specs.declared.Side.TheVariants.{Client};
 ghost use Rattle.message_view.specs.Reading.{startup_of};
 ghost use Rattle.message_view.specs.Refusals.{refusal};
 ghost use Rattle.pool_app.specs.Replay.{accepted, ending, logged_in, named_user, no_database, no_password, passed, refused_front, replies, replies_from, standing_catalogue, wanted};
+ghost use Rattle.std.specs.Io.KnownBytes.{Appends};
 ghost use Rattle.pool_app.specs.Told.{refused_by, wanted_by};
 ghost use Rattle.frame_view.specs.Frames.{Faulty};
 
-use crate::standing::{DATABASE, KEY_WORD, is_user, key_of};
+use crate::fault::AppFault;
+use crate::files::{MOST_BYTES, ReadFault, read_all};
+use crate::standing::{DATABASE, KEY_WORD, catalogue, is_user, key_of};
 use bytes::BytesMut;
 use frame_view::{FirstStep, FrameFault, Side, Step, client, first_packet, next_frame};
 use message_view::{
@@ -19,6 +22,7 @@ use message_view::{
 };
 use session_machine::{Catalogue, solo_bytes};
 use std::alloc::{AllocError, Global};
+use std::io::{ErrorKind, Read, Write};
 
 /// The greatest length of a frame.
 const LONGEST_FRAME: u32 = 2_147_483_647;
@@ -199,6 +203,49 @@ fn put_replies(
         FirstStep::Cancel { .. } => put_refusal(out, Refusal::UnsupportedProtocol),
         FirstStep::Tls => put_refusal(out, Refusal::UnsupportedProtocol),
         FirstStep::Gss => put_refusal(out, Refusal::UnsupportedProtocol),
-        FirstStep::Bad(_) => put_refusal(out, Refusal::UnsupportedProtocol),
+        FirstStep::Bad(_fault) => put_refusal(out, Refusal::UnsupportedProtocol),
     }
+}
+
+/// What a client of the standing settings is answered: its bytes in, its replies out. The only
+/// error is want of memory.
+#[tactic(auto, unfolding(crate::specs::Replay::replies))]
+pub fn replies(alloc: Global, bytes: &[u8]) -> Result<Vec<u8>, AllocError>
+    ensures { IfOk result (λ v. v.items ≡ replies bytes.now) }
+{
+    let catalogue = catalogue(alloc)?;
+    let mut out = BytesMut::new(alloc);
+    put_replies(alloc, &catalogue, bytes, &mut out)?;
+    Vec::from_slice(alloc, out.as_slice())
+}
+
+/// The fault of standard input.
+fn unread<'a>(fault: ReadFault) -> AppFault<'a> {
+    match fault {
+        ReadFault::Io(error) if error.kind() == ErrorKind::OutOfMemory => AppFault::Memory,
+        _ => AppFault::Stdin,
+    }
+}
+
+/// Answers one client: reads all of its bytes, at most 16,777,216, and then writes what it is
+/// answered. Where the input can't be read or is longer (`Stdin`), or memory is refused (`Memory`),
+/// nothing is written; `Stdout` where the output can't be written.
+pub fn replay<'a, R: Read + Drop, W: Write>(
+    alloc: Global,
+    input: R,
+    output: &mut W,
+) -> Result<(), AppFault<'a>>
+    ensures { OnOk result (IfSome (R.remaining input) (λ xs. Appends (W.contents output.old) (W.contents output.new) (replies xs))) }
+{
+    let bytes = match read_all(alloc, input, MOST_BYTES) {
+        Ok(bytes) => bytes,
+        Err(fault) => return Err(unread(fault)),
+    };
+    let Ok(answer) = replies(alloc, bytes.as_slice()) else {
+        return Err(AppFault::Memory);
+    };
+    if output.write_all(answer.as_slice()).is_err() || output.flush().is_err() {
+        return Err(AppFault::Stdout);
+    }
+    Ok(())
 }

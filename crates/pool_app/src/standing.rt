@@ -1,10 +1,10 @@
 //! The standing settings of `replay`: its users, its database and its key word.
 ghost use Rattle.std.specs.Prelude.{◌≡◌, IfOk};
-ghost use Rattle.pool_app.specs.Replay.{key_of, users};
+ghost use Rattle.pool_app.specs.Replay.{key_of, standing_catalogue, users};
 ghost use Rattle.session_machine.specs.State.{has_text};
 
 use message_view::KeyWord;
-use session_machine::{StartKey, Text};
+use session_machine::{Catalogue, StartKey, Text};
 use std::alloc::{AllocError, Global};
 
 /// The name of the standing database.
@@ -36,4 +36,18 @@ pub(crate) fn key_of(alloc: Global, user: &[u8]) -> Result<StartKey, AllocError>
         user: Text::from_slice(alloc, user)?,
         parameters: Vec::new(alloc),
     })
+}
+
+/// The standing catalogue, as a file has it.
+const CATALOGUE: &[u8] =
+    b"version\t16.0\ndatabase\tshop\ntable\tcity\tname\tcountry\nrow\tBern\tCH\nrow\tOslo\tNO\nrow\tNuuk\t\\N\n";
+
+/// The standing catalogue.
+pub(crate) fn catalogue(alloc: Global) -> Result<Catalogue, AllocError>
+    ensures { IfOk result (λ c. c ≡ standing_catalogue) }
+{
+    match Catalogue::read(alloc, CATALOGUE) {
+        Ok(catalogue) => Ok(catalogue),
+        Err(_) => Err(AllocError),
+    }
 }
