@@ -1,0 +1,51 @@
+# `make run` and `make test` set up all that they need; the first build proves every crate.
+SHELL := /bin/bash
+.SHELLFLAGS := -eu -o pipefail -c
+.DELETE_ON_ERROR:
+.DEFAULT_GOAL := build
+.NOTPARALLEL:
+.PHONY: build run test install bench clean
+
+PREFIX ?= /usr/local
+DESTDIR ?=
+
+program := crates/pgsess/out/pgsess
+sources := crates.txt $(shell find crates -name out -prune -o -name must-fail -prune -o \( -name '*.rt' -o -name '*.antt' \) -print)
+
+# the program, as `rt ci` or an earlier build left it; else proved and built now
+$(program): $(sources)
+	@command -v rt >/dev/null || { echo "rt isn't in PATH: install the Rattle kit first (rt version)"; exit 1; }
+	@echo "building pgsess: a first build proves every crate below it, which takes some minutes (now $$(date +%T))"
+	@cd crates/pgsess && rt run -- --help >/dev/null
+	@touch $(program)
+	@echo "built $(program) ($$(date +%T))"
+
+build/pgsess: $(program)
+	@mkdir -p build
+	@cp $(program) $@.new
+	@mv $@.new $@
+	@echo "$@ is there"
+
+build: build/pgsess
+
+# the main job: one client's session, from bytes to bytes
+run: build/pgsess
+	@scripts/show.sh build/pgsess
+
+# the whole gate
+test:
+	rt ci
+	scripts/rows.sh $(program)
+	scripts/refuse-growth.sh $(program)
+	PGSESS=$(program) scripts/cli.sh
+
+install: build/pgsess
+	install -d "$(DESTDIR)$(PREFIX)/bin"
+	install -m 755 build/pgsess "$(DESTDIR)$(PREFIX)/bin/pgsess"
+
+bench: build/pgsess
+	bench/replay.sh build/pgsess
+	bench/tables.sh build/pgsess
+
+clean:
+	rm -rf build crates/*/out

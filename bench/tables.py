@@ -1,0 +1,38 @@
+#!/usr/bin/env python3
+"""What a statement costs as a temporary table grows, and beside one. Usage: tables.py PROGRAM"""
+import sys
+
+from timing import START, judged, query, seconds
+
+STATEMENTS = 20_000
+TIMES = 5
+MOST_GROWTH = 2
+MOST_BESIDE = 1.2
+
+CREATE = query("CREATE TEMP TABLE t (a text)")
+INSERT = query("INSERT INTO t VALUES ('x')")
+SHOW = query("SHOW application_name")
+
+
+def main():
+    if len(sys.argv) != 2:
+        sys.exit(__doc__)
+
+    def taken(data):
+        return seconds([sys.argv[1], "replay"], START + data, TIMES)
+
+    quarter = STATEMENTS // 4
+    bare, empty = taken(b""), taken(CREATE)
+    first, three, whole = (taken(CREATE + INSERT * n) for n in (quarter, 3 * quarter, STATEMENTS))
+    print(f"{STATEMENTS} INSERTs into one temporary table, outside a block: {whole - empty:.3f} s")
+    print(f"  first quarter: {1e6 * (first - empty) / quarter:.2f} us a statement, last quarter: {1e6 * (whole - three) / quarter:.2f} us")
+    grown = judged("  last quarter to first", (whole - three) / (first - empty), MOST_GROWTH)
+    alone = taken(SHOW * STATEMENTS) - bare
+    beside = taken(CREATE + INSERT * STATEMENTS + SHOW * STATEMENTS) - whole
+    print(f"{STATEMENTS} SHOWs: {1e6 * alone / STATEMENTS:.2f} us each without a table, {1e6 * beside / STATEMENTS:.2f} us beside that table")
+    free = judged("  beside the table to without", beside / alone, MOST_BESIDE)
+    sys.exit(not (grown and free))
+
+
+if __name__ == "__main__":
+    main()

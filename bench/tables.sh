@@ -1,0 +1,5 @@
+#!/usr/bin/env bash
+# tables.sh [PROGRAM]: 20,000 INSERTs into one temporary table, and 20,000 SHOWs with and without that table.
+set -euo pipefail
+cd "$(dirname "$0")/.."
+exec python3 bench/tables.py "$(realpath "${1:-crates/pgsess/out/pgsess}")"

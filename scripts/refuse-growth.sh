@@ -1,0 +1,68 @@
+#!/usr/bin/env bash
+# refuse-growth.sh [PROGRAM]: runs the program with its first allocation refused, then with its second, and so on until
+# none is left to refuse. Each run must end with status 1 and the line `pgsess: memory` alone, or with status 0 and the
+# whole answer. Where a file's line can't be kept, `serve` may name it: `pgsess: C8 line N` or `pgsess: U3 line N`.
+set -euo pipefail
+cd "$(dirname "$0")/.."
+program=$(realpath "${1:-crates/pgsess/out/pgsess}")
+work=$(mktemp -d)
+trap 'rm -rf "$work"' EXIT
+gcc -O1 -Wall -Wextra -shared -fPIC -o "$work/refuse.so" scripts/refuse_growth.c
+head -c 32 /dev/zero >"$work/seed.bin"
+
+passed=0
+failed=0
+
+# one_run NUMBER INPUT WORD.. : runs the program with this call refused; its status
+one_run() {
+    local number=$1 input=$2
+    shift 2
+    rm -f "$work/struck"
+    local status=0
+    timeout 60 env REFUSE_CALL="$number" REFUSE_STRUCK="$work/struck" LD_PRELOAD="$work/refuse.so" \
+        "$program" "$@" <"$input" >"$work/out" 2>"$work/err" || status=$?
+    echo "$status"
+}
+
+# holds STATUS ANSWER LINES : the run told want of memory and nothing else, or gave the whole answer
+holds() {
+    case $1 in
+    0) [ ! -s "$work/err" ] && cmp -s "$work/out" "$2" ;;
+    1) [ ! -s "$work/out" ] && [ "$(wc -l <"$work/err")" = 1 ] && grep -qE "^pgsess: ($3)\$" "$work/err" ;;
+    *) false ;;
+    esac
+}
+
+# sweep NAME ANSWER LINES INPUT WORD.. : each call refused in turn
+sweep() {
+    local name=$1 answer=$2 lines=$3 input=$4 number=0 told=0 faults=0 status
+    shift 4
+    while :; do
+        number=$((number + 1))
+        status=$(one_run "$number" "$input" "$@")
+        [ "$number" -eq 1 ] && [ ! -e "$work/struck" ] && { echo "FAILED $name: nothing was refused"; failed=$((failed + 1)); return; }
+        if ! holds "$status" "$answer" "$lines"; then
+            faults=$((faults + 1))
+            echo "FAILED $name, call $number: status $status, $(wc -c <"$work/out") bytes out, standard error: $(head -c 200 "$work/err")"
+        fi
+        [ -e "$work/struck" ] || break
+        [ "$status" -eq 1 ] && told=$((told + 1))
+    done
+    if [ "$faults" -eq 0 ] && [ "$status" -eq 0 ]; then
+        passed=$((passed + 1))
+        echo "ok     $name: $((number - 1)) calls refused, $told told, $((number - 1 - told)) answered all the same"
+    else
+        failed=$((failed + 1))
+        echo "FAILED $name"
+    fi
+}
+
+: >"$work/nothing"
+for row in bind_values suspended_portal set_show_discard; do
+    sweep "replay of $row" "tests/rows/$row.out" memory "tests/rows/$row.in" replay
+done
+sweep 'serve with the example files' "$work/nothing" 'memory|C8 line [0-9]+|U3 line [0-9]+' /dev/null \
+    serve --ini examples/pgsess.ini --users examples/users.txt --key-seed "$work/seed.bin"
+
+echo "refuse-growth: $passed passed, $failed failed"
+[ "$failed" -eq 0 ]
