@@ -32,9 +32,10 @@ build: build/pgsess
 run: build/pgsess
 	@scripts/show.sh build/pgsess
 
-# the whole gate
+# the whole gate; rt ci leaves the program that it proved and built
 test:
 	rt ci
+	@$(MAKE) --no-print-directory $(program)
 	scripts/rows.sh $(program)
 	scripts/refuse-growth.sh $(program)
 	PGSESS=$(program) scripts/cli.sh
