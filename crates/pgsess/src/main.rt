@@ -7,7 +7,7 @@ use pool_app::line::{self, Job};
 use pool_app::replay::replay;
 use std::alloc::Global;
 use std::process::ExitCode;
-use std::rt::{Files, Input, Print};
+use std::rt::Files;
 use std::{env, io};
 
 /// Does the job. Until the pooler serves, `serve` and `stub` read and check their files.

@@ -4,8 +4,7 @@ use Rattle.ini_config.specs.declared.faults.Cause.{Cause as IniCause}
 use Rattle.ini_config.specs.declared.faults.Cause.TheVariants as ini
 use Rattle.user_file.specs.declared.faults.Cause.{Cause as UsersCause}
 use Rattle.user_file.specs.declared.faults.Cause.TheVariants as users
-use Rattle.pool_app.specs.declared.fault.CatalogueCause.{CatalogueCause}
-use Rattle.pool_app.specs.declared.fault.CatalogueCause.TheVariants as catalogue
+use Rattle.session_machine.specs.CatalogueCodes.{code_of}
 use Rattle.pool_app.specs.declared.fault.AppFault.{AppFault}
 use Rattle.pool_app.specs.declared.fault.AppFault.TheVariants.{File, Ini, Users, Catalogue, Stdin, Stdout, Memory, Port}
 
@@ -27,12 +26,6 @@ users_code users.BadQuoting = codes "U1"
 users_code users.NameTwice = codes "U2"
 users_code users.Memory = codes "U3"
 
-abbrev pub catalogue_code : CatalogueCause → Text
-catalogue_code catalogue.NotALine = codes "K1"
-catalogue_code catalogue.NameTwice = codes "K2"
-catalogue_code catalogue.WrongCount = codes "K3"
-catalogue_code catalogue.Memory = codes "K4"
-
 abbrev pub joined : Text → Text → Text
 joined first second = first ++ second
 
@@ -43,7 +36,7 @@ abbrev pub fault_line : AppFault → Text
 fault_line (File path) = codes "pgsess: file " ++ path.now
 fault_line (Ini fault) = line_fault (ini_code fault.cause) fault.line
 fault_line (Users fault) = line_fault (users_code fault.cause) fault.line
-fault_line (Catalogue cause line) = line_fault (catalogue_code cause) line
+fault_line (Catalogue fault) = line_fault (code_of fault.cause) fault.line
 fault_line Stdin = codes "pgsess: stdin"
 fault_line Stdout = codes "pgsess: stdout"
 fault_line Memory = codes "pgsess: memory"

@@ -3,10 +3,12 @@ use Rattle.std.specs.Prelude.{◌≡◌, ◌≢◌, ℕ, List, length, Result, O
 use Rattle.std.specs.Borrow.{Bor}
 use Rattle.ini_config.specs.Reading as ini
 use Rattle.ini_config.specs.declared.option_values.Settings.{Settings}
+use Rattle.session_machine.specs.Catalogues as catalogue
+use Rattle.session_machine.specs.State.{CatalogueOf}
 use Rattle.user_file.specs.Users as users
 use Rattle.user_file.specs.declared.user_table.UserRow.{UserRow}
 use Rattle.pool_app.specs.declared.fault.AppFault.{AppFault}
-use Rattle.pool_app.specs.declared.fault.AppFault.TheVariants.{File, Ini, Users}
+use Rattle.pool_app.specs.declared.fault.AppFault.TheVariants.{Catalogue, File, Ini, Users}
 
 -- the settings that the lines spell, or their fault
 abbrev pub IsSettingsOf : List (List ℕ) → Result Settings AppFault → Type 0
@@ -24,3 +26,9 @@ IsUsersOf lines (Err other) = ⊥
 abbrev pub IsSeedOf : Bor (List ℕ) → List ℕ → Result (List ℕ) AppFault → Type 0
 IsSeedOf path bytes (Ok seed) = (length bytes ≡ 32) × (seed ≡ bytes)
 IsSeedOf path bytes (Err fault) = (length bytes ≢ 32) × (fault ≡ File path)
+
+-- the catalogue that the lines spell, or their fault
+abbrev pub IsCatalogueOf : List (List ℕ) → Result CatalogueOf AppFault → Type 0
+IsCatalogueOf lines (Ok read) = catalogue.IsReadOf lines (Ok read)
+IsCatalogueOf lines (Err (Catalogue fault)) = catalogue.IsReadOf lines (Err fault)
+IsCatalogueOf lines (Err other) = ⊥

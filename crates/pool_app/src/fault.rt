@@ -3,21 +3,9 @@ ghost use Rattle.std.specs.Prelude.{◌≡◌, IfOk, string_bytes};
 ghost use Rattle.pool_app.specs.Faults as spec;
 
 use itoa::Buffer;
+use session_machine::CatalogueFault;
 use std::alloc::{AllocError, Global};
 use std::io;
-
-/// What is wrong with a line of a catalogue.
-#[derive(Clone, Copy, Debug, PartialEq, Eq)]
-pub enum CatalogueCause {
-    /// Not a line of a catalogue, or a line that is missing or out of place.
-    NotALine,
-    /// The name of a database, a table or a column for the second time.
-    NameTwice,
-    /// A row with more or fewer values than its table has columns.
-    WrongCount,
-    /// No memory was left to keep what the line says.
-    Memory,
-}
 
 /// A fault that ends the program. Its texts are those of the command line.
 #[derive(Debug, Drop, PartialEq, Eq)]
@@ -28,8 +16,8 @@ pub enum AppFault<'a> {
     Ini(ini_config::IniFault),
     /// A faulty line of the user file.
     Users(user_file::UserFault),
-    /// A faulty line of the catalogue: its cause and its number.
-    Catalogue(CatalogueCause, usize),
+    /// A faulty line of the catalogue.
+    Catalogue(CatalogueFault),
     /// Standard input can't be read, or is too long.
     Stdin,
     /// Standard output can't be written.
@@ -65,17 +53,6 @@ fn users_code(cause: user_file::Cause) -> &'static str
     }
 }
 
-fn catalogue_code(cause: CatalogueCause) -> &'static str
-    ensures { result.now ≡ spec.catalogue_code cause }
-{
-    match cause {
-        CatalogueCause::NotALine => "K1",
-        CatalogueCause::NameTwice => "K2",
-        CatalogueCause::WrongCount => "K3",
-        CatalogueCause::Memory => "K4",
-    }
-}
-
 /// A text, and one that follows it.
 fn joined(alloc: Global, first: &str, second: &str) -> Result<String, AllocError>
     ensures { IfOk result (λ t. string_bytes t ≡ spec.joined first.now second.now) }
@@ -104,7 +81,7 @@ pub fn fault_line(alloc: Global, fault: &AppFault<'_>) -> Result<String, AllocEr
         AppFault::File(path) => joined(alloc, "pgsess: file ", path),
         AppFault::Ini(fault) => line_fault(alloc, ini_code(fault.cause), fault.line),
         AppFault::Users(fault) => line_fault(alloc, users_code(fault.cause), fault.line),
-        AppFault::Catalogue(cause, line) => line_fault(alloc, catalogue_code(*cause), *line),
+        AppFault::Catalogue(fault) => line_fault(alloc, fault.cause.code(), fault.line),
         AppFault::Stdin => String::from_str(alloc, "pgsess: stdin"),
         AppFault::Stdout => String::from_str(alloc, "pgsess: stdout"),
         AppFault::Memory => String::from_str(alloc, "pgsess: memory"),

@@ -1,10 +1,11 @@
 //! The files that a command line names.
 ghost use Rattle.std.specs.Prelude.{◌≡◌, ◌<◌, ◌≤◌, ◌^◌, IfOk, IfSome, length};
-ghost use Rattle.text_lines.specs.Lines.{lines};
+ghost use Rattle.text_lines.specs.Lines.{lines, raw_lines};
 ghost use Rattle.pool_app.specs.Files as spec;
 
 use crate::fault::AppFault;
 use ini_config::{Settings, read_settings};
+use session_machine::Catalogue;
 use std::alloc::Global;
 use std::io::{ErrorKind, Read};
 use std::rt::Files;
@@ -121,11 +122,22 @@ pub fn read_inputs<'a, R: Files>(
     })
 }
 
-/// The text of the stand-in server's catalogue.
+/// The catalogue of a file's text.
+pub fn catalogue_of<'a>(alloc: Global, text: &[u8]) -> Result<Catalogue, AppFault<'a>>
+    ensures { spec.IsCatalogueOf (raw_lines text.now) result }
+{
+    match Catalogue::read(alloc, text) {
+        Ok(catalogue) => Ok(catalogue),
+        Err(fault) => Err(AppFault::Catalogue(fault)),
+    }
+}
+
+/// The stand-in server's catalogue.
 pub fn read_catalogue<'a, R: Files>(
     rt: &R,
     alloc: Global,
     path: &'a str,
-) -> Result<Vec<u8>, AppFault<'a>> {
-    read_file(rt, alloc, path)
+) -> Result<Catalogue, AppFault<'a>> {
+    let text = read_file(rt, alloc, path)?;
+    catalogue_of(alloc, text.as_slice())
 }

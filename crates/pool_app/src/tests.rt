@@ -1,7 +1,10 @@
 //! The command line, the lines of faults, and key seeds.
-use crate::fault::{AppFault, CatalogueCause, fault_line, status};
+use crate::fault::{AppFault, fault_line, status};
 use crate::files::{read_all, seed_of, settings_of, users_of};
 use crate::line::{Job, LineFault, read_line};
+use crate::replay::{replay, replies};
+use message_view::{Refusal, refusal_bytes};
+use session_machine::{CatalogueCause, CatalogueFault};
 use std::alloc::{AllocError, Global};
 use std::test::Fail;
 
@@ -82,22 +85,34 @@ fn lines_and_statuses_of_faults(rt: HostRuntime) -> Result<(), Fail> {
         (ini, "pgsess: C3 line 7", 1),
         (users, "pgsess: U2 line 2", 1),
         (
-            AppFault::Catalogue(CatalogueCause::NotALine, 1),
+            AppFault::Catalogue(CatalogueFault {
+                cause: CatalogueCause::NotALine,
+                line: 1,
+            }),
             "pgsess: K1 line 1",
             1,
         ),
         (
-            AppFault::Catalogue(CatalogueCause::NameTwice, 20),
+            AppFault::Catalogue(CatalogueFault {
+                cause: CatalogueCause::NameTwice,
+                line: 20,
+            }),
             "pgsess: K2 line 20",
             1,
         ),
         (
-            AppFault::Catalogue(CatalogueCause::WrongCount, 300),
+            AppFault::Catalogue(CatalogueFault {
+                cause: CatalogueCause::WrongNumberOfValues,
+                line: 300,
+            }),
             "pgsess: K3 line 300",
             1,
         ),
         (
-            AppFault::Catalogue(CatalogueCause::Memory, 4),
+            AppFault::Catalogue(CatalogueFault {
+                cause: CatalogueCause::Memory,
+                line: 4,
+            }),
             "pgsess: K4 line 4",
             1,
         ),
@@ -126,5 +141,26 @@ fn seeds_and_whole_reads(rt: HostRuntime) -> Result<(), Fail> {
         Err(_) => assert!(rt; false),
     }
     assert!(rt; read_all(rt.alloc(), bytes.as_slice(), 3).is_err());
+    Ok(())
+}
+
+/// The first packet of the user ann for the database shop.
+const START: &[u8] = b"\0\0\0\x20\0\x03\0\0user\0ann\0database\0shop\0\0";
+
+const WELCOME: &[u8] =
+    b"R\0\0\0\x08\0\0\0\0S\0\0\0\x16application_name\0\0S\0\0\0\x19client_encoding\0UTF8\0S\0\0\0\x17DateStyle\0ISO, MDY\0S\0\0\0\x19integer_datetimes\0on\0S\0\0\0\x1bIntervalStyle\0postgres\0S\0\0\0\x19server_encoding\0UTF8\0S\0\0\0\x18server_version\016.0\0S\0\0\0\x23standard_conforming_strings\0on\0S\0\0\0\x11TimeZone\0UTC\0K\0\0\0\x0c\0\0\0\x01\0\0\0\x02Z\0\0\0\x05I";
+
+#[test]
+fn replays_one_client(rt: HostRuntime) -> Result<(), Fail> {
+    let alloc = rt.alloc();
+    assert_eq!(rt; replies(alloc, START)?.as_slice(), WELCOME);
+    let mut output = Vec::new(alloc);
+    assert!(rt; replay(alloc, START, &mut output).is_ok());
+    assert_eq!(rt; output.as_slice(), WELCOME);
+    assert_eq!(rt;
+        replies(alloc, b"\0\0\0\x08\x04\xd2\x16\x2f")?.as_slice(),
+        refusal_bytes(Refusal::UnsupportedProtocol)
+    );
+    assert_eq!(rt; replies(alloc, b"\0\0\0")?.as_slice(), b"".as_slice());
     Ok(())
 }

@@ -99,3 +99,15 @@ impl Catalogue {
         &self.tables
     }
 }
+
+#[cfg(test)]
+impl Catalogue {
+    /// The catalogue of these parts.
+    pub(crate) fn of(version: Text, databases: Shared<Text>, tables: Shared<Table>) -> Catalogue {
+        Catalogue {
+            version,
+            databases,
+            tables,
+        }
+    }
+}

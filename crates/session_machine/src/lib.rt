@@ -35,6 +35,8 @@ mod settings;
 mod start;
 mod step;
 mod table;
+#[cfg(test)]
+mod tests;
 mod text;
 mod values;
 mod work;

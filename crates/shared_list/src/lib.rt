@@ -4,6 +4,8 @@
 
 mod log;
 mod shared;
+#[cfg(test)]
+mod tests;
 
 pub use log::Log;
 pub use shared::Shared;
