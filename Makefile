@@ -44,9 +44,9 @@ install: build/pgsess
 	install -d "$(DESTDIR)$(PREFIX)/bin"
 	install -m 755 build/pgsess "$(DESTDIR)$(PREFIX)/bin/pgsess"
 
+# both run; the status says whether a bound was missed
 bench: build/pgsess
-	bench/replay.sh build/pgsess
-	bench/tables.sh build/pgsess
+	@status=0; bench/replay.sh build/pgsess || status=$$?; bench/tables.sh build/pgsess || status=$$?; exit $$status
 
 clean:
 	rm -rf build crates/*/out
