@@ -32,9 +32,10 @@ build: build/pgsess
 run: build/pgsess
 	@scripts/show.sh build/pgsess
 
-# the whole gate
+# the whole gate; rt ci leaves the program that it proved and built
 test:
 	rt ci
+	@$(MAKE) --no-print-directory $(program)
 	scripts/rows.sh $(program)
 	scripts/refuse-growth.sh $(program)
 	PGSESS=$(program) scripts/cli.sh
@@ -43,9 +44,9 @@ install: build/pgsess
 	install -d "$(DESTDIR)$(PREFIX)/bin"
 	install -m 755 build/pgsess "$(DESTDIR)$(PREFIX)/bin/pgsess"
 
+# both run; the status says whether a bound was missed
 bench: build/pgsess
-	bench/replay.sh build/pgsess
-	bench/tables.sh build/pgsess
+	@status=0; bench/replay.sh build/pgsess || status=$$?; bench/tables.sh build/pgsess || status=$$?; exit $$status
 
 clean:
 	rm -rf build crates/*/out

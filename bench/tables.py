@@ -1,11 +1,12 @@
 #!/usr/bin/env python3
-"""What a statement costs as a temporary table grows, and beside one. Usage: tables.py PROGRAM"""
+"""What a statement costs as a temporary table grows, beside one, and beside prepared statements. Usage: tables.py PROGRAM"""
 import sys
 
-from timing import START, judged, query, seconds
+from timing import START, SYNC, judged, parse, query, seconds
 
 STATEMENTS = 20_000
-TIMES = 5
+PREPARED = 1_000
+TIMES = 9
 MOST_GROWTH = 2
 MOST_BESIDE = 1.2
 
@@ -31,7 +32,11 @@ def main():
     beside = taken(CREATE + INSERT * STATEMENTS + SHOW * STATEMENTS) - whole
     print(f"{STATEMENTS} SHOWs: {1e6 * alone / STATEMENTS:.2f} us each without a table, {1e6 * beside / STATEMENTS:.2f} us beside that table")
     free = judged("  beside the table to without", beside / alone, MOST_BESIDE)
-    sys.exit(not (grown and free))
+    prepared = b"".join(parse(f"s{i}", "SHOW TimeZone") for i in range(PREPARED)) + SYNC
+    among = taken(prepared + SHOW * STATEMENTS) - taken(prepared)
+    print(f"  {1e6 * among / STATEMENTS:.2f} us each beside {PREPARED} prepared statements")
+    apart = judged("  beside the prepared statements to without", among / alone, MOST_BESIDE)
+    sys.exit(not (grown and free and apart))
 
 
 if __name__ == "__main__":

@@ -11,9 +11,20 @@ WELCOME = TOP / "tests/rows/start.out"
 LIMIT = 16_777_216
 
 
+def message(kind, body):
+    return kind + (4 + len(body)).to_bytes(4, "big") + body
+
+
 def query(text):
-    body = text.encode() + b"\0"
-    return b"Q" + (4 + len(body)).to_bytes(4, "big") + body
+    return message(b"Q", text.encode() + b"\0")
+
+
+def parse(name, text):
+    """A Parse that names no types."""
+    return message(b"P", name.encode() + b"\0" + text.encode() + b"\0\0\0")
+
+
+SYNC = message(b"S", b"")
 
 
 def seconds(words, data, times):

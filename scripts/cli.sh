@@ -109,7 +109,6 @@ serve() {
 serve 'good files' 0 '' good.ini good.txt good.bin
 serve 'empty files' 0 '' empty empty good.bin
 serve 'the example' 0 '' "$here/examples/pgsess.ini" "$here/examples/users.txt" good.bin
-result 'the example in the gate' 0 "$(cmp "$here/examples/pgsess.ini" "$here/crates/pgsess/data/pgsess.ini" && cmp "$here/examples/users.txt" "$here/crates/pgsess/data/users.txt"; echo $?)"
 serve 'no ini file' 1 'pgsess: file nowhere.ini' nowhere.ini nowhere.txt nowhere.bin
 serve 'no user file' 1 'pgsess: file nowhere.txt' good.ini nowhere.txt nowhere.bin
 serve 'no seed file' 1 'pgsess: file nowhere.bin' good.ini good.txt nowhere.bin
@@ -155,26 +154,32 @@ users 'bad quoting' 'U1 line 2' '"x" "y"\n"a" "b\n'
 users 'empty name' 'U1 line 1' '"" "b"\n'
 users 'name twice' 'U2 line 4' '"a" "x"\n\n; c\n"a" "y"\n'
 
-# ---- standard streams, once the program replays
+# ---- standard streams
 
-if printf '\0\0\0\10\4\322\26\57' | "$program" replay 2>err.txt | head -c 1 | grep -q N; then
-    head -c 16777217 /dev/zero | "$program" replay >out.txt 2>err.txt
-    result 'oversized input: status' 1 $?
-    result 'oversized input' 'pgsess: stdin' "$(cat err.txt)"
-    result 'oversized input: standard output' 0 "$(wc -c <out.txt)"
-    "$program" replay >out.txt 2>err.txt <&-
-    result 'closed input: status' 1 $?
-    result 'closed input' 'pgsess: stdin' "$(cat err.txt)"
-    ends 'empty input' 0 '' replay
-    printf '\0\0\0\10\4\322\26\57' | "$program" replay 2>err.txt >/dev/full
-    result 'full output: status' 1 $?
-    result 'full output' 'pgsess: stdout' "$(cat err.txt)"
-    printf '\0\0\0\10\4\322\26\57' | "$program" replay 2>err.txt >&-
-    result 'closed output: status' 1 $?
-    result 'closed output' 'pgsess: stdout' "$(cat err.txt)"
-else
-    echo 'replay has no such job yet: its streams were skipped'
-fi
+# a refusal of 57 bytes: an SSLRequest isn't served
+request='\0\0\0\10\4\322\26\57'
+answered=$(printf "$request" | "$program" replay 2>err.txt | wc -c)
+result 'a request: answer' 57 "$answered"
+result 'a request: standard error' 0 "$(wc -c <err.txt)"
+ends 'empty input' 0 '' replay
+head -c 16777216 /dev/zero | "$program" replay >out.txt 2>err.txt
+result 'largest input: status' 0 $?
+result 'largest input: standard error' 0 "$(wc -c <err.txt)"
+result 'largest input: standard output' 57 "$(wc -c <out.txt)"
+head -c 16777217 /dev/zero | "$program" replay >out.txt 2>err.txt
+result 'oversized input: status' 1 $?
+result 'oversized input' 'pgsess: stdin' "$(cat err.txt)"
+result 'oversized input: standard output' 0 "$(wc -c <out.txt)"
+"$program" replay >out.txt 2>err.txt <&-
+result 'closed input: status' 1 $?
+result 'closed input' 'pgsess: stdin' "$(cat err.txt)"
+result 'closed input: standard output' 0 "$(wc -c <out.txt)"
+printf "$request" | "$program" replay 2>err.txt >/dev/full
+result 'full output: status' 1 $?
+result 'full output' 'pgsess: stdout' "$(cat err.txt)"
+printf "$request" | "$program" replay 2>err.txt >&-
+result 'closed output: status' 1 $?
+result 'closed output' 'pgsess: stdout' "$(cat err.txt)"
 "$program" --help >/dev/full 2>err.txt
 result 'help on a full output: status' 0 $?
 

@@ -1,7 +1,7 @@
 #!/usr/bin/env bash
 # refuse-growth.sh [PROGRAM]: runs the program with its first allocation refused, then with its second, and so on until
 # none is left to refuse. Each run must end with status 1 and the line `pgsess: memory` alone, or with status 0 and the
-# whole answer. Where a file's line can't be kept, `serve` may name it: `pgsess: C8 line N` or `pgsess: U3 line N`.
+# whole answer. Where a file's line can't be kept, `serve` and `stub` may name it, as in `pgsess: C8 line 7`.
 set -euo pipefail
 cd "$(dirname "$0")/.."
 program=$(realpath "${1:-crates/pgsess/out/pgsess}")
@@ -63,6 +63,7 @@ for row in bind_values suspended_portal set_show_discard; do
 done
 sweep 'serve with the example files' "$work/nothing" 'memory|C8 line [0-9]+|U3 line [0-9]+' /dev/null \
     serve --ini examples/pgsess.ini --users examples/users.txt --key-seed "$work/seed.bin"
+sweep 'stub with the example file' "$work/nothing" 'memory|K4 line [0-9]+' /dev/null stub --port 5432 --catalogue examples/catalogue.tsv
 
 echo "refuse-growth: $passed passed, $failed failed"
 [ "$failed" -eq 0 ]
