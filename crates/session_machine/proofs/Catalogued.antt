@@ -1,5 +1,5 @@
 -- Lines of a catalogue file that were read so far, and the rest of the file.
-use Rattle.std.proofs.Common.{◌≡◌, ◌+◌, ℕ, zero, suc, List, [], ◌∷◌, ◌++◌, length, take, drop, map, Option, Some, None, Result, Ok, Err, refl, sym, ap, ◌∙◌, inl, inr, arith, append_assoc, append-nil, length-take-le, take_all}
+use Rattle.std.proofs.Common.{◌≡◌, ◌+◌, ℕ, zero, suc, List, [], ◌∷◌, ◌++◌, length, take, drop, map, Option, Some, None, Result, Ok, Err, refl, sym, ap, ◌∙◌, inl, inr, subst, ◌≤◌, true, is_some, arith, append_assoc, append-nil, length-take-le, take_all}
 use Rattle.std.proofs.Math.Numerals.{add-one}
 use Rattle.std.proofs.lemmas.List.{take-append-drop, length-map, map-append}
 use Rattle.text_lines.specs.Files.{Took, or_later}
@@ -109,7 +109,13 @@ module _ (all : List Text) (n : ℕ) (line : Text) (rest : List Text) (p : Parts
   pub refused : (next new : PartsOf) (c : CatalogueCause) → Took Memory (fault_of p (said line)) next new (Err c)
       → IsReadOf all (Err (record { cause = c; line = n + 1 }))
   refused next new c (inl own) = inl (ap (λ f. judged f (parts (map said all))) (first_faulty c own))
-  refused next new c (inr want) = inr (want.1, faultless-next want.0)
+  refused next new c (inr want) = inr (want.1, omega arith, let k = so_far.counted in omega arith, faultless-next want.0)
+
+-- where there is a version there is a line
+not_empty : (all : List Text) (p : PartsOf) → p ≡ parts (map said all) → is_some p.version ≡ true → 1 ≤ length all
+unfolding parts
+not_empty [] p same is = let none = ap (λ q. is_some q.version) same in absurd (cc)
+not_empty (line ∷ all) p same is = omega arith
 
 -- the end of a file without a faulty line
 pub ended : (all : List Text) (n : ℕ) (p : PartsOf) (r : Result CatalogueOf CatalogueFault) → ReadUpTo all n [] p → IsWholeOf p n r → IsReadOf all r
@@ -121,4 +127,10 @@ ended all n p (Err f) so_far (inl is) =
     inl (ap (λ f. judged f (parts (map said all))) end.1 ∙ ap (judged None) (sym end.2) ∙ is)
 ended all n p (Err f) so_far (inr want) =
     let end = at_end all n p so_far in
-    inr (want.0, ap (λ ls. first_fault [] (map said ls)) (take_all f.line all (let k = end.0 in let j = want.1 in omega arith)) ∙ end.1)
+    let is_last : f.line ≡ length all = want.1 ∙ sym end.0 in
+    inr (
+      want.0,
+      subst (λ k. 1 ≤ k) (sym is_last) (not_empty all p end.2 want.2),
+      omega (arith, is_last),
+      ap (λ ls. first_fault [] (map said ls)) (take_all f.line all (omega (arith, is_last))) ∙ end.1,
+    )

@@ -1,5 +1,5 @@
 -- The catalogue file of the stand-in server: what its lines spell, or its first fault.
-use Rattle.std.specs.Prelude.{◌≡◌, ◌⊎◌, ℕ, ◌+◌, ◌-◌, List, [], ◌∷◌, ◌++◌, map, take, length, slice_get, slice_index, Option, Some, None, Result, Ok, Err, Bool, true, false, not, ◌==◌, ◌&&◌, ◌||◌, nat_le, if◌then◌else◌, codes}
+use Rattle.std.specs.Prelude.{◌≡◌, ◌⊎◌, ◌≤◌, ℕ, ◌+◌, ◌-◌, List, [], ◌∷◌, ◌++◌, map, take, length, slice_get, slice_index, Option, Some, None, Result, Ok, Err, Bool, true, false, not, ◌==◌, ◌&&◌, ◌||◌, nat_le, if◌then◌else◌, codes}
 use Rattle.std.specs.List.{list_all}
 use Rattle.mini_sql.specs.Words.{Text, same_text, is_between, is_digit}
 use Rattle.text_lines.specs.Files.{or_later}
@@ -169,7 +169,8 @@ judged None p = whole p.version p.databases p.tables
 abbrev pub catalogue_of : List Text → Result CatalogueOf (CatalogueCause × ℕ)
 catalogue_of lines = judged (first_fault [] (map said lines)) (parts (map said lines))
 
--- what reading answers; memory may be wanting at a line up to which there is no fault
+-- what reading answers; memory may be wanting at a line of the file, up to which there is no fault
 abbrev pub IsReadOf : List Text → Result CatalogueOf CatalogueFault → Type 0
 IsReadOf lines (Ok c) = catalogue_of lines ≡ Ok c
-IsReadOf lines (Err f) = (catalogue_of lines ≡ Err (f.cause, f.line)) ⊎ ((f.cause ≡ Memory) × IsFaultless (take f.line lines))
+IsReadOf lines (Err f) =
+    (catalogue_of lines ≡ Err (f.cause, f.line)) ⊎ ((f.cause ≡ Memory) × (1 ≤ f.line) × (f.line ≤ length lines) × IsFaultless (take f.line lines))

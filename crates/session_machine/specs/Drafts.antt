@@ -1,5 +1,5 @@
 -- What one more line adds to what the lines before it spell, and the end of the file.
-use Rattle.std.specs.Prelude.{◌≡◌, ◌⊎◌, ℕ, List, [], ◌∷◌, ◌++◌, Some, Result, Ok, Err, false}
+use Rattle.std.specs.Prelude.{◌≡◌, ◌⊎◌, ℕ, List, [], ◌∷◌, ◌++◌, Some, Result, Ok, Err, false, true, is_some}
 use Rattle.session_machine.specs.State.{CatalogueOf, TableOf, Row}
 use Rattle.session_machine.specs.Catalogues.{PartsOf, Said, SaysNothing, SaysVersion, SaysDatabase, SaysTable, SaysRow, Unreadable, whole}
 use Rattle.session_machine.specs.declared.catalogue_fault.CatalogueCause.TheVariants.{Memory}
@@ -22,7 +22,7 @@ with_said p (SaysTable n cs) = record p { untouched = false; tables = p.tables +
 with_said p (SaysRow vs) = record p { untouched = false; tables = with_last_row p.tables vs }
 with_said p Unreadable = p
 
--- what the end of the file answers after so many lines
+-- what the end of the file answers after so many lines; memory may be wanting where there is a version
 abbrev pub IsWholeOf : PartsOf → ℕ → Result CatalogueOf CatalogueFault → Type 0
 IsWholeOf p n (Ok c) = whole p.version p.databases p.tables ≡ Ok c
-IsWholeOf p n (Err f) = (whole p.version p.databases p.tables ≡ Err (f.cause, f.line)) ⊎ ((f.cause ≡ Memory) × (f.line ≡ n))
+IsWholeOf p n (Err f) = (whole p.version p.databases p.tables ≡ Err (f.cause, f.line)) ⊎ ((f.cause ≡ Memory) × (f.line ≡ n) × (is_some p.version ≡ true))

@@ -5,7 +5,7 @@ ghost use Rattle.text_lines.specs.Files.{Took};
 ghost use Rattle.session_machine.specs.Catalogues.{SaysRow, SaysTable, SaysVersion, SaysDatabase, fault_of, last_of, row_fault, said, value_of};
 ghost use Rattle.session_machine.specs.Drafts.{IsWholeOf, with_row, with_said};
 ghost use Rattle.session_machine.specs.declared.catalogue_fault.CatalogueCause.TheVariants.{Memory};
-ghost use Rattle.session_machine.specs.FieldsLeft.{fields_left, said_by};
+ghost use Rattle.session_machine.specs.FieldsLeft.{fields_left};
 ghost use Rattle.session_machine.specs.State.{has_text, table_name};
 
 use crate::catalogue::Catalogue;

@@ -1,5 +1,5 @@
 //! Why a catalogue file is refused.
-ghost use Rattle.std.specs.Prelude.{◌≡◌, codes};
+ghost use Rattle.std.specs.Prelude.{◌≡◌};
 
 use thiserror::Error;
 

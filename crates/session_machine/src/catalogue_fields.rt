@@ -1,8 +1,8 @@
 //! The fields of a line of a catalogue file.
-ghost use Rattle.std.specs.Prelude.{◌≡◌, ◌<◌, ◌^◌, ◌≤◌, nat_le, map, length, Option, Some, None, if◌then◌else◌, IfOk};
+ghost use Rattle.std.specs.Prelude.{◌≡◌, nat_le, map, length, Option, Some, None, if◌then◌else◌, IfOk};
 ghost use Rattle.std.specs.Arc.{arc_value};
 ghost use Rattle.std.specs.List.{list_all};
-ghost use Rattle.session_machine.specs.Catalogues.{fields, is_lower_name, is_value, value_of};
+ghost use Rattle.session_machine.specs.Catalogues.{fields, is_in_lower_name, is_lower_name, is_value, starts_lower_name, value_of};
 ghost use Rattle.session_machine.specs.FieldsLeft.{fields_left};
 ghost use Rattle.session_machine.specs.Runs.{are_distinct};
 ghost use Rattle.session_machine.specs.State.{has_text};
@@ -144,20 +144,20 @@ const LONGEST_VALUE: usize = 1_048_576;
 const LONGEST_NAME: usize = 63;
 
 fn starts_lower_name(byte: u8) -> bool
-    ensures { result ≡ Rattle.session_machine.specs.Catalogues.starts_lower_name byte }
+    ensures { result ≡ starts_lower_name byte }
 {
     (byte >= b'a' && byte <= b'z') || byte == b'_'
 }
 
 fn is_in_lower_name(byte: u8) -> bool
-    ensures { result ≡ Rattle.session_machine.specs.Catalogues.is_in_lower_name byte }
+    ensures { result ≡ is_in_lower_name byte }
 {
     starts_lower_name(byte) || (byte >= b'0' && byte <= b'9')
 }
 
 /// Whether each byte may stand in a name.
 fn has_name_bytes(text: &[u8]) -> bool
-    ensures { result ≡ list_all Rattle.session_machine.specs.Catalogues.is_in_lower_name text.now }
+    ensures { result ≡ list_all is_in_lower_name text.now }
 {
     text.iter().all(|byte| is_in_lower_name(*byte))
 }
