@@ -45,3 +45,6 @@ answer secret user salt = codes "md5" ++ encode_lower (md5 (stored secret user +
 abbrev pub accepts_plain : Secret → Text → Text → Bool
 accepts_plain (Plain own) user password = bytes_eq password own
 accepts_plain (Md5 own) user password = bytes_eq (digits password user) own
+
+abbrev pub accepts_md5 : Secret → Text → Text → Text → Bool
+accepts_md5 secret user salt given = bytes_eq given (answer secret user salt)

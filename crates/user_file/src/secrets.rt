@@ -125,4 +125,13 @@ impl Secret {
             Secret::Md5(own) => is_same(digits(password, user).as_slice(), own.as_slice()),
         }
     }
+
+    /// Whether it is the right answer of this user to an MD5 question with this salt.
+    ///
+    /// It takes no memory, and compares as [`Secret::accepts_plain`] does.
+    pub fn accepts_md5(&self, user: &[u8], salt: [u8; 4], answer: &[u8]) -> bool
+        ensures { result ≡ spec.accepts_md5 self.now user.now salt answer.now }
+    {
+        is_same(answer, self.answer(user, salt).as_slice())
+    }
 }

@@ -80,6 +80,10 @@ fn answers(rt: HostRuntime) -> Result<(), Fail> {
     let want = b"md596838e208aad1ff8fc396693d03e488d";
     assert_eq!(rt; plain.answer(b"bc", salt).as_slice(), want.as_slice());
     assert_eq!(rt; stored.answer(b"bc", salt).as_slice(), want.as_slice());
+    assert!(rt; plain.accepts_md5(b"bc", salt, want));
+    assert!(rt; stored.accepts_md5(b"bc", salt, want));
+    assert!(rt; !plain.accepts_md5(b"bc", [1, 2, 3, 5], want));
+    assert!(rt; !plain.accepts_md5(b"ann", salt, want));
     Ok(())
 }
 

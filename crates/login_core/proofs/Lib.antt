@@ -1,0 +1,9 @@
+pub mod Talking
+pub mod Endings
+pub mod Owning
+pub mod Telling
+pub mod Growing
+pub mod Turning
+pub mod Taking
+pub mod Starting
+pub mod Hearing

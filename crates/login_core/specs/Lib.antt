@@ -1,0 +1,5 @@
+pub mod Talk
+pub mod Dialogue
+pub mod Solo
+pub mod Logins
+pub mod Laws

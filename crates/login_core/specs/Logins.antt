@@ -1,0 +1,197 @@
+-- A login under way, and what its calls answer.
+use Rattle.std.specs.Prelude.{◌≡◌, ◌⊎◌, ℕ, ◌+◌, ◌≤◌, ◌<◌, List, [], ◌∷◌, ◌++◌, length, Result, Ok, Err, Bool, true, false, IsOk}
+use Rattle.std.specs.Arc.{arc_value}
+use Rattle.std.specs.declared.sync.Arc.{Arc}
+use Rattle.frame_view.specs.Frames.{Start}
+use Rattle.message_view.specs.declared.KeyWord.{KeyWord}
+use Rattle.message_view.specs.declared.refusal.Refusal.{Refusal}
+use Rattle.message_view.specs.declared.refusal.Refusal.TheVariants.{OutOfMemory}
+use Rattle.message_view.specs.Reading.{startup_of}
+use Rattle.ini_config.specs.declared.option_values.Settings.{Settings}
+use Rattle.user_file.specs.declared.user_table.UserRow.{UserRow}
+use Rattle.session_machine.specs.State.{StartKeyOf}
+use Rattle.login_core.specs.declared.steps.Question.{Question}
+use Rattle.login_core.specs.declared.steps.Question.TheVariants as question
+use Rattle.login_core.specs.declared.steps.Failure.{Failure}
+use Rattle.login_core.specs.declared.steps.Failure.TheVariants as failure
+use Rattle.login_core.specs.declared.steps.LoginStep.{LoginStep}
+use Rattle.login_core.specs.declared.steps.LoginStep.TheVariants as step
+use Rattle.login_core.specs.declared.dialogue.Rules.{Rules}
+use Rattle.login_core.specs.declared.dialogue.Verdict.{Verdict}
+use Rattle.login_core.specs.declared.dialogue.Verdict.TheVariants as verdict
+use Rattle.login_core.specs.declared.dialogue.Place.{Place}
+use Rattle.login_core.specs.declared.dialogue.Place.TheVariants as place
+use Rattle.login_core.specs.Talk.{Cut, says, follow, talk}
+use Rattle.login_core.specs.Talk.Cut.{Whole, Need, Bad}
+use Rattle.login_core.specs.Talk.Reaction.{Passes, Stops}
+use Rattle.login_core.specs.Talk.End.{Passed, Stopped}
+use Rattle.login_core.specs.Dialogue.{Rows, row_in, Reacts, Dialogue, Packet, First, Reason, Refused, Failed, Left, ToLink, ToConsole, Stage, AtFirst, Asked, packet, react, hear, login_among, key_of, asked, no_encryption, asks_cleartext, wrong_password, no_database, ok, wrong}
+
+-- what it waits for: a packet, the word to go on, or nothing any more
+pub data Hearing : Type 0 where
+  Hears : Stage → Hearing
+  Arriving : StartKeyOf → Hearing
+  Over : Hearing
+
+pub record LoginView : Type 0 where
+  pub settings : Settings
+  pub users : List UserRow
+  pub word : KeyWord
+  pub hearing : Hearing
+  -- the bytes of the packet that it waits for
+  pub held : List ℕ
+
+abbrev pub login_view : Settings → List UserRow → KeyWord → Hearing → List ℕ → LoginView
+login_view settings users word hearing held = record { settings = settings; users = users; word = word; hearing = hearing; held = held }
+
+abbrev pub rows_of : LoginView → Rows
+rows_of v = row_in v.settings v.users
+
+abbrev pub with_held : LoginView → List ℕ → LoginView
+with_held v held = login_view v.settings v.users v.word v.hearing held
+
+-- ---- what is still said
+
+-- when these bytes come
+abbrev pub goes_from : Rows → KeyWord → Hearing → List ℕ → List ℕ → Dialogue
+goes_from rows word (Hears stage) held more = hear rows word stage (held ++ more)
+goes_from rows word (Arriving key) held more = follow more (λ s. talk packet (react rows word) 1 s more) (asked rows word key)
+goes_from rows word Over held more = record { pieces = []; ended = Stopped Left }
+
+abbrev pub goes_on : LoginView → List ℕ → Dialogue
+goes_on v more = goes_from (rows_of v) v.word v.hearing v.held more
+
+-- A login tells the bytes that it took and the pieces that it gave: whatever comes, the whole login says
+-- these pieces and what is still said.
+abbrev pub Tells : LoginView → List ℕ → List (List ℕ) → Type 0
+Tells v taken given = (more : List ℕ) → login_among (rows_of v) v.word (taken ++ more) ≡ says given (goes_on v more)
+
+-- ---- what is held
+
+-- it isn't more than its packet, and there is room for what it lacks
+abbrev pub FitsCut : Cut Packet Reason → ℕ → Type 0
+FitsCut (Whole p rest) here = rest ≡ []
+FitsCut (Need missing) here = here + missing ≤ 10001
+FitsCut (Bad reason) here = Unit {0}
+
+abbrev pub Fits : Hearing → List ℕ → Type 0
+Fits (Hears stage) held = FitsCut (packet stage held) (length held)
+Fits (Arriving key) held = held ≡ []
+Fits Over held = held ≡ []
+
+-- the bytes that are known to be missing
+abbrev pub missing_of : Cut Packet Reason → ℕ
+missing_of (Whole p rest) = 0
+missing_of (Need missing) = missing
+missing_of (Bad reason) = 0
+
+abbrev pub missing : Hearing → List ℕ → ℕ
+missing (Hears stage) held = missing_of (packet stage held)
+missing (Arriving key) held = 0
+missing Over held = 0
+
+-- ---- what a call answers
+
+abbrev pub question_bytes : Question → List ℕ
+question_bytes question.Encryption = no_encryption
+question_bytes question.Cleartext = asks_cleartext
+question_bytes (question.Md5 frame) = frame
+
+abbrev pub failure_bytes : Failure → List ℕ
+failure_bytes failure.WrongPassword = wrong_password
+failure_bytes failure.NoDatabase = no_database
+
+-- what is said at a step, before what is said from there on
+abbrev pub after : LoginStep → List ℕ → Dialogue → Dialogue
+after step.More more rest = rest
+after (step.Arrived key) more rest = rest
+after (step.Ask q) more rest = says (question_bytes q ∷ []) rest
+after (step.Passed key) more rest = record { pieces = ok ∷ []; ended = Passed (ToLink (arc_value key)) more }
+after step.Console more rest = record { pieces = []; ended = Passed ToConsole more }
+after (step.Refused refusal) more rest = record { pieces = []; ended = Stopped (Refused refusal) }
+after (step.Failed f) more rest = record { pieces = failure_bytes f ∷ []; ended = Stopped Failed }
+after step.Left more rest = record { pieces = []; ended = Stopped Left }
+
+-- a start message that gives a key
+abbrev pub IsKeyed : Rows → Cut Packet Reason → Type 0
+IsKeyed rows (Whole (First (Start text)) rest) = IsOk (key_of rows (startup_of text))
+IsKeyed rows _ = ⊥
+
+abbrev pub GivesKey : Rows → Hearing → List ℕ → Type 0
+GivesKey rows (Hears stage) held = IsKeyed rows (packet stage held)
+GivesKey rows (Arriving key) held = ⊥
+GivesKey rows Over held = ⊥
+
+-- what it says is said; or a growth was refused while the key was made
+abbrev pub OrNoMemory : LoginStep → Type 0 → Type 0 → Type 0
+OrNoMemory (step.Refused refusal) said keyed = said ⊎ ((refusal ≡ OutOfMemory) × keyed)
+OrNoMemory _ said keyed = said
+
+-- after More and Ask bytes are known to be missing; the key that arrived is waited with; the others are ends
+abbrev pub LeadsTo : LoginStep → Hearing → List ℕ → Type 0
+LeadsTo step.More hearing held = 0 < missing hearing held
+LeadsTo (step.Ask q) hearing held = 0 < missing hearing held
+LeadsTo (step.Arrived key) hearing held = hearing ≡ Arriving (arc_value key)
+LeadsTo (step.Passed key) hearing held = hearing ≡ Over
+LeadsTo step.Console hearing held = hearing ≡ Over
+LeadsTo (step.Refused refusal) hearing held = hearing ≡ Over
+LeadsTo (step.Failed f) hearing held = hearing ≡ Over
+LeadsTo step.Left hearing held = hearing ≡ Over
+
+-- these bytes were taken, and this was answered
+pub record Heard (old : LoginView) (bytes : List ℕ) (s : LoginStep) (new : LoginView) : Type 0 where
+  pub said : OrNoMemory s ((more : List ℕ) → goes_on old (bytes ++ more) ≡ after s more (goes_on new more)) (GivesKey (rows_of old) old.hearing (old.held ++ bytes))
+  pub leads : LeadsTo s new.hearing new.held
+  pub settings : new.settings ≡ old.settings
+  pub users : new.users ≡ old.users
+  pub word : new.word ≡ old.word
+
+-- ---- the parts of a call
+
+abbrev pub rows_under : Rules → Rows
+rows_under rules = row_in (arc_value rules.settings) (arc_value rules.users)
+
+abbrev pub hearing_of : Place → Hearing
+hearing_of (place.First tls gss) = Hears (AtFirst tls gss)
+hearing_of (place.Asked key) = Hears (Asked (arc_value key))
+hearing_of (place.Arriving key) = Arriving (arc_value key)
+hearing_of place.Over = Over
+
+-- the key that a start message gives, or its refusal, or that of a growth in the stead of the key
+abbrev pub Begun : {Z : Type 0} → Result (Arc StartKeyOf Z) Refusal → Result StartKeyOf Refusal → Type 0
+Begun (Ok key) wanted = wanted ≡ Ok (arc_value key)
+Begun (Err refusal) wanted = (wanted ≡ Err refusal) ⊎ ((refusal ≡ OutOfMemory) × IsOk wanted)
+
+-- the same of a step and the place that it leads to
+abbrev pub StartHeard : Result StartKeyOf Refusal → LoginStep → Hearing → Type 0
+StartHeard wanted (step.Arrived key) (Arriving other) = (wanted ≡ Ok other) × (other ≡ arc_value key)
+StartHeard wanted (step.Refused refusal) Over = (wanted ≡ Err refusal) ⊎ ((refusal ≡ OutOfMemory) × IsOk wanted)
+StartHeard wanted _ _ = ⊥
+
+abbrev pub verdict_of : Verdict → StartKeyOf → Reacts
+verdict_of verdict.ToLink key = Passes (ok ∷ []) (ToLink key)
+verdict_of verdict.ToConsole key = Passes [] ToConsole
+verdict_of verdict.Wrong key = wrong
+verdict_of verdict.Nowhere key = Stops (no_database ∷ []) Failed
+
+-- a step that says what the reaction says, and is the last
+abbrev pub Decides : LoginStep → Reacts → Type 0
+Decides (step.Passed key) reaction = reaction ≡ Passes (ok ∷ []) (ToLink (arc_value key))
+Decides step.Console reaction = reaction ≡ Passes [] ToConsole
+Decides (step.Failed f) reaction = reaction ≡ Stops (failure_bytes f ∷ []) Failed
+Decides _ reaction = ⊥
+
+-- what is held after a step
+abbrev pub left_after : LoginStep → List ℕ → List ℕ
+left_after step.More held = held
+left_after _ held = []
+
+abbrev pub IsMore : Bool → LoginStep → Type 0
+IsMore b step.More = b ≡ true
+IsMore b _ = b ≡ false
+
+-- a step from what is held, and the place that it leads to
+pub record Turned (rows : Rows) (word : KeyWord) (from : Hearing) (held : List ℕ) (s : LoginStep) (to : Hearing) (left : List ℕ) : Type 0 where
+  pub said : OrNoMemory s ((more : List ℕ) → goes_from rows word from held more ≡ after s more (goes_from rows word to left more)) (GivesKey rows from held)
+  pub fits : Fits to left
+  pub leads : LeadsTo s to left

@@ -1,0 +1,272 @@
+//! One step of the dialogue, from the bytes that are held.
+ghost use Rattle.std.specs.Prelude.{◌≡◌, []};
+ghost use Rattle.std.specs.Arc.{arc_value};
+ghost use Rattle.message_view.specs.Reading.{startup_of};
+ghost use Rattle.login_core.specs.Dialogue as login;
+ghost use Rattle.login_core.specs.Dialogue.{AtFirst, Asked};
+ghost use Rattle.login_core.specs.declared.steps.LoginStep.TheVariants.{Left};
+ghost use Rattle.login_core.specs.Logins.{Begun, Decides, Fits, Hears, Arriving, Over, StartHeard, Turned, hearing_of, left_after, rows_under, verdict_of};
+
+use crate::laws::packets_grow;
+use crate::steps::{Failure, LoginStep, Question};
+use frame_view::client::{PASSWORD_MESSAGE, TERMINATE};
+use frame_view::{
+    FirstStep, FrameFault, LONGEST_FIRST_PACKET, Side, Step, first_packet, next_frame,
+};
+use ini_config::{AuthType, Settings};
+use message_view::{KeyWord, PasswordView, Refusal, StartupView};
+use param_track::{StartFault, start_key};
+use session_machine::StartKey;
+use std::alloc::Global;
+use std::sync::Arc;
+use user_file::Users;
+
+/// The greatest length of a message in the login.
+pub(crate) const LONGEST_MESSAGE: u32 = 10_000;
+
+/// What decides about a client.
+#[derive(Drop)]
+pub(crate) struct Rules {
+    pub settings: Arc<Settings>,
+    pub users: Arc<Users>,
+    pub word: KeyWord,
+}
+
+/// Where a login stands.
+#[derive(Drop)]
+pub(crate) enum Place {
+    /// Before the client's start: whether its SSLRequest and its GSSENCRequest came.
+    First { tls: bool, gss: bool },
+    Arriving(Arc<StartKey>),
+    /// The client was asked for its password.
+    Asked(Arc<StartKey>),
+    Over,
+}
+
+/// What a client is to whom nothing is left to ask.
+#[derive(Clone, Copy, Debug, PartialEq, Eq, Drop)]
+enum Verdict {
+    ToLink,
+    ToConsole,
+    Wrong,
+    Nowhere,
+}
+
+fn refusal_of(fault: FrameFault) -> Refusal
+    ensures { result ≡ login.refusal_of fault }
+{
+    match fault {
+        FrameFault::UnknownCode => Refusal::UnsupportedProtocol,
+        FrameFault::UnknownType | FrameFault::TooShort | FrameFault::TooLong =>
+            Refusal::MalformedClientMessage,
+    }
+}
+
+fn refusal_of_start(fault: StartFault) -> Refusal
+    ensures { result ≡ login.start_refusal fault }
+{
+    match fault {
+        StartFault::NoUser => Refusal::MalformedClientMessage,
+        StartFault::UnsupportedParameter | StartFault::Replication => Refusal::UnsupportedParameter,
+        StartFault::Memory => Refusal::OutOfMemory,
+    }
+}
+
+fn md5_question(salt: [u8; 4]) -> [u8; 13]
+    ensures { result ≡ login.asks_md5 salt }
+{
+    let mut frame = *b"R\0\0\0\x0c\0\0\0\x05\0\0\0\0";
+    frame[9..].copy_from_slice(&salt);
+    frame
+}
+
+impl Rules {
+    /// The key of a StartupMessage, from what follows its code.
+    fn begin(&self, alloc: Global, text: &[u8]) -> Result<Arc<StartKey>, Refusal>
+        ensures { Begun result (login.key_of (rows_under self.now) (startup_of text.now)) }
+    {
+        let start = match StartupView::read(text) {
+            Ok(start) => start,
+            Err(_) => return Err(Refusal::MalformedClientMessage),
+        };
+        match start_key(alloc, &self.settings, &start) {
+            Ok(key) => match Arc::new(alloc, key) {
+                Ok(key) => Ok(key),
+                Err(_) => Err(Refusal::OutOfMemory),
+            },
+            Err(fault) => Err(refusal_of_start(fault)),
+        }
+    }
+
+    #[tactic(auto, unfolding(crate::specs::Dialogue::row_in))]
+    fn auth_type(&self, key: &StartKey) -> AuthType
+        ensures { result ≡ (rows_under self.now key.now.row key.now.user).auth }
+    {
+        self.settings.auth_type()
+    }
+
+    /// Whether the client knows its password; an unknown user knows none.
+    #[tactic(auto, unfolding(crate::specs::Dialogue::row_in))]
+    fn is_right(&self, key: &StartKey, given: &[u8]) -> bool
+        ensures { result ≡ login.is_right (rows_under self.now key.now.row key.now.user) self.now.word key.now given.now }
+    {
+        let user = key.user.as_slice();
+        let Some(row) = self.users.row(user) else {
+            return false;
+        };
+        match self.settings.auth_type() {
+            AuthType::Trust => true,
+            AuthType::Plain => row.secret.accepts_plain(user, given),
+            AuthType::Md5 => row.secret.accepts_md5(user, self.word.salt, given),
+        }
+    }
+
+    /// Where a client goes that proved who it is.
+    #[tactic(auto, unfolding(crate::specs::Dialogue::row_in))]
+    fn admit(&self, key: &StartKey) -> Verdict
+        ensures { login.admitted (rows_under self.now key.now.row key.now.user) key.now ≡ verdict_of result key.now }
+    {
+        if key.row.is(b"pgbouncer") {
+            if self.settings.is_admin(key.user.as_slice()) {
+                return Verdict::ToConsole;
+            }
+            return Verdict::Wrong;
+        }
+        match self.settings.row(key.row.as_slice()) {
+            Some(_) => Verdict::ToLink,
+            None => Verdict::Nowhere,
+        }
+    }
+
+    fn judge(&self, key: &StartKey, given: &[u8]) -> Verdict
+        ensures { login.judged (rows_under self.now key.now.row key.now.user) self.now.word key.now given.now ≡ verdict_of result key.now }
+    {
+        if self.is_right(key, given) {
+            return self.admit(key);
+        }
+        Verdict::Wrong
+    }
+
+    /// The last step of a client that gave this password.
+    fn judged(&self, key: Arc<StartKey>, given: &[u8]) -> LoginStep
+        ensures { Decides result (login.judged (rows_under self.now (arc_value key).row (arc_value key).user) self.now.word (arc_value key) given.now) }
+    {
+        match self.judge(&key, given) {
+            Verdict::ToLink => LoginStep::Passed(key),
+            Verdict::ToConsole => LoginStep::Console,
+            Verdict::Wrong => LoginStep::Failed(Failure::WrongPassword),
+            Verdict::Nowhere => LoginStep::Failed(Failure::NoDatabase),
+        }
+    }
+
+    /// A client's StartupMessage.
+    fn hear_start(&self, alloc: Global, text: &[u8]) -> (LoginStep, Place)
+        ensures { StartHeard (login.key_of (rows_under self.now) (startup_of text.now)) result.0 (hearing_of result.1) }
+    {
+        match self.begin(alloc, text) {
+            Ok(key) => match Arc::try_clone(&key) {
+                Ok(copy) => (LoginStep::Arrived(copy), Place::Arriving(key)),
+                Err(_) => (LoginStep::Refused(Refusal::OutOfMemory), Place::Over),
+            },
+            Err(refusal) => (LoginStep::Refused(refusal), Place::Over),
+        }
+    }
+
+    fn hear_first(&self, alloc: Global, held: &[u8], tls: bool, gss: bool) -> (LoginStep, Place)
+        requires { Fits (Hears (AtFirst tls gss)) held.now }
+        ensures { Turned (rows_under self.now) self.now.word (Hears (AtFirst tls gss)) held.now result.0 (hearing_of result.1) (left_after result.0 held.now) }
+    {
+        packets_grow();
+        match first_packet(held) {
+            FirstStep::Startup(text) => self.hear_start(alloc, text),
+            FirstStep::Cancel { .. } => (LoginStep::Left, Place::Over),
+            FirstStep::Tls => {
+                if tls {
+                    return (
+                        LoginStep::Refused(Refusal::MalformedClientMessage),
+                        Place::Over,
+                    );
+                }
+                (
+                    LoginStep::Ask(Question::Encryption),
+                    Place::First { tls: true, gss },
+                )
+            }
+            FirstStep::Gss => {
+                if gss {
+                    return (
+                        LoginStep::Refused(Refusal::MalformedClientMessage),
+                        Place::Over,
+                    );
+                }
+                (
+                    LoginStep::Ask(Question::Encryption),
+                    Place::First { tls, gss: true },
+                )
+            }
+            FirstStep::Need(_) => (LoginStep::More, Place::First { tls, gss }),
+            FirstStep::Bad(fault) => (LoginStep::Refused(refusal_of(fault)), Place::Over),
+        }
+    }
+
+    /// The client has arrived, and is asked, or judged at once.
+    fn go_on(&self, key: Arc<StartKey>) -> (LoginStep, Place)
+        ensures { Turned (rows_under self.now) self.now.word (Arriving (arc_value key)) [] result.0 (hearing_of result.1) [] }
+    {
+        match self.auth_type(&key) {
+            AuthType::Trust => (self.judged(key, b""), Place::Over),
+            AuthType::Plain => (LoginStep::Ask(Question::Cleartext), Place::Asked(key)),
+            AuthType::Md5 => (
+                LoginStep::Ask(Question::Md5(md5_question(self.word.salt))),
+                Place::Asked(key),
+            ),
+        }
+    }
+
+    fn hear_answer(&self, held: &[u8], key: Arc<StartKey>) -> (LoginStep, Place)
+        requires { Fits (Hears (Asked (arc_value key))) held.now }
+        ensures { Turned (rows_under self.now) self.now.word (Hears (Asked (arc_value key))) held.now result.0 (hearing_of result.1) (left_after result.0 held.now) }
+    {
+        packets_grow();
+        let frame = match next_frame(held, 0, LONGEST_MESSAGE, Side::Client) {
+            Step::Whole(frame) => frame,
+            Step::Need(_) => return (LoginStep::More, Place::Asked(key)),
+            Step::Bad(_) => {
+                return (
+                    LoginStep::Refused(Refusal::MalformedClientMessage),
+                    Place::Over,
+                );
+            }
+        };
+        if frame.kind == TERMINATE {
+            return (LoginStep::Left, Place::Over);
+        }
+        if frame.kind != PASSWORD_MESSAGE {
+            return (
+                LoginStep::Refused(Refusal::MalformedClientMessage),
+                Place::Over,
+            );
+        }
+        match PasswordView::read(frame.body) {
+            Ok(view) => (self.judged(key, view.password), Place::Over),
+            Err(_) => (
+                LoginStep::Refused(Refusal::MalformedClientMessage),
+                Place::Over,
+            ),
+        }
+    }
+
+    /// One step from what is held, and the place that it leads to.
+    pub(crate) fn turn(&self, alloc: Global, held: &[u8], place: Place) -> (LoginStep, Place)
+        requires { Fits (hearing_of place) held.now }
+        ensures turned { Turned (rows_under self.now) self.now.word (hearing_of place) held.now result.0 (hearing_of result.1) (left_after result.0 held.now) }
+        ensures over { hearing_of place ≡ Over → result.0 ≡ Left }
+    {
+        match place {
+            Place::First { tls, gss } => self.hear_first(alloc, held, tls, gss),
+            Place::Arriving(key) => self.go_on(key),
+            Place::Asked(key) => self.hear_answer(held, key),
+            Place::Over => (LoginStep::Left, Place::Over),
+        }
+    }
+}

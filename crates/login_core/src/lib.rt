@@ -1,0 +1,16 @@
+//! The login of a client: its first packet, its start key, the dialogue of `auth_type`, and what they lead to (PostgreSQL manual,
+//! "Message Flow", "Start-up").
+#![tactic(auto)]
+
+#[cfg(test)]
+mod client_packets;
+mod dialogue;
+pub mod laws;
+mod login;
+mod steps;
+#[cfg(test)]
+mod tests;
+
+pub use login::Login;
+pub use message_view::KeyWord;
+pub use steps::{Failure, LoginStep, Question};

@@ -1,0 +1,145 @@
+//! A client's login, fed with its bytes in any cuts.
+ghost use Rattle.std.specs.Prelude.{◌≡◌, ◌<◌, ◌≤◌, ◌+◌, ◌++◌, [], length, take, min, IfOk, false};
+ghost use Rattle.std.specs.Arc.{arc_value};
+ghost use Rattle.login_core.specs.Dialogue.{AtFirst};
+ghost use Rattle.login_core.specs.Logins.{Heard, Hears, Over, hearing_of, login_view, missing, with_held};
+ghost use Rattle.login_core.specs.declared.steps.LoginStep.TheVariants.{Left};
+
+use crate::dialogue::{LONGEST_MESSAGE, Place, Rules};
+use crate::laws::packets_grow;
+use crate::steps::LoginStep;
+use bytes::BytesMut;
+use frame_view::{FirstStep, Side, Step, first_packet, next_frame};
+use ini_config::Settings;
+use message_view::KeyWord;
+use std::alloc::{AllocError, Global};
+use std::marker::Model;
+use std::mem;
+use std::sync::Arc;
+use user_file::Users;
+
+/// The bytes of the longest packet: a type byte and the greatest length.
+const LONGEST_PACKET: usize = LONGEST_MESSAGE as usize + 1;
+
+/// A client's login. It takes the client's bytes in any cuts, never past the packet that it waits for.
+///
+/// Contracts see the settings and users that it was made with, what it waits for, and the bytes that it holds of that packet.
+#[derive(Drop)]
+pub struct Login {
+    rules: Rules,
+    place: Place,
+    held: BytesMut,
+}
+
+impl Model for Login {
+    ghost use Rattle.std.specs.Prelude.{◌≤◌, ◌+◌, length};
+    ghost use Rattle.std.specs.Arc.{arc_value};
+    ghost use Rattle.login_core.specs.Logins.{LoginView, login_view, hearing_of, Fits};
+
+    ghost Value = { LoginView };
+
+    ghost view = { λ l. login_view (arc_value l.rules.settings) (arc_value l.rules.users) l.rules.word (hearing_of l.place) l.held.items };
+
+    ghost invariant = { λ l. Fits (hearing_of l.place) l.held.items × (10001 ≤ length l.held.items + l.held.spare) };
+}
+
+impl Login {
+    /// A login that has taken no byte. Its buffer, of 10,001 bytes, is reserved here; the only error is want of memory.
+    pub fn new(
+        alloc: Global,
+        settings: Arc<Settings>,
+        users: Arc<Users>,
+        word: KeyWord,
+    ) -> Result<Login, AllocError>
+        ensures { IfOk result (λ l. l ≡ login_view (arc_value settings) (arc_value users) word (Hears (AtFirst false false)) []) }
+    {
+        Ok(Login {
+            rules: Rules {
+                settings,
+                users,
+                word,
+            },
+            place: Place::First {
+                tls: false,
+                gss: false,
+            },
+            held: BytesMut::with_capacity(alloc, LONGEST_PACKET)?,
+        })
+    }
+
+    /// The settings that it was made with.
+    pub fn settings(&self) -> &Arc<Settings>
+        ensures { arc_value result.now ≡ self.now.settings }
+    {
+        &self.rules.settings
+    }
+
+    /// The users that it was made with.
+    pub fn users(&self) -> &Arc<Users>
+        ensures { arc_value result.now ≡ self.now.users }
+    {
+        &self.rules.users
+    }
+
+    /// The bytes that are known to be missing from the packet that it waits for: at least one after `new`,
+    /// [`LoginStep::More`] and [`LoginStep::Ask`], and never past the packet; 0 else.
+    pub fn wants(&self) -> usize
+        ensures { result ≡ missing self.now.hearing self.now.held }
+    {
+        match &self.place {
+            Place::First { .. } => match first_packet(self.held.as_slice()) {
+                FirstStep::Need(count) => count,
+                _ => 0,
+            },
+            Place::Asked(_) => match next_frame(
+                self.held.as_slice(),
+                0,
+                LONGEST_MESSAGE,
+                Side::Client,
+            ) {
+                Step::Need(count) => count,
+                _ => 0,
+            },
+            Place::Arriving(_) | Place::Over => 0,
+        }
+    }
+
+    /// Takes what is known to be missing, as far as it is there.
+    fn take_in(&mut self, piece: &[u8]) -> usize
+        ensures used { result ≡ min (missing self.old.hearing self.old.held) (length piece.now) }
+        ensures held { self.new ≡ with_held self.old (self.old.held ++ take result piece.now) }
+    {
+        packets_grow();
+        let used = self.wants().min(piece.len());
+        self.held.extend_reserved(&piece[..used]);
+        used
+    }
+
+    fn turn(&mut self, alloc: Global) -> LoginStep
+        ensures heard { Heard self.old [] result self.new }
+        ensures over { self.old.hearing ≡ Over → result ≡ Left }
+    {
+        let place = mem::replace(&mut self.place, Place::Over);
+        let (step, next) = self.rules.turn(alloc, self.held.as_slice(), place);
+        self.place = next;
+        if step.is_more() {
+            return step;
+        }
+        self.held.clear();
+        step
+    }
+
+    /// Takes bytes of the client, never past the packet that it waits for, and tells how many, and what follows.
+    ///
+    /// After [`LoginStep::Arrived`] it is called with no bytes. After [`LoginStep::Passed`], [`LoginStep::Console`],
+    /// [`LoginStep::Refused`], [`LoginStep::Failed`] and [`LoginStep::Left`] it takes none and answers [`LoginStep::Left`].
+    /// Want of memory is refused as [`message_view::Refusal::OutOfMemory`], and comes only where a start key is made.
+    pub fn on_bytes(&mut self, alloc: Global, piece: &[u8]) -> (usize, LoginStep)
+        ensures used { result.0 ≡ min (missing self.old.hearing self.old.held) (length piece.now) }
+        ensures heard { Heard self.old (take result.0 piece.now) result.1 self.new }
+        ensures over { self.old.hearing ≡ Over → (result.0 ≡ 0) × (result.1 ≡ Left) }
+    {
+        let used = self.take_in(piece);
+        (used, self.turn(alloc))
+    }
+}

@@ -1,0 +1,112 @@
+//! What becomes of each pair of a StartupMessage.
+ghost use Rattle.std.specs.Prelude.{◌≡◌, IfSome};
+ghost use Rattle.std.specs.List.{list_any};
+ghost use Rattle.std.specs.Str.{str_eq_ignore_ascii_case};
+ghost use Rattle.ini_config.specs.OptionValues.{has_folded};
+ghost use Rattle.std.specs.Iterator.{YieldsFirstBy};
+ghost use Rattle.message_view.specs.Left.{pairs_left};
+ghost use Rattle.message_view.specs.Views.{texts_of};
+ghost use Rattle.param_track.specs.StartKeys as spec;
+
+use ini_config::Settings;
+use message_view::{Pairs, StartupView};
+
+/// The parameters that are followed under any settings.
+static ALWAYS_FOLLOWED: [&str; 5] = [
+    "client_encoding",
+    "datestyle",
+    "timezone",
+    "standard_conforming_strings",
+    "application_name",
+];
+
+/// What a pair's name makes of it.
+#[derive(Clone, Copy, Debug, PartialEq, Eq)]
+pub(crate) enum Use {
+    /// `user` or `database`, which are no parameters.
+    Identity,
+    /// A part of the key.
+    Followed,
+    /// Left out of the key.
+    Dropped,
+    Unsupported,
+    Replication,
+}
+
+pub(crate) fn is_identity(name: &[u8]) -> bool
+    ensures { result ≡ spec.is_identity name.now }
+{
+    name == b"user".as_slice() || name == b"database".as_slice()
+}
+
+/// The same without regard to the case of ASCII letters.
+fn folds_to_identity(name: &[u8]) -> bool
+    ensures { result ≡ spec.folds_to_identity name.now }
+{
+    name.eq_ignore_ascii_case(b"user") || name.eq_ignore_ascii_case(b"database")
+}
+
+/// Whether the name is in the list, without regard to the case of ASCII letters.
+fn has_name(list: &[&str], name: &[u8]) -> bool
+    ensures { result ≡ list_any (λ n. str_eq_ignore_ascii_case n.now name.now) list.now }
+{
+    list.iter().any(|candidate| candidate.as_bytes().eq_ignore_ascii_case(name))
+}
+
+fn is_always_followed(name: &[u8]) -> bool
+    ensures { result ≡ has_folded spec.always_followed name.now }
+{
+    has_name(ALWAYS_FOLLOWED.as_slice(), name)
+}
+
+/// Whether it is the parameter `replication`, and not ignored.
+fn is_replication(settings: &Settings, name: &[u8]) -> bool
+    ensures { result ≡ spec.is_replication (spec.names_of settings.now) name.now }
+{
+    name.eq_ignore_ascii_case(b"replication") && !settings.ignores(name)
+}
+
+fn is_followed(settings: &Settings, name: &[u8]) -> bool
+    ensures { result ≡ spec.is_followed (spec.names_of settings.now) name.now }
+{
+    !folds_to_identity(name) && (is_always_followed(name) || settings.tracks(name))
+}
+
+/// The next pair of a StartupMessage: its name and its value.
+pub(crate) fn next_pair<'a>(pairs: &mut Pairs<'a>) -> Option<(&'a [u8], &'a [u8])>
+    ensures { YieldsFirstBy texts_of pairs_left pairs.old result pairs.new }
+{
+    pairs.next()
+}
+
+/// What the settings make of a pair of this name.
+pub(crate) fn use_of(settings: &Settings, name: &[u8]) -> Use
+    ensures { result ≡ spec.use_of (spec.names_of settings.now) name.now }
+{
+    if is_identity(name) {
+        return Use::Identity;
+    }
+    if is_replication(settings, name) {
+        return Use::Replication;
+    }
+    if is_followed(settings, name) {
+        return Use::Followed;
+    }
+    if settings.ignores(name) {
+        return Use::Dropped;
+    }
+    Use::Unsupported
+}
+
+/// Whether the settings make this of one of the pairs.
+pub(crate) fn has_use(settings: &Settings, start: &StartupView<'_>, wanted: Use) -> bool
+    ensures { result ≡ spec.has_use (spec.names_of settings.now) wanted (pairs_left start.now.pairs) }
+{
+    let mut pairs = start.pairs();
+    while let Some((name, _)) = next_pair(&mut pairs) {
+        if use_of(settings, name) == wanted {
+            return true;
+        }
+    }
+    false
+}
