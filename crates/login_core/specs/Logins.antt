@@ -138,6 +138,13 @@ LeadsTo (step.Refused refusal) hearing held = hearing ≡ Over
 LeadsTo (step.Failed f) hearing held = hearing ≡ Over
 LeadsTo step.Left hearing held = hearing ≡ Over
 
+-- a client that has arrived doesn't arrive again
+abbrev pub ArrivesOnce : Hearing → LoginStep → Type 0
+ArrivesOnce (Arriving key) (step.Arrived other) = ⊥
+ArrivesOnce (Arriving key) _ = Unit {0}
+ArrivesOnce (Hears stage) s = Unit {0}
+ArrivesOnce Over s = Unit {0}
+
 -- these bytes were taken, and this was answered
 pub record Heard (old : LoginView) (bytes : List ℕ) (s : LoginStep) (new : LoginView) : Type 0 where
   pub said : OrNoMemory s ((more : List ℕ) → goes_on old (bytes ++ more) ≡ after s more (goes_on new more)) (GivesKey (rows_of old) old.hearing (old.held ++ bytes))

@@ -5,7 +5,7 @@ ghost use Rattle.message_view.specs.Reading.{startup_of};
 ghost use Rattle.login_core.specs.Dialogue as login;
 ghost use Rattle.login_core.specs.Dialogue.{AtFirst, Asked};
 ghost use Rattle.login_core.specs.declared.steps.LoginStep.TheVariants.{Left};
-ghost use Rattle.login_core.specs.Logins.{Begun, Decides, Fits, Hears, Arriving, Over, StartHeard, Turned, hearing_of, left_after, rows_under, verdict_of};
+ghost use Rattle.login_core.specs.Logins.{ArrivesOnce, Begun, Decides, Fits, Hears, Arriving, Over, StartHeard, Turned, hearing_of, left_after, rows_under, verdict_of};
 
 use crate::laws::packets_grow;
 use crate::steps::{Failure, LoginStep, Question};
@@ -211,7 +211,8 @@ impl Rules {
 
     /// The client has arrived, and is asked, or judged at once.
     fn go_on(&self, key: Arc<StartKey>) -> (LoginStep, Place)
-        ensures { Turned (rows_under self.now) self.now.word (Arriving (arc_value key)) [] result.0 (hearing_of result.1) [] }
+        ensures once { ArrivesOnce (Arriving (arc_value key)) result.0 }
+        ensures turned { Turned (rows_under self.now) self.now.word (Arriving (arc_value key)) [] result.0 (hearing_of result.1) [] }
     {
         match self.auth_type(&key) {
             AuthType::Trust => (self.judged(key, b""), Place::Over),
@@ -260,6 +261,7 @@ impl Rules {
     pub(crate) fn turn(&self, alloc: Global, held: &[u8], place: Place) -> (LoginStep, Place)
         requires { Fits (hearing_of place) held.now }
         ensures turned { Turned (rows_under self.now) self.now.word (hearing_of place) held.now result.0 (hearing_of result.1) (left_after result.0 held.now) }
+        ensures once { ArrivesOnce (hearing_of place) result.0 }
         ensures over { hearing_of place ≡ Over → result.0 ≡ Left }
     {
         match place {

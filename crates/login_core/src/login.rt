@@ -2,7 +2,7 @@
 ghost use Rattle.std.specs.Prelude.{◌≡◌, ◌<◌, ◌≤◌, ◌+◌, ◌++◌, [], length, take, min, IfOk, false};
 ghost use Rattle.std.specs.Arc.{arc_value};
 ghost use Rattle.login_core.specs.Dialogue.{AtFirst};
-ghost use Rattle.login_core.specs.Logins.{Heard, Hears, Over, hearing_of, login_view, missing, with_held};
+ghost use Rattle.login_core.specs.Logins.{ArrivesOnce, Heard, Hears, Over, hearing_of, login_view, missing, with_held};
 ghost use Rattle.login_core.specs.declared.steps.LoginStep.TheVariants.{Left};
 
 use crate::dialogue::{LONGEST_MESSAGE, Place, Rules};
@@ -117,6 +117,7 @@ impl Login {
 
     fn turn(&mut self, alloc: Global) -> LoginStep
         ensures heard { Heard self.old [] result self.new }
+        ensures once { ArrivesOnce self.old.hearing result }
         ensures over { self.old.hearing ≡ Over → result ≡ Left }
     {
         let place = mem::replace(&mut self.place, Place::Over);
@@ -137,6 +138,7 @@ impl Login {
     pub fn on_bytes(&mut self, alloc: Global, piece: &[u8]) -> (usize, LoginStep)
         ensures used { result.0 ≡ min (missing self.old.hearing self.old.held) (length piece.now) }
         ensures heard { Heard self.old (take result.0 piece.now) result.1 self.new }
+        ensures once { ArrivesOnce self.old.hearing result.1 }
         ensures over { self.old.hearing ≡ Over → (result.0 ≡ 0) × (result.1 ≡ Left) }
     {
         let used = self.take_in(piece);

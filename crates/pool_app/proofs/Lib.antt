@@ -1,3 +1,3 @@
 pub mod Refusing
-pub mod Firsts
 pub mod StandingText
+pub mod Replaying

@@ -1,22 +1,38 @@
--- What `replay` answers to one client's bytes: the login of the standing settings and users, and then
+-- What `replay` answers to one client's bytes: its login under the standing settings and users, and then
 -- what a server started for that client alone answers.
-use Rattle.std.specs.Prelude.{ℕ, List, [], ◌∷◌, ◌++◌, Option, Some, None, Result, Ok, Err, Bool, true, false, ◌==◌, ◌||◌, ◌&&◌, not, if◌then◌else◌, codes}
-use Rattle.frame_view.specs.declared.FrameFault.{FrameFault}
+use Rattle.std.specs.Prelude.{ℕ, List, [], ◌∷◌, ◌++◌, Some, None, Bool, true, false, ◌==◌, ◌||◌, if◌then◌else◌, codes}
 use Rattle.frame_view.specs.declared.FrameFault.TheVariants.{TooShort, TooLong, UnknownType, UnknownCode}
 use Rattle.frame_view.specs.declared.Side.TheVariants.{Client}
-use Rattle.frame_view.specs.Frames.{Front, AFrame, Lacks, Faulty, FrameOf, spelling, Cut, front, frames, FirstFront, AFirst, LacksFirst, FaultyFirst, FirstOf, Start, Cancels, AsksTls, AsksGss, first_front}
-use Rattle.message_view.specs.declared.ViewFault.{ViewFault}
-use Rattle.message_view.specs.Bodies.{Text}
-use Rattle.message_view.specs.Messages.{authentication, error_response}
-use Rattle.message_view.specs.Reading.{startup_of}
-use Rattle.message_view.specs.declared.refusal.Refusal.{Refusal}
-use Rattle.message_view.specs.declared.refusal.Refusal.TheVariants.{UnsupportedProtocol, MalformedClientMessage, ClientMessageTooLong}
-use Rattle.message_view.specs.Refusals.{refusal}
-use Rattle.mini_sql.specs.Words.{same_text}
-use Rattle.session_machine.specs.State.{CatalogueOf, StartKeyOf, TableOf, has_text}
-use Rattle.session_machine.specs.Service.{service}
+use Rattle.frame_view.specs.Frames.{Front, AFrame, Lacks, Faulty, FrameOf, Cut, front, frames}
+use Rattle.message_view.specs.declared.KeyWord.{KeyWord}
+use Rattle.message_view.specs.declared.refusal.Refusal.TheVariants.{MalformedClientMessage, ClientMessageTooLong}
+use Rattle.message_view.specs.Refusals.{refusal, joined_pieces}
+use Rattle.ini_config.specs.declared.database_rows.DbRow.{DbRow}
+use Rattle.ini_config.specs.declared.option_values.AuthType.TheVariants.{Trust}
+use Rattle.ini_config.specs.declared.option_values.Settings.{Settings}
+use Rattle.ini_config.specs.OptionValues.{defaults}
+use Rattle.user_file.specs.declared.user_table.UserRow.{UserRow}
+use Rattle.user_file.specs.Secrets.{secret_of}
+use Rattle.session_machine.specs.State.{CatalogueOf, TableOf}
+use Rattle.login_core.specs.Talk.{End}
+use Rattle.login_core.specs.Talk.End.{Unfinished, Passed, Stopped}
+use Rattle.login_core.specs.Dialogue.{Way, ToLink, ToConsole, Reason, Refused, Failed, Left, Dialogue, LoginRow, Rows, row_in, login}
+use Rattle.login_core.specs.Laws.{names_in, row_for}
+use Rattle.login_core.specs.Solo.{after_login, solo}
 
 -- ---- the standing settings
+
+abbrev pub shop : DbRow
+shop = record { name = codes "shop"; host = 127 ∷ 0 ∷ 0 ∷ 1 ∷ []; port = 5432; dbname = codes "shop"; pool_size = None }
+
+unfoldable pub standing_settings : Settings
+standing_settings = record defaults { rows = shop ∷ []; auth_type = Trust; admin_users = codes "root" ∷ [] }
+
+abbrev pub user_with : List ℕ → List ℕ → UserRow
+user_with name secret = record { name = name; secret = secret_of secret }
+
+unfoldable pub standing_users : List UserRow
+standing_users = user_with (codes "ann") (codes "secret") ∷ user_with (codes "bc") (codes "md5900150983cd24fb0d6963f7d28e17f72") ∷ user_with (codes "root") (codes "r") ∷ []
 
 abbrev pub city : TableOf
 city = record {
@@ -28,35 +44,18 @@ city = record {
 unfoldable pub standing_catalogue : CatalogueOf
 standing_catalogue = record { version = codes "16.0"; databases = codes "shop" ∷ []; tables = city ∷ [] }
 
-abbrev pub users : List Text
-users = codes "ann" ∷ codes "bc" ∷ codes "root" ∷ []
+-- the client's key word
+abbrev pub standing_word : KeyWord
+standing_word = record { pid = 1; secret = 2; salt = 1 ∷ 2 ∷ 3 ∷ 4 ∷ [] }
 
--- the start key of a user of the standing database
-abbrev pub key_of : Text → StartKeyOf
-key_of user = record { row = codes "shop"; host = Some (127 ∷ 0 ∷ 0 ∷ 1 ∷ []); port = 5432; dbname = codes "shop"; user = user; parameters = [] }
+abbrev pub standing_rows : Rows
+standing_rows = row_in standing_settings standing_users
 
--- ---- the login
+-- the login row that a client's StartupMessage names
+abbrev pub standing_row : List ℕ → LoginRow
+standing_row bytes = row_for standing_rows (names_in bytes)
 
--- a user and a database, once each and in either order
-abbrev pub named_user : Text → Text → Text → Text → Option (Text × Text)
-named_user a u b d =
-    if same_text a (codes "user") && same_text b (codes "database") then Some (u, d) else
-    (if same_text a (codes "database") && same_text b (codes "user") then Some (d, u) else None)
-
-abbrev pub is_empty : Text → Bool
-is_empty [] = true
-is_empty (c ∷ cs) = false
-
--- who wants which database; none where this login doesn't take the pairs
-abbrev pub accepted : Option (Text × Text) → Option (Text × Text)
-accepted None = None
-accepted (Some p) = if is_empty p.0 || is_empty p.1 || same_text p.1 (codes "pgbouncer") then None else Some p
-
-abbrev pub wanted : Result (List (Text × Text)) ViewFault → Option (Text × Text)
-wanted (Ok ((a, u) ∷ (b, d) ∷ [])) = accepted (named_user a u b d)
-wanted _ = None
-
--- ---- what follows the login
+-- ---- a refusal at the end
 
 abbrev pub terminates : List FrameOf → Bool
 terminates [] = false
@@ -75,28 +74,23 @@ refused_front (Lacks n) = []
 abbrev pub ending : Cut → List ℕ
 ending cut = if terminates cut.frames then [] else refused_front (front Client 2147483647 cut.rest)
 
-abbrev pub no_password : List ℕ
-no_password = spelling (error_response (codes "FATAL") (codes "28P01") (codes "password authentication failed"))
+-- the refusal of a login, or of the first faulty frame after it; a client of the console is closed without a byte
+abbrev pub refused_end : End Way Reason → List ℕ
+refused_end Unfinished = []
+refused_end (Passed (ToLink key) left) = ending (frames Client 2147483647 left)
+refused_end (Passed ToConsole left) = []
+refused_end (Stopped (Refused cause)) = refusal cause
+refused_end (Stopped Failed) = []
+refused_end (Stopped Left) = []
 
-abbrev pub no_database : List ℕ
-no_database = spelling (error_response (codes "FATAL") (codes "3D000") (codes "database does not exist"))
+-- ---- the answer
 
--- the key word of the standing settings has pid 1 and secret 2
-abbrev pub passed : CatalogueOf → Text → List ℕ → List ℕ
-passed cat user rest = spelling (authentication 0 []) ++ service cat (key_of user) 1 2 rest ++ ending (frames Client 2147483647 rest)
-
-abbrev pub logged_in : CatalogueOf → Option (Text × Text) → List ℕ → List ℕ
-logged_in cat None rest = refusal UnsupportedProtocol
-logged_in cat (Some p) rest = if has_text users p.0 then (if same_text p.1 (codes "shop") then passed cat p.0 rest else no_database) else no_password
-
--- a first packet that isn't whole is answered by nothing
-abbrev pub replies_from : CatalogueOf → FirstFront → List ℕ
-replies_from cat (LacksFirst n) = []
-replies_from cat (AFirst (Start text) rest) = logged_in cat (wanted (startup_of text)) rest
-replies_from cat (AFirst (Cancels pid secret) rest) = refusal UnsupportedProtocol
-replies_from cat (AFirst AsksTls rest) = refusal UnsupportedProtocol
-replies_from cat (AFirst AsksGss rest) = refusal UnsupportedProtocol
-replies_from cat (FaultyFirst f) = refusal UnsupportedProtocol
-
+-- what a server started for this client alone answers, and the refusal
 unfoldable pub replies : List ℕ → List ℕ
-replies bytes = replies_from standing_catalogue (first_front bytes)
+replies bytes =
+    joined_pieces (solo standing_catalogue (standing_row bytes) standing_word bytes)
+    ++ refused_end (login (standing_row bytes) standing_word bytes).ended
+
+-- the same of what the login says
+abbrev pub replied : CatalogueOf → Dialogue → List ℕ
+replied cat said = joined_pieces (said.pieces ++ after_login cat standing_word said.ended) ++ refused_end said.ended

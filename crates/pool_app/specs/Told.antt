@@ -1,16 +1,48 @@
 -- What the code of `replay` holds, in the definitions' words.
-use Rattle.std.specs.Prelude.{ℕ, List, [], Option, Some, None}
-use Rattle.std.specs.Borrow.{Bor}
+use Rattle.std.specs.Prelude.{◌≡◌, ◌⊎◌, ◌<◌, ℕ, List, [], Option, Some, None, Bool, true, false}
 use Rattle.message_view.specs.declared.refusal.Refusal.{Refusal}
+use Rattle.message_view.specs.declared.refusal.Refusal.TheVariants as refused
 use Rattle.message_view.specs.Refusals.{refusal}
-use Rattle.message_view.specs.Bodies.{Text}
+use Rattle.login_core.specs.declared.steps.LoginStep.{LoginStep}
+use Rattle.login_core.specs.declared.steps.LoginStep.TheVariants as step
+use Rattle.login_core.specs.Talk.End.{Unfinished}
+use Rattle.login_core.specs.Dialogue.{Dialogue}
+use Rattle.login_core.specs.Logins.{LoginView, goes_on, after, missing}
 
 -- the bytes of a refusal, or nothing
 abbrev pub refused_by : Option Refusal → List ℕ
 refused_by None = []
 refused_by (Some r) = refusal r
 
--- a user and a database, where the login takes them
-abbrev pub wanted_by : Option (Bor Text × Bor Text) → Option (Text × Text)
-wanted_by None = None
-wanted_by (Some p) = Some (p.0.now, p.1.now)
+abbrev pub silence : Dialogue
+silence = record { pieces = []; ended = Unfinished }
+
+-- a growth was refused: P12 or nothing else is told
+abbrev pub WantsMemory : LoginStep → Type 0
+WantsMemory s = s ≡ step.Refused refused.OutOfMemory
+
+-- what a login says from some bytes on is what it says at a step, and from the rest on
+abbrev pub Says : LoginView → List ℕ → LoginStep → LoginView → List ℕ → Type 0
+Says old bytes s new rest = WantsMemory s ⊎ (goes_on old bytes ≡ after s rest (goes_on new rest))
+
+-- the login is over
+abbrev pub is_end : LoginStep → Bool
+is_end step.More = false
+is_end (step.Ask q) = false
+is_end (step.Arrived key) = false
+is_end (step.Passed key) = true
+is_end step.Console = true
+is_end (step.Refused refusal) = true
+is_end (step.Failed f) = true
+is_end step.Left = true
+
+-- a step other than an arrival; where it isn't the end, bytes are missing
+abbrev pub IsPastArrival : LoginStep → LoginView → Type 0
+IsPastArrival (step.Arrived key) v = ⊥
+IsPastArrival step.More v = 0 < missing v.hearing v.held
+IsPastArrival (step.Ask q) v = 0 < missing v.hearing v.held
+IsPastArrival (step.Passed key) v = Unit {0}
+IsPastArrival step.Console v = Unit {0}
+IsPastArrival (step.Refused refusal) v = Unit {0}
+IsPastArrival (step.Failed f) v = Unit {0}
+IsPastArrival step.Left v = Unit {0}

@@ -1,34 +1,30 @@
 //! `pgsess replay`: one client's bytes in, its replies out.
-ghost use Rattle.std.specs.Prelude.{◌≡◌, ◌≤◌, ◌++◌, length, drop, OnOk, OnErr, IfOk, IfSome, Ok, Some, None};
-ghost use Rattle.std.specs.Iterator.{YieldsFirstBy};
-ghost use Rattle.message_view.specs.Left.{pairs_left};
-ghost use Rattle.message_view.specs.Views.{texts_of};
-ghost use Rattle.frame_view.specs.Frames.{frames, first_front};
-ghost use Rattle.frame_view.specs.declared.Side.TheVariants.{Client};
-ghost use Rattle.message_view.specs.Reading.{startup_of};
-ghost use Rattle.message_view.specs.Refusals.{refusal};
-ghost use Rattle.pool_app.specs.Replay.{accepted, ending, logged_in, named_user, no_database, no_password, passed, refused_front, replies, replies_from, standing_catalogue, wanted};
+ghost use Rattle.std.specs.Prelude.{◌≡◌, ◌<◌, ◌≤◌, ◌++◌, ◌∷◌, [], length, drop, OnOk, OnErr, IfOk, IfSome, false};
 ghost use Rattle.std.specs.Io.KnownBytes.{Appends};
-ghost use Rattle.pool_app.specs.Told.{refused_by, wanted_by};
-ghost use Rattle.frame_view.specs.Frames.{Faulty};
+ghost use Rattle.frame_view.specs.Frames.{Faulty, frames};
+ghost use Rattle.frame_view.specs.declared.Side.TheVariants.{Client};
+ghost use Rattle.message_view.specs.Refusals.{refusal};
+ghost use Rattle.login_core.specs.Dialogue.{AtFirst, ToLink, ok};
+ghost use Rattle.login_core.specs.Logins.{Hears, after, goes_on, login_view, missing};
+ghost use Rattle.login_core.specs.Talk.End.{Passed};
+ghost use Rattle.pool_app.specs.Replay.{ending, refused_front, replied, replies, standing_settings, standing_users, standing_word};
+ghost use Rattle.pool_app.specs.Told.{IsPastArrival, Says, WantsMemory, is_end, refused_by, silence};
 
 use crate::fault::AppFault;
 use crate::files::{MOST_BYTES, ReadFault, read_all};
-use crate::standing::{DATABASE, KEY_WORD, catalogue, is_user, key_of};
+use crate::standing::{KEY_WORD, catalogue, settings, users};
 use bytes::BytesMut;
-use frame_view::{FirstStep, FrameFault, Side, Step, client, first_packet, next_frame};
-use message_view::{
-    Pairs, Refusal, Severity, StartupView, put_authentication_ok, put_error_response, refusal_bytes,
-};
-use session_machine::{Catalogue, solo_bytes};
+use frame_view::{FrameFault, Side, Step, client, next_frame};
+use login_core::laws::{login_is_of_its_row, service_is_its_pieces};
+use login_core::{Login, LoginStep};
+use message_view::{Refusal, put_authentication_ok, refusal_bytes};
+use session_machine::{Catalogue, StartKey, solo_bytes};
 use std::alloc::{AllocError, Global};
 use std::io::{ErrorKind, Read, Write};
+use std::sync::Arc;
 
 /// The greatest length of a frame.
 const LONGEST_FRAME: u32 = 2_147_483_647;
-
-/// The database of the console.
-const CONSOLE: &[u8] = b"pgbouncer";
 
 /// What a faulty frame is refused by.
 fn refusal_of(fault: FrameFault) -> Option<Refusal>
@@ -59,164 +55,124 @@ fn ending(bytes: &[u8]) -> Option<Refusal>
     }
 }
 
-/// A user and a database, once each and in either order, neither empty, and not the console's.
-fn wanted<'a>(view: &StartupView<'a>) -> Option<(&'a [u8], &'a [u8])>
-    ensures { wanted_by result ≡ wanted (Ok (pairs_left view.now.pairs)) }
-{
-    let mut pairs = view.pairs;
-    let first = next_pair(&mut pairs)?;
-    let second = next_pair(&mut pairs)?;
-    if next_pair(&mut pairs).is_some() {
-        return None;
-    }
-    accepted(named_user(first, second)?)
-}
-
-fn next_pair<'a>(pairs: &mut Pairs<'a>) -> Option<(&'a [u8], &'a [u8])>
-    ensures { YieldsFirstBy texts_of pairs_left pairs.old result pairs.new }
-{
-    pairs.next()
-}
-
-fn named_user<'a>(
-    first: (&'a [u8], &'a [u8]),
-    second: (&'a [u8], &'a [u8]),
-) -> Option<(&'a [u8], &'a [u8])>
-    ensures { wanted_by result ≡ named_user first.entry.0.now first.entry.1.now second.entry.0.now second.entry.1.now }
-{
-    if first.0 == b"user".as_slice() && second.0 == b"database".as_slice() {
-        return Some((first.1, second.1));
-    }
-    if first.0 == b"database".as_slice() && second.0 == b"user".as_slice() {
-        return Some((second.1, first.1));
-    }
-    None
-}
-
-fn accepted<'a>(pair: (&'a [u8], &'a [u8])) -> Option<(&'a [u8], &'a [u8])>
-    ensures { wanted_by result ≡ accepted (Some (pair.entry.0.now, pair.entry.1.now)) }
-{
-    if pair.0.is_empty() || pair.1.is_empty() || pair.1 == CONSOLE {
-        None
-    } else {
-        Some(pair)
-    }
-}
-
 fn put_refusal(out: &mut BytesMut, cause: Refusal) -> Result<(), AllocError>
     ensures { OnOk result (out.new.items ≡ out.old.items ++ refusal cause) }
 {
     out.extend_from_slice(refusal_bytes(cause))
 }
 
-/// What follows AuthenticationOk, and a refusal where a faulty frame ends the bytes.
+/// What follows a login that has passed: AuthenticationOk, the service, and a refusal where a faulty frame ends the bytes.
 fn put_passed(
     alloc: Global,
     catalogue: &Catalogue,
-    user: &[u8],
+    key: &StartKey,
     rest: &[u8],
     out: &mut BytesMut,
 ) -> Result<(), AllocError>
-    ensures { OnOk result (out.new.items ≡ out.old.items ++ passed catalogue.now user.now rest.now) }
+    ensures { OnOk result (out.new.items ≡ out.old.items ++ replied catalogue.now (record { pieces = ok ∷ []; ended = Passed (ToLink key.now) rest.now })) }
 {
+    service_is_its_pieces();
     put_authentication_ok(out)?;
-    let key = key_of(alloc, user)?;
-    solo_bytes(alloc, catalogue, &key, KEY_WORD, rest, out)?;
+    solo_bytes(alloc, catalogue, key, KEY_WORD, rest, out)?;
     match ending(rest) {
         Some(refusal) => put_refusal(out, refusal),
         None => Ok(()),
     }
 }
 
-fn put_no_password(out: &mut BytesMut) -> Result<(), AllocError>
-    ensures { OnOk result (out.new.items ≡ out.old.items ++ no_password) }
+/// What a step of the login gives the client; where it is the last, with all that follows. A client
+/// of the console is closed without a byte. Want of memory gives nothing.
+fn put_step(
+    alloc: Global,
+    catalogue: &Catalogue,
+    step: &LoginStep,
+    rest: &[u8],
+    out: &mut BytesMut,
+) -> Result<(), AllocError>
+    ensures given { OnOk result (out.new.items ≡ out.old.items ++ replied catalogue.now (after step.now rest.now silence)) }
+    ensures memory { OnOk result (WantsMemory step.now → ⊥) }
 {
-    put_error_response(
-        out,
-        Severity::Fatal,
-        b"28P01",
-        b"password authentication failed",
+    match step {
+        LoginStep::Ask(question) => out.extend_from_slice(question.as_bytes()),
+        LoginStep::Passed(key) => put_passed(alloc, catalogue, key, rest, out),
+        LoginStep::Refused(Refusal::OutOfMemory) => Err(AllocError),
+        LoginStep::Refused(refusal) => put_refusal(out, *refusal),
+        LoginStep::Failed(failure) => out.extend_from_slice(failure.as_bytes()),
+        LoginStep::More | LoginStep::Arrived(_) | LoginStep::Console | LoginStep::Left => Ok(()),
+    }
+}
+
+/// Gives the login bytes up to its next step that isn't an arrival.
+fn advance(login: &mut Login, alloc: Global, bytes: &[u8]) -> (usize, LoginStep)
+    requires missing { 0 < missing login.old.hearing login.old.held }
+    requires some { 0 < length bytes.now }
+    ensures used { (0 < result.0) × (result.0 ≤ length bytes.now) }
+    ensures says { Says login.old bytes.now result.1 login.new (drop result.0 bytes.now) }
+    ensures past { IsPastArrival result.1 login.new }
+{
+    let (used, step) = login.on_bytes(alloc, bytes);
+    match step {
+        LoginStep::Arrived(_) => {
+            let (_, next) = login.on_bytes(alloc, b"");
+            (used, next)
+        }
+        step => (used, step),
+    }
+}
+
+fn is_end(step: &LoginStep) -> bool
+    ensures { result ≡ is_end step.now }
+{
+    !matches!(
+        step,
+        LoginStep::More | LoginStep::Ask(_) | LoginStep::Arrived(_)
     )
 }
 
-fn put_no_database(out: &mut BytesMut) -> Result<(), AllocError>
-    ensures { OnOk result (out.new.items ≡ out.old.items ++ no_database) }
-{
-    put_error_response(out, Severity::Fatal, b"3D000", b"database does not exist")
-}
-
-fn put_logged_in(
+/// What a client is given from a login on that waits for these bytes.
+fn put_login(
     alloc: Global,
     catalogue: &Catalogue,
-    view: &StartupView<'_>,
-    rest: &[u8],
-    out: &mut BytesMut,
-) -> Result<(), AllocError>
-    ensures { OnOk result (out.new.items ≡ out.old.items ++ logged_in catalogue.now (wanted (Ok (pairs_left view.now.pairs))) rest.now) }
-{
-    match wanted(view) {
-        None => put_refusal(out, Refusal::UnsupportedProtocol),
-        Some((user, _)) if !is_user(user) => put_no_password(out),
-        Some((user, database)) if database == DATABASE => put_passed(
-            alloc, catalogue, user, rest, out,
-        ),
-        Some(_) => put_no_database(out),
-    }
-}
-
-fn put_startup(
-    alloc: Global,
-    catalogue: &Catalogue,
-    text: &[u8],
-    rest: &[u8],
-    out: &mut BytesMut,
-) -> Result<(), AllocError>
-    ensures { OnOk result (out.new.items ≡ out.old.items ++ logged_in catalogue.now (wanted (startup_of text.now)) rest.now) }
-{
-    match StartupView::read(text) {
-        Ok(view) => put_logged_in(alloc, catalogue, &view, rest, out),
-        Err(_) => put_refusal(out, Refusal::UnsupportedProtocol),
-    }
-}
-
-/// The length of a startup message's length and code.
-const HEAD: usize = 8;
-
-/// Appends what a client of the standing settings is answered.
-fn put_replies(
-    alloc: Global,
-    catalogue: &Catalogue,
+    login: &mut Login,
     bytes: &[u8],
     out: &mut BytesMut,
 ) -> Result<(), AllocError>
-    ensures { OnOk result (out.new.items ≡ out.old.items ++ replies_from catalogue.now (first_front bytes.now)) }
+    requires { 0 < missing login.old.hearing login.old.held }
+    ensures { OnOk result (out.new.items ≡ out.old.items ++ replied catalogue.now (goes_on login.old bytes.now)) }
 {
-    match first_packet(bytes) {
-        FirstStep::Startup(text) => put_startup(
-            alloc,
-            catalogue,
-            text,
-            &bytes[HEAD + text.len()..],
-            out,
-        ),
-        FirstStep::Need(_) => Ok(()),
-        FirstStep::Cancel { .. } => put_refusal(out, Refusal::UnsupportedProtocol),
-        FirstStep::Tls => put_refusal(out, Refusal::UnsupportedProtocol),
-        FirstStep::Gss => put_refusal(out, Refusal::UnsupportedProtocol),
-        FirstStep::Bad(_fault) => put_refusal(out, Refusal::UnsupportedProtocol),
+    if bytes.is_empty() {
+        return Ok(());
     }
+    let (used, step) = advance(login, alloc, bytes);
+    let rest = &bytes[used..];
+    put_step(alloc, catalogue, &step, rest, out)?;
+    if is_end(&step) {
+        return Ok(());
+    }
+    put_login(alloc, catalogue, login, rest, out)
+}
+
+/// A login under the standing settings and users.
+fn standing_login(alloc: Global) -> Result<Login, AllocError>
+    ensures { IfOk result (λ l. l ≡ login_view standing_settings standing_users standing_word (Hears (AtFirst false false)) []) }
+{
+    let settings = Arc::new(alloc, settings(alloc)?)?;
+    let users = Arc::new(alloc, users(alloc)?)?;
+    Login::new(alloc, settings, users, KEY_WORD)
 }
 
 /// What a client of the standing settings is answered: its bytes in, its replies out. The only
 /// error is want of memory.
 #[tactic(auto, unfolding(crate::specs::Replay::replies))]
-pub fn replies(alloc: Global, bytes: &[u8]) -> Result<Vec<u8>, AllocError>
-    ensures { IfOk result (λ v. v.items ≡ replies bytes.now) }
+pub fn replies(alloc: Global, bytes: &[u8]) -> Result<BytesMut, AllocError>
+    ensures { IfOk result (λ b. b.items ≡ replies bytes.now) }
 {
+    login_is_of_its_row();
     let catalogue = catalogue(alloc)?;
+    let mut login = standing_login(alloc)?;
     let mut out = BytesMut::new(alloc);
-    put_replies(alloc, &catalogue, bytes, &mut out)?;
-    Vec::from_slice(alloc, out.as_slice())
+    put_login(alloc, &catalogue, &mut login, bytes, &mut out)?;
+    Ok(out)
 }
 
 /// The fault of standard input.

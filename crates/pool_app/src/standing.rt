@@ -1,14 +1,12 @@
-//! The standing settings of `replay`: its users, its database and its key word.
+//! The standing settings of `replay`: its settings and users as files have them, its catalogue and its key word.
 ghost use Rattle.std.specs.Prelude.{◌≡◌, IfOk};
-ghost use Rattle.pool_app.specs.Replay.{key_of, standing_catalogue, users};
-ghost use Rattle.session_machine.specs.State.{has_text};
+ghost use Rattle.pool_app.specs.Replay.{standing_catalogue, standing_settings, standing_users};
 
+use ini_config::{Settings, read_settings};
 use message_view::KeyWord;
-use session_machine::{Catalogue, StartKey, Text};
+use session_machine::Catalogue;
 use std::alloc::{AllocError, Global};
-
-/// The name of the standing database.
-pub(crate) const DATABASE: &[u8] = b"shop";
+use user_file::{Users, read_users};
 
 /// The key word that `replay` gives its client.
 pub(crate) const KEY_WORD: KeyWord = KeyWord {
@@ -17,30 +15,34 @@ pub(crate) const KEY_WORD: KeyWord = KeyWord {
     salt: [1, 2, 3, 4],
 };
 
-/// Whether the standing user file has this user.
-pub(crate) fn is_user(name: &[u8]) -> bool
-    ensures { result ≡ has_text users name.now }
-{
-    name == b"ann".as_slice() || name == b"bc".as_slice() || name == b"root".as_slice()
-}
+const SETTINGS: &[u8] =
+    b"[databases]\nshop = host=127.0.0.1 port=5432 dbname=shop\n[pgbouncer]\nauth_type = trust\nadmin_users = root\n";
 
-/// The start key of a user of the standing database.
-pub(crate) fn key_of(alloc: Global, user: &[u8]) -> Result<StartKey, AllocError>
-    ensures { IfOk result (λ k. k ≡ key_of user.now) }
-{
-    Ok(StartKey {
-        row: Text::from_slice(alloc, DATABASE)?,
-        host: Some([127, 0, 0, 1]),
-        port: 5432,
-        dbname: Text::from_slice(alloc, DATABASE)?,
-        user: Text::from_slice(alloc, user)?,
-        parameters: Vec::new(alloc),
-    })
-}
+const USERS: &[u8] =
+    b"\"ann\" \"secret\"\n\"bc\" \"md5900150983cd24fb0d6963f7d28e17f72\"\n\"root\" \"r\"\n";
 
-/// The standing catalogue, as a file has it.
 const CATALOGUE: &[u8] =
     b"version\t16.0\ndatabase\tshop\ntable\tcity\tname\tcountry\nrow\tBern\tCH\nrow\tOslo\tNO\nrow\tNuuk\t\\N\n";
+
+/// The standing settings.
+pub(crate) fn settings(alloc: Global) -> Result<Settings, AllocError>
+    ensures { IfOk result (λ s. s ≡ standing_settings) }
+{
+    match read_settings(alloc, SETTINGS) {
+        Ok(settings) => Ok(settings),
+        Err(_) => Err(AllocError),
+    }
+}
+
+/// The standing users.
+pub(crate) fn users(alloc: Global) -> Result<Users, AllocError>
+    ensures { IfOk result (λ u. u ≡ standing_users) }
+{
+    match read_users(alloc, USERS) {
+        Ok(users) => Ok(users),
+        Err(_) => Err(AllocError),
+    }
+}
 
 /// The standing catalogue.
 pub(crate) fn catalogue(alloc: Global) -> Result<Catalogue, AllocError>
