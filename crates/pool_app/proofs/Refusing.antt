@@ -1,6 +1,6 @@
 -- What follows a client's frames, one frame after the other.
-use Rattle.std.proofs.Common.{◌≡◌, ℕ, List, [], ◌∷◌, refl, sym, ap, ◌∙◌, Bool, true, false, drop}
-use Rattle.std.specs.Prelude.{◌==◌, ◌||◌, if◌then◌else◌}
+use Rattle.std.proofs.Common.{◌≡◌, ℕ, List, [], refl, sym, ap, ◌∙◌, true, false}
+use Rattle.std.specs.Prelude.{◌==◌}
 use Rattle.frame_view.specs.Frames.{Front, AFrame, Lacks, Faulty, FrameOf, Cut, before, front, frames}
 use Rattle.frame_view.specs.declared.FrameFault.{FrameFault}
 use Rattle.frame_view.specs.declared.Step.{Step}
@@ -10,7 +10,7 @@ use Rattle.frame_view.specs.declared.Side.TheVariants.{Client}
 use Rattle.frame_view.specs.Answers.{Tells}
 use Rattle.frame_view.proofs.Splitting.{frames-stopped}
 use Rattle.frame_view.proofs.Taking.{not_whole}
-use Rattle.pool_app.specs.Replay.{ending, refused_front, terminates}
+use Rattle.pool_app.specs.Replay.{ending, refused_front}
 
 pub ending-terminate : (f : FrameOf) (cut : Cut) → (f.kind == 88) ≡ true → ending (before f cut) ≡ []
 ending-terminate f cut h = rw h refl

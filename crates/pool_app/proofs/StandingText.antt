@@ -1,5 +1,5 @@
 -- The standing texts spell the standing settings, users and catalogue.
-use Rattle.std.proofs.Common.{◌≡◌, ℕ, List, [], ◌∷◌, refl, sym, ◌∙◌, Result, Ok, Err}
+use Rattle.std.proofs.Common.{◌≡◌, ℕ, [], refl, sym, ◌∙◌, Result, Ok}
 use Rattle.bstr.specs.Text.{line_len, lines_from, replaced_at, split_at}
 use Rattle.bstr.specs.Trim.{kept_end, kept_start}
 use Rattle.bstr.specs.Utf8.{pieces_from, spans_from}

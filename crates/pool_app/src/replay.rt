@@ -75,9 +75,10 @@ fn put_passed(
     put_authentication_ok(out)?;
     solo_bytes(alloc, catalogue, key, KEY_WORD, rest, out)?;
     match ending(rest) {
-        Some(refusal) => put_refusal(out, refusal),
-        None => Ok(()),
+        Some(refusal) => put_refusal(out, refusal)?,
+        None => {}
     }
+    Ok(())
 }
 
 /// What a step of the login gives the client; where it is the last, with all that follows. A client

@@ -157,7 +157,10 @@ fn replays_one_client(rt: HostRuntime) -> Result<(), Fail> {
     let mut output = Vec::new(alloc);
     assert!(rt; replay(alloc, START, &mut output).is_ok());
     assert_eq!(rt; output.as_slice(), WELCOME);
-    assert_eq!(rt; replies(alloc, b"\0\0\0\x08\x04\xd2\x16\x2f")?.as_slice(), b"N".as_slice());
+    assert_eq!(rt;
+        replies(alloc, b"\0\0\0\x08\x04\xd2\x16\x2f")?.as_slice(),
+        b"N".as_slice()
+    );
     assert_eq!(rt;
         replies(alloc, b"\0\0\0\x08\0\x02\0\0")?.as_slice(),
         refusal_bytes(Refusal::UnsupportedProtocol)

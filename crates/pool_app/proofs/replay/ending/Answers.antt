@@ -1,6 +1,6 @@
 use Rattle.std.proofs.Common.{arith, sym, ap, ◌∙◌, drop, ◌+◌, length, eq-eqb}
 use Rattle.std.proofs.lemmas.Bool.{ne_eqb}
-use Rattle.frame_view.specs.Frames.{Cut, frames}
+use Rattle.frame_view.specs.Frames.{frames}
 use Rattle.frame_view.specs.declared.Side.TheVariants.{Client}
 use Rattle.frame_view.proofs.Taking.{plain, taken_at}
 use Rattle.pool_app.specs.Replay.{ending}
