@@ -23,7 +23,7 @@ $(program): $(sources)
 
 # the tool of the tests, likewise; it isn't installed
 $(trials): $(sources)
-	@cd crates/trials && rt run -- solo ../../tests/rows/catalogue.tsv ann </dev/null >/dev/null
+	@cd crates/trials && rt run -- solo "$(CURDIR)/tests/rows/catalogue.tsv" ann </dev/null >/dev/null
 	@touch $(trials)
 	@echo "built $(trials) ($$(date +%T))"
 
