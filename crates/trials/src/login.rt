@@ -1,14 +1,14 @@
 //! `trials login`: a login that is fed with its bytes in pieces.
 use crate::KEY_WORD;
+use crate::input::read_input;
 use crate::lines::{put_hex_line, put_number};
 use ini_config::Settings;
 use login_core::{Failure, Login, LoginStep};
 use message_view::{Refusal, refusal_bytes};
 use pool_app::fault::AppFault;
-use pool_app::files::{MOST_BYTES, ReadFault, read_all, read_file, settings_of, users_of};
+use pool_app::files::{read_file, settings_of, users_of};
 use session_machine::StartKey;
 use std::alloc::{AllocError, Global};
-use std::io::ErrorKind;
 use std::rt::Files;
 use std::sync::Arc;
 use user_file::Users;
@@ -162,17 +162,6 @@ fn lines_of(
     put_hex_line(alloc, given.as_slice(), &mut lines)?;
     put_ended(&ended, &mut lines)?;
     Ok(lines)
-}
-
-/// A client's bytes.
-pub fn read_input<'a, R: Input>(rt: &R, alloc: Global) -> Result<Vec<u8>, AppFault<'a>> {
-    match read_all(alloc, rt.reader(), MOST_BYTES) {
-        Ok(bytes) => Ok(bytes),
-        Err(ReadFault::Io(error)) if error.kind() == ErrorKind::OutOfMemory => Err(
-            AppFault::Memory,
-        ),
-        Err(_) => Err(AppFault::Stdin),
-    }
 }
 
 /// The answer of the subcommand.

@@ -2,6 +2,7 @@
 #![tactic(auto)]
 
 mod fault;
+mod input;
 mod job;
 mod lines;
 mod login;

@@ -1,7 +1,7 @@
 //! `trials solo`: what a session alone answers to each front of a client's bytes.
 use crate::KEY_WORD;
+use crate::input::read_input;
 use crate::lines::put_hex_line;
-use crate::login::read_input;
 use bytes::BytesMut;
 use pool_app::fault::AppFault;
 use pool_app::files::read_catalogue;
