@@ -10,6 +10,7 @@ PREFIX ?= /usr/local
 DESTDIR ?=
 
 program := crates/pgsess/out/pgsess
+trials := crates/trials/out/trials
 sources := crates.txt $(shell find crates -name out -prune -o -name must-fail -prune -o \( -name '*.rt' -o -name '*.antt' \) -print)
 
 # the program, as `rt ci` or an earlier build left it; else proved and built now
@@ -19,6 +20,12 @@ $(program): $(sources)
 	@cd crates/pgsess && rt run -- --help >/dev/null
 	@touch $(program)
 	@echo "built $(program) ($$(date +%T))"
+
+# the tool of the tests, likewise; it isn't installed
+$(trials): $(sources)
+	@cd crates/trials && rt run -- solo "$(CURDIR)/tests/rows/catalogue.tsv" ann </dev/null >/dev/null
+	@touch $(trials)
+	@echo "built $(trials) ($$(date +%T))"
 
 build/pgsess: $(program)
 	@mkdir -p build
@@ -32,12 +39,14 @@ build: build/pgsess
 run: build/pgsess
 	@scripts/show.sh build/pgsess
 
-# the whole gate; rt ci leaves the program that it proved and built
+# the whole gate; rt ci leaves the programs that it proved and built
 test:
 	rt ci
-	@$(MAKE) --no-print-directory $(program)
-	scripts/rows.sh $(program)
-	scripts/refuse-growth.sh $(program)
+	@$(MAKE) --no-print-directory $(program) $(trials)
+	scripts/rows.sh $(program) $(trials)
+	scripts/logins.sh $(trials)
+	scripts/clients.sh $(trials)
+	scripts/refuse-growth.sh $(program) $(trials)
 	PGSESS=$(program) scripts/cli.sh
 
 install: build/pgsess

@@ -1,10 +1,12 @@
 #!/usr/bin/env bash
-# refuse-growth.sh [PROGRAM]: runs the program with its first allocation refused, then with its second, and so on until
-# none is left to refuse. Each run must end with status 1 and the line `pgsess: memory` alone, or with status 0 and the
-# whole answer. Where a file's line can't be kept, `serve` and `stub` may name it, as in `pgsess: C8 line 7`.
+# refuse-growth.sh [PROGRAM [TRIALS]]: runs the program with its first allocation refused, then with its second, and so on
+# until none is left to refuse. Each run must end with status 1 and the line `pgsess: memory` alone, or with status 0 and
+# the whole answer. Where a file's line can't be kept, `serve` and `stub` may name it, as in `pgsess: C8 line 7`.
+# Logins with a password are tried likewise through `trials login`.
 set -euo pipefail
 cd "$(dirname "$0")/.."
 program=$(realpath "${1:-crates/pgsess/out/pgsess}")
+trials=$(realpath "${2:-crates/trials/out/trials}")
 work=$(mktemp -d)
 trap 'rm -rf "$work"' EXIT
 gcc -O1 -Wall -Wextra -shared -fPIC -o "$work/refuse.so" scripts/refuse_growth.c
@@ -13,14 +15,14 @@ head -c 32 /dev/zero >"$work/seed.bin"
 passed=0
 failed=0
 
-# one_run NUMBER INPUT WORD.. : runs the program with this call refused; its status
+# one_run NUMBER INPUT PROGRAM WORD.. : runs the program with this call refused; its status
 one_run() {
     local number=$1 input=$2
     shift 2
     rm -f "$work/struck"
     local status=0
     timeout 60 env REFUSE_CALL="$number" REFUSE_STRUCK="$work/struck" LD_PRELOAD="$work/refuse.so" \
-        "$program" "$@" <"$input" >"$work/out" 2>"$work/err" || status=$?
+        "$@" <"$input" >"$work/out" 2>"$work/err" || status=$?
     echo "$status"
 }
 
@@ -28,12 +30,12 @@ one_run() {
 holds() {
     case $1 in
     0) [ ! -s "$work/err" ] && cmp -s "$work/out" "$2" ;;
-    1) [ ! -s "$work/out" ] && [ "$(wc -l <"$work/err")" = 1 ] && grep -qE "^pgsess: ($3)\$" "$work/err" ;;
+    1) [ ! -s "$work/out" ] && [ "$(wc -l <"$work/err")" = 1 ] && grep -qE "^($3)\$" "$work/err" ;;
     *) false ;;
     esac
 }
 
-# sweep NAME ANSWER LINES INPUT WORD.. : each call refused in turn
+# sweep NAME ANSWER LINES INPUT PROGRAM WORD.. : each call refused in turn
 sweep() {
     local name=$1 answer=$2 lines=$3 input=$4 number=0 told=0 faults=0 status
     shift 4
@@ -59,11 +61,17 @@ sweep() {
 
 : >"$work/nothing"
 for row in bind_values suspended_portal set_show_discard; do
-    sweep "replay of $row" "tests/rows/$row.out" memory "tests/rows/$row.in" replay
+    sweep "replay of $row" "tests/rows/$row.out" 'pgsess: memory' "tests/rows/$row.in" "$program" replay
 done
-sweep 'serve with the example files' "$work/nothing" 'memory|C8 line [0-9]+|U3 line [0-9]+' /dev/null \
-    serve --ini examples/pgsess.ini --users examples/users.txt --key-seed "$work/seed.bin"
-sweep 'stub with the example file' "$work/nothing" 'memory|K4 line [0-9]+' /dev/null stub --port 5432 --catalogue examples/catalogue.tsv
+sweep 'serve with the example files' "$work/nothing" 'pgsess: (memory|C8 line [0-9]+|U3 line [0-9]+)' /dev/null \
+    "$program" serve --ini examples/pgsess.ini --users examples/users.txt --key-seed "$work/seed.bin"
+sweep 'stub with the example file' "$work/nothing" 'pgsess: (memory|K4 line [0-9]+)' /dev/null \
+    "$program" stub --port 5432 --catalogue examples/catalogue.tsv
+for login in plain_behind_encryption md5; do
+    python3 scripts/logins.py answer tests/logins "$login" >"$work/answer"
+    sweep "login of $login" "$work/answer" 'trials: memory' "tests/logins/$login.in" \
+        "$trials" login "tests/logins/${login%%_*}.ini" tests/logins/users.txt 0
+done
 
 echo "refuse-growth: $passed passed, $failed failed"
 [ "$failed" -eq 0 ]

@@ -1,15 +1,27 @@
 #!/usr/bin/env python3
-"""Plays the conversations of tests/rows through PROGRAM. Usage: rows.py PROGRAM, at the top of the repository."""
+"""Plays the conversations of tests/rows through PROGRAM, and beside them what a session alone answers, by TRIALS.
+
+Usage: rows.py PROGRAM TRIALS, at the top of the repository.
+"""
 import pathlib
 import subprocess
 import sys
 
+from frames import CLIENT
+from logins import GIVEN, fatal
+
+ROWS = pathlib.Path("tests/rows")
 LONGEST_CUT = 200
+LONGEST_FRAME = 2_147_483_647
 SECONDS = 60
+TERMINATE = ord("X")
+START = (ROWS / "start.in").read_bytes()
+MALFORMED = GIVEN["P3"]
+TOO_LONG = fatal("54000", "client message is too long")
 
 
-def replay(program, data):
-    return subprocess.run([program, "replay"], input=data, capture_output=True, timeout=SECONDS)
+def run(words, data):
+    return subprocess.run(words, input=data, capture_output=True, timeout=SECONDS)
 
 
 def fault_of(run):
@@ -20,44 +32,96 @@ def fault_of(run):
 
 
 def whole(program, given, wanted):
-    run = replay(program, given)
-    if fault := fault_of(run):
+    answer = run([program, "replay"], given)
+    if fault := fault_of(answer):
         return fault
-    if run.stdout == wanted:
+    if answer.stdout == wanted:
         return ""
-    same = next((i for i, (a, b) in enumerate(zip(run.stdout, wanted)) if a != b), min(len(run.stdout), len(wanted)))
-    return f"{len(run.stdout)} bytes for {len(wanted)}, which differ from byte {same} on"
+    pairs = enumerate(zip(answer.stdout, wanted))
+    same = next((i for i, (a, b) in pairs if a != b), min(len(answer.stdout), len(wanted)))
+    return f"{len(answer.stdout)} bytes for {len(wanted)}, which differ from byte {same} on"
 
 
 def cut(program, given, wanted):
-    """Every front of the input, the empty one first: its answer goes on from the one before, and is a front of the whole answer."""
-    before = b""
+    """The answers to every front of the input, the empty one first, or a fault.
+
+    Each goes on from the one before, and is a front of the whole answer.
+    """
+    answers, before = [], b""
     for size in range(len(given) + 1):
-        run = replay(program, given[:size])
-        if fault := fault_of(run):
-            return f"{fault} after {size} bytes"
-        if not (run.stdout.startswith(before) and wanted.startswith(run.stdout)):
-            return f"another answer after {size} bytes"
-        before = run.stdout
-    return "" if before == wanted else "not the whole answer at the end"
+        answer = run([program, "replay"], given[:size])
+        if fault := fault_of(answer):
+            return [], f"{fault} after {size} bytes"
+        if not (answer.stdout.startswith(before) and wanted.startswith(answer.stdout)):
+            return [], f"another answer after {size} bytes"
+        before = answer.stdout
+        answers.append(before)
+    return answers, "" if before == wanted else "not the whole answer at the end"
+
+
+def head_refusal(kind, length):
+    """What a message with this head is refused by, if it is."""
+    if chr(kind) not in CLIENT or length < 4:
+        return MALFORMED
+    return TOO_LONG if length > LONGEST_FRAME else b""
+
+
+def refusal(data):
+    """What the messages after a login are refused by, if they are: the first faulty head, unless a Terminate comes before it."""
+    while len(data) >= 5:
+        kind, length = data[0], int.from_bytes(data[1:5], "big")
+        if told := head_refusal(kind, length):
+            return told
+        data = b"" if kind == TERMINATE else data[1 + length:]
+    return b""
+
+
+def beside_solo(trials, given, answers):
+    """The answers to the fronts that have ann's login beside those of a session alone: AuthenticationOk, these, and a refusal."""
+    rest = given[len(START):]
+    solo = run([trials, "solo", str(ROWS / "catalogue.tsv"), "ann"], rest)
+    if fault := fault_of(solo):
+        return f"trials: {fault}"
+    lines = solo.stdout.decode().splitlines()
+    if len(lines) != len(rest) + 1:
+        return f"trials: {len(lines)} lines for {len(rest) + 1}"
+    for size, line in enumerate(lines):
+        if answers[len(START) + size] != GIVEN["ok"] + bytes.fromhex(line) + refusal(rest[:size]):
+            return f"another answer than of a session alone, {size} bytes after the login"
+    return ""
+
+
+class Counts:
+    """What was played."""
+
+    def __init__(self):
+        self.passed = self.failed = self.fronts = self.alone = 0
+
+    def play(self, programs, file):
+        """The conversation of a file: the whole of it, and where it is short its fronts."""
+        given, wanted = file.read_bytes(), file.with_suffix(".out").read_bytes()
+        program, trials = programs
+        fault = whole(program, given, wanted)
+        if not fault and len(given) <= LONGEST_CUT:
+            answers, fault = cut(program, given, wanted)
+            self.fronts += len(answers)
+            if not fault and given.startswith(START):
+                fault = beside_solo(trials, given, answers)
+                self.alone += len(given) - len(START) + 1
+        self.passed += not fault
+        self.failed += bool(fault)
+        print(f"{'FAILED' if fault else 'ok    '} {file.stem}: {len(given)} bytes in, {len(wanted)} out{': ' if fault else ''}{fault}")
 
 
 def main():
-    if len(sys.argv) != 2:
+    if len(sys.argv) != 3:
         sys.exit(__doc__)
-    program = str(pathlib.Path(sys.argv[1]).resolve())
-    passed = failed = cuts = 0
-    for file in sorted(pathlib.Path("tests/rows").glob("*.in")):
-        given, wanted = file.read_bytes(), file.with_suffix(".out").read_bytes()
-        fault = whole(program, given, wanted)
-        if not fault and len(given) <= LONGEST_CUT:
-            fault = cut(program, given, wanted)
-            cuts += len(given) + 1
-        passed += not fault
-        failed += bool(fault)
-        print(f"{'FAILED' if fault else 'ok    '} {file.stem}: {len(given)} bytes in, {len(wanted)} out{': ' if fault else ''}{fault}")
-    print(f"rows: {passed} passed, {failed} failed ({cuts} fronts of inputs)")
-    sys.exit(failed > 0 or passed == 0)
+    programs = [str(pathlib.Path(word).resolve()) for word in sys.argv[1:]]
+    counts = Counts()
+    for file in sorted(ROWS.glob("*.in")):
+        counts.play(programs, file)
+    print(f"rows: {counts.passed} passed, {counts.failed} failed ({counts.fronts} fronts of inputs, {counts.alone} of them beside a session alone)")
+    sys.exit(counts.failed > 0 or counts.passed == 0 or counts.alone == 0)
 
 
 if __name__ == "__main__":

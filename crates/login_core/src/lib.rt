@@ -2,8 +2,6 @@
 //! "Message Flow", "Start-up").
 #![tactic(auto)]
 
-#[cfg(test)]
-mod client_packets;
 mod dialogue;
 pub mod laws;
 mod login;

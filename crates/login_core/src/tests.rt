@@ -1,5 +1,5 @@
-//! Worked logins, each cut at every byte, and the first packets of real clients.
-use crate::{KeyWord, Login, LoginStep, client_packets as packets};
+//! Worked logins, each cut at every byte.
+use crate::{KeyWord, Login, LoginStep};
 use ini_config::{Settings, read_settings};
 use message_view::refusal_bytes;
 use session_machine::StartKey;
@@ -19,11 +19,6 @@ const SHOP_MD5: &[u8] =
 
 const USERS: &[u8] =
     b"\"ann\" \"secret\"\n\"bc\" \"md5900150983cd24fb0d6963f7d28e17f72\"\n\"root\" \"r\"\n";
-
-const BENCH: &[u8] =
-    b"[databases]\nbench = host=127.0.0.1\n[pgbouncer]\nauth_type = trust\ntrack_extra_parameters = IntervalStyle, extra_float_digits\n";
-
-const BENCH_USERS: &[u8] = b"\"bench\" \"x\"\n";
 
 const WORD: KeyWord = KeyWord {
     pid: 1,
@@ -118,9 +113,9 @@ fn feed(alloc: Global, login: &mut Login, piece: &[u8], seen: &mut Seen) -> Resu
     Ok(())
 }
 
-fn login(alloc: Global, ini: &[u8], users: &[u8]) -> Result<Login, Fail> {
+fn login(alloc: Global, ini: &[u8]) -> Result<Login, Fail> {
     let settings: Settings = read_settings(alloc, ini)?;
-    let users: Users = read_users(alloc, users)?;
+    let users: Users = read_users(alloc, USERS)?;
     Ok(Login::new(
         alloc,
         Arc::new(alloc, settings)?,
@@ -130,8 +125,8 @@ fn login(alloc: Global, ini: &[u8], users: &[u8]) -> Result<Login, Fail> {
 }
 
 /// The login of these bytes, handed over in two pieces.
-fn cut_at(alloc: Global, ini: &[u8], users: &[u8], input: &[u8], cut: usize) -> Result<Seen, Fail> {
-    let mut login = login(alloc, ini, users)?;
+fn cut_at(alloc: Global, ini: &[u8], input: &[u8], cut: usize) -> Result<Seen, Fail> {
+    let mut login = login(alloc, ini)?;
     let mut seen = Seen {
         out: Vec::new(alloc),
         taken: 0,
@@ -165,7 +160,7 @@ fn is_login(
         wanted.extend_from_slice(piece)?;
     }
     for cut in 0..input.len() {
-        let seen = cut_at(alloc, ini, USERS, input, cut)?;
+        let seen = cut_at(alloc, ini, input, cut)?;
         let is_same = seen.out.as_slice() == wanted.as_slice()
             && seen.end == end
             && seen.taken.saturating_add(left) == input.len();
@@ -189,7 +184,7 @@ fn joined(alloc: Global, parts: &[&[u8]]) -> Result<Vec<u8>, Fail> {
 fn a_start_is_let_in(rt: HostRuntime) -> Result<(), Fail> {
     let alloc = rt.alloc();
     assert!(rt; is_login(alloc, SHOP, ANN, &[OK], End::Passed, 0)?);
-    let seen = cut_at(alloc, SHOP, USERS, ANN, 0)?;
+    let seen = cut_at(alloc, SHOP, ANN, 0)?;
     let key = seen.key.ok_or("no key")?;
     assert_eq!(rt; key.row.as_slice(), b"shop".as_slice());
     assert_eq!(rt; key.user.as_slice(), b"ann".as_slice());
@@ -255,7 +250,7 @@ fn what_follows_is_left(rt: HostRuntime) -> Result<(), Fail> {
             query.len()
         )?
     );
-    let seen = cut_at(alloc, SHOP, USERS, input.as_slice(), 7)?;
+    let seen = cut_at(alloc, SHOP, input.as_slice(), 7)?;
     let key = seen.key.ok_or("no key")?;
     assert_eq!(rt; key.parameters.len(), 1);
     assert_eq!(rt; key.parameters[0].1.as_slice(), b"b".as_slice());
@@ -267,7 +262,7 @@ fn the_last_of_equal_names_counts(rt: HostRuntime) -> Result<(), Fail> {
     let alloc = rt.alloc();
     let start =
         b"\0\0\0\x46\0\x03\0\0user\0ann\0database\0shop\0application_name\0a\0Application_Name\0b\0\0";
-    let seen = cut_at(alloc, SHOP, USERS, start, 40)?;
+    let seen = cut_at(alloc, SHOP, start, 40)?;
     assert!(rt; seen.end == End::Passed);
     let key = seen.key.ok_or("no key")?;
     assert_eq!(rt; key.parameters.len(), 1);
@@ -280,11 +275,9 @@ fn the_last_of_equal_names_counts(rt: HostRuntime) -> Result<(), Fail> {
 }
 
 #[test]
-fn passwords(rt: HostRuntime) -> Result<(), Fail> {
+fn right_passwords(rt: HostRuntime) -> Result<(), Fail> {
     let alloc = rt.alloc();
-    let a = b"p\0\0\0\x06a\0";
-    let b = b"p\0\0\0\x06b\0";
-    let right = joined(alloc, &[BC, a])?;
+    let right = joined(alloc, &[BC, b"p\0\0\0\x06a\0"])?;
     assert!(rt;
         is_login(
             alloc,
@@ -292,28 +285,6 @@ fn passwords(rt: HostRuntime) -> Result<(), Fail> {
             right.as_slice(),
             &[CLEARTEXT, OK],
             End::Passed,
-            0
-        )?
-    );
-    let wrong = joined(alloc, &[BC, b])?;
-    assert!(rt;
-        is_login(
-            alloc,
-            SHOP_PLAIN,
-            wrong.as_slice(),
-            &[CLEARTEXT, WRONG],
-            End::Closed,
-            0
-        )?
-    );
-    let unknown = joined(alloc, &[ZED, b])?;
-    assert!(rt;
-        is_login(
-            alloc,
-            SHOP_PLAIN,
-            unknown.as_slice(),
-            &[CLEARTEXT, WRONG],
-            End::Closed,
             0
         )?
     );
@@ -328,6 +299,26 @@ fn passwords(rt: HostRuntime) -> Result<(), Fail> {
             1
         )?
     );
+    Ok(())
+}
+
+#[test]
+fn wrong_passwords(rt: HostRuntime) -> Result<(), Fail> {
+    let alloc = rt.alloc();
+    let password = b"p\0\0\0\x06b\0";
+    for start in [BC, ZED] {
+        let input = joined(alloc, &[start, password])?;
+        assert!(rt;
+            is_login(
+                alloc,
+                SHOP_PLAIN,
+                input.as_slice(),
+                &[CLEARTEXT, WRONG],
+                End::Closed,
+                0
+            )?
+        );
+    }
     assert!(rt; is_login(alloc, SHOP, ZED, &[WRONG], End::Closed, 0)?);
     Ok(())
 }
@@ -335,48 +326,30 @@ fn passwords(rt: HostRuntime) -> Result<(), Fail> {
 #[test]
 fn salted_passwords(rt: HostRuntime) -> Result<(), Fail> {
     let alloc = rt.alloc();
-    let right = joined(
-        alloc,
-        &[ANN, b"p\0\0\0\x28md59009ce60b9ca97f1e752376843d1309e\0"],
-    )?;
-    assert!(rt;
-        is_login(
-            alloc,
-            SHOP_MD5,
-            right.as_slice(),
-            &[SALTED, OK],
+    let rows: [(&[u8], &[u8], &[u8], End); 3] = [
+        (
+            ANN,
+            b"p\0\0\0\x28md59009ce60b9ca97f1e752376843d1309e\0",
+            OK,
             End::Passed,
-            0
-        )?
-    );
-    let stored = joined(
-        alloc,
-        &[BC, b"p\0\0\0\x28md596838e208aad1ff8fc396693d03e488d\0"],
-    )?;
-    assert!(rt;
-        is_login(
-            alloc,
-            SHOP_MD5,
-            stored.as_slice(),
-            &[SALTED, OK],
+        ),
+        (
+            BC,
+            b"p\0\0\0\x28md596838e208aad1ff8fc396693d03e488d\0",
+            OK,
             End::Passed,
-            0
-        )?
-    );
-    let wrong = joined(
-        alloc,
-        &[ANN, b"p\0\0\0\x28md59009ce60b9ca97f1e752376843d13090\0"],
-    )?;
-    assert!(rt;
-        is_login(
-            alloc,
-            SHOP_MD5,
-            wrong.as_slice(),
-            &[SALTED, WRONG],
+        ),
+        (
+            ANN,
+            b"p\0\0\0\x28md59009ce60b9ca97f1e752376843d13090\0",
+            WRONG,
             End::Closed,
-            0
-        )?
-    );
+        ),
+    ];
+    for (start, answer, out, end) in rows {
+        let input = joined(alloc, &[start, answer])?;
+        assert!(rt; is_login(alloc, SHOP_MD5, input.as_slice(), &[SALTED, out], end, 0)?);
+    }
     Ok(())
 }
 
@@ -454,12 +427,12 @@ fn the_longest_first_packet(rt: HostRuntime) -> Result<(), Fail> {
     let longest = long_start(alloc, 9_950)?;
     assert_eq!(rt; longest.len(), 10_000);
     for cut in [1, 4, 9, 5_000, 9_999] {
-        let seen = cut_at(alloc, SHOP, USERS, longest.as_slice(), cut)?;
+        let seen = cut_at(alloc, SHOP, longest.as_slice(), cut)?;
         assert_eq!(rt; seen.out.as_slice(), OK);
         assert_eq!(rt; seen.taken, 10_000);
     }
     let longer = long_start(alloc, 9_951)?;
-    let seen = cut_at(alloc, SHOP, USERS, longer.as_slice(), 3)?;
+    let seen = cut_at(alloc, SHOP, longer.as_slice(), 3)?;
     assert_eq!(rt; seen.out.as_slice(), MALFORMED);
     Ok(())
 }
@@ -467,88 +440,12 @@ fn the_longest_first_packet(rt: HostRuntime) -> Result<(), Fail> {
 #[test]
 fn a_login_tells_what_it_wants(rt: HostRuntime) -> Result<(), Fail> {
     let alloc = rt.alloc();
-    let mut login = login(alloc, SHOP_PLAIN, USERS)?;
+    let mut login = login(alloc, SHOP_PLAIN)?;
     assert_eq!(rt; login.wants(), 8);
     let (used, _) = login.on_bytes(alloc, &ANN[..8]);
     assert_eq!(rt; used, 8);
     assert_eq!(rt; login.wants(), 24);
     assert_eq!(rt; login.users().len(), 3);
     assert_eq!(rt; login.settings().listen_port(), 6432);
-    Ok(())
-}
-
-/// Whether the client was given this, with so many parameters in its key.
-fn has_passed(seen: &Seen, wanted: &[u8], parameters: usize) -> bool {
-    match &seen.key {
-        Some(key) => seen.out.as_slice() == wanted && key.parameters.len() == parameters,
-        None => false,
-    }
-}
-
-/// Whether a client is let in, after `N` where it asks for encryption, with so many parameters in its key.
-fn passes(
-    alloc: Global,
-    ini: &[u8],
-    input: &[u8],
-    asks: bool,
-    parameters: usize,
-) -> Result<bool, Fail> {
-    let wanted = joined(alloc, if asks { &[b"N", OK] } else { &[OK] })?;
-    for cut in 0..input.len() {
-        let seen = cut_at(alloc, ini, BENCH_USERS, input, cut)?;
-        if !has_passed(&seen, wanted.as_slice(), parameters) {
-            return Ok(false);
-        }
-    }
-    Ok(true)
-}
-
-#[test]
-fn real_clients(rt: HostRuntime) -> Result<(), Fail> {
-    let alloc = rt.alloc();
-    let rows: [(&[u8], bool, usize); 18] = [
-        (packets::PSQL, true, 1),
-        (packets::PSQL_ENCODING, true, 2),
-        (packets::PSQL_TZ, true, 3),
-        (packets::PG_ISREADY, true, 1),
-        (packets::PG_DUMP, true, 1),
-        (packets::PGBENCH, true, 1),
-        (packets::PSYCOPG2, true, 0),
-        (packets::PSYCOPG3, true, 0),
-        (packets::ASYNCPG, true, 1),
-        (packets::PG8000, false, 0),
-        (packets::PGX4, false, 0),
-        (packets::LIB_PQ, false, 3),
-        (packets::JDBC, true, 4),
-        (packets::JDBC_SIMPLE, true, 4),
-        (packets::NODE_PG, false, 1),
-        (packets::RUBY_PG, true, 1),
-        (packets::PERL_DBD, true, 0),
-        (packets::PHP_PDO, true, 0),
-    ];
-    for (input, asks, parameters) in rows {
-        assert!(rt; passes(alloc, BENCH, input, asks, parameters)?);
-    }
-    Ok(())
-}
-
-#[test]
-fn refused_clients(rt: HostRuntime) -> Result<(), Fail> {
-    let alloc = rt.alloc();
-    for input in [
-        packets::PSQL_PGOPTIONS,
-        packets::JDBC_OPTS,
-        packets::PSQL_REPLICATION,
-    ] {
-        let seen = cut_at(alloc, BENCH, BENCH_USERS, input, 1)?;
-        let wanted = joined(alloc, &[b"N", PARAMETER])?;
-        assert_eq!(rt; seen.out.as_slice(), wanted.as_slice());
-    }
-    let untracked = b"[databases]\nbench = host=127.0.0.1\n[pgbouncer]\nauth_type = trust\n";
-    let seen = cut_at(alloc, untracked, BENCH_USERS, packets::LIB_PQ, 1)?;
-    assert_eq!(rt; seen.out.as_slice(), PARAMETER);
-    let ignored =
-        b"[databases]\nbench = host=127.0.0.1\n[pgbouncer]\nauth_type = trust\nignore_startup_parameters = options\n";
-    assert!(rt; passes(alloc, ignored, packets::PSQL_PGOPTIONS, true, 1)?);
     Ok(())
 }

@@ -1,0 +1,46 @@
+//! What a command line asks for.
+
+/// The line that a wrong command line is answered by.
+pub const USAGE: &str =
+    "usage: trials login INI USERS CUT | trials solo CATALOGUE USER (a client's bytes on standard input)";
+
+/// What a command line asks for.
+#[derive(Clone, Copy, Debug, PartialEq, Eq, Drop)]
+pub enum Job<'a> {
+    /// The login under these settings and users, fed in pieces of at most so many bytes.
+    Login {
+        ini: &'a str,
+        users: &'a str,
+        cut: usize,
+    },
+    /// The answers of this user's session over this catalogue to every front of the bytes.
+    Solo {
+        catalogue: &'a str,
+        user: &'a str,
+    },
+}
+
+/// The bytes of the largest piece. For 0 there is one piece.
+fn cut_of(word: &str) -> Option<usize> {
+    match word.parse::<usize>() {
+        Ok(0) => Some(usize::MAX),
+        Ok(cut) => Some(cut),
+        Err(_) => None,
+    }
+}
+
+/// The job of a command line, whose first word is the program's name.
+pub fn job_of<'a>(words: &'a [String]) -> Option<Job<'a>> {
+    match words.get(1)?.as_str() {
+        "login" if words.len() == 5 => Some(Job::Login {
+            ini: words[2].as_str(),
+            users: words[3].as_str(),
+            cut: cut_of(words[4].as_str())?,
+        }),
+        "solo" if words.len() == 4 => Some(Job::Solo {
+            catalogue: words[2].as_str(),
+            user: words[3].as_str(),
+        }),
+        _ => None,
+    }
+}

@@ -1,0 +1,184 @@
+//! `trials login`: a login that is fed with its bytes in pieces.
+use crate::KEY_WORD;
+use crate::input::read_input;
+use crate::lines::{put_hex_line, put_number};
+use ini_config::Settings;
+use login_core::{Failure, Login, LoginStep};
+use message_view::{Refusal, refusal_bytes};
+use pool_app::fault::AppFault;
+use pool_app::files::{read_file, settings_of, users_of};
+use session_machine::StartKey;
+use std::alloc::{AllocError, Global};
+use std::rt::Files;
+use std::sync::Arc;
+use user_file::Users;
+
+/// AuthenticationOk of a client that goes on to a link, which a login leaves to its caller. That of the console is the console's.
+const OK: &[u8] = b"R\0\0\0\x08\0\0\0\0";
+
+/// How a login ends.
+#[derive(Drop)]
+enum Ending {
+    /// The bytes come to their end before the login does.
+    Unfinished,
+    Passed(Arc<StartKey>),
+    Console,
+    Refused(Refusal),
+    Failed(Failure),
+    Left,
+}
+
+/// What a login is given after a step.
+#[derive(Drop)]
+enum Next {
+    Piece,
+    NoBytes,
+    Nothing(Ending),
+}
+
+/// A login that has ended: the client's bytes that it hasn't taken, and how it ended.
+#[derive(Drop)]
+struct Ended<'a> {
+    rest: &'a [u8],
+    ending: Ending,
+}
+
+/// Appends what the client is given at a step. The error is want of memory.
+fn hear(step: LoginStep, given: &mut Vec<u8>) -> Result<Next, AllocError> {
+    match step {
+        LoginStep::More => Ok(Next::Piece),
+        LoginStep::Ask(question) => {
+            given.extend_from_slice(question.as_bytes())?;
+            Ok(Next::Piece)
+        }
+        LoginStep::Arrived(_) => Ok(Next::NoBytes),
+        LoginStep::Passed(key) => {
+            given.extend_from_slice(OK)?;
+            Ok(Next::Nothing(Ending::Passed(key)))
+        }
+        LoginStep::Console => Ok(Next::Nothing(Ending::Console)),
+        LoginStep::Refused(Refusal::OutOfMemory) => Err(AllocError),
+        LoginStep::Refused(refusal) => {
+            given.extend_from_slice(refusal_bytes(refusal))?;
+            Ok(Next::Nothing(Ending::Refused(refusal)))
+        }
+        LoginStep::Failed(failure) => {
+            given.extend_from_slice(failure.as_bytes())?;
+            Ok(Next::Nothing(Ending::Failed(failure)))
+        }
+        LoginStep::Left => Ok(Next::Nothing(Ending::Left)),
+    }
+}
+
+/// Feeds a login with pieces of at most so many bytes, and appends what the client is given.
+fn fed<'a>(
+    alloc: Global,
+    login: Login,
+    bytes: &'a [u8],
+    cut: usize,
+    given: &mut Vec<u8>,
+) -> Result<Ended<'a>, AllocError> {
+    let mut login = login;
+    let mut rest = bytes;
+    let mut next = Next::Piece;
+    for _ in 0..u64::MAX {
+        let most = match next {
+            Next::Piece => cut,
+            Next::NoBytes => 0,
+            Next::Nothing(ending) => return Ok(Ended { rest, ending }),
+        };
+        let (used, step) = login.on_bytes(alloc, &rest[..most.min(rest.len())]);
+        rest = &rest[used..];
+        next = hear(step, given)?;
+        if matches!(&next, Next::Piece) && rest.is_empty() {
+            break;
+        }
+    }
+    Ok(Ended {
+        rest,
+        ending: Ending::Unfinished,
+    })
+}
+
+/// Appends the row and the user of a start key, and its parameters, parted by commas.
+fn put_key(key: &StartKey, out: &mut Vec<u8>) -> Result<(), AllocError> {
+    out.extend_from_slice(b"passed row=")?;
+    out.extend_from_slice(key.row.as_slice())?;
+    out.extend_from_slice(b" user=")?;
+    out.extend_from_slice(key.user.as_slice())?;
+    out.extend_from_slice(b" parameters=")?;
+    let mut separator: &[u8] = b"";
+    for parameter in &key.parameters {
+        out.extend_from_slice(separator)?;
+        out.extend_from_slice(parameter.0.as_slice())?;
+        out.extend_from_slice(b"=")?;
+        out.extend_from_slice(parameter.1.as_slice())?;
+        separator = b",";
+    }
+    Ok(())
+}
+
+fn put_refusal(refusal: Refusal, out: &mut Vec<u8>) -> Result<(), AllocError> {
+    out.extend_from_slice(b"refused ")?;
+    out.extend_from_slice(refusal.code())
+}
+
+fn put_failure(failure: Failure, out: &mut Vec<u8>) -> Result<(), AllocError> {
+    match failure {
+        Failure::WrongPassword => out.extend_from_slice(b"failed 28P01"),
+        Failure::NoDatabase => out.extend_from_slice(b"failed 3D000"),
+    }
+}
+
+/// Appends the line that tells how a login ended, and how many bytes it hasn't taken.
+fn put_ended(ended: &Ended<'_>, out: &mut Vec<u8>) -> Result<(), AllocError> {
+    match &ended.ending {
+        Ending::Unfinished => out.extend_from_slice(b"unfinished")?,
+        Ending::Passed(key) => put_key(key, out)?,
+        Ending::Console => out.extend_from_slice(b"console")?,
+        Ending::Refused(refusal) => put_refusal(*refusal, out)?,
+        Ending::Failed(failure) => put_failure(*failure, out)?,
+        Ending::Left => out.extend_from_slice(b"left")?,
+    }
+    out.extend_from_slice(b" unused=")?;
+    put_number(ended.rest.len(), out)?;
+    out.extend_from_slice(b"\n")
+}
+
+/// The two lines of a login.
+fn lines_of(
+    alloc: Global,
+    settings: Settings,
+    users: Users,
+    bytes: &[u8],
+    cut: usize,
+) -> Result<Vec<u8>, AllocError> {
+    let settings = Arc::new(alloc, settings)?;
+    let users = Arc::new(alloc, users)?;
+    let login = Login::new(alloc, settings, users, KEY_WORD)?;
+    let mut given = Vec::new(alloc);
+    let ended = fed(alloc, login, bytes, cut, &mut given)?;
+    let mut lines = Vec::new(alloc);
+    put_hex_line(alloc, given.as_slice(), &mut lines)?;
+    put_ended(&ended, &mut lines)?;
+    Ok(lines)
+}
+
+/// The answer of the subcommand.
+pub fn answer<'a, R: Files + Input>(
+    rt: &R,
+    alloc: Global,
+    ini: &'a str,
+    users: &'a str,
+    cut: usize,
+) -> Result<Vec<u8>, AppFault<'a>> {
+    let text = read_file(rt, alloc, ini)?;
+    let settings = settings_of(alloc, text.as_slice())?;
+    let text = read_file(rt, alloc, users)?;
+    let users = users_of(alloc, text.as_slice())?;
+    let bytes = read_input(rt, alloc)?;
+    match lines_of(alloc, settings, users, bytes.as_slice(), cut) {
+        Ok(lines) => Ok(lines),
+        Err(_) => Err(AppFault::Memory),
+    }
+}

@@ -1,0 +1,75 @@
+//! A tool for this repository's tests: a login fed with its bytes in pieces, and what a session alone answers.
+#![tactic(auto)]
+
+mod fault;
+mod input;
+mod job;
+mod lines;
+mod login;
+mod solo;
+
+use job::Job;
+use message_view::KeyWord;
+use pool_app::fault::AppFault;
+use std::alloc::Global;
+use std::io::Write;
+use std::process::ExitCode;
+use std::rt::Files;
+use std::{env, io};
+
+/// The key word of every trial, which is that of `pgsess replay` too.
+const KEY_WORD: KeyWord = KeyWord {
+    pid: 1,
+    secret: 2,
+    salt: [1, 2, 3, 4],
+};
+
+fn answer<'a, R: Files + Input>(
+    rt: &R,
+    alloc: Global,
+    job: Job<'a>,
+) -> Result<Vec<u8>, AppFault<'a>> {
+    match job {
+        Job::Login { ini, users, cut } => login::answer(rt, alloc, ini, users, cut),
+        Job::Solo { catalogue, user } => solo::answer(rt, alloc, catalogue, user),
+    }
+}
+
+/// Does the job. Nothing is written before all of the answer is there.
+fn run<'a, R: Files + Input + Print>(
+    rt: &R,
+    alloc: Global,
+    job: Job<'a>,
+) -> Result<(), AppFault<'a>> {
+    let answer = answer(rt, alloc, job)?;
+    let mut output = io::writer(rt);
+    if output.write_all(answer.as_slice()).is_err() || output.flush().is_err() {
+        return Err(AppFault::Stdout);
+    }
+    Ok(())
+}
+
+fn words_of(rt: &HostRuntime) -> io::Result<Vec<String>> {
+    Ok(env::args(rt)?.collect(rt.alloc())?)
+}
+
+fn main(rt: HostRuntime) -> ExitCode {
+    let words = match words_of(&rt) {
+        Ok(words) => words,
+        Err(_) => {
+            let _ = eprintln!(rt; "trials: memory");
+            return ExitCode::from(1);
+        }
+    };
+    let Some(job) = job::job_of(words.as_slice()) else {
+        let _ = eprintln!(rt; "{}", job::USAGE);
+        return ExitCode::from(2);
+    };
+    match run(&rt, rt.alloc(), job) {
+        Ok(()) => ExitCode::SUCCESS,
+        Err(fault) => {
+            let _ = fault::tell(&rt, &fault);
+            ExitCode::from(1)
+        }
+    }
+}

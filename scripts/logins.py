@@ -1,0 +1,105 @@
+#!/usr/bin/env python3
+"""Plays the logins of a folder through `trials login`, cut into pieces of several sizes.
+
+Usage: logins.py PROGRAM FOLDER        every line of FOLDER/expected.txt
+       logins.py answer FOLDER NAME    the two lines that the first login of this name is to get
+
+A line has a name, its settings, what the client is given ("-": nothing) and how the login ends, parted by tabs.
+"""
+import pathlib
+import re
+import subprocess
+import sys
+
+CUTS = (0, 1, 2, 3, 5, 7, 64)
+SECONDS = 60
+
+
+def message(kind, body):
+    return kind + (4 + len(body)).to_bytes(4, "big") + body
+
+
+def authentication(number, rest=b""):
+    return message(b"R", number.to_bytes(4, "big") + rest)
+
+
+def fatal(code, text):
+    return message(b"E", f"SFATAL\0VFATAL\0C{code}\0M{text}\0\0".encode())
+
+
+# what a client can be given, as the PostgreSQL manual ("Message Formats") and docs/OPERATING.md have it
+GIVEN = {
+    "-": b"",
+    "N": b"N",
+    "ok": authentication(0),
+    "cleartext": authentication(3),
+    "md5": authentication(5, bytes([1, 2, 3, 4])),
+    "28P01": fatal("28P01", "password authentication failed"),
+    "3D000": fatal("3D000", "database does not exist"),
+    "P2": fatal("0A000", "unsupported protocol version"),
+    "P3": fatal("08P01", "malformed client message"),
+    "P4": fatal("0A000", "unsupported startup parameter"),
+}
+
+
+class Login:
+    """A line of expected.txt."""
+
+    def __init__(self, folder, line):
+        self.name, self.settings, given, self.ending = line.split("\t")
+        self.files = [str(folder / f"{self.settings}.ini"), str(folder / "users.txt")]
+        self.data = (folder / f"{self.name}.in").read_bytes()
+        self.given = b"".join(GIVEN[word] for word in given.split()).hex()
+
+    def is_ending(self, line):
+        """Whether the line is the ending. How many bytes are left may depend on the cuts: `unused=A..B`."""
+        wanted = re.fullmatch(r"(.*) unused=(\d+)(?:\.\.(\d+))?", self.ending)
+        got = re.fullmatch(r"(.*) unused=(\d+)", line)
+        if not (wanted and got and wanted[1] == got[1]):
+            return False
+        return int(wanted[2]) <= int(got[2]) <= int(wanted[3] or wanted[2])
+
+    def fault(self, program, cut):
+        run = subprocess.run([program, "login", *self.files, str(cut)], input=self.data, capture_output=True, timeout=SECONDS)
+        if run.returncode != 0 or run.stderr:
+            return f"status {run.returncode}, {run.stderr!r}"
+        lines = run.stdout.decode("latin-1").split("\n")
+        if len(lines) != 3 or lines[2]:
+            return f"{len(lines)} lines"
+        if lines[0] != self.given:
+            return f"given {lines[0]} for {self.given}"
+        return "" if self.is_ending(lines[1]) else f"ended {lines[1]!r} for {self.ending!r}"
+
+
+def logins_of(folder):
+    logins = [Login(folder, line) for line in (folder / "expected.txt").read_text().splitlines()]
+    if missing := {file.stem for file in folder.glob("*.in")} - {login.name for login in logins}:
+        sys.exit(f"{folder}/expected.txt lacks {sorted(missing)}")
+    return logins
+
+
+def play(program, logins):
+    passed = failed = 0
+    for login in logins:
+        faults = [f"{fault} (pieces of {cut})" for cut in CUTS if (fault := login.fault(program, cut))]
+        passed += not faults
+        failed += bool(faults)
+        print(f"{'FAILED' if faults else 'ok    '} {login.name}, {login.settings}: {'; '.join(faults) or login.ending}")
+    return passed, failed
+
+
+def main():
+    if len(sys.argv) == 4 and sys.argv[1] == "answer":
+        login = next(login for login in logins_of(pathlib.Path(sys.argv[2])) if login.name == sys.argv[3])
+        print(f"{login.given}\n{login.ending}")
+        return
+    if len(sys.argv) != 3:
+        sys.exit(__doc__)
+    program, folder = str(pathlib.Path(sys.argv[1]).resolve()), pathlib.Path(sys.argv[2])
+    passed, failed = play(program, logins_of(folder))
+    print(f"{folder.name}: {passed} passed, {failed} failed (each cut in {len(CUTS)} ways)")
+    sys.exit(failed > 0 or passed == 0)
+
+
+if __name__ == "__main__":
+    main()
