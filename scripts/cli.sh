@@ -156,16 +156,16 @@ users 'name twice' 'U2 line 4' '"a" "x"\n\n; c\n"a" "y"\n'
 
 # ---- standard streams
 
-# a refusal of 57 bytes: an SSLRequest isn't served
+# an SSLRequest, which is answered by one byte
 request='\0\0\0\10\4\322\26\57'
 answered=$(printf "$request" | "$program" replay 2>err.txt | wc -c)
-result 'a request: answer' 57 "$answered"
+result 'a request: answer' 1 "$answered"
 result 'a request: standard error' 0 "$(wc -c <err.txt)"
 ends 'empty input' 0 '' replay
 head -c 16777216 /dev/zero | "$program" replay >out.txt 2>err.txt
 result 'largest input: status' 0 $?
 result 'largest input: standard error' 0 "$(wc -c <err.txt)"
-result 'largest input: standard output' 57 "$(wc -c <out.txt)"
+result 'largest input: standard output' 53 "$(wc -c <out.txt)"
 head -c 16777217 /dev/zero | "$program" replay >out.txt 2>err.txt
 result 'oversized input: status' 1 $?
 result 'oversized input' 'pgsess: stdin' "$(cat err.txt)"
