@@ -7,14 +7,16 @@ ghost use Rattle.session_machine.specs.Answers.{Gave, Gives};
 ghost use Rattle.session_machine.specs.Extended.{orphaned, without_statement};
 ghost use Rattle.session_machine.specs.Named.{without};
 ghost use Rattle.session_machine.specs.Picks.{IsNarrow};
-ghost use Rattle.session_machine.specs.State.{answers, commit_outside, failed, portal_name, ready};
+ghost use Rattle.session_machine.specs.Lookups.{look_up};
+ghost use Rattle.session_machine.specs.State.{answers, bound, commit_outside, failed, portal_name, ready};
 ghost use Rattle.session_machine.specs.Step.{end_query, query, query_rows, query_with, step_query, without_unnamed};
 
 use crate::catalogue::Catalogue;
 use crate::cause::Cause;
 use crate::names::Names;
 use crate::naming::without_named;
-use crate::output::{put_columns, put_row_tag, put_rows};
+use crate::output::{put_columns, put_row_tag, put_rows, put_shown};
+use crate::parameter::Parameter;
 use crate::portal::{Portal, are_of_others};
 use crate::row::Row;
 use crate::session::Session;
@@ -148,8 +150,42 @@ impl Session {
         if statement.parameters() > 0 {
             return Ok(Err(Cause::NoPlaceholder));
         }
-        match self.look_up(alloc, catalogue, &statement)? {
-            Ok(names) => self.query_with(alloc, catalogue, &statement, &names, out),
+        self.query_usable(alloc, catalogue, &statement, out)
+    }
+
+    /// Runs a statement that may be used. SHOW needs no list of names or rows.
+    fn query_usable(
+        &mut self,
+        alloc: Global,
+        catalogue: &Catalogue,
+        statement: &Stmt<'_>,
+        out: &mut BytesMut,
+    ) -> Result<Result<(), Cause>, AllocError>
+        requires { IsNarrow (meaning statement.now) }
+        ensures { IfOk result (λ done. Gives done self.old self.new out.old.items out.new.items (bound (look_up catalogue.now self.old (meaning statement.now)) (λ columns. query_with catalogue.now self.old (meaning statement.now) columns))) }
+    {
+        let Stmt::Show { name } = statement else {
+            return self.query_looked_up(alloc, catalogue, statement, out);
+        };
+        let Some(parameter) = Parameter::named(name) else {
+            return Ok(Err(Cause::NoParameter));
+        };
+        put_shown(parameter, self.work.values.get(parameter), out)?;
+        Ok(Ok(()))
+    }
+
+    fn query_looked_up(
+        &mut self,
+        alloc: Global,
+        catalogue: &Catalogue,
+        statement: &Stmt<'_>,
+        out: &mut BytesMut,
+    ) -> Result<Result<(), Cause>, AllocError>
+        requires { IsNarrow (meaning statement.now) }
+        ensures { IfOk result (λ done. Gives done self.old self.new out.old.items out.new.items (bound (look_up catalogue.now self.old (meaning statement.now)) (λ columns. query_with catalogue.now self.old (meaning statement.now) columns))) }
+    {
+        match self.look_up(alloc, catalogue, statement)? {
+            Ok(names) => self.query_with(alloc, catalogue, statement, &names, out),
             Err(cause) => Ok(Err(cause)),
         }
     }
