@@ -3,6 +3,8 @@ pub mod Words
 pub mod Errors
 pub mod Named
 pub mod State
+pub mod Known
+pub mod Kept
 pub mod Portals
 pub mod Lookups
 pub mod Found

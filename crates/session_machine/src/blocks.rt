@@ -10,6 +10,7 @@ ghost use Rattle.session_machine.specs.declared.block.Block.TheVariants.{Outside
 use crate::block::Block;
 use crate::cause::Cause;
 use crate::session::Session;
+use crate::work::Saved;
 use bytes::BytesMut;
 use message_view::{Severity, put_command_complete, put_notice_response};
 use shared_list::Shared;
@@ -105,9 +106,11 @@ impl Session {
         ensures { OnOk result (self.new ≡ discarded self.old) }
     {
         self.work.values = self.defaults.copied()?;
+        self.is_reported = false;
         self.work.tables = Shared::new(alloc)?;
-        self.saved = None;
+        self.saved = Saved::Nothing;
         self.statements = Shared::new(alloc)?;
+        self.may_have_unnamed = false;
         self.portals = Shared::new(alloc)?;
         Ok(())
     }

@@ -159,7 +159,8 @@ impl Session {
             return Ok(Err(Cause::ColumnTwice));
         }
         let table = Table::new(alloc, name, shared_names(alloc, columns)?)?;
-        self.work.tables = self.work.tables.pushed(alloc, table)?;
+        let tables = self.work.tables.pushed(alloc, table)?;
+        self.put_tables(tables)?;
         put_command_complete(out, b"CREATE TABLE")?;
         Ok(Ok(()))
     }
@@ -174,7 +175,8 @@ impl Session {
         ensures { OnOk result (RunGives (Ok tt) self.old self.new out.old.items out.new.items (drop_run self.old (folded name.now))) }
     {
         let name = Text::folded(alloc, name)?;
-        self.work.tables = without_named(alloc, &self.work.tables, name.as_slice())?;
+        let tables = without_named(alloc, &self.work.tables, name.as_slice())?;
+        self.put_tables(tables)?;
         put_command_complete(out, b"DROP TABLE")
     }
 
@@ -191,8 +193,8 @@ impl Session {
         };
         let row = padded(alloc, table.columns().as_slice(), values)?;
         let table = table.with_row(alloc, Row::from_vec(row))?;
-        self.work.tables = with_named(alloc, &self.work.tables, table)?;
-        Ok(())
+        let tables = with_named(alloc, &self.work.tables, table)?;
+        self.put_tables(tables)
     }
 
     /// INSERT of one row into a temporary table.

@@ -16,7 +16,7 @@ use crate::cause::Cause;
 use crate::names::Names;
 use crate::naming::{find_named, without_named};
 use crate::output::put_description;
-use crate::portal::{Portal, Prepared};
+use crate::portal::{Portal, Prepared, are_of_others};
 use crate::run::read_narrow;
 use crate::session::Session;
 use bytes::BytesMut;
@@ -183,10 +183,14 @@ impl Session {
         }
     }
 
+    #[tactic(auto, using(crate::proofs::Known::named_without, crate::proofs::Known::others_stay))]
     fn close_prepared(&mut self, alloc: Global, name: &[u8]) -> Result<(), AllocError>
         ensures { OnOk result (self.new ≡ (close self.old (OfStatement name.now)).next) }
     {
         self.statements = without_named(alloc, &self.statements, name)?;
+        if are_of_others(self.portals.as_slice(), name) {
+            return Ok(());
+        }
         let portals = portals_of_others(alloc, self.portals.as_slice(), name)?;
         self.portals = Shared::from_shared(alloc, portals)?;
         Ok(())

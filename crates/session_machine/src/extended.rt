@@ -104,6 +104,7 @@ impl Session {
     {
         self.drop_statement(alloc, view.name)?;
         let prepared = prepared(alloc, view)?;
+        self.may_have_unnamed = true;
         self.statements = self.statements.pushed(alloc, prepared)?;
         put_parse_complete(out)?;
         Ok(Ok(()))

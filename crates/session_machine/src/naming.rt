@@ -52,7 +52,8 @@ fn others<T: HasName>(
     Ok(others)
 }
 
-/// All that have another name.
+/// All that have another name. Where that is all, the list stays the same one.
+#[tactic(auto, using(crate::proofs::Known::none_named))]
 pub fn without_named<T: HasName>(
     alloc: Global,
     list: &Shared<T>,
@@ -60,6 +61,9 @@ pub fn without_named<T: HasName>(
 ) -> Result<Shared<T>, AllocError>
     ensures { IfOk result (λ l. l ≡ without T.name_of list.now name.now) }
 {
+    if find_named(list, name).is_none() {
+        return list.copied();
+    }
     Shared::from_shared(alloc, others(alloc, list.as_slice(), name)?)
 }
 

@@ -1,5 +1,7 @@
 ghost use Rattle.std.specs.Prelude.{◌≡◌, ◌≤◌, ◌<◌, ◌^◌, ℕ, length, drop, map, take, IfOk, slice_get, Some};
 ghost use Rattle.std.specs.Arc.{arc_value};
+ghost use Rattle.std.specs.List.{list_all};
+ghost use Rattle.session_machine.specs.Extended.{is_of_other};
 ghost use Rattle.session_machine.specs.Portals.{progress_of};
 
 use crate::naming::HasName;
@@ -268,4 +270,16 @@ impl Portal {
             progress: self.progress.copied()?,
         })
     }
+}
+
+/// Whether no portal was made from the statement of this name that stands.
+pub fn are_of_others(portals: &[Arc<Portal>], name: &[u8]) -> bool
+    ensures { result ≡ list_all (is_of_other name.now) (map arc_value portals.now) }
+{
+    for portal in portals {
+        if portal.is_of(name) {
+            return false;
+        }
+    }
+    true
 }

@@ -5,16 +5,19 @@ ghost use Rattle.mini_sql.specs.Meanings.{meaning};
 ghost use Rattle.message_view.specs.Reading.{query_of};
 ghost use Rattle.session_machine.specs.Answers.{Gave, Gives};
 ghost use Rattle.session_machine.specs.Extended.{orphaned, without_statement};
+ghost use Rattle.session_machine.specs.Named.{without};
 ghost use Rattle.session_machine.specs.Picks.{IsNarrow};
-ghost use Rattle.session_machine.specs.State.{answers, commit_outside, failed, ready};
+ghost use Rattle.session_machine.specs.Lookups.{look_up};
+ghost use Rattle.session_machine.specs.State.{answers, bound, commit_outside, failed, portal_name, ready};
 ghost use Rattle.session_machine.specs.Step.{end_query, query, query_rows, query_with, step_query, without_unnamed};
 
 use crate::catalogue::Catalogue;
 use crate::cause::Cause;
 use crate::names::Names;
 use crate::naming::without_named;
-use crate::output::{put_columns, put_row_tag, put_rows};
-use crate::portal::Portal;
+use crate::output::{put_columns, put_row_tag, put_rows, put_shown};
+use crate::parameter::Parameter;
+use crate::portal::{Portal, are_of_others};
 use crate::row::Row;
 use crate::session::Session;
 use bytes::BytesMut;
@@ -41,21 +44,55 @@ fn orphaned(
 
 impl Session {
     /// Drops the prepared statement of this name; its portals stay.
+    #[tactic(auto, using(crate::proofs::Known::named_without))]
     pub(crate) fn drop_statement(&mut self, alloc: Global, name: &[u8]) -> Result<(), AllocError>
         ensures { OnOk result (self.new ≡ without_statement self.old name.now) }
     {
         self.statements = without_named(alloc, &self.statements, name)?;
+        self.orphan(alloc, name)
+    }
+
+    /// The portals of the statement of this name belong to none from now on.
+    #[tactic(auto, using(crate::proofs::Known::none_orphaned))]
+    fn orphan(&mut self, alloc: Global, name: &[u8]) -> Result<(), AllocError>
+        ensures { OnOk result (self.new ≡ record self.old { portals = map (orphaned name.now) self.old.portals }) }
+    {
+        if are_of_others(self.portals.as_slice(), name) {
+            return Ok(());
+        }
         let portals = orphaned(alloc, self.portals.as_slice(), name)?;
         self.portals = Shared::from_shared(alloc, portals)?;
+        Ok(())
+    }
+
+    /// Drops the unnamed statement, which is looked for only where there may be one.
+    #[tactic(auto, using(crate::proofs::Known::nothing_unnamed, crate::proofs::Known::all_named_without))]
+    fn drop_unnamed_statement(&mut self, alloc: Global) -> Result<(), AllocError>
+        ensures { OnOk result (self.new ≡ without_statement self.old []) }
+    {
+        if !self.may_have_unnamed {
+            return self.orphan(alloc, b"");
+        }
+        self.statements = without_named(alloc, &self.statements, b"")?;
+        self.may_have_unnamed = false;
+        self.orphan(alloc, b"")
+    }
+
+    fn drop_unnamed_portal(&mut self, alloc: Global) -> Result<(), AllocError>
+        ensures { OnOk result (self.new ≡ record self.old { portals = without portal_name self.old.portals [] }) }
+    {
+        if self.portals.len() == 0 {
+            return Ok(());
+        }
+        self.portals = without_named(alloc, &self.portals, b"")?;
         Ok(())
     }
 
     fn drop_unnamed(&mut self, alloc: Global) -> Result<(), AllocError>
         ensures { OnOk result (self.new ≡ without_unnamed self.old) }
     {
-        self.drop_statement(alloc, b"")?;
-        self.portals = without_named(alloc, &self.portals, b"")?;
-        Ok(())
+        self.drop_unnamed_statement(alloc)?;
+        self.drop_unnamed_portal(alloc)
     }
 
     fn put_query_rows(
@@ -113,8 +150,42 @@ impl Session {
         if statement.parameters() > 0 {
             return Ok(Err(Cause::NoPlaceholder));
         }
-        match self.look_up(alloc, catalogue, &statement)? {
-            Ok(names) => self.query_with(alloc, catalogue, &statement, &names, out),
+        self.query_usable(alloc, catalogue, &statement, out)
+    }
+
+    /// Runs a statement that may be used. SHOW needs no list of names or rows.
+    fn query_usable(
+        &mut self,
+        alloc: Global,
+        catalogue: &Catalogue,
+        statement: &Stmt<'_>,
+        out: &mut BytesMut,
+    ) -> Result<Result<(), Cause>, AllocError>
+        requires { IsNarrow (meaning statement.now) }
+        ensures { IfOk result (λ done. Gives done self.old self.new out.old.items out.new.items (bound (look_up catalogue.now self.old (meaning statement.now)) (λ columns. query_with catalogue.now self.old (meaning statement.now) columns))) }
+    {
+        let Stmt::Show { name } = statement else {
+            return self.query_looked_up(alloc, catalogue, statement, out);
+        };
+        let Some(parameter) = Parameter::named(name) else {
+            return Ok(Err(Cause::NoParameter));
+        };
+        put_shown(parameter, self.work.values.get(parameter), out)?;
+        Ok(Ok(()))
+    }
+
+    fn query_looked_up(
+        &mut self,
+        alloc: Global,
+        catalogue: &Catalogue,
+        statement: &Stmt<'_>,
+        out: &mut BytesMut,
+    ) -> Result<Result<(), Cause>, AllocError>
+        requires { IsNarrow (meaning statement.now) }
+        ensures { IfOk result (λ done. Gives done self.old self.new out.old.items out.new.items (bound (look_up catalogue.now self.old (meaning statement.now)) (λ columns. query_with catalogue.now self.old (meaning statement.now) columns))) }
+    {
+        match self.look_up(alloc, catalogue, statement)? {
+            Ok(names) => self.query_with(alloc, catalogue, statement, &names, out),
             Err(cause) => Ok(Err(cause)),
         }
     }

@@ -5,7 +5,7 @@ ghost use Rattle.std.specs.Arc.{arc_value};
 ghost use Rattle.frame_view.specs.Frames.{spelling};
 ghost use Rattle.session_machine.specs.Answers.{Gave};
 ghost use Rattle.session_machine.specs.Parameters.{reported_parameters};
-ghost use Rattle.session_machine.specs.State.{all_reports, all_reports_from, ready, report_of, reports_from, status};
+ghost use Rattle.session_machine.specs.State.{all_reports, all_reports_from, answers, ready, report_of, reported_now, reports, reports_from, status};
 ghost use Rattle.message_view.specs.Parts.{status_byte};
 
 use crate::block::Block;
@@ -86,6 +86,19 @@ impl Session {
     pub(crate) fn ready(&mut self, alloc: Global, out: &mut BytesMut) -> Result<(), AllocError>
         ensures { OnOk result (Gave self.new out.old.items out.new.items (ready self.old)) }
     {
+        self.report(alloc, out)?;
+        put_ready_for_query(out, status_of(self.block))
+    }
+
+    /// Reports what changed since the last report; where that is known to be nothing, it isn't looked
+    /// for.
+    #[tactic(auto, using(crate::proofs::Known::none_reported))]
+    fn report(&mut self, alloc: Global, out: &mut BytesMut) -> Result<(), AllocError>
+        ensures { OnOk result (Gave self.new out.old.items out.new.items (answers (reported_now self.old) (reports self.old))) }
+    {
+        if self.is_reported {
+            return Ok(());
+        }
         put_reports(
             reported_parameters(),
             self.work.values.as_slice(),
@@ -93,7 +106,8 @@ impl Session {
             out,
         )?;
         self.reported = self.work.values.reported(alloc)?;
-        put_ready_for_query(out, status_of(self.block))
+        self.is_reported = true;
+        Ok(())
     }
 
     /// Writes one ParameterStatus for each reported parameter.

@@ -28,7 +28,8 @@ impl Session {
         put_ready_for_query(out, Status::Idle)
     }
 
-    /// Answers the frames that the bytes begin with, one after the other.
+    /// Answers the frames that the bytes begin with, one after the other. After an `Err` session and
+    /// buffer are of no use, so no frame is answered on a copy.
     fn answer_all(
         &mut self,
         alloc: Global,
@@ -40,7 +41,7 @@ impl Session {
     {
         let mut at = 0;
         while let Step::Whole(frame) = next_frame(bytes, at, LONGEST_FRAME, Side::Client) {
-            self.step(alloc, catalogue, frame, out)?;
+            self.answer(alloc, catalogue, frame, out)?;
             at += frame.whole.len();
         }
         Ok(())

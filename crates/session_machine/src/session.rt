@@ -1,36 +1,43 @@
-ghost use Rattle.std.specs.Prelude.{◌≡◌, ◌<◌, ◌≤◌, ◌++◌, ◌∷◌, [], length, map, OnOk, IfOk};
+ghost use Rattle.std.specs.Prelude.{◌≡◌, ◌<◌, ◌≤◌, ◌++◌, ◌∷◌, [], None, length, map, OnOk, IfOk};
 ghost use Rattle.std.specs.List.{flat_map};
 ghost use Rattle.std.specs.Arc.{arc_value};
 ghost use Rattle.frame_view.specs.Frames.{spelling};
-ghost use Rattle.session_machine.specs.State.{failing, save_unless};
+ghost use Rattle.session_machine.specs.State.{failing, roll_back_to, save_unless};
 
 use crate::block::Block;
 use crate::portal::{Portal, Prepared};
 use crate::table::Table;
 use crate::text::Text;
 use crate::values::Values;
-use crate::work::{Work, copied_work};
+use crate::work::{Saved, Work};
 use shared_list::Shared;
 use std::alloc::{AllocError, Global};
 use std::marker::Model;
+use std::mem;
 
 /// A session of the stand-in server. Its copies share what they hold.
 #[derive(Drop)]
 pub struct Session {
     pub(crate) defaults: Values,
     pub(crate) reported: Shared<Text>,
+    /// The reported values are known to be the current ones, so that no report is due.
+    pub(crate) is_reported: bool,
     pub(crate) work: Work,
-    pub(crate) saved: Option<Work>,
+    pub(crate) saved: Saved,
     pub(crate) block: Block,
     pub(crate) is_skipping: bool,
     pub(crate) has_ended: bool,
     pub(crate) statements: Shared<Prepared>,
+    /// Where this is false, a Query has no unnamed statement to look for.
+    pub(crate) may_have_unnamed: bool,
     pub(crate) portals: Shared<Portal>,
 }
 
 impl Model for Session {
     ghost use Rattle.std.specs.Prelude.{◌≡◌, length};
     ghost use Rattle.session_machine.specs.State.{State};
+    ghost use Rattle.session_machine.specs.Kept.{saved_of};
+    ghost use Rattle.session_machine.specs.Known.{AreNamedUnless, AreReportedIf};
 
     ghost Value = { State };
 
@@ -38,7 +45,7 @@ impl Model for Session {
       defaults = s.defaults;
       current = s.work.values;
       reported = s.reported;
-      saved = s.saved;
+      saved = saved_of s.saved s.work;
       block = s.block;
       skipping = s.is_skipping;
       ended = s.has_ended;
@@ -47,7 +54,7 @@ impl Model for Session {
       tables = s.work.tables;
     } };
 
-    ghost invariant = { λ s. length s.reported ≡ 9 };
+    ghost invariant = { λ s. (length s.reported ≡ 9) × AreReportedIf s.is_reported s.work.values s.reported × AreNamedUnless s.may_have_unnamed s.statements };
 }
 
 impl Session {
@@ -59,16 +66,18 @@ impl Session {
     {
         Ok(Session {
             reported: values.reported(alloc)?,
+            is_reported: true,
             work: Work {
                 values: values.copied()?,
                 tables: Shared::new(alloc)?,
             },
             defaults: values,
-            saved: None,
+            saved: Saved::Nothing,
             block: Block::Outside,
             is_skipping: false,
             has_ended: false,
             statements: Shared::new(alloc)?,
+            may_have_unnamed: false,
             portals: Shared::new(alloc)?,
         })
     }
@@ -80,42 +89,55 @@ impl Session {
         Ok(Session {
             defaults: self.defaults.copied()?,
             reported: self.reported.copied()?,
+            is_reported: self.is_reported,
             work: self.work.copied()?,
-            saved: copied_work(&self.saved)?,
+            saved: self.saved.copied()?,
             block: self.block,
             is_skipping: self.is_skipping,
             has_ended: self.has_ended,
             statements: self.statements.copied()?,
+            may_have_unnamed: self.may_have_unnamed,
             portals: self.portals.copied()?,
         })
     }
 
     /// Outside a block, keeps the values and temporary tables for a roll back, unless some are kept.
-    pub(crate) fn save(&mut self) -> Result<(), AllocError>
-        ensures { OnOk result (self.new ≡ save self.old self.old.block) }
+    pub(crate) fn save(&mut self)
+        ensures { self.new ≡ save self.old self.old.block }
     {
         match self.block {
             Block::Outside => self.save_unless(),
-            Block::Inside => Ok(()),
-            Block::Failed => Ok(()),
+            Block::Inside => {}
+            Block::Failed => {}
         }
     }
 
-    fn save_unless(&mut self) -> Result<(), AllocError>
-        ensures { OnOk result (self.new ≡ save_unless self.old self.old.saved) }
+    fn save_unless(&mut self)
+        ensures { self.new ≡ save_unless self.old self.old.saved }
     {
-        if self.saved.is_none() {
-            self.saved = Some(self.work.copied()?);
+        match self.saved {
+            Saved::Nothing => self.saved = Saved::Standing,
+            Saved::Standing => {}
+            Saved::Changed(_) => {}
         }
+    }
+
+    /// Drops all portals; a list without any is kept.
+    fn drop_portals(&mut self, alloc: Global) -> Result<(), AllocError>
+        ensures { OnOk result (self.new ≡ record self.old { portals = [] }) }
+    {
+        if self.portals.len() == 0 {
+            return Ok(());
+        }
+        self.portals = Shared::new(alloc)?;
         Ok(())
     }
 
     pub(crate) fn commit(&mut self, alloc: Global) -> Result<(), AllocError>
         ensures { OnOk result (self.new ≡ commit self.old) }
     {
-        self.saved = None;
-        self.portals = Shared::new(alloc)?;
-        Ok(())
+        self.saved = Saved::Nothing;
+        self.drop_portals(alloc)
     }
 
     pub(crate) fn commit_outside(&mut self, alloc: Global) -> Result<(), AllocError>
@@ -128,14 +150,44 @@ impl Session {
         }
     }
 
+    /// The values and temporary tables that are kept, if some are.
+    fn restore(&mut self)
+        ensures { self.new ≡ record (roll_back_to self.old self.old.saved) { saved = None } }
+    {
+        if let Saved::Changed(saved) = mem::replace(&mut self.saved, Saved::Nothing) {
+            self.work = saved;
+            self.is_reported = false;
+        }
+    }
+
+    /// These values from now on, which are to be reported.
+    pub(crate) fn put_values(&mut self, values: Values) -> Result<(), AllocError>
+        ensures { OnOk result (self.new ≡ record self.old { current = values }) }
+    {
+        if let Saved::Standing = self.saved {
+            self.saved = Saved::Changed(self.work.copied()?);
+        }
+        self.work.values = values;
+        self.is_reported = false;
+        Ok(())
+    }
+
+    /// These temporary tables from now on.
+    pub(crate) fn put_tables(&mut self, tables: Shared<Table>) -> Result<(), AllocError>
+        ensures { OnOk result (self.new ≡ record self.old { tables = tables }) }
+    {
+        if let Saved::Standing = self.saved {
+            self.saved = Saved::Changed(self.work.copied()?);
+        }
+        self.work.tables = tables;
+        Ok(())
+    }
+
     pub(crate) fn roll_back(&mut self, alloc: Global) -> Result<(), AllocError>
         ensures { OnOk result (self.new ≡ roll_back self.old) }
     {
-        if let Some(saved) = self.saved.take() {
-            self.work = saved;
-        }
-        self.portals = Shared::new(alloc)?;
-        Ok(())
+        self.restore();
+        self.drop_portals(alloc)
     }
 
     /// After an error: rolled back, and a block has failed.

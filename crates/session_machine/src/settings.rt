@@ -91,7 +91,7 @@ impl Session {
         ensures { IfOk result (λ done. RunGives done self.old self.new out.old.items out.new.items (set_run self.old tag.now (set_parameter self.old.defaults self.old.current name.now text.now))) }
     {
         match set_parameter(alloc, &self.defaults, &self.work.values, name, text)? {
-            Ok(values) => self.work.values = values,
+            Ok(values) => self.put_values(values)?,
             Err(cause) => return Ok(Err(cause)),
         }
         put_command_complete(out, tag)?;
@@ -125,7 +125,8 @@ impl Session {
     pub(crate) fn reset_all(&mut self, alloc: Global, out: &mut BytesMut) -> Result<(), AllocError>
         ensures { OnOk result (RunGives (Ok tt) self.old self.new out.old.items out.new.items (set_run self.old (codes "RESET") (Ok (reset_from parameters self.old.current self.old.defaults)))) }
     {
-        self.work.values = self.work.values.reset(alloc, &self.defaults)?;
+        let values = self.work.values.reset(alloc, &self.defaults)?;
+        self.put_values(values)?;
         put_command_complete(out, b"RESET")
     }
 }

@@ -134,7 +134,7 @@ impl Session {
     ) -> Result<(), AllocError>
         ensures { OnOk result (Gave self.new out.old.items out.new.items (answer_to catalogue.now self.old ParseMessage body.now)) }
     {
-        self.save()?;
+        self.save();
         let done = self.parse_body(alloc, catalogue, body, out)?;
         self.settle(alloc, done, out)
     }
@@ -148,7 +148,7 @@ impl Session {
     ) -> Result<(), AllocError>
         ensures { OnOk result (Gave self.new out.old.items out.new.items (answer_to catalogue.now self.old BindMessage body.now)) }
     {
-        self.save()?;
+        self.save();
         let done = self.bind_body(alloc, catalogue, body, out)?;
         self.settle(alloc, done, out)
     }
@@ -162,7 +162,7 @@ impl Session {
     ) -> Result<(), AllocError>
         ensures { OnOk result (Gave self.new out.old.items out.new.items (answer_to catalogue.now self.old Describe body.now)) }
     {
-        self.save()?;
+        self.save();
         let done = self.describe_body(alloc, catalogue, body, out)?;
         self.settle(alloc, done, out)
     }
@@ -176,7 +176,7 @@ impl Session {
     ) -> Result<(), AllocError>
         ensures { OnOk result (Gave self.new out.old.items out.new.items (answer_to catalogue.now self.old Close body.now)) }
     {
-        self.save()?;
+        self.save();
         let done = self.close_body(alloc, body, out)?;
         self.settle(alloc, done, out)
     }
@@ -190,7 +190,7 @@ impl Session {
     ) -> Result<(), AllocError>
         ensures { OnOk result (Gave self.new out.old.items out.new.items (answer_to catalogue.now self.old Execute body.now)) }
     {
-        self.save()?;
+        self.save();
         let done = self.execute_body(alloc, catalogue, body, out)?;
         self.settle(alloc, done, out)
     }
@@ -198,7 +198,7 @@ impl Session {
     fn answer_call(&mut self, alloc: Global, out: &mut BytesMut) -> Result<(), AllocError>
         ensures { OnOk result (Gave self.new out.old.items out.new.items (end_query (saved self.old) (Err Cause.NotSupported))) }
     {
-        self.save()?;
+        self.save();
         self.fail_query(alloc, Cause::NotSupported, out)
     }
 
@@ -211,7 +211,7 @@ impl Session {
     ) -> Result<(), AllocError>
         ensures { OnOk result (Gave self.new out.old.items out.new.items (step_query catalogue.now (saved self.old) (query_of body.now))) }
     {
-        self.save()?;
+        self.save();
         self.answer_query(alloc, catalogue, body, out)
     }
 
@@ -266,7 +266,7 @@ impl Session {
 
     /// Answers a frame. After an `Err` session and buffer are of no use.
     #[tactic(auto, unfolding(crate::specs::Step::step))]
-    fn answer(
+    pub(crate) fn answer(
         &mut self,
         alloc: Global,
         catalogue: &Catalogue,

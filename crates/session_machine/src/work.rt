@@ -33,12 +33,24 @@ impl Work {
     }
 }
 
-/// The same work, if there is some.
-pub fn copied_work(work: &Option<Work>) -> Result<Option<Work>, AllocError>
-    ensures { IfOk result (λ w. w ≡ work.now) }
-{
-    match work {
-        Some(work) => Ok(Some(work.copied()?)),
-        None => Ok(None),
+/// What a session keeps for a roll back.
+#[derive(Drop)]
+pub enum Saved {
+    Nothing,
+    /// The work as it stands now: it is copied only once it changes.
+    Standing,
+    Changed(Work),
+}
+
+impl Saved {
+    /// The same.
+    pub fn copied(&self) -> Result<Saved, AllocError>
+        ensures { IfOk result (λ s. s ≡ self.now) }
+    {
+        match self {
+            Saved::Nothing => Ok(Saved::Nothing),
+            Saved::Standing => Ok(Saved::Standing),
+            Saved::Changed(work) => Ok(Saved::Changed(work.copied()?)),
+        }
     }
 }

@@ -12,7 +12,7 @@ loop-frame-smaller c =
 pub loop-frame-preserved : goal.loop-frame-preserved
 loop-frame-preserved c = record {
   within = (taken_at Client 2147483647 c.in-Whole.frame c.args.bytes.now c.loop-frame.at c.loop-frame.invariant.within c.in-Whole.ensures.tells).within;
-  so_far = frame_answered c.args.catalogue.now c.loop-frame.self c.step.new.self c.args.bytes.now c.loop-frame.at c.loop-frame.out.items c.step.new.out.items _ c.in-Whole.frame c.loop-frame.invariant.within c.in-Whole.ensures.tells c.in_ok-step.ensures.ok c.loop-frame.invariant.so_far;
+  so_far = frame_answered c.args.catalogue.now c.loop-frame.self c.answer.new.self c.args.bytes.now c.loop-frame.at c.loop-frame.out.items c.answer.new.out.items _ c.in-Whole.frame c.loop-frame.invariant.within c.in-Whole.ensures.tells c.in_ok-answer.ensures c.loop-frame.invariant.so_far;
 }
 
 pub returns : goal.returns

@@ -7,4 +7,4 @@ use Rattle.session_machine.proofs.Endings.{settled}
 use Rattle.session_machine.proofs.session.Session.answer_describe.Goals as goal
 
 pub returns : goal.returns
-returns c = settled c.in_ok-done.done c.args.self.now c.save.new.self c.describe_body.new.self _ _ _ _ (λ (s : State). bound (reading_body (target_of c.args.body.now)) (λ t. describe c.args.catalogue.now s t)) c.settle.result c.in_ok-save.ensures c.in_ok-done.ensures c.settle.ensures
+returns c = settled c.in_ok-done.done c.args.self.now c.save.new.self c.describe_body.new.self _ _ _ _ (λ (s : State). bound (reading_body (target_of c.args.body.now)) (λ t. describe c.args.catalogue.now s t)) c.settle.result c.save.ensures c.in_ok-done.ensures c.settle.ensures
