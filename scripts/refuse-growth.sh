@@ -60,7 +60,7 @@ sweep() {
 }
 
 : >"$work/nothing"
-for row in bind_values suspended_portal set_show_discard; do
+for row in bind_values temporary_table_and_statement suspended_portal set_show_discard; do
     sweep "replay of $row" "tests/rows/$row.out" 'pgsess: memory' "tests/rows/$row.in" "$program" replay
 done
 sweep 'serve with the example files' "$work/nothing" 'pgsess: (memory|C8 line [0-9]+|U3 line [0-9]+)' /dev/null \
