@@ -1,6 +1,7 @@
 //! Worked rows and boundaries of the settings file.
 use super::*;
 use std::alloc::Global;
+use std::process::Abort;
 use std::test::Fail;
 
 fn fault(alloc: Global, text: &[u8]) -> Option<(Cause, usize)> {
@@ -10,16 +11,16 @@ fn fault(alloc: Global, text: &[u8]) -> Option<(Cause, usize)> {
     }
 }
 
+fn check<A: Abort>(rt: &A, alloc: Global, rows: &[(&[u8], Cause, usize)]) -> Result<(), Fail> {
+    for (text, cause, line) in rows {
+        assert_eq!(rt; fault(alloc, text), Some((*cause, *line)));
+    }
+    Ok(())
+}
+
 #[test]
-fn faults_and_their_lines(rt: HostRuntime) -> Result<(), Fail> {
-    let rows: [(&[u8], Cause, usize); 34] = [
-        (b"[pgbouncer]\npool_mode = transaction", Cause::PoolMode, 2),
-        (b"[pgbouncer]\nlisten_port = 70000", Cause::BadValue, 2),
-        (
-            b"[pgbouncer]\nlisten_port = 1\nlisten_port = 2",
-            Cause::KeyTwice,
-            3,
-        ),
+fn faults_of_lines(rt: HostRuntime) -> Result<(), Fail> {
+    let rows: &[(&[u8], Cause, usize)] = &[
         (b"%include x", Cause::NotALine, 1),
         (b"[pgbouncer]\n%include x", Cause::NotALine, 2),
         (b"[PgBouncer]", Cause::UnknownSection, 1),
@@ -31,6 +32,20 @@ fn faults_and_their_lines(rt: HostRuntime) -> Result<(), Fail> {
         (b"[pgbouncer]\n[x = y", Cause::UnknownKey, 2),
         (b"[pgbouncer]\n= x", Cause::UnknownKey, 2),
         (b"[pgbouncer]\nListen_port = 1", Cause::UnknownKey, 2),
+    ];
+    check(&rt, rt.alloc(), rows)
+}
+
+#[test]
+fn faults_of_keys(rt: HostRuntime) -> Result<(), Fail> {
+    let rows: &[(&[u8], Cause, usize)] = &[
+        (b"[pgbouncer]\npool_mode = transaction", Cause::PoolMode, 2),
+        (b"[pgbouncer]\nlisten_port = 70000", Cause::BadValue, 2),
+        (
+            b"[pgbouncer]\nlisten_port = 1\nlisten_port = 2",
+            Cause::KeyTwice,
+            3,
+        ),
         (b"[pgbouncer]\nauth_type = MD5", Cause::BadValue, 2),
         (
             b"[pgbouncer]\nlisten_port = 1\nlisten_port = 0",
@@ -56,6 +71,13 @@ fn faults_and_their_lines(rt: HostRuntime) -> Result<(), Fail> {
         (b"[pgbouncer]\nlisten_addr = 1.2.3.04", Cause::BadValue, 2),
         (b"[pgbouncer]\nmax_links = 10001", Cause::BadValue, 2),
         (b"[pgbouncer]\nserver_lifetime = -1", Cause::BadValue, 2),
+    ];
+    check(&rt, rt.alloc(), rows)
+}
+
+#[test]
+fn faults_of_rows(rt: HostRuntime) -> Result<(), Fail> {
+    let rows: &[(&[u8], Cause, usize)] = &[
         (b"[databases]\nshop = port=1", Cause::BadValue, 2),
         (
             b"[databases]\npgbouncer = host=127.0.0.1",
@@ -79,6 +101,13 @@ fn faults_and_their_lines(rt: HostRuntime) -> Result<(), Fail> {
             Cause::BadValue,
             2,
         ),
+    ];
+    check(&rt, rt.alloc(), rows)
+}
+
+#[test]
+fn faults_of_names_and_separators(rt: HostRuntime) -> Result<(), Fail> {
+    let rows: &[(&[u8], Cause, usize)] = &[
         (b"[databases]\n= host=127.0.0.1", Cause::BadValue, 2),
         (
             b"[databases]\na = host=127.0.0.1\nb = host=127.0.0.1\na = host=127.0.0.1",
@@ -96,10 +125,7 @@ fn faults_and_their_lines(rt: HostRuntime) -> Result<(), Fail> {
             2,
         ),
     ];
-    for (text, cause, line) in rows {
-        assert_eq!(rt; fault(rt.alloc(), text), Some((cause, line)));
-    }
-    Ok(())
+    check(&rt, rt.alloc(), rows)
 }
 
 #[test]

@@ -236,6 +236,11 @@ fn reads_the_extended_query(rt: HostRuntime) -> Result<(), Fail> {
         ParseView::read(b"s\0SELECT 1\0\0\x02\0\0\0\x19\0\0\0").err(),
         Some(ViewFault::TooShort)
     );
+    Ok(())
+}
+
+#[test]
+fn reads_targets_and_limits(rt: HostRuntime) -> Result<(), Fail> {
     assert!(rt;
         matches!(
             DescribeView::read(b"Ss\0"),
@@ -295,6 +300,11 @@ fn reads_what_a_server_tells(rt: HostRuntime) -> Result<(), Fail> {
     );
     assert_eq!(rt; ReadyView::read(b"X"), Err(ViewFault::TooShort));
     assert_eq!(rt; ReadyView::read(b"II"), Err(ViewFault::LeftOver));
+    Ok(())
+}
+
+#[test]
+fn reads_rows_and_columns(rt: HostRuntime) -> Result<(), Fail> {
     let Ok(view) = DataRowView::read(b"\0\x02\0\0\0\x01x\xff\xff\xff\xff") else {
         panic!(rt; "refused");
     };

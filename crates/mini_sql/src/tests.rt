@@ -1,4 +1,4 @@
-use crate::{Operand, Setting, SqlFault, Stmt, is_same_word, read_statement};
+use crate::{Columns, Filter, Operand, Setting, SqlFault, Stmt, is_same_word, read_statement};
 use std::alloc::Global;
 use std::process::Abort;
 use std::test::Fail;
@@ -60,6 +60,21 @@ fn put_operand(line: &mut Vec<u8>, operand: &Operand<'_>) -> Result<(), Fail> {
     }
 }
 
+fn put_columns(line: &mut Vec<u8>, columns: Columns<'_>) -> Result<(), Fail> {
+    for column in columns {
+        put_named(line, b" column", column)?;
+    }
+    Ok(())
+}
+
+fn put_filter(line: &mut Vec<u8>, filter: &Option<Filter<'_>>) -> Result<(), Fail> {
+    if let Some(filter) = filter {
+        put_named(line, b" where", filter.column)?;
+        put_operand(line, &filter.value)?;
+    }
+    Ok(())
+}
+
 fn put_stmt(line: &mut Vec<u8>, stmt: &Stmt<'_>) -> Result<(), Fail> {
     match stmt {
         Stmt::Empty => put(line, b"empty"),
@@ -76,10 +91,7 @@ fn put_stmt(line: &mut Vec<u8>, stmt: &Stmt<'_>) -> Result<(), Fail> {
         Stmt::DiscardAll => put(line, b"discard all"),
         Stmt::Create { table, columns } => {
             put_named(line, b"create", table)?;
-            for column in *columns {
-                put_named(line, b" column", column)?;
-            }
-            Ok(())
+            put_columns(line, *columns)
         }
         Stmt::Drop { table } => put_named(line, b"drop", table),
         Stmt::Insert { table, operands } => {
@@ -95,14 +107,8 @@ fn put_stmt(line: &mut Vec<u8>, stmt: &Stmt<'_>) -> Result<(), Fail> {
             filter,
         } => {
             put_named(line, b"select", table)?;
-            for column in *columns {
-                put_named(line, b" column", column)?;
-            }
-            if let Some(filter) = filter {
-                put_named(line, b" where", filter.column)?;
-                put_operand(line, &filter.value)?;
-            }
-            Ok(())
+            put_columns(line, *columns)?;
+            put_filter(line, filter)
         }
     }
 }
@@ -193,6 +199,13 @@ fn settings(rt: HostRuntime) -> Result<(), Fail> {
         (b"set local x to 'y'", b"syntax"),
         (b"set session session = 'x'", b"set session 'x'"),
         (b"set session = 5", b"set session digits 5"),
+    ];
+    check(&rt, rt.alloc(), table)
+}
+
+#[test]
+fn texts_of_settings(rt: HostRuntime) -> Result<(), Fail> {
+    let table: &[(&[u8], &[u8])] = &[
         (b"set x to 'it''s'", b"set x 'it's'"),
         (b"set x to ''", b"set x ''"),
         (b"set x to ''''", b"set x '''"),
@@ -203,6 +216,13 @@ fn settings(rt: HostRuntime) -> Result<(), Fail> {
         (b"set x to '\xff;\n'", b"set x '\xff;\n'"),
         (b"set x to 'a\x00'", b"syntax"),
         (b"set x to \"y\"", b"syntax"),
+    ];
+    check(&rt, rt.alloc(), table)
+}
+
+#[test]
+fn reset_show_and_discard(rt: HostRuntime) -> Result<(), Fail> {
+    let table: &[(&[u8], &[u8])] = &[
         (b"reset x", b"reset x"),
         (b"RESET all", b"reset all"),
         (b"reset all;", b"reset all"),
@@ -324,6 +344,13 @@ fn selects(rt: HostRuntime) -> Result<(), Fail> {
         (b"select a b from t", b"syntax"),
         (b"select a, from t", b"syntax"),
         (b"select a,, b from t", b"syntax"),
+    ];
+    check(&rt, rt.alloc(), table)
+}
+
+#[test]
+fn filters(rt: HostRuntime) -> Result<(), Fail> {
+    let table: &[(&[u8], &[u8])] = &[
         (b"select from t where", b"syntax"),
         (b"select * from t where a = 'x'", b"select t where a 'x'"),
         (b"select * from t where a=$2", b"select t where a $02"),

@@ -6,6 +6,7 @@ use crate::replay::{replay, replies};
 use message_view::{Refusal, refusal_bytes};
 use session_machine::{CatalogueCause, CatalogueFault};
 use std::alloc::{AllocError, Global};
+use std::process::Abort;
 use std::test::Fail;
 
 fn words_of(alloc: Global, text: &str) -> Result<Vec<String>, AllocError> {
@@ -71,8 +72,17 @@ fn statuses_of_the_line(rt: HostRuntime) -> Result<(), Fail> {
     Ok(())
 }
 
+fn check<A: Abort>(rt: &A, alloc: Global, rows: &[(AppFault<'_>, &str, u8)]) -> Result<(), Fail> {
+    for (fault, text, want) in rows {
+        let line = fault_line(alloc, fault)?;
+        assert_eq!(rt; line.as_str(), *text);
+        assert_eq!(rt; status(fault), *want);
+    }
+    Ok(())
+}
+
 #[test]
-fn lines_and_statuses_of_faults(rt: HostRuntime) -> Result<(), Fail> {
+fn faults_of_settings_and_users(rt: HostRuntime) -> Result<(), Fail> {
     let ini = match settings_of(rt.alloc(), b"[pgbouncer]\n\n\n\n\n\nlisten_port = x\n") {
         Ok(_) => AppFault::Memory,
         Err(fault) => fault,
@@ -84,50 +94,51 @@ fn lines_and_statuses_of_faults(rt: HostRuntime) -> Result<(), Fail> {
     let rows = [
         (ini, "pgsess: C3 line 7", 1),
         (users, "pgsess: U2 line 2", 1),
+    ];
+    check(&rt, rt.alloc(), &rows)
+}
+
+fn catalogue_fault<'a>(cause: CatalogueCause, line: usize) -> AppFault<'a> {
+    AppFault::Catalogue(CatalogueFault { cause, line })
+}
+
+#[test]
+fn faults_of_catalogues(rt: HostRuntime) -> Result<(), Fail> {
+    let rows = [
         (
-            AppFault::Catalogue(CatalogueFault {
-                cause: CatalogueCause::NotALine,
-                line: 1,
-            }),
+            catalogue_fault(CatalogueCause::NotALine, 1),
             "pgsess: K1 line 1",
             1,
         ),
         (
-            AppFault::Catalogue(CatalogueFault {
-                cause: CatalogueCause::NameTwice,
-                line: 20,
-            }),
+            catalogue_fault(CatalogueCause::NameTwice, 20),
             "pgsess: K2 line 20",
             1,
         ),
         (
-            AppFault::Catalogue(CatalogueFault {
-                cause: CatalogueCause::WrongNumberOfValues,
-                line: 300,
-            }),
+            catalogue_fault(CatalogueCause::WrongNumberOfValues, 300),
             "pgsess: K3 line 300",
             1,
         ),
         (
-            AppFault::Catalogue(CatalogueFault {
-                cause: CatalogueCause::Memory,
-                line: 4,
-            }),
+            catalogue_fault(CatalogueCause::Memory, 4),
             "pgsess: K4 line 4",
             1,
         ),
+    ];
+    check(&rt, rt.alloc(), &rows)
+}
+
+#[test]
+fn other_faults(rt: HostRuntime) -> Result<(), Fail> {
+    let rows = [
         (AppFault::File("a b.ini"), "pgsess: file a b.ini", 1),
         (AppFault::Stdin, "pgsess: stdin", 1),
         (AppFault::Stdout, "pgsess: stdout", 1),
         (AppFault::Memory, "pgsess: memory", 1),
         (AppFault::Port(5432), "pgsess: port 5432", 3),
     ];
-    for (fault, text, want) in rows.iter() {
-        let line = fault_line(rt.alloc(), fault)?;
-        assert_eq!(rt; line.as_str(), *text);
-        assert_eq!(rt; status(fault), *want);
-    }
-    Ok(())
+    check(&rt, rt.alloc(), &rows)
 }
 
 #[test]
