@@ -39,9 +39,10 @@ build: build/pgsess
 run: build/pgsess
 	@scripts/show.sh build/pgsess
 
-# the whole gate; rt ci leaves the programs that it proved and built
+# the whole gate; rt ci leaves the programs that it proved and built. Its own guess of a check's memory is four times what the
+# largest crate's takes, and would let that crate wait until nothing else runs; so it is told how many checks run side by side.
 test:
-	rt ci
+	RT_JOBS=$${RT_JOBS:-$$(nproc)} rt ci
 	@$(MAKE) --no-print-directory $(program) $(trials)
 	scripts/rows.sh $(program) $(trials)
 	scripts/logins.sh $(trials)
