@@ -5,6 +5,7 @@ import sys
 from timing import START, SYNC, judged, parse, query, seconds
 
 STATEMENTS = 20_000
+SHOWS = 200_000
 PREPARED = 1_000
 TIMES = 9
 MOST_GROWTH = 2
@@ -28,13 +29,13 @@ def main():
     print(f"{STATEMENTS} INSERTs into one temporary table, outside a block: {whole - empty:.3f} s")
     print(f"  first quarter: {1e6 * (first - empty) / quarter:.2f} us a statement, last quarter: {1e6 * (whole - three) / quarter:.2f} us")
     grown = judged("  last quarter to first", (whole - three) / (first - empty), MOST_GROWTH)
-    alone = taken(SHOW * STATEMENTS) - bare
-    beside = taken(CREATE + INSERT * STATEMENTS + SHOW * STATEMENTS) - whole
-    print(f"{STATEMENTS} SHOWs: {1e6 * alone / STATEMENTS:.2f} us each without a table, {1e6 * beside / STATEMENTS:.2f} us beside that table")
+    alone = taken(SHOW * SHOWS) - bare
+    beside = taken(CREATE + INSERT * STATEMENTS + SHOW * SHOWS) - whole
+    print(f"{SHOWS} SHOWs: {1e6 * alone / SHOWS:.2f} us each without a table, {1e6 * beside / SHOWS:.2f} us beside that table")
     free = judged("  beside the table to without", beside / alone, MOST_BESIDE)
     prepared = b"".join(parse(f"s{i}", "SHOW TimeZone") for i in range(PREPARED)) + SYNC
-    among = taken(prepared + SHOW * STATEMENTS) - taken(prepared)
-    print(f"  {1e6 * among / STATEMENTS:.2f} us each beside {PREPARED} prepared statements")
+    among = taken(prepared + SHOW * SHOWS) - taken(prepared)
+    print(f"  {1e6 * among / SHOWS:.2f} us each beside {PREPARED} prepared statements")
     apart = judged("  beside the prepared statements to without", among / alone, MOST_BESIDE)
     sys.exit(not (grown and free and apart))
 

@@ -1,5 +1,5 @@
 #!/usr/bin/env bash
-# tables.sh [PROGRAM]: 20,000 INSERTs into one temporary table, and 20,000 SHOWs without that table, beside it, and
+# tables.sh [PROGRAM]: 20,000 INSERTs into one temporary table, and 200,000 SHOWs without that table, beside it, and
 # beside 1,000 prepared statements.
 set -euo pipefail
 cd "$(dirname "$0")/.."
