@@ -14,10 +14,11 @@ abbrev pub refused_by : Option Refusal → List ℕ
 refused_by None = []
 refused_by (Some r) = refusal r
 
+-- nothing is said, and the login isn't over
 abbrev pub silence : Dialogue
 silence = record { pieces = []; ended = Unfinished }
 
--- a growth was refused: P12 or nothing else is told
+-- a growth was refused while the start key was made
 abbrev pub WantsMemory : LoginStep → Type 0
 WantsMemory s = s ≡ step.Refused refused.OutOfMemory
 
