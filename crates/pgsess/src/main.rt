@@ -1,5 +1,7 @@
 //! The program `pgsess`.
 #![tactic(auto)]
+ghost use Rattle.std.specs.Prelude.{◌≡◌};
+ghost use Rattle.pgsess.specs.Statuses as spec;
 
 use pool_app::fault::{self, AppFault};
 use pool_app::files;
@@ -33,6 +35,16 @@ fn run<'a, R: Files + Input + Print>(
     }
 }
 
+/// The status that the program ends with after its job: 0 where nothing failed, else that of the fault.
+fn status_after(done: &Result<(), AppFault<'_>>) -> u8
+    ensures { result ≡ spec.status_after done.now }
+{
+    match done {
+        Ok(()) => 0,
+        Err(fault) => fault::status(fault),
+    }
+}
+
 fn words_of(rt: &HostRuntime) -> io::Result<Vec<String>> {
     Ok(env::args(rt)?.collect(rt.alloc())?)
 }
@@ -46,13 +58,13 @@ fn main(rt: HostRuntime) -> ExitCode {
         }
     };
     match line::read_line(rt.alloc(), words.as_slice()) {
-        Ok(job) => match run(&rt, rt.alloc(), job) {
-            Ok(()) => ExitCode::SUCCESS,
-            Err(fault) => {
-                let _ = fault::tell(&rt, rt.alloc(), &fault);
-                ExitCode::from(fault::status(&fault))
+        Ok(job) => {
+            let done = run(&rt, rt.alloc(), job);
+            if let Err(fault) = &done {
+                let _ = fault::tell(&rt, rt.alloc(), fault);
             }
-        },
+            ExitCode::from(status_after(&done))
+        }
         Err(fault) => {
             let status = fault.status();
             let _ = fault.print(&rt);

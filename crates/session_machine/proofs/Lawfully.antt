@@ -10,7 +10,7 @@ use Rattle.session_machine.specs.declared.catalogue_fault.CatalogueCause.{Catalo
 use Rattle.session_machine.specs.declared.catalogue_fault.CatalogueCause.TheVariants.{WrongNumberOfValues}
 use Rattle.session_machine.specs.declared.catalogue_fault.CatalogueFault.{CatalogueFault}
 use Rattle.session_machine.specs.State.{CatalogueOf, TableOf, Row}
-use Rattle.session_machine.specs.Laws.{IsLawfulCatalogue, IsLawfulTable, IsValue, IsShort}
+use Rattle.session_machine.specs.Lawful.{IsLawfulCatalogue, IsLawfulTable, IsValue, IsShort}
 use Rattle.session_machine.specs.Catalogues.{PartsOf, Said, SaysNothing, SaysVersion, SaysDatabase, SaysTable, SaysRow, Unreadable, IsReadOf, said, parts, fault_of, first_fault, whole, judged, is_not_zero, is_version, is_value, is_lower_name, is_in_lower_name, starts_lower_name, are_columns, value_of, fields, fields_said, version_said, database_said, table_said, row_said, row_fault, last_of}
 use Rattle.session_machine.specs.Drafts.{with_said, with_row, with_last_row}
 use Rattle.session_machine.proofs.Alls.{all-as, all-append, and-first, and-second, list_all-each}

@@ -14,7 +14,7 @@ pub mod Extended
 pub mod Step
 pub mod Service
 pub mod Answers
-pub mod Laws
+pub mod Lawful
 pub mod CatalogueCodes
 pub mod Catalogues
 pub mod FieldsLeft

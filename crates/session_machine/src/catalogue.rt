@@ -2,7 +2,7 @@ ghost use Rattle.std.specs.Prelude.{◌≡◌, map, IfOk};
 ghost use Rattle.std.specs.Arc.{arc_value};
 ghost use Rattle.text_lines.specs.Lines.{raw_lines};
 ghost use Rattle.session_machine.specs.Catalogues.{IsReadOf};
-ghost use Rattle.session_machine.specs.Laws.{IsLawfulCatalogue};
+ghost use Rattle.session_machine.specs.Lawful.{IsLawfulCatalogue};
 
 use crate::catalogue_draft::Draft;
 use crate::catalogue_fault::CatalogueFault;

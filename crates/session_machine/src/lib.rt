@@ -17,7 +17,6 @@ mod describe;
 mod execute;
 mod extended;
 mod key;
-pub mod laws;
 mod lookup;
 mod names;
 mod naming;

@@ -150,7 +150,7 @@ impl Session {
         }
     }
 
-    /// The values and temporary tables that are kept, if some are.
+    /// Gives back the values and temporary tables that are kept, if some are.
     fn restore(&mut self)
         ensures { self.new ≡ record (roll_back_to self.old self.old.saved) { saved = None } }
     {

@@ -1,0 +1,14 @@
+pub mod Worked
+pub mod Bodies
+pub mod Lexed
+pub mod Spelled
+pub mod GoesOn
+pub mod ReadyLast
+pub mod Freshness
+pub mod GoodValues
+pub mod Lawful
+pub mod Handling
+pub mod Keeping
+pub mod Telling
+pub mod Reached
+pub mod Instance

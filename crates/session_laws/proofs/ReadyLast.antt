@@ -1,0 +1,331 @@
+-- What every handler leaves: no ReadyForQuery among its replies, and the same defaults, skipping and end.
+-- So a ReadyForQuery comes last and once, after a closing message.
+use Rattle.std.proofs.Common.{◌≡◌, ℕ, List, [], ◌∷◌, ◌++◌, length, take, drop, map, Option, Some, None, Result, Ok, Err, refl, subst, ◌∙◌, append_assoc, Bool, true, false}
+use Rattle.std.specs.Prelude.{◌==◌, ◌||◌, ◌&&◌, nat_le, if◌then◌else◌, codes}
+use Rattle.frame_view.specs.Frames.{FrameOf}
+use Rattle.message_view.specs.declared.ViewFault.{ViewFault}
+use Rattle.message_view.specs.Bodies.{Parse, Bind, Target, OfStatement, OfPortal}
+use Rattle.message_view.specs.Messages.{data_row, ready_for_query, parameter_status, command_complete, portal_suspended}
+use Rattle.message_view.specs.Reading.{query_of, parse_of, bind_of, target_of, execute_of}
+use Rattle.mini_sql.specs.Words.{Text, same_text}
+use Rattle.mini_sql.specs.Statements as st
+use Rattle.mini_sql.specs.Statements.{Statement}
+use Rattle.session_machine.specs.declared.block.Block.{Block}
+use Rattle.session_machine.specs.declared.block.Block.TheVariants.{Outside, Inside, Failed}
+use Rattle.session_machine.specs.declared.parameter.Parameter.{Parameter}
+use Rattle.session_machine.specs.declared.cause.Cause.{Cause}
+use Rattle.session_machine.specs.declared.cause.Cause.TheVariants.{NoStatement, NoPortal, MalformedMessage, NotSupported, ColumnTwice, InvalidValue}
+use Rattle.session_machine.specs.Parameters.{Values, reported_parameters, name}
+use Rattle.session_machine.specs.Errors.{error}
+use Rattle.session_machine.specs.Named.{named}
+use Rattle.session_machine.specs.State.{State, CatalogueOf, TableOf, table_name, Row, SavedOf, prepared_name, portal_name, PortalOf, ProgressOf, NotRun, Remaining, Finished, Answer, answers, bound, set_parameter, roll_back_to, failed, commit_outside, save, save_unless, ready, reports, report_of, reports_from, status}
+use Rattle.session_machine.specs.Lookups.{look_up, found}
+use Rattle.session_machine.specs.Runs.{Ran, ran, run, begin_run, commit_run, rollback_run, discard_run, create_run, insert_run, set_run, rows_of, row_tag, end_of, are_distinct, all_fit, operand_value, with_table, insert_into}
+use Rattle.session_machine.specs.Extended.{parse, bind, bindable, describe, described, describe_portal, is_result_count, close, execute, execute_on, execute_first, execute_rows, execute_ran, sent_rows, description, is_limit, usable, settle, Described}
+use Rattle.session_machine.specs.Step.{Asked, Terminate, Sync, Query, FunctionCall, ParseMessage, BindMessage, Describe, Close, Execute, Password, Nothing, asked, answer_to, answer_skipping, end_query, step, step_query, without_unnamed, sync, saved, reading_body, query_with, query_ran, query}
+use Rattle.session_laws.specs.Laws.{has_ready, is_closing, Ends, without_ready, with_ready}
+
+pub record Fine (s : State) (after : State) (sent : List FrameOf) : Type 0 where
+  pub no_ready : has_ready sent ≡ false
+  pub skipping : after.skipping ≡ s.skipping
+  pub ended : after.ended ≡ s.ended
+  pub defaults : after.defaults ≡ s.defaults
+
+abbrev pub AllFine : State → Result Answer Cause → Type 0
+AllFine s (Ok a) = Fine s a.next a.replies
+AllFine s (Err c) = Unit {0}
+
+abbrev pub RanFine : State → Result Ran Cause → Type 0
+RanFine s (Ok r) = Fine s r.after r.notices
+RanFine s (Err c) = Unit {0}
+
+plainly : (s after : State) (sent : List FrameOf) → has_ready sent ≡ false → after.skipping ≡ s.skipping → after.ended ≡ s.ended → after.defaults ≡ s.defaults → Fine s after sent
+plainly s after sent n k e d = record { no_ready = n; skipping = k; ended = e; defaults = d }
+
+pub bound-fine : {A : Type 0} (s : State) (r : Result A Cause) (f : A → Result Answer Cause) → ((x : A) → AllFine s (f x)) → AllFine s (bound r f)
+bound-fine s (Ok x) f h = h x
+bound-fine s (Err c) f h = tt
+
+-- ---- lists of rows
+
+or-true : (b : Bool) → (b || false) ≡ b
+or-true true = refl
+or-true false = refl
+
+has_ready-append : (xs ys : List FrameOf) → has_ready xs ≡ false → has_ready ys ≡ false → has_ready (xs ++ ys) ≡ false
+has_ready-append [] ys a b = b
+has_ready-append (x ∷ xs) ys a b = both (x.kind == 90) (has_ready xs) (has_ready (xs ++ ys)) a (λ h. has_ready-append xs ys h b)
+  where
+    both : (p q r : Bool) → (p || q) ≡ false → (q ≡ false → r ≡ false) → (p || r) ≡ false
+    both true q r h f = absurd cc
+    both false q r h f = f h
+
+has_ready-rows : (rows : List Row) (last : FrameOf) → (last.kind == 90) ≡ false → has_ready (map data_row rows ++ last ∷ []) ≡ false
+has_ready-rows [] last h = or-true (last.kind == 90) ∙ h
+has_ready-rows (r ∷ rows) last h = has_ready-rows rows last h
+
+-- ---- runs
+
+set-fine : (s : State) (tag : Text) (x : Result Values Cause) → RanFine s (set_run s tag x)
+set-fine s tag (Ok vs) = plainly _ _ _ refl refl refl refl
+set-fine s tag (Err c) = tt
+
+begin-fine : (s : State) (b : Block) → RanFine s (begin_run s b)
+begin-fine s Outside = plainly _ _ _ refl refl refl refl
+begin-fine s Inside = plainly _ _ _ refl refl refl refl
+begin-fine s Failed = plainly _ _ _ refl refl refl refl
+
+commit-fine : (s : State) (b : Block) → RanFine s (commit_run s b)
+commit-fine s Outside = plainly _ _ _ refl refl refl refl
+commit-fine s Inside = plainly _ _ _ refl refl refl refl
+commit-fine s Failed = plainly _ _ _ refl refl refl refl
+
+discard-fine : (s : State) (b : Block) → RanFine s (discard_run s b)
+discard-fine s Outside = plainly _ _ _ refl refl refl refl
+discard-fine s Inside = tt
+discard-fine s Failed = tt
+
+pub roll_back-same : (s : State) (c : Option SavedOf) → (roll_back_to s c).skipping ≡ s.skipping × (roll_back_to s c).ended ≡ s.ended × (roll_back_to s c).defaults ≡ s.defaults
+roll_back-same s None = (refl, refl, refl)
+roll_back-same s (Some c) = (refl, refl, refl)
+
+rollback-fine : (s : State) (b : Block) → RanFine s (rollback_run s b)
+rollback-fine s Outside = let h = roll_back-same s s.saved in plainly _ _ _ refl h.0 h.1 h.2
+rollback-fine s Inside = let h = roll_back-same s s.saved in plainly _ _ _ refl h.0 h.1 h.2
+rollback-fine s Failed = let h = roll_back-same s s.saved in plainly _ _ _ refl h.0 h.1 h.2
+
+chosen-fine : (s : State) (b : Bool) (r q : Result Ran Cause) → RanFine s r → RanFine s q → RanFine s (if b then r else q)
+chosen-fine s true r q h k = h
+chosen-fine s false r q h k = k
+
+create-fine : (s : State) (t : Text) (cs : List Text) (o : Option TableOf) → RanFine s (create_run s t cs o)
+create-fine s t cs (Some there) = tt
+create-fine s t cs None = chosen-fine s (are_distinct cs) (ran (with_table s t cs) [] (codes "CREATE TABLE")) (Err ColumnTwice) (plainly _ _ _ refl refl refl refl) tt
+
+inserted-fine : (s : State) (o : Option TableOf) (r : Row) → Fine s (insert_into s o r) []
+inserted-fine s None r = plainly _ _ _ refl refl refl refl
+inserted-fine s (Some t) r = plainly _ _ _ refl refl refl refl
+
+insert-fine : (s : State) (t : Text) (r : Row) → RanFine s (insert_run s t r)
+insert-fine s t r = chosen-fine s (all_fit r) (ran (insert_into s (named table_name s.tables t) r) [] (codes "INSERT 0 1")) (Err InvalidValue) (inserted-fine s (named table_name s.tables t) r) tt
+
+pub run-fine : (s : State) (given : Row) (x : Statement) → RanFine s (run s given x)
+run-fine s given st.Empty = plainly _ _ _ refl refl refl refl
+run-fine s given st.Begin = begin-fine s s.block
+run-fine s given st.Commit = commit-fine s s.block
+run-fine s given st.Rollback = rollback-fine s s.block
+run-fine s given (st.Set n v) = set-fine s (codes "SET") (set_parameter s.defaults s.current n v)
+run-fine s given (st.Reset n) = set-fine s (codes "RESET") (set_parameter s.defaults s.current n None)
+run-fine s given st.ResetAll = plainly _ _ _ refl refl refl refl
+run-fine s given st.DiscardAll = discard-fine s s.block
+run-fine s given (st.Create t cs) = create-fine s t cs (named table_name s.tables t)
+run-fine s given (st.Drop t) = plainly _ _ _ refl refl refl refl
+run-fine s given (st.Insert t vs) = insert-fine s t (map (operand_value given) vs)
+run-fine s given (st.Show n) = plainly _ _ _ refl refl refl refl
+run-fine s given (st.Select cs t w) = plainly _ _ _ refl refl refl refl
+
+-- ---- queries
+
+tagged : (tag : Option Text) → has_ready (end_of tag ∷ []) ≡ false
+tagged None = refl
+tagged (Some t) = refl
+
+ran-fine : (s : State) (r : Result Ran Cause) → RanFine s r → AllFine s (bound r (λ x. Ok (query_ran x)))
+ran-fine s (Ok r) h = plainly _ _ _ (has_ready-append r.notices (end_of r.tag ∷ []) h.no_ready (tagged r.tag)) h.skipping h.ended h.defaults
+ran-fine s (Err c) h = tt
+
+query_with-fine : (cat : CatalogueOf) (s : State) (x : Statement) (columns : Option (List Text)) → AllFine s (query_with cat s x columns)
+query_with-fine cat s x (Some cs) = plainly _ _ _ (has_ready-rows (rows_of cat s [] x) _ refl) refl refl refl
+query_with-fine cat s x None = ran-fine s (run s [] x) (run-fine s [] x)
+
+pub query-fine : (cat : CatalogueOf) (s : State) (t : Text) → AllFine s (query cat s t)
+query-fine cat s t =
+    bound-fine s (usable s t) _ (λ x. bound-fine s _ _ (λ u. bound-fine s (look_up cat s x) _ (λ cs. query_with-fine cat s x cs)))
+
+-- ---- the extended query
+
+pub parse-fine : (cat : CatalogueOf) (s : State) (p : Parse) → AllFine s (parse cat s p)
+parse-fine cat s p =
+    bound-fine s (usable s p.query) _ (λ x. bound-fine s _ _ (λ u. bound-fine s (look_up cat s x) _ (λ cs. plainly _ _ _ refl refl refl refl)))
+
+pub bind-fine : (cat : CatalogueOf) (s : State) (b : Bind) → AllFine s (bind cat s b)
+bind-fine cat s b = bound-fine s (bindable cat s b) _ (λ p. plainly _ _ _ refl refl refl refl)
+
+kind-described : (fs : List ℕ) (cs : Option (List Text)) → has_ready (description fs cs ∷ []) ≡ false
+kind-described fs None = refl
+kind-described fs (Some cs) = refl
+
+portal-fine : (s : State) (p : PortalOf) (d : Described) → AllFine s (describe_portal s p d)
+portal-fine s p d = by_test (is_result_count (length p.formats) d.columns)
+  where
+    by_test : (b : Bool) → AllFine s (if b then Ok (answers s (description p.formats d.columns ∷ [])) else Err MalformedMessage)
+    by_test true = plainly _ _ _ (kind-described p.formats d.columns) refl refl refl
+    by_test false = tt
+
+pub describe-fine : (cat : CatalogueOf) (s : State) (t : Target) → AllFine s (describe cat s t)
+describe-fine cat s (OfStatement n) =
+    bound-fine s (found NoStatement (named prepared_name s.statements n)) _ (λ p. bound-fine s (described cat s p.query) _ (λ d. plainly _ _ _ (kind-described [] d.columns) refl refl refl))
+describe-fine cat s (OfPortal n) =
+    bound-fine s (found NoPortal (named portal_name s.portals n)) _ (λ p. bound-fine s (described cat s p.query) _ (λ d. portal-fine s p d))
+
+pub close-fine : (s : State) (t : Target) → Fine s (close s t).next (close s t).replies
+close-fine s (OfStatement n) = plainly _ _ _ refl refl refl refl
+close-fine s (OfPortal n) = plainly _ _ _ refl refl refl refl
+
+sent-fine : (s : State) (n : Text) (x : Statement) (limit : ℕ) (rows : List Row) → Fine s (execute_rows s n x limit rows).next (execute_rows s n x limit rows).replies
+sent-fine s n x limit rows = by_test (is_limit limit && nat_le limit (length rows))
+  where
+    by_test : (b : Bool) → Fine s (if b then sent_rows s n (take limit rows) (drop limit rows) portal_suspended else sent_rows s n rows [] (command_complete (row_tag x (length rows)))).next (if b then sent_rows s n (take limit rows) (drop limit rows) portal_suspended else sent_rows s n rows [] (command_complete (row_tag x (length rows)))).replies
+    by_test true = plainly _ _ _ (has_ready-rows (take limit rows) _ refl) refl refl refl
+    by_test false = plainly _ _ _ (has_ready-rows rows _ refl) refl refl refl
+
+other-fine : (s : State) (n : Text) (r : Result Ran Cause) → RanFine s r → AllFine s (bound r (λ x. Ok (execute_ran n x)))
+other-fine s n (Ok r) h = plainly _ _ _ (has_ready-append r.notices (end_of r.tag ∷ []) h.no_ready (tagged r.tag)) h.skipping h.ended h.defaults
+other-fine s n (Err c) h = tt
+
+first-fine : (cat : CatalogueOf) (s : State) (p : PortalOf) (limit : ℕ) (x : Statement) (cs : Option (List Text)) → AllFine s (execute_first cat s p limit x cs)
+first-fine cat s p limit x (Some cs) = sent-fine s p.name x limit (rows_of cat s p.given x)
+first-fine cat s p limit x None = other-fine s p.name (run s p.given x) (run-fine s p.given x)
+
+on-fine : (cat : CatalogueOf) (s : State) (p : PortalOf) (limit : ℕ) (x : Statement) (g : ProgressOf) (cs : Option (List Text)) → AllFine s (execute_on cat s p limit x g cs)
+on-fine cat s p limit x NotRun cs = first-fine cat s p limit x cs
+on-fine cat s p limit x (Remaining rows) cs = sent-fine s p.name x limit rows
+on-fine cat s p limit x Finished cs = tt
+
+pub execute-fine : (cat : CatalogueOf) (s : State) (n : Text) (limit : ℕ) → AllFine s (execute cat s n limit)
+execute-fine cat s n limit =
+    bound-fine s (found NoPortal (named portal_name s.portals n)) _ (λ p. bound-fine s (usable s p.query) _ (λ x. bound-fine s (look_up cat s x) _ (λ cs. on-fine cat s p limit x p.progress cs)))
+
+-- ---- a step
+
+reports-fine : (ps : List Parameter) (vs rs : List Text) → has_ready (reports_from ps vs rs) ≡ false
+reports-fine [] vs rs = refl
+reports-fine (p ∷ ps) [] rs = refl
+reports-fine (p ∷ ps) (v ∷ vs) [] = refl
+reports-fine (p ∷ ps) (v ∷ vs) (r ∷ rs) = has_ready-append (report_of p v r) (reports_from ps vs rs) (by_test (same_text v r)) (reports-fine ps vs rs)
+  where
+    by_test : (b : Bool) → has_ready (if b then [] else (parameter_status (name p) v ∷ [])) ≡ false
+    by_test true = refl
+    by_test false = refl
+
+-- reports and ReadyForQuery after these replies
+readied : (kind : ℕ) (t : State) (sent : List FrameOf) → is_closing kind ≡ true → has_ready sent ≡ false → t.ended ≡ false → t.skipping ≡ false → (t.block ≡ Outside → t.saved ≡ None) → Ends kind (ready t).next (sent ++ (ready t).replies)
+readied kind t sent c n e k v =
+    let all : Ends kind (ready t).next ((sent ++ reports t) ++ ready_for_query (status t.block) ∷ []) = with_ready (sent ++ reports t) t.block c (has_ready-append sent (reports t) n (reports-fine reported_parameters t.current t.reported)) refl e k (λ o. record { not_ended = e; not_skipping = k; outside = o; not_saved = v o }) refl in
+    subst (λ (rs : List FrameOf). Ends kind (ready t).next rs) (append_assoc sent (reports t) (ready_for_query (status t.block) ∷ [])) all
+
+committed-rest : (t : State) (b : Block) → t.block ≡ b → (commit_outside t b).block ≡ Outside → (commit_outside t b).saved ≡ None
+committed-rest t Outside h o = refl
+committed-rest t Inside h o = absurd (let h' = h in cc)
+committed-rest t Failed h o = absurd (let h' = h in cc)
+
+committed-ended : (t : State) (b : Block) → (commit_outside t b).ended ≡ t.ended × (commit_outside t b).skipping ≡ t.skipping
+committed-ended t Outside = (refl, refl)
+committed-ended t Inside = (refl, refl)
+committed-ended t Failed = (refl, refl)
+
+pub end_query-ends : (kind : ℕ) (s : State) (r : Result Answer Cause) → is_closing kind ≡ true → AllFine s r → s.ended ≡ false → s.skipping ≡ false → Ends kind (end_query s r).next (end_query s r).replies
+end_query-ends kind s (Ok a) c f e k =
+    let t = commit_outside a.next a.next.block in
+    let h = committed-ended a.next a.next.block in
+    readied kind t a.replies c f.no_ready (h.0 ∙ f.ended ∙ e) (h.1 ∙ f.skipping ∙ k) (committed-rest a.next a.next.block refl)
+end_query-ends kind s (Err x) c f e k =
+    let h = roll_back-same s s.saved in
+    readied kind (failed s) (error x ∷ []) c refl (h.1 ∙ e) (h.0 ∙ k) (λ o. refl)
+
+pub settle-ends : (kind : ℕ) (s : State) (r : Result Answer Cause) → AllFine s r → Ends kind (settle s r).next (settle s r).replies
+settle-ends kind s (Ok a) f = without_ready f.no_ready
+settle-ends kind s (Err c) f = without_ready refl
+
+-- saving changes neither skipping nor the end nor the defaults
+pub save-same : (s : State) (b : Block) → (save s b).ended ≡ s.ended × (save s b).skipping ≡ s.skipping × (save s b).defaults ≡ s.defaults
+save-same s Outside = kept s s.saved
+  where
+    kept : (t : State) (c : Option SavedOf) → (save_unless t c).ended ≡ t.ended × (save_unless t c).skipping ≡ t.skipping × (save_unless t c).defaults ≡ t.defaults
+    kept t None = (refl, refl, refl)
+    kept t (Some c) = (refl, refl, refl)
+save-same s Inside = (refl, refl, refl)
+save-same s Failed = (refl, refl, refl)
+
+-- the closing messages
+abbrev closes : Asked → Bool
+closes Query = true
+closes FunctionCall = true
+closes Sync = true
+closes _ = false
+
+not_closing : (b : Bool) (x y : Asked) → closes x ≡ false → closes y ≡ false → closes (if b then x else y) ≡ false
+not_closing true x y h k = h
+not_closing false x y h k = k
+
+by_letters : (x s q f : Bool) (rest : Asked) → closes rest ≡ false → closes (if x then Terminate else (if s then Sync else (if q then Query else (if f then FunctionCall else rest)))) ≡ true → (q || f || s) ≡ true
+by_letters true s q f rest o h = absurd (let h' = h in cc)
+by_letters false true true true rest o h = refl
+by_letters false true true false rest o h = refl
+by_letters false true false true rest o h = refl
+by_letters false true false false rest o h = refl
+by_letters false false true true rest o h = refl
+by_letters false false true false rest o h = refl
+by_letters false false false true rest o h = refl
+by_letters false false false false rest o h = absurd (let h' = h in cc)
+
+asked-closes : (kind : ℕ) → closes (asked kind) ≡ true → is_closing kind ≡ true
+asked-closes kind h =
+    by_letters (kind == 88) (kind == 83) (kind == 81) (kind == 70) _ (
+    not_closing (kind == 80) _ _ refl (
+    not_closing (kind == 66) _ _ refl (
+    not_closing (kind == 68) _ _ refl (
+    not_closing (kind == 67) _ _ refl (
+    not_closing (kind == 69) _ _ refl (
+    not_closing (kind == 112) _ _ refl refl)))))) h
+
+sync-ends : (kind : ℕ) (s : State) → is_closing kind ≡ true → s.ended ≡ false → Ends kind (sync s).next (sync s).replies
+sync-ends kind s c e =
+    let t : State = record s { skipping = false } in
+    let h = committed-ended t s.block in
+    readied kind (commit_outside t s.block) [] c refl (h.0 ∙ e) h.1 (committed-rest t s.block refl)
+
+module _ (cat : CatalogueOf) (kind : ℕ) (s : State) (e : s.ended ≡ false) (k : s.skipping ≡ false) where
+  query-ends : (t : Result Text ViewFault) → is_closing kind ≡ true → Ends kind (step_query cat s t).next (step_query cat s t).replies
+  query-ends (Err v) c = end_query-ends kind s (Err MalformedMessage) c tt e k
+  query-ends (Ok t) c = end_query-ends kind (without_unnamed s) (query cat (without_unnamed s) t) c (query-fine cat (without_unnamed s) t) e k
+
+  body-ends : {A : Type 0} (o : Result A ViewFault) (f : A → Result Answer Cause) → ((x : A) → AllFine s (f x)) → Ends kind (settle s (bound (reading_body o) f)).next (settle s (bound (reading_body o) f)).replies
+  body-ends o f h = settle-ends kind s (bound (reading_body o) f) (bound-fine s (reading_body o) f h)
+
+answer-ends : (cat : CatalogueOf) (kind : ℕ) (s : State) (a : Asked) (body : List ℕ) → (closes a ≡ true → is_closing kind ≡ true) → s.ended ≡ false → s.skipping ≡ false → Ends kind (answer_to cat s a body).next (answer_to cat s a body).replies
+answer-ends cat kind s Terminate body c e k = without_ready refl
+answer-ends cat kind s Sync body c e k = sync-ends kind s (c refl) e
+answer-ends cat kind s Query body c e k = let g = save-same s s.block in query-ends cat kind (saved s) (g.0 ∙ e) (g.1 ∙ k) (query_of body) (c refl)
+answer-ends cat kind s FunctionCall body c e k = let g = save-same s s.block in end_query-ends kind (saved s) (Err NotSupported) (c refl) tt (g.0 ∙ e) (g.1 ∙ k)
+answer-ends cat kind s ParseMessage body c e k = let g = save-same s s.block in body-ends cat kind (saved s) (g.0 ∙ e) (g.1 ∙ k) (parse_of body) _ (parse-fine cat (saved s))
+answer-ends cat kind s BindMessage body c e k = let g = save-same s s.block in body-ends cat kind (saved s) (g.0 ∙ e) (g.1 ∙ k) (bind_of body) _ (bind-fine cat (saved s))
+answer-ends cat kind s Describe body c e k = let g = save-same s s.block in body-ends cat kind (saved s) (g.0 ∙ e) (g.1 ∙ k) (target_of body) _ (describe-fine cat (saved s))
+answer-ends cat kind s Close body c e k = let g = save-same s s.block in body-ends cat kind (saved s) (g.0 ∙ e) (g.1 ∙ k) (target_of body) _ (close-fine (saved s))
+answer-ends cat kind s Execute body c e k = let g = save-same s s.block in body-ends cat kind (saved s) (g.0 ∙ e) (g.1 ∙ k) (execute_of body) _ (λ x. execute-fine cat (saved s) x.0 x.1)
+answer-ends cat kind s Password body c e k = settle-ends kind s (Err MalformedMessage) tt
+answer-ends cat kind s Nothing body c e k = without_ready refl
+
+skipping-ends : (kind : ℕ) (s : State) (a : Asked) → (closes a ≡ true → is_closing kind ≡ true) → s.ended ≡ false → Ends kind (answer_skipping s a).next (answer_skipping s a).replies
+skipping-ends kind s Terminate c e = without_ready refl
+skipping-ends kind s Sync c e = sync-ends kind s (c refl) e
+skipping-ends kind s Query c e = without_ready refl
+skipping-ends kind s FunctionCall c e = without_ready refl
+skipping-ends kind s ParseMessage c e = without_ready refl
+skipping-ends kind s BindMessage c e = without_ready refl
+skipping-ends kind s Describe c e = without_ready refl
+skipping-ends kind s Close c e = without_ready refl
+skipping-ends kind s Execute c e = without_ready refl
+skipping-ends kind s Password c e = without_ready refl
+skipping-ends kind s Nothing c e = without_ready refl
+
+choose : (kind : ℕ) (b : Bool) (x y : Answer) → (b ≡ true → Ends kind x.next x.replies) → (b ≡ false → Ends kind y.next y.replies) → Ends kind (if b then x else y).next (if b then x else y).replies
+choose kind true x y f g = f refl
+choose kind false x y f g = g refl
+
+pub step-ends : (cat : CatalogueOf) (s : State) (f : FrameOf) → Ends f.kind (step cat s f).next (step cat s f).replies
+unfolding step
+step-ends cat s f =
+    choose f.kind s.ended _ _ (λ h. without_ready refl) (λ e.
+    choose f.kind s.skipping _ _ (λ h. skipping-ends f.kind s (asked f.kind) (asked-closes f.kind) e) (λ k.
+    answer-ends cat f.kind s (asked f.kind) f.body (asked-closes f.kind) e k))

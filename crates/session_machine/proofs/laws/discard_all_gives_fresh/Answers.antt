@@ -1,5 +1,0 @@
-use Rattle.session_machine.proofs.Freshness.{discard-fresh}
-use Rattle.session_machine.proofs.laws.discard_all_gives_fresh.Goals as goal
-
-pub returns : goal.returns
-returns c = discard-fresh
