@@ -1,8 +1,8 @@
 -- A startup message that is handed out stands at the front of the bytes.
-use Rattle.std.proofs.Common.{◌≡◌, ℕ, ◌+◌, ◌≤◌, List, ◌++◌, length, drop, refl, sym, ap, ◌∙◌, arith, length-append}
+use Rattle.std.proofs.Common.{◌≡◌, ℕ, ◌+◌, ◌≤◌, List, length, drop, refl, sym, ap, ◌∙◌, arith}
 use Rattle.std.proofs.Math.Seq.{drop-append_seam}
 use Rattle.std.specs.Borrow.{Bor}
-use Rattle.frame_view.specs.Frames.{AreBytes, FirstFront, AFirst, LacksFirst, FaultyFirst, FirstOf, Start, Cancels, AsksTls, AsksGss, first_front, first_spelling}
+use Rattle.frame_view.specs.Frames.{AreBytes, FirstFront, AFirst, LacksFirst, FaultyFirst, Start, Cancels, AsksTls, AsksGss, first_front, first_spelling}
 use Rattle.frame_view.specs.declared.FirstStep.TheVariants as first
 use Rattle.frame_view.specs.Answers.{TellsFirst}
 use Rattle.frame_view.proofs.FirstPackets.{first-fits, first-spelled}

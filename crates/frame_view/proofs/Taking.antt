@@ -1,12 +1,12 @@
 -- A frame that is handed out is the first of the frames, and the bytes after it have the others.
-use Rattle.std.proofs.Common.{◌≡◌, ℕ, suc, ◌+◌, ◌≤◌, List, [], ◌∷◌, ◌++◌, length, drop, refl, sym, ap, ◌∙◌, arith, length-append, length-drop}
+use Rattle.std.proofs.Common.{◌≡◌, ℕ, suc, ◌+◌, ◌≤◌, List, [], ◌∷◌, length, drop, refl, sym, ap, ◌∙◌, arith, length-append, length-drop}
 use Rattle.std.proofs.lemmas.List.{drop-drop}
 use Rattle.frame_view.specs.Frames.{Front, AFrame, Lacks, Faulty, FrameOf, Cut, Stops, before, cut_after, front, frames}
 use Rattle.frame_view.specs.declared.Frame.{Frame}
 use Rattle.frame_view.specs.declared.Step.{Step}
 use Rattle.frame_view.specs.declared.Step.TheVariants.{Whole, Need, Bad}
 use Rattle.frame_view.specs.declared.Side.{Side}
-use Rattle.frame_view.specs.Answers.{Tells, IsCut}
+use Rattle.frame_view.specs.Answers.{Tells}
 use Rattle.frame_view.proofs.Cuts.{cut_after-drop, front-fits}
 
 -- the frames of bytes at whose front a frame stands

@@ -1,5 +1,6 @@
 //! The program `pgsess`.
 #![tactic(auto)]
+
 ghost use Rattle.std.specs.Prelude.{◌≡◌};
 ghost use Rattle.pgsess.specs.Statuses as spec;
 

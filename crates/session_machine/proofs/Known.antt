@@ -1,13 +1,12 @@
 -- What a session may leave out: what would change nothing.
-use Rattle.std.proofs.Common.{◌≡◌, ℕ, zero, suc, List, [], ◌∷◌, ◌++◌, take, map, filter, find, Option, Some, None, refl, ap, ◌∙◌, Bool, true, false, cond, not}
+use Rattle.std.proofs.Common.{◌≡◌, ℕ, zero, suc, List, [], ◌∷◌, ◌++◌, take, map, filter, Option, Some, None, refl, ap, ◌∙◌, Bool, true, false, cond, not}
 use Rattle.std.specs.Prelude.{if◌then◌else◌}
 use Rattle.std.specs.List.{list_all}
 use Rattle.std.proofs.lemmas.Slice.Eq.{bytes_eq-Decides}
-use Rattle.frame_view.specs.Frames.{FrameOf}
 use Rattle.message_view.specs.Messages.{parameter_status}
 use Rattle.mini_sql.specs.Words.{Text, same_text}
 use Rattle.session_machine.specs.declared.parameter.Parameter.{Parameter}
-use Rattle.session_machine.specs.Extended.{is_of, is_of_other, orphaned, unless_of}
+use Rattle.session_machine.specs.Extended.{is_of, is_of_other, orphaned}
 use Rattle.session_machine.specs.Known.{AreNamedUnless}
 use Rattle.session_machine.specs.Named.{is_other, named, without}
 use Rattle.session_machine.specs.Parameters.{name}

@@ -1,8 +1,7 @@
 -- The lists of columns that texts spell are short.
-use Rattle.std.proofs.Common.{◌≡◌, ◌≤◌, List, [], length, arith, Some}
+use Rattle.std.proofs.Common.{◌≡◌, ◌≤◌, List, length, arith, Some}
 use Rattle.mini_sql.specs.Words.{Text}
 use Rattle.mini_sql.specs.Tokens.{Token}
-use Rattle.mini_sql.specs.Statements as st
 use Rattle.mini_sql.specs.Statements.{Statement, statement}
 use Rattle.mini_sql.specs.Grammar as grammar
 use Rattle.mini_sql.specs.Grammar.{Derives, Chosen}

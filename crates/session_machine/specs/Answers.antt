@@ -1,5 +1,5 @@
 -- What the code leaves, in the definitions' words.
-use Rattle.std.specs.Prelude.{◌≡◌, ℕ, List, [], ◌∷◌, ◌++◌, Option, Some, None, Result, Ok, Err}
+use Rattle.std.specs.Prelude.{◌≡◌, ℕ, List, ◌++◌, Result, Ok, Err}
 use Rattle.std.specs.List.{flat_map}
 use Rattle.frame_view.specs.Frames.{FrameOf, spelling}
 use Rattle.frame_view.specs.declared.Frame.{Frame}

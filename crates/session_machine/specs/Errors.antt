@@ -1,6 +1,6 @@
 -- The errors and notices of the stand-in server: SQLSTATEs (PostgreSQL manual, "PostgreSQL Error
 -- Codes") with the texts of this project.
-use Rattle.std.specs.Prelude.{ℕ, List, codes}
+use Rattle.std.specs.Prelude.{codes}
 use Rattle.frame_view.specs.Frames.{FrameOf}
 use Rattle.mini_sql.specs.Words.{Text}
 use Rattle.message_view.specs.Messages.{error_response, notice_response}

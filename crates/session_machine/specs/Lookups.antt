@@ -1,6 +1,6 @@
 -- What a statement's names stand for, before it runs.
-use Rattle.std.specs.Prelude.{ℕ, zero, suc, List, [], ◌∷◌, length, Option, Some, None, Result, Ok, Err, Bool, true, false, nat_le, ◌&&◌, if◌then◌else◌}
-use Rattle.mini_sql.specs.Words.{Text, same_text}
+use Rattle.std.specs.Prelude.{List, [], ◌∷◌, length, Option, Some, None, Result, Ok, Err, Bool, true, nat_le, ◌&&◌, if◌then◌else◌}
+use Rattle.mini_sql.specs.Words.{Text}
 use Rattle.mini_sql.specs.Statements.{Statement, Empty, Begin, Commit, Rollback, Set, Reset, ResetAll, Show, DiscardAll, Create, Drop, Insert, Select, Equals, Operand}
 use Rattle.session_machine.specs.declared.parameter.Parameter.{Parameter}
 use Rattle.session_machine.specs.declared.cause.Cause.{Cause}

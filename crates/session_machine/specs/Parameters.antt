@@ -1,6 +1,6 @@
 -- The run-time parameters of the stand-in server (PostgreSQL manual, "Server Configuration"; which
 -- values are accepted, and how they are kept, is this project's own profile).
-use Rattle.std.specs.Prelude.{ℕ, zero, suc, ◌+◌, ◌-◌, ◌*◌, List, [], ◌∷◌, ◌++◌, length, filter, find, option_map, Option, Some, None, Bool, true, false, nat_le, ◌==◌, ◌&&◌, ◌||◌, if◌then◌else◌, codes, slice_index_or, slice_set}
+use Rattle.std.specs.Prelude.{ℕ, ◌+◌, ◌-◌, ◌*◌, List, [], ◌∷◌, ◌++◌, length, filter, find, option_map, Option, Some, None, Bool, true, false, nat_le, ◌==◌, ◌&&◌, ◌||◌, if◌then◌else◌, codes, slice_index_or, slice_set}
 use Rattle.std.specs.List.{list_all}
 use Rattle.mini_sql.specs.Words.{Text, folded, same_text, same_word, is_digit, is_letter}
 use Rattle.session_machine.specs.declared.parameter.Parameter.{Parameter}

@@ -1,19 +1,19 @@
 -- Running a statement whose look-ups are done.
-use Rattle.std.specs.Prelude.{ℕ, zero, suc, ◌+◌, ◌-◌, List, [], ◌∷◌, ◌++◌, length, map, filter, slice_get, Option, Some, None, Result, Ok, Err, Bool, true, false, nat_le, ◌&&◌, not, if◌then◌else◌, codes}
+use Rattle.std.specs.Prelude.{ℕ, suc, ◌-◌, List, [], ◌∷◌, ◌++◌, length, map, filter, slice_get, Option, Some, None, Result, Ok, Err, Bool, true, false, nat_le, ◌&&◌, not, if◌then◌else◌, codes}
 use Rattle.std.specs.Fmt.{decimal}
 use Rattle.frame_view.specs.Frames.{FrameOf}
 use Rattle.message_view.specs.Messages.{command_complete, empty_query_response}
 use Rattle.mini_sql.specs.Words.{Text, same_text}
-use Rattle.mini_sql.specs.Statements.{Statement, Empty, Begin, Commit, Rollback, Set, Reset, ResetAll, Show, DiscardAll, Create, Drop, Insert, Select, Equals, Operand, Constant, Placeholder, Null}
+use Rattle.mini_sql.specs.Statements.{Statement, Begin, Commit, Rollback, Set, Reset, ResetAll, Show, DiscardAll, Create, Drop, Insert, Select, Equals, Operand, Constant, Placeholder, Null}
 use Rattle.session_machine.specs.declared.block.Block.{Block}
 use Rattle.session_machine.specs.declared.block.Block.TheVariants.{Outside, Inside, Failed}
 use Rattle.session_machine.specs.declared.parameter.Parameter.{Parameter}
 use Rattle.session_machine.specs.declared.cause.Cause.{Cause}
-use Rattle.session_machine.specs.declared.cause.Cause.TheVariants.{NoTable, InTransaction, ColumnTwice, TableExists, InvalidValue}
+use Rattle.session_machine.specs.declared.cause.Cause.TheVariants.{InTransaction, ColumnTwice, TableExists, InvalidValue}
 use Rattle.session_machine.specs.Parameters.{Values, parameters, parameter_named, is_fixed, value_of}
 use Rattle.session_machine.specs.Errors.{already_in_transaction, no_transaction}
 use Rattle.session_machine.specs.Named.{named, without, with_named}
-use Rattle.session_machine.specs.State.{State, CatalogueOf, TableOf, Row, table_name, bound, has_text, commit, roll_back, set_parameter}
+use Rattle.session_machine.specs.State.{State, CatalogueOf, TableOf, Row, table_name, has_text, commit, roll_back, set_parameter}
 use Rattle.session_machine.specs.Lookups.{to_read, selected}
 
 -- what a run leaves: the state, the notices before its tag, and the tag; None: the empty statement

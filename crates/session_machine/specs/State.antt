@@ -1,6 +1,6 @@
 -- The state of a session, its transactions, its reports, and how it begins
 -- (PostgreSQL manual, "Frontend/Backend Protocol" and "SET").
-use Rattle.std.specs.Prelude.{ℕ, zero, suc, List, [], ◌∷◌, ◌++◌, take, Option, Some, None, Result, Ok, Err, Bool, true, false, ◌||◌, if◌then◌else◌}
+use Rattle.std.specs.Prelude.{ℕ, List, [], ◌∷◌, ◌++◌, take, Option, Some, None, Result, Ok, Err, Bool, false, ◌||◌, if◌then◌else◌}
 use Rattle.frame_view.specs.Frames.{FrameOf}
 use Rattle.message_view.specs.Messages.{parameter_status, ready_for_query}
 use Rattle.mini_sql.specs.Words.{Text, same_text}

@@ -1,6 +1,6 @@
 -- One frame and one state give the next state and the reply frames
 -- (PostgreSQL manual, "Frontend/Backend Protocol", "Message Flow").
-use Rattle.std.specs.Prelude.{ℕ, List, [], ◌∷◌, ◌++◌, length, map, Option, Some, None, Result, Ok, Err, Bool, true, false, nat_lt, ◌==◌, if◌then◌else◌}
+use Rattle.std.specs.Prelude.{ℕ, List, [], ◌∷◌, ◌++◌, length, map, Some, None, Result, Ok, Err, true, false, nat_lt, ◌==◌, if◌then◌else◌}
 use Rattle.frame_view.specs.Frames.{FrameOf}
 use Rattle.message_view.specs.declared.ViewFault.{ViewFault}
 use Rattle.message_view.specs.Messages.{row_description, data_row, command_complete}

@@ -1,7 +1,6 @@
-use Rattle.std.proofs.Common.{◌≡◌, ◌∙◌, ap, map, List}
+use Rattle.std.proofs.Common.{◌≡◌, ◌∙◌, ap, map}
 use Rattle.std.specs.Arc.{arc_value}
 use Rattle.std.proofs.lemmas.List.{map-append}
-use Rattle.session_machine.specs.State.{Row}
 use Rattle.session_machine.specs.Runs.{picked}
 use Rattle.session_machine.proofs.Mapped.{mapped_step}
 use Rattle.session_machine.proofs.rows.picked_rows.Goals as goal

@@ -1,4 +1,3 @@
-use Rattle.std.proofs.Common.{Ok}
 use Rattle.message_view.specs.Reading.{bind_of}
 use Rattle.session_machine.specs.Extended.{bind}
 use Rattle.session_machine.specs.State.{State, bound}

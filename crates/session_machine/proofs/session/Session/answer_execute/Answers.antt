@@ -1,4 +1,3 @@
-use Rattle.std.proofs.Common.{Ok}
 use Rattle.message_view.specs.Reading.{execute_of}
 use Rattle.session_machine.specs.Extended.{execute}
 use Rattle.session_machine.specs.State.{State, bound}

@@ -1,4 +1,3 @@
-use Rattle.std.proofs.Common.{Ok, Err}
 use Rattle.session_machine.specs.Step.{query}
 use Rattle.session_machine.proofs.Endings.{query_ends, query_fails}
 use Rattle.session_machine.proofs.session.Session.query_text.Goals as goal
