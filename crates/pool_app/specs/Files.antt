@@ -1,5 +1,5 @@
 -- What the files of the pooler come to.
-use Rattle.std.specs.Prelude.{◌≡◌, ◌≢◌, ℕ, List, length, Result, Ok, Err}
+use Rattle.std.specs.Prelude.{◌≡◌, ◌≢◌, ◌<◌, ℕ, List, length, Option, IfSome, Result, Ok, Err}
 use Rattle.std.specs.Borrow.{Bor}
 use Rattle.ini_config.specs.Reading as ini
 use Rattle.ini_config.specs.declared.option_values.Settings.{Settings}
@@ -7,6 +7,8 @@ use Rattle.session_machine.specs.Catalogues as catalogue
 use Rattle.session_machine.specs.State.{CatalogueOf}
 use Rattle.user_file.specs.Users as users
 use Rattle.user_file.specs.declared.user_table.UserRow.{UserRow}
+use Rattle.pool_app.specs.declared.files.ReadFault.{ReadFault}
+use Rattle.pool_app.specs.declared.files.ReadFault.TheVariants.{TooLong, Io}
 use Rattle.pool_app.specs.declared.fault.AppFault.{AppFault}
 use Rattle.pool_app.specs.declared.fault.AppFault.TheVariants.{Catalogue, File, Ini, Users}
 
@@ -32,3 +34,8 @@ abbrev pub IsCatalogueOf : List (List ℕ) → Result CatalogueOf AppFault → T
 IsCatalogueOf lines (Ok read) = catalogue.IsReadOf lines (Ok read)
 IsCatalogueOf lines (Err (Catalogue fault)) = catalogue.IsReadOf lines (Err fault)
 IsCatalogueOf lines (Err other) = ⊥
+
+-- a reader of known bytes is too long only where it has more than may be
+abbrev pub IsReadFaultOf : Option (List ℕ) → ℕ → ReadFault → Type 0
+IsReadFaultOf remaining most TooLong = IfSome remaining (λ xs. most < length xs)
+IsReadFaultOf remaining most (Io error) = Unit {0}

@@ -1,10 +1,16 @@
 -- The command line of the program, and what its words ask for.
-use Rattle.std.specs.Prelude.{◌≡◌, pos, ℕ, List, Option, Some, true, codes, option_map, option_and_then}
-use Rattle.std.specs.Str.Parse.{digits_value, without_leading_plus}
-use Rattle.clap.specs.Words.{App, Row, Rule, Text, first_of, one_of, new_app, new_rule, with_rule, with_subcommand}
+use Rattle.std.specs.Prelude.{◌≡◌, ◌≢◌, ◌⊎◌, ◌<◌, pos, ℕ, List, Option, Some, None, true, codes, option_map, option_and_then}
+use Rattle.std.specs.Str.Parse.{IsNumeral, digits_value, without_leading_plus}
+use Rattle.clap.specs.Takes.{takes}
+use Rattle.clap.specs.Values.{kind_of}
+use Rattle.clap.specs.Words.{App, Row, Rule, Text, first_of, one_of, new_app, new_rule, subcommand_of, with_rule, with_subcommand}
+use Rattle.clap.specs.declared.error.kind.ErrorKind.{ErrorKind}
+use Rattle.clap.specs.declared.error.kind.ErrorKind.TheVariants.{DisplayHelp, OutOfMemory}
 use Rattle.clap.specs.declared.builder.value_parser.ValueParser.TheVariants.{Signed}
 use Rattle.pool_app.specs.declared.line.Job.{Job}
 use Rattle.pool_app.specs.declared.line.Job.TheVariants.{Replay, Serve, Stub}
+use Rattle.pool_app.specs.declared.line.LineFault.{LineFault}
+use Rattle.pool_app.specs.declared.line.LineFault.TheVariants.{Refused, NoJob}
 
 -- an option with a value that must be there
 abbrev pub needed : Text → Rule
@@ -57,3 +63,35 @@ IsJobOf sub (Stub port catalogue) =
     (name_of sub ≡ Some (codes "stub"))
     × ((text : List ℕ) × (number_of (codes "port") sub ≡ Some text) × (port ≡ digits_value 10 (without_leading_plus text)))
     × (option_of (codes "catalogue") sub ≡ Some catalogue.now)
+
+-- ---- what asks for none
+
+abbrev pub Lacks : Text → Named → Type 0
+Lacks id sub = option_of id sub ≡ None
+
+-- the text is no number that a port can be
+abbrev pub IsNoPort : Text → Type 0
+IsNoPort text = IsNumeral 10 (without_leading_plus text) × (digits_value 10 (without_leading_plus text) < 65536) → ⊥
+
+-- neither a subcommand that is a job, nor one with all of its options
+abbrev pub NamesNone : Named → Type 0
+NamesNone sub =
+    (name_of sub ≢ Some (codes "replay"))
+    × (name_of sub ≡ Some (codes "serve") → Lacks (codes "ini") sub ⊎ (Lacks (codes "users") sub ⊎ Lacks (codes "key-seed") sub))
+    × (name_of sub ≡ Some (codes "stub") → Lacks (codes "catalogue") sub ⊎ ((text : Text) → number_of (codes "port") sub ≡ Some text → IsNoPort text))
+
+-- A line is refused where clap doesn't take its words, or memory is refused; or it names no job.
+abbrev pub IsFaultOf : List Text → LineFault → Type 0
+IsFaultOf words (Refused error) = takes pgsess words ≡ true → kind_of error ≡ OutOfMemory
+IsFaultOf words NoJob = NamesNone (subcommand_of pgsess words)
+
+-- ---- the status after a line that asks for no job
+
+abbrev pub kind_status : ErrorKind → ℕ
+kind_status DisplayHelp = 0
+kind_status OutOfMemory = 1
+kind_status other = 2
+
+abbrev pub status : LineFault → ℕ
+status (Refused error) = kind_status (kind_of error)
+status NoJob = 2

@@ -1,6 +1,6 @@
 -- What `replay` answers to one client's bytes: its login under the standing settings and users, and then
 -- what a server started for that client alone answers.
-use Rattle.std.specs.Prelude.{ℕ, List, [], ◌∷◌, ◌++◌, Some, None, Bool, false, ◌==◌, ◌||◌, if◌then◌else◌, codes}
+use Rattle.std.specs.Prelude.{◌≡◌, ℕ, List, [], ◌∷◌, ◌++◌, Some, None, Bool, false, ◌==◌, ◌||◌, if◌then◌else◌, codes}
 use Rattle.frame_view.specs.declared.FrameFault.TheVariants.{TooShort, TooLong, UnknownType, UnknownCode}
 use Rattle.frame_view.specs.declared.Side.TheVariants.{Client}
 use Rattle.frame_view.specs.Frames.{Front, AFrame, Lacks, Faulty, FrameOf, Cut, front, frames}
@@ -14,6 +14,8 @@ use Rattle.ini_config.specs.OptionValues.{defaults}
 use Rattle.user_file.specs.declared.user_table.UserRow.{UserRow}
 use Rattle.user_file.specs.Secrets.{secret_of}
 use Rattle.session_machine.specs.State.{CatalogueOf, TableOf}
+use Rattle.pool_app.specs.declared.fault.AppFault.{AppFault}
+use Rattle.pool_app.specs.declared.fault.AppFault.TheVariants as fault
 use Rattle.login_core.specs.Talk.{End}
 use Rattle.login_core.specs.Talk.End.{Unfinished, Passed, Stopped}
 use Rattle.login_core.specs.Dialogue.{Way, ToLink, ToConsole, Reason, Refused, Failed, Left, Dialogue, LoginRow, Rows, row_in, login}
@@ -94,3 +96,13 @@ replies bytes =
 -- the same of what the login says
 abbrev pub replied : CatalogueOf → Dialogue → List ℕ
 replied cat said = joined_pieces (said.pieces ++ after_login cat standing_word said.ended) ++ refused_end said.ended
+
+-- ---- what is left of the output after a fault
+
+-- A fault of the input and want of memory come before anything is written; there is no other fault but
+-- one of the output itself.
+abbrev pub IsLeft : {A : Type 0} → A → A → AppFault → Type 0
+IsLeft before after fault.Stdin = after ≡ before
+IsLeft before after fault.Memory = after ≡ before
+IsLeft before after fault.Stdout = Unit {0}
+IsLeft before after other = ⊥

@@ -1,5 +1,5 @@
 //! The files that a command line names.
-ghost use Rattle.std.specs.Prelude.{◌≡◌, ◌<◌, ◌≤◌, ◌^◌, IfOk, IfSome, length};
+ghost use Rattle.std.specs.Prelude.{◌≡◌, ◌<◌, ◌≤◌, ◌^◌, IfErr, IfOk, IfSome, length};
 ghost use Rattle.text_lines.specs.Lines.{lines, raw_lines};
 ghost use Rattle.pool_app.specs.Files as spec;
 
@@ -35,6 +35,7 @@ pub fn read_all<R: Read + Drop>(alloc: Global, input: R, most: u64) -> Result<Ve
     requires { most < 2 ^ 63 }
     ensures all { IfOk result (λ v. IfSome (R.remaining input) (λ xs. v.items ≡ xs)) }
     ensures bound { IfOk result (λ v. length v.items ≤ most) }
+    ensures refused { IfErr result (λ fault. spec.IsReadFaultOf (R.remaining input) most fault) }
 {
     let mut all = Vec::new(alloc);
     let mut limited = input.take(most + 1);

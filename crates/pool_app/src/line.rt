@@ -1,5 +1,8 @@
 //! The command line.
-ghost use Rattle.std.specs.Prelude.{◌≡◌, IfOk, IfSome, map, false, string_bytes};
+ghost use Rattle.std.specs.Prelude.{◌≡◌, IfErr, IfOk, IfSome, None, map, true, false, string_bytes};
+ghost use Rattle.clap.specs.Takes.{takes};
+ghost use Rattle.clap.specs.Values.{kind_of};
+ghost use Rattle.clap.specs.declared.error.kind.ErrorKind.TheVariants as kinds;
 ghost use Rattle.clap.specs.Words.{app_of, rule_of, subcommand_of, subcommand_rows_of};
 ghost use Rattle.clap.specs.declared.builder.command.Command.TheViews.{out-Command as fields_of};
 ghost use Rattle.pool_app.specs.Line as spec;
@@ -38,7 +41,9 @@ pub enum LineFault {
 
 impl LineFault {
     /// The status that the program ends with: 0 after help, 1 for want of memory, 2 for every other fault.
-    pub fn status(&self) -> u8 {
+    pub fn status(&self) -> u8
+        ensures { result ≡ spec.status self.now }
+    {
         match self {
             LineFault::Refused(error) => match error.kind() {
                 ErrorKind::DisplayHelp => 0,
@@ -58,12 +63,6 @@ impl LineFault {
             },
             LineFault::NoJob => eprintln!(rt; "pgsess: no job"),
         }
-    }
-}
-
-impl From<Error> for LineFault {
-    fn from(error: Error) -> LineFault {
-        LineFault::Refused(error)
     }
 }
 
@@ -175,7 +174,8 @@ fn command<'a>(alloc: Global) -> Result<Command<'a>, AllocError>
 
 /// The matches of the words, of which the subcommand's are a function of the words.
 fn matches_of_line<'a>(alloc: Global, words: &'a [String]) -> Result<ArgMatches<'a>, Error>
-    ensures { IfOk result (λ m. subcommand_rows_of m ≡ subcommand_of spec.pgsess (map string_bytes words.entry.now)) }
+    ensures rows { IfOk result (λ m. subcommand_rows_of m ≡ subcommand_of spec.pgsess (map string_bytes words.entry.now)) }
+    ensures refused { IfErr result (λ e. takes spec.pgsess (map string_bytes words.entry.now) ≡ true → kind_of e ≡ kinds.OutOfMemory) }
 {
     let command = command(alloc)?;
     command.try_get_matches_from(words)
@@ -183,7 +183,8 @@ fn matches_of_line<'a>(alloc: Global, words: &'a [String]) -> Result<ArgMatches<
 
 /// The job of the matches.
 fn job_of<'a>(matches: &ArgMatches<'a>) -> Option<Job<'a>>
-    ensures { IfSome result (λ job. spec.IsJobOf (subcommand_rows_of matches.now) job) }
+    ensures job { IfSome result (λ job. spec.IsJobOf (subcommand_rows_of matches.now) job) }
+    ensures none { result ≡ None → spec.NamesNone (subcommand_rows_of matches.now) }
 {
     let (name, sub) = matches.subcommand()?;
     if name == "replay" {
@@ -209,11 +210,14 @@ fn job_of<'a>(matches: &ArgMatches<'a>) -> Option<Job<'a>>
 
 /// The job that the words name, the first of which is the program's own name.
 pub fn read_line<'a>(alloc: Global, words: &'a [String]) -> Result<Job<'a>, LineFault>
-    ensures { IfOk result (λ job. spec.IsJobOf (subcommand_of spec.pgsess (map string_bytes words.entry.now)) job) }
+    ensures job { IfOk result (λ job. spec.IsJobOf (subcommand_of spec.pgsess (map string_bytes words.entry.now)) job) }
+    ensures refused { IfErr result (λ fault. spec.IsFaultOf (map string_bytes words.entry.now) fault) }
 {
-    let matches = matches_of_line(alloc, words)?;
-    match job_of(&matches) {
-        Some(job) => Ok(job),
-        None => Err(LineFault::NoJob),
+    match matches_of_line(alloc, words) {
+        Ok(matches) => match job_of(&matches) {
+            Some(job) => Ok(job),
+            None => Err(LineFault::NoJob),
+        },
+        Err(error) => Err(LineFault::Refused(error)),
     }
 }

@@ -1,5 +1,5 @@
 //! `pgsess replay`: one client's bytes in, its replies out.
-ghost use Rattle.std.specs.Prelude.{◌≡◌, ◌<◌, ◌≤◌, ◌++◌, ◌∷◌, [], length, drop, OnOk, OnErr, IfOk, IfSome, false};
+ghost use Rattle.std.specs.Prelude.{◌≡◌, ◌⊎◌, ◌<◌, ◌≤◌, ◌++◌, ◌∷◌, [], length, drop, OnOk, OnErr, IfErr, IfOk, IfSome, false};
 ghost use Rattle.std.specs.Io.KnownBytes.{Appends};
 ghost use Rattle.frame_view.specs.Frames.{Faulty, frames};
 ghost use Rattle.frame_view.specs.declared.Side.TheVariants.{Client};
@@ -7,7 +7,8 @@ ghost use Rattle.message_view.specs.Refusals.{refusal};
 ghost use Rattle.login_core.specs.Dialogue.{AtFirst, ToLink, ok};
 ghost use Rattle.login_core.specs.Logins.{Hears, after, goes_on, login_view, missing};
 ghost use Rattle.login_core.specs.Talk.End.{Passed};
-ghost use Rattle.pool_app.specs.Replay.{ending, refused_front, replied, replies, standing_settings, standing_users, standing_word};
+ghost use Rattle.pool_app.specs.declared.fault.AppFault.TheVariants as told;
+ghost use Rattle.pool_app.specs.Replay.{IsLeft, ending, refused_front, replied, replies, standing_settings, standing_users, standing_word};
 ghost use Rattle.pool_app.specs.Told.{IsPastArrival, Says, WantsMemory, is_end, refused_by, silence};
 
 use crate::fault::AppFault;
@@ -177,7 +178,9 @@ pub fn replies(alloc: Global, bytes: &[u8]) -> Result<BytesMut, AllocError>
 }
 
 /// The fault of standard input.
-fn unread<'a>(fault: ReadFault) -> AppFault<'a> {
+fn unread<'a>(fault: ReadFault) -> AppFault<'a>
+    ensures { (result ≡ told.Stdin) ⊎ (result ≡ told.Memory) }
+{
     match fault {
         ReadFault::Io(error) if error.kind() == ErrorKind::OutOfMemory => AppFault::Memory,
         _ => AppFault::Stdin,
@@ -192,7 +195,8 @@ pub fn replay<'a, R: Read + Drop, W: Write>(
     input: R,
     output: &mut W,
 ) -> Result<(), AppFault<'a>>
-    ensures { OnOk result (IfSome (R.remaining input) (λ xs. Appends (W.contents output.old) (W.contents output.new) (replies xs))) }
+    ensures replies { OnOk result (IfSome (R.remaining input) (λ xs. Appends (W.contents output.old) (W.contents output.new) (replies xs))) }
+    ensures left { IfErr result (λ fault. IsLeft output.old output.new fault) }
 {
     let bytes = match read_all(alloc, input, MOST_BYTES) {
         Ok(bytes) => bytes,
