@@ -1,3 +1,4 @@
 pub mod Refusing
 pub mod StandingText
 pub mod Replaying
+pub mod Taken

@@ -196,6 +196,7 @@ pub fn replay<'a, R: Read + Drop, W: Write>(
     output: &mut W,
 ) -> Result<(), AppFault<'a>>
     ensures replies { OnOk result (IfSome (R.remaining input) (λ xs. Appends (W.contents output.old) (W.contents output.new) (replies xs))) }
+    ensures bound { IfOk result (λ _. IfSome (R.remaining input) (λ xs. length xs ≤ 16777216)) }
     ensures left { IfErr result (λ fault. IsLeft output.old output.new fault) }
 {
     let bytes = match read_all(alloc, input, MOST_BYTES) {
