@@ -69,11 +69,11 @@ IsJobOf sub (Stub port catalogue) =
 abbrev pub Lacks : Text → Named → Type 0
 Lacks id sub = option_of id sub ≡ None
 
--- the text is no number that a port can be
+-- the text is no number below 65,536
 abbrev pub IsNoPort : Text → Type 0
 IsNoPort text = IsNumeral 10 (without_leading_plus text) × (digits_value 10 (without_leading_plus text) < 65536) → ⊥
 
--- neither a subcommand that is a job, nor one with all of its options
+-- no subcommand that is a job is named with all of its options and a port that can be read
 abbrev pub NamesNone : Named → Type 0
 NamesNone sub =
     (name_of sub ≢ Some (codes "replay"))
