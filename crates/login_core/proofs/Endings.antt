@@ -4,7 +4,7 @@ use Rattle.std.specs.Prelude.{if◌then◌else◌, bytes_eq, codes}
 use Rattle.ini_config.specs.declared.database_rows.DbRow.{DbRow}
 use Rattle.message_view.specs.declared.KeyWord.{KeyWord}
 use Rattle.message_view.specs.declared.ViewFault.{ViewFault}
-use Rattle.session_machine.specs.State.{StartKeyOf}
+use Rattle.session_values.specs.State.{StartKeyOf}
 use Rattle.param_track.specs.StartKeys.{Text}
 use Rattle.login_core.specs.Talk.Reaction.{Goes, Passes, Stops}
 use Rattle.login_core.specs.Dialogue.{LoginRow, Reacts, Left, judged, is_right, is_admin, admitted, to_console, to_database, to_password, malformed, wrong}

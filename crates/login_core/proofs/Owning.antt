@@ -10,7 +10,7 @@ use Rattle.message_view.specs.declared.KeyWord.{KeyWord}
 use Rattle.message_view.specs.declared.ViewFault.{ViewFault}
 use Rattle.message_view.specs.declared.refusal.Refusal.{Refusal}
 use Rattle.message_view.specs.Reading.{startup_of, password_of}
-use Rattle.session_machine.specs.State.{StartKeyOf}
+use Rattle.session_values.specs.State.{StartKeyOf}
 use Rattle.param_track.specs.declared.StartFault.{StartFault}
 use Rattle.param_track.specs.StartKeys.{Text, Pair, Names, database_in, user_in, key_at, unless, refusal, parameters_in}
 use Rattle.login_core.specs.Talk.{Cut, says, talk, follow, hears}

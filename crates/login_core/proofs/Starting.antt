@@ -7,7 +7,7 @@ use Rattle.message_view.specs.declared.ViewFault.{ViewFault}
 use Rattle.message_view.specs.Reading.{startup_of}
 use Rattle.ini_config.specs.declared.option_values.Settings.{Settings}
 use Rattle.user_file.specs.declared.user_table.UserRow.{UserRow}
-use Rattle.session_machine.specs.State.{StartKeyOf}
+use Rattle.session_values.specs.State.{StartKeyOf}
 use Rattle.param_track.specs.declared.StartFault.{StartFault}
 use Rattle.param_track.specs.declared.StartFault.TheVariants.{NoUser, UnsupportedParameter, Replication, Memory}
 use Rattle.param_track.specs.StartKeys.{Pair, Answers, start_key_under}

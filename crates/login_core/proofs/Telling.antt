@@ -5,8 +5,8 @@ use Rattle.frame_view.specs.Frames.{FrameOf, spelling}
 use Rattle.message_view.specs.declared.KeyWord.{KeyWord}
 use Rattle.message_view.specs.Refusals.{joined_pieces}
 use Rattle.std.specs.Prelude.{map}
-use Rattle.session_machine.specs.State.{fresh}
-use Rattle.session_machine.specs.Service.{service, served, client_frames}
+use Rattle.session_values.specs.State.{fresh}
+use Rattle.session_values.specs.Service.{service, served, client_frames}
 use Rattle.login_core.specs.declared.steps.LoginStep.{LoginStep}
 use Rattle.login_core.specs.Talk.{says}
 use Rattle.login_core.specs.Dialogue.{row_in, login_among}

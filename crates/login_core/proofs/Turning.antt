@@ -10,7 +10,7 @@ use Rattle.message_view.specs.declared.ViewFault.{ViewFault}
 use Rattle.message_view.specs.declared.refusal.Refusal.{Refusal}
 use Rattle.message_view.specs.declared.refusal.Refusal.TheVariants.{MalformedClientMessage}
 use Rattle.message_view.specs.Reading.{startup_of, password_of}
-use Rattle.session_machine.specs.State.{StartKeyOf}
+use Rattle.session_values.specs.State.{StartKeyOf}
 use Rattle.param_track.specs.StartKeys.{Text}
 use Rattle.login_core.specs.declared.steps.Question.TheVariants as question
 use Rattle.login_core.specs.declared.steps.LoginStep.{LoginStep}

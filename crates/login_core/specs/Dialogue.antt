@@ -21,7 +21,7 @@ use Rattle.ini_config.specs.Tables.{row_named}
 use Rattle.user_file.specs.declared.user_table.UserRow.{UserRow}
 use Rattle.user_file.specs.Secrets.{accepts_plain, accepts_md5}
 use Rattle.user_file.specs.Users.{user_named}
-use Rattle.session_machine.specs.State.{StartKeyOf}
+use Rattle.session_values.specs.State.{StartKeyOf}
 use Rattle.param_track.specs.declared.StartFault.{StartFault}
 use Rattle.param_track.specs.declared.StartFault.TheVariants.{NoUser, UnsupportedParameter as Unsupported, Replication, Memory}
 use Rattle.param_track.specs.StartKeys.{Text, Pair, Names, names_of, database_in, user_in, start_key}

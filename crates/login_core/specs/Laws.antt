@@ -7,8 +7,8 @@ use Rattle.message_view.specs.declared.KeyWord.{KeyWord}
 use Rattle.message_view.specs.declared.ViewFault.{ViewFault}
 use Rattle.message_view.specs.Reading.{startup_of}
 use Rattle.message_view.specs.Refusals.{joined_pieces}
-use Rattle.session_machine.specs.State.{CatalogueOf, StartKeyOf}
-use Rattle.session_machine.specs.Service.{service}
+use Rattle.session_values.specs.State.{CatalogueOf, StartKeyOf}
+use Rattle.session_values.specs.Service.{service}
 use Rattle.param_track.specs.StartKeys.{Text, Pair, database_in, user_in}
 use Rattle.login_core.specs.declared.steps.LoginStep.{LoginStep}
 use Rattle.login_core.specs.declared.steps.LoginStep.TheVariants as step

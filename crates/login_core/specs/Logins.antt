@@ -9,7 +9,7 @@ use Rattle.message_view.specs.declared.refusal.Refusal.TheVariants.{OutOfMemory}
 use Rattle.message_view.specs.Reading.{startup_of}
 use Rattle.ini_config.specs.declared.option_values.Settings.{Settings}
 use Rattle.user_file.specs.declared.user_table.UserRow.{UserRow}
-use Rattle.session_machine.specs.State.{StartKeyOf}
+use Rattle.session_values.specs.State.{StartKeyOf}
 use Rattle.login_core.specs.declared.steps.Question.{Question}
 use Rattle.login_core.specs.declared.steps.Question.TheVariants as question
 use Rattle.login_core.specs.declared.steps.Failure.{Failure}

@@ -2,8 +2,8 @@
 use Rattle.std.specs.Prelude.{ℕ, List, [], ◌++◌, map}
 use Rattle.frame_view.specs.Frames.{spelling}
 use Rattle.message_view.specs.declared.KeyWord.{KeyWord}
-use Rattle.session_machine.specs.State.{CatalogueOf, StartKeyOf, fresh}
-use Rattle.session_machine.specs.Service.{client_frames, served}
+use Rattle.session_values.specs.State.{CatalogueOf, StartKeyOf, fresh}
+use Rattle.session_values.specs.Service.{client_frames, served}
 use Rattle.login_core.specs.Talk.{End}
 use Rattle.login_core.specs.Talk.End.{Unfinished, Passed, Stopped}
 use Rattle.login_core.specs.Dialogue.{LoginRow, Way, ToLink, ToConsole, Reason, login}

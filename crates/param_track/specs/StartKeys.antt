@@ -9,7 +9,7 @@ use Rattle.ini_config.specs.declared.database_rows.DbRow.{DbRow}
 use Rattle.ini_config.specs.declared.option_values.Settings.{Settings}
 use Rattle.ini_config.specs.OptionValues.{has_folded}
 use Rattle.ini_config.specs.Tables.{row_named}
-use Rattle.session_machine.specs.State.{StartKeyOf}
+use Rattle.session_values.specs.State.{StartKeyOf}
 use Rattle.param_track.specs.declared.StartFault.{StartFault}
 use Rattle.param_track.specs.declared.StartFault.TheVariants.{NoUser, UnsupportedParameter, Replication as Replicates, Memory}
 use Rattle.param_track.specs.declared.uses.Use.{Use}

@@ -6,8 +6,8 @@ use Rattle.std.proofs.lemmas.Bool.{eqb-true}
 use Rattle.std.specs.Prelude.{◌==◌}
 use Rattle.frame_view.specs.Frames.{frames}
 use Rattle.frame_view.specs.declared.Side.TheVariants.{Client}
-use Rattle.session_machine.specs.State.{CatalogueOf, StartKeyOf}
-use Rattle.session_machine.specs.Service.{service}
+use Rattle.session_values.specs.State.{CatalogueOf, StartKeyOf}
+use Rattle.session_values.specs.Service.{service}
 use Rattle.login_core.specs.Talk.{Cut, hears, talk}
 use Rattle.login_core.specs.Talk.Cut.{Whole, Need, Bad}
 use Rattle.login_core.specs.declared.steps.LoginStep.{LoginStep}

@@ -3,8 +3,8 @@ use Rattle.std.specs.Prelude.{◌≡◌, ◌≢◌, ◌<◌, ℕ, List, length, 
 use Rattle.std.specs.Borrow.{Bor}
 use Rattle.ini_config.specs.Reading as ini
 use Rattle.ini_config.specs.declared.option_values.Settings.{Settings}
-use Rattle.session_machine.specs.Catalogues as catalogue
-use Rattle.session_machine.specs.State.{CatalogueOf}
+use Rattle.server_catalogue.specs.Catalogues as catalogue
+use Rattle.session_values.specs.State.{CatalogueOf}
 use Rattle.user_file.specs.Users as users
 use Rattle.user_file.specs.declared.user_table.UserRow.{UserRow}
 use Rattle.pool_app.specs.declared.files.ReadFault.{ReadFault}

@@ -1,5 +1,5 @@
 -- A session keeps its defaults, and DISCARD ALL makes it fresh again.
-use Rattle.session_machine.specs.State.{started_over}
+use Rattle.session_values.specs.State.{started_over}
 use Rattle.std.proofs.Common.{◌≡◌, ℕ, List, [], ◌∷◌, ◌++◌, Result, Ok, Err, refl, sym, ap, ◌∙◌, Bool, true, false}
 use Rattle.std.specs.Prelude.{if◌then◌else◌, codes}
 use Rattle.frame_view.specs.Frames.{FrameOf}
@@ -7,14 +7,14 @@ use Rattle.message_view.specs.declared.ViewFault.{ViewFault}
 use Rattle.message_view.specs.Messages.{command_complete, ready_for_query}
 use Rattle.message_view.specs.Reading.{query_of, parse_of, bind_of, target_of, execute_of}
 use Rattle.mini_sql.specs.Words.{Text}
-use Rattle.session_machine.specs.declared.block.Block.{Block}
-use Rattle.session_machine.specs.declared.block.Block.TheVariants.{Outside, Inside, Failed}
-use Rattle.session_machine.specs.declared.cause.Cause.{Cause}
-use Rattle.session_machine.specs.declared.cause.Cause.TheVariants.{MalformedMessage, NotSupported, NoDatabase}
-use Rattle.session_machine.specs.Parameters.{Values, reported_parameters, defaults}
-use Rattle.session_machine.specs.State.{State, CatalogueOf, StartKeyOf, Answer, answers, bound, set_all, begun, started, fresh, has_text, commit_outside, reports_from}
-use Rattle.session_machine.specs.Extended.{settle}
-use Rattle.session_machine.specs.Step.{Asked, Terminate, Sync, Query, FunctionCall, ParseMessage, BindMessage, Describe, Close, Execute, Password, Nothing, asked, answer_to, answer_skipping, step, step_query, end_query, saved, without_unnamed, reading_body, query}
+use Rattle.session_values.specs.declared.block.Block.{Block}
+use Rattle.session_values.specs.declared.block.Block.TheVariants.{Outside, Inside, Failed}
+use Rattle.session_values.specs.declared.cause.Cause.{Cause}
+use Rattle.session_values.specs.declared.cause.Cause.TheVariants.{MalformedMessage, NotSupported, NoDatabase}
+use Rattle.session_values.specs.Parameters.{Values, reported_parameters, defaults}
+use Rattle.session_values.specs.State.{State, CatalogueOf, StartKeyOf, Answer, answers, bound, set_all, begun, started, fresh, has_text, commit_outside, reports_from}
+use Rattle.session_values.specs.Extended.{settle}
+use Rattle.session_values.specs.Step.{Asked, Terminate, Sync, Query, FunctionCall, ParseMessage, BindMessage, Describe, Close, Execute, Password, Nothing, asked, answer_to, answer_skipping, step, step_query, end_query, saved, without_unnamed, reading_body, query}
 use Rattle.session_laws.specs.Laws.{discard_all, discard_replies, IsAtRest, HasKey}
 use Rattle.session_laws.proofs.ReadyLast.{AllFine, bound-fine, query-fine, parse-fine, bind-fine, describe-fine, close-fine, execute-fine, save-same, roll_back-same}
 use Rattle.session_laws.proofs.Bodies.{read-discard_all}

@@ -1,8 +1,8 @@
 -- A list of frames is answered frame by frame.
 use Rattle.std.proofs.Common.{◌≡◌, List, [], ◌∷◌, ◌++◌, refl, sym, ap, ◌∙◌, append_assoc}
 use Rattle.frame_view.specs.Frames.{FrameOf}
-use Rattle.session_machine.specs.State.{State, CatalogueOf, Answer, and_then}
-use Rattle.session_machine.specs.Step.{step, run_frames}
+use Rattle.session_values.specs.State.{State, CatalogueOf, Answer, and_then}
+use Rattle.session_values.specs.Step.{step, run_frames}
 
 -- these replies before an answer
 abbrev before : List FrameOf → Answer → Answer

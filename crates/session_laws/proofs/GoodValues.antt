@@ -1,20 +1,20 @@
 -- The values of parameters: none has a zero byte, and each is short enough for the messages that carry it.
-use Rattle.session_machine.specs.State.{started_over}
+use Rattle.session_values.specs.State.{started_over}
 use Rattle.std.proofs.Common.{◌≡◌, ℕ, ◌≤◌, List, [], ◌∷◌, length, filter, find, get_or, Option, Some, None, Result, Ok, Err, refl, Bool, true, false, cond, ◌&&◌, arith, leb-true, subst}
 use Rattle.std.specs.Prelude.{nat_le, option_map, if◌then◌else◌, nat_lt}
 use Rattle.std.specs.List.{AllByRecursion, AllZip, list_all}
 use Rattle.message_view.specs.Bodies.{HasNoZero}
 use Rattle.mini_sql.specs.Words.{Text, folded}
-use Rattle.session_machine.specs.declared.parameter.Parameter.{Parameter}
-use Rattle.session_machine.specs.declared.parameter.Parameter.TheVariants.{ApplicationName, ClientEncoding, DateStyle, IntegerDatetimes, IntervalStyle, ServerEncoding, ServerVersion, StandardConformingStrings, TimeZone, ExtraFloatDigits, SearchPath, StatementTimeout}
-use Rattle.session_machine.specs.declared.cause.Cause.{Cause}
-use Rattle.session_machine.specs.declared.cause.Cause.TheVariants.{NoDatabase, FixedParameter}
-use Rattle.session_machine.specs.Parameters.{Values, reported_parameters, parameters, parameter_named, is_fixed, default, defaults, value_of, with_value, place, kept_for, is_word, is_letter_or_digit, encodings, date_styles, interval_styles, switches, when, is_zone, is_in_zone, is_whole, accepted_of}
-use Rattle.session_machine.specs.State.{State, CatalogueOf, StartKeyOf, reported_of, kept, new_value, set_value, set_found, set_parameter, bound, set_all, begun, started, fresh, has_text}
-use Rattle.session_machine.specs.Runs.{reset_from}
-use Rattle.session_machine.specs.Lawful.{IsShort}
+use Rattle.session_values.specs.declared.parameter.Parameter.{Parameter}
+use Rattle.session_values.specs.declared.parameter.Parameter.TheVariants.{ApplicationName, ClientEncoding, DateStyle, IntegerDatetimes, IntervalStyle, ServerEncoding, ServerVersion, StandardConformingStrings, TimeZone, ExtraFloatDigits, SearchPath, StatementTimeout}
+use Rattle.session_values.specs.declared.cause.Cause.{Cause}
+use Rattle.session_values.specs.declared.cause.Cause.TheVariants.{NoDatabase, FixedParameter}
+use Rattle.session_values.specs.Parameters.{Values, reported_parameters, parameters, parameter_named, is_fixed, default, defaults, value_of, with_value, place, kept_for, is_word, is_letter_or_digit, encodings, date_styles, interval_styles, switches, when, is_zone, is_in_zone, is_whole, accepted_of}
+use Rattle.session_values.specs.State.{State, CatalogueOf, StartKeyOf, reported_of, kept, new_value, set_value, set_found, set_parameter, bound, set_all, begun, started, fresh, has_text}
+use Rattle.session_values.specs.Runs.{reset_from}
+use Rattle.session_values.specs.Lawful.{IsShort}
 use Rattle.session_laws.proofs.Freshness.{ok-inj}
-use Rattle.session_machine.proofs.Alls.{OfSome, plain-text, all-as, list_all-each, zip-set, zip-get, zip-take, and-first, and-second}
+use Rattle.session_values.proofs.Alls.{OfSome, plain-text, all-as, list_all-each, zip-set, zip-get, zip-take, and-first, and-second}
 
 -- 63 bytes for a reported one, else what a DataRow has room for
 abbrev pub longest : Parameter → ℕ

@@ -8,20 +8,20 @@ use Rattle.message_view.specs.Messages.{data_row, command_complete}
 use Rattle.mini_sql.specs.Words.{Text}
 use Rattle.mini_sql.specs.Statements as st
 use Rattle.mini_sql.specs.Statements.{Statement, Equals, Operand, statement, parameters_of}
-use Rattle.session_machine.specs.declared.block.Block.{Block}
-use Rattle.session_machine.specs.declared.block.Block.TheVariants.{Outside, Inside, Failed}
-use Rattle.session_machine.specs.declared.parameter.Parameter.{Parameter}
-use Rattle.session_machine.specs.declared.parameter.Parameter.TheVariants.{ApplicationName, ClientEncoding, DateStyle, IntegerDatetimes, IntervalStyle, ServerEncoding, ServerVersion, StandardConformingStrings, TimeZone, ExtraFloatDigits, SearchPath, StatementTimeout}
-use Rattle.session_machine.specs.declared.cause.Cause.{Cause}
-use Rattle.session_machine.specs.declared.cause.Cause.TheVariants.{NoTable, NoColumn, Syntax, Aborted}
-use Rattle.session_machine.specs.Parameters.{Values, name, parameter_named, value_of}
-use Rattle.session_machine.specs.Named.{named, is_named}
-use Rattle.session_machine.specs.State.{State, CatalogueOf, TableOf, table_name, Row, Answer, bound}
-use Rattle.session_machine.specs.Lookups.{Columns, look_up, found, or_else, readable, to_read, shown, selected, has_all, has_filter, look_up_select, look_up_insert, to_change}
-use Rattle.session_machine.specs.Runs.{Ran, rows_of, rows_from, picked, column_of, cell, cell_at, meets, shown_rows, table_rows, row_tag, end_of, or_null, condition_of, places_of}
-use Rattle.session_machine.specs.Extended.{usable, reading, let_through, may_end_block}
-use Rattle.session_machine.specs.Lawful.{IsShort, IsValue}
-use Rattle.session_machine.proofs.Alls.{OfSome, all-each, all-append, all-map, all-filter, all-find}
+use Rattle.session_values.specs.declared.block.Block.{Block}
+use Rattle.session_values.specs.declared.block.Block.TheVariants.{Outside, Inside, Failed}
+use Rattle.session_values.specs.declared.parameter.Parameter.{Parameter}
+use Rattle.session_values.specs.declared.parameter.Parameter.TheVariants.{ApplicationName, ClientEncoding, DateStyle, IntegerDatetimes, IntervalStyle, ServerEncoding, ServerVersion, StandardConformingStrings, TimeZone, ExtraFloatDigits, SearchPath, StatementTimeout}
+use Rattle.session_values.specs.declared.cause.Cause.{Cause}
+use Rattle.session_values.specs.declared.cause.Cause.TheVariants.{NoTable, NoColumn, Syntax, Aborted}
+use Rattle.session_values.specs.Parameters.{Values, name, parameter_named, value_of}
+use Rattle.session_values.specs.Named.{named, is_named}
+use Rattle.session_values.specs.State.{State, CatalogueOf, TableOf, table_name, Row, Answer, bound}
+use Rattle.session_values.specs.Lookups.{Columns, look_up, found, or_else, readable, to_read, shown, selected, has_all, has_filter, look_up_select, look_up_insert, to_change}
+use Rattle.session_values.specs.Runs.{Ran, rows_of, rows_from, picked, column_of, cell, cell_at, meets, shown_rows, table_rows, row_tag, end_of, or_null, condition_of, places_of}
+use Rattle.session_values.specs.Extended.{usable, reading, let_through, may_end_block}
+use Rattle.session_values.specs.Lawful.{IsShort, IsValue}
+use Rattle.session_values.proofs.Alls.{OfSome, all-each, all-append, all-map, all-filter, all-find}
 use Rattle.session_laws.proofs.GoodValues.{AreSettings, AreReported, OfOk, longest, value-setting}
 use Rattle.session_laws.proofs.Spelled.{IsSpelled, spelled, longer-some}
 use Rattle.session_laws.proofs.Lawful.{IsPlain, IsSendable, row-plain, IsRow, IsTable, IsSource, IsPrepared, IsPortal, IsSaved, Lawful, row-sendable, one-sendable, AreColumns, tag-plain, decimal-length}

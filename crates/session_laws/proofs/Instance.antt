@@ -1,18 +1,18 @@
 -- The premises of the laws about reached sessions are met: a session that began fresh from a lawful
 -- catalogue and key, and was sent two frames.
-use Rattle.session_machine.specs.State.{started_over}
+use Rattle.session_values.specs.State.{started_over}
 use Rattle.std.proofs.Common.{◌≡◌, ℕ, ◌<◌, ◌≤◌, length, length-append, List, [], ◌∷◌, Some, None, Ok, true, refl, ltb-true, arith}
 use Rattle.std.specs.Prelude.{codes, nat_lt}
 use Rattle.std.specs.List.{AllByRecursion, list_all}
 use Rattle.frame_view.specs.Frames.{FrameOf}
 use Rattle.message_view.specs.Messages.{query}
 use Rattle.mini_sql.specs.Words.{Text}
-use Rattle.session_machine.specs.Parameters.{accepted_of}
-use Rattle.session_machine.specs.State.{State, CatalogueOf, StartKeyOf, TableOf, fresh, begun}
-use Rattle.session_machine.specs.Step.{run_frames}
-use Rattle.session_machine.specs.Lawful.{IsLawfulTable}
+use Rattle.session_values.specs.Parameters.{accepted_of}
+use Rattle.session_values.specs.State.{State, CatalogueOf, StartKeyOf, TableOf, fresh, begun}
+use Rattle.session_values.specs.Step.{run_frames}
+use Rattle.session_values.specs.Lawful.{IsLawfulTable}
 use Rattle.session_laws.specs.Laws.{AreBytes, IsSent, Reaches}
-use Rattle.session_machine.proofs.Alls.{plain-text, all-as, list_all-each}
+use Rattle.session_values.proofs.Alls.{plain-text, all-as, list_all-each}
 
 abbrev city : TableOf
 city = record { name = codes "city"; columns = codes "name" ∷ codes "country" ∷ []; rows = (Some (codes "Bern") ∷ Some (codes "CH") ∷ []) ∷ (Some (codes "Nuuk") ∷ None ∷ []) ∷ [] }

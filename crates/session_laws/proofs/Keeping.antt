@@ -1,6 +1,6 @@
 -- Every handler keeps a lawful session lawful, and its reported values as they are; it replies plain frames.
 use Rattle.std.proofs.Common.{length-append}
-use Rattle.session_machine.specs.declared.cause.Cause.TheVariants.{Aborted}
+use Rattle.session_values.specs.declared.cause.Cause.TheVariants.{Aborted}
 use Rattle.std.proofs.Common.{◌≡◌, ℕ, zero, suc, ◌≤◌, List, [], ◌∷◌, ◌++◌, length, take, drop, map, Option, Some, None, Result, Ok, Err, refl, ap, ◌∙◌, Bool, true, false, ◌&&◌, arith, leb-true}
 use Rattle.std.specs.Prelude.{not, nat_le, nat_lt, if◌then◌else◌, codes}
 use Rattle.std.specs.List.{AllByRecursion, position_from}
@@ -10,22 +10,22 @@ use Rattle.message_view.specs.Messages.{command_complete, portal_suspended}
 use Rattle.mini_sql.specs.Words.{Text, same_text}
 use Rattle.mini_sql.specs.Statements as st
 use Rattle.mini_sql.specs.Statements.{Statement, Equals, Operand, statement, parameters_of}
-use Rattle.session_machine.specs.declared.block.Block.{Block}
-use Rattle.session_machine.specs.declared.block.Block.TheVariants.{Outside, Inside, Failed}
-use Rattle.session_machine.specs.declared.cause.Cause.{Cause}
-use Rattle.session_machine.specs.declared.cause.Cause.TheVariants.{NoPlaceholder, PortalExists, StatementExists, NoStatement, NoPortal, MalformedMessage, ColumnTwice, InvalidValue}
-use Rattle.session_machine.specs.Parameters.{Values, parameters}
-use Rattle.session_machine.specs.Errors.{already_in_transaction, no_transaction}
-use Rattle.session_machine.specs.Named.{named, without, is_named, is_other, set_at}
-use Rattle.session_machine.specs.State.{State, CatalogueOf, TableOf, table_name, Row, SavedOf, PreparedOf, prepared_name, portal_name, PortalOf, ProgressOf, NotRun, Remaining, Finished, Answer, answers, bound, set_parameter, roll_back, roll_back_to, commit}
-use Rattle.session_machine.specs.Lookups.{Columns, look_up, found}
-use Rattle.session_machine.specs.Runs.{Ran, ran, run, begin_run, commit_run, rollback_run, discard_run, create_run, insert_run, set_run, reset_from, rows_of, row_tag, end_of, are_distinct, fits, all_fit, padded, with_row, operand_value, with_table, insert_into}
-use Rattle.session_machine.specs.Extended.{values_fault, unless_some, parse, bind, bindable, prepared_of, with_statement, without_statement, portal_to, with_portal, orphaned, describe, described, is_describable, is_result_count, parameter_count, oid_at, oids_of, Described, close, is_of_other, execute, execute_on, execute_first, execute_rows, execute_ran, sent_rows, progressed, at_progress, description, formats_of, is_limit, usable, reading, unless, is_taken, is_there}
-use Rattle.session_machine.specs.Lawful.{IsShort, IsValue}
-use Rattle.session_machine.proofs.Alls.{OfSome, all-append, all-map, all-filter, all-find, all-set, all-take, all-drop, and-first, and-second}
+use Rattle.session_values.specs.declared.block.Block.{Block}
+use Rattle.session_values.specs.declared.block.Block.TheVariants.{Outside, Inside, Failed}
+use Rattle.session_values.specs.declared.cause.Cause.{Cause}
+use Rattle.session_values.specs.declared.cause.Cause.TheVariants.{NoPlaceholder, PortalExists, StatementExists, NoStatement, NoPortal, MalformedMessage, ColumnTwice, InvalidValue}
+use Rattle.session_values.specs.Parameters.{Values, parameters}
+use Rattle.session_values.specs.Errors.{already_in_transaction, no_transaction}
+use Rattle.session_values.specs.Named.{named, without, is_named, is_other, set_at}
+use Rattle.session_values.specs.State.{State, CatalogueOf, TableOf, table_name, Row, SavedOf, PreparedOf, prepared_name, portal_name, PortalOf, ProgressOf, NotRun, Remaining, Finished, Answer, answers, bound, set_parameter, roll_back, roll_back_to, commit}
+use Rattle.session_values.specs.Lookups.{Columns, look_up, found}
+use Rattle.session_values.specs.Runs.{Ran, ran, run, begin_run, commit_run, rollback_run, discard_run, create_run, insert_run, set_run, reset_from, rows_of, row_tag, end_of, are_distinct, fits, all_fit, padded, with_row, operand_value, with_table, insert_into}
+use Rattle.session_values.specs.Extended.{values_fault, unless_some, parse, bind, bindable, prepared_of, with_statement, without_statement, portal_to, with_portal, orphaned, describe, described, is_describable, is_result_count, parameter_count, oid_at, oids_of, Described, close, is_of_other, execute, execute_on, execute_first, execute_rows, execute_ran, sent_rows, progressed, at_progress, description, formats_of, is_limit, usable, reading, unless, is_taken, is_there}
+use Rattle.session_values.specs.Lawful.{IsShort, IsValue}
+use Rattle.session_values.proofs.Alls.{OfSome, all-append, all-map, all-filter, all-find, all-set, all-take, all-drop, and-first, and-second}
 use Rattle.session_laws.proofs.GoodValues.{AreSettings, IsGiven, OfOk, set-settings, reset-settings}
 use Rattle.session_laws.proofs.Spelled.{few-parameters}
-use Rattle.session_machine.specs.Step.{query, query_with, query_ran, without_unnamed}
+use Rattle.session_values.specs.Step.{query, query_with, query_ran, without_unnamed}
 use Rattle.session_laws.proofs.Handling.{Kept, AllKept, RanKept, kept, made, bound-kept, Any, any, found-ok, IsRead, reading-read, usable-read, look_up-columns, rows-sendable, rows-plain, row_tag-plain}
 use Rattle.session_laws.proofs.Lawful.{IsPlain, IsSendable, IsRow, IsTable, IsSource, AreLeft, IsPrepared, IsPortal, IsSaved, Lawful, AreColumns, columns-plain, oids-plain, tag-plain}
 

@@ -8,9 +8,9 @@ use Rattle.frame_view.specs.Frames.{FrameOf}
 use Rattle.message_view.specs.Bodies.{HasNoZero, value, values, int32, text_columns, text_column, column}
 use Rattle.message_view.specs.Messages.{data_row, row_description, parameter_description, command_complete}
 use Rattle.mini_sql.specs.Words.{Text}
-use Rattle.session_machine.specs.State.{State, TableOf, Row, SavedOf, PreparedOf, PortalOf, ProgressOf, NotRun, Remaining, Finished}
-use Rattle.session_machine.specs.Lawful.{IsShort, IsValue, IsLawfulTable}
-use Rattle.session_machine.proofs.Alls.{all-as}
+use Rattle.session_values.specs.State.{State, TableOf, Row, SavedOf, PreparedOf, PortalOf, ProgressOf, NotRun, Remaining, Finished}
+use Rattle.session_values.specs.Lawful.{IsShort, IsValue, IsLawfulTable}
+use Rattle.session_values.proofs.Alls.{all-as}
 use Rattle.session_laws.proofs.GoodValues.{AreSettings, AreReported}
 
 -- ---- replies

@@ -7,7 +7,7 @@ use Rattle.message_view.specs.Bodies.{HasNoZero}
 use Rattle.mini_sql.specs.Words.{Text, is_digit, is_white, starts_name, is_in_name}
 use Rattle.mini_sql.specs.Tokens.{Token, Name, Literal, Digits, Parameter, Sign, quote, further, literal_length, unquoted, literal_token, name_token, digits_token, parameter_token, is_sign_byte, token_at, after_token, token_then, tokens_after, tokens}
 use Rattle.mini_sql.specs.Statements.{is_last_semicolon, without_semicolon, less_semicolon, phrase}
-use Rattle.session_machine.proofs.Alls.{OfSome, plain-text, all-append, all-take, and-second}
+use Rattle.session_values.proofs.Alls.{OfSome, plain-text, all-append, all-take, and-second}
 
 -- at most as many bytes as the token takes
 abbrev pub size : Token → ℕ

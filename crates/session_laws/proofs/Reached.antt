@@ -10,19 +10,19 @@ use Rattle.message_view.specs.Bodies.{Parse}
 use Rattle.message_view.specs.Messages.{ready_for_query, backend_key_data}
 use Rattle.message_view.specs.Reading.{query_of, parse_of, bind_of, target_of, execute_of}
 use Rattle.mini_sql.specs.Words.{Text}
-use Rattle.session_machine.specs.declared.block.Block.{Block}
-use Rattle.session_machine.specs.declared.block.Block.TheVariants.{Outside, Inside, Failed}
-use Rattle.session_machine.specs.declared.cause.Cause.{Cause}
-use Rattle.session_machine.specs.declared.cause.Cause.TheVariants.{MalformedMessage, NotSupported, InvalidValue, InTransaction, Aborted, NoStatement, NoPortal, NoDatabase, Syntax, ColumnTwice, NoColumn, NoParameter, NoTable, NoPlaceholder, PortalExists, StatementExists, TableExists, PortalIsDone, FixedParameter}
-use Rattle.session_machine.specs.Parameters.{Values}
-use Rattle.session_machine.specs.Errors.{error}
-use Rattle.session_machine.specs.State.{State, CatalogueOf, StartKeyOf, SavedOf, Answer, answers, bound, begun, failed, commit_outside, save, save_unless, reports, reported_of, reported_now, status, all_reports}
-use Rattle.session_machine.specs.Extended.{settle}
-use Rattle.session_machine.specs.Step.{Asked, Terminate, Sync, Query, FunctionCall, ParseMessage, BindMessage, Describe, Close, Execute, Password, Nothing, asked, answer_to, answer_skipping, step, run_frames, step_query, end_query, silent, sync, saved, reading_body, query, without_unnamed}
-use Rattle.session_machine.specs.Service.{welcome}
-use Rattle.session_machine.specs.Lawful.{IsLawfulCatalogue}
+use Rattle.session_values.specs.declared.block.Block.{Block}
+use Rattle.session_values.specs.declared.block.Block.TheVariants.{Outside, Inside, Failed}
+use Rattle.session_values.specs.declared.cause.Cause.{Cause}
+use Rattle.session_values.specs.declared.cause.Cause.TheVariants.{MalformedMessage, NotSupported, InvalidValue, InTransaction, Aborted, NoStatement, NoPortal, NoDatabase, Syntax, ColumnTwice, NoColumn, NoParameter, NoTable, NoPlaceholder, PortalExists, StatementExists, TableExists, PortalIsDone, FixedParameter}
+use Rattle.session_values.specs.Parameters.{Values}
+use Rattle.session_values.specs.Errors.{error}
+use Rattle.session_values.specs.State.{State, CatalogueOf, StartKeyOf, SavedOf, Answer, answers, bound, begun, failed, commit_outside, save, save_unless, reports, reported_of, reported_now, status, all_reports}
+use Rattle.session_values.specs.Extended.{settle}
+use Rattle.session_values.specs.Step.{Asked, Terminate, Sync, Query, FunctionCall, ParseMessage, BindMessage, Describe, Close, Execute, Password, Nothing, asked, answer_to, answer_skipping, step, run_frames, step_query, end_query, silent, sync, saved, reading_body, query, without_unnamed}
+use Rattle.session_values.specs.Service.{welcome}
+use Rattle.session_values.specs.Lawful.{IsLawfulCatalogue}
 use Rattle.session_laws.specs.Laws.{AreBytes, IsSent, Reaches, IsReport, IsReportIf, after_replies}
-use Rattle.session_machine.proofs.Alls.{all-as, all-append}
+use Rattle.session_values.proofs.Alls.{all-as, all-append}
 use Rattle.session_laws.proofs.Bodies.{QueryTold, query-told, ParseTold, parse-told}
 use Rattle.session_laws.proofs.Freshness.{fresh-begun}
 use Rattle.session_laws.proofs.GoodValues.{AreSettings, OfOk, reported-settings, fresh-settings}

@@ -10,19 +10,19 @@ use Rattle.message_view.specs.Reading.{query_of, parse_of, bind_of, target_of, e
 use Rattle.mini_sql.specs.Words.{Text, same_text}
 use Rattle.mini_sql.specs.Statements as st
 use Rattle.mini_sql.specs.Statements.{Statement}
-use Rattle.session_machine.specs.declared.block.Block.{Block}
-use Rattle.session_machine.specs.declared.block.Block.TheVariants.{Outside, Inside, Failed}
-use Rattle.session_machine.specs.declared.parameter.Parameter.{Parameter}
-use Rattle.session_machine.specs.declared.cause.Cause.{Cause}
-use Rattle.session_machine.specs.declared.cause.Cause.TheVariants.{NoStatement, NoPortal, MalformedMessage, NotSupported, ColumnTwice, InvalidValue}
-use Rattle.session_machine.specs.Parameters.{Values, reported_parameters, name}
-use Rattle.session_machine.specs.Errors.{error}
-use Rattle.session_machine.specs.Named.{named}
-use Rattle.session_machine.specs.State.{State, CatalogueOf, TableOf, table_name, Row, SavedOf, prepared_name, portal_name, PortalOf, ProgressOf, NotRun, Remaining, Finished, Answer, answers, bound, set_parameter, roll_back_to, failed, commit_outside, save, save_unless, ready, reports, report_of, reports_from, status}
-use Rattle.session_machine.specs.Lookups.{look_up, found}
-use Rattle.session_machine.specs.Runs.{Ran, ran, run, begin_run, commit_run, rollback_run, discard_run, create_run, insert_run, set_run, rows_of, row_tag, end_of, are_distinct, all_fit, operand_value, with_table, insert_into}
-use Rattle.session_machine.specs.Extended.{parse, bind, bindable, describe, described, describe_portal, is_result_count, close, execute, execute_on, execute_first, execute_rows, execute_ran, sent_rows, description, is_limit, usable, settle, Described}
-use Rattle.session_machine.specs.Step.{Asked, Terminate, Sync, Query, FunctionCall, ParseMessage, BindMessage, Describe, Close, Execute, Password, Nothing, asked, answer_to, answer_skipping, end_query, step, step_query, without_unnamed, sync, saved, reading_body, query_with, query_ran, query}
+use Rattle.session_values.specs.declared.block.Block.{Block}
+use Rattle.session_values.specs.declared.block.Block.TheVariants.{Outside, Inside, Failed}
+use Rattle.session_values.specs.declared.parameter.Parameter.{Parameter}
+use Rattle.session_values.specs.declared.cause.Cause.{Cause}
+use Rattle.session_values.specs.declared.cause.Cause.TheVariants.{NoStatement, NoPortal, MalformedMessage, NotSupported, ColumnTwice, InvalidValue}
+use Rattle.session_values.specs.Parameters.{Values, reported_parameters, name}
+use Rattle.session_values.specs.Errors.{error}
+use Rattle.session_values.specs.Named.{named}
+use Rattle.session_values.specs.State.{State, CatalogueOf, TableOf, table_name, Row, SavedOf, prepared_name, portal_name, PortalOf, ProgressOf, NotRun, Remaining, Finished, Answer, answers, bound, set_parameter, roll_back_to, failed, commit_outside, save, save_unless, ready, reports, report_of, reports_from, status}
+use Rattle.session_values.specs.Lookups.{look_up, found}
+use Rattle.session_values.specs.Runs.{Ran, ran, run, begin_run, commit_run, rollback_run, discard_run, create_run, insert_run, set_run, rows_of, row_tag, end_of, are_distinct, all_fit, operand_value, with_table, insert_into}
+use Rattle.session_values.specs.Extended.{parse, bind, bindable, describe, described, describe_portal, is_result_count, close, execute, execute_on, execute_first, execute_rows, execute_ran, sent_rows, description, is_limit, usable, settle, Described}
+use Rattle.session_values.specs.Step.{Asked, Terminate, Sync, Query, FunctionCall, ParseMessage, BindMessage, Describe, Close, Execute, Password, Nothing, asked, answer_to, answer_skipping, end_query, step, step_query, without_unnamed, sync, saved, reading_body, query_with, query_ran, query}
 use Rattle.session_laws.specs.Laws.{has_ready, is_closing, Ends, without_ready, with_ready}
 
 pub record Fine (s : State) (after : State) (sent : List FrameOf) : Type 0 where

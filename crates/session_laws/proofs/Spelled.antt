@@ -9,8 +9,8 @@ use Rattle.mini_sql.specs.Words.{Text, folded, same_word}
 use Rattle.mini_sql.specs.Statements as st
 use Rattle.mini_sql.specs.Tokens.{Token, Name, Literal, Digits, Parameter, Sign, comma, tokens_after, literal_length, unquoted}
 use Rattle.mini_sql.specs.Statements.{Statement, Operand, Null, statement, DiscardAll, Form, or_else, is_word, is_sign, name_of, column_of, setting_of, operand_of, operand_parameter, parameters_of, greatest, of_tokens, phrase, less_semicolon, read, ends, pass, take_value, either, with_item, items, definitions, columns_at, at_most_64, take_columns, take_operands, block, assignment, set, reset, show, discard, definition_list, create, drop_table, value_list, insert, where_of, end_of, from_of, select, fails, of_other, of_word}
-use Rattle.session_machine.specs.Lawful.{IsShort}
-use Rattle.session_machine.proofs.Alls.{OfSome}
+use Rattle.session_values.specs.Lawful.{IsShort}
+use Rattle.session_values.proofs.Alls.{OfSome}
 use Rattle.session_laws.proofs.Lexed.{size, sizes, IsToken, AreTokens, token-size, AreWithin, phrase-told}
 
 pub spells-discard_all : statement (codes "DISCARD ALL") ≡ Some DiscardAll

@@ -10,12 +10,12 @@ use Rattle.message_view.specs.Bodies.{HasNoZero, text, status_body}
 use Rattle.message_view.specs.Messages.{parameter_status}
 use Rattle.message_view.specs.Reading.{status_of}
 use Rattle.mini_sql.specs.Words.{Text, same_text}
-use Rattle.session_machine.specs.declared.parameter.Parameter.{Parameter}
-use Rattle.session_machine.specs.declared.parameter.Parameter.TheVariants.{ApplicationName, ClientEncoding, DateStyle, IntegerDatetimes, IntervalStyle, ServerEncoding, ServerVersion, StandardConformingStrings, TimeZone, ExtraFloatDigits, SearchPath, StatementTimeout}
-use Rattle.session_machine.specs.Parameters.{name, reported_parameters, unreported_parameters}
-use Rattle.session_machine.specs.State.{report_of, reports_from, all_reports_from, reported_of}
+use Rattle.session_values.specs.declared.parameter.Parameter.{Parameter}
+use Rattle.session_values.specs.declared.parameter.Parameter.TheVariants.{ApplicationName, ClientEncoding, DateStyle, IntegerDatetimes, IntervalStyle, ServerEncoding, ServerVersion, StandardConformingStrings, TimeZone, ExtraFloatDigits, SearchPath, StatementTimeout}
+use Rattle.session_values.specs.Parameters.{name, reported_parameters, unreported_parameters}
+use Rattle.session_values.specs.State.{report_of, reports_from, all_reports_from, reported_of}
 use Rattle.session_laws.specs.Laws.{IsReport, with_report, reported_by, after_reply, after_replies}
-use Rattle.session_machine.proofs.Alls.{all-append, plain-text, and-first, and-second}
+use Rattle.session_values.proofs.Alls.{all-append, plain-text, and-first, and-second}
 use Rattle.session_laws.proofs.Bodies.{read-status}
 use Rattle.session_laws.proofs.GoodValues.{IsSetting, AreSettings, AreReported, longest}
 use Rattle.session_laws.proofs.Handling.{name-short}

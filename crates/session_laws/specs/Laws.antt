@@ -8,16 +8,16 @@ use Rattle.message_view.specs.Bodies.{text, HasNoZero}
 use Rattle.message_view.specs.Messages.{command_complete, parameter_status, ready_for_query}
 use Rattle.message_view.specs.Reading.{status_of}
 use Rattle.mini_sql.specs.Words.{Text, same_text}
-use Rattle.session_machine.specs.declared.block.Block.{Block}
-use Rattle.session_machine.specs.declared.block.Block.TheVariants.{Outside}
-use Rattle.session_machine.specs.declared.parameter.Parameter.{Parameter}
-use Rattle.session_machine.specs.declared.cause.Cause.{Cause}
-use Rattle.session_machine.specs.Parameters.{reported_parameters, name}
-use Rattle.session_machine.specs.Errors.{fatal}
-use Rattle.session_machine.specs.Lawful.{IsShort, IsLawfulCatalogue}
-use Rattle.session_machine.specs.State.{State, CatalogueOf, StartKeyOf, answers, and_then, fresh, reports_from, reported_of, status}
-use Rattle.session_machine.specs.Step.{step, run_frames}
-use Rattle.session_machine.specs.Service.{welcome}
+use Rattle.session_values.specs.declared.block.Block.{Block}
+use Rattle.session_values.specs.declared.block.Block.TheVariants.{Outside}
+use Rattle.session_values.specs.declared.parameter.Parameter.{Parameter}
+use Rattle.session_values.specs.declared.cause.Cause.{Cause}
+use Rattle.session_values.specs.Parameters.{reported_parameters, name}
+use Rattle.session_values.specs.Errors.{fatal}
+use Rattle.session_values.specs.Lawful.{IsShort, IsLawfulCatalogue}
+use Rattle.session_values.specs.State.{State, CatalogueOf, StartKeyOf, answers, and_then, fresh, reports_from, reported_of, status}
+use Rattle.session_values.specs.Step.{step, run_frames}
+use Rattle.session_values.specs.Service.{welcome}
 
 -- ---- a list of frames is answered frame by frame
 

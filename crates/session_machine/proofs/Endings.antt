@@ -1,14 +1,15 @@
 -- An answer that goes on to reports and ReadyForQuery.
-use Rattle.std.proofs.Common.{◌≡◌, ℕ, List, [], ◌∷◌, ◌++◌, Result, Ok, Err, sym, ap, ◌∙◌, append_assoc, append-nil}
+use Rattle.std.proofs.Common.{◌≡◌, ℕ, List, ◌++◌, Result, Ok, Err, sym, ap, ◌∙◌, append_assoc}
 use Rattle.std.specs.Prelude.{OnOk}
 use Rattle.std.specs.List.{flat_map}
 use Rattle.std.proofs.lemmas.List.Concat.{flat_map-append}
-use Rattle.frame_view.specs.Frames.{FrameOf, spelling}
-use Rattle.session_machine.specs.declared.cause.Cause.{Cause}
-use Rattle.session_machine.specs.State.{State, Answer, and_then, commit_outside, ready}
-use Rattle.session_machine.specs.Step.{end_query, saved}
-use Rattle.session_machine.specs.Extended.{settle}
-use Rattle.session_machine.specs.Answers.{Gave, Gives, Settles}
+use Rattle.frame_view.specs.Frames.{spelling}
+use Rattle.session_values.specs.declared.cause.Cause.{Cause}
+use Rattle.session_values.specs.declared.stop.Stop.TheVariants.{Refused}
+use Rattle.session_values.specs.State.{State, Answer, and_then, commit_outside, ready}
+use Rattle.session_values.specs.Step.{end_query, saved}
+use Rattle.session_values.specs.Extended.{refused, settle}
+use Rattle.session_values.specs.Answers.{Gave, Gives, Performs}
 
 on_ok : {E : Type 0} {P Q : Type 0} (r : Result (Unit {0}) E) → (P → Q) → OnOk r P → OnOk r Q
 on_ok (Ok u) f p = f p
@@ -34,23 +35,21 @@ pub query_fails : {E : Type 0} (old mid new : State) (before between after : Lis
 query_fails old mid new before between after c (Ok a) r ran g = absurd ran
 query_fails old mid new before between after c (Err d) r (e, s, w) g = rw (e, ← s, ← w) g
 
--- an extended message, before which work was saved
-pub settled : {E : Type 0} (done : Result (Unit {0}) Cause) (start old mid new : State) (before between after : List ℕ) (x : State → Result Answer Cause) (r : Result (Unit {0}) E)
-    → old ≡ saved start → Gives done old mid before between (x old) → OnOk r (Settles done mid new between after) → OnOk r (Gave new before after (settle (saved start) (x (saved start))))
-settled done start old mid new before between after x r e ran g = rw (← e) (settled-at done old mid new before between after (x old) r ran g)
+-- an extended message that was carried out, before which work was saved
+pub extended_done : (start old new : State) (before after : List ℕ) (x : State → Result Answer Cause)
+    → old ≡ saved start → Performs (Ok tt) old new before after (x old) → Gave new before after (settle (saved start) (x (saved start)))
+extended_done start old new before after x e g = rw (← e) (done-at old new before after (x old) g)
   where
-    settled-at : {E : Type 0} (done : Result (Unit {0}) Cause) (old mid new : State) (before between after : List ℕ) (y : Result Answer Cause) (r : Result (Unit {0}) E)
-        → Gives done old mid before between y → OnOk r (Settles done mid new between after) → OnOk r (Gave new before after (settle old y))
-    settled-at (Ok u) old mid new before between after (Ok a) r (s, w) g = on_ok r (λ h. record { next = h.0 ∙ s; written = h.1 ∙ w }) g
-    settled-at (Ok u) old mid new before between after (Err d) r ran g = absurd ran
-    settled-at (Err c) old mid new before between after (Ok a) r ran g = absurd ran
-    settled-at (Err c) old mid new before between after (Err d) r (e, s, w) g = rw (e, ← s, ← w) g
+    done-at : (old new : State) (before after : List ℕ) (y : Result Answer Cause) → Performs (Ok tt) old new before after y → Gave new before after (settle old y)
+    done-at old new before after (Ok a) (s, w) = record { next = s; written = w }
+    done-at old new before after (Err d) ran = absurd ran
 
--- three frames, written one after the other
-pub three_written : {E : Type 0} (r : Result (Unit {0}) E) (x y z : FrameOf) (before one two after : List ℕ)
-    → one ≡ before ++ spelling x → two ≡ one ++ spelling y → OnOk r (after ≡ two ++ spelling z) → OnOk r (after ≡ before ++ flat_map spelling (x ∷ y ∷ z ∷ []))
-three_written (Err e) x y z before one two after e1 e2 g = tt
-three_written (Ok u) x y z before one two after e1 e2 g =
-    g ∙ ap (λ (b : List ℕ). b ++ spelling z) (e2 ∙ ap (λ (b : List ℕ). b ++ spelling y) e1)
-    ∙ append_assoc (before ++ spelling x) (spelling y) (spelling z) ∙ append_assoc before (spelling x) (spelling y ++ spelling z)
-    ∙ ap (λ (b : List ℕ). before ++ (spelling x ++ (spelling y ++ b))) (sym (append-nil (spelling z)))
+-- one that was refused
+pub extended_refused : {E : Type 0} (c : Cause) (start old mid new : State) (before between after : List ℕ) (x : State → Result Answer Cause) (r : Result (Unit {0}) E)
+    → old ≡ saved start → Performs (Err (Refused c)) old mid before between (x old) → OnOk r (Gave new between after (refused mid c)) → OnOk r (Gave new before after (settle (saved start) (x (saved start))))
+extended_refused c start old mid new before between after x r e ran g = rw (← e) (refused-at c old mid new before between after (x old) r ran g)
+  where
+    refused-at : {E : Type 0} (c : Cause) (old mid new : State) (before between after : List ℕ) (y : Result Answer Cause) (r : Result (Unit {0}) E)
+        → Performs (Err (Refused c)) old mid before between y → OnOk r (Gave new between after (refused mid c)) → OnOk r (Gave new before after (settle old y))
+    refused-at c old mid new before between after (Ok a) r ran g = absurd ran
+    refused-at c old mid new before between after (Err d) r (e, s, w) g = rw (e, ← s, ← w) g

@@ -10,10 +10,10 @@ use Rattle.frame_view.specs.declared.Side.TheVariants.{Client}
 use Rattle.frame_view.specs.Answers.{Tells}
 use Rattle.frame_view.proofs.Splitting.{frames-stopped}
 use Rattle.frame_view.proofs.Taking.{not_whole, taken_at}
-use Rattle.session_machine.specs.State.{State, CatalogueOf}
-use Rattle.session_machine.specs.Step.{step, run_frames}
-use Rattle.session_machine.specs.Answers.{Gave, frame_of}
-use Rattle.session_machine.specs.Service.{client_frames}
+use Rattle.session_values.specs.State.{State, CatalogueOf}
+use Rattle.session_values.specs.Step.{step, run_frames}
+use Rattle.session_values.specs.Answers.{Gave, frame_of}
+use Rattle.session_values.specs.Service.{client_frames}
 
 abbrev limit : ℕ
 limit = 2147483647

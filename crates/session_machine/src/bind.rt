@@ -1,29 +1,30 @@
 //! Bind (PostgreSQL manual, "Extended Query").
-ghost use Rattle.std.specs.Prelude.{◌≡◌, ◌≤◌, ◌<◌, ◌^◌, ◌++◌, ◌∷◌, [], length, map, max, Ok, Err, OnOk, IfOk};
+ghost use Rattle.std.specs.Prelude.{◌≡◌, ◌<◌, ◌^◌, max, Ok, Err, IfOk};
 ghost use Rattle.std.specs.Iterator.{YieldsFirstBy};
 ghost use Rattle.std.specs.List.{list_all};
 ghost use Rattle.mini_sql.specs.Meanings.{meaning};
 ghost use Rattle.message_view.specs.Left.{codes_left, values_left};
-ghost use Rattle.message_view.specs.Messages.{bind_complete};
 ghost use Rattle.message_view.specs.Parts.{shown_value};
 ghost use Rattle.message_view.specs.Shown.{shown_bind};
-ghost use Rattle.session_machine.specs.Answers.{Gives};
-ghost use Rattle.session_machine.specs.Extended.{bind, bindable, is_count, is_format, is_result_count, parameter_count, portal_to, values_fault, with_portal};
-ghost use Rattle.session_machine.specs.Found.{found_prepared};
-ghost use Rattle.session_machine.specs.State.{answers};
+ghost use Rattle.session_values.specs.Answers.{Performs};
+ghost use Rattle.session_values.specs.Extended.{bind, bindable, is_count, is_format, is_result_count, parameter_count, portal_to, values_fault};
+ghost use Rattle.session_machine.specs.Described.{FindsPrepared};
 
-use crate::catalogue::Catalogue;
-use crate::cause::Cause;
-use crate::extended::is_taken;
-use crate::names::Names;
-use crate::naming::{HasName, find_named, without_named};
-use crate::portal::{BoundStatement, Portal, Prepared};
-use crate::row::Row;
-use crate::session::Session;
-use crate::text::Text;
+use crate::parse::is_taken;
 use bytes::BytesMut;
 use message_view::{BindView, Codes, Values, put_bind_complete};
 use mini_sql::Stmt;
+use server_catalogue::Catalogue;
+use session_state::portal::{BoundStatement, Portal, Prepared};
+use session_state::session::SessionState;
+use session_values::cause::Cause;
+use session_values::names::Names;
+use session_values::naming::{HasName, find_named};
+use session_values::row::Row;
+use session_values::stop::Stop;
+use session_values::text::Text;
+use statement_runs::lookup::look_up;
+use statement_runs::run::usable;
 use std::alloc::{AllocError, Global};
 
 /// How many values a prepared statement asks for: its greatest `$n`, or as many as its Parse gave
@@ -32,13 +33,7 @@ pub(crate) fn parameter_count(statement: &Stmt<'_>, prepared: &Prepared) -> usiz
     ensures count { result ≡ parameter_count (meaning statement.now) prepared.now }
     ensures short { result < 2 ^ 16 }
 {
-    larger(statement.parameters() as usize, prepared.oids().len())
-}
-
-fn larger(a: usize, b: usize) -> usize
-    ensures { result ≡ max a b }
-{
-    if a < b { b } else { a }
+    (statement.parameters() as usize).max(prepared.oids().len())
 }
 
 /// None, one for all, or one for each.
@@ -150,67 +145,48 @@ fn values_fault(statement: &Stmt<'_>, prepared: &Prepared, view: &BindView<'_>) 
     None
 }
 
-impl Session {
-    /// The statement that a Bind may bind now.
-    fn bindable(
-        &self,
-        alloc: Global,
-        catalogue: &Catalogue,
-        view: &BindView<'_>,
-    ) -> Result<Result<&Prepared, Cause>, AllocError>
-        ensures { IfOk result (λ r. found_prepared r ≡ bindable catalogue.now self.now (shown_bind view.now)) }
-    {
-        let Some(prepared) = find_named(&self.statements, view.statement) else {
-            return Ok(Err(Cause::NoStatement));
-        };
-        let statement = match self.usable(prepared.query().as_slice()) {
-            Ok(statement) => statement,
-            Err(cause) => return Ok(Err(cause)),
-        };
-        if is_taken(
-            view.portal,
-            find_named(&self.portals, view.portal).is_some(),
-        ) {
-            return Ok(Err(Cause::PortalExists));
-        }
-        if let Some(cause) = values_fault(&statement, prepared, view) {
-            return Ok(Err(cause));
-        }
-        match self.look_up(alloc, catalogue, &statement)? {
-            Ok(names) if is_result_count(view.results.len(), &names) => Ok(Ok(prepared)),
-            Ok(_) => Ok(Err(Cause::MalformedMessage)),
-            Err(cause) => Ok(Err(cause)),
-        }
+/// The statement that a Bind may bind now.
+fn bindable<'a>(
+    alloc: Global,
+    session: &'a SessionState,
+    catalogue: &Catalogue,
+    view: &BindView<'_>,
+) -> Result<&'a Prepared, Stop>
+    ensures { FindsPrepared result (bindable catalogue.now session.now (shown_bind view.now)) }
+{
+    let Some(prepared) = find_named(session.statements(), view.statement) else {
+        return Err(Stop::Refused(Cause::NoStatement));
+    };
+    let statement = usable(session, prepared.query().as_slice())?;
+    if is_taken(
+        view.portal,
+        find_named(session.portals(), view.portal).is_some(),
+    ) {
+        return Err(Stop::Refused(Cause::PortalExists));
     }
+    if let Some(cause) = values_fault(&statement, prepared, view) {
+        return Err(Stop::Refused(cause));
+    }
+    let names = look_up(alloc, session, catalogue, &statement)?;
+    if !is_result_count(view.results.len(), &names) {
+        return Err(Stop::Refused(Cause::MalformedMessage));
+    }
+    Ok(prepared)
+}
 
-    fn keep_portal(
-        &mut self,
-        alloc: Global,
-        portal: Portal,
-        out: &mut BytesMut,
-    ) -> Result<(), AllocError>
-        ensures { OnOk result (Gives (Ok tt) self.old self.new out.old.items out.new.items (Ok (answers (with_portal self.old portal) (bind_complete ∷ [])))) }
-    {
-        let others = without_named(alloc, &self.portals, portal.name().as_slice())?;
-        self.portals = others.pushed(alloc, portal)?;
-        put_bind_complete(out)
-    }
-
-    /// Bind: keeps a portal.
-    pub(crate) fn bind(
-        &mut self,
-        alloc: Global,
-        catalogue: &Catalogue,
-        view: &BindView<'_>,
-        out: &mut BytesMut,
-    ) -> Result<Result<(), Cause>, AllocError>
-        ensures { IfOk result (λ done. Gives done self.old self.new out.old.items out.new.items (bind catalogue.now self.old (shown_bind view.now))) }
-    {
-        let portal = match self.bindable(alloc, catalogue, view)? {
-            Ok(prepared) => portal_to(alloc, view, prepared)?,
-            Err(cause) => return Ok(Err(cause)),
-        };
-        self.keep_portal(alloc, portal, out)?;
-        Ok(Ok(()))
-    }
+/// Bind: keeps a portal.
+pub(crate) fn bind(
+    alloc: Global,
+    session: &mut SessionState,
+    catalogue: &Catalogue,
+    view: &BindView<'_>,
+    out: &mut BytesMut,
+) -> Result<(), Stop>
+    ensures { Performs result session.old session.new out.old.items out.new.items (bind catalogue.now session.old (shown_bind view.now)) }
+{
+    let prepared = bindable(alloc, session, catalogue, view)?;
+    let portal = portal_to(alloc, view, prepared)?;
+    session.put_portal(alloc, portal)?;
+    put_bind_complete(out)?;
+    Ok(())
 }

@@ -1,30 +1,28 @@
-//! Describe and Close (PostgreSQL manual, "Extended Query").
-ghost use Rattle.std.specs.Prelude.{◌≡◌, ◌≤◌, ◌<◌, ◌^◌, ◌++◌, ◌∷◌, [], filter, length, map, Ok, Err, OnOk, IfOk};
-ghost use Rattle.std.specs.Arc.{arc_value};
+//! Describe (PostgreSQL manual, "Extended Query").
+ghost use Rattle.std.specs.Prelude.{◌≡◌, ◌<◌, [], length, Ok, Err, OnOk, IfOk};
 ghost use Rattle.mini_sql.specs.Meanings.{meaning};
 ghost use Rattle.message_view.specs.Bodies.{OfPortal, OfStatement};
 ghost use Rattle.message_view.specs.Shown.{shown_target};
-ghost use Rattle.session_machine.specs.Answers.{Gave, Gives};
-ghost use Rattle.session_machine.specs.Extended.{close, describe, describe_portal, describe_statement, described, is_of_other, gives_rows, is_describable, oid_at, oids_of};
-ghost use Rattle.session_machine.specs.Found.{described_of, found_described};
-ghost use Rattle.session_machine.specs.Picks.{IsNarrow};
+ghost use Rattle.session_values.specs.Answers.{Gave, Performs};
+ghost use Rattle.session_values.specs.Extended.{describe, describe_portal, describe_statement, described, gives_rows, is_describable, oid_at, oids_of};
+ghost use Rattle.session_machine.specs.Described.{described_of, FindsDescribed};
 
 use crate::bind::{is_result_count, parameter_count};
-use crate::block::Block;
-use crate::catalogue::Catalogue;
-use crate::cause::Cause;
-use crate::names::Names;
-use crate::naming::{find_named, without_named};
-use crate::output::put_description;
-use crate::portal::{Portal, Prepared, are_of_others};
-use crate::run::read_narrow;
-use crate::session::Session;
 use bytes::BytesMut;
-use message_view::{Target, put_close_complete, put_parameter_description};
+use message_view::{Target, put_parameter_description};
 use mini_sql::Stmt;
-use shared_list::Shared;
+use server_catalogue::Catalogue;
+use session_state::portal::{Portal, Prepared};
+use session_state::session::SessionState;
+use session_values::block::Block;
+use session_values::cause::Cause;
+use session_values::names::Names;
+use session_values::naming::find_named;
+use session_values::stop::Stop;
+use statement_runs::lookup::look_up;
+use statement_runs::output::put_description;
+use statement_runs::run::read_narrow;
 use std::alloc::{AllocError, Global};
-use std::sync::Arc;
 
 /// The oid of the type text.
 const TEXT: u32 = 25;
@@ -76,163 +74,102 @@ pub(crate) struct Described<'a> {
     pub names: Option<Names>,
 }
 
-impl Session {
-    /// The statement of a text, and the columns of its rows; in a failed block one that gives rows
-    /// isn't described.
-    fn described<'a>(
-        &self,
-        alloc: Global,
-        catalogue: &Catalogue,
-        text: &'a [u8],
-    ) -> Result<Result<Described<'a>, Cause>, AllocError>
-        ensures { IfOk result (λ r. found_described r ≡ described catalogue.now self.now text.now) }
-    {
-        let Ok(statement) = read_narrow(text) else {
-            return Ok(Err(Cause::Syntax));
-        };
-        if !is_describable(self.block, &statement) {
-            return Ok(Err(Cause::Aborted));
-        }
-        match self.look_up(alloc, catalogue, &statement)? {
-            Ok(names) => Ok(Ok(Described { statement, names })),
-            Err(cause) => Ok(Err(cause)),
-        }
+/// The statement of a text, and the columns of its rows; in a failed block one that gives rows
+/// isn't described.
+fn find_described<'a>(
+    alloc: Global,
+    session: &SessionState,
+    catalogue: &Catalogue,
+    text: &'a [u8],
+) -> Result<Described<'a>, Stop>
+    ensures { FindsDescribed result (described catalogue.now session.now text.now) }
+{
+    let Ok(statement) = read_narrow(text) else {
+        return Err(Stop::Refused(Cause::Syntax));
+    };
+    if !is_describable(session.block(), &statement) {
+        return Err(Stop::Refused(Cause::Aborted));
     }
-
-    fn describe_statement(
-        &self,
-        alloc: Global,
-        prepared: &Prepared,
-        described: &Described<'_>,
-        out: &mut BytesMut,
-    ) -> Result<(), AllocError>
-        ensures { OnOk result (Gave self.now out.old.items out.new.items (describe_statement self.now prepared.now (described_of described.now))) }
-    {
-        let count = parameter_count(&described.statement, prepared);
-        let oids = oids_of(alloc, count, prepared.oids())?;
-        put_parameter_description(out, &oids)?;
-        put_description(alloc, &[], &described.names, out)
-    }
-
-    fn describe_prepared(
-        &mut self,
-        alloc: Global,
-        catalogue: &Catalogue,
-        name: &[u8],
-        out: &mut BytesMut,
-    ) -> Result<Result<(), Cause>, AllocError>
-        ensures { IfOk result (λ done. Gives done self.old self.new out.old.items out.new.items (describe catalogue.now self.old (OfStatement name.now))) }
-    {
-        let Some(prepared) = find_named(&self.statements, name) else {
-            return Ok(Err(Cause::NoStatement));
-        };
-        match self.described(alloc, catalogue, prepared.query().as_slice())? {
-            Ok(described) => self.describe_statement(alloc, prepared, &described, out)?,
-            Err(cause) => return Ok(Err(cause)),
-        }
-        Ok(Ok(()))
-    }
-
-    fn describe_portal(
-        &self,
-        alloc: Global,
-        portal: &Portal,
-        described: &Described<'_>,
-        out: &mut BytesMut,
-    ) -> Result<Result<(), Cause>, AllocError>
-        ensures { IfOk result (λ done. Gives done self.now self.now out.old.items out.new.items (describe_portal self.now portal.now (described_of described.now))) }
-    {
-        if !is_result_count(portal.formats().len(), &described.names) {
-            return Ok(Err(Cause::MalformedMessage));
-        }
-        put_description(alloc, portal.formats(), &described.names, out)?;
-        Ok(Ok(()))
-    }
-
-    fn describe_bound(
-        &mut self,
-        alloc: Global,
-        catalogue: &Catalogue,
-        name: &[u8],
-        out: &mut BytesMut,
-    ) -> Result<Result<(), Cause>, AllocError>
-        ensures { IfOk result (λ done. Gives done self.old self.new out.old.items out.new.items (describe catalogue.now self.old (OfPortal name.now))) }
-    {
-        let Some(portal) = find_named(&self.portals, name) else {
-            return Ok(Err(Cause::NoPortal));
-        };
-        match self.described(alloc, catalogue, portal.query().as_slice())? {
-            Ok(described) => self.describe_portal(alloc, portal, &described, out),
-            Err(cause) => Ok(Err(cause)),
-        }
-    }
-
-    /// Describe of a prepared statement or a portal.
-    pub(crate) fn describe(
-        &mut self,
-        alloc: Global,
-        catalogue: &Catalogue,
-        target: Target<'_>,
-        out: &mut BytesMut,
-    ) -> Result<Result<(), Cause>, AllocError>
-        ensures { IfOk result (λ done. Gives done self.old self.new out.old.items out.new.items (describe catalogue.now self.old (shown_target target.entry))) }
-    {
-        match target {
-            Target::Statement(name) => self.describe_prepared(alloc, catalogue, name, out),
-            Target::Portal(name) => self.describe_bound(alloc, catalogue, name, out),
-        }
-    }
-
-    #[tactic(auto, using(crate::proofs::Known::named_without, crate::proofs::Known::others_stay))]
-    fn close_prepared(&mut self, alloc: Global, name: &[u8]) -> Result<(), AllocError>
-        ensures { OnOk result (self.new ≡ (close self.old (OfStatement name.now)).next) }
-    {
-        self.statements = without_named(alloc, &self.statements, name)?;
-        if are_of_others(self.portals.as_slice(), name) {
-            return Ok(());
-        }
-        let portals = portals_of_others(alloc, self.portals.as_slice(), name)?;
-        self.portals = Shared::from_shared(alloc, portals)?;
-        Ok(())
-    }
-
-    fn close_bound(&mut self, alloc: Global, name: &[u8]) -> Result<(), AllocError>
-        ensures { OnOk result (self.new ≡ (close self.old (OfPortal name.now)).next) }
-    {
-        self.portals = without_named(alloc, &self.portals, name)?;
-        Ok(())
-    }
-
-    /// Close of a prepared statement, with its portals, or of a portal.
-    pub(crate) fn close(
-        &mut self,
-        alloc: Global,
-        target: Target<'_>,
-        out: &mut BytesMut,
-    ) -> Result<(), AllocError>
-        ensures { OnOk result (Gives (Ok tt) self.old self.new out.old.items out.new.items (Ok (close self.old (shown_target target.entry)))) }
-    {
-        match target {
-            Target::Statement(name) => self.close_prepared(alloc, name)?,
-            Target::Portal(name) => self.close_bound(alloc, name)?,
-        }
-        put_close_complete(out)
-    }
+    let names = look_up(alloc, session, catalogue, &statement)?;
+    Ok(Described { statement, names })
 }
 
-/// The portals that weren't made from the statement of this name.
-fn portals_of_others(
+fn describe_statement(
     alloc: Global,
-    portals: &[Arc<Portal>],
-    name: &[u8],
-) -> Result<Vec<Arc<Portal>>, AllocError>
-    ensures { IfOk result (λ v. map arc_value v.items ≡ filter (is_of_other name.now) (map arc_value portals.now)) }
+    session: &SessionState,
+    prepared: &Prepared,
+    described: &Described<'_>,
+    out: &mut BytesMut,
+) -> Result<(), AllocError>
+    ensures { OnOk result (Gave session.now out.old.items out.new.items (describe_statement session.now prepared.now (described_of described.now))) }
 {
-    let mut list = Vec::new(alloc);
-    for portal in portals {
-        if !portal.is_of(name) {
-            list.push(Arc::try_clone(portal)?)?;
-        }
+    let count = parameter_count(&described.statement, prepared);
+    let oids = oids_of(alloc, count, prepared.oids())?;
+    put_parameter_description(out, &oids)?;
+    put_description(alloc, &[], &described.names, out)
+}
+
+fn describe_prepared(
+    alloc: Global,
+    session: &mut SessionState,
+    catalogue: &Catalogue,
+    name: &[u8],
+    out: &mut BytesMut,
+) -> Result<(), Stop>
+    ensures { Performs result session.old session.new out.old.items out.new.items (describe catalogue.now session.old (OfStatement name.now)) }
+{
+    let Some(prepared) = find_named(session.statements(), name) else {
+        return Err(Stop::Refused(Cause::NoStatement));
+    };
+    let described = find_described(alloc, session, catalogue, prepared.query().as_slice())?;
+    describe_statement(alloc, session, prepared, &described, out)?;
+    Ok(())
+}
+
+fn describe_portal(
+    alloc: Global,
+    session: &SessionState,
+    portal: &Portal,
+    described: &Described<'_>,
+    out: &mut BytesMut,
+) -> Result<(), Stop>
+    ensures { Performs result session.now session.now out.old.items out.new.items (describe_portal session.now portal.now (described_of described.now)) }
+{
+    if !is_result_count(portal.formats().len(), &described.names) {
+        return Err(Stop::Refused(Cause::MalformedMessage));
     }
-    Ok(list)
+    put_description(alloc, portal.formats(), &described.names, out)?;
+    Ok(())
+}
+
+fn describe_bound(
+    alloc: Global,
+    session: &mut SessionState,
+    catalogue: &Catalogue,
+    name: &[u8],
+    out: &mut BytesMut,
+) -> Result<(), Stop>
+    ensures { Performs result session.old session.new out.old.items out.new.items (describe catalogue.now session.old (OfPortal name.now)) }
+{
+    let Some(portal) = find_named(session.portals(), name) else {
+        return Err(Stop::Refused(Cause::NoPortal));
+    };
+    let described = find_described(alloc, session, catalogue, portal.query().as_slice())?;
+    describe_portal(alloc, session, portal, &described, out)
+}
+
+/// Describe of a prepared statement or a portal.
+pub(crate) fn describe(
+    alloc: Global,
+    session: &mut SessionState,
+    catalogue: &Catalogue,
+    target: Target<'_>,
+    out: &mut BytesMut,
+) -> Result<(), Stop>
+    ensures { Performs result session.old session.new out.old.items out.new.items (describe catalogue.now session.old (shown_target target.entry)) }
+{
+    match target {
+        Target::Statement(name) => describe_prepared(alloc, session, catalogue, name, out),
+        Target::Portal(name) => describe_bound(alloc, session, catalogue, name, out),
+    }
 }

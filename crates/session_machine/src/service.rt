@@ -1,57 +1,61 @@
 //! What a server started for one client alone answers.
-ghost use Rattle.std.specs.Prelude.{◌≡◌, ◌≤◌, ◌++◌, length, drop, OnOk, OnErr, Ok};
+ghost use Rattle.std.specs.Prelude.{◌≡◌, ◌++◌, length, OnOk, OnErr, Ok};
 ghost use Rattle.std.specs.List.{flat_map};
 ghost use Rattle.frame_view.specs.Frames.{spelling};
-ghost use Rattle.session_machine.specs.Service.{client_frames, served, service, welcome};
-ghost use Rattle.session_machine.specs.State.{fresh};
-ghost use Rattle.session_machine.specs.Step.{run_frames};
+ghost use Rattle.session_values.specs.Service.{client_frames, served, service, welcome};
+ghost use Rattle.session_values.specs.State.{fresh};
+ghost use Rattle.session_values.specs.Step.{run_frames};
 
-use crate::catalogue::Catalogue;
-use crate::key::StartKey;
-use crate::session::Session;
+use crate::step::answer;
 use bytes::BytesMut;
 use frame_view::{Side, Step, next_frame};
 use message_view::{KeyWord, Status, put_backend_key_data, put_ready_for_query};
+use server_catalogue::Catalogue;
+use session_state::session::SessionState;
+use session_values::stop::Stop;
+use start_keys::key::StartKey;
 use std::alloc::{AllocError, Global};
 
 /// The greatest length of a frame.
 const LONGEST_FRAME: u32 = 2_147_483_647;
 
-impl Session {
-    /// Writes the welcome of a session: its reports, BackendKeyData of the key word, and
-    /// ReadyForQuery.
-    pub fn put_welcome(&self, word: KeyWord, out: &mut BytesMut) -> Result<(), AllocError>
-        ensures { OnOk result (out.new.items ≡ out.old.items ++ flat_map spelling (welcome self.now word.pid word.secret)) }
-    {
-        self.put_all_reports(out)?;
-        put_backend_key_data(out, word.pid, word.secret)?;
-        put_ready_for_query(out, Status::Idle)
-    }
+/// Writes the welcome of a session: its reports, BackendKeyData of the key word, and
+/// ReadyForQuery.
+pub(crate) fn put_welcome(
+    session: &SessionState,
+    word: KeyWord,
+    out: &mut BytesMut,
+) -> Result<(), AllocError>
+    ensures { OnOk result (out.new.items ≡ out.old.items ++ flat_map spelling (welcome session.now word.pid word.secret)) }
+{
+    session.put_all_reports(out)?;
+    put_backend_key_data(out, word.pid, word.secret)?;
+    put_ready_for_query(out, Status::Idle)
+}
 
-    /// Answers the frames that the bytes begin with, one after the other. After an `Err` session and
-    /// buffer are of no use, so no frame is answered on a copy.
-    fn answer_all(
-        &mut self,
-        alloc: Global,
-        catalogue: &Catalogue,
-        bytes: &[u8],
-        out: &mut BytesMut,
-    ) -> Result<(), AllocError>
-        ensures { OnOk result (out.new.items ≡ out.old.items ++ flat_map spelling (run_frames catalogue.now self.old (client_frames bytes.now)).replies) }
-    {
-        let mut at = 0;
-        while let Step::Whole(frame) = next_frame(bytes, at, LONGEST_FRAME, Side::Client) {
-            self.answer(alloc, catalogue, frame, out)?;
-            at += frame.whole.len();
-        }
-        Ok(())
+/// Answers the frames that the bytes begin with, one after the other. After an `Err` session and
+/// buffer are of no use, so no frame is answered on a copy.
+fn answer_all(
+    alloc: Global,
+    session: &mut SessionState,
+    catalogue: &Catalogue,
+    bytes: &[u8],
+    out: &mut BytesMut,
+) -> Result<(), AllocError>
+    ensures { OnOk result (out.new.items ≡ out.old.items ++ flat_map spelling (run_frames catalogue.now session.old (client_frames bytes.now)).replies) }
+{
+    let mut at = 0;
+    while let Step::Whole(frame) = next_frame(bytes, at, LONGEST_FRAME, Side::Client) {
+        answer(alloc, session, catalogue, frame, out)?;
+        at += frame.whole.len();
     }
+    Ok(())
 }
 
 /// Appends what a server started for this client alone answers to the bytes after its login: the
 /// welcome and the replies to all whole frames, or the start's error. It takes the whole input. The
 /// only error is want of memory, which leaves `out` as it was.
-#[tactic(auto, unfolding(crate::specs::Service::service))]
+#[tactic(auto, unfolding(session_values::specs::Service::service))]
 pub fn solo_bytes(
     alloc: Global,
     catalogue: &Catalogue,
@@ -63,9 +67,10 @@ pub fn solo_bytes(
     ensures ok { OnOk result (out.new.items ≡ out.old.items ++ service catalogue.now key.now word.pid word.secret bytes.now) }
     ensures err { OnErr result (out.new.items ≡ out.old.items) }
 {
-    let mut replies = BytesMut::new(alloc);
-    put_service(alloc, catalogue, key, word, bytes, &mut replies)?;
-    out.extend_from_slice(replies.as_slice())
+    let mut all = BytesMut::copy_from_slice(alloc, out.as_slice())?;
+    put_service(alloc, catalogue, key, word, bytes, &mut all)?;
+    *out = all;
+    Ok(())
 }
 
 fn put_service(
@@ -78,16 +83,17 @@ fn put_service(
 ) -> Result<(), AllocError>
     ensures { OnOk result (out.new.items ≡ out.old.items ++ flat_map spelling (served catalogue.now (fresh catalogue.now key.now) word.pid word.secret (client_frames bytes.now))) }
 {
-    match Session::start(alloc, catalogue, key)? {
+    match SessionState::start(alloc, catalogue, key) {
         Ok(session) => serve(alloc, catalogue, session, word, bytes, out),
-        Err(cause) => cause.put_fatal(out),
+        Err(Stop::Refused(cause)) => cause.put_fatal(out),
+        Err(Stop::OutOfMemory) => Err(AllocError),
     }
 }
 
 fn serve(
     alloc: Global,
     catalogue: &Catalogue,
-    session: Session,
+    session: SessionState,
     word: KeyWord,
     bytes: &[u8],
     out: &mut BytesMut,
@@ -95,6 +101,6 @@ fn serve(
     ensures { OnOk result (out.new.items ≡ out.old.items ++ flat_map spelling (served catalogue.now (Ok session) word.pid word.secret (client_frames bytes.now))) }
 {
     let mut session = session;
-    session.put_welcome(word, out)?;
-    session.answer_all(alloc, catalogue, bytes, out)
+    put_welcome(&session, word, out)?;
+    answer_all(alloc, &mut session, catalogue, bytes, out)
 }

@@ -1,5 +1,5 @@
 use Rattle.std.proofs.Common.{◌≡◌, length}
-use Rattle.session_machine.specs.Extended.{oids_of}
+use Rattle.session_values.specs.Extended.{oids_of}
 use Rattle.session_machine.proofs.describe.oids_of.Given as goal
 
 abbrev pub invariant-loop-place : goal.invariant-loop-place

@@ -1,0 +1,5 @@
+pub mod Fieldings
+pub mod Rowings
+pub mod Saids
+pub mod Catalogued
+pub mod Lawfully

@@ -1,0 +1,4 @@
+pub mod CatalogueCodes
+pub mod Catalogues
+pub mod FieldsLeft
+pub mod Drafts

@@ -1,9 +1,0 @@
-use Rattle.message_view.specs.Reading.{target_of}
-use Rattle.session_machine.specs.Extended.{describe}
-use Rattle.session_machine.specs.State.{State, bound}
-use Rattle.session_machine.specs.Step.{reading_body}
-use Rattle.session_machine.proofs.Endings.{settled}
-use Rattle.session_machine.proofs.session.Session.answer_describe.Goals as goal
-
-pub returns : goal.returns
-returns c = settled c.in_ok-done.done c.args.self.now c.save.new.self c.describe_body.new.self _ _ _ _ (λ (s : State). bound (reading_body (target_of c.args.body.now)) (λ t. describe c.args.catalogue.now s t)) c.settle.result c.save.ensures c.in_ok-done.ensures c.settle.ensures

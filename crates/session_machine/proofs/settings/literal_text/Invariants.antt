@@ -1,6 +1,0 @@
-use Rattle.std.proofs.Common.{◌≡◌, ◌++◌}
-use Rattle.mini_sql.specs.Meanings.{bytes_left, literal_value}
-use Rattle.session_machine.proofs.settings.literal_text.Given as goal
-
-abbrev pub invariant-loop-byte : goal.invariant-loop-byte
-invariant-loop-byte l = l.bytes.items ++ bytes_left l.byte-iterator ≡ literal_value l.literal

@@ -1,0 +1,9 @@
+//! The state of a session, how it begins, and what a transaction keeps and gives back.
+#![tactic(auto)]
+
+pub mod kept;
+pub mod portal;
+pub mod ready;
+pub mod session;
+pub mod start;
+pub mod work;

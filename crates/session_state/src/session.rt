@@ -1,0 +1,301 @@
+//! The state of a session, and what a transaction keeps and gives back (PostgreSQL manual, "BEGIN", "ROLLBACK").
+ghost use Rattle.std.specs.Prelude.{◌≡◌, ◌<◌, [], None, length, OnOk, IfOk, true};
+ghost use Rattle.session_values.specs.Runs.{discarded};
+ghost use Rattle.session_values.specs.State.{failing, roll_back_to, save_unless};
+
+use crate::portal::{Portal, Prepared};
+use crate::work::{Saved, Work};
+use session_values::block::Block;
+use session_values::table::Table;
+use session_values::text::Text;
+use session_values::values::Values;
+use shared_list::Shared;
+use std::alloc::{AllocError, Global};
+use std::marker::Model;
+use std::mem;
+
+/// A session of the stand-in server. Its copies share what they hold.
+#[derive(Drop)]
+pub struct SessionState {
+    pub(crate) defaults: Values,
+    pub(crate) reported: Shared<Text>,
+    /// The reported values are known to be the current ones, so that no report is due.
+    pub(crate) is_reported: bool,
+    pub(crate) work: Work,
+    pub(crate) saved: Saved,
+    pub(crate) block: Block,
+    pub(crate) is_skipping: bool,
+    pub(crate) has_ended: bool,
+    pub(crate) statements: Shared<Prepared>,
+    /// Where this is false, a Query has no unnamed statement to look for.
+    pub(crate) may_have_unnamed: bool,
+    pub(crate) portals: Shared<Portal>,
+}
+
+impl Model for SessionState {
+    ghost use Rattle.std.specs.Prelude.{◌≡◌, length};
+    ghost use Rattle.session_values.specs.State.{State};
+    ghost use Rattle.session_state.specs.Kept.{saved_of};
+    ghost use Rattle.session_state.specs.Known.{AreNamedUnless, AreReportedIf};
+
+    ghost Value = { State };
+
+    ghost view = { λ s. record {
+      defaults = s.defaults;
+      current = s.work.values;
+      reported = s.reported;
+      saved = saved_of s.saved s.work;
+      block = s.block;
+      skipping = s.is_skipping;
+      ended = s.has_ended;
+      statements = s.statements;
+      portals = s.portals;
+      tables = s.work.tables;
+    } };
+
+    ghost invariant = { λ s. (length s.reported ≡ 9) × AreReportedIf s.is_reported s.work.values s.reported × AreNamedUnless s.may_have_unnamed s.statements };
+}
+
+impl SessionState {
+    ghost use Rattle.session_values.specs.State.{begun, commit, commit_outside, failed, roll_back, save};
+
+    /// A session at its start, with these values.
+    pub fn begun(alloc: Global, values: Values) -> Result<SessionState, AllocError>
+        ensures { IfOk result (λ s. s ≡ begun values) }
+    {
+        Ok(SessionState {
+            reported: values.reported(alloc)?,
+            is_reported: true,
+            work: Work {
+                values: values.copied()?,
+                tables: Shared::new(alloc)?,
+            },
+            defaults: values,
+            saved: Saved::Nothing,
+            block: Block::Outside,
+            is_skipping: false,
+            has_ended: false,
+            statements: Shared::new(alloc)?,
+            may_have_unnamed: false,
+            portals: Shared::new(alloc)?,
+        })
+    }
+
+    /// The same session.
+    pub fn copied(&self) -> Result<SessionState, AllocError>
+        ensures { IfOk result (λ s. s ≡ self.now) }
+    {
+        Ok(SessionState {
+            defaults: self.defaults.copied()?,
+            reported: self.reported.copied()?,
+            is_reported: self.is_reported,
+            work: self.work.copied()?,
+            saved: self.saved.copied()?,
+            block: self.block,
+            is_skipping: self.is_skipping,
+            has_ended: self.has_ended,
+            statements: self.statements.copied()?,
+            may_have_unnamed: self.may_have_unnamed,
+            portals: self.portals.copied()?,
+        })
+    }
+
+    /// Outside a block, keeps the values and temporary tables for a roll back, unless some are kept.
+    pub fn save(&mut self)
+        ensures { self.new ≡ save self.old self.old.block }
+    {
+        match self.block {
+            Block::Outside => self.save_unless(),
+            Block::Inside => {}
+            Block::Failed => {}
+        }
+    }
+
+    fn save_unless(&mut self)
+        ensures { self.new ≡ save_unless self.old self.old.saved }
+    {
+        match self.saved {
+            Saved::Nothing => self.saved = Saved::Standing,
+            Saved::Standing => {}
+            Saved::Changed(_) => {}
+        }
+    }
+
+    /// Drops all portals; a list without any is kept.
+    fn drop_portals(&mut self, alloc: Global) -> Result<(), AllocError>
+        ensures { OnOk result (self.new ≡ record self.old { portals = [] }) }
+    {
+        if self.portals.len() == 0 {
+            return Ok(());
+        }
+        self.portals = Shared::new(alloc)?;
+        Ok(())
+    }
+
+    pub fn commit(&mut self, alloc: Global) -> Result<(), AllocError>
+        ensures { OnOk result (self.new ≡ commit self.old) }
+    {
+        self.saved = Saved::Nothing;
+        self.drop_portals(alloc)
+    }
+
+    pub fn commit_outside(&mut self, alloc: Global) -> Result<(), AllocError>
+        ensures { OnOk result (self.new ≡ commit_outside self.old self.old.block) }
+    {
+        match self.block {
+            Block::Outside => self.commit(alloc),
+            Block::Inside => Ok(()),
+            Block::Failed => Ok(()),
+        }
+    }
+
+    /// Gives back the values and temporary tables that are kept, if some are.
+    fn restore(&mut self)
+        ensures { self.new ≡ record (roll_back_to self.old self.old.saved) { saved = None } }
+    {
+        if let Saved::Changed(saved) = mem::replace(&mut self.saved, Saved::Nothing) {
+            self.work = saved;
+            self.is_reported = false;
+        }
+    }
+
+    /// These values from now on, which are to be reported.
+    pub fn put_values(&mut self, values: Values) -> Result<(), AllocError>
+        ensures { OnOk result (self.new ≡ record self.old { current = values }) }
+    {
+        if let Saved::Standing = self.saved {
+            self.saved = Saved::Changed(self.work.copied()?);
+        }
+        self.work.values = values;
+        self.is_reported = false;
+        Ok(())
+    }
+
+    /// These temporary tables from now on.
+    pub fn put_tables(&mut self, tables: Shared<Table>) -> Result<(), AllocError>
+        ensures { OnOk result (self.new ≡ record self.old { tables = tables }) }
+    {
+        if let Saved::Standing = self.saved {
+            self.saved = Saved::Changed(self.work.copied()?);
+        }
+        self.work.tables = tables;
+        Ok(())
+    }
+
+    pub fn roll_back(&mut self, alloc: Global) -> Result<(), AllocError>
+        ensures { OnOk result (self.new ≡ roll_back self.old) }
+    {
+        self.restore();
+        self.drop_portals(alloc)
+    }
+
+    /// After an error: rolled back, and a block has failed.
+    pub fn fail(&mut self, alloc: Global) -> Result<(), AllocError>
+        ensures { OnOk result (self.new ≡ failed self.old) }
+    {
+        self.roll_back(alloc)?;
+        self.block = failing(self.block);
+        Ok(())
+    }
+
+    /// Gives everything back as it was at the start, but for what was reported: what DISCARD ALL does.
+    pub fn discard(&mut self, alloc: Global) -> Result<(), AllocError>
+        ensures { OnOk result (self.new ≡ discarded self.old) }
+    {
+        self.work.values = self.defaults.copied()?;
+        self.is_reported = false;
+        self.work.tables = Shared::new(alloc)?;
+        self.saved = Saved::Nothing;
+        self.statements = Shared::new(alloc)?;
+        self.may_have_unnamed = false;
+        self.portals = Shared::new(alloc)?;
+        Ok(())
+    }
+
+    /// From now on the session stands so to a transaction block.
+    pub fn put_block(&mut self, block: Block)
+        ensures { self.new ≡ record self.old { block = block } }
+    {
+        self.block = block;
+    }
+
+    /// Everything is skipped until the next Sync, or nothing is any more.
+    pub fn put_skipping(&mut self, is_skipping: bool)
+        ensures { self.new ≡ record self.old { skipping = is_skipping } }
+    {
+        self.is_skipping = is_skipping;
+    }
+
+    /// The session has ended.
+    pub fn end(&mut self)
+        ensures { self.new ≡ record self.old { ended = true } }
+    {
+        self.has_ended = true;
+    }
+
+    /// What RESET gives: the values at the session's start.
+    pub fn defaults(&self) -> &Values
+        ensures { result.now ≡ self.now.defaults }
+    {
+        &self.defaults
+    }
+
+    /// The values of all parameters.
+    pub fn values(&self) -> &Values
+        ensures { result.now ≡ self.now.current }
+    {
+        &self.work.values
+    }
+
+    /// The temporary tables.
+    pub fn tables(&self) -> &Shared<Table>
+        ensures { result.now ≡ self.now.tables }
+    {
+        &self.work.tables
+    }
+
+    /// How it stands to a transaction block.
+    pub fn block(&self) -> Block
+        ensures { result ≡ self.now.block }
+    {
+        self.block
+    }
+
+    /// Whether everything is skipped until the next Sync.
+    pub fn is_skipping(&self) -> bool
+        ensures { result ≡ self.now.skipping }
+    {
+        self.is_skipping
+    }
+
+    /// Whether it has ended.
+    pub fn has_ended(&self) -> bool
+        ensures { result ≡ self.now.ended }
+    {
+        self.has_ended
+    }
+
+    /// The prepared statements.
+    pub fn statements(&self) -> &Shared<Prepared>
+        ensures { result.now ≡ self.now.statements }
+    {
+        &self.statements
+    }
+
+    /// The portals.
+    pub fn portals(&self) -> &Shared<Portal>
+        ensures { result.now ≡ self.now.portals }
+    {
+        &self.portals
+    }
+}
+
+fn failing(block: Block) -> Block
+    ensures { result ≡ failing block }
+{
+    match block {
+        Block::Outside => Block::Outside,
+        Block::Inside => Block::Failed,
+        Block::Failed => Block::Failed,
+    }
+}

@@ -1,0 +1,4 @@
+pub mod Alls
+pub mod Digits
+pub mod Mapped
+pub mod Passing

@@ -1,0 +1,79 @@
+ghost use Rattle.std.specs.Prelude.{◌≡◌, ◌≤◌, length, IfOk, [], ◌∷◌, ◌++◌};
+
+use crate::naming::HasName;
+use crate::row::Row;
+use crate::text::Text;
+use shared_list::{Log, Shared};
+use std::alloc::{AllocError, Global};
+use std::marker::Model;
+
+/// A table of texts, of the catalogue or temporary. Its copies share names and rows.
+#[derive(Drop)]
+pub struct Table {
+    name: Text,
+    columns: Shared<Text>,
+    rows: Log<Row>,
+}
+
+impl Model for Table {
+    ghost use Rattle.std.specs.Prelude.{◌≤◌, length};
+    ghost use Rattle.session_values.specs.State.{TableOf};
+
+    ghost Value = { TableOf };
+
+    ghost view = { λ t. record { name = t.name; columns = t.columns; rows = t.rows } };
+
+    ghost invariant = { λ t. length t.columns ≤ 64 };
+}
+
+impl HasName for Table {
+    ghost use Rattle.session_values.specs.State.{table_name};
+
+    ghost name_of = { table_name };
+
+    fn name(&self) -> &Text {
+        &self.name
+    }
+}
+
+impl Table {
+    ghost use Rattle.session_values.specs.State.{TableOf};
+
+    /// A table without rows, of at most 64 columns.
+    pub fn new(alloc: Global, name: Text, columns: Shared<Text>) -> Result<Table, AllocError>
+        requires { length columns ≤ 64 }
+        ensures { IfOk result (λ t. t ≡ record { name = name; columns = columns; rows = [] }) }
+    {
+        Ok(Table {
+            name,
+            columns,
+            rows: Log::new(alloc)?,
+        })
+    }
+
+    /// The names of its columns.
+    pub fn columns(&self) -> &Shared<Text>
+        ensures columns { result.now ≡ self.now.columns }
+        ensures width { length result.now ≤ 64 }
+    {
+        &self.columns
+    }
+
+    /// Its rows, in order of insertion.
+    pub fn rows(&self) -> &Log<Row>
+        ensures { result.now ≡ self.now.rows }
+    {
+        &self.rows
+    }
+
+    /// This table with a row after the others.
+    pub fn with_row(&self, alloc: Global, row: Row) -> Result<Table, AllocError>
+        ensures { IfOk result (λ t. t ≡ record self.now { rows = self.now.rows ++ row ∷ [] }) }
+    {
+        Ok(Table {
+            name: self.name.copied()?,
+            columns: self.columns.copied()?,
+            rows: self.rows.pushed(alloc, row)?,
+        })
+    }
+}

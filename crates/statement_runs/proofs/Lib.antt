@@ -1,0 +1,3 @@
+pub mod Padding
+pub mod Narrow
+pub mod Writing

@@ -1,0 +1,10 @@
+//! Statements: what their names stand for, and what running them gives.
+#![tactic(auto)]
+
+mod blocks;
+mod changes;
+pub mod lookup;
+pub mod output;
+pub mod rows;
+pub mod run;
+mod set;
