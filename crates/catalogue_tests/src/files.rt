@@ -1,5 +1,6 @@
 //! Catalogue files and their faults.
-use crate::{Catalogue, CatalogueCause, CatalogueFault, Text};
+use server_catalogue::{Catalogue, CatalogueCause, CatalogueFault};
+use session_values::text::Text;
 use session_values::naming::HasName;
 use std::alloc::Global;
 use std::process::Abort;

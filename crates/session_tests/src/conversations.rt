@@ -1,8 +1,8 @@
 //! A session from its start to its end, byte by byte.
-use crate::{Catalogue, Cause, Parameter, Session, StartKey, Text, solo_bytes};
 use bytes::BytesMut;
 use frame_view::{Side, Step, next_frame};
 use message_view::KeyWord;
+use session_machine::{Catalogue, Cause, Parameter, Session, StartKey, Text, solo_bytes};
 use std::alloc::Global;
 use std::process::Abort;
 use std::test::Fail;
@@ -89,7 +89,7 @@ fn answers_frames(rt: HostRuntime) -> Result<(), Fail> {
 fn answers_one_client_alone(rt: HostRuntime) -> Result<(), Fail> {
     let alloc = rt.alloc();
     let mut welcome = BytesMut::new(alloc);
-    session(alloc)?.put_welcome(WORD, &mut welcome)?;
+    session(alloc)?.put_welcome(alloc, WORD, &mut welcome)?;
     assert_eq!(rt; welcome.len(), 251);
     let mut whole = BytesMut::new(alloc);
     solo_bytes(
