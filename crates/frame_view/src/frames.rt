@@ -7,6 +7,9 @@ ghost use Rattle.frame_view.specs.Frames.{front, is_client_type, is_type};
 use crate::numbers::number_at;
 use crate::{Frame, FrameFault, Side, Step, client};
 
+/// The greatest length of a frame: that of a signed number of four bytes.
+pub const LONGEST_FRAME: u32 = 2_147_483_647;
+
 /// The bytes of a type and a length.
 const HEAD: usize = 5;
 /// A length counts its own four bytes.
