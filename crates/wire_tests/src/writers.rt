@@ -1,4 +1,6 @@
 //! Messages as the writers spell them. What a writer answers is let go: the bytes show whether it wrote.
+ghost use Rattle.std.specs.Prelude.{◌≤◌, IsOk};
+
 use bytes::BytesMut;
 use message_view::{
     Column, Severity, Status, put_authentication_ok, put_backend_key_data, put_bind_complete,
@@ -8,6 +10,7 @@ use message_view::{
     put_password_message, put_portal_suspended, put_query, put_ready_for_query,
     put_row_description, put_startup_message,
 };
+use std::alloc::AllocError;
 
 fn slice(bytes: &[u8]) -> &[u8] {
     bytes
@@ -27,6 +30,16 @@ fn writes_the_login(rt: HostRuntime) {
                 b"R\0\0\0\x08\0\0\0\0K\0\0\0\x0c\0\0\0\x01\0\0\0\x02Z\0\0\0\x05IR\0\0\0\x08\0\0\0\x03R\0\0\0\x0c\0\0\0\x05\x01\x02\x03\x04"
             )
     );
+}
+
+/// In reserved room a welcome can't fail: each writer tells what it leaves.
+fn put_short_welcome(out: &mut BytesMut) -> Result<(), AllocError>
+    requires { 37 ≤ out.old.spare }
+    ensures { IsOk result }
+{
+    put_parameter_status(out, b"TimeZone", b"UTC")?;
+    put_backend_key_data(out, 1, 2)?;
+    put_ready_for_query(out, Status::Idle)
 }
 
 #[test]
