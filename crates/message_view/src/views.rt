@@ -5,6 +5,7 @@ ghost use Rattle.message_view.specs.Reading.{alone, authentication_of, execute_o
 ghost use Rattle.message_view.specs.Shown.{TargetLiesAt, shown_execute, shown_target};
 ghost use Rattle.message_view.specs.Views.{Shows};
 
+use crate::kinds::{FAILED, IDLE, IN_TRANSACTION, PORTAL, STATEMENT};
 use crate::parts::{take_text, take_u32};
 use crate::{Status, ViewFault};
 
@@ -121,8 +122,8 @@ fn read_target(body: &[u8]) -> Result<Target<'_>, ViewFault>
     ensures place { IfOk result (λ t. TargetLiesAt t body.entry 1) }
 {
     match body {
-        [b'S', name @ ..] => Ok(Target::Statement(text_alone(name)?)),
-        [b'P', name @ ..] => Ok(Target::Portal(text_alone(name)?)),
+        [STATEMENT, name @ ..] => Ok(Target::Statement(text_alone(name)?)),
+        [PORTAL, name @ ..] => Ok(Target::Portal(text_alone(name)?)),
         _ => Err(ViewFault::TooShort),
     }
 }
@@ -219,9 +220,9 @@ impl ReadyView {
         ensures { Shows (λ v. v.status) result (ready_of body.now) }
     {
         let (status, rest) = match body {
-            [b'I', rest @ ..] => (Status::Idle, rest),
-            [b'T', rest @ ..] => (Status::InTransaction, rest),
-            [b'E', rest @ ..] => (Status::Failed, rest),
+            [IDLE, rest @ ..] => (Status::Idle, rest),
+            [IN_TRANSACTION, rest @ ..] => (Status::InTransaction, rest),
+            [FAILED, rest @ ..] => (Status::Failed, rest),
             _ => return Err(ViewFault::TooShort),
         };
         if !rest.is_empty() {
