@@ -131,6 +131,7 @@ fn put_columns(out: &mut BytesMut, columns: &[Column<'_>]) -> Result<(), AllocEr
 ///
 /// `AllocError` where a growth of `out` is refused, or the length field would be above
 /// [`frame_view::LONGEST_FRAME`]; then `out` is unchanged.
+#[tactic(auto, using(crate::proofs::Writers::text_columns_of))]
 pub fn put_row_description(out: &mut BytesMut, columns: &[Column<'_>]) -> Result<(), AllocError>
     requires { length columns.now < 2 ^ 16 }
     ensures ok { OnOk result (out.new.items ≡ out.old.items ++ spelling (row_description (names_of columns.now) (formats_of columns.now))) }
