@@ -1,12 +1,12 @@
 -- What stands at the front when more bytes come.
-use Rattle.std.proofs.Common.{◌≡◌, ℕ, ◌+◌, ◌-◌, ◌<◌, ◌≤◌, List, ◌∷◌, ◌++◌, length, take, drop, refl, ap, arith, ◌∙◌, length-drop, length-append, length-take, Bool, true, false}
+use Rattle.std.proofs.Common.{◌≡◌, ℕ, ◌+◌, ◌-◌, ◌<◌, ◌≤◌, List, ◌∷◌, ◌++◌, length, take, drop, refl, ap, arith, ◌∙◌, length-drop, length-append, length-take, Bool, true, false, Some, None}
 use Rattle.std.specs.Prelude.{nat_lt, if◌then◌else◌}
 use Rattle.std.proofs.lemmas.Bool.{le-ltb, lt-ltb, ltb-false, ltb-true}
 use Rattle.std.proofs.lemmas.List.{take-append-le, drop-append-le}
 use Rattle.frame_view.specs.declared.Side.{Side}
 use Rattle.frame_view.specs.declared.FrameFault.{FrameFault}
 use Rattle.frame_view.specs.declared.FrameFault.TheVariants.{UnknownType, TooShort, TooLong}
-use Rattle.frame_view.specs.Frames.{Front, AFrame, Lacks, Faulty, front, after_head, number, is_type}
+use Rattle.frame_view.specs.Frames.{Front, AFrame, Lacks, Faulty, front, at_head, with_body, after_head, number, is_type}
 use Rattle.frame_view.specs.Laws.{Grows}
 use Rattle.frame_view.proofs.Cuts.{after-frame, front-fits}
 
@@ -66,8 +66,8 @@ after_head-grows limit kind size rest more here false low here-is t =
 
 at_head-grows : (limit kind len : ℕ) (rest more : List ℕ) (here : ℕ) (t low high : Bool) → here ≡ 5 + length rest → nat_lt len 4 ≡ low → nat_lt limit len ≡ high
     → Grows limit
-    (if t then (if low then Faulty TooShort else (if high then Faulty TooLong else after_head kind (len - 4) rest)) else Faulty UnknownType)
-    (if t then (if low then Faulty TooShort else (if high then Faulty TooLong else after_head kind (len - 4) (rest ++ more))) else Faulty UnknownType)
+    (with_body (at_head (if t then (if low then Some TooShort else (if high then Some TooLong else None)) else Some UnknownType) kind len rest))
+    (with_body (at_head (if t then (if low then Some TooShort else (if high then Some TooLong else None)) else Some UnknownType) kind len (rest ++ more)))
     here more
 at_head-grows limit kind len rest more here false low high e l h = grows-faulty _ _ _ _
 at_head-grows limit kind len rest more here true true high e l h = grows-faulty _ _ _ _

@@ -1,5 +1,8 @@
 //! The types of a client's messages (PostgreSQL manual, "Message Formats": those marked F).
 
+ghost use Rattle.std.specs.Prelude.{◌≡◌};
+ghost use Rattle.frame_view.specs.Frames.{is_closing as closes};
+
 pub const BIND: u8 = b'B';
 
 pub const CLOSE: u8 = b'C';
@@ -27,3 +30,10 @@ pub const QUERY: u8 = b'Q';
 pub const SYNC: u8 = b'S';
 
 pub const TERMINATE: u8 = b'X';
+
+/// Whether a message of this type is answered up to one ReadyForQuery: Query, FunctionCall, Sync.
+pub fn is_closing(kind: u8) -> bool
+    ensures { result ≡ closes kind }
+{
+    matches!(kind, QUERY | FUNCTION_CALL | SYNC)
+}

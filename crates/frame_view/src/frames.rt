@@ -1,11 +1,14 @@
 //! Frames, each a type byte, a length and a body.
 
 ghost use Rattle.std.specs.Prelude.{◌≡◌, ◌≤◌, length, drop};
-ghost use Rattle.frame_view.specs.Answers.{LiesIn, Tells};
-ghost use Rattle.frame_view.specs.Frames.{front, is_client_type, is_type};
+ghost use Rattle.frame_view.specs.Answers.{HasLawfulLength, LiesIn, Tells, TellsHead};
+ghost use Rattle.frame_view.specs.Frames.{front, head_fault as fault_of_head, head_front, is_client_type, is_type};
 
 use crate::numbers::number_at;
-use crate::{Frame, FrameFault, Side, Step, client};
+use crate::{Frame, FrameFault, Head, HeadStep, Side, Step, client};
+
+/// The greatest length of a frame: that of a signed number of four bytes.
+pub const LONGEST_FRAME: u32 = 2_147_483_647;
 
 /// The bytes of a type and a length.
 const HEAD: usize = 5;
@@ -43,30 +46,62 @@ fn is_kind(side: Side, kind: u8) -> bool
     }
 }
 
-fn step_at(bytes: &[u8], limit: u32, side: Side) -> Step<'_>
+/// The first fault of a head with this type and length, if any, in the order of [`next_frame`].
+pub fn head_fault(kind: u8, length: u32, limit: u32, side: Side) -> Option<FrameFault>
+    ensures { result ≡ fault_of_head side limit kind length }
+{
+    if !is_kind(side, kind) {
+        return Some(FrameFault::UnknownType);
+    }
+    if length < LEAST_LENGTH {
+        return Some(FrameFault::TooShort);
+    }
+    if length > limit {
+        return Some(FrameFault::TooLong);
+    }
+    None
+}
+
+fn head_at(bytes: &[u8], limit: u32, side: Side) -> HeadStep
+    ensures tells { TellsHead result bytes.now (head_front side limit bytes.now) }
+    ensures lawful { HasLawfulLength result limit }
+{
+    if bytes.len() < HEAD {
+        return HeadStep::Need(HEAD - bytes.len());
+    }
+    let kind = bytes[0];
+    let length = number_at(bytes, 1);
+    match head_fault(kind, length, limit, side) {
+        Some(fault) => HeadStep::Bad(fault),
+        None => HeadStep::Whole(Head { kind, length }),
+    }
+}
+
+/// Tells what stands in `buf` at the place `from`, the body left aside: a head without fault, the number
+/// of bytes of the head that are missing, or the fault of [`head_fault`]. Takes no memory.
+pub fn next_head(buf: &[u8], from: usize, limit: u32, side: Side) -> HeadStep
+    requires { from ≤ length buf.now }
+    ensures tells { TellsHead result (drop from buf.now) (head_front side limit (drop from buf.now)) }
+    ensures lawful { HasLawfulLength result limit }
+{
+    head_at(&buf[from..], limit, side)
+}
+
+fn frame_at(bytes: &[u8], limit: u32, side: Side) -> Step<'_>
     ensures tells { Tells result bytes.now (front side limit bytes.now) }
     ensures place { LiesIn result bytes.entry 0 }
 {
-    if bytes.len() < HEAD {
-        return Step::Need(HEAD - bytes.len());
-    }
-    let kind = bytes[0];
-    if !is_kind(side, kind) {
-        return Step::Bad(FrameFault::UnknownType);
-    }
-    let length = number_at(bytes, 1);
-    if length < LEAST_LENGTH {
-        return Step::Bad(FrameFault::TooShort);
-    }
-    if length > limit {
-        return Step::Bad(FrameFault::TooLong);
-    }
-    let end = length as usize + 1;
+    let head = match head_at(bytes, limit, side) {
+        HeadStep::Whole(head) => head,
+        HeadStep::Need(missing) => return Step::Need(missing),
+        HeadStep::Bad(fault) => return Step::Bad(fault),
+    };
+    let end = head.length as usize + 1;
     if bytes.len() < end {
         return Step::Need(end - bytes.len());
     }
     Step::Whole(Frame {
-        kind,
+        kind: head.kind,
         body: &bytes[HEAD..end],
         whole: &bytes[..end],
     })
@@ -85,5 +120,5 @@ pub fn next_frame(buf: &[u8], from: usize, limit: u32, side: Side) -> Step<'_>
     ensures tells { Tells result (drop from buf.now) (front side limit (drop from buf.now)) }
     ensures place { LiesIn result buf.entry from }
 {
-    step_at(&buf[from..], limit, side)
+    frame_at(&buf[from..], limit, side)
 }

@@ -1,13 +1,23 @@
 //! Laws of frames and of first packets, each the contract of a function that does nothing: a caller that
 //! needs a law calls its function.
 
-ghost use Rattle.frame_view.specs.Laws.{CodesAreTheStandards, FirstGrows, FirstReadIsSpelled, FirstSpelledIsRead, FramesGoOn, FramesSplit, FrontGrows, FrontIsSpelled, KindsAreTheStandards, SpelledAreFirst, SpelledIsFirst, SpelledIsFront, SplitsOneWay};
+ghost use Rattle.frame_view.specs.Frames.{AreBytes};
+ghost use Rattle.frame_view.specs.Laws.{CodesAreTheStandards, FirstGrows, FirstReadIsSpelled, FirstSpelledIsRead, FramesGoOn, FramesSplit, FrontGrows, FrontIsSpelled, KindsAreTheStandards, LengthsAreTheStandards, SpelledAreFirst, SpelledIsFirst, SpelledIsFront, SplitsOneWay};
 
-/// The types of [`crate::client`] and [`crate::server`] and the codes of first packets are the standard's.
+/// The types of [`crate::client`] and [`crate::server`], the codes of first packets and a frame's least
+/// and greatest length are the standard's.
 pub fn names_are_the_standards()
     ensures kinds { KindsAreTheStandards }
     ensures codes { CodesAreTheStandards }
+    ensures lengths { LengthsAreTheStandards }
 {}
+
+/// The items of a slice of bytes are bytes: what the laws ask of a list that is read.
+pub fn are_bytes(bytes: &[u8])
+    ensures { AreBytes bytes.now }
+{
+    let _count = bytes.len();
+}
 
 /// A frame's spelling is cut out again, whatever follows it.
 pub fn spelled_is_front()

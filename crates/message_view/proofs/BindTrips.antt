@@ -1,7 +1,8 @@
 -- A Bind's parts and a column's, spelled and read again.
 use Rattle.std.proofs.Common.{◌≡◌, ℕ, List, ◌++◌, Ok, refl, ap, sym, ◌∙◌, append_assoc}
+use Rattle.frame_view.specs.Frames.{AreBytes}
 use Rattle.message_view.specs.Bodies.{text, int16, int32, values, numbers16, ColumnOf, column, Bind, bind_body}
-use Rattle.message_view.specs.Spelled.{IsBytes, FitsColumn, FitsBind}
+use Rattle.message_view.specs.Spelled.{FitsColumn, FitsBind}
 use Rattle.message_view.specs.Reading.{text_at, int16_at, int32_at, value_at, column_at, counted_at, bind_at}
 use Rattle.message_view.proofs.Pieces.{bind-inv, carry}
 use Rattle.message_view.proofs.Trips.{bytes_behind, text_reads, text_spelled, int16_reads, int16_spelled, int32_reads, int32_spelled}
@@ -24,7 +25,7 @@ bind_reads b rest h =
       codes_read b.results rest h.results,
     ) refl
 
-pub bind_spelled : (bytes : List ℕ) (x : Bind) (rest : List ℕ) → IsBytes bytes → bind_at bytes ≡ Ok (x, rest) → (bytes ≡ bind_body x ++ rest) × FitsBind x
+pub bind_spelled : (bytes : List ℕ) (x : Bind) (rest : List ℕ) → AreBytes bytes → bind_at bytes ≡ Ok (x, rest) → (bytes ≡ bind_body x ++ rest) × FitsBind x
 bind_spelled bytes x rest fits e =
     let a = bind-inv (text_at bytes) _ (x, rest) e in
     let b = bind-inv (text_at a.0.1) _ (x, rest) a.2 in
@@ -59,7 +60,7 @@ column_reads c rest h =
       int16_reads c.format rest h.format,
     ) refl
 
-pub column_spelled : (bytes : List ℕ) (x : ColumnOf) (rest : List ℕ) → IsBytes bytes → column_at bytes ≡ Ok (x, rest) → (bytes ≡ column x ++ rest) × FitsColumn x
+pub column_spelled : (bytes : List ℕ) (x : ColumnOf) (rest : List ℕ) → AreBytes bytes → column_at bytes ≡ Ok (x, rest) → (bytes ≡ column x ++ rest) × FitsColumn x
 unfolding column_at
 column_spelled bytes x rest fits e =
     let a = bind-inv (text_at bytes) _ (x, rest) e in

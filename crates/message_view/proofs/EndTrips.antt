@@ -3,8 +3,9 @@ use Rattle.std.proofs.Common.{◌≡◌, ◌<◌, ℕ, List, [], ◌∷◌, ◌+
 use Rattle.std.specs.Prelude.{◌==◌, if◌then◌else◌}
 use Rattle.std.specs.List.{flat_map, AllByRecursion}
 use Rattle.std.proofs.lemmas.Bool.{ne_eqb, eqb-true, eqb-false}
+use Rattle.frame_view.specs.Frames.{AreBytes}
 use Rattle.message_view.specs.Bodies.{Text, HasNoZero, text, pair, field, fields_body, startup_body}
-use Rattle.message_view.specs.Spelled.{IsBytes, FitsPair, FitsField}
+use Rattle.message_view.specs.Spelled.{FitsPair, FitsField}
 use Rattle.message_view.specs.Reading.{Part, ◌>>=◌, text_at, pair_named, pair_at, field_at, ended_at}
 use Rattle.message_view.proofs.Pieces.{bind-inv, carry}
 use Rattle.message_view.proofs.Trips.{text_reads, text_spelled}
@@ -53,7 +54,7 @@ pairs_read xs rest h =
     ap (λ (b : List ℕ). ended_at pair_at b) (append_assoc (flat_map pair xs) (0 ∷ []) rest)
     ∙ ended_reads pair_at pair FitsPair pair_shrinks pair_reads pair_ends (λ b x r e. held-pair b (Some x) r e) (λ b r e. held-pair b None r e) xs rest h
 
-pub pairs_spelled : (bytes : List ℕ) (xs : List (Text × Text)) (rest : List ℕ) → IsBytes bytes → ended_at pair_at bytes ≡ Ok (xs, rest) → (bytes ≡ startup_body xs ++ rest) × AllByRecursion FitsPair xs
+pub pairs_spelled : (bytes : List ℕ) (xs : List (Text × Text)) (rest : List ℕ) → AreBytes bytes → ended_at pair_at bytes ≡ Ok (xs, rest) → (bytes ≡ startup_body xs ++ rest) × AllByRecursion FitsPair xs
 pairs_spelled bytes xs rest fits e =
     let all = ended_spelled pair_at pair FitsPair pair_shrinks pair_reads pair_ends (λ b x r k. held-pair b (Some x) r k) (λ b r k. held-pair b None r k) bytes xs rest e in
     (all.0 ∙ sym (append_assoc (flat_map pair xs) (0 ∷ []) rest), all.1)
@@ -102,7 +103,7 @@ fields_read xs rest h =
     ap (λ (b : List ℕ). ended_at field_at b) (append_assoc (flat_map field_of xs) (0 ∷ []) rest)
     ∙ ended_reads field_at field_of FitsField field_shrinks field_reads field_ends (λ b x r e. held-field b (Some x) r e) (λ b r e. held-field b None r e) xs rest h
 
-pub fields_spelled : (bytes : List ℕ) (xs : List (ℕ × Text)) (rest : List ℕ) → IsBytes bytes → ended_at field_at bytes ≡ Ok (xs, rest) → (bytes ≡ fields_body xs ++ rest) × AllByRecursion FitsField xs
+pub fields_spelled : (bytes : List ℕ) (xs : List (ℕ × Text)) (rest : List ℕ) → AreBytes bytes → ended_at field_at bytes ≡ Ok (xs, rest) → (bytes ≡ fields_body xs ++ rest) × AllByRecursion FitsField xs
 fields_spelled bytes xs rest fits e =
     let all = ended_spelled field_at field_of FitsField field_shrinks field_reads field_ends (λ b x r k. held-field b (Some x) r k) (λ b r k. held-field b None r k) bytes xs rest e in
     (all.0 ∙ sym (append_assoc (flat_map field_of xs) (0 ∷ []) rest), all.1)

@@ -1,8 +1,9 @@
 -- Lists that are spelled are read again, and what is read is spelled so.
 use Rattle.std.proofs.Common.{◌≡◌, ◌<◌, ℕ, zero, suc, List, [], ◌∷◌, ◌++◌, length, Option, Some, None, Ok, refl, ap, sym, ◌∙◌, append_assoc, subst}
 use Rattle.std.specs.List.{flat_map, AllByRecursion}
+use Rattle.frame_view.specs.Frames.{AreBytes}
 use Rattle.message_view.specs.Bodies.{int16}
-use Rattle.message_view.specs.Spelled.{IsBytes, Fits16, FitsList}
+use Rattle.message_view.specs.Spelled.{Fits16, FitsList}
 use Rattle.message_view.specs.Reading.{Part, ◌>>=◌, int16_at, list_at, counted_at, and_more, list_until, ended_at}
 use Rattle.message_view.proofs.Pieces.{same_rest, same_part, bind-inv, carry}
 use Rattle.message_view.proofs.Trips.{bytes_behind, int16_reads, int16_spelled}
@@ -10,7 +11,7 @@ use Rattle.message_view.proofs.Ended.{ended}
 
 module _ {A : Type 0} (item : List ℕ → Part A) (spell : A → List ℕ) (Fits : A → Type 0)
     (reads : (x : A) (rest : List ℕ) → Fits x → item (spell x ++ rest) ≡ Ok (x, rest))
-    (spelled : (bytes : List ℕ) (x : A) (rest : List ℕ) → IsBytes bytes → item bytes ≡ Ok (x, rest) → (bytes ≡ spell x ++ rest) × Fits x) where
+    (spelled : (bytes : List ℕ) (x : A) (rest : List ℕ) → AreBytes bytes → item bytes ≡ Ok (x, rest) → (bytes ≡ spell x ++ rest) × Fits x) where
   list_reads : (xs : List A) (rest : List ℕ) → AllByRecursion Fits xs → list_at item (length xs) (flat_map spell xs ++ rest) ≡ Ok (xs, rest)
   unfolding list_at
   list_reads [] rest h = refl
@@ -22,7 +23,7 @@ module _ {A : Type 0} (item : List ℕ → Part A) (spell : A → List ℕ) (Fit
   abbrev with-first : A → List A × List ℕ → Part (List A)
   with-first x others = Ok (x ∷ others.0, others.1)
 
-  list_spelled : (n : ℕ) (bytes : List ℕ) (xs : List A) (rest : List ℕ) → IsBytes bytes → list_at item n bytes ≡ Ok (xs, rest)
+  list_spelled : (n : ℕ) (bytes : List ℕ) (xs : List A) (rest : List ℕ) → AreBytes bytes → list_at item n bytes ≡ Ok (xs, rest)
       → (bytes ≡ flat_map spell xs ++ rest) × AllByRecursion Fits xs × (length xs ≡ n)
   unfolding list_at
   list_spelled zero bytes xs rest fits e = rw (← (same_part e), ← (same_rest e)) (refl, tt, refl)
@@ -39,7 +40,7 @@ module _ {A : Type 0} (item : List ℕ → Part A) (spell : A → List ℕ) (Fit
       let count = int16_reads (length xs) (flat_map spell xs ++ rest) h.count in
       ap (λ (p : Part ℕ). p >>= λ n. list_at item n.0 n.1) count ∙ list_reads xs rest h.each
 
-  pub counted_spelled : (bytes : List ℕ) (xs : List A) (rest : List ℕ) → IsBytes bytes → counted_at item bytes ≡ Ok (xs, rest) → (bytes ≡ int16 (length xs) ++ flat_map spell xs ++ rest) × FitsList Fits xs
+  pub counted_spelled : (bytes : List ℕ) (xs : List A) (rest : List ℕ) → AreBytes bytes → counted_at item bytes ≡ Ok (xs, rest) → (bytes ≡ int16 (length xs) ++ flat_map spell xs ++ rest) × FitsList Fits xs
   counted_spelled bytes xs rest fits e =
       let count = bind-inv (int16_at bytes) _ (xs, rest) e in
       let head = int16_spelled bytes count.0.0 count.0.1 fits count.1 in

@@ -1,7 +1,8 @@
 -- Parts of several that are spelled are read again, and what is read is spelled so.
 use Rattle.std.proofs.Common.{◌≡◌, ℕ, List, ◌++◌, Option, Ok, refl, ap, sym, ◌∙◌, append_assoc}
+use Rattle.frame_view.specs.Frames.{AreBytes}
 use Rattle.message_view.specs.Bodies.{Text, HasNoZero, text, int16, int32, value, values, numbers16, numbers32, Parse, parse_body, execute_body, status_body}
-use Rattle.message_view.specs.Spelled.{IsBytes, Fits16, Fits32, FitsValue, FitsList, FitsParse}
+use Rattle.message_view.specs.Spelled.{Fits16, Fits32, FitsValue, FitsList, FitsParse}
 use Rattle.message_view.specs.Reading.{text_at, int16_at, int32_at, value_at, counted_at, parse_at, execute_at, key_at, status_at}
 use Rattle.message_view.proofs.Pieces.{bind-inv, carry}
 use Rattle.message_view.proofs.Trips.{bytes_behind, text_reads, text_spelled, int16_reads, int16_spelled, int32_reads, int32_spelled, value_reads, value_spelled}
@@ -11,19 +12,19 @@ use Rattle.message_view.proofs.ListTrips.{counted_reads, counted_spelled}
 pub oids_read : (xs rest : List ℕ) → FitsList Fits32 xs → counted_at int32_at (numbers32 xs ++ rest) ≡ Ok (xs, rest)
 oids_read xs rest h = counted_reads int32_at int32 Fits32 int32_reads int32_spelled xs rest h
 
-pub oids_spelled : (bytes xs rest : List ℕ) → IsBytes bytes → counted_at int32_at bytes ≡ Ok (xs, rest) → (bytes ≡ numbers32 xs ++ rest) × FitsList Fits32 xs
+pub oids_spelled : (bytes xs rest : List ℕ) → AreBytes bytes → counted_at int32_at bytes ≡ Ok (xs, rest) → (bytes ≡ numbers32 xs ++ rest) × FitsList Fits32 xs
 oids_spelled bytes xs rest fits e = counted_spelled int32_at int32 Fits32 int32_reads int32_spelled bytes xs rest fits e
 
 pub codes_read : (xs rest : List ℕ) → FitsList Fits16 xs → counted_at int16_at (numbers16 xs ++ rest) ≡ Ok (xs, rest)
 codes_read xs rest h = counted_reads int16_at int16 Fits16 int16_reads int16_spelled xs rest h
 
-pub codes_spelled : (bytes xs rest : List ℕ) → IsBytes bytes → counted_at int16_at bytes ≡ Ok (xs, rest) → (bytes ≡ numbers16 xs ++ rest) × FitsList Fits16 xs
+pub codes_spelled : (bytes xs rest : List ℕ) → AreBytes bytes → counted_at int16_at bytes ≡ Ok (xs, rest) → (bytes ≡ numbers16 xs ++ rest) × FitsList Fits16 xs
 codes_spelled bytes xs rest fits e = counted_spelled int16_at int16 Fits16 int16_reads int16_spelled bytes xs rest fits e
 
 pub values_read : (xs : List (Option Text)) (rest : List ℕ) → FitsList FitsValue xs → counted_at value_at (values xs ++ rest) ≡ Ok (xs, rest)
 values_read xs rest h = counted_reads value_at value FitsValue value_reads value_spelled xs rest h
 
-pub values_spelled : (bytes : List ℕ) (xs : List (Option Text)) (rest : List ℕ) → IsBytes bytes → counted_at value_at bytes ≡ Ok (xs, rest) → (bytes ≡ values xs ++ rest) × FitsList FitsValue xs
+pub values_spelled : (bytes : List ℕ) (xs : List (Option Text)) (rest : List ℕ) → AreBytes bytes → counted_at value_at bytes ≡ Ok (xs, rest) → (bytes ≡ values xs ++ rest) × FitsList FitsValue xs
 values_spelled bytes xs rest fits e = counted_spelled value_at value FitsValue value_reads value_spelled bytes xs rest fits e
 
 -- ---- two parts
@@ -31,7 +32,7 @@ values_spelled bytes xs rest fits e = counted_spelled value_at value FitsValue v
 pub status_reads : (x : Text × Text) (rest : List ℕ) → HasNoZero x.0 × HasNoZero x.1 → status_at (status_body x.0 x.1 ++ rest) ≡ Ok (x, rest)
 status_reads x rest h = rw (append_assoc (text x.0) (text x.1) rest, text_reads x.0 (text x.1 ++ rest) h.0, text_reads x.1 rest h.1) refl
 
-pub status_spelled : (bytes : List ℕ) (x : Text × Text) (rest : List ℕ) → IsBytes bytes → status_at bytes ≡ Ok (x, rest) → (bytes ≡ status_body x.0 x.1 ++ rest) × (HasNoZero x.0 × HasNoZero x.1)
+pub status_spelled : (bytes : List ℕ) (x : Text × Text) (rest : List ℕ) → AreBytes bytes → status_at bytes ≡ Ok (x, rest) → (bytes ≡ status_body x.0 x.1 ++ rest) × (HasNoZero x.0 × HasNoZero x.1)
 status_spelled bytes x rest fits e =
     let a = bind-inv (text_at bytes) _ (x, rest) e in
     let b = bind-inv (text_at a.0.1) _ (x, rest) a.2 in
@@ -43,7 +44,7 @@ status_spelled bytes x rest fits e =
 pub key_reads : (x : ℕ × ℕ) (rest : List ℕ) → Fits32 x.0 × Fits32 x.1 → key_at (int32 x.0 ++ int32 x.1 ++ rest) ≡ Ok (x, rest)
 key_reads x rest h = rw (int32_reads x.0 (int32 x.1 ++ rest) h.0, int32_reads x.1 rest h.1) refl
 
-pub key_spelled : (bytes : List ℕ) (x : ℕ × ℕ) (rest : List ℕ) → IsBytes bytes → key_at bytes ≡ Ok (x, rest) → (bytes ≡ int32 x.0 ++ int32 x.1 ++ rest) × (Fits32 x.0 × Fits32 x.1)
+pub key_spelled : (bytes : List ℕ) (x : ℕ × ℕ) (rest : List ℕ) → AreBytes bytes → key_at bytes ≡ Ok (x, rest) → (bytes ≡ int32 x.0 ++ int32 x.1 ++ rest) × (Fits32 x.0 × Fits32 x.1)
 key_spelled bytes x rest fits e =
     let a = bind-inv (int32_at bytes) _ (x, rest) e in
     let b = bind-inv (int32_at a.0.1) _ (x, rest) a.2 in
@@ -55,7 +56,7 @@ key_spelled bytes x rest fits e =
 pub execute_reads : (x : Text × ℕ) (rest : List ℕ) → HasNoZero x.0 × Fits32 x.1 → execute_at (execute_body x.0 x.1 ++ rest) ≡ Ok (x, rest)
 execute_reads x rest h = rw (append_assoc (text x.0) (int32 x.1) rest, text_reads x.0 (int32 x.1 ++ rest) h.0, int32_reads x.1 rest h.1) refl
 
-pub execute_spelled : (bytes : List ℕ) (x : Text × ℕ) (rest : List ℕ) → IsBytes bytes → execute_at bytes ≡ Ok (x, rest) → (bytes ≡ execute_body x.0 x.1 ++ rest) × (HasNoZero x.0 × Fits32 x.1)
+pub execute_spelled : (bytes : List ℕ) (x : Text × ℕ) (rest : List ℕ) → AreBytes bytes → execute_at bytes ≡ Ok (x, rest) → (bytes ≡ execute_body x.0 x.1 ++ rest) × (HasNoZero x.0 × Fits32 x.1)
 execute_spelled bytes x rest fits e =
     let a = bind-inv (text_at bytes) _ (x, rest) e in
     let b = bind-inv (int32_at a.0.1) _ (x, rest) a.2 in
@@ -76,7 +77,7 @@ parse_reads p rest h =
       oids_read p.oids rest h.oids,
     ) refl
 
-pub parse_spelled : (bytes : List ℕ) (x : Parse) (rest : List ℕ) → IsBytes bytes → parse_at bytes ≡ Ok (x, rest) → (bytes ≡ parse_body x ++ rest) × FitsParse x
+pub parse_spelled : (bytes : List ℕ) (x : Parse) (rest : List ℕ) → AreBytes bytes → parse_at bytes ≡ Ok (x, rest) → (bytes ≡ parse_body x ++ rest) × FitsParse x
 parse_spelled bytes x rest fits e =
     let a = bind-inv (text_at bytes) _ (x, rest) e in
     let b = bind-inv (text_at a.0.1) _ (x, rest) a.2 in

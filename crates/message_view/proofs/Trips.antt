@@ -5,17 +5,18 @@ use Rattle.std.proofs.lemmas.Nat.{from_be_bytes-to_be_bytes_2, from_be_bytes-to_
 use Rattle.std.proofs.lemmas.List.{get_or-append-add, take-append-drop}
 use Rattle.std.proofs.lemmas.Bool.{ne_eqb, eqb-true, eqb-false, ltb-true, ltb-false, lt-ltb, le-ltb}
 use Rattle.std.proofs.Math.Seq.{take-append_seam, drop-append_seam}
+use Rattle.frame_view.specs.Frames.{AreBytes}
 use Rattle.message_view.specs.declared.ViewFault.TheVariants.{TooShort, BadLength}
 use Rattle.message_view.specs.Bodies.{Text, HasNoZero, text, int16, int32, value}
-use Rattle.message_view.specs.Spelled.{IsBytes, Fits16, Fits32, FitsValue}
+use Rattle.message_view.specs.Spelled.{Fits16, Fits32, FitsValue}
 use Rattle.message_view.specs.Reading.{Part, ◌>>=◌, with_first, text_at, int16_at, int32_at, bytes_at, value_of_length, value_at}
 use Rattle.message_view.proofs.Pieces.{same_rest, same_part, bind-inv}
 
-pub bytes_after : (front rest : List ℕ) → IsBytes (front ++ rest) → IsBytes rest
+pub bytes_after : (front rest : List ℕ) → AreBytes (front ++ rest) → AreBytes rest
 bytes_after front rest fits i = omega (arith, fits (length front + i), get_or-append-add front rest i 0)
 
-pub bytes_behind : (bytes front rest : List ℕ) → bytes ≡ front ++ rest → IsBytes bytes → IsBytes rest
-bytes_behind bytes front rest e fits = bytes_after front rest (subst IsBytes e fits)
+pub bytes_behind : (bytes front rest : List ℕ) → bytes ≡ front ++ rest → AreBytes bytes → AreBytes rest
+bytes_behind bytes front rest e fits = bytes_after front rest (subst AreBytes e fits)
 
 -- ---- texts
 
@@ -67,7 +68,7 @@ four-fit a b c d p q r s (suc (suc zero)) = r
 four-fit a b c d p q r s (suc (suc (suc zero))) = s
 four-fit a b c d p q r s (suc (suc (suc (suc i)))) = omega arith
 
-pub int16_spelled : (bytes : List ℕ) (n : ℕ) (rest : List ℕ) → IsBytes bytes → int16_at bytes ≡ Ok (n, rest) → (bytes ≡ int16 n ++ rest) × Fits16 n
+pub int16_spelled : (bytes : List ℕ) (n : ℕ) (rest : List ℕ) → AreBytes bytes → int16_at bytes ≡ Ok (n, rest) → (bytes ≡ int16 n ++ rest) × Fits16 n
 unfolding int16_at
 int16_spelled (a ∷ b ∷ bytes) n rest fits e =
     let is = same_part e in
@@ -76,7 +77,7 @@ int16_spelled (a ∷ b ∷ bytes) n rest fits e =
 int16_spelled [] n rest fits e = absurd (cc)
 int16_spelled (_ ∷ []) n rest fits e = absurd (cc)
 
-pub int32_spelled : (bytes : List ℕ) (n : ℕ) (rest : List ℕ) → IsBytes bytes → int32_at bytes ≡ Ok (n, rest) → (bytes ≡ int32 n ++ rest) × Fits32 n
+pub int32_spelled : (bytes : List ℕ) (n : ℕ) (rest : List ℕ) → AreBytes bytes → int32_at bytes ≡ Ok (n, rest) → (bytes ≡ int32 n ++ rest) × Fits32 n
 unfolding int32_at
 int32_spelled (a ∷ b ∷ c ∷ d ∷ bytes) n rest fits e =
     let is = same_part e in
@@ -123,7 +124,7 @@ value-spelled n bytes rest v true null l z e = bytes-spelled n bytes rest v (nat
 value-spelled n bytes rest v false true l z e = rw (← (same_part e), ← (same_rest e), eqb-true n 4294967295 z) (refl, tt)
 value-spelled n bytes rest v false false l z e = absurd (cc)
 
-pub value_spelled : (bytes : List ℕ) (v : Option Text) (rest : List ℕ) → IsBytes bytes → value_at bytes ≡ Ok (v, rest) → (bytes ≡ value v ++ rest) × FitsValue v
+pub value_spelled : (bytes : List ℕ) (v : Option Text) (rest : List ℕ) → AreBytes bytes → value_at bytes ≡ Ok (v, rest) → (bytes ≡ value v ++ rest) × FitsValue v
 unfolding value_at
 value_spelled bytes v rest fits e =
     let size = bind-inv (int32_at bytes) value_of_length (v, rest) e in

@@ -1,18 +1,26 @@
 -- What is written is cut out and read again, and what is read is spelled so.
-use Rattle.std.specs.Prelude.{◌≡◌, ℕ, ◌+◌, ◌^◌, ◌<◌, ◌≤◌, List, ◌++◌, length, Result, Ok}
+use Rattle.std.specs.Prelude.{◌≡◌, ℕ, ◌+◌, ◌^◌, ◌<◌, ◌≤◌, List, [], ◌∷◌, ◌++◌, length, Result, Ok, codes}
 use Rattle.frame_view.specs.declared.Side.TheVariants.{Client, Server}
 use Rattle.frame_view.specs.declared.first.TheConstants.{LONGEST_FIRST_PACKET}
-use Rattle.frame_view.specs.Frames.{FrameOf, spelling, before, frames, Start, AFirst, first_front}
+use Rattle.frame_view.specs.Frames.{AreBytes, FrameOf, spelling, before, frames, Start, AFirst, first_front}
+use Rattle.message_view.specs.declared.kinds.TheConstants.{ASKS_NOTHING, ASKS_CLEARTEXT, ASKS_MD5, IDLE, IN_TRANSACTION, FAILED, STATEMENT, PORTAL, SEVERITY, SEVERITY_UNTRANSLATED, SQLSTATE, MESSAGE, TEXT_TYPE}
 use Rattle.message_view.specs.declared.ViewFault.{ViewFault}
 use Rattle.message_view.specs.Bodies.{Text, startup_body}
 use Rattle.message_view.specs.Messages.{password_message, query, startup_message}
-use Rattle.message_view.specs.Spelled.{IsBytes}
+
+-- Numbers and letters inside bodies are these.
+pub record NamesAreTheStandards : Type 0 where
+  pub authentication : ASKS_NOTHING ∷ ASKS_CLEARTEXT ∷ ASKS_MD5 ∷ [] ≡ 0 ∷ 3 ∷ 5 ∷ []
+  pub statuses : IDLE ∷ IN_TRANSACTION ∷ FAILED ∷ [] ≡ codes "ITE"
+  pub targets : STATEMENT ∷ PORTAL ∷ [] ≡ codes "SP"
+  pub fields : SEVERITY ∷ SEVERITY_UNTRANSLATED ∷ SQLSTATE ∷ MESSAGE ∷ [] ≡ codes "SVCM"
+  pub text_type : TEXT_TYPE ≡ 25
 
 -- Parts that fit are read again from the body that they spell, and a body is read as parts only
 -- where they fit and spell it.
 pub record IsReaderOf {A : Type 0} (read : List ℕ → Result A ViewFault) (spell : A → List ℕ) (Fits : A → Type 0) : Type 0 where
   pub again : (parts : A) → Fits parts → read (spell parts) ≡ Ok parts
-  pub only : (body : List ℕ) (parts : A) → IsBytes body → read body ≡ Ok parts → Fits parts × (body ≡ spell parts)
+  pub only : (body : List ℕ) (parts : A) → AreBytes body → read body ≡ Ok parts → Fits parts × (body ≡ spell parts)
 
 -- A server's frame is the first of the frames, whatever follows it, under a limit not below its length.
 abbrev pub ServerFrameIsCut : Type 0

@@ -5,6 +5,7 @@ use Rattle.message_view.specs.declared.ViewFault.{ViewFault}
 use Rattle.message_view.specs.declared.ViewFault.TheVariants.{TooShort, NoZero, LeftOver, BadLength}
 use Rattle.message_view.specs.declared.Status.{Status}
 use Rattle.message_view.specs.declared.Status.TheVariants.{Idle, InTransaction, Failed}
+use Rattle.message_view.specs.declared.kinds.TheConstants.{IDLE, IN_TRANSACTION, FAILED, STATEMENT, PORTAL}
 use Rattle.message_view.specs.Bodies.{Text, ColumnOf, Parse, Bind, Target, OfStatement, OfPortal}
 
 -- what a reader gives: a part, and the bytes after it
@@ -146,12 +147,12 @@ bind_at body = do
 unfoldable pub bind_of : List ℕ → Result Bind ViewFault
 bind_of body = alone (bind_at body)
 
--- the body of a Describe or a Close: S or P, and a name
+-- the body of a Describe or a Close: what it is about, and a name
 unfoldable pub target_of : List ℕ → Result Target ViewFault
 target_of [] = Err TooShort
 target_of (b ∷ body) =
-    if b == 83 then (alone (text_at body) >>= λ t. Ok (OfStatement t))
-    else (if b == 80 then (alone (text_at body) >>= λ t. Ok (OfPortal t)) else Err TooShort)
+    if b == STATEMENT then (alone (text_at body) >>= λ t. Ok (OfStatement t))
+    else (if b == PORTAL then (alone (text_at body) >>= λ t. Ok (OfPortal t)) else Err TooShort)
 
 abbrev pub execute_at : List ℕ → Part (Text × ℕ)
 execute_at body = do
@@ -184,9 +185,8 @@ status_at body = do
 unfoldable pub status_of : List ℕ → Result (Text × Text) ViewFault
 status_of body = alone (status_at body)
 
--- I, T and E
 abbrev pub status_named : ℕ → Result Status ViewFault
-status_named b = if b == 73 then Ok Idle else (if b == 84 then Ok InTransaction else (if b == 69 then Ok Failed else Err TooShort))
+status_named b = if b == IDLE then Ok Idle else (if b == IN_TRANSACTION then Ok InTransaction else (if b == FAILED then Ok Failed else Err TooShort))
 
 unfoldable pub ready_of : List ℕ → Result Status ViewFault
 ready_of [] = Err TooShort

@@ -1,10 +1,7 @@
 -- Which parts spell a body: texts without a zero byte, numbers and counts that fit their fields.
-use Rattle.std.specs.Prelude.{ℕ, ◌^◌, ◌<◌, List, length, Option, Some, None, slice_index}
+use Rattle.std.specs.Prelude.{ℕ, ◌^◌, ◌<◌, List, length, Option, Some, None}
 use Rattle.std.specs.List.{AllByRecursion}
 use Rattle.message_view.specs.Bodies.{Text, HasNoZero, ColumnOf, Parse, Bind, Target, OfStatement, OfPortal}
-
-abbrev pub IsBytes : List ℕ → Type 0
-IsBytes bytes = (i : ℕ) → slice_index bytes i < 256
 
 abbrev pub Fits16 : ℕ → Type 0
 Fits16 n = n < 2 ^ 16

@@ -4,7 +4,7 @@ ghost use Rattle.std.specs.List.{flat_map};
 ghost use Rattle.frame_view.specs.Frames.{spelling};
 ghost use Rattle.message_view.specs.Bodies.{value as spelled_value, column as spelled_column, columns_body, int32};
 ghost use Rattle.message_view.specs.Messages.{message, data_row, parameter_description, row_description};
-ghost use Rattle.message_view.specs.Parts.{HasRoom, names_of, formats_of, row_of, shown_value, text_column_of};
+ghost use Rattle.message_view.specs.Parts.{FitsLength, HasRoom, names_of, formats_of, row_of, shown_value, text_column_of};
 
 use crate::kinds::TEXT_TYPE;
 use crate::writing::{GREATEST_BODY, put_head};
@@ -48,7 +48,7 @@ fn row_length(row: &[Option<&[u8]>]) -> usize
 
 fn put_value(out: &mut BytesMut, value: Option<&[u8]>)
     requires room { length (spelled_value (shown_value value)) ≤ out.old.spare }
-    requires fits { length (spelled_value (shown_value value)) ≤ 2147483643 }
+    requires fits { length (spelled_value (shown_value value)) ≤ GREATEST_BODY }
     ensures items { out.new.items ≡ out.old.items ++ spelled_value (shown_value value.entry) }
     ensures spare { out.new.spare + length (spelled_value (shown_value value.entry)) ≡ out.old.spare }
 {
@@ -64,12 +64,13 @@ fn put_value(out: &mut BytesMut, value: Option<&[u8]>)
 /// DataRow: the values of a row, `None` for null.
 ///
 /// `AllocError` where a growth of `out` is refused, or the length field would be above
-/// 2,147,483,647; then `out` is unchanged.
+/// [`frame_view::LONGEST_FRAME`]; then `out` is unchanged.
 pub fn put_data_row(out: &mut BytesMut, row: &[Option<&[u8]>]) -> Result<(), AllocError>
     requires { length row.now < 2 ^ 16 }
     ensures ok { OnOk result (out.new.items ≡ out.old.items ++ spelling (data_row (row_of row.now))) }
     ensures err { OnErr result (out.new.items ≡ out.old.items) }
     ensures room { HasRoom out.old.spare (data_row (row_of row.now)) → IsOk result }
+    ensures fits { OnOk result (FitsLength (data_row (row_of row.now))) }
 {
     let size = row_length(row);
     if size > GREATEST_BODY - SIZE_OF_COUNT {
@@ -112,6 +113,7 @@ fn put_columns(out: &mut BytesMut, columns: &[Column<'_>]) -> Result<(), AllocEr
     ensures ok { OnOk result (out.new.items ≡ out.old.items ++ spelling (message ROW_DESCRIPTION (columns_body (map text_column_of columns.now)))) }
     ensures err { OnErr result (out.new.items ≡ out.old.items) }
     ensures room { HasRoom out.old.spare (message ROW_DESCRIPTION (columns_body (map text_column_of columns.now))) → IsOk result }
+    ensures fits { OnOk result (FitsLength (message ROW_DESCRIPTION (columns_body (map text_column_of columns.now)))) }
 {
     let size = columns_length(columns);
     if size > GREATEST_BODY - SIZE_OF_COUNT {
@@ -128,12 +130,14 @@ fn put_columns(out: &mut BytesMut, columns: &[Column<'_>]) -> Result<(), AllocEr
 /// RowDescription: the columns of the rows that follow, all of them text of no table.
 ///
 /// `AllocError` where a growth of `out` is refused, or the length field would be above
-/// 2,147,483,647; then `out` is unchanged.
+/// [`frame_view::LONGEST_FRAME`]; then `out` is unchanged.
+#[tactic(auto, using(crate::proofs::Writers::text_columns_of))]
 pub fn put_row_description(out: &mut BytesMut, columns: &[Column<'_>]) -> Result<(), AllocError>
     requires { length columns.now < 2 ^ 16 }
     ensures ok { OnOk result (out.new.items ≡ out.old.items ++ spelling (row_description (names_of columns.now) (formats_of columns.now))) }
     ensures err { OnErr result (out.new.items ≡ out.old.items) }
     ensures room { HasRoom out.old.spare (row_description (names_of columns.now) (formats_of columns.now)) → IsOk result }
+    ensures fits { OnOk result (FitsLength (row_description (names_of columns.now) (formats_of columns.now))) }
 {
     put_columns(out, columns)
 }
@@ -155,6 +159,7 @@ pub fn put_parameter_description(out: &mut BytesMut, oids: &[u32]) -> Result<(),
     ensures ok { OnOk result (out.new.items ≡ out.old.items ++ spelling (parameter_description oids.now)) }
     ensures err { OnErr result (out.new.items ≡ out.old.items) }
     ensures room { HasRoom out.old.spare (parameter_description oids.now) → IsOk result }
+    ensures fits { OnOk result (FitsLength (parameter_description oids.now)) }
 {
     put_head(
         out,

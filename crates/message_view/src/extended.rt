@@ -32,7 +32,9 @@ pub struct BindView<'a> {
 }
 
 impl<'a> ParseView<'a> {
-    /// Reads the body of a Parse: two texts (V2), a count and its oids (V1), and no more (V3).
+    /// Reads the body of a Parse: two texts, a count and its oids. [`ViewFault::NoZero`]: a text without
+    /// its end. [`ViewFault::TooShort`]: fewer bytes than the count asks for. [`ViewFault::LeftOver`]: bytes
+    /// after the oids.
     #[tactic(auto, unfolding(crate::specs::Reading::parse_of))]
     pub fn read(body: &'a [u8]) -> Result<ParseView<'a>, ViewFault>
         ensures parts { Shows shown_parse result (parse_of body.now) }
@@ -50,8 +52,10 @@ impl<'a> ParseView<'a> {
 }
 
 impl<'a> BindView<'a> {
-    /// Reads the body of a Bind: two texts (V2), the formats (V1), the values (V1, V4), the
-    /// formats of the results (V1), and no more (V3).
+    /// Reads the body of a Bind: two texts, the formats, the values and the formats of the
+    /// results. [`ViewFault::NoZero`]: a text without its end. [`ViewFault::TooShort`]: fewer bytes than a
+    /// count or a length asks for. [`ViewFault::BadLength`]: a length below -1.
+    /// [`ViewFault::LeftOver`]: bytes after the last part.
     #[tactic(auto, unfolding(crate::specs::Reading::bind_of))]
     pub fn read(body: &'a [u8]) -> Result<BindView<'a>, ViewFault>
         ensures parts { Shows shown_bind result (bind_of body.now) }

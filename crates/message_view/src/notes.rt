@@ -69,8 +69,9 @@ fn fields_at(bytes: &[u8]) -> Result<(Fields<'_>, &[u8]), ViewFault>
 }
 
 impl<'a> NoteView<'a> {
-    /// Reads the body of an ErrorResponse or a NoticeResponse: fields of a code (V1) and a text
-    /// (V2), a zero byte (V1), and no more (V3).
+    /// Reads the body of an ErrorResponse or a NoticeResponse: fields of a code and a text, and
+    /// the zero byte that ends them. [`ViewFault::TooShort`]: neither a code nor that byte. [`ViewFault::NoZero`]: a
+    /// text without its end. [`ViewFault::LeftOver`]: bytes after the fields.
     #[tactic(auto, unfolding(crate::specs::Reading::note_of))]
     pub fn read(body: &'a [u8]) -> Result<NoteView<'a>, ViewFault>
         ensures parts { Shows (λ v. fields_left v.fields) result (note_of body.now) }

@@ -70,8 +70,9 @@ fn pairs_at(bytes: &[u8]) -> Result<(Pairs<'_>, &[u8]), ViewFault>
 }
 
 impl<'a> StartupView<'a> {
-    /// Reads what follows the code of a StartupMessage: pairs of texts (V2), a zero byte (V2), and
-    /// no more (V3).
+    /// Reads what follows the code of a StartupMessage: pairs of texts, and the zero byte that ends
+    /// them. [`ViewFault::NoZero`]: a text without its end, or the pairs without theirs.
+    /// [`ViewFault::LeftOver`]: bytes after them.
     #[tactic(auto, unfolding(crate::specs::Reading::startup_of))]
     pub fn read(body: &'a [u8]) -> Result<StartupView<'a>, ViewFault>
         ensures parts { Shows (λ v. pairs_left v.pairs) result (startup_of body.now) }

@@ -18,7 +18,9 @@ pub struct DataRowView<'a> {
 }
 
 impl<'a> DataRowView<'a> {
-    /// Reads the body of a DataRow: a count and its values (V1, V4), and no more (V3).
+    /// Reads the body of a DataRow: a count and its values. [`ViewFault::TooShort`]: fewer bytes than
+    /// the count or a length asks for. [`ViewFault::BadLength`]: a length below -1.
+    /// [`ViewFault::LeftOver`]: bytes after the last.
     #[tactic(auto, unfolding(crate::specs::Reading::data_row_of))]
     pub fn read(body: &'a [u8]) -> Result<DataRowView<'a>, ViewFault>
         ensures parts { Shows (λ v. values_left v.row) result (data_row_of body.now) }
@@ -136,7 +138,9 @@ pub struct RowDescView<'a> {
 }
 
 impl<'a> RowDescView<'a> {
-    /// Reads the body of a RowDescription: a count and its columns (V1, V2), and no more (V3).
+    /// Reads the body of a RowDescription: a count and its columns. [`ViewFault::NoZero`]: a name
+    /// without its end. [`ViewFault::TooShort`]: fewer bytes than the count asks for.
+    /// [`ViewFault::LeftOver`]: bytes after the last.
     #[tactic(auto, unfolding(crate::specs::Reading::row_description_of))]
     pub fn read(body: &'a [u8]) -> Result<RowDescView<'a>, ViewFault>
         ensures parts { Shows (λ v. columns_left v.columns) result (row_description_of body.now) }

@@ -1,18 +1,17 @@
 //! The writer of a client's first packet.
 ghost use Rattle.std.specs.Prelude.{◌≡◌, ℕ, ◌+◌, ◌-◌, ◌^◌, ◌<◌, ◌≤◌, ◌++◌, ◌∷◌, [], length, map, min, OnOk, OnErr, IsOk};
 ghost use Rattle.std.specs.List.{flat_map};
+ghost use Rattle.frame_view.specs.declared.frames.TheConstants.{LONGEST_FRAME};
 ghost use Rattle.message_view.specs.Bodies.{pair as spelled_pair};
 ghost use Rattle.message_view.specs.Messages.{startup_message};
 ghost use Rattle.message_view.specs.Parts.{pairs_of};
 
 use bytes::BytesMut;
-use frame_view::PROTOCOL_3_0;
+use frame_view::{LONGEST_FRAME, PROTOCOL_3_0};
 use std::alloc::AllocError;
 
 /// The bytes of a StartupMessage beside its pairs: length, code, and the zero byte at its end.
 const SIZE_OF_FRAME: usize = 9;
-
-const GREATEST_LENGTH: usize = 2_147_483_647;
 
 fn pairs_length(pairs: &[(&[u8], &[u8])]) -> usize
     ensures { result ≡ min (length (flat_map spelled_pair (pairs_of pairs.now))) (2 ^ 64 - 1) }
@@ -41,14 +40,15 @@ fn put_pair(out: &mut BytesMut, name: &[u8], value: &[u8])
 /// StartupMessage of protocol 3.0, with these pairs of a parameter's name and its value.
 ///
 /// `AllocError` where a growth of `out` is refused, or the length field would be above
-/// 2,147,483,647; then `out` is unchanged.
+/// [`LONGEST_FRAME`]; then `out` is unchanged.
 pub fn put_startup_message(out: &mut BytesMut, pairs: &[(&[u8], &[u8])]) -> Result<(), AllocError>
     ensures ok { OnOk result (out.new.items ≡ out.old.items ++ startup_message (pairs_of pairs.now)) }
     ensures err { OnErr result (out.new.items ≡ out.old.items) }
-    ensures room { length (startup_message (pairs_of pairs.now)) ≤ out.old.spare → length (startup_message (pairs_of pairs.now)) ≤ 2147483647 → IsOk result }
+    ensures fits { OnOk result (length (startup_message (pairs_of pairs.now)) ≤ LONGEST_FRAME) }
+    ensures room { length (startup_message (pairs_of pairs.now)) ≤ out.old.spare → length (startup_message (pairs_of pairs.now)) ≤ LONGEST_FRAME → IsOk result }
 {
     let size = pairs_length(pairs);
-    if size > GREATEST_LENGTH - SIZE_OF_FRAME {
+    if size > LONGEST_FRAME as usize - SIZE_OF_FRAME {
         return Err(AllocError);
     }
     let length = size + SIZE_OF_FRAME;

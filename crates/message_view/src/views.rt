@@ -5,6 +5,7 @@ ghost use Rattle.message_view.specs.Reading.{alone, authentication_of, execute_o
 ghost use Rattle.message_view.specs.Shown.{TargetLiesAt, shown_execute, shown_target};
 ghost use Rattle.message_view.specs.Views.{Shows};
 
+use crate::kinds::{FAILED, IDLE, IN_TRANSACTION, PORTAL, STATEMENT};
 use crate::parts::{take_text, take_u32};
 use crate::{Status, ViewFault};
 
@@ -92,7 +93,8 @@ fn text_alone(bytes: &[u8]) -> Result<&[u8], ViewFault>
 }
 
 impl<'a> PasswordView<'a> {
-    /// Reads the body of a PasswordMessage: one text (V2, V3).
+    /// Reads the body of a PasswordMessage: one text. [`ViewFault::NoZero`]: it has no
+    /// end. [`ViewFault::LeftOver`]: bytes after it.
     #[tactic(auto, unfolding(crate::specs::Reading::password_of))]
     pub fn read(body: &'a [u8]) -> Result<PasswordView<'a>, ViewFault>
         ensures parts { Shows (λ v. v.password.now) result (password_of body.now) }
@@ -104,7 +106,8 @@ impl<'a> PasswordView<'a> {
 }
 
 impl<'a> QueryView<'a> {
-    /// Reads the body of a Query: one text (V2, V3).
+    /// Reads the body of a Query: one text. [`ViewFault::NoZero`]: it has no
+    /// end. [`ViewFault::LeftOver`]: bytes after it.
     #[tactic(auto, unfolding(crate::specs::Reading::query_of))]
     pub fn read(body: &'a [u8]) -> Result<QueryView<'a>, ViewFault>
         ensures parts { Shows (λ v. v.text.now) result (query_of body.now) }
@@ -121,14 +124,16 @@ fn read_target(body: &[u8]) -> Result<Target<'_>, ViewFault>
     ensures place { IfOk result (λ t. TargetLiesAt t body.entry 1) }
 {
     match body {
-        [b'S', name @ ..] => Ok(Target::Statement(text_alone(name)?)),
-        [b'P', name @ ..] => Ok(Target::Portal(text_alone(name)?)),
+        [STATEMENT, name @ ..] => Ok(Target::Statement(text_alone(name)?)),
+        [PORTAL, name @ ..] => Ok(Target::Portal(text_alone(name)?)),
         _ => Err(ViewFault::TooShort),
     }
 }
 
 impl<'a> DescribeView<'a> {
-    /// Reads the body of a Describe: `S` or `P` (else V1), and a name (V2, V3).
+    /// Reads the body of a Describe: `S` or `P`, and a name. [`ViewFault::TooShort`]:
+    /// another letter or none. [`ViewFault::NoZero`]: the name has no end. [`ViewFault::LeftOver`]: bytes
+    /// after it.
     pub fn read(body: &'a [u8]) -> Result<DescribeView<'a>, ViewFault>
         ensures parts { Shows (λ v. shown_target v.target) result (target_of body.now) }
         ensures place { IfOk result (λ v. TargetLiesAt v.target body.entry 1) }
@@ -139,7 +144,9 @@ impl<'a> DescribeView<'a> {
 }
 
 impl<'a> CloseView<'a> {
-    /// Reads the body of a Close: `S` or `P` (else V1), and a name (V2, V3).
+    /// Reads the body of a Close: `S` or `P`, and a name. [`ViewFault::TooShort`]:
+    /// another letter or none. [`ViewFault::NoZero`]: the name has no end. [`ViewFault::LeftOver`]: bytes
+    /// after it.
     pub fn read(body: &'a [u8]) -> Result<CloseView<'a>, ViewFault>
         ensures parts { Shows (λ v. shown_target v.target) result (target_of body.now) }
         ensures place { IfOk result (λ v. TargetLiesAt v.target body.entry 1) }
@@ -150,7 +157,8 @@ impl<'a> CloseView<'a> {
 }
 
 impl<'a> ExecuteView<'a> {
-    /// Reads the body of an Execute: the portal's name (V2) and the row limit (V1, V3).
+    /// Reads the body of an Execute: the portal's name and the row limit. [`ViewFault::NoZero`]: the
+    /// name has no end. [`ViewFault::TooShort`]: fewer than four bytes are left. [`ViewFault::LeftOver`]: more.
     #[tactic(auto, using(crate::proofs::Ints::signed_back), unfolding(crate::specs::Reading::execute_of))]
     pub fn read(body: &'a [u8]) -> Result<ExecuteView<'a>, ViewFault>
         ensures parts { Shows shown_execute result (execute_of body.now) }
@@ -169,7 +177,8 @@ impl<'a> ExecuteView<'a> {
 }
 
 impl<'a> AuthView<'a> {
-    /// Reads the body of an authentication message: its number (V1), and the rest as it is.
+    /// Reads the body of an authentication message: its number, and the rest as it is.
+    /// [`ViewFault::TooShort`]: fewer than four bytes.
     #[tactic(auto, unfolding(crate::specs::Reading::authentication_of))]
     pub fn read(body: &'a [u8]) -> Result<AuthView<'a>, ViewFault>
         ensures parts { Shows (λ v. (v.kind, v.rest.now)) result (authentication_of body.now) }
@@ -181,7 +190,8 @@ impl<'a> AuthView<'a> {
 }
 
 impl KeyView {
-    /// Reads the body of a BackendKeyData: two numbers (V1, V3).
+    /// Reads the body of a BackendKeyData: two numbers. [`ViewFault::TooShort`]: fewer than eight bytes.
+    /// [`ViewFault::LeftOver`]: more.
     #[tactic(auto, unfolding(crate::specs::Reading::key_of))]
     pub fn read(body: &[u8]) -> Result<KeyView, ViewFault>
         ensures { Shows (λ v. (v.pid, v.secret)) result (key_of body.now) }
@@ -196,7 +206,8 @@ impl KeyView {
 }
 
 impl<'a> StatusView<'a> {
-    /// Reads the body of a ParameterStatus: a name and its value (V2, V3).
+    /// Reads the body of a ParameterStatus: a name and its value. [`ViewFault::NoZero`]: one of
+    /// them has no end. [`ViewFault::LeftOver`]: bytes after them.
     #[tactic(auto, unfolding(crate::specs::Reading::status_of))]
     pub fn read(body: &'a [u8]) -> Result<StatusView<'a>, ViewFault>
         ensures parts { Shows (λ v. (v.name.now, v.setting.now)) result (status_of body.now) }
@@ -213,15 +224,16 @@ impl<'a> StatusView<'a> {
 }
 
 impl ReadyView {
-    /// Reads the body of a ReadyForQuery: `I`, `T` or `E` (else V1), and no more (V3).
+    /// Reads the body of a ReadyForQuery: `I`, `T` or `E`. [`ViewFault::TooShort`]: another
+    /// letter or none. [`ViewFault::LeftOver`]: bytes after it.
     #[tactic(auto, unfolding(crate::specs::Reading::ready_of))]
     pub fn read(body: &[u8]) -> Result<ReadyView, ViewFault>
         ensures { Shows (λ v. v.status) result (ready_of body.now) }
     {
         let (status, rest) = match body {
-            [b'I', rest @ ..] => (Status::Idle, rest),
-            [b'T', rest @ ..] => (Status::InTransaction, rest),
-            [b'E', rest @ ..] => (Status::Failed, rest),
+            [IDLE, rest @ ..] => (Status::Idle, rest),
+            [IN_TRANSACTION, rest @ ..] => (Status::InTransaction, rest),
+            [FAILED, rest @ ..] => (Status::Failed, rest),
             _ => return Err(ViewFault::TooShort),
         };
         if !rest.is_empty() {
@@ -232,7 +244,8 @@ impl ReadyView {
 }
 
 impl<'a> TagView<'a> {
-    /// Reads the body of a CommandComplete: one text (V2, V3).
+    /// Reads the body of a CommandComplete: one text. [`ViewFault::NoZero`]: it has no
+    /// end. [`ViewFault::LeftOver`]: bytes after it.
     #[tactic(auto, unfolding(crate::specs::Reading::tag_of))]
     pub fn read(body: &'a [u8]) -> Result<TagView<'a>, ViewFault>
         ensures parts { Shows (λ v. v.tag.now) result (tag_of body.now) }
