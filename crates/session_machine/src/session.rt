@@ -94,7 +94,7 @@ impl Session {
     {
         let mut next = self.state.copied()?;
         let mut replies = BytesMut::new(alloc);
-        answer(alloc, &mut next, catalogue, frame, out)?;
+        answer(alloc, &mut next, catalogue, frame, &mut replies)?;
         out.extend_from_slice(replies.as_slice())?;
         self.state = next;
         Ok(())
