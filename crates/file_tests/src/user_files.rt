@@ -1,7 +1,8 @@
 //! Faults of the user file, the users that it names, and what shows of them.
 use std::alloc::Global;
+use std::fmt::Debug;
 use std::test::Fail;
-use user_file::{Cause, Secret, UserFault, UserRow, read_users};
+use user_file::{Cause, Secret, UserFault, UserRow, Users, read_users};
 
 fn fault(alloc: Global, text: &[u8]) -> Option<(Cause, usize)> {
     match read_users(alloc, text) {
@@ -40,36 +41,54 @@ fn is_plain(row: &UserRow, password: &[u8]) -> bool {
     }
 }
 
+/// Whether the file has this user with this password.
+fn has_user(users: &Users, name: &[u8], password: &[u8]) -> bool {
+    match users.row(name) {
+        Some(user) => user.name.as_bytes() == name && is_plain(user, password),
+        None => false,
+    }
+}
+
 #[test]
 fn users_of_a_file(rt: HostRuntime) -> Result<(), Fail> {
     let text = b"# users\r\n\"a\"\"b\" \"c d\" rest\r\n \"e\"\t\"\"x\n\"Ann\" \"\"\"\"\n";
     let users = read_users(rt.alloc(), text)?;
     assert_eq!(rt; users.len(), 3);
-    let rows: [(&[u8], &[u8]); 3] = [(b"a\"b", b"c d"), (b"e", b""), (b"Ann", b"\"")];
-    for (name, password) in rows {
-        let user = users.row(name).ok_or("no row")?;
-        assert_eq!(rt; user.name.as_bytes(), name);
-        assert!(rt; is_plain(user, password));
+    let rows: [(&[u8], &[u8], bool); 4] = [
+        (b"a\"b", b"c d", true),
+        (b"e", b"", true),
+        (b"Ann", b"\"", true),
+        (b"ann", b"\"", false),
+    ];
+    for (name, password, expected) in rows {
+        assert_eq!(rt; has_user(&users, name, password), expected);
     }
-    assert!(rt; users.row(b"ann").is_none());
+    Ok(())
+}
+
+fn shows<D: Debug>(alloc: Global, value: &D, expected: &str) -> Result<bool, Fail> {
+    let shown = format!(in alloc; "{:?}", value)?;
+    Ok(shown.as_str() == expected)
+}
+
+#[test]
+fn users_show_no_secret(rt: HostRuntime) -> Result<(), Fail> {
+    let users = read_users(rt.alloc(), b"\"ann\" \"hunter2\"")?;
+    assert!(rt; shows(rt.alloc(), &users, "Users(..)")?);
+    let user = users.row(b"ann").ok_or("no row")?;
+    assert!(rt; shows(rt.alloc(), user, "UserRow(..)")?);
     Ok(())
 }
 
 #[test]
-fn nothing_shows_a_secret(rt: HostRuntime) -> Result<(), Fail> {
-    let users = read_users(
-        rt.alloc(),
-        b"\"ann\" \"hunter2\"\n\"bc\" \"md5900150983cd24fb0d6963f7d28e17f72\"",
-    )?;
-    let shown = format!(in rt.alloc(); "{:?}", users)?;
-    assert_eq!(rt; shown.as_str(), "Users(..)");
-    let rows: [(&[u8], &str); 2] = [(b"ann", "Plain(..)"), (b"bc", "Md5(..)")];
-    for (name, secret) in rows {
-        let user = users.row(name).ok_or("no row")?;
-        let shown = format!(in rt.alloc(); "{:?}", user)?;
-        assert_eq!(rt; shown.as_str(), "UserRow(..)");
-        let shown = format!(in rt.alloc(); "{:?}", user.secret)?;
-        assert_eq!(rt; shown.as_str(), secret);
+fn secrets_show_their_kind_alone(rt: HostRuntime) -> Result<(), Fail> {
+    let rows: [(&[u8], &str); 2] = [
+        (b"hunter2", "Plain(..)"),
+        (b"md5900150983cd24fb0d6963f7d28e17f72", "Md5(..)"),
+    ];
+    for (text, expected) in rows {
+        let secret = Secret::read(rt.alloc(), text)?;
+        assert!(rt; shows(rt.alloc(), &secret, expected)?);
     }
     Ok(())
 }
