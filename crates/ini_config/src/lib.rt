@@ -19,6 +19,3 @@ pub use name_lists::Names;
 pub use option_values::{AuthType, Settings};
 pub use reading::read_settings;
 pub use row_table::Rows;
-
-#[cfg(test)]
-mod tests;

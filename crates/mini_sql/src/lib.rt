@@ -8,8 +8,6 @@ mod literal;
 mod parts;
 mod reader;
 mod stmt;
-#[cfg(test)]
-mod tests;
 mod token;
 
 pub use lists::{Columns, Operands};

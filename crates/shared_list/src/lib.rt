@@ -4,8 +4,6 @@
 
 mod log;
 mod shared;
-#[cfg(test)]
-mod tests;
 
 pub use log::Log;
 pub use shared::Shared;

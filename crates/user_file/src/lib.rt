@@ -11,6 +11,3 @@ pub use faults::{Cause, UserFault};
 pub use reading::read_users;
 pub use secrets::Secret;
 pub use user_table::{UserRow, Users};
-
-#[cfg(test)]
-mod tests;

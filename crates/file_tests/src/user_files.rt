@@ -1,0 +1,109 @@
+//! Faults of the user file, the users that it names, and what shows of them.
+use std::alloc::Global;
+use std::fmt::Debug;
+use std::test::Fail;
+use user_file::{Cause, Secret, UserFault, UserRow, Users, read_users};
+
+fn fault(alloc: Global, text: &[u8]) -> Option<(Cause, usize)> {
+    match read_users(alloc, text) {
+        Ok(_) => None,
+        Err(fault) => Some((fault.cause, fault.line)),
+    }
+}
+
+#[test]
+fn faults_and_their_lines(rt: HostRuntime) -> Result<(), Fail> {
+    let rows: [(&[u8], Cause, usize); 12] = [
+        (b"\"x\" \"y\"\n\"a\" \"b", Cause::BadQuoting, 2),
+        (b"\"a\" \"b", Cause::BadQuoting, 1),
+        (b"\"a\"", Cause::BadQuoting, 1),
+        (b"\"a\" ", Cause::BadQuoting, 1),
+        (b"a \"b\"", Cause::BadQuoting, 1),
+        (b"\"a\" b", Cause::BadQuoting, 1),
+        (b"\"\" \"b\"", Cause::BadQuoting, 1),
+        (b"\"a\"\"b\"", Cause::BadQuoting, 1),
+        (b"\"a\"x\"b\"", Cause::BadQuoting, 1),
+        (b"\"a\" \"x\"\n\n; c\n\"a\" \"y\"", Cause::NameTwice, 4),
+        (b"\"a\"\"\" \"x\"\n\"a\"\"\" \"y\"", Cause::NameTwice, 2),
+        (b"\"a\" \"x\"\n\"a\" \"y", Cause::BadQuoting, 2),
+    ];
+    for (text, cause, line) in rows {
+        assert_eq!(rt; fault(rt.alloc(), text), Some((cause, line)));
+    }
+    Ok(())
+}
+
+/// Whether the secret is this password, as it stands in the file.
+fn is_plain(row: &UserRow, password: &[u8]) -> bool {
+    match &row.secret {
+        Secret::Plain(text) => text.as_bytes() == password,
+        Secret::Md5(_) => false,
+    }
+}
+
+/// Whether the file has this user with this password.
+fn has_user(users: &Users, name: &[u8], password: &[u8]) -> bool {
+    match users.row(name) {
+        Some(user) => user.name.as_bytes() == name && is_plain(user, password),
+        None => false,
+    }
+}
+
+#[test]
+fn users_of_a_file(rt: HostRuntime) -> Result<(), Fail> {
+    let text = b"# users\r\n\"a\"\"b\" \"c d\" rest\r\n \"e\"\t\"\"x\n\"Ann\" \"\"\"\"\n";
+    let users = read_users(rt.alloc(), text)?;
+    assert_eq!(rt; users.len(), 3);
+    let rows: [(&[u8], &[u8], bool); 4] = [
+        (b"a\"b", b"c d", true),
+        (b"e", b"", true),
+        (b"Ann", b"\"", true),
+        (b"ann", b"\"", false),
+    ];
+    for (name, password, expected) in rows {
+        assert_eq!(rt; has_user(&users, name, password), expected);
+    }
+    Ok(())
+}
+
+fn shows<D: Debug>(alloc: Global, value: &D, expected: &str) -> Result<bool, Fail> {
+    let shown = format!(in alloc; "{:?}", value)?;
+    Ok(shown.as_str() == expected)
+}
+
+#[test]
+fn users_show_no_secret(rt: HostRuntime) -> Result<(), Fail> {
+    let users = read_users(rt.alloc(), b"\"ann\" \"hunter2\"")?;
+    assert!(rt; shows(rt.alloc(), &users, "Users(..)")?);
+    let user = users.row(b"ann").ok_or("no row")?;
+    assert!(rt; shows(rt.alloc(), user, "UserRow(..)")?);
+    Ok(())
+}
+
+#[test]
+fn secrets_show_their_kind_alone(rt: HostRuntime) -> Result<(), Fail> {
+    let rows: [(&[u8], &str); 2] = [
+        (b"hunter2", "Plain(..)"),
+        (b"md5900150983cd24fb0d6963f7d28e17f72", "Md5(..)"),
+    ];
+    for (text, expected) in rows {
+        let secret = Secret::read(rt.alloc(), text)?;
+        assert!(rt; shows(rt.alloc(), &secret, expected)?);
+    }
+    Ok(())
+}
+
+#[test]
+fn a_fault_shows_as_code_and_line(rt: HostRuntime) -> Result<(), Fail> {
+    let rows = [
+        (Cause::BadQuoting, "U1 line 7"),
+        (Cause::NameTwice, "U2 line 7"),
+        (Cause::Memory, "U3 line 7"),
+    ];
+    for (cause, text) in rows {
+        let fault = UserFault { cause, line: 7 };
+        let line = format!(in rt.alloc(); "{fault}")?;
+        assert_eq!(rt; line.as_str(), text);
+    }
+    Ok(())
+}
