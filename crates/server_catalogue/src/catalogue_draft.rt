@@ -8,7 +8,7 @@ ghost use Rattle.server_catalogue.specs.declared.catalogue_fault.CatalogueCause.
 ghost use Rattle.server_catalogue.specs.FieldsLeft.{fields_left};
 ghost use Rattle.session_values.specs.State.{has_text, table_name};
 
-use crate::catalogue::Catalogue;
+use crate::catalogue::Whole;
 use crate::catalogue_fault::{CatalogueCause, CatalogueFault};
 use crate::catalogue_fields::Fields;
 use crate::catalogue_lines::{Line, read_line};
@@ -152,7 +152,7 @@ impl Draft {
     }
 
     /// The catalogue, at the end of a file of so many lines.
-    pub(crate) fn finished(self, alloc: Global, lines: usize) -> Result<Catalogue, CatalogueFault>
+    pub(crate) fn finished(self, alloc: Global, lines: usize) -> Result<Whole, CatalogueFault>
         ensures { IsWholeOf self lines result }
     {
         let Draft {
@@ -167,7 +167,7 @@ impl Draft {
         if databases.is_empty() {
             return Err(INCOMPLETE);
         }
-        Catalogue::new(alloc, version, databases, tables).map_err(|_| CatalogueFault {
+        Whole::new(alloc, version, databases, tables).map_err(|_| CatalogueFault {
             cause: CatalogueCause::Memory,
             line: lines,
         })

@@ -28,7 +28,7 @@ pub(crate) fn is_taken(name: &[u8], is_there: bool) -> bool
     }
 }
 
-fn oids_of(alloc: Global, oids: Oids<'_>) -> Result<Vec<u32>, AllocError>
+fn given_oids(alloc: Global, oids: Oids<'_>) -> Result<Vec<u32>, AllocError>
     ensures { IfOk result (λ v. v.items ≡ oids_left oids.entry) }
 {
     let mut list = Vec::with_capacity(alloc, oids.len())?;
@@ -42,7 +42,7 @@ fn prepared(alloc: Global, view: &ParseView<'_>) -> Result<Prepared, AllocError>
     ensures { IfOk result (λ p. p ≡ prepared_of (shown_parse view.now)) }
 {
     let _count = view.oids.len();
-    let oids = oids_of(alloc, view.oids)?;
+    let oids = given_oids(alloc, view.oids)?;
     Ok(Prepared::new(
         Text::from_slice(alloc, view.name)?,
         Text::from_slice(alloc, view.query)?,

@@ -8,16 +8,13 @@ ghost use Rattle.session_values.specs.Step.{run_frames};
 
 use crate::step::answer;
 use bytes::BytesMut;
-use frame_view::{Side, Step, next_frame};
+use frame_view::{LONGEST_FRAME, Side, Step, next_frame};
 use message_view::{KeyWord, Status, put_backend_key_data, put_ready_for_query};
 use server_catalogue::Catalogue;
 use session_state::session::SessionState;
 use session_values::stop::Stop;
 use start_keys::key::StartKey;
 use std::alloc::{AllocError, Global};
-
-/// The greatest length of a frame.
-const LONGEST_FRAME: u32 = 2_147_483_647;
 
 /// Writes the welcome of a session: its reports, BackendKeyData of the key word, and
 /// ReadyForQuery.

@@ -35,6 +35,7 @@ pub struct SessionState {
 impl Model for SessionState {
     ghost use Rattle.std.specs.Prelude.{◌≡◌, length};
     ghost use Rattle.session_values.specs.State.{State};
+    ghost use Rattle.session_values.specs.declared.values.TheConstants.{REPORTED};
     ghost use Rattle.session_state.specs.Kept.{saved_of};
     ghost use Rattle.session_state.specs.Known.{AreNamedUnless, AreReportedIf};
 
@@ -53,7 +54,7 @@ impl Model for SessionState {
       tables = s.work.tables;
     } };
 
-    ghost invariant = { λ s. (length s.reported ≡ 9) × AreReportedIf s.is_reported s.work.values s.reported × AreNamedUnless s.may_have_unnamed s.statements };
+    ghost invariant = { λ s. (length s.reported ≡ REPORTED) × AreReportedIf s.is_reported s.work.values s.reported × AreNamedUnless s.may_have_unnamed s.statements };
 }
 
 impl SessionState {

@@ -1,3 +1,4 @@
+//! What a transaction may change and a roll back gives back.
 ghost use Rattle.std.specs.Prelude.{◌≡◌, IfOk};
 
 use session_values::table::Table;

@@ -127,3 +127,12 @@ fn accepts_values(rt: HostRuntime) -> Result<(), Fail> {
     assert!(rt; Parameter::ExtraFloatDigits.accepted(alloc, b"4")?.is_none());
     Ok(())
 }
+
+fn needs_send<T: Send + Drop>(_value: T) {}
+
+/// A session may go to another thread.
+#[test]
+fn may_go_to_another_thread(rt: HostRuntime) -> Result<(), Fail> {
+    needs_send(session(rt.alloc())?);
+    Ok(())
+}

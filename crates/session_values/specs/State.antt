@@ -2,11 +2,13 @@
 -- (PostgreSQL manual, "Frontend/Backend Protocol" and "SET").
 use Rattle.std.specs.Prelude.{ℕ, List, [], ◌∷◌, ◌++◌, take, Option, Some, None, Result, Ok, Err, Bool, false, ◌||◌, if◌then◌else◌}
 use Rattle.frame_view.specs.Frames.{FrameOf}
+use Rattle.message_view.specs.declared.kinds.TheConstants.{IDLE, IN_TRANSACTION, FAILED}
 use Rattle.message_view.specs.Messages.{parameter_status, ready_for_query}
 use Rattle.mini_sql.specs.Words.{Text, same_text}
 use Rattle.session_values.specs.declared.block.Block.{Block}
 use Rattle.session_values.specs.declared.block.Block.TheVariants.{Outside, Inside, Failed}
 use Rattle.session_values.specs.declared.parameter.Parameter.{Parameter}
+use Rattle.session_values.specs.declared.values.TheConstants.{REPORTED}
 use Rattle.session_values.specs.declared.cause.Cause.{Cause}
 use Rattle.session_values.specs.declared.cause.Cause.TheVariants.{NoParameter, FixedParameter, InvalidValue, NoDatabase}
 use Rattle.session_values.specs.Parameters.{Values, reported_parameters, name, parameter_named, defaults, value_of, with_value, is_fixed, accepted_of}
@@ -144,16 +146,16 @@ reports s = reports_from reported_parameters s.current s.reported
 
 -- the values of the reported parameters
 abbrev pub reported_of : Values → List Text
-reported_of vs = take 9 vs
+reported_of vs = take REPORTED vs
 
 abbrev pub reported_now : State → State
 reported_now s = record s { reported = reported_of s.current }
 
--- I, T and E
+-- what ReadyForQuery tells of a block
 abbrev pub status : Block → ℕ
-status Outside = 73
-status Inside = 84
-status Failed = 69
+status Outside = IDLE
+status Inside = IN_TRANSACTION
+status Failed = FAILED
 
 -- reports, and ReadyForQuery
 abbrev pub ready : State → Answer

@@ -1,3 +1,4 @@
+//! Where a session stands to a transaction block.
 /// Where a session stands to a transaction block (PostgreSQL manual, "BEGIN").
 #[derive(Clone, Copy, Debug, PartialEq, Eq, Drop)]
 pub enum Block {

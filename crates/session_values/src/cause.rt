@@ -1,3 +1,4 @@
+//! The errors by which a session answers (PostgreSQL manual, "PostgreSQL Error Codes").
 ghost use Rattle.std.specs.Prelude.{◌≡◌, ◌++◌, OnErr, OnOk};
 ghost use Rattle.frame_view.specs.Frames.{spelling};
 

@@ -1,3 +1,4 @@
+//! The names of columns.
 ghost use Rattle.std.specs.Prelude.{◌≡◌, ◌≤◌, ◌∷◌, [], length, IfOk, map};
 ghost use Rattle.std.specs.Arc.{arc_value};
 ghost use Rattle.mini_sql.specs.Meanings.{columns_left};

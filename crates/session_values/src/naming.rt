@@ -1,3 +1,4 @@
+//! Lists of what has a name.
 ghost use Rattle.std.specs.Prelude.{◌≡◌, ◌<◌, List, ℕ, IfOk, IfSome, length, map};
 ghost use Rattle.std.specs.List.{position_from};
 ghost use Rattle.std.specs.Arc.{arc_value};

@@ -1,3 +1,4 @@
+//! The run-time parameters, and which values they accept (PostgreSQL manual, "Server Configuration").
 ghost use Rattle.std.specs.Prelude.{◌≡◌, true, nat_le, IfOk, filter, map, option_map};
 ghost use Rattle.session_values.specs.Parameters.{accepted_of, digits_value, are_digits, date_styles, encodings, interval_styles, switches, when, is_in_zone, is_letter_or_digit, is_whole, is_zone, kept_for};
 ghost use Rattle.mini_sql.specs.Words.{folded, is_digit};
@@ -25,8 +26,11 @@ pub enum Parameter {
     StatementTimeout,
 }
 
+/// How many parameters there are.
+pub const PARAMETER_COUNT: usize = 12;
+
 /// All parameters. The first nine are reported.
-pub static PARAMETERS: [Parameter; 12] = [
+pub static PARAMETERS: [Parameter; PARAMETER_COUNT] = [
     Parameter::ApplicationName,
     Parameter::ClientEncoding,
     Parameter::DateStyle,

@@ -1,3 +1,4 @@
+//! Tables of texts.
 ghost use Rattle.std.specs.Prelude.{◌≡◌, ◌≤◌, length, IfOk, [], ◌∷◌, ◌++◌};
 
 use crate::naming::HasName;

@@ -1,10 +1,11 @@
+//! The values of the run-time parameters.
 ghost use Rattle.std.specs.Prelude.{◌≡◌, ◌<◌, length, map, IfOk, if◌then◌else◌};
 ghost use Rattle.std.specs.Arc.{arc_value};
 ghost use Rattle.session_values.specs.Parameters.{default, defaults, is_fixed, parameters, value_of, with_value};
 ghost use Rattle.session_values.specs.State.{reported_of};
 ghost use Rattle.session_values.specs.Runs.{reset_from};
 
-use crate::parameter::{PARAMETERS, Parameter};
+use crate::parameter::{PARAMETERS, PARAMETER_COUNT, Parameter};
 use crate::text::Text;
 use shared_list::Shared;
 use std::alloc::{AllocError, Global};
@@ -22,12 +23,13 @@ pub struct Values {
 
 impl Model for Values {
     ghost use Rattle.std.specs.Prelude.{◌≡◌, List, ℕ, length};
+    ghost use Rattle.session_values.specs.declared.parameter.TheConstants.{PARAMETER_COUNT};
 
     ghost Value = { List (List ℕ) };
 
     ghost view = { λ v. v.list };
 
-    ghost invariant = { λ v. length v.list ≡ 12 };
+    ghost invariant = { λ v. length v.list ≡ PARAMETER_COUNT };
 }
 
 fn default_of(version: &[u8], parameter: Parameter) -> &[u8]
@@ -157,7 +159,7 @@ impl Values {
     /// All values, in the order of the parameters.
     pub fn as_slice(&self) -> &[Arc<Text>]
         ensures values { map arc_value result.now ≡ self.now }
-        ensures length { length result.now ≡ 12 }
+        ensures length { length result.now ≡ PARAMETER_COUNT }
     {
         self.list.as_slice()
     }
@@ -165,7 +167,7 @@ impl Values {
     /// The values of the reported parameters.
     pub fn reported(&self, alloc: Global) -> Result<Shared<Text>, AllocError>
         ensures values { IfOk result (λ v. v ≡ reported_of self.now) }
-        ensures count { IfOk result (λ v. length v ≡ 9) }
+        ensures count { IfOk result (λ v. length v ≡ REPORTED) }
     {
         self.list.front(alloc, REPORTED)
     }

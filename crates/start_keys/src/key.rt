@@ -1,3 +1,4 @@
+//! The start key of a session.
 use session_values::text::Text;
 use std::marker::Model;
 

@@ -1,3 +1,4 @@
+//! What a statement's names stand for, before it runs.
 ghost use Rattle.std.specs.Prelude.{◌≡◌, ◌≤◌, map, length, nat_le, IfOk};
 ghost use Rattle.std.specs.Option.{option_copied};
 ghost use Rattle.std.specs.Arc.{arc_value};
@@ -50,7 +51,7 @@ fn has_filter(
 }
 
 /// `*` selects all columns.
-fn selected(alloc: Global, texts: &[Arc<Text>], wanted: Names) -> Result<Names, AllocError>
+pub fn selected(alloc: Global, texts: &[Arc<Text>], wanted: Names) -> Result<Names, AllocError>
     requires { length texts.now ≤ 64 }
     ensures { IfOk result (λ n. n ≡ selected (map arc_value texts.now) wanted) }
 {

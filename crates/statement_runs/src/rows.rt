@@ -11,7 +11,7 @@ ghost use Rattle.session_values.specs.Lookups.{selected};
 ghost use Rattle.session_values.specs.Picks.{IsNarrow};
 
 use crate::changes::operand_text;
-use crate::lookup::readable;
+use crate::lookup::{readable, selected};
 use mini_sql::{Columns, Filter, Stmt};
 use server_catalogue::Catalogue;
 use session_state::session::SessionState;
@@ -168,20 +168,6 @@ fn picked_rows(
     Ok(list)
 }
 
-/// The names of the selected columns; `*` selects all.
-fn selected(alloc: Global, table: &Table, columns: Columns<'_>) -> Result<Names, AllocError>
-    requires { length (columns_left columns) ≤ 64 }
-    ensures names { IfOk result (λ n. n ≡ selected table.now.columns (columns_left columns.entry)) }
-    ensures width { IfOk result (λ n. length n ≤ 64) }
-{
-    let wanted = Names::listed(alloc, columns)?;
-    if wanted.as_slice().is_empty() {
-        Names::copied(alloc, table.columns().as_slice())
-    } else {
-        Ok(wanted)
-    }
-}
-
 fn table_rows(
     alloc: Global,
     given: &[Option<Text>],
@@ -194,7 +180,7 @@ fn table_rows(
 {
     let names = table.columns().as_slice();
     let condition = condition_of(alloc, given, names, filter)?;
-    let selected = selected(alloc, table, columns)?;
+    let selected = selected(alloc, names, Names::listed(alloc, columns)?)?;
     let places = places(alloc, names, selected.as_slice())?;
     let rows = table.rows().to_vec(alloc)?;
     let met = met_rows(alloc, &condition, &rows)?;

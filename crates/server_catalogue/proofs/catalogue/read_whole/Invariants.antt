@@ -1,7 +1,7 @@
 use Rattle.std.proofs.Common.{◌≤◌, length}
 use Rattle.text_lines.specs.Lines.{raw_lines}
 use Rattle.server_catalogue.proofs.Catalogued.{ReadUpTo}
-use Rattle.server_catalogue.proofs.catalogue.Catalogue.read.Given as goal
+use Rattle.server_catalogue.proofs.catalogue.read_whole.Given as goal
 
 abbrev pub invariant-loop-line : goal.invariant-loop-line
 invariant-loop-line l = record {

@@ -4,7 +4,7 @@ use Rattle.server_catalogue.specs.Catalogues.{parts, said}
 use Rattle.server_catalogue.specs.Drafts.{with_said}
 use Rattle.server_catalogue.proofs.Catalogued.{ReadUpTo, at_start, taken, refused, ended}
 use Rattle.server_catalogue.proofs.Lawfully.{read_is_lawful}
-use Rattle.server_catalogue.proofs.catalogue.Catalogue.read.Goals as goal
+use Rattle.server_catalogue.proofs.catalogue.read_whole.Goals as goal
 
 pub loop-line-init : goal.loop-line-init
 unfolding parts
