@@ -57,6 +57,23 @@ module _ {A : Type 0} (item : List ℕ → Part (Option A)) (shrinks : (bytes re
       let parts = more-items x (ended_at item rest) (sym (ap is_ok whole) ∙ ok) in
       (ap items_of whole ∙ parts.0, parts.1)
 
+  -- ---- what a walk over the list needs of it
+
+  pub list_goes_on : (bytes rest : List ℕ) (x : A) → item bytes ≡ Ok (Some x, rest) → rest_of (ended_at item bytes) ≡ rest_of (ended_at item rest)
+  list_goes_on bytes rest x is = ended_rest bytes rest x is
+
+  pub list_breaks : (bytes : List ℕ) (f : ViewFault) → item bytes ≡ Err f → rest_of (ended_at item bytes) ≡ Err f
+  list_breaks bytes f is = ap rest_of (ended_fault bytes f is)
+
+  pub no_item : (bytes : List ℕ) (f : ViewFault) → item bytes ≡ Err f → items_of (ended_at item bytes) ≡ []
+  no_item bytes f is = ap items_of (ended_fault bytes f is)
+
+  pub item_is_first : (bytes rest : List ℕ) (x : A) → item bytes ≡ Ok (Some x, rest) → is_ok (ended_at item bytes) ≡ true → items_of (ended_at item bytes) ≡ x ∷ items_of (ended_at item rest)
+  item_is_first bytes rest x is ok = (ended_items bytes rest x is ok).0
+
+  pub rest_is_list : (bytes rest : List ℕ) (x : A) → item bytes ≡ Ok (Some x, rest) → is_ok (ended_at item bytes) ≡ true → is_ok (ended_at item rest) ≡ true
+  rest_is_list bytes rest x is ok = (ended_items bytes rest x is ok).1
+
 found : {A : Type 0} (part : Part (List A)) (rest : List ℕ) → rest_of part ≡ Ok rest → part ≡ Ok (items_of part, rest)
 found (Ok x) rest e = ap (λ r. Ok (x.0, r)) (cc)
 found (Err f) rest e = absurd (cc)
@@ -67,6 +84,9 @@ fault (Err g) f e = ap Err (cc)
 
 pub ended_found : {A : Type 0} (item : List ℕ → Part (Option A)) (bytes rest : List ℕ) → rest_of (ended_at item bytes) ≡ Ok rest → ended_at item bytes ≡ Ok (items_of (ended_at item bytes), rest)
 ended_found item bytes rest e = found (ended_at item bytes) rest e
+
+pub ended_there : {A : Type 0} (item : List ℕ → Part (Option A)) (bytes rest : List ℕ) → rest_of (ended_at item bytes) ≡ Ok rest → is_ok (ended_at item bytes) ≡ true
+ended_there item bytes rest e = ap is_ok (ended_found item bytes rest e)
 
 pub ended_broken : {A : Type 0} (item : List ℕ → Part (Option A)) (bytes : List ℕ) (f : ViewFault) → rest_of (ended_at item bytes) ≡ Err f → ended_at item bytes ≡ Err f
 ended_broken item bytes f e = fault (ended_at item bytes) f e

@@ -1,12 +1,10 @@
 -- The pairs of a StartupMessage.
-use Rattle.std.proofs.Common.{◌≡◌, ◌<◌, ℕ, suc, List, [], ◌∷◌, length, Option, Some, None, Ok, Err, refl, ap, true, arith}
-use Rattle.std.specs.Prelude.{is_ok}
-use Rattle.message_view.specs.declared.ViewFault.{ViewFault}
+use Rattle.std.proofs.Common.{◌≡◌, ◌<◌, ℕ, suc, List, [], ◌∷◌, length, Option, Some, None, Ok, Err, refl, ap, arith}
 use Rattle.message_view.specs.Bodies.{Text}
 use Rattle.message_view.specs.Reading.{Part, ◌>>=◌, rest_of, items_of, ended_at, text_at, pair_named, pair_at}
 use Rattle.message_view.proofs.Texts.{text_shrinks}
 use Rattle.message_view.proofs.Pieces.{same_rest}
-use Rattle.message_view.proofs.Ended.{ended_none, ended_fault, ended_rest, ended_items, ended_found, ended_broken}
+use Rattle.message_view.proofs.Ended.{ended_none}
 
 abbrev with_value : ℕ → Text → Text × List ℕ → Part (Option (Text × Text))
 with_value b name setting = Ok (Some (b ∷ name, setting.0), setting.1)
@@ -30,29 +28,5 @@ pair_shrinks bytes rest x e = by-name bytes rest x (text_at bytes) refl e
 pub pairs_end : (bytes rest : List ℕ) → pair_at bytes ≡ Ok (None, rest) → rest_of (ended_at pair_at bytes) ≡ Ok rest
 pairs_end bytes rest is = ap rest_of (ended_none pair_at pair_shrinks bytes rest is)
 
-pub pairs_go_on : (bytes rest : List ℕ) (x : Text × Text) → pair_at bytes ≡ Ok (Some x, rest) → rest_of (ended_at pair_at bytes) ≡ rest_of (ended_at pair_at rest)
-pairs_go_on bytes rest x is = ended_rest pair_at pair_shrinks bytes rest x is
-
-pub pairs_break : (bytes : List ℕ) (f : ViewFault) → pair_at bytes ≡ Err f → rest_of (ended_at pair_at bytes) ≡ Err f
-pairs_break bytes f is = ap rest_of (ended_fault pair_at pair_shrinks bytes f is)
-
-pub pairs_found : (bytes rest : List ℕ) → rest_of (ended_at pair_at bytes) ≡ Ok rest → ended_at pair_at bytes ≡ Ok (items_of (ended_at pair_at bytes), rest)
-pairs_found bytes rest e = ended_found pair_at bytes rest e
-
-pub pairs_there : (bytes rest : List ℕ) → rest_of (ended_at pair_at bytes) ≡ Ok rest → is_ok (ended_at pair_at bytes) ≡ true
-pairs_there bytes rest e = ap is_ok (pairs_found bytes rest e)
-
-pub pairs_fault : (bytes : List ℕ) (f : ViewFault) → rest_of (ended_at pair_at bytes) ≡ Err f → ended_at pair_at bytes ≡ Err f
-pairs_fault bytes f e = ended_broken pair_at bytes f e
-
-pub no_pair : (bytes : List ℕ) (f : ViewFault) → pair_at bytes ≡ Err f → items_of (ended_at pair_at bytes) ≡ []
-no_pair bytes f is = ap items_of (ended_fault pair_at pair_shrinks bytes f is)
-
 pub no_more_pairs : (bytes rest : List ℕ) → pair_at bytes ≡ Ok (None, rest) → items_of (ended_at pair_at bytes) ≡ []
 no_more_pairs bytes rest is = ap items_of (ended_none pair_at pair_shrinks bytes rest is)
-
-pub pair_is_first : (bytes rest : List ℕ) (x : Text × Text) → pair_at bytes ≡ Ok (Some x, rest) → is_ok (ended_at pair_at bytes) ≡ true → items_of (ended_at pair_at bytes) ≡ x ∷ items_of (ended_at pair_at rest)
-pair_is_first bytes rest x is ok = (ended_items pair_at pair_shrinks bytes rest x is ok).0
-
-pub rest_is_pairs : (bytes rest : List ℕ) (x : Text × Text) → pair_at bytes ≡ Ok (Some x, rest) → is_ok (ended_at pair_at bytes) ≡ true → is_ok (ended_at pair_at rest) ≡ true
-rest_is_pairs bytes rest x is ok = (ended_items pair_at pair_shrinks bytes rest x is ok).1

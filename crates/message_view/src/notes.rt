@@ -26,40 +26,36 @@ impl<'a> Iterator for Fields<'a> {
 
     ghost remaining = { item_count fields_left };
 
-    #[tactic(auto, using(crate::proofs::Fieldings::no_field, crate::proofs::Fieldings::no_more_fields, crate::proofs::Fieldings::field_is_first, crate::proofs::Fieldings::rest_is_fields))]
+    #[tactic(auto, using(crate::proofs::Fieldings::field_shrinks, crate::proofs::Fieldings::no_more_fields, crate::proofs::Ended::no_item, crate::proofs::Ended::item_is_first, crate::proofs::Ended::rest_is_list))]
     fn next(&mut self) -> Option<(u8, &'a [u8])>
         ensures steps { YieldsFirstBy code_and_text_of fields_left self.old result self.new }
         ensures goes { MakesProgress (λ _. ⊤) (item_count fields_left) self.old result self.new }
         ensures text { IfSome result (λ f. LiesAt f.1 self.old.rest 1) }
         ensures after { IfSome result (λ f. LiesAt self.new.rest self.old.rest (2 + length f.1.now)) }
     {
-        match take_field(self.rest) {
-            Ok((Some(field), rest)) => {
-                *self = Fields { rest };
-                Some(field)
-            }
-            Ok((None, _)) => None,
-            Err(_) => None,
-        }
+        let (field, rest) = take_field(self.rest).ok()?;
+        let field = field?;
+        *self = Fields { rest };
+        Some(field)
     }
 }
 
 /// What follows the zero byte that ends the fields.
-#[tactic(auto, using(crate::proofs::Fieldings::fields_end, crate::proofs::Fieldings::fields_go_on, crate::proofs::Fieldings::fields_break, crate::proofs::Fieldings::field_shrinks))]
+#[tactic(auto, using(crate::proofs::Fieldings::field_shrinks, crate::proofs::Fieldings::fields_end, crate::proofs::Ended::list_goes_on, crate::proofs::Ended::list_breaks))]
 fn skip_fields(bytes: &[u8]) -> Result<&[u8], ViewFault>
     ensures { Shows (λ r. r.now) result (rest_of (ended_at field_at bytes.now)) }
 {
     let mut rest = bytes;
     loop {
-        match take_field(rest) {
-            Ok((Some(_), after)) => rest = after,
-            Ok((None, after)) => return Ok(after),
-            Err(fault) => return Err(fault),
+        let (field, after) = take_field(rest)?;
+        if field.is_none() {
+            return Ok(after);
         }
+        rest = after;
     }
 }
 
-#[tactic(auto, using(crate::proofs::Fieldings::fields_found, crate::proofs::Fieldings::fields_fault))]
+#[tactic(auto, using(crate::proofs::Ended::ended_found, crate::proofs::Ended::ended_there, crate::proofs::Ended::ended_broken))]
 fn fields_at(bytes: &[u8]) -> Result<(Fields<'_>, &[u8]), ViewFault>
     ensures part { Gives fields_left result (ended_at field_at bytes.now) }
     ensures place { IfOk result (λ x. LiesAt x.0.rest bytes.entry 0) }

@@ -23,16 +23,12 @@ impl<'a> Iterator for Codes<'a> {
         if self.left == 0 {
             return None;
         }
-        match take_u16(self.rest) {
-            Ok((code, rest)) => {
-                *self = Codes {
-                    rest,
-                    left: self.left - 1,
-                };
-                Some(code)
-            }
-            Err(_) => None,
-        }
+        let (code, rest) = take_u16(self.rest).ok()?;
+        *self = Codes {
+            rest,
+            left: self.left - 1,
+        };
+        Some(code)
     }
 }
 
@@ -51,16 +47,12 @@ impl<'a> Iterator for Oids<'a> {
         if self.left == 0 {
             return None;
         }
-        match take_u32(self.rest) {
-            Ok((oid, rest)) => {
-                *self = Oids {
-                    rest,
-                    left: self.left - 1,
-                };
-                Some(oid)
-            }
-            Err(_) => None,
-        }
+        let (oid, rest) = take_u32(self.rest).ok()?;
+        *self = Oids {
+            rest,
+            left: self.left - 1,
+        };
+        Some(oid)
     }
 }
 

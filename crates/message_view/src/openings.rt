@@ -26,7 +26,7 @@ impl<'a> Iterator for Pairs<'a> {
 
     ghost remaining = { item_count pairs_left };
 
-    #[tactic(auto, using(crate::proofs::Pairings::no_pair, crate::proofs::Pairings::no_more_pairs, crate::proofs::Pairings::pair_is_first, crate::proofs::Pairings::rest_is_pairs))]
+    #[tactic(auto, using(crate::proofs::Pairings::pair_shrinks, crate::proofs::Pairings::no_more_pairs, crate::proofs::Ended::no_item, crate::proofs::Ended::item_is_first, crate::proofs::Ended::rest_is_list))]
     fn next(&mut self) -> Option<(&'a [u8], &'a [u8])>
         ensures steps { YieldsFirstBy texts_of pairs_left self.old result self.new }
         ensures goes { MakesProgress (λ _. ⊤) (item_count pairs_left) self.old result self.new }
@@ -34,33 +34,29 @@ impl<'a> Iterator for Pairs<'a> {
         ensures value { IfSome result (λ p. LiesAt p.1 self.old.rest (1 + length p.0.now)) }
         ensures after { IfSome result (λ p. LiesAt self.new.rest self.old.rest (2 + length p.0.now + length p.1.now)) }
     {
-        match take_pair(self.rest) {
-            Ok((Some(pair), rest)) => {
-                *self = Pairs { rest };
-                Some(pair)
-            }
-            Ok((None, _)) => None,
-            Err(_) => None,
-        }
+        let (pair, rest) = take_pair(self.rest).ok()?;
+        let pair = pair?;
+        *self = Pairs { rest };
+        Some(pair)
     }
 }
 
 /// What follows the zero byte that ends the pairs.
-#[tactic(auto, using(crate::proofs::Pairings::pairs_end, crate::proofs::Pairings::pairs_go_on, crate::proofs::Pairings::pairs_break, crate::proofs::Pairings::pair_shrinks))]
+#[tactic(auto, using(crate::proofs::Pairings::pair_shrinks, crate::proofs::Pairings::pairs_end, crate::proofs::Ended::list_goes_on, crate::proofs::Ended::list_breaks))]
 fn skip_pairs(bytes: &[u8]) -> Result<&[u8], ViewFault>
     ensures { Shows (λ r. r.now) result (rest_of (ended_at pair_at bytes.now)) }
 {
     let mut rest = bytes;
     loop {
-        match take_pair(rest) {
-            Ok((Some(_), after)) => rest = after,
-            Ok((None, after)) => return Ok(after),
-            Err(fault) => return Err(fault),
+        let (pair, after) = take_pair(rest)?;
+        if pair.is_none() {
+            return Ok(after);
         }
+        rest = after;
     }
 }
 
-#[tactic(auto, using(crate::proofs::Pairings::pairs_found, crate::proofs::Pairings::pairs_fault))]
+#[tactic(auto, using(crate::proofs::Ended::ended_found, crate::proofs::Ended::ended_there, crate::proofs::Ended::ended_broken))]
 fn pairs_at(bytes: &[u8]) -> Result<(Pairs<'_>, &[u8]), ViewFault>
     ensures part { Gives pairs_left result (ended_at pair_at bytes.now) }
     ensures place { IfOk result (λ x. LiesAt x.0.rest bytes.entry 0) }

@@ -94,16 +94,12 @@ impl<'a> Iterator for Columns<'a> {
         if self.left == 0 {
             return None;
         }
-        match take_column(self.rest) {
-            Ok((column, rest)) => {
-                *self = Columns {
-                    rest,
-                    left: self.left - 1,
-                };
-                Some(column)
-            }
-            Err(_) => None,
-        }
+        let (column, rest) = take_column(self.rest).ok()?;
+        *self = Columns {
+            rest,
+            left: self.left - 1,
+        };
+        Some(column)
     }
 }
 
@@ -114,15 +110,12 @@ fn skip_columns(bytes: &[u8], count: u16) -> Result<&[u8], ViewFault>
 {
     let mut rest = bytes;
     for done in 0..count {
-        match take_column(rest) {
-            Ok((_, after)) => rest = after,
-            Err(fault) => return Err(fault),
-        }
+        rest = take_column(rest)?.1;
     }
     Ok(rest)
 }
 
-#[tactic(auto, using(crate::proofs::Counted::list_found, crate::proofs::Counted::list_fault))]
+#[tactic(auto, using(crate::proofs::Counted::list_found, crate::proofs::Counted::list_there, crate::proofs::Counted::list_fault))]
 fn columns_at(bytes: &[u8], left: u16) -> Result<(Columns<'_>, &[u8]), ViewFault>
     ensures part { Gives columns_left result (list_at column_at left bytes.now) }
     ensures place { IfOk result (λ x. LiesAt x.0.rest bytes.entry 0) }

@@ -34,16 +34,12 @@ impl<'a> Iterator for Values<'a> {
         if self.left == 0 {
             return None;
         }
-        match take_value(self.rest) {
-            Ok((value, rest)) => {
-                *self = Values {
-                    rest,
-                    left: self.left - 1,
-                };
-                Some(value)
-            }
-            Err(_) => None,
-        }
+        let (value, rest) = take_value(self.rest).ok()?;
+        *self = Values {
+            rest,
+            left: self.left - 1,
+        };
+        Some(value)
     }
 }
 
@@ -54,15 +50,12 @@ fn skip_values(bytes: &[u8], count: u16) -> Result<&[u8], ViewFault>
 {
     let mut rest = bytes;
     for done in 0..count {
-        match take_value(rest) {
-            Ok((_, after)) => rest = after,
-            Err(fault) => return Err(fault),
-        }
+        rest = take_value(rest)?.1;
     }
     Ok(rest)
 }
 
-#[tactic(auto, using(crate::proofs::Counted::list_found, crate::proofs::Counted::list_fault))]
+#[tactic(auto, using(crate::proofs::Counted::list_found, crate::proofs::Counted::list_there, crate::proofs::Counted::list_fault))]
 fn values_at(bytes: &[u8], left: u16) -> Result<(Values<'_>, &[u8]), ViewFault>
     ensures part { Gives values_left result (list_at value_at left bytes.now) }
     ensures place { IfOk result (λ x. LiesAt x.0.rest bytes.entry 0) }

@@ -2,8 +2,8 @@ use Rattle.std.proofs.Common.{◌≡◌, length}
 use Rattle.message_view.specs.Reading.{rest_of, ended_at, field_at}
 use Rattle.message_view.proofs.notes.skip_fields.Given as goal
 
-abbrev pub invariant-loop-after : goal.invariant-loop-after
-invariant-loop-after l = rest_of (ended_at field_at l.rest) ≡ rest_of (ended_at field_at l.fn.bytes)
+abbrev pub invariant-loop-field : goal.invariant-loop-field
+invariant-loop-field l = rest_of (ended_at field_at l.rest) ≡ rest_of (ended_at field_at l.fn.bytes)
 
-abbrev pub decreases-loop-after : goal.decreases-loop-after
-decreases-loop-after l = length l.rest
+abbrev pub decreases-loop-field : goal.decreases-loop-field
+decreases-loop-field l = length l.rest
