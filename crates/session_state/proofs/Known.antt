@@ -1,14 +1,14 @@
 -- What a session may leave out: what would change nothing.
-use Rattle.std.proofs.Common.{◌≡◌, ℕ, zero, suc, List, [], ◌∷◌, ◌++◌, take, map, filter, Option, Some, None, refl, ap, ◌∙◌, Bool, true, false, cond, not}
+use Rattle.std.proofs.Common.{◌≡◌, ℕ, zero, suc, List, [], ◌∷◌, ◌++◌, take, map, filter, Option, None, refl, ap, ◌∙◌, Bool, true, false, not}
 use Rattle.std.specs.Prelude.{if◌then◌else◌}
 use Rattle.std.specs.List.{list_all}
 use Rattle.std.proofs.lemmas.Slice.Eq.{bytes_eq-Decides}
 use Rattle.message_view.specs.Messages.{parameter_status}
-use Rattle.mini_sql.specs.Words.{Text, same_text}
+use Rattle.mini_sql.specs.Words.{Text}
 use Rattle.session_values.specs.declared.parameter.Parameter.{Parameter}
 use Rattle.session_values.specs.Extended.{is_of, is_of_other, orphaned}
 use Rattle.session_state.specs.Known.{AreNamedUnless}
-use Rattle.session_values.specs.Named.{is_other, named, without}
+use Rattle.session_values.specs.Named.{is_other, without}
 use Rattle.session_values.specs.Parameters.{name}
 use Rattle.session_values.specs.State.{PortalOf, PreparedOf, prepared_name, reports_from}
 use Rattle.session_values.proofs.Passing.{filtered_pass, filtered_still_pass, passing_stays}
