@@ -11,20 +11,12 @@ use Rattle.mini_sql.specs.Tokens.{Token, Name, Literal, Digits, Parameter, Sign,
 use Rattle.mini_sql.specs.Statements.{Statement, Operand, Null, statement, DiscardAll, Form, or_else, is_word, is_sign, name_of, column_of, setting_of, operand_of, operand_parameter, parameters_of, greatest, of_tokens, phrase, less_semicolon, read, ends, pass, take_value, either, with_item, items, definitions, columns_at, at_most_64, take_columns, take_operands, block, assignment, set, reset, show, discard, definition_list, create, drop_table, value_list, insert, where_of, end_of, from_of, select, fails, of_other, of_word}
 use Rattle.session_values.specs.Lawful.{IsShort}
 use Rattle.session_values.proofs.Alls.{OfSome}
-use Rattle.session_laws.proofs.Lexed.{size, sizes, IsToken, AreTokens, token-size, AreWithin, phrase-told}
+use Rattle.statement_laws.specs.Statements.{IsSpelled}
+use Rattle.statement_laws.proofs.Lexed.{size, sizes, IsToken, AreTokens, token-size, AreWithin, phrase-told}
 
 pub spells-discard_all : statement (codes "DISCARD ALL") ≡ Some DiscardAll
 unfolding statement tokens_after literal_length unquoted of_tokens phrase less_semicolon read discard pass ends
 spells-discard_all = refl
-
--- What a statement is known to be when a text of so many bytes spells it: a value that is set is
--- shorter than the text, names are names, lists of columns are short, and parameters few.
-abbrev pub IsSpelled : ℕ → Statement → Type 0
-IsSpelled n (st.Set m (Some v)) = HasNoZero v × length v + 5 ≤ n
-IsSpelled n (st.Create t cs) = length cs ≤ 64 × AllByRecursion (IsShort 63) cs
-IsSpelled n (st.Select cs t w) = (length cs ≤ 64) × AllByRecursion (IsShort 63) cs × parameters_of (st.Select cs t w) ≤ 99
-IsSpelled n (st.Insert t vs) = greatest vs ≤ 99
-IsSpelled n _ = Unit {0}
 
 longer : (m n : ℕ) (x : Statement) → m ≤ n → IsSpelled m x → IsSpelled n x
 longer m n st.Empty l h = tt

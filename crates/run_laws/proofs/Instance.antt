@@ -10,8 +10,9 @@ use Rattle.mini_sql.specs.Words.{Text}
 use Rattle.session_values.specs.Parameters.{accepted_of}
 use Rattle.session_values.specs.State.{State, CatalogueOf, StartKeyOf, TableOf, fresh, begun}
 use Rattle.session_values.specs.Step.{run_frames}
-use Rattle.session_values.specs.Lawful.{IsLawfulTable}
-use Rattle.session_laws.specs.Laws.{AreBytes, IsSent, Reaches}
+use Rattle.session_values.specs.Lawful.{IsLawfulTable, IsLawfulCatalogue, IsLawfulParameter, IsLawfulKey}
+use Rattle.session_laws.specs.Laws.{AreBytes, IsSent, Reaches, begins}
+use Rattle.run_laws.proofs.ByName.{runs_stay_reached}
 use Rattle.session_values.proofs.Alls.{plain-text, all-as, list_all-each}
 
 abbrev city : TableOf
@@ -49,13 +50,22 @@ is_sent t l h = record { whole = record { of_type = refl; size = omega (arith, l
 all-sent : AllByRecursion IsSent sent
 all-sent = (is_sent (codes "SET application_name TO 'x'") (omega arith) refl, (is_sent (codes "SELECT name FROM city") (omega arith) refl, tt))
 
-pub reached : Reaches catalogue key (run_frames catalogue origin sent).next
-reached = record {
-  lawful = record { version = (plain-text (codes "16.0") refl, omega arith); tables = (city-lawful, tt) };
-  lawful_key = ((plain-text (codes "Europe/Zurich") refl, omega arith), tt);
-  origin = origin;
-  is_fresh = is_fresh;
-  frames = sent;
-  sent = all-sent;
-  after = refl;
+catalogue-lawful : IsLawfulCatalogue catalogue
+catalogue-lawful = record { version = (plain-text (codes "16.0") refl, omega arith); tables = (city-lawful, tt) }
+
+timezone-lawful : IsLawfulParameter (codes "timezone", codes "Europe/Zurich")
+timezone-lawful = (record { some = omega arith; name = plain-text (codes "timezone") refl; value = plain-text (codes "Europe/Zurich") refl }, omega arith)
+
+key-lawful : IsLawfulKey key
+key-lawful = record {
+  row = plain-text (codes "shop") refl;
+  dbname = plain-text (codes "shop") refl;
+  user = plain-text (codes "ann") refl;
+  has_user = omega arith;
+  has_dbname = tt;
+  parameters = (timezone-lawful, tt);
+  ordered = (tt, tt);
 }
+
+pub reached : Reaches catalogue key (run_frames catalogue origin sent).next
+reached = runs_stay_reached catalogue key origin sent (begins catalogue-lawful key-lawful is_fresh) all-sent
