@@ -1,6 +1,7 @@
 -- Where a name stands among names in their order.
 use Rattle.std.specs.Prelude.{ℕ, suc, List, [], ◌∷◌, Bool, false, Option, Some, None, bytes_eq, slice_get, if◌then◌else◌}
-use Rattle.param_track.specs.StartKeys.{Text, Pair, is_before}
+use Rattle.session_values.specs.Lawful.{is_before}
+use Rattle.start_keys.specs.StartPairs.{Text, Pair}
 
 -- how many of the first ones come before the name
 abbrev pub place_in : Text → List Pair → ℕ

@@ -1,8 +1,8 @@
-//! Worked StartupMessages under settings.
-use crate::{StartFault, start_key};
+//! Clients' StartupMessages under settings.
 use ini_config::read_settings;
 use message_view::StartupView;
-use session_machine::StartKey;
+use param_track::{StartFault, start_key};
+use start_keys::StartKey;
 use std::alloc::Global;
 use std::test::Fail;
 
@@ -23,12 +23,17 @@ fn fault(alloc: Global, text: &[u8], body: &[u8]) -> Result<Option<StartFault>, 
 #[test]
 fn of_a_row(rt: HostRuntime) -> Result<(), Fail> {
     let key = key(rt.alloc(), SETTINGS, b"user\0ann\0database\0news\0\0")??;
-    assert_eq!(rt; key.row.as_slice(), b"news".as_slice());
     assert_eq!(rt; key.host, Some([10, 1, 2, 3]));
     assert_eq!(rt; key.port, 6000);
-    assert_eq!(rt; key.dbname.as_slice(), b"press".as_slice());
-    assert_eq!(rt; key.user.as_slice(), b"ann".as_slice());
     assert_eq!(rt; key.parameters.len(), 0);
+    let texts: [(&[u8], &[u8]); 3] = [
+        (key.row.as_slice(), b"news"),
+        (key.dbname.as_slice(), b"press"),
+        (key.user.as_slice(), b"ann"),
+    ];
+    for (text, wanted) in texts {
+        assert_eq!(rt; text, wanted);
+    }
     Ok(())
 }
 

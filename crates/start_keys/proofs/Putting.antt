@@ -1,8 +1,9 @@
 -- A parameter put at its place.
 use Rattle.std.proofs.Common.{◌≡◌, suc, List, [], ◌∷◌, refl, ap, Bool, true, false, slice_set, insert}
 use Rattle.std.specs.Prelude.{bytes_eq, if◌then◌else◌}
-use Rattle.param_track.specs.Places.{place_in, is_at}
-use Rattle.param_track.specs.StartKeys.{Pair, is_before, put, put_here}
+use Rattle.start_keys.specs.Places.{place_in, is_at}
+use Rattle.session_values.specs.Lawful.{is_before}
+use Rattle.start_keys.specs.StartPairs.{Pair, put, put_here}
 
 here_set : (p q : Pair) (qs : List Pair) (same : Bool) → same ≡ true → (if same then p ∷ qs else p ∷ q ∷ qs) ≡ p ∷ qs
 here_set p q qs true h = refl
