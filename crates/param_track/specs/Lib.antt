@@ -1,2 +1,1 @@
 pub mod StartKeys
-pub mod Places

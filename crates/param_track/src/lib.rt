@@ -2,21 +2,31 @@
 #![tactic(auto)]
 
 mod key;
-#[cfg(test)]
-mod tests;
 mod uses;
 
+ghost use Rattle.std.specs.Prelude.{◌≡◌};
+ghost use Rattle.param_track.specs.declared.StartFault.TheVariants.{Memory};
+
 pub use key::start_key;
+use std::alloc::AllocError;
 
 /// Why a StartupMessage gives no start key. The first of these that holds is told, wherever they stand in the message.
 #[derive(Clone, Copy, Debug, PartialEq, Eq, Drop)]
 pub enum StartFault {
-    /// S1: no user, or an empty one.
+    /// No user, or an empty one.
     NoUser,
-    /// S2: a parameter that is neither followed nor ignored.
+    /// A parameter that is neither followed nor ignored.
     UnsupportedParameter,
-    /// S3: the parameter `replication`, where the settings don't ignore it.
+    /// The parameter `replication`, where the settings don't ignore it.
     Replication,
-    /// S4: a growth was refused.
+    /// An allocation failed.
     Memory,
+}
+
+impl From<AllocError> for StartFault {
+    ghost from_gives = { λ _ fault. fault ≡ Memory };
+
+    fn from(_error: AllocError) -> StartFault {
+        StartFault::Memory
+    }
 }

@@ -1,15 +1,14 @@
 //! What becomes of each pair of a StartupMessage.
-ghost use Rattle.std.specs.Prelude.{◌≡◌, IfSome};
+ghost use Rattle.std.specs.Prelude.{◌≡◌};
 ghost use Rattle.std.specs.List.{list_any};
 ghost use Rattle.std.specs.Str.{str_eq_ignore_ascii_case};
 ghost use Rattle.ini_config.specs.OptionValues.{has_folded};
-ghost use Rattle.std.specs.Iterator.{YieldsFirstBy};
 ghost use Rattle.message_view.specs.Left.{pairs_left};
-ghost use Rattle.message_view.specs.Views.{texts_of};
 ghost use Rattle.param_track.specs.StartKeys as spec;
 
 use ini_config::Settings;
-use message_view::{Pairs, StartupView};
+use message_view::StartupView;
+use start_keys::pairs::{is_identity, next_pair};
 
 /// The parameters that are followed under any settings.
 static ALWAYS_FOLLOWED: [&str; 5] = [
@@ -33,13 +32,7 @@ pub(crate) enum Use {
     Replication,
 }
 
-pub(crate) fn is_identity(name: &[u8]) -> bool
-    ensures { result ≡ spec.is_identity name.now }
-{
-    name == b"user".as_slice() || name == b"database".as_slice()
-}
-
-/// The same without regard to the case of ASCII letters.
+/// Whether the name is `user` or `database`, without regard to the case of ASCII letters.
 fn folds_to_identity(name: &[u8]) -> bool
     ensures { result ≡ spec.folds_to_identity name.now }
 {
@@ -70,13 +63,6 @@ fn is_followed(settings: &Settings, name: &[u8]) -> bool
     ensures { result ≡ spec.is_followed (spec.names_of settings.now) name.now }
 {
     !folds_to_identity(name) && (is_always_followed(name) || settings.tracks(name))
-}
-
-/// The next pair of a StartupMessage: its name and its value.
-pub(crate) fn next_pair<'a>(pairs: &mut Pairs<'a>) -> Option<(&'a [u8], &'a [u8])>
-    ensures { YieldsFirstBy texts_of pairs_left pairs.old result pairs.new }
-{
-    pairs.next()
 }
 
 /// What the settings make of a pair of this name.

@@ -1,8 +1,4 @@
-pub mod Worked
 pub mod Bodies
-pub mod Lexed
-pub mod Spelled
-pub mod GoesOn
 pub mod ReadyLast
 pub mod Freshness
 pub mod GoodValues
@@ -11,4 +7,5 @@ pub mod Handling
 pub mod Keeping
 pub mod Telling
 pub mod Reached
-pub mod Instance
+pub mod Starting
+pub mod ByName

@@ -7,7 +7,7 @@ use Rattle.frame_view.specs.Frames.{FrameOf, IsFrame}
 use Rattle.frame_view.specs.declared.Side.TheVariants.{Server}
 use Rattle.message_view.specs.declared.ViewFault.{ViewFault}
 use Rattle.message_view.specs.Bodies.{Parse}
-use Rattle.message_view.specs.Messages.{ready_for_query, backend_key_data}
+use Rattle.message_view.specs.Messages.{ready_for_query}
 use Rattle.message_view.specs.Reading.{query_of, parse_of, bind_of, target_of, execute_of}
 use Rattle.mini_sql.specs.Words.{Text}
 use Rattle.session_values.specs.declared.block.Block.{Block}
@@ -16,20 +16,19 @@ use Rattle.session_values.specs.declared.cause.Cause.{Cause}
 use Rattle.session_values.specs.declared.cause.Cause.TheVariants.{MalformedMessage, NotSupported, InvalidValue, InTransaction, Aborted, NoStatement, NoPortal, NoDatabase, Syntax, ColumnTwice, NoColumn, NoParameter, NoTable, NoPlaceholder, PortalExists, StatementExists, TableExists, PortalIsDone, FixedParameter}
 use Rattle.session_values.specs.Parameters.{Values}
 use Rattle.session_values.specs.Errors.{error}
-use Rattle.session_values.specs.State.{State, CatalogueOf, StartKeyOf, SavedOf, Answer, answers, bound, begun, failed, commit_outside, save, save_unless, reports, reported_of, reported_now, status, all_reports}
+use Rattle.session_values.specs.State.{State, CatalogueOf, StartKeyOf, SavedOf, Answer, answers, bound, begun, fresh, failed, commit_outside, save, save_unless, reports, reported_of, reported_now, status}
 use Rattle.session_values.specs.Extended.{settle}
-use Rattle.session_values.specs.Step.{Asked, Terminate, Sync, Query, FunctionCall, ParseMessage, BindMessage, Describe, Close, Execute, Password, Nothing, asked, answer_to, answer_skipping, step, run_frames, step_query, end_query, silent, sync, saved, reading_body, query, without_unnamed}
-use Rattle.session_values.specs.Service.{welcome}
-use Rattle.session_values.specs.Lawful.{IsLawfulCatalogue}
-use Rattle.session_laws.specs.Laws.{AreBytes, IsSent, Reaches, IsReport, IsReportIf, after_replies}
+use Rattle.session_values.specs.Step.{Asked, Terminate, Sync, Query, FunctionCall, ParseMessage, BindMessage, Describe, Close, Execute, Password, Nothing, asked, answer_to, answer_skipping, step, step_query, end_query, silent, sync, saved, reading_body, query, without_unnamed}
+use Rattle.session_values.specs.Lawful.{IsLawfulCatalogue, IsLawfulKey, IsLawfulParameter}
+use Rattle.session_laws.specs.Laws.{AreBytes, HasKey, IsSent, Reaches, begins, steps, IsReport, IsReportIf, after_replies}
 use Rattle.session_values.proofs.Alls.{all-as, all-append}
 use Rattle.session_laws.proofs.Bodies.{QueryTold, query-told, ParseTold, parse-told}
-use Rattle.session_laws.proofs.Freshness.{fresh-begun}
-use Rattle.session_laws.proofs.GoodValues.{AreSettings, OfOk, reported-settings, fresh-settings}
+use Rattle.session_laws.proofs.Freshness.{fresh-begun, step-has_key}
+use Rattle.session_laws.proofs.GoodValues.{AreSettings, IsPair, OfOk, reported-settings, fresh-settings}
 use Rattle.session_laws.proofs.Lawful.{IsPlain, IsTable, IsSource, Lawful, lawful-table}
 use Rattle.session_laws.proofs.Handling.{Kept, AllKept, kept, made, bound-kept, Any, any}
 use Rattle.session_laws.proofs.Keeping.{commit-lawful, roll_back-lawful, roll_back-reported, without_unnamed-lawful, query-kept, parse-kept, bind-kept, describe-kept, close-kept, execute-kept}
-use Rattle.session_laws.proofs.Telling.{reports-are, all_reports-are, report-frame, reports-tell, after-append}
+use Rattle.session_laws.proofs.Telling.{reports-are, report-frame, reports-tell, after-append}
 
 pub record Stepped (s : State) (a : Answer) : Type 0 where
   pub lawful : Lawful a.next
@@ -223,11 +222,6 @@ module _ (cat : CatalogueOf) (lawful_tables : AllByRecursion IsTable cat.tables)
       choose s s.skipping _ _ (skipping-stepped s (asked f.kind) h) (
       answer-stepped s (asked f.kind) f.body k.whole.size k.bytes h))
 
-  pub run-lawful : (s : State) (fs : List FrameOf) → AllByRecursion IsSent fs → Lawful s → Lawful (run_frames cat s fs).next
-  unfolding run_frames
-  run-lawful s [] k h = h
-  run-lawful s (f ∷ fs) k h = run-lawful (step cat s f).next fs k.1 (step-stepped s f k.0 h).lawful
-
 -- ---- reached states
 
 begun-lawful : (d : Values) → AreSettings d → Lawful (begun d)
@@ -236,14 +230,26 @@ begun-lawful d h = made _ h h (reported-settings d h) tt tt tt tt
 catalogue-tables : (cat : CatalogueOf) → IsLawfulCatalogue cat → AllByRecursion IsTable cat.tables
 catalogue-tables cat h = all-as _ IsTable lawful-table cat.tables h.tables
 
+pub reached-catalogue : (cat : CatalogueOf) (key : StartKeyOf) (s : State) → Reaches cat key s → IsLawfulCatalogue cat
+reached-catalogue cat key s (begins l k e) = l
+reached-catalogue cat key _ (steps {s} f r h) = reached-catalogue cat key s r
+
+pub reached-key : (cat : CatalogueOf) (key : StartKeyOf) (s : State) → Reaches cat key s → HasKey cat key s
+reached-key cat key s (begins l k e) = record { origin = s; is_fresh = e; defaults = refl }
+reached-key cat key _ (steps {s} f r h) = step-has_key cat key s f (reached-key cat key s r)
+
+parameter-pair : (p : Text × Text) → IsLawfulParameter p → IsPair p
+parameter-pair p h = (h.0.value, h.1)
+
+pub origin-settings : (cat : CatalogueOf) (key : StartKeyOf) (s : State) → IsLawfulCatalogue cat → IsLawfulKey key → fresh cat key ≡ Ok s → AreSettings s.defaults
+origin-settings cat key s l k e = fresh-settings cat key s l.version (all-as IsLawfulParameter IsPair parameter-pair key.parameters k.parameters) e
+
 pub reached-lawful : (cat : CatalogueOf) (key : StartKeyOf) (s : State) → Reaches cat key s → Lawful s
-reached-lawful cat key s r =
-    let d : AreSettings r.origin.defaults = fresh-settings cat key r.origin r.lawful.version r.lawful_key r.is_fresh in
-    let o : Lawful r.origin = subst (λ (t : State). Lawful t) (sym (fresh-begun cat key r.origin r.is_fresh)) (begun-lawful r.origin.defaults d) in
-    subst (λ (t : State). Lawful t) (sym r.after) (run-lawful cat (catalogue-tables cat r.lawful) r.origin r.frames r.sent o)
+reached-lawful cat key s (begins l k e) = subst (λ (t : State). Lawful t) (sym (fresh-begun cat key s e)) (begun-lawful s.defaults (origin-settings cat key s l k e))
+reached-lawful cat key _ (steps {s} f r h) = (step-stepped cat (catalogue-tables cat (reached-catalogue cat key s r)) s f h (reached-lawful cat key s r)).lawful
 
 reached-stepped : (cat : CatalogueOf) (key : StartKeyOf) (s : State) (f : FrameOf) → Reaches cat key s → IsSent f → Stepped s (step cat s f)
-reached-stepped cat key s f r k = step-stepped cat (catalogue-tables cat r.lawful) s f k (reached-lawful cat key s r)
+reached-stepped cat key s f r k = step-stepped cat (catalogue-tables cat (reached-catalogue cat key s r)) s f k (reached-lawful cat key s r)
 
 pub reached-frames : (cat : CatalogueOf) (key : StartKeyOf) (s : State) (f : FrameOf) → Reaches cat key s → IsSent f → AllByRecursion (IsFrame Server 2147483647) (step cat s f).replies
 reached-frames cat key s f r k = (reached-stepped cat key s f r k).frames
@@ -253,11 +259,3 @@ reached-reports cat key s f r k = (reached-stepped cat key s f r k).reports
 
 pub reached-told : (cat : CatalogueOf) (key : StartKeyOf) (s : State) (f : FrameOf) → Reaches cat key s → IsSent f → (step cat s f).next.reported ≡ after_replies s.reported (step cat s f).replies
 reached-told cat key s f r k = (reached-stepped cat key s f r k).told
-
-key-frame : (pid secret : ℕ) → IsFrame Server 2147483647 (backend_key_data pid secret)
-key-frame pid secret = record { of_type = refl; size = omega arith }
-
-pub welcome-frames : (cat : CatalogueOf) (key : StartKeyOf) (s : State) (pid secret : ℕ) → Reaches cat key s → AllByRecursion (IsFrame Server 2147483647) (welcome s pid secret)
-welcome-frames cat key s pid secret r =
-    let h = reached-lawful cat key s r in
-    all-append (IsFrame Server 2147483647) (all_reports s) (backend_key_data pid secret ∷ ready_for_query 73 ∷ []) (all-as IsReport (IsFrame Server 2147483647) report-frame (all_reports s) (all_reports-are s.reported h.reported)) (key-frame pid secret, (plain-frame (ready_for_query 73) (ready-plain 73), tt))

@@ -1,8 +1,11 @@
--- The laws of the machine, all that a pooler knows of it.
+-- The laws of one step of a session: all that a pooler knows of it. Laws of starts and resets are in
+-- Starts, those of whole runs in the crate run_laws.
 use Rattle.std.specs.Prelude.{◌≡◌, ℕ, ◌<◌, ◌≤◌, List, [], ◌∷◌, ◌++◌, length, None, Result, Ok, Err, Bool, true, false, ◌==◌, ◌||◌, if◌then◌else◌, Contains, codes}
 use Rattle.std.specs.List.{AllByRecursion}
 use Rattle.frame_view.specs.Frames.{FrameOf, IsFrame}
 use Rattle.frame_view.specs.declared.Side.TheVariants.{Client, Server}
+use Rattle.frame_view.specs.declared.client.TheConstants.{QUERY, FUNCTION_CALL, SYNC}
+use Rattle.frame_view.specs.declared.server.TheConstants.{PARAMETER_STATUS, READY_FOR_QUERY}
 use Rattle.message_view.specs.declared.ViewFault.{ViewFault}
 use Rattle.message_view.specs.Bodies.{text, HasNoZero}
 use Rattle.message_view.specs.Messages.{command_complete, parameter_status, ready_for_query}
@@ -11,30 +14,20 @@ use Rattle.mini_sql.specs.Words.{Text, same_text}
 use Rattle.session_values.specs.declared.block.Block.{Block}
 use Rattle.session_values.specs.declared.block.Block.TheVariants.{Outside}
 use Rattle.session_values.specs.declared.parameter.Parameter.{Parameter}
-use Rattle.session_values.specs.declared.cause.Cause.{Cause}
 use Rattle.session_values.specs.Parameters.{reported_parameters, name}
-use Rattle.session_values.specs.Errors.{fatal}
-use Rattle.session_values.specs.Lawful.{IsShort, IsLawfulCatalogue}
-use Rattle.session_values.specs.State.{State, CatalogueOf, StartKeyOf, answers, and_then, fresh, reports_from, reported_of, status}
-use Rattle.session_values.specs.Step.{step, run_frames}
-use Rattle.session_values.specs.Service.{welcome}
-
--- ---- a list of frames is answered frame by frame
-
--- The replies to a front of a list of frames are a front of the replies to the list, and the rest
--- is answered from the state after the front.
-abbrev pub RunsGoOn : Type 0
-RunsGoOn = (cat : CatalogueOf) (s : State) (fs gs : List FrameOf) → run_frames cat s (fs ++ gs) ≡ and_then (run_frames cat s fs) (λ t. run_frames cat t gs)
+use Rattle.session_values.specs.Lawful.{IsLawfulCatalogue, IsLawfulKey}
+use Rattle.session_values.specs.State.{State, CatalogueOf, StartKeyOf, answers, fresh, reports_from, reported_of, status}
+use Rattle.session_values.specs.Step.{step}
 
 -- ---- ReadyForQuery
 
 abbrev pub has_ready : List FrameOf → Bool
 has_ready [] = false
-has_ready (f ∷ fs) = f.kind == 90 || has_ready fs
+has_ready (f ∷ fs) = f.kind == READY_FOR_QUERY || has_ready fs
 
--- Query, FunctionCall and Sync are the closing messages
+-- the messages that a ReadyForQuery answers
 abbrev pub is_closing : ℕ → Bool
-is_closing kind = kind == 81 || kind == 70 || kind == 83
+is_closing kind = kind == QUERY || kind == FUNCTION_CALL || kind == SYNC
 
 -- Nothing is open: no block, nothing saved, nothing skipped, not ended.
 pub record IsAtRest (s : State) : Type 0 where
@@ -73,11 +66,11 @@ StepKeepsKey = (cat : CatalogueOf) (key : StartKeyOf) (s : State) (f : FrameOf) 
 -- ---- DISCARD ALL
 
 abbrev pub discard_all : FrameOf
-discard_all = record { kind = 81; body = text (codes "DISCARD ALL") }
+discard_all = record { kind = QUERY; body = text (codes "DISCARD ALL") }
 
 -- what DISCARD ALL is answered by: its tag, the reports of what it changed, and ReadyForQuery
 abbrev pub discard_replies : State → State → List FrameOf
-discard_replies origin s = command_complete (codes "DISCARD ALL") ∷ (reports_from reported_parameters origin.defaults s.reported ++ ready_for_query 73 ∷ [])
+discard_replies origin s = command_complete (codes "DISCARD ALL") ∷ (reports_from reported_parameters origin.defaults s.reported ++ ready_for_query (status Outside) ∷ [])
 
 -- From a session at rest that has a key, DISCARD ALL gives the fresh session of that key.
 abbrev pub DiscardAllGivesFresh : Type 0
@@ -88,24 +81,15 @@ DiscardAllGivesFresh = (cat : CatalogueOf) (key : StartKeyOf) (s origin : State)
 abbrev pub AreBytes : List ℕ → Type 0
 AreBytes bs = AllByRecursion (λ b. b < 256) bs
 
--- no value has a zero byte, nor more than 10,000 bytes, the greatest length of a first packet
-abbrev pub IsLawfulKey : StartKeyOf → Type 0
-IsLawfulKey key = AllByRecursion (λ p. HasNoZero p.1 × IsShort 10000 p.1) key.parameters
-
 -- what a client sends: a whole frame, whose body is bytes
 pub record IsSent (f : FrameOf) : Type 0 where
   pub whole : IsFrame Client 2147483647 f
   pub bytes : AreBytes f.body
 
--- a state to which some frames lead from the fresh session of a key
-pub record Reaches (cat : CatalogueOf) (key : StartKeyOf) (s : State) : Type 0 where
-  pub lawful : IsLawfulCatalogue cat
-  pub lawful_key : IsLawfulKey key
-  pub origin : State
-  pub is_fresh : fresh cat key ≡ Ok origin
-  pub frames : List FrameOf
-  pub sent : AllByRecursion IsSent frames
-  pub after : s ≡ (run_frames cat origin frames).next
+-- a state that a session of this key reaches: it begins fresh, and takes frames of its client
+pub data Reaches (cat : CatalogueOf) (key : StartKeyOf) : State → Type 0 where
+  begins : {s : State} → IsLawfulCatalogue cat → IsLawfulKey key → fresh cat key ≡ Ok s → Reaches cat key s
+  steps : {s : State} (f : FrameOf) → Reaches cat key s → IsSent f → Reaches cat key (step cat s f).next
 
 -- a ParameterStatus of a reported parameter, whose value has no zero byte and at most 63 bytes
 pub record IsReport (f : FrameOf) : Type 0 where
@@ -117,7 +101,7 @@ pub record IsReport (f : FrameOf) : Type 0 where
   pub is : f ≡ parameter_status (name parameter) value
 
 abbrev pub IsReportIf : FrameOf → Type 0
-IsReportIf f = f.kind ≡ 83 → IsReport f
+IsReportIf f = f.kind ≡ PARAMETER_STATUS → IsReport f
 
 -- From a state that a fresh session reaches: the replies are whole frames, and the ParameterStatus
 -- among them are reports.
@@ -140,7 +124,7 @@ reported_by vs (Err e) = vs
 
 -- the values after a server's frame: a ParameterStatus changes the one that it names
 abbrev pub after_reply : List Text → FrameOf → List Text
-after_reply vs f = if f.kind == 83 then reported_by vs (status_of f.body) else vs
+after_reply vs f = if f.kind == PARAMETER_STATUS then reported_by vs (status_of f.body) else vs
 
 abbrev pub after_replies : List Text → List FrameOf → List Text
 after_replies vs [] = vs
@@ -148,15 +132,3 @@ after_replies vs (f ∷ fs) = after_replies (after_reply vs f) fs
 
 abbrev pub ReportsTellValues : Type 0
 ReportsTellValues = (cat : CatalogueOf) (key : StartKeyOf) (s : State) (f : FrameOf) → Reaches cat key s → IsSent f → (step cat s f).next.reported ≡ after_replies s.reported (step cat s f).replies
-
--- ---- the frames of a start
-
--- the welcome of a fresh session, the error of a start that is refused, and DISCARD ALL are whole frames
-abbrev pub WelcomeIsFrames : Type 0
-WelcomeIsFrames = (cat : CatalogueOf) (key : StartKeyOf) (s : State) (pid secret : ℕ) → Reaches cat key s → AllByRecursion (IsFrame Server 2147483647) (welcome s pid secret)
-
-abbrev pub StartErrorIsFrame : Type 0
-StartErrorIsFrame = (c : Cause) → IsFrame Server 2147483647 (fatal c)
-
-abbrev pub DiscardAllIsFrame : Type 0
-DiscardAllIsFrame = IsFrame Client 2147483647 discard_all

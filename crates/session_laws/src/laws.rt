@@ -1,30 +1,28 @@
-//! What a pooler knows of the machine. Each function's contract is a law, proved over the definitions
-//! alone; the functions do nothing.
+//! What a pooler knows of one step of a session, proved over the definitions alone. Each is the contract of a function that does nothing.
 
-ghost use Rattle.session_laws.specs.Laws.{DiscardAllGivesFresh, DiscardAllIsFrame, EachStepEnds, FreshHasKey, FreshIsAtRest, RepliesAreFrames, ReportsTellValues, RunsGoOn, StartErrorIsFrame, StatusesAreReports, StepKeepsKey, WelcomeIsFrames};
-
-/// A list of frames is answered frame by frame: the replies to a front are a front of the replies.
-pub fn runs_go_on()
-    ensures { RunsGoOn }
-{}
+ghost use Rattle.session_laws.specs.Laws.{DiscardAllGivesFresh, EachStepEnds, FreshHasKey, FreshIsAtRest, RepliesAreFrames, ReportsTellValues, StatusesAreReports, StepKeepsKey};
 
 /// At most one reply is a ReadyForQuery, the last one, only after a closing message; with status `I`
 /// the session is at rest, and the reported values are the current ones.
+#[tactic(auto, using(crate::proofs::ByName::each_step_ends))]
 pub fn each_step_ends()
     ensures { EachStepEnds }
 {}
 
 /// A fresh session has its own key.
+#[tactic(auto, using(crate::proofs::ByName::fresh_has_key))]
 pub fn fresh_has_key()
     ensures { FreshHasKey }
 {}
 
 /// A fresh session is at rest.
+#[tactic(auto, using(crate::proofs::ByName::fresh_is_at_rest))]
 pub fn fresh_is_at_rest()
     ensures { FreshIsAtRest }
 {}
 
 /// No frame changes the key of a session.
+#[tactic(auto, using(crate::proofs::ByName::step_keeps_key))]
 pub fn step_keeps_key()
     ensures { StepKeepsKey }
 {}
@@ -35,31 +33,19 @@ pub fn discard_all_gives_fresh()
 {}
 
 /// What a session that began fresh replies is whole frames.
+#[tactic(auto, using(crate::proofs::ByName::replies_are_frames))]
 pub fn replies_are_frames()
     ensures { RepliesAreFrames }
 {}
 
 /// Each ParameterStatus of a session that began fresh names a reported parameter and is short.
+#[tactic(auto, using(crate::proofs::ByName::statuses_are_reports))]
 pub fn statuses_are_reports()
     ensures { StatusesAreReports }
 {}
 
-/// The reported values are those at the start, changed by the reports sent.
+/// The reported values are those before the frame, changed by the reports sent.
+#[tactic(auto, using(crate::proofs::ByName::reports_tell_values))]
 pub fn reports_tell_values()
     ensures { ReportsTellValues }
-{}
-
-/// The welcome of a session is whole frames.
-pub fn welcome_is_frames()
-    ensures { WelcomeIsFrames }
-{}
-
-/// The error of a refused start is a whole frame.
-pub fn start_error_is_frame()
-    ensures { StartErrorIsFrame }
-{}
-
-/// `DISCARD ALL` is a whole frame of a client.
-pub fn discard_all_is_frame()
-    ensures { DiscardAllIsFrame }
 {}

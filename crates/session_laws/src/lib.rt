@@ -1,4 +1,5 @@
-//! The laws of the stand-in server's session, and conversations worked out by its definitions.
+//! The laws of a stand-in server's session: of one step, and of its start and its resets.
 #![tactic(auto)]
 
 pub mod laws;
+pub mod starts;

@@ -1,5 +1,12 @@
-//! The start key of a session.
+//! A session's start key.
+ghost use Rattle.std.specs.Prelude.{◌≡◌};
+ghost use Rattle.std.specs.Cmp.{decided, partial_equiv_from_equiv};
+ghost use Rattle.std.proofs.Common.{ap};
+ghost use Rattle.start_keys.specs.Keys.{key_hashed, same_host, same_key, same_pairs};
+ghost use Rattle.start_keys.specs.SameKeys.{same_keys-one};
+
 use session_values::text::Text;
+use std::hash::{Hash, Hasher};
 use std::marker::Model;
 
 /// A parameter that a client asked for: its name in lower case, and the value.
@@ -32,4 +39,55 @@ impl Model for StartKey {
       user = k.user;
       parameters = k.parameters.items;
     } };
+}
+
+/// Whether both are none, or the same four bytes.
+fn is_same_host(left: &Option<[u8; 4]>, right: &Option<[u8; 4]>) -> bool
+    ensures { result ≡ same_host left.now right.now }
+{
+    match (left, right) {
+        (None, None) => true,
+        (Some(left), Some(right)) => left.as_slice() == right.as_slice(),
+        _ => false,
+    }
+}
+
+/// Whether the parameters are the same, one by one.
+fn are_same_pairs(left: &[StartParameter], right: &[StartParameter]) -> bool
+    ensures { result ≡ same_pairs left.now right.now }
+{
+    left == right
+}
+
+/// Keys are equal where each part is the same, byte for byte.
+impl PartialEq for StartKey {
+    ghost eq = { same_key };
+
+    ghost laws = { partial_equiv_from_equiv (decided same_key same_keys-one) };
+
+    fn eq(&self, other: &StartKey) -> bool {
+        self.row == other.row
+            && is_same_host(&self.host, &other.host)
+            && self.port == other.port
+            && self.dbname == other.dbname
+            && self.user == other.user
+            && are_same_pairs(self.parameters.as_slice(), other.parameters.as_slice())
+    }
+}
+
+impl Eq for StartKey {
+    ghost laws = { decided same_key same_keys-one };
+}
+
+impl Hash for StartKey {
+    ghost hash_input = { key_hashed };
+
+    ghost respects_eq = { λ a b same. ap key_hashed ((same_keys-one a b).0 same) };
+
+    /// Of the row, the user and the parameters: keys of one row have one server.
+    fn hash<H: Hasher>(&self, state: &mut H) {
+        self.row.hash(state);
+        self.user.hash(state);
+        self.parameters.hash(state);
+    }
 }

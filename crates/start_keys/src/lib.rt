@@ -1,4 +1,9 @@
-//! Start keys: which database, user and parameters a session is started for.
+//! Start keys: which database, user and parameters a session is started for, and what a StartupMessage asks for.
 #![tactic(auto)]
 
 pub mod key;
+pub mod pairs;
+pub mod stub;
+
+pub use key::{StartKey, StartParameter};
+pub use stub::stub_key;

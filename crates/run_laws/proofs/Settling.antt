@@ -1,0 +1,153 @@
+-- What the counts of what was sent and received say of the session.
+use Rattle.std.proofs.Common.{◌≡◌, ℕ, ◌+◌, ◌≤◌, List, [], ◌∷◌, ◌++◌, refl, sym, ap, subst, ◌∙◌, append_assoc, append-nil, get_or, Bool, true, false, arith}
+use Rattle.std.proofs.lemmas.Bool.{false≢true}
+use Rattle.std.specs.Prelude.{if◌then◌else◌, ◌||◌, ◌==◌}
+use Rattle.frame_view.specs.Frames.{FrameOf}
+use Rattle.message_view.specs.Messages.{ready_for_query}
+use Rattle.session_values.specs.declared.block.Block.{Block}
+use Rattle.session_values.specs.declared.block.Block.TheVariants.{Outside, Inside, Failed}
+use Rattle.session_values.specs.State.{State, CatalogueOf, Answer, status}
+use Rattle.session_values.specs.Step.{step, run_frames}
+use Rattle.session_laws.specs.Laws.{has_ready, is_closing, IsAtRest, Ends, without_ready, with_ready}
+use Rattle.run_laws.specs.Settling.{count, closes, is_ready, last_status, SettledIsQuiet}
+use Rattle.run_laws.proofs.GoesOn.{runs-go_on}
+use Rattle.session_laws.proofs.ByName.{each_step_ends}
+
+count-append : (p : FrameOf → Bool) (xs ys : List FrameOf) → count p (xs ++ ys) ≡ count p xs + count p ys
+count-append p [] ys = omega arith
+count-append p (x ∷ xs) ys = let h = count-append p xs ys in by_test (p x) h
+  where
+    by_test : (b : Bool) → count p (xs ++ ys) ≡ count p xs + count p ys → (if b then 1 else 0) + count p (xs ++ ys) ≡ (if b then 1 else 0) + count p xs + count p ys
+    by_test true h = omega (arith, h)
+    by_test false h = omega (arith, h)
+
+none-counted : (rs : List FrameOf) → has_ready rs ≡ false → count is_ready rs ≡ 0
+none-counted [] h = refl
+none-counted (r ∷ rs) h = by_test (r.kind == 90) (has_ready rs) h (none-counted rs)
+  where
+    by_test : (b c : Bool) → (b || c) ≡ false → (c ≡ false → count is_ready rs ≡ 0) → (if b then 1 else 0) + count is_ready rs ≡ 0
+    by_test true c h f = absurd cc
+    by_test false c h f = omega (arith, f h)
+
+-- a step's replies, with at most one ReadyForQuery
+abbrev closing_of : ℕ → ℕ
+closing_of kind = if is_closing kind then 1 else 0
+
+ends-count : (kind : ℕ) (s : State) (rs : List FrameOf) → Ends kind s rs → count is_ready rs ≤ closing_of kind
+ends-count kind s rs (without_ready h) = let n = none-counted rs h in omega (arith, n)
+ends-count kind s _ (with_ready rs b c h e n k o r) =
+    let a = count-append is_ready rs (ready_for_query (status b) ∷ []) in
+    let z = none-counted rs h in
+    let w : closing_of kind ≡ 1 = ap (λ (t : Bool). if t then 1 else 0) c in
+    omega (arith, a, z, w)
+
+step-count : (cat : CatalogueOf) (s : State) (f : FrameOf) → count is_ready (step cat s f).replies ≤ count closes (f ∷ [])
+step-count cat s f = let h = ends-count f.kind (step cat s f).next (step cat s f).replies (each_step_ends cat s f) in omega (arith, h)
+
+-- no more answers than were asked for
+run-count : (cat : CatalogueOf) (s : State) (fs : List FrameOf) → count is_ready (run_frames cat s fs).replies ≤ count closes fs
+unfolding run_frames
+run-count cat s [] = omega arith
+run-count cat s (f ∷ fs) =
+    let a = count-append is_ready (step cat s f).replies (run_frames cat (step cat s f).next fs).replies in
+    let b = step-count cat s f in
+    let c = run-count cat (step cat s f).next fs in
+    omega (arith, a, b, c)
+
+abbrev last_of : List FrameOf → FrameOf → FrameOf
+last_of [] d = d
+last_of (f ∷ fs) d = last_of fs f
+
+last_of-snoc : (xs : List FrameOf) (z d : FrameOf) → last_of (xs ++ z ∷ []) d ≡ z
+last_of-snoc [] z d = refl
+last_of-snoc (x ∷ xs) z d = last_of-snoc xs z x
+
+last_of-more : (xs : List FrameOf) (y : FrameOf) (ys : List FrameOf) (d : FrameOf) → last_of (xs ++ y ∷ ys) d ≡ last_of ys y
+last_of-more [] y ys d = refl
+last_of-more (x ∷ xs) y ys d = last_of-more xs y ys x
+
+one_not : (b : Bool) (n : ℕ) → (if b then 1 else 0) + n ≡ 0 → b ≡ false
+one_not true n h = absurd (omega (arith, h))
+one_not false n h = refl
+
+rest_none : (b : Bool) (n : ℕ) → (if b then 1 else 0) + n ≡ 0 → n ≡ 0
+rest_none true n h = absurd (omega (arith, h))
+rest_none false n h = omega (arith, h)
+
+none_last : (p : FrameOf → Bool) (y : FrameOf) (ys : List FrameOf) → count p (y ∷ ys) ≡ 0 → p (last_of ys y) ≡ false
+none_last p y [] h = one_not (p y) 0 h
+none_last p y (x ∷ xs) h = none_last p x xs (rest_none (p y) (count p (x ∷ xs)) h)
+
+-- after these comes nothing more that is counted, so nothing
+nothing_more : (p : FrameOf → Bool) (xs ys before : List FrameOf) (final : FrameOf) → xs ++ ys ≡ before ++ final ∷ [] → p final ≡ true → count p ys ≡ 0 → ys ≡ []
+nothing_more p xs [] before final e c n = refl
+nothing_more p xs (g ∷ gs) before final e c n =
+    let l : last_of gs g ≡ final = sym (last_of-more xs g gs final) ∙ (ap (λ (zs : List FrameOf). last_of zs final) e ∙ last_of-snoc before final final) in
+    let f : p (last_of gs g) ≡ false = none_last p g gs n in
+    absurd (false≢true (sym f ∙ (ap p l ∙ c)))
+
+last_status-snoc : (xs : List FrameOf) (n : ℕ) (d : List ℕ) → last_status (xs ++ ready_for_query n ∷ []) d ≡ n ∷ []
+last_status-snoc [] n d = refl
+last_status-snoc (x ∷ xs) n d = last_status-snoc xs n (if is_ready x then x.body else d)
+
+outside : (b : Block) → status b ∷ [] ≡ 73 ∷ [] → b ≡ Outside
+outside Outside e = refl
+outside Inside e = absurd (let h : 84 ≡ 73 = ap (λ (l : List ℕ). get_or l 0 0) e in omega (arith, h))
+outside Failed e = absurd (let h : 69 ≡ 73 = ap (λ (l : List ℕ). get_or l 0 0) e in omega (arith, h))
+
+-- the answer to a last frame that was answered
+record Answered (s : State) (rs : List FrameOf) : Type 0 where
+  front : List FrameOf
+  block : Block
+  is : rs ≡ front ++ ready_for_query (status block) ∷ []
+  rest : block ≡ Outside → IsAtRest s
+
+answered : (kind : ℕ) (s : State) (rs : List FrameOf) → Ends kind s rs → count is_ready rs ≡ 1 → Answered s rs
+answered kind s rs (without_ready h) n = absurd (let z = none-counted rs h in omega (arith, z, n))
+answered kind s _ (with_ready rs b c h e d k o r) n = record { front = rs; block = b; is = refl; rest = o }
+
+module _ (cat : CatalogueOf) (s : State) where
+  last-run : (before : List FrameOf) (final : FrameOf) → (run_frames cat s (before ++ final ∷ [])).replies ≡ (run_frames cat s before).replies ++ (step cat (run_frames cat s before).next final).replies
+  unfolding run_frames
+  last-run before final =
+      ap (λ (a : Answer). a.replies) (runs-go_on cat s before (final ∷ []))
+      ∙ ap (λ (l : List FrameOf). (run_frames cat s before).replies ++ l) (append-nil (step cat (run_frames cat s before).next final).replies)
+
+  last-next : (before : List FrameOf) (final : FrameOf) → (run_frames cat s (before ++ final ∷ [])).next ≡ (step cat (run_frames cat s before).next final).next
+  unfolding run_frames
+  last-next before final = ap (λ (a : Answer). a.next) (runs-go_on cat s before (final ∷ []))
+
+pub settled-quiet : SettledIsQuiet
+settled-quiet cat s sent received taken left more a e r =
+    let t : State = (run_frames cat s a.before).next in
+    let cs = ap (count closes) e ∙ count-append closes taken left in
+    let cr = ap (count is_ready) r ∙ count-append is_ready received more in
+    let q : count closes sent ≡ count is_ready received = a.equal in
+    let u = run-count cat s taken in
+    let nl : count closes left ≡ 0 = omega (arith, cs, cr, q, u) in
+    let nm : count is_ready more ≡ 0 = omega (arith, cs, cr, q, u) in
+    let el : left ≡ [] = nothing_more closes taken left a.before a.final (sym e ∙ a.last) a.closing nl in
+    let ts : taken ≡ sent = sym (e ∙ (ap (λ (xs : List FrameOf). taken ++ xs) el ∙ append-nil taken)) in
+    let tb : taken ≡ a.before ++ a.final ∷ [] = ts ∙ a.last in
+    let lr : (run_frames cat s taken).replies ≡ (run_frames cat s a.before).replies ++ (step cat t a.final).replies = ap (λ (xs : List FrameOf). (run_frames cat s xs).replies) tb ∙ last-run cat s a.before a.final in
+    let c1 = ap (count is_ready) lr ∙ count-append is_ready (run_frames cat s a.before).replies (step cat t a.final).replies in
+    let c2 = ap (count closes) tb ∙ count-append closes a.before (a.final ∷ []) in
+    let b1 = run-count cat s a.before in
+    let b2 = step-count cat t a.final in
+    let one_final : count closes (a.final ∷ []) ≡ 1 = ap (λ (b : Bool). (if b then 1 else 0) + 0) a.closing in
+    let one : count is_ready (step cat t a.final).replies ≡ 1 = omega (arith, c1, c2, b1, b2, one_final, cs, cr, q, nl, nm) in
+    let w : Answered (step cat t a.final).next (step cat t a.final).replies = answered a.final.kind (step cat t a.final).next (step cat t a.final).replies (each_step_ends cat t a.final) one in
+    let whole : received ++ more ≡ ((run_frames cat s a.before).replies ++ w.front) ++ ready_for_query (status w.block) ∷ [] =
+    sym r ∙ lr ∙ ap (λ (l : List FrameOf). (run_frames cat s a.before).replies ++ l) w.is ∙ sym (append_assoc (run_frames cat s a.before).replies w.front (ready_for_query (status w.block) ∷ [])) in
+    let em : more ≡ [] = nothing_more is_ready received more ((run_frames cat s a.before).replies ++ w.front) (ready_for_query (status w.block)) whole refl nm in
+    let rr : received ≡ (run_frames cat s taken).replies = sym (r ∙ (ap (λ (xs : List FrameOf). received ++ xs) em ∙ append-nil received)) in
+    let rf : received ≡ ((run_frames cat s a.before).replies ++ w.front) ++ ready_for_query (status w.block) ∷ [] = sym (append-nil received) ∙ (ap (λ (xs : List FrameOf). received ++ xs) (sym em) ∙ whole) in
+    let st : status w.block ∷ [] ≡ 73 ∷ [] = sym (last_status-snoc ((run_frames cat s a.before).replies ++ w.front) (status w.block) []) ∙ (sym (ap (λ (xs : List FrameOf). last_status xs []) rf) ∙ a.idle) in
+    let same : (run_frames cat s sent).next ≡ (step cat t a.final).next = ap (λ (xs : List FrameOf). (run_frames cat s xs).next) (a.last) ∙ last-next cat s a.before a.final in
+    record {
+      all = ts;
+      none_left = el;
+      none_more = em;
+      answers = rr ∙ ap (λ (xs : List FrameOf). (run_frames cat s xs).replies) ts;
+      rest = subst IsAtRest (sym same) (w.rest (outside w.block st));
+    }

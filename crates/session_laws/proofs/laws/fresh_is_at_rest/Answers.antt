@@ -1,5 +1,0 @@
-use Rattle.session_laws.proofs.Freshness.{fresh-at_rest}
-use Rattle.session_laws.proofs.laws.fresh_is_at_rest.Goals as goal
-
-pub returns : goal.returns
-returns c = fresh-at_rest

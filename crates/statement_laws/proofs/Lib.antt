@@ -1,0 +1,3 @@
+pub mod Lexed
+pub mod Spelled
+pub mod ByName
