@@ -1,7 +1,7 @@
 -- What the lines of a settings file spell, or their first fault (PgBouncer manual, "Configuration file format").
-use Rattle.std.specs.Prelude.{◌≡◌, List, [], ◌∷◌, ◌++◌, if◌then◌else◌, Option, Some, None, Result, Ok, Err, is_some, bytes_eq}
+use Rattle.std.specs.Prelude.{◌≡◌, ◌⊎◌, Bool, true, false, List, [], ◌∷◌, ◌++◌, if◌then◌else◌, Option, Some, None, Result, Ok, Err, is_some, bytes_eq}
 use Rattle.std.specs.List.{list_any}
-use Rattle.text_lines.specs.Files.{IsFaultless, IsTold, said_by}
+use Rattle.text_lines.specs.Files.{IsFaultless, IsReported, said_by}
 use Rattle.ini_config.specs.DatabaseValues.{row_of}
 use Rattle.ini_config.specs.Lines.{Said, Nothing, Opens, OpensUnknown, Gives, Unreadable, said}
 use Rattle.ini_config.specs.OptionValues.{Text, key_named, change_of, refusal, defaults}
@@ -105,8 +105,17 @@ fault_of r line = said_fault r (said line)
 
 -- ---- the whole file
 
--- the settings that the lines spell, or their first fault
+-- a line has something to keep: a key and a value
+abbrev pub is_pair : Said → Bool
+is_pair (Gives name value) = true
+is_pair other = false
+
+abbrev pub keeps : Text → Bool
+keeps line = is_pair (said line)
+
+-- the settings that the lines spell, or the fault that is reported of them; line 0: out of memory before the first line, for the defaults
 abbrev pub IsReadOf : List Text → Result Settings IniFault → Type 0
 IsReadOf lines (Ok settings) =
     IsFaultless with_line fault_of empty_file lines × (settings ≡ (said_by with_line fault_of empty_file lines).settings)
-IsReadOf lines (Err fault) = IsTold with_line fault_of empty_file cause.Memory lines fault.cause fault.line
+IsReadOf lines (Err fault) =
+    ((fault.cause ≡ cause.Memory) × (fault.line ≡ 0)) ⊎ IsReported with_line fault_of empty_file cause.Memory keeps lines fault.cause fault.line

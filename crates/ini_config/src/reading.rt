@@ -1,6 +1,6 @@
 //! The reading of a settings file, line by line.
 ghost use Rattle.std.specs.Prelude.{◌≡◌, ◌+◌};
-ghost use Rattle.text_lines.specs.Files.{Took};
+ghost use Rattle.text_lines.specs.Files.{Took, TookLine};
 ghost use Rattle.text_lines.specs.Lines.{lines as lines_of_file};
 ghost use Rattle.ini_config.specs.Reading as spec;
 
@@ -76,9 +76,9 @@ impl<'a> Reading<'a> {
         }
     }
 
-    /// Takes a trimmed line, or tells its first fault. Want of memory comes after all others.
+    /// Takes a trimmed line, or reports its first fault. Out of memory comes after all others.
     fn take_line(&mut self, alloc: Global, line: &'a [u8]) -> Result<(), Cause>
-        ensures { Took Cause.Memory (spec.fault_of self.old line.entry.now) (spec.with_line self.old line.entry.now) self.new result }
+        ensures { TookLine Cause.Memory (spec.keeps line.entry.now) (spec.fault_of self.old line.entry.now) (spec.with_line self.old line.entry.now) self.new result }
     {
         match read_line(line) {
             Line::Ignored => Ok(()),
@@ -106,8 +106,8 @@ fn other_fault(section: Section) -> Cause
 /// The settings of a file, or its first faulty line.
 ///
 /// A line ends with LF or CR LF or the end of the file; spaces and tabs at its ends are dropped. Of several faults on one line the
-/// one with the lowest number is told. Want of memory is told with the line that was read then (0: the defaults found none), and
-/// neither that line nor one before it has another fault.
+/// one with the lowest number is reported. Out of memory is reported with a line that has a key and a value (0: there was none for the
+/// defaults), and neither that line nor one before it has another fault.
 pub fn read_settings(alloc: Global, text: &[u8]) -> Result<Settings, IniFault>
     ensures { spec.IsReadOf (lines_of_file text.now) result }
 {

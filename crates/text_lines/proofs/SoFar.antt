@@ -1,11 +1,11 @@
 -- Lines that were read so far, and the rest of the file.
-use Rattle.std.proofs.Common.{◌≡◌, ◌+◌, ℕ, zero, suc, List, [], ◌∷◌, ◌++◌, length, take, drop, Option, Some, None, Err, refl, sym, ap, ◌∙◌, inl, inr, arith, append_assoc, append-nil, length-take-le, take_all}
-use Rattle.std.specs.Prelude.{map}
+use Rattle.std.proofs.Common.{◌≡◌, ◌+◌, ◌-◌, ℕ, zero, suc, Bool, List, [], ◌∷◌, ◌++◌, length, take, drop, Option, Some, None, Err, refl, sym, ap, ◌∙◌, inl, inr, arith, append_assoc, append-nil, length-take-le, take_all}
+use Rattle.std.specs.Prelude.{map, slice_get, option_map}
 use Rattle.std.proofs.Math.Numerals.{add-one}
 use Rattle.std.proofs.lemmas.Grind.{fold-append}
 use Rattle.std.proofs.lemmas.List.{take-append-drop, length-map}
 use Rattle.text_lines.specs.Lines.{trimmed}
-use Rattle.text_lines.specs.Files.{Line, said_by, first_fault, or_later, IsFaultless, IsTold, Took}
+use Rattle.text_lines.specs.Files.{Line, said_by, first_fault, or_later, IsFaultless, IsReported, TookLine}
 
 -- the next line, and those after it
 take-suc-next : (all : List Line) (n : ℕ) (line : Line) (later : List Line) → line ∷ later ≡ drop n all → take (suc n) all ≡ take n all ++ line ∷ []
@@ -25,6 +25,13 @@ take-next all n line later same = ap (λ k. take k all) (add-one n) ∙ take-suc
 
 drop-next : (all : List Line) (n : ℕ) (line : Line) (later : List Line) → line ∷ later ≡ drop n all → later ≡ drop (n + 1) all
 drop-next all n line later same = drop-suc-next all n line later same ∙ ap (λ k. drop k all) (sym (add-one n))
+
+-- and its place
+next-at : (all : List Line) (n : ℕ) (line : Line) (later : List Line) → line ∷ later ≡ drop n all → slice_get all n ≡ Some line
+next-at [] zero line later same = absurd (cc)
+next-at [] (suc n) line later same = absurd (cc)
+next-at (a ∷ all) zero line later same = let first : line ≡ a = cc in ap Some (sym first)
+next-at (a ∷ all) (suc n) line later same = next-at all n line later same
 
 module _ {S C : Type 0} (add : S → Line → S) (fault : S → Line → Option C) (empty : S) where
   -- n lines were read without a fault, and these are the rest
@@ -99,6 +106,10 @@ module _ {S C : Type 0} (add : S → Line → S) (fault : S → Line → Option 
         ∙ ap (λ k. Some (c, k + 1)) short
 
     -- so the file is refused
-    pub refused : (memory : C) (next new : S) (c : C) → Took memory (fault read (trimmed line)) next new (Err c) → IsTold add fault empty memory all c (n + 1)
-    refused memory next new c (inr want) = inr (want.1, faultless-next want.0)
-    refused memory next new c (inl own) = inl (first_faulty c own)
+    pub refused : (memory : C) (keeps : Line → Bool) (next new : S) (c : C) → TookLine memory (keeps (trimmed line)) (fault read (trimmed line)) next new (Err c)
+        → IsReported add fault empty memory keeps all c (n + 1)
+    refused memory keeps next new c (inr out) =
+        let place : n + 1 - 1 ≡ n = omega arith in
+        let kept = ap (λ k. option_map keeps (slice_get all k)) place ∙ ap (option_map keeps) (next-at all n (trimmed line) (map trimmed rest) so_far.rest_is) ∙ ap Some out.2 in
+        inr (out.1, (omega arith, kept, faultless-next out.0))
+    refused memory keeps next new c (inl own) = inl (first_faulty c own)

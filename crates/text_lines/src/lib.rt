@@ -37,7 +37,14 @@ impl Model for Text {
 }
 
 impl Text {
-    /// A copy of the bytes. The only error is want of memory.
+    /// These bytes.
+    pub fn from_vec(bytes: Vec<u8>) -> Text
+        ensures { result ≡ bytes.items }
+    {
+        Text { bytes }
+    }
+
+    /// A copy of the bytes. The only error is out of memory.
     pub fn copy(alloc: Global, bytes: &[u8]) -> Result<Text, AllocError>
         ensures { IfOk result (λ t. t ≡ bytes.now) }
     {

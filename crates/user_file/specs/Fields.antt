@@ -1,9 +1,8 @@
 -- The lines of a user file (PgBouncer manual, "Authentication file format").
 use Rattle.std.specs.Prelude.{ℕ, List, [], ◌∷◌, ◌++◌, ◌==◌, ◌||◌, if◌then◌else◌, length, Option, Some, None, option_map, option_and_then}
-use Rattle.memchr.specs.Find.{matches}
-use Rattle.bstr.specs.Text.{replaced_at}
 use Rattle.bstr.specs.Trim.{trim_start_by}
 use Rattle.text_lines.specs.Lines.{is_blank}
+use Rattle.user_file.specs.declared.fields.FieldBytes.{FieldBytes}
 
 infixl 10 ◌>>=◌
 abbrev pub ◌>>=◌ : {A B : Type 0} → Option A → (A → Option B) → Option B
@@ -35,6 +34,12 @@ fields line = do
   secret ← (if length name.0 == 0 || length (without_blanks name.1) == length name.1 then None else field (without_blanks name.1))
   Some (name.0, secret.0)
 
--- a field's text: each doubled quote is one
+-- the text of a field, in which each quote was doubled
 abbrev pub unquoted : List ℕ → List ℕ
-unquoted text = replaced_at text 2 (34 ∷ []) 0 (matches text (34 ∷ 34 ∷ []) 0)
+unquoted [] = []
+unquoted (b ∷ []) = b ∷ []
+unquoted (b ∷ c ∷ bs) = if b == 34 then b ∷ unquoted bs else b ∷ unquoted (c ∷ bs)
+
+-- the bytes of a field's text that are still to come
+abbrev pub bytes_left : FieldBytes → List ℕ
+bytes_left b = unquoted b.rest.now

@@ -1,7 +1,7 @@
 -- What the lines of a user file spell, or their first fault (PgBouncer manual, "Authentication file format").
-use Rattle.std.specs.Prelude.{◌≡◌, ◌⊎◌, ◌-◌, List, [], ◌∷◌, ◌++◌, if◌then◌else◌, take, Option, Some, None, Result, Ok, Err, is_some, option_map, bytes_eq}
+use Rattle.std.specs.Prelude.{◌≡◌, Bool, true, not, List, [], ◌∷◌, ◌++◌, if◌then◌else◌, Option, Some, None, Result, Ok, Err, is_some, option_map, bytes_eq}
 use Rattle.std.specs.List.{find}
-use Rattle.text_lines.specs.Files.{IsFaultless, first_fault, said_by}
+use Rattle.text_lines.specs.Files.{IsFaultless, IsReported, said_by}
 use Rattle.text_lines.specs.Lines.{is_ignored}
 use Rattle.user_file.specs.Fields.{fields, unquoted}
 use Rattle.user_file.specs.Secrets.{Text, secret_of}
@@ -37,13 +37,17 @@ user_fault users (Some user) = if is_some (user_named user.name users) then Some
 abbrev pub fault_of : List UserRow → Text → Option Cause
 fault_of users line = if is_ignored line then None else user_fault users (user_of line)
 
--- the users that the lines spell, or their first fault, or want of memory after lines without one
+-- a line has something to keep
+abbrev pub keeps : Text → Bool
+keeps line = not (is_ignored line)
+
+-- the users that the lines spell, or the fault that is reported of them
 abbrev pub IsReadOf : List Text → Result (List UserRow) UserFault → Type 0
 IsReadOf lines (Ok users) = IsFaultless with_line fault_of [] lines × (users ≡ said_by with_line fault_of [] lines)
-IsReadOf lines (Err f) =
-    (first_fault with_line fault_of [] [] lines ≡ Some (f.cause, f.line)) ⊎ ((f.cause ≡ Memory) × IsFaultless with_line fault_of [] (take (f.line - 1) lines))
+IsReadOf lines (Err f) = IsReported with_line fault_of [] Memory keeps lines f.cause f.line
 
--- what taking a line answers
-abbrev pub TookUser : List UserRow → Text → List UserRow → Result (Unit {0}) Cause → Type 0
-TookUser users line new (Ok done) = (fault_of users line ≡ None) × (new ≡ with_line users line)
-TookUser users line new (Err c) = (fault_of users line ≡ Some c) ⊎ (c ≡ Memory)
+-- a new name of a field is its text, or why there is none
+abbrev pub IsNewName : List UserRow → Text → Result Text Cause → Type 0
+IsNewName users field (Ok name) = (name ≡ unquoted field) × (user_named name users ≡ None)
+IsNewName users field (Err NameTwice) = is_some (user_named (unquoted field) users) ≡ true
+IsNewName users field (Err c) = (user_named (unquoted field) users ≡ None) × (c ≡ Memory)

@@ -1,7 +1,7 @@
 //! Why a user file is refused.
 use thiserror::Error;
 
-/// What is wrong with a line. Where one line has several faults, the first of this list is told.
+/// What is wrong with a line. Where one line has several faults, the first of this list is reported.
 #[derive(Clone, Copy, Debug, PartialEq, Eq, Error)]
 pub enum Cause {
     /// The line doesn't begin with two quoted fields, or its name is empty.
@@ -10,7 +10,7 @@ pub enum Cause {
     /// A name for the second time.
     #[error("U2")]
     NameTwice,
-    /// No memory was left to keep what the line says. It may hide that the name came before.
+    /// No memory was left to keep what the line says.
     #[error("U3")]
     Memory,
 }

@@ -1,5 +1,6 @@
 //! The quoted fields of a line.
-ghost use Rattle.std.specs.Prelude.{◌≡◌, IfOk, option_map};
+ghost use Rattle.std.specs.Prelude.{◌≡◌, ◌∷◌, [], IfOk, MatchOption, bytes_eq, option_map};
+ghost use Rattle.std.specs.Iterator.{YieldsFirst, item_count};
 ghost use Rattle.user_file.specs.Fields as spec;
 
 use bstr::ByteSlice;
@@ -49,9 +50,59 @@ pub(crate) fn fields(line: &[u8]) -> Option<(&[u8], &[u8])>
     Some((name, secret))
 }
 
-/// A field's text: each doubled quote is one. The only error is want of memory.
+/// The bytes of a field's text: each doubled quote is one.
+#[derive(Clone, Copy, Drop)]
+pub(crate) struct FieldBytes<'a> {
+    rest: &'a [u8],
+}
+
+impl<'a> Iterator for FieldBytes<'a> {
+    type Item = u8;
+
+    ghost next_gives = { YieldsFirst spec.bytes_left };
+
+    ghost remaining = { item_count spec.bytes_left };
+
+    fn next(&mut self) -> Option<u8> {
+        let (byte, after) = first_byte(self.rest)?;
+        self.rest = after;
+        Some(byte)
+    }
+}
+
+/// The first byte of a field's text, and what follows it in the field.
+fn first_byte(field: &[u8]) -> Option<(u8, &[u8])>
+    ensures { MatchOption result (spec.unquoted field.now ≡ []) (λ p. spec.unquoted field.now ≡ p.0 ∷ spec.unquoted p.1.now) }
+{
+    let [byte, tail @ ..] = field else {
+        return None;
+    };
+    if *byte != b'"' {
+        return Some((*byte, tail));
+    }
+    match tail {
+        [_, after @ ..] => Some((*byte, after)),
+        [] => Some((*byte, tail)),
+    }
+}
+
+/// A field's text. The only error is out of memory.
 pub(crate) fn unquoted(alloc: Global, field: &[u8]) -> Result<Vec<u8>, AllocError>
     ensures { IfOk result (λ v. v.items ≡ spec.unquoted field.now) }
 {
-    field.replace(alloc, b"\"\"", b"\"")
+    FieldBytes { rest: field }.collect(alloc)
+}
+
+/// Whether a field's text is this one. It takes no memory.
+pub(crate) fn is_text_of(text: &[u8], field: &[u8]) -> bool
+    ensures { result ≡ bytes_eq (spec.unquoted field.now) text.now }
+{
+    let mut rest = text;
+    for byte in (FieldBytes { rest: field }) {
+        match rest {
+            [first, tail @ ..] if *first == byte => rest = tail,
+            _ => return false,
+        }
+    }
+    rest.is_empty()
 }

@@ -1,6 +1,9 @@
 //! The reading of a user file, line by line.
 ghost use Rattle.std.specs.Prelude.{◌≡◌, ◌+◌, IfOk};
+ghost use Rattle.text_lines.specs.Files.{TookLine};
 ghost use Rattle.text_lines.specs.Lines.{lines as lines_of_file};
+ghost use Rattle.user_file.specs.Fields as fields_spec;
+ghost use Rattle.user_file.specs.Secrets as secrets_spec;
 ghost use Rattle.user_file.specs.Users as spec;
 
 use crate::faults::{Cause, UserFault};
@@ -11,20 +14,35 @@ use bstr::ByteSlice;
 use std::alloc::{AllocError, Global};
 use text_lines::{Text, is_ignored, trimmed};
 
-fn copy(alloc: Global, name: &[u8], secret: &[u8]) -> Result<UserRow, AllocError>
-    ensures { IfOk result (λ row. row ≡ spec.user_with (name.now, secret.now)) }
+/// The text of a name's field, if no user has that name yet. Where there is no memory for it, the field is compared with each name.
+fn new_name(users: &Users, alloc: Global, field: &[u8]) -> Result<Text, Cause>
+    ensures { spec.IsNewName users.now field.now result }
 {
-    let text = unquoted(alloc, secret)?;
-    let secret = Secret::read(alloc, text.as_slice())?;
-    let text = unquoted(alloc, name)?;
-    let name = Text::copy(alloc, text.as_slice())?;
-    Ok(UserRow { name, secret })
+    let Ok(name) = unquoted(alloc, field) else {
+        return Err(if users.has_field(field) {
+            Cause::NameTwice
+        } else {
+            Cause::Memory
+        });
+    };
+    if users.row(name.as_slice()).is_some() {
+        return Err(Cause::NameTwice);
+    }
+    Ok(Text::from_vec(name))
 }
 
-/// Takes a trimmed line, or tells its first fault.
+/// The secret of a field.
+fn secret_of(alloc: Global, field: &[u8]) -> Result<Secret, AllocError>
+    ensures { IfOk result (λ s. s ≡ secrets_spec.secret_of (fields_spec.unquoted field.now)) }
+{
+    let text = unquoted(alloc, field)?;
+    Secret::read(alloc, text.as_slice())
+}
+
+/// Takes a trimmed line, or reports its first fault. Out of memory comes after all others.
 #[tactic(auto, unfolding(crate::specs::Users::user_of))]
 fn take_line(users: &mut Users, alloc: Global, line: &[u8]) -> Result<(), Cause>
-    ensures { spec.TookUser users.old line.now users.new result }
+    ensures { TookLine Cause.Memory (spec.keeps line.now) (spec.fault_of users.old line.now) (spec.with_line users.old line.now) users.new result }
 {
     if is_ignored(line) {
         return Ok(());
@@ -32,18 +50,18 @@ fn take_line(users: &mut Users, alloc: Global, line: &[u8]) -> Result<(), Cause>
     let Some((name, secret)) = fields(line) else {
         return Err(Cause::BadQuoting);
     };
-    let row = copy(alloc, name, secret).map_err(|_| Cause::Memory)?;
-    if users.row(row.name.as_bytes()).is_some() {
-        return Err(Cause::NameTwice);
-    }
-    users.add(alloc, row).map_err(|_| Cause::Memory)
+    let name = new_name(users, alloc, name)?;
+    let secret = secret_of(alloc, secret).map_err(|_| Cause::Memory)?;
+    users
+        .add(alloc, UserRow { name, secret })
+        .map_err(|_| Cause::Memory)
 }
 
 /// The users of a file, or its first faulty line.
 ///
 /// A line ends with LF or CR LF or the end of the file; spaces and tabs at its ends are dropped. Of several faults on one line the
-/// one with the lowest number is told. Want of memory is told with the line whose texts found none; no line before it has a
-/// fault. That line is quoted well; whether its name came before is open, since a name is looked up by its own copy.
+/// one with the lowest number is reported. Out of memory is reported with a line that names a user, and neither that line nor one
+/// before it has another fault.
 pub fn read_users(alloc: Global, text: &[u8]) -> Result<Users, UserFault>
     ensures { spec.IsReadOf (lines_of_file text.now) result }
 {

@@ -1,7 +1,9 @@
 //! The table of users.
-ghost use Rattle.std.specs.Prelude.{◌≡◌, [], ◌∷◌, ◌++◌, length, option_copied, OnOk, None};
+ghost use Rattle.std.specs.Prelude.{◌≡◌, [], ◌∷◌, ◌++◌, length, is_some, option_copied, OnOk, None};
+ghost use Rattle.user_file.specs.Fields.{unquoted};
 ghost use Rattle.user_file.specs.Users.{user_named};
 
+use crate::fields::is_text_of;
 use crate::secrets::Secret;
 use indexmap::IndexMap;
 use std::alloc::{AllocError, Global};
@@ -60,6 +62,18 @@ impl Users {
         ensures { option_copied result ≡ user_named name.now self.now }
     {
         self.by_name.get(name)
+    }
+
+    /// Whether a user has the name that a field of the file spells. It takes no memory, and looks at each user.
+    pub(crate) fn has_field(&self, field: &[u8]) -> bool
+        ensures { result ≡ is_some (user_named (unquoted field.now) self.now) }
+    {
+        for user in self.by_name.values() {
+            if is_text_of(user.name.as_bytes(), field) {
+                return true;
+            }
+        }
+        false
     }
 
     /// How many users there are.

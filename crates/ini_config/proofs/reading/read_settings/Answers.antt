@@ -1,10 +1,10 @@
-use Rattle.std.proofs.Common.{rules, ◌≡◌, subst, sym, ap, arith, length, None, Err}
+use Rattle.std.proofs.Common.{rules, ◌≡◌, subst, sym, ap, arith, length, None, Err, inr}
 use Rattle.std.specs.Prelude.{map}
 use Rattle.std.proofs.lemmas.List.{length-map}
-use Rattle.text_lines.specs.Files.{Took}
+use Rattle.text_lines.specs.Files.{TookLine}
 use Rattle.text_lines.specs.Lines.{lines, raw_lines, trimmed}
 use Rattle.text_lines.proofs.SoFar.{ReadUpTo, at_start, at_end, taken, refused}
-use Rattle.ini_config.specs.Reading.{with_line, fault_of, empty_file}
+use Rattle.ini_config.specs.Reading.{with_line, fault_of, empty_file, keeps}
 use Rattle.ini_config.specs.declared.faults.Cause.TheVariants as cause
 use Rattle.ini_config.specs.declared.lines.Section.TheVariants.{Preamble}
 use Rattle.ini_config.proofs.reading.read_settings.Goals as goal
@@ -45,9 +45,8 @@ returns-in-Err-take_line c =
     let n = c.loop-line.number in
     let e = c.in-Err-take_line.cause in
     let so_far = subst (λ i. ReadUpTo with_line fault_of empty_file all n i r) c.in-Some.ensures.steps c.loop-line.invariant.read in
-    let took = subst (λ t. Took cause.Memory (fault_of r t) (with_line r t) c.take_line.new.self (Err e)) c.trimmed.ensures c.in-Err-take_line.ensures in
-    refused with_line fault_of empty_file all n c.in-Some.line.now c.next.new.self r so_far cause.Memory (with_line r (trimmed c.in-Some.line.now))
-    c.take_line.new.self e took
+    let took = subst (λ t. TookLine cause.Memory (keeps t) (fault_of r t) (with_line r t) c.take_line.new.self (Err e)) c.trimmed.ensures c.in-Err-take_line.ensures in
+    inr (refused with_line fault_of empty_file all n c.in-Some.line.now c.next.new.self r so_far cause.Memory keeps (with_line r (trimmed c.in-Some.line.now)) c.take_line.new.self e took)
 
 pub returns : goal.returns
 returns c =

@@ -1,10 +1,10 @@
-use Rattle.std.proofs.Common.{rules, ◌≡◌, ◌⊎◌, ◌+◌, ◌-◌, [], subst, sym, ap, ◌∙◌, inl, inr, arith, length, take, None, Some}
+use Rattle.std.proofs.Common.{rules, ◌≡◌, [], subst, sym, ap, arith, length, None, Err}
 use Rattle.std.specs.Prelude.{map}
 use Rattle.std.proofs.lemmas.List.{length-map}
-use Rattle.text_lines.specs.Files.{first_fault}
+use Rattle.text_lines.specs.Files.{TookLine}
 use Rattle.text_lines.specs.Lines.{lines, raw_lines, trimmed}
-use Rattle.text_lines.proofs.SoFar.{ReadUpTo, at_start, at_end, taken, first_faulty}
-use Rattle.user_file.specs.Users.{with_line, fault_of}
+use Rattle.text_lines.proofs.SoFar.{ReadUpTo, at_start, at_end, taken, refused}
+use Rattle.user_file.specs.Users.{with_line, fault_of, keeps}
 use Rattle.user_file.specs.declared.faults.Cause.TheVariants.{Memory}
 use Rattle.user_file.proofs.reading.read_users.Goals as goal
 
@@ -43,12 +43,8 @@ returns-in-Err c =
     let n = c.loop-line.number in
     let e = c.in-Err.cause in
     let so_far = subst (λ i. ReadUpTo with_line fault_of [] all n i users) c.in-Some.ensures.steps c.loop-line.invariant.read in
-    let took = subst (λ t. (fault_of users t ≡ Some e) ⊎ (e ≡ Memory)) c.trimmed.ensures c.in-Err.ensures in
-    let before : n + 1 - 1 ≡ n = omega arith in
-    elim took [
-      | inl own ↦ inl (first_faulty with_line fault_of [] all n c.in-Some.line.now c.next.new.self users so_far e own)
-      | inr want ↦ inr (want, ap (λ k. first_fault with_line fault_of [] [] (take k all)) before ∙ so_far.faultless)
-    ]
+    let took = subst (λ t. TookLine Memory (keeps t) (fault_of users t) (with_line users t) c.take_line.new.users (Err e)) c.trimmed.ensures c.in-Err.ensures in
+    refused with_line fault_of [] all n c.in-Some.line.now c.next.new.self users so_far Memory keeps (with_line users (trimmed c.in-Some.line.now)) c.take_line.new.users e took
 
 pub returns : goal.returns
 returns c =
