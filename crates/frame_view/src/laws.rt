@@ -15,9 +15,7 @@ pub fn names_are_the_standards()
 /// The items of a slice of bytes are bytes: what the laws ask of a list that is read.
 pub fn are_bytes(bytes: &[u8])
     ensures { AreBytes bytes.now }
-{
-    let _count = bytes.len();
-}
+{}
 
 /// A frame's spelling is cut out again, whatever follows it.
 pub fn spelled_is_front()

@@ -6,8 +6,8 @@ use Rattle.frame_view.specs.Answers.{LiesAt}
 use Rattle.message_view.specs.declared.views.Target as declared
 use Rattle.message_view.specs.declared.views.Target.TheVariants.{Statement, Portal}
 use Rattle.message_view.specs.declared.views.ExecuteView.{ExecuteView}
-use Rattle.message_view.specs.declared.extended.ParseView.{ParseView}
-use Rattle.message_view.specs.declared.extended.BindView.{BindView}
+use Rattle.message_view.specs.declared.parse_and_bind.ParseView.{ParseView}
+use Rattle.message_view.specs.declared.parse_and_bind.BindView.{BindView}
 use Rattle.message_view.specs.Left.{codes_left, oids_left, values_left}
 use Rattle.message_view.specs.Bodies.{Parse, Bind, Text, Target, OfStatement, OfPortal}
 
