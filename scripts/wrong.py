@@ -290,7 +290,7 @@ class Crate:
 
     def try_pack(self, pack, reasons):
         """Tries edits in one check. What is left of them isn't told."""
-        if len(pack) == 1:
+        if len(pack) < 2:
             return pack
         texts, made, left = self.copy.texts, [], []
         for edit in pack:

@@ -1,0 +1,478 @@
+//! Worked logins, each cut at every byte.
+use ini_config::{Settings, read_settings};
+use login_core::{KeyWord, Login, LoginStep};
+use message_view::refusal_bytes;
+use session_machine::StartKey;
+use std::alloc::Global;
+use std::sync::Arc;
+use std::test::Fail;
+use user_file::{Users, read_users};
+
+const SHOP: &[u8] =
+    b"[databases]\nshop = host=127.0.0.1 port=5432 dbname=shop\n[pgbouncer]\nauth_type = trust\nadmin_users = root\n";
+
+const SHOP_PLAIN: &[u8] =
+    b"[databases]\nshop = host=127.0.0.1 port=5432 dbname=shop\n[pgbouncer]\nauth_type = plain\nadmin_users = root\n";
+
+const SHOP_MD5: &[u8] =
+    b"[databases]\nshop = host=127.0.0.1 port=5432 dbname=shop\n[pgbouncer]\nadmin_users = root\n";
+
+const USERS: &[u8] =
+    b"\"ann\" \"secret\"\n\"bc\" \"md5900150983cd24fb0d6963f7d28e17f72\"\n\"root\" \"r\"\n";
+
+const WORD: KeyWord = KeyWord {
+    pid: 1,
+    secret: 2,
+    salt: [1, 2, 3, 4],
+};
+
+/// What stands among the given bytes where the client arrives.
+const ARRIVES: &[u8] = b"<arrives>";
+
+const OK: &[u8] = b"R\0\0\0\x08\0\0\0\0";
+
+const CLEARTEXT: &[u8] = b"R\0\0\0\x08\0\0\0\x03";
+
+const SALTED: &[u8] = b"R\0\0\0\x0c\0\0\0\x05\x01\x02\x03\x04";
+
+const WRONG: &[u8] = b"E\0\0\0\x3aSFATAL\0VFATAL\0C28P01\0Mpassword authentication failed\0\0";
+
+const NOWHERE: &[u8] = b"E\0\0\0\x33SFATAL\0VFATAL\0C3D000\0Mdatabase does not exist\0\0";
+
+const MALFORMED: &[u8] = b"E\0\0\0\x34SFATAL\0VFATAL\0C08P01\0Mmalformed client message\0\0";
+
+const VERSION: &[u8] = b"E\0\0\0\x38SFATAL\0VFATAL\0C0A000\0Munsupported protocol version\0\0";
+
+const PARAMETER: &[u8] = b"E\0\0\0\x39SFATAL\0VFATAL\0C0A000\0Munsupported startup parameter\0\0";
+
+const ANN: &[u8] = b"\0\0\0\x20\0\x03\0\0user\0ann\0database\0shop\0\0";
+
+const BC: &[u8] = b"\0\0\0\x1f\0\x03\0\0user\0bc\0database\0shop\0\0";
+
+const ZED: &[u8] = b"\0\0\0\x20\0\x03\0\0user\0zed\0database\0shop\0\0";
+
+const SSL: &[u8] = b"\0\0\0\x08\x04\xd2\x16\x2f";
+
+const GSS: &[u8] = b"\0\0\0\x08\x04\xd2\x16\x30";
+
+/// How a login has ended, if it has.
+#[derive(Clone, Copy, Debug, PartialEq, Eq, Drop)]
+enum End {
+    Open,
+    Passed,
+    Console,
+    Closed,
+}
+
+/// What a client was given and where it arrived, and what was taken of its bytes.
+#[derive(Drop)]
+struct Seen {
+    out: Vec<u8>,
+    taken: usize,
+    key: Option<Arc<StartKey>>,
+    end: End,
+}
+
+/// What a client is given at a step, and that it has arrived. AuthenticationOk is the caller's.
+fn see(seen: &mut Seen, step: LoginStep) -> Result<(), Fail> {
+    match step {
+        LoginStep::More => {}
+        LoginStep::Arrived(_) => seen.out.extend_from_slice(ARRIVES)?,
+        LoginStep::Ask(question) => seen.out.extend_from_slice(question.as_bytes())?,
+        LoginStep::Passed(key) => {
+            seen.out.extend_from_slice(OK)?;
+            seen.key = Some(key);
+            seen.end = End::Passed;
+        }
+        LoginStep::Console => seen.end = End::Console,
+        LoginStep::Refused(refusal) => {
+            seen.out.extend_from_slice(refusal_bytes(refusal))?;
+            seen.end = End::Closed;
+        }
+        LoginStep::Failed(failure) => {
+            seen.out.extend_from_slice(failure.as_bytes())?;
+            seen.end = End::Closed;
+        }
+        LoginStep::Left => seen.end = End::Closed,
+    }
+    Ok(())
+}
+
+/// Hands over a piece, with as many calls as are answered by more than [`LoginStep::More`].
+fn feed(alloc: Global, login: &mut Login, piece: &[u8], seen: &mut Seen) -> Result<(), Fail> {
+    let mut rest = piece;
+    for _ in 0..32 {
+        if seen.end != End::Open {
+            return Ok(());
+        }
+        let (used, step) = login.on_bytes(alloc, rest);
+        rest = &rest[used..];
+        seen.taken = seen.taken.saturating_add(used);
+        let waits = matches!(&step, LoginStep::More) && rest.is_empty();
+        see(seen, step)?;
+        if waits {
+            return Ok(());
+        }
+    }
+    Ok(())
+}
+
+fn login(alloc: Global, ini: &[u8]) -> Result<Login, Fail> {
+    let settings: Settings = read_settings(alloc, ini)?;
+    let users: Users = read_users(alloc, USERS)?;
+    Ok(Login::new(
+        alloc,
+        Arc::new(alloc, settings)?,
+        Arc::new(alloc, users)?,
+        WORD,
+    )?)
+}
+
+/// The login of these bytes, handed over in two pieces.
+fn cut_at(alloc: Global, ini: &[u8], input: &[u8], cut: usize) -> Result<Seen, Fail> {
+    let mut login = login(alloc, ini)?;
+    let mut seen = Seen {
+        out: Vec::new(alloc),
+        taken: 0,
+        key: None,
+        end: End::Open,
+    };
+    let cut = cut.min(input.len());
+    feed(alloc, &mut login, &input[..cut], &mut seen)?;
+    feed(alloc, &mut login, &input[cut..], &mut seen)?;
+    if seen.end != End::Open {
+        let (used, step) = login.on_bytes(alloc, input);
+        let is_left = matches!(step, LoginStep::Left);
+        if used != 0 || !is_left || login.wants() != 0 {
+            return Err("it goes on after its end")?;
+        }
+    }
+    Ok(seen)
+}
+
+/// Whether the login of these bytes, cut at every byte, gives the client this and ends so.
+fn is_login(
+    alloc: Global,
+    ini: &[u8],
+    input: &[u8],
+    out: &[&[u8]],
+    end: End,
+    left: usize,
+) -> Result<bool, Fail> {
+    let mut wanted: Vec<u8> = Vec::new(alloc);
+    for piece in out {
+        wanted.extend_from_slice(piece)?;
+    }
+    for cut in 0..input.len() {
+        let seen = cut_at(alloc, ini, input, cut)?;
+        let is_same = seen.out.as_slice() == wanted.as_slice()
+            && seen.end == end
+            && seen.taken.saturating_add(left) == input.len();
+        if !is_same {
+            return Ok(false);
+        }
+    }
+    Ok(true)
+}
+
+/// These bytes one after the other.
+fn joined(alloc: Global, parts: &[&[u8]]) -> Result<Vec<u8>, Fail> {
+    let mut all: Vec<u8> = Vec::new(alloc);
+    for part in parts {
+        all.extend_from_slice(part)?;
+    }
+    Ok(all)
+}
+
+#[test]
+fn a_start_is_let_in(rt: HostRuntime) -> Result<(), Fail> {
+    let alloc = rt.alloc();
+    assert!(rt; is_login(alloc, SHOP, ANN, &[ARRIVES, OK], End::Passed, 0)?);
+    let seen = cut_at(alloc, SHOP, ANN, 0)?;
+    let key = seen.key.ok_or("no key")?;
+    assert_eq!(rt; key.row.as_slice(), b"shop".as_slice());
+    assert_eq!(rt; key.user.as_slice(), b"ann".as_slice());
+    assert_eq!(rt; key.port, 5432);
+    assert_eq!(rt; key.parameters.len(), 0);
+    Ok(())
+}
+
+#[test]
+fn encryption_is_refused_once_each(rt: HostRuntime) -> Result<(), Fail> {
+    let alloc = rt.alloc();
+    let once = joined(alloc, &[SSL, ANN])?;
+    assert!(rt;
+        is_login(
+            alloc,
+            SHOP,
+            once.as_slice(),
+            &[b"N", ARRIVES, OK],
+            End::Passed,
+            0
+        )?
+    );
+    let twice = joined(alloc, &[SSL, SSL, ANN])?;
+    assert!(rt;
+        is_login(
+            alloc,
+            SHOP,
+            twice.as_slice(),
+            &[b"N", MALFORMED],
+            End::Closed,
+            ANN.len()
+        )?
+    );
+    let both = joined(alloc, &[GSS, SSL, ANN])?;
+    assert!(rt;
+        is_login(
+            alloc,
+            SHOP,
+            both.as_slice(),
+            &[b"N", b"N", ARRIVES, OK],
+            End::Passed,
+            0
+        )?
+    );
+    let other = joined(alloc, &[SSL, GSS, GSS])?;
+    assert!(rt;
+        is_login(
+            alloc,
+            SHOP,
+            other.as_slice(),
+            &[b"N", b"N", MALFORMED],
+            End::Closed,
+            0
+        )?
+    );
+    Ok(())
+}
+
+#[test]
+fn what_follows_is_left(rt: HostRuntime) -> Result<(), Fail> {
+    let alloc = rt.alloc();
+    let start = b"\0\0\0\x33\0\x03\0\0user\0ann\0database\0shop\0application_name\0b\0\0";
+    let query = b"Q\0\0\0\x20SET application_name TO 'z'\0";
+    let input = joined(alloc, &[start, query])?;
+    assert!(rt;
+        is_login(
+            alloc,
+            SHOP,
+            input.as_slice(),
+            &[ARRIVES, OK],
+            End::Passed,
+            query.len()
+        )?
+    );
+    let seen = cut_at(alloc, SHOP, input.as_slice(), 7)?;
+    let key = seen.key.ok_or("no key")?;
+    assert_eq!(rt; key.parameters.len(), 1);
+    assert_eq!(rt; key.parameters[0].1.as_slice(), b"b".as_slice());
+    Ok(())
+}
+
+#[test]
+fn the_last_of_equal_names_counts(rt: HostRuntime) -> Result<(), Fail> {
+    let alloc = rt.alloc();
+    let start =
+        b"\0\0\0\x46\0\x03\0\0user\0ann\0database\0shop\0application_name\0a\0Application_Name\0b\0\0";
+    let seen = cut_at(alloc, SHOP, start, 40)?;
+    assert!(rt; seen.end == End::Passed);
+    let key = seen.key.ok_or("no key")?;
+    assert_eq!(rt; key.parameters.len(), 1);
+    assert_eq!(rt;
+        key.parameters[0].0.as_slice(),
+        b"application_name".as_slice()
+    );
+    assert_eq!(rt; key.parameters[0].1.as_slice(), b"b".as_slice());
+    Ok(())
+}
+
+#[test]
+fn right_passwords(rt: HostRuntime) -> Result<(), Fail> {
+    let alloc = rt.alloc();
+    let right = joined(alloc, &[BC, b"p\0\0\0\x06a\0"])?;
+    assert!(rt;
+        is_login(
+            alloc,
+            SHOP_PLAIN,
+            right.as_slice(),
+            &[ARRIVES, CLEARTEXT, OK],
+            End::Passed,
+            0
+        )?
+    );
+    let plain = joined(alloc, &[ANN, b"p\0\0\0\x0bsecret\0", b"Q"])?;
+    assert!(rt;
+        is_login(
+            alloc,
+            SHOP_PLAIN,
+            plain.as_slice(),
+            &[ARRIVES, CLEARTEXT, OK],
+            End::Passed,
+            1
+        )?
+    );
+    Ok(())
+}
+
+#[test]
+fn wrong_passwords(rt: HostRuntime) -> Result<(), Fail> {
+    let alloc = rt.alloc();
+    let password = b"p\0\0\0\x06b\0";
+    for start in [BC, ZED] {
+        let input = joined(alloc, &[start, password])?;
+        assert!(rt;
+            is_login(
+                alloc,
+                SHOP_PLAIN,
+                input.as_slice(),
+                &[ARRIVES, CLEARTEXT, WRONG],
+                End::Closed,
+                0
+            )?
+        );
+    }
+    assert!(rt; is_login(alloc, SHOP, ZED, &[ARRIVES, WRONG], End::Closed, 0)?);
+    Ok(())
+}
+
+#[test]
+fn salted_passwords(rt: HostRuntime) -> Result<(), Fail> {
+    let alloc = rt.alloc();
+    let rows: [(&[u8], &[u8], &[u8], End); 3] = [
+        (
+            ANN,
+            b"p\0\0\0\x28md59009ce60b9ca97f1e752376843d1309e\0",
+            OK,
+            End::Passed,
+        ),
+        (
+            BC,
+            b"p\0\0\0\x28md596838e208aad1ff8fc396693d03e488d\0",
+            OK,
+            End::Passed,
+        ),
+        (
+            ANN,
+            b"p\0\0\0\x28md59009ce60b9ca97f1e752376843d13090\0",
+            WRONG,
+            End::Closed,
+        ),
+    ];
+    for (start, answer, out, end) in rows {
+        let input = joined(alloc, &[start, answer])?;
+        assert!(rt;
+            is_login(
+                alloc,
+                SHOP_MD5,
+                input.as_slice(),
+                &[ARRIVES, SALTED, out],
+                end,
+                0
+            )?
+        );
+    }
+    Ok(())
+}
+
+#[test]
+fn in_the_stead_of_a_password(rt: HostRuntime) -> Result<(), Fail> {
+    let alloc = rt.alloc();
+    let rows: [(&[u8], &[&[u8]], usize); 6] = [
+        (b"X\0\0\0\x04", &[ARRIVES, CLEARTEXT], 0),
+        (b"Q\0\0\0\x05\0", &[ARRIVES, CLEARTEXT, MALFORMED], 0),
+        (
+            b"p\0\0\0\x0dsecret\0\0\0",
+            &[ARRIVES, CLEARTEXT, MALFORMED],
+            0,
+        ),
+        (b"p\0\0\0\x0asecret", &[ARRIVES, CLEARTEXT, MALFORMED], 0),
+        (b"p\0\0\x27\x11", &[ARRIVES, CLEARTEXT, MALFORMED], 0),
+        (b"?\0\0\0\x04", &[ARRIVES, CLEARTEXT, MALFORMED], 0),
+    ];
+    for (message, out, left) in rows {
+        let input = joined(alloc, &[ANN, message])?;
+        assert!(rt; is_login(alloc, SHOP_PLAIN, input.as_slice(), out, End::Closed, left)?);
+    }
+    Ok(())
+}
+
+#[test]
+fn databases_and_the_console(rt: HostRuntime) -> Result<(), Fail> {
+    let alloc = rt.alloc();
+    let nowhere = b"\0\0\0\x23\0\x03\0\0user\0ann\0database\0nowhere\0\0";
+    assert!(rt; is_login(alloc, SHOP, nowhere, &[ARRIVES, NOWHERE], End::Closed, 0)?);
+    let root = b"\0\0\0\x26\0\x03\0\0user\0root\0database\0pgbouncer\0\0";
+    assert!(rt; is_login(alloc, SHOP, root, &[ARRIVES], End::Console, 0)?);
+    let ann = b"\0\0\0\x25\0\x03\0\0user\0ann\0database\0pgbouncer\0\0";
+    assert!(rt; is_login(alloc, SHOP, ann, &[ARRIVES, WRONG], End::Closed, 0)?);
+    let unknown = b"\0\0\0\x23\0\x03\0\0user\0zed\0database\0nowhere\0\0";
+    assert!(rt; is_login(alloc, SHOP, unknown, &[ARRIVES, WRONG], End::Closed, 0)?);
+    let bogus = b"\0\0\0\x30\0\x03\0\0user\0ann\0database\0shop\0DateStyle\0bogus\0\0";
+    assert!(rt; is_login(alloc, SHOP, bogus, &[ARRIVES, OK], End::Passed, 0)?);
+    Ok(())
+}
+
+#[test]
+fn faulty_first_packets(rt: HostRuntime) -> Result<(), Fail> {
+    let alloc = rt.alloc();
+    let rows: [(&[u8], &[&[u8]]); 7] = [
+        (b"\0\0\0\x10\x04\xd2\x16\x2e\0\0\0\x01\0\0\0\x02", &[]),
+        (b"\0\0\0\x08\0\x02\0\0", &[VERSION]),
+        (b"\0\0\0\x07", &[MALFORMED]),
+        (b"\0\0\x27\x11", &[MALFORMED]),
+        (b"\0\0\0\x09\0\x03\0\0\0", &[MALFORMED]),
+        (b"\0\0\0\x0a\0\x03\0\0us", &[MALFORMED]),
+        (
+            b"\0\0\0\x1d\0\x03\0\0user\0ann\0options\0-c\0\0",
+            &[PARAMETER],
+        ),
+    ];
+    for (input, out) in rows {
+        assert!(rt; is_login(alloc, SHOP, input, out, End::Closed, 0)?);
+    }
+    Ok(())
+}
+
+/// A StartupMessage of ann with an application_name of so many bytes.
+fn long_start(alloc: Global, size: usize) -> Result<Vec<u8>, Fail> {
+    let mut input: Vec<u8> = Vec::new(alloc);
+    let length = (size.min(20_000) as u32 + 50).to_be_bytes();
+    input.extend_from_slice(&length)?;
+    input.extend_from_slice(b"\0\x03\0\0user\0ann\0database\0shop\0application_name\0")?;
+    for _ in 0..size {
+        input.push(b'a')?;
+    }
+    input.extend_from_slice(b"\0\0")?;
+    Ok(input)
+}
+
+#[test]
+fn the_longest_first_packet(rt: HostRuntime) -> Result<(), Fail> {
+    let alloc = rt.alloc();
+    let longest = long_start(alloc, 9_950)?;
+    let wanted = joined(alloc, &[ARRIVES, OK])?;
+    assert_eq!(rt; longest.len(), 10_000);
+    for cut in [1, 4, 9, 5_000, 9_999] {
+        let seen = cut_at(alloc, SHOP, longest.as_slice(), cut)?;
+        assert_eq!(rt; seen.out.as_slice(), wanted.as_slice());
+        assert_eq!(rt; seen.taken, 10_000);
+    }
+    let longer = long_start(alloc, 9_951)?;
+    let seen = cut_at(alloc, SHOP, longer.as_slice(), 3)?;
+    assert_eq!(rt; seen.out.as_slice(), MALFORMED);
+    Ok(())
+}
+
+#[test]
+fn a_login_tells_what_it_wants(rt: HostRuntime) -> Result<(), Fail> {
+    let alloc = rt.alloc();
+    let mut login = login(alloc, SHOP_PLAIN)?;
+    assert_eq!(rt; login.wants(), 8);
+    let (used, _) = login.on_bytes(alloc, &ANN[..8]);
+    assert_eq!(rt; used, 8);
+    assert_eq!(rt; login.wants(), 24);
+    assert_eq!(rt; login.users().len(), 3);
+    assert_eq!(rt; login.settings().listen_port(), 6432);
+    Ok(())
+}
