@@ -200,50 +200,16 @@ fn a_start_is_let_in(rt: HostRuntime) -> Result<(), Fail> {
 #[test]
 fn encryption_is_refused_once_each(rt: HostRuntime) -> Result<(), Fail> {
     let alloc = rt.alloc();
-    let once = joined(alloc, &[SSL, ANN])?;
-    assert!(rt;
-        is_login(
-            alloc,
-            SHOP,
-            once.as_slice(),
-            &[b"N", ARRIVES, OK],
-            End::Passed,
-            0
-        )?
-    );
-    let twice = joined(alloc, &[SSL, SSL, ANN])?;
-    assert!(rt;
-        is_login(
-            alloc,
-            SHOP,
-            twice.as_slice(),
-            &[b"N", MALFORMED],
-            End::Closed,
-            ANN.len()
-        )?
-    );
-    let both = joined(alloc, &[GSS, SSL, ANN])?;
-    assert!(rt;
-        is_login(
-            alloc,
-            SHOP,
-            both.as_slice(),
-            &[b"N", b"N", ARRIVES, OK],
-            End::Passed,
-            0
-        )?
-    );
-    let other = joined(alloc, &[SSL, GSS, GSS])?;
-    assert!(rt;
-        is_login(
-            alloc,
-            SHOP,
-            other.as_slice(),
-            &[b"N", b"N", MALFORMED],
-            End::Closed,
-            0
-        )?
-    );
+    let rows: [(&[&[u8]], &[&[u8]], End, usize); 4] = [
+        (&[SSL, ANN], &[b"N", ARRIVES, OK], End::Passed, 0),
+        (&[SSL, SSL, ANN], &[b"N", MALFORMED], End::Closed, ANN.len()),
+        (&[GSS, SSL, ANN], &[b"N", b"N", ARRIVES, OK], End::Passed, 0),
+        (&[SSL, GSS, GSS], &[b"N", b"N", MALFORMED], End::Closed, 0),
+    ];
+    for (packets, out, end, left) in rows {
+        let input = joined(alloc, packets)?;
+        assert!(rt; is_login(alloc, SHOP, input.as_slice(), out, end, left)?);
+    }
     Ok(())
 }
 
@@ -288,51 +254,27 @@ fn the_last_of_equal_names_counts(rt: HostRuntime) -> Result<(), Fail> {
 }
 
 #[test]
-fn right_passwords(rt: HostRuntime) -> Result<(), Fail> {
+fn plain_passwords(rt: HostRuntime) -> Result<(), Fail> {
     let alloc = rt.alloc();
-    let right = joined(alloc, &[BC, b"p\0\0\0\x06a\0"])?;
-    assert!(rt;
-        is_login(
-            alloc,
-            SHOP_PLAIN,
-            right.as_slice(),
-            &[ARRIVES, CLEARTEXT, OK],
-            End::Passed,
-            0
-        )?
-    );
-    let plain = joined(alloc, &[ANN, b"p\0\0\0\x0bsecret\0", b"Q"])?;
-    assert!(rt;
-        is_login(
-            alloc,
-            SHOP_PLAIN,
-            plain.as_slice(),
-            &[ARRIVES, CLEARTEXT, OK],
-            End::Passed,
-            1
-        )?
-    );
-    Ok(())
-}
-
-#[test]
-fn wrong_passwords(rt: HostRuntime) -> Result<(), Fail> {
-    let alloc = rt.alloc();
-    let password = b"p\0\0\0\x06b\0";
-    for start in [BC, ZED] {
+    let rows: [(&[u8], &[u8], &[u8], End, usize); 4] = [
+        (BC, b"p\0\0\0\x06a\0", OK, End::Passed, 0),
+        (ANN, b"p\0\0\0\x0bsecret\0Q", OK, End::Passed, 1),
+        (BC, b"p\0\0\0\x06b\0", WRONG, End::Closed, 0),
+        (ZED, b"p\0\0\0\x06b\0", WRONG, End::Closed, 0),
+    ];
+    for (start, password, told, end, left) in rows {
         let input = joined(alloc, &[start, password])?;
         assert!(rt;
             is_login(
                 alloc,
                 SHOP_PLAIN,
                 input.as_slice(),
-                &[ARRIVES, CLEARTEXT, WRONG],
-                End::Closed,
-                0
+                &[ARRIVES, CLEARTEXT, told],
+                end,
+                left
             )?
         );
     }
-    assert!(rt; is_login(alloc, SHOP, ZED, &[ARRIVES, WRONG], End::Closed, 0)?);
     Ok(())
 }
 
@@ -398,18 +340,38 @@ fn in_the_stead_of_a_password(rt: HostRuntime) -> Result<(), Fail> {
 }
 
 #[test]
-fn databases_and_the_console(rt: HostRuntime) -> Result<(), Fail> {
-    let alloc = rt.alloc();
-    let nowhere = b"\0\0\0\x23\0\x03\0\0user\0ann\0database\0nowhere\0\0";
-    assert!(rt; is_login(alloc, SHOP, nowhere, &[ARRIVES, NOWHERE], End::Closed, 0)?);
-    let root = b"\0\0\0\x26\0\x03\0\0user\0root\0database\0pgbouncer\0\0";
-    assert!(rt; is_login(alloc, SHOP, root, &[ARRIVES], End::Console, 0)?);
-    let ann = b"\0\0\0\x25\0\x03\0\0user\0ann\0database\0pgbouncer\0\0";
-    assert!(rt; is_login(alloc, SHOP, ann, &[ARRIVES, WRONG], End::Closed, 0)?);
-    let unknown = b"\0\0\0\x23\0\x03\0\0user\0zed\0database\0nowhere\0\0";
-    assert!(rt; is_login(alloc, SHOP, unknown, &[ARRIVES, WRONG], End::Closed, 0)?);
-    let bogus = b"\0\0\0\x30\0\x03\0\0user\0ann\0database\0shop\0DateStyle\0bogus\0\0";
-    assert!(rt; is_login(alloc, SHOP, bogus, &[ARRIVES, OK], End::Passed, 0)?);
+fn users_databases_and_the_console(rt: HostRuntime) -> Result<(), Fail> {
+    let rows: [(&[u8], &[&[u8]], End); 6] = [
+        (
+            b"\0\0\0\x23\0\x03\0\0user\0ann\0database\0nowhere\0\0",
+            &[ARRIVES, NOWHERE],
+            End::Closed,
+        ),
+        (
+            b"\0\0\0\x26\0\x03\0\0user\0root\0database\0pgbouncer\0\0",
+            &[ARRIVES],
+            End::Console,
+        ),
+        (
+            b"\0\0\0\x25\0\x03\0\0user\0ann\0database\0pgbouncer\0\0",
+            &[ARRIVES, WRONG],
+            End::Closed,
+        ),
+        (
+            b"\0\0\0\x23\0\x03\0\0user\0zed\0database\0nowhere\0\0",
+            &[ARRIVES, WRONG],
+            End::Closed,
+        ),
+        (ZED, &[ARRIVES, WRONG], End::Closed),
+        (
+            b"\0\0\0\x30\0\x03\0\0user\0ann\0database\0shop\0DateStyle\0bogus\0\0",
+            &[ARRIVES, OK],
+            End::Passed,
+        ),
+    ];
+    for (start, out, end) in rows {
+        assert!(rt; is_login(rt.alloc(), SHOP, start, out, end, 0)?);
+    }
     Ok(())
 }
 
