@@ -4,7 +4,7 @@ SHELL := /bin/bash
 .DELETE_ON_ERROR:
 .DEFAULT_GOAL := build
 .NOTPARALLEL:
-.PHONY: build run test install bench clean
+.PHONY: build run test wrong install bench clean
 
 PREFIX ?= /usr/local
 DESTDIR ?=
@@ -16,14 +16,13 @@ sources := crates.txt $(shell find crates -name out -prune -o -name must-fail -p
 # the program, as `rt ci` or an earlier build left it; else proved and built now
 $(program): $(sources)
 	@command -v rt >/dev/null || { echo "rt isn't in PATH: install the Rattle kit first (rt version)"; exit 1; }
-	@echo "building pgsess: a first build proves every crate below it, which takes some minutes (now $$(date +%T))"
-	@cd crates/pgsess && rt run -- --help >/dev/null
+	@scripts/prove.py pgsess --help
 	@touch $(program)
 	@echo "built $(program) ($$(date +%T))"
 
 # the tool of the tests, likewise; it isn't installed
 $(trials): $(sources)
-	@cd crates/trials && rt run -- solo "$(CURDIR)/tests/rows/catalogue.tsv" ann </dev/null >/dev/null
+	@scripts/prove.py trials solo "$(CURDIR)/tests/rows/catalogue.tsv" ann
 	@touch $(trials)
 	@echo "built $(trials) ($$(date +%T))"
 
@@ -40,15 +39,20 @@ run: build/pgsess
 	@scripts/show.sh build/pgsess
 
 # the whole gate; rt ci leaves the programs that it proved and built. Its own guess of a check's memory is four times what the
-# largest crate's takes, and would let that crate wait until nothing else runs; so it is told how many checks run side by side.
+# largest crate's takes, and would let that crate wait until nothing else runs; so it is told how many checks run side by side
 test:
-	RT_JOBS=$${RT_JOBS:-$$(nproc)} rt ci
+	RT_JOBS=$$(scripts/jobs.sh) rt ci
 	@$(MAKE) --no-print-directory $(program) $(trials)
 	scripts/rows.sh $(program) $(trials)
 	scripts/logins.sh $(trials)
 	scripts/clients.sh $(trials)
 	scripts/refuse-growth.sh $(program) $(trials)
 	PGSESS=$(program) scripts/cli.sh
+
+# the wrong versions of functions that aren't tried by the gate; CRATES names some crates. It is no part of `test`: on top of the
+# gate it would need each library built once more, which takes longer than all edits. Run it before a crate lands
+wrong:
+	@scripts/wrong.py $(CRATES)
 
 install: build/pgsess
 	install -d "$(DESTDIR)$(PREFIX)/bin"

@@ -46,7 +46,7 @@ refused() {
     result "$name: has '$text'" 0 $?
 }
 
-# helped NAME TEXT WORD.. : help on standard output
+# helped NAME TEXT WORD.. : help, or the version, on standard output
 helped() {
     local name=$1 text=$2 got
     shift 2
@@ -67,9 +67,18 @@ helped 'help of serve' 'Example: pgsess serve --ini pgsess.ini --users users.txt
 helped 'help of stub' 'Example: pgsess stub --port 5432 --catalogue catalogue.tsv' stub --help
 helped 'help of replay' 'Example: pgsess replay' replay --help
 helped 'help subcommand' 'Commands:' help
+helped 'faults of settings in the help' '  C6  server_reset_query' serve --help
+helped 'faults of users in the help' '  U2  a name for the second time' help serve
+helped 'faults of catalogues in the help' '  K3  a row with more or fewer values' stub --help
+helped 'faults of streams in the help' '  pgsess: stdout  standard output is closed or full' replay --help
+helped version 'pgsess 1' --version
+result 'version: all of it' 'pgsess 1' "$(cat out.txt)"
 refused 'no subcommand' "error: 'pgsess' requires a subcommand but one was not provided"
 refused 'unknown subcommand' "error: unrecognized subcommand 'bogus'" bogus
-refused 'unknown option' "error: unexpected argument '--version' found" --version
+refused 'unknown option' "error: unexpected argument '--bogus' found" --bogus
+refused 'no version of a subcommand' "error: unexpected argument '--version' found" replay --version
+refused 'a word that is not UTF-8' "error: a word of the command line isn't UTF-8" replay "$(printf '\377')"
+ends 'a path that is not UTF-8' 2 "error: a word of the command line isn't UTF-8" serve --ini "$(printf 'a\377')" --users u --key-seed k
 refused 'a word too many' "error: unexpected argument 'x' found" replay x
 refused 'no ini' '--ini <FILE>' serve --users u --key-seed k
 refused 'no users' '--users <FILE>' serve --ini i --key-seed k
@@ -106,9 +115,10 @@ serve() {
     ends "$name" "$status" "$line" serve --ini "$1" --users "$2" --key-seed "$3"
 }
 
-serve 'good files' 0 '' good.ini good.txt good.bin
-serve 'empty files' 0 '' empty empty good.bin
-serve 'the example' 0 '' "$here/examples/pgsess.ini" "$here/examples/users.txt" good.bin
+checked="pgsess: settings, users and key seed are in order; this version doesn't serve yet"
+serve 'good files' 0 "$checked" good.ini good.txt good.bin
+serve 'empty files' 0 "$checked" empty empty good.bin
+serve 'the example' 0 "$checked" "$here/examples/pgsess.ini" "$here/examples/users.txt" good.bin
 serve 'no ini file' 1 'pgsess: file nowhere.ini' nowhere.ini nowhere.txt nowhere.bin
 serve 'no user file' 1 'pgsess: file nowhere.txt' good.ini nowhere.txt nowhere.bin
 serve 'no seed file' 1 'pgsess: file nowhere.bin' good.ini good.txt nowhere.bin
@@ -120,7 +130,7 @@ serve 'a path with spaces' 1 'pgsess: file no where' 'no where' good.txt good.bi
 serve 'a seed of 31 bytes' 1 'pgsess: file short.bin' good.ini good.txt short.bin
 serve 'a seed of 33 bytes' 1 'pgsess: file long.bin' good.ini good.txt long.bin
 serve 'an empty seed' 1 'pgsess: file empty' good.ini good.txt empty
-serve 'the largest file' 0 '' largest good.txt good.bin
+serve 'the largest file' 0 "$checked" largest good.txt good.bin
 serve 'a file that is too long' 1 'pgsess: file too_long' too_long good.txt good.bin
 serve 'a user file that is too long' 1 'pgsess: file too_long' good.ini too_long good.bin
 ends 'stub' 0 '' stub --port 5432 --catalogue "$here/examples/catalogue.tsv"

@@ -138,12 +138,26 @@ LeadsTo (step.Refused refusal) hearing held = hearing ≡ Over
 LeadsTo (step.Failed f) hearing held = hearing ≡ Over
 LeadsTo step.Left hearing held = hearing ≡ Over
 
+-- before a client has arrived it is asked about encryption alone, and neither passes nor fails
+abbrev pub IsBeforeArrival : LoginStep → Type 0
+IsBeforeArrival step.More = Unit {0}
+IsBeforeArrival (step.Ask question.Encryption) = Unit {0}
+IsBeforeArrival (step.Arrived key) = Unit {0}
+IsBeforeArrival (step.Refused refusal) = Unit {0}
+IsBeforeArrival step.Left = Unit {0}
+IsBeforeArrival _ = ⊥
+
 -- a client that has arrived doesn't arrive again
+abbrev pub IsAfterArrival : LoginStep → Type 0
+IsAfterArrival (step.Arrived key) = ⊥
+IsAfterArrival _ = Unit {0}
+
+-- each client that is asked for its password, let in or told no arrives before that, and once
 abbrev pub ArrivesOnce : Hearing → LoginStep → Type 0
-ArrivesOnce (Arriving key) (step.Arrived other) = ⊥
-ArrivesOnce (Arriving key) _ = Unit {0}
-ArrivesOnce (Hears stage) s = Unit {0}
-ArrivesOnce Over s = Unit {0}
+ArrivesOnce (Hears (AtFirst tls gss)) s = IsBeforeArrival s
+ArrivesOnce (Hears (Asked key)) s = IsAfterArrival s
+ArrivesOnce (Arriving key) s = IsAfterArrival s
+ArrivesOnce Over s = IsAfterArrival s
 
 -- these bytes were taken, and this was answered
 pub record Heard (old : LoginView) (bytes : List ℕ) (s : LoginStep) (new : LoginView) : Type 0 where

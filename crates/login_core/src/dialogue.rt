@@ -5,7 +5,7 @@ ghost use Rattle.message_view.specs.Reading.{startup_of};
 ghost use Rattle.login_core.specs.Dialogue as login;
 ghost use Rattle.login_core.specs.Dialogue.{AtFirst, Asked};
 ghost use Rattle.login_core.specs.declared.steps.LoginStep.TheVariants.{Left};
-ghost use Rattle.login_core.specs.Logins.{ArrivesOnce, Begun, Decides, Fits, Hears, Arriving, Over, StartHeard, Turned, hearing_of, left_after, rows_under, verdict_of};
+ghost use Rattle.login_core.specs.Logins.{ArrivesOnce, Begun, Decides, Fits, Hears, Arriving, IsBeforeArrival, Over, StartHeard, Turned, hearing_of, left_after, rows_under, verdict_of};
 
 use crate::laws::packets_grow;
 use crate::steps::{Failure, LoginStep, Question};
@@ -161,7 +161,8 @@ impl Rules {
 
     /// A client's StartupMessage.
     fn hear_start(&self, alloc: Global, text: &[u8]) -> (LoginStep, Place)
-        ensures { StartHeard (login.key_of (rows_under self.now) (startup_of text.now)) result.0 (hearing_of result.1) }
+        ensures heard { StartHeard (login.key_of (rows_under self.now) (startup_of text.now)) result.0 (hearing_of result.1) }
+        ensures once { IsBeforeArrival result.0 }
     {
         match self.begin(alloc, text) {
             Ok(key) => match Arc::try_clone(&key) {
@@ -174,7 +175,8 @@ impl Rules {
 
     fn hear_first(&self, alloc: Global, held: &[u8], tls: bool, gss: bool) -> (LoginStep, Place)
         requires { Fits (Hears (AtFirst tls gss)) held.now }
-        ensures { Turned (rows_under self.now) self.now.word (Hears (AtFirst tls gss)) held.now result.0 (hearing_of result.1) (left_after result.0 held.now) }
+        ensures turned { Turned (rows_under self.now) self.now.word (Hears (AtFirst tls gss)) held.now result.0 (hearing_of result.1) (left_after result.0 held.now) }
+        ensures once { ArrivesOnce (Hears (AtFirst tls gss)) result.0 }
     {
         packets_grow();
         match first_packet(held) {
@@ -226,7 +228,8 @@ impl Rules {
 
     fn hear_answer(&self, held: &[u8], key: Arc<StartKey>) -> (LoginStep, Place)
         requires { Fits (Hears (Asked (arc_value key))) held.now }
-        ensures { Turned (rows_under self.now) self.now.word (Hears (Asked (arc_value key))) held.now result.0 (hearing_of result.1) (left_after result.0 held.now) }
+        ensures turned { Turned (rows_under self.now) self.now.word (Hears (Asked (arc_value key))) held.now result.0 (hearing_of result.1) (left_after result.0 held.now) }
+        ensures once { ArrivesOnce (Hears (Asked (arc_value key))) result.0 }
     {
         packets_grow();
         let frame = match next_frame(held, 0, LONGEST_MESSAGE, Side::Client) {

@@ -6,8 +6,6 @@ mod dialogue;
 pub mod laws;
 mod login;
 mod steps;
-#[cfg(test)]
-mod tests;
 
 pub use login::Login;
 pub use message_view::KeyWord;

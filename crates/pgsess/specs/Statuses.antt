@@ -2,7 +2,14 @@
 use Rattle.std.specs.Prelude.{ℕ, Result, Ok, Err}
 use Rattle.pool_app.specs.Faults.{status}
 use Rattle.pool_app.specs.declared.fault.AppFault.{AppFault}
+use Rattle.std.specs.declared.io.ErrorKind.{ErrorKind}
+use Rattle.std.specs.declared.io.ErrorKind.TheVariants.{InvalidData}
 
 abbrev pub status_after : Result (Unit {0}) AppFault → ℕ
 status_after (Ok done) = 0
 status_after (Err fault) = status fault
+
+-- where the words of the command line can't be had: one isn't UTF-8, or memory was refused
+abbrev pub status_without_words : ErrorKind → ℕ
+status_without_words InvalidData = 2
+status_without_words other = 1

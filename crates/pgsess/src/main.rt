@@ -13,8 +13,12 @@ use std::process::ExitCode;
 use std::rt::Files;
 use std::{env, io};
 
-/// Does the job. Until the pooler serves, `serve` and `stub` read and check their files.
-fn run<'a, R: Files + Input + Print>(
+/// What `serve` says where its files are good.
+const CHECKED: &str =
+    "pgsess: settings, users and key seed are in order; this version doesn't serve yet";
+
+/// Does the job. Until the pooler serves, `serve` and `stub` read and check their files, and `serve` says so.
+fn run<'a, R: Files + Input + Print + Eprint>(
     rt: &R,
     alloc: Global,
     job: Job<'a>,
@@ -27,6 +31,7 @@ fn run<'a, R: Files + Input + Print>(
             key_seed,
         } => {
             let _ = files::read_inputs(rt, alloc, ini, users, key_seed)?;
+            let _ = eprintln!(rt; "{CHECKED}");
             Ok(())
         }
         Job::Stub { port: _, catalogue } => {
@@ -46,6 +51,26 @@ fn status_after(done: &Result<(), AppFault<'_>>) -> u8
     }
 }
 
+/// The status that the program ends with where its words can't be had: 2 where one isn't UTF-8, 1 for want of memory.
+fn status_without_words(kind: io::ErrorKind) -> u8
+    ensures { result ≡ spec.status_without_words kind }
+{
+    match kind {
+        io::ErrorKind::InvalidData => 2,
+        _ => 1,
+    }
+}
+
+/// Tells why the program's words can't be had.
+fn tell_without_words<R: Eprint>(rt: &R, kind: io::ErrorKind) -> io::Result<()> {
+    match kind {
+        io::ErrorKind::InvalidData => eprintln!(rt;
+            "error: a word of the command line isn't UTF-8"
+        ),
+        _ => eprintln!(rt; "pgsess: memory"),
+    }
+}
+
 fn words_of(rt: &HostRuntime) -> io::Result<Vec<String>> {
     Ok(env::args(rt)?.collect(rt.alloc())?)
 }
@@ -53,9 +78,10 @@ fn words_of(rt: &HostRuntime) -> io::Result<Vec<String>> {
 fn main(rt: HostRuntime) -> ExitCode {
     let words = match words_of(&rt) {
         Ok(words) => words,
-        Err(_) => {
-            let _ = eprintln!(rt; "pgsess: memory");
-            return ExitCode::from(1);
+        Err(error) => {
+            let kind = error.kind();
+            let _ = tell_without_words(&rt, kind);
+            return ExitCode::from(status_without_words(kind));
         }
     };
     match line::read_line(rt.alloc(), words.as_slice()) {

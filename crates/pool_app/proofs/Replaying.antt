@@ -4,10 +4,8 @@ use Rattle.message_view.specs.declared.KeyWord.{KeyWord}
 use Rattle.message_view.specs.Refusals.{joined_pieces}
 use Rattle.std.proofs.lemmas.Bool.{eqb-true}
 use Rattle.std.specs.Prelude.{◌==◌}
-use Rattle.frame_view.specs.Frames.{frames}
-use Rattle.frame_view.specs.declared.Side.TheVariants.{Client}
-use Rattle.session_values.specs.State.{CatalogueOf, StartKeyOf}
-use Rattle.session_values.specs.Service.{service}
+use Rattle.session_machine.specs.State.{CatalogueOf, StartKeyOf, fresh}
+use Rattle.session_machine.specs.Service.{service}
 use Rattle.login_core.specs.Talk.{Cut, hears, talk}
 use Rattle.login_core.specs.Talk.Cut.{Whole, Need, Bad}
 use Rattle.login_core.specs.declared.steps.LoginStep.{LoginStep}
@@ -17,7 +15,7 @@ use Rattle.login_core.specs.Talk.End.{Passed}
 use Rattle.login_core.specs.Dialogue.{Rows, Dialogue, ToLink, ok, Packet, Reason, Stage, AtFirst, Asked, hear, packet, packets_left, react}
 use Rattle.login_core.specs.Logins.{LoginView, Hearing, Hears, Arriving, Over, after, goes_on, goes_from, login_view, missing, missing_of, rows_of}
 use Rattle.login_core.specs.Solo.{after_login, service_pieces}
-use Rattle.pool_app.specs.Replay.{ending, replied, replies, refused_end, standing_catalogue, standing_rows, standing_settings, standing_users, standing_word}
+use Rattle.pool_app.specs.Replay.{after_start, replied, replies, refused_end, standing_catalogue, standing_rows, standing_settings, standing_users, standing_word}
 use Rattle.pool_app.specs.Told.{silence, is_end}
 
 -- ---- nothing comes
@@ -68,7 +66,7 @@ asked_first q all more = append_assoc q all more ∙ ap (λ (l : List ℕ). l ++
 pub replied_on : (cat : CatalogueOf) (s : LoginStep) (rest : List ℕ) (d : Dialogue) → is_end s ≡ false → replied cat (after s rest d) ≡ replied cat (after s rest silence) ++ replied cat d
 replied_on cat step.More rest d e = refl
 replied_on cat (step.Arrived k) rest d e = refl
-replied_on cat (step.Ask q) rest d e = asked_first _ (joined_pieces (d.pieces ++ after_login cat standing_word d.ended)) (refused_end d.ended)
+replied_on cat (step.Ask q) rest d e = asked_first _ (joined_pieces (d.pieces ++ after_login cat standing_word d.ended)) (refused_end cat d.ended)
 replied_on cat (step.Passed k) rest d e = absurd cc
 replied_on cat step.Console rest d e = absurd cc
 replied_on cat (step.Refused r) rest d e = absurd cc
@@ -78,7 +76,7 @@ replied_on cat step.Left rest d e = absurd cc
 -- ---- a login that has passed
 
 pub passed_given : ServiceIsItsPieces → (cat : CatalogueOf) (key : StartKeyOf) (rest start greeted served end last : List ℕ) → greeted ≡ start ++ ok → served ≡ greeted ++ service cat key 1 2 rest → end ≡ served ++ last →
-    last ≡ ending (frames Client 2147483647 rest) → end ≡ start ++ replied cat (record { pieces = ok ∷ []; ended = Passed (ToLink key) rest })
+    last ≡ after_start (fresh cat key) rest → end ≡ start ++ replied cat (record { pieces = ok ∷ []; ended = Passed (ToLink key) rest })
 passed_given law cat key rest start greeted served end last g s e l =
     let all : List ℕ = service cat key 1 2 rest in
     e ∙ (ap (λ (x : List ℕ). x ++ last) (s ∙ (ap (λ (x : List ℕ). x ++ all) g ∙ append_assoc start ok all))

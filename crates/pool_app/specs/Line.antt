@@ -5,7 +5,7 @@ use Rattle.clap.specs.Takes.{takes}
 use Rattle.clap.specs.Values.{kind_of}
 use Rattle.clap.specs.Words.{App, Row, Rule, Text, first_of, one_of, new_app, new_rule, subcommand_of, with_rule, with_subcommand}
 use Rattle.clap.specs.declared.error.kind.ErrorKind.{ErrorKind}
-use Rattle.clap.specs.declared.error.kind.ErrorKind.TheVariants.{DisplayHelp, OutOfMemory}
+use Rattle.clap.specs.declared.error.kind.ErrorKind.TheVariants.{DisplayHelp, DisplayVersion, OutOfMemory}
 use Rattle.clap.specs.declared.builder.value_parser.ValueParser.TheVariants.{Signed}
 use Rattle.pool_app.specs.declared.line.Job.{Job}
 use Rattle.pool_app.specs.declared.line.Job.TheVariants.{Replay, Serve, Stub}
@@ -29,9 +29,9 @@ serve = with_rule (with_rule (with_rule (new_app (codes "serve")) (needed (codes
 abbrev pub stub : App
 stub = with_rule (with_rule (new_app (codes "stub")) port_option) (needed (codes "catalogue"))
 
--- a line must name a subcommand
+-- a line must name a subcommand, or ask for the version
 abbrev pub program : App
-program = let app = new_app (codes "pgsess") in record app { top = record app.top { subcommand_required = true } }
+program = let app = new_app (codes "pgsess") in record app { top = record app.top { subcommand_required = true; has_version = true } }
 
 -- the whole command line
 abbrev pub pgsess : App
@@ -89,6 +89,7 @@ IsFaultOf words NoJob = NamesNone (subcommand_of pgsess words)
 
 abbrev pub kind_status : ErrorKind → ℕ
 kind_status DisplayHelp = 0
+kind_status DisplayVersion = 0
 kind_status OutOfMemory = 1
 kind_status other = 2
 

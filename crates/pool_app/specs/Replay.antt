@@ -1,6 +1,6 @@
 -- What `replay` answers to one client's bytes: its login under the standing settings and users, and then
 -- what a server started for that client alone answers.
-use Rattle.std.specs.Prelude.{◌≡◌, ℕ, List, [], ◌∷◌, ◌++◌, Some, None, Bool, false, ◌==◌, ◌||◌, if◌then◌else◌, codes}
+use Rattle.std.specs.Prelude.{◌≡◌, ℕ, List, [], ◌∷◌, ◌++◌, Some, None, Result, Ok, Err, Bool, false, ◌==◌, ◌||◌, if◌then◌else◌, codes}
 use Rattle.frame_view.specs.declared.FrameFault.TheVariants.{TooShort, TooLong, UnknownType, UnknownCode}
 use Rattle.frame_view.specs.declared.Side.TheVariants.{Client}
 use Rattle.frame_view.specs.Frames.{Front, AFrame, Lacks, Faulty, FrameOf, Cut, front, frames}
@@ -13,7 +13,7 @@ use Rattle.ini_config.specs.declared.option_values.Settings.{Settings}
 use Rattle.ini_config.specs.OptionValues.{defaults}
 use Rattle.user_file.specs.declared.user_table.UserRow.{UserRow}
 use Rattle.user_file.specs.Secrets.{secret_of}
-use Rattle.session_values.specs.State.{CatalogueOf, TableOf}
+use Rattle.session_machine.specs.State.{CatalogueOf, TableOf, fresh}
 use Rattle.pool_app.specs.declared.fault.AppFault.{AppFault}
 use Rattle.pool_app.specs.declared.fault.AppFault.TheVariants as fault
 use Rattle.login_core.specs.Talk.{End}
@@ -76,14 +76,19 @@ refused_front (Lacks n) = []
 abbrev pub ending : Cut → List ℕ
 ending cut = if terminates cut.frames then [] else refused_front (front Client 2147483647 cut.rest)
 
--- the refusal of a login, or of the first faulty frame after it; a client of the console is closed without a byte
-abbrev pub refused_end : End Way Reason → List ℕ
-refused_end Unfinished = []
-refused_end (Passed (ToLink key) left) = ending (frames Client 2147483647 left)
-refused_end (Passed ToConsole left) = []
-refused_end (Stopped (Refused cause)) = refusal cause
-refused_end (Stopped Failed) = []
-refused_end (Stopped Left) = []
+-- after a start that the server refuses the client is closed, and nothing that it sends is answered
+abbrev pub after_start : {S C : Type 0} → Result S C → List ℕ → List ℕ
+after_start (Ok session) left = ending (frames Client 2147483647 left)
+after_start (Err cause) left = []
+
+-- the refusal of a login, or of the first faulty frame of the session behind it; a client of the console is closed without a byte
+abbrev pub refused_end : CatalogueOf → End Way Reason → List ℕ
+refused_end cat Unfinished = []
+refused_end cat (Passed (ToLink key) left) = after_start (fresh cat key) left
+refused_end cat (Passed ToConsole left) = []
+refused_end cat (Stopped (Refused cause)) = refusal cause
+refused_end cat (Stopped Failed) = []
+refused_end cat (Stopped Left) = []
 
 -- ---- the answer
 
@@ -91,11 +96,11 @@ refused_end (Stopped Left) = []
 unfoldable pub replies : List ℕ → List ℕ
 replies bytes =
     joined_pieces (solo standing_catalogue (standing_row bytes) standing_word bytes)
-    ++ refused_end (login (standing_row bytes) standing_word bytes).ended
+    ++ refused_end standing_catalogue (login (standing_row bytes) standing_word bytes).ended
 
 -- the same of what the login says
 abbrev pub replied : CatalogueOf → Dialogue → List ℕ
-replied cat said = joined_pieces (said.pieces ++ after_login cat standing_word said.ended) ++ refused_end said.ended
+replied cat said = joined_pieces (said.pieces ++ after_login cat standing_word said.ended) ++ refused_end cat said.ended
 
 -- ---- what is left of the output after a fault
 

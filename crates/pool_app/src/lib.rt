@@ -3,8 +3,7 @@
 
 pub mod fault;
 pub mod files;
+mod help;
 pub mod line;
 pub mod replay;
 mod standing;
-#[cfg(test)]
-mod tests;

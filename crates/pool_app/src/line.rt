@@ -7,10 +7,14 @@ ghost use Rattle.clap.specs.Words.{app_of, rule_of, subcommand_of, subcommand_ro
 ghost use Rattle.clap.specs.declared.builder.command.Command.TheViews.{out-Command as fields_of};
 ghost use Rattle.pool_app.specs.Line as spec;
 
+use crate::help;
 use clap::error::ErrorKind;
 use clap::{Arg, ArgMatches, Command, Error};
 use std::alloc::{AllocError, Global};
 use std::io;
+
+/// What `--version` tells behind the program's name.
+const VERSION: &str = "1";
 
 /// What a command line asks for. Its texts are those of the words.
 #[derive(Debug, Drop, PartialEq, Eq)]
@@ -30,23 +34,23 @@ pub enum Job<'a> {
     },
 }
 
-/// A command line that asks for no job: for help, or a faulty one.
+/// A command line that asks for no job: for help or the version, or a faulty one.
 #[derive(Debug, Drop)]
 pub enum LineFault {
-    /// What clap says: help, a fault of the words, or want of memory.
+    /// What clap says: help, the version, a fault of the words, or want of memory.
     Refused(Error),
     /// Words that clap accepts and that name no job.
     NoJob,
 }
 
 impl LineFault {
-    /// The status that the program ends with: 0 after help, 1 for want of memory, 2 for every other fault.
+    /// The status that the program ends with: 0 after help and the version, 1 for want of memory, 2 for every other fault.
     pub fn status(&self) -> u8
         ensures { result ≡ spec.status self.now }
     {
         match self {
             LineFault::Refused(error) => match error.kind() {
-                ErrorKind::DisplayHelp => 0,
+                ErrorKind::DisplayHelp | ErrorKind::DisplayVersion => 0,
                 ErrorKind::OutOfMemory => 1,
                 _ => 2,
             },
@@ -54,7 +58,7 @@ impl LineFault {
         }
     }
 
-    /// Prints help on standard output, and every fault on standard error.
+    /// Prints help and the version on standard output, and every fault on standard error.
     pub fn print<R: Print + Eprint>(&self, rt: &R) -> io::Result<()> {
         match self {
             LineFault::Refused(error) => match error.kind() {
@@ -98,7 +102,7 @@ fn replay_command<'a>(alloc: Global) -> Command<'a>
 {
     Command::new(alloc, "replay")
         .about("Serve one client: its bytes from standard input, the replies to standard output")
-        .after_help("Example: pgsess replay < client.bin > replies.bin")
+        .after_help(help::REPLAY)
 }
 
 /// The subcommand `serve`.
@@ -120,9 +124,7 @@ fn serve_command<'a>(alloc: Global) -> Result<Command<'a>, AllocError>
     Ok(
         Command::new(alloc, "serve")
             .about("Pool the sessions of PostgreSQL servers")
-            .after_help(
-                "Example: pgsess serve --ini pgsess.ini --users users.txt --key-seed seed.bin",
-            )
+            .after_help(help::SERVE)
             .arg(ini)?
             .arg(users)?
             .arg(seed)?,
@@ -143,7 +145,7 @@ fn stub_command<'a>(alloc: Global) -> Result<Command<'a>, AllocError>
     Ok(
         Command::new(alloc, "stub")
             .about("Stand in for a PostgreSQL server, for tests: any user is let in")
-            .after_help("Example: pgsess stub --port 5432 --catalogue catalogue.tsv")
+            .after_help(help::STUB)
             .arg(port)?
             .arg(catalogue)?,
     )
@@ -156,6 +158,7 @@ fn program<'a>(alloc: Global) -> Command<'a>
 {
     Command::new(alloc, "pgsess")
         .about("A session-mode PostgreSQL connection pooler with clean hand-over")
+        .version(VERSION)
         .subcommand_required(true)
 }
 

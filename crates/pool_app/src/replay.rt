@@ -4,11 +4,12 @@ ghost use Rattle.std.specs.Io.KnownBytes.{Appends};
 ghost use Rattle.frame_view.specs.Frames.{Faulty, frames};
 ghost use Rattle.frame_view.specs.declared.Side.TheVariants.{Client};
 ghost use Rattle.message_view.specs.Refusals.{refusal};
+ghost use Rattle.session_machine.specs.State.{fresh};
 ghost use Rattle.login_core.specs.Dialogue.{AtFirst, ToLink, ok};
 ghost use Rattle.login_core.specs.Logins.{Hears, after, goes_on, login_view, missing};
 ghost use Rattle.login_core.specs.Talk.End.{Passed};
 ghost use Rattle.pool_app.specs.declared.fault.AppFault.TheVariants as told;
-ghost use Rattle.pool_app.specs.Replay.{IsLeft, ending, refused_front, replied, replies, standing_settings, standing_users, standing_word};
+ghost use Rattle.pool_app.specs.Replay.{IsLeft, after_start, ending, refused_front, replied, replies, standing_settings, standing_users, standing_word};
 ghost use Rattle.pool_app.specs.Told.{IsPastArrival, Says, WantsMemory, is_end, refused_by, silence};
 
 use crate::fault::AppFault;
@@ -19,7 +20,7 @@ use frame_view::{FrameFault, Side, Step, client, next_frame};
 use login_core::laws::{login_is_of_its_row, service_is_its_pieces};
 use login_core::{Login, LoginStep};
 use message_view::{Refusal, put_authentication_ok, refusal_bytes};
-use session_machine::{Catalogue, StartKey, solo_bytes};
+use session_machine::{Catalogue, Session, StartKey, solo_bytes};
 use std::alloc::{AllocError, Global};
 use std::io::{ErrorKind, Read, Write};
 use std::sync::Arc;
@@ -62,7 +63,22 @@ fn put_refusal(out: &mut BytesMut, cause: Refusal) -> Result<(), AllocError>
     out.extend_from_slice(refusal_bytes(cause))
 }
 
-/// What follows a login that has passed: AuthenticationOk, the service, and a refusal where a faulty frame ends the bytes.
+/// The refusal of the first faulty frame of a session. Where the server refuses to start one, the client is closed, and nothing follows.
+fn refusal_after(
+    alloc: Global,
+    catalogue: &Catalogue,
+    key: &StartKey,
+    rest: &[u8],
+) -> Result<Option<Refusal>, AllocError>
+    ensures { IfOk result (λ r. refused_by r ≡ after_start (fresh catalogue.now key.now) rest.now) }
+{
+    match Session::start(alloc, catalogue, key)? {
+        Ok(_) => Ok(ending(rest)),
+        Err(_) => Ok(None),
+    }
+}
+
+/// What follows a login that has passed: AuthenticationOk, the service, and a refusal where a faulty frame ends the session's bytes.
 fn put_passed(
     alloc: Global,
     catalogue: &Catalogue,
@@ -75,7 +91,7 @@ fn put_passed(
     service_is_its_pieces();
     put_authentication_ok(out)?;
     solo_bytes(alloc, catalogue, key, KEY_WORD, rest, out)?;
-    match ending(rest) {
+    match refusal_after(alloc, catalogue, key, rest)? {
         Some(refusal) => put_refusal(out, refusal)?,
         None => {}
     }

@@ -1,6 +1,6 @@
 //! Worked logins, each cut at every byte.
-use crate::{KeyWord, Login, LoginStep};
 use ini_config::{Settings, read_settings};
+use login_core::{KeyWord, Login, LoginStep};
 use message_view::refusal_bytes;
 use session_machine::StartKey;
 use std::alloc::Global;
@@ -25,6 +25,9 @@ const WORD: KeyWord = KeyWord {
     secret: 2,
     salt: [1, 2, 3, 4],
 };
+
+/// What stands among the given bytes where the client arrives.
+const ARRIVES: &[u8] = b"<arrives>";
 
 const OK: &[u8] = b"R\0\0\0\x08\0\0\0\0";
 
@@ -61,7 +64,7 @@ enum End {
     Closed,
 }
 
-/// What a client was given, and what was taken of its bytes.
+/// What a client was given and where it arrived, and what was taken of its bytes.
 #[derive(Drop)]
 struct Seen {
     out: Vec<u8>,
@@ -70,10 +73,11 @@ struct Seen {
     end: End,
 }
 
-/// What a client is given at a step. AuthenticationOk is the caller's.
+/// What a client is given at a step, and that it has arrived. AuthenticationOk is the caller's.
 fn see(seen: &mut Seen, step: LoginStep) -> Result<(), Fail> {
     match step {
-        LoginStep::More | LoginStep::Arrived(_) => {}
+        LoginStep::More => {}
+        LoginStep::Arrived(_) => seen.out.extend_from_slice(ARRIVES)?,
         LoginStep::Ask(question) => seen.out.extend_from_slice(question.as_bytes())?,
         LoginStep::Passed(key) => {
             seen.out.extend_from_slice(OK)?;
@@ -183,7 +187,7 @@ fn joined(alloc: Global, parts: &[&[u8]]) -> Result<Vec<u8>, Fail> {
 #[test]
 fn a_start_is_let_in(rt: HostRuntime) -> Result<(), Fail> {
     let alloc = rt.alloc();
-    assert!(rt; is_login(alloc, SHOP, ANN, &[OK], End::Passed, 0)?);
+    assert!(rt; is_login(alloc, SHOP, ANN, &[ARRIVES, OK], End::Passed, 0)?);
     let seen = cut_at(alloc, SHOP, ANN, 0)?;
     let key = seen.key.ok_or("no key")?;
     assert_eq!(rt; key.row.as_slice(), b"shop".as_slice());
@@ -196,41 +200,16 @@ fn a_start_is_let_in(rt: HostRuntime) -> Result<(), Fail> {
 #[test]
 fn encryption_is_refused_once_each(rt: HostRuntime) -> Result<(), Fail> {
     let alloc = rt.alloc();
-    let once = joined(alloc, &[SSL, ANN])?;
-    assert!(rt; is_login(alloc, SHOP, once.as_slice(), &[b"N", OK], End::Passed, 0)?);
-    let twice = joined(alloc, &[SSL, SSL, ANN])?;
-    assert!(rt;
-        is_login(
-            alloc,
-            SHOP,
-            twice.as_slice(),
-            &[b"N", MALFORMED],
-            End::Closed,
-            ANN.len()
-        )?
-    );
-    let both = joined(alloc, &[GSS, SSL, ANN])?;
-    assert!(rt;
-        is_login(
-            alloc,
-            SHOP,
-            both.as_slice(),
-            &[b"N", b"N", OK],
-            End::Passed,
-            0
-        )?
-    );
-    let other = joined(alloc, &[SSL, GSS, GSS])?;
-    assert!(rt;
-        is_login(
-            alloc,
-            SHOP,
-            other.as_slice(),
-            &[b"N", b"N", MALFORMED],
-            End::Closed,
-            0
-        )?
-    );
+    let rows: [(&[&[u8]], &[&[u8]], End, usize); 4] = [
+        (&[SSL, ANN], &[b"N", ARRIVES, OK], End::Passed, 0),
+        (&[SSL, SSL, ANN], &[b"N", MALFORMED], End::Closed, ANN.len()),
+        (&[GSS, SSL, ANN], &[b"N", b"N", ARRIVES, OK], End::Passed, 0),
+        (&[SSL, GSS, GSS], &[b"N", b"N", MALFORMED], End::Closed, 0),
+    ];
+    for (packets, out, end, left) in rows {
+        let input = joined(alloc, packets)?;
+        assert!(rt; is_login(alloc, SHOP, input.as_slice(), out, end, left)?);
+    }
     Ok(())
 }
 
@@ -245,7 +224,7 @@ fn what_follows_is_left(rt: HostRuntime) -> Result<(), Fail> {
             alloc,
             SHOP,
             input.as_slice(),
-            &[OK],
+            &[ARRIVES, OK],
             End::Passed,
             query.len()
         )?
@@ -275,51 +254,27 @@ fn the_last_of_equal_names_counts(rt: HostRuntime) -> Result<(), Fail> {
 }
 
 #[test]
-fn right_passwords(rt: HostRuntime) -> Result<(), Fail> {
+fn plain_passwords(rt: HostRuntime) -> Result<(), Fail> {
     let alloc = rt.alloc();
-    let right = joined(alloc, &[BC, b"p\0\0\0\x06a\0"])?;
-    assert!(rt;
-        is_login(
-            alloc,
-            SHOP_PLAIN,
-            right.as_slice(),
-            &[CLEARTEXT, OK],
-            End::Passed,
-            0
-        )?
-    );
-    let plain = joined(alloc, &[ANN, b"p\0\0\0\x0bsecret\0", b"Q"])?;
-    assert!(rt;
-        is_login(
-            alloc,
-            SHOP_PLAIN,
-            plain.as_slice(),
-            &[CLEARTEXT, OK],
-            End::Passed,
-            1
-        )?
-    );
-    Ok(())
-}
-
-#[test]
-fn wrong_passwords(rt: HostRuntime) -> Result<(), Fail> {
-    let alloc = rt.alloc();
-    let password = b"p\0\0\0\x06b\0";
-    for start in [BC, ZED] {
+    let rows: [(&[u8], &[u8], &[u8], End, usize); 4] = [
+        (BC, b"p\0\0\0\x06a\0", OK, End::Passed, 0),
+        (ANN, b"p\0\0\0\x0bsecret\0Q", OK, End::Passed, 1),
+        (BC, b"p\0\0\0\x06b\0", WRONG, End::Closed, 0),
+        (ZED, b"p\0\0\0\x06b\0", WRONG, End::Closed, 0),
+    ];
+    for (start, password, told, end, left) in rows {
         let input = joined(alloc, &[start, password])?;
         assert!(rt;
             is_login(
                 alloc,
                 SHOP_PLAIN,
                 input.as_slice(),
-                &[CLEARTEXT, WRONG],
-                End::Closed,
-                0
+                &[ARRIVES, CLEARTEXT, told],
+                end,
+                left
             )?
         );
     }
-    assert!(rt; is_login(alloc, SHOP, ZED, &[WRONG], End::Closed, 0)?);
     Ok(())
 }
 
@@ -348,7 +303,16 @@ fn salted_passwords(rt: HostRuntime) -> Result<(), Fail> {
     ];
     for (start, answer, out, end) in rows {
         let input = joined(alloc, &[start, answer])?;
-        assert!(rt; is_login(alloc, SHOP_MD5, input.as_slice(), &[SALTED, out], end, 0)?);
+        assert!(rt;
+            is_login(
+                alloc,
+                SHOP_MD5,
+                input.as_slice(),
+                &[ARRIVES, SALTED, out],
+                end,
+                0
+            )?
+        );
     }
     Ok(())
 }
@@ -357,12 +321,16 @@ fn salted_passwords(rt: HostRuntime) -> Result<(), Fail> {
 fn in_the_stead_of_a_password(rt: HostRuntime) -> Result<(), Fail> {
     let alloc = rt.alloc();
     let rows: [(&[u8], &[&[u8]], usize); 6] = [
-        (b"X\0\0\0\x04", &[CLEARTEXT], 0),
-        (b"Q\0\0\0\x05\0", &[CLEARTEXT, MALFORMED], 0),
-        (b"p\0\0\0\x0dsecret\0\0\0", &[CLEARTEXT, MALFORMED], 0),
-        (b"p\0\0\0\x0asecret", &[CLEARTEXT, MALFORMED], 0),
-        (b"p\0\0\x27\x11", &[CLEARTEXT, MALFORMED], 0),
-        (b"?\0\0\0\x04", &[CLEARTEXT, MALFORMED], 0),
+        (b"X\0\0\0\x04", &[ARRIVES, CLEARTEXT], 0),
+        (b"Q\0\0\0\x05\0", &[ARRIVES, CLEARTEXT, MALFORMED], 0),
+        (
+            b"p\0\0\0\x0dsecret\0\0\0",
+            &[ARRIVES, CLEARTEXT, MALFORMED],
+            0,
+        ),
+        (b"p\0\0\0\x0asecret", &[ARRIVES, CLEARTEXT, MALFORMED], 0),
+        (b"p\0\0\x27\x11", &[ARRIVES, CLEARTEXT, MALFORMED], 0),
+        (b"?\0\0\0\x04", &[ARRIVES, CLEARTEXT, MALFORMED], 0),
     ];
     for (message, out, left) in rows {
         let input = joined(alloc, &[ANN, message])?;
@@ -372,18 +340,38 @@ fn in_the_stead_of_a_password(rt: HostRuntime) -> Result<(), Fail> {
 }
 
 #[test]
-fn databases_and_the_console(rt: HostRuntime) -> Result<(), Fail> {
-    let alloc = rt.alloc();
-    let nowhere = b"\0\0\0\x23\0\x03\0\0user\0ann\0database\0nowhere\0\0";
-    assert!(rt; is_login(alloc, SHOP, nowhere, &[NOWHERE], End::Closed, 0)?);
-    let root = b"\0\0\0\x26\0\x03\0\0user\0root\0database\0pgbouncer\0\0";
-    assert!(rt; is_login(alloc, SHOP, root, &[], End::Console, 0)?);
-    let ann = b"\0\0\0\x25\0\x03\0\0user\0ann\0database\0pgbouncer\0\0";
-    assert!(rt; is_login(alloc, SHOP, ann, &[WRONG], End::Closed, 0)?);
-    let unknown = b"\0\0\0\x23\0\x03\0\0user\0zed\0database\0nowhere\0\0";
-    assert!(rt; is_login(alloc, SHOP, unknown, &[WRONG], End::Closed, 0)?);
-    let bogus = b"\0\0\0\x30\0\x03\0\0user\0ann\0database\0shop\0DateStyle\0bogus\0\0";
-    assert!(rt; is_login(alloc, SHOP, bogus, &[OK], End::Passed, 0)?);
+fn users_databases_and_the_console(rt: HostRuntime) -> Result<(), Fail> {
+    let rows: [(&[u8], &[&[u8]], End); 6] = [
+        (
+            b"\0\0\0\x23\0\x03\0\0user\0ann\0database\0nowhere\0\0",
+            &[ARRIVES, NOWHERE],
+            End::Closed,
+        ),
+        (
+            b"\0\0\0\x26\0\x03\0\0user\0root\0database\0pgbouncer\0\0",
+            &[ARRIVES],
+            End::Console,
+        ),
+        (
+            b"\0\0\0\x25\0\x03\0\0user\0ann\0database\0pgbouncer\0\0",
+            &[ARRIVES, WRONG],
+            End::Closed,
+        ),
+        (
+            b"\0\0\0\x23\0\x03\0\0user\0zed\0database\0nowhere\0\0",
+            &[ARRIVES, WRONG],
+            End::Closed,
+        ),
+        (ZED, &[ARRIVES, WRONG], End::Closed),
+        (
+            b"\0\0\0\x30\0\x03\0\0user\0ann\0database\0shop\0DateStyle\0bogus\0\0",
+            &[ARRIVES, OK],
+            End::Passed,
+        ),
+    ];
+    for (start, out, end) in rows {
+        assert!(rt; is_login(rt.alloc(), SHOP, start, out, end, 0)?);
+    }
     Ok(())
 }
 
@@ -425,10 +413,11 @@ fn long_start(alloc: Global, size: usize) -> Result<Vec<u8>, Fail> {
 fn the_longest_first_packet(rt: HostRuntime) -> Result<(), Fail> {
     let alloc = rt.alloc();
     let longest = long_start(alloc, 9_950)?;
+    let wanted = joined(alloc, &[ARRIVES, OK])?;
     assert_eq!(rt; longest.len(), 10_000);
     for cut in [1, 4, 9, 5_000, 9_999] {
         let seen = cut_at(alloc, SHOP, longest.as_slice(), cut)?;
-        assert_eq!(rt; seen.out.as_slice(), OK);
+        assert_eq!(rt; seen.out.as_slice(), wanted.as_slice());
         assert_eq!(rt; seen.taken, 10_000);
     }
     let longer = long_start(alloc, 9_951)?;

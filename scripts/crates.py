@@ -1,0 +1,19 @@
+"""The crates of crates.txt, and which stand on which."""
+import pathlib
+
+ROOT = pathlib.Path(__file__).resolve().parent.parent
+
+
+def listed():
+    """By a crate's name the crates of the repository that it names in crates.txt, and its line."""
+    lines = [it.partition("#")[0].strip() for it in (ROOT / "crates.txt").read_text().splitlines()]
+    rows = {it.split(":")[0].split()[0]: it for it in lines if it}
+    return {name: ([it for it in row.partition(":")[2].split() if it in rows], row) for name, row in rows.items()}
+
+
+def below(name, crates):
+    """The crates below a crate, lowest first."""
+    found = []
+    for it in crates[name][0]:
+        found += [deeper for deeper in [*below(it, crates), it] if deeper not in found]
+    return found
