@@ -16,7 +16,7 @@ use frame_view::{
 use ini_config::{AuthType, Settings};
 use message_view::{KeyWord, PasswordView, Refusal, StartupView};
 use param_track::{StartFault, start_key};
-use session_machine::StartKey;
+use start_keys::StartKey;
 use std::alloc::Global;
 use std::sync::Arc;
 use user_file::Users;

@@ -3,7 +3,7 @@ ghost use Rattle.std.specs.Prelude.{◌≡◌};
 ghost use Rattle.login_core.specs.Logins as spec;
 
 use message_view::Refusal;
-use session_machine::StartKey;
+use start_keys::StartKey;
 use std::sync::Arc;
 
 /// What a client is asked, or told of its request for encryption.

@@ -2,7 +2,7 @@
 use ini_config::{Settings, read_settings};
 use login_core::{KeyWord, Login, LoginStep};
 use message_view::refusal_bytes;
-use session_machine::StartKey;
+use start_keys::StartKey;
 use std::alloc::Global;
 use std::sync::Arc;
 use std::test::Fail;

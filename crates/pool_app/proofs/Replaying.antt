@@ -4,8 +4,8 @@ use Rattle.message_view.specs.declared.KeyWord.{KeyWord}
 use Rattle.message_view.specs.Refusals.{joined_pieces}
 use Rattle.std.proofs.lemmas.Bool.{eqb-true}
 use Rattle.std.specs.Prelude.{◌==◌}
-use Rattle.session_machine.specs.State.{CatalogueOf, StartKeyOf, fresh}
-use Rattle.session_machine.specs.Service.{service}
+use Rattle.session_values.specs.State.{CatalogueOf, StartKeyOf, fresh}
+use Rattle.session_values.specs.Service.{service}
 use Rattle.login_core.specs.Talk.{Cut, hears, talk}
 use Rattle.login_core.specs.Talk.Cut.{Whole, Need, Bad}
 use Rattle.login_core.specs.declared.steps.LoginStep.{LoginStep}

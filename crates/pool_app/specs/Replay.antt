@@ -13,7 +13,7 @@ use Rattle.ini_config.specs.declared.option_values.Settings.{Settings}
 use Rattle.ini_config.specs.OptionValues.{defaults}
 use Rattle.user_file.specs.declared.user_table.UserRow.{UserRow}
 use Rattle.user_file.specs.Secrets.{secret_of}
-use Rattle.session_machine.specs.State.{CatalogueOf, TableOf, fresh}
+use Rattle.session_values.specs.State.{CatalogueOf, TableOf, fresh}
 use Rattle.pool_app.specs.declared.fault.AppFault.{AppFault}
 use Rattle.pool_app.specs.declared.fault.AppFault.TheVariants as fault
 use Rattle.login_core.specs.Talk.{End}

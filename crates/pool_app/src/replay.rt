@@ -4,7 +4,7 @@ ghost use Rattle.std.specs.Io.KnownBytes.{Appends};
 ghost use Rattle.frame_view.specs.Frames.{Faulty, frames};
 ghost use Rattle.frame_view.specs.declared.Side.TheVariants.{Client};
 ghost use Rattle.message_view.specs.Refusals.{refusal};
-ghost use Rattle.session_machine.specs.State.{fresh};
+ghost use Rattle.session_values.specs.State.{fresh};
 ghost use Rattle.login_core.specs.Dialogue.{AtFirst, ToLink, ok};
 ghost use Rattle.login_core.specs.Logins.{Hears, after, goes_on, login_view, missing};
 ghost use Rattle.login_core.specs.Talk.End.{Passed};
