@@ -1,0 +1,3 @@
+pub mod PassedKeys
+pub mod Rows
+pub mod ByName

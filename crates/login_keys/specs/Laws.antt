@@ -1,0 +1,29 @@
+-- The law of the key with which a login passes.
+use Rattle.std.specs.Prelude.{◌≡◌, ◌<◌, ℕ, List, length, Some}
+use Rattle.std.specs.List.{AllByRecursion}
+use Rattle.ini_config.specs.declared.option_values.Settings.{Settings}
+use Rattle.message_view.specs.declared.KeyWord.{KeyWord}
+use Rattle.user_file.specs.declared.user_table.UserRow.{UserRow}
+use Rattle.session_values.specs.Lawful.{IsClientKey}
+use Rattle.session_values.specs.State.{StartKeyOf}
+use Rattle.param_track.specs.StartKeys.{Text}
+use Rattle.start_key_laws.specs.StartKeys.{IsLawfulRow}
+use Rattle.login_core.specs.Talk.End.{Passed}
+use Rattle.login_core.specs.Dialogue.{Rows, ToLink, login_among, row_in}
+
+-- the database rows of these login rows name their servers' databases
+abbrev pub AreLawfulRows : Rows → Type 0
+AreLawfulRows rows = (database user : Text) → IsLawfulRow (rows database user).database
+
+-- what a link can be started by: a client's key with a database
+pub record IsLinkKey (key : StartKeyOf) : Type 0 where
+  pub client : IsClientKey key
+  pub dbname : 0 < length key.dbname
+
+-- The key with which a login passes can start a link.
+abbrev pub PassedKeysAreLinkKeys : Type 0
+PassedKeysAreLinkKeys = (rows : Rows) (word : KeyWord) (bytes left : List ℕ) (key : StartKeyOf) → AreLawfulRows rows → (login_among rows word bytes).ended ≡ Passed (ToLink key) left → IsLinkKey key
+
+-- Rows of settings are such where each database row is.
+abbrev pub SettingsRowsAreLawful : Type 0
+SettingsRowsAreLawful = (s : Settings) (users : List UserRow) → AllByRecursion (λ row. IsLawfulRow (Some row)) s.rows → AreLawfulRows (row_in s users)

@@ -1,0 +1,15 @@
+//! Laws of logins, each the contract of a function that does nothing.
+
+ghost use Rattle.login_keys.specs.Laws.{PassedKeysAreLinkKeys, SettingsRowsAreLawful};
+
+/// The key with which a login passes can start a link: it is lawful, has a user and a database, and its parameters stand in
+/// order, by names in lower case, none of them `user` or `database`.
+pub fn passed_keys_are_link_keys()
+    ensures { PassedKeysAreLinkKeys }
+{}
+
+/// The login rows of settings name their servers' databases, where each database row does.
+#[tactic(auto, using(crate::proofs::ByName::settings_rows_are_lawful))]
+pub fn settings_rows_are_lawful()
+    ensures { SettingsRowsAreLawful }
+{}
