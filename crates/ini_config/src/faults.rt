@@ -1,7 +1,7 @@
 //! Why a settings file is refused.
 use thiserror::Error;
 
-/// What is wrong with a line. Where one line has several faults, the first of this list is told.
+/// What is wrong with a line. Where one line has several faults, the first of this list is reported.
 #[derive(Clone, Copy, Debug, PartialEq, Eq, Error)]
 pub enum Cause {
     /// A header of a section that isn't `databases`, `pgbouncer`, `users` or `peers`, or a line within the last two.

@@ -33,7 +33,7 @@ impl Names {
         }
     }
 
-    /// One name. The only error is want of memory.
+    /// One name. The only error is out of memory.
     pub fn one(alloc: Global, name: &[u8]) -> Result<Names, AllocError>
         ensures { IfOk result (λ n. n ≡ name.now ∷ []) }
     {
@@ -43,7 +43,7 @@ impl Names {
     }
 
     /// The names of a text, parted by commas. Spaces and tabs round a name are dropped, and empty names are left out. The only
-    /// error is want of memory.
+    /// error is out of memory.
     #[tactic(auto, unfolding(crate::specs::Values::names))]
     pub fn read(alloc: Global, text: &[u8]) -> Result<Names, AllocError>
         ensures { IfOk result (λ n. n ≡ spec.names text.now) }

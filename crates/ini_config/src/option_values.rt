@@ -42,7 +42,7 @@ pub struct Settings {
 }
 
 impl Settings {
-    /// What an empty file says. The only error is want of memory.
+    /// What an empty file says. The only error is out of memory.
     pub fn defaults(alloc: Global) -> Result<Settings, AllocError>
         ensures { IfOk result (λ s. s ≡ spec.defaults) }
     {
@@ -65,7 +65,7 @@ impl Settings {
         })
     }
 
-    /// The settings changed by a value. The only error is want of memory, which leaves them as they were.
+    /// The settings changed by a value. The only error is out of memory, which leaves them as they were.
     pub(crate) fn apply(&mut self, alloc: Global, setting: Setting<'_>) -> Result<(), AllocError>
         ensures ok { OnOk result (self.new ≡ spec.changed_by setting.entry self.old) }
         ensures err { OnErr result (self.new ≡ self.old) }

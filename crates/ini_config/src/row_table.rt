@@ -48,15 +48,15 @@ impl Rows {
         self.by_name.len()
     }
 
-    /// The row at a place, counted from 0.
-    pub fn at(&self, place: usize) -> Option<&DbRow>
-        ensures { option_copied result ≡ slice_get self.now place }
+    /// The row at an index, counted from 0.
+    pub fn at(&self, index: usize) -> Option<&DbRow>
+        ensures { option_copied result ≡ slice_get self.now index }
     {
-        let (_, row) = self.by_name.get_index(place)?;
+        let (_, row) = self.by_name.get_index(index)?;
         Some(row)
     }
 
-    /// Adds a row at the end. The only error is want of memory, which leaves the rows as they were.
+    /// Adds a row at the end. The only error is out of memory, which leaves the rows as they were.
     pub fn add(&mut self, alloc: Global, row: DbRow) -> Result<(), AllocError>
         requires { row_named row.name self.old ≡ None }
         ensures ok { OnOk result (self.new ≡ self.old ++ row ∷ []) }

@@ -1,3 +1,4 @@
+//! The forms of statements, each after its first word.
 ghost use Rattle.std.specs.Prelude.{[], codes, true, false};
 ghost use Rattle.mini_sql.specs.Words.{folded};
 ghost use Rattle.mini_sql.specs.Tokens.{star};

@@ -1,3 +1,4 @@
+//! The grammar's laws, as contracts of functions that do nothing.
 ghost use Rattle.mini_sql.specs.Laws.{DerivedIsStatement, DerivesOne, StatementIsDerived};
 
 /// A text's statement is derived from its tokens, less one last semicolon.

@@ -1,3 +1,4 @@
+//! Lists of columns and of values, which stand in their text.
 ghost use Rattle.std.specs.Prelude.{length, ◌≡◌, ◌<◌, [], Some, true, is_some};
 ghost use Rattle.mini_sql.specs.Statements.{at_most_64, columns_at, items, operand_of, phrase, read};
 ghost use Rattle.mini_sql.specs.Reading.{Follows};

@@ -1,3 +1,4 @@
+//! Literals, and the bytes that they stand for.
 ghost use Rattle.std.specs.Prelude.{◌≡◌, ◌∷◌, [], length, MatchOption};
 ghost use Rattle.std.specs.Iterator.{YieldsFirst, item_count};
 ghost use Rattle.mini_sql.specs.Tokens.{unquoted};

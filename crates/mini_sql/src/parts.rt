@@ -1,3 +1,4 @@
+//! Parts of statements: words, signs, names, values and items of lists.
 ghost use Rattle.std.specs.Prelude.{◌≡◌, ◌<◌, ◌||◌, length, option_map, MatchResult, IfOk, IfSome, Some, None, true, false, codes};
 ghost use Rattle.mini_sql.specs.Words.{folded, same_word};
 ghost use Rattle.mini_sql.specs.Tokens.{Sign, after_token, comma, equal};

@@ -1,3 +1,4 @@
+//! The statement that a text spells.
 ghost use Rattle.std.specs.Prelude.{◌≡◌, MatchResult, None, Some};
 ghost use Rattle.mini_sql.specs.Lexing.{token_of};
 ghost use Rattle.mini_sql.specs.Statements.{of_other, of_word, phrase, read, statement};

@@ -1,3 +1,4 @@
+//! Statements, by slices of their text.
 ghost use Rattle.std.specs.Prelude.{◌≡◌, max};
 ghost use Rattle.mini_sql.specs.Statements.{greatest, operand_parameter, parameters_of};
 ghost use Rattle.mini_sql.specs.Meanings.{meaning, operand_value, operands_left};

@@ -1,3 +1,4 @@
+//! Tokens, read from the front of a text.
 ghost use Rattle.std.specs.Prelude.{◌≡◌, ℕ, ◌+◌, ◌<◌, ◌≤◌, length, MatchOption, MatchResult, IfOk, IfSome, Some, None, true, false, slice_index, take_while, MatchBool, ◌≢◌, []};
 ghost use Rattle.mini_sql.specs.Words.{is_digit, is_in_name, is_white, starts_name};
 ghost use Rattle.mini_sql.specs.Tokens.{after_token, is_sign_byte, literal_length, semicolon, tokens};

@@ -1,3 +1,4 @@
+//! Lists that grow at their end, in chunks that their copies share.
 ghost use Rattle.std.specs.Prelude.{◌≡◌, ℕ, List, [], ◌∷◌, ◌++◌, map, IfOk};
 ghost use Rattle.std.specs.Arc.{arc_value};
 
@@ -68,10 +69,10 @@ impl<T: Drop> Log<T> {
         ensures { IfOk result (λ v. map arc_value v.items ≡ self.now) }
     {
         let mut items = Vec::new(alloc);
-        let mut place = 0;
-        while place < self.full.len() {
-            push_items(self.full.at(place).as_slice(), &mut items)?;
-            place += 1;
+        let mut index = 0;
+        while index < self.full.len() {
+            push_items(self.full.at(index).as_slice(), &mut items)?;
+            index += 1;
         }
         push_items(self.tail.as_slice(), &mut items)?;
         Ok(items)

@@ -1,3 +1,4 @@
+//! Lists whose copies share their items.
 ghost use Rattle.std.specs.Prelude.{◌≡◌, ℕ, ◌<◌, ◌≤◌, List, [], ◌∷◌, ◌++◌, map, length, take, slice_get, slice_set, IfOk, OnOk, Some};
 ghost use Rattle.std.specs.Arc.{arc_value};
 
@@ -30,11 +31,11 @@ fn copied_list<T: Drop>(alloc: Global, list: &[Arc<T>]) -> Result<Vec<Arc<T>>, A
     Ok(next)
 }
 
-fn put_at<T: Drop>(list: &mut Vec<Arc<T>>, place: usize, item: Arc<T>)
-    requires { place < length list.old.items }
-    ensures { map arc_value list.new.items ≡ slice_set (map arc_value list.old.items) place (arc_value item) }
+fn put_at<T: Drop>(list: &mut Vec<Arc<T>>, index: usize, item: Arc<T>)
+    requires { index < length list.old.items }
+    ensures { map arc_value list.new.items ≡ slice_set (map arc_value list.old.items) index (arc_value item) }
 {
-    list[place] = item;
+    list[index] = item;
 }
 
 impl<T: Drop> Shared<T> {
@@ -77,12 +78,12 @@ impl<T: Drop> Shared<T> {
         self.list.as_slice()
     }
 
-    /// The item at a place.
-    pub fn at(&self, place: usize) -> &T
-        requires { place < length self.now }
-        ensures { slice_get self.now place ≡ Some result.now }
+    /// The item at an index.
+    pub fn at(&self, index: usize) -> &T
+        requires { index < length self.now }
+        ensures { slice_get self.now index ≡ Some result.now }
     {
-        &self.list[place]
+        &self.list[index]
     }
 
     /// The first `count` items.
@@ -103,13 +104,13 @@ impl<T: Drop> Shared<T> {
         Shared::from_shared(alloc, list)
     }
 
-    /// This list with `item` at `place`.
-    pub fn set(&self, alloc: Global, place: usize, item: T) -> Result<Shared<T>, AllocError>
-        requires { place < length self.now }
-        ensures { IfOk result (λ s. s ≡ slice_set self.now place item) }
+    /// This list with `item` at `index`.
+    pub fn set(&self, alloc: Global, index: usize, item: T) -> Result<Shared<T>, AllocError>
+        requires { index < length self.now }
+        ensures { IfOk result (λ s. s ≡ slice_set self.now index item) }
     {
         let mut list = copied_list(alloc, &self.list)?;
-        put_at(&mut list, place, Arc::new(alloc, item)?);
+        put_at(&mut list, index, Arc::new(alloc, item)?);
         Shared::from_shared(alloc, list)
     }
 }

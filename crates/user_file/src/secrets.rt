@@ -80,7 +80,7 @@ fn md5_digits(text: &[u8]) -> Option<[u8; 32]>
 
 impl Secret {
     /// The secret of a text: `md5` and 32 lower-case hex digits are an MD5 secret, every other text is a plain one. The only error
-    /// is want of memory.
+    /// is out of memory.
     pub fn read(alloc: Global, text: &[u8]) -> Result<Secret, AllocError>
         ensures { IfOk result (λ s. s ≡ spec.secret_of text.now) }
     {

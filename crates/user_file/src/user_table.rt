@@ -83,7 +83,7 @@ impl Users {
         self.by_name.len()
     }
 
-    /// Adds a user at the end. The only error is want of memory.
+    /// Adds a user at the end. The only error is out of memory.
     pub(crate) fn add(&mut self, alloc: Global, row: UserRow) -> Result<(), AllocError>
         requires { user_named row.name self.old ≡ None }
         ensures { OnOk result (self.new ≡ self.old ++ row ∷ []) }
