@@ -290,7 +290,8 @@ class Crate:
     def try_packs(self, edits, is_apart, reasons):
         """Tries edits in packs, and tells of those that are refused by name for one of these reasons. What is left isn't told."""
         packs = packs_of(edits, self.owns, is_apart)
-        print(f"{self.name}: {len(edits)} edits in {len(packs)} packs ({time.strftime('%T')})", flush=True)
+        if packs:
+            print(f"{self.name}: {len(edits)} edits in {len(packs)} packs ({time.strftime('%T')})", flush=True)
         return [edit for pack in packs for edit in self.try_pack(pack, reasons)]
 
     def try_pack(self, pack, reasons):
