@@ -2,9 +2,10 @@
 """Plays the logins of a folder through `trials login`, cut into pieces of several sizes.
 
 Usage: logins.py PROGRAM FOLDER        every line of FOLDER/expected.txt
-       logins.py answer FOLDER NAME    the two lines that the first login of this name is to get
+       logins.py answer FOLDER NAME    the lines that the first login of this name is to get
 
-A line has a name, its settings, what the client is given ("-": nothing) and how the login ends, parted by tabs.
+A line has a name, its settings, what the client is given ("-": nothing) with the word `arrives` where it arrives, the start key
+with which it arrives ("-": it doesn't), and how the login ends, parted by tabs.
 """
 import pathlib
 import re
@@ -46,10 +47,13 @@ class Login:
     """A line of expected.txt."""
 
     def __init__(self, folder, line):
-        self.name, self.settings, given, self.ending = line.split("\t")
+        self.name, self.settings, given, key, self.ending = line.split("\t")
         self.files = [str(folder / f"{self.settings}.ini"), str(folder / "users.txt")]
         self.data = (folder / f"{self.name}.in").read_bytes()
-        self.given = b"".join(GIVEN[word] for word in given.split()).hex()
+        parts = [b"".join(GIVEN[word] for word in part.split()).hex() for part in given.split("arrives")]
+        if (len(parts) == 2) != (key != "-"):
+            sys.exit(f"{folder}/expected.txt, {self.name}: a client arrives with a key")
+        self.lines = [parts[0], f"arrived {key}", parts[1]] if key != "-" else parts
 
     def is_ending(self, line):
         """Whether the line is the ending. How many bytes are left may depend on the cuts: `unused=A..B`."""
@@ -63,12 +67,12 @@ class Login:
         run = subprocess.run([program, "login", *self.files, str(cut)], input=self.data, capture_output=True, timeout=SECONDS)
         if run.returncode != 0 or run.stderr:
             return f"status {run.returncode}, {run.stderr!r}"
-        lines = run.stdout.decode("latin-1").split("\n")
-        if len(lines) != 3 or lines[2]:
-            return f"{len(lines)} lines"
-        if lines[0] != self.given:
-            return f"given {lines[0]} for {self.given}"
-        return "" if self.is_ending(lines[1]) else f"ended {lines[1]!r} for {self.ending!r}"
+        *lines, ending, after = run.stdout.decode("latin-1").split("\n")
+        if after:
+            return "no line at the end"
+        if lines != self.lines:
+            return f"given {lines} for {self.lines}"
+        return "" if self.is_ending(ending) else f"ended {ending!r} for {self.ending!r}"
 
 
 def logins_of(folder):
@@ -91,7 +95,7 @@ def play(program, logins):
 def main():
     if len(sys.argv) == 4 and sys.argv[1] == "answer":
         login = next(login for login in logins_of(pathlib.Path(sys.argv[2])) if login.name == sys.argv[3])
-        print(f"{login.given}\n{login.ending}")
+        print(*login.lines, login.ending, sep="\n")
         return
     if len(sys.argv) != 3:
         sys.exit(__doc__)

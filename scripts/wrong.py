@@ -30,7 +30,12 @@ import time
 from crates import ROOT, below, listed
 
 PARTS = ("src", "specs", "proofs")
-ITEM = re.compile(r"^([ \t]*)(?:pub(?:\([^)]*\))? )?(?:(?:const )?(fn) (\w+)|(impl|trait)\b|(?:const|static|struct|enum|mod|use|type|ghost|macro_rules!)\b)", re.M)
+# where an item begins: how far in, its name if it is a function, and whether functions stand in it
+ITEM = re.compile(
+    r"^([ \t]*)(?:pub(?:\([^)]*\))?[ ])?"
+    r"(?:(?:const[ ])?(fn)[ ](\w+)|(impl|trait)\b|(?:const|static|struct|enum|mod|use|type|ghost|macro_rules!)\b)",
+    re.M,
+)
 
 Function = collections.namedtuple("Function", "file name first last full")
 Edit = collections.namedtuple("Edit", "crate name pairs fault")
@@ -225,10 +230,10 @@ def is_at(note, places):
 
 
 def lines_of(function, crate, texts):
-    """Where a function stands in edited texts."""
+    """The first and the last line of a function in edited texts."""
     text = texts[function.file]
     now = [it for it in functions_of(crate, function.file, text) if it.full.pattern == function.full.pattern]
-    return [(it.file, text.count("\n", 0, it.first) + 1, text.count("\n", 0, it.last) + 1) for it in now]
+    return [(it.file, text.count("\n", 0, it.first) + 1, text.count("\n", 0, it.last)) for it in now]
 
 
 # ---- the work
@@ -285,7 +290,8 @@ class Crate:
     def try_packs(self, edits, is_apart, reasons):
         """Tries edits in packs, and tells of those that are refused by name for one of these reasons. What is left isn't told."""
         packs = packs_of(edits, self.owns, is_apart)
-        print(f"{self.name}: {len(edits)} edits in {len(packs)} packs ({time.strftime('%T')})", flush=True)
+        if packs:
+            print(f"{self.name}: {len(edits)} edits in {len(packs)} packs ({time.strftime('%T')})", flush=True)
         return [edit for pack in packs for edit in self.try_pack(pack, reasons)]
 
     def try_pack(self, pack, reasons):

@@ -10,6 +10,7 @@ import sys
 
 SALT = bytes([1, 2, 3, 4])
 LONGEST = 10_000
+NOT_ARRIVED = "-"
 
 
 def request(code):
@@ -56,86 +57,104 @@ SECRET = password("secret")
 BC_STORED = "md5" + digest(b"abc")
 
 
+def key(user="ann", row="shop", parameters=""):
+    return f"row={row} user={user} parameters={parameters}"
+
+
 def passed(user="ann", parameters="", unused=0):
-    return f"passed row=shop user={user} parameters={parameters} unused={unused}"
+    return f"passed {key(user, parameters=parameters)} unused={unused}"
 
 
 def ended(how, unused=0):
     return f"{how} unused={unused}"
 
 
-# name, settings, what the client sends, what it is given, how the login ends
+# A client arrives once its StartupMessage gives a start key: behind the answers to its requests for encryption, before it is
+# asked for a password, let in or refused for who it is.
+# name, settings, what the client sends, what it is given and where it arrives, with which key, how the login ends
 LOGINS = [
-    ("nothing", "trust", b"", "-", ended("unfinished")),
-    ("start", "trust", ANN, "ok", passed()),
-    ("start_cut_short", "trust", ANN[:-1], "-", ended("unfinished")),
-    ("query_after_start", "trust", ANN + QUERY, "ok", passed(unused=len(QUERY))),
-    ("last_of_equal_names", "trust", start("ann", "shop", ("application_name", "a"), ("Application_Name", "b")), "ok",
-     passed(parameters="application_name=b")),
-    ("database_of_the_users_name", "trust", start("ann"), "3D000", ended("failed 3D000")),
-    ("no_user", "trust", start(None, "shop"), "P3", ended("refused P3")),
-    ("start_without_its_last_zero", "trust", packet(ANN[8:-1]), "P3", ended("refused P3")),
-    ("start_with_a_byte_after_it", "trust", packet(ANN[8:] + b"a"), "P3", ended("refused P3")),
-    ("options", "trust", start("ann", "shop", ("options", "-c a=b")), "P4", ended("refused P4")),
-    ("replication", "trust", start("ann", "shop", ("replication", "true")), "P4", ended("refused P4")),
-    ("encryption", "trust", SSL + ANN, "N ok", passed()),
-    ("both_encryptions", "trust", GSS + SSL + ANN, "N N ok", passed()),
-    ("encryption_twice", "trust", SSL + SSL + ANN, "N P3", ended("refused P3", len(ANN))),
-    ("gss_encryption_twice", "trust", SSL + GSS + GSS, "N N P3", ended("refused P3")),
-    ("cancel", "trust", CANCEL, "-", ended("left")),
-    ("cancel_after_encryption", "trust", SSL + CANCEL, "N", ended("left")),
-    ("protocol_2", "trust", packet(b"", 131072), "P2", ended("refused P2")),
-    ("protocol_3_1", "trust", packet(b"", 196609), "P2", ended("refused P2")),
-    ("length_7", "trust", bytes([0, 0, 0, 7]), "P3", ended("refused P3")),
-    ("longest_start", "trust", padded(LONGEST), "ok", passed()),
-    ("start_too_long", "trust", padded(LONGEST + 1), "P3", ended("refused P3", f"{LONGEST + 1 - 8}..{LONGEST + 1 - 4}")),
-    ("unknown_user", "trust", ZED, "28P01", ended("failed 28P01")),
-    ("nowhere", "trust", start("ann", "nowhere"), "3D000", ended("failed 3D000")),
-    ("unknown_user_nowhere", "trust", start("zed", "nowhere"), "28P01", ended("failed 28P01")),
-    ("console", "trust", CONSOLE, "-", ended("console")),
-    ("console_of_no_admin", "trust", start("ann", "pgbouncer"), "28P01", ended("failed 28P01")),
+    ("nothing", "trust", b"", "-", NOT_ARRIVED, ended("unfinished")),
+    ("start", "trust", ANN, "arrives ok", key(), passed()),
+    ("start_cut_short", "trust", ANN[:-1], "-", NOT_ARRIVED, ended("unfinished")),
+    ("query_after_start", "trust", ANN + QUERY, "arrives ok", key(), passed(unused=len(QUERY))),
+    ("last_of_equal_names", "trust", start("ann", "shop", ("application_name", "a"), ("Application_Name", "b")), "arrives ok",
+     key("ann", "shop", "application_name=b"), passed(parameters="application_name=b")),
+    ("database_of_the_users_name", "trust", start("ann"), "arrives 3D000", key("ann", "ann"), ended("failed 3D000")),
+    ("no_user", "trust", start(None, "shop"), "P3", NOT_ARRIVED, ended("refused P3")),
+    ("start_without_its_last_zero", "trust", packet(ANN[8:-1]), "P3", NOT_ARRIVED, ended("refused P3")),
+    ("start_with_a_byte_after_it", "trust", packet(ANN[8:] + b"a"), "P3", NOT_ARRIVED, ended("refused P3")),
+    ("options", "trust", start("ann", "shop", ("options", "-c a=b")), "P4", NOT_ARRIVED, ended("refused P4")),
+    ("replication", "trust", start("ann", "shop", ("replication", "true")), "P4", NOT_ARRIVED, ended("refused P4")),
+    ("encryption", "trust", SSL + ANN, "N arrives ok", key(), passed()),
+    ("both_encryptions", "trust", GSS + SSL + ANN, "N N arrives ok", key(), passed()),
+    ("encryption_twice", "trust", SSL + SSL + ANN, "N P3", NOT_ARRIVED, ended("refused P3", len(ANN))),
+    ("gss_encryption_twice", "trust", SSL + GSS + GSS, "N N P3", NOT_ARRIVED, ended("refused P3")),
+    ("cancel", "trust", CANCEL, "-", NOT_ARRIVED, ended("left")),
+    ("cancel_after_encryption", "trust", SSL + CANCEL, "N", NOT_ARRIVED, ended("left")),
+    ("protocol_2", "trust", packet(b"", 131072), "P2", NOT_ARRIVED, ended("refused P2")),
+    ("protocol_3_1", "trust", packet(b"", 196609), "P2", NOT_ARRIVED, ended("refused P2")),
+    ("length_7", "trust", bytes([0, 0, 0, 7]), "P3", NOT_ARRIVED, ended("refused P3")),
+    ("longest_start", "trust", padded(LONGEST), "arrives ok", key(), passed()),
+    ("start_too_long", "trust", padded(LONGEST + 1), "P3",
+     NOT_ARRIVED, ended("refused P3", f"{LONGEST + 1 - 8}..{LONGEST + 1 - 4}")),
+    ("unknown_user", "trust", ZED, "arrives 28P01", key("zed"), ended("failed 28P01")),
+    ("nowhere", "trust", start("ann", "nowhere"), "arrives 3D000", key("ann", "nowhere"), ended("failed 3D000")),
+    ("unknown_user_nowhere", "trust", start("zed", "nowhere"), "arrives 28P01", key("zed", "nowhere"), ended("failed 28P01")),
+    ("console", "trust", CONSOLE, "arrives", key("root", "pgbouncer"), ended("console")),
+    ("console_of_no_admin", "trust", start("ann", "pgbouncer"), "arrives 28P01", key("ann", "pgbouncer"), ended("failed 28P01")),
 
-    ("plain", "plain", ANN + SECRET, "cleartext ok", passed()),
-    ("plain_and_query", "plain", ANN + SECRET + QUERY, "cleartext ok", passed(unused=len(QUERY))),
-    ("plain_behind_encryption", "plain", SSL + ANN + SECRET, "N cleartext ok", passed()),
-    ("plain_for_a_digest", "plain", BC + password("a"), "cleartext ok", passed("bc")),
-    ("plain_digest_itself", "plain", BC + password(BC_STORED), "cleartext 28P01", ended("failed 28P01")),
-    ("plain_wrong", "plain", ANN + password("Secret"), "cleartext 28P01", ended("failed 28P01")),
-    ("plain_empty", "plain", ANN + password(""), "cleartext 28P01", ended("failed 28P01")),
-    ("plain_of_another_user", "plain", ANN + password("r"), "cleartext 28P01", ended("failed 28P01")),
-    ("plain_unknown_user", "plain", ZED + SECRET, "cleartext 28P01", ended("failed 28P01")),
-    ("plain_not_yet", "plain", ANN, "cleartext", ended("unfinished")),
-    ("plain_cut_short", "plain", ANN + SECRET[:-1], "cleartext", ended("unfinished")),
-    ("plain_nowhere", "plain", start("ann", "nowhere") + SECRET, "cleartext 3D000", ended("failed 3D000")),
-    ("plain_wrong_nowhere", "plain", start("ann", "nowhere") + password("x"), "cleartext 28P01", ended("failed 28P01")),
-    ("plain_console", "plain", CONSOLE + password("r"), "cleartext", ended("console")),
-    ("plain_console_wrong", "plain", CONSOLE + SECRET, "cleartext 28P01", ended("failed 28P01")),
-    ("plain_console_of_no_admin", "plain", start("ann", "pgbouncer") + SECRET, "cleartext 28P01", ended("failed 28P01")),
-    ("plain_terminate", "plain", ANN + TERMINATE, "cleartext", ended("left")),
-    ("plain_query_instead", "plain", ANN + QUERY, "cleartext P3", ended("refused P3")),
-    ("plain_unknown_kind", "plain", ANN + message(b"?", b""), "cleartext P3", ended("refused P3")),
-    ("plain_byte_after_zero", "plain", ANN + message(b"p", b"secret\0a"), "cleartext P3", ended("refused P3")),
-    ("plain_zero_after_zero", "plain", ANN + message(b"p", b"secret\0\0"), "cleartext P3", ended("refused P3")),
-    ("plain_without_zero", "plain", ANN + message(b"p", b"secret"), "cleartext P3", ended("refused P3")),
-    ("plain_length_3", "plain", ANN + b"p\0\0\0\x03", "cleartext P3", ended("refused P3")),
-    ("plain_longest", "plain", ANN + password("s" * (LONGEST - 5)), "cleartext 28P01", ended("failed 28P01")),
-    ("plain_too_long", "plain", ANN + password("s" * (LONGEST - 4)), "cleartext P3", ended("refused P3", LONGEST - 3)),
+    ("plain", "plain", ANN + SECRET, "arrives cleartext ok", key(), passed()),
+    ("plain_and_query", "plain", ANN + SECRET + QUERY, "arrives cleartext ok", key(), passed(unused=len(QUERY))),
+    ("plain_behind_encryption", "plain", SSL + ANN + SECRET, "N arrives cleartext ok", key(), passed()),
+    ("plain_for_a_digest", "plain", BC + password("a"), "arrives cleartext ok", key("bc"), passed("bc")),
+    ("plain_digest_itself", "plain", BC + password(BC_STORED), "arrives cleartext 28P01", key("bc"), ended("failed 28P01")),
+    ("plain_wrong", "plain", ANN + password("Secret"), "arrives cleartext 28P01", key(), ended("failed 28P01")),
+    ("plain_empty", "plain", ANN + password(""), "arrives cleartext 28P01", key(), ended("failed 28P01")),
+    ("plain_of_another_user", "plain", ANN + password("r"), "arrives cleartext 28P01", key(), ended("failed 28P01")),
+    ("plain_unknown_user", "plain", ZED + SECRET, "arrives cleartext 28P01", key("zed"), ended("failed 28P01")),
+    ("plain_not_yet", "plain", ANN, "arrives cleartext", key(), ended("unfinished")),
+    ("plain_cut_short", "plain", ANN + SECRET[:-1], "arrives cleartext", key(), ended("unfinished")),
+    ("plain_nowhere", "plain", start("ann", "nowhere") + SECRET, "arrives cleartext 3D000",
+     key("ann", "nowhere"), ended("failed 3D000")),
+    ("plain_wrong_nowhere", "plain", start("ann", "nowhere") + password("x"), "arrives cleartext 28P01",
+     key("ann", "nowhere"), ended("failed 28P01")),
+    ("plain_console", "plain", CONSOLE + password("r"), "arrives cleartext", key("root", "pgbouncer"), ended("console")),
+    ("plain_console_wrong", "plain", CONSOLE + SECRET, "arrives cleartext 28P01",
+     key("root", "pgbouncer"), ended("failed 28P01")),
+    ("plain_console_of_no_admin", "plain", start("ann", "pgbouncer") + SECRET, "arrives cleartext 28P01",
+     key("ann", "pgbouncer"), ended("failed 28P01")),
+    ("plain_terminate", "plain", ANN + TERMINATE, "arrives cleartext", key(), ended("left")),
+    ("plain_query_instead", "plain", ANN + QUERY, "arrives cleartext P3", key(), ended("refused P3")),
+    ("plain_unknown_kind", "plain", ANN + message(b"?", b""), "arrives cleartext P3", key(), ended("refused P3")),
+    ("plain_byte_after_zero", "plain", ANN + message(b"p", b"secret\0a"), "arrives cleartext P3", key(), ended("refused P3")),
+    ("plain_zero_after_zero", "plain", ANN + message(b"p", b"secret\0\0"), "arrives cleartext P3", key(), ended("refused P3")),
+    ("plain_without_zero", "plain", ANN + message(b"p", b"secret"), "arrives cleartext P3", key(), ended("refused P3")),
+    ("plain_length_3", "plain", ANN + b"p\0\0\0\x03", "arrives cleartext P3", key(), ended("refused P3")),
+    ("plain_longest", "plain", ANN + password("s" * (LONGEST - 5)), "arrives cleartext 28P01", key(), ended("failed 28P01")),
+    ("plain_too_long", "plain", ANN + password("s" * (LONGEST - 4)), "arrives cleartext P3",
+     key(), ended("refused P3", LONGEST - 3)),
 
-    ("md5", "md5", ANN + password(md5_answer("secret", "ann")), "md5 ok", passed()),
-    ("md5_for_a_digest", "md5", BC + password(md5_answer("a", "bc")), "md5 ok", passed("bc")),
-    ("md5_behind_encryptions", "md5", SSL + GSS + ANN + password(md5_answer("secret", "ann")), "N N md5 ok", passed()),
-    ("md5_wrong", "md5", ANN + password(md5_answer("Secret", "ann")), "md5 28P01", ended("failed 28P01")),
-    ("md5_of_another_user", "md5", ANN + password(md5_answer("secret", "bc")), "md5 28P01", ended("failed 28P01")),
-    ("md5_of_another_salt", "md5", ANN + password(md5_answer("secret", "ann", SALT[::-1])), "md5 28P01", ended("failed 28P01")),
-    ("md5_in_upper_case", "md5", ANN + password("md5" + md5_answer("secret", "ann")[3:].upper()), "md5 28P01",
-     ended("failed 28P01")),
-    ("md5_last_digit_missing", "md5", ANN + password(md5_answer("secret", "ann")[:-1]), "md5 28P01", ended("failed 28P01")),
-    ("md5_password_itself", "md5", ANN + SECRET, "md5 28P01", ended("failed 28P01")),
-    ("md5_digest_itself", "md5", BC + password(BC_STORED), "md5 28P01", ended("failed 28P01")),
-    ("md5_unknown_user", "md5", ZED + password(md5_answer("secret", "zed")), "md5 28P01", ended("failed 28P01")),
-    ("md5_nowhere", "md5", start("ann", "nowhere") + password(md5_answer("secret", "ann")), "md5 3D000", ended("failed 3D000")),
-    ("md5_console", "md5", CONSOLE + password(md5_answer("r", "root")), "md5", ended("console")),
-    ("md5_terminate", "md5", ANN + TERMINATE, "md5", ended("left")),
+    ("md5", "md5", ANN + password(md5_answer("secret", "ann")), "arrives md5 ok", key(), passed()),
+    ("md5_for_a_digest", "md5", BC + password(md5_answer("a", "bc")), "arrives md5 ok", key("bc"), passed("bc")),
+    ("md5_behind_encryptions", "md5", SSL + GSS + ANN + password(md5_answer("secret", "ann")), "N N arrives md5 ok",
+     key(), passed()),
+    ("md5_wrong", "md5", ANN + password(md5_answer("Secret", "ann")), "arrives md5 28P01", key(), ended("failed 28P01")),
+    ("md5_of_another_user", "md5", ANN + password(md5_answer("secret", "bc")), "arrives md5 28P01", key(), ended("failed 28P01")),
+    ("md5_of_another_salt", "md5", ANN + password(md5_answer("secret", "ann", SALT[::-1])), "arrives md5 28P01",
+     key(), ended("failed 28P01")),
+    ("md5_in_upper_case", "md5", ANN + password("md5" + md5_answer("secret", "ann")[3:].upper()), "arrives md5 28P01",
+     key(), ended("failed 28P01")),
+    ("md5_last_digit_missing", "md5", ANN + password(md5_answer("secret", "ann")[:-1]), "arrives md5 28P01",
+     key(), ended("failed 28P01")),
+    ("md5_password_itself", "md5", ANN + SECRET, "arrives md5 28P01", key(), ended("failed 28P01")),
+    ("md5_digest_itself", "md5", BC + password(BC_STORED), "arrives md5 28P01", key("bc"), ended("failed 28P01")),
+    ("md5_unknown_user", "md5", ZED + password(md5_answer("secret", "zed")), "arrives md5 28P01",
+     key("zed"), ended("failed 28P01")),
+    ("md5_nowhere", "md5", start("ann", "nowhere") + password(md5_answer("secret", "ann")), "arrives md5 3D000",
+     key("ann", "nowhere"), ended("failed 3D000")),
+    ("md5_console", "md5", CONSOLE + password(md5_answer("r", "root")), "arrives md5",
+     key("root", "pgbouncer"), ended("console")),
+    ("md5_terminate", "md5", ANN + TERMINATE, "arrives md5", key(), ended("left")),
 ]
 
 
@@ -143,9 +162,9 @@ def main():
     if len(sys.argv) != 2:
         sys.exit(__doc__)
     folder = pathlib.Path(sys.argv[1])
-    for name, _, data, _, _ in LOGINS:
+    for name, _, data, _, _, _ in LOGINS:
         (folder / f"{name}.in").write_bytes(data)
-    lines = ("\t".join((name, settings, given, end)) + "\n" for name, settings, _, given, end in LOGINS)
+    lines = ("\t".join((name, settings, given, with_key, end)) + "\n" for name, settings, _, given, with_key, end in LOGINS)
     (folder / "expected.txt").write_text("".join(lines))
 
 

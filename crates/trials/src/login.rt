@@ -36,6 +36,13 @@ enum Next {
     Nothing(Ending),
 }
 
+/// What is told of a login that goes on: its lines, and what the client was given since the last of them.
+#[derive(Drop)]
+struct Told {
+    lines: Vec<u8>,
+    given: Vec<u8>,
+}
+
 /// A login that has ended: the client's bytes that it hasn't taken, and how it ended.
 #[derive(Drop)]
 struct Ended<'a> {
@@ -43,66 +50,9 @@ struct Ended<'a> {
     ending: Ending,
 }
 
-/// Appends what the client is given at a step. The error is want of memory.
-fn hear(step: LoginStep, given: &mut Vec<u8>) -> Result<Next, AllocError> {
-    match step {
-        LoginStep::More => Ok(Next::Piece),
-        LoginStep::Ask(question) => {
-            given.extend_from_slice(question.as_bytes())?;
-            Ok(Next::Piece)
-        }
-        LoginStep::Arrived(_) => Ok(Next::NoBytes),
-        LoginStep::Passed(key) => {
-            given.extend_from_slice(OK)?;
-            Ok(Next::Nothing(Ending::Passed(key)))
-        }
-        LoginStep::Console => Ok(Next::Nothing(Ending::Console)),
-        LoginStep::Refused(Refusal::OutOfMemory) => Err(AllocError),
-        LoginStep::Refused(refusal) => {
-            given.extend_from_slice(refusal_bytes(refusal))?;
-            Ok(Next::Nothing(Ending::Refused(refusal)))
-        }
-        LoginStep::Failed(failure) => {
-            given.extend_from_slice(failure.as_bytes())?;
-            Ok(Next::Nothing(Ending::Failed(failure)))
-        }
-        LoginStep::Left => Ok(Next::Nothing(Ending::Left)),
-    }
-}
-
-/// Feeds a login with pieces of at most so many bytes, and appends what the client is given.
-fn fed<'a>(
-    alloc: Global,
-    login: Login,
-    bytes: &'a [u8],
-    cut: usize,
-    given: &mut Vec<u8>,
-) -> Result<Ended<'a>, AllocError> {
-    let mut login = login;
-    let mut rest = bytes;
-    let mut next = Next::Piece;
-    for _ in 0..u64::MAX {
-        let most = match next {
-            Next::Piece => cut,
-            Next::NoBytes => 0,
-            Next::Nothing(ending) => return Ok(Ended { rest, ending }),
-        };
-        let (used, step) = login.on_bytes(alloc, &rest[..most.min(rest.len())]);
-        rest = &rest[used..];
-        next = hear(step, given)?;
-        if matches!(&next, Next::Piece) && rest.is_empty() {
-            break;
-        }
-    }
-    Ok(Ended {
-        rest,
-        ending: Ending::Unfinished,
-    })
-}
-
 /// Appends the row and the user of a start key, and its parameters, parted by commas.
 fn put_key(key: &StartKey, out: &mut Vec<u8>) -> Result<(), AllocError> {
-    out.extend_from_slice(b"passed row=")?;
+    out.extend_from_slice(b" row=")?;
     out.extend_from_slice(key.row.as_slice())?;
     out.extend_from_slice(b" user=")?;
     out.extend_from_slice(key.user.as_slice())?;
@@ -116,6 +66,75 @@ fn put_key(key: &StartKey, out: &mut Vec<u8>) -> Result<(), AllocError> {
         separator = b",";
     }
     Ok(())
+}
+
+/// Tells that a client has arrived, behind what it was given before.
+fn put_arrived(alloc: Global, key: &StartKey, told: &mut Told) -> Result<(), AllocError> {
+    put_hex_line(alloc, told.given.as_slice(), &mut told.lines)?;
+    told.given.clear();
+    told.lines.extend_from_slice(b"arrived")?;
+    put_key(key, &mut told.lines)?;
+    told.lines.extend_from_slice(b"\n")
+}
+
+/// Appends what the client is given at a step, and that it has arrived. The error is want of memory.
+fn hear(alloc: Global, step: LoginStep, told: &mut Told) -> Result<Next, AllocError> {
+    match step {
+        LoginStep::More => Ok(Next::Piece),
+        LoginStep::Ask(question) => {
+            told.given.extend_from_slice(question.as_bytes())?;
+            Ok(Next::Piece)
+        }
+        LoginStep::Arrived(key) => {
+            put_arrived(alloc, &key, told)?;
+            Ok(Next::NoBytes)
+        }
+        LoginStep::Passed(key) => {
+            told.given.extend_from_slice(OK)?;
+            Ok(Next::Nothing(Ending::Passed(key)))
+        }
+        LoginStep::Console => Ok(Next::Nothing(Ending::Console)),
+        LoginStep::Refused(Refusal::OutOfMemory) => Err(AllocError),
+        LoginStep::Refused(refusal) => {
+            told.given.extend_from_slice(refusal_bytes(refusal))?;
+            Ok(Next::Nothing(Ending::Refused(refusal)))
+        }
+        LoginStep::Failed(failure) => {
+            told.given.extend_from_slice(failure.as_bytes())?;
+            Ok(Next::Nothing(Ending::Failed(failure)))
+        }
+        LoginStep::Left => Ok(Next::Nothing(Ending::Left)),
+    }
+}
+
+/// Feeds a login with pieces of at most so many bytes, and tells what the client is given and where it arrives.
+fn fed<'a>(
+    alloc: Global,
+    login: Login,
+    bytes: &'a [u8],
+    cut: usize,
+    told: &mut Told,
+) -> Result<Ended<'a>, AllocError> {
+    let mut login = login;
+    let mut rest = bytes;
+    let mut next = Next::Piece;
+    for _ in 0..u64::MAX {
+        let most = match next {
+            Next::Piece => cut,
+            Next::NoBytes => 0,
+            Next::Nothing(ending) => return Ok(Ended { rest, ending }),
+        };
+        let (used, step) = login.on_bytes(alloc, &rest[..most.min(rest.len())]);
+        rest = &rest[used..];
+        next = hear(alloc, step, told)?;
+        if matches!(&next, Next::Piece) && rest.is_empty() {
+            break;
+        }
+    }
+    Ok(Ended {
+        rest,
+        ending: Ending::Unfinished,
+    })
 }
 
 fn put_refusal(refusal: Refusal, out: &mut Vec<u8>) -> Result<(), AllocError> {
@@ -134,7 +153,10 @@ fn put_failure(failure: Failure, out: &mut Vec<u8>) -> Result<(), AllocError> {
 fn put_ended(ended: &Ended<'_>, out: &mut Vec<u8>) -> Result<(), AllocError> {
     match &ended.ending {
         Ending::Unfinished => out.extend_from_slice(b"unfinished")?,
-        Ending::Passed(key) => put_key(key, out)?,
+        Ending::Passed(key) => {
+            out.extend_from_slice(b"passed")?;
+            put_key(key, out)?;
+        }
         Ending::Console => out.extend_from_slice(b"console")?,
         Ending::Refused(refusal) => put_refusal(*refusal, out)?,
         Ending::Failed(failure) => put_failure(*failure, out)?,
@@ -145,7 +167,7 @@ fn put_ended(ended: &Ended<'_>, out: &mut Vec<u8>) -> Result<(), AllocError> {
     out.extend_from_slice(b"\n")
 }
 
-/// The two lines of a login.
+/// The lines of a login: what the client was given, with a line between where it arrived, and how the login ended.
 fn lines_of(
     alloc: Global,
     settings: Settings,
@@ -156,9 +178,12 @@ fn lines_of(
     let settings = Arc::new(alloc, settings)?;
     let users = Arc::new(alloc, users)?;
     let login = Login::new(alloc, settings, users, KEY_WORD)?;
-    let mut given = Vec::new(alloc);
-    let ended = fed(alloc, login, bytes, cut, &mut given)?;
-    let mut lines = Vec::new(alloc);
+    let mut told = Told {
+        lines: Vec::new(alloc),
+        given: Vec::new(alloc),
+    };
+    let ended = fed(alloc, login, bytes, cut, &mut told)?;
+    let Told { mut lines, given } = told;
     put_hex_line(alloc, given.as_slice(), &mut lines)?;
     put_ended(&ended, &mut lines)?;
     Ok(lines)
