@@ -1,7 +1,7 @@
 //! Catalogue files and their faults.
 use server_catalogue::{Catalogue, CatalogueCause, CatalogueFault};
-use session_values::text::Text;
 use session_values::naming::HasName;
+use session_values::text::Text;
 use std::alloc::Global;
 use std::process::Abort;
 use std::test::Fail;

@@ -5,7 +5,7 @@ ghost use Rattle.session_values.specs.Parameters.{default, defaults, is_fixed, p
 ghost use Rattle.session_values.specs.State.{reported_of};
 ghost use Rattle.session_values.specs.Runs.{reset_from};
 
-use crate::parameter::{PARAMETERS, PARAMETER_COUNT, Parameter};
+use crate::parameter::{PARAMETER_COUNT, PARAMETERS, Parameter};
 use crate::text::Text;
 use shared_list::Shared;
 use std::alloc::{AllocError, Global};
