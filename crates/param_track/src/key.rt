@@ -8,7 +8,7 @@ use crate::uses::{Use, has_use, use_of};
 use ini_config::Settings;
 use message_view::StartupView;
 use session_values::text::Text;
-use start_keys::pairs::{database_of, next_pair, put_parameter, user_of};
+use start_keys::pairs::{database_of, next_pair, put_pair, user_of};
 use start_keys::{StartKey, StartParameter};
 use std::alloc::{AllocError, Global};
 
@@ -24,8 +24,7 @@ fn parameters_of(
     let mut pairs = start.pairs();
     while let Some((name, value)) = next_pair(&mut pairs) {
         if use_of(settings, name) == Use::Followed {
-            let parameter = (Text::folded(alloc, name)?, Text::from_slice(alloc, value)?);
-            put_parameter(&mut parameters, parameter)?;
+            put_pair(alloc, &mut parameters, name, value)?;
         }
     }
     Ok(parameters)

@@ -9,7 +9,8 @@ ghost use Rattle.start_keys.specs.StartPairs as spec;
 
 use crate::key::StartParameter;
 use message_view::{Pairs, StartupView};
-use std::alloc::AllocError;
+use session_values::text::Text;
+use std::alloc::{AllocError, Global};
 use std::cmp::Ordering;
 
 /// The next pair of a StartupMessage: its name and its value.
@@ -85,7 +86,7 @@ fn is_at(parameters: &[StartParameter], place: usize, name: &[u8]) -> bool
 
 /// Puts a parameter at the place of its name, in the stead of one of the same name.
 #[tactic(auto, using(crate::proofs::Putting::put_set, crate::proofs::Putting::put_new))]
-pub fn put_parameter(
+fn put_parameter(
     parameters: &mut Vec<StartParameter>,
     parameter: StartParameter,
 ) -> Result<(), AllocError>
@@ -98,4 +99,17 @@ pub fn put_parameter(
     }
     parameters.insert(place, parameter)?;
     Ok(())
+}
+
+/// Puts a pair as a parameter: its name in lower case (ASCII), in the stead of a parameter of that name.
+pub fn put_pair(
+    alloc: Global,
+    parameters: &mut Vec<StartParameter>,
+    name: &[u8],
+    value: &[u8],
+) -> Result<(), AllocError>
+    ensures { OnOk result (parameters.new.items ≡ spec.put (spec.folded (name.now, value.now)) parameters.old.items) }
+{
+    let parameter = (Text::folded(alloc, name)?, Text::from_slice(alloc, value)?);
+    put_parameter(parameters, parameter)
 }

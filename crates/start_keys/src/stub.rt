@@ -5,7 +5,7 @@ ghost use Rattle.session_values.specs.Answers.{Finds};
 ghost use Rattle.start_keys.specs.StubKeys as spec;
 
 use crate::key::{StartKey, StartParameter};
-use crate::pairs::{database_of, is_identity, next_pair, put_parameter, user_of};
+use crate::pairs::{database_of, is_identity, next_pair, put_pair, user_of};
 use message_view::StartupView;
 use session_values::cause::Cause;
 use session_values::stop::Stop;
@@ -23,8 +23,7 @@ fn stub_parameters(
     let mut pairs = start.pairs();
     while let Some((name, value)) = next_pair(&mut pairs) {
         if !is_identity(name) {
-            let parameter = (Text::folded(alloc, name)?, Text::from_slice(alloc, value)?);
-            put_parameter(&mut parameters, parameter)?;
+            put_pair(alloc, &mut parameters, name, value)?;
         }
     }
     Ok(parameters)
