@@ -6,9 +6,9 @@ use Rattle.message_view.specs.declared.ViewFault.{ViewFault}
 use Rattle.message_view.specs.Bodies.{Text, text, Parse, HasNoZero, numbers32, status_body, parse_body}
 use Rattle.message_view.specs.Reading.{text_at, parse_at, status_at, query_of, parse_of, status_of}
 use Rattle.message_view.specs.Spelled.{FitsParse, FitsStatus}
-use Rattle.message_view.proofs.Alone.{alone_reader}
-use Rattle.message_view.proofs.ByteTrips.{text_alone}
-use Rattle.message_view.proofs.PartTrips.{status_reads, status_spelled, parse_reads, parse_spelled}
+use Rattle.message_laws.proofs.Alone.{alone_reader}
+use Rattle.message_laws.proofs.ByteTrips.{text_alone}
+use Rattle.message_laws.proofs.PartTrips.{status_reads, status_spelled, parse_reads, parse_spelled}
 
 pub read-discard_all : query_of (text (codes "DISCARD ALL")) ≡ Ok (codes "DISCARD ALL")
 unfolding query_of text_at

@@ -1,5 +1,0 @@
-use Rattle.message_view.proofs.ByteTrips.{ready_reader}
-use Rattle.message_view.proofs.laws.ready_is_read.Goals as goal
-
-pub returns : goal.returns
-returns c = ready_reader

@@ -1,7 +1,0 @@
-use Rattle.message_view.specs.Reading.{tag_of}
-use Rattle.message_view.proofs.ByteTrips.{text_again, text_alone}
-use Rattle.message_view.proofs.laws.tag_is_read.Goals as goal
-
-pub returns : goal.returns
-unfolding tag_of
-returns c = record { again = text_again; only = text_alone }

@@ -1,5 +1,0 @@
-use Rattle.message_view.proofs.ByteTrips.{target_reader}
-use Rattle.message_view.proofs.laws.target_is_read.Goals as goal
-
-pub returns : goal.returns
-returns c = target_reader
