@@ -133,6 +133,7 @@ impl SessionState {
         Ok(())
     }
 
+    /// Keeps what was done: nothing is kept for a roll back any more, and all portals go.
     pub fn commit(&mut self, alloc: Global) -> Result<(), AllocError>
         ensures { OnOk result (self.new ≡ commit self.old) }
     {
@@ -140,6 +141,7 @@ impl SessionState {
         self.drop_portals(alloc)
     }
 
+    /// Commits, unless the session stands in a transaction block.
     pub fn commit_outside(&mut self, alloc: Global) -> Result<(), AllocError>
         ensures { OnOk result (self.new ≡ commit_outside self.old self.old.block) }
     {
@@ -183,6 +185,7 @@ impl SessionState {
         Ok(())
     }
 
+    /// Gives back the values and temporary tables that are kept, if some are; all portals go.
     pub fn roll_back(&mut self, alloc: Global) -> Result<(), AllocError>
         ensures { OnOk result (self.new ≡ roll_back self.old) }
     {

@@ -37,6 +37,7 @@ fn put_no_transaction(out: &mut BytesMut) -> Result<(), AllocError>
     )
 }
 
+/// BEGIN, which is warned of inside a block.
 pub fn begin(session: &mut SessionState, out: &mut BytesMut) -> Result<(), AllocError>
     ensures { OnOk result (RunGives (Ok tt) session.old session.new out.old.items out.new.items (begin_run session.old session.old.block)) }
 {
@@ -48,6 +49,7 @@ pub fn begin(session: &mut SessionState, out: &mut BytesMut) -> Result<(), Alloc
     put_command_complete(out, b"BEGIN")
 }
 
+/// COMMIT, which ends a failed block with the tag ROLLBACK, and is warned of outside a block.
 pub fn commit_block(
     alloc: Global,
     session: &mut SessionState,
@@ -73,6 +75,7 @@ pub fn commit_block(
     }
 }
 
+/// ROLLBACK, which is warned of outside a block.
 pub fn roll_back_block(
     alloc: Global,
     session: &mut SessionState,

@@ -31,6 +31,7 @@ fn set_text(
     Ok(())
 }
 
+/// SET of a parameter.
 pub fn set(
     alloc: Global,
     session: &mut SessionState,
@@ -44,6 +45,7 @@ pub fn set(
     set_text(alloc, session, name, &text, b"SET", out)
 }
 
+/// RESET of a parameter to its value at the session's start.
 pub fn reset(
     alloc: Global,
     session: &mut SessionState,
@@ -55,6 +57,7 @@ pub fn reset(
     set_text(alloc, session, name, &None, b"RESET", out)
 }
 
+/// RESET ALL.
 pub fn reset_all(
     alloc: Global,
     session: &mut SessionState,
