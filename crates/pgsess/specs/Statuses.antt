@@ -12,4 +12,4 @@ status_after (Err fault) = status fault
 -- where the words of the command line can't be had: one isn't UTF-8, or memory was refused
 abbrev pub status_without_words : ErrorKind → ℕ
 status_without_words InvalidData = 2
-status_without_words other = 1
+status_without_words _ = 1
