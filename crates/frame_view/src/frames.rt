@@ -10,10 +10,10 @@ use crate::{Frame, FrameFault, Head, HeadStep, Side, Step, client};
 /// The greatest length of a frame: that of a signed number of four bytes.
 pub const LONGEST_FRAME: u32 = 2_147_483_647;
 
-/// The bytes of a type and a length.
-pub(crate) const HEAD: usize = 5;
-/// A length counts its own four bytes.
-pub(crate) const LEAST_LENGTH: u32 = 4;
+/// The bytes of a frame's head: its type and its length.
+pub const HEAD: usize = 5;
+/// The least length of a frame, which counts its own four bytes.
+pub const LEAST_LENGTH: u32 = 4;
 
 fn is_client_kind(kind: u8) -> bool
     ensures { result ≡ is_client_type kind }
