@@ -220,16 +220,16 @@ no-piece : (side : Side) (limit : ℕ) (place : PlaceOf) (j : Joined) (expected 
 no-piece side limit (AtHead begun) j expected g h =
     let few : length g.since < 5 = omega (arith, ap length g.stands.0, g.stands.1) in
     sym (
-      g.expects [] ∙ ap (λ (x : List ℕ). ahead j.frames (shown_of side limit x)) (append-nil g.since)
-      ∙ ap (ahead j.frames) (short side limit g.since few ∙ ap (λ (x : After). record { frames = []; after = x }) (sym g.stands.2))
-      ∙ ahead-none j
+    g.expects [] ∙ ap (λ (x : List ℕ). ahead j.frames (shown_of side limit x)) (append-nil g.since)
+    ∙ ap (ahead j.frames) (short side limit g.since few ∙ ap (λ (x : After). record { frames = []; after = x }) (sym g.stands.2))
+    ∙ ahead-none j
     )
 no-piece side limit (InBody zero) j expected g h = absurd (omega (arith, h))
 no-piece side limit (InBody (suc n)) j expected g h = sym (
-  g.expects [] ∙ ap (λ (x : List ℕ). ahead j.frames (shown_of side limit x)) (append-nil g.since)
-  ∙ ap (ahead j.frames) (inside side limit (suc n) g.since j.after (omega arith) g.stands)
-  ∙ ahead-none j
-)
+    g.expects [] ∙ ap (λ (x : List ℕ). ahead j.frames (shown_of side limit x)) (append-nil g.since)
+    ∙ ap (ahead j.frames) (inside side limit (suc n) g.since j.after (omega arith) g.stands)
+    ∙ ahead-none j
+    )
 no-piece side limit (AtFault begun fault) j expected b h = sym (b.stays [])
 
 all-pieces : (side : Side) (limit : ℕ) (pieces : List (List ℕ)) (place : PlaceOf) (j : Joined) (expected : List ℕ → Joined) → Expects side limit place j expected → calls place [] ≤ 0

@@ -72,8 +72,8 @@ module _ (side : Side) (limit rest : ℕ) (since piece : List ℕ) (after : Afte
   last-frames h more =
       let body : List ℕ = i.body ++ take rest piece in
       let past : drop (5 + length body) (since ++ (take rest piece ++ more)) ≡ more =
-          ap (λ (t : List ℕ). drop (5 + length body) t) (sym (append_assoc since (take rest piece) more))
-          ∙ drop_at (since ++ take rest piece) more (5 + length body) (omega (arith, length-append since (take rest piece), length-take-le rest piece h, heads-size side limit i.kind i.length_is i.body since i.head, longer rest h)) in
+      ap (λ (t : List ℕ). drop (5 + length body) t) (sym (append_assoc since (take rest piece) more))
+      ∙ drop_at (since ++ take rest piece) more (5 + length body) (omega (arith, length-append since (take rest piece), length-take-le rest piece h, heads-size side limit i.kind i.length_is i.body since i.head, longer rest h)) in
       frames-front side limit (since ++ (take rest piece ++ more)) i.kind body more (last-front h more) ∙ ap (λ (t : List ℕ). before (record { kind = i.kind; body = body }) (frames side limit t)) past
 
   last-after : rest ≤ length piece → after_part (Body (take rest piece) true) after ≡ Nothing

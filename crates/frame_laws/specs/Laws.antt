@@ -1,11 +1,11 @@
 -- Laws of streams that are handed out in parts. Each is the whole contract of a function of src/laws.rt.
-use Rattle.std.specs.Prelude.{◌≡◌, ℕ, ◌+◌, ◌-◌, ◌<◌, ◌≤◌, min, ◌==◌, true, List, [], ◌∷◌, ◌++◌, length, take}
+use Rattle.std.specs.Prelude.{◌≡◌, ℕ, ◌+◌, ◌-◌, ◌<◌, min, ◌==◌, true, List, [], ◌∷◌, ◌++◌, length, take}
 use Rattle.std.specs.List.{flat_map}
 use Rattle.frame_view.specs.declared.Side.{Side}
 use Rattle.frame_view.specs.declared.frames.TheConstants.{HEAD, LEAST_LENGTH}
 use Rattle.frame_view.specs.Frames.{AreBytes, AHead, head_front, FrameOf, spelling, IsFrame, frames}
 use Rattle.frame_view.specs.Laws.{following}
-use Rattle.frame_view.specs.Parts.{PartOf, Head, Body, PlaceOf, AtHead, InBody, AtFault, TurnOf, turn, CursorOf, rest_of}
+use Rattle.frame_view.specs.Parts.{PartOf, Head, Body, PlaceOf, AtHead, InBody, AtFault, TurnOf, turn, CursorOf, rest_of, at_border}
 use Rattle.frame_laws.specs.Joined.{After, Nothing, Begins, Breaks, after_part, frame_by, joined, shown, hand_over}
 
 -- Any cutting into pieces gives the same parts, joined: the frames of all the bytes, and then the
@@ -77,7 +77,12 @@ pub record GoesOn (rest : ℕ) (piece : List ℕ) (t : TurnOf) : Type 0 where
 abbrev pub BodiesGoOn : Type 0
 BodiesGoOn = (side : Side) (limit rest : ℕ) (piece : List ℕ) → 0 < length piece → GoesOn rest piece (turn side limit (InBody rest) piece)
 
--- Where the last part of a body is given, the bytes since the border before are one frame's spelling.
-abbrev pub LastPartsEndFrames : Type 0
-LastPartsEndFrames = (side : Side) (limit rest : ℕ) (since piece : List ℕ) (after : After) → AreBytes (since ++ take rest piece) → Inside side limit rest since after → rest ≤ length piece →
-    (f : FrameOf) × (since ++ take rest piece ≡ spelling f) × IsFrame side limit f × (frame_by (Body (take rest piece) true) after ≡ f ∷ [])
+-- The bytes since the last border are the beginning of one frame: with any bytes in the place of those
+-- that are to come they are its one spelling, and it is the frame that the last part ends.
+abbrev pub BeginningsAreOfOneFrame : Type 0
+BeginningsAreOfOneFrame = (side : Side) (limit rest : ℕ) (since more : List ℕ) (after : After) → Inside side limit rest since after → length more ≡ rest → AreBytes (since ++ more) →
+    (f : FrameOf) × (since ++ more ≡ spelling f) × IsFrame side limit f × (frame_by (Body more true) after ≡ f ∷ [])
+
+-- A cursor is at a border exactly where no byte was taken since the last one.
+abbrev pub BordersAreEmpty : Type 0
+BordersAreEmpty = (side : Side) (limit : ℕ) (place : PlaceOf) (since : List ℕ) (after : After) → Stands side limit place since after → at_border place ≡ (length since == 0)

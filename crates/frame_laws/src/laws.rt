@@ -1,6 +1,6 @@
 //! Laws over the definitions alone: what a cursor gives of pieces are the frames of their bytes, and what
 //! it tells of the bytes that it took.
-ghost use Rattle.frame_laws.specs.Laws.{BodiesGoOn, CallsStep, CallsTell, HeadsOpen, LastPartsEndFrames, NewTells, PiecesGiveFrames};
+ghost use Rattle.frame_laws.specs.Laws.{BeginningsAreOfOneFrame, BodiesGoOn, BordersAreEmpty, CallsStep, CallsTell, HeadsOpen, NewTells, PiecesGiveFrames};
 
 use frame_view::laws::front_is_spelled;
 
@@ -35,9 +35,14 @@ pub fn bodies_go_on()
     ensures { BodiesGoOn }
 {}
 
-/// Where the last part of a body is given, the bytes since the border before are one frame's spelling.
-pub fn last_parts_end_frames()
-    ensures { LastPartsEndFrames }
+/// The bytes since the last border are the beginning of one frame, whatever is to come of it.
+pub fn beginnings_are_of_one_frame()
+    ensures { BeginningsAreOfOneFrame }
 {
     front_is_spelled();
 }
+
+/// A cursor is at a border exactly where no byte was taken since the last one.
+pub fn borders_are_empty()
+    ensures { BordersAreEmpty }
+{}
