@@ -73,7 +73,8 @@ hand_in side limit (suc n) place piece =
     let rest : Given = hand_in side limit n t.place (drop t.used piece) in
     record { parts = t.part ∷ rest.parts; place = rest.place }
 
--- Each piece is handed in until it is used up: a call takes a byte, or is the second of two for one byte.
+-- Each piece is handed in until it is used up: unless a fault stands there, of any two calls before that
+-- at least one takes a byte.
 abbrev pub hand_over : Side → ℕ → PlaceOf → List (List ℕ) → List PartOf
 hand_over side limit place [] = []
 hand_over side limit place (piece ∷ pieces) =

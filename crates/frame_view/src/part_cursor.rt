@@ -48,7 +48,8 @@ struct Turn<'a> {
     place: Place,
 }
 
-/// A cursor over a stream of frames, whose bytes come in pieces of any size. It takes no memory.
+/// A cursor over a stream of frames, whose bytes come in pieces of any size (PostgreSQL manual, "Message
+/// Formats"). It takes no memory.
 ///
 /// Contracts see its limit, its side, and its place: which bytes of a head were taken, or how many of a
 /// body are to come.
