@@ -2,7 +2,7 @@
 ghost use Rattle.std.specs.Prelude.{◌≡◌, ℕ, ◌+◌, ◌-◌, ◌*◌, ◌^◌, ◌<◌, ◌≤◌, [], length, IfOk};
 ghost use Rattle.frame_view.specs.Answers.{LiesAt};
 ghost use Rattle.message_view.specs.Left.{codes_left, oids_left};
-ghost use Rattle.message_view.specs.Reading.{counted_at, int16_at, int32_at, list_at};
+ghost use Rattle.message_view.specs.Reading.{counted_at, int16_at, int32_at};
 ghost use Rattle.message_view.specs.Views.{Gives};
 
 use crate::parts::{bytes_after, take_u16, take_u32};

@@ -1,7 +1,6 @@
 //! Writers of rows and their descriptions.
-ghost use Rattle.std.specs.Prelude.{◌≡◌, ℕ, ◌+◌, ◌-◌, ◌^◌, ◌<◌, ◌≤◌, ◌++◌, ◌∷◌, [], length, map, min, option_map, OnOk, OnErr, IsOk};
+ghost use Rattle.std.specs.Prelude.{◌≡◌, ℕ, ◌+◌, ◌-◌, ◌^◌, ◌<◌, ◌≤◌, ◌++◌, ◌∷◌, [], length, map, min, option_map};
 ghost use Rattle.std.specs.List.{flat_map};
-ghost use Rattle.frame_view.specs.Frames.{spelling};
 ghost use Rattle.message_view.specs.Bodies.{value as spelled_value, column as spelled_column, columns_body, int32};
 ghost use Rattle.message_view.specs.Messages.{message, data_row, parameter_description, row_description};
 ghost use Rattle.message_view.specs.Parts.{Puts, names_of, formats_of, row_of, shown_value, text_column_of};
