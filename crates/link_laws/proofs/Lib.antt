@@ -1,0 +1,6 @@
+pub mod Both
+pub mod InSession
+pub mod Splits
+pub mod Leasing
+pub mod Starting
+pub mod ByName

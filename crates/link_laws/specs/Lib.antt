@@ -1,0 +1,6 @@
+pub mod Stages
+pub mod Standing
+pub mod Links
+pub mod Starts
+pub mod Futures
+pub mod Leases

@@ -1,0 +1,40 @@
+//! What a link is, by definitions alone: the server behind it from its StartupMessage on, the moves of bytes over its end, and
+//! what a lease of it keeps. The laws are contracts of functions that do nothing.
+#![tactic(auto)]
+
+ghost use Rattle.link_laws.specs.Leases.{LeasesAreExact, LeasesAreFronts, SettledLinksRest};
+ghost use Rattle.link_laws.specs.Standing.{MovesJoin};
+ghost use Rattle.link_laws.specs.Starts.{StartsAreOfTheirKeys};
+
+use message_laws::laws::startup_is_read;
+
+/// Two moves, one after the other, are one.
+pub fn moves_join()
+    ensures { MovesJoin }
+{}
+
+/// A server that is started by a link's StartupMessage opens the fresh session of the link's key, or refuses it as that key is
+/// refused.
+pub fn starts_are_of_their_keys()
+    ensures { StartsAreOfTheirKeys }
+{
+    startup_is_read();
+}
+
+/// Over a link that follows and lives, what the client was given, what is held and what is still to come are what a server of
+/// the client's own answers to the frames that went on.
+#[tactic(auto, using(crate::proofs::ByName::leases_are_exact))]
+pub fn leases_are_exact()
+    ensures { LeasesAreExact }
+{}
+
+/// Over a link that follows, dead or alive, what the client was given and what is held begin it.
+#[tactic(auto, using(crate::proofs::ByName::leases_are_fronts))]
+pub fn leases_are_fronts()
+    ensures { LeasesAreFronts }
+{}
+
+/// A settled lease leaves its link at rest.
+pub fn settled_links_rest()
+    ensures { SettledLinksRest }
+{}
