@@ -1,0 +1,4 @@
+pub mod Ends
+pub mod Clients
+pub mod Dialogues
+pub mod Servers
