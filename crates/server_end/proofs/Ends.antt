@@ -1,19 +1,11 @@
--- What is moved into and out of the ends in memory.
+-- What an end in memory hands out.
 use Rattle.std.proofs.Common.{◌≡◌, ℕ, ◌+◌, ◌-◌, ◌≤◌, true, false, List, [], ◌++◌, length, take, drop, refl, sym, ap, ◌∙◌, arith, take_all, length-drop, length-take-le, subst, take-add}
 use Rattle.std.proofs.lemmas.Bool.{true≢false}
 use Rattle.std.proofs.Math.Seq.{take-append_seam}
 use Rattle.link_laws.specs.Standing.{ClientFacts}
-use Rattle.server_end.specs.declared.Moved.{Moved}
-use Rattle.server_end.specs.declared.Moved.TheVariants.{Count, NotNow, Ended, Fault}
-use Rattle.server_end.specs.Ends.{moved, ClientReads}
+use Rattle.server_end.specs.declared.Moved.TheVariants.{Count}
+use Rattle.server_end.specs.Moves.{ClientReads}
 use Rattle.server_end.specs.Clients.{ClientOf}
-
--- without a count nothing was moved
-pub none_moved : (m : Moved) (bytes : List ℕ) → ((n : ℕ) → m ≡ Count n → ⊥) → moved m bytes ≡ []
-none_moved (Count n) bytes h = absurd (h n refl)
-none_moved NotNow bytes h = refl
-none_moved Ended bytes h = refl
-none_moved Fault bytes h = refl
 
 -- the slice from a place to the end is all that follows it
 pub all_of : (n : ℕ) (bytes : List ℕ) → take (length bytes - n) (drop n bytes) ≡ drop n bytes

@@ -1,3 +1,4 @@
+pub mod NoneMoved
 pub mod Ends
 pub mod Serving
 pub mod Moving

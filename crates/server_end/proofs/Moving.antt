@@ -8,7 +8,7 @@ use Rattle.server_end.specs.declared.Moved.{Moved}
 use Rattle.server_end.specs.declared.Moved.TheVariants.{Count, NotNow, Ended, Fault}
 use Rattle.server_end.specs.declared.dialogue.Dialogue.{Dialogue}
 use Rattle.server_end.specs.Dialogues.{Serves, standing_of, server_of}
-use Rattle.server_end.specs.Ends.{moved, CountsRead, CountsWrite}
+use Rattle.server_end.specs.Moves.{moved, CountsRead, CountsWrite}
 use Rattle.server_end.specs.Servers.{ServerOf, KeepsCounts, KeepsServer, Faults, ReadsServer}
 
 -- a move of a server that lived before it

@@ -1,27 +1,23 @@
-//! The two ends that bytes move between, as traits whose ghost member says where an end stands; and ends in memory.
+//! The two ends of a lease, as traits whose ghost member says where an end stands; and ends in memory.
 #![tactic(auto)]
 
 mod dialogue;
-mod gate;
-mod memory_client;
-mod memory_server;
+pub mod gate;
+pub mod memory_client;
+pub mod memory_server;
 
 ghost use Rattle.std.specs.Prelude.{◌≡◌, ◌<◌, [], length};
-ghost use Rattle.link_laws.specs.Standing.{ClientFacts, Moves, Standing};
-ghost use Rattle.server_end.specs.Ends.{ClientReads, ClientWrites, CountsRead, CountsWrite, IsWithin, moved};
-
-pub use gate::{Gate, OpenGate, Ready};
-pub use memory_client::MemoryClient;
-pub use memory_server::{MemoryServer, ServerAuth};
+ghost use Rattle.link_laws.specs.Standing.{Standing, Moves, ClientFacts};
+ghost use Rattle.server_end.specs.Moves.{ClientReads, ClientWrites, CountsRead, CountsWrite, IsWithin, moved};
 
 /// What a read or a write came to.
 #[derive(Clone, Copy, Debug, PartialEq, Eq, Drop)]
 pub enum Moved {
-    /// So many bytes, from one to the slice's length.
+    /// So many bytes, from 1 to the slice's length.
     Count(usize),
     /// None at this time.
     NotNow,
-    /// None, now and later: the end has ended.
+    /// None any more.
     Ended,
     /// None, by a fault.
     Fault,

@@ -1,6 +1,6 @@
 //! A client in memory.
 ghost use Rattle.std.specs.Prelude.{◌≡◌, ◌<◌, true, length, IfOk, OnOk, OnErr};
-ghost use Rattle.server_end.specs.Ends.{ClientReads, ClientWrites, IsWithin, moved};
+ghost use Rattle.server_end.specs.Moves.{ClientReads, ClientWrites, IsWithin, moved};
 ghost use Rattle.server_end.specs.Clients.{ReadsClient, WritesClient, fed, is_broken, new_client};
 
 use crate::{ClientEnd, Moved};

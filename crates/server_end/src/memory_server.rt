@@ -4,7 +4,7 @@ ghost use Rattle.std.specs.Arc.{arc_value};
 ghost use Rattle.link_laws.specs.Futures.{replies_in};
 ghost use Rattle.link_laws.specs.Standing.{Moves};
 ghost use Rattle.server_end.specs.Dialogues.{asks};
-ghost use Rattle.server_end.specs.Ends.{CountsRead, CountsWrite, IsWithin, moved};
+ghost use Rattle.server_end.specs.Moves.{CountsRead, CountsWrite, IsWithin, moved};
 ghost use Rattle.server_end.specs.Servers as spec;
 ghost use Rattle.server_end.specs.Servers.{Faults, KeepsCounts, KeepsServer, ReadsServer, WritesServer, at_most, auth_of, new_server};
 ghost use Rattle.server_end.specs.declared.Moved.TheVariants.{Fault};

@@ -1,4 +1,4 @@
--- What a call of an end answers, and what it leaves.
+-- What a call of an end answers, and what it makes of where the end stands.
 use Rattle.std.specs.Prelude.{◌≡◌, ℕ, ◌+◌, ◌<◌, ◌≤◌, true, false, List, [], ◌++◌, take}
 use Rattle.link_laws.specs.Standing.{Standing, ClientFacts}
 use Rattle.server_end.specs.declared.Moved.{Moved}
@@ -11,12 +11,12 @@ moved NotNow bytes = []
 moved Ended bytes = []
 moved Fault bytes = []
 
--- a count is from 1 to this
+-- a count is from 1 to the slice's length
 abbrev pub IsWithin : Moved → ℕ → Type 0
-IsWithin (Count n) most = (0 < n) × (n ≤ most)
-IsWithin NotNow most = Unit {0}
-IsWithin Ended most = Unit {0}
-IsWithin Fault most = Unit {0}
+IsWithin (Count n) len = (0 < n) × (n ≤ len)
+IsWithin NotNow len = Unit {0}
+IsWithin Ended len = Unit {0}
+IsWithin Fault len = Unit {0}
 
 abbrev pub waits_in : Moved → ℕ
 waits_in (Count n) = 0
@@ -30,21 +30,24 @@ faults_in NotNow = 0
 faults_in Ended = 0
 faults_in Fault = 1
 
--- the counts that a read of a server's end changes; it answers Ended only where it doesn't live
+-- ---- a server's end
+
+-- the counts that a read, or a write, changes; after Ended it doesn't live
 pub record CountsRead (old new : Standing) (m : Moved) : Type 0 where
   pub faults : new.faults ≡ old.faults + faults_in m
   pub read_waits : new.read_waits ≡ old.read_waits + waits_in m
   pub write_waits : new.write_waits ≡ old.write_waits
   pub ended : m ≡ Ended → new.lives ≡ false
 
--- the same of a write
 pub record CountsWrite (old new : Standing) (m : Moved) : Type 0 where
   pub faults : new.faults ≡ old.faults + faults_in m
   pub read_waits : new.read_waits ≡ old.read_waits
   pub write_waits : new.write_waits ≡ old.write_waits + waits_in m
   pub ended : m ≡ Ended → new.lives ≡ false
 
--- What a read of a client's end changes: the bytes taken from it, the counts, and that it has ended.
+-- ---- a client's end
+
+-- what a read makes of it: `got` was taken from it, where it tells
 pub record ClientReads (old new : ClientFacts) (got : List ℕ) (m : Moved) : Type 0 where
   pub tells : new.tells ≡ old.tells
   pub taken : old.tells ≡ true → new.taken ≡ old.taken ++ got
@@ -55,7 +58,7 @@ pub record ClientReads (old new : ClientFacts) (got : List ℕ) (m : Moved) : Ty
   pub ended : m ≡ Ended → new.ended ≡ true
   pub stays_ended : old.ended ≡ true → new.ended ≡ true
 
--- the same of a write: the bytes given to it
+-- what a write makes of it: `put` was given to it, where it tells
 pub record ClientWrites (old new : ClientFacts) (put : List ℕ) (m : Moved) : Type 0 where
   pub tells : new.tells ≡ old.tells
   pub taken : old.tells ≡ true → new.taken ≡ old.taken
