@@ -2,3 +2,4 @@ pub mod NoneMoved
 pub mod Ends
 pub mod Serving
 pub mod Moving
+pub mod Failing

@@ -1,5 +1,5 @@
 -- The moves of a stand-in server in memory.
-use Rattle.std.proofs.Common.{◌≡◌, ℕ, ◌+◌, Bool, true, false, List, [], ◌++◌, take, drop, refl, sym, ap, ◌∙◌, append-nil, arith, subst, take-append-drop}
+use Rattle.std.proofs.Common.{◌≡◌, ℕ, ◌+◌, ◌≤◌, Bool, true, false, Option, Some, None, List, [], ◌++◌, take, drop, refl, sym, ap, ◌∙◌, append-nil, arith, subst, take-append-drop}
 use Rattle.std.proofs.lemmas.Bool.{true≢false}
 use Rattle.link_laws.specs.Standing.{Standing, Served, Passed, Moves}
 use Rattle.link_laws.specs.Futures.{future, replies_in}
@@ -9,7 +9,7 @@ use Rattle.server_end.specs.declared.Moved.TheVariants.{Count, NotNow, Ended, Fa
 use Rattle.server_end.specs.declared.dialogue.Dialogue.{Dialogue}
 use Rattle.server_end.specs.Dialogues.{Serves, standing_of, server_of}
 use Rattle.server_end.specs.Moves.{moved, CountsRead, CountsWrite}
-use Rattle.server_end.specs.Servers.{ServerOf, KeepsCounts, KeepsServer, Faults, ReadsServer}
+use Rattle.server_end.specs.Servers.{ServerOf, KeepsCounts, KeepsServer, Faults, ReadsServer, at_most}
 
 -- a move of a server that lived before it
 moves_alive : (a b : Standing) (put got : List ℕ) → a.lives ≡ true → b.follows ≡ a.follows → b.server ≡ a.server → b.accepted ≡ a.accepted ++ put → Served a put b got → Moves a put b got
@@ -65,7 +65,7 @@ moves_served d e l m acc f w old view lives h x =
     }))
 
 -- a server dies
-moves_die : (a b : Standing) → KeepsServer a b → b.lives ≡ false → Moves a [] b []
+pub moves_die : (a b : Standing) → KeepsServer a b → b.lives ≡ false → Moves a [] b []
 moves_die a b k d = record {
   follows = k.follows;
   server = k.server;
@@ -103,6 +103,10 @@ writes_fault a b c m e k f = subst (λ (x : Moved). CountsWrite a.standing c.sta
 })
 
 -- ---- a read after the packets were taken
+
+pub at_most_within : (left : Option ℕ) (n : ℕ) → at_most left n ≤ n
+at_most_within (Some m) n = omega arith
+at_most_within None n = omega arith
 
 pub reads_both : (a b c : Standing) (got : List ℕ) → Moves a [] b [] → Moves b [] c got → Moves a [] c got
 reads_both a b c got x y = moves_both a b c [] [] [] got x y

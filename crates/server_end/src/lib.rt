@@ -2,6 +2,7 @@
 #![tactic(auto)]
 
 mod dialogue;
+pub mod failing_end;
 pub mod gate;
 pub mod memory_client;
 pub mod memory_server;

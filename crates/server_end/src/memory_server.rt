@@ -80,7 +80,7 @@ fn less(left: Option<u64>, count: usize) -> Option<u64>
 
 /// The question, and a copy of the right answer.
 fn asked(alloc: Global, auth: ServerAuth<'_>) -> Result<(Question, Text), AllocError>
-    ensures { IfOk result (λ q. asks q.0 q.1 ≡ auth_of auth) }
+    ensures { IfOk result (λ q. asks q.0 q.1 ≡ auth_of auth.entry) }
 {
     match auth {
         ServerAuth::Trust => Ok((Question::Nothing, Text::from_vec(Vec::new(alloc)))),
@@ -106,7 +106,7 @@ impl MemoryServer {
         dies_after: Option<u64>,
     ) -> Result<MemoryServer, AllocError>
         requires { 0 < cut }
-        ensures { IfOk result (λ s. s ≡ new_server (record { catalogue = arc_value catalogue; pid = own.pid; secret = own.secret }) (auth_of auth) cut dies_after) }
+        ensures { IfOk result (λ s. s ≡ new_server (record { catalogue = arc_value catalogue; pid = own.pid; secret = own.secret }) (auth_of auth.entry) cut dies_after) }
     {
         let (question, answer) = asked(alloc, auth)?;
         Ok(MemoryServer {
