@@ -1,0 +1,16 @@
+use Rattle.std.proofs.Common.{◌≡◌, ◌≤◌, ◌-◌, length, drop}
+use Rattle.frame_view.specs.Frames.{frames}
+use Rattle.frame_view.specs.declared.Side.TheVariants.{Server}
+use Rattle.link_run.specs.Resets.{answered_by_all, reads}
+use Rattle.link_run.specs.declared.reply.TheConstants.{LONGEST_REPLY}
+use Rattle.link_run.proofs.reply.read_reply.Given as goal
+
+abbrev pub invariant-loop-frame : goal.invariant-loop-frame
+invariant-loop-frame l = record {
+  within : l.at ≤ length l.reply;
+  so_far : answered_by_all l.answered (frames Server LONGEST_REPLY (drop l.at l.reply)).frames ≡ reads (frames Server LONGEST_REPLY l.reply);
+  rest : (frames Server LONGEST_REPLY (drop l.at l.reply)).rest ≡ (frames Server LONGEST_REPLY l.reply).rest;
+}
+
+abbrev pub decreases-loop-frame : goal.decreases-loop-frame
+decreases-loop-frame l = length l.reply - l.at

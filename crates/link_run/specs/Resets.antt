@@ -1,0 +1,72 @@
+-- A reset by DISCARD ALL: what it is answered by, and a reset under way.
+use Rattle.std.specs.Prelude.{◌≡◌, ℕ, Bool, ◌||◌, ◌&&◌, ◌==◌, if◌then◌else◌, bytes_eq, codes, List, [], ◌∷◌, ◌++◌}
+use Rattle.std.specs.List.{flat_map, AllByRecursion}
+use Rattle.frame_view.specs.declared.Side.TheVariants.{Server}
+use Rattle.frame_view.specs.declared.server.TheConstants.{COMMAND_COMPLETE, NOTICE_RESPONSE, PARAMETER_STATUS, READY_FOR_QUERY}
+use Rattle.frame_view.specs.Frames.{FrameOf, IsFrame, Cut, spelling}
+use Rattle.message_view.specs.declared.kinds.TheConstants.{IDLE}
+use Rattle.message_view.specs.Bodies.{text}
+use Rattle.session_values.specs.State.{StartKeyOf}
+use Rattle.session_laws.specs.Laws.{discard_all}
+use Rattle.link_laws.specs.Standing.{Standing, Moves}
+use Rattle.link_laws.specs.Links.{IsUsed}
+use Rattle.link_run.specs.declared.reply.Answered.{Answered}
+use Rattle.link_run.specs.declared.reply.Answered.TheVariants.{Nothing, Tag, All, Other}
+use Rattle.link_run.specs.declared.reply.TheConstants.{LONGEST_REPLY}
+
+-- notices and reports stand anywhere before the end
+abbrev pub is_aside : ℕ → Bool
+is_aside kind = kind == NOTICE_RESPONSE || kind == PARAMETER_STATUS
+
+abbrev pub is_tag : FrameOf → Bool
+is_tag f = f.kind == COMMAND_COMPLETE && bytes_eq f.body (text (codes "DISCARD ALL"))
+
+abbrev pub is_idle : FrameOf → Bool
+is_idle f = f.kind == READY_FOR_QUERY && bytes_eq f.body (IDLE ∷ [])
+
+-- how far the answer has come with one frame more: its CommandComplete, then ReadyForQuery, and nothing after it
+abbrev pub answered_by : Answered → FrameOf → Answered
+answered_by Nothing f = if is_aside f.kind then Nothing else (if is_tag f then Tag else Other)
+answered_by Tag f = if is_aside f.kind then Tag else (if is_idle f then All else Other)
+answered_by All f = Other
+answered_by Other f = Other
+
+abbrev pub answered_by_all : Answered → List FrameOf → Answered
+answered_by_all a [] = a
+answered_by_all a (f ∷ fs) = answered_by_all (answered_by a f) fs
+
+-- the whole answer to a reset
+abbrev pub IsResetAnswer : List FrameOf → Type 0
+IsResetAnswer fs = answered_by_all Nothing fs ≡ All
+
+abbrev pub reads : Cut → Answered
+reads cut = answered_by_all Nothing cut.frames
+
+-- ---- a reset under way
+
+pub record ResetView : Type 0 where
+  pub link : Standing
+  pub key : StartKeyOf
+  pub number : ℕ
+  pub born : ℕ
+  pub unsent : List ℕ
+  pub received : List ℕ
+
+abbrev pub reset_view : Standing → StartKeyOf → ℕ → ℕ → List ℕ → List ℕ → ResetView
+reset_view link key number born unsent received = record { link = link; key = key; number = number; born = born; unsent = unsent; received = received }
+
+-- since a settled link was taken: what was sent and what was received
+pub record IsReset (v : ResetView) : Type 0 where
+  pub start : Standing
+  pub sent : List ℕ
+  pub used : IsUsed start v.key
+  pub moves : Moves start sent v.link v.received
+  pub all : sent ++ v.unsent ≡ spelling discard_all
+
+-- all was sent, and the whole answer was received
+pub record IsAnsweredReset (v : ResetView) : Type 0 where
+  pub sent : v.unsent ≡ []
+  pub frames : List FrameOf
+  pub each : AllByRecursion (IsFrame Server LONGEST_REPLY) frames
+  pub received : v.received ≡ flat_map spelling frames
+  pub answer : IsResetAnswer frames

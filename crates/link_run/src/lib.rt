@@ -1,0 +1,6 @@
+//! Links to servers: clean, lent and used, and the reset that leads from used to clean.
+#![tactic(auto)]
+
+pub mod links;
+pub mod reply;
+pub mod reset;

@@ -1,0 +1,109 @@
+//! What a server answers to a reset, frame by frame.
+ghost use Rattle.std.specs.Prelude.{◌≡◌, ◌≤◌, ◌||◌, [], length, drop, true, ◌≢◌};
+ghost use Rattle.link_run.specs.declared.reply.TheConstants.{LONGEST_REPLY};
+ghost use Rattle.link_run.specs.declared.reply.Answered.TheVariants.{All};
+ghost use Rattle.frame_view.specs.Frames.{AreBytes, frames};
+ghost use Rattle.frame_view.specs.declared.Side.TheVariants.{Server};
+ghost use Rattle.session_values.specs.Answers.{frame_of};
+ghost use Rattle.link_run.specs.Resets.{answered_by, is_aside, is_tag, is_idle, reads};
+
+use frame_view::server::{COMMAND_COMPLETE, NOTICE_RESPONSE, PARAMETER_STATUS, READY_FOR_QUERY};
+use frame_view::{Frame, Side, Step, next_frame};
+
+/// The greatest length of a frame in a start or a reset.
+pub const LONGEST_REPLY: u32 = 65_536;
+
+/// How far a reset's answer has come.
+#[derive(Clone, Copy, Debug, PartialEq, Eq, Drop)]
+pub enum Answered {
+    /// CommandComplete is waited for.
+    Nothing,
+    /// ReadyForQuery is waited for.
+    Tag,
+    /// ReadyForQuery came: nothing may follow.
+    All,
+    /// Something else came.
+    Other,
+}
+
+fn is_aside(kind: u8) -> bool
+    ensures { result ≡ is_aside kind }
+{
+    kind == NOTICE_RESPONSE || kind == PARAMETER_STATUS
+}
+
+fn is_tag(frame: Frame<'_>) -> bool
+    ensures { result ≡ is_tag (frame_of frame.entry) }
+{
+    frame.kind == COMMAND_COMPLETE && frame.body == b"DISCARD ALL\0".as_slice()
+}
+
+fn is_idle(frame: Frame<'_>) -> bool
+    ensures { result ≡ is_idle (frame_of frame.entry) }
+{
+    frame.kind == READY_FOR_QUERY && frame.body == b"I".as_slice()
+}
+
+impl Answered {
+    /// The same, where bytes are to come still: an end comes too early.
+    pub(crate) fn before_end(self) -> Answered
+        ensures { result ≢ All }
+    {
+        match self {
+            Answered::Nothing => Answered::Nothing,
+            Answered::Tag => Answered::Tag,
+            Answered::All | Answered::Other => Answered::Other,
+        }
+    }
+
+    fn by(self, frame: Frame<'_>) -> Answered
+        ensures { result ≡ answered_by self (frame_of frame.entry) }
+    {
+        match self {
+            Answered::Nothing => {
+                if is_aside(frame.kind) {
+                    return Answered::Nothing;
+                }
+                if is_tag(frame) {
+                    Answered::Tag
+                } else {
+                    Answered::Other
+                }
+            }
+            Answered::Tag => {
+                if is_aside(frame.kind) {
+                    return Answered::Tag;
+                }
+                if is_idle(frame) {
+                    Answered::All
+                } else {
+                    Answered::Other
+                }
+            }
+            Answered::All => Answered::Other,
+            Answered::Other => Answered::Other,
+        }
+    }
+}
+
+fn are_bytes(bytes: &[u8])
+    ensures { AreBytes bytes.now }
+{
+    let _count = bytes.len();
+}
+
+/// What the whole frames of these bytes come to, and whether nothing stands behind them.
+pub(crate) fn read_reply(reply: &[u8]) -> (Answered, bool)
+    ensures answered { result.0 ≡ reads (frames Server LONGEST_REPLY reply.now) }
+    ensures bytes { AreBytes reply.now }
+    ensures rest { result.1 ≡ true → (frames Server LONGEST_REPLY reply.now).rest ≡ [] }
+{
+    are_bytes(reply);
+    let mut answered = Answered::Nothing;
+    let mut at = 0;
+    while let Step::Whole(frame) = next_frame(reply, at, LONGEST_REPLY, Side::Server) {
+        answered = answered.by(frame);
+        at += frame.whole.len();
+    }
+    (answered, at == reply.len())
+}

@@ -1,0 +1,186 @@
+//! The reset of a used link by `DISCARD ALL`.
+ghost use Rattle.std.specs.Prelude.{◌≡◌, true, IfOk};
+ghost use Rattle.std.specs.Arc.{arc_value};
+ghost use Rattle.link_run.specs.Resets.{IsAnsweredReset};
+ghost use Rattle.link_run.specs.declared.reply.Answered.TheVariants.{All};
+
+use crate::links::{CleanLink, Lent, UsedLink};
+use crate::reply::{Answered, read_reply};
+use bytes::BytesMut;
+use server_end::gate::Gate;
+use server_end::{Moved, ServerEnd};
+use std::alloc::Global;
+use std::marker::Model;
+
+const CHUNK: usize = 256;
+
+/// The Query `DISCARD ALL`.
+static DISCARD_ALL: [u8; 17] = *b"Q\0\0\0\x10DISCARD ALL\0";
+
+/// Why a link wasn't reset.
+#[derive(Clone, Copy, Debug, PartialEq, Eq, Drop)]
+pub enum ResetFault {
+    /// The end faulted or ended.
+    Lost,
+    /// Something else was answered.
+    Unexpected,
+    Memory,
+    /// The turns are used up.
+    Turns,
+}
+
+/// A link whose reset failed.
+#[derive(Drop)]
+pub struct Disposed<E: ServerEnd> {
+    pub end: E,
+    pub cause: ResetFault,
+}
+
+/// A link that is being reset.
+#[derive(Drop)]
+struct Reset<E: ServerEnd> {
+    link: Lent<E>,
+    sent: usize,
+    reply: BytesMut,
+}
+
+impl<E: ServerEnd> Model for Reset<E> {
+    ghost use Rattle.std.specs.Prelude.{◌≤◌, drop};
+    ghost use Rattle.std.specs.Arc.{arc_value};
+    ghost use Rattle.frame_view.specs.Frames.{spelling};
+    ghost use Rattle.session_laws.specs.Laws.{discard_all};
+    ghost use Rattle.link_run.specs.Resets.{ResetView, reset_view, IsReset};
+
+    ghost Value = { ResetView };
+
+    ghost view = { λ r. reset_view (E.standing r.link.end) (arc_value r.link.key) r.link.number r.link.born (drop r.sent (spelling discard_all)) r.reply.items };
+
+    ghost invariant = { λ r. (r.sent ≤ 17) × IsReset (reset_view (E.standing r.link.end) (arc_value r.link.key) r.link.number r.link.born (drop r.sent (spelling discard_all)) r.reply.items) };
+}
+
+#[derive(Clone, Copy)]
+enum Turn {
+    More,
+    Failed(ResetFault),
+}
+
+fn turn_of(moved: Moved) -> Turn {
+    match moved {
+        Moved::Count(_) | Moved::NotNow => Turn::More,
+        Moved::Ended | Moved::Fault => Turn::Failed(ResetFault::Lost),
+    }
+}
+
+impl<E: ServerEnd> Reset<E> {
+    fn begin(alloc: Global, used: UsedLink<E>) -> Reset<E>
+        ensures key { result.key ≡ used.key }
+        ensures number { result.number ≡ used.number }
+        ensures born { result.born ≡ used.born }
+    {
+        Reset {
+            link: used.lend(),
+            sent: 0,
+            reply: BytesMut::new(alloc),
+        }
+    }
+
+    fn send(&mut self) -> Turn
+        ensures key { self.new.key ≡ self.old.key }
+        ensures number { self.new.number ≡ self.old.number }
+        ensures born { self.new.born ≡ self.old.born }
+    {
+        if self.sent == DISCARD_ALL.len() {
+            return Turn::More;
+        }
+        let unsent = &DISCARD_ALL[self.sent..];
+        let moved = self.link.end.write_some(unsent);
+        if let Moved::Count(count) = moved {
+            self.sent += count;
+        }
+        turn_of(moved)
+    }
+
+    fn receive(&mut self) -> Turn
+        ensures key { self.new.key ≡ self.old.key }
+        ensures number { self.new.number ≡ self.old.number }
+        ensures born { self.new.born ≡ self.old.born }
+    {
+        let mut chunk = [0u8; CHUNK];
+        if self.reply.reserve(CHUNK).is_err() {
+            return Turn::Failed(ResetFault::Memory);
+        }
+        let moved = self.link.end.read_some(&mut chunk);
+        if let Moved::Count(count) = moved {
+            self.reply.extend_reserved(&chunk[..count]);
+        }
+        turn_of(moved)
+    }
+
+    fn read(&self) -> Answered
+        ensures { result ≡ All → IsAnsweredReset self.now }
+    {
+        let (answered, is_all) = read_reply(self.reply.as_slice());
+        if !is_all || self.sent < DISCARD_ALL.len() {
+            return answered.before_end();
+        }
+        answered
+    }
+
+    fn finish(self) -> CleanLink<E>
+        requires { IsAnsweredReset self }
+        ensures key { result.key ≡ self.key }
+        ensures number { result.number ≡ self.number }
+        ensures born { result.born ≡ self.born }
+    {
+        let Reset {
+            link,
+            sent: _,
+            reply: _,
+        } = self;
+        link.clean()
+    }
+
+    fn fail(self, cause: ResetFault) -> Disposed<E> {
+        let Reset {
+            link,
+            sent: _,
+            reply: _,
+        } = self;
+        let Lent {
+            end,
+            key: _,
+            number: _,
+            born: _,
+        } = link;
+        Disposed { end, cause }
+    }
+}
+
+/// The link as it was at its login, or its end where that failed.
+pub fn reset_link<E: ServerEnd, G: Gate<E>>(
+    alloc: Global,
+    used: UsedLink<E>,
+    gate: &mut G,
+    turns: u32,
+) -> Result<CleanLink<E>, Disposed<E>>
+    ensures key { IfOk result (λ l. l.key ≡ used.key) }
+    ensures number { IfOk result (λ l. l.number ≡ used.number) }
+    ensures born { IfOk result (λ l. l.born ≡ used.born) }
+{
+    let mut reset = Reset::begin(alloc, used);
+    for _ in 0..turns {
+        gate.turn();
+        if let Turn::Failed(cause) = reset.send() {
+            return Err(reset.fail(cause));
+        }
+        if let Turn::Failed(cause) = reset.receive() {
+            return Err(reset.fail(cause));
+        }
+        match reset.read() {
+            Answered::All => return Ok(reset.finish()),
+            Answered::Nothing | Answered::Tag => {}
+            Answered::Other => return Err(reset.fail(ResetFault::Unexpected)),
+        }
+    }
+    Err(reset.fail(ResetFault::Turns))
+}

@@ -1,0 +1,133 @@
+//! An end that fails from one of its calls on.
+ghost use Rattle.std.specs.Prelude.{◌≡◌, ◌<◌, ◌-◌};
+ghost use Rattle.server_end.specs.Failing.{Counts, Fails};
+ghost use Rattle.server_end.specs.declared.failing_end.Calls.TheVariants.{Good};
+
+use crate::{ClientEnd, Moved, ServerEnd};
+
+/// How many more calls go to the end inside; or that the end fails, and how many faults were counted in all.
+#[derive(Clone, Copy, Drop)]
+enum Calls {
+    Good(u64),
+    Failed(u64),
+}
+
+/// An end that is the one inside up to one of its reads and writes, and answers [`Moved::Fault`] to that one and to every later
+/// one. At the last count that a number of eight bytes has it answers [`Moved::Ended`].
+#[derive(Drop)]
+pub struct FailingEnd<E: Drop> {
+    inner: E,
+    calls: Calls,
+}
+
+impl Calls {
+    /// One more fault.
+    fn fail(&mut self, faults: u64) -> Moved
+        ensures { Counts faults self.new result }
+    {
+        if faults == u64::MAX {
+            *self = Calls::Failed(faults);
+            return Moved::Ended;
+        }
+        *self = Calls::Failed(faults + 1);
+        Moved::Fault
+    }
+
+    /// What a call comes to that doesn't go to the end inside, which has counted so many faults.
+    fn failure(&mut self, inner: u64) -> Option<Moved>
+        ensures { Fails self.old self.new inner result }
+    {
+        match *self {
+            Calls::Good(0) => Some(self.fail(inner)),
+            Calls::Good(count) => {
+                *self = Calls::Good(count - 1);
+                None
+            }
+            Calls::Failed(faults) => Some(self.fail(faults)),
+        }
+    }
+}
+
+impl<E: Drop> FailingEnd<E> {
+    /// An end that fails from its call number `nth` on; its first call is number 1.
+    pub fn new(inner: E, nth: u64) -> FailingEnd<E>
+        requires { 0 < nth }
+        ensures inner { result.inner ≡ inner }
+        ensures calls { result.calls ≡ Good (nth - 1) }
+    {
+        FailingEnd {
+            inner,
+            calls: Calls::Good(nth - 1),
+        }
+    }
+}
+
+impl<E: ServerEnd> ServerEnd for FailingEnd<E> {
+    ghost use Rattle.server_end.specs.Failing.{failing_server};
+
+    ghost standing = { λ f. failing_server f.calls (E.standing f.inner) };
+
+    #[tactic(auto, using(crate::proofs::Failing::read_fails, crate::proofs::Failing::read_counts_fail, crate::proofs::Failing::read_passes, crate::proofs::Failing::read_counts_pass))]
+    fn read_some(&mut self, into: &mut [u8]) -> Moved {
+        let faults = self.inner.faults();
+        match self.calls.failure(faults) {
+            Some(answer) => answer,
+            None => self.inner.read_some(into),
+        }
+    }
+
+    #[tactic(auto, using(crate::proofs::Failing::write_fails, crate::proofs::Failing::write_counts_fail, crate::proofs::Failing::write_passes, crate::proofs::Failing::write_counts_pass))]
+    fn write_some(&mut self, from: &[u8]) -> Moved {
+        let faults = self.inner.faults();
+        match self.calls.failure(faults) {
+            Some(answer) => answer,
+            None => self.inner.write_some(from),
+        }
+    }
+
+    fn faults(&self) -> u64 {
+        match self.calls {
+            Calls::Good(_) => self.inner.faults(),
+            Calls::Failed(faults) => faults,
+        }
+    }
+
+    fn waits(&self) -> (u64, u64) {
+        self.inner.waits()
+    }
+}
+
+impl<E: ClientEnd> ClientEnd for FailingEnd<E> {
+    ghost use Rattle.server_end.specs.Failing.{failing_client};
+
+    ghost facts = { λ f. failing_client f.calls (E.facts f.inner) };
+
+    #[tactic(auto, using(crate::proofs::Failing::client_read_fails, crate::proofs::Failing::client_read_passes))]
+    fn read_some(&mut self, into: &mut [u8]) -> Moved {
+        let faults = self.inner.faults();
+        match self.calls.failure(faults) {
+            Some(answer) => answer,
+            None => self.inner.read_some(into),
+        }
+    }
+
+    #[tactic(auto, using(crate::proofs::Failing::client_write_fails, crate::proofs::Failing::client_write_passes))]
+    fn write_some(&mut self, from: &[u8]) -> Moved {
+        let faults = self.inner.faults();
+        match self.calls.failure(faults) {
+            Some(answer) => answer,
+            None => self.inner.write_some(from),
+        }
+    }
+
+    fn faults(&self) -> u64 {
+        match self.calls {
+            Calls::Good(_) => self.inner.faults(),
+            Calls::Failed(faults) => faults,
+        }
+    }
+
+    fn waits(&self) -> (u64, u64) {
+        self.inner.waits()
+    }
+}

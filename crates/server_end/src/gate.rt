@@ -1,0 +1,46 @@
+//! The one place where a worker waits for bytes.
+ghost use Rattle.std.specs.Prelude.{◌≡◌, true};
+
+use crate::ServerEnd;
+
+/// Which sides of a lease may be tried.
+#[derive(Clone, Copy, Debug, PartialEq, Eq, Drop)]
+pub struct Ready {
+    pub client: bool,
+    pub server: bool,
+}
+
+/// Where a worker waits for the bytes of its client, and of its link while it has one.
+pub trait Gate<E: ServerEnd> {
+    /// Waits until a side may be tried, or for as long as the gate waits at most.
+    fn turn(&mut self) -> Ready;
+
+    /// From now on the gate minds this link too. That it can't is ignored.
+    fn watch(&mut self, end: &mut E)
+        ensures { E.standing end.new ≡ E.standing end.old }
+    {
+        let _ = end;
+    }
+
+    /// From now on the gate doesn't mind this link.
+    fn unwatch(&mut self, end: &mut E)
+        ensures { E.standing end.new ≡ E.standing end.old }
+    {
+        let _ = end;
+    }
+}
+
+/// A gate that never waits: both sides may be tried at each turn.
+#[derive(Clone, Copy, Debug, PartialEq, Eq, Drop)]
+pub struct OpenGate;
+
+impl<E: ServerEnd> Gate<E> for OpenGate {
+    fn turn(&mut self) -> Ready
+        ensures { (result.client ≡ true) × (result.server ≡ true) }
+    {
+        Ready {
+            client: true,
+            server: true,
+        }
+    }
+}

@@ -1,0 +1,79 @@
+//! The two ends of a lease, as traits whose ghost member says where an end stands; and ends in memory.
+#![tactic(auto)]
+
+mod dialogue;
+pub mod failing_end;
+pub mod gate;
+pub mod memory_client;
+pub mod memory_server;
+
+ghost use Rattle.std.specs.Prelude.{◌≡◌, ◌<◌, [], length};
+ghost use Rattle.link_laws.specs.Standing.{Standing, Moves, ClientFacts};
+ghost use Rattle.server_end.specs.Moves.{ClientReads, ClientWrites, CountsRead, CountsWrite, IsWithin, moved};
+
+/// What a read or a write came to.
+#[derive(Clone, Copy, Debug, PartialEq, Eq, Drop)]
+pub enum Moved {
+    /// So many bytes, from 1 to the slice's length.
+    Count(usize),
+    /// None at this time.
+    NotNow,
+    /// None any more.
+    Ended,
+    /// None, by a fault.
+    Fault,
+}
+
+/// A server's end of a link.
+pub trait ServerEnd: Drop {
+    ghost standing: { Self → Standing };
+
+    /// Reads bytes of the server into the front of `into`, which isn't empty.
+    fn read_some(&mut self, into: &mut [u8]) -> Moved
+        requires { 0 < length into.old }
+        ensures within { IsWithin result (length into.old) }
+        ensures moves { Moves (standing self.old) [] (standing self.new) (moved result into.new) }
+        ensures counts { CountsRead (standing self.old) (standing self.new) result };
+
+    /// Gives the server the first bytes of `from`, which isn't empty.
+    fn write_some(&mut self, from: &[u8]) -> Moved
+        requires { 0 < length from.now }
+        ensures within { IsWithin result (length from.now) }
+        ensures moves { Moves (standing self.old) (moved result from.now) (standing self.new) [] }
+        ensures counts { CountsWrite (standing self.old) (standing self.new) result };
+
+    /// How many calls came to a fault.
+    fn faults(&self) -> u64
+        ensures { result ≡ (standing self.now).faults };
+
+    /// How many reads, and how many writes, came to nothing at that time.
+    fn waits(&self) -> (u64, u64)
+        ensures read { result.0 ≡ (standing self.now).read_waits }
+        ensures write { result.1 ≡ (standing self.now).write_waits };
+}
+
+/// A client's end.
+pub trait ClientEnd: Drop {
+    ghost facts: { Self → ClientFacts };
+
+    /// Reads bytes of the client into the front of `into`, which isn't empty.
+    fn read_some(&mut self, into: &mut [u8]) -> Moved
+        requires { 0 < length into.old }
+        ensures within { IsWithin result (length into.old) }
+        ensures reads { ClientReads (facts self.old) (facts self.new) (moved result into.new) result };
+
+    /// Gives the client the first bytes of `from`, which isn't empty.
+    fn write_some(&mut self, from: &[u8]) -> Moved
+        requires { 0 < length from.now }
+        ensures within { IsWithin result (length from.now) }
+        ensures writes { ClientWrites (facts self.old) (facts self.new) (moved result from.now) result };
+
+    /// How many calls came to a fault.
+    fn faults(&self) -> u64
+        ensures { result ≡ (facts self.now).faults };
+
+    /// How many reads, and how many writes, came to nothing at that time.
+    fn waits(&self) -> (u64, u64)
+        ensures read { result.0 ≡ (facts self.now).read_waits }
+        ensures write { result.1 ≡ (facts self.now).write_waits };
+}
