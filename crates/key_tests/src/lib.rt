@@ -1,10 +1,7 @@
-//! Start keys of worked StartupMessages: those of clients under settings, and those of stand-in servers; and what
-//! servers report of their parameters.
+//! Start keys of worked StartupMessages: those of clients under settings, and those of stand-in servers.
 #![tactic(auto)]
 
 #[cfg(test)]
 mod client_keys;
-#[cfg(test)]
-mod reports;
 #[cfg(test)]
 mod stub_keys;

@@ -120,7 +120,7 @@ fn sixty_four_names(rt: HostRuntime) -> Result<(), Fail> {
         Some(ReportFault::TooMany)
     );
     let known = StatusView {
-        name: b"A",
+        name: b"0",
         setting: b"1",
     };
     assert_eq!(rt; reported.add(rt.alloc(), &known).err(), None);
