@@ -11,7 +11,7 @@ fn hands_out_its_input(rt: HostRuntime) -> Result<(), Fail> {
     assert!(rt; client.read_some(&mut piece) == Moved::Count(2));
     assert!(rt; client.read_some(&mut piece) == Moved::Count(1));
     assert!(rt; client.read_some(&mut piece) == Moved::NotNow);
-    assert!(rt; client.taken() == b"abc");
+    assert!(rt; client.taken() == b"abc".as_slice());
     assert!(rt; client.waits() == (1, 0));
     Ok(())
 }
@@ -24,7 +24,7 @@ fn is_fed_until_it_hangs_up(rt: HostRuntime) -> Result<(), Fail> {
     client.hang_up();
     client.feed(b"c")?;
     assert!(rt; client.read_some(&mut piece) == Moved::Count(2));
-    assert!(rt; piece[..2] == *b"ab");
+    assert!(rt; &piece[..2] == b"ab".as_slice());
     assert!(rt; client.read_some(&mut piece) == Moved::Ended);
     assert!(rt; client.write_some(b"x") == Moved::Count(1));
     Ok(())
@@ -35,7 +35,7 @@ fn keeps_what_it_was_given(rt: HostRuntime) -> Result<(), Fail> {
     let mut client = MemoryClient::new(rt.alloc(), b"", 2)?;
     assert!(rt; client.write_some(b"abc") == Moved::Count(2));
     assert!(rt; client.write_some(b"c") == Moved::Count(1));
-    assert!(rt; client.given() == b"abc");
+    assert!(rt; client.given() == b"abc".as_slice());
     assert_eq!(rt; client.faults(), 0);
     Ok(())
 }

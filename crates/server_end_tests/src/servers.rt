@@ -18,11 +18,11 @@ const OWN: KeyWord = KeyWord {
 /// The user ann and the database shop.
 const START: &[u8] = b"\0\0\0\x20\0\x03\0\0user\0ann\0database\0shop\0\0";
 
-const WELCOME: &[u8] = b"R\0\0\0\x08\0\0\0\0S\0\0\0\x16application_name\0\0S\0\0\0\x19client_encoding\0UTF8\0S\0\0\0\x17DateStyle\0ISO, MDY\0S\0\0\0\x19integer_datetimes\0on\0S\0\0\0\x1bIntervalStyle\0postgres\0S\0\0\0\x19server_encoding\0UTF8\0S\0\0\0\x18server_version\x0016.0\0S\0\0\0\x23standard_conforming_strings\0on\0S\0\0\0\x11TimeZone\0UTC\0K\0\0\0\x0c\0\0\0\x07\0\0\0\x08Z\0\0\0\x05I";
+const WELCOME: &[u8] =
+    b"R\0\0\0\x08\0\0\0\0S\0\0\0\x16application_name\0\0S\0\0\0\x19client_encoding\0UTF8\0S\0\0\0\x17DateStyle\0ISO, MDY\0S\0\0\0\x19integer_datetimes\0on\0S\0\0\0\x1bIntervalStyle\0postgres\0S\0\0\0\x19server_encoding\0UTF8\0S\0\0\0\x18server_version\x0016.0\0S\0\0\0\x23standard_conforming_strings\0on\0S\0\0\0\x11TimeZone\0UTC\0K\0\0\0\x0c\0\0\0\x07\0\0\0\x08Z\0\0\0\x05I";
 
 /// The error of a wrong password.
-const WRONG: &[u8] =
-    b"E\0\0\0\x3aSFATAL\0VFATAL\0C28P01\0Mpassword authentication failed\0\0";
+const WRONG: &[u8] = b"E\0\0\0\x3aSFATAL\0VFATAL\0C28P01\0Mpassword authentication failed\0\0";
 
 fn server(
     alloc: Global,
@@ -83,7 +83,13 @@ fn welcomes_whatever_the_cut(rt: HostRuntime) -> Result<(), Fail> {
     for cut in [1, 7, 8192] {
         let mut server = server(alloc, ServerAuth::Trust, cut, None)?;
         is_answered(&rt, alloc, &mut server, START, WELCOME)?;
-        is_answered(&rt, alloc, &mut server, b"Q\0\0\0\x05\0", b"I\0\0\0\x04Z\0\0\0\x05I")?;
+        is_answered(
+            &rt,
+            alloc,
+            &mut server,
+            b"Q\0\0\0\x05\0",
+            b"I\0\0\0\x04Z\0\0\0\x05I",
+        )?;
         is_answered(&rt, alloc, &mut server, b"S\0\0", b"")?;
         is_answered(&rt, alloc, &mut server, b"\0\x04", b"Z\0\0\0\x05I")?;
         is_answered(&rt, alloc, &mut server, b"X\0\0\0\x04S\0\0\0\x04", b"")?;
@@ -98,7 +104,11 @@ fn asks_for_a_password(rt: HostRuntime) -> Result<(), Fail> {
     let mut right = server(alloc, ServerAuth::Plain(b"a"), 8192, None)?;
     is_answered(&rt, alloc, &mut right, START, question)?;
     is_answered(&rt, alloc, &mut right, b"p\0\0\0\x06a\0", WELCOME)?;
-    for wrong in [b"p\0\0\0\x06b\0".as_slice(), b"p\0\0\0\x04", b"Q\0\0\0\x06a\0"] {
+    for wrong in [
+        b"p\0\0\0\x06b\0".as_slice(),
+        b"p\0\0\0\x04",
+        b"Q\0\0\0\x06a\0",
+    ] {
         let mut server = server(alloc, ServerAuth::Plain(b"a"), 8192, None)?;
         is_answered(&rt, alloc, &mut server, START, question)?;
         is_answered(&rt, alloc, &mut server, wrong, WRONG)?;
@@ -131,10 +141,12 @@ fn refuses_starts(rt: HostRuntime) -> Result<(), Fail> {
     let alloc = rt.alloc();
     let mut other = server(alloc, ServerAuth::Trust, 8192, None)?;
     let start = b"\0\0\0\x12\0\x03\0\0user\0ann\0\0";
-    let no_database = b"R\0\0\0\x08\0\0\0\0E\0\0\0\x33SFATAL\0VFATAL\0C3D000\0Mdatabase does not exist\0\0";
+    let no_database =
+        b"R\0\0\0\x08\0\0\0\0E\0\0\0\x33SFATAL\0VFATAL\0C3D000\0Mdatabase does not exist\0\0";
     is_answered(&rt, alloc, &mut other, start, no_database)?;
     let mut nobody = server(alloc, ServerAuth::Trust, 8192, None)?;
-    let no_user = b"R\0\0\0\x08\0\0\0\0E\0\0\0\x32SFATAL\0VFATAL\0C08P01\0Minvalid message format\0\0";
+    let no_user =
+        b"R\0\0\0\x08\0\0\0\0E\0\0\0\x32SFATAL\0VFATAL\0C08P01\0Minvalid message format\0\0";
     is_answered(&rt, alloc, &mut nobody, b"\0\0\0\x09\0\x03\0\0\0", no_user)
 }
 
