@@ -1,5 +1,5 @@
 -- An end that fails from one of its calls on.
-use Rattle.std.proofs.Common.{◌≡◌, ℕ, ◌+◌, Bool, true, false, Option, Some, None, List, [], ◌++◌, refl, sym, ap, ◌∙◌, append-nil, arith}
+use Rattle.std.proofs.Common.{◌≡◌, ℕ, ◌+◌, Some, None, List, [], refl, sym, ap, ◌∙◌, append-nil, arith}
 use Rattle.link_laws.specs.Standing.{Standing, ClientFacts, Moves}
 use Rattle.server_end.specs.declared.Moved.{Moved}
 use Rattle.server_end.specs.declared.Moved.TheVariants.{Count, NotNow, Ended, Fault}

@@ -1,15 +1,15 @@
 -- The moves of a stand-in server in memory.
 use Rattle.std.proofs.Common.{◌≡◌, ℕ, ◌+◌, ◌≤◌, Bool, true, false, Option, Some, None, List, [], ◌++◌, take, drop, refl, sym, ap, ◌∙◌, append-nil, arith, subst, take-append-drop}
 use Rattle.std.proofs.lemmas.Bool.{true≢false}
-use Rattle.link_laws.specs.Standing.{Standing, Served, Passed, Moves}
+use Rattle.link_laws.specs.Standing.{Standing, Served, Moves}
 use Rattle.link_laws.specs.Futures.{future, replies_in}
-use Rattle.link_laws.proofs.Both.{moves_both, moves_none}
+use Rattle.link_laws.proofs.Both.{moves_both}
 use Rattle.server_end.specs.declared.Moved.{Moved}
-use Rattle.server_end.specs.declared.Moved.TheVariants.{Count, NotNow, Ended, Fault}
+use Rattle.server_end.specs.declared.Moved.TheVariants.{Fault}
 use Rattle.server_end.specs.declared.dialogue.Dialogue.{Dialogue}
 use Rattle.server_end.specs.Dialogues.{Serves, standing_of, server_of}
 use Rattle.server_end.specs.Moves.{moved, CountsRead, CountsWrite}
-use Rattle.server_end.specs.Servers.{ServerOf, KeepsCounts, KeepsServer, Faults, ReadsServer, at_most}
+use Rattle.server_end.specs.Servers.{ServerOf, KeepsCounts, KeepsServer, Faults, at_most}
 
 -- a move of a server that lived before it
 moves_alive : (a b : Standing) (put got : List ℕ) → a.lives ≡ true → b.follows ≡ a.follows → b.server ≡ a.server → b.accepted ≡ a.accepted ++ put → Served a put b got → Moves a put b got

@@ -1,5 +1,5 @@
 -- One packet of a client is taken, and then all of them.
-use Rattle.std.proofs.Common.{◌≡◌, ℕ, zero, suc, ◌+◌, ◌<◌, ◌≤◌, Bool, true, false, List, [], ◌∷◌, ◌++◌, length, take, drop, Option, Some, None, Result, Ok, Err, refl, sym, ap, ap₂, ◌∙◌, append_assoc, append-nil, arith, subst, length-append}
+use Rattle.std.proofs.Common.{◌≡◌, ℕ, zero, suc, ◌+◌, ◌<◌, ◌≤◌, Bool, true, false, List, [], ◌∷◌, ◌++◌, length, drop, Option, Some, None, Result, Err, refl, sym, ap, ap₂, ◌∙◌, append_assoc, append-nil, arith, subst, length-append}
 use Rattle.std.proofs.lemmas.Bool.{true≢false}
 use Rattle.std.specs.Borrow.{Bor}
 use Rattle.std.specs.List.{flat_map, AllByRecursion}
@@ -7,12 +7,11 @@ use Rattle.std.proofs.Math.Seq.{drop-append_seam}
 use Rattle.frame_view.specs.declared.Frame.{Frame}
 use Rattle.frame_view.specs.declared.Step.{Step}
 use Rattle.frame_view.specs.declared.Step.TheVariants.{Whole}
-use Rattle.frame_view.specs.declared.FirstStep.{FirstStep}
-use Rattle.frame_view.specs.declared.FirstStep.TheVariants.{Startup, Cancel, Tls, Gss, Need, Bad}
+use Rattle.frame_view.specs.declared.FirstStep.TheVariants.{Startup}
 use Rattle.frame_view.specs.declared.Side.TheVariants.{Client}
 use Rattle.frame_view.specs.declared.frames.TheConstants.{LONGEST_FRAME}
 use Rattle.frame_view.specs.Answers.{Tells, TellsFirst}
-use Rattle.frame_view.specs.Frames.{AreBytes as AreBytesAt, FrameOf, Front, AFrame, Lacks, Faulty, Stops, FirstFront, AFirst, LacksFirst, FaultyFirst, Start, Cancels, AsksTls, AsksGss, Cut, first_front, first_spelling, front, frames, spelling}
+use Rattle.frame_view.specs.Frames.{AreBytes, FrameOf, Front, AFrame, Lacks, Faulty, Stops, Start, Cut, first_front, first_spelling, front, spelling}
 use Rattle.frame_view.proofs.FirstPackets.{first-spelled}
 use Rattle.frame_view.proofs.FirstTaken.{started}
 use Rattle.frame_view.proofs.Cuts.{front-spelled}
@@ -24,10 +23,10 @@ use Rattle.session_values.specs.Answers.{Gave, frame_of}
 use Rattle.session_values.specs.Errors.{fatal}
 use Rattle.session_values.specs.State.{State, CatalogueOf}
 use Rattle.session_values.specs.Step.{step, run_frames}
-use Rattle.session_laws.specs.Laws.{AreBytes, IsSent}
-use Rattle.link_laws.specs.Futures.{replies_in, replies_before, replies_asked}
-use Rattle.link_laws.specs.Stages.{Server, Auth, Stage, Before, Asked, Open, Closed, Packet, Starts, Sends, Turn, packet_bytes, packets_bytes, begins, hears, let_in, opened, serve}
-use Rattle.link_laws.specs.Standing.{Standing, Served}
+use Rattle.session_laws.specs.Laws.{IsSent}
+use Rattle.message_laws.proofs.Trips.{bytes_after}
+use Rattle.link_laws.specs.Futures.{replies_in}
+use Rattle.link_laws.specs.Stages.{Server, Auth, Stage, Before, Asked, Open, Closed, Packet, Starts, Sends, packet_bytes, begins, hears, let_in, opened, serve}
 use Rattle.link_laws.proofs.Both.{served_both}
 use Rattle.server_end.specs.declared.dialogue.Progress.{Progress}
 use Rattle.server_end.specs.declared.dialogue.Host.{Host}
@@ -43,7 +42,7 @@ turn_refused v r c before mid after e m a = rw e (refl, a ∙ ap (λ (x : List �
 
 -- ---- the StartupMessage
 
-pub takes_start : (v : Server) (auth : Auth) (part : Bor (List ℕ)) (bytes items rest out replied : List ℕ) (next : Stage) → AreBytesAt bytes → bytes ≡ items → TellsFirst (Startup part) (first_front bytes)
+pub takes_start : (v : Server) (auth : Auth) (part : Bor (List ℕ)) (bytes items rest out replied : List ℕ) (next : Stage) → AreBytes bytes → bytes ≡ items → TellsFirst (Startup part) (first_front bytes)
     → (next ≡ (begins v auth part.now).next) × (replied ≡ out ++ flat_map spelling (begins v auth part.now).replies) → rest ≡ drop (8 + length part.now) items → Takes v (Before auth) next items rest out replied
 takes_start v auth part bytes items rest out replied next fit same t turn left =
     let s = started part bytes fit t in
@@ -56,22 +55,15 @@ takes_start v auth part bytes items rest out replied next fit same t turn left =
       replies = turn.1;
     }
 
-pub start_within : (part : Bor (List ℕ)) (bytes items : List ℕ) → AreBytesAt bytes → bytes ≡ items → TellsFirst (Startup part) (first_front bytes) → 8 + length part.now ≤ length items
+pub start_within : (part : Bor (List ℕ)) (bytes items : List ℕ) → AreBytes bytes → bytes ≡ items → TellsFirst (Startup part) (first_front bytes) → 8 + length part.now ≤ length items
 start_within part bytes items fit same t = subst (λ (x : List ℕ). 8 + length part.now ≤ length x) same (started part bytes fit t).within
 
 -- ---- frames
 
-bytes_each : (bs : List ℕ) → AreBytesAt bs → AreBytes bs
-bytes_each [] h = tt
-bytes_each (b ∷ bs) h = (h 0, bytes_each bs (λ i. h (suc i)))
-
-bytes_front : (xs ys : List ℕ) → AreBytes (xs ++ ys) → AreBytes xs
-bytes_front [] ys h = tt
-bytes_front (x ∷ xs) ys h = (h.0, bytes_front xs ys h.1)
-
-bytes_back : (xs ys : List ℕ) → AreBytes (xs ++ ys) → AreBytes ys
-bytes_back [] ys h = h
-bytes_back (x ∷ xs) ys h = bytes_back xs ys h.1
+bytes_before : (front rest : List ℕ) → AreBytes (front ++ rest) → AreBytes front
+bytes_before [] rest h i = omega arith
+bytes_before (b ∷ front) rest h zero = h 0
+bytes_before (b ∷ front) rest h (suc i) = bytes_before front rest (λ j. h (suc j)) i
 
 -- what was cut out is a frame that a client may send, and what follows it is left
 record Cuts (frame : Frame) (bytes : List ℕ) : Type 0 where
@@ -81,13 +73,13 @@ record Cuts (frame : Frame) (bytes : List ℕ) : Type 0 where
 abbrev a_frame : ℕ → List ℕ → FrameOf
 a_frame k b = record { kind = k; body = b }
 
-cut_out-at : (frame : Frame) (bytes : List ℕ) (f : Front) → AreBytesAt bytes → front Client LONGEST_FRAME bytes ≡ f → Tells (Whole frame) bytes f → Cuts frame bytes
+cut_out-at : (frame : Frame) (bytes : List ℕ) (f : Front) → AreBytes bytes → front Client LONGEST_FRAME bytes ≡ f → Tells (Whole frame) bytes f → Cuts frame bytes
 cut_out-at frame bytes (AFrame k body rest) fit e t =
     let s = front-spelled Client LONGEST_FRAME bytes k body rest fit e in
     let same : a_frame k body ≡ frame_of frame = ap₂ a_frame (sym t.kind_is) (sym t.body_is) in
     let back : drop (length frame.whole.now) bytes ≡ rest = ap (drop (length frame.whole.now)) (sym t.whole_is) ∙ drop-append_seam frame.whole.now rest in
     let head : List ℕ = k ∷ Rattle.std.specs.Int.to_be_bytes Rattle.std.specs.Int.w32 (4 + length body) in
-    let b : AreBytes body = bytes_back head body (bytes_front (head ++ body) rest (bytes_each (spelling (a_frame k body) ++ rest) (subst AreBytesAt s.0 fit))) in
+    let b : AreBytes body = bytes_after head body (bytes_before (head ++ body) rest (subst AreBytes s.0 fit)) in
     record {
       sent = subst IsSent same (record { whole = s.1; bytes = b });
       whole = s.0 ∙ ap (λ (x : FrameOf). spelling x ++ rest) same ∙ ap (λ (x : List ℕ). spelling (frame_of frame) ++ x) (sym back);
@@ -95,10 +87,10 @@ cut_out-at frame bytes (AFrame k body rest) fit e t =
 cut_out-at frame bytes (Lacks n) fit e t = absurd t
 cut_out-at frame bytes (Faulty x) fit e t = absurd t
 
-cut_out : (frame : Frame) (bytes items : List ℕ) → AreBytesAt bytes → bytes ≡ items → Tells (Whole frame) bytes (front Client LONGEST_FRAME bytes) → Cuts frame items
+cut_out : (frame : Frame) (bytes items : List ℕ) → AreBytes bytes → bytes ≡ items → Tells (Whole frame) bytes (front Client LONGEST_FRAME bytes) → Cuts frame items
 cut_out frame bytes items fit same t = subst (Cuts frame) same (cut_out-at frame bytes (front Client LONGEST_FRAME bytes) fit refl t)
 
-pub takes_answer : (v : Server) (start : List ℕ) (answer : Text) (frame : Frame) (bytes items rest out replied : List ℕ) (next : Stage) → AreBytesAt bytes → bytes ≡ items → Tells (Whole frame) bytes (front Client LONGEST_FRAME bytes)
+pub takes_answer : (v : Server) (start : List ℕ) (answer : Text) (frame : Frame) (bytes items rest out replied : List ℕ) (next : Stage) → AreBytes bytes → bytes ≡ items → Tells (Whole frame) bytes (front Client LONGEST_FRAME bytes)
     → (next ≡ (hears v start answer (frame_of frame)).next) × (replied ≡ out ++ flat_map spelling (hears v start answer (frame_of frame)).replies) → rest ≡ drop (length frame.whole.now) items → Takes v (Asked start answer) next items rest out replied
 takes_answer v start answer frame bytes items rest out replied next fit same t turn left =
     let k = cut_out frame bytes items fit same t in
@@ -122,7 +114,7 @@ waits_frame v s x bytes items out same n t = record {
   answered = ap (replies_in v (Open s)) (sym same) ∙ no_frame v s bytes (not_whole x bytes (front Client LONGEST_FRAME bytes) n t);
 }
 
-pub takes_frame : (v : Server) (cat : CatalogueOf) (s next : State) (frame : Frame) (bytes items rest out replied : List ℕ) → cat ≡ v.catalogue → AreBytesAt bytes → bytes ≡ items → Tells (Whole frame) bytes (front Client LONGEST_FRAME bytes)
+pub takes_frame : (v : Server) (cat : CatalogueOf) (s next : State) (frame : Frame) (bytes items rest out replied : List ℕ) → cat ≡ v.catalogue → AreBytes bytes → bytes ≡ items → Tells (Whole frame) bytes (front Client LONGEST_FRAME bytes)
     → Gave next out replied (step cat s (frame_of frame)) → rest ≡ drop (length frame.whole.now) items → Takes v (Open s) (Open next) items rest out replied
 takes_frame v cat s next frame bytes items rest out replied d fit same t gave left =
     let k = cut_out frame bytes items fit same t in

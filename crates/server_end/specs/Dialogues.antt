@@ -5,7 +5,6 @@ use Rattle.std.specs.Arc.{arc_value}
 use Rattle.frame_view.specs.Frames.{spelling}
 use Rattle.message_view.specs.declared.kinds.TheConstants.{ASKS_CLEARTEXT, ASKS_MD5}
 use Rattle.message_view.specs.Bodies.{Text}
-use Rattle.session_values.specs.State.{State}
 use Rattle.link_laws.specs.Stages.{Server, Auth, NoAuth, Asks, Stage, Packet, Sends, Turn, packet_bytes, serve, MayTake}
 use Rattle.link_laws.specs.Stages as stages
 use Rattle.link_laws.specs.Futures.{replies_in}

@@ -1,5 +1,5 @@
 -- A stand-in server in memory, as its callers see it.
-use Rattle.std.specs.Prelude.{◌≡◌, ℕ, zero, suc, ◌+◌, ◌-◌, ◌^◌, ◌<◌, ◌≤◌, Bool, true, false, ◌&&◌, ◌==◌, nat_lt, min, List, [], Option, Some, None}
+use Rattle.std.specs.Prelude.{◌≡◌, ℕ, ◌+◌, ◌-◌, ◌^◌, ◌≤◌, Bool, true, false, ◌&&◌, ◌==◌, nat_lt, min, [], Option, Some, None}
 use Rattle.message_view.specs.declared.kinds.TheConstants.{ASKS_CLEARTEXT, ASKS_MD5}
 use Rattle.link_laws.specs.Stages.{Server, Auth, NoAuth, Asks, Before}
 use Rattle.link_laws.specs.Standing.{Standing}

@@ -16,13 +16,19 @@ const OWN: KeyWord = KeyWord {
 };
 
 /// The user ann and the database shop.
-const START: &[u8] = b"\0\0\0\x20\0\x03\0\0user\0ann\0database\0shop\0\0";
+fn start() -> &'static [u8] {
+    b"\0\0\0\x20\0\x03\0\0user\0ann\0database\0shop\0\0"
+}
 
-const WELCOME: &[u8] =
-    b"R\0\0\0\x08\0\0\0\0S\0\0\0\x16application_name\0\0S\0\0\0\x19client_encoding\0UTF8\0S\0\0\0\x17DateStyle\0ISO, MDY\0S\0\0\0\x19integer_datetimes\0on\0S\0\0\0\x1bIntervalStyle\0postgres\0S\0\0\0\x19server_encoding\0UTF8\0S\0\0\0\x18server_version\x0016.0\0S\0\0\0\x23standard_conforming_strings\0on\0S\0\0\0\x11TimeZone\0UTC\0K\0\0\0\x0c\0\0\0\x07\0\0\0\x08Z\0\0\0\x05I";
+/// The welcome of its session, with the server's own key word.
+fn welcome() -> &'static [u8] {
+    b"R\0\0\0\x08\0\0\0\0S\0\0\0\x16application_name\0\0S\0\0\0\x19client_encoding\0UTF8\0S\0\0\0\x17DateStyle\0ISO, MDY\0S\0\0\0\x19integer_datetimes\0on\0S\0\0\0\x1bIntervalStyle\0postgres\0S\0\0\0\x19server_encoding\0UTF8\0S\0\0\0\x18server_version\x0016.0\0S\0\0\0\x23standard_conforming_strings\0on\0S\0\0\0\x11TimeZone\0UTC\0K\0\0\0\x0c\0\0\0\x07\0\0\0\x08Z\0\0\0\x05I"
+}
 
 /// The error of a wrong password.
-const WRONG: &[u8] = b"E\0\0\0\x3aSFATAL\0VFATAL\0C28P01\0Mpassword authentication failed\0\0";
+fn refusal() -> &'static [u8] {
+    b"E\0\0\0\x3aSFATAL\0VFATAL\0C28P01\0Mpassword authentication failed\0\0"
+}
 
 fn server(
     alloc: Global,
@@ -82,7 +88,7 @@ fn welcomes_whatever_the_cut(rt: HostRuntime) -> Result<(), Fail> {
     let alloc = rt.alloc();
     for cut in [1, 7, 8192] {
         let mut server = server(alloc, ServerAuth::Trust, cut, None)?;
-        is_answered(&rt, alloc, &mut server, START, WELCOME)?;
+        is_answered(&rt, alloc, &mut server, start(), welcome())?;
         is_answered(
             &rt,
             alloc,
@@ -102,16 +108,16 @@ fn asks_for_a_password(rt: HostRuntime) -> Result<(), Fail> {
     let alloc = rt.alloc();
     let question = b"R\0\0\0\x08\0\0\0\x03";
     let mut right = server(alloc, ServerAuth::Plain(b"a"), 8192, None)?;
-    is_answered(&rt, alloc, &mut right, START, question)?;
-    is_answered(&rt, alloc, &mut right, b"p\0\0\0\x06a\0", WELCOME)?;
-    for wrong in [
+    is_answered(&rt, alloc, &mut right, start(), question)?;
+    is_answered(&rt, alloc, &mut right, b"p\0\0\0\x06a\0", welcome())?;
+    for answer in [
         b"p\0\0\0\x06b\0".as_slice(),
         b"p\0\0\0\x04",
         b"Q\0\0\0\x06a\0",
     ] {
         let mut server = server(alloc, ServerAuth::Plain(b"a"), 8192, None)?;
-        is_answered(&rt, alloc, &mut server, START, question)?;
-        is_answered(&rt, alloc, &mut server, wrong, WRONG)?;
+        is_answered(&rt, alloc, &mut server, start(), question)?;
+        is_answered(&rt, alloc, &mut server, answer, refusal())?;
         is_answered(&rt, alloc, &mut server, b"S\0\0\0\x04", b"")?;
     }
     Ok(())
@@ -126,13 +132,13 @@ fn asks_for_a_digest(rt: HostRuntime) -> Result<(), Fail> {
     };
     let question = b"R\0\0\0\x0c\0\0\0\x05\x01\x02\x03\x04";
     let mut right = server(alloc, auth, 8192, None)?;
-    is_answered(&rt, alloc, &mut right, START, question)?;
+    is_answered(&rt, alloc, &mut right, start(), question)?;
     let answer = b"p\0\0\0\x28md5900150983cd24fb0d6963f7d28e17f72\0";
-    is_answered(&rt, alloc, &mut right, answer, WELCOME)?;
+    is_answered(&rt, alloc, &mut right, answer, welcome())?;
     let mut wrong = server(alloc, auth, 8192, None)?;
-    is_answered(&rt, alloc, &mut wrong, START, question)?;
+    is_answered(&rt, alloc, &mut wrong, start(), question)?;
     let answer = b"p\0\0\0\x28md5900150983cd24fb0d6963f7d28e17f73\0";
-    is_answered(&rt, alloc, &mut wrong, answer, WRONG)
+    is_answered(&rt, alloc, &mut wrong, answer, refusal())
 }
 
 /// AuthenticationOk, and then the error of the start.
@@ -140,10 +146,10 @@ fn asks_for_a_digest(rt: HostRuntime) -> Result<(), Fail> {
 fn refuses_starts(rt: HostRuntime) -> Result<(), Fail> {
     let alloc = rt.alloc();
     let mut other = server(alloc, ServerAuth::Trust, 8192, None)?;
-    let start = b"\0\0\0\x12\0\x03\0\0user\0ann\0\0";
+    let ann = b"\0\0\0\x12\0\x03\0\0user\0ann\0\0";
     let no_database =
         b"R\0\0\0\x08\0\0\0\0E\0\0\0\x33SFATAL\0VFATAL\0C3D000\0Mdatabase does not exist\0\0";
-    is_answered(&rt, alloc, &mut other, start, no_database)?;
+    is_answered(&rt, alloc, &mut other, ann, no_database)?;
     let mut nobody = server(alloc, ServerAuth::Trust, 8192, None)?;
     let no_user =
         b"R\0\0\0\x08\0\0\0\0E\0\0\0\x32SFATAL\0VFATAL\0C08P01\0Minvalid message format\0\0";
@@ -154,12 +160,12 @@ fn refuses_starts(rt: HostRuntime) -> Result<(), Fail> {
 fn dies<A: Abort>(rt: &A, alloc: Global, after: u64, cut: usize) -> Result<(), Fail> {
     let mut server = server(alloc, ServerAuth::Trust, cut, Some(after))?;
     let mut out = BytesMut::new(alloc);
-    let taken = send(&mut server, START);
+    let taken = send(&mut server, start());
     assert!(rt; taken == (after > 0));
     assert!(rt; receive(&mut server, &mut out)? == Moved::Ended);
     assert_eq!(rt; out.len() as u64, after);
-    assert!(rt; WELCOME.starts_with(out.as_slice()));
-    assert!(rt; server.write_some(START) == Moved::Ended);
+    assert!(rt; welcome().starts_with(out.as_slice()));
+    assert!(rt; server.write_some(start()) == Moved::Ended);
     Ok(())
 }
 
@@ -180,7 +186,7 @@ fn counts_what_came_to_nothing(rt: HostRuntime) -> Result<(), Fail> {
     let mut piece = [0; 10];
     assert!(rt; server.read_some(&mut piece) == Moved::NotNow);
     assert!(rt; server.read_some(&mut piece) == Moved::NotNow);
-    assert!(rt; server.write_some(START) == Moved::Count(32));
+    assert!(rt; server.write_some(start()) == Moved::Count(32));
     assert!(rt; server.waits() == (2, 0));
     assert_eq!(rt; server.faults(), 0);
     Ok(())

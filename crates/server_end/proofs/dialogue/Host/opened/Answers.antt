@@ -9,4 +9,4 @@ pub returns-in_ok-put_fatal-in-Err-Refused : goal.returns-in_ok-put_fatal-in-Err
 returns-in_ok-put_fatal-in-Err-Refused c =
     let refused = rw c.in-Err-Refused.field-0-is at c.in-Err-Refused.ensures in
     turn_refused (server_of c.args.self.now) _ c.in-Err-Refused.cause _ c.put_authentication_ok.new.out.items c.put_fatal.new.out.items
-    (ap (λ (x : CatalogueOf). started_by x c.args.start.now) (sym c.deref.ensures) ∙ refused) c.in_ok-put_authentication_ok.ensures.ok c.in_ok-put_fatal-in-Err-Refused.ensures.ok
+    (ap (λ (x : CatalogueOf). started_by x c.args.start.now) (sym c.deref.ensures) ∙ refused) c.in_ok-put_authentication_ok.ensures.0 c.in_ok-put_fatal-in-Err-Refused.ensures.ok
