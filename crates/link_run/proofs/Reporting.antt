@@ -49,5 +49,5 @@ start-reports (p ∷ ps) [] ws e = refl
 start-reports (p ∷ ps) (v ∷ vs) [] e = absurd (omega (arith, e))
 start-reports (p ∷ ps) (v ∷ vs) (w ∷ ws) e = ap (λ (fs : List FrameOf). parameter_status (name p) v ∷ fs) (start-reports ps vs ws (omega (arith, e)))
 
-pub welcome-is : WelcomesAreTheSessions
-welcome-is s pid secret = ap (λ (fs : List FrameOf). fs ++ backend_key_data pid secret ∷ ready_for_query IDLE ∷ []) (start-reports reported_parameters s.reported s.reported refl)
+pub welcome_is : WelcomesAreTheSessions
+welcome_is s pid secret = ap (λ (fs : List FrameOf). fs ++ backend_key_data pid secret ∷ ready_for_query IDLE ∷ []) (start-reports reported_parameters s.reported s.reported refl)
