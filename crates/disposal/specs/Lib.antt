@@ -1,0 +1,3 @@
+pub mod Traffics
+pub mod Tallies
+pub mod Laws
