@@ -3,7 +3,7 @@ use Rattle.std.specs.Prelude.{◌≡◌, ◌≢◌, true, false}
 use Rattle.disposal.specs.declared.Verdict.TheVariants.{Settled}
 use Rattle.link_laws.specs.Standing.{Standing}
 use Rattle.link_run.specs.Links.{LinkView}
-use Rattle.relay_core.specs.Leases.{RelayView, relay_verdict}
+use Rattle.relay_laws.specs.Leases.{RelayView, relay_verdict}
 use Rattle.relay_core.specs.declared.relay.Cause.{Cause}
 use Rattle.relay_core.specs.declared.relay.Cause.TheVariants.{Left, Lost}
 use Rattle.relay_core.specs.declared.relay.Returned.{Returned}

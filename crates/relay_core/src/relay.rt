@@ -1,80 +1,49 @@
-//! A lease: each pump moves bytes, and at the end the link is handed back.
-ghost use Rattle.std.specs.Prelude.{◌≡◌, ◌≤◌, ◌<◌, ◌+◌, ◌&&◌, ◌⊎◌, drop, length, true, false, IfErr, IfOk, Some, ◌≢◌};
-ghost use Rattle.disposal.specs.declared.Verdict.TheVariants.{Settled};
-ghost use Rattle.std.specs.Arc.{arc_value};
-ghost use Rattle.disposal.specs.Tallies.{Tally};
-ghost use Rattle.relay_core.specs.Flows.{count_of, is_empty};
-ghost use Rattle.relay_core.specs.Leases.{any_over, client_read, client_wrote, got_one, is_faulty, judged, link_moved, moved_or, refusal_of, sent_one, verdict_by};
+//! One lease: a client's end, a link, and the bytes between them.
+ghost use Rattle.std.specs.Prelude.{◌≡◌, ◌≤◌, ◌<◌, ◌+◌, ◌&&◌, ◌⊎◌, drop, length, true, false, IfErr, IfOk, Some};
+ghost use Rattle.frame_view.specs.declared.frames.TheConstants.{LONGEST_FRAME};
+ghost use Rattle.relay_flow.specs.Flows.{is_empty};
 
-use crate::flow::{Ends, Flow, Passed};
-use disposal::laws::settled_exactly;
+use crate::answers::{moved_or, phase_after, refusal_of};
+use crate::flags::{any_over, client_read, client_wrote, count_moved, link_moved, none_moved};
+use crate::verdict::{is_settled, tell_arrived, tell_sent, verdict_by};
+use disposal::laws::{calls_tell, settled_exactly};
 use disposal::{Traffic, Verdict};
-use frame_view::{FrameFault, Side};
+use frame_view::Side;
 use link_run::links::{CleanLink, Lent, UsedLink};
 use message_view::{KeyWord, Refusal};
+use relay_flow::flow::Flow;
+use relay_laws::{Flags, Phase};
+use relay_steps::Next;
+use server_end::gate::Ready;
 use server_end::{ClientEnd, Moved, ServerEnd};
 use std::alloc::Global;
 use std::marker::Model;
 
-/// Which ends may be read and written.
-#[derive(Clone, Copy, Debug, PartialEq, Eq, Drop)]
-pub struct Ready {
-    pub client: bool,
-    pub server: bool,
-}
-
-/// What a pump came to.
-#[derive(Clone, Copy, Debug, PartialEq, Eq, Drop)]
-pub enum Next {
-    /// A byte was moved.
-    Again,
-    /// None was.
-    Wait,
-    ClientDone,
-    Refuse(Refusal),
-    Closed,
-}
-
-/// Whether the relay has ended.
-#[derive(Clone, Copy, Debug, PartialEq, Eq, Drop)]
-pub enum Phase {
-    Running,
-    Done,
-    Shut,
-}
-
-/// What the ends have answered so far.
-#[derive(Clone, Copy, Debug, PartialEq, Eq, Drop)]
-pub struct Flags {
-    /// A byte went over the link.
-    pub touched: bool,
-    /// The client's end faulted, or takes nothing more.
-    pub client_over: bool,
-    /// It gives nothing more.
-    pub input_over: bool,
-    /// The link's end faulted or ended.
-    pub link_over: bool,
-}
-
-/// Why a link is gone.
+/// Why a link can't be used again.
 #[derive(Clone, Copy, Debug, PartialEq, Eq, Drop)]
 pub enum Cause {
-    /// What went over it doesn't settle.
+    /// Bytes went over it, and the verdict on them isn't Settled.
     Left(Verdict),
-    /// Its end faulted or ended before anything went over it.
+    /// Nothing went over it, and its end faulted or ended.
     Lost,
 }
 
 /// What becomes of a link when its lease ends.
 #[derive(Drop)]
 pub enum Returned<E: ServerEnd> {
-    /// Nothing went over it.
+    /// No byte went over it either way, and its end neither faulted nor ended: it is as clean as it was.
     Unused(CleanLink<E>),
+    /// Bytes went over it, and the verdict on them is Settled: a reset makes it clean.
     Used(UsedLink<E>),
+    /// Neither: the link taken apart, and why.
     Gone(Lent<E>, Cause),
 }
 
 /// A client's end, a link, and the bytes between them.
+///
+/// The client is given the welcome first, and then the server's frames; the link is given the client's frames, in their order
+/// and unchanged. Client's Terminate stays here. Contracts see the ends' facts, the two buffers, the counts and the flags;
+/// that some lease is under way (`IsLease`) is the type's invariant, and the laws of `relay_laws` say what follows from it.
 #[derive(Drop)]
 pub struct Relay<C: ClientEnd, E: ServerEnd> {
     client: C,
@@ -92,7 +61,7 @@ pub struct Relay<C: ClientEnd, E: ServerEnd> {
 impl<C: ClientEnd, E: ServerEnd> Model for Relay<C, E> {
     ghost use Rattle.std.specs.Prelude.{◌≤◌, drop, length};
     ghost use Rattle.std.specs.Arc.{arc_value};
-    ghost use Rattle.relay_core.specs.Leases.{RelayView, relay_view, IsRelay};
+    ghost use Rattle.relay_laws.specs.Leases.{RelayView, relay_view, IsRelay};
 
     ghost Value = { RelayView };
 
@@ -101,16 +70,7 @@ impl<C: ClientEnd, E: ServerEnd> Model for Relay<C, E> {
     ghost invariant = { λ r. (r.greeted ≤ length r.welcome.items) × IsRelay (relay_view (C.facts r.client) (E.standing r.link.end) (arc_value r.link.key) r.link.number r.link.born r.word (drop r.greeted r.welcome.items) r.to_link r.to_client r.traffic r.flags r.phase) };
 }
 
-fn count_moved(moved: Moved) -> usize
-    ensures { result ≡ count_of moved }
-{
-    if let Moved::Count(count) = moved {
-        count
-    } else {
-        0
-    }
-}
-
+/// What is left of some bytes.
 fn rest_of(bytes: &[u8], from: usize) -> &[u8]
     requires { from ≤ length bytes.now }
     ensures { result.now ≡ drop from bytes.now }
@@ -118,155 +78,19 @@ fn rest_of(bytes: &[u8], from: usize) -> &[u8]
     &bytes[from..]
 }
 
-fn none_moved(one: Moved, two: Moved, three: Moved, four: Moved) -> bool
-    ensures none { result ≡ true → count_of one + (count_of two + (count_of three + count_of four)) ≡ 0 }
-    ensures some { result ≡ false → 0 < count_of one + (count_of two + (count_of three + count_of four)) }
-{
-    count_moved(one) == 0
-        && count_moved(two) == 0
-        && count_moved(three) == 0
-        && count_moved(four) == 0
-}
-
-fn moved_or(none: bool) -> Next
-    ensures { result ≡ moved_or none }
-{
-    if none { Next::Wait } else { Next::Again }
-}
-
-fn refusal_of(ends: Ends) -> Option<Refusal>
-    ensures { result ≡ refusal_of ends }
-{
-    match ends {
-        Ends::Open | Ends::Last => None,
-        Ends::Faulty(FrameFault::TooLong) => Some(Refusal::ClientMessageTooLong),
-        Ends::Faulty(_) => Some(Refusal::MalformedClientMessage),
-    }
-}
-
-fn phase_after(next: Next) -> Phase
-    ensures { result ≡ Rattle.relay_core.specs.Leases.phase_after next }
-{
-    match next {
-        Next::Again | Next::Wait => Phase::Running,
-        Next::ClientDone => Phase::Done,
-        Next::Refuse(_) | Next::Closed => Phase::Shut,
-    }
-}
-
-fn verdict_by(verdict: Verdict, faulty: bool, border: bool) -> Verdict
-    ensures { result ≡ verdict_by verdict faulty border }
-{
-    match verdict {
-        Verdict::Broken => Verdict::Broken,
-        Verdict::MidFrame => if faulty {
-            Verdict::Broken
-        } else {
-            Verdict::MidFrame
-        },
-        Verdict::Unanswered | Verdict::InBlock | Verdict::Settled => {
-            if faulty {
-                return Verdict::Broken;
-            }
-            if border { verdict } else { Verdict::MidFrame }
-        }
-    }
-}
-
-fn is_settled(verdict: Verdict) -> bool
-    ensures yes { result ≡ true → verdict ≡ Settled }
-    ensures no { result ≡ false → verdict ≢ Settled }
-{
-    matches!(verdict, Verdict::Settled)
-}
-
-/// A whole frame of the client went on.
-fn sent_one(traffic: &mut Traffic, kind: u8)
-    requires { traffic.old.is_sending ≡ false }
-    ensures { traffic.new ≡ sent_one kind traffic.old }
-{
-    traffic.send_begin(kind);
-    traffic.send_end();
-}
-
-/// A whole frame of the server went on.
-fn got_one(traffic: &mut Traffic, passed: Passed)
-    requires { traffic.old.is_getting ≡ false }
-    ensures { traffic.new ≡ got_one passed traffic.old }
-{
-    traffic.got_begin(passed.kind);
-    traffic.got_end(passed.status);
-    if passed.odd {
-        traffic.broken();
-    }
-}
-
-fn is_ended(moved: Moved) -> bool
-    ensures { result ≡ Rattle.relay_core.specs.Leases.is_end moved }
-{
-    matches!(moved, Moved::Ended)
-}
-
-fn is_fault(moved: Moved) -> bool
-    ensures { result ≡ Rattle.relay_core.specs.Leases.is_fault moved }
-{
-    matches!(moved, Moved::Fault)
-}
-
-fn is_count(moved: Moved) -> bool
-    ensures { result ≡ Rattle.relay_core.specs.Leases.counts moved }
-{
-    matches!(moved, Moved::Count(_))
-}
-
-fn link_moved(flags: Flags, moved: Moved) -> Flags
-    ensures { result ≡ link_moved flags moved }
-{
-    Flags {
-        touched: flags.touched || is_count(moved),
-        client_over: flags.client_over,
-        input_over: flags.input_over,
-        link_over: flags.link_over || (is_ended(moved) || is_fault(moved)),
-    }
-}
-
-fn client_read(flags: Flags, moved: Moved) -> Flags
-    ensures { result ≡ client_read flags moved }
-{
-    Flags {
-        touched: flags.touched,
-        client_over: flags.client_over || is_fault(moved),
-        input_over: flags.input_over || is_ended(moved),
-        link_over: flags.link_over,
-    }
-}
-
-fn client_wrote(flags: Flags, moved: Moved) -> Flags
-    ensures { result ≡ client_wrote flags moved }
-{
-    Flags {
-        touched: flags.touched,
-        client_over: flags.client_over || (is_ended(moved) || is_fault(moved)),
-        input_over: flags.input_over,
-        link_over: flags.link_over,
-    }
-}
-
-fn any_over(flags: Flags) -> bool
-    ensures { result ≡ any_over flags }
-{
-    flags.client_over || (flags.input_over || flags.link_over)
-}
-
 impl<C: ClientEnd, E: ServerEnd> Relay<C, E> {
-    ghost use Rattle.relay_core.specs.Leases.{Place, place, IsLease, IsGreeting, IsExact, IsAllowed, Keeps, EndsByClient, RefusedBy, AtBorder, IsCut, relay_verdict, at_border, is_done, is_quiet, border_next, quiet_next, phase_after};
+    ghost use Rattle.relay_laws.specs.Leases.{Place, place, IsLease, IsGreeting, IsExact, IsAllowed, Keeps, any_over, relay_verdict, at_border};
+    ghost use Rattle.relay_steps.specs.Answers.{EndsByClient, RefusedBy, AtBorder, IsCut, is_done, is_quiet, border_next, judged, quiet_next, phase_after};
     ghost use Rattle.relay_core.specs.Returns.{IsReturned};
-    ghost use Rattle.relay_core.specs.Steps.{bytes_moved, HoldsAll, IsStuck, IsStuckClient, may_read_client, may_read_link, may_write_client, may_write_link, OnlyToClient, OnlyToLink, ReadsClient, ReadsLink, stops_here, Waits, WritesClient, WritesLink};
-    ghost use Rattle.relay_core.specs.declared.relay.Next.TheVariants.{Again, Wait, ClientDone, Refuse, Closed};
-    ghost use Rattle.relay_core.specs.declared.relay.Phase.TheVariants.{Running, Done, Shut};
+    ghost use Rattle.relay_steps.specs.Steps.{bytes_moved, HoldsAll, IsStuck, IsStuckClient, may_read_client, may_read_link, may_write_client, may_write_link, OnlyToClient, OnlyToLink, ReadsClient, ReadsLink, stops_here, Waits, WritesClient, WritesLink};
+    ghost use Rattle.relay_steps.specs.declared.Next.TheVariants.{Again, Wait, ClientDone, Refuse, Closed};
+    ghost use Rattle.relay_laws.specs.declared.Phase.TheVariants.{Running, Done, Shut};
     ghost use Rattle.message_view.specs.declared.refusal.Refusal.{Refusal};
 
-    /// The lease begins here; the client is to be given this welcome first.
+    /// The lease of a link to a client begins. The client is to be given this welcome first: that of the link's fresh
+    /// session with the client's own key word. `limit` is the greatest length of a frame, both ways (at least 4).
+    ///
+    /// Memory for both buffers is taken here, and none later. Where there is none, both ends are handed back as they were.
     pub fn begin(
         alloc: Global,
         client: C,
@@ -276,7 +100,7 @@ impl<C: ClientEnd, E: ServerEnd> Relay<C, E> {
         welcome: Vec<u8>,
     ) -> Result<Relay<C, E>, (C, CleanLink<E>)>
         requires low { 4 ≤ limit }
-        requires high { limit ≤ 2147483647 }
+        requires high { limit ≤ LONGEST_FRAME }
         requires greets { IsGreeting link.stands link.key word welcome.items }
         ensures begun { IfOk result (IsLease (place (C.facts client) link word limit welcome.items)) }
         ensures client { IfOk result (λ r. r.client ≡ C.facts client) }
@@ -315,11 +139,19 @@ impl<C: ClientEnd, E: ServerEnd> Relay<C, E> {
         })
     }
 
-    /// Moves bytes: each end that is ready is read and written at most once.
+    /// Moves bytes: each end that is ready is read once and written once at most. It waits for nobody.
+    ///
+    /// Again: a byte was read or written. Wait: none was, since each end that is ready answered NotNow, or may not be read, or
+    /// has no room for what would be read, or nothing that may go on is held for it. ClientDone: the client sent Terminate or its
+    /// input ended, and all that may go on is written to the link; or its end faulted or takes nothing more. Refuse: at a
+    /// border of the frames that the client was given, its next frame is malformed or too long, or the server's is malformed,
+    /// or the server's end faulted or ended. Closed: the server's end faulted or ended inside a frame that was given in part.
+    ///
+    /// After ClientDone it answers ClientDone, after Refuse or Closed it answers Closed, and moves nothing.
     pub fn pump(&mut self, ready: Ready) -> Next
         ensures lease { Keeps self.old self.new }
         ensures exact { (p : Place) → IsLease p self.old → self.new.client.tells ≡ true → self.new.link.follows ≡ true → self.new.link.lives ≡ true → IsExact p self.new }
-        ensures allowed { (p : Place) → IsLease p self.old → self.new.client.tells ≡ true → self.new.link.follows ≡ true → p.stands.lives ≡ true → IsAllowed p self.new }
+        ensures allowed { (p : Place) → IsLease p self.old → self.new.client.tells ≡ true → self.new.link.follows ≡ true → IsAllowed p self.new }
         ensures judged { self.old.phase ≡ Running → (none : Rattle.std.specs.Prelude.Bool) × (result ≡ judged none self.new) }
         ensures done { (p : Place) → IsLease p self.old → self.old.phase ≡ Running → result ≡ ClientDone → EndsByClient p self.new }
         ensures refused { (p : Place) (r : Refusal) → IsLease p self.old → result ≡ Refuse r → AtBorder p self.new × RefusedBy p self.new r }
@@ -339,7 +171,7 @@ impl<C: ClientEnd, E: ServerEnd> Relay<C, E> {
         }
     }
 
-    /// The lease ends here.
+    /// The lease ends: the client's end, and the link for what it is worth.
     pub fn close(self) -> (C, Returned<E>)
         ensures client { C.facts result.0 ≡ self.client }
         ensures link { IsReturned E.standing self result.1 }
@@ -370,6 +202,7 @@ impl<C: ClientEnd, E: ServerEnd> Relay<C, E> {
         (client, Returned::Gone(link, Cause::Left(verdict)))
     }
 
+    /// The verdict on what went over the link.
     fn verdict(&self) -> Verdict
         ensures { result ≡ relay_verdict self.now }
     {
@@ -380,6 +213,7 @@ impl<C: ClientEnd, E: ServerEnd> Relay<C, E> {
         )
     }
 
+    /// Whether all that went on is written, and both directions stand at a border of their frames.
     fn at_border(&self) -> bool
         ensures { result ≡ at_border self.now }
     {
@@ -387,6 +221,7 @@ impl<C: ClientEnd, E: ServerEnd> Relay<C, E> {
             && (self.to_client.part_is_empty() && self.to_client.rest() == 0)
     }
 
+    /// A pump of a relay that hasn't ended.
     fn turn(&mut self, ready: Ready) -> Next
         requires { self.old.phase ≡ Running }
         ensures lease { Keeps self.old self.new }
@@ -402,6 +237,7 @@ impl<C: ClientEnd, E: ServerEnd> Relay<C, E> {
         next
     }
 
+    /// The four moves, and what they come to.
     fn run(&mut self, ready: Ready) -> Next
         ensures lease { Keeps self.old self.new }
         ensures judged { (none : Rattle.std.specs.Prelude.Bool) × (result ≡ judged none self.new) }
@@ -417,6 +253,7 @@ impl<C: ClientEnd, E: ServerEnd> Relay<C, E> {
         self.judge(none_moved(read, written, served, given))
     }
 
+    /// Whether the client is done.
     fn is_done(&self) -> bool
         ensures { result ≡ is_done self.now }
     {
@@ -424,18 +261,21 @@ impl<C: ClientEnd, E: ServerEnd> Relay<C, E> {
             || (self.to_link.held_is_empty() && (self.flags.input_over || self.to_link.is_last()))
     }
 
+    /// Whether the client was given its welcome.
     fn welcome_is_empty(&self) -> bool
         ensures { result ≡ is_empty self.now.greeting }
     {
         self.welcome[self.greeted..].is_empty()
     }
 
+    /// Whether the client was given all that may go on to it.
     fn is_quiet(&self) -> bool
         ensures { result ≡ is_quiet self.now }
     {
         self.welcome_is_empty() && self.to_client.held_is_empty()
     }
 
+    /// The answer at a border of the server's frames.
     fn border_next(&self, none: bool) -> Next
         ensures { result ≡ border_next none self.now }
     {
@@ -451,6 +291,7 @@ impl<C: ClientEnd, E: ServerEnd> Relay<C, E> {
         moved_or(none)
     }
 
+    /// The answer where all is given.
     fn quiet_next(&self, none: bool) -> Next
         ensures { result ≡ quiet_next none self.now }
     {
@@ -463,6 +304,7 @@ impl<C: ClientEnd, E: ServerEnd> Relay<C, E> {
         moved_or(none)
     }
 
+    /// The answer.
     fn judge(&self, none: bool) -> Next
         ensures { result ≡ judged none self.now }
     {
@@ -475,6 +317,7 @@ impl<C: ClientEnd, E: ServerEnd> Relay<C, E> {
         moved_or(none)
     }
 
+    /// Reads the client, and lets what may go on.
     fn from_client(&mut self, ready: bool) -> Moved
         ensures keeps { Keeps self.old self.new }
         ensures steps { ReadsClient ready self.old self.new result }
@@ -485,6 +328,7 @@ impl<C: ClientEnd, E: ServerEnd> Relay<C, E> {
         moved
     }
 
+    /// Reads the link, and lets what may go on.
     fn from_link(&mut self, ready: bool) -> Moved
         ensures keeps { Keeps self.old self.new }
         ensures steps { ReadsLink ready self.old self.new result }
@@ -495,6 +339,7 @@ impl<C: ClientEnd, E: ServerEnd> Relay<C, E> {
         moved
     }
 
+    /// Writes to the link.
     fn for_link(&mut self, ready: bool) -> Moved
         ensures keeps { Keeps self.old self.new }
         ensures steps { WritesLink ready self.old self.new result }
@@ -505,6 +350,7 @@ impl<C: ClientEnd, E: ServerEnd> Relay<C, E> {
         self.write_link(ready)
     }
 
+    /// Writes to the client: first its welcome.
     fn for_client(&mut self, ready: bool) -> Moved
         ensures keeps { Keeps self.old self.new }
         ensures steps { WritesClient ready self.old self.new result }
@@ -518,18 +364,21 @@ impl<C: ClientEnd, E: ServerEnd> Relay<C, E> {
         self.write_welcome(ready)
     }
 
+    /// Whether the client is read: no end is over, and its frames go on.
     fn may_read_client(&self, ready: bool) -> bool
         ensures { result ≡ may_read_client ready self.now }
     {
         ready && (!any_over(self.flags) && self.to_link.is_open())
     }
 
+    /// Whether the link is read: no end is over, its frames go on, and the welcome was given.
     fn may_read_link(&self, ready: bool) -> bool
         ensures { result ≡ may_read_link ready self.now }
     {
         ready && (!any_over(self.flags) && (self.to_client.is_open() && self.welcome_is_empty()))
     }
 
+    /// Whether the link is written to: not after a fault of the client's bytes.
     fn may_write_link(&self, ready: bool) -> bool
         ensures { result ≡ may_write_link ready self.now }
     {
@@ -538,12 +387,14 @@ impl<C: ClientEnd, E: ServerEnd> Relay<C, E> {
                 && (!self.to_link.is_faulty() && !self.to_link.held_is_empty()))
     }
 
+    /// Whether the client is written to.
     fn may_write_client(&self, ready: bool) -> bool
         ensures { result ≡ may_write_client ready self.now }
     {
         ready && (!self.flags.client_over && !self.is_quiet())
     }
 
+    /// One read of the client, where it may be and there is room.
     fn read_client(&mut self, ready: bool) -> Moved
         ensures keeps { Keeps self.old self.new }
         ensures steps { ReadsClient ready self.old self.new result }
@@ -559,6 +410,7 @@ impl<C: ClientEnd, E: ServerEnd> Relay<C, E> {
         moved
     }
 
+    /// One read of the link, where it may be and there is room.
     fn read_link(&mut self, ready: bool) -> Moved
         ensures keeps { Keeps self.old self.new }
         ensures steps { ReadsLink ready self.old self.new result }
@@ -617,6 +469,7 @@ impl<C: ClientEnd, E: ServerEnd> Relay<C, E> {
         moved
     }
 
+    /// Lets all of the client's frames go on that may.
     fn pass_all_to_link(&mut self)
         ensures keeps { Keeps self.old self.new }
         ensures only { OnlyToLink self.old self.new }
@@ -625,6 +478,7 @@ impl<C: ClientEnd, E: ServerEnd> Relay<C, E> {
         'frames: while self.pass_to_link() {}
     }
 
+    /// Lets all of the server's frames go on that may.
     fn pass_all_to_client(&mut self)
         ensures keeps { Keeps self.old self.new }
         ensures only { OnlyToClient self.old self.new }
@@ -647,7 +501,8 @@ impl<C: ClientEnd, E: ServerEnd> Relay<C, E> {
             return false;
         };
         if passed.whole {
-            sent_one(&mut self.traffic, passed.kind);
+            calls_tell();
+            tell_sent(&mut self.traffic, passed.kind);
         }
         true
     }
@@ -673,7 +528,8 @@ impl<C: ClientEnd, E: ServerEnd> Relay<C, E> {
             return false;
         };
         if passed.whole {
-            got_one(&mut self.traffic, passed);
+            calls_tell();
+            tell_arrived(&mut self.traffic, passed);
         }
         true
     }

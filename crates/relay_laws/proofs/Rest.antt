@@ -1,0 +1,126 @@
+-- What a lease's end says of its link.
+use Rattle.std.proofs.Common.{◌≡◌, ◌⊎◌, ⊎_elim, ℕ, Bool, true, false, cond, List, [], ◌∷◌, ◌++◌, refl, sym, ap, ap₂, ◌∙◌, append-nil, eqb-true, subst}
+use Rattle.std.specs.Prelude.{◌==◌, ◌&&◌, ◌||◌, nat_lt, Ok}
+use Rattle.std.proofs.lemmas.Bool.{and_parts}
+use Rattle.std.specs.List.{flat_map}
+use Rattle.disposal.specs.declared.Verdict.{Verdict}
+use Rattle.disposal.specs.declared.Verdict.TheVariants.{Broken, MidFrame, Unanswered, InBlock, Settled}
+use Rattle.disposal.specs.Tallies.{verdict_of}
+use Rattle.disposal.specs.Laws.{SettledExactly}
+use Rattle.frame_view.specs.Frames.{FrameOf, spelling}
+use Rattle.session_values.specs.State.{State, CatalogueOf, fresh}
+use Rattle.session_values.specs.Lawful.{IsLawfulCatalogue}
+use Rattle.session_values.specs.Step.{run_frames}
+use Rattle.session_laws.proofs.ByName.{fresh_is_reached, fresh_is_at_rest}
+use Rattle.link_laws.specs.Stages as stages
+use Rattle.link_laws.specs.Stages.{Stage, Open, Packet, packets_bytes, after, answers, MayTakeAll}
+use Rattle.link_laws.specs.Standing.{Served}
+use Rattle.link_laws.proofs.Both.{lives_before}
+use Rattle.link_laws.proofs.InSession.{InSession, in_session}
+use Rattle.link_laws.specs.Links.{IsClean, IsFresh, IsIdle, IsUsed, IsResting}
+use Rattle.run_laws.specs.Settling.{IsAnswered}
+use Rattle.link_laws.proofs.ByName.{settled_links_rest}
+use Rattle.relay_laws.proofs.Settling.{answered_by}
+use Rattle.relay_flow.specs.Flows.{is_empty, is_faulty}
+use Rattle.relay_laws.specs.Leases.{RelayView, Place, IsLease, at_border, relay_verdict}
+use Rattle.relay_laws.specs.Verdicts.{verdict_by}
+use Rattle.relay_laws.proofs.Leasing.{empty_is}
+use Rattle.relay_laws.proofs.Exact.{lease_of, under_way}
+
+-- ---- a link to which nothing was sent is fresh still
+
+nothing : (fs : List FrameOf) (left : List ℕ) → [] ≡ flat_map spelling fs ++ left → (fs ≡ []) × (left ≡ [])
+nothing [] left e = (refl, sym e)
+nothing (f ∷ fs) left e = absurd (cc)
+
+run-none : (cat : CatalogueOf) (s : State) → (run_frames cat s []).next ≡ s
+unfolding run_frames
+run-none cat s = refl
+
+replies-none : (cat : CatalogueOf) (s : State) → (run_frames cat s []).replies ≡ []
+unfolding run_frames
+replies-none cat s = refl
+
+none_both : (a b : List ℕ) → [] ≡ a ++ b → b ≡ []
+none_both [] b e = sym e
+none_both (x ∷ a) b e = absurd (cc)
+
+idle_still : (p : Place) (v : RelayView) (x : IsLease p v) (s : State) → Served p.stands x.sent v.link x.received → IsIdle p.stands s → x.sent ≡ [] → IsIdle v.link s
+idle_still p v x s m d e =
+    let cat : CatalogueOf = p.stands.server.catalogue in
+    let i : InSession p.stands.server s m.taken = in_session p.stands.server s m.taken (subst (λ (t : Stage). MayTakeAll p.stands.server t m.taken) d.is_open m.lawful) in
+    let w : [] ≡ flat_map spelling i.frames ++ v.link.inbox = ap₂ (λ (a b : List ℕ). a ++ b) (sym d.inbox) (sym e) ∙ m.inbox ∙ ap (λ (b : List ℕ). b ++ v.link.inbox) i.bytes in
+    let z : (i.frames ≡ []) × (v.link.inbox ≡ []) = nothing i.frames v.link.inbox w in
+    let o : [] ≡ x.received ++ v.link.outbox =
+    sym (ap (flat_map spelling) (replies-none cat s)) ∙ ap (λ (fs : List FrameOf). flat_map spelling (run_frames cat s fs).replies) (sym z.0)
+    ∙ ap (flat_map spelling) (sym i.replies) ∙ ap (λ (t : Stage). flat_map spelling (answers p.stands.server t m.taken)) (sym d.is_open)
+    ∙ ap (λ (b : List ℕ). b ++ flat_map spelling (answers p.stands.server p.stands.stage m.taken)) (sym d.outbox) ∙ m.outbox in
+    record {
+      is_open = m.stage ∙ ap (λ (t : Stage). after p.stands.server t m.taken) d.is_open ∙ i.stage ∙ ap (λ (fs : List FrameOf). Open (run_frames cat s fs).next) z.0 ∙ ap Open (run-none cat s);
+      inbox = z.1;
+      outbox = none_both x.received v.link.outbox o;
+    }
+
+pub fresh_still : (p : Place) (v : RelayView) (x : IsLease p v) → p.stands.follows ≡ true → x.sent ≡ [] → IsFresh v.link v.key
+fresh_still p v x f e =
+    let c : IsFresh p.stands v.key = x.clean f in
+    let cat : CatalogueOf = p.stands.server.catalogue in
+    let same : cat ≡ v.link.server.catalogue = ap (λ (y : stages.Server). y.catalogue) (sym x.moves.server) in
+    record {
+      session = c.session;
+      is_fresh = subst (λ (y : CatalogueOf). fresh y v.key ≡ Ok c.session) same c.is_fresh;
+      lawful = subst IsLawfulCatalogue same c.lawful;
+      lawful_key = c.lawful_key;
+      idle = λ n. idle_still p v x c.session (x.moves.served f n) (c.idle (lives_before p.stands v.link x.moves.dead n)) e;
+    }
+
+pub lease_clean : (p : Place) (v : RelayView) → IsLease p v → v.flags.touched ≡ false → IsClean v.link v.key
+lease_clean p v x e f = fresh_still p v x (sym x.moves.follows ∙ f) (x.untouched e).0
+
+-- ---- a link that settled is at rest
+
+settled_by : (w : Verdict) (f b : Bool) → verdict_by w f b ≡ Settled → (w ≡ Settled) × (b ≡ true)
+settled_by Broken f b e = absurd (cc)
+settled_by MidFrame true b e = absurd (cc)
+settled_by MidFrame false b e = absurd (cc)
+settled_by Unanswered true b e = absurd (cc)
+settled_by Unanswered false true e = absurd (cc)
+settled_by Unanswered false false e = absurd (cc)
+settled_by InBlock true b e = absurd (cc)
+settled_by InBlock false true e = absurd (cc)
+settled_by InBlock false false e = absurd (cc)
+settled_by Settled true b e = absurd (cc)
+settled_by Settled false true e = (refl, refl)
+settled_by Settled false false e = absurd (cc)
+
+rests_fresh : (p : Place) (v : RelayView) (x : IsLease p v) → p.stands.follows ≡ true → v.link.lives ≡ true → x.sent ≡ [] → IsResting v.link v.key
+rests_fresh p v x f n e =
+    let z : IsFresh v.link v.key = fresh_still p v x f e in
+    let cat : CatalogueOf = v.link.server.catalogue in
+    record {
+      session = z.session;
+      reached = fresh_is_reached cat v.key z.session z.lawful z.lawful_key z.is_fresh;
+      rests = fresh_is_at_rest cat v.key z.session z.is_fresh;
+      idle = z.idle n;
+    }
+
+rests_answered : (p : Place) (v : RelayView) (x : IsLease p v) → p.stands.follows ≡ true → v.link.lives ≡ true → v.to_link.held ≡ [] → x.tail ≡ [] → x.received ≡ flat_map spelling x.arrived → IsAnswered x.forwarded x.arrived → IsResting v.link v.key
+unfolding lease_of
+rests_answered p v x f n h t r a = settled_links_rest (lease_of p v x) x.arrived (under_way p v x f) f n h t x.came r a
+
+pub lease_used : (p : Place) (v : RelayView) → SettledExactly → IsLease p v → relay_verdict v ≡ Settled → IsUsed v.link v.key
+lease_used p v law x e f n =
+    let g : p.stands.follows ≡ true = sym x.moves.follows ∙ f in
+    let q = settled_by (verdict_of v.traffic) (is_faulty v.to_client.ends) (at_border v) e in
+    let b = and_parts (is_empty v.to_link.held && (v.to_link.rest == 0)) (is_empty v.to_client.part && (v.to_client.rest == 0)) q.1 in
+    let bl = and_parts (is_empty v.to_link.held) (v.to_link.rest == 0) b.0 in
+    let bc = and_parts (is_empty v.to_client.part) (v.to_client.rest == 0) b.1 in
+    let h : v.to_link.held ≡ [] = empty_is v.to_link.held bl.0 in
+    let t : x.tail ≡ [] = x.opens.border (eqb-true v.to_link.rest 0 bl.1) in
+    let fr : x.front ≡ [] = x.arrives.border (eqb-true v.to_client.rest 0 bc.1) in
+    let r : x.received ≡ flat_map spelling x.arrived = x.whole ∙ ap₂ (λ (a c : List ℕ). flat_map spelling x.arrived ++ (a ++ c)) fr (empty_is v.to_client.part bc.0) ∙ append-nil (flat_map spelling x.arrived) in
+    let sent : x.sent ≡ flat_map spelling x.forwarded = sym (append-nil x.sent) ∙ ap (λ (a : List ℕ). x.sent ++ a) (sym h) ∙ x.on_way ∙ ap (λ (a : List ℕ). flat_map spelling x.forwarded ++ a) t ∙ append-nil (flat_map spelling x.forwarded) in
+    ⊎_elim
+    (λ none. rests_fresh p v x g n (sent ∙ ap (flat_map spelling) none))
+    (λ a. rests_answered p v x g n h t r a)
+    (answered_by v.traffic x.forwarded x.arrived law x.tells q.0)

@@ -1,0 +1,215 @@
+-- A relay as contracts see it, and what one lease keeps.
+use Rattle.std.specs.Prelude.{◌≡◌, ◌⊎◌, ◌≢◌, ℕ, ◌<◌, ◌≤◌, Bool, true, false, cond, ◌&&◌, ◌||◌, ◌==◌, List, [], ◌++◌, Option, Some, None, Ok}
+use Rattle.std.specs.List.{flat_map, AllByRecursion}
+use Rattle.disposal.specs.declared.Verdict.{Verdict}
+use Rattle.disposal.specs.Tallies.{Tally, verdict_of}
+use Rattle.frame_view.specs.declared.Side.{Side}
+use Rattle.frame_view.specs.declared.Side.TheVariants.{Client, Server}
+use Rattle.frame_view.specs.Frames.{AreBytes, FrameOf, IsFrame, spelling}
+use Rattle.frame_view.specs.declared.frames.TheConstants.{LONGEST_FRAME}
+use Rattle.frame_view.specs.declared.client.TheConstants.{TERMINATE}
+use Rattle.message_view.specs.declared.KeyWord.{KeyWord}
+use Rattle.session_values.specs.State.{State, StartKeyOf, fresh}
+use Rattle.session_values.specs.Service.{service, welcome}
+use Rattle.session_laws.specs.Laws.{IsSent}
+use Rattle.link_laws.specs.Standing.{Standing, ClientFacts, Moves}
+use Rattle.server_end.specs.declared.Moved.{Moved}
+use Rattle.server_end.specs.declared.Moved.TheVariants as moved
+use Rattle.link_run.specs.Links.{LinkView}
+use Rattle.link_laws.specs.Links.{IsClean}
+use Rattle.link_laws.specs.Futures.{future}
+use Rattle.relay_flow.specs.Parts.{Opens}
+use Rattle.relay_flow.specs.Flows.{FlowView, IsEnded, is_empty, is_faulty}
+use Rattle.relay_laws.specs.Verdicts.{Telling, verdict_by}
+use Rattle.relay_laws.specs.declared.Flags.{Flags}
+use Rattle.relay_laws.specs.declared.Phase.{Phase}
+
+pub record RelayView : Type 0 where
+  pub client : ClientFacts
+  pub link : Standing
+  pub key : StartKeyOf
+  pub number : ℕ
+  pub born : ℕ
+  pub word : KeyWord
+  -- what the client is still to be given of its welcome
+  pub greeting : List ℕ
+  pub to_link : FlowView
+  pub to_client : FlowView
+  pub traffic : Tally
+  pub flags : Flags
+  pub phase : Phase
+
+abbrev pub relay_view : ClientFacts → Standing → StartKeyOf → ℕ → ℕ → KeyWord → List ℕ → FlowView → FlowView → Tally → Flags → Phase → RelayView
+relay_view client link key number born word greeting to_link to_client traffic flags phase = record {
+  client = client;
+  link = link;
+  key = key;
+  number = number;
+  born = born;
+  word = word;
+  greeting = greeting;
+  to_link = to_link;
+  to_client = to_client;
+  traffic = traffic;
+  flags = flags;
+  phase = phase;
+}
+
+-- ---- what an end's answer tells
+
+abbrev pub counts : Moved → Bool
+counts (moved.Count n) = true
+counts moved.NotNow = false
+counts moved.Ended = false
+counts moved.Fault = false
+
+abbrev pub is_end : Moved → Bool
+is_end (moved.Count n) = false
+is_end moved.NotNow = false
+is_end moved.Ended = true
+is_end moved.Fault = false
+
+abbrev pub is_fault : Moved → Bool
+is_fault (moved.Count n) = false
+is_fault moved.NotNow = false
+is_fault moved.Ended = false
+is_fault moved.Fault = true
+
+abbrev pub flags_of : Bool → Bool → Bool → Bool → Flags
+flags_of touched client_over input_over link_over = record { touched = touched; client_over = client_over; input_over = input_over; link_over = link_over }
+
+abbrev pub link_moved : Flags → Moved → Flags
+link_moved f m = flags_of (f.touched || counts m) f.client_over f.input_over (f.link_over || (is_end m || is_fault m))
+
+abbrev pub client_read : Flags → Moved → Flags
+client_read f m = flags_of f.touched (f.client_over || is_fault m) (f.input_over || is_end m) f.link_over
+
+abbrev pub client_wrote : Flags → Moved → Flags
+client_wrote f m = flags_of f.touched (f.client_over || (is_end m || is_fault m)) f.input_over f.link_over
+
+abbrev pub any_over : Flags → Bool
+any_over f = f.client_over || (f.input_over || f.link_over)
+
+-- ---- a lease
+
+-- where the ends stood when the lease began, and what the client was to be given first
+pub record Place : Type 0 where
+  pub told : Bool
+  pub taken : List ℕ
+  pub given : List ℕ
+  pub faults : ℕ
+  pub stands : Standing
+  pub key : StartKeyOf
+  pub number : ℕ
+  pub born : ℕ
+  pub word : KeyWord
+  pub limit : ℕ
+  pub greeting : List ℕ
+
+abbrev pub place : ClientFacts → LinkView → KeyWord → ℕ → List ℕ → Place
+place client link word limit greeting = record { told = client.tells; taken = client.taken; given = client.given; faults = client.faults; stands = link.stands; key = link.key; number = link.number; born = link.born; word = word; limit = limit; greeting = greeting }
+
+-- the welcome of the link's fresh session, with the client's own key word
+abbrev pub IsGreeting : Standing → StartKeyOf → KeyWord → List ℕ → Type 0
+IsGreeting at key word greeting = at.follows ≡ true → (s : State) → fresh at.server.catalogue key ≡ Ok s → greeting ≡ flat_map spelling (welcome s word.pid word.secret)
+
+-- the client's end has ended or faulted
+abbrev pub IsClientOver : ℕ → ClientFacts → Type 0
+IsClientOver faults c = (c.ended ≡ true) ⊎ (faults < c.faults)
+
+abbrev pub IsLinkOver : ℕ → Standing → Type 0
+IsLinkOver faults l = (l.lives ≡ false) ⊎ (faults < l.faults)
+
+-- a frame of the client that went on: lawful, under the limit, and no Terminate
+pub record IsForwarded (limit : ℕ) (f : FrameOf) : Type 0 where
+  pub sent : IsSent f
+  pub under : IsFrame Client limit f
+  pub goes_on : f.kind ≢ TERMINATE
+
+pub record IsFlow (side : Side) (f : FlowView) : Type 0 where
+  pub side_is : f.side ≡ side
+  pub low : 4 ≤ f.limit
+  pub high : f.limit ≤ LONGEST_FRAME
+  pub ended : IsEnded f
+
+-- it is the same link, key word and limit still
+abbrev pub IsSame : Place → RelayView → Type 0
+IsSame p v = (v.key ≡ p.key) × (v.number ≡ p.number) × (v.born ≡ p.born) × (v.word ≡ p.word) × (v.to_link.limit ≡ p.limit) × (v.to_client.limit ≡ p.limit)
+
+-- Since that place: the client's frames and the beginning (tail) of one more that went on, and the server's that came.
+pub record IsLease (p : Place) (v : RelayView) : Type 0 where
+  pub sent : List ℕ
+  pub received : List ℕ
+  pub since : List ℕ
+  pub forwarded : List FrameOf
+  pub arrived : List FrameOf
+  pub tail : List ℕ
+  pub front : List ℕ
+  pub clean : IsClean p.stands v.key
+  pub greets : IsGreeting p.stands v.key v.word p.greeting
+  pub same : IsSame p v
+  pub told : v.client.tells ≡ p.told
+  pub moves : Moves p.stands sent v.link received
+  pub of_client : IsFlow Client v.to_link
+  pub of_server : IsFlow Server v.to_client
+  pub opens : Opens v.to_link.side v.to_link.limit tail v.to_link.kind v.to_link.rest
+  pub arrives : Opens v.to_client.side v.to_client.limit front v.to_client.kind v.to_client.rest
+  pub tail_bytes : AreBytes tail
+  pub went : AllByRecursion (IsForwarded v.to_link.limit) forwarded
+  pub came : AllByRecursion (IsFrame Server LONGEST_FRAME) arrived
+  pub on_way : sent ++ v.to_link.held ≡ flat_map spelling forwarded ++ tail
+  pub taken : v.client.tells ≡ true → v.client.taken ≡ p.taken ++ (flat_map spelling forwarded ++ (tail ++ v.to_link.part))
+  pub given : v.client.tells ≡ true → v.client.given ≡ p.given ++ since
+  pub out : since ++ (v.greeting ++ (v.to_client.held ++ v.to_client.part)) ≡ p.greeting ++ received
+  pub whole : received ≡ flat_map spelling arrived ++ (front ++ v.to_client.part)
+  pub tells : Telling v.traffic forwarded arrived
+  pub client_faults : p.faults ≤ v.client.faults
+  pub link_faults : p.stands.faults ≤ v.link.faults
+  pub client_over : v.flags.client_over ≡ true → IsClientOver p.faults v.client
+  pub input_over : v.flags.input_over ≡ true → IsClientOver p.faults v.client
+  pub link_over : v.flags.link_over ≡ true → IsLinkOver p.stands.faults v.link
+  pub untouched : v.flags.touched ≡ false → (sent ≡ []) × (received ≡ [])
+
+-- some lease is under way
+abbrev pub IsRelay : RelayView → Type 0
+IsRelay v = (p : Place) × IsLease p v
+
+-- every lease under way stays so
+abbrev pub Keeps : RelayView → RelayView → Type 0
+Keeps v w = (p : Place) → IsLease p v → IsLease p w
+
+-- The equation: what was given since the lease began, what is held for the client, and the link's future with what is held
+-- for it, are what a server started for this client alone answers to the frames that went on.
+pub record IsExact (p : Place) (v : RelayView) : Type 0 where
+  pub forwarded : List FrameOf
+  pub since : List ℕ
+  pub tail : List ℕ
+  pub opens : Opens v.to_link.side v.to_link.limit tail v.to_link.kind v.to_link.rest
+  pub went : AllByRecursion (IsForwarded v.to_link.limit) forwarded
+  pub taken : v.client.taken ≡ p.taken ++ (flat_map spelling forwarded ++ (tail ++ v.to_link.part))
+  pub given : v.client.given ≡ p.given ++ since
+  pub equation : (since ++ (v.greeting ++ (v.to_client.held ++ v.to_client.part))) ++ future v.link v.to_link.held ≡ service p.stands.server.catalogue v.key v.word.pid v.word.secret (flat_map spelling forwarded ++ tail)
+
+-- Dead or alive: what was given and is held is a front of it, and what the link accepted are the client's own bytes.
+pub record IsAllowed (p : Place) (v : RelayView) : Type 0 where
+  pub forwarded : List FrameOf
+  pub since : List ℕ
+  pub tail : List ℕ
+  pub more : List ℕ
+  pub sent : List ℕ
+  pub opens : Opens v.to_link.side v.to_link.limit tail v.to_link.kind v.to_link.rest
+  pub went : AllByRecursion (IsForwarded v.to_link.limit) forwarded
+  pub taken : v.client.taken ≡ p.taken ++ (flat_map spelling forwarded ++ (tail ++ v.to_link.part))
+  pub given : v.client.given ≡ p.given ++ since
+  pub front : (since ++ (v.greeting ++ (v.to_client.held ++ v.to_client.part))) ++ more ≡ service p.stands.server.catalogue v.key v.word.pid v.word.secret (flat_map spelling forwarded ++ tail)
+  pub accepted : v.link.accepted ≡ p.stands.accepted ++ sent
+  pub forwards : sent ++ v.to_link.held ≡ flat_map spelling forwarded ++ tail
+
+-- ---- the verdict
+
+-- all that went on is written, and both directions stand at a border
+abbrev pub at_border : RelayView → Bool
+at_border v = (is_empty v.to_link.held && (v.to_link.rest == 0)) && (is_empty v.to_client.part && (v.to_client.rest == 0))
+
+abbrev pub relay_verdict : RelayView → Verdict
+relay_verdict v = verdict_by (verdict_of v.traffic) (is_faulty v.to_client.ends) (at_border v)
