@@ -1,6 +1,6 @@
 -- What each move of bytes does to a lease.
-use Rattle.std.proofs.Common.{◌≡◌, ◌≢◌, ℕ, zero, suc, ◌+◌, ◌≤◌, ◌<◌, inl, inr, ⊎_elim, length, arith, Bool, true, false, cond, List, [], ◌∷◌, ◌++◌, Option, refl, sym, ap, ap₂, ◌∙◌, append_assoc, append-nil, subst, take, drop, ◌-◌, length-drop, drop-drop, take-append-drop, length-take-le, eqb-true}
-use Rattle.std.specs.Prelude.{◌||◌, ◌&&◌, ◌==◌, not, if◌then◌else◌}
+use Rattle.std.proofs.Common.{◌≡◌, ◌≢◌, ℕ, zero, suc, ◌+◌, ◌≤◌, inl, inr, ⊎_elim, length, arith, Bool, true, false, List, [], ◌∷◌, ◌++◌, Option, refl, sym, ap, ap₂, ◌∙◌, append_assoc, append-nil, subst, take, drop, ◌-◌, length-drop, drop-drop, take-append-drop, length-take-le, eqb-true}
+use Rattle.std.specs.Prelude.{◌||◌}
 use Rattle.std.specs.List.{flat_map, AllByRecursion}
 use Rattle.std.proofs.lemmas.Grind.{flat_map-append}
 use Rattle.std.proofs.lemmas.Bool.{true≢false, false≢true}
@@ -24,7 +24,7 @@ use Rattle.session_values.proofs.Alls.{all-append}
 use Rattle.link_run.specs.Links.{LinkView}
 use Rattle.link_laws.specs.Links.{IsClean}
 use Rattle.relay_laws.specs.Verdicts.{told_sent, told_arrived}
-use Rattle.relay_laws.proofs.Settling.{tells_sent, tells_arrived, tells_none, status_may_end}
+use Rattle.relay_laws.proofs.Settling.{tells_sent, tells_arrived, tells_none}
 use Rattle.relay_flow.specs.Parts.{Opens, Spells}
 use Rattle.relay_flow.specs.declared.flow.Ends.{Ends}
 use Rattle.relay_flow.specs.declared.flow.Ends.TheVariants.{Open, Last, Faulty}
@@ -124,7 +124,7 @@ more_frames fs f = flat_map-append spelling fs (f ∷ []) ∙ ap (λ (b : List �
 -- ---- the frames that went on
 
 bytes_both : (xs ys : List ℕ) → AreBytes xs → AreBytes ys → AreBytes (xs ++ ys)
-bytes_both [] ys h k = k
+bytes_both [] ys h k i = k i
 bytes_both (x ∷ xs) ys h k zero = h zero
 bytes_both (x ∷ xs) ys h k (suc i) = bytes_both xs ys (λ j. h (suc j)) k i
 

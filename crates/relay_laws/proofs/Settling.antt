@@ -1,7 +1,7 @@
 -- What a settled verdict says of the frames, and what is told of one frame.
 use Rattle.std.proofs.Common.{◌≡◌, ◌⊎◌, inl, inr, ⊎_elim, ℕ, ◌+◌, Bool, true, false, List, [], ◌∷◌, ◌++◌, length, Option, Some, None, refl, sym, ap, ap₂, ◌∙◌, arith, append_assoc, subst, eqb-true}
 use Rattle.std.specs.Prelude.{◌==◌, ◌&&◌, ◌||◌, not, fold, nat_lt, if◌then◌else◌}
-use Rattle.std.specs.Option.{is_some, option_or}
+use Rattle.std.specs.Option.{option_or}
 use Rattle.std.specs.List.{flat_map, AllByRecursion}
 use Rattle.std.proofs.lemmas.Bool.{true≢false, false≢true, ne_eqb}
 use Rattle.std.proofs.lemmas.Grind.{flat_map-append}
@@ -64,6 +64,9 @@ same_closings n (f ∷ fs) = same_closings (more (more n (is_closing f.kind)) fa
 same_readies : (n : ℕ) (fs : List FrameOf) → fold (λ count event. more count (begins_ready event)) n (flat_map own_as fs) ≡ n + count is_ready fs
 same_readies n [] = omega arith
 same_readies n (f ∷ fs) = same_readies (more (more n (is_ready f)) false) fs ∙ omega arith
+
+from_none : {a n : ℕ} → a ≡ 0 + n → a ≡ n
+from_none e = omega (arith, e)
 
 -- ---- the last frame sent
 
@@ -144,7 +147,7 @@ settled sent received s = ⊎_elim (λ none. inl (none_sent sent none)) (λ some
     answered kind last closing idle =
         let x = last_sent-is sent kind last in
         record {
-          equal = sym (same_closings 0 sent) ∙ sym s.answered ∙ ap (λ (got : List Got). fold (λ count event. more count (begins_ready event)) 0 got) got_is ∙ same_readies 0 received;
+          equal = sym (from_none (same_closings 0 sent)) ∙ sym s.answered ∙ ap (λ (got : List Got). fold (λ count event. more count (begins_ready event)) 0 got) got_is ∙ from_none (same_readies 0 received);
           before = x.before;
           final = x.final;
           last = x.last;

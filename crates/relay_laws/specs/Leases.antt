@@ -1,5 +1,5 @@
 -- A relay as contracts see it, and what one lease keeps.
-use Rattle.std.specs.Prelude.{◌≡◌, ◌⊎◌, ◌≢◌, ℕ, ◌<◌, ◌≤◌, Bool, true, false, cond, ◌&&◌, ◌||◌, ◌==◌, List, [], ◌++◌, Option, Some, None, Ok}
+use Rattle.std.specs.Prelude.{◌≡◌, ◌⊎◌, ◌≢◌, ℕ, ◌<◌, ◌≤◌, Bool, true, false, ◌&&◌, ◌||◌, ◌==◌, List, [], ◌++◌, Ok}
 use Rattle.std.specs.List.{flat_map, AllByRecursion}
 use Rattle.disposal.specs.declared.Verdict.{Verdict}
 use Rattle.disposal.specs.Tallies.{Tally, verdict_of}
