@@ -15,8 +15,8 @@ use Rattle.relay_laws.specs.declared.Phase.{Phase}
 use Rattle.relay_steps.specs.declared.Next.{Next}
 use Rattle.relay_steps.specs.declared.Next.TheVariants.{Again, Wait}
 use Rattle.relay_flow.specs.Flows.{FlowView, SameCursor, came, count_of, Fills, IsPositive, is_faulty, is_last_end, is_open, is_empty}
-use Rattle.relay_laws.specs.Leases.{RelayView, relay_view, any_over, is_end, is_fault, flags_of, link_moved, client_read, client_wrote}
-use Rattle.relay_steps.specs.Answers.{is_done, is_quiet, judged}
+use Rattle.relay_laws.specs.Leases.{RelayView, relay_view, any_over, is_end, is_fault, link_moved, client_read, client_wrote}
+use Rattle.relay_steps.specs.Answers.{is_quiet, judged}
 use Rattle.relay_steps.specs.Steps.{bytes_moved, Adds, HasRoom, over_in, Kept, may_read_client, may_read_link, may_write_link, may_write_client, IsStuck, IsStuckClient, HoldsAll, OnlyToLink, OnlyToClient, ReadsClient, WritesLink, ReadsLink, WritesClient, Waits}
 use Rattle.relay_laws.proofs.Leasing.{Writes, Gives}
 use Rattle.relay_steps.proofs.Judging.{means}
