@@ -37,10 +37,10 @@ under_way p v x f =
     record {
       clean = c;
       moves = x.moves;
-      sent = all-sent v.to_link.limit x.forwarded x.went;
-      in_part = subst (λ (s : Side). Stops (front s LONGEST_FRAME x.tail)) x.of_client.side_is (opens_stops v.to_link.side v.to_link.limit LONGEST_FRAME x.tail v.to_link.kind v.to_link.rest x.of_client.high (omega arith) x.opens);
-      on_way = x.on_way;
-      out = x.out ∙ ap (λ (g : List ℕ). g ++ x.received) (x.greets f c.session c.is_fresh);
+      sent = all-sent v.to_link.limit x.forwarded x.goes.went;
+      in_part = subst (λ (s : Side). Stops (front s LONGEST_FRAME x.tail)) x.goes.flow.side_is (opens_stops v.to_link.side v.to_link.limit LONGEST_FRAME x.tail v.to_link.kind v.to_link.rest x.goes.flow.high (omega arith) x.goes.opens);
+      on_way = x.goes.on_way;
+      out = x.comes.out ∙ ap (λ (g : List ℕ). g ++ x.received) (x.greets f c.session c.is_fresh);
     }
 
 equation : (p : Place) (v : RelayView) (x : IsLease p v) → p.stands.follows ≡ true → v.link.lives ≡ true → lease.IsExact (lease_of p v x)
@@ -57,10 +57,10 @@ lease_exact p v x t f l = record {
   forwarded = x.forwarded;
   since = x.since;
   tail = x.tail;
-  opens = x.opens;
-  went = x.went;
-  taken = x.taken t;
-  given = x.given t;
+  opens = x.goes.opens;
+  went = x.goes.went;
+  taken = x.goes.taken t;
+  given = x.comes.given t;
   equation = equation p v x (sym x.moves.follows ∙ f) l;
 }
 
@@ -74,13 +74,13 @@ lease_allowed p v x t f =
       tail = x.tail;
       more = y.more;
       sent = x.sent;
-      opens = x.opens;
-      went = x.went;
-      taken = x.taken t;
-      given = x.given t;
+      opens = x.goes.opens;
+      went = x.goes.went;
+      taken = x.goes.taken t;
+      given = x.comes.given t;
       front = y.both;
       accepted = x.moves.accepted;
-      forwards = x.on_way;
+      forwards = x.goes.on_way;
     }
 
 -- with what held when it began

@@ -4,7 +4,7 @@ use Rattle.std.specs.Prelude.{◌||◌}
 use Rattle.std.specs.List.{flat_map, AllByRecursion}
 use Rattle.std.proofs.lemmas.Grind.{flat_map-append}
 use Rattle.std.proofs.lemmas.Bool.{true≢false, false≢true}
-use Rattle.disposal.specs.Tallies.{Tally, Tells}
+use Rattle.disposal.specs.Tallies.{Tally, Tells, may_end}
 use Rattle.disposal.specs.Laws.{CallsTell}
 use Rattle.frame_view.specs.declared.Side.{Side}
 use Rattle.frame_view.specs.declared.Side.TheVariants.{Client, Server}
@@ -23,8 +23,8 @@ use Rattle.link_laws.proofs.Both.{moves_got, moves_put, moves_none}
 use Rattle.session_values.proofs.Alls.{all-append}
 use Rattle.link_run.specs.Links.{LinkView}
 use Rattle.link_laws.specs.Links.{IsClean}
-use Rattle.relay_laws.specs.Verdicts.{told_sent, told_arrived}
-use Rattle.relay_laws.proofs.Settling.{tells_sent, tells_arrived, tells_none}
+use Rattle.relay_laws.specs.Verdicts.{begun_arrived, told_sent, told_arrived}
+use Rattle.relay_laws.proofs.Settling.{tells_sent, tells_arrived, tells_none, status_may_end}
 use Rattle.relay_flow.specs.Parts.{Opens, Spells}
 use Rattle.relay_flow.specs.declared.flow.Ends.{Ends}
 use Rattle.relay_flow.specs.declared.flow.Ends.TheVariants.{Open, Last, Faulty}
@@ -32,7 +32,7 @@ use Rattle.relay_flow.specs.declared.flow.Passed.{Passed}
 use Rattle.relay_laws.specs.declared.Flags.{Flags}
 use Rattle.relay_laws.specs.declared.Phase.{Phase}
 use Rattle.relay_flow.specs.Flows.{FlowView, SameCursor, came, count_of, Fills, Passes, Stays, IsEmptyFlow, IsEndedBy, is_open, is_empty}
-use Rattle.relay_laws.specs.Leases.{relay_view, Place, place, IsLease, IsForwarded, IsFlow, IsGreeting, IsClientOver, IsLinkOver, is_end, is_fault, counts, flags_of, link_moved, client_read, client_wrote}
+use Rattle.relay_laws.specs.Leases.{RelayView, relay_view, Place, place, IsLease, IsForwarded, IsFlow, IsGreeting, IsClientOver, IsLinkOver, is_end, is_fault, counts, flags_of, link_moved, client_read, client_wrote}
 
 -- ---- flows
 
@@ -172,25 +172,17 @@ lease_room_link p cf l k n b w gr tl tm tc t fs ph h e s x = record {
   same = (x.same.0, x.same.1, x.same.2, x.same.3, s.limit ∙ x.same.4, x.same.5);
   told = x.told;
   moves = x.moves;
-  of_client = flow_same Client tl tm s e x.of_client;
-  of_server = x.of_server;
-  opens = same_opens x.tail tl tm s x.opens;
-  arrives = x.arrives;
-  tail_bytes = x.tail_bytes;
-  went = same_went x.forwarded tl.limit tm.limit s.limit x.went;
-  came = x.came;
-  on_way = rw h x.on_way;
-  taken = λ z. rw e (x.taken z);
-  given = x.given;
-  out = x.out;
-  whole = x.whole;
-  tells = x.tells;
-  client_faults = x.client_faults;
-  link_faults = x.link_faults;
-  client_over = x.client_over;
-  input_over = x.input_over;
-  link_over = x.link_over;
-  untouched = x.untouched;
+  goes = record {
+    flow = flow_same Client tl tm s e x.goes.flow;
+    opens = same_opens x.tail tl tm s x.goes.opens;
+    tail_bytes = x.goes.tail_bytes;
+    went = same_went x.forwarded tl.limit tm.limit s.limit x.goes.went;
+    on_way = rw h x.goes.on_way;
+    taken = λ z. rw e (x.goes.taken z);
+  };
+  comes = x.comes;
+  tally = x.tally;
+  says = x.says;
 }
 
 pub lease_room_client : (p : Place) (cf : ClientFacts) (l : Standing) (k : StartKeyOf) (n : ℕ) (b : ℕ) (w : KeyWord) (gr : List ℕ) (tl : FlowView) (tc : FlowView) (td : FlowView) (t : Tally) (fs : Flags) (ph : Phase)
@@ -209,25 +201,17 @@ lease_room_client p cf l k n b w gr tl tc td t fs ph h e s x = record {
   same = (x.same.0, x.same.1, x.same.2, x.same.3, x.same.4, s.limit ∙ x.same.5);
   told = x.told;
   moves = x.moves;
-  of_client = x.of_client;
-  of_server = flow_same Server tc td s e x.of_server;
-  opens = x.opens;
-  arrives = same_opens x.front tc td s x.arrives;
-  tail_bytes = x.tail_bytes;
-  went = x.went;
-  came = x.came;
-  on_way = x.on_way;
-  taken = x.taken;
-  given = x.given;
-  out = rw (h, e) x.out;
-  whole = rw e x.whole;
-  tells = x.tells;
-  client_faults = x.client_faults;
-  link_faults = x.link_faults;
-  client_over = x.client_over;
-  input_over = x.input_over;
-  link_over = x.link_over;
-  untouched = x.untouched;
+  goes = x.goes;
+  comes = record {
+    flow = flow_same Server tc td s e x.comes.flow;
+    opens = same_opens x.front tc td s x.comes.opens;
+    came = x.comes.came;
+    given = x.comes.given;
+    out = rw (h, e) x.comes.out;
+    whole = rw e x.comes.whole;
+  };
+  tally = x.tally;
+  says = x.says;
 }
 
 pub lease_read_link : (p : Place) (cf : ClientFacts) (l : Standing) (m : Standing) (k : StartKeyOf) (n : ℕ) (b : ℕ) (w : KeyWord) (gr : List ℕ) (tl : FlowView) (tc : FlowView) (td : FlowView) (t : Tally) (fs : Flags) (fz : Flags) (ph : Phase) (r : Moved)
@@ -246,25 +230,24 @@ lease_read_link p cf l m k n b w gr tl tc td t fs fz ph r o f y z q x = record {
   same = (x.same.0, x.same.1, x.same.2, x.same.3, x.same.4, f.cursor.limit ∙ x.same.5);
   told = x.told;
   moves = moves_got p.stands l m x.sent x.received (came tc td) x.moves y;
-  of_client = x.of_client;
-  of_server = flow_open Server tc td f.cursor.side f.cursor.limit f.cursor.ends o x.of_server;
-  opens = x.opens;
-  arrives = same_opens x.front tc td f.cursor x.arrives;
-  tail_bytes = x.tail_bytes;
-  went = x.went;
-  came = x.came;
-  on_way = x.on_way;
-  taken = x.taken;
-  given = x.given;
-  out = ap₂ (λ (y z : List ℕ). x.since ++ (gr ++ (y ++ z))) f.held f.part ∙ at_end x.since gr tc.held tc.part (came tc td) p.greeting x.received x.out;
-  whole = cc (x.whole, f.part, append_assoc (flat_map spelling x.arrived) (x.front ++ tc.part) (came tc td), append_assoc x.front tc.part (came tc td));
-  tells = x.tells;
-  client_faults = x.client_faults;
-  link_faults = omega (arith, x.link_faults, z.faults);
-  client_over = λ v. x.client_over (sym (ap (λ (f : Flags). f.client_over) q) ∙ v);
-  input_over = λ v. x.input_over (sym (ap (λ (f : Flags). f.input_over) q) ∙ v);
-  link_over = λ v. or_by fs.link_over (is_end r || is_fault r) (sym (ap (λ (f : Flags). f.link_over) q) ∙ v) (λ a. link_stays p.stands.faults l m r z.faults y.dead (x.link_over a)) (λ a. link_now p.stands.faults l m r x.link_faults z.faults z.ended a);
-  untouched = λ v. let a : (fs.touched ≡ false) × (came tc td ≡ []) = still fs.touched r (came tc td) f.count (sym (ap (λ (f : Flags). f.touched) q) ∙ v) in let c : (x.sent ≡ []) × (x.received ≡ []) = x.untouched a.0 in (c.0, rw (c.1, a.1) refl);
+  goes = x.goes;
+  comes = record {
+    flow = flow_open Server tc td f.cursor.side f.cursor.limit f.cursor.ends o x.comes.flow;
+    opens = same_opens x.front tc td f.cursor x.comes.opens;
+    came = x.comes.came;
+    given = x.comes.given;
+    out = ap₂ (λ (y z : List ℕ). x.since ++ (gr ++ (y ++ z))) f.held f.part ∙ at_end x.since gr tc.held tc.part (came tc td) p.greeting x.received x.comes.out;
+    whole = cc (x.comes.whole, f.part, append_assoc (flat_map spelling x.arrived) (x.front ++ tc.part) (came tc td), append_assoc x.front tc.part (came tc td));
+  };
+  tally = x.tally;
+  says = record {
+    client_faults = x.says.client_faults;
+    link_faults = omega (arith, x.says.link_faults, z.faults);
+    client_over = λ v. x.says.client_over (sym (ap (λ (f : Flags). f.client_over) q) ∙ v);
+    input_over = λ v. x.says.input_over (sym (ap (λ (f : Flags). f.input_over) q) ∙ v);
+    link_over = λ v. or_by fs.link_over (is_end r || is_fault r) (sym (ap (λ (f : Flags). f.link_over) q) ∙ v) (λ a. link_stays p.stands.faults l m r z.faults y.dead (x.says.link_over a)) (λ a. link_now p.stands.faults l m r x.says.link_faults z.faults z.ended a);
+    untouched = λ v. let a : (fs.touched ≡ false) × (came tc td ≡ []) = still fs.touched r (came tc td) f.count (sym (ap (λ (f : Flags). f.touched) q) ∙ v) in let c : (x.sent ≡ []) × (x.received ≡ []) = x.says.untouched a.0 in (c.0, rw (c.1, a.1) refl);
+  };
 }
 
 pub lease_read_client : (p : Place) (cf : ClientFacts) (cg : ClientFacts) (l : Standing) (k : StartKeyOf) (n : ℕ) (b : ℕ) (w : KeyWord) (gr : List ℕ) (tl : FlowView) (tm : FlowView) (tc : FlowView) (t : Tally) (fs : Flags) (fz : Flags) (ph : Phase) (r : Moved)
@@ -283,26 +266,32 @@ lease_read_client p cf cg l k n b w gr tl tm tc t fs fz ph r o f y q x = record 
   same = (x.same.0, x.same.1, x.same.2, x.same.3, f.cursor.limit ∙ x.same.4, x.same.5);
   told = y.tells ∙ x.told;
   moves = x.moves;
-  of_client = flow_open Client tl tm f.cursor.side f.cursor.limit f.cursor.ends o x.of_client;
-  of_server = x.of_server;
-  opens = same_opens x.tail tl tm f.cursor x.opens;
-  arrives = x.arrives;
-  tail_bytes = x.tail_bytes;
-  went = same_went x.forwarded tl.limit tm.limit f.cursor.limit x.went;
-  came = x.came;
-  on_way = rw f.held x.on_way;
-  taken = λ z. let v : cf.tells ≡ true = sym y.tells ∙ z in
-      cc (x.taken v, y.taken v, f.part, append_assoc p.taken (flat_map spelling x.forwarded ++ (x.tail ++ tl.part)) (came tl tm), append_assoc (flat_map spelling x.forwarded) (x.tail ++ tl.part) (came tl tm), append_assoc x.tail tl.part (came tl tm));
-  given = λ z. let v : cf.tells ≡ true = sym y.tells ∙ z in cc (x.given v, y.given v);
-  out = x.out;
-  whole = x.whole;
-  tells = x.tells;
-  client_faults = omega (arith, x.client_faults, y.faults);
-  link_faults = x.link_faults;
-  client_over = λ v. or_by fs.client_over (is_fault r) (sym (ap (λ (f : Flags). f.client_over) q) ∙ v) (λ a. client_stays p.faults cf cg r y.faults y.stays_ended (x.client_over a)) (λ a. client_now p.faults cf cg r x.client_faults y.faults y.ended (over_if_fault r a));
-  input_over = λ v. or_by fs.input_over (is_end r) (sym (ap (λ (f : Flags). f.input_over) q) ∙ v) (λ a. client_stays p.faults cf cg r y.faults y.stays_ended (x.input_over a)) (λ a. client_now p.faults cf cg r x.client_faults y.faults y.ended (over_if_end r a));
-  link_over = λ v. x.link_over (sym (ap (λ (f : Flags). f.link_over) q) ∙ v);
-  untouched = λ v. x.untouched (sym (ap (λ (f : Flags). f.touched) q) ∙ v);
+  goes = record {
+    flow = flow_open Client tl tm f.cursor.side f.cursor.limit f.cursor.ends o x.goes.flow;
+    opens = same_opens x.tail tl tm f.cursor x.goes.opens;
+    tail_bytes = x.goes.tail_bytes;
+    went = same_went x.forwarded tl.limit tm.limit f.cursor.limit x.goes.went;
+    on_way = rw f.held x.goes.on_way;
+    taken = λ z. let v : cf.tells ≡ true = sym y.tells ∙ z in
+        cc (x.goes.taken v, y.taken v, f.part, append_assoc p.taken (flat_map spelling x.forwarded ++ (x.tail ++ tl.part)) (came tl tm), append_assoc (flat_map spelling x.forwarded) (x.tail ++ tl.part) (came tl tm), append_assoc x.tail tl.part (came tl tm));
+  };
+  comes = record {
+    flow = x.comes.flow;
+    opens = x.comes.opens;
+    came = x.comes.came;
+    given = λ z. let v : cf.tells ≡ true = sym y.tells ∙ z in cc (x.comes.given v, y.given v);
+    out = x.comes.out;
+    whole = x.comes.whole;
+  };
+  tally = x.tally;
+  says = record {
+    client_faults = omega (arith, x.says.client_faults, y.faults);
+    link_faults = x.says.link_faults;
+    client_over = λ v. or_by fs.client_over (is_fault r) (sym (ap (λ (f : Flags). f.client_over) q) ∙ v) (λ a. client_stays p.faults cf cg r y.faults y.stays_ended (x.says.client_over a)) (λ a. client_now p.faults cf cg r x.says.client_faults y.faults y.ended (over_if_fault r a));
+    input_over = λ v. or_by fs.input_over (is_end r) (sym (ap (λ (f : Flags). f.input_over) q) ∙ v) (λ a. client_stays p.faults cf cg r y.faults y.stays_ended (x.says.input_over a)) (λ a. client_now p.faults cf cg r x.says.client_faults y.faults y.ended (over_if_end r a));
+    link_over = λ v. x.says.link_over (sym (ap (λ (f : Flags). f.link_over) q) ∙ v);
+    untouched = λ v. x.says.untouched (sym (ap (λ (f : Flags). f.touched) q) ∙ v);
+  };
 }
 
 -- the front of what is held that was written
@@ -348,25 +337,24 @@ lease_write_link p cf l m k n b w gr tl tm tc t fs fz ph put r f y z q x = recor
   same = (x.same.0, x.same.1, x.same.2, x.same.3, f.cursor.limit ∙ x.same.4, x.same.5);
   told = x.told;
   moves = moves_put p.stands l m x.sent put x.received x.moves y;
-  of_client = flow_same Client tl tm f.cursor f.part x.of_client;
-  of_server = x.of_server;
-  opens = same_opens x.tail tl tm f.cursor x.opens;
-  arrives = x.arrives;
-  tail_bytes = x.tail_bytes;
-  went = same_went x.forwarded tl.limit tm.limit f.cursor.limit x.went;
-  came = x.came;
-  on_way = cc (x.on_way, f.held, append_assoc x.sent put tm.held);
-  taken = λ z. rw f.part (x.taken z);
-  given = x.given;
-  out = x.out;
-  whole = x.whole;
-  tells = x.tells;
-  client_faults = x.client_faults;
-  link_faults = omega (arith, x.link_faults, z.faults);
-  client_over = λ v. x.client_over (sym (ap (λ (f : Flags). f.client_over) q) ∙ v);
-  input_over = λ v. x.input_over (sym (ap (λ (f : Flags). f.input_over) q) ∙ v);
-  link_over = λ v. or_by fs.link_over (is_end r || is_fault r) (sym (ap (λ (f : Flags). f.link_over) q) ∙ v) (λ a. link_stays p.stands.faults l m r z.faults y.dead (x.link_over a)) (λ a. link_now p.stands.faults l m r x.link_faults z.faults z.ended a);
-  untouched = λ v. let a : (fs.touched ≡ false) × (put ≡ []) = still fs.touched r put f.count (sym (ap (λ (f : Flags). f.touched) q) ∙ v) in let c : (x.sent ≡ []) × (x.received ≡ []) = x.untouched a.0 in (rw (c.0, a.1) refl, c.1);
+  goes = record {
+    flow = flow_same Client tl tm f.cursor f.part x.goes.flow;
+    opens = same_opens x.tail tl tm f.cursor x.goes.opens;
+    tail_bytes = x.goes.tail_bytes;
+    went = same_went x.forwarded tl.limit tm.limit f.cursor.limit x.goes.went;
+    on_way = cc (x.goes.on_way, f.held, append_assoc x.sent put tm.held);
+    taken = λ z. rw f.part (x.goes.taken z);
+  };
+  comes = x.comes;
+  tally = x.tally;
+  says = record {
+    client_faults = x.says.client_faults;
+    link_faults = omega (arith, x.says.link_faults, z.faults);
+    client_over = λ v. x.says.client_over (sym (ap (λ (f : Flags). f.client_over) q) ∙ v);
+    input_over = λ v. x.says.input_over (sym (ap (λ (f : Flags). f.input_over) q) ∙ v);
+    link_over = λ v. or_by fs.link_over (is_end r || is_fault r) (sym (ap (λ (f : Flags). f.link_over) q) ∙ v) (λ a. link_stays p.stands.faults l m r z.faults y.dead (x.says.link_over a)) (λ a. link_now p.stands.faults l m r x.says.link_faults z.faults z.ended a);
+    untouched = λ v. let a : (fs.touched ≡ false) × (put ≡ []) = still fs.touched r put f.count (sym (ap (λ (f : Flags). f.touched) q) ∙ v) in let c : (x.sent ≡ []) × (x.received ≡ []) = x.says.untouched a.0 in (rw (c.0, a.1) refl, c.1);
+  };
 }
 
 written_by : (s h q i put all : List ℕ) → h ≡ put ++ i → s ++ (h ++ q) ≡ all → (s ++ put) ++ (i ++ q) ≡ all
@@ -391,25 +379,31 @@ lease_write_client p cf cg l k n b w gr tl tc td t fs fz ph put r e f y q x = re
   same = (x.same.0, x.same.1, x.same.2, x.same.3, x.same.4, f.cursor.limit ∙ x.same.5);
   told = y.tells ∙ x.told;
   moves = x.moves;
-  of_client = x.of_client;
-  of_server = flow_same Server tc td f.cursor f.part x.of_server;
-  opens = x.opens;
-  arrives = same_opens x.front tc td f.cursor x.arrives;
-  tail_bytes = x.tail_bytes;
-  went = x.went;
-  came = x.came;
-  on_way = x.on_way;
-  taken = λ z. let v : cf.tells ≡ true = sym y.tells ∙ z in cc (x.taken v, y.taken v);
-  given = λ z. let v : cf.tells ≡ true = sym y.tells ∙ z in cc (x.given v, y.given v, append_assoc p.given x.since put);
-  out = written x.since gr tc.held tc.part td.held td.part put (p.greeting ++ x.received) e f.held f.part x.out;
-  whole = rw f.part x.whole;
-  tells = x.tells;
-  client_faults = omega (arith, x.client_faults, y.faults);
-  link_faults = x.link_faults;
-  client_over = λ v. or_by fs.client_over (is_end r || is_fault r) (sym (ap (λ (f : Flags). f.client_over) q) ∙ v) (λ a. client_stays p.faults cf cg r y.faults y.stays_ended (x.client_over a)) (λ a. client_now p.faults cf cg r x.client_faults y.faults y.ended a);
-  input_over = λ v. client_stays p.faults cf cg r y.faults y.stays_ended (x.input_over (sym (ap (λ (f : Flags). f.input_over) q) ∙ v));
-  link_over = λ v. x.link_over (sym (ap (λ (f : Flags). f.link_over) q) ∙ v);
-  untouched = λ v. x.untouched (sym (ap (λ (f : Flags). f.touched) q) ∙ v);
+  goes = record {
+    flow = x.goes.flow;
+    opens = x.goes.opens;
+    tail_bytes = x.goes.tail_bytes;
+    went = x.goes.went;
+    on_way = x.goes.on_way;
+    taken = λ z. let v : cf.tells ≡ true = sym y.tells ∙ z in cc (x.goes.taken v, y.taken v);
+  };
+  comes = record {
+    flow = flow_same Server tc td f.cursor f.part x.comes.flow;
+    opens = same_opens x.front tc td f.cursor x.comes.opens;
+    came = x.comes.came;
+    given = λ z. let v : cf.tells ≡ true = sym y.tells ∙ z in cc (x.comes.given v, y.given v, append_assoc p.given x.since put);
+    out = written x.since gr tc.held tc.part td.held td.part put (p.greeting ++ x.received) e f.held f.part x.comes.out;
+    whole = rw f.part x.comes.whole;
+  };
+  tally = x.tally;
+  says = record {
+    client_faults = omega (arith, x.says.client_faults, y.faults);
+    link_faults = x.says.link_faults;
+    client_over = λ v. or_by fs.client_over (is_end r || is_fault r) (sym (ap (λ (f : Flags). f.client_over) q) ∙ v) (λ a. client_stays p.faults cf cg r y.faults y.stays_ended (x.says.client_over a)) (λ a. client_now p.faults cf cg r x.says.client_faults y.faults y.ended a);
+    input_over = λ v. client_stays p.faults cf cg r y.faults y.stays_ended (x.says.input_over (sym (ap (λ (f : Flags). f.input_over) q) ∙ v));
+    link_over = λ v. x.says.link_over (sym (ap (λ (f : Flags). f.link_over) q) ∙ v);
+    untouched = λ v. x.says.untouched (sym (ap (λ (f : Flags). f.touched) q) ∙ v);
+  };
 }
 
 pub lease_write_welcome : (p : Place) (cf : ClientFacts) (cg : ClientFacts) (l : Standing) (k : StartKeyOf) (n : ℕ) (b : ℕ) (w : KeyWord) (gr : List ℕ) (gs : List ℕ) (tl : FlowView) (tc : FlowView) (t : Tally) (fs : Flags) (fz : Flags) (ph : Phase) (put : List ℕ) (r : Moved)
@@ -428,25 +422,31 @@ lease_write_welcome p cf cg l k n b w gr gs tl tc t fs fz ph put r f y q x = rec
   same = x.same;
   told = y.tells ∙ x.told;
   moves = x.moves;
-  of_client = x.of_client;
-  of_server = x.of_server;
-  opens = x.opens;
-  arrives = x.arrives;
-  tail_bytes = x.tail_bytes;
-  went = x.went;
-  came = x.came;
-  on_way = x.on_way;
-  taken = λ z. let v : cf.tells ≡ true = sym y.tells ∙ z in cc (x.taken v, y.taken v);
-  given = λ z. let v : cf.tells ≡ true = sym y.tells ∙ z in cc (x.given v, y.given v, append_assoc p.given x.since put);
-  out = written_by x.since gr (tc.held ++ tc.part) gs put (p.greeting ++ x.received) f.both x.out;
-  whole = x.whole;
-  tells = x.tells;
-  client_faults = omega (arith, x.client_faults, y.faults);
-  link_faults = x.link_faults;
-  client_over = λ v. or_by fs.client_over (is_end r || is_fault r) (sym (ap (λ (f : Flags). f.client_over) q) ∙ v) (λ a. client_stays p.faults cf cg r y.faults y.stays_ended (x.client_over a)) (λ a. client_now p.faults cf cg r x.client_faults y.faults y.ended a);
-  input_over = λ v. client_stays p.faults cf cg r y.faults y.stays_ended (x.input_over (sym (ap (λ (f : Flags). f.input_over) q) ∙ v));
-  link_over = λ v. x.link_over (sym (ap (λ (f : Flags). f.link_over) q) ∙ v);
-  untouched = λ v. x.untouched (sym (ap (λ (f : Flags). f.touched) q) ∙ v);
+  goes = record {
+    flow = x.goes.flow;
+    opens = x.goes.opens;
+    tail_bytes = x.goes.tail_bytes;
+    went = x.goes.went;
+    on_way = x.goes.on_way;
+    taken = λ z. let v : cf.tells ≡ true = sym y.tells ∙ z in cc (x.goes.taken v, y.taken v);
+  };
+  comes = record {
+    flow = x.comes.flow;
+    opens = x.comes.opens;
+    came = x.comes.came;
+    given = λ z. let v : cf.tells ≡ true = sym y.tells ∙ z in cc (x.comes.given v, y.given v, append_assoc p.given x.since put);
+    out = written_by x.since gr (tc.held ++ tc.part) gs put (p.greeting ++ x.received) f.both x.comes.out;
+    whole = x.comes.whole;
+  };
+  tally = x.tally;
+  says = record {
+    client_faults = omega (arith, x.says.client_faults, y.faults);
+    link_faults = x.says.link_faults;
+    client_over = λ v. or_by fs.client_over (is_end r || is_fault r) (sym (ap (λ (f : Flags). f.client_over) q) ∙ v) (λ a. client_stays p.faults cf cg r y.faults y.stays_ended (x.says.client_over a)) (λ a. client_now p.faults cf cg r x.says.client_faults y.faults y.ended a);
+    input_over = λ v. client_stays p.faults cf cg r y.faults y.stays_ended (x.says.input_over (sym (ap (λ (f : Flags). f.input_over) q) ∙ v));
+    link_over = λ v. x.says.link_over (sym (ap (λ (f : Flags). f.link_over) q) ∙ v);
+    untouched = λ v. x.says.untouched (sym (ap (λ (f : Flags). f.touched) q) ∙ v);
+  };
 }
 
 pub lease_stays_link : (p : Place) (cf : ClientFacts) (l : Standing) (k : StartKeyOf) (n : ℕ) (b : ℕ) (w : KeyWord) (gr : List ℕ) (tl : FlowView) (tm : FlowView) (tc : FlowView) (t : Tally) (fs : Flags) (ph : Phase)
@@ -465,25 +465,17 @@ lease_stays_link p cf l k n b w gr tl tm tc t fs ph y x = record {
   same = (x.same.0, x.same.1, x.same.2, x.same.3, y.limit ∙ x.same.4, x.same.5);
   told = x.told;
   moves = x.moves;
-  of_client = flow_stays Client tl tm y x.of_client;
-  of_server = x.of_server;
-  opens = stay_opens x.tail tl tm y x.opens;
-  arrives = x.arrives;
-  tail_bytes = x.tail_bytes;
-  went = same_went x.forwarded tl.limit tm.limit y.limit x.went;
-  came = x.came;
-  on_way = rw y.held x.on_way;
-  taken = λ z. rw y.part (x.taken z);
-  given = x.given;
-  out = x.out;
-  whole = x.whole;
-  tells = x.tells;
-  client_faults = x.client_faults;
-  link_faults = x.link_faults;
-  client_over = x.client_over;
-  input_over = x.input_over;
-  link_over = x.link_over;
-  untouched = x.untouched;
+  goes = record {
+    flow = flow_stays Client tl tm y x.goes.flow;
+    opens = stay_opens x.tail tl tm y x.goes.opens;
+    tail_bytes = x.goes.tail_bytes;
+    went = same_went x.forwarded tl.limit tm.limit y.limit x.goes.went;
+    on_way = rw y.held x.goes.on_way;
+    taken = λ z. rw y.part (x.goes.taken z);
+  };
+  comes = x.comes;
+  tally = x.tally;
+  says = x.says;
 }
 
 pub lease_stays_client : (p : Place) (cf : ClientFacts) (l : Standing) (k : StartKeyOf) (n : ℕ) (b : ℕ) (w : KeyWord) (gr : List ℕ) (tl : FlowView) (tc : FlowView) (td : FlowView) (t : Tally) (fs : Flags) (ph : Phase)
@@ -502,25 +494,17 @@ lease_stays_client p cf l k n b w gr tl tc td t fs ph y x = record {
   same = (x.same.0, x.same.1, x.same.2, x.same.3, x.same.4, y.limit ∙ x.same.5);
   told = x.told;
   moves = x.moves;
-  of_client = x.of_client;
-  of_server = flow_stays Server tc td y x.of_server;
-  opens = x.opens;
-  arrives = stay_opens x.front tc td y x.arrives;
-  tail_bytes = x.tail_bytes;
-  went = x.went;
-  came = x.came;
-  on_way = x.on_way;
-  taken = x.taken;
-  given = x.given;
-  out = rw (y.held, y.part) x.out;
-  whole = rw y.part x.whole;
-  tells = x.tells;
-  client_faults = x.client_faults;
-  link_faults = x.link_faults;
-  client_over = x.client_over;
-  input_over = x.input_over;
-  link_over = x.link_over;
-  untouched = x.untouched;
+  goes = x.goes;
+  comes = record {
+    flow = flow_stays Server tc td y x.comes.flow;
+    opens = stay_opens x.front tc td y x.comes.opens;
+    came = x.comes.came;
+    given = x.comes.given;
+    out = rw (y.held, y.part) x.comes.out;
+    whole = rw y.part x.comes.whole;
+  };
+  tally = x.tally;
+  says = x.says;
 }
 
 pub lease_part_link : (p : Place) (cf : ClientFacts) (l : Standing) (k : StartKeyOf) (n : ℕ) (b : ℕ) (w : KeyWord) (gr : List ℕ) (tl : FlowView) (tm : FlowView) (tc : FlowView) (t : Tally) (fs : Flags) (ph : Phase) (ps : Passed)
@@ -539,32 +523,24 @@ lease_part_link p cf l k n b w gr tl tm tc t fs ph ps o y h x = record {
   same = (x.same.0, x.same.1, x.same.2, x.same.3, y.limit ∙ x.same.4, x.same.5);
   told = x.told;
   moves = x.moves;
-  of_client = flow_open Client tl tm y.side y.limit y.ends o x.of_client;
-  of_server = x.of_server;
-  opens = rw (y.side, y.limit) (y.opens h x.tail x.opens);
-  arrives = x.arrives;
-  tail_bytes = bytes_both x.tail y.bytes x.tail_bytes y.are_bytes;
-  went = same_went x.forwarded tl.limit tm.limit y.limit x.went;
-  came = x.came;
-  on_way = cc (x.on_way, y.held, append_assoc x.sent tl.held y.bytes, append_assoc (flat_map spelling x.forwarded) x.tail y.bytes);
-  taken = λ z. cc (x.taken z, y.part, append_assoc x.tail y.bytes tm.part);
-  given = x.given;
-  out = x.out;
-  whole = x.whole;
-  tells = x.tells;
-  client_faults = x.client_faults;
-  link_faults = x.link_faults;
-  client_over = x.client_over;
-  input_over = x.input_over;
-  link_over = x.link_over;
-  untouched = x.untouched;
+  goes = record {
+    flow = flow_open Client tl tm y.side y.limit y.ends o x.goes.flow;
+    opens = rw (y.side, y.limit) (y.opens h x.tail x.goes.opens);
+    tail_bytes = bytes_both x.tail y.bytes x.goes.tail_bytes y.are_bytes;
+    went = same_went x.forwarded tl.limit tm.limit y.limit x.goes.went;
+    on_way = cc (x.goes.on_way, y.held, append_assoc x.sent tl.held y.bytes, append_assoc (flat_map spelling x.forwarded) x.tail y.bytes);
+    taken = λ z. cc (x.goes.taken z, y.part, append_assoc x.tail y.bytes tm.part);
+  };
+  comes = x.comes;
+  tally = x.tally;
+  says = x.says;
 }
 
 pub lease_whole_link : (p : Place) (cf : ClientFacts) (l : Standing) (k : StartKeyOf) (n : ℕ) (b : ℕ) (w : KeyWord) (gr : List ℕ) (tl : FlowView) (tm : FlowView) (tc : FlowView) (t : Tally) (u : Tally) (fs : Flags) (ph : Phase) (ps : Passed)
     → CallsTell → is_open tl.ends ≡ true → Passes tl tm ps → ps.whole ≡ true → u ≡ told_sent ps.kind t
     → IsLease p (relay_view cf l k n b w gr tl tc t fs ph) → IsLease p (relay_view cf l k n b w gr tm tc u fs ph)
 lease_whole_link p cf l k n b w gr tl tm tc t u fs ph ps law o y h e x =
-    let s : Spells tl.side tl.limit (x.tail ++ y.bytes) ps.kind ps.status ps.is_foreign = y.spells h x.tail x.opens in
+    let s : Spells tl.side tl.limit (x.tail ++ y.bytes) ps.kind ps.status ps.is_foreign = y.spells h x.tail x.goes.opens in
     record {
       sent = x.sent;
       received = x.received;
@@ -578,25 +554,17 @@ lease_whole_link p cf l k n b w gr tl tm tc t u fs ph ps law o y h e x =
       same = (x.same.0, x.same.1, x.same.2, x.same.3, y.limit ∙ x.same.4, x.same.5);
       told = x.told;
       moves = x.moves;
-      of_client = flow_open Client tl tm y.side y.limit y.ends o x.of_client;
-      of_server = x.of_server;
-      opens = no_opens tm (y.border h);
-      arrives = x.arrives;
-      tail_bytes = λ i. omega arith;
-      went = all-append (IsForwarded tm.limit) x.forwarded (s.frame ∷ []) (same_went x.forwarded tl.limit tm.limit y.limit x.went) (forwarded tl.limit tm.limit tl.side (x.tail ++ y.bytes) ps.kind ps.status ps.is_foreign s x.of_client.side_is y.limit x.of_client.high (bytes_both x.tail y.bytes x.tail_bytes y.are_bytes) y.goes_on, tt);
-      came = x.came;
-      on_way = cc (x.on_way, y.held, append_assoc x.sent tl.held y.bytes, append_assoc (flat_map spelling x.forwarded) x.tail y.bytes, s.spelled, more_frames x.forwarded s.frame, append-nil (flat_map spelling (x.forwarded ++ s.frame ∷ [])));
-      taken = λ z. cc (x.taken z, y.part, append_assoc x.tail y.bytes tm.part, append_assoc (flat_map spelling x.forwarded) (spelling s.frame) tm.part, s.spelled, more_frames x.forwarded s.frame);
-      given = x.given;
-      out = x.out;
-      whole = x.whole;
-      tells = tells_sent t u ps.kind s.frame x.forwarded x.arrived law e s.kind_is x.tells;
-      client_faults = x.client_faults;
-      link_faults = x.link_faults;
-      client_over = x.client_over;
-      input_over = x.input_over;
-      link_over = x.link_over;
-      untouched = x.untouched;
+      goes = record {
+        flow = flow_open Client tl tm y.side y.limit y.ends o x.goes.flow;
+        opens = no_opens tm (y.border h);
+        tail_bytes = λ i. omega arith;
+        went = all-append (IsForwarded tm.limit) x.forwarded (s.frame ∷ []) (same_went x.forwarded tl.limit tm.limit y.limit x.goes.went) (forwarded tl.limit tm.limit tl.side (x.tail ++ y.bytes) ps.kind ps.status ps.is_foreign s x.goes.flow.side_is y.limit x.goes.flow.high (bytes_both x.tail y.bytes x.goes.tail_bytes y.are_bytes) y.goes_on, tt);
+        on_way = cc (x.goes.on_way, y.held, append_assoc x.sent tl.held y.bytes, append_assoc (flat_map spelling x.forwarded) x.tail y.bytes, s.spelled, more_frames x.forwarded s.frame, append-nil (flat_map spelling (x.forwarded ++ s.frame ∷ [])));
+        taken = λ z. cc (x.goes.taken z, y.part, append_assoc x.tail y.bytes tm.part, append_assoc (flat_map spelling x.forwarded) (spelling s.frame) tm.part, s.spelled, more_frames x.forwarded s.frame);
+      };
+      comes = x.comes;
+      tally = tells_sent t u ps.kind s.frame x.forwarded x.arrived law e s.kind_is x.tally;
+      says = x.says;
     }
 
 pub lease_part_client : (p : Place) (cf : ClientFacts) (l : Standing) (k : StartKeyOf) (n : ℕ) (b : ℕ) (w : KeyWord) (gr : List ℕ) (tl : FlowView) (tc : FlowView) (td : FlowView) (t : Tally) (fs : Flags) (ph : Phase) (ps : Passed)
@@ -615,32 +583,24 @@ lease_part_client p cf l k n b w gr tl tc td t fs ph ps o y h x = record {
   same = (x.same.0, x.same.1, x.same.2, x.same.3, x.same.4, y.limit ∙ x.same.5);
   told = x.told;
   moves = x.moves;
-  of_client = x.of_client;
-  of_server = flow_open Server tc td y.side y.limit y.ends o x.of_server;
-  opens = x.opens;
-  arrives = rw (y.side, y.limit) (y.opens h x.front x.arrives);
-  tail_bytes = x.tail_bytes;
-  went = x.went;
-  came = x.came;
-  on_way = x.on_way;
-  taken = x.taken;
-  given = x.given;
-  out = cc (x.out, y.held, y.part, append_assoc tc.held y.bytes td.part);
-  whole = cc (x.whole, y.part, append_assoc x.front y.bytes td.part);
-  tells = x.tells;
-  client_faults = x.client_faults;
-  link_faults = x.link_faults;
-  client_over = x.client_over;
-  input_over = x.input_over;
-  link_over = x.link_over;
-  untouched = x.untouched;
+  goes = x.goes;
+  comes = record {
+    flow = flow_open Server tc td y.side y.limit y.ends o x.comes.flow;
+    opens = rw (y.side, y.limit) (y.opens h x.front x.comes.opens);
+    came = x.comes.came;
+    given = x.comes.given;
+    out = cc (x.comes.out, y.held, y.part, append_assoc tc.held y.bytes td.part);
+    whole = cc (x.comes.whole, y.part, append_assoc x.front y.bytes td.part);
+  };
+  tally = x.tally;
+  says = x.says;
 }
 
 pub lease_whole_client : (p : Place) (cf : ClientFacts) (l : Standing) (k : StartKeyOf) (n : ℕ) (b : ℕ) (w : KeyWord) (gr : List ℕ) (tl : FlowView) (tc : FlowView) (td : FlowView) (t : Tally) (u : Tally) (fs : Flags) (ph : Phase) (ps : Passed)
     → CallsTell → is_open tc.ends ≡ true → Passes tc td ps → ps.whole ≡ true → u ≡ told_arrived ps t
     → IsLease p (relay_view cf l k n b w gr tl tc t fs ph) → IsLease p (relay_view cf l k n b w gr tl td u fs ph)
 lease_whole_client p cf l k n b w gr tl tc td t u fs ph ps law o y h e x =
-    let s : Spells tc.side tc.limit (x.front ++ y.bytes) ps.kind ps.status ps.is_foreign = y.spells h x.front x.arrives in
+    let s : Spells tc.side tc.limit (x.front ++ y.bytes) ps.kind ps.status ps.is_foreign = y.spells h x.front x.comes.opens in
     record {
       sent = x.sent;
       received = x.received;
@@ -654,25 +614,17 @@ lease_whole_client p cf l k n b w gr tl tc td t u fs ph ps law o y h e x =
       same = (x.same.0, x.same.1, x.same.2, x.same.3, x.same.4, y.limit ∙ x.same.5);
       told = x.told;
       moves = x.moves;
-      of_client = x.of_client;
-      of_server = flow_open Server tc td y.side y.limit y.ends o x.of_server;
-      opens = x.opens;
-      arrives = no_opens td (y.border h);
-      tail_bytes = x.tail_bytes;
-      went = x.went;
-      came = all-append (IsFrame Server LONGEST_FRAME) x.arrived (s.frame ∷ []) x.came (arrived tc.limit tc.side (x.front ++ y.bytes) ps.kind ps.status ps.is_foreign s x.of_server.side_is x.of_server.high, tt);
-      on_way = x.on_way;
-      taken = x.taken;
-      given = x.given;
-      out = cc (x.out, y.held, y.part, append_assoc tc.held y.bytes td.part);
-      whole = cc (x.whole, y.part, append_assoc x.front y.bytes td.part, append_assoc (flat_map spelling x.arrived) (spelling s.frame) td.part, s.spelled, more_frames x.arrived s.frame);
-      tells = tells_arrived t u ps s.frame x.forwarded x.arrived law e s.kind_is (s.status_is x.of_server.side_is) (s.foreign_is x.of_server.side_is) x.tells;
-      client_faults = x.client_faults;
-      link_faults = x.link_faults;
-      client_over = x.client_over;
-      input_over = x.input_over;
-      link_over = x.link_over;
-      untouched = x.untouched;
+      goes = x.goes;
+      comes = record {
+        flow = flow_open Server tc td y.side y.limit y.ends o x.comes.flow;
+        opens = no_opens td (y.border h);
+        came = all-append (IsFrame Server LONGEST_FRAME) x.arrived (s.frame ∷ []) x.comes.came (arrived tc.limit tc.side (x.front ++ y.bytes) ps.kind ps.status ps.is_foreign s x.comes.flow.side_is x.comes.flow.high, tt);
+        given = x.comes.given;
+        out = cc (x.comes.out, y.held, y.part, append_assoc tc.held y.bytes td.part);
+        whole = cc (x.comes.whole, y.part, append_assoc x.front y.bytes td.part, append_assoc (flat_map spelling x.arrived) (spelling s.frame) td.part, s.spelled, more_frames x.arrived s.frame);
+      };
+      tally = tells_arrived t u ps s.frame x.forwarded x.arrived law e s.kind_is (s.status_is x.comes.flow.side_is) (s.foreign_is x.comes.flow.side_is) x.tally;
+      says = x.says;
     }
 
 pub lease_phase : (p : Place) (cf : ClientFacts) (l : Standing) (k : StartKeyOf) (n : ℕ) (b : ℕ) (w : KeyWord) (gr : List ℕ) (tl : FlowView) (tc : FlowView) (t : Tally) (fs : Flags) (ph : Phase) (pi : Phase)
@@ -690,26 +642,16 @@ lease_phase p cf l k n b w gr tl tc t fs ph pi x = record {
   same = x.same;
   told = x.told;
   moves = x.moves;
-  of_client = x.of_client;
-  of_server = x.of_server;
-  opens = x.opens;
-  arrives = x.arrives;
-  tail_bytes = x.tail_bytes;
-  went = x.went;
-  came = x.came;
-  on_way = x.on_way;
-  taken = x.taken;
-  given = x.given;
-  out = x.out;
-  whole = x.whole;
-  tells = x.tells;
-  client_faults = x.client_faults;
-  link_faults = x.link_faults;
-  client_over = x.client_over;
-  input_over = x.input_over;
-  link_over = x.link_over;
-  untouched = x.untouched;
+  goes = x.goes;
+  comes = x.comes;
+  tally = x.tally;
+  says = x.says;
 }
+
+pub lease_may_end : (p : Place) (v : RelayView) (td : FlowView) (ps : Passed) → IsLease p v → Passes v.to_client td ps → ps.whole ≡ true → may_end ps.status (begun_arrived ps v.traffic) ≡ true
+lease_may_end p v td ps x y h =
+    let s : Spells v.to_client.side v.to_client.limit (x.front ++ y.bytes) ps.kind ps.status ps.is_foreign = y.spells h x.front x.comes.opens in
+    status_may_end v.traffic ps s.frame s.kind_is (s.status_is x.comes.flow.side_is) (s.foreign_is x.comes.flow.side_is)
 
 -- ---- the beginning
 
@@ -735,25 +677,31 @@ lease_begun cf l k n b w gr tl tc t ph lm c g low high x y z = record {
   same = (refl, refl, refl, refl, x.limit_is, y.limit_is);
   told = refl;
   moves = moves_none l;
-  of_client = empty_flow Client lm tl low high x;
-  of_server = empty_flow Server lm tc low high y;
-  opens = no_opens tl x.rest;
-  arrives = no_opens tc y.rest;
-  tail_bytes = λ i. omega arith;
-  went = tt;
-  came = tt;
-  on_way = x.held;
-  taken = λ z. rw x.part (sym (append-nil cf.taken));
-  given = λ z. sym (append-nil cf.given);
-  out = rw (y.held, y.part) refl;
-  whole = sym y.part;
-  tells = tells_none t z;
-  client_faults = omega arith;
-  link_faults = omega arith;
-  client_over = λ z. absurd (false≢true z);
-  input_over = λ z. absurd (false≢true z);
-  link_over = λ z. absurd (false≢true z);
-  untouched = λ z. (refl, refl);
+  goes = record {
+    flow = empty_flow Client lm tl low high x;
+    opens = no_opens tl x.rest;
+    tail_bytes = λ i. omega arith;
+    went = tt;
+    on_way = x.held;
+    taken = λ z. rw x.part (sym (append-nil cf.taken));
+  };
+  comes = record {
+    flow = empty_flow Server lm tc low high y;
+    opens = no_opens tc y.rest;
+    came = tt;
+    given = λ z. sym (append-nil cf.given);
+    out = rw (y.held, y.part) refl;
+    whole = sym y.part;
+  };
+  tally = tells_none t z;
+  says = record {
+    client_faults = omega arith;
+    link_faults = omega arith;
+    client_over = λ z. absurd (false≢true z);
+    input_over = λ z. absurd (false≢true z);
+    link_over = λ z. absurd (false≢true z);
+    untouched = λ z. (refl, refl);
+  };
 }
 
 pub empty_is : (bytes : List ℕ) → is_empty bytes ≡ true → bytes ≡ []

@@ -75,7 +75,7 @@ fresh_still p v x f e =
     }
 
 pub lease_clean : (p : Place) (v : RelayView) → IsLease p v → v.flags.touched ≡ false → IsClean v.link v.key
-lease_clean p v x e f = fresh_still p v x (sym x.moves.follows ∙ f) (x.untouched e).0
+lease_clean p v x e f = fresh_still p v x (sym x.moves.follows ∙ f) (x.says.untouched e).0
 
 -- ---- a link that settled is at rest
 
@@ -106,7 +106,7 @@ rests_fresh p v x f n e =
 
 rests_answered : (p : Place) (v : RelayView) (x : IsLease p v) → p.stands.follows ≡ true → v.link.lives ≡ true → v.to_link.held ≡ [] → x.tail ≡ [] → x.received ≡ flat_map spelling x.arrived → IsAnswered x.forwarded x.arrived → IsResting v.link v.key
 unfolding lease_of
-rests_answered p v x f n h t r a = settled_links_rest (lease_of p v x) x.arrived (under_way p v x f) f n h t x.came r a
+rests_answered p v x f n h t r a = settled_links_rest (lease_of p v x) x.arrived (under_way p v x f) f n h t x.comes.came r a
 
 pub lease_used : (p : Place) (v : RelayView) → SettledExactly → IsLease p v → relay_verdict v ≡ Settled → IsUsed v.link v.key
 lease_used p v law x e f n =
@@ -116,11 +116,11 @@ lease_used p v law x e f n =
     let bl = and_parts (is_empty v.to_link.held) (v.to_link.rest == 0) b.0 in
     let bc = and_parts (is_empty v.to_client.part) (v.to_client.rest == 0) b.1 in
     let h : v.to_link.held ≡ [] = empty_is v.to_link.held bl.0 in
-    let t : x.tail ≡ [] = x.opens.border (eqb-true v.to_link.rest 0 bl.1) in
-    let fr : x.front ≡ [] = x.arrives.border (eqb-true v.to_client.rest 0 bc.1) in
-    let r : x.received ≡ flat_map spelling x.arrived = x.whole ∙ ap₂ (λ (a c : List ℕ). flat_map spelling x.arrived ++ (a ++ c)) fr (empty_is v.to_client.part bc.0) ∙ append-nil (flat_map spelling x.arrived) in
-    let sent : x.sent ≡ flat_map spelling x.forwarded = sym (append-nil x.sent) ∙ ap (λ (a : List ℕ). x.sent ++ a) (sym h) ∙ x.on_way ∙ ap (λ (a : List ℕ). flat_map spelling x.forwarded ++ a) t ∙ append-nil (flat_map spelling x.forwarded) in
+    let t : x.tail ≡ [] = x.goes.opens.border (eqb-true v.to_link.rest 0 bl.1) in
+    let fr : x.front ≡ [] = x.comes.opens.border (eqb-true v.to_client.rest 0 bc.1) in
+    let r : x.received ≡ flat_map spelling x.arrived = x.comes.whole ∙ ap₂ (λ (a c : List ℕ). flat_map spelling x.arrived ++ (a ++ c)) fr (empty_is v.to_client.part bc.0) ∙ append-nil (flat_map spelling x.arrived) in
+    let sent : x.sent ≡ flat_map spelling x.forwarded = sym (append-nil x.sent) ∙ ap (λ (a : List ℕ). x.sent ++ a) (sym h) ∙ x.goes.on_way ∙ ap (λ (a : List ℕ). flat_map spelling x.forwarded ++ a) t ∙ append-nil (flat_map spelling x.forwarded) in
     ⊎_elim
     (λ none. rests_fresh p v x g n (sent ∙ ap (flat_map spelling) none))
     (λ a. rests_answered p v x g n h t r a)
-    (answered_by v.traffic x.forwarded x.arrived law x.tells q.0)
+    (answered_by v.traffic x.forwarded x.arrived law x.tally q.0)

@@ -136,39 +136,56 @@ pub record IsFlow (side : Side) (f : FlowView) : Type 0 where
 abbrev pub IsSame : Place → RelayView → Type 0
 IsSame p v = (v.key ≡ p.key) × (v.number ≡ p.number) × (v.born ≡ p.born) × (v.word ≡ p.word) × (v.to_link.limit ≡ p.limit) × (v.to_client.limit ≡ p.limit)
 
--- Since that place: the client's frames and the beginning (tail) of one more that went on, and the server's that came.
+-- From the client to the link, since that place: these frames went on, and the beginning (tail) of one more. What was
+-- sent over the link and what is held for it are these; what was taken from the client are these and the part behind them.
+pub record Goes (p : Place) (client : ClientFacts) (f : FlowView) (sent : List ℕ) (forwarded : List FrameOf) (tail : List ℕ) : Type 0 where
+  pub flow : IsFlow Client f
+  pub opens : Opens f.side f.limit tail f.kind f.rest
+  pub tail_bytes : AreBytes tail
+  pub went : AllByRecursion (IsForwarded f.limit) forwarded
+  pub on_way : sent ++ f.held ≡ flat_map spelling forwarded ++ tail
+  pub taken : client.tells ≡ true → client.taken ≡ p.taken ++ (flat_map spelling forwarded ++ (tail ++ f.part))
+
+-- From the link to the client: what was received are these whole frames, the beginning (front) of one more, and the part
+-- behind it. What the client was given since, the rest of its welcome, what is held for it and the part are the welcome and
+-- what was received.
+pub record Comes (p : Place) (client : ClientFacts) (greeting : List ℕ) (f : FlowView) (received since : List ℕ) (arrived : List FrameOf) (front : List ℕ) : Type 0 where
+  pub flow : IsFlow Server f
+  pub opens : Opens f.side f.limit front f.kind f.rest
+  pub came : AllByRecursion (IsFrame Server LONGEST_FRAME) arrived
+  pub whole : received ≡ flat_map spelling arrived ++ (front ++ f.part)
+  pub out : since ++ (greeting ++ (f.held ++ f.part)) ≡ p.greeting ++ received
+  pub given : client.tells ≡ true → client.given ≡ p.given ++ since
+
+-- what the flags say of the ends since that place
+pub record Says (p : Place) (client : ClientFacts) (link : Standing) (flags : Flags) (sent received : List ℕ) : Type 0 where
+  pub client_faults : p.faults ≤ client.faults
+  pub link_faults : p.stands.faults ≤ link.faults
+  pub client_over : flags.client_over ≡ true → IsClientOver p.faults client
+  pub input_over : flags.input_over ≡ true → IsClientOver p.faults client
+  pub link_over : flags.link_over ≡ true → IsLinkOver p.stands.faults link
+  pub untouched : flags.touched ≡ false → (sent ≡ []) × (received ≡ [])
+
+-- A lease that began at that place.
 pub record IsLease (p : Place) (v : RelayView) : Type 0 where
+  -- what went over the link, each way, and what the client was given
   pub sent : List ℕ
   pub received : List ℕ
   pub since : List ℕ
+  -- the frames that went on, each way, and the beginning of one more
   pub forwarded : List FrameOf
-  pub arrived : List FrameOf
   pub tail : List ℕ
+  pub arrived : List FrameOf
   pub front : List ℕ
   pub clean : IsClean p.stands v.key
   pub greets : IsGreeting p.stands v.key v.word p.greeting
   pub same : IsSame p v
   pub told : v.client.tells ≡ p.told
   pub moves : Moves p.stands sent v.link received
-  pub of_client : IsFlow Client v.to_link
-  pub of_server : IsFlow Server v.to_client
-  pub opens : Opens v.to_link.side v.to_link.limit tail v.to_link.kind v.to_link.rest
-  pub arrives : Opens v.to_client.side v.to_client.limit front v.to_client.kind v.to_client.rest
-  pub tail_bytes : AreBytes tail
-  pub went : AllByRecursion (IsForwarded v.to_link.limit) forwarded
-  pub came : AllByRecursion (IsFrame Server LONGEST_FRAME) arrived
-  pub on_way : sent ++ v.to_link.held ≡ flat_map spelling forwarded ++ tail
-  pub taken : v.client.tells ≡ true → v.client.taken ≡ p.taken ++ (flat_map spelling forwarded ++ (tail ++ v.to_link.part))
-  pub given : v.client.tells ≡ true → v.client.given ≡ p.given ++ since
-  pub out : since ++ (v.greeting ++ (v.to_client.held ++ v.to_client.part)) ≡ p.greeting ++ received
-  pub whole : received ≡ flat_map spelling arrived ++ (front ++ v.to_client.part)
-  pub tells : Telling v.traffic forwarded arrived
-  pub client_faults : p.faults ≤ v.client.faults
-  pub link_faults : p.stands.faults ≤ v.link.faults
-  pub client_over : v.flags.client_over ≡ true → IsClientOver p.faults v.client
-  pub input_over : v.flags.input_over ≡ true → IsClientOver p.faults v.client
-  pub link_over : v.flags.link_over ≡ true → IsLinkOver p.stands.faults v.link
-  pub untouched : v.flags.touched ≡ false → (sent ≡ []) × (received ≡ [])
+  pub goes : Goes p v.client v.to_link sent forwarded tail
+  pub comes : Comes p v.client v.greeting v.to_client received since arrived front
+  pub tally : Telling v.traffic forwarded arrived
+  pub says : Says p v.client v.link v.flags sent received
 
 -- some lease is under way
 abbrev pub IsRelay : RelayView → Type 0

@@ -79,13 +79,13 @@ or_of false b e = inr e
 
 pub done_of : (p : Place) (v : RelayView) → IsLease p v → is_done v ≡ true → EndsByClient p v
 done_of p v x d = ⊎_elim
-    (λ a. inl (x.client_over a))
+    (λ a. inl (x.says.client_over a))
     (λ b. let y = and_parts (is_empty v.to_link.held) (v.flags.input_over || is_last_end v.to_link.ends) b in
-    ⊎_elim (λ c. inl (x.input_over c)) (λ c. inr (last_is v.to_link.ends c, empty_is v.to_link.held y.0)) (or_of v.flags.input_over (is_last_end v.to_link.ends) y.1))
+    ⊎_elim (λ c. inl (x.says.input_over c)) (λ c. inr (last_is v.to_link.ends c, empty_is v.to_link.held y.0)) (or_of v.flags.input_over (is_last_end v.to_link.ends) y.1))
     (or_of v.flags.client_over (is_empty v.to_link.held && (v.flags.input_over || is_last_end v.to_link.ends)) d)
 
 why_of : (p : Place) (v : RelayView) (r : Refusal) → IsLease p v → Why v r → RefusedBy p v r
-why_of p v r x w = ⊎_elim (λ a. inl a) (λ b. ⊎_elim (λ c. inr (inl c)) (λ c. inr (inr (c.0, x.link_over c.1))) b) w
+why_of p v r x w = ⊎_elim (λ a. inl a) (λ b. ⊎_elim (λ c. inr (inl c)) (λ c. inr (inr (c.0, x.says.link_over c.1))) b) w
 
 same_back : (s a part : List ℕ) → s ++ part ≡ a ++ part → s ≡ a
 same_back s a part e = append_cancel_right s a part e
@@ -95,16 +95,16 @@ refused_of p v r x m =
     let y = and_parts (is_empty v.greeting) (is_empty v.to_client.held) m.0 in
     let g : v.greeting ≡ [] = empty_is v.greeting y.0 in
     let h : v.to_client.held ≡ [] = empty_is v.to_client.held y.1 in
-    let f : x.front ≡ [] = x.arrives.border (eqb-true v.to_client.rest 0 m.1) in
-    let o : x.since ++ v.to_client.part ≡ p.greeting ++ x.received = ap₂ (λ (a b : List ℕ). x.since ++ (a ++ (b ++ v.to_client.part))) (sym g) (sym h) ∙ x.out in
-    let w : x.received ≡ flat_map spelling x.arrived ++ v.to_client.part = x.whole ∙ ap (λ (a : List ℕ). flat_map spelling x.arrived ++ (a ++ v.to_client.part)) f in (
+    let f : x.front ≡ [] = x.comes.opens.border (eqb-true v.to_client.rest 0 m.1) in
+    let o : x.since ++ v.to_client.part ≡ p.greeting ++ x.received = ap₂ (λ (a b : List ℕ). x.since ++ (a ++ (b ++ v.to_client.part))) (sym g) (sym h) ∙ x.comes.out in
+    let w : x.received ≡ flat_map spelling x.arrived ++ v.to_client.part = x.comes.whole ∙ ap (λ (a : List ℕ). flat_map spelling x.arrived ++ (a ++ v.to_client.part)) f in (
       record {
         greeting = g;
         held = h;
         arrived = x.arrived;
         since = x.since;
-        came = x.came;
-        given = x.given;
+        came = x.comes.came;
+        given = x.comes.given;
         whole = same_back x.since (p.greeting ++ flat_map spelling x.arrived) v.to_client.part (o ∙ ap (λ (a : List ℕ). p.greeting ++ a) w ∙ sym (append_assoc p.greeting (flat_map spelling x.arrived) v.to_client.part));
       },
       why_of p v r x m.2,
@@ -117,7 +117,7 @@ not_none (suc n) e = omega arith
 pub cut_of : (p : Place) (v : RelayView) → IsLease p v → (is_quiet v ≡ true) × ((v.to_client.rest == 0) ≡ false) × (v.flags.link_over ≡ true) → IsCut p v
 cut_of p v x m =
     let y = and_parts (is_empty v.greeting) (is_empty v.to_client.held) m.0 in
-    record { greeting = empty_is v.greeting y.0; held = empty_is v.to_client.held y.1; inside = not_none v.to_client.rest m.1; over = x.link_over m.2 }
+    record { greeting = empty_is v.greeting y.0; held = empty_is v.to_client.held y.1; inside = not_none v.to_client.rest m.1; over = x.says.link_over m.2 }
 
 -- ---- for a pump that answers so
 
