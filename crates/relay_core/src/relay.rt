@@ -1,21 +1,20 @@
 //! One lease: a client's end, a link, and the bytes between them.
 ghost use Rattle.std.specs.Prelude.{◌≡◌, ◌≤◌, ◌<◌, ◌+◌, ◌&&◌, ◌⊎◌, drop, length, true, false, IfErr, IfOk, Some};
 ghost use Rattle.frame_view.specs.declared.frames.TheConstants.{LONGEST_FRAME};
-ghost use Rattle.relay_flow.specs.Flows.{is_empty};
 
-use crate::answers::{moved_or, phase_after, refusal_of};
-use crate::flags::{any_over, client_read, client_wrote, count_moved, link_moved, none_moved};
-use crate::verdict::{is_settled, tell_arrived, tell_sent, verdict_by};
-use disposal::laws::{calls_tell, settled_exactly};
+use crate::answers::phase_after;
+use crate::flags::none_moved;
+use crate::verdict::{is_settled, verdict_by};
+use disposal::laws::settled_exactly;
 use disposal::{Traffic, Verdict};
 use frame_view::Side;
 use link_run::links::{CleanLink, Lent, UsedLink};
-use message_view::{KeyWord, Refusal};
+use message_view::KeyWord;
 use relay_flow::flow::Flow;
 use relay_laws::{Flags, Phase};
 use relay_steps::Next;
 use server_end::gate::Ready;
-use server_end::{ClientEnd, Moved, ServerEnd};
+use server_end::{ClientEnd, ServerEnd};
 use std::alloc::Global;
 use std::marker::Model;
 
@@ -46,16 +45,16 @@ pub enum Returned<E: ServerEnd> {
 /// that some lease is under way (`IsLease`) is the type's invariant, and the laws of `relay_laws` say what follows from it.
 #[derive(Drop)]
 pub struct Relay<C: ClientEnd, E: ServerEnd> {
-    client: C,
-    link: Lent<E>,
-    word: KeyWord,
-    welcome: Vec<u8>,
-    greeted: usize,
-    to_link: Flow,
-    to_client: Flow,
-    traffic: Traffic,
-    flags: Flags,
-    phase: Phase,
+    pub(crate) client: C,
+    pub(crate) link: Lent<E>,
+    pub(crate) word: KeyWord,
+    pub(crate) welcome: Vec<u8>,
+    pub(crate) greeted: usize,
+    pub(crate) to_link: Flow,
+    pub(crate) to_client: Flow,
+    pub(crate) traffic: Traffic,
+    pub(crate) flags: Flags,
+    pub(crate) phase: Phase,
 }
 
 impl<C: ClientEnd, E: ServerEnd> Model for Relay<C, E> {
@@ -70,19 +69,12 @@ impl<C: ClientEnd, E: ServerEnd> Model for Relay<C, E> {
     ghost invariant = { λ r. (r.greeted ≤ length r.welcome.items) × IsRelay (relay_view (C.facts r.client) (E.standing r.link.end) (arc_value r.link.key) r.link.number r.link.born r.word (drop r.greeted r.welcome.items) r.to_link r.to_client r.traffic r.flags r.phase) };
 }
 
-/// What is left of some bytes.
-fn rest_of(bytes: &[u8], from: usize) -> &[u8]
-    requires { from ≤ length bytes.now }
-    ensures { result.now ≡ drop from bytes.now }
-{
-    &bytes[from..]
-}
-
 impl<C: ClientEnd, E: ServerEnd> Relay<C, E> {
-    ghost use Rattle.relay_laws.specs.Leases.{Place, place, IsLease, IsGreeting, IsExact, IsAllowed, Keeps, any_over, relay_verdict, at_border};
-    ghost use Rattle.relay_steps.specs.Answers.{EndsByClient, RefusedBy, AtBorder, IsCut, is_done, is_quiet, border_next, judged, quiet_next, phase_after};
+    ghost use Rattle.std.specs.Prelude.{Bool};
+    ghost use Rattle.relay_laws.specs.Leases.{Place, place, IsLease, IsGreeting, IsExact, IsAllowed, Keeps, relay_verdict, at_border};
+    ghost use Rattle.relay_steps.specs.Answers.{EndsByClient, RefusedBy, AtBorder, IsCut, judged, phase_after};
     ghost use Rattle.relay_core.specs.Returns.{IsReturned};
-    ghost use Rattle.relay_steps.specs.Steps.{bytes_moved, HoldsAll, IsStuck, IsStuckClient, may_read_client, may_read_link, may_write_client, may_write_link, OnlyToClient, OnlyToLink, ReadsClient, ReadsLink, stops_here, Waits, WritesClient, WritesLink};
+    ghost use Rattle.relay_steps.specs.Steps.{bytes_moved, HoldsAll, Waits};
     ghost use Rattle.relay_steps.specs.declared.Next.TheVariants.{Again, Wait, ClientDone, Refuse, Closed};
     ghost use Rattle.relay_laws.specs.declared.Phase.TheVariants.{Running, Done, Shut};
     ghost use Rattle.message_view.specs.declared.refusal.Refusal.{Refusal};
@@ -105,11 +97,6 @@ impl<C: ClientEnd, E: ServerEnd> Relay<C, E> {
         ensures begun { IfOk result (IsLease (place (C.facts client) link word limit welcome.items)) }
         ensures client { IfOk result (λ r. r.client ≡ C.facts client) }
         ensures link { IfOk result (λ r. r.link ≡ link.stands) }
-        ensures key { IfOk result (λ r. r.key ≡ link.key) }
-        ensures number { IfOk result (λ r. r.number ≡ link.number) }
-        ensures born { IfOk result (λ r. r.born ≡ link.born) }
-        ensures word { IfOk result (λ r. r.word ≡ word) }
-        ensures limit { IfOk result (λ r. (r.to_link.limit ≡ limit) × (r.to_client.limit ≡ limit)) }
         ensures phase { IfOk result (λ r. r.phase ≡ Running) }
         ensures back { IfErr result (λ p. (p.0 ≡ client) × (p.1 ≡ link)) }
     {
@@ -152,7 +139,7 @@ impl<C: ClientEnd, E: ServerEnd> Relay<C, E> {
         ensures lease { Keeps self.old self.new }
         ensures exact { (p : Place) → IsLease p self.old → self.new.client.tells ≡ true → self.new.link.follows ≡ true → self.new.link.lives ≡ true → IsExact p self.new }
         ensures allowed { (p : Place) → IsLease p self.old → self.new.client.tells ≡ true → self.new.link.follows ≡ true → IsAllowed p self.new }
-        ensures judged { self.old.phase ≡ Running → (none : Rattle.std.specs.Prelude.Bool) × (result ≡ judged none self.new) }
+        ensures judged { self.old.phase ≡ Running → (none : Bool) × (result ≡ judged none self.new) }
         ensures done { (p : Place) → IsLease p self.old → self.old.phase ≡ Running → result ≡ ClientDone → EndsByClient p self.new }
         ensures refused { (p : Place) (r : Refusal) → IsLease p self.old → result ≡ Refuse r → AtBorder p self.new × RefusedBy p self.new r }
         ensures closed { (p : Place) → IsLease p self.old → self.old.phase ≡ Running → result ≡ Closed → IsCut p self.new }
@@ -225,7 +212,7 @@ impl<C: ClientEnd, E: ServerEnd> Relay<C, E> {
     fn turn(&mut self, ready: Ready) -> Next
         requires { self.old.phase ≡ Running }
         ensures lease { Keeps self.old self.new }
-        ensures judged { (none : Rattle.std.specs.Prelude.Bool) × (result ≡ judged none self.new) }
+        ensures judged { (none : Bool) × (result ≡ judged none self.new) }
         ensures phase { self.new.phase ≡ phase_after result }
         ensures again { result ≡ Again → self.old.client.tells ≡ true → bytes_moved self.old < bytes_moved self.new }
         ensures none { result ≡ Wait → self.old.client.tells ≡ true → bytes_moved self.new ≡ bytes_moved self.old }
@@ -240,7 +227,7 @@ impl<C: ClientEnd, E: ServerEnd> Relay<C, E> {
     /// The four moves, and what they come to.
     fn run(&mut self, ready: Ready) -> Next
         ensures lease { Keeps self.old self.new }
-        ensures judged { (none : Rattle.std.specs.Prelude.Bool) × (result ≡ judged none self.new) }
+        ensures judged { (none : Bool) × (result ≡ judged none self.new) }
         ensures again { result ≡ Again → self.old.client.tells ≡ true → bytes_moved self.old < bytes_moved self.new }
         ensures none { result ≡ Wait → self.old.client.tells ≡ true → bytes_moved self.new ≡ bytes_moved self.old }
         ensures waits { result ≡ Wait → Waits ready.client ready.server self.old self.new }
@@ -251,286 +238,5 @@ impl<C: ClientEnd, E: ServerEnd> Relay<C, E> {
         let served = self.from_link(ready.server);
         let given = self.for_client(ready.client);
         self.judge(none_moved(read, written, served, given))
-    }
-
-    /// Whether the client is done.
-    fn is_done(&self) -> bool
-        ensures { result ≡ is_done self.now }
-    {
-        self.flags.client_over
-            || (self.to_link.held_is_empty() && (self.flags.input_over || self.to_link.is_last()))
-    }
-
-    /// Whether the client was given its welcome.
-    fn welcome_is_empty(&self) -> bool
-        ensures { result ≡ is_empty self.now.greeting }
-    {
-        self.welcome[self.greeted..].is_empty()
-    }
-
-    /// Whether the client was given all that may go on to it.
-    fn is_quiet(&self) -> bool
-        ensures { result ≡ is_quiet self.now }
-    {
-        self.welcome_is_empty() && self.to_client.held_is_empty()
-    }
-
-    /// The answer at a border of the server's frames.
-    fn border_next(&self, none: bool) -> Next
-        ensures { result ≡ border_next none self.now }
-    {
-        if let Some(refusal) = refusal_of(self.to_link.ends()) {
-            return Next::Refuse(refusal);
-        }
-        if self.to_client.is_faulty() {
-            return Next::Refuse(Refusal::MalformedServerMessage);
-        }
-        if self.flags.link_over {
-            return Next::Refuse(Refusal::ServerFailed);
-        }
-        moved_or(none)
-    }
-
-    /// The answer where all is given.
-    fn quiet_next(&self, none: bool) -> Next
-        ensures { result ≡ quiet_next none self.now }
-    {
-        if self.to_client.rest() == 0 {
-            return self.border_next(none);
-        }
-        if self.flags.link_over {
-            return Next::Closed;
-        }
-        moved_or(none)
-    }
-
-    /// The answer.
-    fn judge(&self, none: bool) -> Next
-        ensures { result ≡ judged none self.now }
-    {
-        if self.is_done() {
-            return Next::ClientDone;
-        }
-        if self.is_quiet() {
-            return self.quiet_next(none);
-        }
-        moved_or(none)
-    }
-
-    /// Reads the client, and lets what may go on.
-    fn from_client(&mut self, ready: bool) -> Moved
-        ensures keeps { Keeps self.old self.new }
-        ensures steps { ReadsClient ready self.old self.new result }
-        ensures stuck { IsStuck self.new.to_link }
-    {
-        let moved = self.read_client(ready);
-        self.pass_all_to_link();
-        moved
-    }
-
-    /// Reads the link, and lets what may go on.
-    fn from_link(&mut self, ready: bool) -> Moved
-        ensures keeps { Keeps self.old self.new }
-        ensures steps { ReadsLink ready self.old self.new result }
-        ensures stuck { IsStuckClient self.new }
-    {
-        let moved = self.read_link(ready);
-        self.pass_all_to_client();
-        moved
-    }
-
-    /// Writes to the link.
-    fn for_link(&mut self, ready: bool) -> Moved
-        ensures keeps { Keeps self.old self.new }
-        ensures steps { WritesLink ready self.old self.new result }
-    {
-        if !self.may_write_link(ready) {
-            return Moved::NotNow;
-        }
-        self.write_link(ready)
-    }
-
-    /// Writes to the client: first its welcome.
-    fn for_client(&mut self, ready: bool) -> Moved
-        ensures keeps { Keeps self.old self.new }
-        ensures steps { WritesClient ready self.old self.new result }
-    {
-        if !self.may_write_client(ready) {
-            return Moved::NotNow;
-        }
-        if self.welcome_is_empty() {
-            return self.write_client(ready);
-        }
-        self.write_welcome(ready)
-    }
-
-    /// Whether the client is read: no end is over, and its frames go on.
-    fn may_read_client(&self, ready: bool) -> bool
-        ensures { result ≡ may_read_client ready self.now }
-    {
-        ready && (!any_over(self.flags) && self.to_link.is_open())
-    }
-
-    /// Whether the link is read: no end is over, its frames go on, and the welcome was given.
-    fn may_read_link(&self, ready: bool) -> bool
-        ensures { result ≡ may_read_link ready self.now }
-    {
-        ready && (!any_over(self.flags) && (self.to_client.is_open() && self.welcome_is_empty()))
-    }
-
-    /// Whether the link is written to: not after a fault of the client's bytes.
-    fn may_write_link(&self, ready: bool) -> bool
-        ensures { result ≡ may_write_link ready self.now }
-    {
-        ready
-            && (!self.flags.link_over
-                && (!self.to_link.is_faulty() && !self.to_link.held_is_empty()))
-    }
-
-    /// Whether the client is written to.
-    fn may_write_client(&self, ready: bool) -> bool
-        ensures { result ≡ may_write_client ready self.now }
-    {
-        ready && (!self.flags.client_over && !self.is_quiet())
-    }
-
-    /// One read of the client, where it may be and there is room.
-    fn read_client(&mut self, ready: bool) -> Moved
-        ensures keeps { Keeps self.old self.new }
-        ensures steps { ReadsClient ready self.old self.new result }
-    {
-        if !self.may_read_client(ready) {
-            return Moved::NotNow;
-        }
-        if !self.to_link.make_room() {
-            return Moved::NotNow;
-        }
-        let moved = self.to_link.read_client(&mut self.client);
-        self.flags = client_read(self.flags, moved);
-        moved
-    }
-
-    /// One read of the link, where it may be and there is room.
-    fn read_link(&mut self, ready: bool) -> Moved
-        ensures keeps { Keeps self.old self.new }
-        ensures steps { ReadsLink ready self.old self.new result }
-    {
-        if !self.may_read_link(ready) {
-            return Moved::NotNow;
-        }
-        if !self.to_client.make_room() {
-            return Moved::NotNow;
-        }
-        let moved = self.to_client.read_server(&mut self.link.end);
-        self.flags = link_moved(self.flags, moved);
-        moved
-    }
-
-    /// One write to the link, of all that is held for it.
-    fn write_link(&mut self, ready: bool) -> Moved
-        requires { is_empty self.old.to_link.held ≡ false }
-        ensures keeps { Keeps self.old self.new }
-        ensures steps { WritesLink ready self.old self.new result }
-    {
-        let _ = ready;
-        let held = self.to_link.held();
-        let moved = self.link.end.write_some(held);
-        self.to_link.wrote(count_moved(moved));
-        self.flags = link_moved(self.flags, moved);
-        moved
-    }
-
-    /// One write to the client, of all that is held for it.
-    fn write_client(&mut self, ready: bool) -> Moved
-        requires welcome { is_empty self.old.greeting ≡ true }
-        requires held { is_empty self.old.to_client.held ≡ false }
-        ensures keeps { Keeps self.old self.new }
-        ensures steps { WritesClient ready self.old self.new result }
-    {
-        let _ = ready;
-        let held = self.to_client.held();
-        let moved = self.client.write_some(held);
-        self.to_client.wrote(count_moved(moved));
-        self.flags = client_wrote(self.flags, moved);
-        moved
-    }
-
-    /// One write to the client, of its welcome.
-    fn write_welcome(&mut self, ready: bool) -> Moved
-        requires { is_empty self.old.greeting ≡ false }
-        ensures keeps { Keeps self.old self.new }
-        ensures steps { WritesClient ready self.old self.new result }
-    {
-        let _ = ready;
-        let unsent = rest_of(&self.welcome, self.greeted);
-        let moved = self.client.write_some(unsent);
-        self.greeted += count_moved(moved);
-        self.flags = client_wrote(self.flags, moved);
-        moved
-    }
-
-    /// Lets all of the client's frames go on that may.
-    fn pass_all_to_link(&mut self)
-        ensures keeps { Keeps self.old self.new }
-        ensures only { OnlyToLink self.old self.new }
-        ensures stuck { IsStuck self.new.to_link }
-    {
-        'frames: while self.pass_to_link() {}
-    }
-
-    /// Lets all of the server's frames go on that may.
-    fn pass_all_to_client(&mut self)
-        ensures keeps { Keeps self.old self.new }
-        ensures only { OnlyToClient self.old self.new }
-        ensures stuck { IsStuckClient self.new }
-    {
-        'frames: while self.pass_to_client() {}
-    }
-
-    /// Lets bytes of one of the client's frames go on.
-    fn pass_to_link(&mut self) -> bool
-        ensures keeps { Keeps self.old self.new }
-        ensures less { result ≡ true → length self.new.to_link.part < length self.old.to_link.part }
-        ensures only { OnlyToLink self.old self.new }
-        ensures stuck { result ≡ false → IsStuck self.new.to_link }
-    {
-        if !self.to_link.is_open() {
-            return false;
-        }
-        let Some(passed) = self.to_link.pass_some() else {
-            return false;
-        };
-        if passed.whole {
-            calls_tell();
-            tell_sent(&mut self.traffic, passed.kind);
-        }
-        true
-    }
-
-    /// After a fault of the client nothing goes on behind the border of the server's frames.
-    fn stops_here(&self) -> bool
-        ensures { result ≡ stops_here self.now }
-    {
-        self.to_link.is_faulty() && self.to_client.rest() == 0
-    }
-
-    /// Lets bytes of one of the server's frames go on.
-    fn pass_to_client(&mut self) -> bool
-        ensures keeps { Keeps self.old self.new }
-        ensures less { result ≡ true → length self.new.to_client.part < length self.old.to_client.part }
-        ensures only { OnlyToClient self.old self.new }
-        ensures stuck { result ≡ false → IsStuckClient self.new }
-    {
-        if !self.to_client.is_open() || self.stops_here() {
-            return false;
-        }
-        let Some(passed) = self.to_client.pass_some() else {
-            return false;
-        };
-        if passed.whole {
-            calls_tell();
-            tell_arrived(&mut self.traffic, passed);
-        }
-        true
     }
 }
