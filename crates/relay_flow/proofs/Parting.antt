@@ -106,10 +106,14 @@ module _ (side : Side) (limit : ℕ) (part : List ℕ) (kind rest count : ℕ) (
         spelled = joined kind (4 + (length b.body + rest)) tail b.body (take count part) b.bytes ∙ ap (λ (l : ℕ). kind ∷ to_be_bytes w32 (4 + l) ++ (b.body ++ take count part)) (sym n);
       }
 
+  at_once : side ≡ Server → kind ≡ PARAMETER_STATUS → is_foreign_in_parts side kind ≡ false → rest ≡ 0
+  at_once s k e = absurd (true≢false (sym (ap₂ (λ (x : Side) (n : ℕ). is_foreign_in_parts x n) s k) ∙ e))
+
   pub body_advances : 0 < count → 0 < rest → Advances side limit part kind rest (advance count kind (rest - count) None (is_foreign_in_parts side kind))
   body_advances some h = record {
     some = some;
     within = within;
+    at_once = at_once;
     opens = λ more tail o. record { border = λ e. absurd (omega (arith, more, e)); inside = λ _. grown tail (o.inside h) more };
     spells = λ e tail o. ended tail (o.inside h) e;
   }
@@ -148,6 +152,7 @@ whole_advances side limit frame part kind status foreign law bytes t i j =
     record {
       some = omega (arith, k.some);
       within = k.within;
+      at_once = λ s k f. refl;
       opens = λ more tail o. absurd (omega (arith, more));
       spells = λ e tail o. subst (λ (b : List ℕ). Spells side limit (b ++ take (length frame.whole.now) part) frame.kind status foreign) (sym (o.border refl)) s;
     }
@@ -215,6 +220,7 @@ head_advances side limit kind k a b c d rest m bytes x g =
     record {
       some = omega arith;
       within = omega arith;
+      at_once = λ s k f. refl;
       opens = λ more tail o. record {
         border = λ e. absurd (omega (arith, more, e));
         inside = λ _. subst (λ (t : List ℕ). Begins side limit t k m) (ap₂ (λ (s t : List ℕ). s ++ t) (sym (o.border refl)) (sym all)) opened;

@@ -125,7 +125,7 @@ positive zero h = absurd (true≢false h)
 positive (suc n) h = omega arith
 
 abbrev passed_of : Advance → Passed
-passed_of a = record { kind = a.kind; status = a.status; is_foreign = a.is_foreign; whole = a.rest == 0 }
+passed_of a = record { kind = a.kind; count = a.count; status = a.status; is_foreign = a.is_foreign; whole = a.rest == 0 }
 
 some_bytes : (n : ℕ) (bytes : List ℕ) → AreBytes bytes → AreBytes (take n bytes)
 some_bytes zero bytes h i = omega arith
@@ -158,7 +158,9 @@ passes_by v xs s p f k r sd lm en a e x y l g h d =
       limit = ap (λ (b : FlowView). b.limit) e;
       ends = ap (λ (b : FlowView). b.ends) e;
       border = λ b. eqb-true a.rest 0 b;
+      count = sym (length-take-le n v.part w);
       goes_on = g;
+      at_once = d.at_once;
       opens = λ b. d.opens (positive a.rest b);
       spells = λ b. d.spells (eqb-true a.rest 0 b);
     }

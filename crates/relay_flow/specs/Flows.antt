@@ -1,13 +1,15 @@
 -- Bytes on their way: those that may go on, then those that may not go on yet.
-use Rattle.std.specs.Prelude.{◌≡◌, ◌⊎◌, ℕ, ◌<◌, ◌≢◌, Bool, true, false, ◌==◌, List, [], ◌++◌, take, drop, length, Option}
+use Rattle.std.specs.Prelude.{◌≡◌, ◌⊎◌, ℕ, ◌-◌, ◌<◌, ◌≢◌, Bool, true, false, ◌==◌, List, [], ◌++◌, take, drop, length, Option}
 use Rattle.frame_view.specs.declared.Side.{Side}
 use Rattle.frame_view.specs.declared.Side.TheVariants.{Client, Server}
 use Rattle.frame_view.specs.Frames as frames
 use Rattle.frame_view.specs.Frames.{AreBytes, front}
 use Rattle.frame_view.specs.declared.client.TheConstants.{TERMINATE}
+use Rattle.frame_view.specs.declared.server.TheConstants.{PARAMETER_STATUS}
 use Rattle.server_end.specs.declared.Moved.{Moved}
 use Rattle.server_end.specs.declared.Moved.TheVariants.{Count, NotNow, Ended, Fault}
 use Rattle.relay_flow.specs.Parts.{Begins, Opens, Spells, Advances, is_stuck}
+use Rattle.relay_flow.specs.declared.parts.TheConstants.{HEAD}
 use Rattle.relay_flow.specs.declared.flow.Ends.{Ends}
 use Rattle.relay_flow.specs.declared.flow.Ends.TheVariants.{Open, Last, Faulty}
 use Rattle.relay_flow.specs.declared.flow.Passed.{Passed}
@@ -124,6 +126,7 @@ pub record Passes (v w : FlowView) (p : Passed) : Type 0 where
   pub bytes : List ℕ
   pub are_bytes : AreBytes bytes
   pub some : 0 < length bytes
+  pub count : p.count ≡ length bytes
   pub held : w.held ≡ v.held ++ bytes
   pub part : v.part ≡ bytes ++ w.part
   pub side : w.side ≡ v.side
@@ -131,8 +134,13 @@ pub record Passes (v w : FlowView) (p : Passed) : Type 0 where
   pub ends : w.ends ≡ v.ends
   pub border : p.whole ≡ true → w.rest ≡ 0
   pub goes_on : v.side ≡ Client → p.kind ≢ TERMINATE
+  pub at_once : v.side ≡ Server → p.kind ≡ PARAMETER_STATUS → p.is_foreign ≡ false → v.rest ≡ 0
   pub opens : p.whole ≡ false → (tail : List ℕ) → Opens v.side v.limit tail v.kind v.rest → Opens v.side v.limit (tail ++ bytes) w.kind w.rest
   pub spells : p.whole ≡ true → (tail : List ℕ) → Opens v.side v.limit tail v.kind v.rest → Spells v.side v.limit (tail ++ bytes) p.kind p.status p.is_foreign
+
+-- the body of a whole frame of so many bytes, the last of those that may go on
+abbrev pub last_body : FlowView → ℕ → List ℕ
+last_body f count = drop HEAD (drop (length f.held - count) f.held)
 
 -- none may
 pub record Stays (v w : FlowView) : Type 0 where

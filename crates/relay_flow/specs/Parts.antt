@@ -58,6 +58,8 @@ pub record Spells (side : Side) (limit : ℕ) (bytes : List ℕ) (kind : ℕ) (s
 pub record Advances (side : Side) (limit : ℕ) (part : List ℕ) (kind rest : ℕ) (a : Advance) : Type 0 where
   pub some : 0 < a.count
   pub within : a.count ≤ length part
+  -- a ParameterStatus that a session may send goes on at once
+  pub at_once : side ≡ Server → a.kind ≡ PARAMETER_STATUS → a.is_foreign ≡ false → rest ≡ 0
   pub opens : 0 < a.rest → (tail : List ℕ) → Opens side limit tail kind rest → Opens side limit (tail ++ take a.count part) a.kind a.rest
   pub spells : a.rest ≡ 0 → (tail : List ℕ) → Opens side limit tail kind rest → Spells side limit (tail ++ take a.count part) a.kind a.status a.is_foreign
 

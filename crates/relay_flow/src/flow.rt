@@ -71,6 +71,8 @@ impl Model for Flow {
 pub struct Passed {
     /// The frame's type.
     pub kind: u8,
+    /// How many they are, at least 1.
+    pub count: usize,
     /// Whether the frame's end is among them.
     pub whole: bool,
     /// Where a server's frame ends: the status that it tells, if it is a ReadyForQuery of one.
@@ -164,6 +166,15 @@ impl Flow {
         ensures { result.now ≡ self.now.held }
     {
         &self.bytes[self.start..self.pass]
+    }
+
+    /// The last `count` of them.
+    pub fn last_held(&self, count: usize) -> &[u8]
+        requires { count ≤ length self.now.held }
+        ensures { result.now ≡ drop (length self.now.held - count) self.now.held }
+    {
+        let held = self.held();
+        &held[held.len() - count..]
     }
 
     /// Whether there are none.
@@ -302,6 +313,7 @@ impl Flow {
                 self.rest = next.rest;
                 Some(Passed {
                     kind: next.kind,
+                    count: next.count,
                     whole: next.rest == 0,
                     status: next.status,
                     is_foreign: next.is_foreign,

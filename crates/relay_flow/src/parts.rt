@@ -26,8 +26,8 @@ pub struct Advance {
     pub is_foreign: bool,
 }
 
-/// A frame's type and length.
-const HEAD: usize = 5;
+/// How many bytes a frame's type and length are.
+pub const HEAD: usize = 5;
 
 /// The length of a ReadyForQuery: its own four bytes and the status.
 pub const READY_LENGTH: usize = 5;

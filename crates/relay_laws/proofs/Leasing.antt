@@ -1,10 +1,10 @@
 -- What each move of bytes does to a lease.
-use Rattle.std.proofs.Common.{◌≡◌, ◌≢◌, ℕ, zero, suc, ◌+◌, ◌≤◌, inl, inr, ⊎_elim, length, arith, Bool, true, false, List, [], ◌∷◌, ◌++◌, Option, refl, sym, ap, ap₂, ◌∙◌, append_assoc, append-nil, subst, take, drop, ◌-◌, length-drop, drop-drop, take-append-drop, length-take-le, eqb-true}
+use Rattle.std.proofs.Common.{◌≡◌, ◌≢◌, ℕ, zero, suc, ◌+◌, ◌≤◌, inl, inr, ⊎_elim, length, arith, Bool, true, false, List, [], ◌∷◌, ◌++◌, Option, refl, sym, ap, ap₂, ◌∙◌, append_assoc, append-nil, subst, take, drop, ◌-◌, length-drop, drop-drop, take-append-drop, length-take-le, length-append, eqb-true}
 use Rattle.std.specs.Prelude.{◌||◌}
 use Rattle.std.specs.List.{flat_map, AllByRecursion}
 use Rattle.std.proofs.lemmas.Grind.{flat_map-append}
 use Rattle.std.proofs.lemmas.Bool.{true≢false, false≢true}
-use Rattle.disposal.specs.Tallies.{Tally, Tells, may_end}
+use Rattle.disposal.specs.Tallies.{Tells, may_end}
 use Rattle.disposal.specs.Laws.{CallsTell}
 use Rattle.frame_view.specs.declared.Side.{Side}
 use Rattle.frame_view.specs.declared.Side.TheVariants.{Client, Server}
@@ -13,7 +13,6 @@ use Rattle.frame_view.specs.declared.frames.TheConstants.{LONGEST_FRAME}
 use Rattle.frame_view.specs.declared.client.TheConstants.{TERMINATE}
 use Rattle.message_view.specs.declared.KeyWord.{KeyWord}
 use Rattle.session_values.specs.State.{StartKeyOf}
-use Rattle.session_laws.specs.Laws as session
 use Rattle.server_end.specs.declared.Moved.{Moved}
 use Rattle.server_end.specs.declared.Moved.TheVariants.{Count, NotNow, Ended, Fault}
 use Rattle.server_end.specs.Moves.{faults_in, moved, IsWithin}
@@ -21,17 +20,22 @@ use Rattle.link_laws.specs.Standing.{Standing, ClientFacts, Moves}
 use Rattle.server_end.specs.Moves.{CountsRead, CountsWrite, ClientReads, ClientWrites}
 use Rattle.link_laws.proofs.Both.{moves_got, moves_put, moves_none}
 use Rattle.session_values.proofs.Alls.{all-append}
-use Rattle.link_run.specs.Links.{LinkView}
-use Rattle.link_laws.specs.Links.{IsClean}
-use Rattle.relay_laws.specs.Verdicts.{begun_arrived, told_sent, told_arrived}
-use Rattle.relay_laws.proofs.Settling.{tells_sent, tells_arrived, tells_none, status_may_end}
-use Rattle.relay_flow.specs.Parts.{Opens, Spells}
+use Rattle.link_run.specs.Links.{LinkView, IsClean, told_by}
+use Rattle.link_run.specs.Resets.{names_kept}
+use Rattle.param_track.specs.Kept.{Kept}
+use Rattle.message_view.specs.Reading.{status_of}
+use Rattle.frame_view.specs.declared.server.TheConstants.{PARAMETER_STATUS}
+use Rattle.relay_flow.specs.declared.parts.TheConstants.{HEAD}
+use Rattle.std.proofs.Math.Seq.{drop-append_seam}
+use Rattle.relay_laws.specs.Verdicts.{Told, IsRead, is_own, kept_after, begun_arrived, told_sent, told_arrived}
+use Rattle.relay_laws.proofs.Settling.{Arrives, tells_sent, tells_arrived, tells_none, status_may_end}
+use Rattle.relay_flow.specs.Parts.{Opens, Spells, is_foreign}
 use Rattle.relay_flow.specs.declared.flow.Ends.{Ends}
 use Rattle.relay_flow.specs.declared.flow.Ends.TheVariants.{Open, Last, Faulty}
 use Rattle.relay_flow.specs.declared.flow.Passed.{Passed}
 use Rattle.relay_laws.specs.declared.Flags.{Flags}
 use Rattle.relay_laws.specs.declared.Phase.{Phase}
-use Rattle.relay_flow.specs.Flows.{FlowView, SameCursor, came, count_of, Fills, Passes, Stays, IsEmptyFlow, IsEndedBy, is_open, is_empty}
+use Rattle.relay_flow.specs.Flows.{FlowView, SameCursor, came, count_of, Fills, Passes, Stays, IsEmptyFlow, IsEndedBy, is_open, is_empty, last_body}
 use Rattle.relay_laws.specs.Leases.{RelayView, relay_view, Place, place, IsLease, IsForwarded, IsFlow, IsGreeting, IsClientOver, IsLinkOver, is_end, is_fault, counts, flags_of, link_moved, client_read, client_wrote}
 
 -- ---- flows
@@ -132,13 +136,8 @@ bytes_behind : (xs ys : List ℕ) → AreBytes (xs ++ ys) → AreBytes ys
 bytes_behind [] ys h = h
 bytes_behind (x ∷ xs) ys h = bytes_behind xs ys (λ j. h (suc j))
 
--- one after the other, as session_laws says it
-each_byte : (xs : List ℕ) → AreBytes xs → session.AreBytes xs
-each_byte [] h = tt
-each_byte (x ∷ xs) h = (h 0, each_byte xs (λ j. h (suc j)))
-
-body_bytes : (f : FrameOf) → AreBytes (spelling f) → session.AreBytes f.body
-body_bytes f h = each_byte f.body (bytes_behind (Rattle.std.specs.Int.to_be_bytes Rattle.std.specs.Int.w32 (4 + length f.body)) f.body (λ j. h (suc j)))
+body_bytes : (f : FrameOf) → AreBytes (spelling f) → AreBytes f.body
+body_bytes f h = (bytes_behind (Rattle.std.specs.Int.to_be_bytes Rattle.std.specs.Int.w32 (4 + length f.body)) f.body (λ j. h (suc j)))
 
 forwarded : (limit limit2 : ℕ) (side : Side) (bytes : List ℕ) (kind : ℕ) (status : Option ℕ) (foreign : Bool) (s : Spells side limit bytes kind status foreign) → side ≡ Client → limit2 ≡ limit → limit ≤ LONGEST_FRAME → AreBytes bytes → (side ≡ Client → kind ≢ TERMINATE) → IsForwarded limit2 s.frame
 forwarded limit limit2 side bytes kind status foreign s d e h a g =
@@ -154,9 +153,60 @@ arrived limit side bytes kind status foreign s d h =
     let u : IsFrame Server limit s.frame = subst (λ (x : Side). IsFrame x limit s.frame) d s.is_frame in
     record { of_type = u.of_type; size = omega (arith, u.size, h) }
 
+-- ---- what a frame reports
+
+abbrev a_frame : ℕ → List ℕ → FrameOf
+a_frame k body = record { kind = k; body = body }
+
+same_by : {A : Type 0} (other : A) (q : Bool) (a b : List ℕ) (read : List ℕ → A) → (q ≡ true → a ≡ b) → (if q then read a else other) ≡ (if q then read b else other)
+same_by other true a b read h = ap read (h refl)
+same_by other false a b read h = refl
+
+same_own : (kept : List Kept) (foreign : Bool) (kind : ℕ) (a b : List ℕ) → (kind ≡ PARAMETER_STATUS → foreign ≡ false → a ≡ b) → is_own kept foreign (a_frame kind a) ≡ is_own kept foreign (a_frame kind b)
+same_own kept true kind a b h = refl
+same_own kept false kind a b h = same_by true (kind == PARAMETER_STATUS) a b (λ (x : List ℕ). names_kept kept (status_of x)) (λ q. h (eqb-true kind PARAMETER_STATUS q) refl)
+
+same_kept : (kept : List Kept) (foreign : Bool) (kind : ℕ) (a b : List ℕ) → (kind ≡ PARAMETER_STATUS → foreign ≡ false → a ≡ b) → kept_after kept foreign (a_frame kind a) ≡ kept_after kept foreign (a_frame kind b)
+same_kept kept true kind a b h = refl
+same_kept kept false kind a b h = same_by kept (kind == PARAMETER_STATUS) a b (λ (x : List ℕ). told_by kept (status_of x)) (λ q. h (eqb-true kind PARAMETER_STATUS q) refl)
+
+body_of : (f : FrameOf) → drop HEAD (spelling f) ≡ f.body
+body_of f = refl
+
+last-is : (held bytes : List ℕ) (count : ℕ) → count ≡ length bytes → drop (length (held ++ bytes) - count) (held ++ bytes) ≡ bytes
+last-is held bytes count e =
+    let l : length (held ++ bytes) ≡ length held + length bytes = length-append held bytes in
+    let n : length (held ++ bytes) - count ≡ length held = omega (arith, l, e) in
+    ap (λ (k : ℕ). drop k (held ++ bytes)) n ∙ drop-append_seam held bytes
+
+module _ (kept after : List Kept) (tc td : FlowView) (ps : Passed) (own : Bool) (front : List ℕ) (y : Passes tc td ps) (s : Spells tc.side tc.limit (front ++ y.bytes) ps.kind ps.status ps.is_foreign)
+    (server : tc.side ≡ Server) (o : Opens tc.side tc.limit front tc.kind tc.rest) (r : IsRead kept after own td ps) where
+  read_body : ps.kind ≡ PARAMETER_STATUS → ps.is_foreign ≡ false → last_body td ps.count ≡ s.frame.body
+  read_body k f =
+      let e : front ≡ [] = o.border (y.at_once server k f) in
+      let b : y.bytes ≡ spelling s.frame = ap (λ (x : List ℕ). x ++ y.bytes) (sym e) ∙ s.spelled in
+      let l : drop (length td.held - ps.count) td.held ≡ y.bytes = ap (λ (x : List ℕ). drop (length x - ps.count) x) y.held ∙ last-is tc.held y.bytes ps.count y.count in
+      ap (drop HEAD) (l ∙ b) ∙ body_of s.frame
+
+  own_is : own ≡ is_own kept (is_foreign s.frame) s.frame
+  own_is = r.own_is ∙ same_own kept ps.is_foreign ps.kind (last_body td ps.count) s.frame.body read_body ∙ ap₂ (λ (f : Bool) (k : ℕ). is_own kept f (a_frame k s.frame.body)) (s.foreign_is server) (sym s.kind_is)
+
+  kept_is : after ≡ kept_after kept (is_foreign s.frame) s.frame
+  kept_is = r.kept_is ∙ same_kept kept ps.is_foreign ps.kind (last_body td ps.count) s.frame.body read_body ∙ ap₂ (λ (f : Bool) (k : ℕ). kept_after kept f (a_frame k s.frame.body)) (s.foreign_is server) (sym s.kind_is)
+
+arrives_by : (t u : Told) (tc td : FlowView) (ps : Passed) (own : Bool) (front : List ℕ) (y : Passes tc td ps) (s : Spells tc.side tc.limit (front ++ y.bytes) ps.kind ps.status ps.is_foreign)
+    → tc.side ≡ Server → Opens tc.side tc.limit front tc.kind tc.rest → u.tally ≡ told_arrived ps own t.tally → IsRead t.reports u.reports own td ps → Arrives t u ps own s.frame
+arrives_by t u tc td ps own front y s server o e r = record {
+  kind_is = s.kind_is;
+  status_is = s.status_is server;
+  own_is = own_is t.reports u.reports tc td ps own front y s server o r;
+  tally_is = e;
+  reports_is = kept_is t.reports u.reports tc td ps own front y s server o r;
+}
+
 -- ---- the moves
 
-pub lease_room_link : (p : Place) (cf : ClientFacts) (l : Standing) (k : StartKeyOf) (n : ℕ) (b : ℕ) (w : KeyWord) (gr : List ℕ) (tl : FlowView) (tm : FlowView) (tc : FlowView) (t : Tally) (fs : Flags) (ph : Phase)
+pub lease_room_link : (p : Place) (cf : ClientFacts) (l : Standing) (k : StartKeyOf) (n : ℕ) (b : ℕ) (w : KeyWord) (gr : List ℕ) (tl : FlowView) (tm : FlowView) (tc : FlowView) (t : Told) (fs : Flags) (ph : Phase)
     → tm.held ≡ tl.held → tm.part ≡ tl.part → SameCursor tl tm
     → IsLease p (relay_view cf l k n b w gr tl tc t fs ph) → IsLease p (relay_view cf l k n b w gr tm tc t fs ph)
 lease_room_link p cf l k n b w gr tl tm tc t fs ph h e s x = record {
@@ -185,7 +235,7 @@ lease_room_link p cf l k n b w gr tl tm tc t fs ph h e s x = record {
   says = x.says;
 }
 
-pub lease_room_client : (p : Place) (cf : ClientFacts) (l : Standing) (k : StartKeyOf) (n : ℕ) (b : ℕ) (w : KeyWord) (gr : List ℕ) (tl : FlowView) (tc : FlowView) (td : FlowView) (t : Tally) (fs : Flags) (ph : Phase)
+pub lease_room_client : (p : Place) (cf : ClientFacts) (l : Standing) (k : StartKeyOf) (n : ℕ) (b : ℕ) (w : KeyWord) (gr : List ℕ) (tl : FlowView) (tc : FlowView) (td : FlowView) (t : Told) (fs : Flags) (ph : Phase)
     → td.held ≡ tc.held → td.part ≡ tc.part → SameCursor tc td
     → IsLease p (relay_view cf l k n b w gr tl tc t fs ph) → IsLease p (relay_view cf l k n b w gr tl td t fs ph)
 lease_room_client p cf l k n b w gr tl tc td t fs ph h e s x = record {
@@ -214,7 +264,7 @@ lease_room_client p cf l k n b w gr tl tc td t fs ph h e s x = record {
   says = x.says;
 }
 
-pub lease_read_link : (p : Place) (cf : ClientFacts) (l : Standing) (m : Standing) (k : StartKeyOf) (n : ℕ) (b : ℕ) (w : KeyWord) (gr : List ℕ) (tl : FlowView) (tc : FlowView) (td : FlowView) (t : Tally) (fs : Flags) (fz : Flags) (ph : Phase) (r : Moved)
+pub lease_read_link : (p : Place) (cf : ClientFacts) (l : Standing) (m : Standing) (k : StartKeyOf) (n : ℕ) (b : ℕ) (w : KeyWord) (gr : List ℕ) (tl : FlowView) (tc : FlowView) (td : FlowView) (t : Told) (fs : Flags) (fz : Flags) (ph : Phase) (r : Moved)
     → is_open tc.ends ≡ true → Fills tc td r → Moves l [] m (came tc td) → CountsRead l m r → fz ≡ link_moved fs r
     → IsLease p (relay_view cf l k n b w gr tl tc t fs ph) → IsLease p (relay_view cf m k n b w gr tl td t fz ph)
 lease_read_link p cf l m k n b w gr tl tc td t fs fz ph r o f y z q x = record {
@@ -250,7 +300,7 @@ lease_read_link p cf l m k n b w gr tl tc td t fs fz ph r o f y z q x = record {
   };
 }
 
-pub lease_read_client : (p : Place) (cf : ClientFacts) (cg : ClientFacts) (l : Standing) (k : StartKeyOf) (n : ℕ) (b : ℕ) (w : KeyWord) (gr : List ℕ) (tl : FlowView) (tm : FlowView) (tc : FlowView) (t : Tally) (fs : Flags) (fz : Flags) (ph : Phase) (r : Moved)
+pub lease_read_client : (p : Place) (cf : ClientFacts) (cg : ClientFacts) (l : Standing) (k : StartKeyOf) (n : ℕ) (b : ℕ) (w : KeyWord) (gr : List ℕ) (tl : FlowView) (tm : FlowView) (tc : FlowView) (t : Told) (fs : Flags) (fz : Flags) (ph : Phase) (r : Moved)
     → is_open tl.ends ≡ true → Fills tl tm r → ClientReads cf cg (came tl tm) r → fz ≡ client_read fs r
     → IsLease p (relay_view cf l k n b w gr tl tc t fs ph) → IsLease p (relay_view cg l k n b w gr tm tc t fz ph)
 lease_read_client p cf cg l k n b w gr tl tm tc t fs fz ph r o f y q x = record {
@@ -321,7 +371,7 @@ gives_by v w h NotNow e i d = record { both = sym d; count = refl }
 gives_by v w h Ended e i d = record { both = sym d; count = refl }
 gives_by v w h Fault e i d = record { both = sym d; count = refl }
 
-pub lease_write_link : (p : Place) (cf : ClientFacts) (l : Standing) (m : Standing) (k : StartKeyOf) (n : ℕ) (b : ℕ) (w : KeyWord) (gr : List ℕ) (tl : FlowView) (tm : FlowView) (tc : FlowView) (t : Tally) (fs : Flags) (fz : Flags) (ph : Phase) (put : List ℕ) (r : Moved)
+pub lease_write_link : (p : Place) (cf : ClientFacts) (l : Standing) (m : Standing) (k : StartKeyOf) (n : ℕ) (b : ℕ) (w : KeyWord) (gr : List ℕ) (tl : FlowView) (tm : FlowView) (tc : FlowView) (t : Told) (fs : Flags) (fz : Flags) (ph : Phase) (put : List ℕ) (r : Moved)
     → Writes tl tm put r → Moves l put m [] → CountsWrite l m r → fz ≡ link_moved fs r
     → IsLease p (relay_view cf l k n b w gr tl tc t fs ph) → IsLease p (relay_view cf m k n b w gr tm tc t fz ph)
 lease_write_link p cf l m k n b w gr tl tm tc t fs fz ph put r f y z q x = record {
@@ -363,7 +413,7 @@ written_by s h q i put all f o = cc (f, o, append_assoc s put (i ++ q), append_a
 written : (s g h q i j put all : List ℕ) → g ≡ [] → h ≡ put ++ i → j ≡ q → s ++ (g ++ (h ++ q)) ≡ all → (s ++ put) ++ (g ++ (i ++ j)) ≡ all
 written s g h q i j put all e f d o = rw (e, d) (written_by s h q i put all f (subst (λ (x : List ℕ). s ++ (x ++ (h ++ q)) ≡ all) e o))
 
-pub lease_write_client : (p : Place) (cf : ClientFacts) (cg : ClientFacts) (l : Standing) (k : StartKeyOf) (n : ℕ) (b : ℕ) (w : KeyWord) (gr : List ℕ) (tl : FlowView) (tc : FlowView) (td : FlowView) (t : Tally) (fs : Flags) (fz : Flags) (ph : Phase) (put : List ℕ) (r : Moved)
+pub lease_write_client : (p : Place) (cf : ClientFacts) (cg : ClientFacts) (l : Standing) (k : StartKeyOf) (n : ℕ) (b : ℕ) (w : KeyWord) (gr : List ℕ) (tl : FlowView) (tc : FlowView) (td : FlowView) (t : Told) (fs : Flags) (fz : Flags) (ph : Phase) (put : List ℕ) (r : Moved)
     → gr ≡ [] → Writes tc td put r → ClientWrites cf cg put r → fz ≡ client_wrote fs r
     → IsLease p (relay_view cf l k n b w gr tl tc t fs ph) → IsLease p (relay_view cg l k n b w gr tl td t fz ph)
 lease_write_client p cf cg l k n b w gr tl tc td t fs fz ph put r e f y q x = record {
@@ -406,7 +456,7 @@ lease_write_client p cf cg l k n b w gr tl tc td t fs fz ph put r e f y q x = re
   };
 }
 
-pub lease_write_welcome : (p : Place) (cf : ClientFacts) (cg : ClientFacts) (l : Standing) (k : StartKeyOf) (n : ℕ) (b : ℕ) (w : KeyWord) (gr : List ℕ) (gs : List ℕ) (tl : FlowView) (tc : FlowView) (t : Tally) (fs : Flags) (fz : Flags) (ph : Phase) (put : List ℕ) (r : Moved)
+pub lease_write_welcome : (p : Place) (cf : ClientFacts) (cg : ClientFacts) (l : Standing) (k : StartKeyOf) (n : ℕ) (b : ℕ) (w : KeyWord) (gr : List ℕ) (gs : List ℕ) (tl : FlowView) (tc : FlowView) (t : Told) (fs : Flags) (fz : Flags) (ph : Phase) (put : List ℕ) (r : Moved)
     → Gives gr gs put r → ClientWrites cf cg put r → fz ≡ client_wrote fs r
     → IsLease p (relay_view cf l k n b w gr tl tc t fs ph) → IsLease p (relay_view cg l k n b w gs tl tc t fz ph)
 lease_write_welcome p cf cg l k n b w gr gs tl tc t fs fz ph put r f y q x = record {
@@ -449,7 +499,7 @@ lease_write_welcome p cf cg l k n b w gr gs tl tc t fs fz ph put r f y q x = rec
   };
 }
 
-pub lease_stays_link : (p : Place) (cf : ClientFacts) (l : Standing) (k : StartKeyOf) (n : ℕ) (b : ℕ) (w : KeyWord) (gr : List ℕ) (tl : FlowView) (tm : FlowView) (tc : FlowView) (t : Tally) (fs : Flags) (ph : Phase)
+pub lease_stays_link : (p : Place) (cf : ClientFacts) (l : Standing) (k : StartKeyOf) (n : ℕ) (b : ℕ) (w : KeyWord) (gr : List ℕ) (tl : FlowView) (tm : FlowView) (tc : FlowView) (t : Told) (fs : Flags) (ph : Phase)
     → Stays tl tm
     → IsLease p (relay_view cf l k n b w gr tl tc t fs ph) → IsLease p (relay_view cf l k n b w gr tm tc t fs ph)
 lease_stays_link p cf l k n b w gr tl tm tc t fs ph y x = record {
@@ -478,7 +528,7 @@ lease_stays_link p cf l k n b w gr tl tm tc t fs ph y x = record {
   says = x.says;
 }
 
-pub lease_stays_client : (p : Place) (cf : ClientFacts) (l : Standing) (k : StartKeyOf) (n : ℕ) (b : ℕ) (w : KeyWord) (gr : List ℕ) (tl : FlowView) (tc : FlowView) (td : FlowView) (t : Tally) (fs : Flags) (ph : Phase)
+pub lease_stays_client : (p : Place) (cf : ClientFacts) (l : Standing) (k : StartKeyOf) (n : ℕ) (b : ℕ) (w : KeyWord) (gr : List ℕ) (tl : FlowView) (tc : FlowView) (td : FlowView) (t : Told) (fs : Flags) (ph : Phase)
     → Stays tc td
     → IsLease p (relay_view cf l k n b w gr tl tc t fs ph) → IsLease p (relay_view cf l k n b w gr tl td t fs ph)
 lease_stays_client p cf l k n b w gr tl tc td t fs ph y x = record {
@@ -507,7 +557,7 @@ lease_stays_client p cf l k n b w gr tl tc td t fs ph y x = record {
   says = x.says;
 }
 
-pub lease_part_link : (p : Place) (cf : ClientFacts) (l : Standing) (k : StartKeyOf) (n : ℕ) (b : ℕ) (w : KeyWord) (gr : List ℕ) (tl : FlowView) (tm : FlowView) (tc : FlowView) (t : Tally) (fs : Flags) (ph : Phase) (ps : Passed)
+pub lease_part_link : (p : Place) (cf : ClientFacts) (l : Standing) (k : StartKeyOf) (n : ℕ) (b : ℕ) (w : KeyWord) (gr : List ℕ) (tl : FlowView) (tm : FlowView) (tc : FlowView) (t : Told) (fs : Flags) (ph : Phase) (ps : Passed)
     → is_open tl.ends ≡ true → Passes tl tm ps → ps.whole ≡ false
     → IsLease p (relay_view cf l k n b w gr tl tc t fs ph) → IsLease p (relay_view cf l k n b w gr tm tc t fs ph)
 lease_part_link p cf l k n b w gr tl tm tc t fs ph ps o y h x = record {
@@ -536,10 +586,10 @@ lease_part_link p cf l k n b w gr tl tm tc t fs ph ps o y h x = record {
   says = x.says;
 }
 
-pub lease_whole_link : (p : Place) (cf : ClientFacts) (l : Standing) (k : StartKeyOf) (n : ℕ) (b : ℕ) (w : KeyWord) (gr : List ℕ) (tl : FlowView) (tm : FlowView) (tc : FlowView) (t : Tally) (u : Tally) (fs : Flags) (ph : Phase) (ps : Passed)
-    → CallsTell → is_open tl.ends ≡ true → Passes tl tm ps → ps.whole ≡ true → u ≡ told_sent ps.kind t
+pub lease_whole_link : (p : Place) (cf : ClientFacts) (l : Standing) (k : StartKeyOf) (n : ℕ) (b : ℕ) (w : KeyWord) (gr : List ℕ) (tl : FlowView) (tm : FlowView) (tc : FlowView) (t : Told) (u : Told) (fs : Flags) (ph : Phase) (ps : Passed)
+    → CallsTell → is_open tl.ends ≡ true → Passes tl tm ps → ps.whole ≡ true → u.tally ≡ told_sent ps.kind t.tally → u.reports ≡ t.reports
     → IsLease p (relay_view cf l k n b w gr tl tc t fs ph) → IsLease p (relay_view cf l k n b w gr tm tc u fs ph)
-lease_whole_link p cf l k n b w gr tl tm tc t u fs ph ps law o y h e x =
+lease_whole_link p cf l k n b w gr tl tm tc t u fs ph ps law o y h e r x =
     let s : Spells tl.side tl.limit (x.tail ++ y.bytes) ps.kind ps.status ps.is_foreign = y.spells h x.tail x.goes.opens in
     record {
       sent = x.sent;
@@ -563,11 +613,11 @@ lease_whole_link p cf l k n b w gr tl tm tc t u fs ph ps law o y h e x =
         taken = λ z. cc (x.goes.taken z, y.part, append_assoc x.tail y.bytes tm.part, append_assoc (flat_map spelling x.forwarded) (spelling s.frame) tm.part, s.spelled, more_frames x.forwarded s.frame);
       };
       comes = x.comes;
-      tally = tells_sent t u ps.kind s.frame x.forwarded x.arrived law e s.kind_is x.tally;
+      tally = tells_sent p.reports t u ps.kind s.frame x.forwarded x.arrived law e r s.kind_is x.tally;
       says = x.says;
     }
 
-pub lease_part_client : (p : Place) (cf : ClientFacts) (l : Standing) (k : StartKeyOf) (n : ℕ) (b : ℕ) (w : KeyWord) (gr : List ℕ) (tl : FlowView) (tc : FlowView) (td : FlowView) (t : Tally) (fs : Flags) (ph : Phase) (ps : Passed)
+pub lease_part_client : (p : Place) (cf : ClientFacts) (l : Standing) (k : StartKeyOf) (n : ℕ) (b : ℕ) (w : KeyWord) (gr : List ℕ) (tl : FlowView) (tc : FlowView) (td : FlowView) (t : Told) (fs : Flags) (ph : Phase) (ps : Passed)
     → is_open tc.ends ≡ true → Passes tc td ps → ps.whole ≡ false
     → IsLease p (relay_view cf l k n b w gr tl tc t fs ph) → IsLease p (relay_view cf l k n b w gr tl td t fs ph)
 lease_part_client p cf l k n b w gr tl tc td t fs ph ps o y h x = record {
@@ -596,10 +646,10 @@ lease_part_client p cf l k n b w gr tl tc td t fs ph ps o y h x = record {
   says = x.says;
 }
 
-pub lease_whole_client : (p : Place) (cf : ClientFacts) (l : Standing) (k : StartKeyOf) (n : ℕ) (b : ℕ) (w : KeyWord) (gr : List ℕ) (tl : FlowView) (tc : FlowView) (td : FlowView) (t : Tally) (u : Tally) (fs : Flags) (ph : Phase) (ps : Passed)
-    → CallsTell → is_open tc.ends ≡ true → Passes tc td ps → ps.whole ≡ true → u ≡ told_arrived ps t
+pub lease_whole_client : (p : Place) (cf : ClientFacts) (l : Standing) (k : StartKeyOf) (n : ℕ) (b : ℕ) (w : KeyWord) (gr : List ℕ) (tl : FlowView) (tc : FlowView) (td : FlowView) (t : Told) (u : Told) (fs : Flags) (ph : Phase) (ps : Passed) (own : Bool)
+    → CallsTell → is_open tc.ends ≡ true → Passes tc td ps → ps.whole ≡ true → u.tally ≡ told_arrived ps own t.tally → IsRead t.reports u.reports own td ps
     → IsLease p (relay_view cf l k n b w gr tl tc t fs ph) → IsLease p (relay_view cf l k n b w gr tl td u fs ph)
-lease_whole_client p cf l k n b w gr tl tc td t u fs ph ps law o y h e x =
+lease_whole_client p cf l k n b w gr tl tc td t u fs ph ps own law o y h e r x =
     let s : Spells tc.side tc.limit (x.front ++ y.bytes) ps.kind ps.status ps.is_foreign = y.spells h x.front x.comes.opens in
     record {
       sent = x.sent;
@@ -623,11 +673,11 @@ lease_whole_client p cf l k n b w gr tl tc td t u fs ph ps law o y h e x =
         out = cc (x.comes.out, y.held, y.part, append_assoc tc.held y.bytes td.part);
         whole = cc (x.comes.whole, y.part, append_assoc x.front y.bytes td.part, append_assoc (flat_map spelling x.arrived) (spelling s.frame) td.part, s.spelled, more_frames x.arrived s.frame);
       };
-      tally = tells_arrived t u ps s.frame x.forwarded x.arrived law e s.kind_is (s.status_is x.comes.flow.side_is) (s.foreign_is x.comes.flow.side_is) x.tally;
+      tally = tells_arrived p.reports t u ps own s.frame x.forwarded x.arrived law (arrives_by t u tc td ps own x.front y s x.comes.flow.side_is x.comes.opens e r) x.tally;
       says = x.says;
     }
 
-pub lease_phase : (p : Place) (cf : ClientFacts) (l : Standing) (k : StartKeyOf) (n : ℕ) (b : ℕ) (w : KeyWord) (gr : List ℕ) (tl : FlowView) (tc : FlowView) (t : Tally) (fs : Flags) (ph : Phase) (pi : Phase)
+pub lease_phase : (p : Place) (cf : ClientFacts) (l : Standing) (k : StartKeyOf) (n : ℕ) (b : ℕ) (w : KeyWord) (gr : List ℕ) (tl : FlowView) (tc : FlowView) (t : Told) (fs : Flags) (ph : Phase) (pi : Phase)
     → IsLease p (relay_view cf l k n b w gr tl tc t fs ph) → IsLease p (relay_view cf l k n b w gr tl tc t fs pi)
 lease_phase p cf l k n b w gr tl tc t fs ph pi x = record {
   sent = x.sent;
@@ -648,22 +698,22 @@ lease_phase p cf l k n b w gr tl tc t fs ph pi x = record {
   says = x.says;
 }
 
-pub lease_may_end : (p : Place) (v : RelayView) (td : FlowView) (ps : Passed) → IsLease p v → Passes v.to_client td ps → ps.whole ≡ true → may_end ps.status (begun_arrived ps v.traffic) ≡ true
-lease_may_end p v td ps x y h =
+pub lease_may_end : (p : Place) (v : RelayView) (td : FlowView) (ps : Passed) (own : Bool) (after : List Kept) → IsLease p v → Passes v.to_client td ps → ps.whole ≡ true → IsRead v.told.reports after own td ps → may_end ps.status (begun_arrived ps own v.told.tally) ≡ true
+lease_may_end p v td ps own after x y h r =
     let s : Spells v.to_client.side v.to_client.limit (x.front ++ y.bytes) ps.kind ps.status ps.is_foreign = y.spells h x.front x.comes.opens in
-    status_may_end v.traffic ps s.frame s.kind_is (s.status_is x.comes.flow.side_is) (s.foreign_is x.comes.flow.side_is)
+    status_may_end v.told.reports v.told.tally ps own s.frame s.kind_is (s.status_is x.comes.flow.side_is) (own_is v.told.reports after v.to_client td ps own x.front y s x.comes.flow.side_is x.comes.opens r)
 
 -- ---- the beginning
 
 empty_flow : (s : Side) (lm : ℕ) (f : FlowView) → 4 ≤ lm → lm ≤ LONGEST_FRAME → IsEmptyFlow s lm f → IsFlow s f
 empty_flow s lm f low high x = record { side_is = x.side_is; low = rw x.limit_is low; high = rw x.limit_is high; ended = rw x.ends tt }
 
-abbrev link_of : Standing → StartKeyOf → ℕ → ℕ → LinkView
-link_of l k n b = record { stands = l; key = k; number = n; born = b }
+abbrev link_of : Standing → StartKeyOf → ℕ → ℕ → List Kept → LinkView
+link_of l k n b ks = record { stands = l; key = k; number = n; born = b; reports = ks }
 
-pub lease_begun : (cf : ClientFacts) (l : Standing) (k : StartKeyOf) (n b : ℕ) (w : KeyWord) (gr : List ℕ) (tl tc : FlowView) (t : Tally) (ph : Phase) (lm : ℕ)
-    → IsClean l k → IsGreeting l k w gr → 4 ≤ lm → lm ≤ LONGEST_FRAME → IsEmptyFlow Client lm tl → IsEmptyFlow Server lm tc → Tells t [] []
-    → IsLease (place cf (link_of l k n b) w lm gr) (relay_view cf l k n b w gr tl tc t (flags_of false false false false) ph)
+pub lease_begun : (cf : ClientFacts) (l : Standing) (k : StartKeyOf) (n b : ℕ) (w : KeyWord) (gr : List ℕ) (tl tc : FlowView) (t : Told) (ph : Phase) (lm : ℕ)
+    → IsClean l k t.reports → IsGreeting l k w gr → 4 ≤ lm → lm ≤ LONGEST_FRAME → IsEmptyFlow Client lm tl → IsEmptyFlow Server lm tc → Tells t.tally [] []
+    → IsLease (place cf (link_of l k n b t.reports) w lm gr) (relay_view cf l k n b w gr tl tc t (flags_of false false false false) ph)
 lease_begun cf l k n b w gr tl tc t ph lm c g low high x y z = record {
   sent = [];
   received = [];
@@ -693,7 +743,7 @@ lease_begun cf l k n b w gr tl tc t ph lm c g low high x y z = record {
     out = rw (y.held, y.part) refl;
     whole = sym y.part;
   };
-  tally = tells_none t z;
+  tally = tells_none t.reports t z refl;
   says = record {
     client_faults = omega arith;
     link_faults = omega arith;
@@ -727,12 +777,12 @@ drops_on items g c n e = rw e (sym (drop-drop n g items))
 pub same_greeting : (a b : Standing) (k j : StartKeyOf) (w : KeyWord) (g : List ℕ) → b ≡ a → j ≡ k → IsGreeting a k w g → IsGreeting b j w g
 same_greeting a b k j w g e d h = subst (λ (x : Standing). IsGreeting x j w g) (sym e) (subst (λ (x : StartKeyOf). IsGreeting a x w g) (sym d) h)
 
-link_is : (lk : LinkView) (l : Standing) (k : StartKeyOf) (n b : ℕ) → l ≡ lk.stands → k ≡ lk.key → n ≡ lk.number → b ≡ lk.born → link_of l k n b ≡ lk
-link_is lk l k n b e d f g = rw (e, d, f, g) refl
+link_is : (lk : LinkView) (l : Standing) (k : StartKeyOf) (n b : ℕ) (ks : List Kept) → l ≡ lk.stands → k ≡ lk.key → n ≡ lk.number → b ≡ lk.born → ks ≡ lk.reports → link_of l k n b ks ≡ lk
+link_is lk l k n b ks e d f g r = rw (e, d, f, g, r) refl
 
-pub lease_begun_at : (lk : LinkView) (cf : ClientFacts) (l : Standing) (k : StartKeyOf) (n b : ℕ) (w : KeyWord) (gr : List ℕ) (tl tc : FlowView) (t : Tally) (ph : Phase) (lm : ℕ)
-    → l ≡ lk.stands → k ≡ lk.key → n ≡ lk.number → b ≡ lk.born
-    → IsClean l k → IsGreeting l k w gr → 4 ≤ lm → lm ≤ LONGEST_FRAME → IsEmptyFlow Client lm tl → IsEmptyFlow Server lm tc → Tells t [] []
+pub lease_begun_at : (lk : LinkView) (cf : ClientFacts) (l : Standing) (k : StartKeyOf) (n b : ℕ) (w : KeyWord) (gr : List ℕ) (tl tc : FlowView) (t : Told) (ph : Phase) (lm : ℕ)
+    → l ≡ lk.stands → k ≡ lk.key → n ≡ lk.number → b ≡ lk.born → t.reports ≡ lk.reports
+    → IsClean l k t.reports → IsGreeting l k w gr → 4 ≤ lm → lm ≤ LONGEST_FRAME → IsEmptyFlow Client lm tl → IsEmptyFlow Server lm tc → Tells t.tally [] []
     → IsLease (place cf lk w lm gr) (relay_view cf l k n b w gr tl tc t (flags_of false false false false) ph)
-lease_begun_at lk cf l k n b w gr tl tc t ph lm e d f h c g low high x y z =
-    subst (λ (a : LinkView). IsLease (place cf a w lm gr) (relay_view cf l k n b w gr tl tc t (flags_of false false false false) ph)) (link_is lk l k n b e d f h) (lease_begun cf l k n b w gr tl tc t ph lm c g low high x y z)
+lease_begun_at lk cf l k n b w gr tl tc t ph lm e d f h r c g low high x y z =
+    subst (λ (a : LinkView). IsLease (place cf a w lm gr) (relay_view cf l k n b w gr tl tc t (flags_of false false false false) ph)) (link_is lk l k n b t.reports e d f h r) (lease_begun cf l k n b w gr tl tc t ph lm c g low high x y z)

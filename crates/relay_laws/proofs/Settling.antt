@@ -1,5 +1,5 @@
 -- What a settled verdict says of the frames, and what is told of one frame.
-use Rattle.std.proofs.Common.{◌≡◌, ◌⊎◌, inl, inr, ⊎_elim, ℕ, ◌+◌, Bool, true, false, List, [], ◌∷◌, ◌++◌, length, Option, Some, None, refl, sym, ap, ap₂, ◌∙◌, arith, append_assoc, subst, eqb-true}
+use Rattle.std.proofs.Common.{◌≡◌, ◌⊎◌, inl, inr, ⊎_elim, ℕ, ◌+◌, Bool, true, false, List, [], ◌∷◌, ◌++◌, length, Option, Some, None, refl, sym, ap, ap₂, ◌∙◌, arith, append_assoc, append-nil, subst, eqb-true}
 use Rattle.std.specs.Prelude.{◌==◌, ◌&&◌, ◌||◌, not, fold, nat_lt, if◌then◌else◌}
 use Rattle.std.specs.Option.{option_or}
 use Rattle.std.specs.List.{flat_map, AllByRecursion}
@@ -10,21 +10,29 @@ use Rattle.frame_view.specs.declared.server.TheConstants.{PARAMETER_STATUS, READ
 use Rattle.message_view.specs.declared.kinds.TheConstants.{IDLE}
 use Rattle.disposal.specs.Traffics as disposal
 use Rattle.disposal.specs.Traffics.{Sent, SendBegins, SendEnds, Got, GetBegins, GetEnds, Breaks, more, begins_closing, begins_ready, or_later, status_after, breaks, is_foreign as foreign_status, IsSettled}
-use Rattle.disposal.specs.Tallies.{Tally, Tells, may_end, got_begun, send_begun}
+use Rattle.disposal.specs.Tallies.{Tally, Tells, may_end, got_begun, got_ended, send_begun, verdict_of}
+use Rattle.disposal.specs.declared.Verdict.TheVariants.{Settled}
+use Rattle.param_track.specs.Kept.{Kept}
+use Rattle.link_run.specs.Links.{after_frame, after_frames}
 use Rattle.disposal.specs.Laws.{CallsTell, SettledExactly}
 use Rattle.run_laws.specs.Settling.{count, closes, is_ready, last_status, IsAnswered}
 use Rattle.relay_flow.specs.declared.flow.Passed.{Passed}
 use Rattle.relay_flow.specs.declared.parts.TheConstants.{LONGEST_STATUS}
 use Rattle.relay_flow.specs.Parts.{byte_in, is_foreign, status_in}
-use Rattle.relay_laws.specs.Verdicts.{or_breaks, or_broken, sent_as, came_as, begun_arrived, told_sent, told_arrived, Telling}
+use Rattle.relay_laws.specs.Verdicts.{Told, is_own, kept_after, all_kept, or_breaks, or_broken, sent_as, came_as, all_came, begun_arrived, told_sent, told_arrived, Telling}
 
 -- ---- nothing foreign came
 
 abbrev breaks_by : Bool → Got → Bool
 breaks_by before event = before || breaks event
 
-abbrev IsOwn : FrameOf → Type 0
-IsOwn f = is_foreign f ≡ false
+abbrev IsUsual : FrameOf → Type 0
+IsUsual f = is_foreign f ≡ false
+
+-- each may be sent by a session that began with these reports
+abbrev AreOwn : List Kept → List FrameOf → Type 0
+AreOwn kept [] = Unit {0}
+AreOwn kept (f ∷ fs) = (is_own kept (is_foreign f) f ≡ true) × AreOwn (kept_after kept (is_foreign f) f) fs
 
 still_broken : (got : List Got) → fold breaks_by true got ≡ true
 still_broken [] = refl
@@ -35,25 +43,39 @@ or_true true b = refl
 or_true false b = refl
 
 -- a frame that came, and whether something was broken behind it
-record Own (f : FrameOf) (rest : List Got) : Type 0 where
-  own : IsOwn f
+record Own (own : Bool) (rest : List Got) : Type 0 where
+  is_one : own ≡ true
   behind : Bool
   unbroken : fold breaks_by behind rest ≡ false
 
-own_by : (c b : Bool) (f : FrameOf) (rest : List Got) → is_foreign f ≡ c → fold breaks_by b (GetBegins f.kind ∷ or_breaks c (GetEnds (status_in f) ∷ []) ++ rest) ≡ false → Own f rest
-own_by false b f rest own e = record { own = own; behind = (b || false) || foreign_status (status_in f); unbroken = e }
-own_by true b f rest own e = absurd (true≢false (sym (ap (λ (s : Bool). fold breaks_by s rest) (or_true (b || false) (foreign_status (status_in f))) ∙ still_broken rest) ∙ e))
+own_by : (own b : Bool) (kind : ℕ) (status : Option ℕ) (rest : List Got) → fold breaks_by b (GetBegins kind ∷ or_breaks own (GetEnds status ∷ []) ++ rest) ≡ false → Own own rest
+own_by true b kind status rest e = record { is_one = refl; behind = (b || false) || foreign_status status; unbroken = e }
+own_by false b kind status rest e = absurd (true≢false (sym (ap (λ (s : Bool). fold breaks_by s rest) (or_true (b || false) (foreign_status status)) ∙ still_broken rest) ∙ e))
 
-none_foreign : (b : Bool) (fs : List FrameOf) → fold breaks_by b (flat_map came_as fs) ≡ false → AllByRecursion IsOwn fs
-none_foreign b [] e = tt
-none_foreign b (f ∷ fs) e = let o = own_by (is_foreign f) b f (flat_map came_as fs) refl e in (o.own, none_foreign o.behind fs o.unbroken)
+none_foreign : (b : Bool) (kept : List Kept) (fs : List FrameOf) → fold breaks_by b (all_came kept fs) ≡ false → AreOwn kept fs
+none_foreign b kept [] e = tt
+none_foreign b kept (f ∷ fs) e =
+    let o = own_by (is_own kept (is_foreign f) f) b f.kind (status_in f) (all_came (kept_after kept (is_foreign f) f) fs) e in
+    (o.is_one, none_foreign o.behind (kept_after kept (is_foreign f) f) fs o.unbroken)
+
+usual_by : (kept : List Kept) (foreign : Bool) (f : FrameOf) → is_own kept foreign f ≡ true → foreign ≡ false
+usual_by kept true f e = absurd (false≢true e)
+usual_by kept false f e = refl
+
+usual : (kept : List Kept) (fs : List FrameOf) → AreOwn kept fs → AllByRecursion IsUsual fs
+usual kept [] h = tt
+usual kept (f ∷ fs) h = (usual_by kept (is_foreign f) f h.0, usual (kept_after kept (is_foreign f) f) fs h.1)
 
 abbrev own_as : FrameOf → List Got
 own_as f = GetBegins f.kind ∷ GetEnds (status_in f) ∷ []
 
-all_own : (fs : List FrameOf) → AllByRecursion IsOwn fs → flat_map came_as fs ≡ flat_map own_as fs
-all_own [] h = refl
-all_own (f ∷ fs) h = ap₂ (λ (c : Bool) (rest : List Got). GetBegins f.kind ∷ or_breaks c (GetEnds (status_in f) ∷ []) ++ rest) h.0 (all_own fs h.1)
+all_own : (kept : List Kept) (fs : List FrameOf) → AreOwn kept fs → all_came kept fs ≡ flat_map own_as fs
+all_own kept [] h = refl
+all_own kept (f ∷ fs) h = ap₂ (λ (c : Bool) (rest : List Got). GetBegins f.kind ∷ or_breaks c (GetEnds (status_in f) ∷ []) ++ rest) h.0 (all_own (kept_after kept (is_foreign f) f) fs h.1)
+
+usual_kept : (kept : List Kept) (fs : List FrameOf) → AllByRecursion IsUsual fs → all_kept kept fs ≡ after_frames kept fs
+usual_kept kept [] h = refl
+usual_kept kept (f ∷ fs) h = ap (λ (foreign : Bool). all_kept (kept_after kept foreign f) fs) h.0 ∙ usual_kept (after_frame kept f) fs h.1
 
 -- ---- counts
 
@@ -115,35 +137,32 @@ one_of true true c e k = refl
 one_of true false c e k = absurd (true≢false e)
 one_of false b c e k = absurd (false≢true k)
 
-own_ready : (f : FrameOf) → IsOwn f → is_ready f ≡ true → OneByte f.body
+own_ready : (f : FrameOf) → IsUsual f → is_ready f ≡ true → OneByte f.body
 own_ready f own k = one_byte f.body (one_of (f.kind == READY_FOR_QUERY) (length f.body == 1) (f.kind == PARAMETER_STATUS && nat_lt LONGEST_STATUS (length f.body)) own k)
 
 abbrev EndsIdle : List FrameOf → Type 0
 EndsIdle fs = (x : Option ℕ) (body : List ℕ) → (x ≡ Some IDLE → body ≡ IDLE ∷ []) → fold status_after x (flat_map own_as fs) ≡ Some IDLE → last_status fs body ≡ IDLE ∷ []
 
-by_ready : (f : FrameOf) (fs : List FrameOf) (x : Option ℕ) (body : List ℕ) (c : Bool) → EndsIdle fs → IsOwn f → (x ≡ Some IDLE → body ≡ IDLE ∷ []) → is_ready f ≡ c
+by_ready : (f : FrameOf) (fs : List FrameOf) (x : Option ℕ) (body : List ℕ) (c : Bool) → EndsIdle fs → IsUsual f → (x ≡ Some IDLE → body ≡ IDLE ∷ []) → is_ready f ≡ c
     → fold status_after (option_or (if c then byte_in f.body else None) x) (flat_map own_as fs) ≡ Some IDLE → last_status fs (if c then f.body else body) ≡ IDLE ∷ []
 by_ready f fs x body false next own i k e = next x body i e
 by_ready f fs x body true next own i k e =
     let one = own_ready f own k in
     next (Some one.0) f.body (λ q. one.1 ∙ ap (λ (n : ℕ). n ∷ []) (same_value one.0 IDLE q)) (ap (λ (bytes : List ℕ). fold status_after (option_or (byte_in bytes) x) (flat_map own_as fs)) (sym one.1) ∙ e)
 
-ends_idle : (fs : List FrameOf) → AllByRecursion IsOwn fs → EndsIdle fs
+ends_idle : (fs : List FrameOf) → AllByRecursion IsUsual fs → EndsIdle fs
 ends_idle [] own x body i e = i e
 ends_idle (f ∷ fs) own x body i e = by_ready f fs x body (is_ready f) (ends_idle fs own.1) own.0 i refl e
 
 -- ---- what is settled was answered
 
-settled : (sent received : List FrameOf) → IsSettled (flat_map sent_as sent) (flat_map came_as received) → (sent ≡ []) ⊎ IsAnswered sent received
-settled sent received s = ⊎_elim (λ none. inl (none_sent sent none)) (λ some. inr (answered some.0 some.1 some.2 some.3)) s.at_rest
+settled : (kept : List Kept) (sent received : List FrameOf) → AreOwn kept received → IsSettled (flat_map sent_as sent) (all_came kept received) → (sent ≡ []) ⊎ IsAnswered sent received
+settled kept sent received own s = ⊎_elim (λ none. inl (none_sent sent none)) (λ some. inr (answered some.0 some.1 some.2 some.3)) s.at_rest
   where
-    own : AllByRecursion IsOwn received
-    own = none_foreign false received s.unbroken
+    got_is : all_came kept received ≡ flat_map own_as received
+    got_is = all_own kept received own
 
-    got_is : flat_map came_as received ≡ flat_map own_as received
-    got_is = all_own received own
-
-    answered : (kind : ℕ) → fold or_later None (flat_map sent_as sent) ≡ Some kind → is_closing kind ≡ true → fold status_after None (flat_map came_as received) ≡ Some IDLE → IsAnswered sent received
+    answered : (kind : ℕ) → fold or_later None (flat_map sent_as sent) ≡ Some kind → is_closing kind ≡ true → fold status_after None (all_came kept received) ≡ Some IDLE → IsAnswered sent received
     answered kind last closing idle =
         let x = last_sent-is sent kind last in
         record {
@@ -152,74 +171,108 @@ settled sent received s = ⊎_elim (λ none. inl (none_sent sent none)) (λ some
           final = x.final;
           last = x.last;
           closing = ap is_closing x.kind_is ∙ closing;
-          idle = ends_idle received own None [] (λ e. absurd (cc)) (ap (λ (got : List Got). fold status_after None got) (sym got_is) ∙ idle);
+          idle = ends_idle received (usual kept received own) None [] (λ e. absurd (cc)) (ap (λ (got : List Got). fold status_after None got) (sym got_is) ∙ idle);
         }
 
-pub answered_by : (t : Tally) (sent received : List FrameOf) → SettledExactly → Telling t sent received → Rattle.disposal.specs.Tallies.verdict_of t ≡ Rattle.disposal.specs.declared.Verdict.TheVariants.Settled → (sent ≡ []) ⊎ IsAnswered sent received
-answered_by t sent received law x e = settled sent received (law.sound t (flat_map sent_as sent) (flat_map came_as received) x.tells e)
+pub record Answered (kept : List Kept) (t : Told) (sent received : List FrameOf) : Type 0 where
+  pub answers : (sent ≡ []) ⊎ IsAnswered sent received
+  pub keeps : t.reports ≡ after_frames kept received
+
+pub answered_by : (kept : List Kept) (t : Told) (sent received : List FrameOf) → SettledExactly → Telling kept t sent received → verdict_of t.tally ≡ Settled → Answered kept t sent received
+answered_by kept t sent received law x e =
+    let s : IsSettled (flat_map sent_as sent) (all_came kept received) = law.sound t.tally (flat_map sent_as sent) (all_came kept received) x.tells e in
+    let own : AreOwn kept received = none_foreign false kept received s.unbroken in
+    record { answers = settled kept sent received own s; keeps = x.keeps ∙ usual_kept kept received (usual kept received own) }
 
 -- ---- what is told of one frame
 
 sent-more : (fs : List FrameOf) (f : FrameOf) → (flat_map sent_as fs ++ SendBegins f.kind ∷ []) ++ SendEnds ∷ [] ≡ flat_map sent_as (fs ++ f ∷ [])
 sent-more fs f = append_assoc (flat_map sent_as fs) (SendBegins f.kind ∷ []) (SendEnds ∷ []) ∙ sym (flat_map-append sent_as fs (f ∷ []))
 
-pub tells_sent : (t u : Tally) (kind : ℕ) (f : FrameOf) (sent received : List FrameOf) → CallsTell → u ≡ told_sent kind t → f.kind ≡ kind → Telling t sent received → Telling u (sent ++ f ∷ []) received
-tells_sent t u kind f sent received law e k x = subst (λ (v : Tally). Telling v (sent ++ f ∷ []) received) (sym e) (record {
-  sending = refl;
-  getting = x.getting;
-  tells = subst (λ (l : List Sent). Tells (told_sent kind t) l (flat_map came_as received)) (sent-more sent f)
-      (subst (λ (n : ℕ). Tells (told_sent kind t) ((flat_map sent_as sent ++ SendBegins n ∷ []) ++ SendEnds ∷ []) (flat_map came_as received)) (sym k)
-      (law.send_ends (send_begun kind t) (flat_map sent_as sent ++ SendBegins kind ∷ []) (flat_map came_as received)
-      (law.send_begins kind t (flat_map sent_as sent) (flat_map came_as received) x.tells)));
-})
+pub tells_sent : (kept : List Kept) (t u : Told) (kind : ℕ) (f : FrameOf) (sent received : List FrameOf) → CallsTell → u.tally ≡ told_sent kind t.tally → u.reports ≡ t.reports → f.kind ≡ kind → Telling kept t sent received → Telling kept u (sent ++ f ∷ []) received
+tells_sent kept t u kind f sent received law e r k x = record {
+  sending = ap (λ (v : Tally). v.is_sending) e;
+  getting = ap (λ (v : Tally). v.getting) e ∙ x.getting;
+  tells = subst (λ (v : Tally). Tells v (flat_map sent_as (sent ++ f ∷ [])) (all_came kept received)) (sym e)
+      (subst (λ (l : List Sent). Tells (told_sent kind t.tally) l (all_came kept received)) (sent-more sent f)
+      (subst (λ (n : ℕ). Tells (told_sent kind t.tally) ((flat_map sent_as sent ++ SendBegins n ∷ []) ++ SendEnds ∷ []) (all_came kept received)) (sym k)
+      (law.send_ends (send_begun kind t.tally) (flat_map sent_as sent ++ SendBegins kind ∷ []) (all_came kept received)
+      (law.send_begins kind t.tally (flat_map sent_as sent) (all_came kept received) x.tells))));
+  keeps = r ∙ x.keeps;
+}
 
 -- at the end of a frame that came, its status may be told
-ends_by : (k before : Bool) (kind : ℕ) (body : List ℕ) (t : Tally) (long : Bool) → disposal.is_ready kind ≡ k → may_end (if k then byte_in body else None) (or_broken ((k && not (length body == 1)) || long) (got_begun kind t)) ≡ true
-ends_by false before kind body t false e = ap (λ (b : Bool). t.has_broken || not b) e ∙ or_else t.has_broken
-  where
-    or_else : (a : Bool) → (a || true) ≡ true
-    or_else true = refl
-    or_else false = refl
-ends_by false before kind body t true e = refl
-ends_by true before kind (b ∷ []) t false e = e
-ends_by true before kind (b ∷ []) t true e = e
-ends_by true before kind [] t long e = refl
-ends_by true before kind (b ∷ c ∷ body) t long e = subst (λ (one : Bool). may_end None (or_broken (not one || long) (got_begun kind t)) ≡ true) (sym (ne_eqb (length (b ∷ c ∷ body)) 1 (λ same. omega (arith, same)))) refl
+or_else : (a : Bool) → (a || true) ≡ true
+or_else true = refl
+or_else false = refl
 
-pub status_may_end : (t : Tally) (p : Passed) (f : FrameOf) → f.kind ≡ p.kind → p.status ≡ status_in f → p.is_foreign ≡ is_foreign f → may_end p.status (begun_arrived p t) ≡ true
-status_may_end t p f k status foreign =
-    ap₂ (λ (o : Option ℕ) (c : Bool). may_end o (or_broken c (got_begun p.kind t))) status foreign
-    ∙ subst (λ (n : ℕ). may_end (status_in f) (or_broken (is_foreign f) (got_begun n t)) ≡ true) k (ends_by (f.kind == READY_FOR_QUERY) false f.kind f.body t (f.kind == PARAMETER_STATUS && nat_lt LONGEST_STATUS (length f.body)) refl)
+ends_other : (kind : ℕ) (t : Tally) (own : Bool) → disposal.is_ready kind ≡ false → may_end None (or_broken own (got_begun kind t)) ≡ true
+ends_other kind t true e = ap (λ (b : Bool). t.has_broken || not b) e ∙ or_else t.has_broken
+ends_other kind t false e = refl
 
-came-more : (fs : List FrameOf) (f : FrameOf) (events : List Got) → events ≡ came_as f → flat_map came_as fs ++ events ≡ flat_map came_as (fs ++ f ∷ [])
-came-more fs f events e = ap (λ (l : List Got). flat_map came_as fs ++ l) (e ∙ sym (Rattle.std.proofs.Common.append-nil (came_as f))) ∙ sym (flat_map-append came_as fs (f ∷ []))
+ends_ready : (kind b : ℕ) (t : Tally) (own : Bool) → disposal.is_ready kind ≡ true → may_end (Some b) (or_broken own (got_begun kind t)) ≡ true
+ends_ready kind b t true e = e
+ends_ready kind b t false e = e
+
+ends_by : (k : Bool) (kept : List Kept) (f : FrameOf) (body : List ℕ) (t : Tally) (long : Bool) → disposal.is_ready f.kind ≡ k → may_end (if k then byte_in body else None) (or_broken (is_own kept ((k && not (length body == 1)) || long) f) (got_begun f.kind t)) ≡ true
+ends_by false kept f body t long e = ends_other f.kind t (is_own kept long f) e
+ends_by true kept f (b ∷ []) t long e = ends_ready f.kind b t (is_own kept long f) e
+ends_by true kept f [] t long e = refl
+ends_by true kept f (b ∷ c ∷ body) t long e = subst (λ (one : Bool). may_end None (or_broken (is_own kept (not one || long) f) (got_begun f.kind t)) ≡ true) (sym (ne_eqb (length (b ∷ c ∷ body)) 1 (λ same. omega (arith, same)))) refl
+
+pub status_may_end : (kept : List Kept) (t : Tally) (p : Passed) (own : Bool) (f : FrameOf) → f.kind ≡ p.kind → p.status ≡ status_in f → own ≡ is_own kept (is_foreign f) f → may_end p.status (begun_arrived p own t) ≡ true
+status_may_end kept t p own f k status o =
+    ap₂ (λ (x : Option ℕ) (c : Bool). may_end x (or_broken c (got_begun p.kind t))) status o
+    ∙ subst (λ (n : ℕ). may_end (status_in f) (or_broken (is_own kept (is_foreign f) f) (got_begun n t)) ≡ true) k (ends_by (f.kind == READY_FOR_QUERY) kept f f.body t (f.kind == PARAMETER_STATUS && nat_lt LONGEST_STATUS (length f.body)) refl)
+
+came-more : (kept : List Kept) (fs : List FrameOf) (f : FrameOf) → all_came kept (fs ++ f ∷ []) ≡ all_came kept fs ++ came_as (all_kept kept fs) f
+came-more kept [] f = append-nil (came_as kept f)
+came-more kept (g ∷ fs) f =
+    ap (λ (rest : List Got). came_as kept g ++ rest) (came-more (kept_after kept (is_foreign g) g) fs f)
+    ∙ sym (append_assoc (came_as kept g) (all_came (kept_after kept (is_foreign g) g) fs) (came_as (all_kept (kept_after kept (is_foreign g) g) fs) f))
+
+kept-more : (kept : List Kept) (fs : List FrameOf) (f : FrameOf) → all_kept kept (fs ++ f ∷ []) ≡ kept_after (all_kept kept fs) (is_foreign f) f
+kept-more kept [] f = refl
+kept-more kept (g ∷ fs) f = kept-more (kept_after kept (is_foreign g) g) fs f
 
 -- the events of one frame, one after the other
-came_in_turn : (c : Bool) (law : CallsTell) (t : Tally) (kind : ℕ) (status : Option ℕ) (sent : List Sent) (got : List Got) → t.getting ≡ None → may_end status (or_broken c (got_begun kind t)) ≡ true → Tells t sent got
-    → Tells (Rattle.disposal.specs.Tallies.got_ended status (or_broken c (got_begun kind t))) sent (got ++ GetBegins kind ∷ or_breaks c (GetEnds status ∷ []))
-came_in_turn false law t kind status sent got border may x =
-    subst (λ (l : List Got). Tells (Rattle.disposal.specs.Tallies.got_ended status (got_begun kind t)) sent l) (append_assoc got (GetBegins kind ∷ []) (GetEnds status ∷ []))
-    (law.get_ends status (got_begun kind t) sent (got ++ GetBegins kind ∷ []) may (law.get_begins kind t sent got border x))
+came_in_turn : (own : Bool) (law : CallsTell) (t : Tally) (kind : ℕ) (status : Option ℕ) (sent : List Sent) (got : List Got) → t.getting ≡ None → may_end status (or_broken own (got_begun kind t)) ≡ true → Tells t sent got
+    → Tells (got_ended status (or_broken own (got_begun kind t))) sent (got ++ GetBegins kind ∷ or_breaks own (GetEnds status ∷ []))
 came_in_turn true law t kind status sent got border may x =
-    subst (λ (l : List Got). Tells (Rattle.disposal.specs.Tallies.got_ended status (or_broken true (got_begun kind t))) sent l)
+    subst (λ (l : List Got). Tells (got_ended status (got_begun kind t)) sent l) (append_assoc got (GetBegins kind ∷ []) (GetEnds status ∷ []))
+    (law.get_ends status (got_begun kind t) sent (got ++ GetBegins kind ∷ []) may (law.get_begins kind t sent got border x))
+came_in_turn false law t kind status sent got border may x =
+    subst (λ (l : List Got). Tells (got_ended status (or_broken false (got_begun kind t))) sent l)
     (append_assoc (got ++ GetBegins kind ∷ []) (Breaks ∷ []) (GetEnds status ∷ []) ∙ append_assoc got (GetBegins kind ∷ []) (Breaks ∷ GetEnds status ∷ []))
-    (law.get_ends status (or_broken true (got_begun kind t)) sent ((got ++ GetBegins kind ∷ []) ++ Breaks ∷ []) may (law.breaks (got_begun kind t) sent (got ++ GetBegins kind ∷ []) (law.get_begins kind t sent got border x)))
+    (law.get_ends status (or_broken false (got_begun kind t)) sent ((got ++ GetBegins kind ∷ []) ++ Breaks ∷ []) may (law.breaks (got_begun kind t) sent (got ++ GetBegins kind ∷ []) (law.get_begins kind t sent got border x)))
 
-pub tells_arrived : (t u : Tally) (p : Passed) (f : FrameOf) (sent received : List FrameOf) → CallsTell → u ≡ told_arrived p t → f.kind ≡ p.kind → p.status ≡ status_in f → p.is_foreign ≡ is_foreign f → Telling t sent received → Telling u sent (received ++ f ∷ [])
-tells_arrived t u p f sent received law e k status foreign x = subst (λ (v : Tally). Telling v sent (received ++ f ∷ [])) (sym e) (record {
-  sending = still_border p.is_foreign;
-  getting = refl;
-  tells = subst (λ (l : List Got). Tells (told_arrived p t) (flat_map sent_as sent) l)
-      (came-more received f (GetBegins p.kind ∷ or_breaks p.is_foreign (GetEnds p.status ∷ [])) (events_are k status foreign))
-      (came_in_turn p.is_foreign law t p.kind p.status (flat_map sent_as sent) (flat_map came_as received) x.getting (status_may_end t p f k status foreign) x.tells);
-})
+-- what is told of a frame that came
+pub record Arrives (t u : Told) (p : Passed) (own : Bool) (f : FrameOf) : Type 0 where
+  pub kind_is : f.kind ≡ p.kind
+  pub status_is : p.status ≡ status_in f
+  pub own_is : own ≡ is_own t.reports (is_foreign f) f
+  pub tally_is : u.tally ≡ told_arrived p own t.tally
+  pub reports_is : u.reports ≡ kept_after t.reports (is_foreign f) f
+
+pub tells_arrived : (kept : List Kept) (t u : Told) (p : Passed) (own : Bool) (f : FrameOf) (sent received : List FrameOf) → CallsTell → Arrives t u p own f → Telling kept t sent received → Telling kept u sent (received ++ f ∷ [])
+tells_arrived kept t u p own f sent received law a x = record {
+  sending = ap (λ (v : Tally). v.is_sending) a.tally_is ∙ still_border own;
+  getting = ap (λ (v : Tally). v.getting) a.tally_is;
+  tells = subst (λ (v : Tally). Tells v (flat_map sent_as sent) (all_came kept (received ++ f ∷ []))) (sym a.tally_is)
+      (subst (λ (l : List Got). Tells (told_arrived p own t.tally) (flat_map sent_as sent) l) events
+      (came_in_turn own law t.tally p.kind p.status (flat_map sent_as sent) (all_came kept received) x.getting (status_may_end t.reports t.tally p own f a.kind_is a.status_is a.own_is) x.tells));
+  keeps = a.reports_is ∙ ap (λ (k : List Kept). kept_after k (is_foreign f) f) x.keeps ∙ sym (kept-more kept received f);
+}
   where
-    still_border : (c : Bool) → (Rattle.disposal.specs.Tallies.got_ended p.status (or_broken c (got_begun p.kind t))).is_sending ≡ false
+    still_border : (own : Bool) → (told_arrived p own t.tally).is_sending ≡ false
     still_border true = x.sending
     still_border false = x.sending
 
-    events_are : f.kind ≡ p.kind → p.status ≡ status_in f → p.is_foreign ≡ is_foreign f → (GetBegins p.kind ∷ or_breaks p.is_foreign (GetEnds p.status ∷ [])) ≡ came_as f
-    events_are k status foreign = rw (foreign, status, sym k) refl
+    one : (GetBegins p.kind ∷ or_breaks own (GetEnds p.status ∷ [])) ≡ came_as t.reports f
+    one = rw (a.own_is, a.status_is, sym a.kind_is) refl
 
-pub tells_none : (t : Tally) → Tells t [] [] → Telling t [] []
-tells_none t x = record { sending = ap (λ (u : Tally). u.is_sending) x.counts; getting = ap (λ (u : Tally). u.getting) x.counts; tells = x }
+    events : all_came kept received ++ GetBegins p.kind ∷ or_breaks own (GetEnds p.status ∷ []) ≡ all_came kept (received ++ f ∷ [])
+    events = ap (λ (l : List Got). all_came kept received ++ l) (one ∙ ap (λ (k : List Kept). came_as k f) x.keeps) ∙ sym (came-more kept received f)
+
+pub tells_none : (kept : List Kept) (t : Told) → Tells t.tally [] [] → t.reports ≡ kept → Telling kept t [] []
+tells_none kept t x r = record { sending = ap (λ (u : Tally). u.is_sending) x.counts; getting = ap (λ (u : Tally). u.getting) x.counts; tells = x; keeps = r }

@@ -2,7 +2,8 @@
 use Rattle.std.specs.Prelude.{◌≡◌, ◌⊎◌, ◌≢◌, ℕ, ◌<◌, ◌≤◌, Bool, true, false, ◌&&◌, ◌||◌, ◌==◌, List, [], ◌++◌, Ok}
 use Rattle.std.specs.List.{flat_map, AllByRecursion}
 use Rattle.disposal.specs.declared.Verdict.{Verdict}
-use Rattle.disposal.specs.Tallies.{Tally, verdict_of}
+use Rattle.disposal.specs.Tallies.{verdict_of}
+use Rattle.param_track.specs.Kept.{Kept}
 use Rattle.frame_view.specs.declared.Side.{Side}
 use Rattle.frame_view.specs.declared.Side.TheVariants.{Client, Server}
 use Rattle.frame_view.specs.Frames.{AreBytes, FrameOf, IsFrame, spelling}
@@ -15,12 +16,11 @@ use Rattle.session_laws.specs.Laws.{IsSent}
 use Rattle.link_laws.specs.Standing.{Standing, ClientFacts, Moves}
 use Rattle.server_end.specs.declared.Moved.{Moved}
 use Rattle.server_end.specs.declared.Moved.TheVariants as moved
-use Rattle.link_run.specs.Links.{LinkView}
-use Rattle.link_laws.specs.Links.{IsClean}
+use Rattle.link_run.specs.Links.{LinkView, IsClean}
 use Rattle.link_laws.specs.Futures.{future}
 use Rattle.relay_flow.specs.Parts.{Opens}
 use Rattle.relay_flow.specs.Flows.{FlowView, IsEnded, is_empty, is_faulty}
-use Rattle.relay_laws.specs.Verdicts.{Telling, verdict_by}
+use Rattle.relay_laws.specs.Verdicts.{Told, Telling, verdict_by}
 use Rattle.relay_laws.specs.declared.Flags.{Flags}
 use Rattle.relay_laws.specs.declared.Phase.{Phase}
 
@@ -35,12 +35,12 @@ pub record RelayView : Type 0 where
   pub greeting : List ℕ
   pub to_link : FlowView
   pub to_client : FlowView
-  pub traffic : Tally
+  pub told : Told
   pub flags : Flags
   pub phase : Phase
 
-abbrev pub relay_view : ClientFacts → Standing → StartKeyOf → ℕ → ℕ → KeyWord → List ℕ → FlowView → FlowView → Tally → Flags → Phase → RelayView
-relay_view client link key number born word greeting to_link to_client traffic flags phase = record {
+abbrev pub relay_view : ClientFacts → Standing → StartKeyOf → ℕ → ℕ → KeyWord → List ℕ → FlowView → FlowView → Told → Flags → Phase → RelayView
+relay_view client link key number born word greeting to_link to_client told flags phase = record {
   client = client;
   link = link;
   key = key;
@@ -50,7 +50,7 @@ relay_view client link key number born word greeting to_link to_client traffic f
   greeting = greeting;
   to_link = to_link;
   to_client = to_client;
-  traffic = traffic;
+  told = told;
   flags = flags;
   phase = phase;
 }
@@ -99,6 +99,7 @@ pub record Place : Type 0 where
   pub given : List ℕ
   pub faults : ℕ
   pub stands : Standing
+  pub reports : List Kept
   pub key : StartKeyOf
   pub number : ℕ
   pub born : ℕ
@@ -107,7 +108,7 @@ pub record Place : Type 0 where
   pub greeting : List ℕ
 
 abbrev pub place : ClientFacts → LinkView → KeyWord → ℕ → List ℕ → Place
-place client link word limit greeting = record { told = client.tells; taken = client.taken; given = client.given; faults = client.faults; stands = link.stands; key = link.key; number = link.number; born = link.born; word = word; limit = limit; greeting = greeting }
+place client link word limit greeting = record { told = client.tells; taken = client.taken; given = client.given; faults = client.faults; stands = link.stands; reports = link.reports; key = link.key; number = link.number; born = link.born; word = word; limit = limit; greeting = greeting }
 
 -- the welcome of the link's fresh session, with the client's own key word
 abbrev pub IsGreeting : Standing → StartKeyOf → KeyWord → List ℕ → Type 0
@@ -177,14 +178,14 @@ pub record IsLease (p : Place) (v : RelayView) : Type 0 where
   pub tail : List ℕ
   pub arrived : List FrameOf
   pub front : List ℕ
-  pub clean : IsClean p.stands v.key
+  pub clean : IsClean p.stands v.key p.reports
   pub greets : IsGreeting p.stands v.key v.word p.greeting
   pub same : IsSame p v
   pub told : v.client.tells ≡ p.told
   pub moves : Moves p.stands sent v.link received
   pub goes : Goes p v.client v.to_link sent forwarded tail
   pub comes : Comes p v.client v.greeting v.to_client received since arrived front
-  pub tally : Telling v.traffic forwarded arrived
+  pub tally : Telling p.reports v.told forwarded arrived
   pub says : Says p v.client v.link v.flags sent received
 
 -- some lease is under way
@@ -229,4 +230,4 @@ abbrev pub at_border : RelayView → Bool
 at_border v = (is_empty v.to_link.held && (v.to_link.rest == 0)) && (is_empty v.to_client.part && (v.to_client.rest == 0))
 
 abbrev pub relay_verdict : RelayView → Verdict
-relay_verdict v = verdict_by (verdict_of v.traffic) (is_faulty v.to_client.ends) (at_border v)
+relay_verdict v = verdict_by (verdict_of v.told.tally) (is_faulty v.to_client.ends) (at_border v)
