@@ -10,10 +10,10 @@ use crate::{Frame, FrameFault, Head, HeadStep, Side, Step, client};
 /// The greatest length of a frame: that of a signed number of four bytes.
 pub const LONGEST_FRAME: u32 = 2_147_483_647;
 
-/// The bytes of a type and a length.
-const HEAD: usize = 5;
-/// A length counts its own four bytes.
-const LEAST_LENGTH: u32 = 4;
+/// The bytes of a frame's head: its type and its length.
+pub const HEAD: usize = 5;
+/// The least length of a frame, which counts its own four bytes.
+pub const LEAST_LENGTH: u32 = 4;
 
 fn is_client_kind(kind: u8) -> bool
     ensures { result ≡ is_client_type kind }
@@ -62,7 +62,7 @@ pub fn head_fault(kind: u8, length: u32, limit: u32, side: Side) -> Option<Frame
     None
 }
 
-fn head_at(bytes: &[u8], limit: u32, side: Side) -> HeadStep
+pub(crate) fn head_at(bytes: &[u8], limit: u32, side: Side) -> HeadStep
     ensures tells { TellsHead result bytes.now (head_front side limit bytes.now) }
     ensures lawful { HasLawfulLength result limit }
 {

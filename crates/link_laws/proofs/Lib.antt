@@ -3,4 +3,5 @@ pub mod InSession
 pub mod Splits
 pub mod Leasing
 pub mod Starting
+pub mod Futures
 pub mod ByName

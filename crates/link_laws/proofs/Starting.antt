@@ -1,5 +1,5 @@
 -- A link's server reads the pairs of its key again.
-use Rattle.std.proofs.Common.{◌≡◌, ℕ, ◌<◌, List, length, Result, Ok, refl, ap, ◌∙◌}
+use Rattle.std.proofs.Common.{List, Result, refl, ap, ◌∙◌}
 use Rattle.std.specs.List.{AllByRecursion}
 use Rattle.message_view.specs.declared.ViewFault.{ViewFault}
 use Rattle.message_view.specs.Bodies.{startup_body}
@@ -7,15 +7,14 @@ use Rattle.message_view.specs.Reading.{startup_of}
 use Rattle.message_view.specs.Spelled.{FitsPair}
 use Rattle.message_laws.specs.Laws.{IsReaderOf}
 use Rattle.session_values.specs.declared.cause.Cause.{Cause}
-use Rattle.session_values.specs.Lawful.{IsClientKey}
-use Rattle.session_values.specs.State.{CatalogueOf, StartKeyOf, fresh, bound}
+use Rattle.session_values.specs.State.{StartKeyOf, fresh, bound}
 use Rattle.session_laws.proofs.ByName.{fresh_by_names}
 use Rattle.start_keys.specs.StartPairs.{Pair}
 use Rattle.start_keys.specs.StubKeys.{stub}
 use Rattle.key_laws.specs.Keys.{key_pairs}
 use Rattle.key_laws.proofs.ByName.{key_pairs_fit, stubs_of_client_keys}
-use Rattle.link_laws.specs.Stages.{key_of, started_by}
-use Rattle.link_laws.specs.Starts.{start_body, StartsAreOfTheirKeys}
+use Rattle.link_laws.specs.Stages.{key_of}
+use Rattle.link_laws.specs.Starts.{StartsAreOfTheirKeys}
 
 pub started-as : IsReaderOf startup_of startup_body (AllByRecursion FitsPair) → StartsAreOfTheirKeys
 started-as read cat key k d =

@@ -1,14 +1,14 @@
 -- What a server will still send, once these bytes follow those under way.
 use Rattle.std.specs.Prelude.{◌≡◌, ℕ, true, List, [], ◌++◌}
 use Rattle.std.specs.List.{flat_map}
-use Rattle.frame_view.specs.Frames.{FrameOf, Front, AFrame, Lacks, Faulty, FirstOf, Start, Cancels, AsksTls, AsksGss, FirstFront, AFirst, LacksFirst, FaultyFirst, front, first_front, spelling}
+use Rattle.frame_view.specs.Frames.{Front, AFrame, Lacks, Faulty, Start, Cancels, AsksTls, AsksGss, FirstFront, AFirst, LacksFirst, FaultyFirst, front, first_front, spelling}
 use Rattle.frame_view.specs.declared.Side.TheVariants.{Client}
 use Rattle.frame_view.specs.declared.frames.TheConstants.{LONGEST_FRAME}
 use Rattle.message_view.specs.Bodies.{Text}
 use Rattle.session_values.specs.Step.{run_frames}
 use Rattle.session_values.specs.Service.{client_frames}
 use Rattle.link_laws.specs.Stages.{Server, Auth, Stage, Open, Before, Asked, Closed, Turn, begins, hears}
-use Rattle.link_laws.specs.Standing.{Standing}
+use Rattle.link_laws.specs.Standing.{Standing, Moves}
 
 -- once it is asked nothing more
 abbrev pub replies_open : Server → Stage → List ℕ → List ℕ
@@ -50,3 +50,17 @@ replies_in v Closed bytes = []
 
 abbrev pub future : Standing → List ℕ → List ℕ
 future at more = at.outbox ++ replies_in at.server at.stage (at.inbox ++ more)
+
+-- What a server has taken doesn't change what it will have sent: what it gave, and then its future, are what its future was
+-- once the bytes that it accepted had come.
+abbrev pub FuturesStay : Type 0
+FuturesStay = (old new : Standing) (put got more : List ℕ) → Moves old put new got → old.follows ≡ true → new.lives ≡ true → future old (put ++ more) ≡ got ++ future new more
+
+-- what came is a beginning of it
+pub record ComesFrom (whole got : List ℕ) : Type 0 where
+  pub lost : List ℕ
+  pub both : got ++ lost ≡ whole
+
+-- A death makes of a future one of its beginnings.
+abbrev pub DeathsCut : Type 0
+DeathsCut = (old new : Standing) (put got more : List ℕ) → Moves old put new got → old.follows ≡ true → old.lives ≡ true → ComesFrom (future old (put ++ more)) got

@@ -1,5 +1,5 @@
 -- What is known of the end of a link that nobody uses, and of one that was used and is settled.
-use Rattle.std.specs.Prelude.{◌≡◌, ℕ, true, List, [], Ok}
+use Rattle.std.specs.Prelude.{◌≡◌, true, [], Ok}
 use Rattle.session_values.specs.Lawful.{IsLawfulCatalogue, IsLawfulKey}
 use Rattle.session_values.specs.State.{State, StartKeyOf, fresh}
 use Rattle.session_laws.specs.Laws.{IsAtRest, Reaches}

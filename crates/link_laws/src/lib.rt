@@ -2,10 +2,12 @@
 //! what a lease of it keeps. The laws are contracts of functions that do nothing.
 #![tactic(auto)]
 
+ghost use Rattle.link_laws.specs.Futures.{DeathsCut, FuturesStay};
 ghost use Rattle.link_laws.specs.Leases.{LeasesAreExact, LeasesAreFronts, SettledLinksRest};
 ghost use Rattle.link_laws.specs.Standing.{MovesJoin};
 ghost use Rattle.link_laws.specs.Starts.{StartsAreOfTheirKeys};
 
+use frame_view::laws::{first_spelled_is_read, spelled_is_first, spelled_is_front};
 use message_laws::laws::startup_is_read;
 
 /// Two moves, one after the other, are one.
@@ -19,6 +21,24 @@ pub fn starts_are_of_their_keys()
     ensures { StartsAreOfTheirKeys }
 {
     startup_is_read();
+}
+
+/// What a server takes and gives leaves its future as it was.
+pub fn futures_stay()
+    ensures { FuturesStay }
+{
+    spelled_is_front();
+    spelled_is_first();
+    first_spelled_is_read();
+}
+
+/// What comes of a server that dies is a beginning of its future.
+pub fn deaths_cut()
+    ensures { DeathsCut }
+{
+    spelled_is_front();
+    spelled_is_first();
+    first_spelled_is_read();
 }
 
 /// Over a link that follows and lives, what the client was given, what is held and what is still to come are what a server of

@@ -1,5 +1,5 @@
 -- A reset's moves, and what its answer says of the session behind it.
-use Rattle.std.proofs.Common.{◌≡◌, ⊎_elim, ℕ, ◌+◌, ◌-◌, ◌≤◌, ◌==◌, Bool, true, List, [], ◌∷◌, ◌++◌, take, drop, length, refl, sym, ap, ◌∙◌, append_assoc, append-nil, take-append-drop, drop-drop, arith, take_all, length-drop, subst}
+use Rattle.std.proofs.Common.{◌≡◌, ⊎_elim, ℕ, ◌+◌, ◌-◌, ◌≤◌, ◌==◌, Bool, true, false, List, [], ◌∷◌, ◌++◌, take, drop, length, refl, sym, ap, ap₂, ◌∙◌, append_assoc, append-nil, take-append-drop, drop-drop, arith, take_all, length-drop, subst, Result, Ok, Err, ◌&&◌}
 use Rattle.std.proofs.lemmas.Bool.{cases_Bool, eqb-true}
 use Rattle.std.proofs.Math.Seq.{drop-length}
 use Rattle.std.specs.List.{flat_map, AllByRecursion}
@@ -12,33 +12,38 @@ use Rattle.frame_view.specs.declared.Step.TheVariants.{Whole}
 use Rattle.frame_view.specs.Answers.{Tells}
 use Rattle.frame_view.specs.Frames.{AreBytes, FrameOf, IsFrame, Cut, front, frames, spelling}
 use Rattle.frame_view.proofs.Splitting.{frames-split, frames-stopped}
+use Rattle.start_keys.specs.StartPairs.{Text}
+use Rattle.session_values.specs.declared.cause.Cause.{Cause}
 use Rattle.session_values.specs.Lawful.{IsLawfulCatalogue, IsLawfulKey}
 use Rattle.session_values.specs.State.{State, CatalogueOf, StartKeyOf, Answer, fresh}
 use Rattle.session_values.specs.Step.{step, run_frames}
-use Rattle.session_laws.specs.Laws.{IsSent, HasKey, Reaches, begins, steps, discard_all}
+use Rattle.session_laws.specs.Laws.{IsSent, HasKey, Reaches, begins, steps, discard_all, after_replies}
 use Rattle.session_laws.proofs.ByName.{discard_all_gives_fresh, reached_has_key}
 use Rattle.run_laws.specs.Settling.{IsQuiet}
-use Rattle.run_laws.proofs.ByName.{run_replies_are_frames, settled_is_quiet}
-use Rattle.link_laws.specs.Stages.{Server as TheServer, Stage, Open, MayTakeAll, answers, after}
-use Rattle.link_laws.specs.Standing.{Standing, Served, Moves}
-use Rattle.link_laws.specs.Links.{IsIdle, IsFresh, IsClean, IsResting, IsUsed}
+use Rattle.run_laws.proofs.ByName.{run_replies_are_frames, run_reports_tell_values, settled_is_quiet}
+use Rattle.param_track.specs.Kept.{Kept}
+use Rattle.link_laws.specs.Stages.{Server as TheServer, Stage, Open, Packet, packets_bytes, MayTakeAll, answers, after}
+use Rattle.link_laws.specs.Standing.{Standing, Served, Passed, Moves}
+use Rattle.link_laws.specs.Links.{IsIdle, IsFresh, IsResting}
 use Rattle.link_laws.proofs.Both.{moves_none, moves_got, moves_put}
 use Rattle.link_laws.proofs.InSession.{InSession, in_session}
 use Rattle.link_laws.proofs.Splits.{SplitsOff, split_whole}
 use Rattle.link_run.specs.declared.reply.Answered.{Answered}
 use Rattle.link_run.specs.declared.reply.Answered.TheVariants.{All}
 use Rattle.link_run.specs.declared.reply.TheConstants.{LONGEST_REPLY}
-use Rattle.link_run.specs.Resets.{answered_by_all, IsResetAnswer, ResetView, reset_view, IsReset, IsAnsweredReset, reads}
+use Rattle.link_run.specs.Links.{kept_by, after_frames, IsFreshLink, IsClean, IsRestingLink, IsUsed}
+use Rattle.link_run.specs.Resets.{answered_by_all, IsResetAnswer, are_known, ResetView, reset_view, IsReset, IsAnsweredReset, reads}
 use Rattle.link_run.proofs.Answering.{asked, is_answered, some_answer}
+use Rattle.link_run.proofs.Reporting.{told-frames}
 
 -- ---- moves
 
-pub reset_begun : (l : Standing) (k : StartKeyOf) (n b : ℕ) (r : List ℕ) → r ≡ [] → IsUsed l k → IsReset (reset_view l k n b (spelling discard_all) r)
-reset_begun l k n b r e u = record { start = l; sent = []; used = u; moves = rw e (moves_none l); all = refl }
+pub reset_begun : (l : Standing) (k : StartKeyOf) (n b : ℕ) (ks : List Kept) (r : List ℕ) → r ≡ [] → IsUsed l k ks → IsReset (reset_view l k n b ks (spelling discard_all) r)
+reset_begun l k n b ks r e u = record { start = l; sent = []; used = u; moves = rw e (moves_none l); all = refl }
 
-pub reset_sent : (l m : Standing) (k : StartKeyOf) (n b : ℕ) (put u w r : List ℕ) → Moves l put m [] → u ≡ put ++ w
-    → IsReset (reset_view l k n b u r) → IsReset (reset_view m k n b w r)
-reset_sent l m k n b put u w r y e x = record {
+pub reset_sent : (l m : Standing) (k : StartKeyOf) (n b : ℕ) (ks : List Kept) (put u w r : List ℕ) → Moves l put m [] → u ≡ put ++ w
+    → IsReset (reset_view l k n b ks u r) → IsReset (reset_view m k n b ks w r)
+reset_sent l m k n b ks put u w r y e x = record {
   start = x.start;
   sent = x.sent ++ put;
   used = x.used;
@@ -46,9 +51,9 @@ reset_sent l m k n b put u w r y e x = record {
   all = append_assoc x.sent put w ∙ ap (λ (t : List ℕ). x.sent ++ t) (sym e) ∙ x.all;
 }
 
-pub reset_got : (l m : Standing) (k : StartKeyOf) (n b : ℕ) (got u r s : List ℕ) → Moves l [] m got → s ≡ r ++ got
-    → IsReset (reset_view l k n b u r) → IsReset (reset_view m k n b u s)
-reset_got l m k n b got u r s y e x = record {
+pub reset_got : (l m : Standing) (k : StartKeyOf) (n b : ℕ) (ks : List Kept) (got u r s : List ℕ) → Moves l [] m got → s ≡ r ++ got
+    → IsReset (reset_view l k n b ks u r) → IsReset (reset_view m k n b ks u s)
+reset_got l m k n b ks got u r s y e x = record {
   start = x.start;
   sent = x.sent;
   used = x.used;
@@ -74,27 +79,35 @@ discard_run cat s = refl
 pub fresh_of : (key : StartKeyOf) (start : Standing) (r : IsResting start key) → HasKey start.server.catalogue key r.session
 fresh_of key start r = reached_has_key start.server.catalogue key r.session r.reached
 
--- Once the whole answer came, its server stands in that session, and has nothing more to take or to give.
-pub answered_idle : (key : StartKeyOf) (start now : Standing) (got : List FrameOf) (r : IsResting start key) → AllByRecursion (IsFrame Server LONGEST_REPLY) got → IsResetAnswer got
-    → Served start (spelling discard_all) now (flat_map spelling got) → IsIdle now (fresh_of key start r).origin
-answered_idle key start now got r each d x =
+-- Once the whole answer came, the server has taken all and given all, and stands in that session; what came are its replies.
+record HasAnswered (key : StartKeyOf) (start : Standing) (r : IsResting start key) (got : List FrameOf) (taken : List Packet) (left lost : List ℕ) : Type 0 where
+  stage : after start.server start.stage taken ≡ Open (fresh_of key start r).origin
+  none_left : left ≡ []
+  none_lost : lost ≡ []
+  reported : after_replies r.session.reported got ≡ (fresh_of key start r).origin.reported
+
+has_answered : (key : StartKeyOf) (start : Standing) (r : IsResting start key) (got : List FrameOf) (taken : List Packet) (left lost : List ℕ) → AllByRecursion (IsFrame Server LONGEST_REPLY) got → IsResetAnswer got
+    → MayTakeAll start.server start.stage taken → start.inbox ++ spelling discard_all ≡ packets_bytes taken ++ left → start.outbox ++ flat_map spelling (answers start.server start.stage taken) ≡ flat_map spelling got ++ lost
+    → HasAnswered key start r got taken left lost
+has_answered key start r got taken left lost each d lawful ti to =
     let v : TheServer = start.server in
     let s : State = r.session in
     let h = fresh_of key start r in
-    let i : InSession v s x.taken = in_session v s x.taken (subst (λ (t : Stage). MayTakeAll v t x.taken) r.idle.is_open x.lawful) in
+    let i : InSession v s taken = in_session v s taken (subst (λ (t : Stage). MayTakeAll v t taken) r.idle.is_open lawful) in
     let cat : CatalogueOf = v.catalogue in
-    let ei : flat_map spelling asked ≡ flat_map spelling i.frames ++ now.inbox = append-nil (spelling discard_all) ∙ ap (λ (q : List ℕ). q ++ spelling discard_all) (sym r.idle.inbox) ∙ x.inbox ∙ ap (λ (q : List ℕ). q ++ now.inbox) i.bytes in
-    let er : flat_map spelling (answers v start.stage x.taken) ≡ flat_map spelling (run_frames cat s i.frames).replies =
-    ap (λ (t : Stage). flat_map spelling (answers v t x.taken)) r.idle.is_open ∙ ap (flat_map spelling) i.replies in
-    let eo : flat_map spelling (run_frames cat s i.frames).replies ≡ flat_map spelling got ++ now.outbox = sym er ∙ ap (λ (q : List ℕ). q ++ flat_map spelling (answers v start.stage x.taken)) (sym r.idle.outbox) ∙ x.outbox in
-    let a : SplitsOff asked i.frames [] now.inbox = split_whole Client LONGEST_FRAME asked i.frames now.inbox (omega arith) (record { of_type = refl; size = omega arith }, tt) (all_client i.frames i.sent) ei in
-    let b : SplitsOff (run_frames cat s i.frames).replies got [] now.outbox = split_whole Server LONGEST_FRAME (run_frames cat s i.frames).replies got now.outbox (omega arith) (run_replies_are_frames cat key s i.frames r.reached i.sent) (all_longer got each) eo in
+    let ei : flat_map spelling asked ≡ flat_map spelling i.frames ++ left = append-nil (spelling discard_all) ∙ ap (λ (q : List ℕ). q ++ spelling discard_all) (sym r.idle.inbox) ∙ ti ∙ ap (λ (q : List ℕ). q ++ left) i.bytes in
+    let er : flat_map spelling (answers v start.stage taken) ≡ flat_map spelling (run_frames cat s i.frames).replies =
+    ap (λ (t : Stage). flat_map spelling (answers v t taken)) r.idle.is_open ∙ ap (flat_map spelling) i.replies in
+    let eo : flat_map spelling (run_frames cat s i.frames).replies ≡ flat_map spelling got ++ lost = sym er ∙ ap (λ (q : List ℕ). q ++ flat_map spelling (answers v start.stage taken)) (sym r.idle.outbox) ∙ to in
+    let a : SplitsOff asked i.frames [] left = split_whole Client LONGEST_FRAME asked i.frames left (omega arith) (record { of_type = refl; size = omega arith }, tt) (all_client i.frames i.sent) ei in
+    let b : SplitsOff (run_frames cat s i.frames).replies got [] lost = split_whole Server LONGEST_FRAME (run_frames cat s i.frames).replies got lost (omega arith) (run_replies_are_frames cat key s i.frames r.reached i.sent) (all_longer got each) eo in
     let q : IsQuiet cat s asked got i.frames a.more b.more = settled_is_quiet cat s asked got i.frames a.more b.more (is_answered got d) a.all b.all in
     let next : (run_frames cat s asked).next ≡ h.origin = discard_run cat s ∙ ap (λ (t : Answer). t.next) (discard_all_gives_fresh cat key s h.origin h h.is_fresh r.rests) in
     record {
-      is_open = x.stage ∙ ap (λ (t : Stage). after v t x.taken) r.idle.is_open ∙ i.stage ∙ ap (λ (t : List FrameOf). Open (run_frames cat s t).next) q.all ∙ ap Open next;
-      inbox = a.bytes ∙ ap (λ (t : List FrameOf). flat_map spelling t ++ []) q.none_left;
-      outbox = b.bytes ∙ ap (λ (t : List FrameOf). flat_map spelling t ++ []) q.none_more;
+      stage = ap (λ (t : Stage). after v t taken) r.idle.is_open ∙ i.stage ∙ ap (λ (t : List FrameOf). Open (run_frames cat s t).next) q.all ∙ ap Open next;
+      none_left = a.bytes ∙ ap (λ (t : List FrameOf). flat_map spelling t ++ []) q.none_left;
+      none_lost = b.bytes ∙ ap (λ (t : List FrameOf). flat_map spelling t ++ []) q.none_more;
+      reported = ap (after_replies s.reported) q.answers ∙ sym (run_reports_tell_values cat key s asked r.reached (subst (AllByRecursion IsSent) q.all i.sent)) ∙ ap (λ (t : State). t.reported) next;
     }
 
 -- what a session that is reached began with
@@ -102,7 +115,7 @@ reached_lawful : (cat : CatalogueOf) (key : StartKeyOf) (s : State) → Reaches 
 reached_lawful cat key _ (begins c k e) = (c, k)
 reached_lawful cat key _ (steps {s = t} f r h) = reached_lawful cat key t r
 
-pub renewed : (key : StartKeyOf) (start now : Standing) (r : IsResting start key) → now.server ≡ start.server → (now.lives ≡ true → IsIdle now (fresh_of key start r).origin) → IsFresh now key
+renewed : (key : StartKeyOf) (start now : Standing) (r : IsResting start key) → now.server ≡ start.server → (now.lives ≡ true → IsIdle now (fresh_of key start r).origin) → IsFresh now key
 renewed key start now r same idle =
     let h = fresh_of key start r in
     let l = reached_lawful start.server.catalogue key r.session r.reached in
@@ -114,21 +127,81 @@ renewed key start now r same idle =
       idle = idle;
     }
 
+-- ---- a reset that was answered
+
+received_as : (v : ResetView) (d : IsAnsweredReset v) → v.received ≡ flat_map spelling (frames Server LONGEST_REPLY v.received).frames
+received_as v d =
+    let s = frames-split Server LONGEST_REPLY v.received d.bytes in
+    s.whole ∙ ap (λ (x : List ℕ). flat_map spelling (frames Server LONGEST_REPLY v.received).frames ++ x) d.whole ∙ append-nil (flat_map spelling (frames Server LONGEST_REPLY v.received).frames)
+
+all_sent : (v : ResetView) (x : IsReset v) → IsAnsweredReset v → x.sent ≡ spelling discard_all
+all_sent v x d = sym (append-nil x.sent) ∙ (ap (λ (q : List ℕ). x.sent ++ q) (sym d.sent) ∙ x.all)
+
 -- an answer comes from a server that lived when the reset began
 lived : (v : ResetView) (x : IsReset v) → IsAnsweredReset v → x.start.lives ≡ true
-lived v x d = ⊎_elim (λ t. t) (λ dead. none (x.moves.silent dead).1 d.frames d.answer d.received) (cases_Bool x.start.lives)
+lived v x d = ⊎_elim (λ t. t) (λ dead. none (frames Server LONGEST_REPLY v.received).frames d.answer (sym (x.moves.silent dead).1 ∙ received_as v d)) (cases_Bool x.start.lives)
   where
-    none : {A : Type 0} → v.received ≡ [] → (fs : List FrameOf) → IsResetAnswer fs → v.received ≡ flat_map spelling fs → A
-    none e [] a r = some_answer [] a refl
-    none e (f ∷ fs) a r = absurd (let h : [] ≡ flat_map spelling (f ∷ fs) = sym e ∙ r in cc)
+    none : {A : Type 0} → (fs : List FrameOf) → IsResetAnswer fs → [] ≡ flat_map spelling fs → A
+    none [] a e = some_answer [] a refl
+    none (f ∷ fs) a e = absurd cc
 
-pub reset_clean : (v : ResetView) → IsReset v → IsAnsweredReset v → IsClean v.link v.key
-reset_clean v x d f =
-    let g : x.start.follows ≡ true = sym x.moves.follows ∙ f in
-    let r : IsResting x.start v.key = x.used g (lived v x d) in
-    let e : x.sent ≡ spelling discard_all = sym (append-nil x.sent) ∙ (ap (λ (q : List ℕ). x.sent ++ q) (sym d.sent) ∙ x.all) in
-    renewed v.key x.start v.link r x.moves.server (λ l. answered_idle v.key x.start v.link d.frames r d.each d.answer
-    (subst (λ (t : List ℕ). Served x.start (spelling discard_all) v.link t) d.received (subst (λ (t : List ℕ). Served x.start t v.link v.received) e (x.moves.served g l))))
+-- the two sessions that a key's link began with are one
+ok_or : State → Result State Cause → State
+ok_or other (Ok s) = s
+ok_or other (Err c) = other
+
+same_origin : (cat : CatalogueOf) (key : StartKeyOf) (s t : State) → fresh cat key ≡ Ok s → fresh cat key ≡ Ok t → s ≡ t
+unfolding ok_or
+same_origin cat key s t e f = ap (ok_or s) (sym e ∙ f)
+
+module _ (v : ResetView) (x : IsReset v) (d : IsAnsweredReset v) (f : v.link.follows ≡ true) where
+  began : x.start.follows ≡ true
+  began = sym x.moves.follows ∙ f
+
+  rested : IsRestingLink x.start v.key v.reports
+  rested = x.used began (lived v x d)
+
+  got : List FrameOf
+  got = (frames Server LONGEST_REPLY v.received).frames
+
+  each : AllByRecursion (IsFrame Server LONGEST_REPLY) got
+  unfolding got
+  each = (frames-split Server LONGEST_REPLY v.received d.bytes).each
+
+  answered_as : (taken : List Packet) (left lost : List ℕ) → MayTakeAll x.start.server x.start.stage taken → x.start.inbox ++ x.sent ≡ packets_bytes taken ++ left
+      → x.start.outbox ++ flat_map spelling (answers x.start.server x.start.stage taken) ≡ v.received ++ lost → HasAnswered v.key x.start rested.stands got taken left lost
+  unfolding got
+  answered_as taken left lost lawful ti to =
+      has_answered v.key x.start rested.stands got taken left lost each d.answer lawful (ap (λ (q : List ℕ). x.start.inbox ++ q) (sym (all_sent v x d)) ∙ ti) (to ∙ ap (λ (q : List ℕ). q ++ lost) (received_as v d))
+
+  by_passing : (y : Passed x.start x.sent v.received) → HasAnswered v.key x.start rested.stands got y.taken y.left y.lost
+  by_passing y = answered_as y.taken y.left y.lost y.lawful y.inbox y.outbox
+
+  by_serving : (y : Served x.start x.sent v.link v.received) → HasAnswered v.key x.start rested.stands got y.taken v.link.inbox v.link.outbox
+  by_serving y = answered_as y.taken v.link.inbox v.link.outbox y.lawful y.inbox y.outbox
+
+  idle_now : v.link.lives ≡ true → IsIdle v.link (fresh_of v.key x.start rested.stands).origin
+  idle_now l =
+      let y = x.moves.served began l in
+      let a = by_serving y in
+      record { is_open = y.stage ∙ a.stage; inbox = a.none_left; outbox = a.none_lost }
+
+  kept_now : after_frames v.reports got ≡ kept_by (fresh_of v.key x.start rested.stands).origin.reported (fresh_of v.key x.start rested.stands).origin.reported
+  kept_now =
+      let h = fresh_of v.key x.start rested.stands in
+      let y = x.moves.passed began (lived v x d) in
+      let o : rested.origin ≡ h.origin = same_origin x.start.server.catalogue v.key rested.origin h.origin rested.is_fresh h.is_fresh in
+      ap (λ (ks : List Kept). after_frames ks got) rested.kept
+      ∙ told-frames rested.origin.reported rested.stands.session.reported got
+      ∙ ap₂ (λ (t : State) (values : List Text). kept_by t.reported values) o (by_passing y).reported
+
+  fresh_link : IsFreshLink v.link v.key (after_frames v.reports got)
+  unfolding renewed
+  fresh_link = record { stands = renewed v.key x.start v.link rested.stands x.moves.server idle_now; kept = kept_now }
+
+pub reset_clean : (v : ResetView) → IsReset v → IsAnsweredReset v → IsClean v.link v.key (after_frames v.reports (frames Server LONGEST_REPLY v.received).frames)
+unfolding got
+reset_clean v x d f = fresh_link v x d f
 
 -- ---- what is sent and received
 
@@ -155,19 +228,31 @@ stopped x bytes n t = frames-stopped Server LONGEST_REPLY bytes (not_whole x byt
 pub all_answered : (x : Step) (bytes : List ℕ) (h total : Answered) → ((frame : Frame) → x ≡ Whole frame → ⊥) → Tells x bytes (front Server LONGEST_REPLY bytes) → answered_by_all h (frames Server LONGEST_REPLY bytes).frames ≡ total → h ≡ total
 all_answered x bytes h total n t e = ap (λ (c : Cut). answered_by_all h c.frames) (sym (stopped x bytes n t)) ∙ e
 
+-- where no whole frame stands, all reports are told, and all that were told were known
+pub all_told : (x : Step) (bytes : List ℕ) (kept total : List Kept) → ((frame : Frame) → x ≡ Whole frame → ⊥) → Tells x bytes (front Server LONGEST_REPLY bytes) → after_frames kept (frames Server LONGEST_REPLY bytes).frames ≡ total → kept ≡ total
+all_told x bytes kept total n t e = ap (λ (c : Cut). after_frames kept c.frames) (sym (stopped x bytes n t)) ∙ e
+
+and_true : (b : Bool) → b ≡ (b && true)
+and_true true = refl
+and_true false = refl
+
+pub all_known : (x : Step) (bytes : List ℕ) (kept : List Kept) (known total : Bool) → ((frame : Frame) → x ≡ Whole frame → ⊥) → Tells x bytes (front Server LONGEST_REPLY bytes) → (known && are_known kept (frames Server LONGEST_REPLY bytes).frames) ≡ total → known ≡ total
+all_known x bytes kept known total n t e = and_true known ∙ ap (λ (c : Cut). known && are_known kept c.frames) (sym (stopped x bytes n t)) ∙ e
+
+pub and_assoc : (a b c : Bool) → ((a && b) && c) ≡ (a && (b && c))
+and_assoc true b c = refl
+and_assoc false b c = refl
+
 drop_all : (n : ℕ) (bs : List ℕ) → (n == length bs) ≡ true → drop n bs ≡ []
 drop_all n bs e = ap (λ (k : ℕ). drop k bs) (eqb-true n (length bs) e) ∙ drop-length bs
 
 pub nothing_behind : (x : Step) (n : ℕ) (bytes rest : List ℕ) → ((frame : Frame) → x ≡ Whole frame → ⊥) → Tells x (drop n bytes) (front Server LONGEST_REPLY (drop n bytes)) → (frames Server LONGEST_REPLY (drop n bytes)).rest ≡ rest → (n == length bytes) ≡ true → rest ≡ []
 nothing_behind x n bytes rest m t e h = sym e ∙ ap (λ (c : Cut). c.rest) (stopped x (drop n bytes) m t) ∙ drop_all n bytes h
 
-pub answered : (v : ResetView) (bs : List ℕ) (h : Answered) (all : Bool) → bs ≡ v.received → AreBytes bs → h ≡ reads (frames Server LONGEST_REPLY bs) → (all ≡ true → (frames Server LONGEST_REPLY bs).rest ≡ []) → h ≡ All → all ≡ true → v.unsent ≡ [] → IsAnsweredReset v
-answered v bs h all same b e r d t u =
-    let s = frames-split Server LONGEST_REPLY bs b in
-    record {
-      sent = u;
-      frames = (frames Server LONGEST_REPLY bs).frames;
-      each = s.each;
-      received = sym same ∙ s.whole ∙ ap (λ (x : List ℕ). flat_map spelling (frames Server LONGEST_REPLY bs).frames ++ x) (r t) ∙ append-nil (flat_map spelling (frames Server LONGEST_REPLY bs).frames);
-      answer = sym e ∙ d;
-    }
+pub answered : (v : ResetView) (bs : List ℕ) (a : Answered) (all : Bool) → bs ≡ v.received → AreBytes bs → a ≡ reads (frames Server LONGEST_REPLY bs) → (all ≡ true → (frames Server LONGEST_REPLY bs).rest ≡ []) → a ≡ All → all ≡ true → v.unsent ≡ [] → IsAnsweredReset v
+answered v bs a all same b e r d t u = record {
+  sent = u;
+  bytes = subst AreBytes same b;
+  whole = subst (λ (x : List ℕ). (frames Server LONGEST_REPLY x).rest ≡ []) same (r t);
+  answer = subst (λ (x : List ℕ). IsResetAnswer (frames Server LONGEST_REPLY x).frames) same (sym e ∙ d);
+}

@@ -1,15 +1,18 @@
 -- A reset by DISCARD ALL: what it is answered by, and a reset under way.
-use Rattle.std.specs.Prelude.{◌≡◌, ℕ, Bool, ◌||◌, ◌&&◌, ◌==◌, if◌then◌else◌, bytes_eq, codes, List, [], ◌∷◌, ◌++◌}
-use Rattle.std.specs.List.{flat_map, AllByRecursion}
+use Rattle.std.specs.Prelude.{◌≡◌, ℕ, Bool, true, false, Result, Ok, Err, ◌||◌, ◌&&◌, ◌==◌, if◌then◌else◌, bytes_eq, codes, List, [], ◌∷◌, ◌++◌}
 use Rattle.frame_view.specs.declared.Side.TheVariants.{Server}
 use Rattle.frame_view.specs.declared.server.TheConstants.{COMMAND_COMPLETE, NOTICE_RESPONSE, PARAMETER_STATUS, READY_FOR_QUERY}
-use Rattle.frame_view.specs.Frames.{FrameOf, IsFrame, Cut, spelling}
+use Rattle.frame_view.specs.Frames.{AreBytes, FrameOf, Cut, frames, spelling}
 use Rattle.message_view.specs.declared.kinds.TheConstants.{IDLE}
 use Rattle.message_view.specs.Bodies.{text}
+use Rattle.message_view.specs.declared.ViewFault.{ViewFault}
+use Rattle.message_view.specs.Reading.{status_of}
+use Rattle.start_keys.specs.StartPairs.{Text}
 use Rattle.session_values.specs.State.{StartKeyOf}
+use Rattle.param_track.specs.Kept.{Kept, has_name}
 use Rattle.session_laws.specs.Laws.{discard_all}
 use Rattle.link_laws.specs.Standing.{Standing, Moves}
-use Rattle.link_laws.specs.Links.{IsUsed}
+use Rattle.link_run.specs.Links.{IsUsed, after_frame}
 use Rattle.link_run.specs.declared.reply.Answered.{Answered}
 use Rattle.link_run.specs.declared.reply.Answered.TheVariants.{Nothing, Tag, All, Other}
 use Rattle.link_run.specs.declared.reply.TheConstants.{LONGEST_REPLY}
@@ -42,6 +45,18 @@ IsResetAnswer fs = answered_by_all Nothing fs ≡ All
 abbrev pub reads : Cut → Answered
 reads cut = answered_by_all Nothing cut.frames
 
+-- a ParameterStatus can be read, and names a parameter that is kept
+abbrev pub names_kept : List Kept → Result (Text × Text) ViewFault → Bool
+names_kept kept (Ok report) = has_name kept report.0
+names_kept kept (Err fault) = false
+
+abbrev pub is_known : List Kept → FrameOf → Bool
+is_known kept f = if f.kind == PARAMETER_STATUS then names_kept kept (status_of f.body) else true
+
+abbrev pub are_known : List Kept → List FrameOf → Bool
+are_known kept [] = true
+are_known kept (f ∷ fs) = is_known kept f && are_known (after_frame kept f) fs
+
 -- ---- a reset under way
 
 pub record ResetView : Type 0 where
@@ -49,24 +64,24 @@ pub record ResetView : Type 0 where
   pub key : StartKeyOf
   pub number : ℕ
   pub born : ℕ
+  pub reports : List Kept
   pub unsent : List ℕ
   pub received : List ℕ
 
-abbrev pub reset_view : Standing → StartKeyOf → ℕ → ℕ → List ℕ → List ℕ → ResetView
-reset_view link key number born unsent received = record { link = link; key = key; number = number; born = born; unsent = unsent; received = received }
+abbrev pub reset_view : Standing → StartKeyOf → ℕ → ℕ → List Kept → List ℕ → List ℕ → ResetView
+reset_view link key number born reports unsent received = record { link = link; key = key; number = number; born = born; reports = reports; unsent = unsent; received = received }
 
 -- since a settled link was taken: what was sent and what was received
 pub record IsReset (v : ResetView) : Type 0 where
   pub start : Standing
   pub sent : List ℕ
-  pub used : IsUsed start v.key
+  pub used : IsUsed start v.key v.reports
   pub moves : Moves start sent v.link v.received
   pub all : sent ++ v.unsent ≡ spelling discard_all
 
--- all was sent, and the whole answer was received
+-- all was sent, and what was received is the whole answer
 pub record IsAnsweredReset (v : ResetView) : Type 0 where
   pub sent : v.unsent ≡ []
-  pub frames : List FrameOf
-  pub each : AllByRecursion (IsFrame Server LONGEST_REPLY) frames
-  pub received : v.received ≡ flat_map spelling frames
-  pub answer : IsResetAnswer frames
+  pub bytes : AreBytes v.received
+  pub whole : (frames Server LONGEST_REPLY v.received).rest ≡ []
+  pub answer : IsResetAnswer (frames Server LONGEST_REPLY v.received).frames

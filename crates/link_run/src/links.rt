@@ -1,168 +1,151 @@
 //! Links to servers, as they are kept and handed on.
 ghost use Rattle.std.specs.Prelude.{◌≡◌};
 ghost use Rattle.std.specs.Arc.{arc_value};
-ghost use Rattle.link_laws.specs.Links.{IsClean, IsUsed};
+ghost use Rattle.link_run.specs.Links.{IsClean, IsUsed};
 
+use param_track::Reported;
 use server_end::ServerEnd;
+use server_end::gate::Gate;
 use start_keys::StartKey;
 use std::marker::Model;
 use std::sync::Arc;
-
-/// A link that stands as a fresh session of its key.
-#[derive(Drop)]
-pub struct CleanLink<E: ServerEnd> {
-    end: E,
-    key: Arc<StartKey>,
-    number: u64,
-    born: u64,
-}
-
-impl<E: ServerEnd> Model for CleanLink<E> {
-    ghost use Rattle.std.specs.Arc.{arc_value};
-    ghost use Rattle.link_laws.specs.Links.{IsClean};
-    ghost use Rattle.link_run.specs.Links.{LinkView};
-
-    ghost Value = { LinkView };
-
-    ghost view = { λ l. record { stands = E.standing l.end; key = arc_value l.key; number = l.number; born = l.born } };
-
-    ghost invariant = { λ l. IsClean (E.standing l.end) (arc_value l.key) };
-}
-
-/// A link at rest, which a reset makes clean.
-#[derive(Drop)]
-pub struct UsedLink<E: ServerEnd> {
-    end: E,
-    key: Arc<StartKey>,
-    number: u64,
-    born: u64,
-}
-
-impl<E: ServerEnd> Model for UsedLink<E> {
-    ghost use Rattle.std.specs.Arc.{arc_value};
-    ghost use Rattle.link_laws.specs.Links.{IsUsed};
-    ghost use Rattle.link_run.specs.Links.{LinkView};
-
-    ghost Value = { LinkView };
-
-    ghost view = { λ l. record { stands = E.standing l.end; key = arc_value l.key; number = l.number; born = l.born } };
-
-    ghost invariant = { λ l. IsUsed (E.standing l.end) (arc_value l.key) };
-}
 
 /// A link taken apart, of which nothing is known.
 #[derive(Drop)]
 pub struct Lent<E: ServerEnd> {
     pub end: E,
+    /// The start key of its session.
     pub key: Arc<StartKey>,
+    /// Its number, and the second in which it was begun.
     pub number: u64,
     pub born: u64,
+    /// What its start reported, and whether the server has told otherwise since.
+    pub reported: Reported,
+}
+
+/// A link that nobody has used since its start or its reset: where its end follows, it stands in the fresh session of its key,
+/// with nothing under way.
+#[derive(Drop)]
+pub struct CleanLink<E: ServerEnd> {
+    link: Lent<E>,
+}
+
+impl<E: ServerEnd> Model for CleanLink<E> {
+    ghost use Rattle.std.specs.Arc.{arc_value};
+    ghost use Rattle.link_run.specs.Links.{IsClean, LinkView};
+
+    ghost Value = { LinkView };
+
+    ghost view = { λ l. record { stands = E.standing l.link.end; key = arc_value l.link.key; number = l.link.number; born = l.link.born; reports = l.link.reported } };
+
+    ghost invariant = { λ l. IsClean (E.standing l.link.end) (arc_value l.link.key) l.link.reported };
+}
+
+/// A link that was used and is settled: where its end follows and lives, it stands at rest in a session of its key, with nothing
+/// under way. A reset makes it clean.
+#[derive(Drop)]
+pub struct UsedLink<E: ServerEnd> {
+    link: Lent<E>,
+}
+
+impl<E: ServerEnd> Model for UsedLink<E> {
+    ghost use Rattle.std.specs.Arc.{arc_value};
+    ghost use Rattle.link_run.specs.Links.{IsUsed, LinkView};
+
+    ghost Value = { LinkView };
+
+    ghost view = { λ l. record { stands = E.standing l.link.end; key = arc_value l.link.key; number = l.link.number; born = l.link.born; reports = l.link.reported } };
+
+    ghost invariant = { λ l. IsUsed (E.standing l.link.end) (arc_value l.link.key) l.link.reported };
 }
 
 impl<E: ServerEnd> CleanLink<E> {
+    /// Its number.
     pub fn number(&self) -> u64
         ensures { result ≡ self.now.number }
     {
-        self.number
+        self.link.number
     }
 
+    /// The second in which it was begun.
     pub fn born(&self) -> u64
         ensures { result ≡ self.now.born }
     {
-        self.born
+        self.link.born
     }
 
+    /// The start key of its session.
     pub fn key(&self) -> &Arc<StartKey>
         ensures { arc_value result.now ≡ self.now.key }
     {
-        &self.key
+        &self.link.key
     }
 
+    /// From here on the gate's turns tell of its end; nothing of it changes.
+    pub fn watch<G: Gate<E>>(&mut self, gate: &mut G)
+        ensures { self.new ≡ self.old }
+    {
+        gate.watch(&mut self.link.end);
+    }
+
+    /// From here on they don't; nothing of it changes.
+    pub fn unwatch<G: Gate<E>>(&mut self, gate: &mut G)
+        ensures { self.new ≡ self.old }
+    {
+        gate.unwatch(&mut self.link.end);
+    }
+
+    /// Takes it apart, for a lease.
     pub fn lend(self) -> Lent<E>
         ensures stands { E.standing result.end ≡ self.stands }
         ensures key { arc_value result.key ≡ self.key }
         ensures number { result.number ≡ self.number }
         ensures born { result.born ≡ self.born }
-        ensures clean { IsClean (E.standing result.end) (arc_value result.key) }
+        ensures reports { result.reported ≡ self.reports }
+        ensures clean { IsClean (E.standing result.end) (arc_value result.key) result.reported }
     {
-        let CleanLink {
-            end,
-            key,
-            number,
-            born,
-        } = self;
-        Lent {
-            end,
-            key,
-            number,
-            born,
-        }
+        let CleanLink { link } = self;
+        link
     }
 }
 
 impl<E: ServerEnd> UsedLink<E> {
+    /// Takes it apart, for its reset.
     pub fn lend(self) -> Lent<E>
         ensures stands { E.standing result.end ≡ self.stands }
         ensures key { arc_value result.key ≡ self.key }
         ensures number { result.number ≡ self.number }
         ensures born { result.born ≡ self.born }
-        ensures used { IsUsed (E.standing result.end) (arc_value result.key) }
+        ensures reports { result.reported ≡ self.reports }
+        ensures used { IsUsed (E.standing result.end) (arc_value result.key) result.reported }
     {
-        let UsedLink {
-            end,
-            key,
-            number,
-            born,
-        } = self;
-        Lent {
-            end,
-            key,
-            number,
-            born,
-        }
+        let UsedLink { link } = self;
+        link
     }
 }
 
 impl<E: ServerEnd> Lent<E> {
+    /// The same as a link that nobody has used.
     pub fn clean(self) -> CleanLink<E>
-        requires { IsClean (E.standing self.end) (arc_value self.key) }
+        requires { IsClean (E.standing self.end) (arc_value self.key) self.reported }
         ensures stands { result.stands ≡ E.standing self.end }
         ensures key { result.key ≡ arc_value self.key }
         ensures number { result.number ≡ self.number }
         ensures born { result.born ≡ self.born }
+        ensures reports { result.reports ≡ self.reported }
     {
-        let Lent {
-            end,
-            key,
-            number,
-            born,
-        } = self;
-        CleanLink {
-            end,
-            key,
-            number,
-            born,
-        }
+        CleanLink { link: self }
     }
 
+    /// The same as a link that was used and is settled.
     pub fn used(self) -> UsedLink<E>
-        requires { IsUsed (E.standing self.end) (arc_value self.key) }
+        requires { IsUsed (E.standing self.end) (arc_value self.key) self.reported }
         ensures stands { result.stands ≡ E.standing self.end }
         ensures key { result.key ≡ arc_value self.key }
         ensures number { result.number ≡ self.number }
         ensures born { result.born ≡ self.born }
+        ensures reports { result.reports ≡ self.reported }
     {
-        let Lent {
-            end,
-            key,
-            number,
-            born,
-        } = self;
-        UsedLink {
-            end,
-            key,
-            number,
-            born,
-        }
+        UsedLink { link: self }
     }
 }

@@ -5,10 +5,13 @@ ghost use Rattle.link_run.specs.declared.reply.Answered.TheVariants.{All};
 ghost use Rattle.frame_view.specs.Frames.{AreBytes, frames};
 ghost use Rattle.frame_view.specs.declared.Side.TheVariants.{Server};
 ghost use Rattle.session_values.specs.Answers.{frame_of};
-ghost use Rattle.link_run.specs.Resets.{answered_by, is_aside, is_tag, is_idle, reads};
+ghost use Rattle.link_run.specs.Links.{after_frame, after_frames};
+ghost use Rattle.link_run.specs.Resets.{answered_by, are_known, is_aside, is_idle, is_known, is_tag, reads};
 
 use frame_view::server::{COMMAND_COMPLETE, NOTICE_RESPONSE, PARAMETER_STATUS, READY_FOR_QUERY};
 use frame_view::{Frame, Side, Step, next_frame};
+use message_view::StatusView;
+use param_track::Reported;
 
 /// The greatest length of a frame in a start or a reset.
 pub const LONGEST_REPLY: u32 = 65_536;
@@ -106,4 +109,33 @@ pub(crate) fn read_reply(reply: &[u8]) -> (Answered, bool)
         at += frame.whole.len();
     }
     (answered, at == reply.len())
+}
+
+/// Keeps the report of a ParameterStatus; `false`: it can't be read, or the start didn't report its name.
+fn tell_report(frame: Frame<'_>, reported: &mut Reported) -> bool
+    ensures known { result ≡ is_known reported.old (frame_of frame.entry) }
+    ensures told { reported.new ≡ after_frame reported.old (frame_of frame.entry) }
+{
+    if frame.kind != PARAMETER_STATUS {
+        return true;
+    }
+    match StatusView::read(frame.body) {
+        Ok(report) => reported.apply(&report),
+        Err(_) => false,
+    }
+}
+
+/// Keeps the reports among the whole frames of these bytes; `false`: one of them can't be read, or the start didn't report its
+/// name.
+pub(crate) fn tell_reports(reply: &[u8], reported: &mut Reported) -> bool
+    ensures known { result ≡ are_known reported.old (frames Server LONGEST_REPLY reply.now).frames }
+    ensures told { reported.new ≡ after_frames reported.old (frames Server LONGEST_REPLY reply.now).frames }
+{
+    let mut known = true;
+    let mut at = 0;
+    while let Step::Whole(frame) = next_frame(reply, at, LONGEST_REPLY, Side::Server) {
+        known &= tell_report(frame, reported);
+        at += frame.whole.len();
+    }
+    known
 }

@@ -1,17 +1,18 @@
 //! The reset of a used link by `DISCARD ALL`.
-ghost use Rattle.std.specs.Prelude.{◌≡◌, true, IfOk};
+ghost use Rattle.std.specs.Prelude.{◌≡◌, true, IfErr, IfOk};
 ghost use Rattle.std.specs.Arc.{arc_value};
-ghost use Rattle.link_run.specs.Resets.{IsAnsweredReset};
+ghost use Rattle.link_run.specs.Resets.{IsAnsweredReset, are_known};
 ghost use Rattle.link_run.specs.declared.reply.Answered.TheVariants.{All};
 
 use crate::links::{CleanLink, Lent, UsedLink};
-use crate::reply::{Answered, read_reply};
+use crate::reply::{Answered, read_reply, tell_reports};
 use bytes::BytesMut;
 use server_end::gate::Gate;
 use server_end::{Moved, ServerEnd};
 use std::alloc::Global;
 use std::marker::Model;
 
+/// The bytes that a turn reads at most.
 const CHUNK: usize = 256;
 
 /// The Query `DISCARD ALL`.
@@ -20,12 +21,16 @@ static DISCARD_ALL: [u8; 17] = *b"Q\0\0\0\x10DISCARD ALL\0";
 /// Why a link wasn't reset.
 #[derive(Clone, Copy, Debug, PartialEq, Eq, Drop)]
 pub enum ResetFault {
-    /// The end faulted or ended.
+    /// L2: the end faulted or ended.
     Lost,
-    /// Something else was answered.
+    /// L4: something else was answered, a report can't be read or is of a name that the start didn't report, or a frame is longer
+    /// than [`crate::reply::LONGEST_REPLY`].
     Unexpected,
+    /// L5: after the reset the reported values aren't those of the start.
+    Changed,
+    /// L6: an allocation failed.
     Memory,
-    /// The turns are used up.
+    /// L7: the turns are used up.
     Turns,
 }
 
@@ -36,7 +41,7 @@ pub struct Disposed<E: ServerEnd> {
     pub cause: ResetFault,
 }
 
-/// A link that is being reset.
+/// A link that is being reset: how much of the Query was sent, and all that was answered.
 #[derive(Drop)]
 struct Reset<E: ServerEnd> {
     link: Lent<E>,
@@ -53,11 +58,12 @@ impl<E: ServerEnd> Model for Reset<E> {
 
     ghost Value = { ResetView };
 
-    ghost view = { λ r. reset_view (E.standing r.link.end) (arc_value r.link.key) r.link.number r.link.born (drop r.sent (spelling discard_all)) r.reply.items };
+    ghost view = { λ r. reset_view (E.standing r.link.end) (arc_value r.link.key) r.link.number r.link.born r.link.reported (drop r.sent (spelling discard_all)) r.reply.items };
 
-    ghost invariant = { λ r. (r.sent ≤ 17) × IsReset (reset_view (E.standing r.link.end) (arc_value r.link.key) r.link.number r.link.born (drop r.sent (spelling discard_all)) r.reply.items) };
+    ghost invariant = { λ r. (r.sent ≤ 17) × IsReset (reset_view (E.standing r.link.end) (arc_value r.link.key) r.link.number r.link.born r.link.reported (drop r.sent (spelling discard_all)) r.reply.items) };
 }
 
+/// What a turn of the gate came to.
 #[derive(Clone, Copy)]
 enum Turn {
     More,
@@ -84,6 +90,7 @@ impl<E: ServerEnd> Reset<E> {
         }
     }
 
+    /// Writes once, if something is left to be sent.
     fn send(&mut self) -> Turn
         ensures key { self.new.key ≡ self.old.key }
         ensures number { self.new.number ≡ self.old.number }
@@ -100,6 +107,7 @@ impl<E: ServerEnd> Reset<E> {
         turn_of(moved)
     }
 
+    /// Reads once. The room comes first: a refused growth after the read would lose bytes.
     fn receive(&mut self) -> Turn
         ensures key { self.new.key ≡ self.old.key }
         ensures number { self.new.number ≡ self.old.number }
@@ -116,6 +124,7 @@ impl<E: ServerEnd> Reset<E> {
         turn_of(moved)
     }
 
+    /// How far the answer has come. It is whole only once all was sent and nothing stands behind it.
     fn read(&self) -> Answered
         ensures { result ≡ All → IsAnsweredReset self.now }
     {
@@ -126,18 +135,25 @@ impl<E: ServerEnd> Reset<E> {
         answered
     }
 
-    fn finish(self) -> CleanLink<E>
+    /// The link, clean again, once the whole answer came.
+    fn finish(self) -> Result<CleanLink<E>, Disposed<E>>
         requires { IsAnsweredReset self }
-        ensures key { result.key ≡ self.key }
-        ensures number { result.number ≡ self.number }
-        ensures born { result.born ≡ self.born }
+        ensures key { IfOk result (λ l. l.key ≡ self.key) }
+        ensures number { IfOk result (λ l. l.number ≡ self.number) }
+        ensures born { IfOk result (λ l. l.born ≡ self.born) }
     {
         let Reset {
-            link,
+            mut link,
             sent: _,
-            reply: _,
+            reply,
         } = self;
-        link.clean()
+        if !tell_reports(reply.as_slice(), &mut link.reported) {
+            return Err(dispose(link, ResetFault::Unexpected));
+        }
+        if !link.reported.at_start() {
+            return Err(dispose(link, ResetFault::Changed));
+        }
+        Ok(link.clean())
     }
 
     fn fail(self, cause: ResetFault) -> Disposed<E> {
@@ -146,17 +162,26 @@ impl<E: ServerEnd> Reset<E> {
             sent: _,
             reply: _,
         } = self;
-        let Lent {
-            end,
-            key: _,
-            number: _,
-            born: _,
-        } = link;
-        Disposed { end, cause }
+        dispose(link, cause)
     }
 }
 
-/// The link as it was at its login, or its end where that failed.
+fn dispose<E: ServerEnd>(link: Lent<E>, cause: ResetFault) -> Disposed<E> {
+    let Lent {
+        end,
+        key: _,
+        number: _,
+        born: _,
+        reported: _,
+    } = link;
+    Disposed { end, cause }
+}
+
+/// Brings a used link back to its login: sends the Query `DISCARD ALL`, and reads CommandComplete `DISCARD ALL` and ReadyForQuery
+/// `I`, each with notices and reports in any number before it, and nothing behind it (PostgreSQL manual, "DISCARD"). Each turn of
+/// the gate allows at most one write and then one read; nothing is read after the ReadyForQuery.
+///
+/// Where it fails the end comes back with the cause.
 pub fn reset_link<E: ServerEnd, G: Gate<E>>(
     alloc: Global,
     used: UsedLink<E>,
@@ -177,7 +202,7 @@ pub fn reset_link<E: ServerEnd, G: Gate<E>>(
             return Err(reset.fail(cause));
         }
         match reset.read() {
-            Answered::All => return Ok(reset.finish()),
+            Answered::All => return reset.finish(),
             Answered::Nothing | Answered::Tag => {}
             Answered::Other => return Err(reset.fail(ResetFault::Unexpected)),
         }

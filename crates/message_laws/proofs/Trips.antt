@@ -7,7 +7,7 @@ use Rattle.std.proofs.lemmas.Bool.{ne_eqb, eqb-true, eqb-false, ltb-true, ltb-fa
 use Rattle.std.proofs.Math.Seq.{take-append_seam, drop-append_seam}
 use Rattle.frame_view.specs.Frames.{AreBytes}
 use Rattle.message_view.specs.declared.ViewFault.TheVariants.{TooShort, BadLength}
-use Rattle.message_view.specs.Bodies.{Text, HasNoZero, text, int16, int32, value}
+use Rattle.message_view.specs.Bodies.{Text, HasNoZero, is_natural32, minus_one32, text, int16, int32, value}
 use Rattle.message_view.specs.Spelled.{Fits16, Fits32, FitsValue}
 use Rattle.message_view.specs.Reading.{Part, ◌>>=◌, with_first, text_at, int16_at, int32_at, bytes_at, value_of_length, value_at}
 use Rattle.message_view.proofs.Pieces.{same_rest, same_part, bind-inv}
@@ -92,7 +92,7 @@ int32_spelled (_ ∷ _ ∷ _ ∷ []) n rest fits e = absurd (cc)
 
 length-reads : (t rest : List ℕ) → length t < 2 ^ 31 → value_of_length (length t, t ++ rest) ≡ Ok (Some t, rest)
 length-reads t rest lt =
-    let low : nat_lt (length t) 2147483648 ≡ true = lt-ltb _ _ (omega arith) in
+    let low : is_natural32 (length t) ≡ true = lt-ltb _ _ (omega arith) in
     let enough : nat_lt (length (t ++ rest)) (length t) ≡ false = le-ltb _ _ (omega (arith, length-append t rest)) in
     rw (low, enough, take-append_seam t rest, drop-append_seam t rest) refl
 
@@ -107,7 +107,7 @@ some-value n bytes = Ok (Some (take n bytes), drop n bytes)
 abbrev no-value : List ℕ → Part (Option Text)
 no-value bytes = Ok (None, bytes)
 
-bytes-spelled : (n : ℕ) (bytes rest : List ℕ) (v : Option Text) (short : Bool) → n < 2147483648 → nat_lt (length bytes) n ≡ short → (if short then Err TooShort else some-value n bytes) ≡ Ok (v, rest)
+bytes-spelled : (n : ℕ) (bytes rest : List ℕ) (v : Option Text) (short : Bool) → n < 2 ^ 31 → nat_lt (length bytes) n ≡ short → (if short then Err TooShort else some-value n bytes) ≡ Ok (v, rest)
     → (int32 n ++ bytes ≡ value v ++ rest) × FitsValue v
 bytes-spelled n bytes rest v true low s e = absurd (cc)
 bytes-spelled n bytes rest v false low s e =
@@ -117,11 +117,11 @@ bytes-spelled n bytes rest v false low s e =
     ap (λ (x : List ℕ). int32 n ++ x) (sym (take-append-drop n bytes)) ∙ ap (λ (k : ℕ). int32 k ++ take n bytes ++ drop n bytes) (sym size) in
     rw (← (same_part e), ← (same_rest e)) (whole, small)
 
-value-spelled : (n : ℕ) (bytes rest : List ℕ) (v : Option Text) (low null : Bool) → nat_lt n 2147483648 ≡ low → (n == 4294967295) ≡ null
+value-spelled : (n : ℕ) (bytes rest : List ℕ) (v : Option Text) (low null : Bool) → is_natural32 n ≡ low → (n == minus_one32) ≡ null
     → (if low then bytes_at n bytes else (if null then no-value bytes else Err BadLength)) ≡ Ok (v, rest)
     → (int32 n ++ bytes ≡ value v ++ rest) × FitsValue v
 value-spelled n bytes rest v true null l z e = bytes-spelled n bytes rest v (nat_lt (length bytes) n) (ltb-true _ _ l) refl e
-value-spelled n bytes rest v false true l z e = rw (← (same_part e), ← (same_rest e), eqb-true n 4294967295 z) (refl, tt)
+value-spelled n bytes rest v false true l z e = rw (← (same_part e), ← (same_rest e), eqb-true n minus_one32 z) (refl, tt)
 value-spelled n bytes rest v false false l z e = absurd (cc)
 
 pub value_spelled : (bytes : List ℕ) (v : Option Text) (rest : List ℕ) → AreBytes bytes → value_at bytes ≡ Ok (v, rest) → (bytes ≡ value v ++ rest) × FitsValue v
@@ -129,5 +129,5 @@ unfolding value_at
 value_spelled bytes v rest fits e =
     let size = bind-inv (int32_at bytes) value_of_length (v, rest) e in
     let head = int32_spelled bytes size.0.0 size.0.1 fits size.1 in
-    let inner = value-spelled size.0.0 size.0.1 rest v (nat_lt size.0.0 2147483648) (size.0.0 == 4294967295) refl refl size.2 in
+    let inner = value-spelled size.0.0 size.0.1 rest v (is_natural32 size.0.0) (size.0.0 == minus_one32) refl refl size.2 in
     (head.0 ∙ inner.0, inner.1)

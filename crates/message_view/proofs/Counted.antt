@@ -3,6 +3,7 @@ use Rattle.std.proofs.Common.{◌≡◌, ◌<◌, ℕ, zero, suc, List, [], ◌�
 use Rattle.std.specs.Prelude.{is_ok}
 use Rattle.message_view.specs.declared.ViewFault.{ViewFault}
 use Rattle.message_view.specs.declared.ViewFault.TheVariants.{LeftOver}
+use Rattle.message_view.proofs.Pieces.{rest-more, more-items, found, fault}
 use Rattle.message_view.specs.Reading.{Part, ◌>>=◌, rest_of, items_of, list_at, at_end}
 
 pub left_over : {A : Type 0} (x : A) (bytes : List ℕ) → 0 < length bytes → at_end x bytes ≡ Err LeftOver
@@ -16,10 +17,6 @@ module _ {A : Type 0} (item : List ℕ → Part A) where
   unfolding list_at
   list_ends n bytes e = ap (λ m. rest_of (list_at item m bytes)) e
 
-  rest-more : (x : A) (others : Part (List A)) → rest_of (others >>= λ o. Ok (x ∷ o.0, o.1)) ≡ rest_of others
-  rest-more x (Ok o) = refl
-  rest-more x (Err e) = refl
-
   pub list_goes_on : (n m : ℕ) (bytes rest : List ℕ) (x : A) → n ≡ suc m → item bytes ≡ Ok (x, rest) → rest_of (list_at item n bytes) ≡ rest_of (list_at item m rest)
   unfolding list_at
   list_goes_on n m bytes rest x e is = ap (λ k. rest_of (list_at item k bytes)) e ∙ rw is (rest-more x (list_at item m rest))
@@ -29,19 +26,11 @@ module _ {A : Type 0} (item : List ℕ → Part A) where
   list_breaks zero bytes fault h is = absurd (omega arith)
   list_breaks (suc n) bytes fault h is = rw is refl
 
-  found : (part : Part (List A)) (rest : List ℕ) → rest_of part ≡ Ok rest → part ≡ Ok (items_of part, rest)
-  found (Ok x) rest e = ap (λ r. Ok (x.0, r)) (cc)
-  found (Err f) rest e = absurd (cc)
-
   pub list_found : (n : ℕ) (bytes rest : List ℕ) → rest_of (list_at item n bytes) ≡ Ok rest → list_at item n bytes ≡ Ok (items_of (list_at item n bytes), rest)
   list_found n bytes rest e = found (list_at item n bytes) rest e
 
   pub list_there : (n : ℕ) (bytes rest : List ℕ) → rest_of (list_at item n bytes) ≡ Ok rest → is_ok (list_at item n bytes) ≡ true
   list_there n bytes rest e = ap is_ok (list_found n bytes rest e)
-
-  fault : (part : Part (List A)) (f : ViewFault) → rest_of part ≡ Err f → part ≡ Err f
-  fault (Ok x) f e = absurd (cc)
-  fault (Err g) f e = ap Err (cc)
 
   pub list_fault : (n : ℕ) (bytes : List ℕ) (f : ViewFault) → rest_of (list_at item n bytes) ≡ Err f → list_at item n bytes ≡ Err f
   list_fault n bytes f e = fault (list_at item n bytes) f e
@@ -62,11 +51,6 @@ module _ {A : Type 0} (item : List ℕ → Part A) where
   unfolding list_at
   broken_is_empty zero bytes f h is = refl
   broken_is_empty (suc n) bytes f h is = rw is refl
-
-  more-items : (x : A) (others : Part (List A)) → is_ok {T = List A × List ℕ} (others >>= λ o. Ok (x ∷ o.0, o.1)) ≡ true
-      → (items_of {A = A} (others >>= λ o. Ok (x ∷ o.0, o.1)) ≡ x ∷ items_of others) × (is_ok others ≡ true)
-  more-items x (Ok o) ok = (refl, refl)
-  more-items x (Err e) ok = absurd (cc)
 
   first-and-more : (n m : ℕ) (bytes rest : List ℕ) (x : A) → n ≡ suc m → item bytes ≡ Ok (x, rest) → is_ok (list_at item n bytes) ≡ true
       → (items_of (list_at item n bytes) ≡ x ∷ items_of (list_at item m rest)) × (is_ok (list_at item m rest) ≡ true)

@@ -2,6 +2,7 @@
 use Rattle.std.proofs.Common.{◌≡◌, ◌<◌, ℕ, zero, suc, List, [], ◌∷◌, length, Option, Some, None, Ok, Err, refl, ap, sym, ◌∙◌, true, arith}
 use Rattle.std.specs.Prelude.{is_ok}
 use Rattle.message_view.specs.declared.ViewFault.{ViewFault}
+use Rattle.message_view.proofs.Pieces.{rest-more, more-items, found, fault}
 use Rattle.message_view.specs.Reading.{Part, ◌>>=◌, rest_of, items_of, and_more, list_until, ended_at}
 
 module _ {A : Type 0} (item : List ℕ → Part (Option A)) (shrinks : (bytes rest : List ℕ) (x : Option A) → item bytes ≡ Ok (x, rest) → length rest < length bytes) where
@@ -38,17 +39,8 @@ module _ {A : Type 0} (item : List ℕ → Part (Option A)) (shrinks : (bytes re
   ended-more : (bytes rest : List ℕ) (x : A) → item bytes ≡ Ok (Some x, rest) → ended_at item bytes ≡ (ended_at item rest >>= λ others. Ok (x ∷ others.0, others.1))
   ended-more bytes rest x is = ended bytes ∙ rw is refl
 
-  rest-more : (x : A) (others : Part (List A)) → rest_of (others >>= λ o. Ok (x ∷ o.0, o.1)) ≡ rest_of others
-  rest-more x (Ok o) = refl
-  rest-more x (Err e) = refl
-
   pub ended_rest : (bytes rest : List ℕ) (x : A) → item bytes ≡ Ok (Some x, rest) → rest_of (ended_at item bytes) ≡ rest_of (ended_at item rest)
   ended_rest bytes rest x is = ap rest_of (ended-more bytes rest x is) ∙ rest-more x (ended_at item rest)
-
-  more-items : (x : A) (others : Part (List A)) → is_ok {T = List A × List ℕ} (others >>= λ o. Ok (x ∷ o.0, o.1)) ≡ true
-      → (items_of {A = A} (others >>= λ o. Ok (x ∷ o.0, o.1)) ≡ x ∷ items_of others) × (is_ok others ≡ true)
-  more-items x (Ok o) ok = (refl, refl)
-  more-items x (Err e) ok = absurd (cc)
 
   pub ended_items : (bytes rest : List ℕ) (x : A) → item bytes ≡ Ok (Some x, rest) → is_ok (ended_at item bytes) ≡ true
       → (items_of (ended_at item bytes) ≡ x ∷ items_of (ended_at item rest)) × (is_ok (ended_at item rest) ≡ true)
@@ -73,14 +65,6 @@ module _ {A : Type 0} (item : List ℕ → Part (Option A)) (shrinks : (bytes re
 
   pub rest_is_list : (bytes rest : List ℕ) (x : A) → item bytes ≡ Ok (Some x, rest) → is_ok (ended_at item bytes) ≡ true → is_ok (ended_at item rest) ≡ true
   rest_is_list bytes rest x is ok = (ended_items bytes rest x is ok).1
-
-found : {A : Type 0} (part : Part (List A)) (rest : List ℕ) → rest_of part ≡ Ok rest → part ≡ Ok (items_of part, rest)
-found (Ok x) rest e = ap (λ r. Ok (x.0, r)) (cc)
-found (Err f) rest e = absurd (cc)
-
-fault : {A : Type 0} (part : Part (List A)) (f : ViewFault) → rest_of part ≡ Err f → part ≡ Err f
-fault (Ok x) f e = absurd (cc)
-fault (Err g) f e = ap Err (cc)
 
 pub ended_found : {A : Type 0} (item : List ℕ → Part (Option A)) (bytes rest : List ℕ) → rest_of (ended_at item bytes) ≡ Ok rest → ended_at item bytes ≡ Ok (items_of (ended_at item bytes), rest)
 ended_found item bytes rest e = found (ended_at item bytes) rest e

@@ -7,7 +7,7 @@ use Rattle.byteorder.specs.Endian.{big_number}
 use Rattle.message_view.specs.declared.ViewFault.TheVariants.{TooShort}
 use Rattle.message_view.specs.Reading.{int16_at, int32_at}
 
-int16_at_whole : (bytes : List ℕ) → 2 ≤ length bytes → int16_at bytes ≡ Ok (big_number 2 bytes, drop 2 bytes)
+pub int16_at_whole : (bytes : List ℕ) → 2 ≤ length bytes → int16_at bytes ≡ Ok (big_number 2 bytes, drop 2 bytes)
 unfolding int16_at
 int16_at_whole (a ∷ b ∷ bytes) h = ap (λ n. Ok (n, bytes)) (omega arith)
 int16_at_whole [] h = absurd (omega arith)
@@ -23,7 +23,7 @@ int16_at_short (a ∷ b ∷ bytes) h = absurd (omega arith)
 int16_at_short [] h = refl
 int16_at_short (_ ∷ []) h = refl
 
-int32_at_whole : (bytes : List ℕ) → 4 ≤ length bytes → int32_at bytes ≡ Ok (big_number 4 bytes, drop 4 bytes)
+pub int32_at_whole : (bytes : List ℕ) → 4 ≤ length bytes → int32_at bytes ≡ Ok (big_number 4 bytes, drop 4 bytes)
 unfolding int32_at
 int32_at_whole (a ∷ b ∷ c ∷ d ∷ bytes) h = ap (λ n. Ok (n, bytes)) (omega arith)
 int32_at_whole [] h = absurd (omega arith)
@@ -39,11 +39,11 @@ int32_at_short (_ ∷ []) h = refl
 int32_at_short (_ ∷ _ ∷ []) h = refl
 int32_at_short (_ ∷ _ ∷ _ ∷ []) h = refl
 
-pub int16_at_long : (bytes : List ℕ) (n : ℕ) → 2 ≤ length bytes → n ≡ big_number 2 bytes → int16_at bytes ≡ Ok (n, take (length bytes - 2) (drop 2 bytes))
-int16_at_long bytes n h e = int16_at_whole bytes h ∙ rw (e, to_end 2 bytes) refl
+pub int16_at_long : (bytes : List ℕ) (n : ℕ) → 2 ≤ length bytes → n ≡ big_number 2 bytes → int16_at bytes ≡ Ok (n, drop 2 bytes)
+int16_at_long bytes n h e = int16_at_whole bytes h ∙ rw e refl
 
-pub int32_at_long : (bytes : List ℕ) (n : ℕ) → 4 ≤ length bytes → n ≡ big_number 4 bytes → int32_at bytes ≡ Ok (n, take (length bytes - 4) (drop 4 bytes))
-int32_at_long bytes n h e = int32_at_whole bytes h ∙ rw (e, to_end 4 bytes) refl
+pub int32_at_long : (bytes : List ℕ) (n : ℕ) → 4 ≤ length bytes → n ≡ big_number 4 bytes → int32_at bytes ≡ Ok (n, drop 4 bytes)
+int32_at_long bytes n h e = int32_at_whole bytes h ∙ rw e refl
 
 pub signed_back : (n : ℕ) → n < 2 ^ 32 → cast_unsigned w32 (cast_signed w32 n) ≡ n
 signed_back n h = of_z-to_z w32 n h

@@ -1,61 +1,56 @@
 -- Lists of numbers of one size.
-use Rattle.std.proofs.Common.{◌≡◌, ℕ, zero, suc, ◌+◌, ◌-◌, ◌*◌, ◌<◌, ◌≤◌, List, [], ◌∷◌, length, take, drop, Ok, Err, refl, ◌∙◌, true, arith}
-use Rattle.std.specs.Prelude.{is_ok}
+use Rattle.std.proofs.Common.{◌≡◌, ℕ, zero, suc, ◌+◌, ◌*◌, ◌<◌, ◌≤◌, List, length, drop, Ok, Err, refl, ◌∙◌, ap, Bool, true, false, arith, length-drop}
+use Rattle.std.specs.Prelude.{is_ok, nat_lt}
+use Rattle.std.proofs.lemmas.Bool.{ltb-true, ltb-false}
+use Rattle.std.proofs.lemmas.List.{drop-drop}
+use Rattle.byteorder.specs.Endian.{big_number}
 use Rattle.message_view.specs.declared.ViewFault.TheVariants.{TooShort}
-use Rattle.message_view.specs.Reading.{rest_of, items_of, list_at, int16_at, int32_at}
+use Rattle.message_view.specs.Reading.{Part, rest_of, items_of, list_at, int16_at, int32_at}
 use Rattle.message_view.proofs.Counted.{list_ends, list_goes_on, list_breaks, list_found, list_there, list_fault}
-use Rattle.message_view.proofs.Ints.{to_end}
+use Rattle.message_view.proofs.Ints.{int16_at_whole, int16_at_short, int32_at_whole, int32_at_short}
 
-rest16 : (n : ℕ) (bytes : List ℕ) → 2 * n ≤ length bytes → rest_of (list_at int16_at n bytes) ≡ Ok (drop (2 * n) bytes)
-unfolding int16_at
-rest16 zero bytes h = list_ends int16_at 0 bytes refl
-rest16 (suc n) (a ∷ b ∷ bytes) h =
-    let twice : 2 * suc n ≡ suc (suc (2 * n)) = omega arith in
-    list_goes_on int16_at (suc n) n (a ∷ b ∷ bytes) bytes (a * 256 + b) refl refl ∙ rest16 n bytes (omega arith) ∙ rw twice refl
-rest16 (suc n) [] h = absurd (omega arith)
-rest16 (suc n) (_ ∷ []) h = absurd (omega arith)
+module _ (size : ℕ) (item : List ℕ → Part ℕ) (whole : (bytes : List ℕ) → size ≤ length bytes → item bytes ≡ Ok (big_number size bytes, drop size bytes))
+    (short : (bytes : List ℕ) → length bytes < size → item bytes ≡ Err TooShort) where
+  rest-there : (n : ℕ) (bytes : List ℕ) → n * size ≤ length bytes → rest_of (list_at item n bytes) ≡ Ok (drop (n * size) bytes)
+  rest-there zero bytes h = let none : 0 * size ≡ 0 = omega arith in list_ends item 0 bytes refl ∙ rw none refl
+  rest-there (suc n) bytes h =
+      let one_more : suc n * size ≡ size + n * size = omega arith in
+      list_goes_on item (suc n) n bytes (drop size bytes) (big_number size bytes) refl (whole bytes (omega (arith, h, one_more)))
+      ∙ rest-there n (drop size bytes) (omega (arith, h, one_more, length-drop size bytes)) ∙ rw one_more (ap Ok (drop-drop (n * size) size bytes))
 
-short16 : (n : ℕ) (bytes : List ℕ) → length bytes < 2 * n → rest_of (list_at int16_at n bytes) ≡ Err TooShort
-unfolding int16_at
-short16 zero bytes h = absurd (omega arith)
-short16 (suc n) (a ∷ b ∷ bytes) h = list_goes_on int16_at (suc n) n (a ∷ b ∷ bytes) bytes (a * 256 + b) refl refl ∙ short16 n bytes (omega arith)
-short16 (suc n) [] h = list_breaks int16_at (suc n) [] TooShort (omega arith) refl
-short16 (suc n) (x ∷ []) h = list_breaks int16_at (suc n) (x ∷ []) TooShort (omega arith) refl
+  rest-short : (n : ℕ) (bytes : List ℕ) → length bytes < n * size → rest_of (list_at item n bytes) ≡ Err TooShort
+  rest-short zero bytes h = absurd (let none : 0 * size ≡ 0 = omega arith in omega (arith, h, none))
+  rest-short (suc n) bytes h =
+      let one_more : suc n * size ≡ size + n * size = omega arith in
+      by_first (nat_lt (length bytes) size) refl (λ l. rest-short n (drop size bytes) (omega (arith, h, l, one_more, length-drop size bytes)))
+    where
+      by_first : (b : Bool) → nat_lt (length bytes) size ≡ b → (size ≤ length bytes → rest_of (list_at item n (drop size bytes)) ≡ Err TooShort) → rest_of (list_at item (suc n) bytes) ≡ Err TooShort
+      by_first true e more = list_breaks item (suc n) bytes TooShort (omega arith) (short bytes (ltb-true _ _ e))
+      by_first false e more = list_goes_on item (suc n) n bytes (drop size bytes) (big_number size bytes) refl (whole bytes (ltb-false _ _ e)) ∙ more (ltb-false _ _ e)
 
-pub codes_there : (n : ℕ) (bytes : List ℕ) → 2 * n ≤ length bytes → list_at int16_at n bytes ≡ Ok (items_of (list_at int16_at n bytes), take (length bytes - 2 * n) (drop (2 * n) bytes))
-codes_there n bytes h = list_found int16_at n bytes _ (rest16 n bytes h) ∙ rw (to_end (2 * n) bytes) refl
+  there : (n : ℕ) (bytes : List ℕ) → n * size ≤ length bytes → list_at item n bytes ≡ Ok (items_of (list_at item n bytes), drop (n * size) bytes)
+  there n bytes h = list_found item n bytes _ (rest-there n bytes h)
 
-pub codes_ok : (n : ℕ) (bytes : List ℕ) → 2 * n ≤ length bytes → is_ok (list_at int16_at n bytes) ≡ true
-codes_ok n bytes h = list_there int16_at n bytes _ (rest16 n bytes h)
+  are-ok : (n : ℕ) (bytes : List ℕ) → n * size ≤ length bytes → is_ok (list_at item n bytes) ≡ true
+  are-ok n bytes h = list_there item n bytes _ (rest-there n bytes h)
 
-pub codes_short : (n : ℕ) (bytes : List ℕ) → length bytes < 2 * n → list_at int16_at n bytes ≡ Err TooShort
-codes_short n bytes h = list_fault int16_at n bytes TooShort (short16 n bytes h)
+  lacking : (n : ℕ) (bytes : List ℕ) → length bytes < n * size → list_at item n bytes ≡ Err TooShort
+  lacking n bytes h = list_fault item n bytes TooShort (rest-short n bytes h)
 
-rest32 : (n : ℕ) (bytes : List ℕ) → 4 * n ≤ length bytes → rest_of (list_at int32_at n bytes) ≡ Ok (drop (4 * n) bytes)
-unfolding int32_at
-rest32 zero bytes h = list_ends int32_at 0 bytes refl
-rest32 (suc n) (a ∷ b ∷ c ∷ d ∷ bytes) h =
-    let fourfold : 4 * suc n ≡ suc (suc (suc (suc (4 * n)))) = omega arith in
-    list_goes_on int32_at (suc n) n (a ∷ b ∷ c ∷ d ∷ bytes) bytes _ refl refl ∙ rest32 n bytes (omega arith) ∙ rw fourfold refl
-rest32 (suc n) [] h = absurd (omega arith)
-rest32 (suc n) (_ ∷ []) h = absurd (omega arith)
-rest32 (suc n) (_ ∷ _ ∷ []) h = absurd (omega arith)
-rest32 (suc n) (_ ∷ _ ∷ _ ∷ []) h = absurd (omega arith)
+pub codes_there : (n : ℕ) (bytes : List ℕ) → n * 2 ≤ length bytes → list_at int16_at n bytes ≡ Ok (items_of (list_at int16_at n bytes), drop (n * 2) bytes)
+codes_there = there 2 int16_at int16_at_whole int16_at_short
 
-short32 : (n : ℕ) (bytes : List ℕ) → length bytes < 4 * n → rest_of (list_at int32_at n bytes) ≡ Err TooShort
-unfolding int32_at
-short32 zero bytes h = absurd (omega arith)
-short32 (suc n) (a ∷ b ∷ c ∷ d ∷ bytes) h = list_goes_on int32_at (suc n) n (a ∷ b ∷ c ∷ d ∷ bytes) bytes _ refl refl ∙ short32 n bytes (omega arith)
-short32 (suc n) [] h = list_breaks int32_at (suc n) [] TooShort (omega arith) refl
-short32 (suc n) (a ∷ []) h = list_breaks int32_at (suc n) (a ∷ []) TooShort (omega arith) refl
-short32 (suc n) (a ∷ b ∷ []) h = list_breaks int32_at (suc n) (a ∷ b ∷ []) TooShort (omega arith) refl
-short32 (suc n) (a ∷ b ∷ c ∷ []) h = list_breaks int32_at (suc n) (a ∷ b ∷ c ∷ []) TooShort (omega arith) refl
+pub codes_ok : (n : ℕ) (bytes : List ℕ) → n * 2 ≤ length bytes → is_ok (list_at int16_at n bytes) ≡ true
+codes_ok = are-ok 2 int16_at int16_at_whole int16_at_short
 
-pub oids_there : (n : ℕ) (bytes : List ℕ) → 4 * n ≤ length bytes → list_at int32_at n bytes ≡ Ok (items_of (list_at int32_at n bytes), take (length bytes - 4 * n) (drop (4 * n) bytes))
-oids_there n bytes h = list_found int32_at n bytes _ (rest32 n bytes h) ∙ rw (to_end (4 * n) bytes) refl
+pub codes_short : (n : ℕ) (bytes : List ℕ) → length bytes < n * 2 → list_at int16_at n bytes ≡ Err TooShort
+codes_short = lacking 2 int16_at int16_at_whole int16_at_short
 
-pub oids_ok : (n : ℕ) (bytes : List ℕ) → 4 * n ≤ length bytes → is_ok (list_at int32_at n bytes) ≡ true
-oids_ok n bytes h = list_there int32_at n bytes _ (rest32 n bytes h)
+pub oids_there : (n : ℕ) (bytes : List ℕ) → n * 4 ≤ length bytes → list_at int32_at n bytes ≡ Ok (items_of (list_at int32_at n bytes), drop (n * 4) bytes)
+oids_there = there 4 int32_at int32_at_whole int32_at_short
 
-pub oids_short : (n : ℕ) (bytes : List ℕ) → length bytes < 4 * n → list_at int32_at n bytes ≡ Err TooShort
-oids_short n bytes h = list_fault int32_at n bytes TooShort (short32 n bytes h)
+pub oids_ok : (n : ℕ) (bytes : List ℕ) → n * 4 ≤ length bytes → is_ok (list_at int32_at n bytes) ≡ true
+oids_ok = are-ok 4 int32_at int32_at_whole int32_at_short
+
+pub oids_short : (n : ℕ) (bytes : List ℕ) → length bytes < n * 4 → list_at int32_at n bytes ≡ Err TooShort
+oids_short = lacking 4 int32_at int32_at_whole int32_at_short

@@ -1,7 +1,8 @@
 -- Equal answers of readers have equal parts.
-use Rattle.std.proofs.Common.{◌≡◌, ℕ, List, [], ◌∷◌, Result, Ok, Err, ap, refl, subst}
+use Rattle.std.proofs.Common.{◌≡◌, ℕ, List, [], ◌∷◌, Result, Ok, Err, ap, refl, subst, true}
 use Rattle.message_view.specs.declared.ViewFault.{ViewFault}
-use Rattle.message_view.specs.Reading.{Part, ◌>>=◌, at_end}
+use Rattle.std.specs.Prelude.{is_ok}
+use Rattle.message_view.specs.Reading.{Part, ◌>>=◌, rest_of, items_of, at_end}
 
 abbrev rest-or : {A : Type 0} → Part A → List ℕ → List ℕ
 rest-or (Ok x) rest = x.1
@@ -35,3 +36,22 @@ at_end-inv x y (b ∷ bytes) e = absurd (cc)
 -- a fact of a part and its rest holds of the equal ones
 pub carry : {A : Type 0} (P : A → List ℕ → Type 0) (x y : A × List ℕ) → given x ≡ given y → P x.0 x.1 → P y.0 y.1
 carry {A} P x y e p = subst (λ (a : A). P a y.1) (same_part e) (subst (λ (r : List ℕ). P x.0 r) (same_rest e) p)
+
+-- ---- lists
+
+pub rest-more : {A : Type 0} (x : A) (others : Part (List A)) → rest_of (others >>= λ o. Ok (x ∷ o.0, o.1)) ≡ rest_of others
+rest-more x (Ok o) = refl
+rest-more x (Err e) = refl
+
+pub more-items : {A : Type 0} (x : A) (others : Part (List A)) → is_ok {T = List A × List ℕ} (others >>= λ o. Ok (x ∷ o.0, o.1)) ≡ true
+    → (items_of {A = A} (others >>= λ o. Ok (x ∷ o.0, o.1)) ≡ x ∷ items_of others) × (is_ok others ≡ true)
+more-items x (Ok o) ok = (refl, refl)
+more-items x (Err e) ok = absurd (cc)
+
+pub found : {A : Type 0} (part : Part (List A)) (rest : List ℕ) → rest_of part ≡ Ok rest → part ≡ Ok (items_of part, rest)
+found (Ok x) rest e = ap (λ r. Ok (x.0, r)) (cc)
+found (Err f) rest e = absurd (cc)
+
+pub fault : {A : Type 0} (part : Part (List A)) (f : ViewFault) → rest_of part ≡ Err f → part ≡ Err f
+fault (Ok x) f e = absurd (cc)
+fault (Err g) f e = ap Err (cc)

@@ -6,7 +6,7 @@ use Rattle.message_view.specs.declared.ViewFault.TheVariants.{TooShort, NoZero, 
 use Rattle.message_view.specs.declared.Status.{Status}
 use Rattle.message_view.specs.declared.Status.TheVariants.{Idle, InTransaction, Failed}
 use Rattle.message_view.specs.declared.kinds.TheConstants.{IDLE, IN_TRANSACTION, FAILED, STATEMENT, PORTAL}
-use Rattle.message_view.specs.Bodies.{Text, ColumnOf, Parse, Bind, Target, OfStatement, OfPortal}
+use Rattle.message_view.specs.Bodies.{Text, is_natural32, minus_one32, ColumnOf, Parse, Bind, Target, OfStatement, OfPortal}
 
 -- what a reader gives: a part, and the bytes after it
 abbrev pub Part : Type 0 → Type 0
@@ -43,7 +43,7 @@ bytes_at n bytes = if nat_lt (length bytes) n then Err TooShort else Ok (Some (t
 -- -1 is null, and what is below it a fault
 abbrev pub value_of_length : ℕ × List ℕ → Part (Option Text)
 value_of_length x =
-    if nat_lt x.0 2147483648 then bytes_at x.0 x.1 else (if x.0 == 4294967295 then Ok (None, x.1) else Err BadLength)
+    if is_natural32 x.0 then bytes_at x.0 x.1 else (if x.0 == minus_one32 then Ok (None, x.1) else Err BadLength)
 
 unfoldable pub value_at : List ℕ → Part (Option Text)
 value_at bytes = int32_at bytes >>= value_of_length

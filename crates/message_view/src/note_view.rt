@@ -4,7 +4,7 @@ ghost use Rattle.std.specs.Iterator.{MakesProgress, YieldsFirstBy, item_count};
 ghost use Rattle.frame_view.specs.Answers.{LiesAt};
 ghost use Rattle.message_view.specs.Left.{fields_left};
 ghost use Rattle.message_view.specs.Reading.{ended_at, field_at, rest_of, note_of};
-ghost use Rattle.message_view.specs.Views.{Gives, Shows, code_and_text_of};
+ghost use Rattle.message_view.specs.Views.{Shows, code_and_text_of};
 
 use crate::parts::take_field;
 use crate::{Fields, ViewFault};
@@ -55,28 +55,19 @@ fn skip_fields(bytes: &[u8]) -> Result<&[u8], ViewFault>
     }
 }
 
-#[tactic(auto, using(crate::proofs::Ended::ended_found, crate::proofs::Ended::ended_there, crate::proofs::Ended::ended_broken))]
-fn fields_at(bytes: &[u8]) -> Result<(Fields<'_>, &[u8]), ViewFault>
-    ensures part { Gives fields_left result (ended_at field_at bytes.now) }
-    ensures place { IfOk result (λ x. LiesAt x.0.rest bytes.entry 0) }
-{
-    let after = skip_fields(bytes)?;
-    Ok((Fields { rest: bytes }, after))
-}
-
 impl<'a> NoteView<'a> {
     /// Reads the body of an ErrorResponse or a NoticeResponse: fields of a code and a text, and
     /// the zero byte that ends them. [`ViewFault::TooShort`]: neither a code nor that byte. [`ViewFault::NoZero`]: a
     /// text without its end. [`ViewFault::LeftOver`]: bytes after the fields.
-    #[tactic(auto, unfolding(crate::specs::Reading::note_of))]
+    #[tactic(auto, using(crate::proofs::Ended::ended_found, crate::proofs::Ended::ended_there, crate::proofs::Ended::ended_broken), unfolding(crate::specs::Reading::note_of))]
     pub fn read(body: &'a [u8]) -> Result<NoteView<'a>, ViewFault>
         ensures parts { Shows (λ v. fields_left v.fields) result (note_of body.now) }
         ensures place { IfOk result (λ v. LiesAt v.fields.rest body.entry 0) }
     {
-        let (fields, rest) = fields_at(body)?;
-        if !rest.is_empty() {
+        if !skip_fields(body)?.is_empty() {
             return Err(ViewFault::LeftOver);
         }
+        let fields = Fields { rest: body };
         Ok(NoteView { fields })
     }
 

@@ -2,10 +2,10 @@
 ghost use Rattle.std.specs.Prelude.{◌≡◌, ℕ, ◌+◌, ◌-◌, ◌*◌, ◌^◌, ◌<◌, ◌≤◌, [], length, IfOk};
 ghost use Rattle.frame_view.specs.Answers.{LiesAt};
 ghost use Rattle.message_view.specs.Left.{codes_left, oids_left};
-ghost use Rattle.message_view.specs.Reading.{counted_at, int16_at, int32_at, list_at};
+ghost use Rattle.message_view.specs.Reading.{counted_at, int16_at, int32_at};
 ghost use Rattle.message_view.specs.Views.{Gives};
 
-use crate::parts::{take_u16, take_u32};
+use crate::parts::{bytes_after, take_u16, take_u32};
 use crate::{Codes, Oids, ViewFault};
 
 impl<'a> Iterator for Codes<'a> {
@@ -20,14 +20,9 @@ impl<'a> Iterator for Codes<'a> {
 
     #[tactic(auto, using(crate::proofs::Counted::broken_is_empty, crate::proofs::Counted::item_is_first, crate::proofs::Counted::rest_is_list, crate::proofs::Counted::none_is_left))]
     fn next(&mut self) -> Option<u16> {
-        if self.left == 0 {
-            return None;
-        }
+        let left = self.left.checked_sub(1)?;
         let (code, rest) = take_u16(self.rest).ok()?;
-        *self = Codes {
-            rest,
-            left: self.left - 1,
-        };
+        *self = Codes { rest, left };
         Some(code)
     }
 }
@@ -44,57 +39,32 @@ impl<'a> Iterator for Oids<'a> {
 
     #[tactic(auto, using(crate::proofs::Counted::broken_is_empty, crate::proofs::Counted::item_is_first, crate::proofs::Counted::rest_is_list, crate::proofs::Counted::none_is_left))]
     fn next(&mut self) -> Option<u32> {
-        if self.left == 0 {
-            return None;
-        }
+        let left = self.left.checked_sub(1)?;
         let (oid, rest) = take_u32(self.rest).ok()?;
-        *self = Oids {
-            rest,
-            left: self.left - 1,
-        };
+        *self = Oids { rest, left };
         Some(oid)
     }
 }
 
-#[tactic(auto, using(crate::proofs::NumberLists::codes_there, crate::proofs::NumberLists::codes_short))]
-fn codes_at(bytes: &[u8], left: u16) -> Result<(Codes<'_>, &[u8]), ViewFault>
-    ensures part { Gives codes_left result (list_at int16_at left bytes.now) }
-    ensures place { IfOk result (λ x. LiesAt x.1 bytes.entry (2 * left)) }
-    ensures count { IfOk result (λ x. length (codes_left x.0) ≡ left) }
-{
-    let size = 2 * left as usize;
-    if bytes.len() < size {
-        return Err(ViewFault::TooShort);
-    }
-    Ok((Codes { rest: bytes, left }, &bytes[size..]))
-}
-
 /// A count and as many format codes.
+#[tactic(auto, using(crate::proofs::NumberLists::codes_there, crate::proofs::NumberLists::codes_ok, crate::proofs::NumberLists::codes_short, crate::proofs::Counted::items_count))]
 pub(crate) fn take_codes(bytes: &[u8]) -> Result<(Codes<'_>, &[u8]), ViewFault>
     ensures part { Gives codes_left result (counted_at int16_at bytes.now) }
     ensures place { IfOk result (λ x. LiesAt x.1 bytes.entry (2 + 2 * length (codes_left x.0))) }
 {
     let (left, rest) = take_u16(bytes)?;
-    codes_at(rest, left)
-}
-
-#[tactic(auto, using(crate::proofs::NumberLists::oids_there, crate::proofs::NumberLists::oids_short))]
-fn oids_at(bytes: &[u8], left: u16) -> Result<(Oids<'_>, &[u8]), ViewFault>
-    ensures { Gives oids_left result (list_at int32_at left bytes.now) }
-{
-    let size = 4 * left as usize;
-    if bytes.len() < size {
-        return Err(ViewFault::TooShort);
-    }
-    Ok((Oids { rest: bytes, left }, &bytes[size..]))
+    let after = bytes_after(rest, usize::from(left) * 2)?;
+    Ok((Codes { rest, left }, after))
 }
 
 /// A count and as many type oids.
+#[tactic(auto, using(crate::proofs::NumberLists::oids_there, crate::proofs::NumberLists::oids_ok, crate::proofs::NumberLists::oids_short))]
 pub(crate) fn take_oids(bytes: &[u8]) -> Result<(Oids<'_>, &[u8]), ViewFault>
     ensures { Gives oids_left result (counted_at int32_at bytes.now) }
 {
     let (left, rest) = take_u16(bytes)?;
-    oids_at(rest, left)
+    let after = bytes_after(rest, usize::from(left) * 4)?;
+    Ok((Oids { rest, left }, after))
 }
 
 impl Codes<'_> {

@@ -1,6 +1,7 @@
 //! Readers of one part at the front of some bytes: each answers the part and what follows it.
-ghost use Rattle.std.specs.Prelude.{◌≡◌, ℕ, ◌+◌, ◌-◌, ◌^◌, ◌<◌, ◌≤◌, ◌++◌, ◌∷◌, [], length, IfOk, IfSome};
+ghost use Rattle.std.specs.Prelude.{◌≡◌, ℕ, ◌+◌, ◌-◌, ◌^◌, ◌<◌, ◌≤◌, ◌++◌, ◌∷◌, [], drop, length, IfErr, IfOk, IfSome, OnOk};
 ghost use Rattle.frame_view.specs.Answers.{LiesAt};
+ghost use Rattle.message_view.specs.declared.ViewFault.TheVariants.{TooShort};
 ghost use Rattle.message_view.specs.Bodies.{value as spelled_value};
 ghost use Rattle.message_view.specs.Parts.{shown_value};
 ghost use Rattle.message_view.specs.Reading.{field_at, int16_at, int32_at, pair_at, text_at, value_at};
@@ -21,16 +22,28 @@ pub(crate) fn take_text(bytes: &[u8]) -> Result<(&[u8], &[u8]), ViewFault>
     }
 }
 
+/// What follows this many bytes.
+#[tactic(auto, using(crate::proofs::Ints::to_end))]
+pub(crate) fn bytes_after(bytes: &[u8], size: usize) -> Result<&[u8], ViewFault>
+    ensures enough { OnOk result (size ≤ length bytes.now) }
+    ensures rest { IfOk result (λ r. r.now ≡ drop size bytes.now) }
+    ensures place { IfOk result (λ r. LiesAt r bytes.entry size) }
+    ensures short { IfErr result (λ e. (e ≡ TooShort) × (length bytes.now < size)) }
+{
+    if bytes.len() < size {
+        return Err(ViewFault::TooShort);
+    }
+    Ok(&bytes[size..])
+}
+
 /// A big-endian number of two bytes.
 #[tactic(auto, using(crate::proofs::Ints::int16_at_long, crate::proofs::Ints::int16_at_short))]
 pub(crate) fn take_u16(bytes: &[u8]) -> Result<(u16, &[u8]), ViewFault>
     ensures part { Gives (λ n. n) result (int16_at bytes.now) }
     ensures place { IfOk result (λ x. LiesAt x.1 bytes.entry 2) }
 {
-    if bytes.len() < 2 {
-        return Err(ViewFault::TooShort);
-    }
-    Ok((BigEndian::read_u16(bytes), &bytes[2..]))
+    let rest = bytes_after(bytes, 2)?;
+    Ok((BigEndian::read_u16(bytes), rest))
 }
 
 /// A big-endian number of four bytes.
@@ -39,10 +52,8 @@ pub(crate) fn take_u32(bytes: &[u8]) -> Result<(u32, &[u8]), ViewFault>
     ensures part { Gives (λ n. n) result (int32_at bytes.now) }
     ensures place { IfOk result (λ x. LiesAt x.1 bytes.entry 4) }
 {
-    if bytes.len() < 4 {
-        return Err(ViewFault::TooShort);
-    }
-    Ok((BigEndian::read_u32(bytes), &bytes[4..]))
+    let rest = bytes_after(bytes, 4)?;
+    Ok((BigEndian::read_u32(bytes), rest))
 }
 
 /// The length of a null value.
@@ -65,10 +76,8 @@ pub(crate) fn take_value(bytes: &[u8]) -> Result<(Option<&[u8]>, &[u8]), ViewFau
         return Err(ViewFault::BadLength);
     }
     let size = length as usize;
-    if rest.len() < size {
-        return Err(ViewFault::TooShort);
-    }
-    Ok((Some(&rest[..size]), &rest[size..]))
+    let after = bytes_after(rest, size)?;
+    Ok((Some(&rest[..size]), after))
 }
 
 /// A pair of texts, or none where an empty name ends the pairs.

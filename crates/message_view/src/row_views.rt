@@ -91,14 +91,9 @@ impl<'a> Iterator for Columns<'a> {
         ensures place { IfSome result (λ v. LiesAt v.name self.old.rest 0) }
         ensures after { IfSome result (λ v. LiesAt self.new.rest self.old.rest (19 + length v.name.now)) }
     {
-        if self.left == 0 {
-            return None;
-        }
+        let left = self.left.checked_sub(1)?;
         let (column, rest) = take_column(self.rest).ok()?;
-        *self = Columns {
-            rest,
-            left: self.left - 1,
-        };
+        *self = Columns { rest, left };
         Some(column)
     }
 }
@@ -115,15 +110,6 @@ fn skip_columns(bytes: &[u8], count: u16) -> Result<&[u8], ViewFault>
     Ok(rest)
 }
 
-#[tactic(auto, using(crate::proofs::Counted::list_found, crate::proofs::Counted::list_there, crate::proofs::Counted::list_fault))]
-fn columns_at(bytes: &[u8], left: u16) -> Result<(Columns<'_>, &[u8]), ViewFault>
-    ensures part { Gives columns_left result (list_at column_at left bytes.now) }
-    ensures place { IfOk result (λ x. LiesAt x.0.rest bytes.entry 0) }
-{
-    let after = skip_columns(bytes, left)?;
-    Ok((Columns { rest: bytes, left }, after))
-}
-
 /// A server's RowDescription.
 #[derive(Clone, Copy, Drop)]
 pub struct RowDescView<'a> {
@@ -134,16 +120,16 @@ impl<'a> RowDescView<'a> {
     /// Reads the body of a RowDescription: a count and its columns. [`ViewFault::NoZero`]: a name
     /// without its end. [`ViewFault::TooShort`]: fewer bytes than the count asks for.
     /// [`ViewFault::LeftOver`]: bytes after the last.
-    #[tactic(auto, unfolding(crate::specs::Reading::row_description_of))]
+    #[tactic(auto, using(crate::proofs::Counted::list_found, crate::proofs::Counted::list_there, crate::proofs::Counted::list_fault), unfolding(crate::specs::Reading::row_description_of))]
     pub fn read(body: &'a [u8]) -> Result<RowDescView<'a>, ViewFault>
         ensures parts { Shows (λ v. columns_left v.columns) result (row_description_of body.now) }
         ensures place { IfOk result (λ v. LiesAt v.columns.rest body.entry 2) }
     {
         let (left, rest) = take_u16(body)?;
-        let (columns, rest) = columns_at(rest, left)?;
-        if !rest.is_empty() {
+        if !skip_columns(rest, left)?.is_empty() {
             return Err(ViewFault::LeftOver);
         }
+        let columns = Columns { rest, left };
         Ok(RowDescView { columns })
     }
 

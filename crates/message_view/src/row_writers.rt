@@ -1,10 +1,9 @@
 //! Writers of rows and their descriptions.
-ghost use Rattle.std.specs.Prelude.{◌≡◌, ℕ, ◌+◌, ◌-◌, ◌^◌, ◌<◌, ◌≤◌, ◌++◌, ◌∷◌, [], length, map, min, option_map, OnOk, OnErr, IsOk};
+ghost use Rattle.std.specs.Prelude.{◌≡◌, ℕ, ◌+◌, ◌-◌, ◌^◌, ◌<◌, ◌≤◌, ◌++◌, ◌∷◌, [], length, map, min, option_map};
 ghost use Rattle.std.specs.List.{flat_map};
-ghost use Rattle.frame_view.specs.Frames.{spelling};
 ghost use Rattle.message_view.specs.Bodies.{value as spelled_value, column as spelled_column, columns_body, int32};
 ghost use Rattle.message_view.specs.Messages.{message, data_row, parameter_description, row_description};
-ghost use Rattle.message_view.specs.Parts.{FitsLength, HasRoom, names_of, formats_of, row_of, shown_value, text_column_of};
+ghost use Rattle.message_view.specs.Parts.{Puts, names_of, formats_of, row_of, shown_value, text_column_of};
 
 use crate::kinds::TEXT_TYPE;
 use crate::writers::{GREATEST_BODY, put_head};
@@ -67,10 +66,7 @@ fn put_value(out: &mut BytesMut, value: Option<&[u8]>)
 /// [`frame_view::LONGEST_FRAME`]; then `out` is unchanged.
 pub fn put_data_row(out: &mut BytesMut, row: &[Option<&[u8]>]) -> Result<(), AllocError>
     requires { length row.now < 2 ^ 16 }
-    ensures ok { OnOk result (out.new.items ≡ out.old.items ++ spelling (data_row (row_of row.now))) }
-    ensures err { OnErr result (out.new.items ≡ out.old.items) }
-    ensures room { HasRoom out.old.spare (data_row (row_of row.now)) → IsOk result }
-    ensures fits { OnOk result (FitsLength (data_row (row_of row.now))) }
+    ensures { Puts result out.old out.new (data_row (row_of row.now)) }
 {
     let size = row_length(row);
     if size > GREATEST_BODY - SIZE_OF_COUNT {
@@ -110,10 +106,7 @@ fn put_column(out: &mut BytesMut, column: Column<'_>)
 
 fn put_columns(out: &mut BytesMut, columns: &[Column<'_>]) -> Result<(), AllocError>
     requires { length columns.now < 2 ^ 16 }
-    ensures ok { OnOk result (out.new.items ≡ out.old.items ++ spelling (message ROW_DESCRIPTION (columns_body (map text_column_of columns.now)))) }
-    ensures err { OnErr result (out.new.items ≡ out.old.items) }
-    ensures room { HasRoom out.old.spare (message ROW_DESCRIPTION (columns_body (map text_column_of columns.now))) → IsOk result }
-    ensures fits { OnOk result (FitsLength (message ROW_DESCRIPTION (columns_body (map text_column_of columns.now)))) }
+    ensures { Puts result out.old out.new (message ROW_DESCRIPTION (columns_body (map text_column_of columns.now))) }
 {
     let size = columns_length(columns);
     if size > GREATEST_BODY - SIZE_OF_COUNT {
@@ -134,10 +127,7 @@ fn put_columns(out: &mut BytesMut, columns: &[Column<'_>]) -> Result<(), AllocEr
 #[tactic(auto, using(crate::proofs::RowLists::text_columns_of))]
 pub fn put_row_description(out: &mut BytesMut, columns: &[Column<'_>]) -> Result<(), AllocError>
     requires { length columns.now < 2 ^ 16 }
-    ensures ok { OnOk result (out.new.items ≡ out.old.items ++ spelling (row_description (names_of columns.now) (formats_of columns.now))) }
-    ensures err { OnErr result (out.new.items ≡ out.old.items) }
-    ensures room { HasRoom out.old.spare (row_description (names_of columns.now) (formats_of columns.now)) → IsOk result }
-    ensures fits { OnOk result (FitsLength (row_description (names_of columns.now) (formats_of columns.now))) }
+    ensures { Puts result out.old out.new (row_description (names_of columns.now) (formats_of columns.now)) }
 {
     put_columns(out, columns)
 }
@@ -156,10 +146,7 @@ fn oids_length(oids: &[u32]) -> usize
 /// `AllocError` where a growth of `out` is refused; then `out` is unchanged.
 pub fn put_parameter_description(out: &mut BytesMut, oids: &[u32]) -> Result<(), AllocError>
     requires { length oids.now < 2 ^ 16 }
-    ensures ok { OnOk result (out.new.items ≡ out.old.items ++ spelling (parameter_description oids.now)) }
-    ensures err { OnErr result (out.new.items ≡ out.old.items) }
-    ensures room { HasRoom out.old.spare (parameter_description oids.now) → IsOk result }
-    ensures fits { OnOk result (FitsLength (parameter_description oids.now)) }
+    ensures { Puts result out.old out.new (parameter_description oids.now) }
 {
     put_head(
         out,

@@ -4,7 +4,7 @@ ghost use Rattle.std.specs.Iterator.{MakesProgress, YieldsFirstBy, item_count};
 ghost use Rattle.frame_view.specs.Answers.{LiesAt};
 ghost use Rattle.message_view.specs.Left.{pairs_left};
 ghost use Rattle.message_view.specs.Reading.{ended_at, pair_at, rest_of, startup_of};
-ghost use Rattle.message_view.specs.Views.{Gives, Shows, texts_of};
+ghost use Rattle.message_view.specs.Views.{Shows, texts_of};
 
 use crate::parts::take_pair;
 use crate::{Pairs, ViewFault};
@@ -56,28 +56,19 @@ fn skip_pairs(bytes: &[u8]) -> Result<&[u8], ViewFault>
     }
 }
 
-#[tactic(auto, using(crate::proofs::Ended::ended_found, crate::proofs::Ended::ended_there, crate::proofs::Ended::ended_broken))]
-fn pairs_at(bytes: &[u8]) -> Result<(Pairs<'_>, &[u8]), ViewFault>
-    ensures part { Gives pairs_left result (ended_at pair_at bytes.now) }
-    ensures place { IfOk result (λ x. LiesAt x.0.rest bytes.entry 0) }
-{
-    let after = skip_pairs(bytes)?;
-    Ok((Pairs { rest: bytes }, after))
-}
-
 impl<'a> StartupView<'a> {
     /// Reads what follows the code of a StartupMessage: pairs of texts, and the zero byte that ends
     /// them. [`ViewFault::NoZero`]: a text without its end, or the pairs without theirs.
     /// [`ViewFault::LeftOver`]: bytes after them.
-    #[tactic(auto, unfolding(crate::specs::Reading::startup_of))]
+    #[tactic(auto, using(crate::proofs::Ended::ended_found, crate::proofs::Ended::ended_there, crate::proofs::Ended::ended_broken), unfolding(crate::specs::Reading::startup_of))]
     pub fn read(body: &'a [u8]) -> Result<StartupView<'a>, ViewFault>
         ensures parts { Shows (λ v. pairs_left v.pairs) result (startup_of body.now) }
         ensures place { IfOk result (λ v. LiesAt v.pairs.rest body.entry 0) }
     {
-        let (pairs, rest) = pairs_at(body)?;
-        if !rest.is_empty() {
+        if !skip_pairs(body)?.is_empty() {
             return Err(ViewFault::LeftOver);
         }
+        let pairs = Pairs { rest: body };
         Ok(StartupView { pairs })
     }
 

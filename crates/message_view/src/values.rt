@@ -31,14 +31,9 @@ impl<'a> Iterator for Values<'a> {
         ensures place { IfSome result (λ v. LiesIfAny v self.old.rest 4) }
         ensures after { IfSome result (λ v. LiesAt self.new.rest self.old.rest (length (spelled_value (shown_value v)))) }
     {
-        if self.left == 0 {
-            return None;
-        }
+        let left = self.left.checked_sub(1)?;
         let (value, rest) = take_value(self.rest).ok()?;
-        *self = Values {
-            rest,
-            left: self.left - 1,
-        };
+        *self = Values { rest, left };
         Some(value)
     }
 }
@@ -55,22 +50,15 @@ fn skip_values(bytes: &[u8], count: u16) -> Result<&[u8], ViewFault>
     Ok(rest)
 }
 
-#[tactic(auto, using(crate::proofs::Counted::list_found, crate::proofs::Counted::list_there, crate::proofs::Counted::list_fault))]
-fn values_at(bytes: &[u8], left: u16) -> Result<(Values<'_>, &[u8]), ViewFault>
-    ensures part { Gives values_left result (list_at value_at left bytes.now) }
-    ensures place { IfOk result (λ x. LiesAt x.0.rest bytes.entry 0) }
-{
-    let after = skip_values(bytes, left)?;
-    Ok((Values { rest: bytes, left }, after))
-}
-
 /// A count and as many values.
+#[tactic(auto, using(crate::proofs::Counted::list_found, crate::proofs::Counted::list_there, crate::proofs::Counted::list_fault))]
 pub(crate) fn take_values(bytes: &[u8]) -> Result<(Values<'_>, &[u8]), ViewFault>
     ensures part { Gives values_left result (counted_at value_at bytes.now) }
     ensures place { IfOk result (λ x. LiesAt x.0.rest bytes.entry 2) }
 {
     let (left, rest) = take_u16(bytes)?;
-    values_at(rest, left)
+    let after = skip_values(rest, left)?;
+    Ok((Values { rest, left }, after))
 }
 
 impl<'a> Values<'a> {

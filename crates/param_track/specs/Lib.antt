@@ -1,1 +1,4 @@
 pub mod StartKeys
+pub mod Reports
+pub mod Kept
+pub mod ReportLaws

@@ -1,13 +1,17 @@
-//! Start keys: which database, user and parameters a client asks for, and so which links it may be lent.
+//! Start keys: which database, user and parameters a client asks for, and so which links it may be lent. And
+//! what a link's server reported of its parameters.
 #![tactic(auto)]
 
 mod key;
+pub mod laws;
+mod reported;
 mod uses;
 
 ghost use Rattle.std.specs.Prelude.{◌≡◌};
 ghost use Rattle.param_track.specs.declared.StartFault.TheVariants.{Memory};
 
 pub use key::start_key;
+pub use reported::{MOST_NAMES, ReportFault, Reported, StartReport};
 use std::alloc::AllocError;
 
 /// Why a StartupMessage gives no start key. The first of these that holds is told, wherever they stand in the message.

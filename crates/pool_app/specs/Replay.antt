@@ -3,6 +3,8 @@
 use Rattle.std.specs.Prelude.{◌≡◌, ℕ, List, [], ◌∷◌, ◌++◌, Some, None, Result, Ok, Err, Bool, false, ◌==◌, ◌||◌, if◌then◌else◌, codes}
 use Rattle.frame_view.specs.declared.FrameFault.TheVariants.{TooShort, TooLong, UnknownType, UnknownCode}
 use Rattle.frame_view.specs.declared.Side.TheVariants.{Client}
+use Rattle.frame_view.specs.declared.client.TheConstants.{TERMINATE}
+use Rattle.frame_view.specs.declared.frames.TheConstants.{LONGEST_FRAME}
 use Rattle.frame_view.specs.Frames.{Front, AFrame, Lacks, Faulty, FrameOf, Cut, front, frames}
 use Rattle.message_view.specs.declared.KeyWord.{KeyWord}
 use Rattle.message_view.specs.declared.refusal.Refusal.TheVariants.{MalformedClientMessage, ClientMessageTooLong}
@@ -61,7 +63,7 @@ standing_row bytes = row_for standing_rows (names_in bytes)
 
 abbrev pub terminates : List FrameOf → Bool
 terminates [] = false
-terminates (f ∷ fs) = f.kind == 88 || terminates fs
+terminates (f ∷ fs) = f.kind == TERMINATE || terminates fs
 
 -- a faulty frame is refused
 abbrev pub refused_front : Front → List ℕ
@@ -74,11 +76,11 @@ refused_front (Lacks n) = []
 
 -- after a Terminate nothing is refused
 abbrev pub ending : Cut → List ℕ
-ending cut = if terminates cut.frames then [] else refused_front (front Client 2147483647 cut.rest)
+ending cut = if terminates cut.frames then [] else refused_front (front Client LONGEST_FRAME cut.rest)
 
 -- after a start that the server refuses the client is closed, and nothing that it sends is answered
 abbrev pub after_start : {S C : Type 0} → Result S C → List ℕ → List ℕ
-after_start (Ok session) left = ending (frames Client 2147483647 left)
+after_start (Ok session) left = ending (frames Client LONGEST_FRAME left)
 after_start (Err cause) left = []
 
 -- the refusal of a login, or of the first faulty frame of the session behind it; a client of the console is closed without a byte

@@ -1,6 +1,7 @@
 //! `pgsess replay`: one client's bytes in, its replies out.
 ghost use Rattle.std.specs.Prelude.{◌≡◌, ◌⊎◌, ◌<◌, ◌≤◌, ◌++◌, ◌∷◌, [], length, drop, OnOk, OnErr, IfErr, IfOk, IfSome, false};
 ghost use Rattle.std.specs.Io.KnownBytes.{Appends};
+ghost use Rattle.frame_view.specs.declared.frames.TheConstants.{LONGEST_FRAME};
 ghost use Rattle.frame_view.specs.Frames.{Faulty, frames};
 ghost use Rattle.frame_view.specs.declared.Side.TheVariants.{Client};
 ghost use Rattle.message_view.specs.Refusals.{refusal};
@@ -16,7 +17,7 @@ use crate::fault::AppFault;
 use crate::files::{MOST_BYTES, ReadFault, read_all};
 use crate::standing::{KEY_WORD, catalogue, settings, users};
 use bytes::BytesMut;
-use frame_view::{FrameFault, Side, Step, client, next_frame};
+use frame_view::{FrameFault, LONGEST_FRAME, Side, Step, client, next_frame};
 use login_core::laws::{login_is_of_its_row, service_is_its_pieces};
 use login_core::{Login, LoginStep};
 use message_view::{Refusal, put_authentication_ok, refusal_bytes};
@@ -24,9 +25,6 @@ use session_machine::{Catalogue, Session, StartKey, solo_bytes};
 use std::alloc::{AllocError, Global};
 use std::io::{ErrorKind, Read, Write};
 use std::sync::Arc;
-
-/// The greatest length of a frame.
-const LONGEST_FRAME: u32 = 2_147_483_647;
 
 /// What a faulty frame is refused by.
 fn refusal_of(fault: FrameFault) -> Option<Refusal>
@@ -42,7 +40,7 @@ fn refusal_of(fault: FrameFault) -> Option<Refusal>
 
 /// The refusal of the first faulty frame, unless a Terminate comes before it.
 fn ending(bytes: &[u8]) -> Option<Refusal>
-    ensures { refused_by result ≡ ending (frames Client 2147483647 bytes.now) }
+    ensures { refused_by result ≡ ending (frames Client LONGEST_FRAME bytes.now) }
 {
     let mut at = 0;
     while let Step::Whole(frame) = next_frame(bytes, at, LONGEST_FRAME, Side::Client) {

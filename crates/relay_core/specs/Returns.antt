@@ -14,6 +14,7 @@ pub record IsThatLink (v : RelayView) (l : LinkView) : Type 0 where
   pub key : l.key ≡ v.key
   pub number : l.number ≡ v.number
   pub born : l.born ≡ v.born
+  pub reports : l.reports ≡ v.told.reports
 
 -- the cause is the verdict; where nothing went over the link, its end is lost
 abbrev pub IsCause : RelayView → Cause → Type 0

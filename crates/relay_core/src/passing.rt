@@ -4,6 +4,7 @@ ghost use Rattle.relay_laws.specs.Leases.{Keeps};
 ghost use Rattle.relay_steps.specs.Steps.{IsStuck, IsStuckClient, OnlyToClient, OnlyToLink, stops_here};
 
 use crate::relay::Relay;
+use crate::reports::read_report;
 use crate::verdict::{tell_arrived, tell_sent};
 use disposal::laws::calls_tell;
 use server_end::{ClientEnd, ServerEnd};
@@ -69,7 +70,8 @@ impl<C: ClientEnd, E: ServerEnd> Relay<C, E> {
         };
         if passed.whole {
             calls_tell();
-            tell_arrived(&mut self.traffic, passed);
+            let own = read_report(&mut self.link.reported, &self.to_client, passed);
+            tell_arrived(&mut self.traffic, passed, own);
         }
         true
     }

@@ -16,14 +16,15 @@ pub fn tell_sent(traffic: &mut Traffic, kind: u8)
     traffic.send_end();
 }
 
-/// A whole frame of the server came, and goes on. Where no session sends it, that is told before its end.
-pub fn tell_arrived(traffic: &mut Traffic, passed: Passed)
+/// A whole frame of the server came, and goes on. Where no session of the link sends it (not `own`), that is told before its
+/// end.
+pub fn tell_arrived(traffic: &mut Traffic, passed: Passed, own: bool)
     requires border { traffic.old.getting ≡ None }
-    requires status { may_end passed.status (begun_arrived passed traffic.old) ≡ true }
-    ensures { traffic.new ≡ told_arrived passed traffic.old }
+    requires status { may_end passed.status (begun_arrived passed own traffic.old) ≡ true }
+    ensures { traffic.new ≡ told_arrived passed own traffic.old }
 {
     traffic.got_begin(passed.kind);
-    if passed.is_foreign {
+    if !own {
         traffic.broken();
     }
     traffic.got_end(passed.status);

@@ -703,6 +703,18 @@ lease_may_end p v td ps own after x y h r =
     let s : Spells v.to_client.side v.to_client.limit (x.front ++ y.bytes) ps.kind ps.status ps.is_foreign = y.spells h x.front x.comes.opens in
     status_may_end v.told.reports v.told.tally ps own s.frame s.kind_is (s.status_is x.comes.flow.side_is) (own_is v.told.reports after v.to_client td ps own x.front y s x.comes.flow.side_is x.comes.opens r)
 
+pub passed_count : (v w : FlowView) (ps : Passed) → Passes v w ps → ps.count ≤ length w.held
+passed_count v w ps y =
+    let l : length w.held ≡ length v.held + length y.bytes = ap length y.held ∙ length-append v.held y.bytes in
+    omega (arith, l, y.count)
+
+pub lease_head : (p : Place) (v : RelayView) (td : FlowView) (ps : Passed) → IsLease p v → Passes v.to_client td ps → ps.whole ≡ true → ps.kind ≡ PARAMETER_STATUS → ps.is_foreign ≡ false → HEAD ≤ ps.count
+lease_head p v td ps x y h k f =
+    let s : Spells v.to_client.side v.to_client.limit (x.front ++ y.bytes) ps.kind ps.status ps.is_foreign = y.spells h x.front x.comes.opens in
+    let e : x.front ≡ [] = x.comes.opens.border (y.at_once x.comes.flow.side_is k f) in
+    let b : length y.bytes ≡ length (spelling s.frame) = ap (λ (a : List ℕ). length (a ++ y.bytes)) (sym e) ∙ ap length s.spelled in
+    omega (arith, b, y.count)
+
 -- ---- the beginning
 
 empty_flow : (s : Side) (lm : ℕ) (f : FlowView) → 4 ≤ lm → lm ≤ LONGEST_FRAME → IsEmptyFlow s lm f → IsFlow s f

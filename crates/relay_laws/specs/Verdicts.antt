@@ -18,6 +18,9 @@ pub record Told : Type 0 where
   pub tally : Tally
   pub reports : List Kept
 
+abbrev pub told_of : Tally → List Kept → Told
+told_of tally reports = record { tally = tally; reports = reports }
+
 -- ---- a frame of the client that went on
 
 abbrev pub sent_as : FrameOf → List Sent

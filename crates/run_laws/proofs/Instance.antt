@@ -1,7 +1,7 @@
 -- The premises of the laws about reached sessions are met: a session that began fresh from a lawful
 -- catalogue and key, and was sent two frames.
 use Rattle.session_values.specs.State.{started_over}
-use Rattle.std.proofs.Common.{◌≡◌, ℕ, ◌<◌, ◌≤◌, length, length-append, List, [], ◌∷◌, Some, None, Ok, true, refl, ltb-true, arith}
+use Rattle.std.proofs.Common.{◌≡◌, ◌≤◌, length, length-append, List, [], ◌∷◌, Some, None, Ok, true, refl, arith}
 use Rattle.std.specs.Prelude.{codes, nat_lt}
 use Rattle.std.specs.List.{AllByRecursion, list_all}
 use Rattle.frame_view.specs.Frames.{FrameOf}
@@ -11,9 +11,10 @@ use Rattle.session_values.specs.Parameters.{accepted_of}
 use Rattle.session_values.specs.State.{State, CatalogueOf, StartKeyOf, TableOf, fresh, begun}
 use Rattle.session_values.specs.Step.{run_frames}
 use Rattle.session_values.specs.Lawful.{IsLawfulTable, IsLawfulCatalogue, IsLawfulParameter, IsLawfulKey}
-use Rattle.session_laws.specs.Laws.{AreBytes, IsSent, Reaches, begins}
+use Rattle.session_laws.specs.Laws.{IsSent, Reaches, begins}
+use Rattle.session_laws.proofs.Bodies.{tested_bytes}
 use Rattle.run_laws.proofs.ByName.{runs_stay_reached}
-use Rattle.session_values.proofs.Alls.{plain-text, all-as, list_all-each}
+use Rattle.session_values.proofs.Alls.{plain-text}
 
 abbrev city : TableOf
 city = record { name = codes "city"; columns = codes "name" ∷ codes "country" ∷ []; rows = (Some (codes "Bern") ∷ Some (codes "CH") ∷ []) ∷ (Some (codes "Nuuk") ∷ None ∷ []) ∷ [] }
@@ -38,14 +39,11 @@ city-lawful = record {
   rows = ((omega arith, (omega arith, (omega arith, tt))), ((omega arith, (omega arith, (tt, tt))), tt));
 }
 
-bytes : (bs : List ℕ) → list_all (λ b. nat_lt b 256) bs ≡ true → AreBytes bs
-bytes bs h = all-as (λ b. nat_lt b 256 ≡ true) (λ b. b < 256) (λ (b : ℕ) k. ltb-true b 256 k) bs (list_all-each (λ b. nat_lt b 256) bs h)
-
 abbrev sent : List FrameOf
 sent = query (codes "SET application_name TO 'x'") ∷ query (codes "SELECT name FROM city") ∷ []
 
 is_sent : (t : Text) → length t ≤ 1000 → list_all (λ b. nat_lt b 256) (query t).body ≡ true → IsSent (query t)
-is_sent t l h = record { whole = record { of_type = refl; size = omega (arith, length-append t (0 ∷ [])) }; bytes = bytes (query t).body h }
+is_sent t l h = record { whole = record { of_type = refl; size = omega (arith, length-append t (0 ∷ [])) }; bytes = tested_bytes (query t).body h }
 
 all-sent : AllByRecursion IsSent sent
 all-sent = (is_sent (codes "SET application_name TO 'x'") (omega arith) refl, (is_sent (codes "SELECT name FROM city") (omega arith) refl, tt))

@@ -2,13 +2,15 @@
 use Rattle.std.proofs.Common.{◌≡◌, ℕ, ◌+◌, ◌≤◌, List, [], ◌∷◌, ◌++◌, refl, sym, ap, subst, ◌∙◌, append_assoc, append-nil, get_or, Bool, true, false, arith}
 use Rattle.std.proofs.lemmas.Bool.{false≢true}
 use Rattle.std.specs.Prelude.{if◌then◌else◌, ◌||◌, ◌==◌}
-use Rattle.frame_view.specs.Frames.{FrameOf}
+use Rattle.frame_view.specs.declared.server.TheConstants.{READY_FOR_QUERY}
+use Rattle.message_view.specs.declared.kinds.TheConstants.{IDLE, IN_TRANSACTION, FAILED}
+use Rattle.frame_view.specs.Frames.{FrameOf, is_closing}
 use Rattle.message_view.specs.Messages.{ready_for_query}
 use Rattle.session_values.specs.declared.block.Block.{Block}
 use Rattle.session_values.specs.declared.block.Block.TheVariants.{Outside, Inside, Failed}
 use Rattle.session_values.specs.State.{State, CatalogueOf, Answer, status}
 use Rattle.session_values.specs.Step.{step, run_frames}
-use Rattle.session_laws.specs.Laws.{has_ready, is_closing, IsAtRest, Ends, without_ready, with_ready}
+use Rattle.session_laws.specs.Laws.{has_ready, IsAtRest, Ends, without_ready, with_ready}
 use Rattle.run_laws.specs.Settling.{count, closes, is_ready, last_status, SettledIsQuiet}
 use Rattle.run_laws.proofs.GoesOn.{runs-go_on}
 use Rattle.session_laws.proofs.ByName.{each_step_ends}
@@ -23,7 +25,7 @@ count-append p (x ∷ xs) ys = let h = count-append p xs ys in by_test (p x) h
 
 none-counted : (rs : List FrameOf) → has_ready rs ≡ false → count is_ready rs ≡ 0
 none-counted [] h = refl
-none-counted (r ∷ rs) h = by_test (r.kind == 90) (has_ready rs) h (none-counted rs)
+none-counted (r ∷ rs) h = by_test (r.kind == READY_FOR_QUERY) (has_ready rs) h (none-counted rs)
   where
     by_test : (b c : Bool) → (b || c) ≡ false → (c ≡ false → count is_ready rs ≡ 0) → (if b then 1 else 0) + count is_ready rs ≡ 0
     by_test true c h f = absurd cc
@@ -90,10 +92,10 @@ last_status-snoc : (xs : List FrameOf) (n : ℕ) (d : List ℕ) → last_status 
 last_status-snoc [] n d = refl
 last_status-snoc (x ∷ xs) n d = last_status-snoc xs n (if is_ready x then x.body else d)
 
-outside : (b : Block) → status b ∷ [] ≡ 73 ∷ [] → b ≡ Outside
+outside : (b : Block) → status b ∷ [] ≡ IDLE ∷ [] → b ≡ Outside
 outside Outside e = refl
-outside Inside e = absurd (let h : 84 ≡ 73 = ap (λ (l : List ℕ). get_or l 0 0) e in omega (arith, h))
-outside Failed e = absurd (let h : 69 ≡ 73 = ap (λ (l : List ℕ). get_or l 0 0) e in omega (arith, h))
+outside Inside e = absurd (let h : IN_TRANSACTION ≡ IDLE = ap (λ (l : List ℕ). get_or l 0 0) e in omega (arith, h))
+outside Failed e = absurd (let h : FAILED ≡ IDLE = ap (λ (l : List ℕ). get_or l 0 0) e in omega (arith, h))
 
 -- the answer to a last frame that was answered
 record Answered (s : State) (rs : List FrameOf) : Type 0 where
@@ -142,7 +144,7 @@ settled-quiet cat s sent received taken left more a e r =
     let em : more ≡ [] = nothing_more is_ready received more ((run_frames cat s a.before).replies ++ w.front) (ready_for_query (status w.block)) whole refl nm in
     let rr : received ≡ (run_frames cat s taken).replies = sym (r ∙ (ap (λ (xs : List FrameOf). received ++ xs) em ∙ append-nil received)) in
     let rf : received ≡ ((run_frames cat s a.before).replies ++ w.front) ++ ready_for_query (status w.block) ∷ [] = sym (append-nil received) ∙ (ap (λ (xs : List FrameOf). received ++ xs) (sym em) ∙ whole) in
-    let st : status w.block ∷ [] ≡ 73 ∷ [] = sym (last_status-snoc ((run_frames cat s a.before).replies ++ w.front) (status w.block) []) ∙ (sym (ap (λ (xs : List FrameOf). last_status xs []) rf) ∙ a.idle) in
+    let st : status w.block ∷ [] ≡ IDLE ∷ [] = sym (last_status-snoc ((run_frames cat s a.before).replies ++ w.front) (status w.block) []) ∙ (sym (ap (λ (xs : List FrameOf). last_status xs []) rf) ∙ a.idle) in
     let same : (run_frames cat s sent).next ≡ (step cat t a.final).next = ap (λ (xs : List FrameOf). (run_frames cat s xs).next) (a.last) ∙ last-next cat s a.before a.final in
     record {
       all = ts;

@@ -1,7 +1,8 @@
 -- The laws of whole runs: of what a session answers to a list of frames.
 use Rattle.std.specs.Prelude.{◌≡◌, ℕ, List, ◌++◌}
 use Rattle.std.specs.List.{AllByRecursion}
-use Rattle.frame_view.specs.Frames.{FrameOf, IsFrame, AreBytes as AreBytesByPlace}
+use Rattle.frame_view.specs.declared.frames.TheConstants.{LONGEST_FRAME}
+use Rattle.frame_view.specs.Frames.{AreBytes, FrameOf, IsFrame}
 use Rattle.frame_view.specs.declared.Side.TheVariants.{Server}
 use Rattle.session_values.specs.State.{State, CatalogueOf, StartKeyOf, and_then}
 use Rattle.session_values.specs.Step.{run_frames}
@@ -19,11 +20,11 @@ RunsStayReached = (cat : CatalogueOf) (key : StartKeyOf) (s : State) (fs : List 
 
 -- The frames that a client's bytes begin with are a client's.
 abbrev pub ClientFramesAreSent : Type 0
-ClientFramesAreSent = (bytes : List ℕ) → AreBytesByPlace bytes → AllByRecursion IsSent (client_frames bytes)
+ClientFramesAreSent = (bytes : List ℕ) → AreBytes bytes → AllByRecursion IsSent (client_frames bytes)
 
 -- All that is replied is whole frames.
 abbrev pub RunRepliesAreFrames : Type 0
-RunRepliesAreFrames = (cat : CatalogueOf) (key : StartKeyOf) (s : State) (fs : List FrameOf) → Reaches cat key s → AllByRecursion IsSent fs → AllByRecursion (IsFrame Server 2147483647) (run_frames cat s fs).replies
+RunRepliesAreFrames = (cat : CatalogueOf) (key : StartKeyOf) (s : State) (fs : List FrameOf) → Reaches cat key s → AllByRecursion IsSent fs → AllByRecursion (IsFrame Server LONGEST_FRAME) (run_frames cat s fs).replies
 
 -- The reported values are those before, changed by the reports among the replies.
 abbrev pub RunReportsTellValues : Type 0

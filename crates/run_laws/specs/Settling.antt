@@ -1,11 +1,11 @@
 -- What the counts of what was sent and received say of the session behind a link.
 use Rattle.std.specs.Prelude.{◌≡◌, ℕ, ◌+◌, List, [], ◌∷◌, ◌++◌, Bool, true, ◌==◌, if◌then◌else◌}
-use Rattle.frame_view.specs.Frames.{FrameOf}
+use Rattle.frame_view.specs.Frames.{FrameOf, is_closing}
 use Rattle.frame_view.specs.declared.server.TheConstants.{READY_FOR_QUERY}
 use Rattle.session_values.specs.declared.block.Block.TheVariants.{Outside}
 use Rattle.session_values.specs.State.{State, CatalogueOf, status}
 use Rattle.session_values.specs.Step.{run_frames}
-use Rattle.session_laws.specs.Laws.{IsAtRest, is_closing}
+use Rattle.session_laws.specs.Laws.{IsAtRest}
 
 abbrev pub count : (FrameOf → Bool) → List FrameOf → ℕ
 count p [] = 0

@@ -1,11 +1,13 @@
 -- What the machine's laws need of the readers of bodies.
-use Rattle.session_laws.specs.Laws.{AreBytes}
-use Rattle.std.proofs.Common.{◌≡◌, ℕ, zero, suc, ◌+◌, ◌<◌, ◌≤◌, List, [], ◌∷◌, ◌++◌, length, get_or, Result, Ok, Err, refl, ap, ◌∙◌, arith, length-append}
-use Rattle.std.specs.Prelude.{codes}
+use Rattle.std.proofs.Common.{◌≡◌, ℕ, zero, suc, ◌+◌, ◌<◌, ◌≤◌, List, [], ◌∷◌, ◌++◌, length, Result, Ok, Err, refl, ap, ◌∙◌, true, arith, length-append, ltb-true}
+use Rattle.std.specs.Prelude.{codes, nat_lt}
+use Rattle.std.specs.List.{AllByRecursion, list_all}
+use Rattle.frame_view.specs.Frames.{AreBytes}
 use Rattle.message_view.specs.declared.ViewFault.{ViewFault}
 use Rattle.message_view.specs.Bodies.{Text, text, Parse, HasNoZero, numbers32, status_body, parse_body}
 use Rattle.message_view.specs.Reading.{text_at, parse_at, status_at, query_of, parse_of, status_of}
 use Rattle.message_view.specs.Spelled.{FitsParse, FitsStatus}
+use Rattle.session_values.proofs.Alls.{all-as, list_all-each}
 use Rattle.message_laws.proofs.Alone.{alone_reader}
 use Rattle.message_laws.proofs.ByteTrips.{text_alone}
 use Rattle.message_laws.proofs.PartTrips.{status_reads, status_spelled, parse_reads, parse_spelled}
@@ -18,10 +20,14 @@ pub read-status : (n v : Text) → HasNoZero n → HasNoZero v → status_of (st
 unfolding status_of
 read-status n v h k = (alone_reader status_at (λ x. status_body x.0 x.1) FitsStatus status_reads status_spelled).again (n, v) (h, k)
 
-each-byte : (bytes : List ℕ) → AreBytes bytes → (i : ℕ) → get_or bytes i 0 < 256
-each-byte [] h i = omega arith
-each-byte (b ∷ bytes) h zero = h.0
-each-byte (b ∷ bytes) h (suc i) = each-byte bytes h.1 i
+by-place : (bytes : List ℕ) → AllByRecursion (λ b. b < 256) bytes → AreBytes bytes
+by-place [] h i = omega arith
+by-place (b ∷ bytes) h zero = h.0
+by-place (b ∷ bytes) h (suc i) = by-place bytes h.1 i
+
+-- bytes that are known are told to be bytes by a test
+pub tested_bytes : (bytes : List ℕ) → list_all (λ b. nat_lt b 256) bytes ≡ true → AreBytes bytes
+tested_bytes bytes h = by-place bytes (all-as (λ b. nat_lt b 256 ≡ true) (λ b. b < 256) (λ (b : ℕ) k. ltb-true b 256 k) bytes (list_all-each (λ b. nat_lt b 256) bytes h))
 
 -- A text has no zero byte, and fills the body with the zero byte after it.
 abbrev pub QueryTold : List ℕ → Result Text ViewFault → Type 0
@@ -33,7 +39,7 @@ unfolding query_of
 query-told body b = by_result (query_of body) refl
   where
     by_result : (r : Result Text ViewFault) → query_of body ≡ r → QueryTold body r
-    by_result (Ok t) e = let p = text_alone body t (each-byte body b) e in (p.0, ap length p.1 ∙ length-append t (0 ∷ []))
+    by_result (Ok t) e = let p = text_alone body t b e in (p.0, ap length p.1 ∙ length-append t (0 ∷ []))
     by_result (Err v) e = tt
 
 -- A Parse's text has no zero byte, and is shorter than the body; the oids are counted by two bytes.
@@ -51,6 +57,6 @@ parse-told body b = by_result (parse_of body) refl
   where
     by_result : (r : Result Parse ViewFault) → parse_of body ≡ r → ParseTold body r
     by_result (Ok p) e =
-        let told = (alone_reader parse_at parse_body FitsParse parse_reads parse_spelled).only body p (each-byte body b) e in
+        let told = (alone_reader parse_at parse_body FitsParse parse_reads parse_spelled).only body p b e in
         (told.0.query, (let l : length p.query + 4 ≤ length (parse_body p) = parse-length p in omega (arith, l, ap length told.1)), omega (arith, told.0.oids.count))
     by_result (Err v) e = tt

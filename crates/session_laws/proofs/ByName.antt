@@ -5,7 +5,7 @@ use Rattle.frame_view.specs.Frames.{IsFrame}
 use Rattle.frame_view.specs.declared.Side.TheVariants.{Server}
 use Rattle.session_values.specs.Errors.{fatal}
 use Rattle.session_laws.specs.Laws.{begins, EachStepEnds, FreshIsAtRest, FreshHasKey, StepKeepsKey, DiscardAllGivesFresh, RepliesAreFrames, StatusesAreReports, ReportsTellValues}
-use Rattle.session_laws.specs.Starts.{FreshIsReached, ReachedHasKey, FreshByNames, WelcomeIsFrames, StartErrorIsFrame, DiscardAllIsFrame, ReportsAreRead, WelcomeIsRead, StartErrorIsShort, ResetsAreRead}
+use Rattle.session_laws.specs.Starts.{FreshIsReached, ReachedHasKey, FreshByNames, WelcomeIsFrames, StartErrorIsFrame, DiscardAllIsFrame, ReportsAreRead, WelcomeIsRead, StartErrorIsShort, ResetsAreRead, longest_start_frame}
 use Rattle.session_laws.proofs.ReadyLast.{step-ends}
 use Rattle.session_laws.proofs.Freshness.{fresh-at_rest, step-has_key, discard-fresh}
 use Rattle.session_laws.proofs.Reached.{reached-frames, reached-reports, reached-told, reached-key}
@@ -52,7 +52,7 @@ pub welcome_is_frames : WelcomeIsFrames
 welcome_is_frames = welcome-frames
 
 pub start_error_is_frame : StartErrorIsFrame
-start_error_is_frame c = let h : IsFrame Server 65536 (fatal c) = start_error-short c in record { of_type = h.of_type; size = (let l = h.size in omega (arith, l)) }
+start_error_is_frame c = let h : IsFrame Server longest_start_frame (fatal c) = start_error-short c in record { of_type = h.of_type; size = (let l = h.size in omega (arith, l)) }
 
 pub discard_all_is_frame : DiscardAllIsFrame
 discard_all_is_frame = record { of_type = refl; size = omega arith }

@@ -2,6 +2,7 @@
 use Rattle.session_values.specs.State.{started_over}
 use Rattle.std.proofs.Common.{◌≡◌, ℕ, List, [], ◌∷◌, ◌++◌, Result, Ok, Err, refl, sym, ap, ◌∙◌, Bool, true, false}
 use Rattle.std.specs.Prelude.{if◌then◌else◌, codes}
+use Rattle.message_view.specs.declared.kinds.TheConstants.{IDLE}
 use Rattle.frame_view.specs.Frames.{FrameOf}
 use Rattle.message_view.specs.declared.ViewFault.{ViewFault}
 use Rattle.message_view.specs.Messages.{command_complete, ready_for_query}
@@ -113,7 +114,7 @@ fresh-at_rest cat key s e = begun-at_rest s s.defaults (fresh-begun cat key s e)
 -- ---- DISCARD ALL
 
 step-discard_all : (cat : CatalogueOf) (s : State) → IsAtRest s
-    → step cat s discard_all ≡ answers (begun s.defaults) (command_complete (codes "DISCARD ALL") ∷ (reports_from reported_parameters s.defaults s.reported ++ ready_for_query 73 ∷ []))
+    → step cat s discard_all ≡ answers (begun s.defaults) (command_complete (codes "DISCARD ALL") ∷ (reports_from reported_parameters s.defaults s.reported ++ ready_for_query IDLE ∷ []))
 unfolding step
 step-discard_all cat s r =
     let e = r.not_ended in let k = r.not_skipping in let o = r.outside in let v = r.not_saved in
@@ -124,5 +125,5 @@ discard-fresh cat key s origin k e r =
     let same : k.origin ≡ origin = ok-inj k.origin origin (sym k.is_fresh ∙ e) in
     let d : s.defaults ≡ origin.defaults = k.defaults ∙ ap (λ (t : State). t.defaults) same in
     step-discard_all cat s r
-    ∙ ap (λ (v : Values). answers (begun v) (command_complete (codes "DISCARD ALL") ∷ (reports_from reported_parameters v s.reported ++ ready_for_query 73 ∷ []))) d
+    ∙ ap (λ (v : Values). answers (begun v) (command_complete (codes "DISCARD ALL") ∷ (reports_from reported_parameters v s.reported ++ ready_for_query IDLE ∷ []))) d
     ∙ ap (λ (t : State). answers t (discard_replies origin s)) (sym (fresh-begun cat key origin e))

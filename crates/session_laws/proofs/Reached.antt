@@ -3,7 +3,9 @@
 use Rattle.std.proofs.Common.{◌≡◌, ℕ, ◌+◌, ◌≤◌, List, [], ◌∷◌, ◌++◌, length, Option, Some, None, Result, Ok, Err, refl, sym, ap, subst, ◌∙◌, Bool, true, false, arith, eq-eqb}
 use Rattle.std.specs.Prelude.{if◌then◌else◌}
 use Rattle.std.specs.List.{AllByRecursion}
-use Rattle.frame_view.specs.Frames.{FrameOf, IsFrame}
+use Rattle.frame_view.specs.declared.server.TheConstants.{PARAMETER_STATUS}
+use Rattle.frame_view.specs.declared.frames.TheConstants.{LONGEST_FRAME}
+use Rattle.frame_view.specs.Frames.{AreBytes, FrameOf, IsFrame}
 use Rattle.frame_view.specs.declared.Side.TheVariants.{Server}
 use Rattle.message_view.specs.declared.ViewFault.{ViewFault}
 use Rattle.message_view.specs.Bodies.{Parse}
@@ -20,7 +22,7 @@ use Rattle.session_values.specs.State.{State, CatalogueOf, StartKeyOf, SavedOf, 
 use Rattle.session_values.specs.Extended.{settle}
 use Rattle.session_values.specs.Step.{Asked, Terminate, Sync, Query, FunctionCall, ParseMessage, BindMessage, Describe, Close, Execute, Password, Nothing, asked, answer_to, answer_skipping, step, step_query, end_query, silent, sync, saved, reading_body, query, without_unnamed}
 use Rattle.session_values.specs.Lawful.{IsLawfulCatalogue, IsLawfulKey, IsLawfulParameter}
-use Rattle.session_laws.specs.Laws.{AreBytes, HasKey, IsSent, Reaches, begins, steps, IsReport, IsReportIf, after_replies}
+use Rattle.session_laws.specs.Laws.{HasKey, IsSent, Reaches, begins, steps, IsReport, IsReportIf, after_replies}
 use Rattle.session_values.proofs.Alls.{all-as, all-append}
 use Rattle.session_laws.proofs.Bodies.{QueryTold, query-told, ParseTold, parse-told}
 use Rattle.session_laws.proofs.Freshness.{fresh-begun, step-has_key}
@@ -32,17 +34,17 @@ use Rattle.session_laws.proofs.Telling.{reports-are, report-frame, reports-tell,
 
 pub record Stepped (s : State) (a : Answer) : Type 0 where
   pub lawful : Lawful a.next
-  pub frames : AllByRecursion (IsFrame Server 2147483647) a.replies
+  pub frames : AllByRecursion (IsFrame Server LONGEST_FRAME) a.replies
   pub reports : AllByRecursion IsReportIf a.replies
   pub told : a.next.reported ≡ after_replies s.reported a.replies
 
 -- ---- plain replies
 
-plain-frame : (f : FrameOf) → IsPlain f → IsFrame Server 2147483647 f
+plain-frame : (f : FrameOf) → IsPlain f → IsFrame Server LONGEST_FRAME f
 plain-frame f h = record { of_type = refl; size = h.0 }
 
 plain-report : (f : FrameOf) → IsPlain f → IsReportIf f
-plain-report f h e = absurd (let k = eq-eqb f.kind 83 e in let l = h.1 in cc)
+plain-report f h e = absurd (let k = eq-eqb f.kind PARAMETER_STATUS e in let l = h.1 in cc)
 
 after-plain : (vs : List Text) (fs : List FrameOf) → AllByRecursion IsPlain fs → after_replies vs fs ≡ vs
 after-plain vs [] h = refl
@@ -51,7 +53,7 @@ after-plain vs (f ∷ fs) h = let e = h.0.1 in rw e (after-plain vs fs h.1)
 pub kept-stepped : (s : State) (a : Answer) → Kept s a.next a.replies → Stepped s a
 kept-stepped s a h = record {
   lawful = h.lawful;
-  frames = all-as IsPlain (IsFrame Server 2147483647) plain-frame a.replies h.plain;
+  frames = all-as IsPlain (IsFrame Server LONGEST_FRAME) plain-frame a.replies h.plain;
   reports = all-as IsPlain IsReportIf plain-report a.replies h.plain;
   told = h.reported ∙ sym (after-plain s.reported a.replies h.plain);
 }
@@ -100,7 +102,7 @@ closing-stepped s t sent h e p =
     let last : List FrameOf = ready_for_query (status t.block) ∷ [] in
     record {
       lawful = made _ h.defaults h.current (reported-settings t.current h.current) h.saved h.statements h.portals h.tables;
-      frames = all-append (IsFrame Server 2147483647) sent _ (all-as IsPlain (IsFrame Server 2147483647) plain-frame sent p) (all-append (IsFrame Server 2147483647) (reports t) last (all-as IsReport (IsFrame Server 2147483647) report-frame (reports t) rs) (plain-frame _ (ready-plain (status t.block)), tt));
+      frames = all-append (IsFrame Server LONGEST_FRAME) sent _ (all-as IsPlain (IsFrame Server LONGEST_FRAME) plain-frame sent p) (all-append (IsFrame Server LONGEST_FRAME) (reports t) last (all-as IsReport (IsFrame Server LONGEST_FRAME) report-frame (reports t) rs) (plain-frame _ (ready-plain (status t.block)), tt));
       reports = all-append IsReportIf sent _ (all-as IsPlain IsReportIf plain-report sent p) (all-append IsReportIf (reports t) last (all-as IsReport IsReportIf (λ (f : FrameOf) (k : IsReport f) (z : f.kind ≡ 83). k) (reports t) rs) (plain-report _ (ready-plain (status t.block)), tt));
       told = closing-told s t sent h e p;
     }
@@ -170,12 +172,12 @@ terminated-stepped s h = kept-stepped s _ (kept s _ [] (made _ h.defaults h.curr
 abbrev IsParse : Parse → Type 0
 IsParse p = IsSource p.query × length p.oids ≤ 65535
 
-read-parse : (body : List ℕ) (r : Result Parse ViewFault) → 4 + length body ≤ 2147483647 → ParseTold body r → OfOk IsParse (reading_body r)
+read-parse : (body : List ℕ) (r : Result Parse ViewFault) → 4 + length body ≤ LONGEST_FRAME → ParseTold body r → OfOk IsParse (reading_body r)
 read-parse body (Ok p) l h = ((h.0, omega (arith, h.1)), h.2)
 read-parse body (Err v) l h = tt
 
 module _ (cat : CatalogueOf) (lawful_tables : AllByRecursion IsTable cat.tables) where
-  query-stepped : (s : State) (body : List ℕ) (r : Result Text ViewFault) → 4 + length body ≤ 2147483647 → Lawful s → QueryTold body r → Stepped s (step_query cat s r)
+  query-stepped : (s : State) (body : List ℕ) (r : Result Text ViewFault) → 4 + length body ≤ LONGEST_FRAME → Lawful s → QueryTold body r → Stepped s (step_query cat s r)
   query-stepped s body (Err v) l h k = end_query-stepped s (Err MalformedMessage) h tt
   query-stepped s body (Ok t) l h k =
       let g = without_unnamed-lawful s h in
@@ -185,7 +187,7 @@ module _ (cat : CatalogueOf) (lawful_tables : AllByRecursion IsTable cat.tables)
   body-stepped : {A : Type 0} (P : A → Type 0) (s : State) (o : Result A ViewFault) (f : A → Result Answer Cause) → Lawful s → OfOk P (reading_body o) → ((x : A) → P x → AllKept s (f x)) → Stepped s (settle s (bound (reading_body o) f))
   body-stepped P s o f h k g = settle-stepped s (bound (reading_body o) f) h (bound-kept P s (reading_body o) f k g)
 
-  answer-stepped : (s : State) (a : Asked) (body : List ℕ) → 4 + length body ≤ 2147483647 → AreBytes body → Lawful s → Stepped s (answer_to cat s a body)
+  answer-stepped : (s : State) (a : Asked) (body : List ℕ) → 4 + length body ≤ LONGEST_FRAME → AreBytes body → Lawful s → Stepped s (answer_to cat s a body)
   answer-stepped s Terminate body l b h = terminated-stepped s h
   answer-stepped s Sync body l b h = sync-stepped s h
   answer-stepped s Query body l b h = saved-stepped s _ (query-stepped (saved s) body (query_of body) l (save-lawful s s.block h) (query-told body b))
@@ -251,7 +253,7 @@ reached-lawful cat key _ (steps {s} f r h) = (step-stepped cat (catalogue-tables
 reached-stepped : (cat : CatalogueOf) (key : StartKeyOf) (s : State) (f : FrameOf) → Reaches cat key s → IsSent f → Stepped s (step cat s f)
 reached-stepped cat key s f r k = step-stepped cat (catalogue-tables cat (reached-catalogue cat key s r)) s f k (reached-lawful cat key s r)
 
-pub reached-frames : (cat : CatalogueOf) (key : StartKeyOf) (s : State) (f : FrameOf) → Reaches cat key s → IsSent f → AllByRecursion (IsFrame Server 2147483647) (step cat s f).replies
+pub reached-frames : (cat : CatalogueOf) (key : StartKeyOf) (s : State) (f : FrameOf) → Reaches cat key s → IsSent f → AllByRecursion (IsFrame Server LONGEST_FRAME) (step cat s f).replies
 reached-frames cat key s f r k = (reached-stepped cat key s f r k).frames
 
 pub reached-reports : (cat : CatalogueOf) (key : StartKeyOf) (s : State) (f : FrameOf) → Reaches cat key s → IsSent f → AllByRecursion IsReportIf (step cat s f).replies

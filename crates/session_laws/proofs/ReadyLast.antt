@@ -2,7 +2,9 @@
 -- So a ReadyForQuery comes last and once, after a closing message.
 use Rattle.std.proofs.Common.{◌≡◌, ℕ, List, [], ◌∷◌, ◌++◌, length, take, drop, map, Option, Some, None, Result, Ok, Err, refl, subst, ◌∙◌, append_assoc, Bool, true, false}
 use Rattle.std.specs.Prelude.{◌==◌, ◌||◌, ◌&&◌, nat_le, if◌then◌else◌, codes}
-use Rattle.frame_view.specs.Frames.{FrameOf}
+use Rattle.frame_view.specs.declared.client.TheConstants as client
+use Rattle.frame_view.specs.declared.server.TheConstants.{READY_FOR_QUERY}
+use Rattle.frame_view.specs.Frames.{FrameOf, is_closing}
 use Rattle.message_view.specs.declared.ViewFault.{ViewFault}
 use Rattle.message_view.specs.Bodies.{Parse, Bind, Target, OfStatement, OfPortal}
 use Rattle.message_view.specs.Messages.{data_row, ready_for_query, parameter_status, command_complete, portal_suspended}
@@ -23,7 +25,7 @@ use Rattle.session_values.specs.Lookups.{look_up, found}
 use Rattle.session_values.specs.Runs.{Ran, ran, run, begin_run, commit_run, rollback_run, discard_run, create_run, insert_run, set_run, rows_of, row_tag, end_of, are_distinct, all_fit, operand_value, with_table, insert_into}
 use Rattle.session_values.specs.Extended.{parse, bind, bindable, describe, described, describe_portal, is_result_count, close, execute, execute_on, execute_first, execute_rows, execute_ran, sent_rows, description, is_limit, usable, settle, Described}
 use Rattle.session_values.specs.Step.{Asked, Terminate, Sync, Query, FunctionCall, ParseMessage, BindMessage, Describe, Close, Execute, Password, Nothing, asked, answer_to, answer_skipping, end_query, step, step_query, without_unnamed, sync, saved, reading_body, query_with, query_ran, query}
-use Rattle.session_laws.specs.Laws.{has_ready, is_closing, Ends, without_ready, with_ready}
+use Rattle.session_laws.specs.Laws.{has_ready, Ends, without_ready, with_ready}
 
 pub record Fine (s : State) (after : State) (sent : List FrameOf) : Type 0 where
   pub no_ready : has_ready sent ≡ false
@@ -54,14 +56,14 @@ or-true false = refl
 
 has_ready-append : (xs ys : List FrameOf) → has_ready xs ≡ false → has_ready ys ≡ false → has_ready (xs ++ ys) ≡ false
 has_ready-append [] ys a b = b
-has_ready-append (x ∷ xs) ys a b = both (x.kind == 90) (has_ready xs) (has_ready (xs ++ ys)) a (λ h. has_ready-append xs ys h b)
+has_ready-append (x ∷ xs) ys a b = both (x.kind == READY_FOR_QUERY) (has_ready xs) (has_ready (xs ++ ys)) a (λ h. has_ready-append xs ys h b)
   where
     both : (p q r : Bool) → (p || q) ≡ false → (q ≡ false → r ≡ false) → (p || r) ≡ false
     both true q r h f = absurd cc
     both false q r h f = f h
 
-has_ready-rows : (rows : List Row) (last : FrameOf) → (last.kind == 90) ≡ false → has_ready (map data_row rows ++ last ∷ []) ≡ false
-has_ready-rows [] last h = or-true (last.kind == 90) ∙ h
+has_ready-rows : (rows : List Row) (last : FrameOf) → (last.kind == READY_FOR_QUERY) ≡ false → has_ready (map data_row rows ++ last ∷ []) ≡ false
+has_ready-rows [] last h = or-true (last.kind == READY_FOR_QUERY) ∙ h
 has_ready-rows (r ∷ rows) last h = has_ready-rows rows last h
 
 -- ---- runs
@@ -271,13 +273,13 @@ by_letters false false false false rest o h = absurd (let h' = h in cc)
 
 asked-closes : (kind : ℕ) → closes (asked kind) ≡ true → is_closing kind ≡ true
 asked-closes kind h =
-    by_letters (kind == 88) (kind == 83) (kind == 81) (kind == 70) _ (
-    not_closing (kind == 80) _ _ refl (
-    not_closing (kind == 66) _ _ refl (
-    not_closing (kind == 68) _ _ refl (
-    not_closing (kind == 67) _ _ refl (
-    not_closing (kind == 69) _ _ refl (
-    not_closing (kind == 112) _ _ refl refl)))))) h
+    by_letters (kind == client.TERMINATE) (kind == client.SYNC) (kind == client.QUERY) (kind == client.FUNCTION_CALL) _ (
+    not_closing (kind == client.PARSE) _ _ refl (
+    not_closing (kind == client.BIND) _ _ refl (
+    not_closing (kind == client.DESCRIBE) _ _ refl (
+    not_closing (kind == client.CLOSE) _ _ refl (
+    not_closing (kind == client.EXECUTE) _ _ refl (
+    not_closing (kind == client.PASSWORD_MESSAGE) _ _ refl refl)))))) h
 
 sync-ends : (kind : ℕ) (s : State) → is_closing kind ≡ true → s.ended ≡ false → Ends kind (sync s).next (sync s).replies
 sync-ends kind s c e =

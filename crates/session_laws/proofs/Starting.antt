@@ -1,8 +1,10 @@
 -- What a session begins with, and what its welcome, its refusal and a reset are read as.
 use Rattle.session_values.specs.State.{started_over}
-use Rattle.std.proofs.Common.{◌≡◌, ℕ, suc, ◌<◌, ◌≤◌, List, [], ◌∷◌, length, length-append, Ok, Err, refl, sym, ap, ap₂, ◌∙◌, true, arith, ltb-true}
-use Rattle.std.specs.Prelude.{if◌then◌else◌, nat_lt}
-use Rattle.std.specs.List.{AllZip, list_all}
+use Rattle.std.proofs.Common.{◌≡◌, ℕ, suc, ◌≤◌, List, [], ◌∷◌, length, length-append, Ok, Err, refl, sym, ap, ap₂, ◌∙◌, arith}
+use Rattle.std.specs.Prelude.{if◌then◌else◌}
+use Rattle.std.specs.List.{AllZip}
+use Rattle.message_view.specs.declared.kinds.TheConstants.{IDLE}
+use Rattle.frame_view.specs.declared.frames.TheConstants.{LONGEST_FRAME}
 use Rattle.frame_view.specs.Frames.{FrameOf, IsFrame}
 use Rattle.frame_view.specs.declared.Side.TheVariants.{Server}
 use Rattle.message_view.specs.Bodies.{text, HasNoZero}
@@ -14,10 +16,10 @@ use Rattle.session_values.specs.declared.parameter.Parameter.TheVariants.{Applic
 use Rattle.session_values.specs.declared.cause.Cause.TheVariants.{MalformedMessage, NotSupported, InvalidValue, InTransaction, Aborted, NoStatement, NoPortal, NoDatabase, Syntax, ColumnTwice, NoColumn, NoParameter, NoTable, NoPlaceholder, PortalExists, StatementExists, TableExists, PortalIsDone, FixedParameter}
 use Rattle.session_values.specs.Parameters.{reported_parameters, name, defaults}
 use Rattle.session_values.specs.State.{State, CatalogueOf, StartKeyOf, Answer, fresh, all_reports, reports_from, set_all, started, has_text}
-use Rattle.session_laws.specs.Laws.{AreBytes, IsSent, Reaches, begins, steps, IsReport, after_replies, discard_all}
-use Rattle.session_laws.specs.Starts.{FreshByNames, WelcomeIsFrames, ReportsAreRead, WelcomeIsRead, StartErrorIsShort, ResetsAreRead}
-use Rattle.session_values.proofs.Alls.{all-as, all-append, list_all-each, plain-text}
-use Rattle.session_laws.proofs.Bodies.{read-status}
+use Rattle.session_laws.specs.Laws.{IsSent, Reaches, begins, steps, IsReport, after_replies, discard_all}
+use Rattle.session_laws.specs.Starts.{FreshByNames, WelcomeIsFrames, ReportsAreRead, WelcomeIsRead, StartErrorIsShort, ResetsAreRead, longest_start_frame}
+use Rattle.session_values.proofs.Alls.{all-as, all-append, plain-text}
+use Rattle.session_laws.proofs.Bodies.{read-status, tested_bytes}
 use Rattle.session_laws.proofs.GoodValues.{IsSetting, AreSettings}
 use Rattle.session_laws.proofs.Handling.{name-short}
 use Rattle.session_laws.proofs.Freshness.{discard-fresh}
@@ -33,16 +35,16 @@ fresh-by_names cat key other d p =
 
 -- ---- the welcome is whole frames
 
-key-frame : (pid secret : ℕ) → IsFrame Server 2147483647 (backend_key_data pid secret)
+key-frame : (pid secret : ℕ) → IsFrame Server LONGEST_FRAME (backend_key_data pid secret)
 key-frame pid secret = record { of_type = refl; size = omega arith }
 
-ready-frame : IsFrame Server 2147483647 (ready_for_query 73)
+ready-frame : IsFrame Server LONGEST_FRAME (ready_for_query IDLE)
 ready-frame = record { of_type = refl; size = omega arith }
 
 pub welcome-frames : WelcomeIsFrames
 welcome-frames cat key s pid secret r =
     let h = reached-lawful cat key s r in
-    all-append (IsFrame Server 2147483647) (all_reports s) (backend_key_data pid secret ∷ ready_for_query 73 ∷ []) (all-as IsReport (IsFrame Server 2147483647) report-frame (all_reports s) (all_reports-are s.reported h.reported)) (key-frame pid secret, (ready-frame, tt))
+    all-append (IsFrame Server LONGEST_FRAME) (all_reports s) (backend_key_data pid secret ∷ ready_for_query IDLE ∷ []) (all-as IsReport (IsFrame Server LONGEST_FRAME) report-frame (all_reports s) (all_reports-are s.reported h.reported)) (key-frame pid secret, (ready-frame, tt))
 
 -- ---- short frames
 
@@ -69,7 +71,7 @@ report-read f r = (
   (let l = report-body r.parameter r.value r.short in let e = ap (λ (g : FrameOf). length g.body) r.is in omega (arith, l, e)),
 )
 
-report-small : (f : FrameOf) → IsReport f → IsFrame Server 65536 f
+report-small : (f : FrameOf) → IsReport f → IsFrame Server longest_start_frame f
 report-small f r = let e = r.is in rw e (record { of_type = refl; size = (let l = report-body r.parameter r.value r.short in omega (arith, l)) })
 
 zip-length : {A B : Type 0} (R : A → B → Type 0) (xs : List A) (ys : List B) → AllZip R xs ys → length xs ≡ length ys
@@ -85,7 +87,7 @@ welcome-read cat key s pid secret r =
     record {
       nine = sym (zip-length IsSetting reported_parameters s.reported h.reported);
       are_reports = rs;
-      short = all-append (IsFrame Server 65536) (all_reports s) (backend_key_data pid secret ∷ ready_for_query 73 ∷ []) (all-as IsReport (IsFrame Server 65536) report-small (all_reports s) rs) (record { of_type = refl; size = omega arith }, (record { of_type = refl; size = omega arith }, tt));
+      short = all-append (IsFrame Server longest_start_frame) (all_reports s) (backend_key_data pid secret ∷ ready_for_query IDLE ∷ []) (all-as IsReport (IsFrame Server longest_start_frame) report-small (all_reports s) rs) (record { of_type = refl; size = omega arith }, (record { of_type = refl; size = omega arith }, tt));
     }
 
 pub start_error-short : StartErrorIsShort
@@ -111,11 +113,8 @@ start_error-short FixedParameter = record { of_type = refl; size = omega arith }
 
 -- ---- resets
 
-each-byte : (bs : List ℕ) → list_all (λ b. nat_lt b 256) bs ≡ true → AreBytes bs
-each-byte bs h = all-as (λ b. nat_lt b 256 ≡ true) (λ b. b < 256) (λ (b : ℕ) k. ltb-true b 256 k) bs (list_all-each (λ b. nat_lt b 256) bs h)
-
 discard-sent : IsSent discard_all
-discard-sent = record { whole = record { of_type = refl; size = omega arith }; bytes = each-byte discard_all.body refl }
+discard-sent = record { whole = record { of_type = refl; size = omega arith }; bytes = tested_bytes discard_all.body refl }
 
 origin-of : (cat : CatalogueOf) (key : StartKeyOf) (s origin : State) → Reaches cat key s → fresh cat key ≡ Ok origin → AreSettings origin.defaults
 origin-of cat key s origin (begins l k e) o = origin-settings cat key origin l k o
@@ -129,6 +128,6 @@ resets-read cat key s origin r e rest =
     let rs = reports-are origin.defaults s.reported settings in
     let t = reached-told cat key s discard_all r discard-sent in
     record {
-      short = (record { of_type = refl; size = omega arith }, all-append (IsFrame Server 65536) (reports_from reported_parameters origin.defaults s.reported) (ready_for_query 73 ∷ []) (all-as IsReport (IsFrame Server 65536) report-small (reports_from reported_parameters origin.defaults s.reported) rs) (record { of_type = refl; size = omega arith }, tt));
+      short = (record { of_type = refl; size = omega arith }, all-append (IsFrame Server longest_start_frame) (reports_from reported_parameters origin.defaults s.reported) (ready_for_query IDLE ∷ []) (all-as IsReport (IsFrame Server longest_start_frame) report-small (reports_from reported_parameters origin.defaults s.reported) rs) (record { of_type = refl; size = omega arith }, tt));
       told = sym (sym (ap (λ (a : Answer). a.next.reported) d) ∙ t ∙ ap (λ (a : Answer). after_replies s.reported a.replies) d);
     }

@@ -1,10 +1,11 @@
 -- The laws of one step of a session: all that a pooler knows of it. Laws of starts and resets are in
 -- Starts, those of whole runs in the crate run_laws.
-use Rattle.std.specs.Prelude.{◌≡◌, ℕ, ◌<◌, ◌≤◌, List, [], ◌∷◌, ◌++◌, length, None, Result, Ok, Err, Bool, true, false, ◌==◌, ◌||◌, if◌then◌else◌, Contains, codes}
+use Rattle.std.specs.Prelude.{◌≡◌, ℕ, ◌≤◌, List, [], ◌∷◌, ◌++◌, length, None, Result, Ok, Err, Bool, true, false, ◌==◌, ◌||◌, if◌then◌else◌, Contains, codes}
 use Rattle.std.specs.List.{AllByRecursion}
-use Rattle.frame_view.specs.Frames.{FrameOf, IsFrame}
+use Rattle.frame_view.specs.Frames.{AreBytes, FrameOf, IsFrame, is_closing}
 use Rattle.frame_view.specs.declared.Side.TheVariants.{Client, Server}
-use Rattle.frame_view.specs.declared.client.TheConstants.{QUERY, FUNCTION_CALL, SYNC}
+use Rattle.frame_view.specs.declared.client.TheConstants.{QUERY}
+use Rattle.frame_view.specs.declared.frames.TheConstants.{LONGEST_FRAME}
 use Rattle.frame_view.specs.declared.server.TheConstants.{PARAMETER_STATUS, READY_FOR_QUERY}
 use Rattle.message_view.specs.declared.ViewFault.{ViewFault}
 use Rattle.message_view.specs.Bodies.{text, HasNoZero}
@@ -24,10 +25,6 @@ use Rattle.session_values.specs.Step.{step}
 abbrev pub has_ready : List FrameOf → Bool
 has_ready [] = false
 has_ready (f ∷ fs) = f.kind == READY_FOR_QUERY || has_ready fs
-
--- the messages that a ReadyForQuery answers
-abbrev pub is_closing : ℕ → Bool
-is_closing kind = kind == QUERY || kind == FUNCTION_CALL || kind == SYNC
 
 -- Nothing is open: no block, nothing saved, nothing skipped, not ended.
 pub record IsAtRest (s : State) : Type 0 where
@@ -78,12 +75,9 @@ DiscardAllGivesFresh = (cat : CatalogueOf) (key : StartKeyOf) (s origin : State)
 
 -- ---- what a session that began fresh reaches
 
-abbrev pub AreBytes : List ℕ → Type 0
-AreBytes bs = AllByRecursion (λ b. b < 256) bs
-
 -- what a client sends: a whole frame, whose body is bytes
 pub record IsSent (f : FrameOf) : Type 0 where
-  pub whole : IsFrame Client 2147483647 f
+  pub whole : IsFrame Client LONGEST_FRAME f
   pub bytes : AreBytes f.body
 
 -- a state that a session of this key reaches: it begins fresh, and takes frames of its client
@@ -106,7 +100,7 @@ IsReportIf f = f.kind ≡ PARAMETER_STATUS → IsReport f
 -- From a state that a fresh session reaches: the replies are whole frames, and the ParameterStatus
 -- among them are reports.
 abbrev pub RepliesAreFrames : Type 0
-RepliesAreFrames = (cat : CatalogueOf) (key : StartKeyOf) (s : State) (f : FrameOf) → Reaches cat key s → IsSent f → AllByRecursion (IsFrame Server 2147483647) (step cat s f).replies
+RepliesAreFrames = (cat : CatalogueOf) (key : StartKeyOf) (s : State) (f : FrameOf) → Reaches cat key s → IsSent f → AllByRecursion (IsFrame Server LONGEST_FRAME) (step cat s f).replies
 
 abbrev pub StatusesAreReports : Type 0
 StatusesAreReports = (cat : CatalogueOf) (key : StartKeyOf) (s : State) (f : FrameOf) → Reaches cat key s → IsSent f → AllByRecursion IsReportIf (step cat s f).replies

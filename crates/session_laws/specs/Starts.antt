@@ -2,6 +2,7 @@
 use Rattle.std.specs.Prelude.{◌≡◌, ℕ, ◌≤◌, length, Ok}
 use Rattle.std.specs.List.{AllByRecursion}
 use Rattle.frame_view.specs.Frames.{FrameOf, IsFrame}
+use Rattle.frame_view.specs.declared.frames.TheConstants.{LONGEST_FRAME}
 use Rattle.frame_view.specs.declared.Side.TheVariants.{Client, Server}
 use Rattle.message_view.specs.Reading.{status_of}
 use Rattle.session_values.specs.declared.cause.Cause.{Cause}
@@ -31,35 +32,39 @@ FreshByNames = (cat : CatalogueOf) (key other : StartKeyOf) → key.dbname ≡ o
 
 -- the welcome of a session, the error of a start that is refused, and DISCARD ALL are whole frames
 abbrev pub WelcomeIsFrames : Type 0
-WelcomeIsFrames = (cat : CatalogueOf) (key : StartKeyOf) (s : State) (pid secret : ℕ) → Reaches cat key s → AllByRecursion (IsFrame Server 2147483647) (welcome s pid secret)
+WelcomeIsFrames = (cat : CatalogueOf) (key : StartKeyOf) (s : State) (pid secret : ℕ) → Reaches cat key s → AllByRecursion (IsFrame Server LONGEST_FRAME) (welcome s pid secret)
 
 abbrev pub StartErrorIsFrame : Type 0
-StartErrorIsFrame = (c : Cause) → IsFrame Server 2147483647 (fatal c)
+StartErrorIsFrame = (c : Cause) → IsFrame Server LONGEST_FRAME (fatal c)
 
 abbrev pub DiscardAllIsFrame : Type 0
-DiscardAllIsFrame = IsFrame Client 2147483647 discard_all
+DiscardAllIsFrame = IsFrame Client LONGEST_FRAME discard_all
 
 -- ---- starts and resets are short, and can be read
+
+-- the greatest length of a frame of a welcome, of a refused start's error, or of a reset: 64 KiB
+abbrev pub longest_start_frame : ℕ
+longest_start_frame = 65536
 
 -- A report can be read, and has at most 4,096 bytes.
 abbrev pub ReportsAreRead : Type 0
 ReportsAreRead = (f : FrameOf) (r : IsReport f) → (status_of f.body ≡ Ok (name r.parameter, r.value)) × (length f.body ≤ 4096)
 
--- one report for each reported parameter, in order, and frames of at most 65,536 bytes
+-- one report for each reported parameter, in order, and short frames
 pub record Welcomes (s : State) (pid secret : ℕ) : Type 0 where
   pub nine : length s.reported ≡ 9
   pub are_reports : AllByRecursion IsReport (all_reports s)
-  pub short : AllByRecursion (IsFrame Server 65536) (welcome s pid secret)
+  pub short : AllByRecursion (IsFrame Server longest_start_frame) (welcome s pid secret)
 
 abbrev pub WelcomeIsRead : Type 0
 WelcomeIsRead = (cat : CatalogueOf) (key : StartKeyOf) (s : State) (pid secret : ℕ) → Reaches cat key s → Welcomes s pid secret
 
 abbrev pub StartErrorIsShort : Type 0
-StartErrorIsShort = (c : Cause) → IsFrame Server 65536 (fatal c)
+StartErrorIsShort = (c : Cause) → IsFrame Server longest_start_frame (fatal c)
 
 -- what DISCARD ALL is answered by: short frames, which give back the reported values of the start
 pub record Resets (s origin : State) : Type 0 where
-  pub short : AllByRecursion (IsFrame Server 65536) (discard_replies origin s)
+  pub short : AllByRecursion (IsFrame Server longest_start_frame) (discard_replies origin s)
   pub told : after_replies s.reported (discard_replies origin s) ≡ origin.reported
 
 abbrev pub ResetsAreRead : Type 0

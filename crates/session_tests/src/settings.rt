@@ -97,7 +97,7 @@ fn check<A: Abort>(rt: &A, alloc: Global, rows: &[Row]) -> Result<(), Fail> {
 }
 
 #[test]
-fn each_is_set_and_shown(rt: HostRuntime) -> Result<(), Fail> {
+fn reported_ones_are_set_and_shown(rt: HostRuntime) -> Result<(), Fail> {
     let rows: &[Row] = &[
         (
             b"SET application_name TO 'x'",
@@ -129,6 +129,13 @@ fn each_is_set_and_shown(rt: HostRuntime) -> Result<(), Fail> {
             b"SHOW timezone",
             b"D\0\0\0\x15\0\x01\0\0\0\x0bEurope/Oslo",
         ),
+    ];
+    check(&rt, rt.alloc(), rows)
+}
+
+#[test]
+fn unreported_ones_are_set_and_shown(rt: HostRuntime) -> Result<(), Fail> {
+    let rows: &[Row] = &[
         (
             b"SET extra_float_digits TO 3",
             b"SHOW extra_float_digits",

@@ -3,7 +3,7 @@
 use Rattle.std.specs.Prelude.{ℕ, zero, suc, ◌+◌, slice_get, slice_index, List, [], ◌∷◌, ◌++◌, length, map, filter, take, drop, max, Option, Some, None, Result, Ok, Err, Bool, true, false, nat_lt, nat_le, ◌==◌, ◌&&◌, ◌||◌, not, if◌then◌else◌}
 use Rattle.std.specs.List.{list_all}
 use Rattle.frame_view.specs.Frames.{FrameOf}
-use Rattle.message_view.specs.Bodies.{Parse, Bind, Target, OfStatement, OfPortal}
+use Rattle.message_view.specs.Bodies.{is_natural32, Parse, Bind, Target, OfStatement, OfPortal}
 use Rattle.message_view.specs.Messages.{command_complete, data_row, row_description, parse_complete, bind_complete, close_complete, no_data, portal_suspended, parameter_description}
 use Rattle.mini_sql.specs.Words.{Text, same_text}
 use Rattle.mini_sql.specs.Statements.{Statement, Empty, Commit, Rollback, Show, Select, statement, parameters_of}
@@ -224,7 +224,7 @@ progressed s n g = record s { portals = map (at_progress n g) s.portals }
 
 -- A row limit is signed; 0 and what is below it are no limit.
 abbrev pub is_limit : ℕ → Bool
-is_limit n = nat_lt 0 n && nat_lt n 2147483648
+is_limit n = nat_lt 0 n && is_natural32 n
 
 abbrev pub sent_rows : State → Text → List Row → List Row → FrameOf → Answer
 sent_rows s n now later last = answers (progressed s n (Remaining later)) (map data_row now ++ last ∷ [])
