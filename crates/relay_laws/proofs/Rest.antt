@@ -191,6 +191,6 @@ lease_used p v law x e f n =
     let sent : x.sent ≡ flat_map spelling x.forwarded = sym (append-nil x.sent) ∙ ap (λ (a : List ℕ). x.sent ++ a) (sym h) ∙ x.goes.on_way ∙ ap (λ (a : List ℕ). flat_map spelling x.forwarded ++ a) t ∙ append-nil (flat_map spelling x.forwarded) in
     let z : Answered p.reports v.told x.forwarded x.arrived = answered_by p.reports v.told x.forwarded x.arrived law x.tally q.0 in
     kept_now p v x g n r z.keeps (⊎_elim
-        (λ none. rests_fresh p v x g n (sent ∙ ap (flat_map spelling) none))
-        (λ a. rests_answered p v x g n h t r a)
-        z.answers)
+    (λ none. rests_fresh p v x g n (sent ∙ ap (flat_map spelling) none))
+    (λ a. rests_answered p v x g n h t r a)
+    z.answers)
