@@ -1,13 +1,16 @@
 -- A link as contracts see it, and what it keeps of its server's reports.
-use Rattle.std.specs.Prelude.{◌≡◌, ℕ, true, List, [], ◌∷◌, Result, Ok, Err, ◌==◌, if◌then◌else◌}
+use Rattle.std.specs.Prelude.{◌≡◌, ℕ, true, List, [], ◌∷◌, ◌++◌, map, Result, Ok, Err, ◌==◌, if◌then◌else◌}
 use Rattle.frame_view.specs.declared.server.TheConstants.{PARAMETER_STATUS}
 use Rattle.frame_view.specs.Frames.{FrameOf}
 use Rattle.message_view.specs.declared.ViewFault.{ViewFault}
+use Rattle.message_view.specs.declared.kinds.TheConstants.{IDLE}
+use Rattle.message_view.specs.Messages.{backend_key_data, parameter_status, ready_for_query}
 use Rattle.message_view.specs.Reading.{status_of}
 use Rattle.start_keys.specs.StartPairs.{Text}
 use Rattle.session_values.specs.declared.parameter.Parameter.{Parameter}
 use Rattle.session_values.specs.Parameters.{reported_parameters, name}
 use Rattle.session_values.specs.State.{State, StartKeyOf, fresh}
+use Rattle.session_values.specs.Service.{welcome}
 use Rattle.param_track.specs.Reports.{Report}
 use Rattle.param_track.specs.Kept.{Kept, kept_of, with_told}
 use Rattle.link_laws.specs.Standing.{Standing}
@@ -34,6 +37,18 @@ reports_of values = reports_with reported_parameters values
 -- What is kept of a session that began with these reported values and has those now.
 abbrev pub kept_by : List Text → List Text → List Kept
 kept_by start now = kept_of (reports_of start) now
+
+-- What a client is given first over a link that keeps these reports: the start's, BackendKeyData of this pid and secret, and
+-- ReadyForQuery.
+abbrev pub start_report : Kept → FrameOf
+start_report k = parameter_status k.name k.value
+
+abbrev pub welcome_by : List Kept → ℕ → ℕ → List FrameOf
+welcome_by kept pid secret = map start_report kept ++ backend_key_data pid secret ∷ ready_for_query IDLE ∷ []
+
+-- It is the welcome of the session that the link began with.
+abbrev pub WelcomesAreTheSessions : Type 0
+WelcomesAreTheSessions = (s : State) (pid secret : ℕ) → welcome_by (kept_by s.reported s.reported) pid secret ≡ welcome s pid secret
 
 -- what is kept, once a server's frame has come: a ParameterStatus tells the value of the parameter that it names
 abbrev pub told_by : List Kept → Result (Text × Text) ViewFault → List Kept
