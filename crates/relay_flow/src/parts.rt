@@ -1,0 +1,146 @@
+//! How far a cursor goes over bytes of one direction, so that a frame may go on before all of it is there.
+//!
+//! A frame goes on from its fifth byte on, when its head is known to be lawful (PostgreSQL manual, "Message Formats").
+//! A server's ReadyForQuery and ParameterStatus go on only whole, since what they say is read.
+
+ghost use Rattle.std.specs.Prelude.{◌≡◌, ◌<◌, ◌≤◌, ◌^◌, true, IfSome};
+ghost use Rattle.frame_view.specs.Frames.{AreBytes};
+ghost use Rattle.relay_flow.specs.Parts.{goes_whole, status_in, is_foreign, is_foreign_in_parts, GoesOn, GoesOnInside};
+
+use frame_view::laws::{front_grows, front_is_spelled};
+use frame_view::server::{PARAMETER_STATUS, READY_FOR_QUERY};
+use frame_view::{Frame, FrameFault, Side, Step, next_frame};
+
+/// How far a cursor goes: over `count` bytes of one frame.
+#[derive(Clone, Copy, Debug, PartialEq, Eq, Drop)]
+pub struct Advance {
+    /// How many bytes, at least 1.
+    pub count: usize,
+    /// The type of their frame.
+    pub kind: u8,
+    /// How many bytes of the frame are to come behind them.
+    pub rest: usize,
+    /// Where a server's frame ends here: the status that it tells, if it is a ReadyForQuery of one.
+    pub status: Option<u8>,
+    /// Where a server's frame ends here: whether it is one that no session sends.
+    pub is_foreign: bool,
+}
+
+/// How many bytes a frame's type and length are.
+pub const HEAD: usize = 5;
+
+/// The length of a ReadyForQuery: its own four bytes and the status.
+pub const READY_LENGTH: usize = 5;
+
+/// The greatest body of a ParameterStatus that a session sends.
+pub const LONGEST_STATUS: usize = 4096;
+
+/// Whether nothing of a frame of this type and length goes on before it is whole.
+fn goes_on_whole(side: Side, kind: u8, length: usize) -> bool
+    ensures { result ≡ goes_whole side kind length }
+{
+    match side {
+        Side::Client => false,
+        Side::Server => (kind == READY_FOR_QUERY && length == READY_LENGTH)
+            || (kind == PARAMETER_STATUS && length <= 4 + LONGEST_STATUS),
+    }
+}
+
+/// The status that a ReadyForQuery tells.
+fn status_of(frame: Frame<'_>) -> Option<u8>
+    ensures { result ≡ status_in (record { kind = frame.entry.kind; body = frame.entry.body.now }) }
+{
+    if frame.kind != READY_FOR_QUERY {
+        return None;
+    }
+    match frame.body {
+        [status] => Some(*status),
+        _ => None,
+    }
+}
+
+/// Whether it is a server's frame that no session sends.
+fn is_foreign(frame: Frame<'_>) -> bool
+    ensures { result ≡ is_foreign (record { kind = frame.entry.kind; body = frame.entry.body.now }) }
+{
+    (frame.kind == READY_FOR_QUERY && frame.body.len() != 1)
+        || (frame.kind == PARAMETER_STATUS && frame.body.len() > LONGEST_STATUS)
+}
+
+/// The same of a frame that goes on in parts: none of these is whole at once.
+fn is_foreign_in_parts(side: Side, kind: u8) -> bool
+    ensures { result ≡ is_foreign_in_parts side kind }
+{
+    match side {
+        Side::Client => false,
+        Side::Server => kind == READY_FOR_QUERY || kind == PARAMETER_STATUS,
+    }
+}
+
+fn are_bytes(bytes: &[u8])
+    ensures { AreBytes bytes.now }
+{
+    let _count = bytes.len();
+}
+
+/// From inside a frame of this type of which `rest` bytes are to come: over those that are there, up to its end. None where
+/// none is there.
+pub fn body_next(part: &[u8], kind: u8, rest: usize, side: Side, limit: u32) -> Option<Advance>
+    requires { 0 < rest }
+    ensures goes_on { GoesOnInside side limit part.now kind rest result }
+    ensures kind { IfSome result (λ a. a.kind ≡ kind) }
+{
+    let count = rest.min(part.len());
+    if count == 0 {
+        return None;
+    }
+    Some(Advance {
+        count,
+        kind,
+        rest: rest - count,
+        status: None,
+        is_foreign: is_foreign_in_parts(side, kind),
+    })
+}
+
+/// From a frame's border: over the whole frame, or over the beginning of one that goes on in parts. None where its head
+/// isn't there yet, or it goes on only whole and isn't yet. The fault where no lawful frame under the limit stands next.
+pub fn head_next(
+    part: &[u8],
+    kind: u8,
+    side: Side,
+    limit: u32,
+) -> Result<Option<Advance>, FrameFault>
+    requires { 4 ≤ limit }
+    ensures { GoesOn side limit part.now kind result }
+{
+    front_grows();
+    front_is_spelled();
+    are_bytes(part);
+    match next_frame(part, 0, limit, side) {
+        Step::Whole(frame) => Ok(Some(Advance {
+            count: frame.whole.len(),
+            kind: frame.kind,
+            rest: 0,
+            status: status_of(frame),
+            is_foreign: is_foreign(frame),
+        })),
+        Step::Need(missing) => {
+            if part.len() < HEAD {
+                return Ok(None);
+            }
+            let length = part.len() - 1 + missing;
+            if goes_on_whole(side, part[0], length) {
+                return Ok(None);
+            }
+            Ok(Some(Advance {
+                count: part.len(),
+                kind: part[0],
+                rest: missing,
+                status: None,
+                is_foreign: false,
+            }))
+        }
+        Step::Bad(fault) => Err(fault),
+    }
+}

@@ -1,0 +1,4 @@
+pub mod Settling
+pub mod Leasing
+pub mod Exact
+pub mod Rest

@@ -1,0 +1,196 @@
+-- What a lease's end says of its link.
+use Rattle.std.proofs.Common.{arith, ◌≡◌, ⊎_elim, ℕ, Bool, true, false, List, [], ◌∷◌, ◌++◌, refl, sym, ap, ap₂, ◌∙◌, append-nil, eqb-true, subst}
+use Rattle.std.specs.Prelude.{◌==◌, ◌&&◌, Ok}
+use Rattle.std.proofs.lemmas.Bool.{and_parts}
+use Rattle.std.specs.List.{flat_map}
+use Rattle.disposal.specs.declared.Verdict.{Verdict}
+use Rattle.disposal.specs.declared.Verdict.TheVariants.{Broken, MidFrame, Unanswered, InBlock, Settled}
+use Rattle.disposal.specs.Tallies.{verdict_of}
+use Rattle.disposal.specs.Laws.{SettledExactly}
+use Rattle.frame_view.specs.Frames.{FrameOf, spelling}
+use Rattle.session_values.specs.State.{State, CatalogueOf, fresh}
+use Rattle.session_values.specs.Lawful.{IsLawfulCatalogue}
+use Rattle.session_values.specs.Step.{run_frames}
+use Rattle.session_laws.proofs.ByName.{fresh_is_reached, fresh_is_at_rest}
+use Rattle.link_laws.specs.Stages as stages
+use Rattle.link_laws.specs.Stages.{Stage, Before, Asked, Open, Closed, Packet, packets_bytes, after, answers, MayTakeAll}
+use Rattle.link_laws.specs.Standing.{Served}
+use Rattle.link_laws.proofs.Both.{lives_before}
+use Rattle.link_laws.proofs.InSession.{InSession, in_session}
+use Rattle.link_laws.specs.Links.{IsFresh, IsIdle, IsResting}
+use Rattle.link_run.specs.Links.{IsClean, IsUsed, IsRestingLink, after_frames, kept_by}
+use Rattle.link_run.proofs.Reporting.{told-frames}
+use Rattle.link_laws.proofs.Splits.{SplitsOff, split_whole}
+use Rattle.run_laws.proofs.ByName.{run_replies_are_frames, run_reports_tell_values}
+use Rattle.session_laws.specs.Laws.{Reaches, after_replies}
+use Rattle.session_values.specs.State.{StartKeyOf}
+use Rattle.param_track.specs.Kept.{Kept}
+use Rattle.frame_view.specs.declared.Side.TheVariants.{Server}
+use Rattle.frame_view.specs.declared.frames.TheConstants.{LONGEST_FRAME}
+use Rattle.run_laws.specs.Settling.{IsAnswered}
+use Rattle.link_laws.proofs.ByName.{settled_links_rest}
+use Rattle.relay_laws.proofs.Settling.{Answered, answered_by}
+use Rattle.relay_flow.specs.Flows.{is_empty, is_faulty}
+use Rattle.relay_laws.specs.Leases.{RelayView, Place, IsLease, at_border, relay_verdict}
+use Rattle.relay_laws.specs.Verdicts.{all_kept, verdict_by}
+use Rattle.relay_laws.proofs.Leasing.{empty_is}
+use Rattle.relay_laws.proofs.Exact.{lease_of, under_way}
+
+-- ---- a link to which nothing was sent is fresh still
+
+nothing : (fs : List FrameOf) (left : List ℕ) → [] ≡ flat_map spelling fs ++ left → (fs ≡ []) × (left ≡ [])
+nothing [] left e = (refl, sym e)
+nothing (f ∷ fs) left e = absurd (cc)
+
+run-none : (cat : CatalogueOf) (s : State) → (run_frames cat s []).next ≡ s
+unfolding run_frames
+run-none cat s = refl
+
+replies-none : (cat : CatalogueOf) (s : State) → (run_frames cat s []).replies ≡ []
+unfolding run_frames
+replies-none cat s = refl
+
+none_both : (a b : List ℕ) → [] ≡ a ++ b → b ≡ []
+none_both [] b e = sym e
+none_both (x ∷ a) b e = absurd (cc)
+
+idle_still : (p : Place) (v : RelayView) (x : IsLease p v) (s : State) → Served p.stands x.sent v.link x.received → IsIdle p.stands s → x.sent ≡ [] → IsIdle v.link s
+idle_still p v x s m d e =
+    let cat : CatalogueOf = p.stands.server.catalogue in
+    let i : InSession p.stands.server s m.taken = in_session p.stands.server s m.taken (subst (λ (t : Stage). MayTakeAll p.stands.server t m.taken) d.is_open m.lawful) in
+    let w : [] ≡ flat_map spelling i.frames ++ v.link.inbox = ap₂ (λ (a b : List ℕ). a ++ b) (sym d.inbox) (sym e) ∙ m.inbox ∙ ap (λ (b : List ℕ). b ++ v.link.inbox) i.bytes in
+    let z : (i.frames ≡ []) × (v.link.inbox ≡ []) = nothing i.frames v.link.inbox w in
+    let o : [] ≡ x.received ++ v.link.outbox =
+    sym (ap (flat_map spelling) (replies-none cat s)) ∙ ap (λ (fs : List FrameOf). flat_map spelling (run_frames cat s fs).replies) (sym z.0)
+    ∙ ap (flat_map spelling) (sym i.replies) ∙ ap (λ (t : Stage). flat_map spelling (answers p.stands.server t m.taken)) (sym d.is_open)
+    ∙ ap (λ (b : List ℕ). b ++ flat_map spelling (answers p.stands.server p.stands.stage m.taken)) (sym d.outbox) ∙ m.outbox in
+    record {
+      is_open = m.stage ∙ ap (λ (t : Stage). after p.stands.server t m.taken) d.is_open ∙ i.stage ∙ ap (λ (fs : List FrameOf). Open (run_frames cat s fs).next) z.0 ∙ ap Open (run-none cat s);
+      inbox = z.1;
+      outbox = none_both x.received v.link.outbox o;
+    }
+
+pub fresh_still : (p : Place) (v : RelayView) (x : IsLease p v) → p.stands.follows ≡ true → x.sent ≡ [] → IsFresh v.link v.key
+fresh_still p v x f e =
+    let c : IsFresh p.stands v.key = (x.clean f).stands in
+    let cat : CatalogueOf = p.stands.server.catalogue in
+    let same : cat ≡ v.link.server.catalogue = ap (λ (y : stages.Server). y.catalogue) (sym x.moves.server) in
+    record {
+      session = c.session;
+      is_fresh = subst (λ (y : CatalogueOf). fresh y v.key ≡ Ok c.session) same c.is_fresh;
+      lawful = subst IsLawfulCatalogue same c.lawful;
+      lawful_key = c.lawful_key;
+      idle = λ n. idle_still p v x c.session (x.moves.served f n) (c.idle (lives_before p.stands v.link x.moves.dead n)) e;
+    }
+
+-- of a link from which nothing came no report was kept
+none_kept : (p : Place) (v : RelayView) (x : IsLease p v) → x.received ≡ [] → v.told.reports ≡ p.reports
+none_kept p v x e = x.tally.keeps ∙ ap (all_kept p.reports) (nothing x.arrived (x.front ++ v.to_client.part) (sym e ∙ x.comes.whole)).0
+
+pub lease_clean : (p : Place) (v : RelayView) → IsLease p v → v.flags.touched ≡ false → IsClean v.link v.key v.told.reports
+lease_clean p v x e f =
+    let g : p.stands.follows ≡ true = sym x.moves.follows ∙ f in
+    let c : IsFresh p.stands v.key = (x.clean g).stands in
+    let cat : CatalogueOf = p.stands.server.catalogue in
+    let same : cat ≡ v.link.server.catalogue = ap (λ (y : stages.Server). y.catalogue) (sym x.moves.server) in
+    record {
+      stands = record {
+        session = c.session;
+        is_fresh = subst (λ (y : CatalogueOf). fresh y v.key ≡ Ok c.session) same c.is_fresh;
+        lawful = subst IsLawfulCatalogue same c.lawful;
+        lawful_key = c.lawful_key;
+        idle = λ n. idle_still p v x c.session (x.moves.served g n) (c.idle (lives_before p.stands v.link x.moves.dead n)) (x.says.untouched e).0;
+      };
+      kept = none_kept p v x (x.says.untouched e).1 ∙ (x.clean g).kept;
+    }
+
+-- ---- a link that settled is at rest
+
+settled_by : (w : Verdict) (f b : Bool) → verdict_by w f b ≡ Settled → (w ≡ Settled) × (b ≡ true)
+settled_by Broken f b e = absurd (cc)
+settled_by MidFrame true b e = absurd (cc)
+settled_by MidFrame false b e = absurd (cc)
+settled_by Unanswered true b e = absurd (cc)
+settled_by Unanswered false true e = absurd (cc)
+settled_by Unanswered false false e = absurd (cc)
+settled_by InBlock true b e = absurd (cc)
+settled_by InBlock false true e = absurd (cc)
+settled_by InBlock false false e = absurd (cc)
+settled_by Settled true b e = absurd (cc)
+settled_by Settled false true e = (refl, refl)
+settled_by Settled false false e = absurd (cc)
+
+rests_fresh : (p : Place) (v : RelayView) (x : IsLease p v) → p.stands.follows ≡ true → v.link.lives ≡ true → x.sent ≡ [] → IsResting v.link v.key
+rests_fresh p v x f n e =
+    let z : IsFresh v.link v.key = fresh_still p v x f e in
+    let cat : CatalogueOf = v.link.server.catalogue in
+    record {
+      session = z.session;
+      reached = fresh_is_reached cat v.key z.session z.lawful z.lawful_key z.is_fresh;
+      rests = fresh_is_at_rest cat v.key z.session z.is_fresh;
+      idle = z.idle n;
+    }
+
+rests_answered : (p : Place) (v : RelayView) (x : IsLease p v) → p.stands.follows ≡ true → v.link.lives ≡ true → v.to_link.held ≡ [] → x.tail ≡ [] → x.received ≡ flat_map spelling x.arrived → IsAnswered x.forwarded x.arrived → IsResting v.link v.key
+unfolding lease_of
+rests_answered p v x f n h t r a = settled_links_rest (lease_of p v x) x.arrived (under_way p v x f) f n h t x.comes.came r a
+
+-- ---- the values that such a session reports
+
+state_in : State → Stage → State
+state_in d (Open s) = s
+state_in d (Before auth) = d
+state_in d (Asked start answer) = d
+state_in d Closed = d
+
+same_state : (s t : State) → Open s ≡ Open t → s ≡ t
+unfolding state_in
+same_state s t e = ap (state_in s) e
+
+reported_now : (p : Place) (v : RelayView) (x : IsLease p v) (f : p.stands.follows ≡ true) → v.link.lives ≡ true → x.received ≡ flat_map spelling x.arrived → (r : IsResting v.link v.key) → r.session.reported ≡ after_replies (x.clean f).stands.session.reported x.arrived
+reported_now p v x f n w r =
+    let c : IsFresh p.stands v.key = (x.clean f).stands in
+    let cat : CatalogueOf = p.stands.server.catalogue in
+    let s : State = c.session in
+    let m : Served p.stands x.sent v.link x.received = x.moves.served f n in
+    let d : IsIdle p.stands s = c.idle (lives_before p.stands v.link x.moves.dead n) in
+    let reached : Reaches cat v.key s = fresh_is_reached cat v.key s c.lawful c.lawful_key c.is_fresh in
+    let i : InSession p.stands.server s m.taken = in_session p.stands.server s m.taken (subst (λ (t : Stage). MayTakeAll p.stands.server t m.taken) d.is_open m.lawful) in
+    let o : flat_map spelling (run_frames cat s i.frames).replies ≡ x.received ++ v.link.outbox =
+    sym (ap (λ (t : Stage). flat_map spelling (answers p.stands.server t m.taken)) d.is_open ∙ ap (flat_map spelling) i.replies)
+    ∙ ap (λ (b : List ℕ). b ++ flat_map spelling (answers p.stands.server p.stands.stage m.taken)) (sym d.outbox) ∙ m.outbox in
+    let q : SplitsOff (run_frames cat s i.frames).replies x.arrived [] v.link.outbox = split_whole Server LONGEST_FRAME (run_frames cat s i.frames).replies x.arrived v.link.outbox (omega arith) (run_replies_are_frames cat v.key s i.frames reached i.sent) x.comes.came (o ∙ ap (λ (b : List ℕ). b ++ v.link.outbox) w) in
+    let none : q.more ≡ [] = (nothing q.more [] (sym r.idle.outbox ∙ q.bytes)).0 in
+    let all : (run_frames cat s i.frames).replies ≡ x.arrived = q.all ∙ ap (λ (fs : List FrameOf). x.arrived ++ fs) none ∙ append-nil x.arrived in
+    let now : r.session ≡ (run_frames cat s i.frames).next = same_state r.session (run_frames cat s i.frames).next (sym r.idle.is_open ∙ m.stage ∙ ap (λ (t : Stage). after p.stands.server t m.taken) d.is_open ∙ i.stage) in
+    ap (λ (t : State). t.reported) now ∙ run_reports_tell_values cat v.key s i.frames reached i.sent ∙ ap (after_replies s.reported) all
+
+kept_now : (p : Place) (v : RelayView) (x : IsLease p v) (f : p.stands.follows ≡ true) → v.link.lives ≡ true → x.received ≡ flat_map spelling x.arrived → v.told.reports ≡ after_frames p.reports x.arrived → IsResting v.link v.key → IsRestingLink v.link v.key v.told.reports
+kept_now p v x f n w k r =
+    let c : IsFresh p.stands v.key = (x.clean f).stands in
+    let same : p.stands.server.catalogue ≡ v.link.server.catalogue = ap (λ (y : stages.Server). y.catalogue) (sym x.moves.server) in
+    let s : State = c.session in
+    record {
+      stands = r;
+      origin = s;
+      is_fresh = subst (λ (y : CatalogueOf). fresh y v.key ≡ Ok s) same c.is_fresh;
+      kept = k ∙ ap (λ (ks : List Kept). after_frames ks x.arrived) (x.clean f).kept ∙ told-frames s.reported s.reported x.arrived ∙ ap (kept_by s.reported) (sym (reported_now p v x f n w r));
+    }
+
+pub lease_used : (p : Place) (v : RelayView) → SettledExactly → IsLease p v → relay_verdict v ≡ Settled → IsUsed v.link v.key v.told.reports
+lease_used p v law x e f n =
+    let g : p.stands.follows ≡ true = sym x.moves.follows ∙ f in
+    let q = settled_by (verdict_of v.told.tally) (is_faulty v.to_client.ends) (at_border v) e in
+    let b = and_parts (is_empty v.to_link.held && (v.to_link.rest == 0)) (is_empty v.to_client.part && (v.to_client.rest == 0)) q.1 in
+    let bl = and_parts (is_empty v.to_link.held) (v.to_link.rest == 0) b.0 in
+    let bc = and_parts (is_empty v.to_client.part) (v.to_client.rest == 0) b.1 in
+    let h : v.to_link.held ≡ [] = empty_is v.to_link.held bl.0 in
+    let t : x.tail ≡ [] = x.goes.opens.border (eqb-true v.to_link.rest 0 bl.1) in
+    let fr : x.front ≡ [] = x.comes.opens.border (eqb-true v.to_client.rest 0 bc.1) in
+    let r : x.received ≡ flat_map spelling x.arrived = x.comes.whole ∙ ap₂ (λ (a c : List ℕ). flat_map spelling x.arrived ++ (a ++ c)) fr (empty_is v.to_client.part bc.0) ∙ append-nil (flat_map spelling x.arrived) in
+    let sent : x.sent ≡ flat_map spelling x.forwarded = sym (append-nil x.sent) ∙ ap (λ (a : List ℕ). x.sent ++ a) (sym h) ∙ x.goes.on_way ∙ ap (λ (a : List ℕ). flat_map spelling x.forwarded ++ a) t ∙ append-nil (flat_map spelling x.forwarded) in
+    let z : Answered p.reports v.told x.forwarded x.arrived = answered_by p.reports v.told x.forwarded x.arrived law x.tally q.0 in
+    kept_now p v x g n r z.keeps (⊎_elim
+    (λ none. rests_fresh p v x g n (sent ∙ ap (flat_map spelling) none))
+    (λ a. rests_answered p v x g n h t r a)
+    z.answers)

@@ -1,0 +1,57 @@
+//! A lease under way, by definitions alone: what each move of bytes keeps of it, and what it says of the client and the link.
+//!
+//! What follows from it are the laws here, contracts of functions that do nothing. That each move keeps it are lemmas in
+//! `proofs/Leasing`, which the relay's code cites. The types are those that the definitions name.
+#![tactic(auto)]
+
+ghost use Rattle.relay_laws.specs.Laws.{LeasesAreAllowed, LeasesAreExact, SettledLinksAreUsed, UntouchedLinksAreClean};
+
+use disposal::laws::settled_exactly;
+
+/// What the ends have answered so far.
+#[derive(Clone, Copy, Debug, PartialEq, Eq, Drop)]
+pub struct Flags {
+    /// A byte went over the link, either way.
+    pub touched: bool,
+    /// The client's end faulted, or takes nothing more.
+    pub client_over: bool,
+    /// The client's end gives nothing more.
+    pub input_over: bool,
+    /// The link's end faulted or ended.
+    pub link_over: bool,
+}
+
+/// Whether a relay has ended.
+#[derive(Clone, Copy, Debug, PartialEq, Eq, Drop)]
+pub enum Phase {
+    /// Bytes move.
+    Running,
+    /// By its client.
+    Done,
+    /// By a refusal, or by the link's end.
+    Shut,
+}
+
+/// Over a link that follows and lives, what the client was given and is still to be given is what a server started for it
+/// alone answers to its frames.
+pub fn leases_are_exact()
+    ensures { LeasesAreExact }
+{}
+
+/// Over a link that follows, dead or alive, what the client was given begins that, and what the link accepted are the
+/// client's own bytes.
+pub fn leases_are_allowed()
+    ensures { LeasesAreAllowed }
+{}
+
+/// A link over which nothing went is as clean as it was.
+pub fn untouched_links_are_clean()
+    ensures { UntouchedLinksAreClean }
+{}
+
+/// A link on which the verdict is Settled is at rest.
+pub fn settled_links_are_used()
+    ensures { SettledLinksAreUsed }
+{
+    settled_exactly();
+}
