@@ -1,0 +1,243 @@
+//! One lease: a client's end, a link, and the bytes between them.
+ghost use Rattle.std.specs.Prelude.{◌≡◌, ◌≤◌, ◌<◌, ◌+◌, ◌&&◌, ◌⊎◌, drop, length, true, false, IfErr, IfOk, Some};
+ghost use Rattle.frame_view.specs.declared.frames.TheConstants.{LONGEST_FRAME};
+
+use crate::answers::phase_after;
+use crate::flags::none_moved;
+use crate::verdict::{is_settled, verdict_by};
+use disposal::laws::settled_exactly;
+use disposal::{Traffic, Verdict};
+use frame_view::Side;
+use link_run::links::{CleanLink, Lent, UsedLink};
+use message_view::KeyWord;
+use relay_flow::flow::Flow;
+use relay_laws::{Flags, Phase};
+use relay_steps::Next;
+use server_end::gate::Ready;
+use server_end::{ClientEnd, ServerEnd};
+use std::alloc::Global;
+use std::marker::Model;
+
+/// Why a link can't be used again.
+#[derive(Clone, Copy, Debug, PartialEq, Eq, Drop)]
+pub enum Cause {
+    /// Bytes went over it, and the verdict on them isn't Settled.
+    Left(Verdict),
+    /// Nothing went over it, and its end faulted or ended.
+    Lost,
+}
+
+/// What becomes of a link when its lease ends.
+#[derive(Drop)]
+pub enum Returned<E: ServerEnd> {
+    /// No byte went over it either way, and its end neither faulted nor ended: it is as clean as it was.
+    Unused(CleanLink<E>),
+    /// Bytes went over it, and the verdict on them is Settled: a reset makes it clean.
+    Used(UsedLink<E>),
+    /// Neither: the link taken apart, and why.
+    Gone(Lent<E>, Cause),
+}
+
+/// A client's end, a link, and the bytes between them.
+///
+/// The client is given the welcome first, and then the server's frames; the link is given the client's frames, in their order
+/// and unchanged. Client's Terminate stays here. Contracts see the ends' facts, the two buffers, the counts and the flags;
+/// that some lease is under way (`IsLease`) is the type's invariant, and the laws of `relay_laws` say what follows from it.
+#[derive(Drop)]
+pub struct Relay<C: ClientEnd, E: ServerEnd> {
+    pub(crate) client: C,
+    pub(crate) link: Lent<E>,
+    pub(crate) word: KeyWord,
+    pub(crate) welcome: Vec<u8>,
+    pub(crate) greeted: usize,
+    pub(crate) to_link: Flow,
+    pub(crate) to_client: Flow,
+    pub(crate) traffic: Traffic,
+    pub(crate) flags: Flags,
+    pub(crate) phase: Phase,
+}
+
+impl<C: ClientEnd, E: ServerEnd> Model for Relay<C, E> {
+    ghost use Rattle.std.specs.Prelude.{◌≤◌, drop, length};
+    ghost use Rattle.std.specs.Arc.{arc_value};
+    ghost use Rattle.relay_laws.specs.Leases.{RelayView, relay_view, IsRelay};
+    ghost use Rattle.relay_laws.specs.Verdicts.{told_of};
+
+    ghost Value = { RelayView };
+
+    ghost view = { λ r. relay_view (C.facts r.client) (E.standing r.link.end) (arc_value r.link.key) r.link.number r.link.born r.word (drop r.greeted r.welcome.items) r.to_link r.to_client (told_of r.traffic r.link.reported) r.flags r.phase };
+
+    ghost invariant = { λ r. (r.greeted ≤ length r.welcome.items) × IsRelay (relay_view (C.facts r.client) (E.standing r.link.end) (arc_value r.link.key) r.link.number r.link.born r.word (drop r.greeted r.welcome.items) r.to_link r.to_client (told_of r.traffic r.link.reported) r.flags r.phase) };
+}
+
+impl<C: ClientEnd, E: ServerEnd> Relay<C, E> {
+    ghost use Rattle.std.specs.Prelude.{Bool};
+    ghost use Rattle.relay_laws.specs.Leases.{Place, place, IsLease, IsGreeting, IsExact, IsAllowed, Keeps, relay_verdict, at_border};
+    ghost use Rattle.relay_steps.specs.Answers.{EndsByClient, RefusedBy, AtBorder, IsCut, judged, phase_after};
+    ghost use Rattle.relay_core.specs.Returns.{IsReturned};
+    ghost use Rattle.relay_steps.specs.Steps.{bytes_moved, HoldsAll, Waits};
+    ghost use Rattle.relay_steps.specs.declared.Next.TheVariants.{Again, Wait, ClientDone, Refuse, Closed};
+    ghost use Rattle.relay_laws.specs.declared.Phase.TheVariants.{Running, Done, Shut};
+    ghost use Rattle.message_view.specs.declared.refusal.Refusal.{Refusal};
+
+    /// The lease of a link to a client begins. The client is to be given this welcome first: that of the link's fresh
+    /// session with the client's own key word. `limit` is the greatest length of a frame, both ways (at least 4).
+    ///
+    /// Memory for both buffers is taken here, and none later. Where there is none, both ends are handed back as they were.
+    pub fn begin(
+        alloc: Global,
+        client: C,
+        link: CleanLink<E>,
+        word: KeyWord,
+        limit: u32,
+        welcome: Vec<u8>,
+    ) -> Result<Relay<C, E>, (C, CleanLink<E>)>
+        requires low { 4 ≤ limit }
+        requires high { limit ≤ LONGEST_FRAME }
+        requires greets { IsGreeting link.stands link.key word welcome.items }
+        ensures begun { IfOk result (IsLease (place (C.facts client) link word limit welcome.items)) }
+        ensures client { IfOk result (λ r. r.client ≡ C.facts client) }
+        ensures link { IfOk result (λ r. r.link ≡ link.stands) }
+        ensures phase { IfOk result (λ r. r.phase ≡ Running) }
+        ensures back { IfErr result (λ p. (p.0 ≡ client) × (p.1 ≡ link)) }
+    {
+        let link = link.lend();
+        let Ok(to_link) = Flow::new(alloc, Side::Client, limit) else {
+            return Err((client, link.clean()));
+        };
+        let Ok(to_client) = Flow::new(alloc, Side::Server, limit) else {
+            return Err((client, link.clean()));
+        };
+        Ok(Relay {
+            client,
+            link,
+            word,
+            welcome,
+            greeted: 0,
+            to_link,
+            to_client,
+            traffic: Traffic::new(),
+            flags: Flags {
+                touched: false,
+                client_over: false,
+                input_over: false,
+                link_over: false,
+            },
+            phase: Phase::Running,
+        })
+    }
+
+    /// Moves bytes: each end that is ready is read once and written once at most. It waits for nobody.
+    ///
+    /// Again: a byte was read or written. Wait: none was, since each end that is ready answered NotNow, or may not be read, or
+    /// has no room for what would be read, or nothing that may go on is held for it. ClientDone: the client sent Terminate or its
+    /// input ended, and all that may go on is written to the link; or its end faulted or takes nothing more. Refuse: at a
+    /// border of the frames that the client was given, its next frame is malformed or too long, or the server's is malformed,
+    /// or the server's end faulted or ended. Closed: the server's end faulted or ended inside a frame that was given in part.
+    ///
+    /// After ClientDone it answers ClientDone, after Refuse or Closed it answers Closed, and moves nothing.
+    pub fn pump(&mut self, ready: Ready) -> Next
+        ensures lease { Keeps self.old self.new }
+        ensures exact { (p : Place) → IsLease p self.old → self.new.client.tells ≡ true → self.new.link.follows ≡ true → self.new.link.lives ≡ true → IsExact p self.new }
+        ensures allowed { (p : Place) → IsLease p self.old → self.new.client.tells ≡ true → self.new.link.follows ≡ true → IsAllowed p self.new }
+        ensures judged { self.old.phase ≡ Running → (none : Bool) × (result ≡ judged none self.new) }
+        ensures done { (p : Place) → IsLease p self.old → self.old.phase ≡ Running → result ≡ ClientDone → EndsByClient p self.new }
+        ensures refused { (p : Place) (r : Refusal) → IsLease p self.old → result ≡ Refuse r → AtBorder p self.new × RefusedBy p self.new r }
+        ensures closed { (p : Place) → IsLease p self.old → self.old.phase ≡ Running → result ≡ Closed → IsCut p self.new }
+        ensures again { result ≡ Again → self.old.client.tells ≡ true → bytes_moved self.old < bytes_moved self.new }
+        ensures none { result ≡ Wait → self.old.client.tells ≡ true → bytes_moved self.new ≡ bytes_moved self.old }
+        ensures waits { result ≡ Wait → Waits ready.client ready.server self.old self.new }
+        ensures holds_all { self.old.phase ≡ Running → HoldsAll self.new }
+        ensures after_done { self.old.phase ≡ Done → (result ≡ ClientDone) × (self.new ≡ self.old) }
+        ensures after_shut { self.old.phase ≡ Shut → (result ≡ Closed) × (self.new ≡ self.old) }
+        ensures phase { self.old.phase ≡ Running → self.new.phase ≡ phase_after result }
+    {
+        match self.phase {
+            Phase::Running => self.turn(ready),
+            Phase::Done => Next::ClientDone,
+            Phase::Shut => Next::Closed,
+        }
+    }
+
+    /// The lease ends: the client's end, and the link for what it is worth.
+    pub fn close(self) -> (C, Returned<E>)
+        ensures client { C.facts result.0 ≡ self.client }
+        ensures link { IsReturned E.standing self result.1 }
+    {
+        settled_exactly();
+        let verdict = self.verdict();
+        let Relay {
+            client,
+            link,
+            word: _,
+            welcome: _,
+            greeted: _,
+            to_link: _,
+            to_client: _,
+            traffic: _,
+            flags,
+            phase: _,
+        } = self;
+        if !flags.touched {
+            if flags.link_over {
+                return (client, Returned::Gone(link, Cause::Lost));
+            }
+            return (client, Returned::Unused(link.clean()));
+        }
+        if is_settled(verdict) {
+            return (client, Returned::Used(link.used()));
+        }
+        (client, Returned::Gone(link, Cause::Left(verdict)))
+    }
+
+    /// The verdict on what went over the link.
+    fn verdict(&self) -> Verdict
+        ensures { result ≡ relay_verdict self.now }
+    {
+        verdict_by(
+            self.traffic.verdict(),
+            self.to_client.is_faulty(),
+            self.at_border(),
+        )
+    }
+
+    /// Whether all that went on is written, and both directions stand at a border of their frames.
+    fn at_border(&self) -> bool
+        ensures { result ≡ at_border self.now }
+    {
+        (self.to_link.held_is_empty() && self.to_link.rest() == 0)
+            && (self.to_client.part_is_empty() && self.to_client.rest() == 0)
+    }
+
+    /// A pump of a relay that hasn't ended.
+    fn turn(&mut self, ready: Ready) -> Next
+        requires { self.old.phase ≡ Running }
+        ensures lease { Keeps self.old self.new }
+        ensures judged { (none : Bool) × (result ≡ judged none self.new) }
+        ensures phase { self.new.phase ≡ phase_after result }
+        ensures again { result ≡ Again → self.old.client.tells ≡ true → bytes_moved self.old < bytes_moved self.new }
+        ensures none { result ≡ Wait → self.old.client.tells ≡ true → bytes_moved self.new ≡ bytes_moved self.old }
+        ensures waits { result ≡ Wait → Waits ready.client ready.server self.old self.new }
+        ensures holds_all { HoldsAll self.new }
+    {
+        let next = self.run(ready);
+        self.phase = phase_after(next);
+        next
+    }
+
+    /// The four moves, and what they come to.
+    fn run(&mut self, ready: Ready) -> Next
+        ensures lease { Keeps self.old self.new }
+        ensures judged { (none : Bool) × (result ≡ judged none self.new) }
+        ensures again { result ≡ Again → self.old.client.tells ≡ true → bytes_moved self.old < bytes_moved self.new }
+        ensures none { result ≡ Wait → self.old.client.tells ≡ true → bytes_moved self.new ≡ bytes_moved self.old }
+        ensures waits { result ≡ Wait → Waits ready.client ready.server self.old self.new }
+        ensures holds_all { HoldsAll self.new }
+    {
+        let read = self.from_client(ready.client);
+        let written = self.for_link(ready.server);
+        let served = self.from_link(ready.server);
+        let given = self.for_client(ready.client);
+        self.judge(none_moved(read, written, served, given))
+    }
+}
