@@ -2,8 +2,12 @@
 --     use Rattle.link_laws.proofs.ByName.{moves_join}
 use Rattle.link_laws.specs.Standing.{MovesJoin}
 use Rattle.link_laws.specs.Leases.{LeasesAreExact, LeasesAreFronts, SettledLinksRest}
+use Rattle.link_laws.specs.Starts.{StartsAreOfTheirKeys}
+use Rattle.link_laws.specs.Dialogues.{StartRepliesAreFrames, StartPacketsSplit, StartsAreTold, StartedIsFresh}
 use Rattle.link_laws.proofs.Both.{moves_both}
 use Rattle.link_laws.proofs.Leasing.{leases-exact, leases-front, settled-rest}
+use Rattle.link_laws.proofs.Starting.{started-of}
+use Rattle.link_laws.proofs.Dialogues.{start_replies-frames, start_packets-split, starts-told, started-fresh}
 
 pub moves_join : MovesJoin
 moves_join = moves_both
@@ -16,3 +20,20 @@ leases_are_fronts = leases-front
 
 pub settled_links_rest : SettledLinksRest
 settled_links_rest = settled-rest
+
+-- ---- starts
+
+pub starts_are_of_their_keys : StartsAreOfTheirKeys
+starts_are_of_their_keys = started-of
+
+pub start_replies_are_frames : StartRepliesAreFrames
+start_replies_are_frames = start_replies-frames
+
+pub start_packets_split : StartPacketsSplit
+start_packets_split = start_packets-split
+
+pub starts_are_told : StartsAreTold
+starts_are_told = starts-told
+
+pub started_is_fresh : StartedIsFresh
+started_is_fresh = started-fresh

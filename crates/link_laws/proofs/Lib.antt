@@ -5,3 +5,4 @@ pub mod Leasing
 pub mod Starting
 pub mod Futures
 pub mod ByName
+pub mod Dialogues

@@ -4,3 +4,4 @@ pub mod Links
 pub mod Starts
 pub mod Futures
 pub mod Leases
+pub mod Dialogues

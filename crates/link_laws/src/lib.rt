@@ -2,13 +2,13 @@
 //! what a lease of it keeps. The laws are contracts of functions that do nothing.
 #![tactic(auto)]
 
+ghost use Rattle.link_laws.specs.Dialogues.{StartPacketsSplit, StartRepliesAreFrames, StartedIsFresh, StartsAreTold};
 ghost use Rattle.link_laws.specs.Futures.{DeathsCut, FuturesStay};
 ghost use Rattle.link_laws.specs.Leases.{LeasesAreExact, LeasesAreFronts, SettledLinksRest};
 ghost use Rattle.link_laws.specs.Standing.{MovesJoin};
 ghost use Rattle.link_laws.specs.Starts.{StartsAreOfTheirKeys};
 
 use frame_view::laws::{first_spelled_is_read, spelled_is_first, spelled_is_front};
-use message_laws::laws::startup_is_read;
 
 /// Two moves, one after the other, are one.
 pub fn moves_join()
@@ -19,9 +19,27 @@ pub fn moves_join()
 /// refused.
 pub fn starts_are_of_their_keys()
     ensures { StartsAreOfTheirKeys }
-{
-    startup_is_read();
-}
+{}
+
+/// What a server answers to a start is whole frames, each of at most 65,536 bytes.
+pub fn start_replies_are_frames()
+    ensures { StartRepliesAreFrames }
+{}
+
+/// The packets of a start that a server took are the first of those that were sent to it.
+pub fn start_packets_split()
+    ensures { StartPacketsSplit }
+{}
+
+/// Of a server that follows, dead or alive, the whole frames that came are a front of what it answers to the start.
+pub fn starts_are_told()
+    ensures { StartsAreTold }
+{}
+
+/// Once a ReadyForQuery came, last of all, the server stands idle in the fresh session of the link's key.
+pub fn started_is_fresh()
+    ensures { StartedIsFresh }
+{}
 
 /// What a server takes and gives leaves its future as it was.
 pub fn futures_stay()

@@ -1,5 +1,5 @@
-use Rattle.link_laws.proofs.Starting.{started-as}
+use Rattle.link_laws.proofs.ByName.{starts_are_of_their_keys}
 use Rattle.link_laws.proofs.starts_are_of_their_keys.Goals as goal
 
 pub returns : goal.returns
-returns c = started-as c.startup_is_read.ensures
+returns c = starts_are_of_their_keys

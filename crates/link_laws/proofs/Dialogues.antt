@@ -1,0 +1,416 @@
+-- What a server answers to a start, and what is known once some of it came.
+use Rattle.std.proofs.Common.{◌≡◌, ⊎_elim, ℕ, ◌+◌, ◌<◌, ◌^◌, Bool, true, false, List, [], ◌∷◌, ◌++◌, length, drop, refl, sym, ap, ap₂, ◌∙◌, append_assoc, append-nil, subst, arith, Option, Some, None, Result, Ok, Err}
+use Rattle.std.specs.Prelude.{◌==◌, ◌||◌, if◌then◌else◌}
+use Rattle.std.specs.List.{flat_map, AllByRecursion}
+use Rattle.std.specs.Int.{w32, to_be_bytes}
+use Rattle.std.proofs.lemmas.Bool.{cases_Bool, true≢false}
+use Rattle.std.proofs.lemmas.Grind.{flat_map-append}
+use Rattle.frame_view.specs.declared.Side.TheVariants.{Server as FromServer}
+use Rattle.frame_view.specs.declared.first.TheConstants.{PROTOCOL_3_0}
+use Rattle.frame_view.specs.declared.server.TheConstants.{READY_FOR_QUERY}
+use Rattle.frame_view.specs.Frames.{FrameOf, Front, AFrame, Lacks, Faulty, IsFrame, Start, first_spelling, front, spelling}
+use Rattle.frame_view.proofs.Cuts.{front-spelling}
+use Rattle.message_view.specs.Bodies.{Text}
+use Rattle.message_view.specs.Messages.{authentication, password_message, backend_key_data, ready_for_query}
+use Rattle.message_view.specs.declared.kinds.TheConstants.{IDLE}
+use Rattle.session_values.specs.declared.cause.Cause.{Cause}
+use Rattle.session_values.specs.declared.parameter.Parameter.{Parameter}
+use Rattle.session_values.specs.Errors.{fatal}
+use Rattle.session_values.specs.Lawful.{IsLawfulCatalogue, IsClientKey}
+use Rattle.session_values.specs.Parameters.{reported_parameters}
+use Rattle.session_values.specs.State.{State, StartKeyOf, fresh, all_reports, all_reports_from}
+use Rattle.session_laws.specs.Laws.{has_ready}
+use Rattle.session_laws.specs.Starts.{Welcomes}
+use Rattle.session_laws.proofs.ByName.{fresh_is_reached, welcome_is_read, start_error_is_short}
+use Rattle.link_laws.specs.Stages.{Server, Auth, NoAuth, Asks, Stage, Before, Asked, Open, Closed, Packet, Starts, Sends, Turn, packet_bytes, packets_bytes, let_in, wrong_password, opened, started_by, opens, begins, is_answer, serve, after, answers, MayTake, MayTakeAll}
+use Rattle.link_laws.specs.Standing.{Standing, Served, Passed}
+use Rattle.link_laws.specs.Starts.{start_body}
+use Rattle.link_laws.specs.Links.{IsIdle}
+use Rattle.link_laws.specs.Dialogues.{start_packets, start_replies, IsToQuestion, auth_of, IsNew, FitsPacket, IsShortReply, SplitsPackets, IsTold, StartRepliesAreFrames, StartPacketsSplit, StartsAreTold, StartedIsFresh}
+use Rattle.link_laws.proofs.Both.{answers-append}
+use Rattle.link_laws.proofs.Splits.{SplitsOff, split_whole}
+use Rattle.link_laws.proofs.Starting.{started-of}
+
+-- ---- packets come off in one way
+
+kind_in : Front → ℕ
+kind_in (AFrame kind body rest) = kind
+kind_in (Lacks n) = 0
+kind_in (Faulty fault) = 0
+
+body_in : Front → List ℕ
+body_in (AFrame kind body rest) = body
+body_in (Lacks n) = []
+body_in (Faulty fault) = []
+
+rest_in : Front → List ℕ
+rest_in (AFrame kind body rest) = rest
+rest_in (Lacks n) = []
+rest_in (Faulty fault) = []
+
+abbrev limit : ℕ
+limit = 4294967295
+
+record SameFrame (f g : FrameOf) (a b : List ℕ) : Type 0 where
+  kind : f.kind ≡ g.kind
+  body : f.body ≡ g.body
+  rest : a ≡ b
+
+-- frames whose lengths fit their fields
+same_frame : (f g : FrameOf) (a b : List ℕ) → 4 + length f.body < 2 ^ 32 → 4 + length g.body < 2 ^ 32 → spelling f ++ a ≡ spelling g ++ b → SameFrame f g a b
+unfolding kind_in body_in rest_in
+same_frame f g a b h k e =
+    let x : front FromServer limit (spelling f ++ a) ≡ AFrame f.kind f.body a = front-spelling FromServer limit f a (omega arith) (record { of_type = refl; size = omega (arith, h) }) in
+    let y : front FromServer limit (spelling g ++ b) ≡ AFrame g.kind g.body b = front-spelling FromServer limit g b (omega arith) (record { of_type = refl; size = omega (arith, k) }) in
+    let z : AFrame f.kind f.body a ≡ AFrame g.kind g.body b = sym x ∙ ap (front FromServer limit) e ∙ y in
+    record { kind = ap kind_in z; body = ap body_in z; rest = ap rest_in z }
+
+-- a StartupMessage is a frame without its type byte
+abbrev as_frame : List ℕ → FrameOf
+as_frame start = record { kind = 0; body = to_be_bytes w32 PROTOCOL_3_0 ++ start }
+
+as_start : (x a : List ℕ) → spelling (as_frame x) ++ a ≡ 0 ∷ (first_spelling (Start x) ++ a)
+as_start x a = let size : 4 + length (as_frame x).body ≡ 8 + length x = omega arith in ap (λ (n : ℕ). 0 ∷ ((to_be_bytes w32 n ++ to_be_bytes w32 PROTOCOL_3_0 ++ x) ++ a)) size
+
+same_start : (x y a b : List ℕ) → 8 + length x < 2 ^ 32 → 8 + length y < 2 ^ 32 → first_spelling (Start x) ++ a ≡ first_spelling (Start y) ++ b → (x ≡ y) × (a ≡ b)
+same_start x y a b h k e =
+    let s : SameFrame (as_frame x) (as_frame y) a b = same_frame (as_frame x) (as_frame y) a b (omega (arith, h)) (omega (arith, k)) (as_start x a ∙ ap (λ (bs : List ℕ). 0 ∷ bs) e ∙ sym (as_start y b)) in
+    (ap (λ (bs : List ℕ). drop 4 bs) s.body, s.rest)
+
+same_sent : (f g : FrameOf) (a b : List ℕ) → 4 + length f.body < 2 ^ 32 → 4 + length g.body < 2 ^ 32 → spelling f ++ a ≡ spelling g ++ b → (Sends f ≡ Sends g) × (a ≡ b)
+same_sent f g a b h k e =
+    let s : SameFrame f g a b = same_frame f g a b h k e in
+    (ap₂ (λ (n : ℕ) (bs : List ℕ). Sends (record { kind = n; body = bs })) s.kind s.body, s.rest)
+
+-- a StartupMessage first, and frames after it, whose lengths fit their fields
+abbrev IsInTurn : Stage → Packet → Type 0
+IsInTurn (Before auth) (Starts start) = 8 + length start < 2 ^ 32
+IsInTurn (Before auth) (Sends f) = ⊥
+IsInTurn (Asked start answer) (Starts x) = ⊥
+IsInTurn (Asked start answer) (Sends f) = 4 + length f.body < 2 ^ 32
+IsInTurn (Open s) (Starts x) = ⊥
+IsInTurn (Open s) (Sends f) = 4 + length f.body < 2 ^ 32
+IsInTurn Closed (Starts x) = ⊥
+IsInTurn Closed (Sends f) = 4 + length f.body < 2 ^ 32
+
+abbrev AreInTurn : Server → Stage → List Packet → Type 0
+AreInTurn v s [] = Unit {0}
+AreInTurn v s (p ∷ ps) = IsInTurn s p × AreInTurn v (serve v s p).next ps
+
+same_packet : (s : Stage) (p t : Packet) (a b : List ℕ) → IsInTurn s p → MayTake s t → packet_bytes p ++ a ≡ packet_bytes t ++ b → (p ≡ t) × (a ≡ b)
+same_packet (Before auth) (Starts x) (Starts y) a b h k e = let s = same_start x y a b h (omega (arith, k)) e in (ap Starts s.0, s.1)
+same_packet (Before auth) (Starts x) (Sends g) a b h k e = absurd k
+same_packet (Before auth) (Sends f) t a b h k e = absurd h
+same_packet (Asked x y) (Starts z) t a b h k e = absurd h
+same_packet (Asked x y) (Sends f) (Starts z) a b h k e = absurd k
+same_packet (Asked x y) (Sends f) (Sends g) a b h k e = same_sent f g a b h (let z = k.whole.size in omega (arith, z)) e
+same_packet (Open s) (Starts z) t a b h k e = absurd h
+same_packet (Open s) (Sends f) (Starts z) a b h k e = absurd k
+same_packet (Open s) (Sends f) (Sends g) a b h k e = same_sent f g a b h (let z = k.whole.size in omega (arith, z)) e
+same_packet Closed (Starts z) t a b h k e = absurd h
+same_packet Closed (Sends f) t a b h k e = absurd k
+
+no_packet : {A : Type 0} (t : Packet) (bs : List ℕ) → [] ≡ packet_bytes t ++ bs → A
+no_packet (Starts x) bs e = absurd cc
+no_packet (Sends f) bs e = absurd cc
+
+pub split_packets : (v : Server) (s : Stage) (ps ts : List Packet) (rest : List ℕ) → AreInTurn v s ps → MayTakeAll v s ts → packets_bytes ps ≡ packets_bytes ts ++ rest → SplitsPackets ps ts rest
+split_packets v s ps [] rest h k e = record { more = ps; all = refl; bytes = sym e }
+split_packets v s [] (t ∷ ts) rest h k e = no_packet t (packets_bytes ts ++ rest) (e ∙ append_assoc (packet_bytes t) (packets_bytes ts) rest)
+split_packets v s (p ∷ ps) (t ∷ ts) rest h k e =
+    let q = same_packet s p t (packets_bytes ps) (packets_bytes ts ++ rest) h.0 k.0 (e ∙ append_assoc (packet_bytes t) (packets_bytes ts) rest) in
+    let r : SplitsPackets ps ts rest = split_packets v (serve v s p).next ps ts rest h.1 (subst (λ (x : Packet). MayTakeAll v (serve v s x).next ts) (sym q.0) k.1) q.1 in
+    record { more = r.more; all = ap₂ (λ (x : Packet) (xs : List Packet). x ∷ xs) q.0 r.all; bytes = r.bytes }
+
+-- ---- a start's packets are in turn
+
+opened_turn : (v : Server) (r : Result State Cause) (f : FrameOf) → 4 + length f.body < 2 ^ 32 → IsInTurn (opened v r).next (Sends f)
+opened_turn v (Ok s) f h = h
+opened_turn v (Err c) f h = h
+
+answer_turn : (v : Server) (auth : Auth) (start : List ℕ) (f : FrameOf) → 4 + length f.body < 2 ^ 32 → IsInTurn (begins v auth start).next (Sends f)
+answer_turn v NoAuth start f h = opened_turn v (started_by v.catalogue start) f h
+answer_turn v (Asks kind more right) start f h = h
+
+start_turn : (v : Server) (auth : Auth) (key : StartKeyOf) (answer : Option Text) → AllByRecursion FitsPacket (start_packets key answer) → AreInTurn v (Before auth) (start_packets key answer)
+start_turn v auth key None h = (h.0, tt)
+start_turn v auth key (Some answer) h = (h.0, (answer_turn v auth (start_body key) (password_message answer) h.1.0, tt))
+
+pub start_packets-split : StartPacketsSplit
+start_packets-split v auth key answer taken rest h k e = split_packets v (Before auth) (start_packets key answer) taken rest (start_turn v auth key answer h) k e
+
+-- ---- what came is a front of what is answered
+
+all-front : {A : Type 0} (P : A → Type 0) (xs ys : List A) → AllByRecursion P (xs ++ ys) → AllByRecursion P xs
+all-front P [] ys h = tt
+all-front P (x ∷ xs) ys h = (h.0, all-front P xs ys h.1)
+
+-- what a server took of a start, and what it said then
+record Took (v : Server) (auth : Auth) (key : StartKeyOf) (answer : Option Text) (got : List FrameOf) (tail lost left : List ℕ) (taken : List Packet) : Type 0 where
+  untaken : List Packet
+  more : List FrameOf
+  all : start_packets key answer ≡ taken ++ untaken
+  frames : answers v (Before auth) taken ≡ got ++ more
+  inbox : left ≡ packets_bytes untaken
+  outbox : tail ++ lost ≡ flat_map spelling more
+
+took : (limit : ℕ) (began : Standing) (key : StartKeyOf) (answer : Option Text) (sent unsent received tail left lost : List ℕ) (got : List FrameOf) (taken : List Packet) → limit < 2 ^ 32 → IsNew began
+    → sent ++ unsent ≡ packets_bytes (start_packets key answer) → AllByRecursion FitsPacket (start_packets key answer)
+    → AllByRecursion (IsFrame FromServer limit) (start_replies began.server (auth_of began.stage) key answer) → AllByRecursion (IsFrame FromServer limit) got
+    → received ≡ flat_map spelling got ++ tail → MayTakeAll began.server began.stage taken → began.inbox ++ sent ≡ packets_bytes taken ++ left
+    → began.outbox ++ flat_map spelling (answers began.server began.stage taken) ≡ received ++ lost
+    → Took began.server (auth_of began.stage) key answer got tail lost (left ++ unsent) taken
+took limit began key answer sent unsent received tail left lost got taken low n al fits short each r lawful i o =
+    let v : Server = began.server in
+    let auth : Auth = auth_of began.stage in
+    let law : MayTakeAll v (Before auth) taken = subst (λ (t : Stage). MayTakeAll v t taken) n.stage lawful in
+    let e0 : sent ≡ packets_bytes taken ++ left = ap (λ (b : List ℕ). b ++ sent) (sym n.inbox) ∙ i in
+    let ei : packets_bytes (start_packets key answer) ≡ packets_bytes taken ++ (left ++ unsent) =
+    sym al ∙ (ap (λ (b : List ℕ). b ++ unsent) e0 ∙ append_assoc (packets_bytes taken) left unsent) in
+    let a : SplitsPackets (start_packets key answer) taken (left ++ unsent) = start_packets-split v auth key answer taken (left ++ unsent) fits law ei in
+    let whole : start_replies v auth key answer ≡ answers v (Before auth) taken ++ answers v (after v (Before auth) taken) a.more =
+    ap (λ (ps : List Packet). answers v (Before auth) ps) a.all ∙ answers-append v (Before auth) taken a.more in
+    let eo : flat_map spelling (answers v (Before auth) taken) ≡ flat_map spelling got ++ (tail ++ lost) =
+    ap (λ (t : Stage). flat_map spelling (answers v t taken)) (sym n.stage) ∙ (ap (λ (b : List ℕ). b ++ flat_map spelling (answers v began.stage taken)) (sym n.outbox) ∙ (o ∙ (ap (λ (b : List ℕ). b ++ lost) r ∙ append_assoc (flat_map spelling got) tail lost))) in
+    let b : SplitsOff (answers v (Before auth) taken) got [] (tail ++ lost) = split_whole FromServer limit (answers v (Before auth) taken) got (tail ++ lost) low
+    (all-front (IsFrame FromServer limit) (answers v (Before auth) taken) (answers v (after v (Before auth) taken) a.more) (subst (λ (fs : List FrameOf). AllByRecursion (IsFrame FromServer limit) fs) whole short)) each eo in
+    record { untaken = a.more; more = b.more; all = a.all; frames = b.all; inbox = a.bytes; outbox = b.bytes ∙ append-nil (flat_map spelling b.more) }
+
+told_of : (v : Server) (auth : Auth) (key : StartKeyOf) (answer : Option Text) (got : List FrameOf) (tail lost left : List ℕ) (taken : List Packet) → Took v auth key answer got tail lost left taken → IsTold (start_replies v auth key answer) got tail
+told_of v auth key answer got tail lost left taken t =
+    let rest : List FrameOf = answers v (after v (Before auth) taken) t.untaken in
+    record {
+      more = t.more ++ rest;
+      lost = lost ++ flat_map spelling rest;
+      frames = ap (λ (ps : List Packet). answers v (Before auth) ps) t.all ∙ answers-append v (Before auth) taken t.untaken ∙ ap (λ (fs : List FrameOf). fs ++ rest) t.frames ∙ append_assoc got t.more rest;
+      bytes = sym (append_assoc tail lost (flat_map spelling rest)) ∙ ap (λ (b : List ℕ). b ++ flat_map spelling rest) t.outbox ∙ sym (flat_map-append spelling t.more rest);
+    }
+
+nothing_told : (replies got : List FrameOf) (received tail : List ℕ) → received ≡ [] → received ≡ flat_map spelling got ++ tail → IsTold replies got tail
+nothing_told replies [] received tail n r = record { more = replies; lost = flat_map spelling replies; frames = refl; bytes = ap (λ (b : List ℕ). b ++ flat_map spelling replies) (sym r ∙ n) }
+nothing_told replies (f ∷ fs) received tail n r = absurd (let h : [] ≡ flat_map spelling (f ∷ fs) ++ tail = sym n ∙ r in cc)
+
+pub starts-told : StartsAreTold
+starts-told limit began now key answer unsent received tail got low f n x short each r =
+    ⊎_elim
+    (λ (t : began.lives ≡ true).
+    let p : Passed began x.sent received = x.moves.passed f t in
+    told_of began.server (auth_of began.stage) key answer got tail p.lost (p.left ++ unsent) p.taken
+    (took limit began key answer x.sent unsent received tail p.left p.lost got p.taken low n x.all x.fits short each r p.lawful p.inbox p.outbox))
+    (λ (d : began.lives ≡ false). nothing_told (start_replies began.server (auth_of began.stage) key answer) got received tail (x.moves.silent d).1 r)
+    (cases_Bool began.lives)
+
+-- ---- all answers are frames
+
+frames_of_opened : (v : Server) (key : StartKeyOf) (r : Result State Cause) → fresh v.catalogue key ≡ r → IsLawfulCatalogue v.catalogue → IsClientKey key → AllByRecursion IsShortReply (opened v r).replies
+frames_of_opened v key (Ok s) e c k =
+    let w : Welcomes s v.pid v.secret = welcome_is_read v.catalogue key s v.pid v.secret (fresh_is_reached v.catalogue key s c k.lawful e) in
+    (record { of_type = refl; size = omega arith }, w.short)
+frames_of_opened v key (Err cause) e c k = (record { of_type = refl; size = omega arith }, (start_error_is_short cause, tt))
+
+all-and_none : (fs : List FrameOf) → AllByRecursion IsShortReply fs → AllByRecursion IsShortReply (fs ++ [])
+all-and_none fs h = subst (λ (x : List FrameOf). AllByRecursion IsShortReply x) (sym (append-nil fs)) h
+
+frames_of_opens : (v : Server) (key : StartKeyOf) → IsLawfulCatalogue v.catalogue → IsClientKey key → 0 < length key.dbname → AllByRecursion IsShortReply (opens v (start_body key)).replies
+frames_of_opens v key c k d = frames_of_opened v key (started_by v.catalogue (start_body key)) (sym (started-of v.catalogue key k d)) c k
+
+frames_of_hears : (v : Server) (key : StartKeyOf) (right : Bool) → IsLawfulCatalogue v.catalogue → IsClientKey key → 0 < length key.dbname
+    → AllByRecursion IsShortReply ((if right then opens v (start_body key) else record { next = Closed; replies = wrong_password ∷ [] }).replies ++ [])
+frames_of_hears v key true c k d = all-and_none (opens v (start_body key)).replies (frames_of_opens v key c k d)
+frames_of_hears v key false c k d = (record { of_type = refl; size = omega arith }, tt)
+
+-- where the answer is to a question
+pub start_replies-frames : StartRepliesAreFrames
+start_replies-frames v NoAuth key None c k d q to = all-and_none (opens v (start_body key)).replies (frames_of_opens v key c k d)
+start_replies-frames v NoAuth key (Some answer) c k d q to = absurd to
+start_replies-frames v (Asks kind more right) key None c k d q to = (q, tt)
+start_replies-frames v (Asks kind more right) key (Some answer) c k d q to = (q, frames_of_hears v key (is_answer right (password_message answer)) c k d)
+
+-- ---- a ReadyForQuery came
+
+or_false : (a b : Bool) → (a || b) ≡ false → (a ≡ false) × (b ≡ false)
+or_false true b e = absurd (true≢false e)
+or_false false b e = (refl, e)
+
+or_later : (a b : Bool) → a ≡ false → (a || b) ≡ true → b ≡ true
+or_later true b e h = absurd (true≢false e)
+or_later false b e h = h
+
+first_is : (g f : FrameOf) (xs ys : List FrameOf) → g ∷ xs ≡ f ∷ ys → g ≡ f
+first_is g f xs ys e = cc
+
+rest_is : (g f : FrameOf) (xs ys : List FrameOf) → g ∷ xs ≡ f ∷ ys → xs ≡ ys
+rest_is g f xs ys e = cc
+
+abbrev ready_kind : FrameOf → Bool
+ready_kind f = f.kind == READY_FOR_QUERY
+
+no_ready : {A : Type 0} (got more fs : List FrameOf) → has_ready fs ≡ false → got ++ more ≡ fs → has_ready got ≡ true → A
+no_ready [] more fs h e r = absurd (true≢false (sym r))
+no_ready (g ∷ got) more [] h e r = absurd cc
+no_ready (g ∷ got) more (f ∷ fs) h e r =
+    let p = or_false (ready_kind f) (has_ready fs) h in
+    let k : ready_kind g ≡ false = ap ready_kind (first_is g f (got ++ more) fs e) ∙ p.0 in
+    no_ready got more fs p.1 (rest_is g f (got ++ more) fs e) (or_later (ready_kind g) (has_ready got) k r)
+
+none_after : (xs ys : List FrameOf) → xs ++ ys ≡ [] → ys ≡ []
+none_after [] ys e = e
+none_after (x ∷ xs) ys e = absurd cc
+
+-- a list whose last frame alone is a ReadyForQuery came as a whole
+last_ready : (got more fs : List FrameOf) (z : FrameOf) → has_ready fs ≡ false → got ++ more ≡ fs ++ z ∷ [] → has_ready got ≡ true → more ≡ []
+last_ready [] more fs z h e r = absurd (true≢false (sym r))
+last_ready (g ∷ got) more [] z h e r = none_after got more (rest_is g z (got ++ more) [] e)
+last_ready (g ∷ got) more (f ∷ fs) z h e r =
+    let p = or_false (ready_kind f) (has_ready fs) h in
+    let k : ready_kind g ≡ false = ap ready_kind (first_is g f (got ++ more) (fs ++ z ∷ []) e) ∙ p.0 in
+    last_ready got more fs z p.1 (rest_is g f (got ++ more) (fs ++ z ∷ []) e) (or_later (ready_kind g) (has_ready got) k r)
+
+reports_ready : (ps : List Parameter) (vs : List Text) (more : List FrameOf) → has_ready more ≡ false → has_ready (all_reports_from ps vs ++ more) ≡ false
+reports_ready [] vs more h = h
+reports_ready (p ∷ ps) [] more h = h
+reports_ready (p ∷ ps) (v ∷ vs) more h = reports_ready ps vs more h
+
+-- a turn that opens the session of this start
+record OpensAll (r : Result State Cause) (t : Turn) (more : List FrameOf) : Type 0 where
+  session : State
+  is : r ≡ Ok session
+  next : t.next ≡ Open session
+  none_more : more ≡ []
+
+opened_ready : (v : Server) (r : Result State Cause) (got more : List FrameOf) → got ++ more ≡ (opened v r).replies → has_ready got ≡ true → OpensAll r (opened v r) more
+opened_ready v (Ok s) got more e h =
+    let key : FrameOf = backend_key_data v.pid v.secret in
+    let ready : FrameOf = ready_for_query IDLE in
+    let parts : let_in ∷ (all_reports s ++ key ∷ ready ∷ []) ≡ (let_in ∷ (all_reports s ++ key ∷ [])) ++ ready ∷ [] = ap (λ (x : List FrameOf). let_in ∷ x) (sym (append_assoc (all_reports s) (key ∷ []) (ready ∷ []))) in
+    record { session = s; is = refl; next = refl; none_more = last_ready got more (let_in ∷ (all_reports s ++ key ∷ [])) ready (reports_ready reported_parameters s.reported (key ∷ []) refl) (e ∙ parts) h }
+opened_ready v (Err c) got more e h = no_ready got more (let_in ∷ fatal c ∷ []) refl e h
+
+abbrev heard_turn : Server → Result State Cause → Bool → Turn
+heard_turn v r b = if b then opened v r else (record { next = Closed; replies = wrong_password ∷ [] })
+
+heard_ready : (v : Server) (r : Result State Cause) (b : Bool) (got more : List FrameOf) → got ++ more ≡ (heard_turn v r b).replies → has_ready got ≡ true → OpensAll r (heard_turn v r b) more
+heard_ready v r true got more e h = opened_ready v r got more e h
+heard_ready v r false got more e h = no_ready got more (wrong_password ∷ []) refl e h
+
+-- the same behind a question
+asked_ready : (v : Server) (r : Result State Cause) (b : Bool) (kind : ℕ) (rest : List ℕ) (got more : List FrameOf) → got ++ more ≡ authentication kind rest ∷ (heard_turn v r b).replies → has_ready got ≡ true → OpensAll r (heard_turn v r b) more
+asked_ready v r b kind rest [] more e h = absurd (true≢false (sym h))
+asked_ready v r b kind rest (g ∷ got) more e h =
+    let k : ready_kind g ≡ false = ap ready_kind (first_is g (authentication kind rest) (got ++ more) (heard_turn v r b).replies e) in
+    heard_ready v r b got more (rest_is g (authentication kind rest) (got ++ more) (heard_turn v r b).replies e) (or_later (ready_kind g) (has_ready got) k h)
+
+-- ---- the session behind it
+
+record Opened (v : Server) (auth : Auth) (key : StartKeyOf) (taken untaken : List Packet) (more : List FrameOf) : Type 0 where
+  session : State
+  is : started_by v.catalogue (start_body key) ≡ Ok session
+  stage : after v (Before auth) taken ≡ Open session
+  none_left : untaken ≡ []
+  none_more : more ≡ []
+
+packet_is : (p q : Packet) (ps qs : List Packet) → p ∷ ps ≡ q ∷ qs → p ≡ q
+packet_is p q ps qs e = cc
+
+packets_are : (p q : Packet) (ps qs : List Packet) → p ∷ ps ≡ q ∷ qs → ps ≡ qs
+packets_are p q ps qs e = cc
+
+no_packets : {A : Type 0} (p : Packet) (ps qs : List Packet) → [] ≡ (p ∷ ps) ++ qs → A
+no_packets p ps qs e = absurd cc
+
+one_taken : (v : Server) (auth : Auth) (key : StartKeyOf) (got more : List FrameOf) → got ++ more ≡ answers v (Before auth) (Starts (start_body key) ∷ []) → IsToQuestion None auth → has_ready got ≡ true
+    → Opened v auth key (Starts (start_body key) ∷ []) [] more
+one_taken v NoAuth key got more e to h =
+    let o : OpensAll (started_by v.catalogue (start_body key)) (opens v (start_body key)) more = opened_ready v (started_by v.catalogue (start_body key)) got more (e ∙ append-nil (opens v (start_body key)).replies) h in
+    record { session = o.session; is = o.is; stage = o.next; none_left = refl; none_more = o.none_more }
+one_taken v (Asks kind rest right) key got more e to h = no_ready got more (authentication kind rest ∷ []) refl e h
+
+-- with an answer that the server hasn't taken
+asked_one : {A : Type 0} (v : Server) (auth : Auth) (key : StartKeyOf) (answer : Text) (got more : List FrameOf) → got ++ more ≡ answers v (Before auth) (Starts (start_body key) ∷ []) → IsToQuestion (Some answer) auth → has_ready got ≡ true → A
+asked_one v NoAuth key answer got more e to h = absurd to
+asked_one v (Asks kind rest right) key answer got more e to h = no_ready got more (authentication kind rest ∷ []) refl e h
+
+asked_two : (v : Server) (auth : Auth) (key : StartKeyOf) (answer : Text) (got more : List FrameOf) → got ++ more ≡ start_replies v auth key (Some answer) → IsToQuestion (Some answer) auth → has_ready got ≡ true
+    → Opened v auth key (start_packets key (Some answer)) [] more
+asked_two v NoAuth key answer got more e to h = absurd to
+asked_two v (Asks kind rest right) key answer got more e to h =
+    let r : Result State Cause = started_by v.catalogue (start_body key) in
+    let b : Bool = is_answer right (password_message answer) in
+    let o : OpensAll r (heard_turn v r b) more = asked_ready v r b kind rest got more (e ∙ ap (λ (x : List FrameOf). authentication kind rest ∷ x) (append-nil (heard_turn v r b).replies)) h in
+    record { session = o.session; is = o.is; stage = o.next; none_left = refl; none_more = o.none_more }
+
+-- the packets that were taken, where a ReadyForQuery came
+opened_none : (v : Server) (auth : Auth) (key : StartKeyOf) (taken untaken : List Packet) (got more : List FrameOf) → IsToQuestion None auth → start_packets key None ≡ taken ++ untaken
+    → answers v (Before auth) taken ≡ got ++ more → has_ready got ≡ true → Opened v auth key taken untaken more
+opened_none v auth key [] untaken got more to s e h = no_ready got more [] refl (sym e) h
+opened_none v auth key (p ∷ q ∷ ts) untaken got more to s e h = no_packets q ts untaken (packets_are _ p [] ((q ∷ ts) ++ untaken) s)
+opened_none v auth key (p ∷ []) untaken got more to s e h =
+    let same : Starts (start_body key) ≡ p = packet_is _ p [] untaken s in
+    let left : [] ≡ untaken = packets_are _ p [] untaken s in
+    subst (λ (us : List Packet). Opened v auth key (p ∷ []) us more) left
+    (subst (λ (x : Packet). Opened v auth key (x ∷ []) [] more) same
+    (one_taken v auth key got more (sym e ∙ ap (λ (x : Packet). answers v (Before auth) (x ∷ [])) (sym same)) to h))
+
+opened_some : (v : Server) (auth : Auth) (key : StartKeyOf) (answer : Text) (taken untaken : List Packet) (got more : List FrameOf) → IsToQuestion (Some answer) auth → start_packets key (Some answer) ≡ taken ++ untaken
+    → answers v (Before auth) taken ≡ got ++ more → has_ready got ≡ true → Opened v auth key taken untaken more
+opened_some v auth key answer [] untaken got more to s e h = no_ready got more [] refl (sym e) h
+opened_some v auth key answer (p ∷ []) untaken got more to s e h =
+    let same : Starts (start_body key) ≡ p = packet_is _ p (Sends (password_message answer) ∷ []) untaken s in
+    asked_one v auth key answer got more (sym e ∙ ap (λ (x : Packet). answers v (Before auth) (x ∷ [])) (sym same)) to h
+opened_some v auth key answer (p ∷ q ∷ t ∷ ts) untaken got more to s e h =
+    let tail : Sends (password_message answer) ∷ [] ≡ (q ∷ t ∷ ts) ++ untaken = packets_are _ p (Sends (password_message answer) ∷ []) ((q ∷ t ∷ ts) ++ untaken) s in
+    no_packets t ts untaken (packets_are _ q [] ((t ∷ ts) ++ untaken) tail)
+opened_some v auth key answer (p ∷ q ∷ []) untaken got more to s e h =
+    let tail : Sends (password_message answer) ∷ [] ≡ q ∷ untaken = packets_are _ p (Sends (password_message answer) ∷ []) (q ∷ untaken) s in
+    let left : [] ≡ untaken = packets_are _ q [] untaken tail in
+    let both : start_packets key (Some answer) ≡ p ∷ q ∷ [] = ap₂ (λ (x y : Packet). x ∷ y ∷ []) (packet_is _ p (Sends (password_message answer) ∷ []) (q ∷ untaken) s) (packet_is _ q [] untaken tail) in
+    subst (λ (us : List Packet). Opened v auth key (p ∷ q ∷ []) us more) left
+    (subst (λ (ts : List Packet). Opened v auth key ts [] more) both
+    (asked_two v auth key answer got more (sym e ∙ ap (λ (ts : List Packet). answers v (Before auth) ts) (sym both)) to h))
+
+opened_by : (v : Server) (auth : Auth) (key : StartKeyOf) (answer : Option Text) (taken untaken : List Packet) (got more : List FrameOf) → IsToQuestion answer auth → start_packets key answer ≡ taken ++ untaken
+    → answers v (Before auth) taken ≡ got ++ more → has_ready got ≡ true → Opened v auth key taken untaken more
+opened_by v auth key None taken untaken got more to s e h = opened_none v auth key taken untaken got more to s e h
+opened_by v auth key (Some answer) taken untaken got more to s e h = opened_some v auth key answer taken untaken got more to s e h
+
+same_session : (r : Result State Cause) (s t : State) → r ≡ Ok s → r ≡ Ok t → s ≡ t
+same_session r s t e d = cc
+
+some_bytes : {A : Type 0} (got : List FrameOf) → flat_map spelling got ≡ [] → has_ready got ≡ true → A
+some_bytes [] e h = absurd (true≢false (sym h))
+some_bytes (f ∷ fs) e h = absurd cc
+
+-- what lives now has taken all, and has nothing more to say
+idle_now : (limit : ℕ) (began now : Standing) (key : StartKeyOf) (answer : Option Text) (sent : List ℕ) (got : List FrameOf) → limit < 2 ^ 32 → IsNew began
+    → sent ++ [] ≡ packets_bytes (start_packets key answer) → AllByRecursion FitsPacket (start_packets key answer) → IsToQuestion answer (auth_of began.stage)
+    → AllByRecursion (IsFrame FromServer limit) (start_replies began.server (auth_of began.stage) key answer) → AllByRecursion (IsFrame FromServer limit) got
+    → has_ready got ≡ true → (s : State) → started_by began.server.catalogue (start_body key) ≡ Ok s → Served began sent now (flat_map spelling got) → IsIdle now s
+idle_now limit began now key answer sent got low n al fits to short each h s is z =
+    let v : Server = began.server in
+    let auth : Auth = auth_of began.stage in
+    let whole : flat_map spelling got ≡ flat_map spelling got ++ [] = sym (append-nil (flat_map spelling got)) in
+    let b : Took v auth key answer got [] now.outbox (now.inbox ++ []) z.taken = took limit began key answer sent [] (flat_map spelling got) [] now.inbox now.outbox got z.taken low n al fits short each whole z.lawful z.inbox z.outbox in
+    let o : Opened v auth key z.taken b.untaken b.more = opened_by v auth key answer z.taken b.untaken got b.more to b.all b.frames h in
+    record {
+      is_open = z.stage ∙ ap (λ (t : Stage). after v t z.taken) n.stage ∙ o.stage ∙ ap Open (same_session (started_by v.catalogue (start_body key)) o.session s o.is is);
+      inbox = sym (append-nil now.inbox) ∙ b.inbox ∙ ap packets_bytes o.none_left;
+      outbox = b.outbox ∙ ap (flat_map spelling) o.none_more;
+    }
+
+pub started-fresh : StartedIsFresh
+started-fresh limit began now key answer got low f n k d x short each h =
+    let v : Server = began.server in
+    let auth : Auth = auth_of began.stage in
+    let same : started_by v.catalogue (start_body key) ≡ fresh v.catalogue key = started-of v.catalogue key k d in
+    let lived : began.lives ≡ true = ⊎_elim (λ t. t) (λ (dead : began.lives ≡ false). some_bytes got (x.moves.silent dead).1 h) (cases_Bool began.lives) in
+    let whole : flat_map spelling got ≡ flat_map spelling got ++ [] = sym (append-nil (flat_map spelling got)) in
+    let p : Passed began x.sent (flat_map spelling got) = x.moves.passed f lived in
+    let a : Took v auth key answer got [] p.lost (p.left ++ []) p.taken = took limit began key answer x.sent [] (flat_map spelling got) [] p.left p.lost got p.taken low n x.all x.fits short each whole p.lawful p.inbox p.outbox in
+    let o : Opened v auth key p.taken a.untaken a.more = opened_by v auth key answer p.taken a.untaken got a.more (x.to_question f) a.all a.frames h in
+    record {
+      session = o.session;
+      is_fresh = ap (λ (w : Server). fresh w.catalogue key) x.moves.server ∙ sym same ∙ o.is;
+      lawful = subst (λ (w : Server). IsLawfulCatalogue w.catalogue) (sym x.moves.server) n.lawful;
+      lawful_key = k.lawful;
+      idle = λ lives. idle_now limit began now key answer x.sent got low n x.all x.fits (x.to_question f) short each h o.session o.is (x.moves.served f lives);
+    }
