@@ -211,10 +211,9 @@ module _ (start : Standing) (v : ResetView) (x : IsResetFrom start v) (d : IsAns
       let cat : CatalogueOf = start.server.catalogue in
       let s : State = rested.stands.session in
       let l = reached_lawful cat v.key s rested.stands.reached in
-      let y = by_passing (x.moves.passed began (lived start v x d)) in
-      (
+      let y = by_passing (x.moves.passed began (lived start v x d)) in (
         ap (λ (ks : List Kept). are_known ks got) rested.kept
-        ∙ known_frames rested.origin.reported s.reported got (welcome_is_read cat v.key rested.origin 0 0 (begins l.0 l.1 rested.is_fresh)).nine (welcome_is_read cat v.key s 0 0 rested.stands.reached).nine y.statuses,
+            ∙ known_frames rested.origin.reported s.reported got (welcome_is_read cat v.key rested.origin 0 0 (begins l.0 l.1 rested.is_fresh)).nine (welcome_is_read cat v.key s 0 0 rested.stands.reached).nine y.statuses,
         ap is_at_start kept_now ∙ at_start_again reported_parameters (fresh_of v.key start rested.stands).origin.reported,
       )
 

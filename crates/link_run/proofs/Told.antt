@@ -1,5 +1,5 @@
 -- What a server at rest answers to DISCARD ALL, as a reset reads it.
-use Rattle.std.proofs.Common.{◌≡◌, ◌⊎◌, inl, inr, ⊎_elim, ℕ, ◌+◌, Bool, true, false, not, List, [], ◌∷◌, ◌++◌, refl, sym, ap, ◌∙◌, append_assoc, append-nil, subst, arith}
+use Rattle.std.proofs.Common.{◌≡◌, ◌⊎◌, inl, inr, ⊎_elim, ℕ, Bool, true, false, List, [], ◌∷◌, ◌++◌, ◌<◌, length, drop, length-drop, refl, sym, ap, ◌∙◌, append_assoc, append-nil, subst, arith}
 use Rattle.std.specs.Prelude.{if◌then◌else◌, bytes_eq, codes}
 use Rattle.std.specs.List.{flat_map, AllByRecursion}
 use Rattle.std.proofs.lemmas.Bool.{cases_Bool}
@@ -169,8 +169,7 @@ module _ (v : ResetView) (x : IsAnswering v) (bytes : AreBytes v.received) where
   unfolding got rest
   all_came e =
       let d : answered_by_all Nothing got ≡ All = sym read_as ∙ e in
-      let none : splits.more ≡ [] = all_ends splits.more (ap (λ (a : Answered). answered_by_all a splits.more) (sym d) ∙ then_answer) in
-      (
+      let none : splits.more ≡ [] = all_ends splits.more (ap (λ (a : Answered). answered_by_all a splits.more) (sym d) ∙ then_answer) in (
         (no_bytes rest x.lost (splits.bytes ∙ ap (λ (gs : List FrameOf). flat_map spelling gs ++ []) none)).0,
         ⊎_elim (λ n. some_answer got d (ap (λ (b : List ℕ). (frames Server LONGEST_REPLY b).frames) n ∙ none_in)) (λ u. u) x.asked,
       )
@@ -182,6 +181,7 @@ reset_answering v (start, x) f = by (cases_Bool start.lives)
   where
     began : start.follows ≡ true
     began = sym x.moves.follows ∙ f
+
     by : (start.lives ≡ true) ⊎ (start.lives ≡ false) → IsAnswering v
     by (inl lives) = answering start v x (x.used began lives).stands (x.moves.passed began lives)
     by (inr dead) = nothing_came v (x.moves.silent dead).1
@@ -194,3 +194,6 @@ pub none_early : (v : ResetView) (bs : List ℕ) (a : Answered) → bs ≡ v.rec
 none_early v bs a same b e x d f =
     let c = all_came v (reset_answering v x f) (subst AreBytes same b) (ap (λ (q : List ℕ). reads (frames Server LONGEST_REPLY q)) (sym same) ∙ sym e ∙ d) in
     (ap (λ (q : List ℕ). (frames Server LONGEST_REPLY q).rest) same ∙ c.0, c.1)
+
+pub some_unsent : (n : ℕ) → n < 17 → drop n (spelling discard_all) ≡ [] → ⊥
+some_unsent n h e = omega (arith, h, ap length e, length-drop n (spelling discard_all))
