@@ -734,7 +734,7 @@ clean_greets : (l : Standing) (k : StartKeyOf) (ks : List Kept) (w : KeyWord) �
 clean_greets l k ks w c f s e =
     let x = c f in
     let z : State = x.stands.session in
-    ap (λ (as : List Kept). greeting_of as w) x.kept ∙ ap (flat_map spelling) (welcome_is z w.pid w.secret)
+    ap (λ (kept : List Kept). greeting_of kept w) x.kept ∙ ap (flat_map spelling) (welcome_is z w.pid w.secret)
     ∙ ap (λ (t : State). flat_map spelling (welcome t w.pid w.secret)) (same_session (fresh l.server.catalogue k) z s x.stands.is_fresh e)
 
 lease_begun : (cf : ClientFacts) (l : Standing) (k : StartKeyOf) (n b : ℕ) (w : KeyWord) (tl tc : FlowView) (t : Told) (ph : Phase) (lm : ℕ)
