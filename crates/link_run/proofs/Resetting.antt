@@ -1,6 +1,6 @@
 -- A reset's moves, and what its answer says of the session behind it.
-use Rattle.std.proofs.Common.{◌≡◌, ⊎_elim, ℕ, ◌+◌, ◌-◌, ◌≤◌, ◌==◌, Bool, true, false, List, [], ◌∷◌, ◌++◌, take, drop, length, refl, sym, ap, ap₂, ◌∙◌, append_assoc, append-nil, take-append-drop, drop-drop, arith, take_all, length-drop, subst, Result, Ok, Err, ◌&&◌}
-use Rattle.std.proofs.lemmas.Bool.{cases_Bool, eqb-false, eqb-true}
+use Rattle.std.proofs.Common.{◌≡◌, ◌≢◌, ◌⊎◌, inl, inr, ◌<◌, length-append, length-take-le, ⊎_elim, ℕ, ◌+◌, ◌-◌, ◌≤◌, ◌==◌, Bool, true, false, List, [], ◌∷◌, ◌++◌, take, drop, length, refl, sym, ap, ap₂, ◌∙◌, append_assoc, append-nil, take-append-drop, drop-drop, arith, take_all, length-drop, subst, Result, Ok, Err, ◌&&◌}
+use Rattle.std.proofs.lemmas.Bool.{cases_Bool, eqb-false, eqb-true, true≢false}
 use Rattle.std.proofs.Math.Seq.{drop-length}
 use Rattle.std.specs.List.{flat_map, AllByRecursion}
 use Rattle.frame_view.proofs.Taking.{not_whole}
@@ -29,11 +29,16 @@ use Rattle.link_laws.specs.Links.{IsIdle, IsFresh, IsResting}
 use Rattle.link_laws.proofs.Both.{moves_none, moves_got, moves_put}
 use Rattle.link_laws.proofs.InSession.{InSession, in_session}
 use Rattle.link_laws.proofs.Splits.{SplitsOff, split_whole}
+use Rattle.server_end.specs.declared.Moved.{Moved}
+use Rattle.server_end.specs.declared.Moved.TheVariants.{Count, NotNow, Ended, Fault}
+use Rattle.server_end.specs.Moves.{faults_in, moved, waits_in, IsWithin}
+use Rattle.link_run.specs.declared.reset.ResetFault.{ResetFault}
+use Rattle.link_run.specs.declared.reset.ResetFault.TheVariants.{Lost, Unexpected, Changed, Memory, Turns}
 use Rattle.link_run.specs.declared.reply.Answered.{Answered}
 use Rattle.link_run.specs.declared.reply.Answered.TheVariants.{Nothing, All}
 use Rattle.link_run.specs.declared.reply.TheConstants.{LONGEST_REPLY}
 use Rattle.link_run.specs.Links.{kept_by, after_frames, IsFreshLink, IsClean, IsRestingLink, IsUsed}
-use Rattle.link_run.specs.Resets.{answered_by_all, IsResetAnswer, are_known, at_rest, ResetView, reset_view, IsResetFrom, IsReset, IsAnsweredReset, IsResetDialogue, reads}
+use Rattle.link_run.specs.Resets.{answered_by_all, IsResetAnswer, are_known, at_rest, ResetView, reset_view, IsResetFrom, IsReset, IsAnsweredReset, IsResetDialogue, IsEndOver, FailsBy, MoveFailsBy, is_over, reads}
 use Rattle.link_run.proofs.Answering.{asked, is_answered, some_answer}
 use Rattle.link_run.proofs.Knowing.{at_start_again, known_frames}
 use Rattle.link_run.proofs.Reporting.{told-frames}
@@ -41,25 +46,52 @@ use Rattle.link_run.proofs.Reporting.{told-frames}
 -- ---- moves
 
 pub reset_begun : (l : Standing) (k : StartKeyOf) (n b : ℕ) (ks : List Kept) (r : List ℕ) → r ≡ [] → IsUsed l k ks → IsResetFrom l (reset_view l k n b ks (spelling discard_all) r)
-reset_begun l k n b ks r e u = record { sent = []; used = u; moves = rw e (moves_none l); all = refl }
+reset_begun l k n b ks r e u = record { sent = []; used = u; moves = rw e (moves_none l); all = refl; faults = omega arith }
 
-pub reset_sent : (start l m : Standing) (k : StartKeyOf) (n b : ℕ) (ks : List Kept) (put u w r : List ℕ) → Moves l put m [] → u ≡ put ++ w
+pub reset_sent : (start l m : Standing) (k : StartKeyOf) (n b : ℕ) (ks : List Kept) (put u w r : List ℕ) → Moves l put m [] → l.faults ≤ m.faults → u ≡ put ++ w
     → IsResetFrom start (reset_view l k n b ks u r) → IsResetFrom start (reset_view m k n b ks w r)
-reset_sent start l m k n b ks put u w r y e x = record {
+reset_sent start l m k n b ks put u w r y f e x = record {
   sent = x.sent ++ put;
   used = x.used;
   moves = moves_put start l m x.sent put r x.moves y;
   all = append_assoc x.sent put w ∙ ap (λ (t : List ℕ). x.sent ++ t) (sym e) ∙ x.all;
+  faults = (let a = x.faults in omega (arith, a, f));
 }
 
-pub reset_got : (start l m : Standing) (k : StartKeyOf) (n b : ℕ) (ks : List Kept) (got u r s : List ℕ) → Moves l [] m got → s ≡ r ++ got
+pub reset_got : (start l m : Standing) (k : StartKeyOf) (n b : ℕ) (ks : List Kept) (got u r s : List ℕ) → Moves l [] m got → l.faults ≤ m.faults → s ≡ r ++ got
     → IsResetFrom start (reset_view l k n b ks u r) → IsResetFrom start (reset_view m k n b ks u s)
-reset_got start l m k n b ks got u r s y e x = record {
+reset_got start l m k n b ks got u r s y f e x = record {
   sent = x.sent;
   used = x.used;
   moves = rw e (moves_got start l m x.sent r got x.moves y);
   all = x.all;
+  faults = (let a = x.faults in omega (arith, a, f));
 }
+
+-- a call that the end ended or faulted by
+pub over_now : (old new : Standing) (m : Moved) → new.faults ≡ old.faults + faults_in m → (m ≡ Ended → new.lives ≡ false) → is_over m ≡ true → IsEndOver old new
+over_now old new (Count n) e d o = absurd (true≢false (sym o))
+over_now old new NotNow e d o = absurd (true≢false (sym o))
+over_now old new Ended e d o = inl (d refl)
+over_now old new Fault e d o = inr (omega (arith, e))
+
+-- any other read gave a byte, or came to nothing at that time
+pub read_on : (old new : Standing) (m : Moved) (into r s : List ℕ) (size : ℕ) → IsWithin m size → length into ≡ size → new.read_waits ≡ old.read_waits + waits_in m → s ≡ r ++ moved m into → is_over m ≡ false → old.read_waits + length r < new.read_waits + length s
+read_on old new (Count n) into r s size i b e d o = let l = i.0 in let h = i.1 in let k = length-append r (take n into) in let j = length-take-le n into (omega (arith, b, h)) in let z = ap length d in omega (arith, e, k, j, z, l)
+read_on old new NotNow into r s size i b e d o = let k = length-append r [] in let z = ap length d in omega (arith, e, k, z)
+read_on old new Ended into r s size i b e d o = absurd (true≢false o)
+read_on old new Fault into r s size i b e d o = absurd (true≢false o)
+
+-- a move's fault is the reset's
+pub fails_by : (start old now : Standing) (turns : ℕ) (cause : ResetFault) → start.faults ≤ old.faults → MoveFailsBy old now cause → FailsBy start now turns cause
+fails_by start old now turns Lost l f = ⊎_elim (λ d. inl d) (λ n. inr (omega (arith, l, n))) f
+fails_by start old now turns Unexpected l f = absurd f
+fails_by start old now turns Changed l f = absurd f
+fails_by start old now turns Memory l f = tt
+fails_by start old now turns Turns l f = absurd f
+
+pub answer_fails_by : (start now : Standing) (turns : ℕ) (cause : ResetFault) → (cause ≡ Unexpected) ⊎ (cause ≡ Changed) → start.follows ≢ true → FailsBy start now turns cause
+answer_fails_by start now turns cause c n = ⊎_elim (λ e. subst (FailsBy start now turns) (sym e) n) (λ e. subst (FailsBy start now turns) (sym e) n) c
 
 -- ---- the session behind it
 

@@ -28,7 +28,7 @@ use Rattle.link_laws.proofs.Splits.{SplitsOff, split_whole}
 use Rattle.link_run.specs.declared.reply.Answered.{Answered}
 use Rattle.link_run.specs.declared.reply.Answered.TheVariants.{Nothing, Tag, All, Other}
 use Rattle.link_run.specs.declared.reply.TheConstants.{LONGEST_REPLY}
-use Rattle.link_run.specs.Resets.{answered_by, answered_by_all, IsResetAnswer, at_rest, reads, ResetView, IsResetFrom, IsReset}
+use Rattle.link_run.specs.Resets.{answered_by, answered_by_all, IsResetAnswer, ResetsAreAnswered, at_rest, reads, ResetView, IsResetFrom, IsReset}
 use Rattle.link_run.proofs.Answering.{asked, all_ends, not_other, some_answer}
 use Rattle.link_run.proofs.Resetting.{all_client, fresh_of}
 
@@ -48,7 +48,7 @@ reports_aside (p ∷ ps) (v ∷ vs) [] gs = refl
 reports_aside (p ∷ ps) (v ∷ vs) (r ∷ rs) gs =
     ap (answered_by_all Tag) (append_assoc (report_of p v r) (reports_from ps vs rs) gs) ∙ report_aside p v r (reports_from ps vs rs ++ gs) ∙ reports_aside ps vs rs gs
 
-replies_answer : (origin s : State) → IsResetAnswer (discard_replies origin s)
+pub replies_answer : ResetsAreAnswered
 replies_answer origin s = reports_aside reported_parameters origin.defaults s.reported (ready_for_query (status Outside) ∷ [])
 
 -- ---- what came begins it

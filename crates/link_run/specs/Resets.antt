@@ -1,5 +1,5 @@
 -- A reset by DISCARD ALL: what it is answered by, and a reset under way.
-use Rattle.std.specs.Prelude.{◌≡◌, ℕ, Bool, true, false, Result, Ok, Err, ◌||◌, ◌&&◌, ◌==◌, if◌then◌else◌, bytes_eq, codes, List, [], ◌∷◌, ◌++◌}
+use Rattle.std.specs.Prelude.{◌≡◌, ◌≢◌, ◌⊎◌, ℕ, ◌+◌, ◌<◌, ◌≤◌, length, Bool, true, false, Result, Ok, Err, ◌||◌, ◌&&◌, ◌==◌, if◌then◌else◌, bytes_eq, codes, List, [], ◌∷◌, ◌++◌}
 use Rattle.std.specs.List.{flat_map, AllByRecursion}
 use Rattle.frame_view.specs.declared.Side.TheVariants.{Server}
 use Rattle.frame_view.specs.declared.server.TheConstants.{COMMAND_COMPLETE, NOTICE_RESPONSE, PARAMETER_STATUS, READY_FOR_QUERY}
@@ -9,11 +9,13 @@ use Rattle.message_view.specs.Bodies.{text}
 use Rattle.message_view.specs.declared.ViewFault.{ViewFault}
 use Rattle.message_view.specs.Reading.{status_of}
 use Rattle.start_keys.specs.StartPairs.{Text}
-use Rattle.session_values.specs.State.{StartKeyOf}
+use Rattle.session_values.specs.State.{State, StartKeyOf}
 use Rattle.param_track.specs.Kept.{Kept, has_name}
-use Rattle.session_laws.specs.Laws.{discard_all}
+use Rattle.session_laws.specs.Laws.{discard_all, discard_replies}
 use Rattle.link_laws.specs.Standing.{Standing, Moves}
 use Rattle.link_run.specs.Links.{IsUsed, after_frame}
+use Rattle.server_end.specs.declared.Moved.{Moved}
+use Rattle.server_end.specs.declared.Moved.TheVariants.{Count, NotNow, Ended, Fault}
 use Rattle.link_run.specs.declared.reset.ResetFault.{ResetFault}
 use Rattle.link_run.specs.declared.reset.ResetFault.TheVariants.{Lost, Unexpected, Changed, Memory, Turns}
 use Rattle.link_run.specs.declared.reply.Answered.{Answered}
@@ -51,6 +53,10 @@ at_rest a (AFrame kind body rest) = a
 at_rest a (Lacks n) = a
 at_rest a (Faulty fault) = Other
 
+-- What a session at rest answers to DISCARD ALL is such an answer.
+abbrev pub ResetsAreAnswered : Type 0
+ResetsAreAnswered = (origin s : State) → IsResetAnswer (discard_replies origin s)
+
 abbrev pub reads : Cut → Answered
 reads cut = at_rest (answered_by_all Nothing cut.frames) (front Server LONGEST_REPLY cut.rest)
 
@@ -86,6 +92,7 @@ pub record IsResetFrom (start : Standing) (v : ResetView) : Type 0 where
   pub used : IsUsed start v.key v.reports
   pub moves : Moves start sent v.link v.received
   pub all : sent ++ v.unsent ≡ spelling discard_all
+  pub faults : start.faults ≤ v.link.faults
 
 abbrev pub IsReset : ResetView → Type 0
 IsReset v = (start : Standing) × IsResetFrom start v
@@ -113,10 +120,43 @@ pub record IsResetDialogue (start now : Standing) : Type 0 where
 abbrev pub EndsDialogue : ResetView → Standing → Type 0
 EndsDialogue v now = (start : Standing) → IsResetFrom start v → IsResetDialogue start now
 
--- what the server answered is the fault, and not its end, the memory or the turns
-abbrev pub is_of_answer : ResetFault → Bool
-is_of_answer Lost = false
-is_of_answer Unexpected = true
-is_of_answer Changed = true
-is_of_answer Memory = false
-is_of_answer Turns = false
+-- ---- why a reset fails
+
+-- the end ended or faulted since then
+abbrev pub IsEndOver : Standing → Standing → Type 0
+IsEndOver start now = (now.lives ≡ false) ⊎ (start.faults < now.faults)
+
+-- So many reads were tried since then: each gave a byte, or came to nothing at that time.
+pub record HasRead (start now : Standing) (turns : ℕ) : Type 0 where
+  pub sent : List ℕ
+  pub received : List ℕ
+  pub moves : Moves start sent now received
+  pub reads : turns + start.read_waits ≤ now.read_waits + length received
+
+-- By its cause: the end ended or faulted; an end that follows never gives another answer, nor other values; so many turns are
+-- used up. That memory was refused no contract can say.
+abbrev pub FailsBy : Standing → Standing → ℕ → ResetFault → Type 0
+FailsBy start now turns Lost = IsEndOver start now
+FailsBy start now turns Unexpected = start.follows ≢ true
+FailsBy start now turns Changed = start.follows ≢ true
+FailsBy start now turns Memory = Unit {0}
+FailsBy start now turns Turns = HasRead start now turns
+
+-- one read or write fails by the end or by the memory alone
+abbrev pub MoveFailsBy : Standing → Standing → ResetFault → Type 0
+MoveFailsBy old new Lost = IsEndOver old new
+MoveFailsBy old new Unexpected = ⊥
+MoveFailsBy old new Changed = ⊥
+MoveFailsBy old new Memory = Unit {0}
+MoveFailsBy old new Turns = ⊥
+
+-- the end ended or faulted by this call
+abbrev pub is_over : Moved → Bool
+is_over (Count n) = false
+is_over NotNow = false
+is_over Ended = true
+is_over Fault = true
+
+-- the bytes received, and the reads that came to nothing
+abbrev pub read_so_far : ResetView → ℕ
+read_so_far v = v.link.read_waits + length v.received

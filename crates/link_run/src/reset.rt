@@ -1,7 +1,8 @@
 //! The reset of a used link by `DISCARD ALL`.
-ghost use Rattle.std.specs.Prelude.{◌≡◌, ◌≢◌, false, true, IfErr, IfOk};
+ghost use Rattle.std.specs.Prelude.{◌≡◌, ◌≢◌, ◌<◌, ◌⊎◌, false, true, IfErr, IfOk};
 ghost use Rattle.param_track.specs.Kept.{is_at_start};
-ghost use Rattle.link_run.specs.Resets.{EndsDialogue, IsAnsweredReset, IsResetDialogue, IsResetFrom, KeepsReset, is_of_answer};
+ghost use Rattle.link_run.specs.Resets.{EndsDialogue, IsAnsweredReset, IsResetDialogue, IsResetFrom, FailsBy, KeepsReset, MoveFailsBy, is_over, read_so_far};
+ghost use Rattle.link_run.specs.declared.reset.ResetFault.TheVariants.{Changed, Lost, Unexpected};
 ghost use Rattle.link_run.specs.declared.reply.Answered.TheVariants.{All, Other};
 
 use crate::links::{CleanLink, Lent, UsedLink};
@@ -65,7 +66,8 @@ impl<E: ServerEnd> Model for Reset<E> {
 
 /// The fault of a read or a write.
 fn moved_on(moved: Moved) -> Result<(), ResetFault>
-    ensures { IfErr result (λ cause. is_of_answer cause ≡ false) }
+    ensures ok { IfOk result (λ _. is_over moved ≡ false) }
+    ensures err { IfErr result (λ cause. (cause ≡ Lost) × (is_over moved ≡ true)) }
 {
     match moved {
         Moved::Count(_) | Moved::NotNow => Ok(()),
@@ -79,6 +81,7 @@ impl<E: ServerEnd> Reset<E> {
         ensures number { result.number ≡ used.number }
         ensures born { result.born ≡ used.born }
         ensures from { IsResetFrom used.stands result }
+        ensures reads { read_so_far result ≡ used.stands.read_waits }
     {
         Reset {
             link: used.lend(),
@@ -93,7 +96,8 @@ impl<E: ServerEnd> Reset<E> {
         ensures number { self.new.number ≡ self.old.number }
         ensures born { self.new.born ≡ self.old.born }
         ensures keeps { KeepsReset self.old self.new }
-        ensures faults { IfErr result (λ cause. is_of_answer cause ≡ false) }
+        ensures reads { read_so_far self.new ≡ read_so_far self.old }
+        ensures faults { IfErr result (MoveFailsBy self.old.link self.new.link) }
     {
         if self.sent == DISCARD_ALL.len() {
             return Ok(());
@@ -112,7 +116,8 @@ impl<E: ServerEnd> Reset<E> {
         ensures number { self.new.number ≡ self.old.number }
         ensures born { self.new.born ≡ self.old.born }
         ensures keeps { KeepsReset self.old self.new }
-        ensures faults { IfErr result (λ cause. is_of_answer cause ≡ false) }
+        ensures reads { IfOk result (λ _. read_so_far self.old < read_so_far self.new) }
+        ensures faults { IfErr result (MoveFailsBy self.old.link self.new.link) }
     {
         let mut chunk = [0u8; CHUNK];
         if self.reply.reserve(CHUNK).is_err() {
@@ -145,7 +150,7 @@ impl<E: ServerEnd> Reset<E> {
         ensures born { IfOk result (λ l. l.born ≡ self.born) }
         ensures reports { IfOk result (λ l. is_at_start l.reports ≡ true) }
         ensures whole { IfOk result (λ l. EndsDialogue self l.stands) }
-        ensures faults { IfErr result (λ _. self.link.follows ≢ true) }
+        ensures faults { IfErr result (λ d. ((d.cause ≡ Unexpected) ⊎ (d.cause ≡ Changed)) × (self.link.follows ≢ true)) }
     {
         let Reset {
             mut link,
@@ -162,7 +167,8 @@ impl<E: ServerEnd> Reset<E> {
     }
 
     fn fail(self, cause: ResetFault) -> Disposed<E>
-        ensures { result.cause ≡ cause }
+        ensures cause { result.cause ≡ cause }
+        ensures stands { E.standing result.end ≡ self.link }
     {
         let Reset {
             link,
@@ -174,7 +180,8 @@ impl<E: ServerEnd> Reset<E> {
 }
 
 fn dispose<E: ServerEnd>(link: Lent<E>, cause: ResetFault) -> Disposed<E>
-    ensures { result.cause ≡ cause }
+    ensures cause { result.cause ≡ cause }
+    ensures stands { E.standing result.end ≡ E.standing link.end }
 {
     let Lent {
         end,
@@ -190,7 +197,8 @@ fn dispose<E: ServerEnd>(link: Lent<E>, cause: ResetFault) -> Disposed<E>
 /// `I`, each with notices and reports in any number before it, and nothing behind it (PostgreSQL manual, "DISCARD"). Each turn of
 /// the gate allows at most one write and then one read; nothing is read after the ReadyForQuery.
 ///
-/// Where it fails the end comes back with the cause. An end that follows the stand-in server never gives Unexpected or Changed.
+/// Where it fails the end comes back with the cause. An end that follows the stand-in server never gives Unexpected or Changed;
+/// it is Turns only after so many reads.
 pub fn reset_link<E: ServerEnd, G: Gate<E>>(
     alloc: Global,
     used: UsedLink<E>,
@@ -202,7 +210,7 @@ pub fn reset_link<E: ServerEnd, G: Gate<E>>(
     ensures born { IfOk result (λ l. l.born ≡ used.born) }
     ensures reports { IfOk result (λ l. is_at_start l.reports ≡ true) }
     ensures whole { IfOk result (λ l. IsResetDialogue used.stands l.stands) }
-    ensures faults { IfErr result (λ d. used.stands.follows ≡ true → is_of_answer d.cause ≡ false) }
+    ensures faults { IfErr result (λ d. FailsBy used.stands (E.standing d.end) turns d.cause) }
 {
     let mut reset = Reset::begin(alloc, used);
     for _ in 0..turns {
