@@ -11,6 +11,7 @@ DESTDIR ?=
 
 program := crates/pgsess/out/pgsess
 trials := crates/trials/out/trials
+relay_bench := crates/relay_bench/out/relay_bench
 sources := crates.txt $(shell find crates -name out -prune -o -name must-fail -prune -o \( -name '*.rt' -o -name '*.antt' \) -print)
 
 # the program, as `rt ci` or an earlier build left it; else proved and built now
@@ -58,9 +59,15 @@ install: build/pgsess
 	install -d "$(DESTDIR)$(PREFIX)/bin"
 	install -m 755 build/pgsess "$(DESTDIR)$(PREFIX)/bin/pgsess"
 
-# both run; the status says whether a bound was missed
-bench: build/pgsess
-	@status=0; bench/replay.sh build/pgsess || status=$$?; bench/tables.sh build/pgsess || status=$$?; exit $$status
+# the relay between ends in memory; it isn't installed
+$(relay_bench): $(sources)
+	@scripts/prove.py relay_bench 12 1000000
+	@touch $(relay_bench)
+	@echo "built $(relay_bench) ($$(date +%T))"
+
+# all run; the status says whether a bound was missed
+bench: build/pgsess $(relay_bench)
+	@status=0; bench/replay.sh build/pgsess || status=$$?; bench/tables.sh build/pgsess || status=$$?; bench/relay.sh $(relay_bench) || status=$$?; exit $$status
 
 clean:
 	rm -rf build crates/*/out

@@ -1,0 +1,29 @@
+"""The relay's time for a gigabyte of rows, beside a C program that copies the same bytes through two buffers."""
+import sys
+
+from timing import judged, seconds
+
+RELAY, COPY = sys.argv[1:3]
+SIZES = [10_000_000, 100_000_000, 1_000_000_000]
+
+
+def taken(program, row, total, *more):
+    """Seconds of processor time for a gigabyte."""
+    return seconds([program, str(row), str(total), *more], b"", 3) * 1e9 / total
+
+
+def main():
+    met = True
+    for row, name in [(12, "rows of 12 bytes"), (1_048_576, "rows of 1 MB")]:
+        times = [taken(RELAY, row, total) for total in SIZES]
+        print(f"{name}: " + ", ".join(f"{t:.2f} s/GB over {s // 1_000_000} MB" for t, s in zip(times, SIZES)))
+        copied = taken(COPY, row, SIZES[-1])
+        headed = taken(COPY, row, SIZES[-1], "heads")
+        print(f"{name}: C copies 1 GB in {copied:.2f} s, and reading each head in {headed:.2f} s")
+        met &= judged(f"{name}: time per byte from 10 MB to 1 GB", times[-1] / times[0], 1.3)
+        met &= judged(f"{name}: beside the C program that reads each head", times[-1] / headed, 3)
+    return 0 if met else 1
+
+
+if __name__ == "__main__":
+    raise SystemExit(main())
