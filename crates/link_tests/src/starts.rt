@@ -1,0 +1,157 @@
+//! Starts over servers in memory (PostgreSQL manual, "Message Flow", "Start-up").
+ghost use Rattle.std.specs.Prelude.{◌<◌};
+ghost use Rattle.link_start.specs.Starts.{CanStart, HasSalt};
+
+use crate::making::{SHOP, Start, begin, server};
+use link_start::start::{StartCause, StartError};
+use message_view::KeyWord;
+use server_end::ServerEnd;
+use server_end::failing_end::FailingEnd;
+use server_end::memory_server::ServerAuth;
+use std::alloc::Global;
+use std::test::Fail;
+
+/// The digest of ann's password and the salt 1, 2, 3, 4 (manual, "AuthenticationMD5Password").
+fn digest() -> [u8; 35] {
+    *b"md59009ce60b9ca97f1e752376843d1309e"
+}
+
+fn wrong_password() -> &'static [u8] {
+    b"E\0\0\0\x3aSFATAL\0VFATAL\0C28P01\0Mpassword authentication failed\0\0"
+}
+
+fn no_database() -> &'static [u8] {
+    b"E\0\0\0\x33SFATAL\0VFATAL\0C3D000\0Mdatabase does not exist\0\0"
+}
+
+/// Of a started link its number and birth, and the length of what its client is given first; or why there is none.
+fn told<E: ServerEnd>(
+    alloc: Global,
+    end: E,
+    how: Start,
+) -> Result<Result<(u64, u64, usize), StartCause>, Fail>
+    requires { CanStart (E.standing end) }
+{
+    let word = KeyWord {
+        pid: 1,
+        secret: 2,
+        salt: [0; 4],
+    };
+    match begin(alloc, end, how)? {
+        Ok(link) => Ok(Ok((link.number(), link.born(), link.welcome(alloc, word)?.len()))),
+        Err(cause) => Ok(Err(cause)),
+    }
+}
+
+/// What a start over a server comes to that asks this.
+fn asked(
+    alloc: Global,
+    auth: ServerAuth<'_>,
+    how: Start,
+) -> Result<Result<(u64, u64, usize), StartCause>, Fail>
+    requires { HasSalt auth }
+{
+    told(alloc, server(alloc, auth, 100, None)?, how)
+}
+
+#[test]
+fn each_question_is_answered(rt: HostRuntime) -> Result<(), Fail> {
+    let alloc = rt.alloc();
+    let md5 = ServerAuth::Md5 {
+        salt: [1, 2, 3, 4],
+        answer: digest(),
+    };
+    assert!(rt; matches!(asked(alloc, ServerAuth::Trust, SHOP)?, Ok((5, 9, 251))));
+    assert!(rt;
+        matches!(
+            asked(alloc, ServerAuth::Plain(b"secret"), SHOP)?,
+            Ok((5, 9, 251))
+        )
+    );
+    assert!(rt; matches!(asked(alloc, md5, SHOP)?, Ok((5, 9, 251))));
+    Ok(())
+}
+
+/// The error by which a server that asks this refuses a start.
+fn refusal(alloc: Global, auth: ServerAuth<'_>, how: Start) -> Result<StartError, Fail>
+    requires { HasSalt auth }
+{
+    match asked(alloc, auth, how)? {
+        Err(StartCause::Refused(error)) => Ok(error),
+        _ => Err("not refused")?,
+    }
+}
+
+#[test]
+fn a_start_is_refused(rt: HostRuntime) -> Result<(), Fail> {
+    let alloc = rt.alloc();
+    let open = Start {
+        password: b"open",
+        ..SHOP
+    };
+    let error = refusal(alloc, ServerAuth::Plain(b"secret"), open)?;
+    assert!(rt; error.as_bytes() == wrong_password());
+    let nowhere = Start {
+        is_there: false,
+        ..SHOP
+    };
+    let error = refusal(alloc, ServerAuth::Trust, nowhere)?;
+    assert!(rt; error.as_bytes() == no_database());
+    Ok(())
+}
+
+/// Of a password the secret keeps only the digest, which answers no question for the password itself.
+#[test]
+fn a_digest_is_no_password(rt: HostRuntime) -> Result<(), Fail> {
+    let digest = Start {
+        password: b"md500000000000000000000000000000000",
+        ..SHOP
+    };
+    let started = asked(rt.alloc(), ServerAuth::Plain(b"secret"), digest)?;
+    assert!(rt; matches!(started, Err(StartCause::Unanswerable)));
+    Ok(())
+}
+
+/// Three reads of 100 bytes are the welcome of 260: the first turn sends and reads.
+#[test]
+fn turns_are_used_up(rt: HostRuntime) -> Result<(), Fail> {
+    let alloc = rt.alloc();
+    let started = asked(alloc, ServerAuth::Trust, Start { turns: 2, ..SHOP })?;
+    assert!(rt; matches!(started, Err(StartCause::Turns)));
+    let started = asked(alloc, ServerAuth::Trust, Start { turns: 3, ..SHOP })?;
+    assert!(rt; started.is_ok());
+    Ok(())
+}
+
+/// Whether a server is lost that dies after so many bytes.
+fn is_lost_after(alloc: Global, bytes: u64) -> Result<bool, Fail> {
+    let end = server(alloc, ServerAuth::Trust, 100, Some(bytes))?;
+    Ok(matches!(told(alloc, end, SHOP)?, Err(StartCause::Lost)))
+}
+
+/// A server that dies behind the last byte of its welcome is a link still.
+#[test]
+fn a_server_dies(rt: HostRuntime) -> Result<(), Fail> {
+    let alloc = rt.alloc();
+    assert!(rt; is_lost_after(alloc, 0)?);
+    assert!(rt; is_lost_after(alloc, 259)?);
+    assert!(rt; !is_lost_after(alloc, 260)?);
+    Ok(())
+}
+
+/// Whether a server is lost whose end fails at this call.
+fn is_lost_at(alloc: Global, nth: u64) -> Result<bool, Fail>
+    requires { 0 < nth }
+{
+    let end = FailingEnd::new(server(alloc, ServerAuth::Trust, 100, None)?, nth);
+    Ok(matches!(told(alloc, end, SHOP)?, Err(StartCause::Lost)))
+}
+
+/// The first call of an end is the write of the StartupMessage, the second a read.
+#[test]
+fn an_end_fails(rt: HostRuntime) -> Result<(), Fail> {
+    let alloc = rt.alloc();
+    assert!(rt; is_lost_at(alloc, 1)?);
+    assert!(rt; is_lost_at(alloc, 2)?);
+    Ok(())
+}
