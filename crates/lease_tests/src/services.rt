@@ -60,7 +60,13 @@ fn a_server_dies_in_its_start(rt: HostRuntime) -> Result<(), Fail> {
 fn a_message_is_too_long(rt: HostRuntime) -> Result<(), Fail> {
     let mut wanted = welcome_and(rt.alloc(), ANSWER)?;
     wanted.extend_from_slice(refusal_bytes(Refusal::ClientMessageTooLong))?;
-    let answer = served(rt.alloc(), None, LIMIT, 8_192, b"Q\0\0\0\x05\0Q\0\0\x04\x01")?;
+    let answer = served(
+        rt.alloc(),
+        None,
+        LIMIT,
+        8_192,
+        b"Q\0\0\0\x05\0Q\0\0\x04\x01",
+    )?;
     assert_eq!(rt; answer.as_slice(), wanted.as_slice());
     Ok(())
 }
@@ -69,7 +75,13 @@ fn a_message_is_too_long(rt: HostRuntime) -> Result<(), Fail> {
 #[test]
 fn nothing_follows_a_terminate(rt: HostRuntime) -> Result<(), Fail> {
     let wanted = welcome_and(rt.alloc(), ANSWER)?;
-    let answer = served(rt.alloc(), None, LIMIT, 7, b"Q\0\0\0\x05\0X\0\0\0\x04?\0\0\0\x04")?;
+    let answer = served(
+        rt.alloc(),
+        None,
+        LIMIT,
+        7,
+        b"Q\0\0\0\x05\0X\0\0\0\x04?\0\0\0\x04",
+    )?;
     assert_eq!(rt; answer.as_slice(), wanted.as_slice());
     Ok(())
 }
