@@ -11,11 +11,11 @@ use Rattle.run_laws.specs.Settling.{count, is_ready, last_status, IsAnswered}
 use Rattle.link_run.specs.declared.reply.Answered.TheVariants.{Nothing, Tag, All, Other}
 use Rattle.link_run.specs.Resets.{is_aside, is_tag, is_idle, answered_by_all, IsResetAnswer}
 
-not_other : {A : Type 0} (fs : List FrameOf) → answered_by_all Other fs ≡ All → A
+pub not_other : {A : Type 0} (fs : List FrameOf) → answered_by_all Other fs ≡ All → A
 not_other [] e = absurd cc
 not_other (f ∷ fs) e = not_other fs e
 
-all_ends : (fs : List FrameOf) → answered_by_all All fs ≡ All → fs ≡ []
+pub all_ends : (fs : List FrameOf) → answered_by_all All fs ≡ All → fs ≡ []
 all_ends [] e = refl
 all_ends (f ∷ fs) e = not_other fs e
 

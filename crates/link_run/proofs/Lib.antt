@@ -1,3 +1,5 @@
 pub mod Answering
+pub mod Knowing
 pub mod Reporting
 pub mod Resetting
+pub mod Told

@@ -30,7 +30,7 @@ told-read : (start now : List Text) (r : Result (Text × Text) ViewFault) → to
 told-read start now (Ok (n, v)) = with-one reported_parameters start now n v
 told-read start now (Err fault) = refl
 
-told-frame : (start now : List Text) (f : FrameOf) → after_frame (kept_by start now) f ≡ kept_by start (after_reply now f)
+pub told-frame : (start now : List Text) (f : FrameOf) → after_frame (kept_by start now) f ≡ kept_by start (after_reply now f)
 told-frame start now f = by (f.kind == PARAMETER_STATUS)
   where
     by : (b : Bool) → (if b then told_by (kept_by start now) (status_of f.body) else kept_by start now) ≡ kept_by start (if b then reported_by now (status_of f.body) else now)

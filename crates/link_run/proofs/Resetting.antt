@@ -1,6 +1,6 @@
 -- A reset's moves, and what its answer says of the session behind it.
-use Rattle.std.proofs.Common.{◌≡◌, ⊎_elim, ℕ, ◌+◌, ◌-◌, ◌≤◌, ◌==◌, Bool, true, false, List, [], ◌∷◌, ◌++◌, take, drop, length, refl, sym, ap, ap₂, ◌∙◌, append_assoc, append-nil, take-append-drop, drop-drop, arith, take_all, length-drop, subst, Result, Ok, Err, ◌&&◌}
-use Rattle.std.proofs.lemmas.Bool.{cases_Bool, eqb-true}
+use Rattle.std.proofs.Common.{◌≡◌, ◌≢◌, ◌⊎◌, inl, inr, ◌<◌, length-append, length-take-le, ⊎_elim, ℕ, ◌+◌, ◌-◌, ◌≤◌, ◌==◌, Bool, true, false, List, [], ◌∷◌, ◌++◌, take, drop, length, refl, sym, ap, ap₂, ◌∙◌, append_assoc, append-nil, take-append-drop, drop-drop, arith, take_all, length-drop, subst, Result, Ok, Err, ◌&&◌}
+use Rattle.std.proofs.lemmas.Bool.{cases_Bool, eqb-false, eqb-true, true≢false}
 use Rattle.std.proofs.Math.Seq.{drop-length}
 use Rattle.std.specs.List.{flat_map, AllByRecursion}
 use Rattle.frame_view.proofs.Taking.{not_whole}
@@ -13,57 +13,89 @@ use Rattle.frame_view.specs.Answers.{Tells}
 use Rattle.frame_view.specs.Frames.{AreBytes, FrameOf, IsFrame, Cut, front, frames, spelling}
 use Rattle.frame_view.proofs.Splitting.{frames-split, frames-stopped}
 use Rattle.start_keys.specs.StartPairs.{Text}
+use Rattle.session_values.specs.Parameters.{reported_parameters}
 use Rattle.session_values.specs.declared.cause.Cause.{Cause}
 use Rattle.session_values.specs.Lawful.{IsLawfulCatalogue, IsLawfulKey}
 use Rattle.session_values.specs.State.{State, CatalogueOf, StartKeyOf, Answer, fresh}
 use Rattle.session_values.specs.Step.{step, run_frames}
-use Rattle.session_laws.specs.Laws.{IsSent, HasKey, Reaches, begins, steps, discard_all, after_replies}
-use Rattle.session_laws.proofs.ByName.{discard_all_gives_fresh, reached_has_key}
+use Rattle.session_laws.specs.Laws.{IsSent, HasKey, IsReportIf, Reaches, begins, steps, discard_all, after_replies}
+use Rattle.session_laws.proofs.ByName.{discard_all_gives_fresh, reached_has_key, statuses_are_reports, welcome_is_read}
 use Rattle.run_laws.specs.Settling.{IsQuiet}
 use Rattle.run_laws.proofs.ByName.{run_replies_are_frames, run_reports_tell_values, settled_is_quiet}
-use Rattle.param_track.specs.Kept.{Kept}
+use Rattle.param_track.specs.Kept.{Kept, is_at_start}
 use Rattle.link_laws.specs.Stages.{Server as TheServer, Stage, Open, Packet, packets_bytes, MayTakeAll, answers, after}
 use Rattle.link_laws.specs.Standing.{Standing, Served, Passed, Moves}
 use Rattle.link_laws.specs.Links.{IsIdle, IsFresh, IsResting}
 use Rattle.link_laws.proofs.Both.{moves_none, moves_got, moves_put}
 use Rattle.link_laws.proofs.InSession.{InSession, in_session}
 use Rattle.link_laws.proofs.Splits.{SplitsOff, split_whole}
+use Rattle.server_end.specs.declared.Moved.{Moved}
+use Rattle.server_end.specs.declared.Moved.TheVariants.{Count, NotNow, Ended, Fault}
+use Rattle.server_end.specs.Moves.{faults_in, moved, waits_in, IsWithin}
+use Rattle.link_run.specs.declared.reset.ResetFault.{ResetFault}
+use Rattle.link_run.specs.declared.reset.ResetFault.TheVariants.{Lost, Unexpected, Changed, Memory, Turns}
 use Rattle.link_run.specs.declared.reply.Answered.{Answered}
-use Rattle.link_run.specs.declared.reply.Answered.TheVariants.{All}
+use Rattle.link_run.specs.declared.reply.Answered.TheVariants.{Nothing, All}
 use Rattle.link_run.specs.declared.reply.TheConstants.{LONGEST_REPLY}
 use Rattle.link_run.specs.Links.{kept_by, after_frames, IsFreshLink, IsClean, IsRestingLink, IsUsed}
-use Rattle.link_run.specs.Resets.{answered_by_all, IsResetAnswer, are_known, ResetView, reset_view, IsReset, IsAnsweredReset, reads}
+use Rattle.link_run.specs.Resets.{answered_by_all, IsResetAnswer, are_known, at_rest, ResetView, reset_view, IsResetFrom, IsReset, IsAnsweredReset, IsResetDialogue, IsEndOver, FailsBy, MoveFailsBy, is_over, reads}
 use Rattle.link_run.proofs.Answering.{asked, is_answered, some_answer}
+use Rattle.link_run.proofs.Knowing.{at_start_again, known_frames}
 use Rattle.link_run.proofs.Reporting.{told-frames}
 
 -- ---- moves
 
-pub reset_begun : (l : Standing) (k : StartKeyOf) (n b : ℕ) (ks : List Kept) (r : List ℕ) → r ≡ [] → IsUsed l k ks → IsReset (reset_view l k n b ks (spelling discard_all) r)
-reset_begun l k n b ks r e u = record { start = l; sent = []; used = u; moves = rw e (moves_none l); all = refl }
+pub reset_begun : (l : Standing) (k : StartKeyOf) (n b : ℕ) (ks : List Kept) (r : List ℕ) → r ≡ [] → IsUsed l k ks → IsResetFrom l (reset_view l k n b ks (spelling discard_all) r)
+reset_begun l k n b ks r e u = record { sent = []; used = u; moves = rw e (moves_none l); all = refl; faults = omega arith }
 
-pub reset_sent : (l m : Standing) (k : StartKeyOf) (n b : ℕ) (ks : List Kept) (put u w r : List ℕ) → Moves l put m [] → u ≡ put ++ w
-    → IsReset (reset_view l k n b ks u r) → IsReset (reset_view m k n b ks w r)
-reset_sent l m k n b ks put u w r y e x = record {
-  start = x.start;
+pub reset_sent : (start l m : Standing) (k : StartKeyOf) (n b : ℕ) (ks : List Kept) (put u w r : List ℕ) → Moves l put m [] → l.faults ≤ m.faults → u ≡ put ++ w
+    → IsResetFrom start (reset_view l k n b ks u r) → IsResetFrom start (reset_view m k n b ks w r)
+reset_sent start l m k n b ks put u w r y f e x = record {
   sent = x.sent ++ put;
   used = x.used;
-  moves = moves_put x.start l m x.sent put r x.moves y;
+  moves = moves_put start l m x.sent put r x.moves y;
   all = append_assoc x.sent put w ∙ ap (λ (t : List ℕ). x.sent ++ t) (sym e) ∙ x.all;
+  faults = (let a = x.faults in omega (arith, a, f));
 }
 
-pub reset_got : (l m : Standing) (k : StartKeyOf) (n b : ℕ) (ks : List Kept) (got u r s : List ℕ) → Moves l [] m got → s ≡ r ++ got
-    → IsReset (reset_view l k n b ks u r) → IsReset (reset_view m k n b ks u s)
-reset_got l m k n b ks got u r s y e x = record {
-  start = x.start;
+pub reset_got : (start l m : Standing) (k : StartKeyOf) (n b : ℕ) (ks : List Kept) (got u r s : List ℕ) → Moves l [] m got → l.faults ≤ m.faults → s ≡ r ++ got
+    → IsResetFrom start (reset_view l k n b ks u r) → IsResetFrom start (reset_view m k n b ks u s)
+reset_got start l m k n b ks got u r s y f e x = record {
   sent = x.sent;
   used = x.used;
-  moves = rw e (moves_got x.start l m x.sent r got x.moves y);
+  moves = rw e (moves_got start l m x.sent r got x.moves y);
   all = x.all;
+  faults = (let a = x.faults in omega (arith, a, f));
 }
+
+-- a call that the end ended or faulted by
+pub over_now : (old new : Standing) (m : Moved) → new.faults ≡ old.faults + faults_in m → (m ≡ Ended → new.lives ≡ false) → is_over m ≡ true → IsEndOver old new
+over_now old new (Count n) e d o = absurd (true≢false (sym o))
+over_now old new NotNow e d o = absurd (true≢false (sym o))
+over_now old new Ended e d o = inl (d refl)
+over_now old new Fault e d o = inr (omega (arith, e))
+
+-- any other read gave a byte, or came to nothing at that time
+pub read_on : (old new : Standing) (m : Moved) (into r s : List ℕ) (size : ℕ) → IsWithin m size → length into ≡ size → new.read_waits ≡ old.read_waits + waits_in m → s ≡ r ++ moved m into → is_over m ≡ false → old.read_waits + length r < new.read_waits + length s
+read_on old new (Count n) into r s size i b e d o = let l = i.0 in let h = i.1 in let k = length-append r (take n into) in let j = length-take-le n into (omega (arith, b, h)) in let z = ap length d in omega (arith, e, k, j, z, l)
+read_on old new NotNow into r s size i b e d o = let k = length-append r [] in let z = ap length d in omega (arith, e, k, z)
+read_on old new Ended into r s size i b e d o = absurd (true≢false o)
+read_on old new Fault into r s size i b e d o = absurd (true≢false o)
+
+-- a move's fault is the reset's
+pub fails_by : (start old now : Standing) (turns : ℕ) (cause : ResetFault) → start.faults ≤ old.faults → MoveFailsBy old now cause → FailsBy start now turns cause
+fails_by start old now turns Lost l f = ⊎_elim (λ d. inl d) (λ n. inr (omega (arith, l, n))) f
+fails_by start old now turns Unexpected l f = absurd f
+fails_by start old now turns Changed l f = absurd f
+fails_by start old now turns Memory l f = tt
+fails_by start old now turns Turns l f = absurd f
+
+pub answer_fails_by : (start now : Standing) (turns : ℕ) (cause : ResetFault) → (cause ≡ Unexpected) ⊎ (cause ≡ Changed) → start.follows ≢ true → FailsBy start now turns cause
+answer_fails_by start now turns cause c n = ⊎_elim (λ e. subst (FailsBy start now turns) (sym e) n) (λ e. subst (FailsBy start now turns) (sym e) n) c
 
 -- ---- the session behind it
 
-all_client : (fs : List FrameOf) → AllByRecursion IsSent fs → AllByRecursion (IsFrame Client LONGEST_FRAME) fs
+pub all_client : (fs : List FrameOf) → AllByRecursion IsSent fs → AllByRecursion (IsFrame Client LONGEST_FRAME) fs
 all_client [] h = tt
 all_client (f ∷ fs) h = (h.0.whole, all_client fs h.1)
 
@@ -75,6 +107,10 @@ discard_run : (cat : CatalogueOf) (s : State) → (run_frames cat s asked).next 
 unfolding run_frames
 discard_run cat s = refl
 
+discard_replied : (cat : CatalogueOf) (s : State) → (run_frames cat s asked).replies ≡ (step cat s discard_all).replies
+unfolding run_frames
+discard_replied cat s = append-nil (step cat s discard_all).replies
+
 -- the fresh session of a link at rest
 pub fresh_of : (key : StartKeyOf) (start : Standing) (r : IsResting start key) → HasKey start.server.catalogue key r.session
 fresh_of key start r = reached_has_key start.server.catalogue key r.session r.reached
@@ -85,6 +121,7 @@ record HasAnswered (key : StartKeyOf) (start : Standing) (r : IsResting start ke
   none_left : left ≡ []
   none_lost : lost ≡ []
   reported : after_replies r.session.reported got ≡ (fresh_of key start r).origin.reported
+  statuses : AllByRecursion IsReportIf got
 
 has_answered : (key : StartKeyOf) (start : Standing) (r : IsResting start key) (got : List FrameOf) (taken : List Packet) (left lost : List ℕ) → AllByRecursion (IsFrame Server LONGEST_REPLY) got → IsResetAnswer got
     → MayTakeAll start.server start.stage taken → start.inbox ++ spelling discard_all ≡ packets_bytes taken ++ left → start.outbox ++ flat_map spelling (answers start.server start.stage taken) ≡ flat_map spelling got ++ lost
@@ -107,6 +144,7 @@ has_answered key start r got taken left lost each d lawful ti to =
       stage = ap (λ (t : Stage). after v t taken) r.idle.is_open ∙ i.stage ∙ ap (λ (t : List FrameOf). Open (run_frames cat s t).next) q.all ∙ ap Open next;
       none_left = a.bytes ∙ ap (λ (t : List FrameOf). flat_map spelling t ++ []) q.none_left;
       none_lost = b.bytes ∙ ap (λ (t : List FrameOf). flat_map spelling t ++ []) q.none_more;
+      statuses = subst (AllByRecursion IsReportIf) (sym (q.answers ∙ discard_replied cat s)) (statuses_are_reports cat key s discard_all r.reached (subst (AllByRecursion IsSent) q.all i.sent).0);
       reported = ap (after_replies s.reported) q.answers ∙ sym (run_reports_tell_values cat key s asked r.reached (subst (AllByRecursion IsSent) q.all i.sent)) ∙ ap (λ (t : State). t.reported) next;
     }
 
@@ -134,12 +172,12 @@ received_as v d =
     let s = frames-split Server LONGEST_REPLY v.received d.bytes in
     s.whole ∙ ap (λ (x : List ℕ). flat_map spelling (frames Server LONGEST_REPLY v.received).frames ++ x) d.whole ∙ append-nil (flat_map spelling (frames Server LONGEST_REPLY v.received).frames)
 
-all_sent : (v : ResetView) (x : IsReset v) → IsAnsweredReset v → x.sent ≡ spelling discard_all
-all_sent v x d = sym (append-nil x.sent) ∙ (ap (λ (q : List ℕ). x.sent ++ q) (sym d.sent) ∙ x.all)
+all_sent : (start : Standing) (v : ResetView) (x : IsResetFrom start v) → IsAnsweredReset v → x.sent ≡ spelling discard_all
+all_sent start v x d = sym (append-nil x.sent) ∙ (ap (λ (q : List ℕ). x.sent ++ q) (sym d.sent) ∙ x.all)
 
 -- an answer comes from a server that lived when the reset began
-lived : (v : ResetView) (x : IsReset v) → IsAnsweredReset v → x.start.lives ≡ true
-lived v x d = ⊎_elim (λ t. t) (λ dead. none (frames Server LONGEST_REPLY v.received).frames d.answer (sym (x.moves.silent dead).1 ∙ received_as v d)) (cases_Bool x.start.lives)
+lived : (start : Standing) (v : ResetView) (x : IsResetFrom start v) → IsAnsweredReset v → start.lives ≡ true
+lived start v x d = ⊎_elim (λ t. t) (λ dead. none (frames Server LONGEST_REPLY v.received).frames d.answer (sym (x.moves.silent dead).1 ∙ received_as v d)) (cases_Bool start.lives)
   where
     none : {A : Type 0} → (fs : List FrameOf) → IsResetAnswer fs → [] ≡ flat_map spelling fs → A
     none [] a e = some_answer [] a refl
@@ -154,12 +192,12 @@ same_origin : (cat : CatalogueOf) (key : StartKeyOf) (s t : State) → fresh cat
 unfolding ok_or
 same_origin cat key s t e f = ap (ok_or s) (sym e ∙ f)
 
-module _ (v : ResetView) (x : IsReset v) (d : IsAnsweredReset v) (f : v.link.follows ≡ true) where
-  began : x.start.follows ≡ true
+module _ (start : Standing) (v : ResetView) (x : IsResetFrom start v) (d : IsAnsweredReset v) (f : v.link.follows ≡ true) where
+  began : start.follows ≡ true
   began = sym x.moves.follows ∙ f
 
-  rested : IsRestingLink x.start v.key v.reports
-  rested = x.used began (lived v x d)
+  rested : IsRestingLink start v.key v.reports
+  rested = x.used began (lived start v x d)
 
   got : List FrameOf
   got = (frames Server LONGEST_REPLY v.received).frames
@@ -168,40 +206,67 @@ module _ (v : ResetView) (x : IsReset v) (d : IsAnsweredReset v) (f : v.link.fol
   unfolding got
   each = (frames-split Server LONGEST_REPLY v.received d.bytes).each
 
-  answered_as : (taken : List Packet) (left lost : List ℕ) → MayTakeAll x.start.server x.start.stage taken → x.start.inbox ++ x.sent ≡ packets_bytes taken ++ left
-      → x.start.outbox ++ flat_map spelling (answers x.start.server x.start.stage taken) ≡ v.received ++ lost → HasAnswered v.key x.start rested.stands got taken left lost
+  answered_as : (taken : List Packet) (left lost : List ℕ) → MayTakeAll start.server start.stage taken → start.inbox ++ x.sent ≡ packets_bytes taken ++ left
+      → start.outbox ++ flat_map spelling (answers start.server start.stage taken) ≡ v.received ++ lost → HasAnswered v.key start rested.stands got taken left lost
   unfolding got
   answered_as taken left lost lawful ti to =
-      has_answered v.key x.start rested.stands got taken left lost each d.answer lawful (ap (λ (q : List ℕ). x.start.inbox ++ q) (sym (all_sent v x d)) ∙ ti) (to ∙ ap (λ (q : List ℕ). q ++ lost) (received_as v d))
+      has_answered v.key start rested.stands got taken left lost each d.answer lawful (ap (λ (q : List ℕ). start.inbox ++ q) (sym (all_sent start v x d)) ∙ ti) (to ∙ ap (λ (q : List ℕ). q ++ lost) (received_as v d))
 
-  by_passing : (y : Passed x.start x.sent v.received) → HasAnswered v.key x.start rested.stands got y.taken y.left y.lost
+  by_passing : (y : Passed start x.sent v.received) → HasAnswered v.key start rested.stands got y.taken y.left y.lost
   by_passing y = answered_as y.taken y.left y.lost y.lawful y.inbox y.outbox
 
-  by_serving : (y : Served x.start x.sent v.link v.received) → HasAnswered v.key x.start rested.stands got y.taken v.link.inbox v.link.outbox
+  by_serving : (y : Served start x.sent v.link v.received) → HasAnswered v.key start rested.stands got y.taken v.link.inbox v.link.outbox
   by_serving y = answered_as y.taken v.link.inbox v.link.outbox y.lawful y.inbox y.outbox
 
-  idle_now : v.link.lives ≡ true → IsIdle v.link (fresh_of v.key x.start rested.stands).origin
+  idle_now : v.link.lives ≡ true → IsIdle v.link (fresh_of v.key start rested.stands).origin
   idle_now l =
       let y = x.moves.served began l in
       let a = by_serving y in
       record { is_open = y.stage ∙ a.stage; inbox = a.none_left; outbox = a.none_lost }
 
-  kept_now : after_frames v.reports got ≡ kept_by (fresh_of v.key x.start rested.stands).origin.reported (fresh_of v.key x.start rested.stands).origin.reported
+  kept_now : after_frames v.reports got ≡ kept_by (fresh_of v.key start rested.stands).origin.reported (fresh_of v.key start rested.stands).origin.reported
   kept_now =
-      let h = fresh_of v.key x.start rested.stands in
-      let y = x.moves.passed began (lived v x d) in
-      let o : rested.origin ≡ h.origin = same_origin x.start.server.catalogue v.key rested.origin h.origin rested.is_fresh h.is_fresh in
+      let h = fresh_of v.key start rested.stands in
+      let y = x.moves.passed began (lived start v x d) in
+      let o : rested.origin ≡ h.origin = same_origin start.server.catalogue v.key rested.origin h.origin rested.is_fresh h.is_fresh in
       ap (λ (ks : List Kept). after_frames ks got) rested.kept
       ∙ told-frames rested.origin.reported rested.stands.session.reported got
       ∙ ap₂ (λ (t : State) (values : List Text). kept_by t.reported values) o (by_passing y).reported
 
   fresh_link : IsFreshLink v.link v.key (after_frames v.reports got)
   unfolding renewed
-  fresh_link = record { stands = renewed v.key x.start v.link rested.stands x.moves.server idle_now; kept = kept_now }
+  fresh_link = record { stands = renewed v.key start v.link rested.stands x.moves.server idle_now; kept = kept_now }
+
+  -- its reports are all known, and bring back the start's values
+  knows : (are_known v.reports got ≡ true) × (is_at_start (after_frames v.reports got) ≡ true)
+  knows =
+      let cat : CatalogueOf = start.server.catalogue in
+      let s : State = rested.stands.session in
+      let l = reached_lawful cat v.key s rested.stands.reached in
+      let y = by_passing (x.moves.passed began (lived start v x d)) in (
+        ap (λ (ks : List Kept). are_known ks got) rested.kept
+            ∙ known_frames rested.origin.reported s.reported got (welcome_is_read cat v.key rested.origin 0 0 (begins l.0 l.1 rested.is_fresh)).nine (welcome_is_read cat v.key s 0 0 rested.stands.reached).nine y.statuses,
+        ap is_at_start kept_now ∙ at_start_again reported_parameters (fresh_of v.key start rested.stands).origin.reported,
+      )
+
+-- where the end follows nothing is left to fail
+pub reset_knows : (v : ResetView) → IsReset v → IsAnsweredReset v → v.link.follows ≡ true
+    → (are_known v.reports (frames Server LONGEST_REPLY v.received).frames ≡ true) × (is_at_start (after_frames v.reports (frames Server LONGEST_REPLY v.received).frames) ≡ true)
+unfolding got
+reset_knows v (start, x) d f = knows start v x d f
 
 pub reset_clean : (v : ResetView) → IsReset v → IsAnsweredReset v → IsClean v.link v.key (after_frames v.reports (frames Server LONGEST_REPLY v.received).frames)
 unfolding got
-reset_clean v x d f = fresh_link v x d f
+reset_clean v (start, x) d f = fresh_link start v x d f
+
+-- the whole dialogue, whatever stands behind the end
+pub reset_dialogue : (start : Standing) (v : ResetView) (now : Standing) → now ≡ v.link → IsAnsweredReset v → IsResetFrom start v → IsResetDialogue start now
+reset_dialogue start v now same d x = record {
+  answer = (frames Server LONGEST_REPLY v.received).frames;
+  moves = subst (λ (b : List ℕ). Moves start (spelling discard_all) now b) (received_as v d) (subst (λ (b : List ℕ). Moves start b now v.received) (all_sent start v x d) (subst (λ (l : Standing). Moves start x.sent l v.received) (sym same) x.moves));
+  each = (frames-split Server LONGEST_REPLY v.received d.bytes).each;
+  whole = d.answer;
+}
 
 -- ---- what is sent and received
 
@@ -228,6 +293,15 @@ stopped x bytes n t = frames-stopped Server LONGEST_REPLY bytes (not_whole x byt
 pub all_answered : (x : Step) (bytes : List ℕ) (h total : Answered) → ((frame : Frame) → x ≡ Whole frame → ⊥) → Tells x bytes (front Server LONGEST_REPLY bytes) → answered_by_all h (frames Server LONGEST_REPLY bytes).frames ≡ total → h ≡ total
 all_answered x bytes h total n t e = ap (λ (c : Cut). answered_by_all h c.frames) (sym (stopped x bytes n t)) ∙ e
 
+-- what stands behind the frames counts too
+pub all_read : (x : Step) (bytes : List ℕ) (h : Answered) (cut : Cut) → ((frame : Frame) → x ≡ Whole frame → ⊥) → Tells x bytes (front Server LONGEST_REPLY bytes)
+    → answered_by_all h (frames Server LONGEST_REPLY bytes).frames ≡ answered_by_all Nothing cut.frames → (frames Server LONGEST_REPLY bytes).rest ≡ cut.rest → at_rest h (front Server LONGEST_REPLY bytes) ≡ reads cut
+all_read x bytes h cut n t e r =
+    ap₂ (λ (a : Answered) (b : List ℕ). at_rest a (front Server LONGEST_REPLY b)) (all_answered x bytes h _ n t e) (sym (ap (λ (c : Cut). c.rest) (stopped x bytes n t)) ∙ r)
+
+whole_read : (cut : Cut) → cut.rest ≡ [] → reads cut ≡ answered_by_all Nothing cut.frames
+whole_read cut e = ap (λ (b : List ℕ). at_rest (answered_by_all Nothing cut.frames) (front Server LONGEST_REPLY b)) e
+
 -- where no whole frame stands, all reports are told, and all that were told were known
 pub all_told : (x : Step) (bytes : List ℕ) (kept total : List Kept) → ((frame : Frame) → x ≡ Whole frame → ⊥) → Tells x bytes (front Server LONGEST_REPLY bytes) → after_frames kept (frames Server LONGEST_REPLY bytes).frames ≡ total → kept ≡ total
 all_told x bytes kept total n t e = ap (λ (c : Cut). after_frames kept c.frames) (sym (stopped x bytes n t)) ∙ e
@@ -249,10 +323,16 @@ drop_all n bs e = ap (λ (k : ℕ). drop k bs) (eqb-true n (length bs) e) ∙ dr
 pub nothing_behind : (x : Step) (n : ℕ) (bytes rest : List ℕ) → ((frame : Frame) → x ≡ Whole frame → ⊥) → Tells x (drop n bytes) (front Server LONGEST_REPLY (drop n bytes)) → (frames Server LONGEST_REPLY (drop n bytes)).rest ≡ rest → (n == length bytes) ≡ true → rest ≡ []
 nothing_behind x n bytes rest m t e h = sym e ∙ ap (λ (c : Cut). c.rest) (stopped x (drop n bytes) m t) ∙ drop_all n bytes h
 
+-- bytes behind the place where no whole frame stands are a rest
+pub some_behind : (x : Step) (n : ℕ) (bytes rest : List ℕ) → n ≤ length bytes → ((frame : Frame) → x ≡ Whole frame → ⊥) → Tells x (drop n bytes) (front Server LONGEST_REPLY (drop n bytes)) → (frames Server LONGEST_REPLY (drop n bytes)).rest ≡ rest → (n == length bytes) ≡ false → rest ≡ [] → ⊥
+some_behind x n bytes rest w m t e h z =
+    let d : drop n bytes ≡ [] = sym (ap (λ (c : Cut). c.rest) (stopped x (drop n bytes) m t)) ∙ e ∙ z in
+    eqb-false n (length bytes) h (omega (arith, w, ap length d, length-drop n bytes))
+
 pub answered : (v : ResetView) (bs : List ℕ) (a : Answered) (all : Bool) → bs ≡ v.received → AreBytes bs → a ≡ reads (frames Server LONGEST_REPLY bs) → (all ≡ true → (frames Server LONGEST_REPLY bs).rest ≡ []) → a ≡ All → all ≡ true → v.unsent ≡ [] → IsAnsweredReset v
 answered v bs a all same b e r d t u = record {
   sent = u;
   bytes = subst AreBytes same b;
   whole = subst (λ (x : List ℕ). (frames Server LONGEST_REPLY x).rest ≡ []) same (r t);
-  answer = subst (λ (x : List ℕ). IsResetAnswer (frames Server LONGEST_REPLY x).frames) same (sym e ∙ d);
+  answer = subst (λ (x : List ℕ). IsResetAnswer (frames Server LONGEST_REPLY x).frames) same (sym (whole_read (frames Server LONGEST_REPLY bs) (r t)) ∙ sym e ∙ d);
 }

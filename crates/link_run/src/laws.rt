@@ -1,9 +1,16 @@
-//! The law of a link's welcome, the contract of a function that does nothing.
+//! The laws of a link's welcome and of the answer to its reset, contracts of functions that do nothing.
 
 ghost use Rattle.link_run.specs.Links.{WelcomesAreTheSessions};
+ghost use Rattle.link_run.specs.Resets.{ResetsAreAnswered};
 
 /// What a client is given first over a clean link is the welcome of the session that the link's server opened.
 #[tactic(auto, using(crate::proofs::Reporting::welcome_is))]
 pub fn welcomes_are_the_sessions()
     ensures { WelcomesAreTheSessions }
+{}
+
+/// What a session at rest answers to `DISCARD ALL` is the whole answer to a reset.
+#[tactic(auto, using(crate::proofs::Told::replies_answer))]
+pub fn resets_are_answered()
+    ensures { ResetsAreAnswered }
 {}

@@ -1,12 +1,12 @@
 //! What a server answers to a reset, frame by frame.
-ghost use Rattle.std.specs.Prelude.{◌≡◌, ◌≤◌, ◌||◌, [], length, drop, true, ◌≢◌};
+ghost use Rattle.std.specs.Prelude.{◌≡◌, ◌≢◌, ◌⊎◌, [], false, true};
 ghost use Rattle.link_run.specs.declared.reply.TheConstants.{LONGEST_REPLY};
-ghost use Rattle.link_run.specs.declared.reply.Answered.TheVariants.{All};
-ghost use Rattle.frame_view.specs.Frames.{AreBytes, frames};
+ghost use Rattle.link_run.specs.declared.reply.Answered.TheVariants.{All, Other};
+ghost use Rattle.frame_view.specs.Frames.{AreBytes, front, frames};
 ghost use Rattle.frame_view.specs.declared.Side.TheVariants.{Server};
 ghost use Rattle.session_values.specs.Answers.{frame_of};
 ghost use Rattle.link_run.specs.Links.{after_frame, after_frames};
-ghost use Rattle.link_run.specs.Resets.{answered_by, are_known, is_aside, is_idle, is_known, is_tag, reads};
+ghost use Rattle.link_run.specs.Resets.{answered_by, are_known, at_rest, is_aside, is_idle, is_known, is_tag, reads};
 
 use frame_view::server::{COMMAND_COMPLETE, NOTICE_RESPONSE, PARAMETER_STATUS, READY_FOR_QUERY};
 use frame_view::{Frame, Side, Step, next_frame};
@@ -50,7 +50,8 @@ fn is_idle(frame: Frame<'_>) -> bool
 impl Answered {
     /// The same, where bytes are to come still: an end comes too early.
     pub(crate) fn before_end(self) -> Answered
-        ensures { result ≢ All }
+        ensures early { result ≢ All }
+        ensures other { result ≡ Other → (self ≡ All) ⊎ (self ≡ Other) }
     {
         match self {
             Answered::Nothing => Answered::Nothing,
@@ -87,6 +88,16 @@ impl Answered {
             Answered::Other => Answered::Other,
         }
     }
+
+    /// The same, by what stands behind the whole frames: a head that isn't lawful is no part of an answer.
+    fn at_rest(self, rest: &[u8]) -> Answered
+        ensures { result ≡ at_rest self (front Server LONGEST_REPLY rest.now) }
+    {
+        match next_frame(rest, 0, LONGEST_REPLY, Side::Server) {
+            Step::Whole(_) | Step::Need(_) => self,
+            Step::Bad(_) => Answered::Other,
+        }
+    }
 }
 
 fn are_bytes(bytes: &[u8])
@@ -95,11 +106,12 @@ fn are_bytes(bytes: &[u8])
     let _count = bytes.len();
 }
 
-/// What the whole frames of these bytes come to, and whether nothing stands behind them.
+/// What the whole frames of these bytes and the head behind them come to, and whether nothing stands behind the frames.
 pub(crate) fn read_reply(reply: &[u8]) -> (Answered, bool)
     ensures answered { result.0 ≡ reads (frames Server LONGEST_REPLY reply.now) }
     ensures bytes { AreBytes reply.now }
     ensures rest { result.1 ≡ true → (frames Server LONGEST_REPLY reply.now).rest ≡ [] }
+    ensures behind { result.1 ≡ false → (frames Server LONGEST_REPLY reply.now).rest ≢ [] }
 {
     are_bytes(reply);
     let mut answered = Answered::Nothing;
@@ -108,7 +120,7 @@ pub(crate) fn read_reply(reply: &[u8]) -> (Answered, bool)
         answered = answered.by(frame);
         at += frame.whole.len();
     }
-    (answered, at == reply.len())
+    (answered.at_rest(&reply[at..]), at == reply.len())
 }
 
 /// Keeps the report of a ParameterStatus; `false`: it can't be read, or the start didn't report its name.

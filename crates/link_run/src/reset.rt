@@ -1,8 +1,9 @@
 //! The reset of a used link by `DISCARD ALL`.
-ghost use Rattle.std.specs.Prelude.{◌≡◌, true, IfErr, IfOk};
-ghost use Rattle.std.specs.Arc.{arc_value};
-ghost use Rattle.link_run.specs.Resets.{IsAnsweredReset, are_known};
-ghost use Rattle.link_run.specs.declared.reply.Answered.TheVariants.{All};
+ghost use Rattle.std.specs.Prelude.{◌≡◌, ◌≢◌, ◌<◌, ◌⊎◌, false, true, IfErr, IfOk};
+ghost use Rattle.param_track.specs.Kept.{is_at_start};
+ghost use Rattle.link_run.specs.Resets.{EndsDialogue, IsAnsweredReset, IsResetDialogue, IsResetFrom, FailsBy, KeepsReset, MoveFailsBy, is_over, read_so_far};
+ghost use Rattle.link_run.specs.declared.reset.ResetFault.TheVariants.{Changed, Lost, Unexpected};
+ghost use Rattle.link_run.specs.declared.reply.Answered.TheVariants.{All, Other};
 
 use crate::links::{CleanLink, Lent, UsedLink};
 use crate::reply::{Answered, read_reply, tell_reports};
@@ -63,17 +64,14 @@ impl<E: ServerEnd> Model for Reset<E> {
     ghost invariant = { λ r. (r.sent ≤ 17) × IsReset (reset_view (E.standing r.link.end) (arc_value r.link.key) r.link.number r.link.born r.link.reported (drop r.sent (spelling discard_all)) r.reply.items) };
 }
 
-/// What a turn of the gate came to.
-#[derive(Clone, Copy)]
-enum Turn {
-    More,
-    Failed(ResetFault),
-}
-
-fn turn_of(moved: Moved) -> Turn {
+/// The fault of a read or a write.
+fn moved_on(moved: Moved) -> Result<(), ResetFault>
+    ensures ok { IfOk result (λ _. is_over moved ≡ false) }
+    ensures err { IfErr result (λ cause. (cause ≡ Lost) × (is_over moved ≡ true)) }
+{
     match moved {
-        Moved::Count(_) | Moved::NotNow => Turn::More,
-        Moved::Ended | Moved::Fault => Turn::Failed(ResetFault::Lost),
+        Moved::Count(_) | Moved::NotNow => Ok(()),
+        Moved::Ended | Moved::Fault => Err(ResetFault::Lost),
     }
 }
 
@@ -82,6 +80,8 @@ impl<E: ServerEnd> Reset<E> {
         ensures key { result.key ≡ used.key }
         ensures number { result.number ≡ used.number }
         ensures born { result.born ≡ used.born }
+        ensures from { IsResetFrom used.stands result }
+        ensures reads { read_so_far result ≡ used.stands.read_waits }
     {
         Reset {
             link: used.lend(),
@@ -91,42 +91,49 @@ impl<E: ServerEnd> Reset<E> {
     }
 
     /// Writes once, if something is left to be sent.
-    fn send(&mut self) -> Turn
+    fn send(&mut self) -> Result<(), ResetFault>
         ensures key { self.new.key ≡ self.old.key }
         ensures number { self.new.number ≡ self.old.number }
         ensures born { self.new.born ≡ self.old.born }
+        ensures keeps { KeepsReset self.old self.new }
+        ensures reads { read_so_far self.new ≡ read_so_far self.old }
+        ensures faults { IfErr result (MoveFailsBy self.old.link self.new.link) }
     {
         if self.sent == DISCARD_ALL.len() {
-            return Turn::More;
+            return Ok(());
         }
         let unsent = &DISCARD_ALL[self.sent..];
         let moved = self.link.end.write_some(unsent);
         if let Moved::Count(count) = moved {
             self.sent += count;
         }
-        turn_of(moved)
+        moved_on(moved)
     }
 
     /// Reads once. The room comes first: a refused growth after the read would lose bytes.
-    fn receive(&mut self) -> Turn
+    fn receive(&mut self) -> Result<(), ResetFault>
         ensures key { self.new.key ≡ self.old.key }
         ensures number { self.new.number ≡ self.old.number }
         ensures born { self.new.born ≡ self.old.born }
+        ensures keeps { KeepsReset self.old self.new }
+        ensures reads { IfOk result (λ _. read_so_far self.old < read_so_far self.new) }
+        ensures faults { IfErr result (MoveFailsBy self.old.link self.new.link) }
     {
         let mut chunk = [0u8; CHUNK];
         if self.reply.reserve(CHUNK).is_err() {
-            return Turn::Failed(ResetFault::Memory);
+            return Err(ResetFault::Memory);
         }
         let moved = self.link.end.read_some(&mut chunk);
         if let Moved::Count(count) = moved {
             self.reply.extend_reserved(&chunk[..count]);
         }
-        turn_of(moved)
+        moved_on(moved)
     }
 
     /// How far the answer has come. It is whole only once all was sent and nothing stands behind it.
     fn read(&self) -> Answered
-        ensures { result ≡ All → IsAnsweredReset self.now }
+        ensures all { result ≡ All → IsAnsweredReset self.now }
+        ensures other { result ≡ Other → self.now.link.follows ≢ true }
     {
         let (answered, is_all) = read_reply(self.reply.as_slice());
         if !is_all || self.sent < DISCARD_ALL.len() {
@@ -135,12 +142,15 @@ impl<E: ServerEnd> Reset<E> {
         answered
     }
 
-    /// The link, clean again, once the whole answer came.
+    /// The link, clean again, once the whole answer came. Where its end follows this doesn't fail.
     fn finish(self) -> Result<CleanLink<E>, Disposed<E>>
         requires { IsAnsweredReset self }
         ensures key { IfOk result (λ l. l.key ≡ self.key) }
         ensures number { IfOk result (λ l. l.number ≡ self.number) }
         ensures born { IfOk result (λ l. l.born ≡ self.born) }
+        ensures reports { IfOk result (λ l. is_at_start l.reports ≡ true) }
+        ensures whole { IfOk result (λ l. EndsDialogue self l.stands) }
+        ensures faults { IfErr result (λ d. ((d.cause ≡ Unexpected) ⊎ (d.cause ≡ Changed)) × (self.link.follows ≢ true)) }
     {
         let Reset {
             mut link,
@@ -156,7 +166,10 @@ impl<E: ServerEnd> Reset<E> {
         Ok(link.clean())
     }
 
-    fn fail(self, cause: ResetFault) -> Disposed<E> {
+    fn fail(self, cause: ResetFault) -> Disposed<E>
+        ensures cause { result.cause ≡ cause }
+        ensures stands { E.standing result.end ≡ self.link }
+    {
         let Reset {
             link,
             sent: _,
@@ -166,7 +179,10 @@ impl<E: ServerEnd> Reset<E> {
     }
 }
 
-fn dispose<E: ServerEnd>(link: Lent<E>, cause: ResetFault) -> Disposed<E> {
+fn dispose<E: ServerEnd>(link: Lent<E>, cause: ResetFault) -> Disposed<E>
+    ensures cause { result.cause ≡ cause }
+    ensures stands { E.standing result.end ≡ E.standing link.end }
+{
     let Lent {
         end,
         key: _,
@@ -181,7 +197,8 @@ fn dispose<E: ServerEnd>(link: Lent<E>, cause: ResetFault) -> Disposed<E> {
 /// `I`, each with notices and reports in any number before it, and nothing behind it (PostgreSQL manual, "DISCARD"). Each turn of
 /// the gate allows at most one write and then one read; nothing is read after the ReadyForQuery.
 ///
-/// Where it fails the end comes back with the cause.
+/// Where it fails the end comes back with the cause. An end that follows the stand-in server never gives Unexpected or Changed;
+/// it is Turns only after so many reads.
 pub fn reset_link<E: ServerEnd, G: Gate<E>>(
     alloc: Global,
     used: UsedLink<E>,
@@ -191,14 +208,17 @@ pub fn reset_link<E: ServerEnd, G: Gate<E>>(
     ensures key { IfOk result (λ l. l.key ≡ used.key) }
     ensures number { IfOk result (λ l. l.number ≡ used.number) }
     ensures born { IfOk result (λ l. l.born ≡ used.born) }
+    ensures reports { IfOk result (λ l. is_at_start l.reports ≡ true) }
+    ensures whole { IfOk result (λ l. IsResetDialogue used.stands l.stands) }
+    ensures faults { IfErr result (λ d. FailsBy used.stands (E.standing d.end) turns d.cause) }
 {
     let mut reset = Reset::begin(alloc, used);
     for _ in 0..turns {
         gate.turn();
-        if let Turn::Failed(cause) = reset.send() {
+        if let Err(cause) = reset.send() {
             return Err(reset.fail(cause));
         }
-        if let Turn::Failed(cause) = reset.receive() {
+        if let Err(cause) = reset.receive() {
             return Err(reset.fail(cause));
         }
         match reset.read() {

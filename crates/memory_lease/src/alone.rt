@@ -59,9 +59,7 @@ fn begin_lease<'a>(
     requires high { limit ≤ LONGEST_FRAME }
     ensures { IfOk result (IsBegun client.entry.facts link word) }
 {
-    let greeting = link.welcome(alloc, word)?;
-    let welcome = Vec::from_slice(alloc, greeting.as_slice())?;
-    match Relay::begin(alloc, client, link, word, limit, welcome) {
+    match Relay::begin(alloc, client, link, word, limit) {
         Ok(relay) => Ok(relay),
         Err((_, link)) => {
             close_link(link);

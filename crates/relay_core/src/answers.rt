@@ -53,7 +53,7 @@ impl<C: ClientEnd, E: ServerEnd> Relay<C, E> {
     pub(crate) fn welcome_is_empty(&self) -> bool
         ensures { result ≡ is_empty self.now.greeting }
     {
-        self.welcome[self.greeted..].is_empty()
+        self.welcome.as_slice()[self.greeted..].is_empty()
     }
 
     /// Whether the client was given all that may go on to it.

@@ -162,7 +162,7 @@ impl<C: ClientEnd, E: ServerEnd> Relay<C, E> {
         ensures steps { WritesClient ready self.old self.new result }
     {
         let _ = ready;
-        let unsent = rest_of(&self.welcome, self.greeted);
+        let unsent = rest_of(self.welcome.as_slice(), self.greeted);
         let moved = self.client.write_some(unsent);
         self.greeted += count_moved(moved);
         self.flags = client_wrote(self.flags, moved);

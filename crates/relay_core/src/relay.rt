@@ -5,6 +5,7 @@ ghost use Rattle.frame_view.specs.declared.frames.TheConstants.{LONGEST_FRAME};
 use crate::answers::phase_after;
 use crate::flags::none_moved;
 use crate::verdict::{is_settled, verdict_by};
+use bytes::BytesMut;
 use disposal::laws::settled_exactly;
 use disposal::{Traffic, Verdict};
 use frame_view::Side;
@@ -48,7 +49,7 @@ pub struct Relay<C: ClientEnd, E: ServerEnd> {
     pub(crate) client: C,
     pub(crate) link: Lent<E>,
     pub(crate) word: KeyWord,
-    pub(crate) welcome: Vec<u8>,
+    pub(crate) welcome: BytesMut,
     pub(crate) greeted: usize,
     pub(crate) to_link: Flow,
     pub(crate) to_client: Flow,
@@ -72,7 +73,7 @@ impl<C: ClientEnd, E: ServerEnd> Model for Relay<C, E> {
 
 impl<C: ClientEnd, E: ServerEnd> Relay<C, E> {
     ghost use Rattle.std.specs.Prelude.{Bool};
-    ghost use Rattle.relay_laws.specs.Leases.{Place, place, IsLease, IsGreeting, IsExact, IsAllowed, Keeps, relay_verdict, at_border};
+    ghost use Rattle.relay_laws.specs.Leases.{Place, place, IsLease, IsExact, IsAllowed, Keeps, relay_verdict, at_border};
     ghost use Rattle.relay_steps.specs.Answers.{EndsByClient, RefusedBy, AtBorder, IsCut, judged, phase_after};
     ghost use Rattle.relay_core.specs.Returns.{IsReturned};
     ghost use Rattle.relay_steps.specs.Steps.{bytes_moved, HoldsAll, Waits};
@@ -80,27 +81,29 @@ impl<C: ClientEnd, E: ServerEnd> Relay<C, E> {
     ghost use Rattle.relay_laws.specs.declared.Phase.TheVariants.{Running, Done, Shut};
     ghost use Rattle.message_view.specs.declared.refusal.Refusal.{Refusal};
 
-    /// The lease of a link to a client begins. The client is to be given this welcome first: that of the link's fresh
-    /// session with the client's own key word. `limit` is the greatest length of a frame, both ways (at least 4).
+    /// The lease of a link to a client begins. The client is to be given the link's welcome first, with the client's own key
+    /// word ([`CleanLink::welcome`]). `limit` is the greatest length of a frame, both ways (at least 4).
     ///
-    /// Memory for both buffers is taken here, and none later. Where there is none, both ends are handed back as they were.
+    /// Memory for the welcome and both buffers is taken here, and none later. Where there is none, or the link has no welcome,
+    /// both ends are handed back as they were.
     pub fn begin(
         alloc: Global,
         client: C,
         link: CleanLink<E>,
         word: KeyWord,
         limit: u32,
-        welcome: Vec<u8>,
     ) -> Result<Relay<C, E>, (C, CleanLink<E>)>
         requires low { 4 ≤ limit }
         requires high { limit ≤ LONGEST_FRAME }
-        requires greets { IsGreeting link.stands link.key word welcome.items }
-        ensures begun { IfOk result (IsLease (place (C.facts client) link word limit welcome.items)) }
+        ensures begun { IfOk result (IsLease (place (C.facts client) link word limit)) }
         ensures client { IfOk result (λ r. r.client ≡ C.facts client) }
         ensures link { IfOk result (λ r. r.link ≡ link.stands) }
         ensures phase { IfOk result (λ r. r.phase ≡ Running) }
         ensures back { IfErr result (λ p. (p.0 ≡ client) × (p.1 ≡ link)) }
     {
+        let Ok(welcome) = link.welcome(alloc, word) else {
+            return Err((client, link));
+        };
         let link = link.lend();
         let Ok(to_link) = Flow::new(alloc, Side::Client, limit) else {
             return Err((client, link.clean()));

@@ -1,5 +1,5 @@
 -- What each move of bytes does to a lease.
-use Rattle.std.proofs.Common.{◌≡◌, ◌≢◌, ℕ, zero, suc, ◌+◌, ◌≤◌, inl, inr, ⊎_elim, length, arith, Bool, true, false, List, [], ◌∷◌, ◌++◌, Option, refl, sym, ap, ap₂, ◌∙◌, append_assoc, append-nil, subst, take, drop, ◌-◌, length-drop, drop-drop, take-append-drop, length-take-le, length-append, eqb-true}
+use Rattle.std.proofs.Common.{◌≡◌, ◌≢◌, ℕ, zero, suc, ◌+◌, ◌≤◌, inl, inr, ⊎_elim, length, arith, Bool, true, false, List, [], ◌∷◌, ◌++◌, Option, Result, Ok, refl, sym, ap, ap₂, ◌∙◌, append_assoc, append-nil, subst, take, drop, ◌-◌, length-drop, drop-drop, take-append-drop, length-take-le, length-append, eqb-true}
 use Rattle.std.specs.Prelude.{◌||◌, ◌==◌, if◌then◌else◌}
 use Rattle.std.specs.List.{flat_map, AllByRecursion}
 use Rattle.std.proofs.lemmas.Grind.{flat_map-append}
@@ -12,7 +12,10 @@ use Rattle.frame_view.specs.Frames.{AreBytes, FrameOf, IsFrame, spelling}
 use Rattle.frame_view.specs.declared.frames.TheConstants.{LONGEST_FRAME}
 use Rattle.frame_view.specs.declared.client.TheConstants.{TERMINATE}
 use Rattle.message_view.specs.declared.KeyWord.{KeyWord}
-use Rattle.session_values.specs.State.{StartKeyOf}
+use Rattle.session_values.specs.declared.cause.Cause.{Cause}
+use Rattle.session_values.specs.State.{State, StartKeyOf, fresh}
+use Rattle.session_values.specs.Service.{welcome}
+use Rattle.link_run.proofs.Reporting.{welcome_is}
 use Rattle.server_end.specs.declared.Moved.{Moved}
 use Rattle.server_end.specs.declared.Moved.TheVariants.{Count, NotNow, Ended, Fault}
 use Rattle.server_end.specs.Moves.{faults_in, moved, IsWithin}
@@ -36,7 +39,7 @@ use Rattle.relay_flow.specs.declared.flow.Passed.{Passed}
 use Rattle.relay_laws.specs.declared.Flags.{Flags}
 use Rattle.relay_laws.specs.declared.Phase.{Phase}
 use Rattle.relay_flow.specs.Flows.{FlowView, SameCursor, came, count_of, Fills, Passes, Stays, IsEmptyFlow, IsEndedBy, is_open, is_empty, last_body}
-use Rattle.relay_laws.specs.Leases.{RelayView, relay_view, Place, place, IsLease, IsForwarded, IsFlow, IsGreeting, IsClientOver, IsLinkOver, is_end, is_fault, counts, flags_of, link_moved, client_read, client_wrote}
+use Rattle.relay_laws.specs.Leases.{RelayView, relay_view, Place, place, IsLease, IsForwarded, IsFlow, IsGreeting, greeting_of, IsClientOver, IsLinkOver, is_end, is_fault, counts, flags_of, link_moved, client_read, client_wrote}
 
 -- ---- flows
 
@@ -723,10 +726,21 @@ empty_flow s lm f low high x = record { side_is = x.side_is; low = rw x.limit_is
 abbrev link_of : Standing → StartKeyOf → ℕ → ℕ → List Kept → LinkView
 link_of l k n b ks = record { stands = l; key = k; number = n; born = b; reports = ks }
 
-pub lease_begun : (cf : ClientFacts) (l : Standing) (k : StartKeyOf) (n b : ℕ) (w : KeyWord) (gr : List ℕ) (tl tc : FlowView) (t : Told) (ph : Phase) (lm : ℕ)
-    → IsClean l k t.reports → IsGreeting l k w gr → 4 ≤ lm → lm ≤ LONGEST_FRAME → IsEmptyFlow Client lm tl → IsEmptyFlow Server lm tc → Tells t.tally [] []
-    → IsLease (place cf (link_of l k n b t.reports) w lm gr) (relay_view cf l k n b w gr tl tc t (flags_of false false false false) ph)
-lease_begun cf l k n b w gr tl tc t ph lm c g low high x y z = record {
+same_session : (r : Result State Cause) (s t : State) → r ≡ Ok s → r ≡ Ok t → s ≡ t
+same_session r s t e d = cc
+
+-- what a clean link's reports tell a client is the welcome of its fresh session
+clean_greets : (l : Standing) (k : StartKeyOf) (ks : List Kept) (w : KeyWord) → IsClean l k ks → IsGreeting l k w (greeting_of ks w)
+clean_greets l k ks w c f s e =
+    let x = c f in
+    let z : State = x.stands.session in
+    ap (λ (kept : List Kept). greeting_of kept w) x.kept ∙ ap (flat_map spelling) (welcome_is z w.pid w.secret)
+    ∙ ap (λ (t : State). flat_map spelling (welcome t w.pid w.secret)) (same_session (fresh l.server.catalogue k) z s x.stands.is_fresh e)
+
+lease_begun : (cf : ClientFacts) (l : Standing) (k : StartKeyOf) (n b : ℕ) (w : KeyWord) (tl tc : FlowView) (t : Told) (ph : Phase) (lm : ℕ)
+    → IsClean l k t.reports → 4 ≤ lm → lm ≤ LONGEST_FRAME → IsEmptyFlow Client lm tl → IsEmptyFlow Server lm tc → Tells t.tally [] []
+    → IsLease (place cf (link_of l k n b t.reports) w lm) (relay_view cf l k n b w (greeting_of t.reports w) tl tc t (flags_of false false false false) ph)
+lease_begun cf l k n b w tl tc t ph lm c low high x y z = record {
   sent = [];
   received = [];
   since = [];
@@ -735,7 +749,7 @@ lease_begun cf l k n b w gr tl tc t ph lm c g low high x y z = record {
   tail = [];
   front = [];
   clean = c;
-  greets = g;
+  greets = clean_greets l k t.reports w c;
   same = (refl, refl, refl, refl, x.limit_is, y.limit_is);
   told = refl;
   moves = moves_none l;
@@ -786,15 +800,14 @@ greets_on h items g c r e d i l =
 pub drops_on : (items : List ℕ) (g c n : ℕ) → c ≡ n → drop (g + c) items ≡ drop n (drop g items)
 drops_on items g c n e = rw e (sym (drop-drop n g items))
 
-pub same_greeting : (a b : Standing) (k j : StartKeyOf) (w : KeyWord) (g : List ℕ) → b ≡ a → j ≡ k → IsGreeting a k w g → IsGreeting b j w g
-same_greeting a b k j w g e d h = subst (λ (x : Standing). IsGreeting x j w g) (sym e) (subst (λ (x : StartKeyOf). IsGreeting a x w g) (sym d) h)
-
 link_is : (lk : LinkView) (l : Standing) (k : StartKeyOf) (n b : ℕ) (ks : List Kept) → l ≡ lk.stands → k ≡ lk.key → n ≡ lk.number → b ≡ lk.born → ks ≡ lk.reports → link_of l k n b ks ≡ lk
 link_is lk l k n b ks e d f g r = rw (e, d, f, g, r) refl
 
+-- A lease of this link begins, whose client is to be given what its reports tell.
 pub lease_begun_at : (lk : LinkView) (cf : ClientFacts) (l : Standing) (k : StartKeyOf) (n b : ℕ) (w : KeyWord) (gr : List ℕ) (tl tc : FlowView) (t : Told) (ph : Phase) (lm : ℕ)
-    → l ≡ lk.stands → k ≡ lk.key → n ≡ lk.number → b ≡ lk.born → t.reports ≡ lk.reports
-    → IsClean l k t.reports → IsGreeting l k w gr → 4 ≤ lm → lm ≤ LONGEST_FRAME → IsEmptyFlow Client lm tl → IsEmptyFlow Server lm tc → Tells t.tally [] []
-    → IsLease (place cf lk w lm gr) (relay_view cf l k n b w gr tl tc t (flags_of false false false false) ph)
-lease_begun_at lk cf l k n b w gr tl tc t ph lm e d f h r c g low high x y z =
-    subst (λ (a : LinkView). IsLease (place cf a w lm gr) (relay_view cf l k n b w gr tl tc t (flags_of false false false false) ph)) (link_is lk l k n b t.reports e d f h r) (lease_begun cf l k n b w gr tl tc t ph lm c g low high x y z)
+    → l ≡ lk.stands → k ≡ lk.key → n ≡ lk.number → b ≡ lk.born → t.reports ≡ lk.reports → gr ≡ greeting_of lk.reports w
+    → IsClean l k t.reports → 4 ≤ lm → lm ≤ LONGEST_FRAME → IsEmptyFlow Client lm tl → IsEmptyFlow Server lm tc → Tells t.tally [] []
+    → IsLease (place cf lk w lm) (relay_view cf l k n b w gr tl tc t (flags_of false false false false) ph)
+lease_begun_at lk cf l k n b w gr tl tc t ph lm e d f h r g c low high x y z =
+    subst (λ (a : List ℕ). IsLease (place cf lk w lm) (relay_view cf l k n b w a tl tc t (flags_of false false false false) ph)) (ap (λ (ks : List Kept). greeting_of ks w) r ∙ sym g)
+    (subst (λ (a : LinkView). IsLease (place cf a w lm) (relay_view cf l k n b w (greeting_of t.reports w) tl tc t (flags_of false false false false) ph)) (link_is lk l k n b t.reports e d f h r) (lease_begun cf l k n b w tl tc t ph lm c low high x y z))

@@ -23,7 +23,6 @@ use Rattle.link_run.proofs.Reporting.{told-frames}
 use Rattle.link_laws.proofs.Splits.{SplitsOff, split_whole}
 use Rattle.run_laws.proofs.ByName.{run_replies_are_frames, run_reports_tell_values}
 use Rattle.session_laws.specs.Laws.{Reaches, after_replies}
-use Rattle.session_values.specs.State.{StartKeyOf}
 use Rattle.param_track.specs.Kept.{Kept}
 use Rattle.frame_view.specs.declared.Side.TheVariants.{Server}
 use Rattle.frame_view.specs.declared.frames.TheConstants.{LONGEST_FRAME}

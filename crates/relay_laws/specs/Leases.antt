@@ -16,7 +16,7 @@ use Rattle.session_laws.specs.Laws.{IsSent}
 use Rattle.link_laws.specs.Standing.{Standing, ClientFacts, Moves}
 use Rattle.server_end.specs.declared.Moved.{Moved}
 use Rattle.server_end.specs.declared.Moved.TheVariants as moved
-use Rattle.link_run.specs.Links.{LinkView, IsClean}
+use Rattle.link_run.specs.Links.{LinkView, IsClean, welcome_by}
 use Rattle.link_laws.specs.Futures.{future}
 use Rattle.relay_flow.specs.Parts.{Opens}
 use Rattle.relay_flow.specs.Flows.{FlowView, IsEnded, is_empty, is_faulty}
@@ -107,8 +107,12 @@ pub record Place : Type 0 where
   pub limit : ℕ
   pub greeting : List ℕ
 
-abbrev pub place : ClientFacts → LinkView → KeyWord → ℕ → List ℕ → Place
-place client link word limit greeting = record { told = client.tells; taken = client.taken; given = client.given; faults = client.faults; stands = link.stands; reports = link.reports; key = link.key; number = link.number; born = link.born; word = word; limit = limit; greeting = greeting }
+-- the welcome of a link that keeps these reports, with the client's own key word
+abbrev pub greeting_of : List Kept → KeyWord → List ℕ
+greeting_of reports word = flat_map spelling (welcome_by reports word.pid word.secret)
+
+abbrev pub place : ClientFacts → LinkView → KeyWord → ℕ → Place
+place client link word limit = record { told = client.tells; taken = client.taken; given = client.given; faults = client.faults; stands = link.stands; reports = link.reports; key = link.key; number = link.number; born = link.born; word = word; limit = limit; greeting = greeting_of link.reports word }
 
 -- the welcome of the link's fresh session, with the client's own key word
 abbrev pub IsGreeting : Standing → StartKeyOf → KeyWord → List ℕ → Type 0

@@ -1,5 +1,5 @@
 -- What is told of a lease's frames, and the verdict on it.
-use Rattle.std.specs.Prelude.{◌≡◌, ℕ, Bool, true, false, not, cond, List, [], ◌∷◌, ◌++◌, None}
+use Rattle.std.specs.Prelude.{◌≡◌, ℕ, Bool, true, false, cond, List, [], ◌∷◌, ◌++◌, None}
 use Rattle.std.specs.List.{flat_map}
 use Rattle.frame_view.specs.Frames.{FrameOf}
 use Rattle.disposal.specs.declared.Verdict.{Verdict}

@@ -1,15 +1,14 @@
 -- The moves of a stand-in server in memory.
-use Rattle.std.proofs.Common.{◌≡◌, ℕ, ◌+◌, ◌≤◌, Bool, true, false, Option, Some, None, List, [], ◌++◌, take, drop, refl, sym, ap, ◌∙◌, append-nil, arith, subst, take-append-drop}
+use Rattle.std.proofs.Common.{◌≡◌, ℕ, ◌≤◌, Bool, true, false, Option, Some, None, List, [], ◌++◌, take, drop, refl, sym, ap, ◌∙◌, append-nil, arith, subst, take-append-drop}
 use Rattle.std.proofs.lemmas.Bool.{true≢false}
 use Rattle.link_laws.specs.Standing.{Standing, Served, Moves}
-use Rattle.link_laws.specs.Futures.{future, replies_in}
 use Rattle.link_laws.proofs.Both.{moves_both}
 use Rattle.server_end.specs.declared.Moved.{Moved}
 use Rattle.server_end.specs.declared.Moved.TheVariants.{Fault}
 use Rattle.server_end.specs.declared.dialogue.Dialogue.{Dialogue}
-use Rattle.server_end.specs.Dialogues.{Serves, standing_of, server_of}
-use Rattle.server_end.specs.Moves.{moved, CountsRead, CountsWrite}
-use Rattle.server_end.specs.Servers.{ServerOf, KeepsCounts, KeepsServer, Faults, at_most}
+use Rattle.server_end.specs.Dialogues.{standing_of, server_of}
+use Rattle.server_end.specs.Moves.{moved}
+use Rattle.server_end.specs.Servers.{KeepsServer, Faults, at_most}
 
 -- a move of a server that lived before it
 moves_alive : (a b : Standing) (put got : List ℕ) → a.lives ≡ true → b.follows ≡ a.follows → b.server ≡ a.server → b.accepted ≡ a.accepted ++ put → Served a put b got → Moves a put b got
@@ -37,33 +36,6 @@ moves_out d e l m acc f w g u n old got view lives h p i o c =
       outbox = append-nil d.outbox.items ∙ rw (c, o) (sym (take-append-drop n d.outbox.items));
     }))
 
--- a server accepts bytes
-pub moves_in : (d e : Dialogue) (l m : Bool) (acc next put : List ℕ) (f w : ℕ) (old : Standing) → standing_of d l acc f w ≡ old → old.lives ≡ true → e.host ≡ d.host → e.progress ≡ d.progress → e.inbox.items ≡ d.inbox.items ++ put → e.outbox ≡ d.outbox
-    → next ≡ acc ++ put → Moves old put (standing_of e m next f w) []
-moves_in d e l m acc next put f w old view lives h p i o c =
-    let a : Standing = standing_of d l acc f w in
-    let b : Standing = standing_of e m next f w in
-    subst (λ (x : Standing). Moves x put b []) view (moves_alive a b put [] (ap (λ (x : Standing). x.lives) view ∙ lives) refl (ap server_of h) c (record {
-      taken = [];
-      lawful = tt;
-      inbox = sym i;
-      stage = rw (h, p) refl;
-      outbox = append-nil d.outbox.items ∙ ap (λ x. x.items) (sym o);
-    }))
-
--- a server takes its packets
-pub moves_served : (d e : Dialogue) (l m : Bool) (acc : List ℕ) (f w : ℕ) (old : Standing) → standing_of d l acc f w ≡ old → old.lives ≡ true → e.host ≡ d.host → Serves d e → Moves old [] (standing_of e m acc f w) []
-moves_served d e l m acc f w old view lives h x =
-    let a : Standing = standing_of d l acc f w in
-    let b : Standing = standing_of e m acc f w in
-    subst (λ (y : Standing). Moves y [] b []) view (moves_alive a b [] [] (ap (λ (y : Standing). y.lives) view ∙ lives) refl (ap server_of h) (sym (append-nil acc)) (record {
-      taken = x.taken;
-      lawful = x.lawful;
-      inbox = x.inbox;
-      stage = x.stage;
-      outbox = x.outbox;
-    }))
-
 -- a server dies
 pub moves_die : (a b : Standing) → KeepsServer a b → b.lives ≡ false → Moves a [] b []
 moves_die a b k d = record {
@@ -83,25 +55,6 @@ kept_both a b c x y = record { follows = y.follows ∙ x.follows; server = y.ser
 pub moves_fault : (a b c : Standing) (m : Moved) (bytes : List ℕ) → m ≡ Fault → KeepsServer a b → Faults b c → Moves a [] c (moved m bytes)
 moves_fault a b c m bytes e k f = subst (λ (x : Moved). Moves a [] c (moved x bytes)) (sym e) (moves_die a c (kept_both a b c k f.kept) f.lives)
 
-pub puts_fault : (a b c : Standing) (m : Moved) (bytes : List ℕ) → m ≡ Fault → KeepsServer a b → Faults b c → Moves a (moved m bytes) c []
-puts_fault a b c m bytes e k f = subst (λ (x : Moved). Moves a (moved x bytes) c []) (sym e) (moves_die a c (kept_both a b c k f.kept) f.lives)
-
-pub reads_fault : (a b c : ServerOf) (m : Moved) → m ≡ Fault → KeepsCounts a b → Faults b.standing c.standing → CountsRead a.standing c.standing m
-reads_fault a b c m e k f = subst (λ (x : Moved). CountsRead a.standing c.standing x) (sym e) (record {
-  faults = f.faults ∙ ap (λ (n : ℕ). n + 1) k.faults;
-  read_waits = f.read_waits ∙ k.read_waits ∙ omega arith;
-  write_waits = f.write_waits ∙ k.write_waits;
-  ended = λ w. f.lives;
-})
-
-pub writes_fault : (a b c : ServerOf) (m : Moved) → m ≡ Fault → KeepsCounts a b → Faults b.standing c.standing → CountsWrite a.standing c.standing m
-writes_fault a b c m e k f = subst (λ (x : Moved). CountsWrite a.standing c.standing x) (sym e) (record {
-  faults = f.faults ∙ ap (λ (n : ℕ). n + 1) k.faults;
-  read_waits = f.read_waits ∙ k.read_waits;
-  write_waits = f.write_waits ∙ k.write_waits ∙ omega arith;
-  ended = λ w. f.lives;
-})
-
 -- ---- a read after the packets were taken
 
 pub at_most_within : (left : Option ℕ) (n : ℕ) → at_most left n ≤ n
@@ -110,15 +63,3 @@ at_most_within None n = omega arith
 
 pub reads_both : (a b c : Standing) (got : List ℕ) → Moves a [] b [] → Moves b [] c got → Moves a [] c got
 reads_both a b c got x y = moves_both a b c [] [] [] got x y
-
-pub counts_after : (a b c : ServerOf) (m : Moved) → KeepsCounts a b → CountsRead b.standing c.standing m → CountsRead a.standing c.standing m
-counts_after a b c m k x = record {
-  faults = rw (sym k.faults) x.faults;
-  read_waits = rw (sym k.read_waits) x.read_waits;
-  write_waits = x.write_waits ∙ k.write_waits;
-  ended = x.ended;
-}
-
--- nothing is held for the client, and what it sent is answered by nothing
-pub nothing_to_come : (at : Standing) → at.outbox ≡ [] → replies_in at.server at.stage at.inbox ≡ [] → future at [] ≡ []
-nothing_to_come at o r = rw (o, append-nil at.inbox) r

@@ -1,5 +1,5 @@
 -- One packet of a client is taken, and then all of them.
-use Rattle.std.proofs.Common.{◌≡◌, ℕ, zero, suc, ◌+◌, ◌<◌, ◌≤◌, Bool, true, false, List, [], ◌∷◌, ◌++◌, length, drop, Option, Some, None, Result, Err, refl, sym, ap, ap₂, ◌∙◌, append_assoc, append-nil, arith, subst, length-append}
+use Rattle.std.proofs.Common.{◌≡◌, ℕ, zero, suc, ◌+◌, Bool, true, false, List, [], ◌∷◌, ◌++◌, length, drop, Result, Err, refl, sym, ap, ap₂, ◌∙◌, append_assoc, append-nil, arith, subst}
 use Rattle.std.proofs.lemmas.Bool.{true≢false}
 use Rattle.std.specs.Borrow.{Bor}
 use Rattle.std.specs.List.{flat_map, AllByRecursion}
@@ -26,12 +26,11 @@ use Rattle.session_values.specs.Step.{step, run_frames}
 use Rattle.session_laws.specs.Laws.{IsSent}
 use Rattle.message_laws.proofs.Trips.{bytes_after}
 use Rattle.link_laws.specs.Futures.{replies_in}
-use Rattle.link_laws.specs.Stages.{Server, Auth, Stage, Before, Asked, Open, Closed, Packet, Starts, Sends, packet_bytes, begins, hears, let_in, opened, serve}
+use Rattle.link_laws.specs.Stages.{Server, Auth, Stage, Before, Asked, Open, Closed, Starts, Sends, packet_bytes, begins, hears, let_in, opened, serve}
 use Rattle.link_laws.proofs.Both.{served_both}
-use Rattle.server_end.specs.declared.dialogue.Progress.{Progress}
 use Rattle.server_end.specs.declared.dialogue.Host.{Host}
 use Rattle.server_end.specs.declared.dialogue.Dialogue.{Dialogue}
-use Rattle.server_end.specs.Dialogues.{server_of, stage_of, Takes, Waits, TakesPacket, HasTaken, MovedOn, alone, Serves}
+use Rattle.server_end.specs.Dialogues.{server_of, stage_of, Takes, Waits, HasTaken, alone, Serves}
 
 -- ---- the turns
 
@@ -54,9 +53,6 @@ takes_start v auth part bytes items rest out replied next fit same t turn left =
       stage = turn.0;
       replies = turn.1;
     }
-
-pub start_within : (part : Bor (List ℕ)) (bytes items : List ℕ) → AreBytes bytes → bytes ≡ items → TellsFirst (Startup part) (first_front bytes) → 8 + length part.now ≤ length items
-start_within part bytes items fit same t = subst (λ (x : List ℕ). 8 + length part.now ≤ length x) same (started part bytes fit t).within
 
 -- ---- frames
 
@@ -129,17 +125,6 @@ takes_frame v cat s next frame bytes items rest out replied d fit same t gave le
 
 -- ---- all packets
 
-pub went_on : (h : Host) (s : Stage) (went : Bool) (old new : Progress) (next : Option Progress) (i r o q : List ℕ) → stage_of h old ≡ s → TakesPacket h s next i r o q → MovedOn went old new next → HasTaken went (server_of h) s (stage_of h new) i r o q
-went_on h s went old new (Some x) i r o q e t m = rw (m.0, m.1) t
-went_on h s went old new None i r o q e t m = rw (m.0, m.1) (e, t)
-
-some_bytes : (p : Packet) → 0 < length (packet_bytes p)
-some_bytes (Starts start) = omega arith
-some_bytes (Sends f) = omega arith
-
-pub less_left : (v : Server) (s next : Stage) (i r o q : List ℕ) → Takes v s next i r o q → length r < length i
-less_left v s next i r o q t = omega (arith, ap length t.front, length-append (packet_bytes t.packet) r, some_bytes t.packet)
-
 takes_served : (a b : Dialogue) → b.host ≡ a.host → Takes (server_of a.host) (stage_of a.host a.progress) (stage_of a.host b.progress) a.inbox.items b.inbox.items a.outbox.items b.outbox.items → Serves a b
 takes_served a b e t = record {
   taken = t.packet ∷ [];
@@ -152,6 +137,3 @@ takes_served a b e t = record {
 pub serves_one : (went : Bool) (a b c : Dialogue) → went ≡ true → b.host ≡ a.host → c.host ≡ b.host → Serves a b → HasTaken went (server_of b.host) (stage_of b.host b.progress) (stage_of b.host c.progress) b.inbox.items c.inbox.items b.outbox.items c.outbox.items → Serves a c
 serves_one true a b c w e f x t = served_both (alone a) (alone b) (alone c) [] [] [] [] (ap server_of e) x (takes_served b c f t)
 serves_one false a b c w e f x t = absurd (true≢false (sym w))
-
-pub serves_none : (a : Dialogue) → Serves a a
-serves_none a = record { taken = []; lawful = tt; inbox = append-nil a.inbox.items; stage = refl; outbox = append-nil a.outbox.items }

@@ -1,10 +1,10 @@
-use Rattle.std.proofs.Common.{arith, sym, ap, ◌∙◌, ◌+◌, length, drop}
+use Rattle.std.proofs.Common.{arith, sym, ap, ◌∙◌, ◌+◌, ℕ, List, length, drop}
 use Rattle.frame_view.specs.declared.Side.TheVariants.{Server}
-use Rattle.frame_view.specs.Frames.{Cut, frames}
+use Rattle.frame_view.specs.Frames.{Cut, front, frames}
 use Rattle.link_run.specs.declared.reply.Answered.{Answered}
-use Rattle.link_run.specs.Resets.{answered_by_all}
+use Rattle.link_run.specs.Resets.{answered_by_all, at_rest}
 use Rattle.frame_view.proofs.Taking.{taken_at}
-use Rattle.link_run.proofs.Resetting.{all_answered, nothing_behind}
+use Rattle.link_run.proofs.Resetting.{all_read, all_unsent, nothing_behind, some_behind}
 use Rattle.link_run.specs.declared.reply.TheConstants.{LONGEST_REPLY}
 use Rattle.link_run.proofs.reply.read_reply.Goals as goal
 
@@ -26,6 +26,7 @@ loop-frame-preserved c =
 pub returns : goal.returns
 returns c = record {
   bytes = c.are_bytes.ensures;
-  answered = all_answered c.next_frame.result _ c.loop-frame.answered _ c.in_default.not-Whole c.next_frame.ensures.tells c.loop-frame.invariant.so_far;
+  answered = c.at_rest.ensures ∙ ap (λ (b : List ℕ). at_rest c.loop-frame.answered (front Server LONGEST_REPLY b)) (all_unsent c.loop-frame.at c.args.reply.now) ∙ all_read c.next_frame.result _ c.loop-frame.answered (frames Server LONGEST_REPLY c.args.reply.now) c.in_default.not-Whole c.next_frame.ensures.tells c.loop-frame.invariant.so_far c.loop-frame.invariant.rest;
   rest = λ e. nothing_behind c.next_frame.result c.loop-frame.at c.args.reply.now _ c.in_default.not-Whole c.next_frame.ensures.tells c.loop-frame.invariant.rest e;
+  behind = λ e. some_behind c.next_frame.result c.loop-frame.at c.args.reply.now _ c.loop-frame.invariant.within c.in_default.not-Whole c.next_frame.ensures.tells c.loop-frame.invariant.rest e;
 }

@@ -1,14 +1,15 @@
 use Rattle.std.proofs.Common.{◌≡◌, ◌≤◌, ◌-◌, length, drop}
 use Rattle.frame_view.specs.Frames.{frames}
 use Rattle.frame_view.specs.declared.Side.TheVariants.{Server}
-use Rattle.link_run.specs.Resets.{answered_by_all, reads}
+use Rattle.link_run.specs.Resets.{answered_by_all}
+use Rattle.link_run.specs.declared.reply.Answered.TheVariants.{Nothing}
 use Rattle.link_run.specs.declared.reply.TheConstants.{LONGEST_REPLY}
 use Rattle.link_run.proofs.reply.read_reply.Given as goal
 
 abbrev pub invariant-loop-frame : goal.invariant-loop-frame
 invariant-loop-frame l = record {
   within : l.at ≤ length l.reply;
-  so_far : answered_by_all l.answered (frames Server LONGEST_REPLY (drop l.at l.reply)).frames ≡ reads (frames Server LONGEST_REPLY l.reply);
+  so_far : answered_by_all l.answered (frames Server LONGEST_REPLY (drop l.at l.reply)).frames ≡ answered_by_all Nothing (frames Server LONGEST_REPLY l.reply).frames;
   rest : (frames Server LONGEST_REPLY (drop l.at l.reply)).rest ≡ (frames Server LONGEST_REPLY l.reply).rest;
 }
 

@@ -1,0 +1,7 @@
+mod Closing
+mod Servers
+mod Reading
+mod Hearing
+mod Reporting
+mod Telling
+mod Starting

@@ -1,0 +1,146 @@
+-- What a server that follows answers to a start, and what is heard of it.
+use Rattle.std.proofs.Common.{◌≡◌, ◌≢◌, ℕ, Bool, true, false, List, [], ◌∷◌, ◌++◌, refl, sym, ap, ◌∙◌, append-nil, arith, subst, Result, Ok, Err, Option, Some, None}
+use Rattle.std.specs.Prelude.{if◌then◌else◌}
+use Rattle.std.specs.List.{flat_map, AllByRecursion}
+use Rattle.frame_view.specs.declared.FrameFault.{FrameFault}
+use Rattle.frame_view.specs.declared.Side.TheVariants.{Server as FromServer}
+use Rattle.frame_view.specs.Frames.{FrameOf, AFrame, Faulty, front, spelling}
+use Rattle.frame_view.proofs.Cuts.{front-spelling}
+use Rattle.frame_view.proofs.Growth.{front-grows}
+use Rattle.message_view.specs.Bodies.{Text}
+use Rattle.message_view.specs.Messages.{authentication, backend_key_data, password_message, ready_for_query}
+use Rattle.message_view.specs.declared.kinds.TheConstants.{IDLE}
+use Rattle.message_view.specs.Reading.{authentication_of, int32_at}
+use Rattle.session_values.specs.declared.cause.Cause.{Cause}
+use Rattle.session_values.specs.declared.parameter.Parameter.{Parameter}
+use Rattle.session_values.specs.Errors.{fatal}
+use Rattle.session_values.specs.Lawful.{IsLawfulCatalogue}
+use Rattle.session_values.specs.Parameters.{reported_parameters}
+use Rattle.session_values.specs.State.{State, StartKeyOf, fresh, all_reports_from}
+use Rattle.session_values.specs.Service.{welcome}
+use Rattle.session_laws.specs.Starts.{Welcomes}
+use Rattle.session_laws.proofs.ByName.{fresh_is_reached, welcome_is_read}
+use Rattle.link_laws.specs.Stages.{Server, Auth, NoAuth, Asks, Closed, let_in, wrong_password, opened, opens, is_answer}
+use Rattle.link_laws.specs.Starts.{start_body}
+use Rattle.link_laws.specs.Dialogues.{start_replies, start_error, start_refusal, IsToQuestion, IsShortReply}
+use Rattle.link_laws.proofs.ByName.{starts_are_of_their_keys}
+use Rattle.link_run.specs.Links.{kept_by}
+use Rattle.link_start.specs.declared.heard.Heard.{Heard}
+use Rattle.link_start.specs.declared.heard.Heard.TheVariants.{Nothing, Asked, LetIn, Ready, Refused, Other}
+use Rattle.link_start.specs.declared.heard.Question.{Question}
+use Rattle.link_start.specs.Heard.{heard_by, heard_all, error_in, reported_all}
+use Rattle.link_start.specs.Starts.{AsksQuestion, IsLinkKey}
+use Rattle.link_start.proofs.Reporting.{welcome_reports}
+
+-- ---- a welcome, and what refuses
+
+welcome_heard : (ps : List Parameter) (vs : List Text) (pid secret : ℕ) → heard_all LetIn (all_reports_from ps vs ++ backend_key_data pid secret ∷ ready_for_query IDLE ∷ []) ≡ Ready
+welcome_heard [] vs pid secret = refl
+welcome_heard (p ∷ ps) [] pid secret = refl
+welcome_heard (p ∷ ps) (v ∷ vs) pid secret = welcome_heard ps vs pid secret
+
+pub let_in_heard : heard_by Nothing let_in ≡ LetIn
+unfolding authentication_of int32_at
+let_in_heard = refl
+
+let_in_after : (q : Question) → heard_by (Asked q) let_in ≡ LetIn
+unfolding authentication_of int32_at
+let_in_after q = refl
+
+-- the session that was opened, and what its welcome reports
+pub record OpensReported (v : Server) (key : StartKeyOf) (replies : List FrameOf) : Type 0 where
+  pub session : State
+  pub is_fresh : fresh v.catalogue key ≡ Ok session
+  pub reported : reported_all [] replies ≡ Some (kept_by session.reported session.reported)
+
+pub record RefusedBy (refusal : Option FrameOf) (bytes : List ℕ) : Type 0 where
+  pub frame : FrameOf
+  pub is : refusal ≡ Some frame
+  pub whole : bytes ≡ spelling frame
+
+-- replies of which each front is heard as a start: what the last says, and nothing else than a start's frames
+pub record IsHeard (v : Server) (key : StartKeyOf) (h : Heard) (replies : List FrameOf) (refusal : Option FrameOf) : Type 0 where
+  pub lawful : heard_all h replies ≢ Other
+  pub ready : heard_all h replies ≡ Ready → OpensReported v key replies
+  pub refused : heard_all h replies ≡ Refused → RefusedBy refusal (error_in replies)
+
+opened_heard : (v : Server) (key : StartKeyOf) (h : Heard) (r : Result State Cause) → heard_by h let_in ≡ LetIn → fresh v.catalogue key ≡ r → IsLawfulCatalogue v.catalogue → IsLinkKey key
+    → IsHeard v key h (opened v r).replies (start_error r)
+opened_heard v key h (Ok s) e f c k =
+    let w : Welcomes s v.pid v.secret = welcome_is_read v.catalogue key s v.pid v.secret (fresh_is_reached v.catalogue key s c k.0.lawful f) in
+    let is : heard_all h (opened v (Ok s)).replies ≡ Ready = ap (λ (x : Heard). heard_all x (welcome s v.pid v.secret)) e ∙ welcome_heard reported_parameters s.reported v.pid v.secret in
+    record {
+      lawful = λ o. let z : Ready ≡ Other = sym is ∙ o in cc;
+      ready = λ _. record { session = s; is_fresh = f; reported = welcome_reports s v.pid v.secret w };
+      refused = λ o. absurd (let z : Ready ≡ Refused = sym is ∙ o in cc);
+    }
+opened_heard v key h (Err c) e f l k =
+    let is : heard_all h (opened v (Err c)).replies ≡ Refused = ap (λ (x : Heard). heard_all x (fatal c ∷ [])) e in
+    record {
+      lawful = λ o. let z : Refused ≡ Other = sym is ∙ o in cc;
+      ready = λ o. absurd (let z : Refused ≡ Ready = sym is ∙ o in cc);
+      refused = λ _. record { frame = fatal c; is = refl; whole = refl };
+    }
+
+wrong_heard : (v : Server) (key : StartKeyOf) (q : Question) → IsHeard v key (Asked q) (wrong_password ∷ []) (Some wrong_password)
+wrong_heard v key q = record {
+  lawful = λ o. let z : Refused ≡ Other = o in cc;
+  ready = λ o. absurd (let z : Refused ≡ Ready = o in cc);
+  refused = λ _. record { frame = wrong_password; is = refl; whole = refl };
+}
+
+-- ---- all that is answered to a start
+
+and_none : (v : Server) (key : StartKeyOf) (h : Heard) (replies : List FrameOf) (refusal : Option FrameOf) → IsHeard v key h replies refusal → IsHeard v key h (replies ++ []) refusal
+and_none v key h replies refusal x = subst (λ (fs : List FrameOf). IsHeard v key h fs refusal) (sym (append-nil replies)) x
+
+answer_heard : (v : Server) (key : StartKeyOf) (q : Question) (right : Bool) → IsLawfulCatalogue v.catalogue → IsLinkKey key
+    → IsHeard v key (Asked q) ((if right then opens v (start_body key) else record { next = Closed; replies = wrong_password ∷ [] }).replies ++ []) (if right then start_error (fresh v.catalogue key) else Some wrong_password)
+answer_heard v key q true c k =
+    and_none v key (Asked q) (opens v (start_body key)).replies (start_error (fresh v.catalogue key))
+    (subst (λ (r : Result State Cause). IsHeard v key (Asked q) (opened v r).replies (start_error (fresh v.catalogue key))) (sym (starts_are_of_their_keys v.catalogue key k.0 k.1))
+    (opened_heard v key (Asked q) (fresh v.catalogue key) (let_in_after q) refl c k))
+answer_heard v key q false c k = wrong_heard v key q
+
+-- a question, and then what is answered to its answer
+after_question : (v : Server) (key : StartKeyOf) (kind : ℕ) (more : List ℕ) (q : Question) (replies : List FrameOf) (refusal : Option FrameOf) → heard_by Nothing (authentication kind more) ≡ Asked q
+    → IsHeard v key (Asked q) replies refusal → IsHeard v key Nothing (authentication kind more ∷ replies) refusal
+after_question v key kind more q replies refusal e x =
+    let is : heard_all Nothing (authentication kind more ∷ replies) ≡ heard_all (Asked q) replies = ap (λ (h : Heard). heard_all h replies) e in
+    record {
+      lawful = λ o. x.lawful (sym is ∙ o);
+      ready = λ o. let y = x.ready (sym is ∙ o) in record { session = y.session; is_fresh = y.is_fresh; reported = y.reported };
+      refused = λ o. let y = x.refused (sym is ∙ o) in record { frame = y.frame; is = y.is; whole = y.whole };
+    }
+
+pub replies_heard : (v : Server) (auth : Auth) (key : StartKeyOf) (answer : Option Text) → IsLawfulCatalogue v.catalogue → IsLinkKey key → AsksQuestion auth → IsToQuestion answer auth
+    → IsHeard v key Nothing (start_replies v auth key answer) (start_refusal v auth key answer)
+replies_heard v NoAuth key None c k a to =
+    and_none v key Nothing (opens v (start_body key)).replies (start_error (fresh v.catalogue key))
+    (subst (λ (r : Result State Cause). IsHeard v key Nothing (opened v r).replies (start_error (fresh v.catalogue key))) (sym (starts_are_of_their_keys v.catalogue key k.0 k.1))
+    (opened_heard v key Nothing (fresh v.catalogue key) let_in_heard refl c k))
+replies_heard v NoAuth key (Some answer) c k a to = absurd to
+replies_heard v (Asks kind more right) key None c k a to = after_question v key kind more a.question [] None a.is_read (record {
+  lawful = λ o. let z : Asked a.question ≡ Other = o in cc;
+  ready = λ o. absurd (let z : Asked a.question ≡ Ready = o in cc);
+  refused = λ o. absurd (let z : Asked a.question ≡ Refused = o in cc);
+})
+replies_heard v (Asks kind more right) key (Some answer) c k a to =
+    after_question v key kind more a.question _ _ a.is_read (answer_heard v key a.question (is_answer right (password_message answer)) c k)
+
+-- ---- the beginning of a frame
+
+pub not_faulty : (more : List FrameOf) (tail lost : List ℕ) (fault : FrameFault) → AllByRecursion IsShortReply more → tail ++ lost ≡ flat_map spelling more → front FromServer 65536 tail ≢ Faulty fault
+not_faulty [] tail lost fault each e f =
+    let none : tail ≡ [] = nothing tail lost e in
+    let z : front FromServer 65536 [] ≡ Faulty fault = ap (front FromServer 65536) (sym none) ∙ f in
+    cc
+  where
+    nothing : (a b : List ℕ) → a ++ b ≡ [] → a ≡ []
+    nothing [] b h = refl
+    nothing (x ∷ a) b h = absurd cc
+not_faulty (m ∷ ms) tail lost fault each e f =
+    let stays : front FromServer 65536 (tail ++ lost) ≡ Faulty fault = (front-grows FromServer 65536 tail lost).fault fault f in
+    let whole : front FromServer 65536 (tail ++ lost) ≡ AFrame m.kind m.body (flat_map spelling ms) = ap (front FromServer 65536) e ∙ front-spelling FromServer 65536 m (flat_map spelling ms) (omega arith) each.0 in
+    let z : Faulty fault ≡ AFrame m.kind m.body (flat_map spelling ms) = sym stays ∙ whole in
+    cc

@@ -1,0 +1,12 @@
+use Rattle.std.proofs.Common.{◌≡◌}
+use Rattle.std.specs.Arc.{arc_value}
+use Rattle.link_start.specs.Starts.{IsUnderWay}
+use Rattle.link_start.proofs.start.start_link.Given as goal
+
+abbrev pub invariant-loop : goal.invariant-loop
+invariant-loop g l = record {
+  under_way : IsUnderWay (g.E.ServerEnd.standing l.fn.end) l.secret l.start;
+  key : l.start.key ≡ arc_value l.fn.key;
+  number : l.start.number ≡ l.fn.number;
+  born : l.start.born ≡ l.fn.born;
+}

@@ -1,0 +1,190 @@
+-- The start of a link: what it may begin with, how far it has come, and what it ends with.
+use Rattle.std.specs.Prelude.{◌≡◌, ◌⊎◌, ℕ, ◌<◌, ◌≤◌, length, Bool, true, false, if◌then◌else◌, ◌==◌, Option, Some, None, List, []}
+use Rattle.std.specs.Borrow.{Bor}
+use Rattle.std.specs.List.{list_any}
+use Rattle.frame_view.specs.Frames.{FrameOf, frames, spelling}
+use Rattle.frame_view.specs.declared.Side.TheVariants.{Server}
+use Rattle.frame_view.specs.declared.server.TheConstants.{ERROR_RESPONSE}
+use Rattle.message_view.specs.Bodies.{Text}
+use Rattle.message_view.specs.Messages.{authentication}
+use Rattle.session_values.specs.Lawful.{IsClientKey, IsLawfulCatalogue}
+use Rattle.session_values.specs.State.{StartKeyOf}
+use Rattle.user_file.specs.declared.secrets.Secret.{Secret}
+use Rattle.user_file.specs.declared.secrets.Secret.TheVariants as secrets
+use Rattle.user_file.specs.Secrets.{answer}
+use Rattle.link_laws.specs.Stages.{Server as TheServer, Auth, NoAuth, Asks}
+use Rattle.link_laws.specs.Standing.{Standing}
+use Rattle.link_laws.specs.Dialogues.{IsNew, AsksInFrame, IsStarting, auth_of, start_refusal}
+use Rattle.server_end.specs.declared.memory_server.ServerAuth.{ServerAuth}
+use Rattle.server_end.specs.declared.memory_server.ServerAuth.TheVariants as memory
+use Rattle.server_end.specs.Servers.{auth_of as memory_auth, new_server}
+use Rattle.link_run.specs.Links.{LinkView}
+use Rattle.link_run.specs.declared.reply.TheConstants.{LONGEST_REPLY}
+use Rattle.link_start.specs.declared.heard.Heard.{Heard}
+use Rattle.link_start.specs.declared.heard.Heard.TheVariants as heard
+use Rattle.link_start.specs.declared.heard.Question.{Question}
+use Rattle.link_start.specs.declared.heard.Question.TheVariants.{Cleartext, Md5, Unknown}
+use Rattle.link_start.specs.declared.start.StartCause.{StartCause}
+use Rattle.link_start.specs.declared.start.StartCause.TheVariants.{Refused, Lost, Unanswerable, Unexpected, Memory, Turns}
+use Rattle.link_start.specs.Heard as spec
+
+-- ---- what a start may begin with
+
+-- the question is one, alone in its frame
+pub record IsQuestion (kind : ℕ) (more : List ℕ) : Type 0 where
+  pub question : Question
+  pub is_read : spec.asked (authentication kind more).body ≡ heard.Asked question
+
+abbrev pub AsksQuestion : Auth → Type 0
+AsksQuestion NoAuth = Unit {0}
+AsksQuestion (Asks kind more right) = IsQuestion kind more
+
+-- Where the end follows, its server waits for a StartupMessage, with nothing under way; and what it asks is a question.
+pub record IsStartable (at : Standing) : Type 0 where
+  pub is_new : IsNew at
+  pub in_frame : AsksInFrame (auth_of at.stage)
+  pub question : AsksQuestion (auth_of at.stage)
+
+abbrev pub CanStart : Standing → Type 0
+CanStart at = at.follows ≡ true → IsStartable at
+
+-- an MD5 question has a salt of four bytes
+abbrev pub HasSalt : ServerAuth → Type 0
+HasSalt memory.Trust = Unit {0}
+HasSalt (memory.Plain password) = Unit {0}
+HasSalt (memory.Md5 salt digest) = length salt ≡ 4
+
+-- A stand-in server in memory can be started.
+abbrev pub MemoryServersCanStart : Type 0
+MemoryServersCanStart = (v : TheServer) (auth : ServerAuth) (cut : ℕ) (left : Option ℕ) → IsLawfulCatalogue v.catalogue → HasSalt auth → CanStart (new_server v (memory_auth auth) cut left).standing
+
+-- the key of a client, with a database
+abbrev pub IsLinkKey : StartKeyOf → Type 0
+IsLinkKey key = IsClientKey key × (0 < length key.dbname)
+
+-- ---- the answer to a question
+
+abbrev pub with_zero : Text → Bool
+with_zero t = list_any (λ b. b == 0) t
+
+-- the password itself, where the secret keeps it and a message can spell it
+abbrev pub password_of : Secret → Option Text
+password_of (secrets.Plain password) = if with_zero password then None else Some password
+password_of (secrets.Md5 digits) = None
+
+-- what this user answers; none where it can't
+abbrev pub answer_to : Secret → Text → Question → Option Text
+answer_to secret user Cleartext = password_of secret
+answer_to secret user (Md5 salt) = Some (answer secret user salt)
+answer_to secret user Unknown = None
+
+abbrev pub answer_heard : Secret → Text → Heard → Option Text
+answer_heard secret user (heard.Asked question) = answer_to secret user question
+answer_heard secret user heard.Nothing = None
+answer_heard secret user heard.LetIn = None
+answer_heard secret user heard.Ready = None
+answer_heard secret user heard.Refused = None
+answer_heard secret user heard.Other = None
+
+-- what it answers to such a server
+abbrev pub own_answer : Secret → Text → Auth → Option Text
+own_answer secret user NoAuth = None
+own_answer secret user (Asks kind more right) = answer_heard secret user (spec.asked (authentication kind more).body)
+
+-- ---- a start under way
+
+pub record StartView : Type 0 where
+  pub end : Standing
+  pub key : StartKeyOf
+  pub number : ℕ
+  pub born : ℕ
+  -- the question is answered
+  pub answered : Bool
+  pub unsent : List ℕ
+  pub received : List ℕ
+
+abbrev pub start_view : Standing → StartKeyOf → ℕ → ℕ → Bool → List ℕ → List ℕ → StartView
+start_view end key number born answered unsent received = record { end = end; key = key; number = number; born = born; answered = answered; unsent = unsent; received = received }
+
+-- no answer, or this user's own
+abbrev pub IsOwn : Secret → Text → Auth → Option Text → Type 0
+IsOwn secret user auth None = Unit {0}
+IsOwn secret user auth (Some text) = own_answer secret user auth ≡ Some text
+
+-- Since its server was new it was sent the StartupMessage of the key, and this user's own answer to its question.
+pub record IsUnderWay (began : Standing) (secret : Secret) (v : StartView) : Type 0 where
+  pub answer : Option Text
+  pub starting : IsStarting began v.key answer v.unsent v.end v.received
+  pub own : began.follows ≡ true → IsOwn secret v.key.user (auth_of began.stage) answer
+  pub unasked : v.answered ≡ false → answer ≡ None
+  pub faults : began.faults ≤ v.end.faults
+
+-- the end ended or faulted
+abbrev pub IsLost : Standing → Standing → Type 0
+IsLost old new = (new.lives ≡ false) ⊎ (old.faults < new.faults)
+
+abbrev pub IsSameStart : StartView → StartView → Type 0
+IsSameStart old new = (new.key ≡ old.key) × (new.number ≡ old.number) × (new.born ≡ old.born)
+
+-- ---- what it ends with
+
+-- all was sent, and what was received ends with ReadyForQuery
+pub record IsWelcomed (v : StartView) : Type 0 where
+  pub sent : v.unsent ≡ []
+  pub ready : spec.heard v.received ≡ heard.Ready
+
+-- It was begun as it may be, and is welcomed.
+pub record IsDone (v : StartView) : Type 0 where
+  pub began : Standing
+  pub secret : Secret
+  pub can_start : CanStart began
+  pub key : IsLinkKey v.key
+  pub under_way : IsUnderWay began secret v
+  pub welcomed : IsWelcomed v
+
+-- A link comes of a whole dialogue alone, and keeps what was reported in it.
+pub record IsStarted (began : Standing) (secret : Secret) (l : LinkView) : Type 0 where
+  pub received : List ℕ
+  pub answered : Bool
+  pub under_way : IsUnderWay began secret (start_view l.stands l.key l.number l.born answered [] received)
+  pub ready : spec.heard received ≡ heard.Ready
+  pub reports : spec.reported_all [] (frames Server LONGEST_REPLY received).frames ≡ Some l.reports
+
+-- an ErrorResponse
+pub record IsError (bytes : List ℕ) : Type 0 where
+  pub frame : FrameOf
+  pub kind : frame.kind ≡ ERROR_RESPONSE
+  pub whole : bytes ≡ spelling frame
+
+-- that by which such a server refuses the start
+pub record IsRefusalOf (began : Standing) (secret : Secret) (key : StartKeyOf) (bytes : List ℕ) : Type 0 where
+  pub frame : FrameOf
+  pub refusal : start_refusal began.server (auth_of began.stage) key (own_answer secret key.user (auth_of began.stage)) ≡ Some frame
+  pub whole : bytes ≡ spelling frame
+
+-- it asks what this user can't answer
+abbrev pub IsUnanswerable : Secret → Text → Auth → Type 0
+IsUnanswerable secret user NoAuth = ⊥
+IsUnanswerable secret user (Asks kind more right) = own_answer secret user (Asks kind more right) ≡ None
+
+-- why an end isn't read or written
+abbrev pub IsEndCause : Standing → Standing → StartCause → Type 0
+IsEndCause old new Lost = IsLost old new
+IsEndCause old new Memory = Unit {0}
+IsEndCause old new (Refused error) = ⊥
+IsEndCause old new Unanswerable = ⊥
+IsEndCause old new Unexpected = ⊥
+IsEndCause old new Turns = ⊥
+
+abbrev pub IsCause : Standing → Standing → Secret → StartKeyOf → StartCause → Type 0
+IsCause began now secret key (Refused error) = IsError error × (began.follows ≡ true → IsRefusalOf began secret key error)
+IsCause began now secret key Lost = IsLost began now
+IsCause began now secret key Unanswerable = began.follows ≡ true → IsUnanswerable secret key.user (auth_of began.stage)
+IsCause began now secret key Unexpected = began.follows ≡ true → ⊥
+IsCause began now secret key Memory = Unit {0}
+IsCause began now secret key Turns = Unit {0}
+
+-- what is answered, as the code has it
+abbrev pub shown : Option (Bor (List ℕ)) → Option Text
+shown (Some text) = Some text.now
+shown None = None

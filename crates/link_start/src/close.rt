@@ -1,0 +1,22 @@
+//! The close of a link that nobody uses.
+ghost use Rattle.link_start.specs.Closes.{IsOffered};
+
+use link_run::links::CleanLink;
+use server_end::ServerEnd;
+
+/// The message Terminate (PostgreSQL manual, "Message Flow", "Termination").
+static TERMINATE: [u8; 5] = *b"X\0\0\0\x04";
+
+/// Writes a Terminate once, as much of it as goes.
+#[tactic(auto, using(crate::proofs::Closing::offered))]
+fn offer_terminate<E: ServerEnd>(end: &mut E)
+    ensures { IsOffered (E.standing end.old) (E.standing end.new) }
+{
+    let _ = end.write_some(&TERMINATE);
+}
+
+/// Offers the link's server one Terminate, and drops its end, whatever came of it.
+pub fn close_link<E: ServerEnd>(link: CleanLink<E>) {
+    let mut lent = link.lend();
+    offer_terminate(&mut lent.end);
+}

@@ -1,0 +1,239 @@
+//! What a server answers to a start, frame by frame.
+ghost use Rattle.std.specs.Prelude.{◌≡◌, [], ℕ, List, Ok, Err};
+ghost use Rattle.frame_view.specs.Frames.{AreBytes, frames};
+ghost use Rattle.frame_view.specs.declared.Side.TheVariants.{Server};
+ghost use Rattle.link_run.specs.declared.reply.TheConstants.{LONGEST_REPLY};
+ghost use Rattle.session_values.specs.Answers.{frame_of};
+ghost use Rattle.link_start.specs.Heard as spec;
+ghost use Rattle.link_start.specs.Heard.{TakesReport, TakesReports, error_in, heard, heard_all, heard_by};
+
+use frame_view::laws::are_bytes;
+use frame_view::server::{
+    AUTHENTICATION, BACKEND_KEY_DATA, ERROR_RESPONSE, NOTICE_RESPONSE, PARAMETER_STATUS,
+    READY_FOR_QUERY,
+};
+use frame_view::{Frame, Side, Step, next_frame};
+use link_run::reply::LONGEST_REPLY;
+use message_view::kinds::{ASKS_CLEARTEXT, ASKS_MD5, ASKS_NOTHING};
+use message_view::{AuthView, StatusView};
+use param_track::{ReportFault, Reported};
+use std::alloc::Global;
+
+/// What a server asks of the user that starts a link.
+#[derive(Clone, Copy, Debug, PartialEq, Eq, Drop)]
+pub enum Question {
+    /// The password, as it is.
+    Cleartext,
+    /// The digest of the password with this salt.
+    Md5([u8; 4]),
+    /// Another one.
+    Unknown,
+}
+
+/// How far a start's answer has come.
+#[derive(Clone, Copy, Debug, PartialEq, Eq, Drop)]
+pub enum Heard {
+    /// Nothing of it.
+    Nothing,
+    /// A question.
+    Asked(Question),
+    /// AuthenticationOk: ReadyForQuery is waited for.
+    LetIn,
+    /// ReadyForQuery: nothing may follow.
+    Ready,
+    /// An ErrorResponse.
+    Refused,
+    /// Something else.
+    Other,
+}
+
+/// The same, where nothing may follow the number.
+fn bare(heard: Heard, more: &[u8]) -> Heard
+    ensures { result ≡ spec.bare heard more.now }
+{
+    if more.is_empty() { heard } else { Heard::Other }
+}
+
+fn salted(more: &[u8]) -> Heard
+    ensures { result ≡ spec.salted more.now }
+{
+    match more {
+        [a, b, c, d] => Heard::Asked(Question::Md5([*a, *b, *c, *d])),
+        _ => Heard::Other,
+    }
+}
+
+fn asked_by(kind: u32, more: &[u8]) -> Heard
+    ensures { result ≡ spec.asked_by kind more.now }
+{
+    match kind {
+        ASKS_NOTHING => bare(Heard::LetIn, more),
+        ASKS_CLEARTEXT => bare(Heard::Asked(Question::Cleartext), more),
+        ASKS_MD5 => salted(more),
+        _ => Heard::Asked(Question::Unknown),
+    }
+}
+
+/// What the body of an Authentication message says.
+fn asked(body: &[u8]) -> Heard
+    ensures { result ≡ spec.asked body.now }
+{
+    match AuthView::read(body) {
+        Ok(question) => asked_by(question.kind, question.rest),
+        Err(_) => Heard::Other,
+    }
+}
+
+/// After a question only AuthenticationOk goes on.
+fn answered(body: &[u8]) -> Heard
+    ensures { result ≡ spec.answered body.now }
+{
+    match asked(body) {
+        Heard::LetIn => Heard::LetIn,
+        _ => Heard::Other,
+    }
+}
+
+fn refused(kind: u8) -> Heard
+    ensures { result ≡ spec.refused kind }
+{
+    if kind == ERROR_RESPONSE {
+        Heard::Refused
+    } else {
+        Heard::Other
+    }
+}
+
+fn is_idle(frame: Frame<'_>) -> bool
+    ensures { result ≡ spec.is_idle (frame_of frame.entry) }
+{
+    frame.kind == READY_FOR_QUERY && frame.body == b"I".as_slice()
+}
+
+/// Once the server let the link in.
+fn welcomed(frame: Frame<'_>) -> Heard
+    ensures { result ≡ spec.welcomed (frame_of frame.entry) }
+{
+    match frame.kind {
+        NOTICE_RESPONSE | PARAMETER_STATUS | BACKEND_KEY_DATA => Heard::LetIn,
+        kind => {
+            if is_idle(frame) {
+                Heard::Ready
+            } else {
+                refused(kind)
+            }
+        }
+    }
+}
+
+impl Heard {
+    fn by(self, frame: Frame<'_>) -> Heard
+        ensures { result ≡ heard_by self (frame_of frame.entry) }
+    {
+        match (self, frame.kind) {
+            (Heard::Nothing | Heard::Asked(_), NOTICE_RESPONSE) => self,
+            (Heard::Nothing, AUTHENTICATION) => asked(frame.body),
+            (Heard::Asked(_), AUTHENTICATION) => answered(frame.body),
+            (Heard::Nothing | Heard::Asked(_), kind) => refused(kind),
+            (Heard::LetIn, _) => welcomed(frame),
+            (Heard::Refused, _) => Heard::Refused,
+            (Heard::Ready | Heard::Other, _) => Heard::Other,
+        }
+    }
+
+    /// The same, with these bytes behind it, which are no whole frame.
+    fn before(self, rest: &[u8]) -> Heard
+        ensures { result ≡ spec.before self rest.now }
+    {
+        match self {
+            Heard::Refused => Heard::Refused,
+            Heard::Ready => {
+                if rest.is_empty() {
+                    Heard::Ready
+                } else {
+                    Heard::Other
+                }
+            }
+            heard => match next_frame(rest, 0, LONGEST_REPLY, Side::Server) {
+                Step::Bad(_) => Heard::Other,
+                _ => heard,
+            },
+        }
+    }
+}
+
+/// How far these bytes have come.
+pub(crate) fn hear(reply: &[u8]) -> Heard
+    ensures heard { result ≡ heard reply.now }
+    ensures bytes { AreBytes reply.now }
+{
+    are_bytes(reply);
+    let mut heard = Heard::Nothing;
+    let mut at = 0;
+    while let Step::Whole(frame) = next_frame(reply, at, LONGEST_REPLY, Side::Server) {
+        heard = heard.by(frame);
+        at += frame.whole.len();
+    }
+    heard.before(&reply[at..])
+}
+
+/// The first ErrorResponse among the whole frames of these bytes; empty where there is none.
+pub(crate) fn error_in(reply: &[u8]) -> &[u8]
+    ensures { result.now ≡ error_in (frames Server LONGEST_REPLY reply.now).frames }
+{
+    are_bytes(reply);
+    let mut at = 0;
+    while let Step::Whole(frame) = next_frame(reply, at, LONGEST_REPLY, Side::Server) {
+        if frame.kind == ERROR_RESPONSE {
+            return frame.whole;
+        }
+        at += frame.whole.len();
+    }
+    b""
+}
+
+/// Why a start's reports weren't taken.
+#[derive(Clone, Copy, Debug, PartialEq, Eq, Drop)]
+pub(crate) enum Untaken {
+    /// One can't be read, or there are more than [`param_track::MOST_NAMES`] names.
+    Unexpected,
+    /// An allocation failed.
+    Memory,
+}
+
+/// Takes the report of a ParameterStatus; another frame reports nothing.
+fn take_report(alloc: Global, frame: Frame<'_>, reported: &mut Reported) -> Result<(), Untaken>
+    ensures { TakesReport reported.old (frame_of frame.entry) reported.new result }
+{
+    if frame.kind != PARAMETER_STATUS {
+        return Ok(());
+    }
+    let Ok(report) = StatusView::read(frame.body) else {
+        return Err(Untaken::Unexpected);
+    };
+    match reported.add(alloc, &report) {
+        Ok(()) => Ok(()),
+        Err(ReportFault::TooMany) => Err(Untaken::Unexpected),
+        Err(ReportFault::OutOfMemory) => Err(Untaken::Memory),
+    }
+}
+
+/// Takes the reports among the whole frames of these bytes.
+pub(crate) fn take_reports(
+    alloc: Global,
+    reply: &[u8],
+    reported: &mut Reported,
+) -> Result<(), Untaken>
+    ensures taken { TakesReports reported.old (frames Server LONGEST_REPLY reply.now).frames reported.new result }
+    ensures bytes { AreBytes reply.now }
+{
+    are_bytes(reply);
+    let mut at = 0;
+    while let Step::Whole(frame) = next_frame(reply, at, LONGEST_REPLY, Side::Server) {
+        match take_report(alloc, frame, reported) {
+            Ok(()) => at += frame.whole.len(),
+            Err(untaken) => return Err(untaken),
+        }
+    }
+    Ok(())
+}

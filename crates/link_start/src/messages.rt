@@ -1,0 +1,44 @@
+//! What is sent to a server that is started.
+ghost use Rattle.std.specs.Prelude.{◌≡◌, ◌+◌, ◌^◌, ◌<◌, IfOk, length};
+ghost use Rattle.frame_view.specs.Frames.{Start, first_spelling};
+ghost use Rattle.link_laws.specs.Starts.{start_body};
+ghost use Rattle.link_start.specs.Starts as spec;
+
+use bytes::BytesMut;
+use memchr::memchr;
+use message_view::put_startup_message;
+use start_keys::StartKey;
+use std::alloc::{AllocError, Global};
+use user_file::Secret;
+
+/// The StartupMessage that starts a server for a key: its user, its database, and its parameters in their order.
+///
+/// `AllocError` where memory is refused, or the message is above the greatest length of a frame.
+pub(crate) fn startup_message(alloc: Global, key: &StartKey) -> Result<BytesMut, AllocError>
+    ensures bytes { IfOk result (λ out. out.items ≡ first_spelling (Start (start_body key.now))) }
+    ensures fits { IfOk result (λ _. 8 + length (start_body key.now) < 2 ^ 32) }
+{
+    let mut pairs: Vec<(&[u8], &[u8])> = Vec::new(alloc);
+    pairs.push((b"user", key.user.as_slice()))?;
+    pairs.push((b"database", key.dbname.as_slice()))?;
+    for (name, value) in &key.parameters {
+        pairs.push((name.as_slice(), value.as_slice()))?;
+    }
+    let mut out = BytesMut::new(alloc);
+    put_startup_message(&mut out, pairs.as_slice())?;
+    Ok(out)
+}
+
+/// The password itself, where the secret keeps it and a message can spell it.
+#[tactic(auto, using(crate::proofs::Reading::no_zero))]
+pub(crate) fn password_of(secret: &Secret) -> Option<&[u8]>
+    ensures { spec.shown result ≡ spec.password_of secret.now }
+{
+    match secret {
+        Secret::Plain(password) => match memchr(0, password.as_bytes()) {
+            Some(_) => None,
+            None => Some(password.as_bytes()),
+        },
+        Secret::Md5(_) => None,
+    }
+}

@@ -1,0 +1,357 @@
+//! The start of a link over a server's end.
+ghost use Rattle.std.specs.Prelude.{◌≡◌, [], IfErr, IfOk, OnOk, true};
+ghost use Rattle.frame_view.specs.Frames.{AreBytes, frames};
+ghost use Rattle.frame_view.specs.declared.Side.TheVariants.{Server};
+ghost use Rattle.link_run.specs.declared.reply.TheConstants.{LONGEST_REPLY};
+ghost use Rattle.std.specs.Arc.{arc_value};
+ghost use Rattle.link_laws.specs.Standing.{Standing};
+ghost use Rattle.link_start.specs.Heard.{error_in, heard};
+ghost use Rattle.link_start.specs.declared.heard.Heard.TheVariants.{Asked};
+ghost use Rattle.link_start.specs.declared.start.Progress.TheVariants.{Ready};
+ghost use Rattle.user_file.specs.declared.secrets.Secret.{Secret};
+ghost use Rattle.link_start.specs.declared.start.StartCause.TheVariants as causes;
+ghost use Rattle.link_start.specs.Starts.{CanStart, IsCause, IsDone, IsEndCause, IsLinkKey, IsSameStart, IsStarted, IsUnderWay, IsWelcomed};
+
+use crate::heard::{Heard, Question, Untaken, error_in, hear, take_reports};
+use crate::messages::{password_of, startup_message};
+use bytes::BytesMut;
+use link_run::links::{CleanLink, Lent};
+use message_view::put_password_message;
+use param_track::Reported;
+use server_end::gate::Gate;
+use server_end::{Moved, ServerEnd};
+use start_keys::StartKey;
+use std::alloc::{AllocError, Global};
+use std::marker::Model;
+use std::sync::Arc;
+use user_file::Secret;
+
+/// The bytes that a turn reads at most.
+const CHUNK: usize = 256;
+
+/// The ErrorResponse by which a server refused a start.
+#[derive(Drop)]
+pub struct StartError {
+    reply: BytesMut,
+}
+
+impl Model for StartError {
+    ghost use Rattle.std.specs.Prelude.{ℕ, List};
+    ghost use Rattle.frame_view.specs.Frames.{frames};
+    ghost use Rattle.frame_view.specs.declared.Side.TheVariants.{Server};
+    ghost use Rattle.link_run.specs.declared.reply.TheConstants.{LONGEST_REPLY};
+    ghost use Rattle.link_start.specs.Heard.{error_in};
+
+    ghost Value = { List ℕ };
+
+    ghost view = { λ e. error_in (frames Server LONGEST_REPLY e.reply.items).frames };
+}
+
+impl StartError {
+    /// The whole message, as the server sent it.
+    pub fn as_bytes(&self) -> &[u8]
+        ensures { result.now ≡ self.now }
+    {
+        error_in(self.reply.as_slice())
+    }
+}
+
+/// Why a link wasn't started.
+#[derive(Drop)]
+pub enum StartCause {
+    /// L1: the server refused the start, by this ErrorResponse.
+    Refused(StartError),
+    /// L2: the end faulted or ended.
+    Lost,
+    /// L3: the server asks for neither nothing, nor a password, nor its MD5 digest; or for a password where the secret keeps only
+    /// its digest, or has a zero byte.
+    Unanswerable,
+    /// L4: something else was answered, a report can't be read, more than 64 names were reported, or a frame is longer than
+    /// [`link_run::reply::LONGEST_REPLY`].
+    Unexpected,
+    /// L6: an allocation failed, or the key has no StartupMessage of the greatest length.
+    Memory,
+    /// L7: the turns are used up.
+    Turns,
+}
+
+impl From<AllocError> for StartCause {
+    ghost from_gives = { λ _ cause. cause ≡ causes.Memory };
+
+    fn from(_error: AllocError) -> StartCause {
+        StartCause::Memory
+    }
+}
+
+/// An end whose start failed.
+#[derive(Drop)]
+pub struct StartLinkFault<E: ServerEnd> {
+    pub end: E,
+    pub cause: StartCause,
+}
+
+/// A link that is being started: what is to be sent, and how much of it was; and all that was answered.
+#[derive(Drop)]
+struct Start<E: ServerEnd> {
+    end: E,
+    key: Arc<StartKey>,
+    number: u64,
+    born: u64,
+    answered: bool,
+    messages: BytesMut,
+    sent: usize,
+    reply: BytesMut,
+}
+
+impl<E: ServerEnd> Model for Start<E> {
+    ghost use Rattle.std.specs.Prelude.{◌≤◌, drop, length};
+    ghost use Rattle.std.specs.Arc.{arc_value};
+    ghost use Rattle.link_start.specs.Starts.{StartView, start_view};
+
+    ghost Value = { StartView };
+
+    ghost view = { λ s. start_view (E.standing s.end) (arc_value s.key) s.number s.born s.answered (drop s.sent s.messages.items) s.reply.items };
+
+    ghost invariant = { λ s. s.sent ≤ length s.messages.items };
+}
+
+/// What a turn came to.
+#[derive(Clone, Copy)]
+enum Progress {
+    More,
+    Ready,
+}
+
+impl<E: ServerEnd> Start<E> {
+    fn begin(
+        alloc: Global,
+        end: E,
+        key: Arc<StartKey>,
+        number: u64,
+        born: u64,
+    ) -> Result<Start<E>, StartLinkFault<E>>
+        ensures under_way { IfOk result (λ s. (secret : Secret) → IsUnderWay (E.standing end) secret s) }
+        ensures same { IfOk result (λ s. (s.key ≡ arc_value key) × (s.number ≡ number) × (s.born ≡ born)) }
+        ensures memory { IfErr result (λ f. f.cause ≡ causes.Memory) }
+    {
+        let Ok(messages) = startup_message(alloc, &key) else {
+            return Err(StartLinkFault {
+                end,
+                cause: StartCause::Memory,
+            });
+        };
+        Ok(Start {
+            end,
+            key,
+            number,
+            born,
+            answered: false,
+            messages,
+            sent: 0,
+            reply: BytesMut::new(alloc),
+        })
+    }
+
+    /// Writes once, if something is left to be sent.
+    fn send(&mut self) -> Result<(), StartCause>
+        ensures under_way { (b : Standing) (s : Secret) → IsUnderWay b s self.old → OnOk result (IsUnderWay b s self.new) }
+        ensures same { IsSameStart self.old self.new }
+        ensures cause { IfErr result (λ c. IsEndCause self.old.end self.new.end c) }
+    {
+        if self.sent == self.messages.len() {
+            return Ok(());
+        }
+        match self.end.write_some(&self.messages.as_slice()[self.sent..]) {
+            Moved::Count(count) => self.sent += count,
+            Moved::NotNow => {}
+            Moved::Ended | Moved::Fault => return Err(StartCause::Lost),
+        }
+        Ok(())
+    }
+
+    /// Reads once. The room comes first: a refused growth after the read would lose bytes.
+    fn receive(&mut self) -> Result<(), StartCause>
+        ensures under_way { (b : Standing) (s : Secret) → IsUnderWay b s self.old → OnOk result (IsUnderWay b s self.new) }
+        ensures same { IsSameStart self.old self.new }
+        ensures unsent { self.new.unsent ≡ self.old.unsent }
+        ensures cause { IfErr result (λ c. IsEndCause self.old.end self.new.end c) }
+    {
+        let mut chunk = [0u8; CHUNK];
+        self.reply.reserve(CHUNK)?;
+        match self.end.read_some(&mut chunk) {
+            Moved::Count(count) => self.reply.extend_reserved(&chunk[..count]),
+            Moved::NotNow => {}
+            Moved::Ended | Moved::Fault => return Err(StartCause::Lost),
+        }
+        Ok(())
+    }
+
+    fn is_sent(&self) -> bool
+        ensures { result ≡ true → self.now.unsent ≡ [] }
+    {
+        self.sent == self.messages.len()
+    }
+
+    /// How far the server's answer has come.
+    fn hear(&self) -> Heard
+        ensures heard { result ≡ heard self.now.received }
+        ensures bytes { AreBytes self.now.received }
+    {
+        hear(self.reply.as_slice())
+    }
+
+    /// Puts the answer to the server's question behind what is sent, once.
+    fn answer(&mut self, question: Question, secret: &Secret) -> Result<(), StartCause>
+        requires asked { heard self.old.received ≡ Asked question }
+        requires bytes { AreBytes self.old.received }
+        ensures under_way { (b : Standing) → CanStart b → IsLinkKey self.old.key → IsUnderWay b secret.now self.old → OnOk result (IsUnderWay b secret.now self.new) }
+        ensures same { IsSameStart self.old self.new }
+        ensures end { self.new.end ≡ self.old.end }
+        ensures cause { (b : Standing) → CanStart b → IsLinkKey self.old.key → IsUnderWay b secret.now self.old → IfErr result (λ c. IsCause b self.new.end secret.now self.old.key c) }
+    {
+        if self.answered {
+            return Ok(());
+        }
+        match question {
+            Question::Cleartext => {
+                let Some(password) = password_of(secret) else {
+                    return Err(StartCause::Unanswerable);
+                };
+                put_password_message(&mut self.messages, password)?;
+            }
+            Question::Md5(salt) => {
+                let digest = secret.answer(self.key.user.as_slice(), salt);
+                put_password_message(&mut self.messages, &digest)?;
+            }
+            Question::Unknown => return Err(StartCause::Unanswerable),
+        }
+        self.answered = true;
+        Ok(())
+    }
+
+    /// Writes at most once and, where all is sent, reads at most once.
+    fn turn(&mut self, alloc: Global, secret: &Secret) -> Result<Progress, StartCause>
+        ensures under_way { (b : Standing) → CanStart b → IsLinkKey self.old.key → IsUnderWay b secret.now self.old → OnOk result (IsUnderWay b secret.now self.new) }
+        ensures same { IsSameStart self.old self.new }
+        ensures welcomed { IfOk result (λ p. p ≡ Ready → IsWelcomed self.new) }
+        ensures cause { (b : Standing) → CanStart b → IsLinkKey self.old.key → IsUnderWay b secret.now self.old → IfErr result (λ c. IsCause b self.new.end secret.now self.old.key c) }
+    {
+        self.send()?;
+        if !self.is_sent() {
+            return Ok(Progress::More);
+        }
+        self.receive()?;
+        match self.hear() {
+            Heard::Ready => return Ok(Progress::Ready),
+            Heard::Asked(question) => self.answer(question, secret)?,
+            Heard::Refused => return Err(StartCause::Refused(self.take_error(alloc))),
+            Heard::Other => return Err(StartCause::Unexpected),
+            Heard::Nothing | Heard::LetIn => {}
+        }
+        Ok(Progress::More)
+    }
+
+    fn take_error(&mut self, alloc: Global) -> StartError
+        ensures error { result ≡ error_in (frames Server LONGEST_REPLY self.old.received).frames }
+        ensures end { self.new.end ≡ self.old.end }
+        ensures same { IsSameStart self.old self.new }
+    {
+        StartError {
+            reply: std::mem::replace(&mut self.reply, BytesMut::new(alloc)),
+        }
+    }
+
+    /// The link, once its server's welcome came.
+    fn finish(self, alloc: Global) -> Result<CleanLink<E>, StartLinkFault<E>>
+        requires { IsDone self }
+        ensures started { (b : Standing) (s : Secret) → IsUnderWay b s self → IfOk result (λ l. IsStarted b s l) }
+        ensures key { IfOk result (λ l. l.key ≡ self.key) }
+        ensures number { IfOk result (λ l. l.number ≡ self.number) }
+        ensures born { IfOk result (λ l. l.born ≡ self.born) }
+        ensures cause { (b : Standing) (s : Secret) → CanStart b → IsUnderWay b s self → IfErr result (λ f. IsCause b (E.standing f.end) s self.key f.cause) }
+    {
+        let Start {
+            end,
+            key,
+            number,
+            born,
+            answered: _,
+            messages: _,
+            sent: _,
+            reply,
+        } = self;
+        let mut reported = Reported::new(alloc);
+        match take_reports(alloc, reply.as_slice(), &mut reported) {
+            Ok(()) => Ok(Lent {
+                end,
+                key,
+                number,
+                born,
+                reported,
+            }
+            .clean()),
+            Err(Untaken::Unexpected) => Err(StartLinkFault {
+                end,
+                cause: StartCause::Unexpected,
+            }),
+            Err(Untaken::Memory) => Err(StartLinkFault {
+                end,
+                cause: StartCause::Memory,
+            }),
+        }
+    }
+
+    fn fail(self, cause: StartCause) -> StartLinkFault<E>
+        ensures end { E.standing result.end ≡ self.end }
+        ensures cause { result.cause ≡ cause }
+    {
+        let Start {
+            end,
+            key: _,
+            number: _,
+            born: _,
+            answered: _,
+            messages: _,
+            sent: _,
+            reply: _,
+        } = self;
+        StartLinkFault { end, cause }
+    }
+}
+
+/// Starts a link over a server's end: sends the StartupMessage of the key (user, database, and the key's parameters in their order),
+/// answers the server's question by the user's secret, and reads up to ReadyForQuery, each with notices in any number between
+/// (PostgreSQL manual, "Message Flow", "Start-up"). Each turn of the gate allows at most one write and then one read; nothing is
+/// read before all was sent, nor after the ReadyForQuery.
+///
+/// `number` and `born` are kept in the link: its number, and the second in which it was begun. Where it fails the end comes back
+/// with the cause.
+pub fn start_link<E: ServerEnd, G: Gate<E>>(
+    alloc: Global,
+    end: E,
+    key: Arc<StartKey>,
+    secret: &Secret,
+    number: u64,
+    born: u64,
+    gate: &mut G,
+    turns: u32,
+) -> Result<CleanLink<E>, StartLinkFault<E>>
+    requires can_start { CanStart (E.standing end) }
+    requires key { IsLinkKey (arc_value key) }
+    ensures started { IfOk result (λ l. IsStarted (E.standing end) secret.now l) }
+    ensures key { IfOk result (λ l. l.key ≡ arc_value key) }
+    ensures number { IfOk result (λ l. l.number ≡ number) }
+    ensures born { IfOk result (λ l. l.born ≡ born) }
+    ensures cause { IfErr result (λ f. IsCause (E.standing end) (E.standing f.end) secret.now (arc_value key) f.cause) }
+{
+    let mut start = Start::begin(alloc, end, key, number, born)?;
+    for _ in 0..turns {
+        gate.turn();
+        match start.turn(alloc, secret) {
+            Ok(Progress::More) => {}
+            Ok(Progress::Ready) => return start.finish(alloc),
+            Err(cause) => return Err(start.fail(cause)),
+        }
+    }
+    Err(start.fail(StartCause::Turns))
+}

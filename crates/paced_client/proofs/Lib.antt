@@ -1,0 +1,3 @@
+pub mod Pausing
+pub mod Allowing
+pub mod Pacing

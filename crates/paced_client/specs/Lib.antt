@@ -1,0 +1,4 @@
+pub mod Pauses
+pub mod Hearing
+pub mod Standing
+pub mod Paced

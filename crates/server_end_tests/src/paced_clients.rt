@@ -1,0 +1,88 @@
+//! A client in memory that waits for its answers.
+ghost use Rattle.std.specs.Prelude.{◌<◌};
+
+use crate::client_talk::{give, hands_out, joined, take};
+use crate::packets::{ann, empty_answer, empty_query, parse, ready, sync, welcome};
+use crate::server_talk::{ask, server};
+use paced_client::PacedClient;
+use server_end::memory_server::{MemoryServer, ServerAuth};
+use server_end::{ClientEnd, Moved};
+use std::alloc::Global;
+use std::test::Fail;
+
+/// A client that hands out these packets after its StartupMessage.
+fn client(alloc: Global, packets: &[&[u8]], cut: usize) -> Result<PacedClient, Fail>
+    requires { 0 < cut }
+{
+    let mut input = joined(alloc, &[ann()])?;
+    input.extend_from_slice(joined(alloc, packets)?.as_slice())?;
+    Ok(PacedClient::new(alloc, input.as_slice(), cut)?)
+}
+
+/// One closing message at a time, with what stands before it.
+#[test]
+fn it_waits_for_its_answers(rt: HostRuntime) -> Result<(), Fail> {
+    let alloc = rt.alloc();
+    let mut client = client(alloc, &[parse(), sync(), empty_query()], 1)?;
+    assert!(rt; hands_out(alloc, &mut client, ann(), Moved::NotNow)?);
+    assert_eq!(rt; give(&mut client, welcome()), None);
+    let extended = joined(alloc, &[parse(), sync()])?;
+    assert!(rt; hands_out(alloc, &mut client, extended.as_slice(), Moved::NotNow)?);
+    assert_eq!(rt; give(&mut client, ready()), None);
+    assert!(rt; hands_out(alloc, &mut client, empty_query(), Moved::NotNow)?);
+    assert_eq!(rt; give(&mut client, empty_answer()), None);
+    assert!(rt; hands_out(alloc, &mut client, b"", Moved::Ended)?);
+    Ok(())
+}
+
+/// Half a ReadyForQuery answers nothing.
+#[test]
+fn it_waits_for_whole_answers(rt: HostRuntime) -> Result<(), Fail> {
+    let alloc = rt.alloc();
+    let mut client = client(alloc, &[sync()], 100)?;
+    assert!(rt; hands_out(alloc, &mut client, ann(), Moved::NotNow)?);
+    assert_eq!(rt; give(&mut client, b"Z\0\0\0\x05"), None);
+    assert!(rt; hands_out(alloc, &mut client, b"", Moved::NotNow)?);
+    assert_eq!(rt; give(&mut client, b"I"), None);
+    assert!(rt; hands_out(alloc, &mut client, sync(), Moved::NotNow)?);
+    assert_eq!(rt; client.waits(), (3, 0));
+    Ok(())
+}
+
+/// What is no whole frame comes last.
+#[test]
+fn it_ends_in_part_of_a_frame(rt: HostRuntime) -> Result<(), Fail> {
+    let alloc = rt.alloc();
+    let mut client = client(alloc, &[sync(), b"Q\0"], 100)?;
+    assert!(rt; hands_out(alloc, &mut client, ann(), Moved::NotNow)?);
+    assert_eq!(rt; give(&mut client, ready()), None);
+    assert!(rt; hands_out(alloc, &mut client, sync(), Moved::NotNow)?);
+    assert_eq!(rt; give(&mut client, ready()), None);
+    assert!(rt; hands_out(alloc, &mut client, b"Q\0", Moved::Ended)?);
+    assert_eq!(rt; client.taken().len(), 39);
+    Ok(())
+}
+
+/// Takes what the client hands out to the server, and the answers back, until the client has ended.
+fn talk(alloc: Global, client: &mut PacedClient, server: &mut MemoryServer) -> Result<(), Fail> {
+    for _ in 0..10 {
+        let (taken, end) = take(alloc, client)?;
+        let heard = ask(alloc, server, taken.as_slice())?;
+        let _ = give(client, heard.as_slice());
+        if end == Moved::Ended {
+            return Ok(());
+        }
+    }
+    Err("the client goes on without end")?
+}
+
+#[test]
+fn it_talks_to_a_server(rt: HostRuntime) -> Result<(), Fail> {
+    let alloc = rt.alloc();
+    let mut client = client(alloc, &[empty_query(), empty_query()], 100)?;
+    let mut server = server(alloc, ServerAuth::Trust, 100, None)?;
+    talk(alloc, &mut client, &mut *server)?;
+    let all = joined(alloc, &[welcome(), empty_answer(), empty_answer()])?;
+    assert!(rt; client.given() == all.as_slice());
+    Ok(())
+}
