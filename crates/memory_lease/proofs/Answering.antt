@@ -26,12 +26,12 @@ use Rattle.link_start.specs.Starts.{IsCause, IsStarted, IsRefusalOf}
 use Rattle.link_start.specs.declared.start.StartCause.{StartCause}
 use Rattle.link_start.specs.declared.start.StartCause.TheVariants.{Refused, Lost, Unanswerable, Unexpected, Memory, Turns}
 use Rattle.message_view.specs.declared.refusal.Refusal.TheVariants.{ServerNotReached}
-use Rattle.relay_laws.specs.Leases.{RelayView, Place, IsLease, IsAllowed, Keeps}
+use Rattle.relay_laws.specs.Leases.{RelayView, Place, place, IsLease, IsAllowed, Keeps}
 use Rattle.relay_laws.proofs.Exact.{lease_allowed}
 use Rattle.relay_steps.specs.Answers.{AtBorder}
 use Rattle.memory_lease.specs.Answers as answers
 use Rattle.memory_lease.specs.Answers.{IsLetIn, IsRefusedAt, own_pieces}
-use Rattle.memory_lease.specs.Held.{IsBegun, TellsCause, refused_by}
+use Rattle.memory_lease.specs.Held.{TellsCause, refused_by}
 use Rattle.memory_lease.specs.Patient.{PatientOf, IsGiven, given_with, new_patient}
 use Rattle.memory_lease.proofs.Pieces.{Apart, pieces_join, pieces_of_both, whose}
 use Rattle.memory_lease.proofs.Service.{begins_both, service_on}
@@ -139,31 +139,31 @@ takes_some bytes out some c v g e i h = record {
 }
 
 -- what a patient client tells at the end of its lease
-served_by : (began : Standing) (secret : Secret) (key : StartKeyOf) (word : KeyWord) (bytes out : List ℕ) (link : LinkView) (old v : RelayView) (c : PatientOf) → began.follows ≡ true → IsStarted began secret link → link.key ≡ key
-    → AreBytes bytes → (b : IsBegun (new_patient bytes).facts link word old) → Keeps old v → c.facts ≡ v.client → IsGiven c out → IsServed began key word bytes out v b.at
-served_by began secret key word bytes out link old v c f st k ab b kp e g =
-    let lease : IsLease b.at v = kp b.at b.lease in
-    let stands : b.at.stands.follows ≡ began.follows = ap (λ (s : Standing). s.follows) b.stands ∙ st.under_way.starting.moves.follows in
-    let tells : v.client.tells ≡ true = lease.told ∙ b.told in
-    let a : IsAllowed b.at v = lease_allowed b.at v lease tells (lease.moves.follows ∙ (stands ∙ f)) in
-    let input : c.input ≡ bytes = (whose_is bytes out a.since c v b.at g e b.given a.given).front in
+served_by : (began : Standing) (secret : Secret) (key : StartKeyOf) (word : KeyWord) (bytes out : List ℕ) (link : LinkView) (limit : ℕ) (old v : RelayView) (c : PatientOf) → began.follows ≡ true → IsStarted began secret link → link.key ≡ key
+    → AreBytes bytes → IsLease (place (new_patient bytes).facts link word limit) old → Keeps old v → c.facts ≡ v.client → IsGiven c out → IsServed began key word bytes out v (place (new_patient bytes).facts link word limit)
+served_by began secret key word bytes out link limit old v c f st k ab l kp e g =
+    let at : Place = place (new_patient bytes).facts link word limit in
+    let lease : IsLease at v = kp at l in
+    let stands : link.stands.follows ≡ began.follows = st.under_way.starting.moves.follows in
+    let a : IsAllowed at v = lease_allowed at v lease lease.told (lease.moves.follows ∙ (stands ∙ f)) in
+    let input : c.input ≡ bytes = (whose_is bytes out a.since c v at g e refl a.given).front in
     record {
       lease = lease;
       follows = f;
       bytes_are = ab;
       stands = stands;
-      server = ap (λ (s : Standing). s.server) b.stands ∙ st.under_way.starting.moves.server;
-      key_is = lease.same.0 ∙ (b.key ∙ k);
-      word_is = lease.same.3 ∙ b.word_is;
-      tells = tells;
-      none_taken = b.taken;
-      given = λ since h. (whose_is bytes out since c v b.at g e b.given h).back;
+      server = st.under_way.starting.moves.server;
+      key_is = lease.same.0 ∙ k;
+      word_is = lease.same.3;
+      tells = lease.told;
+      none_taken = refl;
+      given = λ since h. (whose_is bytes out since c v at g e refl h).back;
       taken = λ some h. takes_some bytes out some c v g e input h;
     }
 
 -- what it was given, where nothing was refused, and where it was refused then
-begun_as : (bytes : List ℕ) (first : PatientOf) (link : LinkView) (word : KeyWord) (old : RelayView) → first ≡ new_patient bytes → IsBegun first.facts link word old → IsBegun (new_patient bytes).facts link word old
-begun_as bytes first link word old e b = subst (λ (x : PatientOf). IsBegun x.facts link word old) e b
+begun_as : (bytes : List ℕ) (first : PatientOf) (link : LinkView) (word : KeyWord) (limit : ℕ) (old : RelayView) → first ≡ new_patient bytes → IsLease (place first.facts link word limit) old → IsLease (place (new_patient bytes).facts link word limit) old
+begun_as bytes first link word limit old e l = subst (λ (x : PatientOf). IsLease (place x.facts link word limit) old) e l
 
 same_out : (began : Standing) (key : StartKeyOf) (word : KeyWord) (bytes out last : List ℕ) (v : RelayView) (at : Place) → last ≡ out → IsServed began key word bytes out v at → IsServed began key word bytes last v at
 same_out began key word bytes out last v at e x = subst (λ (o : List ℕ). IsServed began key word bytes o v at) (sym e) x
@@ -173,12 +173,13 @@ answered : (began : Standing) (key : StartKeyOf) (word : KeyWord) (bytes out las
 answered began key word bytes out last at old v None x i b l = unrefused began key word bytes last v at (same_out began key word bytes out last v at (l ∙ append-nil out) x)
 answered began key word bytes out last at old v (Some r) x i b l = refused began key word bytes out last v at r x (b at i) l
 
-pub given_answered : (began : Standing) (secret : Secret) (key : StartKeyOf) (word : KeyWord) (bytes out last : List ℕ) (r : Option Refusal) (link : LinkView) (old v : RelayView) (first c : PatientOf) → began.follows ≡ true → IsStarted began secret link → link.key ≡ key
-    → AreBytes bytes → first ≡ new_patient bytes → IsBegun first.facts link word old → Keeps old v → c.facts ≡ v.client → IsGiven c out → IfSome r (λ _. (p : Place) → IsLease p old → AtBorder p v) → last ≡ out ++ refused_by r
+pub given_answered : (began : Standing) (secret : Secret) (key : StartKeyOf) (word : KeyWord) (bytes out last : List ℕ) (r : Option Refusal) (link : LinkView) (limit : ℕ) (old v : RelayView) (first c : PatientOf) → began.follows ≡ true → IsStarted began secret link → link.key ≡ key
+    → AreBytes bytes → first ≡ new_patient bytes → IsLease (place first.facts link word limit) old → Keeps old v → c.facts ≡ v.client → IsGiven c out → IfSome r (λ _. (p : Place) → IsLease p old → AtBorder p v) → last ≡ out ++ refused_by r
     → answers.IsAllowed last (own_pieces began.server.catalogue key word bytes)
-given_answered began secret key word bytes out last r link old v first c f st k ab n b kp e g border l =
-    let x : IsBegun (new_patient bytes).facts link word old = begun_as bytes first link word old n b in
-    answered began key word bytes out last x.at old v r (served_by began secret key word bytes out link old v c f st k ab x kp e g) x.lease border l
+given_answered began secret key word bytes out last r link limit old v first c f st k ab n b kp e g border l =
+    let at : Place = place (new_patient bytes).facts link word limit in
+    let lease : IsLease at old = begun_as bytes first link word limit old n b in
+    answered began key word bytes out last at old v r (served_by began secret key word bytes out link limit old v c f st k ab lease kp e g) lease border l
 
 -- ---- a start that the server refuses
 

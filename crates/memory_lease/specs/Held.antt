@@ -1,14 +1,10 @@
 -- What the code of a client's service holds, in the definitions' words.
 use Rattle.std.specs.Prelude.{◌≡◌, ℕ, List, [], ◌++◌, Option, Some, None}
-use Rattle.message_view.specs.declared.KeyWord.{KeyWord}
 use Rattle.message_view.specs.declared.refusal.Refusal.{Refusal}
 use Rattle.message_view.specs.declared.refusal.Refusal.TheVariants.{ServerNotReached}
 use Rattle.message_view.specs.Refusals.{refusal}
-use Rattle.link_laws.specs.Standing.{ClientFacts}
-use Rattle.link_run.specs.Links.{LinkView}
 use Rattle.link_start.specs.declared.start.StartCause.{StartCause}
 use Rattle.link_start.specs.declared.start.StartCause.TheVariants.{Refused, Lost, Unanswerable, Unexpected, Memory, Turns}
-use Rattle.relay_laws.specs.Leases.{Place, RelayView, IsLease}
 
 -- the bytes that tell a client why its link wasn't started; want of memory tells nothing
 abbrev pub TellsCause : StartCause → List ℕ → List ℕ → Type 0
@@ -18,17 +14,6 @@ TellsCause Unanswerable before after = after ≡ before ++ refusal ServerNotReac
 TellsCause Unexpected before after = after ≡ before ++ refusal ServerNotReached
 TellsCause Turns before after = after ≡ before ++ refusal ServerNotReached
 TellsCause Memory before after = ⊥
-
--- A lease of this link to a client of these facts, with this key word, has begun.
-pub record IsBegun (client : ClientFacts) (link : LinkView) (word : KeyWord) (v : RelayView) : Type 0 where
-  pub at : Place
-  pub lease : IsLease at v
-  pub told : at.told ≡ client.tells
-  pub taken : at.taken ≡ client.taken
-  pub given : at.given ≡ client.given
-  pub stands : at.stands ≡ link.stands
-  pub key : at.key ≡ link.key
-  pub word_is : at.word ≡ word
 
 -- the bytes of a refusal, or nothing
 abbrev pub refused_by : Option Refusal → List ℕ

@@ -4,10 +4,10 @@ ghost use Rattle.std.specs.Arc.{arc_value};
 ghost use Rattle.frame_view.specs.declared.frames.TheConstants.{LONGEST_FRAME};
 ghost use Rattle.message_view.specs.declared.refusal.Refusal.{Refusal};
 ghost use Rattle.link_start.specs.Starts.{IsLinkKey, IsStartable};
-ghost use Rattle.relay_laws.specs.Leases.{IsLease, Keeps, Place};
+ghost use Rattle.relay_laws.specs.Leases.{IsLease, Keeps, Place, place};
 ghost use Rattle.relay_steps.specs.Answers.{AtBorder};
 ghost use Rattle.memory_lease.specs.Answers.{IsAllowed, IsLetIn, own_pieces};
-ghost use Rattle.memory_lease.specs.Held.{IsBegun, TellsCause, refused_by};
+ghost use Rattle.memory_lease.specs.Held.{TellsCause, refused_by};
 
 use crate::patient_client::PatientClient;
 use bytes::BytesMut;
@@ -57,7 +57,7 @@ fn begin_lease<'a>(
 ) -> Result<Relay<PatientClient<'a>, MemoryServer>, AllocError>
     requires low { 4 ≤ limit }
     requires high { limit ≤ LONGEST_FRAME }
-    ensures { IfOk result (IsBegun client.entry.facts link word) }
+    ensures { IfOk result (IsLease (place client.entry.facts link word limit)) }
 {
     match Relay::begin(alloc, client, link, word, limit) {
         Ok(relay) => Ok(relay),
