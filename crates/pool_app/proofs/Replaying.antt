@@ -1,10 +1,12 @@
 -- What a login gives, step by step.
-use Rattle.std.proofs.Common.{◌≡◌, ◌⊎◌, inl, inr, ◌<◌, ℕ, suc, List, [], ◌∷◌, ◌++◌, true, false, refl, sym, ap, arith, ◌∙◌, append_assoc, append-nil, length, subst}
+use Rattle.std.proofs.Common.{◌≡◌, ◌⊎◌, inl, inr, ◌<◌, ℕ, suc, Result, Ok, Err, List, [], ◌∷◌, ◌++◌, true, false, refl, sym, ap, arith, ◌∙◌, append_assoc, append-nil, length, subst}
 use Rattle.std.proofs.lemmas.Grind.{flat_map-append}
 use Rattle.message_view.specs.declared.KeyWord.{KeyWord}
 use Rattle.message_view.specs.Refusals.{joined_pieces, refusal}
+use Rattle.message_view.specs.declared.refusal.Refusal.{Refusal}
+use Rattle.message_view.specs.declared.refusal.Refusal.TheVariants as refused
 use Rattle.std.proofs.lemmas.Bool.{eqb-true}
-use Rattle.std.specs.Prelude.{◌==◌, Option}
+use Rattle.std.specs.Prelude.{◌==◌, ◌≢◌, OnOk, Option}
 use Rattle.std.specs.Io.KnownBytes.{Appends}
 use Rattle.session_values.specs.State.{CatalogueOf, StartKeyOf}
 use Rattle.login_core.specs.Talk.{Cut, End, hears, says, talk}
@@ -19,7 +21,7 @@ use Rattle.login_core.specs.Solo.{after_login, service_pieces}
 use Rattle.login_keys.specs.Laws.{AreLawfulRows, PassedKeysAreLinkKeys, SettingsRowsAreLawful}
 use Rattle.memory_lease.specs.Answers.{IsAllowed}
 use Rattle.pool_app.specs.Replay.{Follows, IsAnswered, IsReply, WritesReply, standing_catalogue, standing_row, standing_rows, standing_settings, standing_users, standing_word}
-use Rattle.pool_app.specs.Told.{Adds, HasLinkKey, IsKeyed, Says, WantsMemory, silence, is_end}
+use Rattle.pool_app.specs.Told.{Adds, HasLinkKey, IsKeyed, IsPastArrival, Says, WantsMemory, silence, is_end}
 
 -- ---- nothing comes
 
@@ -50,6 +52,10 @@ from_silent rows word Over held k = absurd (omega (arith, k))
 -- what is said to no bytes, where some are missing, gives nothing
 pub silent : (v : LoginView) → 0 < missing v.hearing v.held → goes_on v [] ≡ silence
 silent v k = from_silent (rows_of v) v.word v.hearing v.held k
+
+pub on_ok : {E : Type 0} {P Q : Type 0} (r : Result (Unit {0}) E) → (P → Q) → OnOk r P → OnOk r Q
+on_ok (Ok u) f p = f p
+on_ok (Err e) f p = tt
 
 -- ---- a step, and what follows it
 
@@ -104,6 +110,31 @@ pub given_on : (cat : CatalogueOf) (old new : LoginView) (bytes rest before mid 
     → Adds cat (goes_on old bytes) before after_it
 given_on cat old new bytes rest before mid after_it s h n e x y =
     subst (λ (d : Dialogue). Adds cat d before after_it) (sym (said_by old new bytes rest s h n)) (step_on cat s rest (goes_on new rest) before mid after_it e x y)
+
+-- bytes are missing where the login isn't over
+pub missing_on : (s : LoginStep) (v : LoginView) → IsPastArrival s v → is_end s ≡ false → 0 < missing v.hearing v.held
+missing_on step.More v p e = p
+missing_on (step.Ask q) v p e = p
+missing_on (step.Arrived k) v p e = absurd p
+missing_on (step.Passed k) v p e = absurd cc
+missing_on step.Console v p e = absurd cc
+missing_on (step.Refused r) v p e = absurd cc
+missing_on (step.Failed f) v p e = absurd cc
+missing_on step.Left v p e = absurd cc
+
+-- ---- a refusal
+
+refusals_same : (a b : Refusal) → step.Refused a ≡ step.Refused b → a ≡ b
+refusals_same a b e = cc
+
+pub refusal_given : {E : Type 0} (cat : CatalogueOf) (s : LoginStep) (r : Refusal) (rest old new : List ℕ) (result : Result (Unit {0}) E) → s ≡ step.Refused r → OnOk result (new ≡ old ++ refusal r) → OnOk result (Adds cat (after s rest silence) old new)
+refusal_given cat s r rest old new (Err e) i g = tt
+refusal_given cat s r rest old new (Ok u) i g =
+    subst (λ (x : LoginStep). Adds cat (after x rest silence) old new) (sym i) (record { given = refusal r; answered = record { more = refusal r; follows = refl; out_is = refl }; both = g })
+
+pub refusal_wants : {E : Type 0} (s : LoginStep) (r : Refusal) (result : Result (Unit {0}) E) → s ≡ step.Refused r → OnOk result (r ≢ refused.OutOfMemory) → OnOk result (WantsMemory s → ⊥)
+refusal_wants s r (Err e) i n = tt
+refusal_wants s r (Ok u) i n = λ w. n (refusals_same r refused.OutOfMemory (sym i ∙ w))
 
 -- ---- keys
 

@@ -1,9 +1,10 @@
 //! `pgsess replay`: one client's bytes in, its replies out.
-ghost use Rattle.std.specs.Prelude.{◌≡◌, ◌⊎◌, ◌<◌, ◌≤◌, ◌++◌, ◌∷◌, [], length, drop, OnOk, OnErr, IfErr, IfOk, IfSome, false};
+ghost use Rattle.std.specs.Prelude.{◌≡◌, ◌≢◌, ◌⊎◌, ◌<◌, ◌≤◌, ◌++◌, ◌∷◌, [], length, drop, OnOk, OnErr, IfErr, IfOk, IfSome, false};
 ghost use Rattle.std.specs.Arc.{arc_value};
 ghost use Rattle.std.specs.Io.KnownBytes.{Appends};
 ghost use Rattle.frame_view.specs.declared.frames.TheConstants.{LONGEST_FRAME};
 ghost use Rattle.message_view.specs.Refusals.{refusal};
+ghost use Rattle.message_view.specs.declared.refusal.Refusal.TheVariants as refused;
 ghost use Rattle.link_start.specs.Starts.{IsLinkKey};
 ghost use Rattle.login_core.specs.Dialogue.{AtFirst, ToLink, ok};
 ghost use Rattle.login_core.specs.Logins.{Hears, after, goes_on, login_view, missing};
@@ -50,9 +51,14 @@ struct Service {
     ghost high: { limit ≤ LONGEST_FRAME },
 }
 
+/// Puts this refusal; there is none for want of memory.
 fn put_refusal(out: &mut BytesMut, cause: Refusal) -> Result<(), AllocError>
-    ensures { OnOk result (out.new.items ≡ out.old.items ++ refusal cause) }
+    ensures given { OnOk result (out.new.items ≡ out.old.items ++ refusal cause) }
+    ensures memory { OnOk result (cause ≢ refused.OutOfMemory) }
 {
+    if let Refusal::OutOfMemory = cause {
+        return Err(AllocError);
+    }
     out.extend_from_slice(refusal_bytes(cause))
 }
 
@@ -117,7 +123,6 @@ fn put_step(
     match step {
         LoginStep::Ask(question) => out.extend_from_slice(question.as_bytes()),
         LoginStep::Passed(key) => put_passed(alloc, service, key, rest, out),
-        LoginStep::Refused(Refusal::OutOfMemory) => Err(AllocError),
         LoginStep::Refused(refusal) => put_refusal(out, *refusal),
         LoginStep::Failed(failure) => out.extend_from_slice(failure.as_bytes()),
         LoginStep::More | LoginStep::Arrived(_) | LoginStep::Console | LoginStep::Left => Ok(()),
@@ -172,8 +177,7 @@ fn put_login(
     if is_end(&step) {
         return Ok(());
     }
-    put_login(alloc, service, login, rest, out)?;
-    Ok(())
+    put_login(alloc, service, login, rest, out)
 }
 
 /// A login under the standing settings and users.
