@@ -19,9 +19,11 @@ returns-then-is_end t c = given_last (arc_value c.args.service.now.catalogue) c.
 pub put_login-requires : goal.put_login-requires
 put_login-requires t c = (
   omega (arith, length-drop c.advance-used.result.0 c.args.bytes.now, ap (λ (r : List ℕ). length r) (all_of c.advance-used.result.0 c.args.bytes.now), c.advance-used.ensures.used.0, c.advance-used.ensures.used.1),
-  (missing_on c.advance-used.result.1 c.advance-used.new.login c.advance-used.ensures.past (sym c.if-is_end.ensures),
-  subst (λ (r : List ℕ). IsKeyed (goes_on c.advance-used.new.login r).ended) (sym (all_of c.advance-used.result.0 c.args.bytes.now))
-      (keyed_on c.args.login.now c.advance-used.new.login c.args.bytes.now _ c.advance-used.result.1 c.advance-used.ensures.says c.in_ok-put_step.ensures.memory (sym c.if-is_end.ensures) c.requires.keyed)),
+  (
+    missing_on c.advance-used.result.1 c.advance-used.new.login c.advance-used.ensures.past (sym c.if-is_end.ensures),
+    subst (λ (r : List ℕ). IsKeyed (goes_on c.advance-used.new.login r).ended) (sym (all_of c.advance-used.result.0 c.args.bytes.now))
+        (keyed_on c.args.login.now c.advance-used.new.login c.args.bytes.now _ c.advance-used.result.1 c.advance-used.ensures.says c.in_ok-put_step.ensures.memory (sym c.if-is_end.ensures) c.requires.keyed),
+  ),
 )
 
 pub returns : goal.returns
