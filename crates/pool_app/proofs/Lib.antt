@@ -1,4 +1,3 @@
-pub mod Refusing
 pub mod StandingText
 pub mod Replaying
 pub mod Taken

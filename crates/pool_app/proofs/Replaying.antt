@@ -1,22 +1,27 @@
 -- What a login gives, step by step.
-use Rattle.std.proofs.Common.{◌≡◌, ◌<◌, ℕ, suc, List, [], ◌∷◌, ◌++◌, true, false, refl, sym, ap, arith, ◌∙◌, append_assoc, append-nil, length}
+use Rattle.std.proofs.Common.{◌≡◌, ◌⊎◌, inl, inr, ◌<◌, ℕ, suc, Result, Ok, Err, List, [], ◌∷◌, ◌++◌, true, false, refl, sym, ap, arith, ◌∙◌, append_assoc, append-nil, length, subst}
+use Rattle.std.proofs.lemmas.Grind.{flat_map-append}
 use Rattle.message_view.specs.declared.KeyWord.{KeyWord}
-use Rattle.message_view.specs.Refusals.{joined_pieces}
+use Rattle.message_view.specs.Refusals.{joined_pieces, refusal}
+use Rattle.message_view.specs.declared.refusal.Refusal.{Refusal}
+use Rattle.message_view.specs.declared.refusal.Refusal.TheVariants as refused
 use Rattle.std.proofs.lemmas.Bool.{eqb-true}
-use Rattle.std.specs.Prelude.{◌==◌}
-use Rattle.session_values.specs.State.{CatalogueOf, StartKeyOf, fresh}
-use Rattle.session_values.specs.Service.{service}
-use Rattle.login_core.specs.Talk.{Cut, hears, talk}
+use Rattle.std.specs.Prelude.{◌==◌, ◌≢◌, OnOk, Option}
+use Rattle.std.specs.Io.KnownBytes.{Appends}
+use Rattle.session_values.specs.State.{CatalogueOf, StartKeyOf}
+use Rattle.login_core.specs.Talk.{Cut, End, hears, says, talk}
 use Rattle.login_core.specs.Talk.Cut.{Whole, Need, Bad}
 use Rattle.login_core.specs.declared.steps.LoginStep.{LoginStep}
 use Rattle.login_core.specs.declared.steps.LoginStep.TheVariants as step
-use Rattle.login_core.specs.Laws.{LoginIsOfItsRow, ServiceIsItsPieces}
-use Rattle.login_core.specs.Talk.End.{Passed}
-use Rattle.login_core.specs.Dialogue.{Rows, Dialogue, ToLink, ok, Packet, Reason, Stage, AtFirst, Asked, hear, packet, packets_left, react}
-use Rattle.login_core.specs.Logins.{LoginView, Hearing, Hears, Arriving, Over, after, goes_on, goes_from, login_view, missing, missing_of, rows_of}
+use Rattle.login_core.specs.Laws.{LoginIsOfItsRow}
+use Rattle.login_core.specs.Talk.End.{Unfinished, Passed, Stopped}
+use Rattle.login_core.specs.Dialogue.{Rows, Dialogue, Way, ToConsole, ToLink, ok, Packet, Reason, Refused, Failed, Left, Stage, AtFirst, Asked, hear, login, login_among, packet, packets_left, react}
+use Rattle.login_core.specs.Logins.{LoginView, Hearing, Hears, Arriving, Over, after, goes_on, goes_from, login_view, missing, missing_of, question_bytes, rows_of}
 use Rattle.login_core.specs.Solo.{after_login, service_pieces}
-use Rattle.pool_app.specs.Replay.{after_start, replied, replies, refused_end, standing_catalogue, standing_rows, standing_settings, standing_users, standing_word}
-use Rattle.pool_app.specs.Told.{silence, is_end}
+use Rattle.login_keys.specs.Laws.{AreLawfulRows, PassedKeysAreLinkKeys, SettingsRowsAreLawful}
+use Rattle.memory_lease.specs.Answers.{IsAllowed}
+use Rattle.pool_app.specs.Replay.{Follows, IsAnswered, IsReply, WritesReply, standing_catalogue, standing_row, standing_rows, standing_settings, standing_users, standing_word}
+use Rattle.pool_app.specs.Told.{Adds, HasLinkKey, IsKeyed, IsPastArrival, Says, WantsMemory, silence, is_end}
 
 -- ---- nothing comes
 
@@ -48,57 +53,204 @@ from_silent rows word Over held k = absurd (omega (arith, k))
 pub silent : (v : LoginView) → 0 < missing v.hearing v.held → goes_on v [] ≡ silence
 silent v k = from_silent (rows_of v) v.word v.hearing v.held k
 
+pub on_ok : {E : Type 0} {P Q : Type 0} (r : Result (Unit {0}) E) → (P → Q) → OnOk r P → OnOk r Q
+on_ok (Ok u) f p = f p
+on_ok (Err e) f p = tt
+
 -- ---- a step, and what follows it
 
-pub replied_last : (cat : CatalogueOf) (s : LoginStep) (rest : List ℕ) (d : Dialogue) → is_end s ≡ true → replied cat (after s rest d) ≡ replied cat (after s rest silence)
-replied_last cat step.More rest d e = absurd cc
-replied_last cat (step.Ask q) rest d e = absurd cc
-replied_last cat (step.Arrived k) rest d e = absurd cc
-replied_last cat (step.Passed k) rest d e = refl
-replied_last cat step.Console rest d e = refl
-replied_last cat (step.Refused r) rest d e = refl
-replied_last cat (step.Failed f) rest d e = refl
-replied_last cat step.Left rest d e = refl
+pub joined_both : (ps qs : List (List ℕ)) → joined_pieces (ps ++ qs) ≡ joined_pieces ps ++ joined_pieces qs
+joined_both ps qs = flat_map-append (λ (p : List ℕ). p) ps qs
 
-asked_first : (q : List ℕ) (all more : List ℕ) → (q ++ all) ++ more ≡ ((q ++ []) ++ []) ++ (all ++ more)
-asked_first q all more = append_assoc q all more ∙ ap (λ (l : List ℕ). l ++ (all ++ more)) (sym (append-nil (q ++ []) ∙ append-nil q))
+step_last : (s : LoginStep) (rest : List ℕ) (d : Dialogue) → is_end s ≡ true → after s rest silence ≡ after s rest d
+step_last step.More rest d e = absurd cc
+step_last (step.Ask q) rest d e = absurd cc
+step_last (step.Arrived k) rest d e = absurd cc
+step_last (step.Passed k) rest d e = refl
+step_last step.Console rest d e = refl
+step_last (step.Refused r) rest d e = refl
+step_last (step.Failed f) rest d e = refl
+step_last step.Left rest d e = refl
 
-pub replied_on : (cat : CatalogueOf) (s : LoginStep) (rest : List ℕ) (d : Dialogue) → is_end s ≡ false → replied cat (after s rest d) ≡ replied cat (after s rest silence) ++ replied cat d
-replied_on cat step.More rest d e = refl
-replied_on cat (step.Arrived k) rest d e = refl
-replied_on cat (step.Ask q) rest d e = asked_first _ (joined_pieces (d.pieces ++ after_login cat standing_word d.ended)) (refused_end cat d.ended)
-replied_on cat (step.Passed k) rest d e = absurd cc
-replied_on cat step.Console rest d e = absurd cc
-replied_on cat (step.Refused r) rest d e = absurd cc
-replied_on cat (step.Failed f) rest d e = absurd cc
-replied_on cat step.Left rest d e = absurd cc
+-- pieces that a step says, and then what is said from there on
+says_on : (cat : CatalogueOf) (ps : List (List ℕ)) (d : Dialogue) (old mid new : List ℕ) → Adds cat (says ps silence) old mid → Adds cat d mid new → Adds cat (says ps d) old new
+says_on cat ps d old mid new x y =
+    let first : x.given ≡ joined_pieces ps = x.answered.out_is ∙ (ap (λ (m : List ℕ). joined_pieces (ps ++ []) ++ m) x.answered.follows ∙ (append-nil (joined_pieces (ps ++ [])) ∙ ap joined_pieces (append-nil ps))) in
+    record {
+      given = joined_pieces ps ++ y.given;
+      answered = record {
+        more = y.answered.more;
+        follows = y.answered.follows;
+        out_is = ap (λ (l : List ℕ). joined_pieces ps ++ l) y.answered.out_is
+            ∙ (sym (append_assoc (joined_pieces ps) (joined_pieces d.pieces) y.answered.more) ∙ ap (λ (l : List ℕ). l ++ y.answered.more) (sym (joined_both ps d.pieces)));
+      };
+      both = y.both ∙ (ap (λ (l : List ℕ). l ++ y.given) (x.both ∙ ap (λ (l : List ℕ). old ++ l) first) ∙ append_assoc old (joined_pieces ps) y.given);
+    }
+
+step_on : (cat : CatalogueOf) (s : LoginStep) (rest : List ℕ) (d : Dialogue) (old mid new : List ℕ) → is_end s ≡ false → Adds cat (after s rest silence) old mid → Adds cat d mid new → Adds cat (after s rest d) old new
+step_on cat step.More rest d old mid new e x y = says_on cat [] d old mid new x y
+step_on cat (step.Arrived k) rest d old mid new e x y = says_on cat [] d old mid new x y
+step_on cat (step.Ask q) rest d old mid new e x y = says_on cat (question_bytes q ∷ []) d old mid new x y
+step_on cat (step.Passed k) rest d old mid new e x y = absurd cc
+step_on cat step.Console rest d old mid new e x y = absurd cc
+step_on cat (step.Refused r) rest d old mid new e x y = absurd cc
+step_on cat (step.Failed f) rest d old mid new e x y = absurd cc
+step_on cat step.Left rest d old mid new e x y = absurd cc
+
+-- what is said, unless memory was wanted
+said_by : (old new : LoginView) (bytes rest : List ℕ) (s : LoginStep) → Says old bytes s new rest → (WantsMemory s → ⊥) → goes_on old bytes ≡ after s rest (goes_on new rest)
+said_by old new bytes rest s (inl w) n = absurd (n w)
+said_by old new bytes rest s (inr e) n = e
+
+pub given_last : (cat : CatalogueOf) (old new : LoginView) (bytes rest before after_it : List ℕ) (s : LoginStep) → Says old bytes s new rest → (WantsMemory s → ⊥) → is_end s ≡ true → Adds cat (after s rest silence) before after_it → Adds cat (goes_on old bytes) before after_it
+given_last cat old new bytes rest before after_it s h n e x =
+    subst (λ (d : Dialogue). Adds cat d before after_it) (sym (said_by old new bytes rest s h n)) (subst (λ (d : Dialogue). Adds cat d before after_it) (step_last s rest (goes_on new rest) e) x)
+
+pub given_on : (cat : CatalogueOf) (old new : LoginView) (bytes rest before mid after_it : List ℕ) (s : LoginStep) → Says old bytes s new rest → (WantsMemory s → ⊥) → is_end s ≡ false → Adds cat (after s rest silence) before mid → Adds cat (goes_on new rest) mid after_it
+    → Adds cat (goes_on old bytes) before after_it
+given_on cat old new bytes rest before mid after_it s h n e x y =
+    subst (λ (d : Dialogue). Adds cat d before after_it) (sym (said_by old new bytes rest s h n)) (step_on cat s rest (goes_on new rest) before mid after_it e x y)
+
+-- bytes are missing where the login isn't over
+pub missing_on : (s : LoginStep) (v : LoginView) → IsPastArrival s v → is_end s ≡ false → 0 < missing v.hearing v.held
+missing_on step.More v p e = p
+missing_on (step.Ask q) v p e = p
+missing_on (step.Arrived k) v p e = absurd p
+missing_on (step.Passed k) v p e = absurd cc
+missing_on step.Console v p e = absurd cc
+missing_on (step.Refused r) v p e = absurd cc
+missing_on (step.Failed f) v p e = absurd cc
+missing_on step.Left v p e = absurd cc
+
+-- ---- a refusal
+
+refusals_same : (a b : Refusal) → step.Refused a ≡ step.Refused b → a ≡ b
+refusals_same a b e = cc
+
+pub refusal_given : {E : Type 0} (cat : CatalogueOf) (s : LoginStep) (r : Refusal) (rest old new : List ℕ) (result : Result (Unit {0}) E) → s ≡ step.Refused r → OnOk result (new ≡ old ++ refusal r) → OnOk result (Adds cat (after s rest silence) old new)
+refusal_given cat s r rest old new (Err e) i g = tt
+refusal_given cat s r rest old new (Ok u) i g =
+    subst (λ (x : LoginStep). Adds cat (after x rest silence) old new) (sym i) (record { given = refusal r; answered = record { more = refusal r; follows = refl; out_is = refl }; both = g })
+
+pub refusal_wants : {E : Type 0} (s : LoginStep) (r : Refusal) (result : Result (Unit {0}) E) → s ≡ step.Refused r → OnOk result (r ≢ refused.OutOfMemory) → OnOk result (WantsMemory s → ⊥)
+refusal_wants s r (Err e) i n = tt
+refusal_wants s r (Ok u) i n = λ w. n (refusals_same r refused.OutOfMemory (sym i ∙ w))
+
+-- ---- keys
+
+step_key : (s : LoginStep) (rest : List ℕ) (d : Dialogue) → IsKeyed (after s rest d).ended → HasLinkKey s
+step_key step.More rest d k = tt
+step_key (step.Ask q) rest d k = tt
+step_key (step.Arrived key) rest d k = tt
+step_key (step.Passed key) rest d k = k
+step_key step.Console rest d k = tt
+step_key (step.Refused r) rest d k = tt
+step_key (step.Failed f) rest d k = tt
+step_key step.Left rest d k = tt
+
+-- want of memory gives no key
+wanting : (s : LoginStep) → WantsMemory s → HasLinkKey s
+wanting s w = subst HasLinkKey (sym w) tt
+
+pub key_of_step : (old new : LoginView) (bytes rest : List ℕ) (s : LoginStep) → Says old bytes s new rest → IsKeyed (goes_on old bytes).ended → HasLinkKey s
+key_of_step old new bytes rest s (inl w) k = wanting s w
+key_of_step old new bytes rest s (inr e) k = step_key s rest (goes_on new rest) (subst (λ (d : Dialogue). IsKeyed d.ended) e k)
+
+keyed_rest : (s : LoginStep) (rest : List ℕ) (d : Dialogue) → is_end s ≡ false → IsKeyed (after s rest d).ended → IsKeyed d.ended
+keyed_rest step.More rest d e k = k
+keyed_rest (step.Ask q) rest d e k = k
+keyed_rest (step.Arrived key) rest d e k = k
+keyed_rest (step.Passed key) rest d e k = absurd cc
+keyed_rest step.Console rest d e k = absurd cc
+keyed_rest (step.Refused r) rest d e k = absurd cc
+keyed_rest (step.Failed f) rest d e k = absurd cc
+keyed_rest step.Left rest d e k = absurd cc
+
+pub keyed_on : (old new : LoginView) (bytes rest : List ℕ) (s : LoginStep) → Says old bytes s new rest → (WantsMemory s → ⊥) → is_end s ≡ false → IsKeyed (goes_on old bytes).ended → IsKeyed (goes_on new rest).ended
+keyed_on old new bytes rest s h n e k = keyed_rest s rest (goes_on new rest) e (subst (λ (d : Dialogue). IsKeyed d.ended) (said_by old new bytes rest s h n) k)
+
+-- the rows of the standing settings are lawful
+standing_lawful : SettingsRowsAreLawful → AreLawfulRows standing_rows
+unfolding standing_settings
+standing_lawful law = law standing_settings standing_users ((omega arith, (omega arith, (omega arith, (omega arith, (omega arith, tt))))), tt)
+
+keyed_by : (rows : Rows) (word : KeyWord) (bytes : List ℕ) (e : End Way Reason) → PassedKeysAreLinkKeys → AreLawfulRows rows → (login_among rows word bytes).ended ≡ e → IsKeyed e
+keyed_by rows word bytes Unfinished law l h = tt
+keyed_by rows word bytes (Passed (ToLink key) left) law l h = ((law rows word bytes left key l h).client, (law rows word bytes left key l h).dbname)
+keyed_by rows word bytes (Passed ToConsole left) law l h = tt
+keyed_by rows word bytes (Stopped reason) law l h = tt
+
+pub standing_keyed : SettingsRowsAreLawful → PassedKeysAreLinkKeys → (v : LoginView) (bytes : List ℕ) → v ≡ login_view standing_settings standing_users standing_word (Hears (AtFirst false false)) [] → IsKeyed (goes_on v bytes).ended
+standing_keyed rows law v bytes e =
+    subst (λ (x : LoginView). IsKeyed (goes_on x bytes).ended) (sym e) (keyed_by standing_rows standing_word bytes _ law (standing_lawful rows) refl)
+
+-- the greatest length of a frame in the standing settings
+pub standing_limit : standing_settings.max_packet_size ≡ 2147483647
+unfolding standing_settings
+standing_limit = refl
 
 -- ---- a login that has passed
 
-pub passed_given : ServiceIsItsPieces → (cat : CatalogueOf) (key : StartKeyOf) (rest start greeted served end last : List ℕ) → greeted ≡ start ++ ok → served ≡ greeted ++ service cat key 1 2 rest → end ≡ served ++ last →
-    last ≡ after_start (fresh cat key) rest → end ≡ start ++ replied cat (record { pieces = ok ∷ []; ended = Passed (ToLink key) rest })
-passed_given law cat key rest start greeted served end last g s e l =
-    let all : List ℕ = service cat key 1 2 rest in
-    e ∙ (ap (λ (x : List ℕ). x ++ last) (s ∙ (ap (λ (x : List ℕ). x ++ all) g ∙ append_assoc start ok all))
-    ∙ (append_assoc start (ok ++ all) last
-    ∙ (ap (λ (x : List ℕ). start ++ ((ok ++ x) ++ last)) (sym (law cat key standing_word rest))
-    ∙ ap (λ (x : List ℕ). start ++ ((ok ++ joined_pieces (service_pieces cat key standing_word rest)) ++ x)) l)))
+pub passed_given : (cat : CatalogueOf) (key : StartKeyOf) (rest old greeted new answer : List ℕ) → greeted ≡ old ++ ok → IsAllowed answer (service_pieces cat key standing_word rest) → new ≡ greeted ++ answer
+    → Adds cat (record { pieces = ok ∷ []; ended = Passed (ToLink key) rest }) old new
+passed_given cat key rest old greeted new answer g a n = record {
+  given = ok ++ answer;
+  answered = record { more = answer; follows = a; out_is = ap (λ (o : List ℕ). o ++ answer) (sym (append-nil ok)) };
+  both = n ∙ (ap (λ (o : List ℕ). o ++ answer) g ∙ append_assoc old ok answer);
+}
 
 -- ---- the whole answer
+
+prefixed : (ps qs : List (List ℕ)) (more out : List ℕ) → out ≡ joined_pieces ps ++ more → IsAllowed more qs → IsAllowed out (ps ++ qs)
+prefixed ps qs more out e (inl b) = inl (record {
+  more = b.more;
+  both = ap (λ (o : List ℕ). o ++ b.more) e ∙ (append_assoc (joined_pieces ps) more b.more ∙ (ap (λ (l : List ℕ). joined_pieces ps ++ l) b.both ∙ sym (joined_both ps qs)));
+})
+prefixed ps qs more out e (inr r) = inr (record {
+  given = ps ++ r.given;
+  kept = r.kept;
+  pieces_are = append_assoc ps r.given r.kept ∙ ap (λ (l : List (List ℕ)). ps ++ l) r.pieces_are;
+  cause = r.cause;
+  out_is = e ∙ (ap (λ (l : List ℕ). joined_pieces ps ++ l) r.out_is ∙ (sym (append_assoc (joined_pieces ps) (joined_pieces r.given) (refusal r.cause)) ∙ ap (λ (l : List ℕ). l ++ refusal r.cause) (sym (joined_both ps r.given))));
+})
+
+none_allowed : (more : List ℕ) → more ≡ [] → IsAllowed more []
+none_allowed more e = inl (record { more = []; both = append-nil more ∙ e })
+
+follows_allowed : (cat : CatalogueOf) (e : End Way Reason) (more : List ℕ) → Follows cat e more → IsAllowed more (after_login cat standing_word e)
+follows_allowed cat Unfinished more f = none_allowed more f
+follows_allowed cat (Passed (ToLink key) left) more f = f
+follows_allowed cat (Passed ToConsole left) more f = none_allowed more f
+follows_allowed cat (Stopped (Refused cause)) more f = inr (record { given = []; kept = []; pieces_are = refl; cause = cause; out_is = f })
+follows_allowed cat (Stopped Failed) more f = none_allowed more f
+follows_allowed cat (Stopped Left) more f = none_allowed more f
+
+reply_of : (bytes out : List ℕ) → IsAnswered standing_catalogue (login (standing_row bytes) standing_word bytes) out → IsReply bytes out
+reply_of bytes out x = record {
+  login = x;
+  allowed = prefixed (login (standing_row bytes) standing_word bytes).pieces _ x.more out x.out_is (follows_allowed standing_catalogue (login (standing_row bytes) standing_word bytes).ended x.more x.follows);
+}
 
 no_bytes : (bytes : List ℕ) → length bytes ≡ 0 → bytes ≡ []
 no_bytes [] e = refl
 no_bytes (b ∷ bytes) e = absurd (omega (arith, e))
 
-pub nothing_given : (cat : CatalogueOf) (v : LoginView) (bytes out : List ℕ) → 0 < missing v.hearing v.held → true ≡ (length bytes == 0) → out ≡ out ++ replied cat (goes_on v bytes)
+pub nothing_given : (cat : CatalogueOf) (v : LoginView) (bytes out : List ℕ) → 0 < missing v.hearing v.held → true ≡ (length bytes == 0) → Adds cat (goes_on v bytes) out out
 nothing_given cat v bytes out k e =
-    sym (ap (λ (b : List ℕ). out ++ replied cat (goes_on v b)) (no_bytes bytes (eqb-true (length bytes) 0 (sym e))) ∙ (ap (λ (d : Dialogue). out ++ replied cat d) (silent v k) ∙ append-nil out))
+    let silent_then : goes_on v bytes ≡ silence = ap (goes_on v) (no_bytes bytes (eqb-true (length bytes) 0 (sym e))) ∙ silent v k in
+    record {
+      given = [];
+      answered = subst (λ (d : Dialogue). IsAnswered cat d []) (sym silent_then) (record { more = []; follows = refl; out_is = refl });
+      both = sym (append-nil out);
+    }
 
 pub all_given : LoginIsOfItsRow → (cat : CatalogueOf) (v : LoginView) (bytes start out : List ℕ) → start ≡ [] → cat ≡ standing_catalogue → v ≡ login_view standing_settings standing_users standing_word (Hears (AtFirst false false)) [] →
-    out ≡ start ++ replied cat (goes_on v bytes) → out ≡ replies bytes
-unfolding replies
-all_given law cat v bytes start out n c l e =
-    e ∙ (ap (λ (x : List ℕ). x ++ replied cat (goes_on v bytes)) n
-    ∙ (ap (λ (x : CatalogueOf). replied x (goes_on v bytes)) c
-    ∙ (ap (λ (x : LoginView). replied standing_catalogue (goes_on x bytes)) l
-    ∙ ap (replied standing_catalogue) (law standing_rows standing_word bytes))))
+    Adds cat (goes_on v bytes) start out → IsReply bytes out
+all_given law cat v bytes start out n c l x =
+    let given : out ≡ x.given = x.both ∙ ap (λ (s : List ℕ). s ++ x.given) n in
+    let of_row : goes_on v bytes ≡ login (standing_row bytes) standing_word bytes = ap (λ (w : LoginView). goes_on w bytes) l ∙ law standing_rows standing_word bytes in
+    reply_of bytes out (subst (λ (d : Dialogue). IsAnswered standing_catalogue d out) of_row (subst (λ (k : CatalogueOf). IsAnswered k (goes_on v bytes) out) c (subst (IsAnswered cat (goes_on v bytes)) (sym given) x.answered)))
+
+-- an answer that was added to the output
+pub writes_reply : (before after_it : Option (List ℕ)) (bytes out : List ℕ) → IsReply bytes out → Appends before after_it out → WritesReply before after_it bytes
+writes_reply before after_it bytes out r a = record { out = out; reply = r; adds = a }

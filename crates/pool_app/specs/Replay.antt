@@ -1,13 +1,8 @@
--- What `replay` answers to one client's bytes: its login under the standing settings and users, and then
--- what a server started for that client alone answers.
-use Rattle.std.specs.Prelude.{◌≡◌, ℕ, List, [], ◌∷◌, ◌++◌, Some, None, Result, Ok, Err, Bool, false, ◌==◌, ◌||◌, if◌then◌else◌, codes}
-use Rattle.frame_view.specs.declared.FrameFault.TheVariants.{TooShort, TooLong, UnknownType, UnknownCode}
-use Rattle.frame_view.specs.declared.Side.TheVariants.{Client}
-use Rattle.frame_view.specs.declared.client.TheConstants.{TERMINATE}
-use Rattle.frame_view.specs.declared.frames.TheConstants.{LONGEST_FRAME}
-use Rattle.frame_view.specs.Frames.{Front, AFrame, Lacks, Faulty, FrameOf, Cut, front, frames}
+-- What `replay` answers to one client's bytes: its login under the standing settings and users, and then what a server started for
+-- that client alone answers, as far as the link to that server gives it.
+use Rattle.std.specs.Prelude.{◌≡◌, ℕ, List, [], ◌∷◌, ◌++◌, Option, Some, None, codes}
+use Rattle.std.specs.Io.KnownBytes.{Appends}
 use Rattle.message_view.specs.declared.KeyWord.{KeyWord}
-use Rattle.message_view.specs.declared.refusal.Refusal.TheVariants.{MalformedClientMessage, ClientMessageTooLong}
 use Rattle.message_view.specs.Refusals.{refusal, joined_pieces}
 use Rattle.ini_config.specs.declared.database_rows.DbRow.{DbRow}
 use Rattle.ini_config.specs.declared.option_values.AuthType.TheVariants.{Trust}
@@ -15,14 +10,15 @@ use Rattle.ini_config.specs.declared.option_values.Settings.{Settings}
 use Rattle.ini_config.specs.OptionValues.{defaults}
 use Rattle.user_file.specs.declared.user_table.UserRow.{UserRow}
 use Rattle.user_file.specs.Secrets.{secret_of}
-use Rattle.session_values.specs.State.{CatalogueOf, TableOf, fresh}
+use Rattle.session_values.specs.State.{CatalogueOf, TableOf}
 use Rattle.pool_app.specs.declared.fault.AppFault.{AppFault}
 use Rattle.pool_app.specs.declared.fault.AppFault.TheVariants as fault
 use Rattle.login_core.specs.Talk.{End}
 use Rattle.login_core.specs.Talk.End.{Unfinished, Passed, Stopped}
 use Rattle.login_core.specs.Dialogue.{Way, ToLink, ToConsole, Reason, Refused, Failed, Left, Dialogue, LoginRow, Rows, row_in, login}
 use Rattle.login_core.specs.Laws.{names_in, row_for}
-use Rattle.login_core.specs.Solo.{after_login, solo}
+use Rattle.login_core.specs.Solo.{service_pieces, solo}
+use Rattle.memory_lease.specs.Answers.{IsAllowed}
 
 -- ---- the standing settings
 
@@ -59,50 +55,38 @@ standing_rows = row_in standing_settings standing_users
 abbrev pub standing_row : List ℕ → LoginRow
 standing_row bytes = row_for standing_rows (names_in bytes)
 
--- ---- a refusal at the end
-
-abbrev pub terminates : List FrameOf → Bool
-terminates [] = false
-terminates (f ∷ fs) = f.kind == TERMINATE || terminates fs
-
--- a faulty frame is refused
-abbrev pub refused_front : Front → List ℕ
-refused_front (Faulty TooShort) = refusal MalformedClientMessage
-refused_front (Faulty UnknownType) = refusal MalformedClientMessage
-refused_front (Faulty TooLong) = refusal ClientMessageTooLong
-refused_front (Faulty UnknownCode) = []
-refused_front (AFrame kind body rest) = []
-refused_front (Lacks n) = []
-
--- after a Terminate nothing is refused
-abbrev pub ending : Cut → List ℕ
-ending cut = if terminates cut.frames then [] else refused_front (front Client LONGEST_FRAME cut.rest)
-
--- after a start that the server refuses the client is closed, and nothing that it sends is answered
-abbrev pub after_start : {S C : Type 0} → Result S C → List ℕ → List ℕ
-after_start (Ok session) left = ending (frames Client LONGEST_FRAME left)
-after_start (Err cause) left = []
-
--- the refusal of a login, or of the first faulty frame of the session behind it; a client of the console is closed without a byte
-abbrev pub refused_end : CatalogueOf → End Way Reason → List ℕ
-refused_end cat Unfinished = []
-refused_end cat (Passed (ToLink key) left) = after_start (fresh cat key) left
-refused_end cat (Passed ToConsole left) = []
-refused_end cat (Stopped (Refused cause)) = refusal cause
-refused_end cat (Stopped Failed) = []
-refused_end cat (Stopped Left) = []
-
 -- ---- the answer
 
--- what a server started for this client alone answers, and the refusal
-unfoldable pub replies : List ℕ → List ℕ
-replies bytes =
-    joined_pieces (solo standing_catalogue (standing_row bytes) standing_word bytes)
-    ++ refused_end standing_catalogue (login (standing_row bytes) standing_word bytes).ended
+-- what follows the pieces of a login: the refusal of the login, or what the client may be answered over its link; a client of
+-- the console is closed without a byte
+abbrev pub Follows : CatalogueOf → End Way Reason → List ℕ → Type 0
+Follows cat Unfinished more = more ≡ []
+Follows cat (Passed (ToLink key) left) more = IsAllowed more (service_pieces cat key standing_word left)
+Follows cat (Passed ToConsole left) more = more ≡ []
+Follows cat (Stopped (Refused cause)) more = more ≡ refusal cause
+Follows cat (Stopped Failed) more = more ≡ []
+Follows cat (Stopped Left) more = more ≡ []
 
--- the same of what the login says
-abbrev pub replied : CatalogueOf → Dialogue → List ℕ
-replied cat said = joined_pieces (said.pieces ++ after_login cat standing_word said.ended) ++ refused_end cat said.ended
+-- the pieces of what the login says, and what follows them
+pub record IsAnswered (cat : CatalogueOf) (said : Dialogue) (out : List ℕ) : Type 0 where
+  pub more : List ℕ
+  pub follows : Follows cat said.ended more
+  pub out_is : out ≡ joined_pieces said.pieces ++ more
+
+-- what a server started for this client alone answers from its first byte on, each frame a piece
+abbrev pub own : List ℕ → List (List ℕ)
+own bytes = solo standing_catalogue (standing_row bytes) standing_word bytes
+
+-- What a client is answered begins that, or is some first whole pieces of it and one refusal; and its login is answered as it says.
+pub record IsReply (bytes out : List ℕ) : Type 0 where
+  pub login : IsAnswered standing_catalogue (login (standing_row bytes) standing_word bytes) out
+  pub allowed : IsAllowed out (own bytes)
+
+-- such an answer was added to the output, where its contents are known
+pub record WritesReply (before after : Option (List ℕ)) (bytes : List ℕ) : Type 0 where
+  pub out : List ℕ
+  pub reply : IsReply bytes out
+  pub adds : Appends before after out
 
 -- ---- what is left of the output after a fault
 

@@ -1,18 +1,16 @@
 -- What the code of `replay` holds, in the definitions' words.
-use Rattle.std.specs.Prelude.{◌≡◌, ◌⊎◌, ◌<◌, ℕ, List, [], Option, Some, None, Bool, true, false}
-use Rattle.message_view.specs.declared.refusal.Refusal.{Refusal}
+use Rattle.std.specs.Prelude.{◌≡◌, ◌⊎◌, ◌<◌, ℕ, List, [], ◌++◌, Bool, true, false}
+use Rattle.std.specs.Arc.{arc_value}
 use Rattle.message_view.specs.declared.refusal.Refusal.TheVariants as refused
-use Rattle.message_view.specs.Refusals.{refusal}
+use Rattle.session_values.specs.State.{CatalogueOf}
+use Rattle.link_start.specs.Starts.{IsLinkKey}
 use Rattle.login_core.specs.declared.steps.LoginStep.{LoginStep}
 use Rattle.login_core.specs.declared.steps.LoginStep.TheVariants as step
-use Rattle.login_core.specs.Talk.End.{Unfinished}
-use Rattle.login_core.specs.Dialogue.{Dialogue}
+use Rattle.login_core.specs.Talk.{End}
+use Rattle.login_core.specs.Talk.End.{Unfinished, Passed, Stopped}
+use Rattle.login_core.specs.Dialogue.{Dialogue, Reason, ToConsole, ToLink, Way}
 use Rattle.login_core.specs.Logins.{LoginView, goes_on, after, missing}
-
--- the bytes of a refusal, or nothing
-abbrev pub refused_by : Option Refusal → List ℕ
-refused_by None = []
-refused_by (Some r) = refusal r
+use Rattle.pool_app.specs.Replay.{IsAnswered}
 
 -- nothing is said, and the login isn't over
 abbrev pub silence : Dialogue
@@ -47,3 +45,26 @@ IsPastArrival step.Console v = Unit {0}
 IsPastArrival (step.Refused refusal) v = Unit {0}
 IsPastArrival (step.Failed f) v = Unit {0}
 IsPastArrival step.Left v = Unit {0}
+
+-- what may be answered to what the login says was added
+pub record Adds (cat : CatalogueOf) (said : Dialogue) (before after : List ℕ) : Type 0 where
+  pub given : List ℕ
+  pub answered : IsAnswered cat said given
+  pub both : after ≡ before ++ given
+
+-- the key with which a login passes can start a link
+abbrev pub IsKeyed : End Way Reason → Type 0
+IsKeyed Unfinished = Unit {0}
+IsKeyed (Passed (ToLink key) left) = IsLinkKey key
+IsKeyed (Passed ToConsole left) = Unit {0}
+IsKeyed (Stopped reason) = Unit {0}
+
+abbrev pub HasLinkKey : LoginStep → Type 0
+HasLinkKey step.More = Unit {0}
+HasLinkKey (step.Ask q) = Unit {0}
+HasLinkKey (step.Arrived key) = Unit {0}
+HasLinkKey (step.Passed key) = IsLinkKey (arc_value key)
+HasLinkKey step.Console = Unit {0}
+HasLinkKey (step.Refused refusal) = Unit {0}
+HasLinkKey (step.Failed f) = Unit {0}
+HasLinkKey step.Left = Unit {0}

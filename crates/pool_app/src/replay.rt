@@ -1,98 +1,109 @@
 //! `pgsess replay`: one client's bytes in, its replies out.
-ghost use Rattle.std.specs.Prelude.{◌≡◌, ◌⊎◌, ◌<◌, ◌≤◌, ◌++◌, ◌∷◌, [], length, drop, OnOk, OnErr, IfErr, IfOk, IfSome, false};
+ghost use Rattle.std.specs.Prelude.{◌≡◌, ◌≢◌, ◌⊎◌, ◌<◌, ◌≤◌, ◌++◌, ◌∷◌, [], length, drop, OnOk, OnErr, IfErr, IfOk, IfSome, false};
+ghost use Rattle.std.specs.Arc.{arc_value};
 ghost use Rattle.std.specs.Io.KnownBytes.{Appends};
 ghost use Rattle.frame_view.specs.declared.frames.TheConstants.{LONGEST_FRAME};
-ghost use Rattle.frame_view.specs.Frames.{Faulty, frames};
-ghost use Rattle.frame_view.specs.declared.Side.TheVariants.{Client};
 ghost use Rattle.message_view.specs.Refusals.{refusal};
-ghost use Rattle.session_values.specs.State.{fresh};
+ghost use Rattle.message_view.specs.declared.refusal.Refusal.TheVariants as refused;
+ghost use Rattle.link_start.specs.Starts.{IsLinkKey};
 ghost use Rattle.login_core.specs.Dialogue.{AtFirst, ToLink, ok};
 ghost use Rattle.login_core.specs.Logins.{Hears, after, goes_on, login_view, missing};
+ghost use Rattle.login_core.specs.Solo.{service_pieces};
 ghost use Rattle.login_core.specs.Talk.End.{Passed};
+ghost use Rattle.memory_lease.specs.Answers.{IsAllowed};
 ghost use Rattle.pool_app.specs.declared.fault.AppFault.TheVariants as told;
-ghost use Rattle.pool_app.specs.Replay.{IsLeft, after_start, ending, refused_front, replied, replies, standing_settings, standing_users, standing_word};
-ghost use Rattle.pool_app.specs.Told.{IsPastArrival, Says, WantsMemory, is_end, refused_by, silence};
+ghost use Rattle.pool_app.specs.Replay.{IsLeft, IsReply, WritesReply, standing_catalogue, standing_settings, standing_users, standing_word};
+ghost use Rattle.pool_app.specs.Told.{Adds, IsKeyed, IsPastArrival, Says, WantsMemory, HasLinkKey, is_end, silence};
 
 use crate::fault::AppFault;
 use crate::files::{MOST_BYTES, ReadFault, read_all};
 use crate::standing::{KEY_WORD, catalogue, settings, users};
 use bytes::BytesMut;
-use frame_view::{FrameFault, LONGEST_FRAME, Side, Step, client, next_frame};
-use login_core::laws::{login_is_of_its_row, service_is_its_pieces};
+use login_core::laws::login_is_of_its_row;
 use login_core::{Login, LoginStep};
-use message_view::{Refusal, put_authentication_ok, refusal_bytes};
-use session_machine::{Catalogue, Session, StartKey, solo_bytes};
+use login_keys::laws::{passed_keys_are_link_keys, settings_rows_are_lawful};
+use memory_lease::alone::serve_alone;
+use message_view::{KeyWord, Refusal, put_authentication_ok, refusal_bytes};
+use server_catalogue::Catalogue;
+use server_end::memory_server::{MemoryServer, ServerAuth};
+use start_keys::StartKey;
 use std::alloc::{AllocError, Global};
 use std::io::{ErrorKind, Read, Write};
 use std::sync::Arc;
+use user_file::Secret;
 
-/// What a faulty frame is refused by.
-fn refusal_of(fault: FrameFault) -> Option<Refusal>
-    ensures { refused_by result ≡ refused_front (Faulty fault) }
-{
-    match fault {
-        FrameFault::TooShort => Some(Refusal::MalformedClientMessage),
-        FrameFault::UnknownType => Some(Refusal::MalformedClientMessage),
-        FrameFault::TooLong => Some(Refusal::ClientMessageTooLong),
-        FrameFault::UnknownCode => None,
-    }
+/// The words of a server's own BackendKeyData, which no client sees.
+const SERVER_WORD: KeyWord = KeyWord {
+    pid: 7,
+    secret: 8,
+    salt: [0; 4],
+};
+
+/// The bytes that a call of an end moves at most.
+const CUT: usize = 8_192;
+
+/// What clients are served over: the catalogue of their servers, and the greatest length of a frame.
+#[derive(Drop)]
+struct Service {
+    catalogue: Arc<Catalogue>,
+    limit: u32,
+    ghost low: { 4 ≤ limit },
+    ghost high: { limit ≤ LONGEST_FRAME },
 }
 
-/// The refusal of the first faulty frame, unless a Terminate comes before it.
-fn ending(bytes: &[u8]) -> Option<Refusal>
-    ensures { refused_by result ≡ ending (frames Client LONGEST_FRAME bytes.now) }
-{
-    let mut at = 0;
-    while let Step::Whole(frame) = next_frame(bytes, at, LONGEST_FRAME, Side::Client) {
-        if frame.kind == client::TERMINATE {
-            return None;
-        }
-        at += frame.whole.len();
-    }
-    match next_frame(bytes, at, LONGEST_FRAME, Side::Client) {
-        Step::Bad(fault) => refusal_of(fault),
-        _ => None,
-    }
-}
-
+/// Puts this refusal; there is none for want of memory.
 fn put_refusal(out: &mut BytesMut, cause: Refusal) -> Result<(), AllocError>
-    ensures { OnOk result (out.new.items ≡ out.old.items ++ refusal cause) }
+    ensures given { OnOk result (out.new.items ≡ out.old.items ++ refusal cause) }
+    ensures memory { OnOk result (cause ≢ refused.OutOfMemory) }
 {
+    if let Refusal::OutOfMemory = cause {
+        return Err(AllocError);
+    }
     out.extend_from_slice(refusal_bytes(cause))
 }
 
-/// The refusal of the first faulty frame of a session. Where the server refuses to start one, the client is closed, and nothing follows.
-fn refusal_after(
+/// What a client is answered behind its login over a link of its own.
+fn served(
     alloc: Global,
-    catalogue: &Catalogue,
-    key: &StartKey,
+    service: &Service,
+    key: &Arc<StartKey>,
     rest: &[u8],
-) -> Result<Option<Refusal>, AllocError>
-    ensures { IfOk result (λ r. refused_by r ≡ after_start (fresh catalogue.now key.now) rest.now) }
+) -> Result<BytesMut, AllocError>
+    requires key { IsLinkKey (arc_value key.now) }
+    ensures { IfOk result (λ out. IsAllowed out.items (service_pieces (arc_value service.now.catalogue) (arc_value key.now) standing_word rest.now)) }
 {
-    match Session::start(alloc, catalogue, key)? {
-        Ok(_) => Ok(ending(rest)),
-        Err(_) => Ok(None),
-    }
+    service.catalogue.is_lawful();
+    let catalogue = Arc::try_clone(&service.catalogue)?;
+    // the server asks for nothing
+    let unasked = Secret::Md5([0; 32]);
+    let server = MemoryServer::new(alloc, catalogue, ServerAuth::Trust, SERVER_WORD, CUT, None)?;
+    let key = Arc::try_clone(key)?;
+    serve_alone(
+        alloc,
+        server,
+        key,
+        &unasked,
+        KEY_WORD,
+        service.limit,
+        CUT,
+        rest,
+    )
 }
 
-/// What follows a login that has passed: AuthenticationOk, the service, and a refusal where a faulty frame ends the session's bytes.
+/// What follows a login that has passed: AuthenticationOk, and what the client is answered over its link.
 fn put_passed(
     alloc: Global,
-    catalogue: &Catalogue,
-    key: &StartKey,
+    service: &Service,
+    key: &Arc<StartKey>,
     rest: &[u8],
     out: &mut BytesMut,
 ) -> Result<(), AllocError>
-    ensures { OnOk result (out.new.items ≡ out.old.items ++ replied catalogue.now (record { pieces = ok ∷ []; ended = Passed (ToLink key.now) rest.now })) }
+    requires key { IsLinkKey (arc_value key.now) }
+    ensures { OnOk result (Adds (arc_value service.now.catalogue) (record { pieces = ok ∷ []; ended = Passed (ToLink (arc_value key.now)) rest.now }) out.old.items out.new.items) }
 {
-    service_is_its_pieces();
     put_authentication_ok(out)?;
-    solo_bytes(alloc, catalogue, key, KEY_WORD, rest, out)?;
-    match refusal_after(alloc, catalogue, key, rest)? {
-        Some(refusal) => put_refusal(out, refusal)?,
-        None => {}
-    }
+    let answer = served(alloc, service, key, rest)?;
+    out.extend_from_slice(answer.as_slice())?;
     Ok(())
 }
 
@@ -100,18 +111,18 @@ fn put_passed(
 /// of the console is closed without a byte. Want of memory gives nothing.
 fn put_step(
     alloc: Global,
-    catalogue: &Catalogue,
+    service: &Service,
     step: &LoginStep,
     rest: &[u8],
     out: &mut BytesMut,
 ) -> Result<(), AllocError>
-    ensures given { OnOk result (out.new.items ≡ out.old.items ++ replied catalogue.now (after step.now rest.now silence)) }
+    requires { HasLinkKey step.now }
+    ensures given { OnOk result (Adds (arc_value service.now.catalogue) (after step.now rest.now silence) out.old.items out.new.items) }
     ensures memory { OnOk result (WantsMemory step.now → ⊥) }
 {
     match step {
         LoginStep::Ask(question) => out.extend_from_slice(question.as_bytes()),
-        LoginStep::Passed(key) => put_passed(alloc, catalogue, key, rest, out),
-        LoginStep::Refused(Refusal::OutOfMemory) => Err(AllocError),
+        LoginStep::Passed(key) => put_passed(alloc, service, key, rest, out),
         LoginStep::Refused(refusal) => put_refusal(out, *refusal),
         LoginStep::Failed(failure) => out.extend_from_slice(failure.as_bytes()),
         LoginStep::More | LoginStep::Arrived(_) | LoginStep::Console | LoginStep::Left => Ok(()),
@@ -148,24 +159,25 @@ fn is_end(step: &LoginStep) -> bool
 /// What a client is given from a login on that waits for these bytes.
 fn put_login(
     alloc: Global,
-    catalogue: &Catalogue,
+    service: &Service,
     login: &mut Login,
     bytes: &[u8],
     out: &mut BytesMut,
 ) -> Result<(), AllocError>
-    requires { 0 < missing login.old.hearing login.old.held }
-    ensures { OnOk result (out.new.items ≡ out.old.items ++ replied catalogue.now (goes_on login.old bytes.now)) }
+    requires missing { 0 < missing login.old.hearing login.old.held }
+    requires keyed { IsKeyed (goes_on login.old bytes.now).ended }
+    ensures { OnOk result (Adds (arc_value service.now.catalogue) (goes_on login.old bytes.now) out.old.items out.new.items) }
 {
     if bytes.is_empty() {
         return Ok(());
     }
     let (used, step) = advance(login, alloc, bytes);
     let rest = &bytes[used..];
-    put_step(alloc, catalogue, &step, rest, out)?;
+    put_step(alloc, service, &step, rest, out)?;
     if is_end(&step) {
         return Ok(());
     }
-    put_login(alloc, catalogue, login, rest, out)
+    put_login(alloc, service, login, rest, out)
 }
 
 /// A login under the standing settings and users.
@@ -177,17 +189,30 @@ fn standing_login(alloc: Global) -> Result<Login, AllocError>
     Login::new(alloc, settings, users, KEY_WORD)
 }
 
+/// The service of the standing settings and catalogue.
+#[tactic(auto, using(crate::proofs::Replaying::standing_limit))]
+fn standing_service(alloc: Global) -> Result<Service, AllocError>
+    ensures { IfOk result (λ s. arc_value s.catalogue ≡ standing_catalogue) }
+{
+    let settings = settings(alloc)?;
+    Ok(Service {
+        catalogue: Arc::new(alloc, catalogue(alloc)?)?,
+        limit: settings.max_packet_size(),
+    })
+}
+
 /// What a client of the standing settings is answered: its bytes in, its replies out. The only
 /// error is want of memory.
-#[tactic(auto, unfolding(crate::specs::Replay::replies))]
 pub fn replies(alloc: Global, bytes: &[u8]) -> Result<BytesMut, AllocError>
-    ensures { IfOk result (λ b. b.items ≡ replies bytes.now) }
+    ensures { IfOk result (λ out. IsReply bytes.now out.items) }
 {
     login_is_of_its_row();
-    let catalogue = catalogue(alloc)?;
+    settings_rows_are_lawful();
+    passed_keys_are_link_keys();
+    let service = standing_service(alloc)?;
     let mut login = standing_login(alloc)?;
     let mut out = BytesMut::new(alloc);
-    put_login(alloc, &catalogue, &mut login, bytes, &mut out)?;
+    put_login(alloc, &service, &mut login, bytes, &mut out)?;
     Ok(out)
 }
 
@@ -204,12 +229,13 @@ fn unread<'a>(fault: ReadFault) -> AppFault<'a>
 /// Answers one client: reads all of its bytes, at most 16,777,216, and then writes what it is
 /// answered. Where the input can't be read or is longer (`Stdin`), or memory is refused (`Memory`),
 /// nothing is written; `Stdout` where the output can't be written.
+#[tactic(auto, using(crate::proofs::Replaying::writes_reply))]
 pub fn replay<'a, R: Read + Drop, W: Write>(
     alloc: Global,
     input: R,
     output: &mut W,
 ) -> Result<(), AppFault<'a>>
-    ensures replies { OnOk result (IfSome (R.remaining input) (λ xs. Appends (W.contents output.old) (W.contents output.new) (replies xs))) }
+    ensures replies { OnOk result (IfSome (R.remaining input) (λ xs. WritesReply (W.contents output.old) (W.contents output.new) xs)) }
     ensures bound { IfOk result (λ _. IfSome (R.remaining input) (λ xs. length xs ≤ 16777216)) }
     ensures left { IfErr result (λ fault. IsLeft output.old output.new fault) }
 {

@@ -1,0 +1,87 @@
+//! What a client is answered over a link of its own.
+use crate::parts::{served, welcome_and};
+use message_view::{Refusal, refusal_bytes};
+use std::test::Fail;
+
+const LIMIT: u32 = 1_024;
+
+/// An empty Query.
+const EMPTY: &[u8] = b"Q\0\0\0\x05\0";
+
+/// EmptyQueryResponse, and ReadyForQuery.
+const ANSWER: &[u8] = b"I\0\0\0\x04Z\0\0\0\x05I";
+
+/// What a server of ann's own sends before the first answer: AuthenticationOk, and the welcome.
+const BEFORE: u64 = 260;
+
+#[test]
+fn cuts_change_nothing(rt: HostRuntime) -> Result<(), Fail> {
+    let wanted = welcome_and(rt.alloc(), ANSWER)?;
+    let whole = served(rt.alloc(), None, LIMIT, 8_192, EMPTY)?;
+    assert_eq!(rt; whole.as_slice(), wanted.as_slice());
+    let bytewise = served(rt.alloc(), None, LIMIT, 1, EMPTY)?;
+    assert_eq!(rt; bytewise.as_slice(), wanted.as_slice());
+    let sevens = served(rt.alloc(), None, LIMIT, 7, EMPTY)?;
+    assert_eq!(rt; sevens.as_slice(), wanted.as_slice());
+    Ok(())
+}
+
+/// A server that dies between two frames, or in the head of one: the client is told.
+#[test]
+fn a_server_dies_at_a_border(rt: HostRuntime) -> Result<(), Fail> {
+    let wanted = welcome_and(rt.alloc(), refusal_bytes(Refusal::ServerFailed))?;
+    let border = served(rt.alloc(), Some(BEFORE), LIMIT, 8_192, EMPTY)?;
+    assert_eq!(rt; border.as_slice(), wanted.as_slice());
+    let head = served(rt.alloc(), Some(BEFORE + 3), LIMIT, 8_192, EMPTY)?;
+    assert_eq!(rt; head.as_slice(), wanted.as_slice());
+    Ok(())
+}
+
+/// A server that dies inside a frame of which the client was given a part: nothing can follow.
+#[test]
+fn a_server_dies_inside_a_frame(rt: HostRuntime) -> Result<(), Fail> {
+    let wanted = welcome_and(rt.alloc(), b"T\0\0\0\x29\0\x01app")?;
+    let show = b"Q\0\0\0\x1aSHOW application_name\0";
+    let part = served(rt.alloc(), Some(BEFORE + 10), LIMIT, 8_192, show)?;
+    assert_eq!(rt; part.as_slice(), wanted.as_slice());
+    Ok(())
+}
+
+/// A server that dies before its welcome is whole: the link isn't started.
+#[test]
+fn a_server_dies_in_its_start(rt: HostRuntime) -> Result<(), Fail> {
+    let answer = served(rt.alloc(), Some(BEFORE - 1), LIMIT, 8_192, EMPTY)?;
+    assert_eq!(rt; answer.as_slice(), refusal_bytes(Refusal::ServerNotReached));
+    Ok(())
+}
+
+/// A message above the limit comes behind a whole one, whose answer is given first.
+#[test]
+fn a_message_is_too_long(rt: HostRuntime) -> Result<(), Fail> {
+    let mut wanted = welcome_and(rt.alloc(), ANSWER)?;
+    wanted.extend_from_slice(refusal_bytes(Refusal::ClientMessageTooLong))?;
+    let answer = served(
+        rt.alloc(),
+        None,
+        LIMIT,
+        8_192,
+        b"Q\0\0\0\x05\0Q\0\0\x04\x01",
+    )?;
+    assert_eq!(rt; answer.as_slice(), wanted.as_slice());
+    Ok(())
+}
+
+/// What comes behind a Terminate is answered by nothing, not even a faulty message.
+#[test]
+fn nothing_follows_a_terminate(rt: HostRuntime) -> Result<(), Fail> {
+    let wanted = welcome_and(rt.alloc(), ANSWER)?;
+    let answer = served(
+        rt.alloc(),
+        None,
+        LIMIT,
+        7,
+        b"Q\0\0\0\x05\0X\0\0\0\x04?\0\0\0\x04",
+    )?;
+    assert_eq!(rt; answer.as_slice(), wanted.as_slice());
+    Ok(())
+}

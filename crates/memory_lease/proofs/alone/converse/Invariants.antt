@@ -1,0 +1,5 @@
+use Rattle.relay_laws.specs.Leases.{Keeps}
+use Rattle.memory_lease.proofs.alone.converse.Given as goal
+
+abbrev pub invariant-loop : goal.invariant-loop
+invariant-loop g l = Keeps l.initial.relay l.relay

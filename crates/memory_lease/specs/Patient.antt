@@ -1,0 +1,39 @@
+-- A client in memory that waits for its answers, as its callers see it.
+use Rattle.std.specs.Prelude.{◌≡◌, ℕ, Bool, true, false, ◌||◌, List, [], ◌∷◌, ◌++◌, length, take}
+use Rattle.link_laws.specs.Standing.{ClientFacts}
+use Rattle.server_end.specs.Clients.{is_broken}
+
+pub record PatientOf : Type 0 where
+  pub facts : ClientFacts
+  pub input : List ℕ
+  pub at : ℕ
+  pub border : ℕ
+
+-- The facts count as given, before all that it was, the client's whole input with its length: so they tell whose client it is.
+abbrev pub given_with : List ℕ → List ℕ → List ℕ
+given_with input given = length input ∷ (input ++ given)
+
+abbrev pub patient_view : List ℕ → ℕ → ℕ → List ℕ → Bool → ℕ → ℕ → PatientOf
+patient_view input at border given hung_up faults waits = record {
+  facts = record {
+    tells = true;
+    ended = is_broken faults waits || hung_up;
+    taken = take at input;
+    given = given_with input given;
+    faults = faults;
+    read_waits = waits;
+    write_waits = 0;
+  };
+  input = input;
+  at = at;
+  border = border;
+}
+
+-- a client with this input, of which nothing was taken
+abbrev pub new_patient : List ℕ → PatientOf
+new_patient input = patient_view input 0 0 [] false 0 0
+
+-- what was given to it is this, and what was taken from it begins its input
+pub record IsGiven (c : PatientOf) (out : List ℕ) : Type 0 where
+  pub taken : c.facts.taken ≡ take c.at c.input
+  pub given : c.facts.given ≡ given_with c.input out

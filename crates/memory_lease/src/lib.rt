@@ -1,0 +1,5 @@
+//! One client in memory over one new link, on one thread: from its first byte after the login to its end.
+#![tactic(auto)]
+
+pub mod alone;
+mod patient_client;
