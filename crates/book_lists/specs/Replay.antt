@@ -1,7 +1,7 @@
 -- The decisions that are kept, and the lists that they lead to.
-use Rattle.std.specs.Prelude.{◌≡◌, ℕ, List, [], ◌∷◌, ◌++◌, Option, Some, None, map}
+use Rattle.std.specs.Prelude.{◌≡◌, ℕ, Bool, true, false, List, [], ◌∷◌, ◌++◌, Option, Some, None, not, cond, ◌==◌, ◌&&◌, nat_lt, length, map}
 use Rattle.book_lists.specs.Book.{Book}
-use Rattle.book_lists.specs.Outcomes.{Event, Reply, Kind, apply, kind_of}
+use Rattle.book_lists.specs.Outcomes.{Event, Reply, Kind, apply, is_strange, kind_of, last_decision, outcome}
 
 -- an event that changed the book, with its reply, and the pass through which it came
 pub record Decision : Type 0 where
@@ -22,3 +22,34 @@ replies b (d ∷ ds) = (apply b d.event).reply ∷ replies (apply b d.event).boo
 pub record Replays (base : Book) (kept : List Decision) (lists : Book) : Type 0 where
   pub lists_are : replayed base kept ≡ lists
   pub replies_are : replies base kept ≡ map (λ (d : Decision). d.reply) kept
+
+-- ---- how many are kept
+
+-- so many decisions at most
+abbrev pub most_kept : ℕ
+most_kept = 256
+
+pub record History : Type 0 where
+  pub base : Book
+  pub kept : List Decision
+
+-- the first of the kept decisions goes into the base
+abbrev pub folded : Book → List Decision → History
+folded base [] = record { base = base; kept = [] }
+folded base (d ∷ ds) = record { base = (apply base d.event).book; kept = ds }
+
+-- a decision more: it is kept, and where that is one too many, the first goes into the base
+abbrev pub noted : History → Decision → History
+noted h d = cond (nat_lt (length h.kept) most_kept) (record { base = h.base; kept = h.kept ++ d ∷ [] }) (folded h.base (h.kept ++ d ∷ []))
+
+abbrev pub is_a_kind : Option Kind → Bool
+is_a_kind None = false
+is_a_kind (Some kind) = true
+
+-- an event is a decision, where its number can be counted, it comes from nobody strange, and its outcome is of a kind
+abbrev pub is_decision : Book → Event → Bool
+is_decision b e = not (b.decisions == last_decision) && (not (is_strange b e) && is_a_kind (kind_of b e (outcome b e).reply))
+
+-- the history after an event that came through this pass
+abbrev pub noted_of : Book → ℕ → Event → History → History
+noted_of b pass e h = cond (is_decision b e) (noted h (record { pass = pass; event = e; reply = (apply b e).reply })) h

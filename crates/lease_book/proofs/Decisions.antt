@@ -1,0 +1,106 @@
+-- What an event does to the number of decisions, and to the lists where it is none.
+use Rattle.std.proofs.Common.{◌≡◌, ℕ, suc, ◌+◌, ◌≤◌, List, [], ◌∷◌, ◌++◌, Bool, true, false, cond, Option, None, Some, length, map, refl, sym, ap, ◌∙◌, subst, arith}
+use Rattle.std.specs.Prelude.{find, not, ◌==◌, ◌&&◌, ◌||◌, nat_le, nat_lt, ◌-◌, count_by}
+use Rattle.std.specs.List.{list_any}
+use Rattle.message_view.specs.declared.refusal.Refusal.{Refusal}
+use Rattle.message_view.specs.declared.refusal.Refusal.TheVariants.{TooManyClients, WaitedTooLong, ShuttingDown, LastDecision}
+use Rattle.session_values.specs.State.{StartKeyOf}
+use Rattle.book_lists.specs.Book.{Book, Client, Limits, Link, Ticket, in_pool, latest_of, link_count, pool_count, pool_size, is_of, is_link, same_pool, waiting_before, without}
+use Rattle.book_lists.specs.Outcomes.{Answer, Event, Reply, Kind, apply, outcome, decided, counted, is_strange, kind_of, last_decision, arrives, asks, leaves, waits, loses_ticket, lends, starts, evicts, grants, has_waited, takes, is_old, is_crowded, gives_back, closes, at_clock, is_stale, loses}
+use Rattle.book_lists.specs.Outcomes.Event.{Arrive, Ask, Take, GiveBack, Lost, StartFailed, Leave, Tick, NewLimits, Pause, Resume, Shutdown}
+use Rattle.book_lists.specs.Outcomes.Reply.{Arrived, Queued, Lend, Start, Close, Refuse, Done, Stranger}
+use Rattle.book_lists.specs.Replay.{is_decision, is_a_kind}
+
+both : (Q : Answer → Type 0) (b : Bool) (x y : Answer) → Q x → Q y → Q (cond b x y)
+both Q true x y p q = p
+both Q false x y p q = q
+
+-- what every event's outcome keeps: the number of decisions, and all where it is of no kind
+record Fair (b : Book) (e : Event) (a : Answer) : Type 0 where
+  pub counts : a.book.decisions ≡ b.decisions
+  pub stays : kind_of b e a.reply ≡ None → a.book ≡ b
+
+moved : (b : Book) (e : Event) (a : Answer) (k : Kind) → a.book.decisions ≡ b.decisions → kind_of b e a.reply ≡ Some k → Fair b e a
+moved b e a k c s = record { counts = c; stays = λ n. cc }
+
+same : (b : Book) (e : Event) (r : Reply) → Fair b e (record { book = b; reply = r })
+same b e r = record { counts = refl; stays = λ n. refl }
+
+fair_evicts : (b : Book) (c : ℕ) (t : Ticket) (o : Option Link) → Fair b (Take c) (evicts b t o)
+fair_evicts b c t None = same b (Take c) (Queued (waiting_before t.key t.client b.tickets))
+fair_evicts b c t (Some old) = record { counts = refl; stays = λ n. cc }
+
+fair_grants : (b : Book) (c : ℕ) (t : Ticket) (o : Option Link) → Fair b (Take c) (grants b t o)
+fair_grants b c t (Some link) = record { counts = refl; stays = λ n. cc }
+fair_grants b c t None =
+    both (Fair b (Take c)) (nat_lt (pool_count b t.key) (pool_size b.limits t.key)) _ _
+      (both (Fair b (Take c)) (nat_lt (link_count b) b.limits.max_links) _ _ (record { counts = refl; stays = λ n. cc }) (fair_evicts b c t (find (λ link. true) b.idle)))
+      (fair_evicts b c t (find (in_pool t.key) b.idle))
+
+fair_loses_ticket : (b : Book) (c : ℕ) (t : Ticket) (r : Refusal) → Fair b (Take c) (loses_ticket b t r)
+fair_loses_ticket b c t r = record { counts = refl; stays = λ n. cc }
+
+fair_takes : (b : Book) (c : ℕ) (o : Option Ticket) → Fair b (Take c) (takes b o)
+fair_takes b c None = same b (Take c) Stranger
+fair_takes b c (Some t) =
+    both (Fair b (Take c)) b.is_shut _ _ (fair_loses_ticket b c t ShuttingDown)
+    (both (Fair b (Take c)) (has_waited b t) _ _ (fair_loses_ticket b c t WaitedTooLong)
+    (both (Fair b (Take c)) (b.is_paused || not (waiting_before t.key t.client b.tickets == 0)) _ _ (same b (Take c) (Queued (waiting_before t.key t.client b.tickets)))
+    (fair_grants b c t (latest_of t.key b.idle))))
+
+fair_gives : (b : Book) (n : ℕ) (o : Option Link) → Fair b (GiveBack n) (gives_back b o)
+fair_gives b n None = same b (GiveBack n) Stranger
+fair_gives b n (Some link) =
+    both (Fair b (GiveBack n)) (is_old b link || is_crowded b link) _ _ (record { counts = refl; stays = λ n. cc }) (record { counts = refl; stays = λ n. cc })
+
+clock_stays : (b : Book) (now : ℕ) (t : Bool) → nat_lt b.clock now ≡ t → cond t (Some Kind.Ticking) None ≡ None → at_clock b now ≡ b
+clock_stays b now true e n = cc
+clock_stays b now false e n = ap (λ (x : Bool). record b { clock = cond x now b.clock }) e
+
+fair_closes : (b : Book) (now : ℕ) (o : Option Link) → Fair b (Tick now) (closes (at_clock b now) o)
+fair_closes b now None = record { counts = refl; stays = λ n. clock_stays b now (nat_lt b.clock now) refl n }
+fair_closes b now (Some link) = record { counts = refl; stays = λ n. cc }
+
+fair : (b : Book) (e : Event) → Fair b e (outcome b e)
+fair b Arrive =
+    both (Fair b Arrive) b.is_shut _ _ (same b Arrive (Refuse ShuttingDown))
+    (both (Fair b Arrive) (nat_lt (length b.clients) b.limits.max_clients) _ _ (record { counts = refl; stays = λ n. cc }) (same b Arrive (Refuse TooManyClients)))
+fair b (Ask c key) =
+    both (Fair b (Ask c key)) b.is_shut _ _ (same b (Ask c key) (Refuse ShuttingDown)) (record { counts = refl; stays = λ n. cc })
+fair b (Take c) = fair_takes b c (find (is_of c) b.tickets)
+fair b (GiveBack n) = fair_gives b n (find (is_link n) b.lent)
+fair b (Lost n) = record { counts = refl; stays = λ n. cc }
+fair b (StartFailed n) = record { counts = refl; stays = λ n. cc }
+fair b (Leave c) = record { counts = refl; stays = λ n. cc }
+fair b (Tick now) = fair_closes b now (find (is_stale (at_clock b now)) b.idle)
+fair b (NewLimits l) = record { counts = refl; stays = λ n. cc }
+fair b Pause = record { counts = refl; stays = λ n. cc }
+fair b Resume = record { counts = refl; stays = λ n. cc }
+fair b Shutdown = record { counts = refl; stays = λ n. cc }
+
+-- ---- the whole answer
+
+-- what an event does that is a decision, and what one that is none
+record Counts (b : Book) (is : Bool) (a : Answer) : Type 0 where
+  pub raises : is ≡ true → a.book.decisions ≡ suc b.decisions
+  pub stays : is ≡ false → a.book ≡ b
+
+counts_decided : (b : Book) (e : Event) (a : Answer) (k : Option Kind) → Fair b e a → kind_of b e a.reply ≡ k → Counts b (is_a_kind k) (record { book = counted a.book k; reply = a.reply })
+counts_decided b e a None f is = record { raises = λ n. cc; stays = λ n. f.stays is }
+counts_decided b e a (Some k) f is = record { raises = λ n. ap suc f.counts; stays = λ n. cc }
+
+counts_known : (b : Book) (e : Event) (is : Bool) → Counts b (not is && is_a_kind (kind_of b e (outcome b e).reply)) (cond is (record { book = b; reply = Stranger }) (decided b e (outcome b e)))
+counts_known b e true = record { raises = λ n. cc; stays = λ n. refl }
+counts_known b e false = counts_decided b e (outcome b e) (kind_of b e (outcome b e).reply) (fair b e) refl
+
+counts_all : (b : Book) (e : Event) (last : Bool) → Counts b (not last && (not (is_strange b e) && is_a_kind (kind_of b e (outcome b e).reply))) (cond last (record { book = b; reply = Refuse LastDecision }) (cond (is_strange b e) (record { book = b; reply = Stranger }) (decided b e (outcome b e))))
+counts_all b e true = record { raises = λ n. cc; stays = λ n. refl }
+counts_all b e false = counts_known b e (is_strange b e)
+
+pub apply_raises : (b : Book) (e : Event) → is_decision b e ≡ true → (apply b e).book.decisions ≡ suc b.decisions
+unfolding apply
+apply_raises b e is = (counts_all b e (b.decisions == last_decision)).raises is
+
+pub apply_stays : (b : Book) (e : Event) → is_decision b e ≡ false → (apply b e).book ≡ b
+unfolding apply
+apply_stays b e is = (counts_all b e (b.decisions == last_decision)).stays is

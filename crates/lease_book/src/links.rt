@@ -1,0 +1,4 @@
+//! The links that wait.
+
+/// Nothing.
+pub fn nothing() {}
