@@ -1,16 +1,13 @@
 -- The lease book as plain lists: who is there, who waits, and which links there are.
-use Rattle.std.specs.Prelude.{ℕ, Bool, true, false, List, [], ◌∷◌, Option, Some, None, not, cond, ◌==◌, ◌&&◌, ◌+◌, length, filter, find, count_by, bytes_eq}
+use Rattle.std.specs.Prelude.{ℕ, Bool, false, List, [], ◌∷◌, Option, Some, None, not, cond, ◌==◌, ◌&&◌, ◌+◌, length, filter, count_by, bytes_eq}
 use Rattle.session_values.specs.State.{StartKeyOf}
 use Rattle.start_keys.specs.Keys.{same_key}
-
--- in its login; waiting, from its Ask until a Take of it is granted; active
-pub data ClientState : Type 0 where
-  LoggingIn : ClientState
-  Waiting : ClientState
-  Active : ClientState
+use Rattle.book_lists.specs.declared.counts.Counts.{Counts}
+use Rattle.book_lists.specs.declared.events.ClientState.{ClientState}
 
 pub record Client : Type 0 where
   pub number : ℕ
+  -- in its login; waiting, from its Ask until a Take of it is granted; active
   pub state : ClientState
 
 -- a client waits for a link of this key, since this second
@@ -40,24 +37,6 @@ pub record Limits : Type 0 where
   pub wait_timeout : ℕ
   pub lifetime : ℕ
   pub idle_timeout : ℕ
-
--- how many decisions there were of each kind
-pub record Counts : Type 0 where
-  pub arrived : ℕ
-  pub arrivals_refused : ℕ
-  pub asked : ℕ
-  pub asks_refused : ℕ
-  pub granted : ℕ
-  pub tickets_lost : ℕ
-  pub given_back : ℕ
-  pub lost : ℕ
-  pub starts_failed : ℕ
-  pub left : ℕ
-  pub ticked : ℕ
-  pub limited : ℕ
-  pub paused : ℕ
-  pub resumed : ℕ
-  pub shut_down : ℕ
 
 -- clients in the order of Arrive, tickets in that of Ask, lent links in that of their Take, idle ones in that of their return
 pub record Book : Type 0 where

@@ -1,12 +1,18 @@
 -- What happens to the book, and what it answers: of one event, the next lists and one reply.
-use Rattle.std.specs.Prelude.{◌≡◌, ℕ, suc, ◌+◌, ◌-◌, Bool, true, false, List, [], ◌∷◌, ◌++◌, Option, Some, None, not, cond, ◌==◌, ◌&&◌, ◌||◌, nat_le, nat_lt, length, find, map, count_by}
+use Rattle.std.specs.Prelude.{ℕ, suc, ◌-◌, Bool, true, false, List, [], ◌∷◌, ◌++◌, Option, Some, None, not, cond, ◌==◌, ◌&&◌, ◌||◌, nat_le, nat_lt, length, find, map, count_by}
 use Rattle.std.specs.List.{list_any}
 use Rattle.message_view.specs.declared.refusal.Refusal.{Refusal}
 use Rattle.message_view.specs.declared.refusal.Refusal.TheVariants.{TooManyClients, WaitedTooLong, ShuttingDown, LastDecision}
 use Rattle.session_values.specs.State.{StartKeyOf}
 use Rattle.start_keys.specs.Keys.{same_key}
-use Rattle.book_lists.specs.Book.{Book, Client, Counts, Limits, Link, Ticket, ClientState, in_pool, is_client, is_link, is_of, latest_of, link_count, pool_count, pool_size, same_pool, waiting_before, without, without_client, without_ticket}
-use Rattle.book_lists.specs.Book.ClientState.{LoggingIn, Waiting, Active}
+use Rattle.book_lists.specs.Book.{Book, Client, Limits, Link, Ticket, in_pool, is_client, is_link, is_of, latest_of, link_count, pool_count, pool_size, same_pool, waiting_before, without, without_client, without_ticket}
+use Rattle.book_lists.specs.declared.counts.Counts.{Counts}
+use Rattle.book_lists.specs.declared.counts.Kind.{Kind}
+use Rattle.book_lists.specs.declared.counts.Kind.TheVariants.{Arrival, ArrivalRefused, Asking, AskRefused, Grant, TicketLost, Return, Loss, FailedStart, Leaving, Ticking, Limiting, Pausing, Resuming, Closing}
+use Rattle.book_lists.specs.declared.events.ClientState.{ClientState}
+use Rattle.book_lists.specs.declared.events.ClientState.TheVariants.{LoggingIn, Waiting, Active}
+use Rattle.book_lists.specs.declared.events.Reply.{Reply}
+use Rattle.book_lists.specs.declared.events.Reply.TheVariants.{Arrived, Queued, Lend, Start, Close, Refuse, Done, Stranger}
 
 -- an event, with clients and links by their numbers
 pub data Event : Type 0 where
@@ -22,16 +28,6 @@ pub data Event : Type 0 where
   Pause : Event
   Resume : Event
   Shutdown : Event
-
-pub data Reply : Type 0 where
-  Arrived : (client : ℕ) → Reply
-  Queued : (before : ℕ) → Reply
-  Lend : (link : ℕ) → Reply
-  Start : (link : ℕ) → (born : ℕ) → (evicted : Option ℕ) → Reply
-  Close : (link : ℕ) → Reply
-  Refuse : Refusal → Reply
-  Done : Reply
-  Stranger : Reply
 
 pub record Answer : Type 0 where
   pub book : Book
@@ -161,24 +157,6 @@ is_strange b (Leave client) = not (list_any (is_client client) b.clients)
 is_strange b _ = false
 
 -- ---- decisions
-
--- the kinds of decisions
-pub data Kind : Type 0 where
-  Arrival : Kind
-  ArrivalRefused : Kind
-  Asking : Kind
-  AskRefused : Kind
-  Grant : Kind
-  TicketLost : Kind
-  Return : Kind
-  Loss : Kind
-  FailedStart : Kind
-  Leaving : Kind
-  Ticking : Kind
-  Limiting : Kind
-  Pausing : Kind
-  Resuming : Kind
-  Closing : Kind
 
 -- The kind of an event with this reply; none, where it changed nothing: a Take that waits on, and a Tick that neither raised
 -- the clock nor closed a link.

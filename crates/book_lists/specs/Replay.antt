@@ -1,7 +1,9 @@
 -- The decisions that are kept, and the lists that they lead to.
 use Rattle.std.specs.Prelude.{◌≡◌, ℕ, Bool, true, false, List, [], ◌∷◌, ◌++◌, Option, Some, None, not, cond, ◌==◌, ◌&&◌, nat_lt, length, map}
 use Rattle.book_lists.specs.Book.{Book}
-use Rattle.book_lists.specs.Outcomes.{Event, Reply, Kind, apply, is_strange, kind_of, last_decision, outcome}
+use Rattle.book_lists.specs.Outcomes.{Event, apply, is_strange, kind_of, last_decision, outcome}
+use Rattle.book_lists.specs.declared.counts.Kind.{Kind}
+use Rattle.book_lists.specs.declared.events.Reply.{Reply}
 
 -- an event that changed the book, with its reply, and the pass through which it came
 pub record Decision : Type 0 where

@@ -3,8 +3,12 @@
 
 ghost use Rattle.std.specs.Prelude.{◌≡◌};
 ghost use Rattle.book_lists.specs.Book.{Book};
-ghost use Rattle.book_lists.specs.Outcomes.{apply, last_decision, Reply, Event};
+ghost use Rattle.book_lists.specs.Outcomes.{apply, last_decision, Event};
 ghost use Rattle.book_lists.specs.Replay.{Replays};
+
+pub mod counts;
+pub mod events;
+pub mod limits;
 
 /// A placeholder until the laws stand here.
 pub fn placeholder()
