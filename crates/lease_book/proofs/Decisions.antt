@@ -2,13 +2,17 @@
 use Rattle.std.proofs.Common.{◌≡◌, ℕ, suc, ◌+◌, ◌≤◌, List, [], ◌∷◌, ◌++◌, Bool, true, false, cond, Option, None, Some, length, map, refl, sym, ap, ◌∙◌, subst, arith}
 use Rattle.std.specs.Prelude.{find, not, ◌==◌, ◌&&◌, ◌||◌, nat_le, nat_lt, ◌-◌, count_by}
 use Rattle.std.specs.List.{list_any}
+use Rattle.std.proofs.lemmas.Bool.{le-ltb, lt-ltb}
 use Rattle.message_view.specs.declared.refusal.Refusal.{Refusal}
 use Rattle.message_view.specs.declared.refusal.Refusal.TheVariants.{TooManyClients, WaitedTooLong, ShuttingDown, LastDecision}
 use Rattle.session_values.specs.State.{StartKeyOf}
 use Rattle.book_lists.specs.Book.{Book, Client, Limits, Link, Ticket, in_pool, latest_of, link_count, pool_count, pool_size, is_of, is_link, same_pool, waiting_before, without}
-use Rattle.book_lists.specs.Outcomes.{Answer, Event, Reply, Kind, apply, outcome, decided, counted, is_strange, kind_of, last_decision, arrives, asks, leaves, waits, loses_ticket, lends, starts, evicts, grants, has_waited, takes, is_old, is_crowded, gives_back, closes, at_clock, is_stale, loses}
+use Rattle.book_lists.specs.Outcomes.{Answer, Event, apply, outcome, decided, counted, is_strange, kind_of, last_decision, arrives, asks, leaves, waits, loses_ticket, lends, starts, evicts, grants, has_waited, takes, is_old, is_crowded, gives_back, closes, at_clock, is_stale, loses}
 use Rattle.book_lists.specs.Outcomes.Event.{Arrive, Ask, Take, GiveBack, Lost, StartFailed, Leave, Tick, NewLimits, Pause, Resume, Shutdown}
-use Rattle.book_lists.specs.Outcomes.Reply.{Arrived, Queued, Lend, Start, Close, Refuse, Done, Stranger}
+use Rattle.book_lists.specs.declared.counts.Kind.{Kind}
+use Rattle.book_lists.specs.declared.counts.Kind.TheVariants.{Ticking}
+use Rattle.book_lists.specs.declared.events.Reply.{Reply}
+use Rattle.book_lists.specs.declared.events.Reply.TheVariants.{Queued, Refuse, Stranger}
 use Rattle.book_lists.specs.Replay.{is_decision, is_a_kind}
 
 both : (Q : Answer → Type 0) (b : Bool) (x y : Answer) → Q x → Q y → Q (cond b x y)
@@ -53,7 +57,7 @@ fair_gives b n None = same b (GiveBack n) Stranger
 fair_gives b n (Some link) =
     both (Fair b (GiveBack n)) (is_old b link || is_crowded b link) _ _ (record { counts = refl; stays = λ n. cc }) (record { counts = refl; stays = λ n. cc })
 
-clock_stays : (b : Book) (now : ℕ) (t : Bool) → nat_lt b.clock now ≡ t → cond t (Some Kind.Ticking) None ≡ None → at_clock b now ≡ b
+clock_stays : (b : Book) (now : ℕ) (t : Bool) → nat_lt b.clock now ≡ t → cond t (Some Ticking) None ≡ None → at_clock b now ≡ b
 clock_stays b now true e n = cc
 clock_stays b now false e n = ap (λ (x : Bool). record b { clock = cond x now b.clock }) e
 
@@ -104,3 +108,11 @@ apply_raises b e is = (counts_all b e (b.decisions == last_decision)).raises is
 pub apply_stays : (b : Book) (e : Event) → is_decision b e ≡ false → (apply b e).book ≡ b
 unfolding apply
 apply_stays b e is = (counts_all b e (b.decisions == last_decision)).stays is
+
+-- the number of decisions rises just where an event is one
+pub rises : (b : Book) (e : Event) → nat_lt b.decisions (apply b e).book.decisions ≡ is_decision b e
+rises b e = by_case b e (is_decision b e) refl
+    where
+    by_case : (b : Book) (e : Event) (is : Bool) → is_decision b e ≡ is → nat_lt b.decisions (apply b e).book.decisions ≡ is
+    by_case b e true is = ap (nat_lt b.decisions) (apply_raises b e is) ∙ lt-ltb b.decisions (suc b.decisions) (omega arith)
+    by_case b e false is = ap (λ (x : Book). nat_lt b.decisions x.decisions) (apply_stays b e is) ∙ le-ltb b.decisions b.decisions (omega arith)

@@ -1,1 +1,2 @@
 mod Decisions
+mod Kept

@@ -1,4 +1,4 @@
 //! The lease book: which link goes to whom, and the links that wait for it.
 #![tactic(auto)]
 
-pub mod links;
+pub mod history;

@@ -1,0 +1,148 @@
+//! The lists of the lease book with the decisions that led to them: the last 256 are kept, and the older ones are in the base.
+ghost use Rattle.std.specs.Prelude.{◌≡◌, ◌+◌, [], IfOk, length};
+ghost use Rattle.std.specs.Arc.{arc_value};
+ghost use Rattle.book_lists.specs.Book.{empty_book};
+ghost use Rattle.book_lists.specs.Events.{event_of};
+ghost use Rattle.book_lists.specs.Outcomes.{apply};
+ghost use Rattle.book_lists.specs.Replay.{noted, noted_of};
+
+use book_lists::events::{Event, Reply};
+use book_lists::limits::Limits;
+use book_register::lists::Lists;
+use circular_buffer::HeapCircularBuffer;
+use std::alloc::{AllocError, Global};
+use std::marker::Model;
+use std::sync::Arc;
+
+/// So many decisions are kept.
+pub const MOST_KEPT: usize = 256;
+
+/// An event that changed the book, with its reply, and the pass through which it came.
+#[derive(Drop)]
+pub struct Decision {
+    pub pass: u64,
+    pub event: Event,
+    pub reply: Reply,
+}
+
+impl Model for Decision {
+    ghost use Rattle.book_lists.specs.Events.{event_of};
+    ghost use Rattle.book_lists.specs.Replay.{Decision as DecisionOf};
+
+    ghost Value = { DecisionOf };
+
+    ghost view = { λ d. record { pass = d.pass; event = event_of d.event; reply = d.reply } };
+}
+
+/// The last decisions, and the lists that they begin from.
+#[derive(Drop)]
+pub struct History {
+    base: Lists,
+    kept: HeapCircularBuffer<Decision>,
+}
+
+impl Model for History {
+    ghost use Rattle.std.specs.Prelude.{◌≡◌, ◌≤◌, length};
+    ghost use Rattle.book_lists.specs.Replay.{History as HistoryOf, most_kept};
+
+    ghost Value = { HistoryOf };
+
+    ghost view = { λ h. record { base = h.base; kept = h.kept.items } };
+
+    ghost invariant = { λ h. (h.kept.capacity ≡ most_kept) × (length h.kept.items ≤ most_kept) };
+}
+
+impl History {
+    /// A history without decisions, of these lists.
+    fn new(alloc: Global, base: Lists) -> Result<History, AllocError>
+        ensures { IfOk result (λ h. h ≡ record { base = base; kept = [] }) }
+    {
+        let kept = HeapCircularBuffer::with_capacity(alloc, MOST_KEPT)?;
+        Ok(History { base, kept })
+    }
+
+    /// Keeps a decision, and takes no memory: the oldest of more than 256 goes into the base.
+    fn note(&mut self, decision: Decision)
+        ensures { self.new ≡ noted self.old decision }
+    {
+        if let Some(oldest) = self.kept.push_back(decision) {
+            self.base.apply(oldest.event);
+        }
+    }
+}
+
+/// The lists of the lease book, with their history.
+#[derive(Drop)]
+pub struct Register {
+    lists: Lists,
+    history: History,
+}
+
+impl Model for Register {
+    ghost use Rattle.lease_book.specs.Histories.{LeadsTo, RegisterView};
+
+    ghost Value = { RegisterView };
+
+    ghost view = { λ r. record { lists = r.lists; history = r.history } };
+
+    ghost invariant = { λ r. LeadsTo r.history r.lists };
+}
+
+impl Register {
+    /// A register of nobody and nothing, with all its room.
+    ///
+    /// `AllocError` where memory is refused.
+    pub fn new(alloc: Global, limits: Arc<Limits>) -> Result<Register, AllocError>
+        ensures lists { IfOk result (λ r. r.lists ≡ empty_book (arc_value limits)) }
+        ensures history { IfOk result (λ r. r.history ≡ record { base = empty_book (arc_value limits); kept = [] }) }
+    {
+        let base = Lists::new(alloc, Arc::try_clone(&limits)?)?;
+        let history = History::new(alloc, base)?;
+        let lists = Lists::new(alloc, limits)?;
+        Ok(Register { lists, history })
+    }
+
+    /// The same, after so many decisions.
+    pub fn from_count(alloc: Global, limits: Arc<Limits>, decisions: u64) -> Result<Register, AllocError>
+        ensures lists { IfOk result (λ r. r.lists ≡ record (empty_book (arc_value limits)) { decisions = decisions }) }
+        ensures history { IfOk result (λ r. r.history ≡ record { base = record (empty_book (arc_value limits)) { decisions = decisions }; kept = [] }) }
+    {
+        let base = Lists::from_count(alloc, Arc::try_clone(&limits)?, decisions)?;
+        let history = History::new(alloc, base)?;
+        let lists = Lists::from_count(alloc, limits, decisions)?;
+        Ok(Register { lists, history })
+    }
+
+    /// How many decisions stand in the base, and how many are kept.
+    #[tactic(auto, using(crate::proofs::Kept::all_counted))]
+    pub fn kept(&self) -> (u64, usize)
+        ensures base { result.0 ≡ self.now.history.base.decisions }
+        ensures kept { result.1 ≡ length self.now.history.kept }
+        ensures all { result.0 + result.1 ≡ self.now.lists.decisions }
+    {
+        (self.history.base.decisions(), self.history.kept.len())
+    }
+
+    /// What an event makes of the lists, and its reply. A decision is kept. It takes no memory, so the event comes twice: for
+    /// the lists, and for its decision.
+    #[tactic(auto, using(crate::proofs::Kept::leads_on, crate::proofs::Kept::leads_still, crate::proofs::Kept::noted_on, crate::proofs::Kept::noted_still))]
+    pub fn apply(&mut self, pass: u64, event: Event, again: Event) -> Reply
+        requires { event_of again ≡ event_of event }
+        ensures lists { self.new.lists ≡ (apply self.old.lists (event_of event)).book }
+        ensures reply { result ≡ (apply self.old.lists (event_of event)).reply }
+        ensures history { self.new.history ≡ noted_of self.old.lists pass (event_of event) self.old.history }
+    {
+        let before = self.lists.decisions();
+        let reply = self.lists.apply(event);
+        if self.lists.decisions() > before {
+            self.history.note(Decision {
+                pass,
+                event: again,
+                reply,
+            });
+        } else {
+            drop(again);
+        }
+        reply
+    }
+}

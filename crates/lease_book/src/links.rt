@@ -1,4 +1,0 @@
-//! The links that wait.
-
-/// Nothing.
-pub fn nothing() {}
