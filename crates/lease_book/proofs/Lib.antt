@@ -1,2 +1,6 @@
 mod Decisions
 mod Kept
+mod Links
+mod Going
+mod Holding
+mod Returns

@@ -1,15 +1,20 @@
 //! The lists of the lease book with the decisions that led to them: the last 256 are kept, and the older ones are in the base.
-ghost use Rattle.std.specs.Prelude.{◌≡◌, ◌+◌, [], IfOk, length};
+ghost use Rattle.std.specs.Prelude.{◌≡◌, ◌+◌, [], IfOk, cond, length};
 ghost use Rattle.std.specs.Arc.{arc_value};
+ghost use Rattle.std.specs.List.{list_any};
 ghost use Rattle.book_lists.specs.Book.{empty_book};
 ghost use Rattle.book_lists.specs.Events.{event_of};
-ghost use Rattle.book_lists.specs.Outcomes.{apply};
+ghost use Rattle.book_lists.specs.Outcomes.{apply, apply_return, is_started_as};
+ghost use Rattle.book_lists.specs.Outcomes.Event.{GiveBack};
+ghost use Rattle.book_register.specs.Room.{HasRoom};
 ghost use Rattle.book_lists.specs.Replay.{noted, noted_of};
 
 use book_lists::events::{Event, Reply};
 use book_lists::limits::Limits;
 use book_register::lists::Lists;
 use circular_buffer::HeapCircularBuffer;
+use message_view::Refusal;
+use start_keys::StartKey;
 use std::alloc::{AllocError, Global};
 use std::marker::Model;
 use std::sync::Arc;
@@ -93,6 +98,7 @@ impl Register {
     ///
     /// `AllocError` where memory is refused.
     pub fn new(alloc: Global, limits: Arc<Limits>) -> Result<Register, AllocError>
+        ensures room { IfOk result (λ r. HasRoom r.lists) }
         ensures lists { IfOk result (λ r. r.lists ≡ empty_book (arc_value limits)) }
         ensures history { IfOk result (λ r. r.history ≡ record { base = empty_book (arc_value limits); kept = [] }) }
     {
@@ -104,6 +110,7 @@ impl Register {
 
     /// The same, after so many decisions.
     pub fn from_count(alloc: Global, limits: Arc<Limits>, decisions: u64) -> Result<Register, AllocError>
+        ensures room { IfOk result (λ r. HasRoom r.lists) }
         ensures lists { IfOk result (λ r. r.lists ≡ record (empty_book (arc_value limits)) { decisions = decisions }) }
         ensures history { IfOk result (λ r. r.history ≡ record { base = record (empty_book (arc_value limits)) { decisions = decisions }; kept = [] }) }
     {
@@ -123,12 +130,31 @@ impl Register {
         (self.history.base.decisions(), self.history.kept.len())
     }
 
+    /// What a link that is given back makes of the lists, by what it was started as, and the reply. It takes no memory.
+    #[tactic(auto, using(crate::proofs::Returns::return_last, crate::proofs::Returns::return_strange, crate::proofs::Returns::return_own, crate::proofs::Returns::noted_none))]
+    pub fn give_back(&mut self, pass: u64, number: u64, key: &StartKey, born: u64) -> Reply
+        ensures room { HasRoom self.old.lists → HasRoom self.new.lists }
+        ensures lists { self.new.lists ≡ (apply_return self.old.lists number key.now born).book }
+        ensures reply { result ≡ (apply_return self.old.lists number key.now born).reply }
+        ensures history { self.new.history ≡ cond (list_any (is_started_as number key.now born) self.old.lists.lent) (noted_of self.old.lists pass (GiveBack number) self.old.history) self.old.history }
+    {
+        if self.lists.decisions() == u64::MAX {
+            return Reply::Refuse(Refusal::LastDecision);
+        }
+        if !self.lists.is_lent_as(number, key, born) {
+            return Reply::Stranger;
+        }
+        let event = Event::GiveBack { link: number };
+        self.apply(pass, event, Event::GiveBack { link: number })
+    }
+
     /// What an event makes of the lists, and its reply. A decision is kept. It takes no memory, so the event comes twice: for
     /// the lists, and for its decision.
     #[tactic(auto, using(crate::proofs::Kept::leads_on, crate::proofs::Kept::leads_still, crate::proofs::Kept::noted_on, crate::proofs::Kept::noted_still))]
     pub fn apply(&mut self, pass: u64, event: Event, again: Event) -> Reply
         requires { event_of again ≡ event_of event }
         ensures lists { self.new.lists ≡ (apply self.old.lists (event_of event)).book }
+        ensures room { HasRoom self.new.lists }
         ensures reply { result ≡ (apply self.old.lists (event_of event)).reply }
         ensures history { self.new.history ≡ noted_of self.old.lists pass (event_of event) self.old.history }
     {

@@ -1,0 +1,196 @@
+-- A link that is given back.
+use Rattle.std.proofs.Common.{◌≡◌, ℕ, suc, zero, ◌+◌, ◌≤◌, ◌<◌, List, [], ◌∷◌, ◌++◌, Bool, true, false, cond, Option, None, Some, length, map, refl, sym, ap, ◌∙◌, subst, arith, length-append}
+use Rattle.std.specs.Prelude.{find, filter, not, ◌==◌, ◌&&◌, ◌||◌, count_by}
+use Rattle.std.specs.List.{list_any}
+use Rattle.std.proofs.lemmas.Bool.{eqb-true, eq-eqb}
+use Rattle.std.proofs.lemmas.List.{map-append}
+use Rattle.message_view.specs.declared.refusal.Refusal.TheVariants.{LastDecision}
+use Rattle.session_values.specs.State.{StartKeyOf}
+use Rattle.start_keys.specs.Keys.{same_key}
+use Rattle.start_keys.specs.SameKeys.{same_keys-one}
+use Rattle.link_run.specs.Links.{LinkView}
+use Rattle.book_lists.specs.Book.{Book, Link, is_link, link_count, without}
+use Rattle.book_lists.specs.declared.limits.TheConstants.{MOST_LINKS}
+use Rattle.book_lists.specs.Outcomes.{Answer, Event, apply, apply_return, outcome, decided, counted, gives_back, is_crowded, is_old, is_started_as, is_strange, kind_of, last_decision, loses}
+use Rattle.book_lists.specs.Outcomes.Event.{GiveBack}
+use Rattle.book_lists.specs.Replay.{History, is_a_kind, is_decision, noted, noted_of}
+use Rattle.book_lists.specs.declared.counts.Kind.{Kind}
+use Rattle.book_lists.specs.declared.events.Reply.{Reply}
+use Rattle.book_lists.specs.declared.events.Reply.TheVariants.{Close, Done, Refuse, Stranger}
+use Rattle.book_register.specs.Room.{HasRoom}
+use Rattle.lease_book.specs.Links.{HoldsLinks, Started, idle_with, handed_back, is_done, listed, may_hand_back, started}
+use Rattle.lease_book.proofs.Links.{count-cons, none_counted, none_of, or_left, or_right}
+
+-- ---- the three ways
+
+pub return_last : (b : Book) (n : ℕ) (key : StartKeyOf) (born : ℕ) → (b.decisions == last_decision) ≡ true → apply_return b n key born ≡ record { book = b; reply = Refuse LastDecision }
+unfolding apply_return
+return_last b n key born e = ap (λ (x : Bool). cond {A = Answer} x (record { book = b; reply = Refuse LastDecision }) (cond (list_any (is_started_as n key born) b.lent) (apply b (GiveBack n)) (record { book = b; reply = Stranger }))) e
+
+pub return_strange : (b : Book) (n : ℕ) (key : StartKeyOf) (born : ℕ) → (b.decisions == last_decision) ≡ false → list_any (is_started_as n key born) b.lent ≡ false → apply_return b n key born ≡ record { book = b; reply = Stranger }
+unfolding apply_return
+return_strange b n key born e s =
+    ap (λ (x : Bool). cond {A = Answer} x (record { book = b; reply = Refuse LastDecision }) (cond (list_any (is_started_as n key born) b.lent) (apply b (GiveBack n)) (record { book = b; reply = Stranger }))) e
+    ∙ ap (λ (x : Bool). cond {A = Answer} x (apply b (GiveBack n)) (record { book = b; reply = Stranger })) s
+
+pub return_own : (b : Book) (n : ℕ) (key : StartKeyOf) (born : ℕ) → (b.decisions == last_decision) ≡ false → list_any (is_started_as n key born) b.lent ≡ true → apply_return b n key born ≡ apply b (GiveBack n)
+unfolding apply_return
+return_own b n key born e s =
+    ap (λ (x : Bool). cond {A = Answer} x (record { book = b; reply = Refuse LastDecision }) (cond (list_any (is_started_as n key born) b.lent) (apply b (GiveBack n)) (record { book = b; reply = Stranger }))) e
+    ∙ ap (λ (x : Bool). cond {A = Answer} x (apply b (GiveBack n)) (record { book = b; reply = Stranger })) s
+
+-- nothing is kept of an event after the last decision
+pub noted_none : (b : Book) (pass : ℕ) (e : Event) (h : History) (own : Bool) → (b.decisions == last_decision) ≡ true → h ≡ cond own (noted_of b pass e h) h
+noted_none b pass e h false l = refl
+noted_none b pass e h true l =
+    let none : is_decision b e ≡ false = ap (λ (x : Bool). not x && (not (is_strange b e) && is_a_kind (kind_of b e (outcome b e).reply))) l in
+    sym (ap (λ (x : Bool). cond x (noted h (record { pass = pass; event = e; reply = (apply b e).reply })) h) none)
+
+pub same_number : (m n : ℕ) → (m == n) ≡ true → n ≡ m
+same_number m n e = sym (eqb-true m n e)
+
+-- ---- the link that is found is the one that was started so
+
+abbrev is_it : ℕ → StartKeyOf → ℕ → Option Link → Type 0
+is_it n key born None = ⊥
+is_it n key born (Some l) = is_started_as n key born l ≡ true
+
+and_left : (a b : Bool) → (a && b) ≡ true → a ≡ true
+and_left true b e = refl
+and_left false b e = e
+
+and_right : (a b : Bool) → (a && b) ≡ true → b ≡ true
+and_right true b e = e
+and_right false b e = cc
+
+or_one : (a b : Bool) → (a || b) ≡ true → b ≡ false → a ≡ true
+or_one true b e f = refl
+or_one false b e f = cc
+
+started_numbered : (n : ℕ) (key : StartKeyOf) (born : ℕ) (ls : List Link) → list_any (is_link n) ls ≡ false → list_any (is_started_as n key born) ls ≡ false
+started_numbered n key born [] e = refl
+started_numbered n key born (l ∷ ls) e =
+    let here : is_started_as n key born l ≡ false = ap (λ (x : Bool). x && (same_key l.key key && l.born == born)) (or_left (is_link n l) _ e) in
+    ap (λ (x : Bool). x || list_any (is_started_as n key born) ls) here ∙ started_numbered n key born ls (or_right (is_link n l) _ e)
+
+none_any : (p : Link → Bool) (ls : List Link) → count_by p ls ≡ 0 → list_any p ls ≡ false
+none_any p [] h = refl
+none_any p (l ∷ ls) h =
+    let at = none_of (p l) (count_by p ls) (sym (count-cons p l ls) ∙ h) in
+    ap (λ (x : Bool). x || list_any p ls) at.0 ∙ none_any p ls at.1
+
+zero_left : (m : ℕ) → cond {A = ℕ} true 1 0 + m ≤ 1 → m ≡ 0
+zero_left m h = omega arith
+
+less_left : (m : ℕ) → cond {A = ℕ} false 1 0 + m ≤ 1 → m ≤ 1
+less_left m h = omega arith
+
+found_it : (n : ℕ) (key : StartKeyOf) (born : ℕ) (ls : List Link) → count_by (is_link n) ls ≤ 1 → list_any (is_started_as n key born) ls ≡ true → is_it n key born (find (is_link n) ls)
+found_it n key born [] once any = cc
+found_it n key born (l ∷ ls) once any = at (is_link n l) refl (subst (λ (k : ℕ). k ≤ 1) (count-cons (is_link n) l ls) once) (λ h k. found_it n key born ls h k)
+    where
+    at : (b : Bool) → is_link n l ≡ b → cond {A = ℕ} (is_link n l) 1 0 + count_by (is_link n) ls ≤ 1 → (count_by (is_link n) ls ≤ 1 → list_any (is_started_as n key born) ls ≡ true → is_it n key born (find (is_link n) ls)) → is_it n key born (cond b (Some l) (find (is_link n) ls))
+    at true is once later =
+        let zero : count_by (is_link n) ls ≡ 0 = zero_left (count_by (is_link n) ls) (subst (λ (x : Bool). cond {A = ℕ} x 1 0 + count_by (is_link n) ls ≤ 1) is once) in
+        or_one (is_started_as n key born l) (list_any (is_started_as n key born) ls) any (started_numbered n key born ls (none_any (is_link n) ls zero))
+    at false is once later =
+        let few : count_by (is_link n) ls ≤ 1 = less_left (count_by (is_link n) ls) (subst (λ (x : Bool). cond {A = ℕ} x 1 0 + count_by (is_link n) ls ≤ 1) is once) in
+        let not_here : is_started_as n key born l ≡ false = ap (λ (x : Bool). x && (same_key l.key key && l.born == born)) is in
+        later few (sym (ap (λ (x : Bool). x || list_any (is_started_as n key born) ls) not_here) ∙ any)
+
+listed_is : (n : ℕ) (key : StartKeyOf) (born : ℕ) (l : Link) → is_started_as n key born l ≡ true → listed l ≡ record { number = n; key = key; born = born }
+listed_is n key born l e =
+    let number : l.number ≡ n = eqb-true l.number n (and_left (is_link n l) _ e) in
+    let both = and_right (is_link n l) _ e in
+    let its_key : l.key ≡ key = (same_keys-one l.key key).0 (and_left (same_key l.key key) _ both) in
+    let its_born : l.born ≡ born = eqb-true l.born born (and_right (same_key l.key key) _ both) in
+    λ i. record { number = number i; key = its_key i; born = its_born i }
+
+-- ---- what becomes of the idle list
+
+pub record Returned (b : Book) (n : ℕ) (key : StartKeyOf) (born : ℕ) (a : Answer) : Type 0 where
+  pub kept : is_done a.reply ≡ true → map listed a.book.idle ≡ map listed b.idle ++ record { number = n; key = key; born = born } ∷ []
+  pub stays : is_done a.reply ≡ false → a.book.idle ≡ b.idle
+  pub hands_back : is_done a.reply ≡ false → may_hand_back n a.reply ≡ true
+
+both : (Q : Answer → Type 0) (b : Bool) (x y : Answer) → Q x → Q y → Q (cond b x y)
+both Q true x y p q = p
+both Q false x y p q = q
+
+returned_refused : (b : Book) (n : ℕ) (key : StartKeyOf) (born : ℕ) → Returned b n key born (record { book = b; reply = Refuse LastDecision })
+returned_refused b n key born = record { kept = λ e. cc; stays = λ e. refl; hands_back = λ e. refl }
+
+returned_strange : (b : Book) (n : ℕ) (key : StartKeyOf) (born : ℕ) → Returned b n key born (record { book = b; reply = Stranger })
+returned_strange b n key born = record { kept = λ e. cc; stays = λ e. refl; hands_back = λ e. refl }
+
+returned_gives : (b : Book) (n : ℕ) (key : StartKeyOf) (born : ℕ) (o : Option Link) → is_it n key born o → Returned b n key born (gives_back b o)
+returned_gives b n key born None it = absurd it
+returned_gives b n key born (Some l) it =
+    let closed : Answer = record { book = loses b l.number; reply = Close l.number } in
+    let done : Answer = record { book = record (loses b l.number) { idle = b.idle ++ record l { since = b.clock } ∷ [] }; reply = Done } in
+    both (Returned b n key born) (is_old b l || is_crowded b l) closed done
+      (record { kept = λ e. cc; stays = λ e. refl; hands_back = λ e. and_left (is_link n l) _ it })
+      (record { kept = λ e. map-append listed b.idle (record l { since = b.clock } ∷ []) ∙ ap (λ (s : Started). map listed b.idle ++ s ∷ []) (listed_is n key born l it); stays = λ e. cc; hands_back = λ e. cc })
+
+counted_idle : (b : Book) (k : Option Kind) → (counted b k).idle ≡ b.idle
+counted_idle b None = refl
+counted_idle b (Some k) = refl
+
+returned_decided : (b : Book) (n : ℕ) (key : StartKeyOf) (born : ℕ) (a : Answer) → Returned b n key born a → Returned b n key born (decided b (GiveBack n) a)
+returned_decided b n key born a r =
+    let same = counted_idle a.book (kind_of b (GiveBack n) a.reply) in
+    record { kept = λ e. ap (map listed) same ∙ r.kept e; stays = λ e. same ∙ r.stays e; hands_back = r.hands_back }
+
+returned_apply : (b : Book) (n : ℕ) (key : StartKeyOf) (born : ℕ) → HasRoom b → list_any (is_started_as n key born) b.lent ≡ true → Returned b n key born (apply b (GiveBack n))
+unfolding apply
+returned_apply b n key born room any =
+    both (Returned b n key born) (b.decisions == last_decision) _ _ (returned_refused b n key born)
+    (both (Returned b n key born) (is_strange b (GiveBack n)) _ _ (returned_strange b n key born)
+    (returned_decided b n key born (gives_back b (find (is_link n) b.lent)) (returned_gives b n key born (find (is_link n) b.lent) (found_it n key born b.lent (once_lent b n room) any))))
+    where
+    once_lent : (x : Book) (m : ℕ) → HasRoom x → count_by (is_link m) x.lent ≤ 1
+    once_lent x m r = omega (arith, r.once m)
+
+returned_own : (b : Book) (n : ℕ) (key : StartKeyOf) (born : ℕ) (own : Bool) → list_any (is_started_as n key born) b.lent ≡ own → HasRoom b → Returned b n key born (cond own (apply b (GiveBack n)) (record { book = b; reply = Stranger }))
+returned_own b n key born true any room = returned_apply b n key born room any
+returned_own b n key born false any room = returned_strange b n key born
+
+returned : (b : Book) (n : ℕ) (key : StartKeyOf) (born : ℕ) → HasRoom b → Returned b n key born (apply_return b n key born)
+unfolding apply_return
+returned b n key born room =
+    both (Returned b n key born) (b.decisions == last_decision) _ _ (returned_refused b n key born) (returned_own b n key born (list_any (is_started_as n key born) b.lent) refl room)
+
+-- ---- as the book goes on
+
+pub may_be_handed : (idle : List LinkView) (b : Book) (l : LinkView) (told : Reply) → HoldsLinks idle b → told ≡ (apply_return b l.number l.key l.born).reply → is_done told ≡ false → may_hand_back l.number told ≡ true
+may_be_handed idle b l told h is d =
+    let r = returned b l.number l.key l.born h.room in
+    subst (λ (x : Reply). may_hand_back l.number x ≡ true) (sym is) (r.hands_back (subst (λ (x : Reply). is_done x ≡ false) is d))
+
+pub still_holds : (idle : List LinkView) (b lists : Book) (l : LinkView) (told : Reply) → HoldsLinks idle b → lists ≡ (apply_return b l.number l.key l.born).book → told ≡ (apply_return b l.number l.key l.born).reply → is_done told ≡ false → (HasRoom b → HasRoom lists) → HoldsLinks idle lists
+still_holds idle b lists l told h new is d room =
+    let r = returned b l.number l.key l.born h.room in
+    record { same = h.same ∙ ap (map listed) (sym (ap (λ (x : Book). x.idle) new ∙ r.stays (subst (λ (x : Reply). is_done x ≡ false) is d))); room = room h.room }
+
+pub holds_one_more : (idle next : List LinkView) (b lists : Book) (l : LinkView) (told : Reply) → HoldsLinks idle b → lists ≡ (apply_return b l.number l.key l.born).book → told ≡ (apply_return b l.number l.key l.born).reply → is_done told ≡ true → (HasRoom b → HasRoom lists) → next ≡ idle ++ l ∷ [] → HoldsLinks next lists
+holds_one_more idle next b lists l told h new is d room n =
+    let r = returned b l.number l.key l.born h.room in
+    let grown : map listed lists.idle ≡ map listed b.idle ++ started l ∷ [] = ap (λ (x : Book). map listed x.idle) new ∙ r.kept (subst (λ (x : Reply). is_done x ≡ true) is d) in
+    record { same = ap (map started) n ∙ map-append started idle (l ∷ []) ∙ ap (λ (s : List Started). s ++ started l ∷ []) h.same ∙ sym grown; room = room h.room }
+
+length_seen : {X : Type 0} (f : X → Started) (xs : List X) → length (map f xs) ≡ length xs
+length_seen f [] = refl
+length_seen f (x ∷ xs) = ap suc (length_seen f xs)
+
+pub has_place : (idle : List LinkView) (b lists : Book) (l : LinkView) (told : Reply) → HoldsLinks idle b → lists ≡ (apply_return b l.number l.key l.born).book → told ≡ (apply_return b l.number l.key l.born).reply → is_done told ≡ true → (HasRoom b → HasRoom lists) → length idle < MOST_LINKS
+has_place idle b lists l told h new is d room =
+    let next = holds_one_more idle (idle ++ l ∷ []) b lists l told h new is d room refl in
+    let size : length (idle ++ l ∷ []) ≡ length lists.idle = sym (length_seen started (idle ++ l ∷ [])) ∙ ap length next.same ∙ length_seen listed lists.idle in
+    omega (arith, size, length-append idle (l ∷ []), next.room.room)
+
+pub done_kept : (l : LinkView) (told : Reply) (idle : List LinkView) → is_done told ≡ true → (told ≡ Done) × (idle_with l told idle ≡ idle ++ l ∷ []) × (handed_back l told ≡ None)
+done_kept l told idle e =
+    elim told as (λ t. is_done t ≡ true → (t ≡ Done) × (idle_with l t idle ≡ idle ++ l ∷ []) × (handed_back l t ≡ None)) [
+      Done ↦ λ k. (refl, refl, refl)
+      | _ ↦ λ k. cc
+    ] e

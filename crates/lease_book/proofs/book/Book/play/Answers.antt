@@ -1,0 +1,13 @@
+use Rattle.std.proofs.Common.{rules}
+use Rattle.book_lists.specs.Events.{event_of}
+use Rattle.lease_book.proofs.Holding.{holds_after, named_after, once_idle}
+use Rattle.lease_book.proofs.book.Book.play.Goals as goal
+
+pub take-link-requires : goal.take-link-requires
+take-link-requires g c = record { once = once_idle c.self.inside.idle c.self.inside.register.lists c.self.invariant }
+
+pub reply_with-requires : goal.reply_with-requires
+reply_with-requires g c = named_after c.self.inside.idle c.self.inside.register.lists (event_of c.args.event) c.apply-told.result c.take-link.result c.self.invariant c.requires.brings_none c.apply-told.ensures.reply (search rules)
+
+pub invariant_of-self : goal.invariant_of-self
+invariant_of-self g c = holds_after c.self.inside.idle c.take-link.new.self c.self.inside.register.lists c.apply-told.new.self.lists (event_of c.args.event) c.apply-told.result c.self.invariant c.requires.brings_none c.apply-told.ensures.lists c.apply-told.ensures.reply c.apply-told.ensures.room (search rules)

@@ -1,0 +1,154 @@
+-- Events and replies that carry links, and what becomes of the links that are idle.
+use Rattle.std.specs.Prelude.{◌≡◌, ℕ, Bool, true, false, List, [], ◌∷◌, ◌++◌, Option, Some, None, not, cond, ◌==◌, map, filter, find}
+use Rattle.std.specs.Arc.{arc_value}
+use Rattle.std.specs.List.{list_any}
+use Rattle.session_values.specs.State.{StartKeyOf}
+use Rattle.link_run.specs.Links.{LinkView}
+use Rattle.book_lists.specs.Book.{Book, Link}
+use Rattle.book_lists.specs.Outcomes.{Answer, apply, apply_return, is_started_as}
+use Rattle.book_lists.specs.Outcomes.{Event as ListsEvent}
+use Rattle.book_lists.specs.Outcomes.Event.{Arrive, Ask, Take, GiveBack, Lost, StartFailed, Leave, Tick, NewLimits, Pause, Resume, Shutdown}
+use Rattle.book_lists.specs.Replay.{History, noted_of}
+use Rattle.book_lists.specs.declared.events.Reply.{Reply as ListsReply}
+use Rattle.book_lists.specs.declared.events.Reply.TheVariants as told
+use Rattle.book_register.specs.Room.{HasRoom}
+use Rattle.lease_book.specs.declared.events.Event.{Event}
+use Rattle.lease_book.specs.declared.events.Event.TheVariants as event
+use Rattle.lease_book.specs.declared.events.Reply.{Reply}
+use Rattle.lease_book.specs.declared.events.Reply.TheVariants as reply
+
+-- the lists and their history, and the idle links in the order of their return
+pub record BookOf : Type 0 where
+  pub lists : Book
+  pub history : History
+  pub idle : List LinkView
+
+-- ---- the links that are idle
+
+-- what a link was started as
+pub record Started : Type 0 where
+  pub number : ℕ
+  pub key : StartKeyOf
+  pub born : ℕ
+
+abbrev pub started : LinkView → Started
+started l = record { number = l.number; key = l.key; born = l.born }
+
+abbrev pub listed : Link → Started
+listed l = record { number = l.number; key = l.key; born = l.born }
+
+-- the links are those of the idle list, in its order
+pub record HoldsLinks (idle : List LinkView) (lists : Book) : Type 0 where
+  pub same : map started idle ≡ map listed lists.idle
+  pub room : HasRoom lists
+
+abbrev pub is_numbered : ℕ → LinkView → Bool
+is_numbered n l = l.number == n
+
+-- the links without that of this number, and that link
+abbrev pub left : Option ℕ → List LinkView → List LinkView
+left None links = links
+left (Some n) links = filter (λ l. not (is_numbered n l)) links
+
+abbrev pub found : Option ℕ → List LinkView → Option LinkView
+found None links = None
+found (Some n) links = find (is_numbered n) links
+
+-- ---- events and replies by numbers
+
+-- the number of the idle link that goes out with a reply
+abbrev pub goes_out : ListsReply → Option ℕ
+goes_out (told.Lend n) = Some n
+goes_out (told.Close n) = Some n
+goes_out (told.Start n born evicted) = evicted
+goes_out _ = None
+
+abbrev pub is_done : ListsReply → Bool
+is_done told.Done = true
+is_done _ = false
+
+-- a link that is given back is kept where the reply is Done, and else handed back
+abbrev pub idle_with : LinkView → ListsReply → List LinkView → List LinkView
+idle_with l r idle = cond (is_done r) (idle ++ l ∷ []) idle
+
+abbrev pub handed_back : LinkView → ListsReply → Option LinkView
+handed_back l r = cond (is_done r) None (Some l)
+
+-- the replies to a link that is given back and isn't kept
+abbrev pub may_hand_back : ℕ → ListsReply → Bool
+may_hand_back n (told.Close m) = m == n
+may_hand_back n (told.Refuse refusal) = true
+may_hand_back n told.Stranger = true
+may_hand_back n _ = false
+
+-- a link comes with this event
+abbrev pub is_return : ListsEvent → Bool
+is_return (GiveBack n) = true
+is_return _ = false
+
+abbrev pub number_of : Option LinkView → Option ℕ
+number_of None = None
+number_of (Some l) = Some l.number
+
+module _ {E : Type 0} where
+  abbrev pub plain : Event E → ListsEvent
+  plain event.Arrive = Arrive
+  plain (event.Ask client key again) = Ask client (arc_value key)
+  plain (event.Take client) = Take client
+  plain (event.GiveBack link) = GiveBack link.number
+  plain (event.Lost n) = Lost n
+  plain (event.StartFailed n) = StartFailed n
+  plain (event.Leave client) = Leave client
+  plain (event.Tick now) = Tick now
+  plain (event.Limits limits again) = NewLimits (arc_value limits)
+  plain event.Pause = Pause
+  plain event.Resume = Resume
+  plain event.Shutdown = Shutdown
+
+  -- both copies of a key, or of limits, are of the same value
+  abbrev pub IsTwice : Event E → Type 0
+  IsTwice (event.Ask client key again) = arc_value again ≡ arc_value key
+  IsTwice (event.Limits limits again) = arc_value again ≡ arc_value limits
+  IsTwice _ = Unit {0}
+
+  abbrev pub reply_of : Reply E → ListsReply
+  reply_of (reply.Client n) = told.Arrived n
+  reply_of (reply.Queued n) = told.Queued n
+  reply_of (reply.Lend l) = told.Lend l.number
+  reply_of (reply.Start n born evicted) = told.Start n born (number_of evicted)
+  reply_of (reply.Close l) = told.Close l.number
+  reply_of (reply.Refuse refusal back) = told.Refuse refusal
+  reply_of reply.Done = told.Done
+  reply_of (reply.Stranger back) = told.Stranger
+
+  -- the link that comes with a reply
+  abbrev pub handed : Reply E → Option LinkView
+  handed (reply.Lend l) = Some l
+  handed (reply.Start n born evicted) = evicted
+  handed (reply.Close l) = Some l
+  handed (reply.Refuse refusal back) = back
+  handed (reply.Stranger back) = back
+  handed _ = None
+
+  -- ---- what an event does
+
+  -- a link that is given back is one that was started as this
+  abbrev pub is_own : Book → Event E → Bool
+  is_own b (event.GiveBack l) = list_any (is_started_as l.number l.key l.born) b.lent
+  is_own b _ = true
+
+  abbrev pub answered : Book → Event E → Answer
+  answered b (event.GiveBack l) = apply_return b l.number l.key l.born
+  answered b e = apply b (plain e)
+
+  abbrev pub history_after : Book → ℕ → Event E → History → History
+  history_after b pass e h = cond (is_own b e) (noted_of b pass (plain e) h) h
+
+  -- the idle links after an event with this reply, and the link that comes with the reply
+  abbrev pub idle_after : Event E → ListsReply → List LinkView → List LinkView
+  idle_after (event.GiveBack l) r idle = idle_with l r idle
+  idle_after e r idle = left (goes_out r) idle
+
+  abbrev pub handed_after : Event E → ListsReply → List LinkView → Option LinkView
+  handed_after (event.GiveBack l) r idle = handed_back l r
+  handed_after e r idle = found (goes_out r) idle

@@ -1,0 +1,198 @@
+//! The lease book, with its idle links.
+ghost use Rattle.std.specs.Prelude.{◌≡◌, ◌+◌, [], ◌∷◌, ◌++◌, IfOk, Some, cond, false, true, length};
+ghost use Rattle.std.specs.Arc.{arc_value};
+ghost use Rattle.book_lists.specs.Book.{empty_book};
+ghost use Rattle.book_lists.specs.Events.{event_of};
+ghost use Rattle.book_lists.specs.Outcomes.{apply, apply_return, is_started_as};
+ghost use Rattle.book_lists.specs.Outcomes.Event.{GiveBack};
+ghost use Rattle.std.specs.List.{list_any};
+ghost use Rattle.book_lists.specs.Replay.{noted_of};
+ghost use Rattle.lease_book.specs.Links.{answered, found, goes_out, handed, handed_after, handed_back, history_after, idle_after, idle_with, is_done, is_return, IsTwice, left, may_hand_back, number_of, reply_of};
+
+use crate::events::{Event, Reply};
+use crate::history::Register;
+use crate::idle::IdleLinks;
+use book_lists::events as lists;
+use book_lists::limits::Limits;
+use link_run::links::CleanLink;
+use server_end::ServerEnd;
+use std::alloc::{AllocError, Global};
+use std::marker::Model;
+use std::sync::Arc;
+
+/// The number of the idle link that goes out with a reply.
+fn goes_out(told: lists::Reply) -> Option<u64>
+    ensures { result ≡ goes_out told }
+{
+    match told {
+        lists::Reply::Lend(link) => Some(link),
+        lists::Reply::Close(link) => Some(link),
+        lists::Reply::Start { evicted, .. } => evicted,
+        _ => None,
+    }
+}
+
+/// The reply, with the link that goes out with it.
+fn reply_with<E: ServerEnd>(told: lists::Reply, link: Option<CleanLink<E>>) -> Reply<E>
+    requires { number_of link ≡ goes_out told }
+    ensures reply { reply_of result ≡ told }
+    ensures link { handed result ≡ link }
+{
+    match (told, link) {
+        (lists::Reply::Lend(_), Some(link)) => Reply::Lend(link),
+        (lists::Reply::Close(_), Some(link)) => Reply::Close(link),
+        (lists::Reply::Start { link, born, .. }, evicted) => Reply::Start {
+            number: link,
+            born,
+            evicted,
+        },
+        (lists::Reply::Arrived(client), _) => Reply::Client(client),
+        (lists::Reply::Queued(before), _) => Reply::Queued(before),
+        (lists::Reply::Refuse(refusal), _) => Reply::Refuse(refusal, None),
+        (lists::Reply::Done, _) => Reply::Done,
+        (lists::Reply::Stranger, _) => Reply::Stranger(None),
+        _ => unreachable!(),
+    }
+}
+
+/// Whether a link that was given back is kept.
+fn is_done(told: lists::Reply) -> bool
+    ensures { result ≡ is_done told }
+{
+    match told {
+        lists::Reply::Done => true,
+        _ => false,
+    }
+}
+
+/// The reply, with the link that is handed back.
+#[tactic(auto, using(crate::proofs::Returns::same_number))]
+fn back_with<E: ServerEnd>(told: lists::Reply, link: CleanLink<E>) -> Reply<E>
+    requires { may_hand_back link.number told ≡ true }
+    ensures reply { reply_of result ≡ told }
+    ensures link { handed result ≡ Some link }
+{
+    match told {
+        lists::Reply::Close(_) => Reply::Close(link),
+        lists::Reply::Refuse(refusal) => Reply::Refuse(refusal, Some(link)),
+        lists::Reply::Stranger => Reply::Stranger(Some(link)),
+        _ => unreachable!(),
+    }
+}
+
+/// The lease book: the lists with their history, and the idle links.
+#[derive(Drop)]
+pub struct Book<E: ServerEnd> {
+    register: Register,
+    idle: IdleLinks<E>,
+}
+
+impl<E: ServerEnd> Model for Book<E> {
+    ghost use Rattle.lease_book.specs.Links.{BookOf, HoldsLinks};
+
+    ghost Value = { BookOf };
+
+    ghost view = { λ b. record { lists = b.register.lists; history = b.register.history; idle = b.idle } };
+
+    ghost invariant = { λ b. HoldsLinks b.idle b.register.lists };
+}
+
+impl<E: ServerEnd> Book<E> {
+    /// An empty book, with room for all that it may hold.
+    ///
+    /// `AllocError` where memory is refused.
+    pub fn new(alloc: Global, limits: Arc<Limits>) -> Result<Book<E>, AllocError>
+        ensures lists { IfOk result (λ b. b.lists ≡ empty_book (arc_value limits)) }
+        ensures history { IfOk result (λ b. b.history ≡ record { base = empty_book (arc_value limits); kept = [] }) }
+        ensures idle { IfOk result (λ b. b.idle ≡ []) }
+    {
+        let register = Register::new(alloc, limits)?;
+        let idle = IdleLinks::new(alloc)?;
+        Ok(Book { register, idle })
+    }
+
+    /// The same, after so many decisions.
+    pub fn from_count(alloc: Global, limits: Arc<Limits>, decisions: u64) -> Result<Book<E>, AllocError>
+        ensures lists { IfOk result (λ b. b.lists ≡ record (empty_book (arc_value limits)) { decisions = decisions }) }
+        ensures history { IfOk result (λ b. b.history ≡ record { base = record (empty_book (arc_value limits)) { decisions = decisions }; kept = [] }) }
+        ensures idle { IfOk result (λ b. b.idle ≡ []) }
+    {
+        let register = Register::from_count(alloc, limits, decisions)?;
+        let idle = IdleLinks::new(alloc)?;
+        Ok(Book { register, idle })
+    }
+
+    /// How many decisions stand in the base, and how many are kept.
+    pub fn kept(&self) -> (u64, usize)
+        ensures base { result.0 ≡ self.now.history.base.decisions }
+        ensures kept { result.1 ≡ length self.now.history.kept }
+        ensures all { result.0 + result.1 ≡ self.now.lists.decisions }
+    {
+        self.register.kept()
+    }
+
+    /// An event with no link.
+    fn play(&mut self, pass: u64, event: lists::Event, again: lists::Event) -> Reply<E>
+        requires same { event_of again ≡ event_of event }
+        requires brings_none { is_return (event_of event) ≡ false }
+        ensures lists { self.new.lists ≡ (apply self.old.lists (event_of event)).book }
+        ensures history { self.new.history ≡ noted_of self.old.lists pass (event_of event) self.old.history }
+        ensures reply { reply_of result ≡ (apply self.old.lists (event_of event)).reply }
+        ensures idle { self.new.idle ≡ left (goes_out (apply self.old.lists (event_of event)).reply) self.old.idle }
+        ensures handed { handed result ≡ found (goes_out (apply self.old.lists (event_of event)).reply) self.old.idle }
+    {
+        let told = self.register.apply(pass, event, again);
+        let link = self.idle.take(goes_out(told));
+        reply_with(told, link)
+    }
+
+    /// A link comes back.
+    #[tactic(auto, using(crate::proofs::Returns::done_kept))]
+    fn give_back(&mut self, pass: u64, link: CleanLink<E>) -> Reply<E>
+        ensures lists { self.new.lists ≡ (apply_return self.old.lists link.number link.key link.born).book }
+        ensures history { self.new.history ≡ cond (list_any (is_started_as link.number link.key link.born) self.old.lists.lent) (noted_of self.old.lists pass (GiveBack link.number) self.old.history) self.old.history }
+        ensures reply { reply_of result ≡ (apply_return self.old.lists link.number link.key link.born).reply }
+        ensures idle { self.new.idle ≡ idle_with link (apply_return self.old.lists link.number link.key link.born).reply self.old.idle }
+        ensures handed { handed result ≡ handed_back link (apply_return self.old.lists link.number link.key link.born).reply }
+    {
+        let told = self.register.give_back(pass, link.number(), link.key(), link.born());
+        if is_done(told) {
+            self.idle.push(link);
+            return Reply::Done;
+        }
+        back_with(told, link)
+    }
+
+    /// What an event makes of the book, and its reply. It takes no memory.
+    pub fn apply(&mut self, pass: u64, event: Event<E>) -> Reply<E>
+        requires { IsTwice event }
+        ensures lists { self.new.lists ≡ (answered self.old.lists event).book }
+        ensures history { self.new.history ≡ history_after self.old.lists pass event self.old.history }
+        ensures reply { reply_of result ≡ (answered self.old.lists event).reply }
+        ensures idle { self.new.idle ≡ idle_after event (answered self.old.lists event).reply self.old.idle }
+        ensures handed { handed result ≡ handed_after event (answered self.old.lists event).reply self.old.idle }
+    {
+        match event {
+            Event::Arrive => self.play(pass, lists::Event::Arrive, lists::Event::Arrive),
+            Event::Ask { client, key, again } => self.play(
+                pass,
+                lists::Event::Ask { client, key },
+                lists::Event::Ask { client, key: again },
+            ),
+            Event::Take { client } => self.play(pass, lists::Event::Take { client }, lists::Event::Take { client }),
+            Event::GiveBack(link) => self.give_back(pass, link),
+            Event::Lost { number } => self.play(pass, lists::Event::Lost { link: number }, lists::Event::Lost { link: number }),
+            Event::StartFailed { number } => self.play(
+                pass,
+                lists::Event::StartFailed { link: number },
+                lists::Event::StartFailed { link: number },
+            ),
+            Event::Leave { client } => self.play(pass, lists::Event::Leave { client }, lists::Event::Leave { client }),
+            Event::Tick { now } => self.play(pass, lists::Event::Tick { now }, lists::Event::Tick { now }),
+            Event::Limits(limits, again) => self.play(pass, lists::Event::Limits(limits), lists::Event::Limits(again)),
+            Event::Pause => self.play(pass, lists::Event::Pause, lists::Event::Pause),
+            Event::Resume => self.play(pass, lists::Event::Resume, lists::Event::Resume),
+            Event::Shutdown => self.play(pass, lists::Event::Shutdown, lists::Event::Shutdown),
+        }
+    }
+}

@@ -1,0 +1,64 @@
+//! What can happen to the lease book, and what it answers, with the links themselves.
+use book_lists::limits::Limits;
+use link_run::links::CleanLink;
+use message_view::Refusal;
+use server_end::ServerEnd;
+use start_keys::StartKey;
+use std::sync::Arc;
+
+/// What happens to the book. Seconds are those of the pooler's clock. The book takes no memory, so what it keeps twice comes twice.
+#[derive(Drop)]
+pub enum Event<E: ServerEnd> {
+    /// A client has come.
+    Arrive,
+    /// A client that is through its login asks for a link of this key.
+    Ask {
+        client: u64,
+        key: Arc<StartKey>,
+        again: Arc<StartKey>,
+    },
+    /// A client that waits takes its link, if it may have one now.
+    Take { client: u64 },
+    /// A client has given its link back clean.
+    GiveBack(CleanLink<E>),
+    /// A lent link has been closed.
+    Lost { number: u64 },
+    /// A link that was to be started could not be.
+    StartFailed { number: u64 },
+    /// A client has gone.
+    Leave { client: u64 },
+    /// It is this second.
+    Tick { now: u64 },
+    /// These settings hold from now on.
+    Limits(Arc<Limits>, Arc<Limits>),
+    /// No link is lent until Resume.
+    Pause,
+    Resume,
+    /// No client is let in and no link lent any more.
+    Shutdown,
+}
+
+/// What the book answers. A link that leaves the book, or isn't kept, comes with the reply.
+#[derive(Drop)]
+pub enum Reply<E: ServerEnd> {
+    /// The client that has come has this number.
+    Client(u64),
+    /// The client waits behind this many of its pool.
+    Queued(u64),
+    /// The client has this link, which was idle.
+    Lend(CleanLink<E>),
+    /// A link of this number and second of birth is to be started for the client, once this idle one is closed.
+    Start {
+        number: u64,
+        born: u64,
+        evicted: Option<CleanLink<E>>,
+    },
+    /// This link is to be closed.
+    Close(CleanLink<E>),
+    /// The client is refused, or loses its place. A link that was given back is handed back.
+    Refuse(Refusal, Option<CleanLink<E>>),
+    /// It is done; a link that was given back is kept.
+    Done,
+    /// No such client, ticket or link is there, or the client has a ticket already. A link that was given back is handed back.
+    Stranger(Option<CleanLink<E>>),
+}
