@@ -1,13 +1,11 @@
 -- What an event does to the number of decisions, and to the lists where it is none.
-use Rattle.std.proofs.Common.{◌≡◌, ℕ, suc, ◌+◌, ◌≤◌, List, [], ◌∷◌, ◌++◌, Bool, true, false, cond, Option, None, Some, length, map, refl, sym, ap, ◌∙◌, subst, arith}
-use Rattle.std.specs.Prelude.{find, not, ◌==◌, ◌&&◌, ◌||◌, nat_le, nat_lt, ◌-◌, count_by}
-use Rattle.std.specs.List.{list_any}
+use Rattle.std.proofs.Common.{◌≡◌, ℕ, suc, Bool, true, false, cond, Option, None, Some, length, refl, ap, ◌∙◌, arith}
+use Rattle.std.specs.Prelude.{find, not, ◌==◌, ◌&&◌, ◌||◌, nat_lt}
 use Rattle.std.proofs.lemmas.Bool.{le-ltb, lt-ltb}
 use Rattle.message_view.specs.declared.refusal.Refusal.{Refusal}
 use Rattle.message_view.specs.declared.refusal.Refusal.TheVariants.{TooManyClients, WaitedTooLong, ShuttingDown, LastDecision}
-use Rattle.session_values.specs.State.{StartKeyOf}
-use Rattle.book_lists.specs.Book.{Book, Client, Limits, Link, Ticket, in_pool, latest_of, link_count, pool_count, pool_size, is_of, is_link, same_pool, waiting_before, without}
-use Rattle.book_lists.specs.Outcomes.{Answer, Event, apply, outcome, decided, counted, is_strange, kind_of, last_decision, arrives, asks, leaves, waits, loses_ticket, lends, starts, evicts, grants, has_waited, takes, is_old, is_crowded, gives_back, closes, at_clock, is_stale, loses}
+use Rattle.book_lists.specs.Book.{Book, Link, Ticket, in_pool, latest_of, link_count, pool_count, pool_size, is_of, is_link, waiting_before}
+use Rattle.book_lists.specs.Outcomes.{Answer, Event, apply, outcome, decided, counted, is_strange, kind_of, last_decision, loses_ticket, evicts, grants, has_waited, takes, is_old, is_crowded, gives_back, closes, at_clock, is_stale}
 use Rattle.book_lists.specs.Outcomes.Event.{Arrive, Ask, Take, GiveBack, Lost, StartFailed, Leave, Tick, NewLimits, Pause, Resume, Shutdown}
 use Rattle.book_lists.specs.declared.counts.Kind.{Kind}
 use Rattle.book_lists.specs.declared.counts.Kind.TheVariants.{Ticking}
@@ -38,8 +36,8 @@ fair_grants : (b : Book) (c : ℕ) (t : Ticket) (o : Option Link) → Fair b (Ta
 fair_grants b c t (Some link) = record { counts = refl; stays = λ n. cc }
 fair_grants b c t None =
     both (Fair b (Take c)) (nat_lt (pool_count b t.key) (pool_size b.limits t.key)) _ _
-      (both (Fair b (Take c)) (nat_lt (link_count b) b.limits.max_links) _ _ (record { counts = refl; stays = λ n. cc }) (fair_evicts b c t (find (λ link. true) b.idle)))
-      (fair_evicts b c t (find (in_pool t.key) b.idle))
+    (both (Fair b (Take c)) (nat_lt (link_count b) b.limits.max_links) _ _ (record { counts = refl; stays = λ n. cc }) (fair_evicts b c t (find (λ link. true) b.idle)))
+    (fair_evicts b c t (find (in_pool t.key) b.idle))
 
 fair_loses_ticket : (b : Book) (c : ℕ) (t : Ticket) (r : Refusal) → Fair b (Take c) (loses_ticket b t r)
 fair_loses_ticket b c t r = record { counts = refl; stays = λ n. cc }
@@ -112,7 +110,7 @@ apply_stays b e is = (counts_all b e (b.decisions == last_decision)).stays is
 -- the number of decisions rises just where an event is one
 pub rises : (b : Book) (e : Event) → nat_lt b.decisions (apply b e).book.decisions ≡ is_decision b e
 rises b e = by_case b e (is_decision b e) refl
-    where
+  where
     by_case : (b : Book) (e : Event) (is : Bool) → is_decision b e ≡ is → nat_lt b.decisions (apply b e).book.decisions ≡ is
     by_case b e true is = ap (nat_lt b.decisions) (apply_raises b e is) ∙ lt-ltb b.decisions (suc b.decisions) (omega arith)
     by_case b e false is = ap (λ (x : Book). nat_lt b.decisions x.decisions) (apply_stays b e is) ∙ le-ltb b.decisions b.decisions (omega arith)

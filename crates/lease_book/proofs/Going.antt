@@ -1,18 +1,17 @@
 -- What an event with no link does to the idle list, and that the link that goes out stands in it.
-use Rattle.std.proofs.Common.{◌≡◌, ℕ, suc, zero, ◌+◌, ◌≤◌, ◌<◌, List, [], ◌∷◌, ◌++◌, Bool, true, false, cond, Option, None, Some, length, map, refl, sym, ap, ◌∙◌, subst, arith}
-use Rattle.std.specs.Prelude.{find, filter, not, ◌==◌, ◌&&◌, ◌||◌, nat_le, nat_lt, ◌-◌, count_by}
+use Rattle.std.proofs.Common.{◌≡◌, ℕ, suc, List, [], ◌∷◌, ◌++◌, Bool, true, false, cond, Option, None, Some, length, refl, sym, ap, ◌∙◌}
+use Rattle.std.specs.Prelude.{find, not, ◌==◌, ◌||◌, nat_lt, count_by}
 use Rattle.std.specs.List.{list_any}
 use Rattle.std.proofs.lemmas.Bool.{eq-eqb}
 use Rattle.message_view.specs.declared.refusal.Refusal.{Refusal}
 use Rattle.message_view.specs.declared.refusal.Refusal.TheVariants.{TooManyClients, WaitedTooLong, ShuttingDown, LastDecision}
 use Rattle.start_keys.specs.Keys.{same_key}
-use Rattle.link_run.specs.Links.{LinkView}
 use Rattle.book_lists.specs.Book.{Book, Link, Ticket, find_last, in_pool, latest_of, link_count, or_else, pool_count, pool_size, is_of, is_link, same_pool, waiting_before, without}
-use Rattle.book_lists.specs.Outcomes.{Answer, Event, apply, in_state, outcome, decided, counted, is_strange, kind_of, last_decision, waits, loses_ticket, starts, evicts, grants, has_waited, takes, closes, at_clock, is_stale}
+use Rattle.book_lists.specs.Outcomes.{Answer, Event, apply, in_state, outcome, decided, counted, is_strange, kind_of, last_decision, loses_ticket, starts, evicts, grants, has_waited, takes, closes, at_clock, is_stale}
 use Rattle.book_lists.specs.Outcomes.Event.{Arrive, Ask, Take, GiveBack, Lost, StartFailed, Leave, Tick, NewLimits, Pause, Resume, Shutdown}
 use Rattle.book_lists.specs.declared.counts.Kind.{Kind}
 use Rattle.book_lists.specs.declared.events.Reply.{Reply}
-use Rattle.book_lists.specs.declared.events.Reply.TheVariants.{Arrived, Queued, Refuse, Stranger, Done}
+use Rattle.book_lists.specs.declared.events.Reply.TheVariants.{Arrived, Queued, Refuse, Stranger}
 use Rattle.book_lists.specs.declared.events.ClientState.TheVariants.{LoggingIn, Waiting}
 use Rattle.lease_book.specs.Links.{goes_out, is_return}
 
@@ -48,7 +47,7 @@ found_there : (p : Link → Bool) (links : List Link) (l : Link) → find p link
 found_there p [] l e = cc
 found_there p (x ∷ xs) l e =
     elim (p x) as (λ b. cond b (Some x) (find p xs) ≡ Some l → list_any (is_link l.number) (x ∷ xs) ≡ true) [
-      true ↦ λ h. let is : x ≡ l = cc in or_first (x.number == l.number) _ (eq-eqb x.number l.number (ap (λ (u : Link). u.number) is))
+      | true ↦ λ h. let is : x ≡ l = cc in or_first (x.number == l.number) _ (eq-eqb x.number l.number (ap (λ (u : Link). u.number) is))
       | false ↦ λ h. or_second (x.number == l.number) _ (found_there p xs l h)
     ] e
 
@@ -75,8 +74,8 @@ goes_grants : (b : Book) (t : Ticket) (o : Option Link) → latest_of t.key b.id
 goes_grants b t (Some link) is = record { idle = refl; there_is = last_there (λ l. same_key l.key t.key) b.idle link is }
 goes_grants b t None is =
     both (Goes b) (nat_lt (pool_count b t.key) (pool_size b.limits t.key)) _ _
-      (both (Goes b) (nat_lt (link_count b) b.limits.max_links) _ _ (goes_starts b t) (goes_evicts b t (λ link. true) (find (λ link. true) b.idle) refl))
-      (goes_evicts b t (in_pool t.key) (find (in_pool t.key) b.idle) refl)
+    (both (Goes b) (nat_lt (link_count b) b.limits.max_links) _ _ (goes_starts b t) (goes_evicts b t (λ link. true) (find (λ link. true) b.idle) refl))
+    (goes_evicts b t (in_pool t.key) (find (in_pool t.key) b.idle) refl)
 
 goes_same : (b : Book) (r : Reply) → goes_out r ≡ None → Goes b (record { book = b; reply = r })
 goes_same b r n = stays b (record { book = b; reply = r }) refl n

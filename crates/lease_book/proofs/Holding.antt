@@ -1,22 +1,16 @@
 -- The idle links are those of the idle list, after each event.
-use Rattle.std.proofs.Common.{◌≡◌, ℕ, suc, zero, ◌+◌, ◌≤◌, ◌<◌, List, [], ◌∷◌, ◌++◌, Bool, true, false, cond, Option, None, Some, length, map, refl, sym, ap, ◌∙◌, subst, arith}
-use Rattle.std.specs.Prelude.{find, filter, not, ◌==◌, ◌&&◌, ◌||◌, count_by}
+use Rattle.std.proofs.Common.{◌≡◌, ℕ, ◌+◌, ◌≤◌, List, [], ◌∷◌, Bool, true, false, cond, Option, None, Some, map, refl, sym, ap, ◌∙◌, subst, arith}
+use Rattle.std.specs.Prelude.{find, filter, not, ◌==◌, ◌||◌, count_by}
 use Rattle.std.specs.List.{list_any}
 use Rattle.std.proofs.lemmas.Bool.{eqb-true}
-use Rattle.std.proofs.lemmas.List.{map-append}
-use Rattle.session_values.specs.State.{StartKeyOf}
-use Rattle.start_keys.specs.Keys.{same_key}
-use Rattle.start_keys.specs.SameKeys.{same_keys-one}
 use Rattle.link_run.specs.Links.{LinkView}
-use Rattle.book_lists.specs.Book.{Book, Link, is_link, link_count, without}
-use Rattle.book_lists.specs.Outcomes.{Answer, Event, apply, apply_return, outcome, decided, counted, gives_back, is_crowded, is_old, is_started_as, is_strange, kind_of, last_decision, loses}
-use Rattle.book_lists.specs.Outcomes.Event.{GiveBack}
+use Rattle.book_lists.specs.Book.{Book, is_link}
+use Rattle.book_lists.specs.Outcomes.{Event, apply}
 use Rattle.book_lists.specs.declared.events.Reply.{Reply}
-use Rattle.book_lists.specs.declared.events.Reply.TheVariants.{Close, Done, Refuse, Stranger}
 use Rattle.book_register.specs.Room.{HasRoom}
 use Rattle.lease_book.specs.Links.{HoldsLinks, Started, found, goes_out, is_numbered, is_return, left, listed, number_of, started}
-use Rattle.lease_book.proofs.Going.{Goes, goes_apply, rest, there}
-use Rattle.lease_book.proofs.Links.{count-cons, none_counted, none_of, or_left, or_right}
+use Rattle.lease_book.proofs.Going.{goes_apply, rest, there}
+use Rattle.lease_book.proofs.Links.{count-cons}
 
 is_started : ℕ → Started → Bool
 is_started n s = s.number == n
@@ -36,7 +30,7 @@ module _ {X : Type 0} (f : X → Started) where
   filter_seen : (n : ℕ) (xs : List X) → map f (filter (λ x. not ((f x).number == n)) xs) ≡ filter (λ (s : Started). not (s.number == n)) (map f xs)
   filter_seen n [] = refl
   filter_seen n (x ∷ xs) = at (not ((f x).number == n)) (filter_seen n xs)
-      where
+    where
       at : (b : Bool) → map f (filter (λ y. not ((f y).number == n)) xs) ≡ filter (λ (s : Started). not (s.number == n)) (map f xs) → map f (cond b (x ∷ filter (λ y. not ((f y).number == n)) xs) (filter (λ y. not ((f y).number == n)) xs)) ≡ cond b (f x ∷ filter (λ (s : Started). not (s.number == n)) (map f xs)) (filter (λ (s : Started). not (s.number == n)) (map f xs))
       at true e = ap (λ (l : List Started). f x ∷ l) e
       at false e = e
@@ -52,7 +46,7 @@ once_idle idle b h n = omega (arith, count_idle idle b n h, h.room.once n)
 find_named : (n : ℕ) (idle : List LinkView) → list_any (is_numbered n) idle ≡ true → number_of (find (is_numbered n) idle) ≡ Some n
 find_named n [] e = cc
 find_named n (l ∷ ls) e = at (l.number == n) refl e (λ k. find_named n ls k)
-    where
+  where
     at : (b : Bool) → (l.number == n) ≡ b → (b || list_any (is_numbered n) ls) ≡ true → (list_any (is_numbered n) ls ≡ true → number_of (find (is_numbered n) ls) ≡ Some n) → number_of (cond b (Some l) (find (is_numbered n) ls)) ≡ Some n
     at true is h later = ap (λ (k : ℕ). Some k) (eqb-true l.number n is)
     at false is h later = later h

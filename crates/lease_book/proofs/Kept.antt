@@ -1,7 +1,7 @@
 -- The decisions that are kept, after one more.
 use Rattle.std.proofs.Common.{◌≡◌, ℕ, suc, ◌+◌, ◌≤◌, ◌<◌, List, [], ◌∷◌, ◌++◌, Bool, true, false, cond, length, map, refl, sym, ap, ◌∙◌, subst, arith, length-append}
-use Rattle.std.proofs.lemmas.Bool.{le-ltb, lt-ltb, ltb-true, ltb-false}
-use Rattle.std.specs.Prelude.{not, ◌&&◌, nat_lt, drop}
+use Rattle.std.proofs.lemmas.Bool.{le-ltb, lt-ltb, ltb-true}
+use Rattle.std.specs.Prelude.{◌&&◌, nat_lt, drop}
 use Rattle.book_lists.specs.Book.{Book}
 use Rattle.book_lists.specs.Outcomes.{Event, apply}
 use Rattle.book_lists.specs.declared.events.Reply.{Reply}
@@ -102,9 +102,9 @@ leads_still h lists next e l is less = subst (λ (x : Book). LeadsTo h x) (sym (
 pub noted_on : (h n : History) (lists next : Book) (pass : ℕ) (e again : Event) (r : Reply) → next ≡ (apply lists e).book → r ≡ (apply lists e).reply → again ≡ e → lists.decisions < next.decisions → n ≡ noted h (record { pass = pass; event = again; reply = r }) → n ≡ noted_of lists pass e h
 noted_on h n lists next pass e again r is told same more noted_is =
     noted_is
-      ∙ ap (λ (x : Event). noted h (record { pass = pass; event = x; reply = r })) same
-      ∙ ap (λ (x : Reply). noted h (record { pass = pass; event = e; reply = x })) told
-      ∙ sym (ap (λ (x : Bool). cond x (noted h (record { pass = pass; event = e; reply = (apply lists e).reply })) h) (is_one lists next e is more))
+    ∙ ap (λ (x : Event). noted h (record { pass = pass; event = x; reply = r })) same
+    ∙ ap (λ (x : Reply). noted h (record { pass = pass; event = e; reply = x })) told
+    ∙ sym (ap (λ (x : Bool). cond x (noted h (record { pass = pass; event = e; reply = (apply lists e).reply })) h) (is_one lists next e is more))
 
 pub noted_still : (h : History) (lists next : Book) (pass : ℕ) (e : Event) → next ≡ (apply lists e).book → next.decisions ≤ lists.decisions → h ≡ noted_of lists pass e h
 noted_still h lists next pass e is less = sym (ap (λ (x : Bool). cond x (noted h (record { pass = pass; event = e; reply = (apply lists e).reply })) h) (is_none lists next e is less))

@@ -1,13 +1,13 @@
 -- A link taken out of the idle ones.
-use Rattle.std.proofs.Common.{get_or, ◌≡◌, ℕ, suc, zero, ◌+◌, ◌≤◌, ◌<◌, Bool, true, false, List, [], ◌∷◌, ◌++◌, length, Option, None, Some, cond, refl, sym, ap, ◌∙◌, subst, arith}
-use Rattle.std.specs.Prelude.{remove, position, filter, find, not, count_by, ◌||◌, slice_get, slice_index_or, map, ◌==◌}
-use Rattle.std.specs.List.{position_or_len, sum_by, list_any}
+use Rattle.std.proofs.Common.{get_or, ◌≡◌, ℕ, suc, zero, ◌+◌, ◌≤◌, ◌<◌, Bool, true, false, List, [], ◌∷◌, length, None, Some, cond, refl, sym, ap, ◌∙◌, subst, arith}
+use Rattle.std.specs.Prelude.{remove, position, filter, find, not, count_by, ◌||◌, slice_get, slice_index_or}
+use Rattle.std.specs.List.{position_or_len, list_any}
 use Rattle.std.proofs.Math.Dec.{ltb}
 use Rattle.std.proofs.lemmas.Bool.Decides.{nat_tests}
 use Rattle.std.proofs.lemmas.List.Folds.{find_at, list_any_none}
 use Rattle.std.proofs.lemmas.List.Sums.{sum_by-cons, get_or-le-sum_by, passes_at_first, fails_before_first}
 use Rattle.link_run.specs.Links.{LinkView}
-use Rattle.lease_book.specs.Links.{is_numbered, found, left}
+use Rattle.lease_book.specs.Links.{is_numbered}
 
 at_place : (n len i : ℕ) (b : Bool) → ltb n len ≡ b → cond b (Some n) None ≡ Some i → (i ≡ n) × (n < len)
 at_place n len i true e h = (cc, grind (arith, nat_tests))

@@ -1,15 +1,15 @@
 -- A link that is given back.
-use Rattle.std.proofs.Common.{◌≡◌, ℕ, suc, zero, ◌+◌, ◌≤◌, ◌<◌, List, [], ◌∷◌, ◌++◌, Bool, true, false, cond, Option, None, Some, length, map, refl, sym, ap, ◌∙◌, subst, arith, length-append}
-use Rattle.std.specs.Prelude.{find, filter, not, ◌==◌, ◌&&◌, ◌||◌, count_by}
+use Rattle.std.proofs.Common.{◌≡◌, ℕ, suc, ◌+◌, ◌≤◌, ◌<◌, List, [], ◌∷◌, ◌++◌, Bool, true, false, cond, Option, None, Some, length, map, refl, sym, ap, ◌∙◌, subst, arith, length-append}
+use Rattle.std.specs.Prelude.{find, not, ◌==◌, ◌&&◌, ◌||◌, count_by}
 use Rattle.std.specs.List.{list_any}
-use Rattle.std.proofs.lemmas.Bool.{eqb-true, eq-eqb}
+use Rattle.std.proofs.lemmas.Bool.{eqb-true}
 use Rattle.std.proofs.lemmas.List.{map-append}
 use Rattle.message_view.specs.declared.refusal.Refusal.TheVariants.{LastDecision}
 use Rattle.session_values.specs.State.{StartKeyOf}
 use Rattle.start_keys.specs.Keys.{same_key}
 use Rattle.start_keys.specs.SameKeys.{same_keys-one}
 use Rattle.link_run.specs.Links.{LinkView}
-use Rattle.book_lists.specs.Book.{Book, Link, is_link, link_count, without}
+use Rattle.book_lists.specs.Book.{Book, Link, is_link}
 use Rattle.book_lists.specs.declared.limits.TheConstants.{MOST_LINKS}
 use Rattle.book_lists.specs.Outcomes.{Answer, Event, apply, apply_return, outcome, decided, counted, gives_back, is_crowded, is_old, is_started_as, is_strange, kind_of, last_decision, loses}
 use Rattle.book_lists.specs.Outcomes.Event.{GiveBack}
@@ -19,7 +19,7 @@ use Rattle.book_lists.specs.declared.events.Reply.{Reply}
 use Rattle.book_lists.specs.declared.events.Reply.TheVariants.{Close, Done, Refuse, Stranger}
 use Rattle.book_register.specs.Room.{HasRoom}
 use Rattle.lease_book.specs.Links.{HoldsLinks, Started, idle_with, handed_back, is_done, listed, may_hand_back, started}
-use Rattle.lease_book.proofs.Links.{count-cons, none_counted, none_of, or_left, or_right}
+use Rattle.lease_book.proofs.Links.{count-cons, none_of, or_left, or_right}
 
 -- ---- the three ways
 
@@ -88,7 +88,7 @@ less_left m h = omega arith
 found_it : (n : ℕ) (key : StartKeyOf) (born : ℕ) (ls : List Link) → count_by (is_link n) ls ≤ 1 → list_any (is_started_as n key born) ls ≡ true → is_it n key born (find (is_link n) ls)
 found_it n key born [] once any = cc
 found_it n key born (l ∷ ls) once any = at (is_link n l) refl (subst (λ (k : ℕ). k ≤ 1) (count-cons (is_link n) l ls) once) (λ h k. found_it n key born ls h k)
-    where
+  where
     at : (b : Bool) → is_link n l ≡ b → cond {A = ℕ} (is_link n l) 1 0 + count_by (is_link n) ls ≤ 1 → (count_by (is_link n) ls ≤ 1 → list_any (is_started_as n key born) ls ≡ true → is_it n key born (find (is_link n) ls)) → is_it n key born (cond b (Some l) (find (is_link n) ls))
     at true is once later =
         let zero : count_by (is_link n) ls ≡ 0 = zero_left (count_by (is_link n) ls) (subst (λ (x : Bool). cond {A = ℕ} x 1 0 + count_by (is_link n) ls ≤ 1) is once) in
@@ -129,8 +129,8 @@ returned_gives b n key born (Some l) it =
     let closed : Answer = record { book = loses b l.number; reply = Close l.number } in
     let done : Answer = record { book = record (loses b l.number) { idle = b.idle ++ record l { since = b.clock } ∷ [] }; reply = Done } in
     both (Returned b n key born) (is_old b l || is_crowded b l) closed done
-      (record { kept = λ e. cc; stays = λ e. refl; hands_back = λ e. and_left (is_link n l) _ it })
-      (record { kept = λ e. map-append listed b.idle (record l { since = b.clock } ∷ []) ∙ ap (λ (s : Started). map listed b.idle ++ s ∷ []) (listed_is n key born l it); stays = λ e. cc; hands_back = λ e. cc })
+    (record { kept = λ e. cc; stays = λ e. refl; hands_back = λ e. and_left (is_link n l) _ it })
+    (record { kept = λ e. map-append listed b.idle (record l { since = b.clock } ∷ []) ∙ ap (λ (s : Started). map listed b.idle ++ s ∷ []) (listed_is n key born l it); stays = λ e. cc; hands_back = λ e. cc })
 
 counted_idle : (b : Book) (k : Option Kind) → (counted b k).idle ≡ b.idle
 counted_idle b None = refl
@@ -147,7 +147,7 @@ returned_apply b n key born room any =
     both (Returned b n key born) (b.decisions == last_decision) _ _ (returned_refused b n key born)
     (both (Returned b n key born) (is_strange b (GiveBack n)) _ _ (returned_strange b n key born)
     (returned_decided b n key born (gives_back b (find (is_link n) b.lent)) (returned_gives b n key born (find (is_link n) b.lent) (found_it n key born b.lent (once_lent b n room) any))))
-    where
+  where
     once_lent : (x : Book) (m : ℕ) → HasRoom x → count_by (is_link m) x.lent ≤ 1
     once_lent x m r = omega (arith, r.once m)
 
@@ -191,6 +191,6 @@ has_place idle b lists l told h new is d room =
 pub done_kept : (l : LinkView) (told : Reply) (idle : List LinkView) → is_done told ≡ true → (told ≡ Done) × (idle_with l told idle ≡ idle ++ l ∷ []) × (handed_back l told ≡ None)
 done_kept l told idle e =
     elim told as (λ t. is_done t ≡ true → (t ≡ Done) × (idle_with l t idle ≡ idle ++ l ∷ []) × (handed_back l t ≡ None)) [
-      Done ↦ λ k. (refl, refl, refl)
+      | Done ↦ λ k. (refl, refl, refl)
       | _ ↦ λ k. cc
     ] e

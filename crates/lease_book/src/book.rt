@@ -112,7 +112,11 @@ impl<E: ServerEnd> Book<E> {
     }
 
     /// The same, after so many decisions.
-    pub fn from_count(alloc: Global, limits: Arc<Limits>, decisions: u64) -> Result<Book<E>, AllocError>
+    pub fn from_count(
+        alloc: Global,
+        limits: Arc<Limits>,
+        decisions: u64,
+    ) -> Result<Book<E>, AllocError>
         ensures lists { IfOk result (λ b. b.lists ≡ record (empty_book (arc_value limits)) { decisions = decisions }) }
         ensures history { IfOk result (λ b. b.history ≡ record { base = record (empty_book (arc_value limits)) { decisions = decisions }; kept = [] }) }
         ensures idle { IfOk result (λ b. b.idle ≡ []) }
@@ -155,7 +159,9 @@ impl<E: ServerEnd> Book<E> {
         ensures idle { self.new.idle ≡ idle_with link (apply_return self.old.lists link.number link.key link.born).reply self.old.idle }
         ensures handed { handed result ≡ handed_back link (apply_return self.old.lists link.number link.key link.born).reply }
     {
-        let told = self.register.give_back(pass, link.number(), link.key(), link.born());
+        let told = self
+            .register
+            .give_back(pass, link.number(), link.key(), link.born());
         if is_done(told) {
             self.idle.push(link);
             return Reply::Done;
@@ -179,17 +185,37 @@ impl<E: ServerEnd> Book<E> {
                 lists::Event::Ask { client, key },
                 lists::Event::Ask { client, key: again },
             ),
-            Event::Take { client } => self.play(pass, lists::Event::Take { client }, lists::Event::Take { client }),
+            Event::Take { client } => self.play(
+                pass,
+                lists::Event::Take { client },
+                lists::Event::Take { client },
+            ),
             Event::GiveBack(link) => self.give_back(pass, link),
-            Event::Lost { number } => self.play(pass, lists::Event::Lost { link: number }, lists::Event::Lost { link: number }),
+            Event::Lost { number } => self.play(
+                pass,
+                lists::Event::Lost { link: number },
+                lists::Event::Lost { link: number },
+            ),
             Event::StartFailed { number } => self.play(
                 pass,
                 lists::Event::StartFailed { link: number },
                 lists::Event::StartFailed { link: number },
             ),
-            Event::Leave { client } => self.play(pass, lists::Event::Leave { client }, lists::Event::Leave { client }),
-            Event::Tick { now } => self.play(pass, lists::Event::Tick { now }, lists::Event::Tick { now }),
-            Event::Limits(limits, again) => self.play(pass, lists::Event::Limits(limits), lists::Event::Limits(again)),
+            Event::Leave { client } => self.play(
+                pass,
+                lists::Event::Leave { client },
+                lists::Event::Leave { client },
+            ),
+            Event::Tick { now } => self.play(
+                pass,
+                lists::Event::Tick { now },
+                lists::Event::Tick { now },
+            ),
+            Event::Limits(limits, again) => self.play(
+                pass,
+                lists::Event::Limits(limits),
+                lists::Event::Limits(again),
+            ),
             Event::Pause => self.play(pass, lists::Event::Pause, lists::Event::Pause),
             Event::Resume => self.play(pass, lists::Event::Resume, lists::Event::Resume),
             Event::Shutdown => self.play(pass, lists::Event::Shutdown, lists::Event::Shutdown),

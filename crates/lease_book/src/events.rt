@@ -18,17 +18,27 @@ pub enum Event<E: ServerEnd> {
         again: Arc<StartKey>,
     },
     /// A client that waits takes its link, if it may have one now.
-    Take { client: u64 },
+    Take {
+        client: u64,
+    },
     /// A client has given its link back clean.
     GiveBack(CleanLink<E>),
     /// A lent link has been closed.
-    Lost { number: u64 },
+    Lost {
+        number: u64,
+    },
     /// A link that was to be started could not be.
-    StartFailed { number: u64 },
+    StartFailed {
+        number: u64,
+    },
     /// A client has gone.
-    Leave { client: u64 },
+    Leave {
+        client: u64,
+    },
     /// It is this second.
-    Tick { now: u64 },
+    Tick {
+        now: u64,
+    },
     /// These settings hold from now on.
     Limits(Arc<Limits>, Arc<Limits>),
     /// No link is lent until Resume.

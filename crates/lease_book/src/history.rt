@@ -109,7 +109,11 @@ impl Register {
     }
 
     /// The same, after so many decisions.
-    pub fn from_count(alloc: Global, limits: Arc<Limits>, decisions: u64) -> Result<Register, AllocError>
+    pub fn from_count(
+        alloc: Global,
+        limits: Arc<Limits>,
+        decisions: u64,
+    ) -> Result<Register, AllocError>
         ensures room { IfOk result (λ r. HasRoom r.lists) }
         ensures lists { IfOk result (λ r. r.lists ≡ record (empty_book (arc_value limits)) { decisions = decisions }) }
         ensures history { IfOk result (λ r. r.history ≡ record { base = record (empty_book (arc_value limits)) { decisions = decisions }; kept = [] }) }
