@@ -7,7 +7,7 @@ use Rattle.link_run.specs.Links.{LinkView}
 use Rattle.book_lists.specs.Book.{Book, is_link}
 use Rattle.book_lists.specs.Outcomes.{Event, apply}
 use Rattle.book_lists.specs.declared.events.Reply.{Reply}
-use Rattle.book_register.specs.Room.{HasRoom}
+use Rattle.book_register.specs.Kept.{Kept}
 use Rattle.lease_book.specs.Links.{HoldsLinks, Started, found, goes_out, is_numbered, is_return, left, listed, number_of, started}
 use Rattle.lease_book.proofs.Going.{goes_apply, rest, there}
 use Rattle.lease_book.proofs.Links.{count-cons}
@@ -41,7 +41,7 @@ count_idle : (idle : List LinkView) (b : Book) (n : ℕ) → HoldsLinks idle b �
 count_idle idle b n h = count_seen started n idle ∙ ap (count_by (λ (s : Started). s.number == n)) h.same ∙ sym (count_seen listed n b.idle)
 
 pub once_idle : (idle : List LinkView) (b : Book) → HoldsLinks idle b → (n : ℕ) → count_by (is_numbered n) idle ≤ 1
-once_idle idle b h n = omega (arith, count_idle idle b n h, h.room.once n)
+once_idle idle b h n = omega (arith, count_idle idle b n h, h.kept.links.once n)
 
 find_named : (n : ℕ) (idle : List LinkView) → list_any (is_numbered n) idle ≡ true → number_of (find (is_numbered n) idle) ≡ Some n
 find_named n [] e = cc
@@ -64,10 +64,10 @@ named_after idle b e told link h r t l =
     let g = goes_apply b e r in
     ap number_of l ∙ named idle b (goes_out told) h (subst (λ (x : Reply). there (goes_out x) b.idle ≡ true) (sym t) g.there_is)
 
-pub holds_after : (idle next : List LinkView) (b lists : Book) (e : Event) (told : Reply) → HoldsLinks idle b → is_return e ≡ false → lists ≡ (apply b e).book → told ≡ (apply b e).reply → HasRoom lists → next ≡ left (goes_out told) idle → HoldsLinks next lists
+pub holds_after : (idle next : List LinkView) (b lists : Book) (e : Event) (told : Reply) → HoldsLinks idle b → is_return e ≡ false → lists ≡ (apply b e).book → told ≡ (apply b e).reply → Kept lists → next ≡ left (goes_out told) idle → HoldsLinks next lists
 holds_after idle next b lists e told h r is t room n =
     let g = goes_apply b e r in
     record {
       same = ap (map started) (n ∙ ap (λ (x : Reply). left (goes_out x) idle) t) ∙ left_same idle b (goes_out (apply b e).reply) h ∙ ap (map listed) (sym g.idle ∙ ap (λ (x : Book). x.idle) (sym is));
-      room = room;
+      kept = room;
     }

@@ -17,7 +17,7 @@ use Rattle.book_lists.specs.Replay.{History, is_a_kind, is_decision, noted, note
 use Rattle.book_lists.specs.declared.counts.Kind.{Kind}
 use Rattle.book_lists.specs.declared.events.Reply.{Reply}
 use Rattle.book_lists.specs.declared.events.Reply.TheVariants.{Close, Done, Refuse, Stranger}
-use Rattle.book_register.specs.Room.{HasRoom}
+use Rattle.book_register.specs.Kept.{Kept}
 use Rattle.lease_book.specs.Links.{HoldsLinks, Started, idle_with, handed_back, is_done, listed, may_hand_back, started}
 use Rattle.lease_book.proofs.Links.{count-cons, none_of, or_left, or_right}
 
@@ -141,21 +141,21 @@ returned_decided b n key born a r =
     let same = counted_idle a.book (kind_of b (GiveBack n) a.reply) in
     record { kept = λ e. ap (map listed) same ∙ r.kept e; stays = λ e. same ∙ r.stays e; hands_back = r.hands_back }
 
-returned_apply : (b : Book) (n : ℕ) (key : StartKeyOf) (born : ℕ) → HasRoom b → list_any (is_started_as n key born) b.lent ≡ true → Returned b n key born (apply b (GiveBack n))
+returned_apply : (b : Book) (n : ℕ) (key : StartKeyOf) (born : ℕ) → Kept b → list_any (is_started_as n key born) b.lent ≡ true → Returned b n key born (apply b (GiveBack n))
 unfolding apply
 returned_apply b n key born room any =
     both (Returned b n key born) (b.decisions == last_decision) _ _ (returned_refused b n key born)
     (both (Returned b n key born) (is_strange b (GiveBack n)) _ _ (returned_strange b n key born)
     (returned_decided b n key born (gives_back b (find (is_link n) b.lent)) (returned_gives b n key born (find (is_link n) b.lent) (found_it n key born b.lent (once_lent b n room) any))))
   where
-    once_lent : (x : Book) (m : ℕ) → HasRoom x → count_by (is_link m) x.lent ≤ 1
-    once_lent x m r = omega (arith, r.once m)
+    once_lent : (x : Book) (m : ℕ) → Kept x → count_by (is_link m) x.lent ≤ 1
+    once_lent x m r = omega (arith, r.links.once m)
 
-returned_own : (b : Book) (n : ℕ) (key : StartKeyOf) (born : ℕ) (own : Bool) → list_any (is_started_as n key born) b.lent ≡ own → HasRoom b → Returned b n key born (cond own (apply b (GiveBack n)) (record { book = b; reply = Stranger }))
+returned_own : (b : Book) (n : ℕ) (key : StartKeyOf) (born : ℕ) (own : Bool) → list_any (is_started_as n key born) b.lent ≡ own → Kept b → Returned b n key born (cond own (apply b (GiveBack n)) (record { book = b; reply = Stranger }))
 returned_own b n key born true any room = returned_apply b n key born room any
 returned_own b n key born false any room = returned_strange b n key born
 
-returned : (b : Book) (n : ℕ) (key : StartKeyOf) (born : ℕ) → HasRoom b → Returned b n key born (apply_return b n key born)
+returned : (b : Book) (n : ℕ) (key : StartKeyOf) (born : ℕ) → Kept b → Returned b n key born (apply_return b n key born)
 unfolding apply_return
 returned b n key born room =
     both (Returned b n key born) (b.decisions == last_decision) _ _ (returned_refused b n key born) (returned_own b n key born (list_any (is_started_as n key born) b.lent) refl room)
@@ -164,29 +164,29 @@ returned b n key born room =
 
 pub may_be_handed : (idle : List LinkView) (b : Book) (l : LinkView) (told : Reply) → HoldsLinks idle b → told ≡ (apply_return b l.number l.key l.born).reply → is_done told ≡ false → may_hand_back l.number told ≡ true
 may_be_handed idle b l told h is d =
-    let r = returned b l.number l.key l.born h.room in
+    let r = returned b l.number l.key l.born h.kept in
     subst (λ (x : Reply). may_hand_back l.number x ≡ true) (sym is) (r.hands_back (subst (λ (x : Reply). is_done x ≡ false) is d))
 
-pub still_holds : (idle : List LinkView) (b lists : Book) (l : LinkView) (told : Reply) → HoldsLinks idle b → lists ≡ (apply_return b l.number l.key l.born).book → told ≡ (apply_return b l.number l.key l.born).reply → is_done told ≡ false → (HasRoom b → HasRoom lists) → HoldsLinks idle lists
+pub still_holds : (idle : List LinkView) (b lists : Book) (l : LinkView) (told : Reply) → HoldsLinks idle b → lists ≡ (apply_return b l.number l.key l.born).book → told ≡ (apply_return b l.number l.key l.born).reply → is_done told ≡ false → (Kept b → Kept lists) → HoldsLinks idle lists
 still_holds idle b lists l told h new is d room =
-    let r = returned b l.number l.key l.born h.room in
-    record { same = h.same ∙ ap (map listed) (sym (ap (λ (x : Book). x.idle) new ∙ r.stays (subst (λ (x : Reply). is_done x ≡ false) is d))); room = room h.room }
+    let r = returned b l.number l.key l.born h.kept in
+    record { same = h.same ∙ ap (map listed) (sym (ap (λ (x : Book). x.idle) new ∙ r.stays (subst (λ (x : Reply). is_done x ≡ false) is d))); kept = room h.kept }
 
-pub holds_one_more : (idle next : List LinkView) (b lists : Book) (l : LinkView) (told : Reply) → HoldsLinks idle b → lists ≡ (apply_return b l.number l.key l.born).book → told ≡ (apply_return b l.number l.key l.born).reply → is_done told ≡ true → (HasRoom b → HasRoom lists) → next ≡ idle ++ l ∷ [] → HoldsLinks next lists
+pub holds_one_more : (idle next : List LinkView) (b lists : Book) (l : LinkView) (told : Reply) → HoldsLinks idle b → lists ≡ (apply_return b l.number l.key l.born).book → told ≡ (apply_return b l.number l.key l.born).reply → is_done told ≡ true → (Kept b → Kept lists) → next ≡ idle ++ l ∷ [] → HoldsLinks next lists
 holds_one_more idle next b lists l told h new is d room n =
-    let r = returned b l.number l.key l.born h.room in
+    let r = returned b l.number l.key l.born h.kept in
     let grown : map listed lists.idle ≡ map listed b.idle ++ started l ∷ [] = ap (λ (x : Book). map listed x.idle) new ∙ r.kept (subst (λ (x : Reply). is_done x ≡ true) is d) in
-    record { same = ap (map started) n ∙ map-append started idle (l ∷ []) ∙ ap (λ (s : List Started). s ++ started l ∷ []) h.same ∙ sym grown; room = room h.room }
+    record { same = ap (map started) n ∙ map-append started idle (l ∷ []) ∙ ap (λ (s : List Started). s ++ started l ∷ []) h.same ∙ sym grown; kept = room h.kept }
 
 length_seen : {X : Type 0} (f : X → Started) (xs : List X) → length (map f xs) ≡ length xs
 length_seen f [] = refl
 length_seen f (x ∷ xs) = ap suc (length_seen f xs)
 
-pub has_place : (idle : List LinkView) (b lists : Book) (l : LinkView) (told : Reply) → HoldsLinks idle b → lists ≡ (apply_return b l.number l.key l.born).book → told ≡ (apply_return b l.number l.key l.born).reply → is_done told ≡ true → (HasRoom b → HasRoom lists) → length idle < MOST_LINKS
+pub has_place : (idle : List LinkView) (b lists : Book) (l : LinkView) (told : Reply) → HoldsLinks idle b → lists ≡ (apply_return b l.number l.key l.born).book → told ≡ (apply_return b l.number l.key l.born).reply → is_done told ≡ true → (Kept b → Kept lists) → length idle < MOST_LINKS
 has_place idle b lists l told h new is d room =
     let next = holds_one_more idle (idle ++ l ∷ []) b lists l told h new is d room refl in
     let size : length (idle ++ l ∷ []) ≡ length lists.idle = sym (length_seen started (idle ++ l ∷ [])) ∙ ap length next.same ∙ length_seen listed lists.idle in
-    omega (arith, size, length-append idle (l ∷ []), next.room.room)
+    omega (arith, size, length-append idle (l ∷ []), next.kept.links.fit)
 
 pub done_kept : (l : LinkView) (told : Reply) (idle : List LinkView) → is_done told ≡ true → (told ≡ Done) × (idle_with l told idle ≡ idle ++ l ∷ []) × (handed_back l told ≡ None)
 done_kept l told idle e =

@@ -11,7 +11,7 @@ use Rattle.book_lists.specs.Outcomes.Event.{Arrive, Ask, Take, GiveBack, Lost, S
 use Rattle.book_lists.specs.Replay.{History, noted_of}
 use Rattle.book_lists.specs.declared.events.Reply.{Reply as ListsReply}
 use Rattle.book_lists.specs.declared.events.Reply.TheVariants as told
-use Rattle.book_register.specs.Room.{HasRoom}
+use Rattle.book_register.specs.Kept.{Kept}
 use Rattle.lease_book.specs.declared.events.Event.{Event}
 use Rattle.lease_book.specs.declared.events.Event.TheVariants as event
 use Rattle.lease_book.specs.declared.events.Reply.{Reply}
@@ -40,7 +40,7 @@ listed l = record { number = l.number; key = l.key; born = l.born }
 -- the links are those of the idle list, in its order
 pub record HoldsLinks (idle : List LinkView) (lists : Book) : Type 0 where
   pub same : map started idle ≡ map listed lists.idle
-  pub room : HasRoom lists
+  pub kept : Kept lists
 
 abbrev pub is_numbered : ℕ → LinkView → Bool
 is_numbered n l = l.number == n

@@ -6,7 +6,7 @@ ghost use Rattle.book_lists.specs.Book.{empty_book};
 ghost use Rattle.book_lists.specs.Events.{event_of};
 ghost use Rattle.book_lists.specs.Outcomes.{apply, apply_return, is_started_as};
 ghost use Rattle.book_lists.specs.Outcomes.Event.{GiveBack};
-ghost use Rattle.book_register.specs.Room.{HasRoom};
+ghost use Rattle.book_register.specs.Kept.{Kept};
 ghost use Rattle.book_lists.specs.Replay.{noted, noted_of};
 
 use book_lists::events::{Event, Reply};
@@ -98,7 +98,7 @@ impl Register {
     ///
     /// `AllocError` where memory is refused.
     pub fn new(alloc: Global, limits: Arc<Limits>) -> Result<Register, AllocError>
-        ensures room { IfOk result (λ r. HasRoom r.lists) }
+        ensures kept { IfOk result (λ r. Kept r.lists) }
         ensures lists { IfOk result (λ r. r.lists ≡ empty_book (arc_value limits)) }
         ensures history { IfOk result (λ r. r.history ≡ record { base = empty_book (arc_value limits); kept = [] }) }
     {
@@ -114,7 +114,7 @@ impl Register {
         limits: Arc<Limits>,
         decisions: u64,
     ) -> Result<Register, AllocError>
-        ensures room { IfOk result (λ r. HasRoom r.lists) }
+        ensures kept { IfOk result (λ r. Kept r.lists) }
         ensures lists { IfOk result (λ r. r.lists ≡ record (empty_book (arc_value limits)) { decisions = decisions }) }
         ensures history { IfOk result (λ r. r.history ≡ record { base = record (empty_book (arc_value limits)) { decisions = decisions }; kept = [] }) }
     {
@@ -137,7 +137,7 @@ impl Register {
     /// What a link that is given back makes of the lists, by what it was started as, and the reply. It takes no memory.
     #[tactic(auto, using(crate::proofs::Returns::return_last, crate::proofs::Returns::return_strange, crate::proofs::Returns::return_own, crate::proofs::Returns::noted_none))]
     pub fn give_back(&mut self, pass: u64, number: u64, key: &StartKey, born: u64) -> Reply
-        ensures room { HasRoom self.old.lists → HasRoom self.new.lists }
+        ensures kept { Kept self.old.lists → Kept self.new.lists }
         ensures lists { self.new.lists ≡ (apply_return self.old.lists number key.now born).book }
         ensures reply { result ≡ (apply_return self.old.lists number key.now born).reply }
         ensures history { self.new.history ≡ cond (list_any (is_started_as number key.now born) self.old.lists.lent) (noted_of self.old.lists pass (GiveBack number) self.old.history) self.old.history }
@@ -158,7 +158,7 @@ impl Register {
     pub fn apply(&mut self, pass: u64, event: Event, again: Event) -> Reply
         requires { event_of again ≡ event_of event }
         ensures lists { self.new.lists ≡ (apply self.old.lists (event_of event)).book }
-        ensures room { HasRoom self.new.lists }
+        ensures kept { Kept self.new.lists }
         ensures reply { result ≡ (apply self.old.lists (event_of event)).reply }
         ensures history { self.new.history ≡ noted_of self.old.lists pass (event_of event) self.old.history }
     {

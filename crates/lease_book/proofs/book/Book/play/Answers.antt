@@ -10,4 +10,4 @@ pub reply_with-requires : goal.reply_with-requires
 reply_with-requires g c = named_after c.self.inside.idle c.self.inside.register.lists (event_of c.args.event) c.apply-told.result c.take-link.result c.self.invariant c.requires.brings_none c.apply-told.ensures.reply (search rules)
 
 pub invariant_of-self : goal.invariant_of-self
-invariant_of-self g c = holds_after c.self.inside.idle c.take-link.new.self c.self.inside.register.lists c.apply-told.new.self.lists (event_of c.args.event) c.apply-told.result c.self.invariant c.requires.brings_none c.apply-told.ensures.lists c.apply-told.ensures.reply c.apply-told.ensures.room (search rules)
+invariant_of-self g c = holds_after c.self.inside.idle c.take-link.new.self c.self.inside.register.lists c.apply-told.new.self.lists (event_of c.args.event) c.apply-told.result c.self.invariant c.requires.brings_none c.apply-told.ensures.lists c.apply-told.ensures.reply c.apply-told.ensures.kept (search rules)
