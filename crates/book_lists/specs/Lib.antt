@@ -1,0 +1,4 @@
+pub mod Book
+pub mod Outcomes
+pub mod Replay
+pub mod Events

@@ -1,0 +1,70 @@
+//! What can happen to the lease book, and what it answers.
+
+use crate::limits::Limits;
+use message_view::Refusal;
+use start_keys::StartKey;
+use std::sync::Arc;
+
+/// What happens to the book, with clients and links by their numbers. Seconds are those of the pooler's clock.
+#[derive(Drop)]
+pub enum Event {
+    /// A client has come.
+    Arrive,
+    /// A client that is through its login asks for a link of this key.
+    Ask { client: u64, key: Arc<StartKey> },
+    /// A client that waits takes its link, if it may have one now.
+    Take { client: u64 },
+    /// A client has given its link back clean.
+    GiveBack { link: u64 },
+    /// A lent link has been closed.
+    Lost { link: u64 },
+    /// A link that was to be started could not be.
+    StartFailed { link: u64 },
+    /// A client has gone.
+    Leave { client: u64 },
+    /// It is this second.
+    Tick { now: u64 },
+    /// These settings hold from now on.
+    Limits(Arc<Limits>),
+    /// No link is lent until Resume.
+    Pause,
+    Resume,
+    /// No client is let in and no link lent any more.
+    Shutdown,
+}
+
+/// What the book answers.
+#[derive(Clone, Copy, Debug, PartialEq, Eq, Drop)]
+pub enum Reply {
+    /// The client that has come has this number.
+    Arrived(u64),
+    /// The client waits behind this many of its pool.
+    Queued(u64),
+    /// The client has this link, which was idle.
+    Lend(u64),
+    /// A link of this number and second of birth is to be started for the client, once this idle one is closed.
+    Start {
+        link: u64,
+        born: u64,
+        evicted: Option<u64>,
+    },
+    /// This link is to be closed.
+    Close(u64),
+    /// The client is refused, or loses its place.
+    Refuse(Refusal),
+    /// It is done.
+    Done,
+    /// No such client, ticket or link is there, or the client has a ticket already. Nothing has changed.
+    Stranger,
+}
+
+/// A client's state.
+#[derive(Clone, Copy, Debug, PartialEq, Eq, Drop)]
+pub enum ClientState {
+    /// It has not asked for a link yet.
+    LoggingIn,
+    /// It waits for a link, from its Ask until a Take of it is granted.
+    Waiting,
+    /// It has had a link.
+    Active,
+}
