@@ -1,3 +1,4 @@
 pub mod Book
 pub mod Outcomes
 pub mod Replay
+pub mod Laws

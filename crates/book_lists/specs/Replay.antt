@@ -1,7 +1,7 @@
 -- The decisions that are kept, and the lists that they lead to.
-use Rattle.std.specs.Prelude.{◌≡◌, ℕ, List, [], ◌∷◌, ◌++◌, Option, Some, None, map}
+use Rattle.std.specs.Prelude.{◌≡◌, ℕ, List, [], ◌∷◌, map}
 use Rattle.book_lists.specs.Book.{Book}
-use Rattle.book_lists.specs.Outcomes.{Event, Reply, Kind, apply, kind_of}
+use Rattle.book_lists.specs.Outcomes.{Event, Reply, apply}
 
 -- an event that changed the book, with its reply, and the pass through which it came
 pub record Decision : Type 0 where
