@@ -19,7 +19,7 @@ use Rattle.login_core.specs.Talk.{End}
 use Rattle.login_core.specs.Talk.End.{Passed}
 use Rattle.login_core.specs.Dialogue.{Way, Reason, ToLink, login}
 use Rattle.book_lists.specs.Outcomes.Event.{Arrive, Ask, Take, Tick}
-use Rattle.book_lists.specs.Outcomes.Reply.{Arrived, Lend, Start, Done, Close}
+use Rattle.book_lists.specs.declared.events.Reply.TheVariants.{Arrived, Lend, Start, Done, Close}
 use Rattle.world_steps.specs.Clients.Phase.{Absent, LoggingIn, Waiting, Starting, Served, Finishing, Refusing, Closed}
 use Rattle.world_steps.specs.Links.Role.{Unborn, Promised, Lent, InReset, Clean, Idle, Gone}
 use Rattle.world_steps.specs.Steps.IsInHand.{in_reset}
@@ -35,7 +35,8 @@ use Rattle.world_steps.specs.Relation.{IsLent, IsClean, RoleFits, InLogin, InQue
 use Rattle.world_steps.specs.Steps.{gone, promised, gets_link, IsInHand}
 use Rattle.world_steps.specs.Worlds.{World, put, with_client, with_link, with_pair, with_book, after_in}
 use Rattle.book_lists.specs.Book.{Book}
-use Rattle.book_lists.specs.Outcomes.{Answer, Event, Reply, apply, apply_return}
+use Rattle.book_lists.specs.Outcomes.{Answer, Event, apply, apply_return}
+use Rattle.book_lists.specs.declared.events.Reply.{Reply}
 use Rattle.book_lists.specs.Laws.{IsPlain, PlainEventsAddNothing, ArrivalsNumber, AsksQueue, TakesLend, TakesStart, TakesEvict, ReturnsAdd, ReturnsClose, TicksClose, AddsNothing, StartsNothing, Lends, Starts, Drops, Numbers}
 use Rattle.world_steps.specs.Laws.{BookStepsKeep, LinkStepsKeep}
 use Rattle.world_steps.specs.Steps.{Gives}

@@ -16,9 +16,10 @@ use Rattle.start_key_laws.specs.StartKeys.{IsLawfulRow}
 use Rattle.login_core.specs.Talk.End.{Passed}
 use Rattle.login_core.specs.Dialogue.{LoginRow, ToLink, login}
 use Rattle.book_lists.specs.Book.{Book, Limits, empty_book}
-use Rattle.book_lists.specs.Outcomes.{Answer, Event, Reply, apply, apply_return}
+use Rattle.book_lists.specs.Outcomes.{Answer, Event, apply, apply_return}
+use Rattle.book_lists.specs.declared.events.Reply.{Reply}
 use Rattle.book_lists.specs.Outcomes.Event.{Arrive, Ask, Take, Tick}
-use Rattle.book_lists.specs.Outcomes.Reply.{Arrived, Lend, Start, Close, Done}
+use Rattle.book_lists.specs.declared.events.Reply.TheVariants.{Arrived, Lend, Start, Close, Done}
 use Rattle.book_lists.specs.Laws.{IsPlain}
 use Rattle.world_steps.specs.Clients.{AtBorder, Client, HasEnded, MayWrite, newcomer}
 use Rattle.world_steps.specs.Clients.Phase.{Absent, LoggingIn, Waiting, Starting, Served, Finishing, Refusing, Closed}
