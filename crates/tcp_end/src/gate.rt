@@ -13,6 +13,7 @@ use std::time::Duration;
 
 /// The client's connection among those of a poll, and the link's.
 const CLIENT: Token = Token(0);
+
 const LINK: Token = Token(1);
 
 /// As many events as one wait tells: the two connections have one each.

@@ -8,7 +8,7 @@
 //! both sides, and nothing is claimed of edges: one that was lost costs what is left of 100 ms.
 #![tactic(auto)]
 
-pub mod accepted;
+mod accepted;
 pub mod connection;
 pub mod dial;
 pub mod gate;

@@ -23,9 +23,14 @@ fn read_after(end: &mut TcpEnd, first: Moved) -> Moved {
     first
 }
 
+/// What may go to another thread, as an end does with its link.
+fn sent<T: Send>(value: T) -> T {
+    value
+}
+
 #[test]
 fn bytes_go_both_ways(rt: HostRuntime) -> Result<(), Fail> {
-    let (mut near, mut far) = pair(&rt)?;
+    let (mut near, mut far) = sent(pair(&rt)?);
     assert_eq!(rt; read(&mut near), (Moved::NotNow, [0; 4]));
     assert_eq!(rt; ClientEnd::write_some(&mut far, b"Z(49)"), Moved::Count(5));
     assert_eq!(rt; read_after(&mut near, Moved::NotNow), Moved::Count(4));
