@@ -10,7 +10,7 @@ ghost use Rattle.login_core.specs.Dialogue.{AtFirst, ToLink, ok};
 ghost use Rattle.login_core.specs.Logins.{Hears, after, goes_on, login_view, missing};
 ghost use Rattle.login_core.specs.Solo.{service_pieces};
 ghost use Rattle.login_core.specs.Talk.End.{Passed};
-ghost use Rattle.memory_lease.specs.Answers.{IsAllowed};
+ghost use Rattle.memory_lease.specs.Answers.{IsAnswer};
 ghost use Rattle.pool_app.specs.declared.fault.AppFault.TheVariants as told;
 ghost use Rattle.pool_app.specs.Replay.{IsLeft, IsReply, WritesReply, standing_catalogue, standing_settings, standing_users, standing_word};
 ghost use Rattle.pool_app.specs.Told.{Adds, IsKeyed, IsPastArrival, Says, WantsMemory, HasLinkKey, is_end, silence};
@@ -51,8 +51,7 @@ struct Service {
     cut: usize,
     dies_after: Option<u64>,
     ghost some: { 0 < cut },
-    ghost low: { 4 ≤ limit },
-    ghost high: { limit ≤ LONGEST_FRAME },
+    ghost all: { limit ≡ LONGEST_FRAME },
 }
 
 /// Puts this refusal; there is none for want of memory.
@@ -74,7 +73,7 @@ fn served(
     rest: &[u8],
 ) -> Result<BytesMut, AllocError>
     requires key { IsLinkKey (arc_value key.now) }
-    ensures { IfOk result (λ out. IsAllowed out.items (service_pieces (arc_value service.now.catalogue) (arc_value key.now) standing_word rest.now)) }
+    ensures { IfOk result (λ out. IsAnswer LONGEST_FRAME rest.now out.items (service_pieces (arc_value service.now.catalogue) (arc_value key.now) standing_word rest.now)) }
 {
     service.catalogue.is_lawful();
     let catalogue = Arc::try_clone(&service.catalogue)?;
