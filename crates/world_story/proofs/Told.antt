@@ -51,10 +51,10 @@ use Rattle.world_steps.specs.Steps.EndMove.{closes}
 use Rattle.world_model.specs.Headline.{QuietLeasesAreWhole}
 use Rattle.world_story.specs.Story.{Story, changed}
 
-abbrev the_catalogue : CatalogueOf
+abbrev pub the_catalogue : CatalogueOf
 the_catalogue = record { version = codes "16.0"; databases = codes "shop" ∷ []; tables = [] }
 
-lawful : IsLawfulCatalogue the_catalogue
+pub lawful : IsLawfulCatalogue the_catalogue
 lawful = record { version = ((omega arith, (omega arith, (omega arith, (omega arith, tt)))), omega arith); tables = tt }
 
 abbrev db : DbRow
@@ -63,25 +63,25 @@ db = record { name = codes "shop"; host = 127 ∷ 0 ∷ 0 ∷ 1 ∷ []; port = 5
 abbrev user : UserRow
 user = record { name = codes "ann"; secret = Plain (codes "p") }
 
-abbrev row : LoginRow
+abbrev pub row : LoginRow
 row = record { auth = Trust; names = record { followed = always_followed; ignored = [] }; admins = []; database = Some db; user = Some user }
 
-lawful_row : IsLawfulRow row.database
+pub lawful_row : IsLawfulRow row.database
 lawful_row = (omega arith, (omega arith, (omega arith, (omega arith, (omega arith, tt)))))
 
-abbrev key : StartKeyOf
+abbrev pub key : StartKeyOf
 key = record { row = codes "shop"; host = Some (127 ∷ 0 ∷ 0 ∷ 1 ∷ []); port = 5432; dbname = codes "shop"; user = codes "ann"; parameters = [] }
 
-abbrev word : ℕ → KeyWord
+abbrev pub word : ℕ → KeyWord
 word n = record { pid = n; secret = n; salt = [] }
 
-abbrev limits : Limits
+abbrev pub limits : Limits
 limits = record { max_clients = 9; max_links = 9; row_sizes = []; default_size = 9; wait_timeout = 0; lifetime = 3600; idle_timeout = 600 }
 
-abbrev hello : List ℕ
+abbrev pub hello : List ℕ
 hello = startup_message ((codes "user", codes "ann") ∷ (codes "database", codes "shop") ∷ [])
 
-abbrev change : FrameOf
+abbrev pub change : FrameOf
 change = query (codes "SET application_name TO 'x'")
 
 below : (bs : List ℕ) → AllByRecursion (λ b. b < 256) bs → AreBytes bs
@@ -89,7 +89,7 @@ below [] h i = omega arith
 below (b ∷ bs) h zero = h.0
 below (b ∷ bs) h (suc i) = below bs h.1 i
 
-bytes : (bs : List ℕ) → list_all (λ b. nat_lt b 256) bs ≡ true → AreBytes bs
+pub bytes : (bs : List ℕ) → list_all (λ b. nat_lt b 256) bs ≡ true → AreBytes bs
 bytes bs h = below bs (all-as (λ b. nat_lt b 256 ≡ true) (λ b. b < 256) (λ (b : ℕ) k. ltb-true b 256 k) bs (list_all-each (λ b. nat_lt b 256) bs h))
 
 abbrev nobody : Client
@@ -98,33 +98,33 @@ nobody = record { phase = Absent; number = None; row = row; word = word 0; sent 
 abbrev no_link : Link
 no_link = record { role = Unborn; key = key; alive = true; session = begun []; inbox = []; outbox = []; sent = []; received = [] }
 
-abbrev at_first : World
+abbrev pub at_first : World
 at_first = record { catalogue = λ _. the_catalogue; clients = λ _. nobody; links = λ _. no_link; book = empty_book limits }
 
-then_do : {w v : World} → Step w v → Reached w → Reached v
+unfoldable pub then_do : {w v : World} → Step w v → Reached w → Reached v
 then_do s h = goes_on h s
 
 abbrev back : List FrameOf
 back = command_complete (codes "DISCARD ALL") ∷ parameter_status (codes "application_name") [] ∷ ready_for_query IDLE ∷ []
 
-change-sent : IsSent change
+pub change-sent : IsSent change
 change-sent = record { whole = record { of_type = refl; size = omega arith }; bytes = bytes change.body refl }
 
 discard-sent : IsSent discard_all
 discard-sent = record { whole = record { of_type = refl; size = omega arith }; bytes = bytes discard_all.body refl }
 
-changed-are : AllByRecursion (IsFrame Server LONGEST_FRAME) changed
+pub changed-are : AllByRecursion (IsFrame Server LONGEST_FRAME) changed
 changed-are = (record { of_type = refl; size = omega arith }, (record { of_type = refl; size = omega arith }, (record { of_type = refl; size = omega arith }, tt)))
 
 back-are : AllByRecursion (IsFrame Server LONGEST_FRAME) back
 back-are = (record { of_type = refl; size = omega arith }, (record { of_type = refl; size = omega arith }, (record { of_type = refl; size = omega arith }, tt)))
 
-abbrev state_of : Result State Cause → State
+abbrev pub state_of : Result State Cause → State
 state_of (Ok s) = s
 state_of (Err cause) = begun []
 
 -- all that is held for a client is given to it
-gives_all : {w : World} (c : ℕ) → MayWrite (w.clients c).phase → Reached w → Reached (with_client w c (record (w.clients c) { for_client = []; out = (w.clients c).out ++ (w.clients c).for_client }))
+unfoldable pub gives_all : {w : World} (c : ℕ) → MayWrite (w.clients c).phase → Reached w → Reached (with_client w c (record (w.clients c) { for_client = []; out = (w.clients c).out ++ (w.clients c).for_client }))
 unfolding then_do
 gives_all {w} c m h = then_do (byte_step (by_client c (to_client (w.clients c).for_client [] m (sym (append-nil (w.clients c).for_client))))) h
 
