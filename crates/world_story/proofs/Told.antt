@@ -1,5 +1,5 @@
 -- The story, step by step.
-use Rattle.std.proofs.Common.{◌≡◌, ℕ, zero, suc, ◌<◌, List, true, [], ◌∷◌, ◌++◌, refl, sym, append-nil, inr, Some, None, Result, Ok, Err, arith, ltb-true}
+use Rattle.std.proofs.Common.{◌≡◌, ℕ, zero, suc, ◌<◌, List, true, [], ◌∷◌, ◌++◌, refl, sym, ap, append-nil, inr, Some, None, Result, Ok, Err, arith, ltb-true}
 use Rattle.std.specs.Prelude.{codes, nat_lt}
 use Rattle.std.specs.List.{AllByRecursion, flat_map, list_all}
 use Rattle.frame_view.specs.Frames.{AreBytes, FrameOf, IsFrame, cut_after, spelling}
@@ -15,7 +15,7 @@ use Rattle.ini_config.specs.declared.database_rows.DbRow.{DbRow}
 use Rattle.ini_config.specs.declared.option_values.AuthType.TheVariants.{Trust}
 use Rattle.user_file.specs.declared.user_table.UserRow.{UserRow}
 use Rattle.user_file.specs.declared.secrets.Secret.TheVariants.{Plain}
-use Rattle.session_values.specs.Lawful.{IsLawfulCatalogue}
+use Rattle.session_values.specs.Lawful.{IsLawfulCatalogue, IsLawfulKey}
 use Rattle.session_values.specs.Parameters.{accepted_of, date_styles}
 use Rattle.session_values.specs.declared.cause.Cause.{Cause}
 use Rattle.session_values.specs.Service.{welcome}
@@ -29,9 +29,14 @@ use Rattle.login_core.specs.Dialogue.{LoginRow, ok}
 use Rattle.book_lists.specs.Book.{Limits, empty_book}
 use Rattle.book_lists.specs.Outcomes.{apply, apply_return}
 use Rattle.world_steps.specs.Clients.{Client, MayWrite}
-use Rattle.world_steps.specs.Clients.Phase.{Absent}
+use Rattle.world_steps.specs.Clients.Phase.{Absent, Refusing}
+use Rattle.world_steps.specs.Clients.AtBorder.{past_login}
+use Rattle.message_view.specs.declared.refusal.Refusal.TheVariants.{ServerFailed}
+use Rattle.message_view.specs.Refusals.{refusal}
+use Rattle.session_laws.proofs.ByName.{fresh_is_reached, welcome_is_frames}
+use Rattle.login_keys.proofs.ByName.{passed_keys_are_link_keys}
 use Rattle.world_steps.specs.Clients.MayWrite.{served}
-use Rattle.world_steps.specs.Clients.HasEnded.{closed}
+use Rattle.world_steps.specs.Clients.HasEnded.{closed, refusing}
 use Rattle.world_steps.specs.Links.{Link}
 use Rattle.world_steps.specs.Links.Role.{Unborn}
 use Rattle.world_steps.specs.Worlds.{World, with_client}
@@ -44,17 +49,17 @@ use Rattle.world_steps.specs.Steps.ClientMove.{comes, sends, reads, passes}
 use Rattle.world_steps.specs.Steps.ByteStep.{by_client, by_lease, by_link}
 use Rattle.world_steps.specs.Steps.ClientBytes.{from_client, to_client}
 use Rattle.world_steps.specs.Steps.LeaseBytes.{to_link, from_link}
-use Rattle.world_steps.specs.Steps.LinkBytes.{to_reset, from_reset, server_answers}
-use Rattle.world_steps.specs.Steps.LinkStep.{starts, returns_used, ends_reset}
+use Rattle.world_steps.specs.Steps.LinkBytes.{to_reset, from_reset, server_answers, server_dies}
+use Rattle.world_steps.specs.Steps.LinkStep.{starts, returns_used, ends_reset, disposes_lent}
 use Rattle.world_steps.specs.Steps.EndStep.{of_end}
-use Rattle.world_steps.specs.Steps.EndMove.{closes}
+use Rattle.world_steps.specs.Steps.EndMove.{closes, refuses, refusal_to_client}
 use Rattle.world_model.specs.Headline.{QuietLeasesAreWhole}
 use Rattle.world_story.specs.Story.{Story, changed}
 
-abbrev the_catalogue : CatalogueOf
+abbrev pub the_catalogue : CatalogueOf
 the_catalogue = record { version = codes "16.0"; databases = codes "shop" ∷ []; tables = [] }
 
-lawful : IsLawfulCatalogue the_catalogue
+pub lawful : IsLawfulCatalogue the_catalogue
 lawful = record { version = ((omega arith, (omega arith, (omega arith, (omega arith, tt)))), omega arith); tables = tt }
 
 abbrev db : DbRow
@@ -63,25 +68,25 @@ db = record { name = codes "shop"; host = 127 ∷ 0 ∷ 0 ∷ 1 ∷ []; port = 5
 abbrev user : UserRow
 user = record { name = codes "ann"; secret = Plain (codes "p") }
 
-abbrev row : LoginRow
+abbrev pub row : LoginRow
 row = record { auth = Trust; names = record { followed = always_followed; ignored = [] }; admins = []; database = Some db; user = Some user }
 
-lawful_row : IsLawfulRow row.database
+pub lawful_row : IsLawfulRow row.database
 lawful_row = (omega arith, (omega arith, (omega arith, (omega arith, (omega arith, tt)))))
 
-abbrev key : StartKeyOf
+abbrev pub key : StartKeyOf
 key = record { row = codes "shop"; host = Some (127 ∷ 0 ∷ 0 ∷ 1 ∷ []); port = 5432; dbname = codes "shop"; user = codes "ann"; parameters = [] }
 
-abbrev word : ℕ → KeyWord
+abbrev pub word : ℕ → KeyWord
 word n = record { pid = n; secret = n; salt = [] }
 
-abbrev limits : Limits
+abbrev pub limits : Limits
 limits = record { max_clients = 9; max_links = 9; row_sizes = []; default_size = 9; wait_timeout = 0; lifetime = 3600; idle_timeout = 600 }
 
-abbrev hello : List ℕ
+abbrev pub hello : List ℕ
 hello = startup_message ((codes "user", codes "ann") ∷ (codes "database", codes "shop") ∷ [])
 
-abbrev change : FrameOf
+abbrev pub change : FrameOf
 change = query (codes "SET application_name TO 'x'")
 
 below : (bs : List ℕ) → AllByRecursion (λ b. b < 256) bs → AreBytes bs
@@ -89,7 +94,7 @@ below [] h i = omega arith
 below (b ∷ bs) h zero = h.0
 below (b ∷ bs) h (suc i) = below bs h.1 i
 
-bytes : (bs : List ℕ) → list_all (λ b. nat_lt b 256) bs ≡ true → AreBytes bs
+pub bytes : (bs : List ℕ) → list_all (λ b. nat_lt b 256) bs ≡ true → AreBytes bs
 bytes bs h = below bs (all-as (λ b. nat_lt b 256 ≡ true) (λ b. b < 256) (λ (b : ℕ) k. ltb-true b 256 k) bs (list_all-each (λ b. nat_lt b 256) bs h))
 
 abbrev nobody : Client
@@ -98,35 +103,49 @@ nobody = record { phase = Absent; number = None; row = row; word = word 0; sent 
 abbrev no_link : Link
 no_link = record { role = Unborn; key = key; alive = true; session = begun []; inbox = []; outbox = []; sent = []; received = [] }
 
-abbrev at_first : World
+abbrev pub at_first : World
 at_first = record { catalogue = λ _. the_catalogue; clients = λ _. nobody; links = λ _. no_link; book = empty_book limits }
 
-then_do : {w v : World} → Step w v → Reached w → Reached v
+unfoldable pub then_do : {w v : World} → Step w v → Reached w → Reached v
 then_do s h = goes_on h s
 
 abbrev back : List FrameOf
 back = command_complete (codes "DISCARD ALL") ∷ parameter_status (codes "application_name") [] ∷ ready_for_query IDLE ∷ []
 
-change-sent : IsSent change
+pub change-sent : IsSent change
 change-sent = record { whole = record { of_type = refl; size = omega arith }; bytes = bytes change.body refl }
 
 discard-sent : IsSent discard_all
 discard-sent = record { whole = record { of_type = refl; size = omega arith }; bytes = bytes discard_all.body refl }
 
-changed-are : AllByRecursion (IsFrame Server LONGEST_FRAME) changed
+pub changed-are : AllByRecursion (IsFrame Server LONGEST_FRAME) changed
 changed-are = (record { of_type = refl; size = omega arith }, (record { of_type = refl; size = omega arith }, (record { of_type = refl; size = omega arith }, tt)))
 
 back-are : AllByRecursion (IsFrame Server LONGEST_FRAME) back
 back-are = (record { of_type = refl; size = omega arith }, (record { of_type = refl; size = omega arith }, (record { of_type = refl; size = omega arith }, tt)))
 
-abbrev state_of : Result State Cause → State
+abbrev pub state_of : Result State Cause → State
 state_of (Ok s) = s
 state_of (Err cause) = begun []
 
 -- all that is held for a client is given to it
-gives_all : {w : World} (c : ℕ) → MayWrite (w.clients c).phase → Reached w → Reached (with_client w c (record (w.clients c) { for_client = []; out = (w.clients c).out ++ (w.clients c).for_client }))
+unfoldable pub gives_all : {w : World} (c : ℕ) → MayWrite (w.clients c).phase → Reached w → Reached (with_client w c (record (w.clients c) { for_client = []; out = (w.clients c).out ++ (w.clients c).for_client }))
 unfolding then_do
 gives_all {w} c m h = then_do (byte_step (by_client c (to_client (w.clients c).for_client [] m (sym (append-nil (w.clients c).for_client))))) h
+
+abbrev fresh_one : State
+fresh_one = state_of (fresh the_catalogue key)
+
+link_key : IsLawfulKey key
+unfolding cut_after text_at startup_of pair_at ended_at list_until
+link_key = (passed_keys_are_link_keys (λ _ _. row) (word 1) hello [] key (λ _ _. lawful_row) refl).client.lawful
+
+is_fresh : fresh the_catalogue key ≡ Ok fresh_one
+unfolding fresh started_over accepted_of date_styles
+is_fresh = refl
+
+greeting-are : AllByRecursion (IsFrame Server LONGEST_FRAME) (welcome fresh_one 2 2)
+greeting-are = welcome_is_frames the_catalogue key fresh_one 2 2 (fresh_is_reached the_catalogue key fresh_one lawful link_key is_fresh)
 
 pub story : QuietLeasesAreWhole → Story
 unfolding then_do apply apply_return cut_after text_at int16_at int32_at value_at list_at query_of parse_of bind_of target_of execute_of startup_of pair_at ended_at list_until literal_length unquoted tokens_after read ends pass take_value either with_item items definitions columns_at at_most_64 take_columns take_operands block assignment set reset show discard definition_list create drop_table value_list insert where_of end_of from_of select of_tokens less_semicolon phrase statement accepted_of date_styles started_over fresh step run_frames
@@ -171,6 +190,10 @@ story whole =
     let h24 = then_do (book_step (asks 2 2 key _ _ (record { phase = refl; number_is = refl }) (record { reply_is = refl; book_is = refl }))) h23 in
     let h25 = then_do (book_step (is_lent 2 2 1 key _ _ (record { phase = refl; number_is = refl }) (record { reply_is = refl; book_is = refl }) refl)) h24 in
     let h26 = gives_all 2 served h25 in
+    let h27 = then_do (byte_step (by_link 1 (server_dies [] [] refl))) h26 in
+    let h28 = then_do (end_step (of_end 2 (refuses ServerFailed served (past_login (welcome fresh_one 2 2) greeting-are refl)))) h27 in
+    let h29 = then_do (end_step (of_end 2 (refusal_to_client (refusal ServerFailed) [] (ap Refusing (sym (append-nil (refusal ServerFailed))))))) h28 in
+    let h30 = then_do (link_step (disposes_lent 2 1 refl refusing)) h29 in
     record {
       world = _;
       reached = h26;
@@ -179,4 +202,8 @@ story whole =
       before = ok ++ flat_map spelling (welcome (state_of (fresh the_catalogue key)) 1 1);
       first_given = refl;
       second_given = whole _ h26 2 1 refl (record { alive = refl; inbox = refl; outbox = refl; unread = refl; for_link = refl; for_client = refl });
+      later = _;
+      reached_later = h30;
+      second_refused = refl;
+      link_gone = refl;
     }
