@@ -71,7 +71,10 @@ fn bytes_that_are_there_need_no_wait(rt: HostRuntime) -> Result<(), Fail> {
     let (mut link, mut far) = pair(&rt)?;
     let mut gate = TcpGate::new(&rt, rt.alloc(), &mut client)?;
     gate.watch(&mut link);
-    assert_eq!(rt; ServerEnd::write_some(&mut far, &[7; 10_000]), Moved::Count(10_000));
+    assert_eq!(rt;
+        ServerEnd::write_some(&mut far, &[7; 10_000]),
+        Moved::Count(10_000)
+    );
     let mut turns = 0u32;
     for _ in 0..10_000 {
         turns = turns.saturating_add(read_by_turns(&mut gate, &mut link));
