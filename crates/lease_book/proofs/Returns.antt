@@ -1,7 +1,6 @@
 -- A link that is given back.
 use Rattle.std.proofs.Common.{◌≡◌, ℕ, suc, ◌+◌, ◌≤◌, ◌<◌, List, [], ◌∷◌, ◌++◌, Bool, true, false, cond, Option, None, Some, length, map, refl, sym, ap, ◌∙◌, subst, arith, length-append}
 use Rattle.std.specs.Prelude.{find, not, ◌==◌, ◌&&◌, ◌||◌, count_by}
-use Rattle.std.specs.List.{list_any}
 use Rattle.std.proofs.lemmas.Bool.{eqb-true}
 use Rattle.std.proofs.lemmas.List.{map-append}
 use Rattle.message_view.specs.declared.refusal.Refusal.TheVariants.{LastDecision}
@@ -19,24 +18,23 @@ use Rattle.book_lists.specs.declared.events.Reply.{Reply}
 use Rattle.book_lists.specs.declared.events.Reply.TheVariants.{Close, Done, Refuse, Stranger}
 use Rattle.book_register.specs.Kept.{Kept}
 use Rattle.lease_book.specs.Links.{HoldsLinks, Started, idle_with, handed_back, is_done, listed, may_hand_back, started}
-use Rattle.lease_book.proofs.Links.{count-cons, none_of, or_left, or_right}
 
 -- ---- the three ways
 
 pub return_last : (b : Book) (n : ℕ) (key : StartKeyOf) (born : ℕ) → (b.decisions == last_decision) ≡ true → apply_return b n key born ≡ record { book = b; reply = Refuse LastDecision }
 unfolding apply_return
-return_last b n key born e = ap (λ (x : Bool). cond {A = Answer} x (record { book = b; reply = Refuse LastDecision }) (cond (list_any (is_started_as n key born) b.lent) (apply b (GiveBack n)) (record { book = b; reply = Stranger }))) e
+return_last b n key born e = ap (λ (x : Bool). cond {A = Answer} x (record { book = b; reply = Refuse LastDecision }) (cond (is_started_as key born (find (is_link n) b.lent)) (apply b (GiveBack n)) (record { book = b; reply = Stranger }))) e
 
-pub return_strange : (b : Book) (n : ℕ) (key : StartKeyOf) (born : ℕ) → (b.decisions == last_decision) ≡ false → list_any (is_started_as n key born) b.lent ≡ false → apply_return b n key born ≡ record { book = b; reply = Stranger }
+pub return_strange : (b : Book) (n : ℕ) (key : StartKeyOf) (born : ℕ) → (b.decisions == last_decision) ≡ false → is_started_as key born (find (is_link n) b.lent) ≡ false → apply_return b n key born ≡ record { book = b; reply = Stranger }
 unfolding apply_return
 return_strange b n key born e s =
-    ap (λ (x : Bool). cond {A = Answer} x (record { book = b; reply = Refuse LastDecision }) (cond (list_any (is_started_as n key born) b.lent) (apply b (GiveBack n)) (record { book = b; reply = Stranger }))) e
+    ap (λ (x : Bool). cond {A = Answer} x (record { book = b; reply = Refuse LastDecision }) (cond (is_started_as key born (find (is_link n) b.lent)) (apply b (GiveBack n)) (record { book = b; reply = Stranger }))) e
     ∙ ap (λ (x : Bool). cond {A = Answer} x (apply b (GiveBack n)) (record { book = b; reply = Stranger })) s
 
-pub return_own : (b : Book) (n : ℕ) (key : StartKeyOf) (born : ℕ) → (b.decisions == last_decision) ≡ false → list_any (is_started_as n key born) b.lent ≡ true → apply_return b n key born ≡ apply b (GiveBack n)
+pub return_own : (b : Book) (n : ℕ) (key : StartKeyOf) (born : ℕ) → (b.decisions == last_decision) ≡ false → is_started_as key born (find (is_link n) b.lent) ≡ true → apply_return b n key born ≡ apply b (GiveBack n)
 unfolding apply_return
 return_own b n key born e s =
-    ap (λ (x : Bool). cond {A = Answer} x (record { book = b; reply = Refuse LastDecision }) (cond (list_any (is_started_as n key born) b.lent) (apply b (GiveBack n)) (record { book = b; reply = Stranger }))) e
+    ap (λ (x : Bool). cond {A = Answer} x (record { book = b; reply = Refuse LastDecision }) (cond (is_started_as key born (find (is_link n) b.lent)) (apply b (GiveBack n)) (record { book = b; reply = Stranger }))) e
     ∙ ap (λ (x : Bool). cond {A = Answer} x (apply b (GiveBack n)) (record { book = b; reply = Stranger })) s
 
 -- nothing is kept of an event after the last decision
@@ -53,7 +51,7 @@ same_number m n e = sym (eqb-true m n e)
 
 abbrev is_it : ℕ → StartKeyOf → ℕ → Option Link → Type 0
 is_it n key born None = ⊥
-is_it n key born (Some l) = is_started_as n key born l ≡ true
+is_it n key born (Some l) = (is_link n l ≡ true) × ((same_key l.key key && l.born == born) ≡ true)
 
 and_left : (a b : Bool) → (a && b) ≡ true → a ≡ true
 and_left true b e = refl
@@ -63,45 +61,17 @@ and_right : (a b : Bool) → (a && b) ≡ true → b ≡ true
 and_right true b e = e
 and_right false b e = cc
 
-or_one : (a b : Bool) → (a || b) ≡ true → b ≡ false → a ≡ true
-or_one true b e f = refl
-or_one false b e f = cc
-
-started_numbered : (n : ℕ) (key : StartKeyOf) (born : ℕ) (ls : List Link) → list_any (is_link n) ls ≡ false → list_any (is_started_as n key born) ls ≡ false
-started_numbered n key born [] e = refl
-started_numbered n key born (l ∷ ls) e =
-    let here : is_started_as n key born l ≡ false = ap (λ (x : Bool). x && (same_key l.key key && l.born == born)) (or_left (is_link n l) _ e) in
-    ap (λ (x : Bool). x || list_any (is_started_as n key born) ls) here ∙ started_numbered n key born ls (or_right (is_link n l) _ e)
-
-none_any : (p : Link → Bool) (ls : List Link) → count_by p ls ≡ 0 → list_any p ls ≡ false
-none_any p [] h = refl
-none_any p (l ∷ ls) h =
-    let at = none_of (p l) (count_by p ls) (sym (count-cons p l ls) ∙ h) in
-    ap (λ (x : Bool). x || list_any p ls) at.0 ∙ none_any p ls at.1
-
-zero_left : (m : ℕ) → cond {A = ℕ} true 1 0 + m ≤ 1 → m ≡ 0
-zero_left m h = omega arith
-
-less_left : (m : ℕ) → cond {A = ℕ} false 1 0 + m ≤ 1 → m ≤ 1
-less_left m h = omega arith
-
-found_it : (n : ℕ) (key : StartKeyOf) (born : ℕ) (ls : List Link) → count_by (is_link n) ls ≤ 1 → list_any (is_started_as n key born) ls ≡ true → is_it n key born (find (is_link n) ls)
-found_it n key born [] once any = cc
-found_it n key born (l ∷ ls) once any = at (is_link n l) refl (subst (λ (k : ℕ). k ≤ 1) (count-cons (is_link n) l ls) once) (λ h k. found_it n key born ls h k)
+found_it : (n : ℕ) (key : StartKeyOf) (born : ℕ) (ls : List Link) → is_started_as key born (find (is_link n) ls) ≡ true → is_it n key born (find (is_link n) ls)
+found_it n key born [] own = cc
+found_it n key born (l ∷ ls) own = at (is_link n l) refl own (found_it n key born ls)
   where
-    at : (b : Bool) → is_link n l ≡ b → cond {A = ℕ} (is_link n l) 1 0 + count_by (is_link n) ls ≤ 1 → (count_by (is_link n) ls ≤ 1 → list_any (is_started_as n key born) ls ≡ true → is_it n key born (find (is_link n) ls)) → is_it n key born (cond b (Some l) (find (is_link n) ls))
-    at true is once later =
-        let zero : count_by (is_link n) ls ≡ 0 = zero_left (count_by (is_link n) ls) (subst (λ (x : Bool). cond {A = ℕ} x 1 0 + count_by (is_link n) ls ≤ 1) is once) in
-        or_one (is_started_as n key born l) (list_any (is_started_as n key born) ls) any (started_numbered n key born ls (none_any (is_link n) ls zero))
-    at false is once later =
-        let few : count_by (is_link n) ls ≤ 1 = less_left (count_by (is_link n) ls) (subst (λ (x : Bool). cond {A = ℕ} x 1 0 + count_by (is_link n) ls ≤ 1) is once) in
-        let not_here : is_started_as n key born l ≡ false = ap (λ (x : Bool). x && (same_key l.key key && l.born == born)) is in
-        later few (sym (ap (λ (x : Bool). x || list_any (is_started_as n key born) ls) not_here) ∙ any)
+    at : (b : Bool) → is_link n l ≡ b → is_started_as key born (cond b (Some l) (find (is_link n) ls)) ≡ true → (is_started_as key born (find (is_link n) ls) ≡ true → is_it n key born (find (is_link n) ls)) → is_it n key born (cond b (Some l) (find (is_link n) ls))
+    at true is own later = (is, own)
+    at false is own later = later own
 
-listed_is : (n : ℕ) (key : StartKeyOf) (born : ℕ) (l : Link) → is_started_as n key born l ≡ true → listed l ≡ record { number = n; key = key; born = born }
-listed_is n key born l e =
-    let number : l.number ≡ n = eqb-true l.number n (and_left (is_link n l) _ e) in
-    let both = and_right (is_link n l) _ e in
+listed_is : (n : ℕ) (key : StartKeyOf) (born : ℕ) (l : Link) → is_link n l ≡ true → (same_key l.key key && l.born == born) ≡ true → listed l ≡ record { number = n; key = key; born = born }
+listed_is n key born l e both =
+    let number : l.number ≡ n = eqb-true l.number n e in
     let its_key : l.key ≡ key = (same_keys-one l.key key).0 (and_left (same_key l.key key) _ both) in
     let its_born : l.born ≡ born = eqb-true l.born born (and_right (same_key l.key key) _ both) in
     λ i. record { number = number i; key = its_key i; born = its_born i }
@@ -129,8 +99,8 @@ returned_gives b n key born (Some l) it =
     let closed : Answer = record { book = loses b l.number; reply = Close l.number } in
     let done : Answer = record { book = record (loses b l.number) { idle = b.idle ++ record l { since = b.clock } ∷ [] }; reply = Done } in
     both (Returned b n key born) (is_old b l || is_crowded b l) closed done
-    (record { kept = λ e. cc; stays = λ e. refl; hands_back = λ e. and_left (is_link n l) _ it })
-    (record { kept = λ e. map-append listed b.idle (record l { since = b.clock } ∷ []) ∙ ap (λ (s : Started). map listed b.idle ++ s ∷ []) (listed_is n key born l it); stays = λ e. cc; hands_back = λ e. cc })
+    (record { kept = λ e. cc; stays = λ e. refl; hands_back = λ e. it.0 })
+    (record { kept = λ e. map-append listed b.idle (record l { since = b.clock } ∷ []) ∙ ap (λ (s : Started). map listed b.idle ++ s ∷ []) (listed_is n key born l it.0 it.1); stays = λ e. cc; hands_back = λ e. cc })
 
 counted_idle : (b : Book) (k : Option Kind) → (counted b k).idle ≡ b.idle
 counted_idle b None = refl
@@ -141,40 +111,37 @@ returned_decided b n key born a r =
     let same = counted_idle a.book (kind_of b (GiveBack n) a.reply) in
     record { kept = λ e. ap (map listed) same ∙ r.kept e; stays = λ e. same ∙ r.stays e; hands_back = r.hands_back }
 
-returned_apply : (b : Book) (n : ℕ) (key : StartKeyOf) (born : ℕ) → Kept b → list_any (is_started_as n key born) b.lent ≡ true → Returned b n key born (apply b (GiveBack n))
+returned_apply : (b : Book) (n : ℕ) (key : StartKeyOf) (born : ℕ) → is_started_as key born (find (is_link n) b.lent) ≡ true → Returned b n key born (apply b (GiveBack n))
 unfolding apply
-returned_apply b n key born room any =
+returned_apply b n key born own =
     both (Returned b n key born) (b.decisions == last_decision) _ _ (returned_refused b n key born)
     (both (Returned b n key born) (is_strange b (GiveBack n)) _ _ (returned_strange b n key born)
-    (returned_decided b n key born (gives_back b (find (is_link n) b.lent)) (returned_gives b n key born (find (is_link n) b.lent) (found_it n key born b.lent (once_lent b n room) any))))
-  where
-    once_lent : (x : Book) (m : ℕ) → Kept x → count_by (is_link m) x.lent ≤ 1
-    once_lent x m r = omega (arith, r.links.once m)
+    (returned_decided b n key born (gives_back b (find (is_link n) b.lent)) (returned_gives b n key born (find (is_link n) b.lent) (found_it n key born b.lent own))))
 
-returned_own : (b : Book) (n : ℕ) (key : StartKeyOf) (born : ℕ) (own : Bool) → list_any (is_started_as n key born) b.lent ≡ own → Kept b → Returned b n key born (cond own (apply b (GiveBack n)) (record { book = b; reply = Stranger }))
-returned_own b n key born true any room = returned_apply b n key born room any
-returned_own b n key born false any room = returned_strange b n key born
+returned_own : (b : Book) (n : ℕ) (key : StartKeyOf) (born : ℕ) (own : Bool) → is_started_as key born (find (is_link n) b.lent) ≡ own → Returned b n key born (cond own (apply b (GiveBack n)) (record { book = b; reply = Stranger }))
+returned_own b n key born true is = returned_apply b n key born is
+returned_own b n key born false is = returned_strange b n key born
 
-returned : (b : Book) (n : ℕ) (key : StartKeyOf) (born : ℕ) → Kept b → Returned b n key born (apply_return b n key born)
+returned : (b : Book) (n : ℕ) (key : StartKeyOf) (born : ℕ) → Returned b n key born (apply_return b n key born)
 unfolding apply_return
-returned b n key born room =
-    both (Returned b n key born) (b.decisions == last_decision) _ _ (returned_refused b n key born) (returned_own b n key born (list_any (is_started_as n key born) b.lent) refl room)
+returned b n key born =
+    both (Returned b n key born) (b.decisions == last_decision) _ _ (returned_refused b n key born) (returned_own b n key born (is_started_as key born (find (is_link n) b.lent)) refl)
 
 -- ---- as the book goes on
 
 pub may_be_handed : (idle : List LinkView) (b : Book) (l : LinkView) (told : Reply) → HoldsLinks idle b → told ≡ (apply_return b l.number l.key l.born).reply → is_done told ≡ false → may_hand_back l.number told ≡ true
 may_be_handed idle b l told h is d =
-    let r = returned b l.number l.key l.born h.kept in
+    let r = returned b l.number l.key l.born in
     subst (λ (x : Reply). may_hand_back l.number x ≡ true) (sym is) (r.hands_back (subst (λ (x : Reply). is_done x ≡ false) is d))
 
 pub still_holds : (idle : List LinkView) (b lists : Book) (l : LinkView) (told : Reply) → HoldsLinks idle b → lists ≡ (apply_return b l.number l.key l.born).book → told ≡ (apply_return b l.number l.key l.born).reply → is_done told ≡ false → (Kept b → Kept lists) → HoldsLinks idle lists
 still_holds idle b lists l told h new is d room =
-    let r = returned b l.number l.key l.born h.kept in
+    let r = returned b l.number l.key l.born in
     record { same = h.same ∙ ap (map listed) (sym (ap (λ (x : Book). x.idle) new ∙ r.stays (subst (λ (x : Reply). is_done x ≡ false) is d))); kept = room h.kept }
 
 pub holds_one_more : (idle next : List LinkView) (b lists : Book) (l : LinkView) (told : Reply) → HoldsLinks idle b → lists ≡ (apply_return b l.number l.key l.born).book → told ≡ (apply_return b l.number l.key l.born).reply → is_done told ≡ true → (Kept b → Kept lists) → next ≡ idle ++ l ∷ [] → HoldsLinks next lists
 holds_one_more idle next b lists l told h new is d room n =
-    let r = returned b l.number l.key l.born h.kept in
+    let r = returned b l.number l.key l.born in
     let grown : map listed lists.idle ≡ map listed b.idle ++ started l ∷ [] = ap (λ (x : Book). map listed x.idle) new ∙ r.kept (subst (λ (x : Reply). is_done x ≡ true) is d) in
     record { same = ap (map started) n ∙ map-append started idle (l ∷ []) ∙ ap (λ (s : List Started). s ++ started l ∷ []) h.same ∙ sym grown; kept = room h.kept }
 

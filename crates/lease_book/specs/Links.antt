@@ -1,10 +1,9 @@
 -- Events and replies that carry links, and what becomes of the links that are idle.
 use Rattle.std.specs.Prelude.{◌≡◌, ℕ, Bool, true, false, List, [], ◌∷◌, ◌++◌, Option, Some, None, not, cond, ◌==◌, map, filter, find}
 use Rattle.std.specs.Arc.{arc_value}
-use Rattle.std.specs.List.{list_any}
 use Rattle.session_values.specs.State.{StartKeyOf}
 use Rattle.link_run.specs.Links.{LinkView}
-use Rattle.book_lists.specs.Book.{Book, Link}
+use Rattle.book_lists.specs.Book.{Book, Link, is_link}
 use Rattle.book_lists.specs.Outcomes.{Answer, apply, apply_return, is_started_as}
 use Rattle.book_lists.specs.Outcomes.{Event as ListsEvent}
 use Rattle.book_lists.specs.Outcomes.Event.{Arrive, Ask, Take, GiveBack, Lost, StartFailed, Leave, Tick, NewLimits, Pause, Resume, Shutdown}
@@ -134,7 +133,7 @@ module _ {E : Type 0} where
 
   -- a link that is given back is one that was started as this
   abbrev pub is_own : Book → Event E → Bool
-  is_own b (event.GiveBack l) = list_any (is_started_as l.number l.key l.born) b.lent
+  is_own b (event.GiveBack l) = is_started_as l.key l.born (find (is_link l.number) b.lent)
   is_own b _ = true
 
   abbrev pub answered : Book → Event E → Answer

@@ -1,11 +1,10 @@
 //! The lease book, with its idle links.
-ghost use Rattle.std.specs.Prelude.{◌≡◌, ◌+◌, [], ◌∷◌, ◌++◌, IfOk, Some, cond, false, true, length};
+ghost use Rattle.std.specs.Prelude.{find, ◌≡◌, ◌+◌, [], ◌∷◌, ◌++◌, IfOk, Some, cond, false, true, length};
 ghost use Rattle.std.specs.Arc.{arc_value};
-ghost use Rattle.book_lists.specs.Book.{empty_book};
+ghost use Rattle.book_lists.specs.Book.{empty_book, is_link};
 ghost use Rattle.book_lists.specs.Events.{event_of};
 ghost use Rattle.book_lists.specs.Outcomes.{apply, apply_return, is_started_as};
 ghost use Rattle.book_lists.specs.Outcomes.Event.{GiveBack};
-ghost use Rattle.std.specs.List.{list_any};
 ghost use Rattle.book_lists.specs.Replay.{noted_of};
 ghost use Rattle.lease_book.specs.Links.{answered, found, goes_out, handed, handed_after, handed_back, history_after, idle_after, idle_with, is_done, is_return, IsTwice, left, may_hand_back, number_of, reply_of};
 
@@ -154,7 +153,7 @@ impl<E: ServerEnd> Book<E> {
     #[tactic(auto, using(crate::proofs::Returns::done_kept))]
     fn give_back(&mut self, pass: u64, link: CleanLink<E>) -> Reply<E>
         ensures lists { self.new.lists ≡ (apply_return self.old.lists link.number link.key link.born).book }
-        ensures history { self.new.history ≡ cond (list_any (is_started_as link.number link.key link.born) self.old.lists.lent) (noted_of self.old.lists pass (GiveBack link.number) self.old.history) self.old.history }
+        ensures history { self.new.history ≡ cond (is_started_as link.key link.born (find (is_link link.number) self.old.lists.lent)) (noted_of self.old.lists pass (GiveBack link.number) self.old.history) self.old.history }
         ensures reply { reply_of result ≡ (apply_return self.old.lists link.number link.key link.born).reply }
         ensures idle { self.new.idle ≡ idle_with link (apply_return self.old.lists link.number link.key link.born).reply self.old.idle }
         ensures handed { handed result ≡ handed_back link (apply_return self.old.lists link.number link.key link.born).reply }

@@ -1,8 +1,7 @@
 //! The lists of the lease book with the decisions that led to them: the last 256 are kept, and the older ones are in the base.
-ghost use Rattle.std.specs.Prelude.{◌≡◌, ◌+◌, [], IfOk, cond, length};
+ghost use Rattle.std.specs.Prelude.{find, ◌≡◌, ◌+◌, [], IfOk, cond, length};
 ghost use Rattle.std.specs.Arc.{arc_value};
-ghost use Rattle.std.specs.List.{list_any};
-ghost use Rattle.book_lists.specs.Book.{empty_book};
+ghost use Rattle.book_lists.specs.Book.{empty_book, is_link};
 ghost use Rattle.book_lists.specs.Events.{event_of};
 ghost use Rattle.book_lists.specs.Outcomes.{apply, apply_return, is_started_as};
 ghost use Rattle.book_lists.specs.Outcomes.Event.{GiveBack};
@@ -140,7 +139,7 @@ impl Register {
         ensures kept { Kept self.old.lists → Kept self.new.lists }
         ensures lists { self.new.lists ≡ (apply_return self.old.lists number key.now born).book }
         ensures reply { result ≡ (apply_return self.old.lists number key.now born).reply }
-        ensures history { self.new.history ≡ cond (list_any (is_started_as number key.now born) self.old.lists.lent) (noted_of self.old.lists pass (GiveBack number) self.old.history) self.old.history }
+        ensures history { self.new.history ≡ cond (is_started_as key.now born (find (is_link number) self.old.lists.lent)) (noted_of self.old.lists pass (GiveBack number) self.old.history) self.old.history }
     {
         if self.lists.decisions() == u64::MAX {
             return Reply::Refuse(Refusal::LastDecision);
