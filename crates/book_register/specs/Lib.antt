@@ -1,1 +1,3 @@
 pub mod Finds
+pub mod Kept
+pub mod Room

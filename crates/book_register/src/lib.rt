@@ -1,5 +1,6 @@
 //! The register of the lease book: its lists, and what each event makes of them. It takes no memory after it was made.
 #![tactic(auto)]
 
+mod board;
 mod finds;
 pub mod rows;
