@@ -1,3 +1,4 @@
 pub mod Finds
 pub mod Kept
 pub mod Room
+pub mod Choices

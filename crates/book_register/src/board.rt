@@ -1,11 +1,14 @@
 //! The lists, and what an event makes of them, in the definition's order and words.
-ghost use Rattle.std.specs.Prelude.{◌≡◌, ◌<◌, ◌≤◌, suc, ◌+◌, ◌++◌, ◌==◌, ◌&&◌, ◌||◌, [], ◌∷◌, Some, None, true, false, nat_lt, not, find, length};
+ghost use Rattle.std.specs.Prelude.{◌≡◌, ◌<◌, ◌≤◌, suc, ◌+◌, ◌++◌, ◌==◌, ◌&&◌, ◌||◌, [], ◌∷◌, Some, None, true, false, nat_lt, not, cond, count_by, ℕ, find, position, slice_get, length};
 ghost use Rattle.std.specs.Arc.{arc_value};
 ghost use Rattle.std.specs.List.{list_any};
 ghost use Rattle.start_keys.specs.Keys.{same_key};
 ghost use Rattle.book_lists.specs.Book as book;
+ghost use Rattle.book_lists.specs.Book.{Ticket as TicketRow};
 ghost use Rattle.book_lists.specs.Outcomes as outcome;
-ghost use Rattle.book_lists.specs.declared.events.Reply.TheVariants.{Done};
+ghost use Rattle.book_lists.specs.declared.events.Reply.TheVariants.{Done, Refuse};
+ghost use Rattle.book_lists.specs.declared.limits.TheConstants.{MOST_LINKS};
+ghost use Rattle.book_register.specs.Choices.{Chooses, Gives, eviction_of};
 ghost use Rattle.book_register.specs.Kept.{Kept};
 
 use crate::finds::{count_of_pool, drop_client, drop_link, drop_ticket, first_of_pool, has_client, last_of_key, place_of, put_in_state, take_out, take_ticket, ticket_of, waiting, waiting_before};
@@ -174,4 +177,288 @@ impl Board {
     {
         count_of_pool(&self.lent, pool) + count_of_pool(&self.idle, pool)
     }
+
+    /// Whether a ticket has waited for as long as it may.
+    fn has_waited(&self, ticket: &Ticket) -> bool
+        ensures { result ≡ outcome.has_waited self.now ticket.now }
+    {
+        let limits: &Limits = &self.limits;
+        let timeout = u64::from(limits.query_wait_timeout);
+        timeout != 0 && timeout <= self.clock.saturating_sub(ticket.since)
+    }
+
+    /// Whether the key's pool has room for a link more.
+    fn has_pool_room(&self, pool: &StartKey) -> bool
+        ensures { result ≡ nat_lt (book.pool_count self.now pool.now) (book.pool_size self.now.limits pool.now) }
+    {
+        let limits: &Limits = &self.limits;
+        self.pool_count(pool) < limits.pool_size(pool.row.as_slice()) as usize
+    }
+
+    /// Whether the book has room for a link more.
+    fn has_room(&self) -> bool
+        ensures { result ≡ nat_lt (book.link_count self.now) self.now.limits.max_links }
+    {
+        let limits: &Limits = &self.limits;
+        self.link_count() < limits.max_links as usize
+    }
+
+    /// What the first ticket of its pool is answered.
+    #[tactic(auto, using(crate::proofs::Choices::lend_chosen))]
+    fn choice(&self, ticket: &Ticket) -> Choice
+        ensures { Chooses self.now ticket.now result }
+    {
+        match last_of_key(&self.idle, &ticket.key) {
+            Some(place) => Choice::Lend(place),
+            None => self.room_for(ticket),
+        }
+    }
+
+    /// What it is answered where no idle link is of its key.
+    #[tactic(auto, using(crate::proofs::Choices::start_chosen, crate::proofs::Choices::book_full, crate::proofs::Choices::pool_full))]
+    fn room_for(&self, ticket: &Ticket) -> Choice
+        requires { book.latest_of ticket.now.key self.now.idle ≡ None }
+        ensures { Chooses self.now ticket.now result }
+    {
+        if !self.has_pool_room(&ticket.key) {
+            return eviction(first_of_pool(&self.idle, &ticket.key));
+        }
+        if self.has_room() {
+            return Choice::Start;
+        }
+        eviction(first(&self.idle))
+    }
+
+    /// A link goes to the ticket's client. Both have been taken out.
+    fn lends(&mut self, ticket: Ticket, link: Link) -> Reply
+        requires room { length self.old.lent < MOST_LINKS }
+        requires more { self.old.reuses < outcome.last_decision }
+        ensures book { self.new ≡ record ((outcome.lends self.old ticket link).book) { tickets = self.old.tickets; idle = self.old.idle } }
+        ensures reply { result ≡ (outcome.lends self.old ticket link).reply }
+    {
+        let number = link.number;
+        put_in_state(&mut self.clients, ClientState::Active, ticket.client);
+        self.lent.push_reserved(link);
+        self.reuses += 1;
+        Reply::Lend(number)
+    }
+
+    /// A link is to be started for the ticket's client. The ticket has been taken out.
+    fn starts(&mut self, ticket: Ticket, evicted: Option<u64>) -> Reply
+        requires room { length self.old.lent < MOST_LINKS }
+        requires more { self.old.starts < outcome.last_decision }
+        requires next { self.old.next_link ≤ outcome.last_decision }
+        ensures book { self.new ≡ record ((outcome.starts self.old ticket self.old.idle evicted).book) { tickets = self.old.tickets } }
+        ensures reply { result ≡ (outcome.starts self.old ticket self.old.idle evicted).reply }
+    {
+        let Ticket { client, key, .. } = ticket;
+        let born = self.clock;
+        self.last_link += 1;
+        self.starts += 1;
+        let link = self.last_link;
+        put_in_state(&mut self.clients, ClientState::Active, client);
+        self.lent.push_reserved(Link {
+            number: link,
+            key,
+            born,
+            since: born,
+        });
+        Reply::Start {
+            link,
+            born,
+            evicted,
+        }
+    }
+
+    /// A client takes its link, if it may have one now.
+    pub fn takes(&mut self, client: u64) -> Reply
+        requires kept { Kept self.old }
+        requires more { self.old.decisions < outcome.last_decision }
+        ensures { Gives self.new result (outcome.takes self.old (find (book.is_of client) self.old.tickets)) }
+    {
+        match ticket_of(&self.tickets, client) {
+            Some(place) => self.takes_by(place, client),
+            None => Reply::Stranger,
+        }
+    }
+
+    /// Whether a ticket waits on that so many of its pool stand before.
+    fn must_wait(&self, before: usize) -> bool
+        ensures { result ≡ (self.now.is_paused || not (before == 0)) }
+    {
+        self.is_paused || before != 0
+    }
+
+    /// The client takes its link by its ticket, which is at this place.
+    fn takes_by(&mut self, place: usize, client: u64) -> Reply
+        requires found { position (book.is_of client) self.old.tickets ≡ Some place }
+        requires kept { Kept self.old }
+        requires more { self.old.decisions < outcome.last_decision }
+        ensures { Gives self.new result (outcome.takes self.old (find (book.is_of client) self.old.tickets)) }
+    {
+        let ticket = &self.tickets[place];
+        if self.is_shut {
+            return self.loses_ticket(client, Refusal::ShuttingDown);
+        }
+        if self.has_waited(ticket) {
+            return self.loses_ticket(client, Refusal::WaitedTooLong);
+        }
+        let before = waiting_before(&self.tickets, place, &ticket.key, client);
+        if self.must_wait(before) {
+            return Reply::Queued(before as u64);
+        }
+        self.grants(place)
+    }
+
+    /// The client's ticket goes.
+    fn loses_ticket(&mut self, client: u64, refusal: Refusal) -> Reply
+        ensures book { self.new ≡ record self.old { tickets = book.without_ticket client self.old.tickets } }
+        ensures reply { result ≡ Refuse refusal }
+    {
+        drop_ticket(&mut self.tickets, client);
+        Reply::Refuse(refusal)
+    }
+
+    /// What the first ticket of its pool gets, which is at this place.
+    fn grants(&mut self, place: usize) -> Reply
+        requires bound { place < length self.old.tickets }
+        requires first { (t : TicketRow) → slice_get self.old.tickets place ≡ Some t → book.waiting_before t.key t.client self.old.tickets ≡ 0 }
+        requires kept { Kept self.old }
+        requires more { self.old.decisions < outcome.last_decision }
+        ensures { (t : TicketRow) → slice_get self.old.tickets place ≡ Some t → Gives self.new result (outcome.grants self.old t (book.latest_of t.key self.old.idle)) }
+    {
+        let ticket = &self.tickets[place];
+        match self.choice(ticket) {
+            Choice::Lend(idle) => {
+                let ticket = take_ticket(&mut self.tickets, place);
+                let link = take_out(&mut self.idle, idle);
+                self.lends(ticket, link)
+            }
+            Choice::Start => {
+                let ticket = take_ticket(&mut self.tickets, place);
+                self.starts(ticket, None)
+            }
+            Choice::Evict(idle) => {
+                let ticket = take_ticket(&mut self.tickets, place);
+                let old = take_out(&mut self.idle, idle);
+                self.evictions += 1;
+                self.starts(ticket, Some(old.number))
+            }
+            Choice::Wait => Reply::Queued(0),
+        }
+    }
+
+    /// A lent link comes back: it is kept, or to be closed.
+    pub fn gives_back(&mut self, number: u64) -> Reply
+        requires kept { Kept self.old }
+        ensures { Gives self.new result (outcome.gives_back self.old (find (book.is_link number) self.old.lent)) }
+    {
+        match place_of(&self.lent, number) {
+            Some(place) => self.takes_back(place, number),
+            None => Reply::Stranger,
+        }
+    }
+
+    /// Whether a link that comes back is to be closed.
+    fn closes(&self, link: &Link) -> bool
+        ensures { result ≡ (outcome.is_old self.now link.now || outcome.is_crowded self.now link.now) }
+    {
+        self.is_old(link) || self.is_crowded(link)
+    }
+
+    /// The link comes back that is lent at this place.
+    fn takes_back(&mut self, place: usize, number: u64) -> Reply
+        requires found { position (book.is_link number) self.old.lent ≡ Some place }
+        requires kept { Kept self.old }
+        ensures { Gives self.new result (outcome.gives_back self.old (find (book.is_link number) self.old.lent)) }
+    {
+        let link = &self.lent[place];
+        let closes = self.closes(link);
+        let link = take_out(&mut self.lent, place);
+        if closes {
+            return Reply::Close(link.number);
+        }
+        self.keeps(link)
+    }
+
+    /// The link, which has been taken out, lies idle from now on.
+    fn keeps(&mut self, link: Link) -> Reply
+        requires room { length self.old.idle < MOST_LINKS }
+        ensures book { self.new ≡ record self.old { idle = self.old.idle ++ record link { since = self.old.clock } ∷ [] } }
+        ensures reply { result ≡ Done }
+    {
+        let Link {
+            number, key, born, ..
+        } = link;
+        self.idle.push_reserved(Link {
+            number,
+            key,
+            born,
+            since: self.clock,
+        });
+        Reply::Done
+    }
+
+    /// It is this second: the first idle link that is to be closed goes.
+    pub fn ticks(&mut self, now: u64) -> Reply
+        requires kept { Kept self.old }
+        ensures { Gives self.new result (outcome.closes (outcome.at_clock self.old now) (find (outcome.is_stale (outcome.at_clock self.old now)) self.old.idle)) }
+    {
+        self.clock = later(self.clock, now);
+        self.closes_first()
+    }
+
+    /// The first idle link goes that is to be closed.
+    fn closes_first(&mut self) -> Reply
+        requires once { (n : ℕ) → count_by (book.is_link n) self.old.idle ≤ 1 }
+        ensures { Gives self.new result (outcome.closes self.old (find (outcome.is_stale self.old) self.old.idle)) }
+    {
+        match self.first_stale() {
+            Some(place) => {
+                let link = take_out(&mut self.idle, place);
+                Reply::Close(link.number)
+            }
+            None => Reply::Done,
+        }
+    }
+
+    /// Where the first idle link stands that is to be closed.
+    fn first_stale(&self) -> Option<usize>
+        ensures { result ≡ position (outcome.is_stale self.now) self.now.idle }
+    {
+        self.idle.iter().position(|l| self.is_stale(l))
+    }
+}
+
+/// The later of two seconds.
+fn later(clock: u64, now: u64) -> u64
+    ensures { result ≡ cond (nat_lt clock now) now clock }
+{
+    if clock < now { now } else { clock }
+}
+
+/// What the first ticket of its pool is answered; links by their places among the idle ones.
+enum Choice {
+    Lend(usize),
+    Start,
+    Evict(usize),
+    Wait,
+}
+
+/// To close this link for another's start; to wait, where there is none.
+fn eviction(place: Option<usize>) -> Choice
+    ensures { result ≡ eviction_of place }
+{
+    match place {
+        Some(place) => Choice::Evict(place),
+        None => Choice::Wait,
+    }
+}
+
+/// The place of the first link.
+#[tactic(auto, using(crate::proofs::Choices::first_is))]
+fn first(links: &[Link]) -> Option<usize>
+    ensures { result ≡ position (λ l. true) links.now }
+{
+    if links.is_empty() { None } else { Some(0) }
 }
