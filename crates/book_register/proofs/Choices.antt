@@ -1,16 +1,16 @@
 -- What the first ticket of a pool is answered, by what is found among the idle links.
-use Rattle.std.proofs.Common.{◌≡◌, ℕ, suc, zero, ◌≤◌, ◌<◌, Bool, true, false, List, [], ◌∷◌, length, Option, None, Some, cond, refl, sym, ap, ◌∙◌, subst, arith}
+use Rattle.std.proofs.Common.{◌≡◌, ℕ, suc, zero, ◌≤◌, ◌<◌, Bool, true, false, List, [], ◌∷◌, length, Option, None, Some, cond, refl, sym, ap, ◌∙◌, arith}
 use Rattle.std.specs.Prelude.{position, find, slice_get, nat_lt, ◌==◌}
 use Rattle.std.specs.List.{position_or_len}
 use Rattle.std.proofs.Math.Dec.{ltb}
 use Rattle.std.proofs.lemmas.Bool.Decides.{nat_tests}
 use Rattle.std.proofs.lemmas.List.Folds.{find_at}
 use Rattle.start_keys.specs.Keys.{same_key}
-use Rattle.book_lists.specs.Book.{Book, Link, Ticket, in_pool, latest_of, link_count, pool_count, pool_size, without}
-use Rattle.book_lists.specs.Outcomes.{Answer, evicts, grants, lends, starts, waits}
+use Rattle.book_lists.specs.Book.{Book, Link, Ticket, in_pool, latest_of, link_count, pool_count, pool_size}
+use Rattle.book_lists.specs.Outcomes.{Answer, evicts, grants, starts}
 use Rattle.book_register.specs.Choices.{Chooses, eviction_of}
 use Rattle.book_register.specs.Finds.{IsLast}
-use Rattle.book_register.specs.declared.board.Choice.TheVariants.{Lend, Start, Evict, Wait}
+use Rattle.book_register.specs.declared.board.Choice.TheVariants.{Lend, Start}
 
 at_place : (n len i : ℕ) (b : Bool) → ltb n len ≡ b → cond b (Some n) None ≡ Some i → (i ≡ n) × (n < len)
 at_place n len i true e h = (cc, grind (arith, nat_tests))

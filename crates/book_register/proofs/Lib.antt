@@ -1,3 +1,4 @@
 pub mod Places
 pub mod Choices
 pub mod Takes
+pub mod Returns

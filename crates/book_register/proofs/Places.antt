@@ -1,8 +1,8 @@
 -- Places in a list, and what one row out of it leaves.
-use Rattle.std.proofs.Common.{get_or, ◌≡◌, ℕ, suc, zero, ◌+◌, ◌≤◌, ◌<◌, Bool, true, false, List, [], ◌∷◌, ◌++◌, length, take, drop, length-take, map, Option, None, Some, cond, refl, sym, ap, ◌∙◌, subst, arith, add_assoc, add-suc}
-use Rattle.std.specs.Prelude.{remove, position, filter, not, count_by, slice_get, ◌==◌}
-use Rattle.std.specs.List.{find, position_or_len, prefix_len, sum_by, list_any}
-use Rattle.std.proofs.lemmas.List.Sums.{sum_by-append, sum_by-cons, get_or-le-sum_by, length-filter}
+use Rattle.std.proofs.Common.{get_or, ◌≡◌, ℕ, suc, zero, ◌+◌, ◌≤◌, ◌<◌, Bool, true, false, List, [], ◌∷◌, ◌++◌, length, take, length-take, Option, None, Some, cond, refl, sym, ap, ◌∙◌, subst, arith}
+use Rattle.std.specs.Prelude.{remove, position, filter, not, count_by, slice_get}
+use Rattle.std.specs.List.{prefix_len}
+use Rattle.std.proofs.lemmas.List.Sums.{sum_by-append, sum_by-cons, get_or-le-sum_by}
 use Rattle.std.proofs.Math.Dec.{ltb}
 use Rattle.std.proofs.lemmas.Bool.Decides.{nat_tests}
 use Rattle.std.proofs.lemmas.Grind.{common_steps}
@@ -126,6 +126,7 @@ last_stays p xs i d last h e l = subst (λ ys. IsLast p ys last) (sym (more_take
   where
     same : find_last p (take i xs ++ get_or xs i d ∷ []) ≡ find_last p (take i xs)
     same = last_of_one_more p (take i xs) (get_or xs i d) ∙ ap (λ b. or_else (cond b (Some (get_or xs i d)) None) (find_last p (take i xs))) e
+
     one_on : (o : Option ℕ) → IsLast p (take i xs) o → IsLast p (take i xs ++ get_or xs i d ∷ []) o
     one_on None k = same ∙ k
     one_on (Some n) k =
@@ -138,7 +139,9 @@ last_goes_on p xs i d h e = subst (λ ys. IsLast p ys (Some i)) (sym (more_taken
   where
     long : i < length (take i xs ++ get_or xs i d ∷ [])
     long = grind (arith, common_steps)
+
     found : find_last p (take i xs ++ get_or xs i d ∷ []) ≡ Some (get_or xs i d)
     found = last_of_one_more p (take i xs) (get_or xs i d) ∙ ap (λ b. or_else (cond b (Some (get_or xs i d)) None) (find_last p (take i xs))) e
+
     at : slice_get (take i xs ++ get_or xs i d ∷ []) i ≡ Some (get_or xs i d)
     at = get_behind (take i xs) (get_or xs i d) i (omega (arith, length-take i xs))

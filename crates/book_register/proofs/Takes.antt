@@ -1,11 +1,11 @@
 -- What a Take gives, case by case.
-use Rattle.std.proofs.Common.{◌≡◌, ℕ, suc, ◌≤◌, ◌<◌, Bool, true, false, List, [], ◌∷◌, length, Option, None, Some, cond, refl, sym, ap, ◌∙◌, subst, arith, get_or}
+use Rattle.std.proofs.Common.{◌≡◌, ℕ, suc, ◌≤◌, ◌<◌, Bool, true, false, List, length, Option, None, Some, cond, refl, sym, ap, ◌∙◌, subst, arith, get_or}
 use Rattle.std.specs.Prelude.{position, find, slice_get, not, count_by, ◌==◌, ◌||◌}
 use Rattle.std.proofs.lemmas.Bool.{eqb-true}
 use Rattle.std.proofs.lemmas.List.Quantifiers.{position-Some}
 use Rattle.message_view.specs.declared.refusal.Refusal.{Refusal}
 use Rattle.message_view.specs.declared.refusal.Refusal.TheVariants.{ShuttingDown, WaitedTooLong}
-use Rattle.book_lists.specs.Book.{Book, Client, Link, Ticket, is_client, is_link, is_of, latest_of, waiting_before, without, without_ticket}
+use Rattle.book_lists.specs.Book.{Book, Client, Link, Ticket, is_link, is_of, latest_of, waiting_before, without, without_ticket}
 use Rattle.book_lists.specs.Outcomes.{Answer, grants, has_waited, lends, loses_ticket, starts, takes, waits}
 use Rattle.book_lists.specs.declared.events.Reply.{Reply}
 use Rattle.book_lists.specs.declared.events.Reply.TheVariants.{Queued, Refuse, Stranger}
@@ -65,7 +65,7 @@ lend_done before b after t x y link place idle tickets links reply e h at taken 
     let given : grants b t (latest_of t.key b.idle) ≡ lends b t link = way.1 link (ap (λ (v : Book). slice_get v.idle idle) (sym e) ∙ il) in
     let same : lends before x link ≡ lends b t link = ap (λ (v : Book). lends v x link) e ∙ ap (λ (z : Ticket). lends b z link) ex in
     let whole : record ((lends before x link).book) { tickets = tickets; idle = links } ≡ (lends before x link).book =
-      ap (λ (ts : List Ticket). record ((lends before x link).book) { tickets = ts; idle = links }) et ∙ ap (λ (ls : List Link). record ((lends before x link).book) { idle = ls }) el in
+    ap (λ (ts : List Ticket). record ((lends before x link).book) { tickets = ts; idle = links }) et ∙ ap (λ (ls : List Link). record ((lends before x link).book) { idle = ls }) el in
     (done ∙ (whole ∙ ap (λ (a : Answer). a.book) (same ∙ sym given)), replied ∙ ap (λ (a : Answer). a.reply) (same ∙ sym given))
 
 pub start_done : (before b after : Book) (t x y : Ticket) (place : ℕ) (tickets : List Ticket) (reply : Reply) → before ≡ b → place < length b.tickets → ticket_at b place ≡ Some t → ticket_at before place ≡ Some x → y ≡ get_or before.tickets place y → Chooses b y Start → tickets ≡ without_ticket x.client before.tickets → after ≡ record ((starts before x before.idle None).book) { tickets = tickets } → reply ≡ (starts before x before.idle None).reply → Gives after reply (grants b t (latest_of t.key b.idle))
@@ -87,7 +87,7 @@ evict_done before b after t x y old place idle n more tickets links reply e h at
     let way : Chooses b t (Evict idle) = subst (λ (z : Ticket). Chooses b z (Evict idle)) ey chosen in
     let given : grants b t (latest_of t.key b.idle) ≡ evicting b t (without old.number b.idle) old.number = way.1 old (ap (λ (v : Book). slice_get v.idle idle) (sym e) ∙ il) in
     let same : evicting before x links n ≡ evicting b t (without old.number b.idle) old.number =
-      ap (λ (m : ℕ). evicting before x links m) en ∙ (ap (λ (ls : List Link). evicting before x ls old.number) el ∙ (ap (λ (v : Book). evicting v x (without old.number v.idle) old.number) e ∙ ap (λ (z : Ticket). evicting b z (without old.number b.idle) old.number) ex)) in
+    ap (λ (m : ℕ). evicting before x links m) en ∙ (ap (λ (ls : List Link). evicting before x ls old.number) el ∙ (ap (λ (v : Book). evicting v x (without old.number v.idle) old.number) e ∙ ap (λ (z : Ticket). evicting b z (without old.number b.idle) old.number) ex)) in
     let counted : record ((starts (record before { evictions = more }) x links (Some n)).book) { tickets = tickets } ≡ record ((evicting before x links n).book) { tickets = tickets } = ap (λ (m : ℕ). record ((starts (record before { evictions = m }) x links (Some n)).book) { tickets = tickets }) em in
     let whole : record ((evicting before x links n).book) { tickets = tickets } ≡ (evicting before x links n).book = ap (λ (ts : List Ticket). record ((evicting before x links n).book) { tickets = ts }) et in
     (done ∙ (counted ∙ (whole ∙ ap (λ (a : Answer). a.book) (same ∙ sym given))), replied ∙ ap (λ (a : Answer). a.reply) (same ∙ sym given))

@@ -11,7 +11,10 @@ ghost use Rattle.book_lists.specs.declared.limits.TheConstants.{MOST_LINKS};
 ghost use Rattle.book_register.specs.Choices.{Chooses, Gives, eviction_of};
 ghost use Rattle.book_register.specs.Kept.{Kept};
 
-use crate::finds::{count_of_pool, drop_client, drop_link, drop_ticket, first_of_pool, has_client, last_of_key, place_of, put_in_state, take_out, take_ticket, ticket_of, waiting, waiting_before};
+use crate::finds::{
+    count_of_pool, drop_client, drop_link, drop_ticket, first_of_pool, has_client, last_of_key,
+    place_of, put_in_state, take_out, take_ticket, ticket_of, waiting, waiting_before,
+};
 use crate::rows::{Client, Link, Ticket};
 use book_lists::counts::Counts;
 use book_lists::events::{ClientState, Event, Reply};
@@ -388,7 +391,10 @@ impl Board {
         ensures reply { result ≡ Done }
     {
         let Link {
-            number, key, born, ..
+            number,
+            key,
+            born,
+            ..
         } = link;
         self.idle.push_reserved(Link {
             number,

@@ -1,4 +1,4 @@
-use Rattle.std.proofs.Common.{◌≡◌, take, true, false, subst, arith, get_or, ap, sym, ◌∙◌, Option, ℕ, List, take_all}
+use Rattle.std.proofs.Common.{◌≡◌, subst, get_or, ap, sym, ◌∙◌, List, take_all}
 use Rattle.start_keys.specs.Keys.{same_key}
 use Rattle.book_lists.specs.Book.{Link}
 use Rattle.book_register.specs.Finds.{IsLast}
@@ -12,8 +12,8 @@ loop-place-preserved c =
     let key = c.args.key.now in
     let told : same_key (get_or c.args.links.now c.loop-place.place item).key key ≡ c.is_of_key.result = ap (λ (l : Link). same_key l.key key) (sym c.index-links-place.is) ∙ sym c.is_of_key.ensures in
     elim c.if-is_of_key.branch [
-      then-is_of_key w ↦ rw w.last-is (last_goes_on (λ k. same_key k.key key) c.args.links.now c.loop-place.place item c.loop-place-test.true (told ∙ w.if-is_of_key.true))
-    | else-is_of_key w ↦ rw w.last-is (last_stays (λ k. same_key k.key key) c.args.links.now c.loop-place.place item c.loop-place.last c.loop-place-test.true (told ∙ w.if-is_of_key.false) c.loop-place.invariant)
+      | then-is_of_key w ↦ rw w.last-is (last_goes_on (λ k. same_key k.key key) c.args.links.now c.loop-place.place item c.loop-place-test.true (told ∙ w.if-is_of_key.true))
+      | else-is_of_key w ↦ rw w.last-is (last_stays (λ k. same_key k.key key) c.args.links.now c.loop-place.place item c.loop-place.last c.loop-place-test.true (told ∙ w.if-is_of_key.false) c.loop-place.invariant)
     ]
 
 pub returns : goal.returns

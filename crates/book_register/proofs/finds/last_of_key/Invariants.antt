@@ -1,4 +1,4 @@
-use Rattle.std.proofs.Common.{ℕ, take}
+use Rattle.std.proofs.Common.{take}
 use Rattle.start_keys.specs.Keys.{same_key}
 use Rattle.book_register.specs.Finds.{IsLast}
 use Rattle.book_register.proofs.finds.last_of_key.Given as goal
