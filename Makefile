@@ -45,6 +45,7 @@ test:
 	RT_JOBS=$$(scripts/jobs.sh) rt ci
 	@$(MAKE) --no-print-directory $(program) $(trials)
 	scripts/rows.sh $(program) $(trials)
+	scripts/leases.sh $(trials)
 	scripts/logins.sh $(trials)
 	scripts/clients.sh $(trials)
 	scripts/refuse-growth.sh $(program) $(trials)

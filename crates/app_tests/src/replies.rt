@@ -30,7 +30,7 @@ fn first_packets(rt: HostRuntime) -> Result<(), Fail> {
         (b"\0\0\0", b""),
     ];
     for (input, wanted) in rows {
-        assert_eq!(rt; replies(rt.alloc(), input)?.as_slice(), wanted);
+        assert_eq!(rt; replies(rt.alloc(), 8_192, None, input)?.as_slice(), wanted);
     }
     Ok(())
 }
@@ -56,7 +56,7 @@ fn nothing_follows_a_refused_start(rt: HostRuntime) -> Result<(), Fail> {
     for behind in rows {
         let input = joined(rt.alloc(), BAD_START, behind)?;
         assert_eq!(rt;
-            replies(rt.alloc(), input.as_slice())?.as_slice(),
+            replies(rt.alloc(), 8_192, None, input.as_slice())?.as_slice(),
             REFUSED_START
         );
     }

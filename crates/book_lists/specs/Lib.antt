@@ -2,3 +2,4 @@ pub mod Book
 pub mod Outcomes
 pub mod Replay
 pub mod Events
+pub mod Laws

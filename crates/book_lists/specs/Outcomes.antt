@@ -215,10 +215,11 @@ apply b e =
 
 -- ---- a link that is given back must be of the key and birth of its start
 
-abbrev pub is_started_as : ℕ → StartKeyOf → ℕ → Link → Bool
-is_started_as n key born link = is_link n link && (same_key link.key key && link.born == born)
+abbrev pub is_started_as : StartKeyOf → ℕ → Option Link → Bool
+is_started_as key born None = false
+is_started_as key born (Some link) = same_key link.key key && link.born == born
 
 unfoldable pub apply_return : Book → ℕ → StartKeyOf → ℕ → Answer
 apply_return b n key born =
     cond (b.decisions == last_decision) (record { book = b; reply = Refuse LastDecision })
-    (cond (list_any (is_started_as n key born) b.lent) (apply b (GiveBack n)) (record { book = b; reply = Stranger }))
+    (cond (is_started_as key born (find (is_link n) b.lent)) (apply b (GiveBack n)) (record { book = b; reply = Stranger }))

@@ -1,16 +1,21 @@
 //! The lease book as plain lists: which client waits, which link is lent or idle, and what each event makes of them.
 #![tactic(auto)]
 
-ghost use Rattle.std.specs.Prelude.{◌≡◌};
-ghost use Rattle.book_lists.specs.Book.{Book};
-ghost use Rattle.book_lists.specs.Outcomes.{apply, last_decision, Event};
-ghost use Rattle.book_lists.specs.Replay.{Replays};
+ghost use Rattle.book_lists.specs.Laws.{PlainEventsAddNothing, ArrivalsNumber, AsksQueue, TakesLend, TakesStart, TakesEvict, ReturnsAdd, ReturnsClose, TicksClose};
 
 pub mod counts;
 pub mod events;
 pub mod limits;
 
-/// A placeholder until the laws stand here.
-pub fn placeholder()
-    ensures { (b : Book) (e : Event) → b.decisions ≡ b.decisions }
+/// What each event makes of the book's tickets, its idle links and its next numbers.
+pub fn book_laws()
+    ensures plain { PlainEventsAddNothing }
+    ensures arrives { ArrivalsNumber }
+    ensures asks { AsksQueue }
+    ensures lends { TakesLend }
+    ensures starts { TakesStart }
+    ensures evicts { TakesEvict }
+    ensures gives_back { ReturnsAdd }
+    ensures too_late { ReturnsClose }
+    ensures tick { TicksClose }
 {}

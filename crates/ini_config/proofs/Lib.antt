@@ -1,3 +1,4 @@
+pub mod Bounds
 pub mod Items
 pub mod Keys
 pub mod Numbers

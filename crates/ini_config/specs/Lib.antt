@@ -2,5 +2,6 @@ pub mod DatabaseValues
 pub mod Lines
 pub mod OptionValues
 pub mod Reading
+pub mod Bounds
 pub mod Tables
 pub mod Values

@@ -4,6 +4,7 @@
 mod database_rows;
 mod database_values;
 mod faults;
+pub mod laws;
 mod lines;
 mod name_lists;
 mod option_keys;

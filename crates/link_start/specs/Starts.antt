@@ -1,5 +1,5 @@
 -- The start of a link: what it may begin with, how far it has come, and what it ends with.
-use Rattle.std.specs.Prelude.{◌≡◌, ◌⊎◌, ℕ, ◌<◌, ◌≤◌, length, Bool, true, false, if◌then◌else◌, ◌==◌, Option, Some, None, List, []}
+use Rattle.std.specs.Prelude.{◌≡◌, ◌⊎◌, ℕ, ◌+◌, ◌<◌, ◌≤◌, length, Bool, true, false, if◌then◌else◌, ◌==◌, Option, Some, None, List, []}
 use Rattle.std.specs.Borrow.{Bor}
 use Rattle.std.specs.List.{list_any}
 use Rattle.frame_view.specs.Frames.{FrameOf, frames, spelling}
@@ -13,7 +13,7 @@ use Rattle.user_file.specs.declared.secrets.Secret.{Secret}
 use Rattle.user_file.specs.declared.secrets.Secret.TheVariants as secrets
 use Rattle.user_file.specs.Secrets.{answer}
 use Rattle.link_laws.specs.Stages.{Server as TheServer, Auth, NoAuth, Asks}
-use Rattle.link_laws.specs.Standing.{Standing}
+use Rattle.link_laws.specs.Standing.{Standing, Moves}
 use Rattle.link_laws.specs.Dialogues.{IsNew, AsksInFrame, IsStarting, auth_of, start_refusal}
 use Rattle.server_end.specs.declared.memory_server.ServerAuth.{ServerAuth}
 use Rattle.server_end.specs.declared.memory_server.ServerAuth.TheVariants as memory
@@ -183,6 +183,23 @@ IsCause began now secret key Unanswerable = began.follows ≡ true → IsUnanswe
 IsCause began now secret key Unexpected = began.follows ≡ true → ⊥
 IsCause began now secret key Memory = Unit {0}
 IsCause began now secret key Turns = Unit {0}
+
+-- So many turns were tried since then: in each of them a byte was sent or came, or a write or a read came to nothing at that time.
+pub record HasTried (began now : Standing) (turns : ℕ) : Type 0 where
+  pub sent : List ℕ
+  pub received : List ℕ
+  pub moves : Moves began sent now received
+  pub tries : turns + (began.write_waits + began.read_waits) ≤ now.write_waits + now.read_waits + (length sent + length received)
+
+-- ---- what the code counts
+
+-- the bytes accepted and received, and the calls that came to nothing
+abbrev pub tried_so_far : StartView → ℕ
+tried_so_far v = v.end.write_waits + v.end.read_waits + (length v.end.accepted + length v.received)
+
+-- before the first byte is received
+abbrev pub tried_before : Standing → ℕ
+tried_before at = at.write_waits + at.read_waits + length at.accepted
 
 -- what is answered, as the code has it
 abbrev pub shown : Option (Bor (List ℕ)) → Option Text

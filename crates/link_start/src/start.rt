@@ -1,5 +1,5 @@
 //! The start of a link over a server's end.
-ghost use Rattle.std.specs.Prelude.{◌≡◌, [], IfErr, IfOk, OnOk, true};
+ghost use Rattle.std.specs.Prelude.{◌≡◌, ◌≢◌, ◌<◌, ◌≤◌, [], false, IfErr, IfOk, OnOk, length, true};
 ghost use Rattle.frame_view.specs.Frames.{AreBytes, frames};
 ghost use Rattle.frame_view.specs.declared.Side.TheVariants.{Server};
 ghost use Rattle.link_run.specs.declared.reply.TheConstants.{LONGEST_REPLY};
@@ -10,7 +10,7 @@ ghost use Rattle.link_start.specs.declared.heard.Heard.TheVariants.{Asked};
 ghost use Rattle.link_start.specs.declared.start.Progress.TheVariants.{Ready};
 ghost use Rattle.user_file.specs.declared.secrets.Secret.{Secret};
 ghost use Rattle.link_start.specs.declared.start.StartCause.TheVariants as causes;
-ghost use Rattle.link_start.specs.Starts.{CanStart, IsCause, IsDone, IsEndCause, IsLinkKey, IsSameStart, IsStarted, IsUnderWay, IsWelcomed};
+ghost use Rattle.link_start.specs.Starts.{CanStart, HasTried, IsCause, IsDone, IsEndCause, IsLinkKey, IsSameStart, IsStarted, IsUnderWay, IsWelcomed, tried_before, tried_so_far};
 
 use crate::heard::{Heard, Question, Untaken, error_in, hear, take_reports};
 use crate::messages::{password_of, startup_message};
@@ -132,6 +132,7 @@ impl<E: ServerEnd> Start<E> {
     ) -> Result<Start<E>, StartLinkFault<E>>
         ensures under_way { IfOk result (λ s. (secret : Secret) → IsUnderWay (E.standing end) secret s) }
         ensures same { IfOk result (λ s. (s.key ≡ arc_value key) × (s.number ≡ number) × (s.born ≡ born)) }
+        ensures tried { IfOk result (λ s. tried_so_far s ≡ tried_before (E.standing end)) }
         ensures memory { IfErr result (λ f. f.cause ≡ causes.Memory) }
     {
         let Ok(messages) = startup_message(alloc, &key) else {
@@ -156,6 +157,8 @@ impl<E: ServerEnd> Start<E> {
     fn send(&mut self) -> Result<(), StartCause>
         ensures under_way { (b : Standing) (s : Secret) → IsUnderWay b s self.old → OnOk result (IsUnderWay b s self.new) }
         ensures same { IsSameStart self.old self.new }
+        ensures tried { tried_so_far self.old ≤ tried_so_far self.new }
+        ensures wrote { IfOk result (λ _. 0 < length self.new.unsent → tried_so_far self.old < tried_so_far self.new) }
         ensures cause { IfErr result (λ c. IsEndCause self.old.end self.new.end c) }
     {
         if self.sent == self.messages.len() {
@@ -174,6 +177,7 @@ impl<E: ServerEnd> Start<E> {
         ensures under_way { (b : Standing) (s : Secret) → IsUnderWay b s self.old → OnOk result (IsUnderWay b s self.new) }
         ensures same { IsSameStart self.old self.new }
         ensures unsent { self.new.unsent ≡ self.old.unsent }
+        ensures tried { IfOk result (λ _. tried_so_far self.old < tried_so_far self.new) }
         ensures cause { IfErr result (λ c. IsEndCause self.old.end self.new.end c) }
     {
         let mut chunk = [0u8; CHUNK];
@@ -187,7 +191,8 @@ impl<E: ServerEnd> Start<E> {
     }
 
     fn is_sent(&self) -> bool
-        ensures { result ≡ true → self.now.unsent ≡ [] }
+        ensures all { result ≡ true → self.now.unsent ≡ [] }
+        ensures some { result ≡ false → 0 < length self.now.unsent }
     {
         self.sent == self.messages.len()
     }
@@ -207,6 +212,8 @@ impl<E: ServerEnd> Start<E> {
         ensures under_way { (b : Standing) → CanStart b → IsLinkKey self.old.key → IsUnderWay b secret.now self.old → OnOk result (IsUnderWay b secret.now self.new) }
         ensures same { IsSameStart self.old self.new }
         ensures end { self.new.end ≡ self.old.end }
+        ensures received { self.new.received ≡ self.old.received }
+        ensures no_turns { IfErr result (λ c. c ≢ causes.Turns) }
         ensures cause { (b : Standing) → CanStart b → IsLinkKey self.old.key → IsUnderWay b secret.now self.old → IfErr result (λ c. IsCause b self.new.end secret.now self.old.key c) }
     {
         if self.answered {
@@ -234,6 +241,8 @@ impl<E: ServerEnd> Start<E> {
         ensures under_way { (b : Standing) → CanStart b → IsLinkKey self.old.key → IsUnderWay b secret.now self.old → OnOk result (IsUnderWay b secret.now self.new) }
         ensures same { IsSameStart self.old self.new }
         ensures welcomed { IfOk result (λ p. p ≡ Ready → IsWelcomed self.new) }
+        ensures tried { IfOk result (λ _. tried_so_far self.old < tried_so_far self.new) }
+        ensures no_turns { IfErr result (λ c. c ≢ causes.Turns) }
         ensures cause { (b : Standing) → CanStart b → IsLinkKey self.old.key → IsUnderWay b secret.now self.old → IfErr result (λ c. IsCause b self.new.end secret.now self.old.key c) }
     {
         self.send()?;
@@ -268,6 +277,7 @@ impl<E: ServerEnd> Start<E> {
         ensures key { IfOk result (λ l. l.key ≡ self.key) }
         ensures number { IfOk result (λ l. l.number ≡ self.number) }
         ensures born { IfOk result (λ l. l.born ≡ self.born) }
+        ensures no_turns { IfErr result (λ f. f.cause ≢ causes.Turns) }
         ensures cause { (b : Standing) (s : Secret) → CanStart b → IsUnderWay b s self → IfErr result (λ f. IsCause b (E.standing f.end) s self.key f.cause) }
     {
         let Start {
@@ -325,7 +335,7 @@ impl<E: ServerEnd> Start<E> {
 /// read before all was sent, nor after the ReadyForQuery.
 ///
 /// `number` and `born` are kept in the link: its number, and the second in which it was begun. Where it fails the end comes back
-/// with the cause.
+/// with the cause; it is Turns only after so many turns.
 pub fn start_link<E: ServerEnd, G: Gate<E>>(
     alloc: Global,
     end: E,
@@ -343,6 +353,7 @@ pub fn start_link<E: ServerEnd, G: Gate<E>>(
     ensures number { IfOk result (λ l. l.number ≡ number) }
     ensures born { IfOk result (λ l. l.born ≡ born) }
     ensures cause { IfErr result (λ f. IsCause (E.standing end) (E.standing f.end) secret.now (arc_value key) f.cause) }
+    ensures turns { IfErr result (λ f. f.cause ≡ causes.Turns → HasTried (E.standing end) (E.standing f.end) turns) }
 {
     let mut start = Start::begin(alloc, end, key, number, born)?;
     for _ in 0..turns {

@@ -1,7 +1,8 @@
 -- The law of the key with which a login passes.
-use Rattle.std.specs.Prelude.{◌≡◌, ◌<◌, ℕ, List, length, Some}
+use Rattle.std.specs.Prelude.{◌≡◌, ◌<◌, ℕ, List, length, Some, Ok}
 use Rattle.std.specs.List.{AllByRecursion}
 use Rattle.ini_config.specs.declared.option_values.Settings.{Settings}
+use Rattle.ini_config.specs.Reading.{IsReadOf}
 use Rattle.message_view.specs.declared.KeyWord.{KeyWord}
 use Rattle.user_file.specs.declared.user_table.UserRow.{UserRow}
 use Rattle.session_values.specs.Lawful.{IsClientKey}
@@ -27,3 +28,7 @@ PassedKeysAreLinkKeys = (rows : Rows) (word : KeyWord) (bytes left : List ℕ) (
 -- Rows of settings are such where each database row is.
 abbrev pub SettingsRowsAreLawful : Type 0
 SettingsRowsAreLawful = (s : Settings) (users : List UserRow) → AllByRecursion (λ row. IsLawfulRow (Some row)) s.rows → AreLawfulRows (row_in s users)
+
+-- Rows of settings that a file spells are.
+abbrev pub ReadRowsAreLawful : Type 0
+ReadRowsAreLawful = (lines : List Text) (s : Settings) (users : List UserRow) → IsReadOf lines (Ok s) → AreLawfulRows (row_in s users)

@@ -1,6 +1,6 @@
 //! Laws of logins, each the contract of a function that does nothing.
 
-ghost use Rattle.login_keys.specs.Laws.{PassedKeysAreLinkKeys, SettingsRowsAreLawful};
+ghost use Rattle.login_keys.specs.Laws.{PassedKeysAreLinkKeys, ReadRowsAreLawful, SettingsRowsAreLawful};
 
 /// The key with which a login passes can start a link: it is lawful, has a user and a database, and its parameters stand in
 /// order, by names in lower case, none of them `user` or `database`.
@@ -12,4 +12,9 @@ pub fn passed_keys_are_link_keys()
 #[tactic(auto, using(crate::proofs::ByName::settings_rows_are_lawful))]
 pub fn settings_rows_are_lawful()
     ensures { SettingsRowsAreLawful }
+{}
+
+/// The login rows of settings that a file spells name their servers' databases.
+pub fn read_rows_are_lawful()
+    ensures { ReadRowsAreLawful }
 {}

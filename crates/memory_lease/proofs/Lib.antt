@@ -1,3 +1,4 @@
 pub mod Pieces
 pub mod Service
+pub mod Causes
 pub mod Answering

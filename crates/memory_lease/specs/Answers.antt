@@ -1,8 +1,12 @@
 -- What one client may be answered by a server that is started for it alone.
-use Rattle.std.specs.Prelude.{◌≡◌, ◌⊎◌, ℕ, List, ◌++◌, map}
-use Rattle.frame_view.specs.Frames.{spelling}
+use Rattle.std.specs.Prelude.{◌≡◌, ◌⊎◌, ℕ, ◌+◌, ◌<◌, List, [], ◌∷◌, ◌++◌, length, map}
+use Rattle.std.specs.List.{flat_map, AllByRecursion}
+use Rattle.frame_view.specs.declared.FrameFault.{FrameFault}
+use Rattle.frame_view.specs.declared.Side.TheVariants.{Client}
+use Rattle.frame_view.specs.Frames.{FrameOf, Faulty, front, spelling}
 use Rattle.message_view.specs.declared.KeyWord.{KeyWord}
 use Rattle.message_view.specs.declared.refusal.Refusal.{Refusal}
+use Rattle.message_view.specs.declared.refusal.Refusal.TheVariants.{ClientMessageTooLong, MalformedClientMessage, MalformedServerMessage, ServerFailed, ServerNotReached}
 use Rattle.message_view.specs.Refusals.{Begins, joined_pieces, refusal}
 use Rattle.session_values.specs.State.{CatalogueOf, StartKeyOf, fresh}
 use Rattle.session_values.specs.Service.{client_frames, served}
@@ -10,6 +14,8 @@ use Rattle.user_file.specs.declared.secrets.Secret.{Secret}
 use Rattle.link_laws.specs.Standing.{Standing}
 use Rattle.link_laws.specs.Dialogues.{auth_of, start_error, start_refusal}
 use Rattle.link_start.specs.Starts.{own_answer}
+use Rattle.relay_laws.specs.Leases.{IsForwarded}
+use Rattle.relay_steps.specs.Answers.{refusal_by}
 
 -- some first whole pieces, and then one refusal of the pooler's table
 pub record IsRefusedAt (out : List ℕ) (pieces : List (List ℕ)) : Type 0 where
@@ -31,3 +37,40 @@ own_pieces cat key word bytes = map spelling (served cat (fresh cat key) word.pi
 -- is right, or the user answers nothing.
 abbrev pub IsLetIn : Standing → StartKeyOf → Secret → Type 0
 IsLetIn at key secret = start_refusal at.server (auth_of at.stage) key (own_answer secret key.user (auth_of at.stage)) ≡ start_error (fresh at.server.catalogue key)
+
+-- ---- why a client is refused
+
+-- Behind lawful messages of the client, none of them a Terminate, comes what is none under this limit, whatever follows it; it is
+-- refused for that fault.
+pub record IsAtFault (limit : ℕ) (bytes : List ℕ) (r : Refusal) : Type 0 where
+  pub before : List FrameOf
+  pub rest : List ℕ
+  pub fault : FrameFault
+  pub went : AllByRecursion (IsForwarded limit) before
+  pub whole : bytes ≡ flat_map spelling before ++ rest
+  pub stops : front Client limit rest ≡ Faulty fault
+  pub told : r ≡ refusal_by fault
+
+-- the next of the server's messages is longer than the limit
+pub record IsTooLong (limit : ℕ) (kept : List (List ℕ)) : Type 0 where
+  pub next : FrameOf
+  pub others : List (List ℕ)
+  pub kept_is : kept ≡ spelling next ∷ others
+  pub long : limit < 4 + length next.body
+
+-- P7 comes before anything was given. P6 may come behind any piece, since a server may die there. No other refusal is there.
+abbrev pub HasCause : ℕ → List ℕ → List (List ℕ) → List (List ℕ) → Refusal → Type 0
+HasCause limit bytes given kept MalformedClientMessage = IsAtFault limit bytes MalformedClientMessage
+HasCause limit bytes given kept ClientMessageTooLong = IsAtFault limit bytes ClientMessageTooLong
+HasCause limit bytes given kept MalformedServerMessage = IsTooLong limit kept
+HasCause limit bytes given kept ServerFailed = Unit {0}
+HasCause limit bytes given kept ServerNotReached = given ≡ []
+HasCause limit bytes given kept other = ⊥
+
+pub record IsRefusedFor (limit : ℕ) (bytes out : List ℕ) (pieces : List (List ℕ)) : Type 0 where
+  pub at : IsRefusedAt out pieces
+  pub because : HasCause limit bytes at.given at.kept at.cause
+
+-- as `IsAllowed`, but a refusal has its cause
+abbrev pub IsAnswer : ℕ → List ℕ → List ℕ → List (List ℕ) → Type 0
+IsAnswer limit bytes out pieces = Begins out (joined_pieces pieces) ⊎ IsRefusedFor limit bytes out pieces

@@ -5,8 +5,8 @@ ghost use Rattle.frame_view.specs.declared.frames.TheConstants.{LONGEST_FRAME};
 ghost use Rattle.message_view.specs.declared.refusal.Refusal.{Refusal};
 ghost use Rattle.link_start.specs.Starts.{IsLinkKey, IsStartable};
 ghost use Rattle.relay_laws.specs.Leases.{IsLease, Keeps, Place, place};
-ghost use Rattle.relay_steps.specs.Answers.{AtBorder};
-ghost use Rattle.memory_lease.specs.Answers.{IsAllowed, IsLetIn, own_pieces};
+ghost use Rattle.relay_steps.specs.Answers.{AtBorder, RefusedBy};
+ghost use Rattle.memory_lease.specs.Answers.{IsAnswer, IsLetIn, own_pieces};
 ghost use Rattle.memory_lease.specs.Held.{TellsCause, refused_by};
 
 use crate::patient_client::PatientClient;
@@ -72,7 +72,7 @@ fn begin_lease<'a>(
 /// client is refused by, if it is.
 fn converse<C: ClientEnd, E: ServerEnd>(relay: &mut Relay<C, E>) -> Option<Refusal>
     ensures keeps { Keeps relay.old relay.new }
-    ensures border { IfSome result (λ _. (p : Place) → IsLease p relay.old → AtBorder p relay.new) }
+    ensures refused { IfSome result (λ r. (p : Place) → IsLease p relay.old → AtBorder p relay.new × RefusedBy p relay.new r) }
 {
     let mut waits = 0;
     for _ in 0..u64::MAX {
@@ -119,9 +119,10 @@ fn give_back(link: Returned<MemoryServer>) -> Result<(), AllocError> {
 /// client was given.
 ///
 /// The client sends a frame only once it was given the answers to those before, and hangs up behind its last byte. A start that the
-/// server refuses is answered by the server's error alone; any other fault of a start by the refusal P7. `word` is what the client's
-/// BackendKeyData has, `limit` the greatest length of a frame both ways, and a call of the client moves at most `cut` bytes. The only
-/// error is that memory was refused.
+/// server refuses is answered by the server's error alone; any other fault of a start by the refusal P7. Over its link the client is
+/// refused by P3 or P10 for a faulty message of its own, by P11 where the server's next message is above the limit, and by P6 where
+/// the server ended. `word` is what the client's BackendKeyData has, `limit` the greatest length of a frame both ways, and a call of
+/// the client moves at most `cut` bytes. The only error is that memory was refused.
 pub fn serve_alone(
     alloc: Global,
     server: MemoryServer,
@@ -139,7 +140,7 @@ pub fn serve_alone(
     requires cut { 0 < cut }
     requires low { 4 ≤ limit }
     requires high { limit ≤ LONGEST_FRAME }
-    ensures { IfOk result (λ out. IsAllowed out.items (own_pieces server.standing.server.catalogue (arc_value key) word bytes.now)) }
+    ensures { IfOk result (λ out. IsAnswer limit bytes.now out.items (own_pieces server.standing.server.catalogue (arc_value key) word bytes.now)) }
 {
     are_bytes(bytes);
     let link = match start_link(alloc, server, key, secret, 0, 0, &mut OpenGate, START_TURNS) {

@@ -19,7 +19,9 @@ use Rattle.login_core.specs.Dialogue.{Rows, Dialogue, Way, ToConsole, ToLink, ok
 use Rattle.login_core.specs.Logins.{LoginView, Hearing, Hears, Arriving, Over, after, goes_on, goes_from, login_view, missing, missing_of, question_bytes, rows_of}
 use Rattle.login_core.specs.Solo.{after_login, service_pieces}
 use Rattle.login_keys.specs.Laws.{AreLawfulRows, PassedKeysAreLinkKeys, SettingsRowsAreLawful}
-use Rattle.memory_lease.specs.Answers.{IsAllowed}
+use Rattle.frame_view.specs.declared.frames.TheConstants.{LONGEST_FRAME}
+use Rattle.memory_lease.specs.Answers.{IsAllowed, IsAnswer}
+use Rattle.memory_lease.proofs.Causes.{was_allowed}
 use Rattle.pool_app.specs.Replay.{Follows, IsAnswered, IsReply, WritesReply, standing_catalogue, standing_row, standing_rows, standing_settings, standing_users, standing_word}
 use Rattle.pool_app.specs.Told.{Adds, HasLinkKey, IsKeyed, IsPastArrival, Says, WantsMemory, silence, is_end}
 
@@ -191,7 +193,7 @@ standing_limit = refl
 
 -- ---- a login that has passed
 
-pub passed_given : (cat : CatalogueOf) (key : StartKeyOf) (rest old greeted new answer : List ℕ) → greeted ≡ old ++ ok → IsAllowed answer (service_pieces cat key standing_word rest) → new ≡ greeted ++ answer
+pub passed_given : (cat : CatalogueOf) (key : StartKeyOf) (rest old greeted new answer : List ℕ) → greeted ≡ old ++ ok → IsAnswer LONGEST_FRAME rest answer (service_pieces cat key standing_word rest) → new ≡ greeted ++ answer
     → Adds cat (record { pieces = ok ∷ []; ended = Passed (ToLink key) rest }) old new
 passed_given cat key rest old greeted new answer g a n = record {
   given = ok ++ answer;
@@ -219,7 +221,7 @@ none_allowed more e = inl (record { more = []; both = append-nil more ∙ e })
 
 follows_allowed : (cat : CatalogueOf) (e : End Way Reason) (more : List ℕ) → Follows cat e more → IsAllowed more (after_login cat standing_word e)
 follows_allowed cat Unfinished more f = none_allowed more f
-follows_allowed cat (Passed (ToLink key) left) more f = f
+follows_allowed cat (Passed (ToLink key) left) more f = was_allowed LONGEST_FRAME left more (service_pieces cat key standing_word left) f
 follows_allowed cat (Passed ToConsole left) more f = none_allowed more f
 follows_allowed cat (Stopped (Refused cause)) more f = inr (record { given = []; kept = []; pieces_are = refl; cause = cause; out_is = f })
 follows_allowed cat (Stopped Failed) more f = none_allowed more f

@@ -18,7 +18,8 @@ use Rattle.login_core.specs.Talk.End.{Unfinished, Passed, Stopped}
 use Rattle.login_core.specs.Dialogue.{Way, ToLink, ToConsole, Reason, Refused, Failed, Left, Dialogue, LoginRow, Rows, row_in, login}
 use Rattle.login_core.specs.Laws.{names_in, row_for}
 use Rattle.login_core.specs.Solo.{service_pieces, solo}
-use Rattle.memory_lease.specs.Answers.{IsAllowed}
+use Rattle.frame_view.specs.declared.frames.TheConstants.{LONGEST_FRAME}
+use Rattle.memory_lease.specs.Answers.{IsAllowed, IsAnswer}
 
 -- ---- the standing settings
 
@@ -57,11 +58,11 @@ standing_row bytes = row_for standing_rows (names_in bytes)
 
 -- ---- the answer
 
--- what follows the pieces of a login: the refusal of the login, or what the client may be answered over its link; a client of
--- the console is closed without a byte
+-- what follows the pieces of a login: the refusal of the login, or what the client may be answered over its link, where a refusal
+-- has its cause (the standing settings allow the longest frames); a client of the console is closed without a byte
 abbrev pub Follows : CatalogueOf → End Way Reason → List ℕ → Type 0
 Follows cat Unfinished more = more ≡ []
-Follows cat (Passed (ToLink key) left) more = IsAllowed more (service_pieces cat key standing_word left)
+Follows cat (Passed (ToLink key) left) more = IsAnswer LONGEST_FRAME left more (service_pieces cat key standing_word left)
 Follows cat (Passed ToConsole left) more = more ≡ []
 Follows cat (Stopped (Refused cause)) more = more ≡ refusal cause
 Follows cat (Stopped Failed) more = more ≡ []

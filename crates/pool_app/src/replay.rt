@@ -10,7 +10,7 @@ ghost use Rattle.login_core.specs.Dialogue.{AtFirst, ToLink, ok};
 ghost use Rattle.login_core.specs.Logins.{Hears, after, goes_on, login_view, missing};
 ghost use Rattle.login_core.specs.Solo.{service_pieces};
 ghost use Rattle.login_core.specs.Talk.End.{Passed};
-ghost use Rattle.memory_lease.specs.Answers.{IsAllowed};
+ghost use Rattle.memory_lease.specs.Answers.{IsAnswer};
 ghost use Rattle.pool_app.specs.declared.fault.AppFault.TheVariants as told;
 ghost use Rattle.pool_app.specs.Replay.{IsLeft, IsReply, WritesReply, standing_catalogue, standing_settings, standing_users, standing_word};
 ghost use Rattle.pool_app.specs.Told.{Adds, IsKeyed, IsPastArrival, Says, WantsMemory, HasLinkKey, is_end, silence};
@@ -39,16 +39,19 @@ const SERVER_WORD: KeyWord = KeyWord {
     salt: [0; 4],
 };
 
-/// The bytes that a call of an end moves at most.
+/// The bytes that a call of an end moves at most in `replay`.
 const CUT: usize = 8_192;
 
-/// What clients are served over: the catalogue of their servers, and the greatest length of a frame.
+/// What clients are served over: the catalogue of their servers, the greatest length of a frame, the most bytes that a call of an
+/// end moves, and how many are read from a server before it dies, if it does.
 #[derive(Drop)]
 struct Service {
     catalogue: Arc<Catalogue>,
     limit: u32,
-    ghost low: { 4 ≤ limit },
-    ghost high: { limit ≤ LONGEST_FRAME },
+    cut: usize,
+    dies_after: Option<u64>,
+    ghost some: { 0 < cut },
+    ghost all: { limit ≡ LONGEST_FRAME },
 }
 
 /// Puts this refusal; there is none for want of memory.
@@ -70,13 +73,20 @@ fn served(
     rest: &[u8],
 ) -> Result<BytesMut, AllocError>
     requires key { IsLinkKey (arc_value key.now) }
-    ensures { IfOk result (λ out. IsAllowed out.items (service_pieces (arc_value service.now.catalogue) (arc_value key.now) standing_word rest.now)) }
+    ensures { IfOk result (λ out. IsAnswer LONGEST_FRAME rest.now out.items (service_pieces (arc_value service.now.catalogue) (arc_value key.now) standing_word rest.now)) }
 {
     service.catalogue.is_lawful();
     let catalogue = Arc::try_clone(&service.catalogue)?;
     // the server asks for nothing
     let unasked = Secret::Md5([0; 32]);
-    let server = MemoryServer::new(alloc, catalogue, ServerAuth::Trust, SERVER_WORD, CUT, None)?;
+    let server = MemoryServer::new(
+        alloc,
+        catalogue,
+        ServerAuth::Trust,
+        SERVER_WORD,
+        service.cut,
+        service.dies_after,
+    )?;
     let key = Arc::try_clone(key)?;
     serve_alone(
         alloc,
@@ -85,7 +95,7 @@ fn served(
         &unasked,
         KEY_WORD,
         service.limit,
-        CUT,
+        service.cut,
         rest,
     )
 }
@@ -191,25 +201,38 @@ fn standing_login(alloc: Global) -> Result<Login, AllocError>
 
 /// The service of the standing settings and catalogue.
 #[tactic(auto, using(crate::proofs::Replaying::standing_limit))]
-fn standing_service(alloc: Global) -> Result<Service, AllocError>
+fn standing_service(
+    alloc: Global,
+    cut: usize,
+    dies_after: Option<u64>,
+) -> Result<Service, AllocError>
+    requires { 0 < cut }
     ensures { IfOk result (λ s. arc_value s.catalogue ≡ standing_catalogue) }
 {
     let settings = settings(alloc)?;
     Ok(Service {
         catalogue: Arc::new(alloc, catalogue(alloc)?)?,
         limit: settings.max_packet_size(),
+        cut,
+        dies_after,
     })
 }
 
-/// What a client of the standing settings is answered: its bytes in, its replies out. The only
-/// error is want of memory.
-pub fn replies(alloc: Global, bytes: &[u8]) -> Result<BytesMut, AllocError>
+/// What a client of the standing settings is answered: its bytes in, its replies out. A call of an end of its lease moves at most
+/// `cut` bytes, and its server dies once `dies_after` bytes were read from it. The only error is want of memory.
+pub fn replies(
+    alloc: Global,
+    cut: usize,
+    dies_after: Option<u64>,
+    bytes: &[u8],
+) -> Result<BytesMut, AllocError>
+    requires { 0 < cut }
     ensures { IfOk result (λ out. IsReply bytes.now out.items) }
 {
     login_is_of_its_row();
     settings_rows_are_lawful();
     passed_keys_are_link_keys();
-    let service = standing_service(alloc)?;
+    let service = standing_service(alloc, cut, dies_after)?;
     let mut login = standing_login(alloc)?;
     let mut out = BytesMut::new(alloc);
     put_login(alloc, &service, &mut login, bytes, &mut out)?;
@@ -243,7 +266,7 @@ pub fn replay<'a, R: Read + Drop, W: Write>(
         Ok(bytes) => bytes,
         Err(fault) => return Err(unread(fault)),
     };
-    let Ok(answer) = replies(alloc, bytes.as_slice()) else {
+    let Ok(answer) = replies(alloc, CUT, None, bytes.as_slice()) else {
         return Err(AppFault::Memory);
     };
     if output.write_all(answer.as_slice()).is_err() || output.flush().is_err() {

@@ -1,8 +1,10 @@
 -- What a lease's end hands back.
 use Rattle.std.specs.Prelude.{◌≡◌, ◌≢◌, true, false}
 use Rattle.disposal.specs.declared.Verdict.TheVariants.{Settled}
+use Rattle.std.specs.Arc.{arc_value}
 use Rattle.link_laws.specs.Standing.{Standing}
 use Rattle.link_run.specs.Links.{LinkView}
+use Rattle.link_run.specs.declared.links.Lent.{Lent}
 use Rattle.relay_laws.specs.Leases.{RelayView, relay_verdict}
 use Rattle.relay_core.specs.declared.relay.Cause.{Cause}
 use Rattle.relay_core.specs.declared.relay.Cause.TheVariants.{Left, Lost}
@@ -16,6 +18,14 @@ pub record IsThatLink (v : RelayView) (l : LinkView) : Type 0 where
   pub born : l.born ≡ v.born
   pub reports : l.reports ≡ v.told.reports
 
+-- the same of a link taken apart
+pub record IsThatLent {E : Type 0} (standing : E → Standing) (v : RelayView) (l : Lent E) : Type 0 where
+  pub stands : standing l.end ≡ v.link
+  pub key : arc_value l.key ≡ v.key
+  pub number : l.number ≡ v.number
+  pub born : l.born ≡ v.born
+  pub reports : l.reported ≡ v.told.reports
+
 -- the cause is the verdict; where nothing went over the link, its end is lost
 abbrev pub IsCause : RelayView → Cause → Type 0
 IsCause v (Left verdict) = (v.flags.touched ≡ true) × (verdict ≡ relay_verdict v) × (verdict ≢ Settled)
@@ -24,4 +34,4 @@ IsCause v Lost = (v.flags.touched ≡ false) × (v.flags.link_over ≡ true)
 abbrev pub IsReturned : {E : Type 0} → (E → Standing) → RelayView → Returned E → Type 0
 IsReturned standing v (Unused l) = (v.flags.touched ≡ false) × (v.flags.link_over ≡ false) × IsThatLink v l
 IsReturned standing v (Used l) = (v.flags.touched ≡ true) × (relay_verdict v ≡ Settled) × IsThatLink v l
-IsReturned standing v (Gone l cause) = (standing l.end ≡ v.link) × IsCause v cause
+IsReturned standing v (Gone l cause) = IsThatLent standing v l × IsCause v cause

@@ -2,7 +2,7 @@
 
 /// The line that a wrong command line is answered by.
 pub const USAGE: &str =
-    "usage: trials login INI USERS CUT | trials solo CATALOGUE USER (a client's bytes on standard input)";
+    "usage: trials login INI USERS CUT | trials solo CATALOGUE USER | trials lease CUT [DIES_AFTER] (a client's bytes on standard input)";
 
 /// What a command line asks for.
 #[derive(Clone, Copy, Debug, PartialEq, Eq, Drop)]
@@ -17,6 +17,12 @@ pub enum Job<'a> {
     Solo {
         catalogue: &'a str,
         user: &'a str,
+    },
+    /// What `pgsess replay` answers, where a call of an end of the lease moves at most so many bytes, over a server that dies once
+    /// so many were read from it.
+    Lease {
+        cut: usize,
+        dies_after: Option<u64>,
     },
 }
 
@@ -40,6 +46,14 @@ pub fn job_of<'a>(words: &'a [String]) -> Option<Job<'a>> {
         "solo" if words.len() == 4 => Some(Job::Solo {
             catalogue: words[2].as_str(),
             user: words[3].as_str(),
+        }),
+        "lease" if words.len() == 3 => Some(Job::Lease {
+            cut: cut_of(words[2].as_str())?,
+            dies_after: None,
+        }),
+        "lease" if words.len() == 4 => Some(Job::Lease {
+            cut: cut_of(words[2].as_str())?,
+            dies_after: Some(words[3].parse::<u64>().ok()?),
         }),
         _ => None,
     }

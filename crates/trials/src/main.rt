@@ -1,9 +1,10 @@
-//! A tool for this repository's tests: a login fed with its bytes in pieces, and what a session alone answers.
+//! A tool for this repository's tests: a login fed with its bytes in pieces, what a session alone answers, and what a lease gives.
 #![tactic(auto)]
 
 mod fault;
 mod input;
 mod job;
+mod lease;
 mod lines;
 mod login;
 mod solo;
@@ -32,6 +33,7 @@ fn answer<'a, R: Files + Input>(
     match job {
         Job::Login { ini, users, cut } => login::answer(rt, alloc, ini, users, cut),
         Job::Solo { catalogue, user } => solo::answer(rt, alloc, catalogue, user),
+        Job::Lease { cut, dies_after } => lease::answer(rt, alloc, cut, dies_after),
     }
 }
 

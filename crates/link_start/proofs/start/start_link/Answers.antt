@@ -1,4 +1,4 @@
-use Rattle.std.proofs.Common.{sym, ◌∙◌, subst}
+use Rattle.std.proofs.Common.{arith, sym, ◌∙◌, subst}
 use Rattle.std.specs.Prelude.{IfErr}
 use Rattle.session_values.specs.State.{StartKeyOf}
 use Rattle.link_laws.specs.Standing.{Standing}
@@ -28,4 +28,15 @@ loop-preserved g c = record {
   key = c.in-Ok-More.ensures.same.0 ∙ c.loop.invariant.key;
   number = c.in-Ok-More.ensures.same.1 ∙ c.loop.invariant.number;
   born = c.in-Ok-More.ensures.same.2 ∙ c.loop.invariant.born;
+  tried = omega (arith, c.in-Ok-More.ensures.tried, c.loop.invariant.tried);
+}
+
+pub finish-requires : goal.finish-requires
+finish-requires g c = record {
+  began = g.E.ServerEnd.standing c.args.end;
+  secret = c.args.secret.now;
+  can_start = c.requires.can_start;
+  key = subst (λ (k : StartKeyOf). IsLinkKey k) (sym (c.in-Ok-Ready.ensures.same.0 ∙ c.loop.invariant.key)) c.requires.key;
+  under_way = c.in-Ok-Ready.ensures.under_way _ c.requires.can_start (subst (λ (k : StartKeyOf). IsLinkKey k) (sym c.loop.invariant.key) c.requires.key) c.loop.invariant.under_way;
+  welcomed = c.in-Ok-Ready.ensures.welcomed c.in-Ok-Ready.field-0-is;
 }

@@ -1,6 +1,6 @@
-use Rattle.std.proofs.Common.{◌≡◌}
+use Rattle.std.proofs.Common.{◌≡◌, ◌+◌, ◌≤◌}
 use Rattle.std.specs.Arc.{arc_value}
-use Rattle.link_start.specs.Starts.{IsUnderWay}
+use Rattle.link_start.specs.Starts.{IsUnderWay, tried_before, tried_so_far}
 use Rattle.link_start.proofs.start.start_link.Given as goal
 
 abbrev pub invariant-loop : goal.invariant-loop
@@ -9,4 +9,5 @@ invariant-loop g l = record {
   key : l.start.key ≡ arc_value l.fn.key;
   number : l.start.number ≡ l.fn.number;
   born : l.start.born ≡ l.fn.born;
+  tried : l.counter + tried_before (g.E.ServerEnd.standing l.fn.end) ≤ tried_so_far l.start;
 }

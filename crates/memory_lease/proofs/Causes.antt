@@ -1,0 +1,108 @@
+-- Why a client is refused.
+use Rattle.std.proofs.Common.{◌≡◌, ◌⊎◌, inl, inr, ℕ, ◌+◌, ◌^◌, ◌<◌, ◌≤◌, Bool, true, false, List, [], ◌∷◌, ◌++◌, length, refl, sym, ap, ap₂, ◌∙◌, arith, append_assoc, append-nil, subst, Option, Some}
+use Rattle.std.specs.Prelude.{map, nat_lt, None}
+use Rattle.std.specs.List.{flat_map, AllByRecursion}
+use Rattle.std.proofs.lemmas.Bool.{false≢true, ltb-true, ltb-false}
+use Rattle.frame_view.specs.declared.FrameFault.{FrameFault}
+use Rattle.frame_view.specs.declared.FrameFault.TheVariants.{TooShort, TooLong, UnknownType, UnknownCode}
+use Rattle.frame_view.specs.declared.Side.{Side}
+use Rattle.frame_view.specs.declared.Side.TheVariants.{Client, Server}
+use Rattle.frame_view.specs.declared.frames.TheConstants.{LONGEST_FRAME}
+use Rattle.frame_view.specs.Frames.{Front, AFrame, FrameOf, IsFrame, front, spelling}
+use Rattle.frame_view.specs.Frames as frames
+use Rattle.frame_view.proofs.Growth.{front-grows}
+use Rattle.frame_view.proofs.Cuts.{front-spelling}
+use Rattle.message_view.specs.declared.refusal.Refusal.{Refusal}
+use Rattle.message_view.specs.declared.refusal.Refusal.TheVariants.{MalformedServerMessage, ServerFailed}
+use Rattle.message_view.specs.Refusals.{Begins}
+use Rattle.relay_flow.specs.declared.flow.Ends.{Ends}
+use Rattle.relay_flow.specs.declared.flow.Ends.TheVariants.{Open, Last, Faulty}
+use Rattle.relay_flow.specs.Flows.{IsEndedBy, is_faulty}
+use Rattle.relay_laws.specs.Leases.{RelayView, Place, IsForwarded, IsLease}
+use Rattle.relay_steps.specs.Answers.{RefusedBy, refusal_by, refusal_of}
+use Rattle.memory_lease.specs.Answers.{HasCause, IsAllowed, IsAnswer, IsAtFault, IsTooLong}
+
+pub was_allowed : (limit : ℕ) (bytes out : List ℕ) (pieces : List (List ℕ)) → IsAnswer limit bytes out pieces → IsAllowed out pieces
+was_allowed limit bytes out pieces (inl x) = inl x
+was_allowed limit bytes out pieces (inr x) = inr x.at
+
+-- ---- a faulty message at a border
+
+record StopsAt (side : Side) (limit : ℕ) (part : List ℕ) (rest : ℕ) : Type 0 where
+  pub fault : FrameFault
+  pub border : rest ≡ 0
+  pub stops : front side limit part ≡ frames.Faulty fault
+
+same_refusal : (a b : Refusal) → Some a ≡ Some b → b ≡ a
+same_refusal a b e = cc
+
+client_stops : (e : Ends) (side : Side) (limit : ℕ) (part : List ℕ) (rest : ℕ) (r : Refusal) → refusal_of e ≡ Some r → IsEndedBy e side limit part rest → (x : StopsAt side limit part rest) × (r ≡ refusal_by x.fault)
+client_stops Open side limit part rest r e x = absurd cc
+client_stops Last side limit part rest r e x = absurd cc
+client_stops (Faulty fault) side limit part rest r e x = (record { fault = fault; border = x.0; stops = x.1 }, same_refusal (refusal_by fault) r e)
+
+server_stops : (e : Ends) (side : Side) (limit : ℕ) (part : List ℕ) (rest : ℕ) → is_faulty e ≡ true → IsEndedBy e side limit part rest → StopsAt side limit part rest
+server_stops Open side limit part rest e x = absurd (false≢true e)
+server_stops Last side limit part rest e x = absurd (false≢true e)
+server_stops (Faulty fault) side limit part rest e x = record { fault = fault; border = x.0; stops = x.1 }
+
+-- ---- of the client
+
+cause_of_fault : (limit : ℕ) (bytes : List ℕ) (given kept : List (List ℕ)) (fault : FrameFault) → IsAtFault limit bytes (refusal_by fault) → HasCause limit bytes given kept (refusal_by fault)
+cause_of_fault limit bytes given kept TooShort x = x
+cause_of_fault limit bytes given kept TooLong x = x
+cause_of_fault limit bytes given kept UnknownType x = x
+cause_of_fault limit bytes given kept UnknownCode x = x
+
+by_client : (p : Place) (v : RelayView) (bytes : List ℕ) (r : Refusal) → IsLease p v → v.client.tells ≡ true → p.taken ≡ [] → ((some : List ℕ) → v.client.taken ≡ some → Begins some bytes) → refusal_of v.to_link.ends ≡ Some r
+    → (fault : FrameFault) × (r ≡ refusal_by fault) × IsAtFault p.limit bytes (refusal_by fault)
+by_client p v bytes r x t n b e =
+    let s = client_stops v.to_link.ends v.to_link.side v.to_link.limit v.to_link.part v.to_link.rest r e x.goes.flow.ended in
+    let f : List ℕ = flat_map spelling x.forwarded in
+    let g : Begins (f ++ v.to_link.part) bytes = b (f ++ v.to_link.part) (x.goes.taken t ∙ ap₂ (λ (a c : List ℕ). a ++ (f ++ (c ++ v.to_link.part))) n (x.goes.opens.border s.0.border)) in (
+      s.0.fault,
+      s.1,
+      record {
+        before = x.forwarded;
+        rest = v.to_link.part ++ g.more;
+        fault = s.0.fault;
+        went = subst (λ (l : ℕ). AllByRecursion (IsForwarded l) x.forwarded) x.same.4 x.goes.went;
+        whole = sym g.both ∙ append_assoc f v.to_link.part g.more;
+        stops = (front-grows Client p.limit v.to_link.part g.more).fault s.0.fault (sym (ap₂ (λ (d : Side) (l : ℕ). front d l v.to_link.part) x.goes.flow.side_is x.same.4) ∙ s.0.stops);
+        told = refl;
+      },
+    )
+
+-- ---- of the server
+
+long_by : (limit : ℕ) (b : Bool) (f : FrameOf) (fs : List FrameOf) (fault : FrameFault) → nat_lt limit (4 + length f.body) ≡ b → limit < 2 ^ 32 → IsFrame Server LONGEST_FRAME f → front Server limit (spelling f ++ (flat_map spelling fs ++ [])) ≡ frames.Faulty fault → IsTooLong limit (map spelling (f ∷ fs))
+long_by limit true f fs fault e l a s = record { next = f; others = map spelling fs; kept_is = refl; long = ltb-true limit (4 + length f.body) e }
+long_by limit false f fs fault e l a s =
+    let lawful : IsFrame Server limit f = record { of_type = a.of_type; size = ltb-false limit (4 + length f.body) e } in
+    let whole : front Server limit (spelling f ++ (flat_map spelling fs ++ [])) ≡ AFrame f.kind f.body (flat_map spelling fs ++ []) = front-spelling Server limit f (flat_map spelling fs ++ []) l lawful in
+    absurd cc
+
+next_is_long : (limit : ℕ) (part more : List ℕ) (fault : FrameFault) (fs : List FrameOf) → limit < 2 ^ 32 → AllByRecursion (IsFrame Server LONGEST_FRAME) fs → front Server limit part ≡ frames.Faulty fault → part ++ more ≡ flat_map spelling fs ++ [] → IsTooLong limit (map spelling fs)
+next_is_long limit part more fault [] l a f e =
+    let s : front Server limit [] ≡ frames.Faulty fault = subst (λ (b : List ℕ). front Server limit b ≡ frames.Faulty fault) e ((front-grows Server limit part more).fault fault f) in
+    absurd cc
+next_is_long limit part more fault (g ∷ fs) l a f e =
+    let s : front Server limit (part ++ more) ≡ frames.Faulty fault = (front-grows Server limit part more).fault fault f in
+    long_by limit (nat_lt limit (4 + length g.body)) g fs fault refl l a.0 (sym (ap (front Server limit) (e ∙ append_assoc (spelling g) (flat_map spelling fs) [])) ∙ s)
+
+by_server : (p : Place) (v : RelayView) (fs : List FrameOf) (more : List ℕ) → IsLease p v → is_faulty v.to_client.ends ≡ true → AllByRecursion (IsFrame Server LONGEST_FRAME) fs → v.to_client.part ++ more ≡ flat_map spelling fs ++ [] → IsTooLong p.limit (map spelling fs)
+by_server p v fs more x e a h =
+    let s : StopsAt v.to_client.side v.to_client.limit v.to_client.part v.to_client.rest = server_stops v.to_client.ends v.to_client.side v.to_client.limit v.to_client.part v.to_client.rest e x.comes.flow.ended in
+    let high : v.to_client.limit ≤ LONGEST_FRAME = x.comes.flow.high in
+    let same : v.to_client.limit ≡ p.limit = x.same.5 in
+    next_is_long p.limit v.to_client.part more s.fault fs (omega (arith, high, same)) a (sym (ap₂ (λ (d : Side) (l : ℕ). front d l v.to_client.part) x.comes.flow.side_is same) ∙ s.stops) h
+
+-- ---- of a relay that refuses
+
+pub caused_by : (p : Place) (v : RelayView) (bytes more : List ℕ) (given : List (List ℕ)) (fs : List FrameOf) (r : Refusal) → IsLease p v → v.client.tells ≡ true → p.taken ≡ [] → ((some : List ℕ) → v.client.taken ≡ some → Begins some bytes)
+    → AllByRecursion (IsFrame Server LONGEST_FRAME) fs → v.to_client.part ++ more ≡ flat_map spelling fs ++ [] → RefusedBy p v r → HasCause p.limit bytes given (map spelling fs) r
+caused_by p v bytes more given fs r x t n b a h (inl e) =
+    let c = by_client p v bytes r x t n b e in
+    subst (HasCause p.limit bytes given (map spelling fs)) (sym c.1) (cause_of_fault p.limit bytes given (map spelling fs) c.0 c.2)
+caused_by p v bytes more given fs r x t n b a h (inr (inl e)) = subst (HasCause p.limit bytes given (map spelling fs)) (sym e.0) (by_server p v fs more x e.1 a h)
+caused_by p v bytes more given fs r x t n b a h (inr (inr e)) = subst (HasCause p.limit bytes given (map spelling fs)) (sym e.0) tt

@@ -1,0 +1,233 @@
+//! A TCP connection as an end of a lease: a server's or a client's.
+ghost use Rattle.std.specs.Prelude.{◌≡◌, ◌<◌, length, true, false, IfOk};
+ghost use Rattle.server_end.specs.Moves.{IsWithin};
+ghost use Rattle.tcp_end.specs.Connections.{Reads, Sends, has_ended, is_broken, new_connection};
+ghost use Rattle.tcp_end.specs.Connections as spec;
+
+use crate::accepted::Accepted;
+use mio::net::TcpStream;
+use mio::{Interest, Poll, Token};
+use server_end::{ClientEnd, Moved, ServerEnd};
+use std::alloc::{AllocError, Global};
+use std::io;
+use std::io::{ErrorKind, Read, Write};
+use std::marker::Model;
+use std::sync::Arc;
+use std::sync::atomic::{AtomicBool, Ordering};
+
+/// A TCP connection. A read of none of the peer's bytes, when it has sent its last, is the end of its input: no further read is
+/// tried, and a server's end isn't written to either. After a fault, or at the last count that a number of eight bytes has,
+/// nothing is tried any more.
+///
+/// Nothing is claimed of what the peer is or does: as a server's end it follows no server, and as a client's it doesn't tell its
+/// bytes.
+pub struct TcpEnd {
+    stream: TcpStream,
+    accepted: Accepted,
+    /// The peer has sent its last byte.
+    input_ended: bool,
+    faults: u64,
+    read_waits: u64,
+    write_waits: u64,
+    /// The last read came to something, so there may be more. Its gate reads it too.
+    may_have_more: Arc<AtomicBool>,
+}
+
+impl Drop for TcpEnd {
+    fn drop(self) {
+        let TcpEnd {
+            stream: _,
+            accepted: _,
+            input_ended: _,
+            faults: _,
+            read_waits: _,
+            write_waits: _,
+            may_have_more: _,
+        } = self;
+    }
+}
+
+impl Model for TcpEnd {
+    ghost use Rattle.tcp_end.specs.Connections.{ConnectionOf};
+
+    ghost Value = { ConnectionOf };
+
+    ghost view = { λ e. record {
+      accepted = e.accepted.bytes;
+      input_ended = e.input_ended;
+      faults = e.faults;
+      read_waits = e.read_waits;
+      write_waits = e.write_waits;
+    } };
+}
+
+/// What an error of a stream is for its end.
+fn stopped(kind: ErrorKind) -> Moved
+    ensures { result ≡ spec.stopped kind }
+{
+    match kind {
+        ErrorKind::WouldBlock | ErrorKind::Interrupted => Moved::NotNow,
+        _ => Moved::Fault,
+    }
+}
+
+/// What a read of a stream is for its end. It was given room, so none at all is the end of the input.
+fn read_outcome(answer: io::Result<usize>) -> Moved
+    ensures { result ≡ spec.read_outcome answer }
+{
+    match answer {
+        Ok(0) => Moved::Ended,
+        Ok(count) => Moved::Count(count),
+        Err(error) => stopped(error.kind()),
+    }
+}
+
+/// What a write to a stream is for its end. It was given bytes, so a stream that takes none is broken.
+fn write_outcome(answer: io::Result<usize>) -> Moved
+    ensures { result ≡ spec.write_outcome answer }
+{
+    match answer {
+        Ok(0) => Moved::Fault,
+        Ok(count) => Moved::Count(count),
+        Err(error) => stopped(error.kind()),
+    }
+}
+
+impl TcpEnd {
+    /// The end of a connection that is there, as one that was accepted. Its small packets are sent at once (TCP_NODELAY); that
+    /// they can't is ignored. The only error is that an allocation failed, which closes the connection.
+    pub fn from_stream(alloc: Global, stream: TcpStream) -> Result<TcpEnd, AllocError>
+        ensures { IfOk result (λ e. e ≡ new_connection) }
+    {
+        let _ = stream.set_nodelay(true);
+        Ok(TcpEnd {
+            stream,
+            accepted: Accepted::new(),
+            input_ended: false,
+            faults: 0,
+            read_waits: 0,
+            write_waits: 0,
+            may_have_more: Arc::new(alloc, AtomicBool::new(true))?,
+        })
+    }
+
+    /// Has the poll tell of this connection. That it can't is ignored.
+    pub(crate) fn register(&mut self, poll: &Poll, token: Token)
+        ensures { self.new ≡ self.old }
+    {
+        let both = Interest::READABLE | Interest::WRITABLE;
+        let _ = poll.registry().register(&mut self.stream, token, both);
+    }
+
+    /// Has the poll tell of it no more.
+    pub(crate) fn deregister(&mut self, poll: &Poll)
+        ensures { self.new ≡ self.old }
+    {
+        let _ = poll.registry().deregister(&mut self.stream);
+    }
+
+    /// What is noted of its last read, as the gate reads it.
+    pub(crate) fn note(&self) -> Result<Arc<AtomicBool>, AllocError> {
+        Arc::try_clone(&self.may_have_more)
+    }
+
+    fn is_broken(&self) -> bool
+        ensures { result ≡ is_broken self.now }
+    {
+        self.faults > 0 || self.read_waits == u64::MAX || self.write_waits == u64::MAX
+    }
+
+    fn has_ended(&self) -> bool
+        ensures { result ≡ has_ended self.now }
+    {
+        self.input_ended || self.is_broken()
+    }
+
+    /// Reads once, for either kind of end.
+    fn read(&mut self, into: &mut [u8]) -> Moved
+        requires { 0 < length into.old }
+        ensures within { IsWithin result (length into.old) }
+        ensures reads { Reads self.old self.new result }
+    {
+        if self.has_ended() {
+            return Moved::Ended;
+        }
+        let moved = read_outcome(self.stream.read(into));
+        self.may_have_more
+            .store(moved != Moved::NotNow, Ordering::SeqCst);
+        match moved {
+            Moved::Count(_) => {}
+            Moved::NotNow => self.read_waits += 1,
+            Moved::Ended => self.input_ended = true,
+            Moved::Fault => self.faults += 1,
+        }
+        moved
+    }
+
+    /// Writes once, to a stream that isn't broken.
+    fn write(&mut self, from: &[u8]) -> Moved
+        requires bytes { 0 < length from.now }
+        requires whole { is_broken self.old ≡ false }
+        ensures within { IsWithin result (length from.now) }
+        ensures sends { Sends self.old self.new from.now result }
+    {
+        let moved = write_outcome(self.stream.write(from));
+        match moved {
+            Moved::Count(count) => self.accepted.note(&from[..count]),
+            Moved::NotNow => self.write_waits += 1,
+            Moved::Ended => {}
+            Moved::Fault => self.faults += 1,
+        }
+        moved
+    }
+}
+
+impl ServerEnd for TcpEnd {
+    ghost use Rattle.tcp_end.specs.Connections.{standing_of};
+
+    ghost standing = { λ e. standing_of e };
+
+    fn read_some(&mut self, into: &mut [u8]) -> Moved {
+        self.read(into)
+    }
+
+    fn write_some(&mut self, from: &[u8]) -> Moved {
+        if self.has_ended() {
+            return Moved::Ended;
+        }
+        self.write(from)
+    }
+
+    fn faults(&self) -> u64 {
+        self.faults
+    }
+
+    fn waits(&self) -> (u64, u64) {
+        (self.read_waits, self.write_waits)
+    }
+}
+
+impl ClientEnd for TcpEnd {
+    ghost use Rattle.tcp_end.specs.Connections.{facts_of};
+
+    ghost facts = { λ e. facts_of e };
+
+    fn read_some(&mut self, into: &mut [u8]) -> Moved {
+        self.read(into)
+    }
+
+    fn write_some(&mut self, from: &[u8]) -> Moved {
+        if self.is_broken() {
+            return Moved::Ended;
+        }
+        self.write(from)
+    }
+
+    fn faults(&self) -> u64 {
+        self.faults
+    }
+
+    fn waits(&self) -> (u64, u64) {
+        (self.read_waits, self.write_waits)
+    }
+}

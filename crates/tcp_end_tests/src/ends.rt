@@ -1,0 +1,102 @@
+//! What reads and writes of an end come to.
+use crate::pairs::{HERE, listen, pair};
+use server_end::{ClientEnd, Moved, ServerEnd};
+use std::test::Fail;
+use tcp_end::connection::TcpEnd;
+use tcp_end::dial::dial;
+
+/// Reads once by way of the trait, into room for four bytes.
+fn read<E: ServerEnd>(end: &mut E) -> (Moved, [u8; 4]) {
+    let mut room = [0u8; 4];
+    let moved = end.read_some(&mut room);
+    (moved, room)
+}
+
+/// Reads until the answer isn't the one that is expected first; at most a million times.
+fn read_after(end: &mut TcpEnd, first: Moved) -> Moved {
+    for _ in 0..1_000_000u32 {
+        let (moved, _) = read(end);
+        if moved != first {
+            return moved;
+        }
+    }
+    first
+}
+
+/// What may go to another thread, as an end does with its link.
+fn sent<T: Send>(value: T) -> T {
+    value
+}
+
+#[test]
+fn bytes_go_both_ways(rt: HostRuntime) -> Result<(), Fail> {
+    let (mut near, mut far) = sent(pair(&rt)?);
+    assert_eq!(rt; read(&mut near), (Moved::NotNow, [0; 4]));
+    assert_eq!(rt; ClientEnd::write_some(&mut far, b"Z(49)"), Moved::Count(5));
+    assert_eq!(rt; read_after(&mut near, Moved::NotNow), Moved::Count(4));
+    assert_eq!(rt; read(&mut near), (Moved::Count(1), [b')', 0, 0, 0]));
+    assert_eq!(rt; ServerEnd::waits(&near).1, 0);
+    Ok(())
+}
+
+#[test]
+fn waits_are_counted(rt: HostRuntime) -> Result<(), Fail> {
+    let (mut near, _far) = pair(&rt)?;
+    for _ in 0..3 {
+        assert_eq!(rt; read(&mut near).0, Moved::NotNow);
+    }
+    assert_eq!(rt; ServerEnd::waits(&near), (3, 0));
+    let block = [7u8; 65_536];
+    for _ in 0..10_000u32 {
+        if ServerEnd::write_some(&mut near, &block) == Moved::NotNow {
+            break;
+        }
+    }
+    assert_eq!(rt; ClientEnd::waits(&near), (3, 1));
+    assert_eq!(rt; ClientEnd::faults(&near), 0);
+    Ok(())
+}
+
+#[test]
+fn an_end_of_input_is_final(rt: HostRuntime) -> Result<(), Fail> {
+    let (mut near, far) = pair(&rt)?;
+    drop(far);
+    assert_eq!(rt; read_after(&mut near, Moved::NotNow), Moved::Ended);
+    assert_eq!(rt; ServerEnd::read_some(&mut near, &mut [0; 4]), Moved::Ended);
+    assert_eq!(rt; ServerEnd::write_some(&mut near, b"Q"), Moved::Ended);
+    assert_eq!(rt; ServerEnd::faults(&near), 0);
+    Ok(())
+}
+
+/// What the first write came to that wasn't counted, to a client whose input has ended; at most a million are tried.
+fn write_after(end: &mut TcpEnd) -> Moved {
+    for _ in 0..1_000_000u32 {
+        let moved = ClientEnd::write_some(end, b"Q");
+        if !matches!(moved, Moved::Count(_)) {
+            return moved;
+        }
+    }
+    Moved::NotNow
+}
+
+#[test]
+fn a_fault_is_final(rt: HostRuntime) -> Result<(), Fail> {
+    let (mut near, far) = pair(&rt)?;
+    drop(far);
+    assert_eq!(rt; read_after(&mut near, Moved::NotNow), Moved::Ended);
+    assert_eq!(rt; write_after(&mut near), Moved::Fault);
+    assert_eq!(rt; ClientEnd::faults(&near), 1);
+    assert_eq!(rt; ClientEnd::write_some(&mut near, b"Q"), Moved::Ended);
+    assert_eq!(rt; ClientEnd::read_some(&mut near, &mut [0; 4]), Moved::Ended);
+    Ok(())
+}
+
+#[test]
+fn nobody_listens(rt: HostRuntime) -> Result<(), Fail> {
+    let (listener, port) = listen(&rt)?;
+    assert!(rt; dial(&rt, rt.alloc(), HERE, port, 15).is_some());
+    assert!(rt; dial(&rt, rt.alloc(), HERE, port, 0).is_none());
+    drop(listener);
+    assert!(rt; dial(&rt, rt.alloc(), HERE, port, 15).is_none());
+    Ok(())
+}

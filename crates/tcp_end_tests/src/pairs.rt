@@ -1,0 +1,26 @@
+//! Two ends of one connection over the loopback network.
+use mio::net::TcpListener;
+use std::net::{Ipv4Addr, SocketAddr};
+use std::test::Fail;
+use tcp_end::connection::TcpEnd;
+use tcp_end::dial::{CONNECT_SECONDS, dial};
+
+/// This machine, as an address.
+pub const HERE: [u8; 4] = [127, 0, 0, 1];
+
+/// A listener at a port that was free, and the port.
+pub fn listen(rt: &HostRuntime) -> Result<(TcpListener, u16), Fail> {
+    let listener = TcpListener::bind(rt, SocketAddr::from((Ipv4Addr::LOCALHOST, 0)))?;
+    let port = listener.local_addr()?.port();
+    Ok((listener, port))
+}
+
+/// An end that was dialled, and the one that was accepted for it.
+pub fn pair(rt: &HostRuntime) -> Result<(TcpEnd, TcpEnd), Fail> {
+    let (listener, port) = listen(rt)?;
+    let Some(near) = dial(rt, rt.alloc(), HERE, port, CONNECT_SECONDS) else {
+        return Err("no connection")?;
+    };
+    let (stream, _) = listener.accept()?;
+    Ok((near, TcpEnd::from_stream(rt.alloc(), stream)?))
+}

@@ -1,0 +1,206 @@
+-- The relation holds in every world that is reached; so does the theorem.
+use Rattle.std.proofs.Common.{◌≡◌, ℕ, List, [], ◌∷◌, ◌++◌, ◌⊎◌, inl, inr, refl, sym, ap, ap₂, ◌∙◌, subst, append_assoc, append-nil, Option, Some, None, true}
+use Rattle.std.specs.Prelude.{map}
+use Rattle.std.specs.List.{flat_map}
+use Rattle.frame_view.specs.declared.Side.TheVariants.{Client as OfClient}
+use Rattle.frame_view.specs.Frames.{FrameOf, Cut, spelling}
+use Rattle.frame_view.proofs.Splitting.{frames-stopped}
+use Rattle.message_view.specs.declared.KeyWord.{KeyWord}
+use Rattle.message_view.specs.Refusals.{Allowed, Begins, joined_pieces}
+use Rattle.session_values.specs.State.{State, CatalogueOf, StartKeyOf}
+use Rattle.session_values.specs.Step.{run_frames}
+use Rattle.session_values.specs.Service.{welcome, client_frames}
+use Rattle.login_core.specs.Talk.{End}
+use Rattle.login_core.specs.Talk.End.{Unfinished, Passed, Stopped}
+use Rattle.login_core.specs.Dialogue.{LoginRow, Way, ToLink, ToConsole, Reason, login}
+use Rattle.login_core.specs.Solo.{service_pieces}
+use Rattle.world_steps.specs.Clients.Phase.{Served}
+use Rattle.world_steps.specs.Links.Role.{Lent, Idle}
+use Rattle.book_lists.specs.Book.{Book, Limits}
+use Rattle.book_lists.specs.Laws.{HasLink, HasTicket}
+use Rattle.world_steps.specs.Clients.{Phase}
+use Rattle.world_steps.specs.Links.{Role}
+use Rattle.world_steps.specs.Relation.{PhaseFits, RoleFits}
+use Rattle.world_steps.specs.Steps.{IsEmpty}
+use Rattle.world_steps.specs.Steps.Step.{book_step, client_step, byte_step, link_step, end_step}
+use Rattle.world_steps.specs.Steps.Reached.{begins, goes_on}
+use Rattle.world_steps.proofs.Fronts.{replies-append, joined-append, joined-frames, spelled-append}
+use Rattle.world_steps.proofs.Clients.{phase_over, fresh_one, after_passed}
+use Rattle.world_steps.proofs.Sole.{frames_after}
+use Rattle.world_steps.proofs.Steps.{fits_at, role_at}
+use Rattle.frame_view.specs.declared.frames.TheConstants.{LONGEST_FRAME}
+use Rattle.world_model.specs.Headline.{Agree, IsQuiet, IsFreshLink, future, OutsBegin, TwoWorlds}
+use Rattle.world_steps.specs.Clients.{Client, given}
+use Rattle.world_steps.specs.Laws.{BookStepsKeep, ClientStepsKeep, ByteStepsKeep, LinkStepsKeep, EndStepsKeep}
+use Rattle.world_steps.specs.Links.{Place, place_of, Link}
+use Rattle.world_steps.specs.Relation.{IsFront, Related, IsOver, IsLent, InService}
+use Rattle.world_steps.specs.Steps.{Step, Reached}
+use Rattle.world_steps.specs.Worlds.{World, own, after_in, solo_in}
+
+-- the five groups
+pub record Keep : Type 0 where
+  pub book : BookStepsKeep
+  pub client : ClientStepsKeep
+  pub bytes : ByteStepsKeep
+  pub link : LinkStepsKeep
+  pub end : EndStepsKeep
+
+keeps : Keep → {w v : World} → Step w v → Related w → Related v
+keeps k {w} {v} (book_step s) = k.book w v s
+keeps k {w} {v} (client_step s) = k.client w v s
+keeps k {w} {v} (byte_step s) = k.bytes w v s
+keeps k {w} {v} (link_step s) = k.link w v s
+keeps k {w} {v} (end_step s) = k.end w v s
+
+no_number : {A : Type 0} {m : Option ℕ} {n : ℕ} → m ≡ None → m ≡ Some n → A
+no_number {A} {m} {n} e f = absurd (go (sym e ∙ f))
+  where
+    go : ◌≡◌ {A = Option ℕ} None (Some n) → ⊥
+    go p = cc
+
+pub at_first : (w : World) (limits : Limits) → IsEmpty w limits → Related w
+at_first w limits h = record {
+  lawful = h.lawful;
+  clients = λ c. subst (λ (p : Phase). PhaseFits w.catalogue w.links c p (w.clients c)) (sym (h.absent c)) (h.given_nothing c);
+  links = λ l. subst (λ (r : Role). RoleFits w.catalogue r (w.links l)) (sym (h.unborn l)) tt;
+  idle = λ n key k. absurd (subst (λ (b : Book). HasLink n key b.idle) h.book_is k);
+  unborn = λ l le. h.unborn l;
+  tickets = λ n key k. absurd (subst (λ (b : Book). HasTicket n key b.tickets) h.book_is k);
+  numbers = λ c d n e. no_number (h.unnumbered c) e;
+  counted = λ c n e. no_number (h.unnumbered c) e;
+  tickets_counted = λ n key k. absurd (subst (λ (b : Book). HasTicket n key b.tickets) h.book_is k);
+}
+
+-- two fronts of one list: one is a front of the other
+pub fronts_of_one : (xs ys zs : List ℕ) → IsFront xs zs → IsFront ys zs → IsFront xs ys ⊎ IsFront ys xs
+fronts_of_one [] ys zs f g = inl (record { rest = ys; is = refl })
+fronts_of_one (x ∷ xs) [] zs f g = inr (record { rest = x ∷ xs; is = refl })
+fronts_of_one (x ∷ xs) (y ∷ ys) zs f g =
+    more (same f g) (fronts_of_one xs ys (xs ++ f.rest) (record { rest = f.rest; is = refl }) (record { rest = g.rest; is = tails f g }))
+  where
+    same : IsFront (x ∷ xs) zs → IsFront (y ∷ ys) zs → y ≡ x
+    same f g = let e : y ∷ (ys ++ g.rest) ≡ x ∷ (xs ++ f.rest) = g.is ∙ sym f.is in cc
+
+    tails : (f : IsFront (x ∷ xs) zs) → (g : IsFront (y ∷ ys) zs) → ys ++ g.rest ≡ xs ++ f.rest
+    tails f g = let e : y ∷ (ys ++ g.rest) ≡ x ∷ (xs ++ f.rest) = g.is ∙ sym f.is in cc
+
+    more : y ≡ x → IsFront xs ys ⊎ IsFront ys xs → IsFront (x ∷ xs) (y ∷ ys) ⊎ IsFront (y ∷ ys) (x ∷ xs)
+    more e (inl h) = inl (record { rest = h.rest; is = ap (λ (a : ℕ). a ∷ (xs ++ h.rest)) (sym e) ∙ ap (λ (l : List ℕ). y ∷ l) h.is })
+    more e (inr h) = inr (record { rest = h.rest; is = ap (λ (a : ℕ). a ∷ (ys ++ h.rest)) e ∙ ap (λ (l : List ℕ). x ∷ l) h.is })
+
+same_lent : (c d : ℕ) → Lent c ≡ Lent d → c ≡ d
+same_lent c d p = cc
+
+either : (xs ys : List ℕ) → IsFront xs ys ⊎ IsFront ys xs → Begins xs ys ⊎ Begins ys xs
+either xs ys (inl f) = inl (record { more = f.rest; both = f.is })
+either xs ys (inr f) = inr (record { more = f.rest; both = f.is })
+
+-- only the catalogue of the row that the login leads to counts
+same_after : (c d : Place → CatalogueOf) (word : KeyWord) (o : End Way Reason) → ((key : StartKeyOf) (left : List ℕ) → o ≡ Passed (ToLink key) left → c (place_of key) ≡ d (place_of key)) → after_in c word o ≡ after_in d word o
+same_after c d word (Passed (ToLink key) left) h = ap (λ (cat : CatalogueOf). service_pieces cat key word left) (h key left refl)
+same_after c d word (Passed ToConsole left) h = refl
+same_after c d word Unfinished h = refl
+same_after c d word (Stopped reason) h = refl
+
+same_own : (w v : World) (x y : Client) → Agree w v x y → own w x ≡ own v y
+same_own w v x y a =
+    ap (λ (ps : List (List ℕ)). (login x.row x.word x.sent).pieces ++ ps) (same_after w.catalogue v.catalogue x.word (login x.row x.word x.sent).ended a.catalogue)
+    ∙ ap (λ (row : LoginRow). solo_in v.catalogue row x.word x.sent) a.row
+    ∙ ap₂ (λ (word : KeyWord) (bytes : List ℕ). solo_in v.catalogue y.row word bytes) a.word a.sent
+
+-- a client with its living link: all is told, held, or still to come
+exact_service : (catalogue : Place → CatalogueOf) (x : Client) (y : Link) → y.alive ≡ true → InService (catalogue (place_of y.key)) x y → IsLent (catalogue (place_of y.key)) y →
+    (x.out ++ x.for_client) ++ future (catalogue (place_of y.key)) y (x.for_link ++ x.unread) ≡ joined_pieces (solo_in catalogue x.row x.word x.sent)
+exact_service catalogue x y live h k =
+    let cat : CatalogueOf = catalogue (place_of y.key) in
+    let r = k.runs in
+    let same : k.base ≡ h.base = fresh_one (sym k.is_fresh ∙ h.is_fresh) in
+    let more : List ℕ = x.for_link ++ x.unread in
+    let now : State = (run_frames cat k.base r.taken).next in
+    let rest : List FrameOf = client_frames (y.inbox ++ more) in
+    let said : List FrameOf = (run_frames cat k.base r.taken).replies in
+    let last : List FrameOf = (run_frames cat now rest).replies in
+    let pieces : List ℕ = joined_pieces (login x.row x.word x.sent).pieces in
+    let hello : List FrameOf = welcome k.base x.word.pid x.word.secret in
+    let left : List ℕ = y.sent ++ more in
+    let taken_all : client_frames left ≡ r.taken ++ rest =
+    ap client_frames (ap (λ (b : List ℕ). b ++ more) r.sent_is ∙ append_assoc (flat_map spelling r.taken) y.inbox more) ∙ frames_after r.taken (y.inbox ++ more) r.are_sent in
+    let after : after_in catalogue x.word (login x.row x.word x.sent).ended ≡ map spelling (hello ++ (said ++ last)) =
+    after_passed catalogue x.word (login x.row x.word x.sent).ended y.key left k.base h.passed k.is_fresh
+    ∙ ap (λ (fs : List FrameOf). map spelling (hello ++ (run_frames cat k.base fs).replies)) taken_all ∙ ap (λ (fs : List FrameOf). map spelling (hello ++ fs)) (replies-append cat k.base r.taken rest) in
+    let told : x.out ++ x.for_client ≡ pieces ++ (flat_map spelling hello ++ y.received) =
+    h.told ∙ ap (λ (s : State). pieces ++ (flat_map spelling (welcome s x.word.pid x.word.secret) ++ y.received)) (sym same) in
+    let whole : joined_pieces (solo_in catalogue x.row x.word x.sent) ≡ pieces ++ (flat_map spelling hello ++ (flat_map spelling said ++ flat_map spelling last)) =
+    joined-append (login x.row x.word x.sent).pieces (after_in catalogue x.word (login x.row x.word x.sent).ended)
+    ∙ ap (λ (b : List ℕ). pieces ++ b) (ap joined_pieces after ∙ joined-frames (hello ++ (said ++ last)) ∙ spelled-append hello (said ++ last) ∙ ap (λ (b : List ℕ). flat_map spelling hello ++ b) (spelled-append said last)) in
+    ap₂ (λ (b : List ℕ) (s : State). b ++ (y.outbox ++ flat_map spelling (run_frames cat s rest).replies)) told r.session_is
+    ∙ regroup pieces (flat_map spelling hello) y.received y.outbox (flat_map spelling last)
+    ∙ ap (λ (b : List ℕ). pieces ++ (flat_map spelling hello ++ (b ++ flat_map spelling last))) (r.all_told live)
+    ∙ sym whole
+  where
+    regroup : (a b c d e : List ℕ) → (a ++ (b ++ c)) ++ (d ++ e) ≡ a ++ (b ++ ((c ++ d) ++ e))
+    regroup a b c d e = simp append_assoc
+
+no_frames : client_frames [] ≡ []
+no_frames = ap (λ (c : Cut). c.frames) (frames-stopped OfClient LONGEST_FRAME [] tt)
+
+silent : (cat : CatalogueOf) (s : State) (b : List ℕ) → b ≡ [] → flat_map spelling (run_frames cat s (client_frames b)).replies ≡ []
+unfolding run_frames
+silent cat s b e = ap (λ (l : List ℕ). flat_map spelling (run_frames cat s (client_frames l)).replies) e ∙ ap (λ (fs : List FrameOf). flat_map spelling (run_frames cat s fs).replies) no_frames
+
+-- where nothing is under way, all was given
+quiet_service : (catalogue : Place → CatalogueOf) (x : Client) (y : Link) → IsQuiet x y → InService (catalogue (place_of y.key)) x y → IsLent (catalogue (place_of y.key)) y → given x ≡ joined_pieces (solo_in catalogue x.row x.word x.sent)
+quiet_service catalogue x y q h k =
+    let cat : CatalogueOf = catalogue (place_of y.key) in
+    let more : List ℕ = x.for_link ++ x.unread in
+    let none : y.inbox ++ more ≡ [] = ap₂ (λ (a b : List ℕ). a ++ (b ++ x.unread)) q.inbox q.for_link ∙ q.unread in
+    let nothing : future cat y more ≡ [] = ap₂ (λ (a b : List ℕ). a ++ b) q.outbox (silent cat y.session (y.inbox ++ more) none) in
+    ap (λ (a : List ℕ). x.out ++ a) (h.quiet ∙ sym q.for_client)
+    ∙ sym (append-nil (x.out ++ x.for_client)) ∙ ap (λ (b : List ℕ). (x.out ++ x.for_client) ++ b) (sym nothing)
+    ∙ exact_service catalogue x y q.alive h k
+
+module _ (keep : Keep) where
+  pub related : {w : World} → Reached w → Related w
+  related {w} (begins limits h) = at_first w limits h
+  related (goes_on h s) = keeps keep s (related h)
+
+  over : {w : World} → Reached w → (c : ℕ) → IsOver w.catalogue (w.clients c)
+  over {w} h c = let r = related h in phase_over w.catalogue w.links r.lawful r.links c (w.clients c).phase (w.clients c) (r.clients c)
+
+  pub every : (w : World) → Reached w → (c : ℕ) → Allowed (given (w.clients c)) (own w (w.clients c))
+  every w h c = (over h c).allowed
+
+  pub outs : OutsBegin
+  outs w h c = let f = (over h c).out_front in record { more = f.rest; both = f.is }
+
+  pub one_client : (w : World) → Reached w → (c d l : ℕ) → (w.clients c).phase ≡ Served l → (w.clients d).phase ≡ Served l → c ≡ d
+  one_client w h c d l e f =
+      let r = related h in
+      same_lent c d (sym (fits_at c (Served l) r e).1 ∙ (fits_at d (Served l) r f).1)
+
+  pub idle_fresh : (w : World) → Reached w → (l : ℕ) → (w.links l).role ≡ Idle → (w.links l).alive ≡ true → IsFreshLink w (w.links l)
+  idle_fresh w h l e lives =
+      let k = role_at l Idle (related h) e in
+      record { is_fresh = k.is_fresh; inbox = k.inbox; outbox = k.outbox }
+
+  pub all_served : (w : World) → Reached w → (c l : ℕ) → (w.clients c).phase ≡ Served l → IsQuiet (w.clients c) (w.links l) → given (w.clients c) ≡ joined_pieces (own w (w.clients c))
+  all_served w h c l e q =
+      let r = related h in
+      let f = fits_at c (Served l) r e in
+      quiet_service w.catalogue (w.clients c) (w.links l) q f.0 (role_at l (Lent c) r f.1)
+
+  pub leases_exact : (w : World) → Reached w → (c l : ℕ) → (w.clients c).phase ≡ Served l → (w.links l).alive ≡ true
+      → ((w.clients c).out ++ (w.clients c).for_client) ++ future (w.catalogue (place_of (w.links l).key)) (w.links l) ((w.clients c).for_link ++ (w.clients c).unread) ≡ joined_pieces (own w (w.clients c))
+  leases_exact w h c l e live =
+      let r = related h in
+      let f = fits_at c (Served l) r e in
+      exact_service w.catalogue (w.clients c) (w.links l) live f.0 (role_at l (Lent c) r f.1)
+
+-- two worlds, by what holds in every one
+pub two : OutsBegin → TwoWorlds
+two outs w v hw hv c d a =
+    let x = w.clients c in
+    let y = v.clients d in
+    let f = outs w hw c in
+    let g = outs v hv d in
+    either x.out y.out (fronts_of_one x.out y.out (joined_pieces (own v y)) (subst (λ (ps : List (List ℕ)). IsFront x.out (joined_pieces ps)) (same_own w v x y a) (record { rest = f.more; is = f.both })) (record { rest = g.more; is = g.both }))

@@ -1,0 +1,78 @@
+-- What holds over every list of steps.
+use Rattle.std.specs.Prelude.{◌≡◌, ◌⊎◌, ℕ, List, [], ◌++◌, true, Ok}
+use Rattle.std.specs.List.{flat_map}
+use Rattle.frame_view.specs.Frames.{spelling}
+use Rattle.message_view.specs.Refusals.{Allowed, Begins, joined_pieces}
+use Rattle.session_values.specs.State.{StartKeyOf, CatalogueOf, fresh}
+use Rattle.session_values.specs.Step.{run_frames}
+use Rattle.session_values.specs.Service.{client_frames}
+use Rattle.login_core.specs.Talk.End.{Passed}
+use Rattle.login_core.specs.Dialogue.{ToLink, login}
+use Rattle.world_steps.specs.Clients.{Client, given}
+use Rattle.world_steps.specs.Clients.Phase.{Served}
+use Rattle.world_steps.specs.Links.{Link, place_of}
+use Rattle.world_steps.specs.Links.Role.{Idle}
+use Rattle.world_steps.specs.Worlds.{World, own}
+use Rattle.world_steps.specs.Steps.{Reached}
+
+-- Whatever happened, what a client was given is a beginning of what a server of its own answers, or some
+-- first whole pieces of it and then a refusal or a beginning of one.
+abbrev pub EveryWorld : Type 0
+EveryWorld = (w : World) → Reached w → (c : ℕ) → Allowed (given (w.clients c)) (own w (w.clients c))
+
+-- ---- two worlds
+
+-- Two clients of two worlds agree: equal login row, key word and bytes in, and equal catalogues of the place that their
+-- login leads to, if it leads to a link.
+pub record Agree (w v : World) (x y : Client) : Type 0 where
+  pub row : x.row ≡ y.row
+  pub word : x.word ≡ y.word
+  pub sent : x.sent ≡ y.sent
+  pub catalogue : (key : StartKeyOf) (left : List ℕ) → (login x.row x.word x.sent).ended ≡ Passed (ToLink key) left → w.catalogue (place_of key) ≡ v.catalogue (place_of key)
+
+-- Of two worlds that agree on a client, the one's bytes before any refusal begin the other's.
+abbrev pub TwoWorlds : Type 0
+TwoWorlds = (w v : World) → Reached w → Reached v → (c d : ℕ) → Agree w v (w.clients c) (v.clients d) → Begins (w.clients c).out (v.clients d).out ⊎ Begins (v.clients d).out (w.clients c).out
+
+-- ---- beside it
+
+-- The part before the refusal, if one follows, is a beginning of the whole too.
+abbrev pub OutsBegin : Type 0
+OutsBegin = (w : World) → Reached w → (c : ℕ) → Begins (w.clients c).out (joined_pieces (own w (w.clients c)))
+
+-- No link serves two clients.
+abbrev pub LinksServeOne : Type 0
+LinksServeOne = (w : World) → Reached w → (c d l : ℕ) → (w.clients c).phase ≡ Served l → (w.clients d).phase ≡ Served l → c ≡ d
+
+-- in the fresh session of its key, with nothing under way
+pub record IsFreshLink (w : World) (y : Link) : Type 0 where
+  pub is_fresh : fresh (w.catalogue (place_of y.key)) y.key ≡ Ok y.session
+  pub inbox : y.inbox ≡ []
+  pub outbox : y.outbox ≡ []
+
+-- Idle links that live are fresh.
+abbrev pub IdleLinksAreFresh : Type 0
+IdleLinksAreFresh = (w : World) → Reached w → (l : ℕ) → (w.links l).role ≡ Idle → (w.links l).alive ≡ true → IsFreshLink w (w.links l)
+
+-- what a link's server has still to say when these bytes follow those under way
+abbrev pub future : CatalogueOf → Link → List ℕ → List ℕ
+future cat y more = y.outbox ++ flat_map spelling (run_frames cat y.session (client_frames (y.inbox ++ more))).replies
+
+-- What a client with a living link was given, what is held for it and what is still to come are together all that a server of
+-- its own answers.
+abbrev pub LeasesAreExact : Type 0
+LeasesAreExact = (w : World) → Reached w → (c l : ℕ) → (w.clients c).phase ≡ Served l → (w.links l).alive ≡ true
+    → ((w.clients c).out ++ (w.clients c).for_client) ++ future (w.catalogue (place_of (w.links l).key)) (w.links l) ((w.clients c).for_link ++ (w.clients c).unread) ≡ joined_pieces (own w (w.clients c))
+
+-- between a client and its link nothing is under way
+pub record IsQuiet (x : Client) (y : Link) : Type 0 where
+  pub alive : y.alive ≡ true
+  pub inbox : y.inbox ≡ []
+  pub outbox : y.outbox ≡ []
+  pub unread : x.unread ≡ []
+  pub for_link : x.for_link ≡ []
+  pub for_client : x.for_client ≡ []
+
+-- Where nothing is under way, the client was given all of it.
+abbrev pub QuietLeasesAreWhole : Type 0
+QuietLeasesAreWhole = (w : World) → Reached w → (c l : ℕ) → (w.clients c).phase ≡ Served l → IsQuiet (w.clients c) (w.links l) → given (w.clients c) ≡ joined_pieces (own w (w.clients c))

@@ -1,0 +1,10 @@
+pub mod Changes
+pub mod Fronts
+pub mod Put
+pub mod Runs
+pub mod Keeps
+pub mod Logins
+pub mod Sole
+pub mod Service
+pub mod Clients
+pub mod Steps

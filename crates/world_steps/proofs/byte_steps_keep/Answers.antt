@@ -1,0 +1,5 @@
+use Rattle.world_steps.proofs.Steps.{bytes_keep}
+use Rattle.world_steps.proofs.byte_steps_keep.Goals as goal
+
+pub returns : goal.returns
+returns c = bytes_keep

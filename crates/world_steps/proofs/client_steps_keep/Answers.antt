@@ -1,0 +1,5 @@
+use Rattle.world_steps.proofs.Steps.{clients_keep}
+use Rattle.world_steps.proofs.client_steps_keep.Goals as goal
+
+pub returns : goal.returns
+returns c = clients_keep

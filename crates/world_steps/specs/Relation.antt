@@ -1,0 +1,150 @@
+-- What every step keeps: one fact for each client with its link, one for each link, and one for each of the book's lists.
+use Rattle.std.specs.Prelude.{◌≡◌, ℕ, ◌≤◌, ◌<◌, true, Some, List, [], ◌++◌, map, Ok}
+use Rattle.std.specs.List.{flat_map, AllByRecursion}
+use Rattle.frame_view.specs.declared.Side.TheVariants.{Server}
+use Rattle.frame_view.specs.declared.frames.TheConstants.{LONGEST_FRAME}
+use Rattle.frame_view.specs.Frames.{FrameOf, IsFrame, spelling}
+use Rattle.message_view.specs.declared.refusal.Refusal.{Refusal}
+use Rattle.message_view.specs.Refusals.{Allowed, joined_pieces, refusal}
+use Rattle.session_values.specs.Lawful.{IsLawfulCatalogue, IsLawfulKey}
+use Rattle.session_values.specs.State.{State, CatalogueOf, StartKeyOf, fresh}
+use Rattle.session_values.specs.Step.{run_frames}
+use Rattle.session_values.specs.Service.{welcome}
+use Rattle.session_laws.specs.Laws.{IsSent, IsAtRest, Reaches}
+use Rattle.start_key_laws.specs.StartKeys.{IsLawfulRow}
+use Rattle.login_core.specs.Talk.End.{Passed}
+use Rattle.login_core.specs.Dialogue.{ToLink, login}
+use Rattle.book_lists.specs.Laws.{HasLink, HasTicket}
+use Rattle.world_steps.specs.Clients.{Client, Phase}
+use Rattle.world_steps.specs.Clients.Phase.{Absent, LoggingIn, Waiting, Starting, Served, Finishing, Refusing, Closed}
+use Rattle.world_steps.specs.Links.{Link, Place, Role, place_of}
+use Rattle.world_steps.specs.Links.Role.{Unborn, Promised, Lent, InReset, Clean, Idle, Gone}
+use Rattle.world_steps.specs.Worlds.{World, after_in, solo_in}
+
+-- a beginning of a list, possibly empty or the whole
+pub record IsFront {A : Type 0} (xs ys : List A) : Type 0 where
+  pub rest : List A
+  pub is : xs ++ rest ≡ ys
+
+-- ---- links
+
+-- the server stood in `base` when its link was last clean, and took these frames since
+pub record Runs (cat : CatalogueOf) (base : State) (y : Link) : Type 0 where
+  pub taken : List FrameOf
+  pub are_sent : AllByRecursion IsSent taken
+  pub sent_is : y.sent ≡ flat_map spelling taken ++ y.inbox
+  pub session_is : y.session ≡ (run_frames cat base taken).next
+  pub told : IsFront (y.received ++ y.outbox) (flat_map spelling (run_frames cat base taken).replies)
+  pub all_told : y.alive ≡ true → y.received ++ y.outbox ≡ flat_map spelling (run_frames cat base taken).replies
+
+-- its server began fresh
+pub record IsLent (cat : CatalogueOf) (y : Link) : Type 0 where
+  pub base : State
+  pub is_fresh : fresh cat y.key ≡ Ok base
+  pub lawful_key : IsLawfulKey y.key
+  pub runs : Runs cat base y
+
+-- its server began at rest
+pub record IsInReset (cat : CatalogueOf) (y : Link) : Type 0 where
+  pub base : State
+  pub reached : Reaches cat y.key base
+  pub lawful_key : IsLawfulKey y.key
+  pub rests : IsAtRest base
+  pub runs : Runs cat base y
+
+-- fresh, with nothing under way
+pub record IsClean (cat : CatalogueOf) (y : Link) : Type 0 where
+  pub is_fresh : fresh cat y.key ≡ Ok y.session
+  pub lawful_key : IsLawfulKey y.key
+  pub inbox : y.inbox ≡ []
+  pub outbox : y.outbox ≡ []
+  pub sent : y.sent ≡ []
+  pub received : y.received ≡ []
+
+abbrev pub RoleFits : (Place → CatalogueOf) → Role → Link → Type 0
+RoleFits catalogue Unborn y = Unit {0}
+RoleFits catalogue (Promised c) y = Unit {0}
+RoleFits catalogue (Lent c) y = IsLent (catalogue (place_of y.key)) y
+RoleFits catalogue InReset y = IsInReset (catalogue (place_of y.key)) y
+RoleFits catalogue Clean y = IsClean (catalogue (place_of y.key)) y
+RoleFits catalogue Idle y = IsClean (catalogue (place_of y.key)) y
+RoleFits catalogue Gone y = Unit {0}
+
+-- ---- clients
+
+pub record InLogin (read : List ℕ) (x : Client) : Type 0 where
+  pub lawful_row : IsLawfulRow x.row.database
+  pub sent_is : x.sent ≡ read ++ x.unread
+  pub told : x.out ++ x.for_client ≡ joined_pieces (login x.row x.word read).pieces
+  pub quiet : x.refusal ≡ []
+
+pub record InQueue (key : StartKeyOf) (x : Client) : Type 0 where
+  pub lawful_key : IsLawfulKey key
+  pub passed : (login x.row x.word x.sent).ended ≡ Passed (ToLink key) (x.for_link ++ x.unread)
+  pub told : x.out ++ x.for_client ≡ joined_pieces (login x.row x.word x.sent).pieces
+  pub quiet : x.refusal ≡ []
+
+-- A client with its link: what went over the link, what is held and what is unread are the client's bytes after its login.
+-- What it was given and what is held for it are its login's pieces, the welcome and what came over the link.
+pub record InService (cat : CatalogueOf) (x : Client) (y : Link) : Type 0 where
+  pub base : State
+  pub is_fresh : fresh cat y.key ≡ Ok base
+  pub passed : (login x.row x.word x.sent).ended ≡ Passed (ToLink y.key) (y.sent ++ (x.for_link ++ x.unread))
+  pub told : x.out ++ x.for_client ≡ joined_pieces (login x.row x.word x.sent).pieces ++ (flat_map spelling (welcome base x.word.pid x.word.secret) ++ y.received)
+  pub quiet : x.refusal ≡ []
+
+-- all that it was given and that is held for it begins its login's pieces and some first frames of its service
+pub record IsTold (catalogue : Place → CatalogueOf) (x : Client) : Type 0 where
+  pub frames : List FrameOf
+  pub are_frames : AllByRecursion (IsFrame Server LONGEST_FRAME) frames
+  pub first : IsFront (map spelling frames) (after_in catalogue x.word (login x.row x.word x.sent).ended)
+  pub told : IsFront (x.out ++ x.for_client) (joined_pieces (login x.row x.word x.sent).pieces ++ flat_map spelling frames)
+  pub quiet : x.refusal ≡ []
+
+pub record InRefusal (catalogue : Place → CatalogueOf) (left : List ℕ) (x : Client) : Type 0 where
+  pub pieces : List (List ℕ)
+  pub first : IsFront pieces (solo_in catalogue x.row x.word x.sent)
+  pub out_is : x.out ≡ joined_pieces pieces
+  pub cause : Refusal
+  pub text_is : x.refusal ++ left ≡ refusal cause
+
+pub record IsOver (catalogue : Place → CatalogueOf) (x : Client) : Type 0 where
+  pub out_front : IsFront x.out (joined_pieces (solo_in catalogue x.row x.word x.sent))
+  pub allowed : Allowed (x.out ++ x.refusal) (solo_in catalogue x.row x.word x.sent)
+
+-- the client's phase, and the role of its link, which names it
+abbrev pub PhaseFits : (Place → CatalogueOf) → (ℕ → Link) → ℕ → Phase → Client → Type 0
+PhaseFits catalogue links c Absent x = (x.out ≡ []) × (x.refusal ≡ [])
+PhaseFits catalogue links c (LoggingIn read) x = InLogin read x
+PhaseFits catalogue links c (Waiting key) x = InQueue key x
+PhaseFits catalogue links c (Starting key l) x = InQueue key x × ((links l).role ≡ Promised c)
+PhaseFits catalogue links c (Served l) x = InService (catalogue (place_of (links l).key)) x (links l) × ((links l).role ≡ Lent c)
+PhaseFits catalogue links c Finishing x = IsTold catalogue x
+PhaseFits catalogue links c (Refusing left) x = InRefusal catalogue left x
+PhaseFits catalogue links c Closed x = IsOver catalogue x
+
+-- ---- the book's lists
+
+-- a ticket is of the key that its client waits with
+abbrev pub TicketFits : StartKeyOf → Phase → Type 0
+TicketFits key Absent = ⊥
+TicketFits key (LoggingIn read) = ⊥
+TicketFits key (Waiting own) = key ≡ own
+TicketFits key (Starting own l) = Unit {0}
+TicketFits key (Served l) = Unit {0}
+TicketFits key Finishing = Unit {0}
+TicketFits key (Refusing left) = Unit {0}
+TicketFits key Closed = Unit {0}
+
+pub record Related (w : World) : Type 0 where
+  pub lawful : (place : Place) → IsLawfulCatalogue (w.catalogue place)
+  pub clients : (c : ℕ) → PhaseFits w.catalogue w.links c (w.clients c).phase (w.clients c)
+  pub links : (l : ℕ) → RoleFits w.catalogue (w.links l).role (w.links l)
+  -- the book's idle links are the world's, and links not yet numbered are unborn
+  pub idle : (n : ℕ) (key : StartKeyOf) → HasLink n key w.book.idle → ((w.links n).role ≡ Idle) × ((w.links n).key ≡ key)
+  pub unborn : (n : ℕ) → w.book.next_link ≤ n → (w.links n).role ≡ Unborn
+  -- tickets are of their clients' keys, and the book's numbers are of one client each
+  pub tickets : (n : ℕ) (key : StartKeyOf) → HasTicket n key w.book.tickets → (c : ℕ) → (w.clients c).number ≡ Some n → TicketFits key (w.clients c).phase
+  pub numbers : (c d n : ℕ) → (w.clients c).number ≡ Some n → (w.clients d).number ≡ Some n → c ≡ d
+  pub counted : (c n : ℕ) → (w.clients c).number ≡ Some n → n < w.book.next_client
+  pub tickets_counted : (n : ℕ) (key : StartKeyOf) → HasTicket n key w.book.tickets → n < w.book.next_client

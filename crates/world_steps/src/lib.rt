@@ -1,0 +1,20 @@
+//! The worlds of the pooler: clients, links and the book, what may happen next, and what every step keeps. Here are the laws of
+//! the steps that leave the book's lists and the links' roles alone.
+#![tactic(auto)]
+
+ghost use Rattle.world_steps.specs.Laws.{ByteStepsKeep, ClientStepsKeep, EndStepsKeep};
+
+/// A client's coming and sends, and the steps of its login, keep the relation.
+pub fn client_steps_keep()
+    ensures { ClientStepsKeep }
+{}
+
+/// So do moves of bytes, a server's step and its death.
+pub fn byte_steps_keep()
+    ensures { ByteStepsKeep }
+{}
+
+/// So do refusals and closings.
+pub fn end_steps_keep()
+    ensures { EndStepsKeep }
+{}

@@ -1,0 +1,19 @@
+//! A list of steps that the pooler's world can take, computed: what is said of every world is said of this one.
+#![tactic(auto)]
+
+ghost use Rattle.world_story.specs.Skipped.{Leak};
+ghost use Rattle.world_story.specs.Story.{Story};
+
+use world_model::every_world;
+
+/// A second client is served over the link that a first one gave back.
+pub fn two_clients_one_link()
+    ensures { Story }
+{
+    every_world();
+}
+
+/// Were a settled link given back without a reset, a second client would be given what no server of its own answers.
+pub fn no_reset_leaks()
+    ensures { Leak }
+{}
