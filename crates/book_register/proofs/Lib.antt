@@ -1,3 +1,6 @@
 pub mod Places
 pub mod Choices
 pub mod Takes
+pub mod KeepingLists
+pub mod KeepingClients
+pub mod KeepingLinks
