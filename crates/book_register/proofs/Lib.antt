@@ -4,3 +4,4 @@ pub mod Takes
 pub mod KeepingLists
 pub mod KeepingClients
 pub mod KeepingLinks
+pub mod KeepingCounts
