@@ -1,6 +1,8 @@
 -- What holds of every book that was made empty and had events.
 use Rattle.std.specs.Prelude.{◌≡◌, ℕ, suc, ◌+◌, ◌≤◌, List, count_by, length}
 use Rattle.book_lists.specs.Book.{Book, Client, Limits, Link, Ticket, is_client, is_link, is_of}
+use Rattle.book_lists.specs.Outcomes.{Event}
+use Rattle.book_lists.specs.Outcomes.Event.{NewLimits}
 use Rattle.book_lists.specs.declared.counts.Counts.{Counts}
 use Rattle.book_lists.specs.declared.limits.TheConstants.{MOST_CLIENTS, MOST_LINKS}
 
@@ -34,6 +36,11 @@ pub record KeptCounts (b : Book) : Type 0 where
 pub record KeptLimits (l : Limits) : Type 0 where
   pub clients : l.max_clients ≤ MOST_CLIENTS
   pub links : l.max_links ≤ MOST_LINKS
+
+-- new limits fit, too
+abbrev pub FitsLimits : Event → Type 0
+FitsLimits (NewLimits limits) = KeptLimits limits
+FitsLimits _ = Unit {0}
 
 pub record Kept (b : Book) : Type 0 where
   pub clients : KeptClients b.clients b.tickets b.next_client
