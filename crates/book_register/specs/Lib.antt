@@ -2,3 +2,4 @@ pub mod Finds
 pub mod Kept
 pub mod Room
 pub mod Choices
+pub mod Happenings

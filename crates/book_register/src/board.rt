@@ -428,6 +428,42 @@ impl Board {
         }
     }
 
+    /// These settings hold from now on.
+    pub fn keeps_to(&mut self, limits: Arc<Limits>) -> Reply
+        ensures book { self.new ≡ record self.old { limits = arc_value limits } }
+        ensures reply { result ≡ Done }
+    {
+        self.limits = limits;
+        Reply::Done
+    }
+
+    /// No link is lent until `resumes`.
+    pub fn pauses(&mut self) -> Reply
+        ensures book { self.new ≡ record self.old { is_paused = true } }
+        ensures reply { result ≡ Done }
+    {
+        self.is_paused = true;
+        Reply::Done
+    }
+
+    /// Links are lent again.
+    pub fn resumes(&mut self) -> Reply
+        ensures book { self.new ≡ record self.old { is_paused = false } }
+        ensures reply { result ≡ Done }
+    {
+        self.is_paused = false;
+        Reply::Done
+    }
+
+    /// No client is let in and no link lent any more.
+    pub fn shuts_down(&mut self) -> Reply
+        ensures book { self.new ≡ record self.old { is_shut = true } }
+        ensures reply { result ≡ Done }
+    {
+        self.is_shut = true;
+        Reply::Done
+    }
+
     /// Where the first idle link stands that is to be closed.
     fn first_stale(&self) -> Option<usize>
         ensures { result ≡ position (outcome.is_stale self.now) self.now.idle }

@@ -17,6 +17,20 @@ pub fn has_client(clients: &[Client], number: u64) -> bool
     clients.iter().any(|c| c.is(number))
 }
 
+/// Whether the client has a ticket.
+pub fn has_ticket(tickets: &[Ticket], client: u64) -> bool
+    ensures { result ≡ list_any (book.is_of client) tickets.now }
+{
+    tickets.iter().any(|t| t.is_of(client))
+}
+
+/// Whether the link is there.
+pub fn has_link(links: &[Link], number: u64) -> bool
+    ensures { result ≡ list_any (book.is_link number) links.now }
+{
+    links.iter().any(|l| l.is(number))
+}
+
 /// Where the client's ticket stands.
 pub fn ticket_of(tickets: &[Ticket], client: u64) -> Option<usize>
     ensures { result ≡ position (book.is_of client) tickets.now }

@@ -2,5 +2,6 @@
 #![tactic(auto)]
 
 mod board;
+mod deciding;
 mod finds;
 pub mod rows;
