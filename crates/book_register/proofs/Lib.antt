@@ -5,3 +5,4 @@ pub mod KeepingLists
 pub mod KeepingClients
 pub mod KeepingLinks
 pub mod KeepingCounts
+pub mod Keeping
