@@ -5,12 +5,12 @@ use Rattle.message_view.specs.declared.refusal.Refusal.{Refusal}
 use Rattle.message_view.specs.declared.refusal.Refusal.TheVariants.{TooManyClients, WaitedTooLong, ShuttingDown}
 use Rattle.session_values.specs.State.{StartKeyOf}
 use Rattle.start_keys.specs.Keys.{same_key}
-use Rattle.book_lists.specs.Book.{Book, Link, Ticket, in_pool, is_client, is_link, is_of, latest_of, link_count, pool_count, pool_size, waiting_before, without, without_ticket}
-use Rattle.book_lists.specs.Outcomes.{Answer, Event, apply, arrives, asks, at_clock, closes, counted, evicts, gives_back, grants, has_waited, in_state, is_crowded, is_old, is_stale, is_strange, kind_of, last_decision, leaves, lends, loses_ticket, outcome, starts, takes}
+use Rattle.book_lists.specs.Book.{Limits, Book, Link, Ticket, in_pool, is_client, is_link, is_of, latest_of, link_count, pool_count, pool_size, waiting_before, without, without_ticket, empty_book}
+use Rattle.book_lists.specs.Outcomes.{Answer, Event, apply, apply_return, arrives, asks, at_clock, closes, counted, evicts, gives_back, grants, has_waited, in_state, is_crowded, is_old, is_stale, is_started_as, is_strange, kind_of, last_decision, leaves, lends, loses_ticket, outcome, starts, takes}
 use Rattle.book_lists.specs.Outcomes.Event.{Arrive, Ask, Take, GiveBack, Lost, StartFailed, Leave, Tick, NewLimits, Pause, Resume, Shutdown}
 use Rattle.book_lists.specs.declared.counts.Kind.TheVariants.{Arrival, ArrivalRefused, Asking, AskRefused, TicketLost, Leaving, Ticking, Limiting, Pausing, Resuming, Closing}
 use Rattle.book_lists.specs.declared.events.ClientState.TheVariants.{LoggingIn, Waiting, Active}
-use Rattle.book_register.specs.Kept.{FitsLimits, Kept, KeptClients}
+use Rattle.book_register.specs.Kept.{FitsLimits, Kept, KeptClients, KeptLimits}
 use Rattle.book_register.proofs.KeepingLists.{any_counts, found_counts, impossible, last_counts, none_counts, not_found}
 use Rattle.book_register.proofs.KeepingClients.{client_comes, client_goes, state_changes, ticket_comes, ticket_goes}
 use Rattle.book_register.proofs.KeepingLinks.{idle_goes, lent_goes, link_is_idle, link_is_lent, link_starts, place_left}
@@ -208,3 +208,17 @@ unfolding apply
 applied_keeps b e fits h =
     by_branch (λ (a : Answer). Kept a.book) (b.decisions == last_decision) _ _ (λ _. h)
     (λ _. by_branch (λ (a : Answer). Kept a.book) (is_strange b e) _ _ (λ _. h) (λ known. outcome_keeps b e fits known h))
+
+pub returned_keeps : (b : Book) (n : ℕ) (key : StartKeyOf) (born : ℕ) → Kept b → Kept (apply_return b n key born).book
+unfolding apply_return
+returned_keeps b n key born h =
+    by_branch (λ (a : Answer). Kept a.book) (b.decisions == last_decision) _ _ (λ _. h)
+    (λ _. by_branch (λ (a : Answer). Kept a.book) (list_any (is_started_as n key born) b.lent) _ _ (λ _. applied_keeps b (GiveBack n) tt h) (λ _. h))
+
+pub empty_keeps : (limits : Limits) → KeptLimits limits → Kept (empty_book limits)
+empty_keeps limits l = record {
+  clients = record { fit = omega arith; once = λ n. omega arith; fresh = λ n k. refl; of_clients = λ n. omega arith };
+  links = record { fit = omega arith; once = λ n. omega arith; fresh = λ n k. omega arith };
+  counts = record { all = omega arith; clients = omega arith; links = omega arith; grants = omega arith; evicted = omega arith; losses = omega arith; lent = omega arith };
+  limits = l;
+}
