@@ -119,8 +119,8 @@ grants_keeps b client t (Some link) e h = lends_keeps b client t link e h
 grants_keeps b client t None e h =
     by_branch (Keeps b (Take client)) (nat_lt (pool_count b t.key) (pool_size b.limits t.key)) _ _
     (λ _. by_branch (Keeps b (Take client)) (nat_lt (link_count b) b.limits.max_links) _ _
-        (λ room. starts_keeps b client t room h)
-        (λ _. evicts_keeps b client t (λ link. true) (find (λ link. true) b.idle) refl h))
+    (λ room. starts_keeps b client t room h)
+    (λ _. evicts_keeps b client t (λ link. true) (find (λ link. true) b.idle) refl h))
     (λ _. evicts_keeps b client t (in_pool t.key) (find (in_pool t.key) b.idle) refl h)
 
 takes_keeps : (b : Book) (client : ℕ) (o : Option Ticket) → find (is_of client) b.tickets ≡ o → list_any (is_of client) b.tickets ≡ true → Kept b → Keeps b (Take client) (takes b o)
