@@ -1,5 +1,5 @@
 -- The counts agree after each event, as they did before.
-use Rattle.std.proofs.Common.{◌≡◌, ℕ, suc, ◌≤◌, Option, Some, List, length, count_by, sym, ap, ◌∙◌, arith}
+use Rattle.std.proofs.Common.{◌≡◌, ℕ, suc, ◌+◌, ◌≤◌, Option, Some, List, length, count_by, sym, ap, ◌∙◌, arith}
 use Rattle.std.proofs.lemmas.List.{length_push}
 use Rattle.book_lists.specs.Book.{Book, Client, Link, Ticket, is_link, without}
 use Rattle.book_lists.specs.Outcomes.{counted, lends, loses, raised, starts}
@@ -114,3 +114,31 @@ failure_counts b n one h = record {
   losses = omega (arith, h.losses);
   lent = omega (arith, h.lent, one_lent_less n b.lent one);
 }
+
+-- no number of the book goes beyond its decisions
+pub record Within (b : Book) : Type 0 where
+  pub starts : b.starts ≤ b.decisions
+  pub reuses : b.reuses ≤ b.decisions
+  pub evictions : b.evictions ≤ b.decisions
+  pub losses : b.losses ≤ b.decisions
+  pub clients : b.next_client ≤ suc b.decisions
+  pub links : b.next_link ≤ suc b.decisions
+
+pub numbers_fit : (b : Book) → KeptCounts b → Within b
+numbers_fit b h = record {
+  starts = omega (arith, granted, h.grants);
+  reuses = omega (arith, granted, h.grants);
+  evictions = omega (arith, granted, h.grants, h.evicted);
+  losses = omega (arith, h.losses, lost);
+  clients = omega (arith, h.clients, arrived);
+  links = omega (arith, granted, h.grants, h.links);
+}
+  where
+    granted : b.counts.granted ≤ b.decisions
+    granted = omega (arith, h.all)
+
+    lost : b.counts.lost + b.counts.starts_failed ≤ b.decisions
+    lost = omega (arith, h.all)
+
+    arrived : b.counts.arrived ≤ b.decisions
+    arrived = omega (arith, h.all)

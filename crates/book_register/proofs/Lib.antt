@@ -7,3 +7,5 @@ pub mod KeepingClients
 pub mod KeepingLinks
 pub mod KeepingCounts
 pub mod Decisions
+pub mod Keeping
+pub mod Beginnings

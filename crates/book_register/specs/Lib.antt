@@ -3,3 +3,4 @@ pub mod Kept
 pub mod Room
 pub mod Choices
 pub mod Happenings
+pub mod Counted

@@ -1,8 +1,8 @@
 //! What stands where in the lists.
-ghost use Rattle.std.specs.Prelude.{◌≡◌, ◌<◌, ◌≤◌, ◌+◌, ℕ, count_by, length, position, slice_get, vec_capacity};
+ghost use Rattle.std.specs.Prelude.{◌≡◌, ◌<◌, ◌≤◌, ◌+◌, ℕ, count_by, find, length, position, slice_get, vec_capacity};
 ghost use Rattle.std.specs.List.{list_any};
 ghost use Rattle.book_lists.specs.Book as book;
-ghost use Rattle.book_lists.specs.Outcomes.{in_state};
+ghost use Rattle.book_lists.specs.Outcomes.{in_state, is_started_as};
 ghost use Rattle.start_keys.specs.Keys.{same_key};
 ghost use Rattle.book_register.specs.Finds.{IsLast};
 
@@ -43,6 +43,17 @@ pub fn place_of(links: &[Link], number: u64) -> Option<usize>
     ensures { result ≡ position (book.is_link number) links.now }
 {
     links.iter().position(|l| l.is(number))
+}
+
+/// Whether the link of this number is there, and was started for an equal key at this second.
+#[tactic(auto, using(crate::proofs::Beginnings::started_at, crate::proofs::Beginnings::started_nowhere))]
+pub fn is_there_as(links: &[Link], number: u64, key: &StartKey, born: u64) -> bool
+    ensures { result ≡ is_started_as key.now born (find (book.is_link number) links.now) }
+{
+    match place_of(links, number) {
+        Some(place) => links[place].was_started_as(key, born),
+        None => false,
+    }
 }
 
 /// Where the first link of this pool stands.

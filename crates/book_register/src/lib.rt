@@ -4,4 +4,5 @@
 mod board;
 mod deciding;
 mod finds;
+pub mod lists;
 pub mod rows;

@@ -1,8 +1,9 @@
 //! The rows of the lists.
-ghost use Rattle.std.specs.Prelude.{◌≡◌};
+ghost use Rattle.std.specs.Prelude.{◌≡◌, Some};
 ghost use Rattle.std.specs.Arc.{arc_value};
 ghost use Rattle.start_keys.specs.Keys.{same_key};
 ghost use Rattle.book_lists.specs.Book as book;
+ghost use Rattle.book_lists.specs.Outcomes.{is_started_as};
 
 use book_lists::events::ClientState;
 use start_keys::StartKey;
@@ -104,5 +105,12 @@ impl Link {
         ensures { result ≡ book.in_pool key.now self.now }
     {
         self.key.row == key.row && self.key.user == key.user
+    }
+
+    /// Whether it was started for an equal key, at this second.
+    pub fn was_started_as(&self, key: &StartKey, born: u64) -> bool
+        ensures { result ≡ is_started_as key.now born (Some self.now) }
+    {
+        self.is_of_key(key) && self.born == born
     }
 }
