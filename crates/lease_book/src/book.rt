@@ -5,6 +5,7 @@ ghost use Rattle.book_lists.specs.Book.{empty_book, is_link};
 ghost use Rattle.book_lists.specs.Events.{event_of};
 ghost use Rattle.book_lists.specs.Outcomes.{apply, apply_return, is_started_as};
 ghost use Rattle.book_lists.specs.Outcomes.Event.{GiveBack};
+ghost use Rattle.book_register.specs.Counted.{counted_book};
 ghost use Rattle.book_lists.specs.Replay.{noted_of};
 ghost use Rattle.lease_book.specs.Links.{answered, found, goes_out, handed, handed_after, handed_back, history_after, idle_after, idle_with, is_done, is_return, IsTwice, left, may_hand_back, number_of, reply_of};
 
@@ -116,8 +117,8 @@ impl<E: ServerEnd> Book<E> {
         limits: Arc<Limits>,
         decisions: u64,
     ) -> Result<Book<E>, AllocError>
-        ensures lists { IfOk result (λ b. b.lists ≡ record (empty_book (arc_value limits)) { decisions = decisions }) }
-        ensures history { IfOk result (λ b. b.history ≡ record { base = record (empty_book (arc_value limits)) { decisions = decisions }; kept = [] }) }
+        ensures lists { IfOk result (λ b. b.lists ≡ counted_book (arc_value limits) decisions) }
+        ensures history { IfOk result (λ b. b.history ≡ record { base = counted_book (arc_value limits) decisions; kept = [] }) }
         ensures idle { IfOk result (λ b. b.idle ≡ []) }
     {
         let register = Register::from_count(alloc, limits, decisions)?;

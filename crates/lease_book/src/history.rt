@@ -6,6 +6,7 @@ ghost use Rattle.book_lists.specs.Events.{event_of};
 ghost use Rattle.book_lists.specs.Outcomes.{apply, apply_return, is_started_as};
 ghost use Rattle.book_lists.specs.Outcomes.Event.{GiveBack};
 ghost use Rattle.book_register.specs.Kept.{Kept};
+ghost use Rattle.book_register.specs.Counted.{counted_book};
 ghost use Rattle.book_lists.specs.Replay.{noted, noted_of};
 
 use book_lists::events::{Event, Reply};
@@ -114,8 +115,8 @@ impl Register {
         decisions: u64,
     ) -> Result<Register, AllocError>
         ensures kept { IfOk result (λ r. Kept r.lists) }
-        ensures lists { IfOk result (λ r. r.lists ≡ record (empty_book (arc_value limits)) { decisions = decisions }) }
-        ensures history { IfOk result (λ r. r.history ≡ record { base = record (empty_book (arc_value limits)) { decisions = decisions }; kept = [] }) }
+        ensures lists { IfOk result (λ r. r.lists ≡ counted_book (arc_value limits) decisions) }
+        ensures history { IfOk result (λ r. r.history ≡ record { base = counted_book (arc_value limits) decisions; kept = [] }) }
     {
         let base = Lists::from_count(alloc, Arc::try_clone(&limits)?, decisions)?;
         let history = History::new(alloc, base)?;

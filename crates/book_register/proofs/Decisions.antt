@@ -1,0 +1,167 @@
+-- An event's count: by what tells its kind, over what the event leaves of the counts.
+use Rattle.std.proofs.Common.{◌≡◌, ℕ, ◌<◌, Bool, true, false, not, cond, ◌||◌, ◌==◌, Option, None, Some, List, length, count_by, refl, sym, ap, ◌∙◌, subst, eq-eqb, eqb-true}
+use Rattle.std.specs.Prelude.{find, nat_lt}
+use Rattle.std.specs.List.{list_any}
+use Rattle.session_values.specs.State.{StartKeyOf}
+use Rattle.book_lists.specs.Book.{Book, Client, Limits, Link, Ticket, in_pool, is_client, is_link, is_of, latest_of, link_count, pool_count, pool_size, waiting_before}
+use Rattle.book_lists.specs.Outcomes.{Answer, Event, apply, at_clock, closes, counted, decided, evicts, gives_back, grants, has_waited, is_crowded, is_old, is_stale, is_strange, kind_of, last_decision, lends, loses_ticket, outcome, starts, takes, waits}
+use Rattle.book_lists.specs.Outcomes.Event.{Arrive, Ask, Take, GiveBack, Lost, StartFailed, Leave, Tick, NewLimits, Pause, Resume, Shutdown}
+use Rattle.book_lists.specs.declared.counts.Counts.{Counts}
+use Rattle.book_lists.specs.declared.counts.Kind.{Kind}
+use Rattle.book_lists.specs.declared.events.Reply.{Reply}
+use Rattle.book_lists.specs.declared.events.Reply.TheVariants.{Arrived, Queued, Lend, Start, Close, Refuse, Done, Stranger}
+use Rattle.message_view.specs.declared.refusal.Refusal.TheVariants.{WaitedTooLong, ShuttingDown, LastDecision}
+use Rattle.book_register.specs.Choices.{Gives}
+use Rattle.book_register.specs.Happenings.{happening_of, kind_by}
+use Rattle.book_register.specs.Kept.{KeptClients, KeptCounts, total}
+use Rattle.book_register.proofs.KeepingLists.{any_counts, longer, none_counts}
+
+pub kind_is : (b : Book) (e : Event) (r : Reply) → kind_by (happening_of b e) r ≡ kind_of b e r
+kind_is b Arrive (Arrived n) = refl
+kind_is b Arrive (Queued n) = refl
+kind_is b Arrive (Lend n) = refl
+kind_is b Arrive (Start n born evicted) = refl
+kind_is b Arrive (Close n) = refl
+kind_is b Arrive (Refuse refusal) = refl
+kind_is b Arrive Done = refl
+kind_is b Arrive Stranger = refl
+kind_is b (Ask client key) (Arrived n) = refl
+kind_is b (Ask client key) (Queued n) = refl
+kind_is b (Ask client key) (Lend n) = refl
+kind_is b (Ask client key) (Start n born evicted) = refl
+kind_is b (Ask client key) (Close n) = refl
+kind_is b (Ask client key) (Refuse refusal) = refl
+kind_is b (Ask client key) Done = refl
+kind_is b (Ask client key) Stranger = refl
+kind_is b (Take client) (Arrived n) = refl
+kind_is b (Take client) (Queued n) = refl
+kind_is b (Take client) (Lend n) = refl
+kind_is b (Take client) (Start n born evicted) = refl
+kind_is b (Take client) (Close n) = refl
+kind_is b (Take client) (Refuse refusal) = refl
+kind_is b (Take client) Done = refl
+kind_is b (Take client) Stranger = refl
+kind_is b (Tick now) (Arrived n) = refl
+kind_is b (Tick now) (Queued n) = refl
+kind_is b (Tick now) (Lend n) = refl
+kind_is b (Tick now) (Start n born evicted) = refl
+kind_is b (Tick now) (Close n) = refl
+kind_is b (Tick now) (Refuse refusal) = refl
+kind_is b (Tick now) Done = refl
+kind_is b (Tick now) Stranger = refl
+kind_is b (GiveBack n) r = refl
+kind_is b (Lost n) r = refl
+kind_is b (StartFailed n) r = refl
+kind_is b (Leave client) r = refl
+kind_is b (NewLimits limits) r = refl
+kind_is b Pause r = refl
+kind_is b Resume r = refl
+kind_is b Shutdown r = refl
+
+-- ---- an event leaves the counts alone
+
+pub record Uncounted (b : Book) (a : Answer) : Type 0 where
+  pub decisions : a.book.decisions ≡ b.decisions
+  pub counts : a.book.counts ≡ b.counts
+
+either : {b : Book} (test : Bool) (x y : Answer) → Uncounted b x → Uncounted b y → Uncounted b (cond test x y)
+either true x y h k = h
+either false x y h k = k
+
+abbrev plain : {b : Book} {a : Answer} → a.book.decisions ≡ b.decisions → a.book.counts ≡ b.counts → Uncounted b a
+plain d c = record { decisions = d; counts = c }
+
+evicts_uncounted : (b : Book) (t : Ticket) (o : Option Link) → Uncounted b (evicts b t o)
+evicts_uncounted b t None = plain refl refl
+evicts_uncounted b t (Some old) = plain refl refl
+
+grants_uncounted : (b : Book) (t : Ticket) (o : Option Link) → Uncounted b (grants b t o)
+grants_uncounted b t (Some link) = plain refl refl
+grants_uncounted b t None =
+    either (nat_lt (pool_count b t.key) (pool_size b.limits t.key)) _ _
+    (either (nat_lt (link_count b) b.limits.max_links) _ _ (plain refl refl) (evicts_uncounted b t (find (λ link. true) b.idle)))
+    (evicts_uncounted b t (find (in_pool t.key) b.idle))
+
+takes_uncounted : (b : Book) (o : Option Ticket) → Uncounted b (takes b o)
+takes_uncounted b None = plain refl refl
+takes_uncounted b (Some t) =
+    either b.is_shut _ _ (plain refl refl)
+    (either (has_waited b t) _ _ (plain refl refl)
+    (either (b.is_paused || not (waiting_before t.key t.client b.tickets == 0)) _ _ (plain refl refl) (grants_uncounted b t (latest_of t.key b.idle))))
+
+gives_back_uncounted : (b : Book) (o : Option Link) → Uncounted b (gives_back b o)
+gives_back_uncounted b None = plain refl refl
+gives_back_uncounted b (Some link) = either (is_old b link || is_crowded b link) _ _ (plain refl refl) (plain refl refl)
+
+closes_uncounted : (b : Book) (now : ℕ) (o : Option Link) → Uncounted b (closes (at_clock b now) o)
+closes_uncounted b now None = plain refl refl
+closes_uncounted b now (Some link) = plain refl refl
+
+pub uncounted : (b : Book) (e : Event) → Uncounted b (outcome b e)
+uncounted b Arrive = either b.is_shut _ _ (plain refl refl) (either (nat_lt (length b.clients) b.limits.max_clients) _ _ (plain refl refl) (plain refl refl))
+uncounted b (Ask client key) = either b.is_shut _ _ (plain refl refl) (plain refl refl)
+uncounted b (Take client) = takes_uncounted b (find (is_of client) b.tickets)
+uncounted b (GiveBack n) = gives_back_uncounted b (find (is_link n) b.lent)
+uncounted b (Lost n) = plain refl refl
+uncounted b (StartFailed n) = plain refl refl
+uncounted b (Leave client) = plain refl refl
+uncounted b (Tick now) = closes_uncounted b now (find (is_stale (at_clock b now)) b.idle)
+uncounted b (NewLimits limits) = plain refl refl
+uncounted b Pause = plain refl refl
+uncounted b Resume = plain refl refl
+uncounted b Shutdown = plain refl refl
+
+-- so they agree as before, and there may be one decision more
+pub still_counted : (b mid : Book) (e : Event) (r : Reply) → KeptCounts b → Gives mid r (outcome b e) → total mid.counts ≡ mid.decisions
+still_counted b mid e r k given =
+    let u : Uncounted b (outcome b e) = uncounted b e in
+    ap (λ (m : Book). total m.counts) given.0 ∙ (ap total u.counts ∙ (k.all ∙ (sym u.decisions ∙ ap (λ (m : Book). m.decisions) (sym given.0))))
+
+pub still_more : (b mid : Book) (e : Event) (r : Reply) → b.decisions < last_decision → Gives mid r (outcome b e) → mid.decisions < last_decision
+still_more b mid e r more given = subst (λ (n : ℕ). n < last_decision) (sym (ap (λ (m : Book). m.decisions) given.0 ∙ (uncounted b e).decisions)) more
+
+-- ---- a client that may ask has no ticket, so there are fewer tickets than clients
+
+known : (here asked : Bool) → (not here || asked) ≡ false → (here ≡ true) × (asked ≡ false)
+known true asked e = (refl, e)
+known false asked e = cc
+
+pub asker_has_room : (clients : List Client) (tickets : List Ticket) (next client : ℕ) → KeptClients clients tickets next → (not (list_any (is_client client) clients) || list_any (is_of client) tickets) ≡ false → length tickets < length clients
+asker_has_room clients tickets next client kept e =
+    let tested = known (list_any (is_client client) clients) (list_any (is_of client) tickets) e in
+    longer (λ (t : Ticket). t.client) (λ (c : Client). c.number) client tickets clients kept.of_clients (none_counts (is_of client) tickets tested.1) (any_counts (is_client client) clients tested.0)
+
+-- ---- an event as a whole; `before` is the book as its fields stand
+
+by_cases : (b after : Book) (e : Event) (r : Reply) (last strange : Bool) → (b.decisions == last_decision) ≡ last → is_strange b e ≡ strange → Gives after r (cond last (record { book = b; reply = Refuse LastDecision }) (cond strange (record { book = b; reply = Stranger }) (decided b e (outcome b e)))) → Gives after r (apply b e)
+unfolding apply
+by_cases b after e r last strange h s given =
+    let rest : Bool → Answer = λ v. cond v (record { book = b; reply = Stranger }) (decided b e (outcome b e)) in
+    let whole : apply b e ≡ cond last (record { book = b; reply = Refuse LastDecision }) (rest strange) =
+    ap (λ (v : Bool). cond {A = Answer} v (record { book = b; reply = Refuse LastDecision }) (rest (is_strange b e))) h ∙ ap (λ (v : Bool). cond {A = Answer} last (record { book = b; reply = Refuse LastDecision }) (rest v)) s in
+    (given.0 ∙ ap (λ (a : Answer). a.book) (sym whole), given.1 ∙ ap (λ (a : Answer). a.reply) (sym whole))
+
+at_last : (before b : Book) → before ≡ b → before.decisions ≡ last_decision → (b.decisions == last_decision) ≡ true
+at_last before b same h = eq-eqb b.decisions last_decision (ap (λ (v : Book). v.decisions) (sym same) ∙ h)
+
+before_last : (before b : Book) → before ≡ b → (before.decisions ≡ last_decision → ⊥) → (b.decisions == last_decision) ≡ false
+before_last before b same h = go (b.decisions == last_decision) refl
+  where
+    go : (v : Bool) → (b.decisions == last_decision) ≡ v → v ≡ false
+    go true e = absurd (h (ap (λ (w : Book). w.decisions) same ∙ eqb-true b.decisions last_decision e))
+    go false e = refl
+
+pub last_one : (before b : Book) (e : Event) → before ≡ b → before.decisions ≡ last_decision → Gives b (Refuse LastDecision) (apply b e)
+last_one before b e same h = by_cases b b e (Refuse LastDecision) true (is_strange b e) (at_last before b same h) refl (refl, refl)
+
+pub strangers : (before b : Book) (e : Event) → before ≡ b → (before.decisions ≡ last_decision → ⊥) → is_strange b e ≡ true → Gives b Stranger (apply b e)
+strangers before b e same h s = by_cases b b e Stranger false true (before_last before b same h) s (refl, refl)
+
+pub goes_on : (before b after : Book) (e : Event) (r : Reply) → before ≡ b → (before.decisions ≡ last_decision → ⊥) → is_strange b e ≡ false → Gives after r (decided b e (outcome b e)) → Gives after r (apply b e)
+goes_on before b after e r same h s given = by_cases b after e r false false (before_last before b same h) s given
+
+-- the lists after the event, counted by what told its kind before
+pub decided_so : (b mid after : Book) (e : Event) (r : Reply) (k : Option Kind) → Gives mid r (outcome b e) → k ≡ kind_by (happening_of b e) r → after ≡ counted mid k → Gives after r (decided b e (outcome b e))
+decided_so b mid after e r k given told done =
+    let kind : k ≡ kind_of b e (outcome b e).reply = told ∙ (kind_is b e r ∙ ap (kind_of b e) given.1) in
+    (done ∙ (ap (λ (m : Book). counted m k) given.0 ∙ ap (counted (outcome b e).book) kind), given.1)

@@ -1,0 +1,6 @@
+pub mod Finds
+pub mod Kept
+pub mod Room
+pub mod Choices
+pub mod Happenings
+pub mod Counted

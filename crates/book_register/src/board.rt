@@ -1,0 +1,506 @@
+//! The lists, and what an event makes of them, in the definition's order and words.
+ghost use Rattle.std.specs.Prelude.{◌≡◌, ◌<◌, ◌≤◌, suc, ◌+◌, ◌++◌, ◌==◌, ◌&&◌, ◌||◌, [], ◌∷◌, Some, None, true, false, nat_lt, not, cond, count_by, ℕ, find, position, slice_get, length};
+ghost use Rattle.std.specs.Arc.{arc_value};
+ghost use Rattle.std.specs.List.{list_any};
+ghost use Rattle.start_keys.specs.Keys.{same_key};
+ghost use Rattle.book_lists.specs.Book as book;
+ghost use Rattle.book_lists.specs.Book.{Ticket as TicketRow};
+ghost use Rattle.book_lists.specs.Outcomes as outcome;
+ghost use Rattle.book_lists.specs.declared.events.Reply.TheVariants.{Done, Refuse};
+ghost use Rattle.book_lists.specs.declared.limits.TheConstants.{MOST_LINKS};
+ghost use Rattle.book_register.specs.Choices.{Chooses, Gives, eviction_of};
+ghost use Rattle.book_register.specs.Kept.{Kept};
+
+use crate::finds::{
+    count_of_pool, drop_client, drop_link, drop_ticket, first_of_pool, has_client, last_of_key,
+    place_of, put_in_state, take_out, take_ticket, ticket_of, waiting, waiting_before,
+};
+use crate::rows::{Client, Link, Ticket};
+use book_lists::counts::Counts;
+use book_lists::events::{ClientState, Event, Reply};
+use book_lists::limits::Limits;
+use message_view::Refusal;
+use start_keys::StartKey;
+use std::marker::Model;
+use std::sync::Arc;
+
+/// The lists of the book. They have room for as many rows as there can be.
+#[derive(Drop)]
+pub struct Board {
+    pub clients: Vec<Client>,
+    pub tickets: Vec<Ticket>,
+    pub lent: Vec<Link>,
+    pub idle: Vec<Link>,
+    pub last_client: u64,
+    pub last_link: u64,
+    pub clock: u64,
+    pub limits: Arc<Limits>,
+    pub is_paused: bool,
+    pub is_shut: bool,
+    pub decisions: u64,
+    pub counts: Counts,
+    pub starts: u64,
+    pub reuses: u64,
+    pub evictions: u64,
+    pub losses: u64,
+}
+
+impl Model for Board {
+    ghost use Rattle.std.specs.Prelude.{suc, vec_capacity};
+    ghost use Rattle.std.specs.Arc.{arc_value};
+    ghost use Rattle.book_lists.specs.Book.{Book};
+    ghost use Rattle.book_register.specs.Room.{Room};
+
+    ghost Value = { Book };
+
+    ghost view = { λ b. record {
+      clients = b.clients.items;
+      tickets = b.tickets.items;
+      lent = b.lent.items;
+      idle = b.idle.items;
+      next_client = suc b.last_client;
+      next_link = suc b.last_link;
+      clock = b.clock;
+      limits = arc_value b.limits;
+      is_paused = b.is_paused;
+      is_shut = b.is_shut;
+      decisions = b.decisions;
+      counts = b.counts;
+      starts = b.starts;
+      reuses = b.reuses;
+      evictions = b.evictions;
+      losses = b.losses;
+    } };
+
+    ghost invariant = { λ b. Room (vec_capacity b.clients) (vec_capacity b.tickets) (vec_capacity b.lent) (vec_capacity b.idle) };
+}
+
+impl Board {
+    /// A client comes.
+    pub fn arrives(&mut self) -> Reply
+        requires kept { Kept self.old }
+        requires more { self.old.decisions < outcome.last_decision }
+        ensures book { self.new ≡ (outcome.arrives self.old).book }
+        ensures reply { result ≡ (outcome.arrives self.old).reply }
+    {
+        if self.is_shut {
+            return Reply::Refuse(Refusal::ShuttingDown);
+        }
+        let limits: &Limits = &self.limits;
+        if self.clients.len() < limits.max_client_conn as usize {
+            self.last_client += 1;
+            self.clients.push_reserved(Client {
+                number: self.last_client,
+                state: ClientState::LoggingIn,
+            });
+            return Reply::Arrived(self.last_client);
+        }
+        Reply::Refuse(Refusal::TooManyClients)
+    }
+
+    /// A client that is there asks for a link.
+    pub fn asks(&mut self, client: u64, key: Arc<StartKey>) -> Reply
+        requires room { length self.old.tickets < length self.old.clients }
+        requires kept { Kept self.old }
+        ensures book { self.new ≡ (outcome.asks self.old client (arc_value key)).book }
+        ensures reply { result ≡ (outcome.asks self.old client (arc_value key)).reply }
+    {
+        if self.is_shut {
+            return Reply::Refuse(Refusal::ShuttingDown);
+        }
+        let before = waiting(&self.tickets, &key);
+        put_in_state(&mut self.clients, ClientState::Waiting, client);
+        self.tickets.push_reserved(Ticket {
+            client,
+            key,
+            since: self.clock,
+        });
+        Reply::Queued(before as u64)
+    }
+
+    /// A client leaves.
+    pub fn leaves(&mut self, client: u64) -> Reply
+        ensures book { self.new ≡ (outcome.leaves self.old client).book }
+        ensures reply { result ≡ (outcome.leaves self.old client).reply }
+    {
+        drop_client(&mut self.clients, client);
+        drop_ticket(&mut self.tickets, client);
+        Reply::Done
+    }
+
+    /// A lent link has gone.
+    pub fn loses(&mut self, link: u64) -> Reply
+        requires kept { Kept self.old }
+        requires more { self.old.decisions < outcome.last_decision }
+        ensures book { self.new ≡ record (outcome.loses self.old link) { losses = suc self.old.losses } }
+        ensures reply { result ≡ Done }
+    {
+        drop_link(&mut self.lent, link);
+        self.losses += 1;
+        Reply::Done
+    }
+
+    /// Whether a link that comes back is too old to be kept.
+    fn is_old(&self, link: &Link) -> bool
+        ensures { result ≡ outcome.is_old self.now link.now }
+    {
+        let limits: &Limits = &self.limits;
+        u64::from(limits.server_lifetime) <= self.clock.saturating_sub(link.born) || self.is_shut
+    }
+
+    /// Whether an idle link is to be closed.
+    fn is_stale(&self, link: &Link) -> bool
+        ensures { result ≡ outcome.is_stale self.now link.now }
+    {
+        let limits: &Limits = &self.limits;
+        let idle_timeout = u64::from(limits.server_idle_timeout);
+        self.is_old(link)
+            || (idle_timeout != 0 && idle_timeout <= self.clock.saturating_sub(link.since))
+    }
+
+    /// Whether the book or the link's pool has more links than it may.
+    fn is_crowded(&self, link: &Link) -> bool
+        ensures { result ≡ outcome.is_crowded self.now link.now }
+    {
+        let limits: &Limits = &self.limits;
+        self.link_count() > limits.max_links as usize
+            || self.pool_count(&link.key) > limits.pool_size(link.key.row.as_slice()) as usize
+    }
+
+    /// How many links there are.
+    fn link_count(&self) -> usize
+        ensures { result ≡ book.link_count self.now }
+    {
+        self.lent.len() + self.idle.len()
+    }
+
+    /// How many links of this pool there are.
+    fn pool_count(&self, pool: &StartKey) -> usize
+        ensures { result ≡ book.pool_count self.now pool.now }
+    {
+        count_of_pool(&self.lent, pool) + count_of_pool(&self.idle, pool)
+    }
+
+    /// Whether a ticket has waited for as long as it may.
+    fn has_waited(&self, ticket: &Ticket) -> bool
+        ensures { result ≡ outcome.has_waited self.now ticket.now }
+    {
+        let limits: &Limits = &self.limits;
+        let timeout = u64::from(limits.query_wait_timeout);
+        timeout != 0 && timeout <= self.clock.saturating_sub(ticket.since)
+    }
+
+    /// Whether the key's pool has room for a link more.
+    fn has_pool_room(&self, pool: &StartKey) -> bool
+        ensures { result ≡ nat_lt (book.pool_count self.now pool.now) (book.pool_size self.now.limits pool.now) }
+    {
+        let limits: &Limits = &self.limits;
+        self.pool_count(pool) < limits.pool_size(pool.row.as_slice()) as usize
+    }
+
+    /// Whether the book has room for a link more.
+    fn has_room(&self) -> bool
+        ensures { result ≡ nat_lt (book.link_count self.now) self.now.limits.max_links }
+    {
+        let limits: &Limits = &self.limits;
+        self.link_count() < limits.max_links as usize
+    }
+
+    /// What the first ticket of its pool is answered.
+    #[tactic(auto, using(crate::proofs::Choices::lend_chosen))]
+    fn choice(&self, ticket: &Ticket) -> Choice
+        ensures { Chooses self.now ticket.now result }
+    {
+        match last_of_key(&self.idle, &ticket.key) {
+            Some(place) => Choice::Lend(place),
+            None => self.room_for(ticket),
+        }
+    }
+
+    /// What it is answered where no idle link is of its key.
+    #[tactic(auto, using(crate::proofs::Choices::start_chosen, crate::proofs::Choices::book_full, crate::proofs::Choices::pool_full))]
+    fn room_for(&self, ticket: &Ticket) -> Choice
+        requires { book.latest_of ticket.now.key self.now.idle ≡ None }
+        ensures { Chooses self.now ticket.now result }
+    {
+        if !self.has_pool_room(&ticket.key) {
+            return eviction(first_of_pool(&self.idle, &ticket.key));
+        }
+        if self.has_room() {
+            return Choice::Start;
+        }
+        eviction(first(&self.idle))
+    }
+
+    /// A link goes to the ticket's client. Both have been taken out.
+    fn lends(&mut self, ticket: Ticket, link: Link) -> Reply
+        requires room { length self.old.lent < MOST_LINKS }
+        requires more { self.old.reuses < outcome.last_decision }
+        ensures book { self.new ≡ record ((outcome.lends self.old ticket link).book) { tickets = self.old.tickets; idle = self.old.idle } }
+        ensures reply { result ≡ (outcome.lends self.old ticket link).reply }
+    {
+        let number = link.number;
+        put_in_state(&mut self.clients, ClientState::Active, ticket.client);
+        self.lent.push_reserved(link);
+        self.reuses += 1;
+        Reply::Lend(number)
+    }
+
+    /// A link is to be started for the ticket's client. The ticket has been taken out.
+    fn starts(&mut self, ticket: Ticket, evicted: Option<u64>) -> Reply
+        requires room { length self.old.lent < MOST_LINKS }
+        requires more { self.old.starts < outcome.last_decision }
+        requires next { self.old.next_link ≤ outcome.last_decision }
+        ensures book { self.new ≡ record ((outcome.starts self.old ticket self.old.idle evicted).book) { tickets = self.old.tickets } }
+        ensures reply { result ≡ (outcome.starts self.old ticket self.old.idle evicted).reply }
+    {
+        let Ticket { client, key, .. } = ticket;
+        let born = self.clock;
+        self.last_link += 1;
+        self.starts += 1;
+        let link = self.last_link;
+        put_in_state(&mut self.clients, ClientState::Active, client);
+        self.lent.push_reserved(Link {
+            number: link,
+            key,
+            born,
+            since: born,
+        });
+        Reply::Start {
+            link,
+            born,
+            evicted,
+        }
+    }
+
+    /// A client takes its link, if it may have one now.
+    pub fn takes(&mut self, client: u64) -> Reply
+        requires kept { Kept self.old }
+        requires more { self.old.decisions < outcome.last_decision }
+        ensures { Gives self.new result (outcome.takes self.old (find (book.is_of client) self.old.tickets)) }
+    {
+        match ticket_of(&self.tickets, client) {
+            Some(place) => self.takes_by(place, client),
+            None => Reply::Stranger,
+        }
+    }
+
+    /// Whether a ticket waits on that so many of its pool stand before.
+    fn must_wait(&self, before: usize) -> bool
+        ensures { result ≡ (self.now.is_paused || not (before == 0)) }
+    {
+        self.is_paused || before != 0
+    }
+
+    /// The client takes its link by its ticket, which is at this place.
+    fn takes_by(&mut self, place: usize, client: u64) -> Reply
+        requires found { position (book.is_of client) self.old.tickets ≡ Some place }
+        requires kept { Kept self.old }
+        requires more { self.old.decisions < outcome.last_decision }
+        ensures { Gives self.new result (outcome.takes self.old (find (book.is_of client) self.old.tickets)) }
+    {
+        let ticket = &self.tickets[place];
+        if self.is_shut {
+            return self.loses_ticket(client, Refusal::ShuttingDown);
+        }
+        if self.has_waited(ticket) {
+            return self.loses_ticket(client, Refusal::WaitedTooLong);
+        }
+        let before = waiting_before(&self.tickets, place, &ticket.key, client);
+        if self.must_wait(before) {
+            return Reply::Queued(before as u64);
+        }
+        self.grants(place)
+    }
+
+    /// The client's ticket goes.
+    fn loses_ticket(&mut self, client: u64, refusal: Refusal) -> Reply
+        ensures book { self.new ≡ record self.old { tickets = book.without_ticket client self.old.tickets } }
+        ensures reply { result ≡ Refuse refusal }
+    {
+        drop_ticket(&mut self.tickets, client);
+        Reply::Refuse(refusal)
+    }
+
+    /// What the first ticket of its pool gets, which is at this place.
+    fn grants(&mut self, place: usize) -> Reply
+        requires bound { place < length self.old.tickets }
+        requires first { (t : TicketRow) → slice_get self.old.tickets place ≡ Some t → book.waiting_before t.key t.client self.old.tickets ≡ 0 }
+        requires kept { Kept self.old }
+        requires more { self.old.decisions < outcome.last_decision }
+        ensures { (t : TicketRow) → slice_get self.old.tickets place ≡ Some t → Gives self.new result (outcome.grants self.old t (book.latest_of t.key self.old.idle)) }
+    {
+        let ticket = &self.tickets[place];
+        match self.choice(ticket) {
+            Choice::Lend(idle) => {
+                let ticket = take_ticket(&mut self.tickets, place);
+                let link = take_out(&mut self.idle, idle);
+                self.lends(ticket, link)
+            }
+            Choice::Start => {
+                let ticket = take_ticket(&mut self.tickets, place);
+                self.starts(ticket, None)
+            }
+            Choice::Evict(idle) => {
+                let ticket = take_ticket(&mut self.tickets, place);
+                let old = take_out(&mut self.idle, idle);
+                self.evictions += 1;
+                self.starts(ticket, Some(old.number))
+            }
+            Choice::Wait => Reply::Queued(0),
+        }
+    }
+
+    /// A lent link comes back: it is kept, or to be closed.
+    pub fn gives_back(&mut self, number: u64) -> Reply
+        requires kept { Kept self.old }
+        ensures { Gives self.new result (outcome.gives_back self.old (find (book.is_link number) self.old.lent)) }
+    {
+        match place_of(&self.lent, number) {
+            Some(place) => self.takes_back(place, number),
+            None => Reply::Stranger,
+        }
+    }
+
+    /// Whether a link that comes back is to be closed.
+    fn closes(&self, link: &Link) -> bool
+        ensures { result ≡ (outcome.is_old self.now link.now || outcome.is_crowded self.now link.now) }
+    {
+        self.is_old(link) || self.is_crowded(link)
+    }
+
+    /// The link comes back that is lent at this place.
+    fn takes_back(&mut self, place: usize, number: u64) -> Reply
+        requires found { position (book.is_link number) self.old.lent ≡ Some place }
+        requires kept { Kept self.old }
+        ensures { Gives self.new result (outcome.gives_back self.old (find (book.is_link number) self.old.lent)) }
+    {
+        let link = &self.lent[place];
+        let closes = self.closes(link);
+        let link = take_out(&mut self.lent, place);
+        if closes {
+            return Reply::Close(link.number);
+        }
+        self.keeps(link)
+    }
+
+    /// The link, which has been taken out, lies idle from now on.
+    fn keeps(&mut self, link: Link) -> Reply
+        requires room { length self.old.idle < MOST_LINKS }
+        ensures book { self.new ≡ record self.old { idle = self.old.idle ++ record link { since = self.old.clock } ∷ [] } }
+        ensures reply { result ≡ Done }
+    {
+        let Link {
+            number,
+            key,
+            born,
+            ..
+        } = link;
+        self.idle.push_reserved(Link {
+            number,
+            key,
+            born,
+            since: self.clock,
+        });
+        Reply::Done
+    }
+
+    /// It is this second: the first idle link that is to be closed goes.
+    pub fn ticks(&mut self, now: u64) -> Reply
+        requires kept { Kept self.old }
+        ensures { Gives self.new result (outcome.closes (outcome.at_clock self.old now) (find (outcome.is_stale (outcome.at_clock self.old now)) self.old.idle)) }
+    {
+        self.clock = later(self.clock, now);
+        self.closes_first()
+    }
+
+    /// The first idle link goes that is to be closed.
+    fn closes_first(&mut self) -> Reply
+        requires once { (n : ℕ) → count_by (book.is_link n) self.old.idle ≤ 1 }
+        ensures { Gives self.new result (outcome.closes self.old (find (outcome.is_stale self.old) self.old.idle)) }
+    {
+        match self.first_stale() {
+            Some(place) => {
+                let link = take_out(&mut self.idle, place);
+                Reply::Close(link.number)
+            }
+            None => Reply::Done,
+        }
+    }
+
+    /// These settings hold from now on.
+    pub fn keeps_to(&mut self, limits: Arc<Limits>) -> Reply
+        ensures book { self.new ≡ record self.old { limits = arc_value limits } }
+        ensures reply { result ≡ Done }
+    {
+        self.limits = limits;
+        Reply::Done
+    }
+
+    /// No link is lent until `resumes`.
+    pub fn pauses(&mut self) -> Reply
+        ensures book { self.new ≡ record self.old { is_paused = true } }
+        ensures reply { result ≡ Done }
+    {
+        self.is_paused = true;
+        Reply::Done
+    }
+
+    /// Links are lent again.
+    pub fn resumes(&mut self) -> Reply
+        ensures book { self.new ≡ record self.old { is_paused = false } }
+        ensures reply { result ≡ Done }
+    {
+        self.is_paused = false;
+        Reply::Done
+    }
+
+    /// No client is let in and no link lent any more.
+    pub fn shuts_down(&mut self) -> Reply
+        ensures book { self.new ≡ record self.old { is_shut = true } }
+        ensures reply { result ≡ Done }
+    {
+        self.is_shut = true;
+        Reply::Done
+    }
+
+    /// Where the first idle link stands that is to be closed.
+    fn first_stale(&self) -> Option<usize>
+        ensures { result ≡ position (outcome.is_stale self.now) self.now.idle }
+    {
+        self.idle.iter().position(|l| self.is_stale(l))
+    }
+}
+
+/// The later of two seconds.
+fn later(clock: u64, now: u64) -> u64
+    ensures { result ≡ cond (nat_lt clock now) now clock }
+{
+    if clock < now { now } else { clock }
+}
+
+/// What the first ticket of its pool is answered; links by their places among the idle ones.
+enum Choice {
+    Lend(usize),
+    Start,
+    Evict(usize),
+    Wait,
+}
+
+/// To close this link for another's start; to wait, where there is none.
+fn eviction(place: Option<usize>) -> Choice
+    ensures { result ≡ eviction_of place }
+{
+    match place {
+        Some(place) => Choice::Evict(place),
+        None => Choice::Wait,
+    }
+}
+
+/// The place of the first link.
+#[tactic(auto, using(crate::proofs::Choices::first_is))]
+fn first(links: &[Link]) -> Option<usize>
+    ensures { result ≡ position (λ l. true) links.now }
+{
+    if links.is_empty() { None } else { Some(0) }
+}

@@ -1,0 +1,8 @@
+//! The register of the lease book: its lists, and what each event makes of them. It takes no memory after it was made.
+#![tactic(auto)]
+
+mod board;
+mod deciding;
+mod finds;
+pub mod lists;
+pub mod rows;

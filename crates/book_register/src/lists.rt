@@ -1,0 +1,160 @@
+//! The lists of the lease book, in order from their making on.
+ghost use Rattle.std.specs.Prelude.{◌≡◌, IfOk, find};
+ghost use Rattle.std.specs.Arc.{arc_value};
+ghost use Rattle.book_lists.specs.Book.{empty_book, is_link, no_counts};
+ghost use Rattle.book_lists.specs.Events.{event_of};
+ghost use Rattle.book_lists.specs.Outcomes.{apply, is_started_as};
+ghost use Rattle.book_register.specs.Counted.{counted_book};
+ghost use Rattle.book_register.specs.Kept.{FitsLimits, Kept, KeptLimits};
+
+use crate::board::Board;
+use crate::finds::is_there_as;
+use book_lists::counts::Counts;
+use book_lists::events::{Event, Reply};
+use book_lists::limits::{Limits, MOST_CLIENTS, MOST_LINKS};
+use start_keys::StartKey;
+use std::alloc::{AllocError, Global};
+use std::marker::Model;
+use std::sync::Arc;
+
+/// The lists of the lease book, with room for all that they may hold.
+#[derive(Drop)]
+pub struct Lists {
+    board: Board,
+}
+
+impl Model for Lists {
+    ghost use Rattle.book_lists.specs.Book.{Book};
+    ghost use Rattle.book_register.specs.Kept.{Kept};
+
+    ghost Value = { Book };
+
+    ghost view = { λ l. l.board };
+
+    ghost invariant = { λ l. Kept l.board };
+}
+
+/// All settings fit.
+fn fits(limits: &Limits)
+    ensures { KeptLimits limits.now }
+{
+    let _ = &limits.max_links;
+}
+
+/// Those of an event, too.
+fn event_fits(event: &Event)
+    ensures { FitsLimits (event_of event.now) }
+{
+    match event {
+        Event::Limits(limits) => fits(limits),
+        _ => {}
+    }
+}
+
+/// So many decisions, told as Ticks.
+fn all_ticks(decisions: u64) -> Counts
+    ensures { result ≡ record no_counts { ticked = decisions } }
+{
+    Counts {
+        arrived: 0,
+        arrivals_refused: 0,
+        asked: 0,
+        asks_refused: 0,
+        granted: 0,
+        tickets_lost: 0,
+        given_back: 0,
+        lost: 0,
+        starts_failed: 0,
+        left: 0,
+        ticked: decisions,
+        limited: 0,
+        paused: 0,
+        resumed: 0,
+        shut_down: 0,
+    }
+}
+
+/// Empty lists, with all the room.
+fn empty_board(alloc: Global, limits: Arc<Limits>, decisions: u64) -> Result<Board, AllocError>
+    ensures { IfOk result (λ b. b ≡ counted_book (arc_value limits) decisions) }
+{
+    let mut clients = Vec::new(alloc);
+    clients.reserve(MOST_CLIENTS as usize)?;
+    let mut tickets = Vec::new(alloc);
+    tickets.reserve(MOST_CLIENTS as usize)?;
+    let mut lent = Vec::new(alloc);
+    lent.reserve(MOST_LINKS as usize)?;
+    let mut idle = Vec::new(alloc);
+    idle.reserve(MOST_LINKS as usize)?;
+    Ok(Board {
+        clients,
+        tickets,
+        lent,
+        idle,
+        last_client: 0,
+        last_link: 0,
+        clock: 0,
+        limits,
+        is_paused: false,
+        is_shut: false,
+        decisions,
+        counts: all_ticks(decisions),
+        starts: 0,
+        reuses: 0,
+        evictions: 0,
+        losses: 0,
+    })
+}
+
+impl Lists {
+    /// Empty lists, with room for all that they may hold.
+    ///
+    /// `AllocError` where memory is refused.
+    pub fn new(alloc: Global, limits: Arc<Limits>) -> Result<Lists, AllocError>
+        ensures kept { IfOk result (λ l. Kept l) }
+        ensures book { IfOk result (λ l. l ≡ empty_book (arc_value limits)) }
+    {
+        Lists::from_count(alloc, limits, 0)
+    }
+
+    /// The same, after so many decisions, which are told as Ticks.
+    ///
+    /// `AllocError` where memory is refused.
+    #[tactic(auto, using(crate::proofs::Beginnings::counted_keeps))]
+    pub fn from_count(
+        alloc: Global,
+        limits: Arc<Limits>,
+        decisions: u64,
+    ) -> Result<Lists, AllocError>
+        ensures kept { IfOk result (λ l. Kept l) }
+        ensures book { IfOk result (λ l. l ≡ counted_book (arc_value limits) decisions) }
+    {
+        fits(&limits);
+        let board = empty_board(alloc, limits, decisions)?;
+        Ok(Lists { board })
+    }
+
+    /// How many decisions there were.
+    pub fn decisions(&self) -> u64
+        ensures { result ≡ self.now.decisions }
+    {
+        self.board.decisions
+    }
+
+    /// What an event makes of the lists, and its reply. It takes no memory.
+    pub fn apply(&mut self, event: Event) -> Reply
+        ensures kept { Kept self.new }
+        ensures book { self.new ≡ (apply self.old (event_of event)).book }
+        ensures reply { result ≡ (apply self.old (event_of event)).reply }
+    {
+        event_fits(&event);
+        self.board.apply(event)
+    }
+
+    /// Whether a link of this number is lent, and was started for an equal key at this second.
+    pub fn is_lent_as(&self, number: u64, key: &StartKey, born: u64) -> bool
+        ensures { result ≡ is_started_as key.now born (find (is_link number) self.now.lent) }
+    {
+        is_there_as(&self.board.lent, number, key, born)
+    }
+}
