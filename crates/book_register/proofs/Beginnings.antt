@@ -1,5 +1,5 @@
 -- What a register begins with, and that it stays in order.
-use Rattle.std.proofs.Common.{◌≡◌, ℕ, Bool, true, false, List, Option, None, Some, sym, ap, subst, arith, refl, get_or}
+use Rattle.std.proofs.Common.{◌≡◌, ℕ, false, List, None, Some, sym, ap, subst, arith, refl, get_or}
 use Rattle.std.specs.Prelude.{find, position}
 use Rattle.session_values.specs.State.{StartKeyOf}
 use Rattle.book_lists.specs.Book.{Book, Limits, Link, is_link}

@@ -1,16 +1,14 @@
 -- An event's count: by what tells its kind, over what the event leaves of the counts.
-use Rattle.std.proofs.Common.{◌≡◌, ℕ, ◌<◌, Bool, true, false, not, cond, ◌||◌, ◌==◌, Option, None, Some, List, length, count_by, refl, sym, ap, ◌∙◌, subst, eq-eqb, eqb-true}
+use Rattle.std.proofs.Common.{◌≡◌, ℕ, ◌<◌, Bool, true, false, not, cond, ◌||◌, ◌==◌, Option, None, Some, List, length, refl, sym, ap, ◌∙◌, subst, eq-eqb, eqb-true}
 use Rattle.std.specs.Prelude.{find, nat_lt}
 use Rattle.std.specs.List.{list_any}
-use Rattle.session_values.specs.State.{StartKeyOf}
-use Rattle.book_lists.specs.Book.{Book, Client, Limits, Link, Ticket, in_pool, is_client, is_link, is_of, latest_of, link_count, pool_count, pool_size, waiting_before}
-use Rattle.book_lists.specs.Outcomes.{Answer, Event, apply, at_clock, closes, counted, decided, evicts, gives_back, grants, has_waited, is_crowded, is_old, is_stale, is_strange, kind_of, last_decision, lends, loses_ticket, outcome, starts, takes, waits}
+use Rattle.book_lists.specs.Book.{Book, Client, Link, Ticket, in_pool, is_client, is_link, is_of, latest_of, link_count, pool_count, pool_size, waiting_before}
+use Rattle.book_lists.specs.Outcomes.{Answer, Event, apply, at_clock, closes, counted, decided, evicts, gives_back, grants, has_waited, is_crowded, is_old, is_stale, is_strange, kind_of, last_decision, outcome, takes}
 use Rattle.book_lists.specs.Outcomes.Event.{Arrive, Ask, Take, GiveBack, Lost, StartFailed, Leave, Tick, NewLimits, Pause, Resume, Shutdown}
-use Rattle.book_lists.specs.declared.counts.Counts.{Counts}
 use Rattle.book_lists.specs.declared.counts.Kind.{Kind}
 use Rattle.book_lists.specs.declared.events.Reply.{Reply}
 use Rattle.book_lists.specs.declared.events.Reply.TheVariants.{Arrived, Queued, Lend, Start, Close, Refuse, Done, Stranger}
-use Rattle.message_view.specs.declared.refusal.Refusal.TheVariants.{WaitedTooLong, ShuttingDown, LastDecision}
+use Rattle.message_view.specs.declared.refusal.Refusal.TheVariants.{LastDecision}
 use Rattle.book_register.specs.Choices.{Gives}
 use Rattle.book_register.specs.Happenings.{happening_of, kind_by}
 use Rattle.book_register.specs.Kept.{KeptClients, KeptCounts, total}

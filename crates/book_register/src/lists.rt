@@ -9,6 +9,7 @@ ghost use Rattle.book_register.specs.Kept.{FitsLimits, Kept, KeptLimits};
 
 use crate::board::Board;
 use crate::finds::is_there_as;
+use crate::rows::{Client, Link, Ticket};
 use book_lists::counts::Counts;
 use book_lists::events::{Event, Reply};
 use book_lists::limits::{Limits, MOST_CLIENTS, MOST_LINKS};
@@ -156,5 +157,89 @@ impl Lists {
         ensures { result ≡ is_started_as key.now born (find (is_link number) self.now.lent) }
     {
         is_there_as(&self.board.lent, number, key, born)
+    }
+
+    /// The clients that are there, in the order in which they came.
+    pub fn clients(&self) -> &[Client]
+        ensures { result.now ≡ self.now.clients }
+    {
+        &self.board.clients
+    }
+
+    /// The tickets that wait, in the order of their Ask.
+    pub fn tickets(&self) -> &[Ticket]
+        ensures { result.now ≡ self.now.tickets }
+    {
+        &self.board.tickets
+    }
+
+    /// The lent links, in the order in which they were lent.
+    pub fn lent(&self) -> &[Link]
+        ensures { result.now ≡ self.now.lent }
+    {
+        &self.board.lent
+    }
+
+    /// The idle links, in the order in which they came back.
+    pub fn idle(&self) -> &[Link]
+        ensures { result.now ≡ self.now.idle }
+    {
+        &self.board.idle
+    }
+
+    /// The greatest second of any Tick.
+    pub fn clock(&self) -> u64
+        ensures { result ≡ self.now.clock }
+    {
+        self.board.clock
+    }
+
+    /// Whether no link is lent until Resume.
+    pub fn is_paused(&self) -> bool
+        ensures { result ≡ self.now.is_paused }
+    {
+        self.board.is_paused
+    }
+
+    /// Whether no client is let in and no link lent any more.
+    pub fn is_shut(&self) -> bool
+        ensures { result ≡ self.now.is_shut }
+    {
+        self.board.is_shut
+    }
+
+    /// How many decisions there were of each kind.
+    pub fn counts(&self) -> Counts
+        ensures { result ≡ self.now.counts }
+    {
+        self.board.counts
+    }
+
+    /// How many links were started.
+    pub fn starts(&self) -> u64
+        ensures { result ≡ self.now.starts }
+    {
+        self.board.starts
+    }
+
+    /// How many times an idle link was lent again.
+    pub fn reuses(&self) -> u64
+        ensures { result ≡ self.now.reuses }
+    {
+        self.board.reuses
+    }
+
+    /// How many idle links were closed for another's start.
+    pub fn evictions(&self) -> u64
+        ensures { result ≡ self.now.evictions }
+    {
+        self.board.evictions
+    }
+
+    /// How many links were lost, or failed to start.
+    pub fn losses(&self) -> u64
+        ensures { result ≡ self.now.losses }
+    {
+        self.board.losses
     }
 }
