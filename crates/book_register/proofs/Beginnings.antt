@@ -7,9 +7,9 @@ use Rattle.book_lists.specs.Outcomes.{Event, apply, is_started_as}
 use Rattle.book_lists.specs.declared.events.Reply.{Reply}
 use Rattle.book_register.specs.Choices.{Gives}
 use Rattle.book_register.specs.Counted.{counted_book}
-use Rattle.book_register.specs.Kept.{FitsLimits, Kept, KeptLimits}
+use Rattle.book_order.specs.Kept.{FitsLimits, Kept, KeptLimits}
 use Rattle.book_register.proofs.Choices.{not_found}
-use Rattle.book_register.proofs.Keeping.{applied_keeps}
+use Rattle.book_order.proofs.Keeping.{applied_keeps}
 use Rattle.book_register.proofs.Takes.{at_place}
 
 pub counted_keeps : (limits : Limits) (n : ℕ) → KeptLimits limits → Kept (counted_book limits n)

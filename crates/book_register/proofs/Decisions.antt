@@ -11,8 +11,8 @@ use Rattle.book_lists.specs.declared.events.Reply.TheVariants.{Arrived, Queued, 
 use Rattle.message_view.specs.declared.refusal.Refusal.TheVariants.{LastDecision}
 use Rattle.book_register.specs.Choices.{Gives}
 use Rattle.book_register.specs.Happenings.{happening_of, kind_by}
-use Rattle.book_register.specs.Kept.{KeptClients, KeptCounts, total}
-use Rattle.book_register.proofs.KeepingLists.{any_counts, longer, none_counts}
+use Rattle.book_order.specs.Kept.{KeptClients, KeptCounts, total}
+use Rattle.book_order.proofs.KeepingLists.{any_counts, longer, none_counts}
 
 pub kind_is : (b : Book) (e : Event) (r : Reply) → kind_by (happening_of b e) r ≡ kind_of b e r
 kind_is b Arrive (Arrived n) = refl

@@ -2,10 +2,5 @@ pub mod Places
 pub mod Choices
 pub mod Takes
 pub mod Returns
-pub mod KeepingLists
-pub mod KeepingClients
-pub mod KeepingLinks
-pub mod KeepingCounts
 pub mod Decisions
-pub mod Keeping
 pub mod Beginnings

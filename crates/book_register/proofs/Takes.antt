@@ -11,7 +11,7 @@ use Rattle.book_lists.specs.declared.events.Reply.{Reply}
 use Rattle.book_lists.specs.declared.events.Reply.TheVariants.{Queued, Refuse, Stranger}
 use Rattle.book_register.specs.Choices.{Chooses, Gives}
 use Rattle.book_register.specs.declared.board.Choice.TheVariants.{Lend, Start, Evict, Wait}
-use Rattle.book_register.specs.Kept.{KeptClients, KeptLinks}
+use Rattle.book_order.specs.Kept.{KeptClients, KeptLinks}
 use Rattle.book_register.proofs.Choices.{found, not_found}
 use Rattle.book_register.proofs.Places.{get_is}
 

@@ -1,5 +1,4 @@
 pub mod Finds
-pub mod Kept
 pub mod Room
 pub mod Choices
 pub mod Happenings

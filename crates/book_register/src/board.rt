@@ -9,7 +9,7 @@ ghost use Rattle.book_lists.specs.Outcomes as outcome;
 ghost use Rattle.book_lists.specs.declared.events.Reply.TheVariants.{Done, Refuse};
 ghost use Rattle.book_lists.specs.declared.limits.TheConstants.{MOST_LINKS};
 ghost use Rattle.book_register.specs.Choices.{Chooses, Gives, eviction_of};
-ghost use Rattle.book_register.specs.Kept.{Kept};
+ghost use Rattle.book_order.specs.Kept.{Kept};
 
 use crate::finds::{
     count_of_pool, drop_client, drop_link, drop_ticket, first_of_pool, has_client, last_of_key,

@@ -4,7 +4,7 @@ ghost use Rattle.book_lists.specs.Events.{event_of};
 ghost use Rattle.book_lists.specs.Outcomes as outcome;
 ghost use Rattle.book_register.specs.Choices.{Gives};
 ghost use Rattle.book_register.specs.Happenings.{happening_of, kind_by};
-ghost use Rattle.book_register.specs.Kept.{Kept, total};
+ghost use Rattle.book_order.specs.Kept.{Kept, total};
 
 use crate::board::Board;
 use crate::finds::{has_client, has_link, has_ticket};

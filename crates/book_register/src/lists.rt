@@ -5,7 +5,7 @@ ghost use Rattle.book_lists.specs.Book.{empty_book, is_link, no_counts};
 ghost use Rattle.book_lists.specs.Events.{event_of};
 ghost use Rattle.book_lists.specs.Outcomes.{apply, is_started_as};
 ghost use Rattle.book_register.specs.Counted.{counted_book};
-ghost use Rattle.book_register.specs.Kept.{FitsLimits, Kept, KeptLimits};
+ghost use Rattle.book_order.specs.Kept.{FitsLimits, Kept, KeptLimits};
 
 use crate::board::Board;
 use crate::finds::is_there_as;
@@ -26,7 +26,7 @@ pub struct Lists {
 
 impl Model for Lists {
     ghost use Rattle.book_lists.specs.Book.{Book};
-    ghost use Rattle.book_register.specs.Kept.{Kept};
+    ghost use Rattle.book_order.specs.Kept.{Kept};
 
     ghost Value = { Book };
 

@@ -7,7 +7,7 @@ use Rattle.link_run.specs.Links.{LinkView}
 use Rattle.book_lists.specs.Book.{Book, is_link}
 use Rattle.book_lists.specs.Outcomes.{Event, apply}
 use Rattle.book_lists.specs.declared.events.Reply.{Reply}
-use Rattle.book_register.specs.Kept.{Kept}
+use Rattle.book_order.specs.Kept.{Kept}
 use Rattle.lease_book.specs.Links.{HoldsLinks, Started, found, goes_out, is_numbered, is_return, left, listed, number_of, started}
 use Rattle.lease_book.proofs.Going.{goes_apply, rest, there}
 use Rattle.lease_book.proofs.Links.{count-cons}

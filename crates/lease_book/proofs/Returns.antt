@@ -16,7 +16,7 @@ use Rattle.book_lists.specs.Replay.{History, is_a_kind, is_decision, noted, note
 use Rattle.book_lists.specs.declared.counts.Kind.{Kind}
 use Rattle.book_lists.specs.declared.events.Reply.{Reply}
 use Rattle.book_lists.specs.declared.events.Reply.TheVariants.{Close, Done, Refuse, Stranger}
-use Rattle.book_register.specs.Kept.{Kept}
+use Rattle.book_order.specs.Kept.{Kept}
 use Rattle.lease_book.specs.Links.{HoldsLinks, Started, idle_with, handed_back, is_done, listed, may_hand_back, started}
 
 -- ---- the three ways

@@ -10,7 +10,7 @@ use Rattle.book_lists.specs.Outcomes.Event.{Arrive, Ask, Take, GiveBack, Lost, S
 use Rattle.book_lists.specs.Replay.{History, noted_of}
 use Rattle.book_lists.specs.declared.events.Reply.{Reply as ListsReply}
 use Rattle.book_lists.specs.declared.events.Reply.TheVariants as told
-use Rattle.book_register.specs.Kept.{Kept}
+use Rattle.book_order.specs.Kept.{Kept}
 use Rattle.lease_book.specs.declared.events.Event.{Event}
 use Rattle.lease_book.specs.declared.events.Event.TheVariants as event
 use Rattle.lease_book.specs.declared.events.Reply.{Reply}

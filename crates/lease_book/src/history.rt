@@ -5,7 +5,7 @@ ghost use Rattle.book_lists.specs.Book.{empty_book, is_link};
 ghost use Rattle.book_lists.specs.Events.{event_of};
 ghost use Rattle.book_lists.specs.Outcomes.{apply, apply_return, is_started_as};
 ghost use Rattle.book_lists.specs.Outcomes.Event.{GiveBack};
-ghost use Rattle.book_register.specs.Kept.{Kept};
+ghost use Rattle.book_order.specs.Kept.{Kept};
 ghost use Rattle.book_register.specs.Counted.{counted_book};
 ghost use Rattle.book_lists.specs.Replay.{noted, noted_of};
 

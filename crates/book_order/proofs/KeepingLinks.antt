@@ -3,8 +3,8 @@ use Rattle.std.proofs.Common.{◌≡◌, ℕ, suc, ◌+◌, ◌≤◌, ◌<◌, 
 use Rattle.std.proofs.lemmas.List.{length_push}
 use Rattle.book_lists.specs.Book.{Link, is_link, without}
 use Rattle.book_lists.specs.declared.limits.TheConstants.{MOST_LINKS}
-use Rattle.book_register.specs.Kept.{KeptLinks}
-use Rattle.book_register.proofs.KeepingLists.{fewer_left, left_out, length_left, one_more}
+use Rattle.book_order.specs.Kept.{KeptLinks}
+use Rattle.book_order.proofs.KeepingLists.{fewer_left, left_out, length_left, one_more}
 
 pub idle_goes : (k : ℕ) (lent idle : List Link) (next : ℕ) → KeptLinks lent idle next → KeptLinks lent (without k idle) next
 idle_goes k lent idle next h = record {

@@ -6,8 +6,8 @@ use Rattle.book_lists.specs.Outcomes.{counted, lends, loses, raised, starts}
 use Rattle.book_lists.specs.declared.counts.Counts.{Counts}
 use Rattle.book_lists.specs.declared.counts.Kind.{Kind}
 use Rattle.book_lists.specs.declared.counts.Kind.TheVariants.{Arrival, ArrivalRefused, Asking, AskRefused, Grant, TicketLost, Return, Loss, FailedStart, Leaving, Ticking, Limiting, Pausing, Resuming, Closing}
-use Rattle.book_register.specs.Kept.{KeptCounts, total}
-use Rattle.book_register.proofs.KeepingLists.{length_left}
+use Rattle.book_order.specs.Kept.{KeptCounts, total}
+use Rattle.book_order.proofs.KeepingLists.{length_left}
 
 pub total_raised : (k : Kind) (c : Counts) → total (raised k c) ≡ suc (total c)
 total_raised Arrival c = omega arith

@@ -10,11 +10,11 @@ use Rattle.book_lists.specs.Outcomes.{Answer, Event, apply, apply_return, arrive
 use Rattle.book_lists.specs.Outcomes.Event.{Arrive, Ask, Take, GiveBack, Lost, StartFailed, Leave, Tick, NewLimits, Pause, Resume, Shutdown}
 use Rattle.book_lists.specs.declared.counts.Kind.TheVariants.{Arrival, ArrivalRefused, Asking, AskRefused, TicketLost, Leaving, Ticking, Limiting, Pausing, Resuming, Closing}
 use Rattle.book_lists.specs.declared.events.ClientState.TheVariants.{LoggingIn, Waiting, Active}
-use Rattle.book_register.specs.Kept.{FitsLimits, Kept, KeptClients, KeptLimits}
-use Rattle.book_register.proofs.KeepingLists.{any_counts, found_counts, impossible, last_counts, none_counts, not_found}
-use Rattle.book_register.proofs.KeepingClients.{client_comes, client_goes, state_changes, ticket_comes, ticket_goes}
-use Rattle.book_register.proofs.KeepingLinks.{idle_goes, lent_goes, link_is_idle, link_is_lent, link_starts, place_left}
-use Rattle.book_register.proofs.KeepingCounts.{arrival_counts, counts_stay, failure_counts, loss_counts, return_counts, reuse_counts, start_counts}
+use Rattle.book_order.specs.Kept.{FitsLimits, Kept, KeptClients, KeptLimits}
+use Rattle.book_order.proofs.KeepingLists.{any_counts, found_counts, impossible, last_counts, none_counts, not_found}
+use Rattle.book_order.proofs.KeepingClients.{client_comes, client_goes, state_changes, ticket_comes, ticket_goes}
+use Rattle.book_order.proofs.KeepingLinks.{idle_goes, lent_goes, link_is_idle, link_is_lent, link_starts, place_left}
+use Rattle.book_order.proofs.KeepingCounts.{arrival_counts, counts_stay, failure_counts, loss_counts, return_counts, reuse_counts, start_counts}
 
 by_branch : {A : Type 0} (P : A → Type 0) (d : Bool) (x y : A) → (d ≡ true → P x) → (d ≡ false → P y) → P (cond d x y)
 by_branch P true x y h k = h refl

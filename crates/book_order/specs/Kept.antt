@@ -1,7 +1,8 @@
 -- What holds of every book that was made empty and had events.
 use Rattle.std.specs.Prelude.{◌≡◌, ℕ, suc, ◌+◌, ◌≤◌, List, count_by, length}
-use Rattle.book_lists.specs.Book.{Book, Client, Limits, Link, Ticket, is_client, is_link, is_of}
-use Rattle.book_lists.specs.Outcomes.{Event}
+use Rattle.session_values.specs.State.{StartKeyOf}
+use Rattle.book_lists.specs.Book.{Book, Client, Limits, Link, Ticket, empty_book, is_client, is_link, is_of}
+use Rattle.book_lists.specs.Outcomes.{Event, apply, apply_return}
 use Rattle.book_lists.specs.Outcomes.Event.{NewLimits}
 use Rattle.book_lists.specs.declared.counts.Counts.{Counts}
 use Rattle.book_lists.specs.declared.limits.TheConstants.{MOST_CLIENTS, MOST_LINKS}
@@ -47,3 +48,14 @@ pub record Kept (b : Book) : Type 0 where
   pub links : KeptLinks b.lent b.idle b.next_link
   pub counts : KeptCounts b
   pub limits : KeptLimits b.limits
+
+-- Every event leaves a book in order that was in order.
+abbrev pub EventsKeep : Type 0
+EventsKeep = (b : Book) (e : Event) → FitsLimits e → Kept b → Kept (apply b e).book
+
+-- So does the return of a link, and an empty book is in order.
+abbrev pub ReturnsKeep : Type 0
+ReturnsKeep = (b : Book) (n : ℕ) (key : StartKeyOf) (born : ℕ) → Kept b → Kept (apply_return b n key born).book
+
+abbrev pub EmptyBooksAreKept : Type 0
+EmptyBooksAreKept = (limits : Limits) → KeptLimits limits → Kept (empty_book limits)

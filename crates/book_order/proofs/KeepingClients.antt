@@ -5,8 +5,8 @@ use Rattle.book_lists.specs.Book.{Client, Ticket, is_client, is_of, without_clie
 use Rattle.book_lists.specs.Outcomes.{in_state}
 use Rattle.book_lists.specs.declared.events.ClientState.{ClientState}
 use Rattle.book_lists.specs.declared.limits.TheConstants.{MOST_CLIENTS}
-use Rattle.book_register.specs.Kept.{KeptClients}
-use Rattle.book_register.proofs.KeepingLists.{as_long, longer, fewer_left, left_out, length_left, numbers_stay, one_more}
+use Rattle.book_order.specs.Kept.{KeptClients}
+use Rattle.book_order.proofs.KeepingLists.{as_long, longer, fewer_left, left_out, length_left, numbers_stay, one_more}
 
 pub client_comes : (cs : List Client) (ts : List Ticket) (next : ℕ) (c : Client) → c.number ≡ next → length cs < MOST_CLIENTS → KeptClients cs ts next → KeptClients (cs ++ c ∷ []) ts (suc next)
 client_comes cs ts next c e room h = record {

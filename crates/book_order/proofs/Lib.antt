@@ -1,0 +1,5 @@
+pub mod KeepingLists
+pub mod KeepingClients
+pub mod KeepingLinks
+pub mod KeepingCounts
+pub mod Keeping
