@@ -39,6 +39,7 @@ impl Model for Lists {
 fn fits(limits: &Limits)
     ensures { KeptLimits limits.now }
 {
+    // for the prover: a look into the limits, whose type keeps them within what a book can hold
     let _ = &limits.max_links;
 }
 

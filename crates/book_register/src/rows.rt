@@ -10,6 +10,13 @@ use start_keys::StartKey;
 use std::marker::Model;
 use std::sync::Arc;
 
+/// Whether the keys are of one pool: of one database row and one user.
+fn is_same_pool(left: &StartKey, right: &StartKey) -> bool
+    ensures { result ≡ book.same_pool left.now right.now }
+{
+    left.row == right.row && left.user == right.user
+}
+
 /// A client that is there.
 #[derive(Drop)]
 pub struct Client {
@@ -63,7 +70,7 @@ impl Ticket {
     pub fn is_in_pool(&self, key: &StartKey) -> bool
         ensures { result ≡ book.same_pool self.now.key key.now }
     {
-        self.key.row == key.row && self.key.user == key.user
+        is_same_pool(&self.key, key)
     }
 }
 
@@ -104,7 +111,7 @@ impl Link {
     pub fn is_in_pool(&self, key: &StartKey) -> bool
         ensures { result ≡ book.in_pool key.now self.now }
     {
-        self.key.row == key.row && self.key.user == key.user
+        is_same_pool(&self.key, key)
     }
 
     /// Whether it was started for an equal key, at this second.
