@@ -2,7 +2,7 @@
 use Rattle.std.specs.Prelude.{ℕ, List, [], ◌++◌, map}
 use Rattle.frame_view.specs.Frames.{spelling}
 use Rattle.message_view.specs.declared.KeyWord.{KeyWord}
-use Rattle.session_values.specs.State.{CatalogueOf, StartKeyOf, fresh}
+use Rattle.session_values.specs.State.{Address, CatalogueOf, StartKeyOf, address_of, fresh}
 use Rattle.session_values.specs.Service.{client_frames, served}
 use Rattle.login_core.specs.Talk.{End}
 use Rattle.login_core.specs.Talk.End.{Unfinished, Passed, Stopped}
@@ -22,3 +22,18 @@ after_login cat word (Stopped reason) = []
 -- the pieces of the login, and those of the service of what is left, over the catalogue of the row
 abbrev pub solo : CatalogueOf → LoginRow → KeyWord → List ℕ → List (List ℕ)
 solo cat row word bytes = (login row word bytes).pieces ++ after_login cat word (login row word bytes).ended
+
+-- ---- where each address has its own catalogue
+
+-- the catalogue of the key that a login passed with; an empty one, where it leads to no link
+abbrev pub catalogue_after : (Address → CatalogueOf) → End Way Reason → CatalogueOf
+catalogue_after catalogue (Passed (ToLink key) left) = catalogue (address_of key)
+catalogue_after catalogue _ = record { version = []; databases = []; tables = [] }
+
+-- what a server started for the client alone answers to its bytes, over the catalogue that its login leads to
+abbrev pub solo_in : (Address → CatalogueOf) → LoginRow → KeyWord → List ℕ → List (List ℕ)
+solo_in catalogue row word bytes = solo (catalogue_after catalogue (login row word bytes).ended) row word bytes
+
+-- the part of it that follows the login
+abbrev pub after_in : (Address → CatalogueOf) → KeyWord → End Way Reason → List (List ℕ)
+after_in catalogue word ended = after_login (catalogue_after catalogue ended) word ended

@@ -198,6 +198,16 @@ pub record StartKeyOf : Type 0 where
   -- names in lower case, in their order
   pub parameters : List (Text × Text)
 
+-- where the servers of a start key are
+pub record Address : Type 0 where
+  pub row : Text
+  pub host : Option (List ℕ)
+  pub port : ℕ
+  pub dbname : Text
+
+abbrev pub address_of : StartKeyOf → Address
+address_of key = record { row = key.row; host = key.host; port = key.port; dbname = key.dbname }
+
 abbrev pub bound : {A B : Type 0} → Result A Cause → (A → Result B Cause) → Result B Cause
 bound (Ok x) f = f x
 bound (Err c) f = Err c

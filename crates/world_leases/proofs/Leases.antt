@@ -7,7 +7,7 @@ use Rattle.message_view.specs.declared.KeyWord.{KeyWord}
 use Rattle.message_view.specs.Refusals.{joined_pieces}
 use Rattle.session_values.specs.declared.cause.Cause.{Cause}
 use Rattle.session_values.specs.Errors.{fatal}
-use Rattle.session_values.specs.State.{State, CatalogueOf, StartKeyOf, fresh}
+use Rattle.session_values.specs.State.{State, CatalogueOf, StartKeyOf, fresh, Address, address_of}
 use Rattle.session_values.specs.Step.{run_frames}
 use Rattle.session_values.specs.Service.{welcome, client_frames, served}
 use Rattle.session_values.specs.Lawful.{IsLawfulKey}
@@ -18,6 +18,7 @@ use Rattle.run_laws.proofs.ByName.{runs_stay_reached}
 use Rattle.login_core.specs.Talk.{End}
 use Rattle.login_core.specs.Talk.End.{Passed}
 use Rattle.login_core.specs.Dialogue.{Way, Reason, ToLink, login}
+use Rattle.login_core.specs.Solo.{after_in}
 use Rattle.book_lists.specs.Outcomes.Event.{Arrive, Ask, Take, Tick}
 use Rattle.book_lists.specs.declared.events.Reply.TheVariants.{Arrived, Lend, Start, Done, Close}
 use Rattle.world_steps.specs.Clients.Phase.{Absent, LoggingIn, Waiting, Starting, Served, Finishing, Refusing, Closed}
@@ -30,10 +31,10 @@ use Rattle.world_steps.proofs.Keeps.{kept_number, number_was, change_link, chang
 use Rattle.world_steps.proofs.Steps.{fits_at, role_at, stays_away}
 use Rattle.world_steps.proofs.Changes.{numbered, in_phase, gets_start_error, in_role, at_clean_point}
 use Rattle.world_steps.specs.Clients.{Client, Phase, HasEnded}
-use Rattle.world_steps.specs.Links.{Place, place_of, IsSettled, IsReset, Link, newborn}
+use Rattle.world_steps.specs.Links.{IsSettled, IsReset, Link, newborn}
 use Rattle.world_steps.specs.Relation.{IsLent, IsClean, RoleFits, InLogin, InQueue, InService, PhaseFits, TicketFits, Related}
 use Rattle.world_steps.specs.Steps.{gone, promised, gets_link, IsInHand}
-use Rattle.world_steps.specs.Worlds.{World, put, with_client, with_link, with_pair, with_book, after_in}
+use Rattle.world_steps.specs.Worlds.{World, put, with_client, with_link, with_pair, with_book}
 use Rattle.book_lists.specs.Book.{Book}
 use Rattle.book_lists.specs.Outcomes.{Answer, Event, apply, apply_return}
 use Rattle.book_lists.specs.declared.events.Reply.{Reply}
@@ -190,7 +191,7 @@ begins_service {cat} {key} {x} y l s h k f none silent =
     }
 
 pub step_is_lent : TakesLend → (w : World) (c m l : ℕ) (key : StartKeyOf) (s : State) → Related w →
-    (w.clients c).phase ≡ Waiting key → (w.clients c).number ≡ Some m → (apply w.book (Take m)).reply ≡ Lend l → fresh (w.catalogue (place_of key)) key ≡ Ok s →
+    (w.clients c).phase ≡ Waiting key → (w.clients c).number ≡ Some m → (apply w.book (Take m)).reply ≡ Lend l → fresh (w.catalogue (address_of key)) key ≡ Ok s →
     Related (with_book (with_pair w c (gets_link (w.clients c) l s) l (in_role (w.links l) (Lent c))) (apply w.book (Take m)).book)
 step_is_lent lends w c m l key s r e num reply f =
     let k = lends w.book m l reply in
@@ -203,7 +204,7 @@ step_is_lent lends w c m l key s r e num reply f =
     record {
       lawful = r.lawful;
       clients = clients_pair w c x l y r (alone_idle c i.0)
-          (put_case (λ z. IsServed w.catalogue c x z) w.links l y l (λ _. (begins_service {cat = w.catalogue (place_of (w.links l).key)} y l s h same (ap (λ (q : StartKeyOf). fresh (w.catalogue (place_of q)) key) same ∙ f) clean.sent clean.received, refl)) (λ ne. absurd (ne refl)));
+          (put_case (λ z. IsServed w.catalogue c x z) w.links l y l (λ _. (begins_service {cat = w.catalogue (address_of (w.links l).key)} y l s h same (ap (λ (q : StartKeyOf). fresh (w.catalogue (address_of q)) key) same ∙ f) clean.sent clean.received, refl)) (λ ne. absurd (ne refl)));
       links = links_put w.catalogue w.links l y (clean_lent_out c clean) r.links;
       idle = λ n q h. put_case (λ z. (z.role ≡ Idle) × (z.key ≡ q)) w.links l y n (λ g. absurd (k.not_idle n q h g)) (λ _. r.idle n q (k.starts_nothing.adds_nothing.idle n q h));
       unborn = λ n le. unborn_put w.links l y n (λ u. idle_unborn (sym i.0 ∙ u)) (r.unborn n (subst (λ (i : ℕ). i ≤ n) k.starts_nothing.next_link le));
@@ -319,7 +320,7 @@ newborn_lent : {cat : CatalogueOf} {c : ℕ} {key : StartKeyOf} {s : State} → 
 unfolding run_frames
 newborn_lent {cat} {c} {key} {s} f k = record { base = s; is_fresh = f; lawful_key = k; runs = record { taken = []; are_sent = tt; sent_is = refl; session_is = refl; told = front_nil []; all_told = λ _. refl } }
 
-pub step_starts : (w : World) (c l : ℕ) (key : StartKeyOf) (s : State) → Related w → (w.clients c).phase ≡ Starting key l → fresh (w.catalogue (place_of key)) key ≡ Ok s →
+pub step_starts : (w : World) (c l : ℕ) (key : StartKeyOf) (s : State) → Related w → (w.clients c).phase ≡ Starting key l → fresh (w.catalogue (address_of key)) key ≡ Ok s →
     Related (with_pair w c (gets_link (w.clients c) l s) l (newborn c key s))
 step_starts w c l key s r e f =
     let h = fits_at c (Starting key l) r e in
@@ -337,12 +338,12 @@ step_starts w c l key s r e f =
     promised_unborn p = cc
 
 -- the service of a client whose server refuses its start
-after_refused : (catalogue : Place → CatalogueOf) (word : KeyWord) (o : End Way Reason) (key : StartKeyOf) (left : List ℕ) (cause : Cause) → o ≡ Passed (ToLink key) left → fresh (catalogue (place_of key)) key ≡ Err cause →
+after_refused : (catalogue : Address → CatalogueOf) (word : KeyWord) (o : End Way Reason) (key : StartKeyOf) (left : List ℕ) (cause : Cause) → o ≡ Passed (ToLink key) left → fresh (catalogue (address_of key)) key ≡ Err cause →
     after_in catalogue word o ≡ spelling (fatal cause) ∷ []
 after_refused catalogue word o key left cause e f =
-    ap (after_in catalogue word) e ∙ ap (λ (r : Result State Cause). map spelling (served (catalogue (place_of key)) r word.pid word.secret (client_frames left))) f
+    ap (after_in catalogue word) e ∙ ap (λ (r : Result State Cause). map spelling (served (catalogue (address_of key)) r word.pid word.secret (client_frames left))) f
 
-pub step_start_fails : StartErrorIsFrame → (w : World) (c l : ℕ) (key : StartKeyOf) (cause : Cause) → Related w → (w.clients c).phase ≡ Starting key l → fresh (w.catalogue (place_of key)) key ≡ Err cause →
+pub step_start_fails : StartErrorIsFrame → (w : World) (c l : ℕ) (key : StartKeyOf) (cause : Cause) → Related w → (w.clients c).phase ≡ Starting key l → fresh (w.catalogue (address_of key)) key ≡ Err cause →
     Related (with_pair w c (gets_start_error (w.clients c) (spelling (fatal cause))) l (in_role (w.links l) Gone))
 step_start_fails error w c l key cause r e f =
     let h = fits_at c (Starting key l) r e in
@@ -414,7 +415,7 @@ pub step_returns_unused : (w : World) (c l : ℕ) → Related w → (w.links l).
     Related (with_link w l (in_role (w.links l) Clean))
 step_returns_unused w c l r e h none silent =
     let y = w.links l in
-    let cat : CatalogueOf = w.catalogue (place_of y.key) in
+    let cat : CatalogueOf = w.catalogue (address_of y.key) in
     let k = role_at l (Lent c) r e in
     let u = unsent cat y.key k.base y k.runs none in
     leaves_client w c l (in_role y Clean) r e h (record { is_fresh = k.is_fresh ∙ ap ok (sym u.session); lawful_key = k.lawful_key; inbox = u.inbox; outbox = u.outbox; sent = none; received = silent })
@@ -424,9 +425,9 @@ pub step_returns_used : (w : World) (c l : ℕ) → Related w → (w.links l).ro
 unfolding run_frames
 step_returns_used w c l r e h settled =
     let y = w.links l in
-    let cat : CatalogueOf = w.catalogue (place_of y.key) in
+    let cat : CatalogueOf = w.catalogue (address_of y.key) in
     let k = role_at l (Lent c) r e in
-    let reached : Reaches cat y.key k.base = fresh_is_reached cat y.key k.base (r.lawful (place_of y.key)) k.lawful_key k.is_fresh in
+    let reached : Reaches cat y.key k.base = fresh_is_reached cat y.key k.base (r.lawful (address_of y.key)) k.lawful_key k.is_fresh in
     let u = settled_rests cat y.key k.base y k.runs reached (fresh_is_at_rest cat y.key k.base k.is_fresh) settled in
     let now : State = (run_frames cat k.base u.frames).next in
     leaves_client w c l (at_clean_point y InReset) r e h (record {
@@ -441,7 +442,7 @@ pub step_ends_reset : (w : World) (l : ℕ) → Related w → (w.links l).role �
 step_ends_reset w l r e done =
     let y = w.links l in
     let k = role_at l InReset r e in
-    let u = reset_done (w.catalogue (place_of y.key)) y.key k.base y k.runs k.reached k.rests done in
+    let u = reset_done (w.catalogue (address_of y.key)) y.key k.base y k.runs k.reached k.rests done in
     stays_away w l (at_clean_point y Clean) r (subst IsInHand (sym e) in_reset)
     (record { is_fresh = u.is_fresh; lawful_key = k.lawful_key; inbox = u.inbox; outbox = u.outbox; sent = refl; received = refl })
 

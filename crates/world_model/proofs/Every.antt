@@ -13,7 +13,7 @@ use Rattle.session_values.specs.Service.{welcome, client_frames}
 use Rattle.login_core.specs.Talk.{End}
 use Rattle.login_core.specs.Talk.End.{Unfinished, Passed, Stopped}
 use Rattle.login_core.specs.Dialogue.{LoginRow, Way, ToLink, ToConsole, Reason, login}
-use Rattle.login_core.specs.Solo.{service_pieces}
+use Rattle.login_core.specs.Solo.{service_pieces, after_in, solo_in}
 use Rattle.world_steps.specs.Clients.Phase.{Served}
 use Rattle.world_steps.specs.Links.Role.{Lent, Idle}
 use Rattle.book_lists.specs.Book.{Book, Limits}
@@ -32,10 +32,10 @@ use Rattle.frame_view.specs.declared.frames.TheConstants.{LONGEST_FRAME}
 use Rattle.world_model.specs.Headline.{Agree, IsQuiet, IsFreshLink, future, OutsBegin, TwoWorlds}
 use Rattle.world_steps.specs.Clients.{Client, given}
 use Rattle.world_steps.specs.Laws.{BookStepsKeep, ClientStepsKeep, ByteStepsKeep, LinkStepsKeep, EndStepsKeep}
-use Rattle.world_steps.specs.Links.{Place, place_of, Link}
+use Rattle.world_steps.specs.Links.{Address, address_of, Link}
 use Rattle.world_steps.specs.Relation.{IsFront, Related, IsOver, IsLent, InService}
 use Rattle.world_steps.specs.Steps.{Step, Reached}
-use Rattle.world_steps.specs.Worlds.{World, own, after_in, solo_in}
+use Rattle.world_steps.specs.Worlds.{World, own}
 
 -- the five groups
 pub record Keep : Type 0 where
@@ -96,7 +96,7 @@ either xs ys (inl f) = inl (record { more = f.rest; both = f.is })
 either xs ys (inr f) = inr (record { more = f.rest; both = f.is })
 
 -- only the catalogue of the row that the login leads to counts
-same_after : (c d : Place → CatalogueOf) (word : KeyWord) (o : End Way Reason) → ((key : StartKeyOf) (left : List ℕ) → o ≡ Passed (ToLink key) left → c (place_of key) ≡ d (place_of key)) → after_in c word o ≡ after_in d word o
+same_after : (c d : Address → CatalogueOf) (word : KeyWord) (o : End Way Reason) → ((key : StartKeyOf) (left : List ℕ) → o ≡ Passed (ToLink key) left → c (address_of key) ≡ d (address_of key)) → after_in c word o ≡ after_in d word o
 same_after c d word (Passed (ToLink key) left) h = ap (λ (cat : CatalogueOf). service_pieces cat key word left) (h key left refl)
 same_after c d word (Passed ToConsole left) h = refl
 same_after c d word Unfinished h = refl
@@ -109,10 +109,10 @@ same_own w v x y a =
     ∙ ap₂ (λ (word : KeyWord) (bytes : List ℕ). solo_in v.catalogue y.row word bytes) a.word a.sent
 
 -- a client with its living link: all is told, held, or still to come
-exact_service : (catalogue : Place → CatalogueOf) (x : Client) (y : Link) → y.alive ≡ true → InService (catalogue (place_of y.key)) x y → IsLent (catalogue (place_of y.key)) y →
-    (x.out ++ x.for_client) ++ future (catalogue (place_of y.key)) y (x.for_link ++ x.unread) ≡ joined_pieces (solo_in catalogue x.row x.word x.sent)
+exact_service : (catalogue : Address → CatalogueOf) (x : Client) (y : Link) → y.alive ≡ true → InService (catalogue (address_of y.key)) x y → IsLent (catalogue (address_of y.key)) y →
+    (x.out ++ x.for_client) ++ future (catalogue (address_of y.key)) y (x.for_link ++ x.unread) ≡ joined_pieces (solo_in catalogue x.row x.word x.sent)
 exact_service catalogue x y live h k =
-    let cat : CatalogueOf = catalogue (place_of y.key) in
+    let cat : CatalogueOf = catalogue (address_of y.key) in
     let r = k.runs in
     let same : k.base ≡ h.base = fresh_one (sym k.is_fresh ∙ h.is_fresh) in
     let more : List ℕ = x.for_link ++ x.unread in
@@ -149,9 +149,9 @@ unfolding run_frames
 silent cat s b e = ap (λ (l : List ℕ). flat_map spelling (run_frames cat s (client_frames l)).replies) e ∙ ap (λ (fs : List FrameOf). flat_map spelling (run_frames cat s fs).replies) no_frames
 
 -- where nothing is under way, all was given
-quiet_service : (catalogue : Place → CatalogueOf) (x : Client) (y : Link) → IsQuiet x y → InService (catalogue (place_of y.key)) x y → IsLent (catalogue (place_of y.key)) y → given x ≡ joined_pieces (solo_in catalogue x.row x.word x.sent)
+quiet_service : (catalogue : Address → CatalogueOf) (x : Client) (y : Link) → IsQuiet x y → InService (catalogue (address_of y.key)) x y → IsLent (catalogue (address_of y.key)) y → given x ≡ joined_pieces (solo_in catalogue x.row x.word x.sent)
 quiet_service catalogue x y q h k =
-    let cat : CatalogueOf = catalogue (place_of y.key) in
+    let cat : CatalogueOf = catalogue (address_of y.key) in
     let more : List ℕ = x.for_link ++ x.unread in
     let none : y.inbox ++ more ≡ [] = ap₂ (λ (a b : List ℕ). a ++ (b ++ x.unread)) q.inbox q.for_link ∙ q.unread in
     let nothing : future cat y more ≡ [] = ap₂ (λ (a b : List ℕ). a ++ b) q.outbox (silent cat y.session (y.inbox ++ more) none) in
@@ -190,7 +190,7 @@ module _ (keep : Keep) where
       quiet_service w.catalogue (w.clients c) (w.links l) q f.0 (role_at l (Lent c) r f.1)
 
   pub leases_exact : (w : World) → Reached w → (c l : ℕ) → (w.clients c).phase ≡ Served l → (w.links l).alive ≡ true
-      → ((w.clients c).out ++ (w.clients c).for_client) ++ future (w.catalogue (place_of (w.links l).key)) (w.links l) ((w.clients c).for_link ++ (w.clients c).unread) ≡ joined_pieces (own w (w.clients c))
+      → ((w.clients c).out ++ (w.clients c).for_client) ++ future (w.catalogue (address_of (w.links l).key)) (w.links l) ((w.clients c).for_link ++ (w.clients c).unread) ≡ joined_pieces (own w (w.clients c))
   leases_exact w h c l e live =
       let r = related h in
       let f = fits_at c (Served l) r e in

@@ -3,14 +3,14 @@ use Rattle.std.specs.Prelude.{◌≡◌, ◌⊎◌, ℕ, List, [], ◌++◌, tru
 use Rattle.std.specs.List.{flat_map}
 use Rattle.frame_view.specs.Frames.{spelling}
 use Rattle.message_view.specs.Refusals.{Allowed, Begins, joined_pieces}
-use Rattle.session_values.specs.State.{StartKeyOf, CatalogueOf, fresh}
+use Rattle.session_values.specs.State.{StartKeyOf, CatalogueOf, fresh, address_of}
 use Rattle.session_values.specs.Step.{run_frames}
 use Rattle.session_values.specs.Service.{client_frames}
 use Rattle.login_core.specs.Talk.End.{Passed}
 use Rattle.login_core.specs.Dialogue.{ToLink, login}
 use Rattle.world_steps.specs.Clients.{Client, given}
 use Rattle.world_steps.specs.Clients.Phase.{Served}
-use Rattle.world_steps.specs.Links.{Link, place_of}
+use Rattle.world_steps.specs.Links.{Link}
 use Rattle.world_steps.specs.Links.Role.{Idle}
 use Rattle.world_steps.specs.Worlds.{World, own}
 use Rattle.world_steps.specs.Steps.{Reached}
@@ -28,7 +28,7 @@ pub record Agree (w v : World) (x y : Client) : Type 0 where
   pub row : x.row ≡ y.row
   pub word : x.word ≡ y.word
   pub sent : x.sent ≡ y.sent
-  pub catalogue : (key : StartKeyOf) (left : List ℕ) → (login x.row x.word x.sent).ended ≡ Passed (ToLink key) left → w.catalogue (place_of key) ≡ v.catalogue (place_of key)
+  pub catalogue : (key : StartKeyOf) (left : List ℕ) → (login x.row x.word x.sent).ended ≡ Passed (ToLink key) left → w.catalogue (address_of key) ≡ v.catalogue (address_of key)
 
 -- Of two worlds that agree on a client, the one's bytes before any refusal begin the other's.
 abbrev pub TwoWorlds : Type 0
@@ -46,7 +46,7 @@ LinksServeOne = (w : World) → Reached w → (c d l : ℕ) → (w.clients c).ph
 
 -- in the fresh session of its key, with nothing under way
 pub record IsFreshLink (w : World) (y : Link) : Type 0 where
-  pub is_fresh : fresh (w.catalogue (place_of y.key)) y.key ≡ Ok y.session
+  pub is_fresh : fresh (w.catalogue (address_of y.key)) y.key ≡ Ok y.session
   pub inbox : y.inbox ≡ []
   pub outbox : y.outbox ≡ []
 
@@ -62,7 +62,7 @@ future cat y more = y.outbox ++ flat_map spelling (run_frames cat y.session (cli
 -- its own answers.
 abbrev pub LeasesAreExact : Type 0
 LeasesAreExact = (w : World) → Reached w → (c l : ℕ) → (w.clients c).phase ≡ Served l → (w.links l).alive ≡ true
-    → ((w.clients c).out ++ (w.clients c).for_client) ++ future (w.catalogue (place_of (w.links l).key)) (w.links l) ((w.clients c).for_link ++ (w.clients c).unread) ≡ joined_pieces (own w (w.clients c))
+    → ((w.clients c).out ++ (w.clients c).for_client) ++ future (w.catalogue (address_of (w.links l).key)) (w.links l) ((w.clients c).for_link ++ (w.clients c).unread) ≡ joined_pieces (own w (w.clients c))
 
 -- between a client and its link nothing is under way
 pub record IsQuiet (x : Client) (y : Link) : Type 0 where

@@ -8,7 +8,7 @@ use Rattle.frame_view.specs.Frames.{FrameOf, IsFrame, spelling}
 use Rattle.message_view.specs.declared.KeyWord.{KeyWord}
 use Rattle.message_view.specs.Refusals.{joined_pieces}
 use Rattle.session_values.specs.declared.cause.Cause.{Cause}
-use Rattle.session_values.specs.State.{State, CatalogueOf, StartKeyOf, fresh}
+use Rattle.session_values.specs.State.{State, CatalogueOf, StartKeyOf, fresh, Address, address_of}
 use Rattle.session_values.specs.Lawful.{IsLawfulCatalogue}
 use Rattle.session_values.specs.Step.{run_frames}
 use Rattle.session_values.specs.Service.{welcome, client_frames, served}
@@ -20,6 +20,7 @@ use Rattle.link_laws.proofs.Splits.{SplitsOff, split_whole}
 use Rattle.login_core.specs.Talk.{End}
 use Rattle.login_core.specs.Talk.End.{Passed}
 use Rattle.login_core.specs.Dialogue.{Way, Reason, ToLink, login}
+use Rattle.login_core.specs.Solo.{solo_in, after_in}
 use Rattle.world_steps.specs.Clients.MayWrite.{logging_in, waiting, starting, served as may_served}
 use Rattle.world_steps.specs.Clients.AtBorder.{in_login, past_login}
 use Rattle.world_steps.specs.Clients.Phase.{Absent, LoggingIn, Waiting, Starting, Served, Finishing, Refusing, Closed}
@@ -30,28 +31,27 @@ use Rattle.world_steps.proofs.Service.{service_sends}
 use Rattle.frame_view.specs.declared.frames.TheConstants.{LONGEST_FRAME}
 use Rattle.world_steps.proofs.Changes.{sends_bytes}
 use Rattle.world_steps.specs.Clients.{Client, Phase, MayWrite, AtBorder}
-use Rattle.world_steps.specs.Links.{Place, place_of, Link, Role}
+use Rattle.world_steps.specs.Links.{Link, Role}
 use Rattle.world_steps.specs.Relation.{IsFront, IsLent, RoleFits, InLogin, InQueue, InService, IsTold, IsOver, PhaseFits}
-use Rattle.world_steps.specs.Worlds.{solo_in, after_in}
 
 pub fresh_one : {a b : State} → ◌≡◌ {A = Result State Cause} (Ok a) (Ok b) → a ≡ b
 fresh_one e = cc
 
-module _ (catalogue : Place → CatalogueOf) where
+module _ (catalogue : Address → CatalogueOf) where
   -- the service of a client that has passed
-  pub after_passed : (word : KeyWord) (o : End Way Reason) (key : StartKeyOf) (left : List ℕ) (s : State) → o ≡ Passed (ToLink key) left → fresh (catalogue (place_of key)) key ≡ Ok s →
-      after_in catalogue word o ≡ map spelling (welcome s word.pid word.secret ++ (run_frames (catalogue (place_of key)) s (client_frames left)).replies)
+  pub after_passed : (word : KeyWord) (o : End Way Reason) (key : StartKeyOf) (left : List ℕ) (s : State) → o ≡ Passed (ToLink key) left → fresh (catalogue (address_of key)) key ≡ Ok s →
+      after_in catalogue word o ≡ map spelling (welcome s word.pid word.secret ++ (run_frames (catalogue (address_of key)) s (client_frames left)).replies)
   after_passed word o key left s e f =
-      ap (after_in catalogue word) e ∙ ap (λ (r : Result State Cause). map spelling (served (catalogue (place_of key)) r word.pid word.secret (client_frames left))) f
+      ap (after_in catalogue word) e ∙ ap (λ (r : Result State Cause). map spelling (served (catalogue (address_of key)) r word.pid word.secret (client_frames left))) f
 
   -- what it was given is told by the login alone
   pub told_login : (x : Client) → IsFront (x.out ++ x.for_client) (joined_pieces (login x.row x.word x.sent).pieces) → x.refusal ≡ [] → IsTold catalogue x
   told_login x f q = record { frames = []; are_frames = tt; first = front_nil _; told = front_trans f (front_of (sym (append-nil (joined_pieces (login x.row x.word x.sent).pieces)))); quiet = q }
 
   -- a client with its link: the frames of its service so far are the welcome and the replies to what its server took
-  pub told_service : (lawful : (place : Place) → IsLawfulCatalogue (catalogue place)) (x : Client) (y : Link) → InService (catalogue (place_of y.key)) x y → IsLent (catalogue (place_of y.key)) y → IsTold catalogue x
+  pub told_service : (lawful : (address : Address) → IsLawfulCatalogue (catalogue address)) (x : Client) (y : Link) → InService (catalogue (address_of y.key)) x y → IsLent (catalogue (address_of y.key)) y → IsTold catalogue x
   told_service lawful x y h k =
-      let cat : CatalogueOf = catalogue (place_of y.key) in
+      let cat : CatalogueOf = catalogue (address_of y.key) in
       let same : k.base ≡ h.base = fresh_one (sym k.is_fresh ∙ h.is_fresh) in
       let r = k.runs in
       let more : List ℕ = x.for_link ++ x.unread in
@@ -60,7 +60,7 @@ module _ (catalogue : Place → CatalogueOf) where
       let left : y.sent ++ more ≡ flat_map spelling r.taken ++ (y.inbox ++ more) = ap (λ (l : List ℕ). l ++ more) r.sent_is ∙ append_assoc (flat_map spelling r.taken) y.inbox more in
       let fronts : IsFront r.taken (client_frames (y.sent ++ more)) =
       record { rest = client_frames (y.inbox ++ more); is = sym (frames_after r.taken (y.inbox ++ more) r.are_sent) ∙ ap client_frames (sym left) } in
-      let reached : Reaches cat y.key k.base = fresh_is_reached cat y.key k.base (lawful (place_of y.key)) k.lawful_key k.is_fresh in
+      let reached : Reaches cat y.key k.base = fresh_is_reached cat y.key k.base (lawful (address_of y.key)) k.lawful_key k.is_fresh in
       record {
         frames = hello ++ said;
         are_frames = all-append (IsFrame Server LONGEST_FRAME) hello said (welcome_is_frames cat y.key k.base x.word.pid x.word.secret reached) (run_replies_are_frames cat y.key k.base r.taken reached r.are_sent);
@@ -89,7 +89,7 @@ module _ (catalogue : Place → CatalogueOf) where
   queue_told : (key : StartKeyOf) (x : Client) → InQueue key x → IsTold catalogue x
   queue_told key x h = told_login x (front_of h.told) h.quiet
 
-  module _ (links : ℕ → Link) (lawful : (place : Place) → IsLawfulCatalogue (catalogue place)) (all : (l : ℕ) → RoleFits catalogue (links l).role (links l)) (c : ℕ) where
+  module _ (links : ℕ → Link) (lawful : (address : Address) → IsLawfulCatalogue (catalogue address)) (all : (l : ℕ) → RoleFits catalogue (links l).role (links l)) (c : ℕ) where
     pub phase_told : (phase : Phase) (x : Client) → MayWrite phase → PhaseFits catalogue links c phase x → IsTold catalogue x
     phase_told (LoggingIn read) x m h = login_told read x h
     phase_told (Waiting key) x m h = queue_told key x h

@@ -1,16 +1,16 @@
 -- The parts of the relation under a change of one client, one link, or both.
 use Rattle.std.proofs.Common.{◌≡◌, ◌≢◌, ℕ, sym, ◌∙◌, subst, Some}
-use Rattle.session_values.specs.State.{CatalogueOf, StartKeyOf}
+use Rattle.session_values.specs.State.{CatalogueOf, StartKeyOf, Address}
 use Rattle.world_steps.specs.Clients.Phase.{Served, Starting}
 use Rattle.world_steps.specs.Links.Role.{Unborn, Promised, Lent, Idle}
 use Rattle.world_steps.proofs.Put.{put_case, put_all, after_link, IsServed}
 use Rattle.world_steps.specs.Clients.{Client}
-use Rattle.world_steps.specs.Links.{Place, Link, Role}
+use Rattle.world_steps.specs.Links.{Link, Role}
 use Rattle.world_steps.specs.Relation.{PhaseFits, RoleFits, TicketFits, Related}
 use Rattle.world_steps.specs.Worlds.{World, put, with_client, with_link, with_pair}
 
 -- the links' part, the clients' part and the tickets' part
-pub links_put : (catalogue : Place → CatalogueOf) (links : ℕ → Link) (l : ℕ) (y : Link) → RoleFits catalogue y.role y → ((i : ℕ) → RoleFits catalogue (links i).role (links i)) → (i : ℕ) → RoleFits catalogue (put links l y i).role (put links l y i)
+pub links_put : (catalogue : Address → CatalogueOf) (links : ℕ → Link) (l : ℕ) (y : Link) → RoleFits catalogue y.role y → ((i : ℕ) → RoleFits catalogue (links i).role (links i)) → (i : ℕ) → RoleFits catalogue (put links l y i).role (put links l y i)
 links_put catalogue links l y h all i = put_all (λ i z. RoleFits catalogue z.role z) links l y h (λ i _. all i) i
 
 -- no other client has the link

@@ -1,10 +1,10 @@
 -- What a change of one client or one link leaves of the facts on the others.
 use Rattle.std.proofs.Common.{◌≡◌, ◌≢◌, ℕ, Bool, true, false, refl, sym, ap, ◌∙◌, subst, nat_eq, ◌==◌, if◌then◌else◌, eqb-true, eq-eqb}
-use Rattle.session_values.specs.State.{CatalogueOf, StartKeyOf}
+use Rattle.session_values.specs.State.{CatalogueOf, StartKeyOf, Address, address_of}
 use Rattle.world_steps.specs.Clients.Phase.{Absent, LoggingIn, Waiting, Starting, Served, Finishing, Refusing, Closed}
 use Rattle.world_steps.specs.Links.Role.{Lent, Promised}
 use Rattle.world_steps.specs.Clients.{Client, Phase}
-use Rattle.world_steps.specs.Links.{Place, place_of, Link}
+use Rattle.world_steps.specs.Links.{Link}
 use Rattle.world_steps.specs.Relation.{PhaseFits, InService}
 use Rattle.world_steps.specs.Worlds.{put}
 
@@ -27,11 +27,11 @@ pub put_all : {A : Type 0} (P : ℕ → A → Type 0) (f : ℕ → A) (k : ℕ) 
 put_all {A} P f k x here there i = put_case (P i) f k x i (λ e. subst (λ j. P j x) (sym e) here) (there i)
 
 -- a client served over a link, which is lent to it
-abbrev pub IsServed : (Place → CatalogueOf) → ℕ → Client → Link → Type 0
-IsServed catalogue c x y = InService (catalogue (place_of y.key)) x y × (y.role ≡ Lent c)
+abbrev pub IsServed : (Address → CatalogueOf) → ℕ → Client → Link → Type 0
+IsServed catalogue c x y = InService (catalogue (address_of y.key)) x y × (y.role ≡ Lent c)
 
 -- a link changes that the client does not have, or in a way that keeps what is known of the two
-pub after_link : (catalogue : Place → CatalogueOf) (links : ℕ → Link) (l : ℕ) (y : Link) (c : ℕ) (phase : Phase) (x : Client) →
+pub after_link : (catalogue : Address → CatalogueOf) (links : ℕ → Link) (l : ℕ) (y : Link) (c : ℕ) (phase : Phase) (x : Client) →
     (phase ≡ Served l → IsServed catalogue c x (links l) → IsServed catalogue c x y) →
     ((key : StartKeyOf) → phase ≡ Starting key l → (links l).role ≡ Promised c → y.role ≡ Promised c) →
     PhaseFits catalogue links c phase x → PhaseFits catalogue (put links l y) c phase x

@@ -2,14 +2,14 @@
 use Rattle.std.proofs.Common.{◌≡◌, ℕ, true, false, List, [], ◌∷◌, ◌++◌, refl, sym, ap, ◌∙◌, append_assoc, append-nil}
 use Rattle.std.specs.List.{flat_map}
 use Rattle.frame_view.specs.Frames.{FrameOf, spelling}
-use Rattle.session_values.specs.State.{State, CatalogueOf}
+use Rattle.session_values.specs.State.{State, CatalogueOf, Address, address_of}
 use Rattle.session_values.specs.Step.{step, run_frames}
 use Rattle.session_laws.specs.Laws.{IsSent}
 use Rattle.session_values.proofs.Alls.{all-append}
 use Rattle.world_steps.specs.Links.Role.{Unborn, Promised, Lent, InReset, Clean, Idle, Gone}
 use Rattle.world_steps.proofs.Fronts.{front_is, front_of, front_under, front_trans, next-append, replies-append, spelled-append}
 use Rattle.world_steps.proofs.Changes.{link_gets, link_gives, answers, dies}
-use Rattle.world_steps.specs.Links.{Place, place_of, Link, Role}
+use Rattle.world_steps.specs.Links.{Link, Role}
 use Rattle.world_steps.specs.Relation.{Runs, IsClean, RoleFits}
 
 -- what came over the link and what is in the outbox are together what they were
@@ -94,9 +94,9 @@ front_of_nil : (xs ys : List ℕ) → [] ≡ xs ++ ys → xs ≡ []
 front_of_nil [] ys e = refl
 front_of_nil (x ∷ xs) ys e = cc
 
-module _ (catalogue : Place → CatalogueOf) where
+module _ (catalogue : Address → CatalogueOf) where
   -- a link in any role keeps what is known of it when its server answers or dies
-  pub role_answers : (role : Role) (y : Link) (f : FrameOf) (rest : List ℕ) → y.alive ≡ true → IsSent f → y.inbox ≡ spelling f ++ rest → RoleFits catalogue role y → RoleFits catalogue role (answers (catalogue (place_of y.key)) y f rest)
+  pub role_answers : (role : Role) (y : Link) (f : FrameOf) (rest : List ℕ) → y.alive ≡ true → IsSent f → y.inbox ≡ spelling f ++ rest → RoleFits catalogue role y → RoleFits catalogue role (answers (catalogue (address_of y.key)) y f rest)
   role_answers Unborn y f rest live is e h = tt
   role_answers (Promised c) y f rest live is e h = tt
   role_answers (Lent c) y f rest live is e h = record { base = h.base; is_fresh = h.is_fresh; lawful_key = h.lawful_key; runs = runs_answers f rest live is e h.runs }

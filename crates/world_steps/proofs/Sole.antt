@@ -8,19 +8,18 @@ use Rattle.message_view.specs.declared.KeyWord.{KeyWord}
 use Rattle.message_view.specs.Refusals.{Allowed}
 use Rattle.session_values.specs.declared.cause.Cause.{Cause}
 use Rattle.session_values.specs.Errors.{fatal}
-use Rattle.session_values.specs.State.{State, CatalogueOf, fresh}
+use Rattle.session_values.specs.State.{State, CatalogueOf, fresh, Address, address_of}
 use Rattle.session_values.specs.Step.{run_frames}
 use Rattle.session_values.specs.Service.{welcome, client_frames, served}
 use Rattle.session_laws.specs.Laws.{IsSent}
 use Rattle.login_core.specs.Talk.{End}
 use Rattle.login_core.specs.Talk.End.{Unfinished, Passed, Stopped}
 use Rattle.login_core.specs.Dialogue.{LoginRow, Way, ToLink, ToConsole, Reason, login}
+use Rattle.login_core.specs.Solo.{solo_in, after_in}
 use Rattle.world_steps.proofs.Fronts.{front_refl, front_append, front_trans, front_under, front_of, front_joined, front_frames, replies-append}
 use Rattle.world_steps.proofs.Logins.{login_front, login_passed, login_stopped}
 use Rattle.frame_view.specs.declared.frames.TheConstants.{LONGEST_FRAME}
-use Rattle.world_steps.specs.Links.{Place, place_of}
 use Rattle.world_steps.specs.Relation.{IsFront}
-use Rattle.world_steps.specs.Worlds.{solo_in, after_in}
 
 pub all_client : (fs : List FrameOf) → AllByRecursion IsSent fs → AllByRecursion (IsFrame Client LONGEST_FRAME) fs
 all_client [] h = tt
@@ -43,10 +42,10 @@ served_front : (cat : CatalogueOf) (st : Result State Cause) (word : KeyWord) (a
 served_front cat (Ok s) word a b = front_under (welcome s word.pid word.secret) (replies_front cat s (frames_front a b))
 served_front cat (Err cause) word a b = front_refl (fatal cause ∷ [])
 
-module _ (catalogue : Place → CatalogueOf) where
+module _ (catalogue : Address → CatalogueOf) where
   way_front : (word : KeyWord) (way : Way) (left more : List ℕ) → IsFront (after_in catalogue word (Passed way left)) (after_in catalogue word (Passed way (left ++ more)))
   way_front word (ToLink key) left more =
-      let cat : CatalogueOf = catalogue (place_of key) in front_frames (served_front cat (fresh cat key) word left more)
+      let cat : CatalogueOf = catalogue (address_of key) in front_frames (served_front cat (fresh cat key) word left more)
   way_front word ToConsole left more = front_refl []
 
   -- the login's pieces and what follows are a front of those for more bytes, or the login isn't done

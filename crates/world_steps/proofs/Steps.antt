@@ -4,7 +4,7 @@ use Rattle.frame_view.specs.Frames.{FrameOf, spelling}
 use Rattle.message_view.specs.declared.KeyWord.{KeyWord}
 use Rattle.message_view.specs.declared.refusal.Refusal.{Refusal}
 use Rattle.message_view.specs.Refusals.{joined_pieces, refusal}
-use Rattle.session_values.specs.State.{CatalogueOf, StartKeyOf}
+use Rattle.session_values.specs.State.{CatalogueOf, StartKeyOf, Address, address_of}
 use Rattle.session_laws.specs.Laws.{IsSent}
 use Rattle.start_key_laws.specs.StartKeys.{IsLawfulRow}
 use Rattle.login_keys.proofs.ByName.{passed_keys_are_link_keys}
@@ -22,7 +22,7 @@ use Rattle.world_steps.proofs.Clients.{phase_told, phase_over, phase_sends, bord
 use Rattle.world_steps.proofs.Keeps.{SameNumber, kept_number, change_client, change_link, change_pair, alone_lent}
 use Rattle.world_steps.proofs.Changes.{sends_bytes, has_read, has_passed, in_phase, took_in, took_out, forwarded, link_gets, link_gives, holds_more, begins_refusal, refused_more, answers, dies}
 use Rattle.world_steps.specs.Clients.{Client, Phase, newcomer, MayWrite, AtBorder}
-use Rattle.world_steps.specs.Links.{Place, place_of, Link, Role}
+use Rattle.world_steps.specs.Links.{Link, Role}
 use Rattle.world_steps.specs.Relation.{RoleFits, PhaseFits, TicketFits, Related, IsTold}
 use Rattle.world_steps.specs.Worlds.{World, put, with_client, with_link, with_pair}
 use Rattle.world_steps.specs.Laws.{ByteStepsKeep, ClientStepsKeep, EndStepsKeep}
@@ -140,7 +140,7 @@ step_from_link w c l bytes rest r e u =
     (kept_number _ _ refl)
     (λ key t. t) (λ i. (i, refl)) (λ i. i)
 
-phase_gives : (catalogue : Place → CatalogueOf) (links : ℕ → Link) (c : ℕ) (phase : Phase) (x : Client) (bytes rest : List ℕ) → MayWrite phase → x.for_client ≡ bytes ++ rest → PhaseFits catalogue links c phase x → PhaseFits catalogue links c phase (took_out x bytes rest)
+phase_gives : (catalogue : Address → CatalogueOf) (links : ℕ → Link) (c : ℕ) (phase : Phase) (x : Client) (bytes rest : List ℕ) → MayWrite phase → x.for_client ≡ bytes ++ rest → PhaseFits catalogue links c phase x → PhaseFits catalogue links c phase (took_out x bytes rest)
 phase_gives catalogue links c (LoggingIn read) x bytes rest m u h = record { lawful_row = h.lawful_row; sent_is = h.sent_is; told = gives_out x.out x.for_client bytes rest _ u h.told; quiet = h.quiet }
 phase_gives catalogue links c (Waiting key) x bytes rest m u h = record { lawful_key = h.lawful_key; passed = h.passed; told = gives_out x.out x.for_client bytes rest _ u h.told; quiet = h.quiet }
 phase_gives catalogue links c (Starting key l) x bytes rest m u h = (record { lawful_key = h.0.lawful_key; passed = h.0.passed; told = gives_out x.out x.for_client bytes rest _ u h.0.told; quiet = h.0.quiet }, h.1)
@@ -195,9 +195,9 @@ step_closes w c r =
 -- ---- a server
 
 pub step_server_answers : (w : World) (l : ℕ) (f : FrameOf) (rest : List ℕ) → Related w → (w.links l).alive ≡ true → IsSent f → (w.links l).inbox ≡ spelling f ++ rest →
-    Related (with_link w l (answers (w.catalogue (place_of (w.links l).key)) (w.links l) f rest))
+    Related (with_link w l (answers (w.catalogue (address_of (w.links l).key)) (w.links l) f rest))
 step_server_answers w l f rest r live is e =
-    change_link w l (answers (w.catalogue (place_of (w.links l).key)) (w.links l) f rest) r (role_answers w.catalogue (w.links l).role (w.links l) f rest live is e (r.links l))
+    change_link w l (answers (w.catalogue (address_of (w.links l).key)) (w.links l) f rest) r (role_answers w.catalogue (w.links l).role (w.links l) f rest live is e (r.links l))
     (λ c p h. (record { base = h.0.base; is_fresh = h.0.is_fresh; passed = h.0.passed; told = h.0.told; quiet = h.0.quiet }, h.1))
     (λ c key p k. k) (λ i. (i, refl)) (λ i. i)
 

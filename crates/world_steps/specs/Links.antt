@@ -1,5 +1,5 @@
 -- A link and the server behind it, and when the traffic over it is settled.
-use Rattle.std.specs.Prelude.{◌≡◌, ◌⊎◌, ℕ, Bool, true, List, [], ◌∷◌, Option}
+use Rattle.std.specs.Prelude.{◌≡◌, ◌⊎◌, ℕ, Bool, true, List, [], ◌∷◌}
 use Rattle.std.specs.List.{flat_map, AllByRecursion}
 use Rattle.frame_view.specs.declared.Side.{Side}
 use Rattle.frame_view.specs.declared.Side.TheVariants.{Client, Server}
@@ -36,16 +36,6 @@ pub record Link : Type 0 where
 -- the link of a server that has just opened this session for a client
 abbrev pub newborn : ℕ → StartKeyOf → State → Link
 newborn c key s = record { role = Lent c; key = key; alive = true; session = s; inbox = []; outbox = []; sent = []; received = [] }
-
--- where a key's servers are
-pub record Place : Type 0 where
-  pub row : List ℕ
-  pub host : Option (List ℕ)
-  pub port : ℕ
-  pub dbname : List ℕ
-
-abbrev pub place_of : StartKeyOf → Place
-place_of key = record { row = key.row; host = key.host; port = key.port; dbname = key.dbname }
 
 -- the bytes are these frames, and no part of one more
 pub record AreTheFrames (side : Side) (bytes : List ℕ) (frames : List FrameOf) : Type 0 where

@@ -7,19 +7,20 @@ use Rattle.frame_view.specs.Frames.{FrameOf, IsFrame, spelling}
 use Rattle.message_view.specs.declared.refusal.Refusal.{Refusal}
 use Rattle.message_view.specs.Refusals.{Allowed, joined_pieces, refusal}
 use Rattle.session_values.specs.Lawful.{IsLawfulCatalogue, IsLawfulKey}
-use Rattle.session_values.specs.State.{State, CatalogueOf, StartKeyOf, fresh}
+use Rattle.session_values.specs.State.{State, CatalogueOf, StartKeyOf, fresh, Address, address_of}
 use Rattle.session_values.specs.Step.{run_frames}
 use Rattle.session_values.specs.Service.{welcome}
 use Rattle.session_laws.specs.Laws.{IsSent, IsAtRest, Reaches}
 use Rattle.start_key_laws.specs.StartKeys.{IsLawfulRow}
 use Rattle.login_core.specs.Talk.End.{Passed}
 use Rattle.login_core.specs.Dialogue.{ToLink, login}
+use Rattle.login_core.specs.Solo.{after_in, solo_in}
 use Rattle.book_lists.specs.Laws.{HasLink, HasTicket}
 use Rattle.world_steps.specs.Clients.{Client, Phase}
 use Rattle.world_steps.specs.Clients.Phase.{Absent, LoggingIn, Waiting, Starting, Served, Finishing, Refusing, Closed}
-use Rattle.world_steps.specs.Links.{Link, Place, Role, place_of}
+use Rattle.world_steps.specs.Links.{Link, Role}
 use Rattle.world_steps.specs.Links.Role.{Unborn, Promised, Lent, InReset, Clean, Idle, Gone}
-use Rattle.world_steps.specs.Worlds.{World, after_in, solo_in}
+use Rattle.world_steps.specs.Worlds.{World}
 
 -- a beginning of a list, possibly empty or the whole
 pub record IsFront {A : Type 0} (xs ys : List A) : Type 0 where
@@ -61,13 +62,13 @@ pub record IsClean (cat : CatalogueOf) (y : Link) : Type 0 where
   pub sent : y.sent ≡ []
   pub received : y.received ≡ []
 
-abbrev pub RoleFits : (Place → CatalogueOf) → Role → Link → Type 0
+abbrev pub RoleFits : (Address → CatalogueOf) → Role → Link → Type 0
 RoleFits catalogue Unborn y = Unit {0}
 RoleFits catalogue (Promised c) y = Unit {0}
-RoleFits catalogue (Lent c) y = IsLent (catalogue (place_of y.key)) y
-RoleFits catalogue InReset y = IsInReset (catalogue (place_of y.key)) y
-RoleFits catalogue Clean y = IsClean (catalogue (place_of y.key)) y
-RoleFits catalogue Idle y = IsClean (catalogue (place_of y.key)) y
+RoleFits catalogue (Lent c) y = IsLent (catalogue (address_of y.key)) y
+RoleFits catalogue InReset y = IsInReset (catalogue (address_of y.key)) y
+RoleFits catalogue Clean y = IsClean (catalogue (address_of y.key)) y
+RoleFits catalogue Idle y = IsClean (catalogue (address_of y.key)) y
 RoleFits catalogue Gone y = Unit {0}
 
 -- ---- clients
@@ -94,31 +95,31 @@ pub record InService (cat : CatalogueOf) (x : Client) (y : Link) : Type 0 where
   pub quiet : x.refusal ≡ []
 
 -- all that it was given and that is held for it begins its login's pieces and some first frames of its service
-pub record IsTold (catalogue : Place → CatalogueOf) (x : Client) : Type 0 where
+pub record IsTold (catalogue : Address → CatalogueOf) (x : Client) : Type 0 where
   pub frames : List FrameOf
   pub are_frames : AllByRecursion (IsFrame Server LONGEST_FRAME) frames
   pub first : IsFront (map spelling frames) (after_in catalogue x.word (login x.row x.word x.sent).ended)
   pub told : IsFront (x.out ++ x.for_client) (joined_pieces (login x.row x.word x.sent).pieces ++ flat_map spelling frames)
   pub quiet : x.refusal ≡ []
 
-pub record InRefusal (catalogue : Place → CatalogueOf) (left : List ℕ) (x : Client) : Type 0 where
+pub record InRefusal (catalogue : Address → CatalogueOf) (left : List ℕ) (x : Client) : Type 0 where
   pub pieces : List (List ℕ)
   pub first : IsFront pieces (solo_in catalogue x.row x.word x.sent)
   pub out_is : x.out ≡ joined_pieces pieces
   pub cause : Refusal
   pub text_is : x.refusal ++ left ≡ refusal cause
 
-pub record IsOver (catalogue : Place → CatalogueOf) (x : Client) : Type 0 where
+pub record IsOver (catalogue : Address → CatalogueOf) (x : Client) : Type 0 where
   pub out_front : IsFront x.out (joined_pieces (solo_in catalogue x.row x.word x.sent))
   pub allowed : Allowed (x.out ++ x.refusal) (solo_in catalogue x.row x.word x.sent)
 
 -- the client's phase, and the role of its link, which names it
-abbrev pub PhaseFits : (Place → CatalogueOf) → (ℕ → Link) → ℕ → Phase → Client → Type 0
+abbrev pub PhaseFits : (Address → CatalogueOf) → (ℕ → Link) → ℕ → Phase → Client → Type 0
 PhaseFits catalogue links c Absent x = (x.out ≡ []) × (x.refusal ≡ [])
 PhaseFits catalogue links c (LoggingIn read) x = InLogin read x
 PhaseFits catalogue links c (Waiting key) x = InQueue key x
 PhaseFits catalogue links c (Starting key l) x = InQueue key x × ((links l).role ≡ Promised c)
-PhaseFits catalogue links c (Served l) x = InService (catalogue (place_of (links l).key)) x (links l) × ((links l).role ≡ Lent c)
+PhaseFits catalogue links c (Served l) x = InService (catalogue (address_of (links l).key)) x (links l) × ((links l).role ≡ Lent c)
 PhaseFits catalogue links c Finishing x = IsTold catalogue x
 PhaseFits catalogue links c (Refusing left) x = InRefusal catalogue left x
 PhaseFits catalogue links c Closed x = IsOver catalogue x
@@ -137,7 +138,7 @@ TicketFits key (Refusing left) = Unit {0}
 TicketFits key Closed = Unit {0}
 
 pub record Related (w : World) : Type 0 where
-  pub lawful : (place : Place) → IsLawfulCatalogue (w.catalogue place)
+  pub lawful : (address : Address) → IsLawfulCatalogue (w.catalogue address)
   pub clients : (c : ℕ) → PhaseFits w.catalogue w.links c (w.clients c).phase (w.clients c)
   pub links : (l : ℕ) → RoleFits w.catalogue (w.links l).role (w.links l)
   -- the book's idle links are the world's, and links not yet numbered are unborn

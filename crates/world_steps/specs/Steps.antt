@@ -8,7 +8,7 @@ use Rattle.message_view.specs.Refusals.{joined_pieces, refusal}
 use Rattle.session_values.specs.declared.cause.Cause.{Cause}
 use Rattle.session_values.specs.Errors.{fatal}
 use Rattle.session_values.specs.Lawful.{IsLawfulCatalogue}
-use Rattle.session_values.specs.State.{State, StartKeyOf, CatalogueOf, fresh}
+use Rattle.session_values.specs.State.{State, StartKeyOf, CatalogueOf, fresh, Address, address_of}
 use Rattle.session_values.specs.Step.{step}
 use Rattle.session_values.specs.Service.{welcome}
 use Rattle.session_laws.specs.Laws.{IsSent, discard_all}
@@ -23,7 +23,7 @@ use Rattle.book_lists.specs.declared.events.Reply.TheVariants.{Arrived, Lend, St
 use Rattle.book_lists.specs.Laws.{IsPlain}
 use Rattle.world_steps.specs.Clients.{AtBorder, Client, HasEnded, MayWrite, newcomer}
 use Rattle.world_steps.specs.Clients.Phase.{Absent, LoggingIn, Waiting, Starting, Served, Finishing, Refusing, Closed}
-use Rattle.world_steps.specs.Links.{IsReset, IsSettled, Link, Place, Role, newborn, place_of}
+use Rattle.world_steps.specs.Links.{IsReset, IsSettled, Link, Role, newborn}
 use Rattle.world_steps.specs.Links.Role.{Unborn, Promised, Lent, InReset, Clean, Idle, Gone}
 use Rattle.world_steps.specs.Worlds.{World, with_book, with_client, with_link, with_pair}
 
@@ -76,7 +76,7 @@ pub data BookStep (w : World) : World → Type 0 where
       Waits (w.clients c) key n → Gives (apply w.book (Ask n key)) r b →
       BookStep w (with_book w b)
   is_lent : (c n l : ℕ) (key : StartKeyOf) (s : State) (b : Book) →
-      Waits (w.clients c) key n → Gives (apply w.book (Take n)) (Lend l) b → fresh (w.catalogue (place_of key)) key ≡ Ok s →
+      Waits (w.clients c) key n → Gives (apply w.book (Take n)) (Lend l) b → fresh (w.catalogue (address_of key)) key ≡ Ok s →
       BookStep w (with_book (with_pair w c (gets_link (w.clients c) l s) l (record (w.links l) { role = Lent c })) b)
   is_promised : (c n l born : ℕ) (key : StartKeyOf) (b : Book) →
       Waits (w.clients c) key n → Gives (apply w.book (Take n)) (Start l born None) b →
@@ -122,7 +122,7 @@ pub data LinkBytes (cat : CatalogueOf) (y : Link) : Link → Type 0 where
 pub data ByteStep (w : World) : World → Type 0 where
   by_client : (c : ℕ) {x : Client} → ClientBytes (w.clients c) x → ByteStep w (with_client w c x)
   by_lease : (c l : ℕ) {x : Client} {y : Link} → (w.clients c).phase ≡ Served l → LeaseBytes (w.clients c) (w.links l) x y → ByteStep w (with_pair w c x l y)
-  by_link : (l : ℕ) {y : Link} → LinkBytes (w.catalogue (place_of (w.links l).key)) (w.links l) y → ByteStep w (with_link w l y)
+  by_link : (l : ℕ) {y : Link} → LinkBytes (w.catalogue (address_of (w.links l).key)) (w.links l) y → ByteStep w (with_link w l y)
 
 -- ---- starts, returns, ends of resets, and links thrown away
 
@@ -133,10 +133,10 @@ pub data IsInHand : Role → Type 0 where
 
 pub data LinkStep (w : World) : World → Type 0 where
   starts : (c l : ℕ) (key : StartKeyOf) (s : State) →
-      (w.clients c).phase ≡ Starting key l → fresh (w.catalogue (place_of key)) key ≡ Ok s →
+      (w.clients c).phase ≡ Starting key l → fresh (w.catalogue (address_of key)) key ≡ Ok s →
       LinkStep w (with_pair w c (gets_link (w.clients c) l s) l (newborn c key s))
   start_fails : (c l : ℕ) (key : StartKeyOf) (cause : Cause) →
-      (w.clients c).phase ≡ Starting key l → fresh (w.catalogue (place_of key)) key ≡ Err cause →
+      (w.clients c).phase ≡ Starting key l → fresh (w.catalogue (address_of key)) key ≡ Err cause →
       LinkStep w (with_pair w c (record (w.clients c) { phase = Finishing; for_client = (w.clients c).for_client ++ spelling (fatal cause) }) l (record (w.links l) { role = Gone }))
   returns_unused : (c l : ℕ) →
       (w.links l).role ≡ Lent c → HasEnded (w.clients c).phase → (w.links l).sent ≡ [] → (w.links l).received ≡ [] →
@@ -174,7 +174,7 @@ pub data Step (w v : World) : Type 0 where
 
 -- a world without clients and links, over lawful catalogues
 pub record IsEmpty (w : World) (limits : Limits) : Type 0 where
-  pub lawful : (place : Place) → IsLawfulCatalogue (w.catalogue place)
+  pub lawful : (address : Address) → IsLawfulCatalogue (w.catalogue address)
   pub absent : (c : ℕ) → (w.clients c).phase ≡ Absent
   pub unnumbered : (c : ℕ) → (w.clients c).number ≡ None
   pub given_nothing : (c : ℕ) → ((w.clients c).out ≡ []) × ((w.clients c).refusal ≡ [])
