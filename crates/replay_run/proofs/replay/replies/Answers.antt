@@ -1,5 +1,5 @@
-use Rattle.pool_app.proofs.Replaying.{all_given, standing_keyed}
-use Rattle.pool_app.proofs.replay.replies.Goals as goal
+use Rattle.replay_run.proofs.Replaying.{all_given, standing_keyed}
+use Rattle.replay_run.proofs.replay.replies.Goals as goal
 
 pub put_login-requires-clause-keyed : goal.put_login-requires-clause-keyed
 put_login-requires-clause-keyed c = standing_keyed c.settings_rows_are_lawful.ensures c.passed_keys_are_link_keys.ensures _ c.args.bytes.now c.in_ok-login.ensures

@@ -1,10 +1,10 @@
 use Rattle.std.proofs.Common.{sym, subst, ap, arith, length, length-drop, List, ℕ}
 use Rattle.std.specs.Arc.{arc_value}
 use Rattle.server_end.proofs.Ends.{all_of}
-use Rattle.pool_app.specs.Told.{Adds, IsKeyed, silence}
+use Rattle.replay_run.specs.Told.{Adds, IsKeyed, silence}
 use Rattle.login_core.specs.Logins.{after, goes_on}
-use Rattle.pool_app.proofs.Replaying.{given_last, given_on, key_of_step, keyed_on, missing_on, nothing_given, on_ok}
-use Rattle.pool_app.proofs.replay.+put_login.Goals as goal
+use Rattle.replay_run.proofs.Replaying.{given_last, given_on, key_of_step, keyed_on, missing_on, nothing_given, on_ok}
+use Rattle.replay_run.proofs.replay.+put_login.Goals as goal
 
 pub returns-then-is_empty : goal.returns-then-is_empty
 returns-then-is_empty t c = nothing_given (arc_value c.args.service.now.catalogue) c.args.login.now c.args.bytes.now c.args.out.now.items c.requires.missing c.if-is_empty.ensures

@@ -1,6 +1,6 @@
 use Rattle.std.proofs.Common.{◌∙◌, ap, ◌++◌, List, ℕ}
-use Rattle.pool_app.proofs.Replaying.{passed_given}
-use Rattle.pool_app.proofs.replay.put_passed.Goals as goal
+use Rattle.replay_run.proofs.Replaying.{passed_given}
+use Rattle.replay_run.proofs.replay.put_passed.Goals as goal
 
 pub returns : goal.returns
 returns c = passed_given _ _ c.args.rest.now _ _ _ _ c.in_ok-put_authentication_ok.ensures.0 c.in_ok-answer.ensures

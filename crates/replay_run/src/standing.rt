@@ -1,10 +1,10 @@
 //! The standing settings of `replay`: its settings and users as files have them, its catalogue and its key word.
 ghost use Rattle.std.specs.Prelude.{◌≡◌, IfOk};
-ghost use Rattle.pool_app.specs.Replay.{standing_catalogue, standing_settings, standing_users};
+ghost use Rattle.replay_run.specs.Replay.{standing_catalogue, standing_settings, standing_users};
 
 use ini_config::{Settings, read_settings};
 use message_view::KeyWord;
-use session_machine::Catalogue;
+use server_catalogue::Catalogue;
 use std::alloc::{AllocError, Global};
 use user_file::{Users, read_users};
 

@@ -10,7 +10,7 @@ use Rattle.login_core.specs.Talk.{End}
 use Rattle.login_core.specs.Talk.End.{Unfinished, Passed, Stopped}
 use Rattle.login_core.specs.Dialogue.{Dialogue, Reason, ToConsole, ToLink, Way}
 use Rattle.login_core.specs.Logins.{LoginView, goes_on, after, missing}
-use Rattle.pool_app.specs.Replay.{IsAnswered}
+use Rattle.replay_run.specs.Replay.{IsAnswered}
 
 -- nothing is said, and the login isn't over
 abbrev pub silence : Dialogue

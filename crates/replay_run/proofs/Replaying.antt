@@ -22,8 +22,8 @@ use Rattle.login_keys.specs.Laws.{AreLawfulRows, PassedKeysAreLinkKeys, Settings
 use Rattle.frame_view.specs.declared.frames.TheConstants.{LONGEST_FRAME}
 use Rattle.memory_lease.specs.Answers.{IsAllowed, IsAnswer}
 use Rattle.memory_lease.proofs.Causes.{was_allowed}
-use Rattle.pool_app.specs.Replay.{Follows, IsAnswered, IsReply, WritesReply, standing_catalogue, standing_row, standing_rows, standing_settings, standing_users, standing_word}
-use Rattle.pool_app.specs.Told.{Adds, HasLinkKey, IsKeyed, IsPastArrival, Says, WantsMemory, silence, is_end}
+use Rattle.replay_run.specs.Replay.{Follows, IsAnswered, IsReply, WritesReply, standing_catalogue, standing_row, standing_rows, standing_settings, standing_users, standing_word}
+use Rattle.replay_run.specs.Told.{Adds, HasLinkKey, IsKeyed, IsPastArrival, Says, WantsMemory, silence, is_end}
 
 -- ---- nothing comes
 

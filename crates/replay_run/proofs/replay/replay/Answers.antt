@@ -1,8 +1,8 @@
 use Rattle.std.proofs.Common.{◌≡◌, ◌⊎◌, inl, inr, refl, sym, subst}
 use Rattle.pool_app.specs.declared.fault.AppFault.{AppFault}
 use Rattle.pool_app.specs.declared.fault.AppFault.TheVariants.{Memory, Stdin}
-use Rattle.pool_app.specs.Replay.{IsLeft}
-use Rattle.pool_app.proofs.replay.replay.Goals as goal
+use Rattle.replay_run.specs.Replay.{IsLeft}
+use Rattle.replay_run.proofs.replay.replay.Goals as goal
 
 untouched : {A : Type 0} (x : A) (fault : AppFault) → (fault ≡ Stdin) ⊎ (fault ≡ Memory) → IsLeft x x fault
 untouched x fault (inl is) = subst (IsLeft x x) (sym is) refl

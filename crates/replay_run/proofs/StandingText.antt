@@ -16,8 +16,8 @@ use Rattle.user_file.specs.Fields as user_fields
 use Rattle.server_catalogue.specs.Catalogues.{catalogue_of, fields, said, parts}
 use Rattle.session_values.specs.State.{CatalogueOf}
 use Rattle.server_catalogue.specs.declared.catalogue_fault.CatalogueCause.{CatalogueCause}
-use Rattle.pool_app.specs.declared.standing.TheConstants.{CATALOGUE, SETTINGS, USERS}
-use Rattle.pool_app.specs.Replay.{standing_catalogue, standing_settings, standing_users}
+use Rattle.replay_run.specs.declared.standing.TheConstants.{CATALOGUE, SETTINGS, USERS}
+use Rattle.replay_run.specs.Replay.{standing_catalogue, standing_settings, standing_users}
 
 -- ---- the settings
 

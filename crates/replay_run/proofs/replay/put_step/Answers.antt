@@ -1,6 +1,6 @@
 use Rattle.std.specs.Arc.{arc_value}
-use Rattle.pool_app.proofs.Replaying.{refusal_given, refusal_wants}
-use Rattle.pool_app.proofs.replay.put_step.Goals as goal
+use Rattle.replay_run.proofs.Replaying.{refusal_given, refusal_wants}
+use Rattle.replay_run.proofs.replay.put_step.Goals as goal
 
 pub returns-in-Refused : goal.returns-in-Refused
 returns-in-Refused c = record {

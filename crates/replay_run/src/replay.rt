@@ -12,11 +12,11 @@ ghost use Rattle.login_core.specs.Solo.{service_pieces};
 ghost use Rattle.login_core.specs.Talk.End.{Passed};
 ghost use Rattle.memory_lease.specs.Answers.{IsAnswer};
 ghost use Rattle.pool_app.specs.declared.fault.AppFault.TheVariants as told;
-ghost use Rattle.pool_app.specs.Replay.{IsLeft, IsReply, WritesReply, standing_catalogue, standing_settings, standing_users, standing_word};
-ghost use Rattle.pool_app.specs.Told.{Adds, IsKeyed, IsPastArrival, Says, WantsMemory, HasLinkKey, is_end, silence};
+ghost use Rattle.replay_run.specs.Replay.{IsLeft, IsReply, WritesReply, standing_catalogue, standing_settings, standing_users, standing_word};
+ghost use Rattle.replay_run.specs.Told.{Adds, IsKeyed, IsPastArrival, Says, WantsMemory, HasLinkKey, is_end, silence};
 
-use crate::fault::AppFault;
-use crate::files::{MOST_BYTES, ReadFault, read_all};
+use pool_app::fault::AppFault;
+use pool_app::files::{MOST_BYTES, ReadFault, read_all};
 use crate::standing::{KEY_WORD, catalogue, settings, users};
 use bytes::BytesMut;
 use login_core::laws::login_is_of_its_row;
