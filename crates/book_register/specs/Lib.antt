@@ -3,3 +3,4 @@ pub mod Room
 pub mod Choices
 pub mod Happenings
 pub mod Counted
+pub mod Views
