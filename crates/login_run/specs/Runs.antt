@@ -1,6 +1,7 @@
 -- A login over a client's end, as contracts see it.
 use Rattle.std.specs.Prelude.{◌≡◌, ◌⊎◌, ℕ, ◌+◌, ◌<◌, ◌≤◌, Bool, true, false, List, [], ◌∷◌, ◌++◌, length, take, Option, Some, None}
-use Rattle.std.specs.Arc.{Arc, arc_value}
+use Rattle.std.specs.declared.sync.Arc.{Arc}
+use Rattle.std.specs.Arc.{arc_value}
 use Rattle.message_view.specs.declared.KeyWord.{KeyWord}
 use Rattle.message_view.specs.declared.refusal.Refusal.{Refusal}
 use Rattle.message_view.specs.declared.refusal.Refusal.TheVariants.{OutOfMemory}
@@ -125,24 +126,29 @@ StandsAt Stopped s v taken pieces = IsStopped (rows_of v) v.word taken pieces s
 StandsAt Refused s v taken pieces = IsBegun (rows_of v) v.word taken pieces
 StandsAt Gone s v taken pieces = IsBegun (rows_of v) v.word taken pieces
 
--- The client was given some whole pieces, and so many bytes of what was said last.
+-- The login heard these bytes: those that were taken from the client, where it tells. The client was given some whole pieces, and so
+-- many bytes of what was said last.
 pub record Runs (v : RunView) : Type 0 where
+  pub heard : List ℕ
   pub done : List (List ℕ)
-  pub given : v.client.given ≡ joined_pieces done ++ take v.sent (said_bytes v.said)
-  pub stands : StandsAt v.phase v.said v.login v.client.taken (done ++ said_pieces v.said)
+  pub stands : StandsAt v.phase v.said v.login heard (done ++ said_pieces v.said)
+  pub taken : v.client.tells ≡ true → v.client.taken ≡ heard
+  pub given : v.client.tells ≡ true → v.client.given ≡ joined_pieces done ++ take v.sent (said_bytes v.said)
 
 abbrev pub IsArriving : Hearing → Type 0
 IsArriving (Arriving key) = Unit {0}
 IsArriving _ = ⊥
 
--- what a phase says of the login, also where the client doesn't tell
+-- what a phase says of the login
 abbrev pub Awaits : PhaseOf → Said → LoginView → Type 0
 Awaits Talking s v = IsPiece s × (0 < missing v.hearing v.held)
 Awaits Arrived s v = IsPiece s × IsArriving v.hearing
+Awaits (Passed key) s v = IsPiece s
+Awaits Console s v = IsPiece s
 Awaits _ s v = Unit {0}
 
 abbrev pub IsRun : RunView → Type 0
-IsRun v = (v.sent ≤ length (said_bytes v.said)) × Awaits v.phase v.said v.login × (v.client.tells ≡ true → Runs v)
+IsRun v = (v.sent ≤ length (said_bytes v.said)) × Awaits v.phase v.said v.login × Runs v
 
 -- ---- what the calls answer
 

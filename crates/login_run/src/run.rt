@@ -1,13 +1,14 @@
 //! The turns of a login over a client's end.
-ghost use Rattle.std.specs.Prelude.{◌≡◌, ◌<◌, ◌≤◌, [], length, true};
+ghost use Rattle.std.specs.Prelude.{◌≡◌, ◌<◌, [], length, false, true};
 ghost use Rattle.std.specs.Arc.{arc_value};
 ghost use Rattle.login_core.specs.Dialogue.{AtFirst};
 ghost use Rattle.login_core.specs.Logins.{Hears};
+ghost use Rattle.login_run.specs.declared.said.Said.TheVariants as said;
 ghost use Rattle.login_run.specs.Runs as spec;
 ghost use Rattle.login_run.specs.Runs.{IsRun, IsSameLogin, IsAllGiven, HasTurned, HasRead, HasWritten, said_bytes};
 
 use crate::said::Said;
-use login_core::laws::{steps_say, steps_tell};
+use login_core::laws::{new_tells, steps_say, steps_tell};
 use login_core::{Login, LoginStep};
 use message_view::Refusal;
 use server_end::{ClientEnd, Moved};
@@ -106,6 +107,7 @@ impl<C: ClientEnd> LoginRun<C> {
         ensures login { result.login ≡ login }
         ensures phase { result.phase ≡ spec.Talking }
     {
+        new_tells();
         LoginRun {
             client,
             login,
@@ -211,7 +213,7 @@ impl<C: ClientEnd> LoginRun<C> {
         ensures client { self.new.client ≡ self.old.client }
         ensures login { self.new.login ≡ self.old.login }
         ensures phase { self.new.phase ≡ spec.Refused }
-        ensures said { self.new.said ≡ spec.said.Refusal refusal }
+        ensures said { self.new.said ≡ said.Refusal refusal }
         ensures sent { self.new.sent ≡ 0 }
     {
         self.phase = Phase::Refused;
