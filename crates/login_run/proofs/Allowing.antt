@@ -1,20 +1,18 @@
 -- What a client was given in its login is allowed.
-use Rattle.std.proofs.Common.{◌≡◌, ◌⊎◌, inl, inr, ℕ, ◌≤◌, true, List, [], ◌∷◌, ◌++◌, length, take, drop, refl, sym, ap, ap₂, ◌∙◌, subst, arith, append_assoc, append-nil, take_all, take-append-drop}
+use Rattle.std.proofs.Common.{◌≡◌, inl, inr, ℕ, true, List, [], ◌++◌, take, drop, sym, ap, ◌∙◌, subst, append_assoc, append-nil, take-append-drop}
 use Rattle.std.proofs.lemmas.Grind.{flat_map-append}
-use Rattle.message_view.specs.declared.KeyWord.{KeyWord}
 use Rattle.message_view.specs.declared.refusal.Refusal.{Refusal}
 use Rattle.message_view.specs.Refusals.{Allowed, joined_pieces, refusal}
 use Rattle.session_values.specs.State.{Address, CatalogueOf, StartKeyOf, address_of}
-use Rattle.login_core.specs.Talk.{End}
 use Rattle.login_core.specs.Talk.End.{Passed as PassedWith}
-use Rattle.login_core.specs.Dialogue.{Rows, Dialogue, Way, Reason, ToLink, login, login_among}
-use Rattle.login_core.specs.Laws.{LoginIsOfItsRow, names_in, row_for}
+use Rattle.login_core.specs.Dialogue.{Dialogue, ToLink, login_among}
+use Rattle.login_core.specs.Laws.{LoginIsOfItsRow}
 use Rattle.login_core.specs.Logins.{LoginView, rows_of}
-use Rattle.login_core.specs.Solo.{after_in, service_pieces, solo_in}
+use Rattle.login_core.specs.Solo.{after_in, service_pieces}
 use Rattle.login_run.specs.declared.said.Said.{Said}
 use Rattle.login_run.specs.declared.said.Said.TheVariants as said
-use Rattle.login_run.specs.Runs.{PhaseOf, Passed, RunView, said_bytes, said_pieces, IsPiece, IsBegun, HasEnded, StandsAt, Runs, IsAllGiven, IsRun, Awaits}
-use Rattle.login_run.specs.Laws.{own, IsAtPiece, IsLetIn, RunsAreAllowed, RunsStandAtPieces, PassedRunsAreLetIn, PassedRunsHavePassed}
+use Rattle.login_run.specs.Runs.{PhaseOf, Passed, RunView, said_bytes, said_pieces, IsPiece, IsBegun, HasEnded, StandsAt, Runs, Awaits}
+use Rattle.login_run.specs.Laws.{own, RunsAreAllowed, RunsStandAtPieces, PassedRunsAreLetIn, PassedRunsHavePassed}
 use Rattle.login_run.proofs.Running.{joined_said, settled, stands_begun}
 
 joined_both : (ps qs : List (List ℕ)) → joined_pieces (ps ++ qs) ≡ joined_pieces ps ++ joined_pieces qs
@@ -75,7 +73,7 @@ said_allowed given done (said.Refusal r) sent all g c = refusal_allowed given do
 continues : LoginIsOfItsRow → (v : RunView) (catalogue : Address → CatalogueOf) (x : Runs v) → v.client.tells ≡ true → Continues (x.done ++ said_pieces v.said) (own catalogue v.login v.client.taken)
 continues law v catalogue x t =
     subst (λ (l : List ℕ). Continues (x.done ++ said_pieces v.said) (own catalogue v.login l)) (sym (x.taken t))
-      (begun_own law catalogue v.login x.heard (x.done ++ said_pieces v.said) (stands_begun v.phase v.said v.login x.heard (x.done ++ said_pieces v.said) x.stands))
+    (begun_own law catalogue v.login x.heard (x.done ++ said_pieces v.said) (stands_begun v.phase v.said v.login x.heard (x.done ++ said_pieces v.said) x.stands))
 
 pub runs_allowed : LoginIsOfItsRow → RunsAreAllowed
 runs_allowed law v catalogue x t = said_allowed v.client.given x.2.done v.said v.sent (own catalogue v.login v.client.taken) (x.2.given t) (continues law v catalogue x.2 t)

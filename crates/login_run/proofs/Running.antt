@@ -1,5 +1,6 @@
 -- What the turns of a login keep.
-use Rattle.std.proofs.Common.{◌≡◌, ◌⊎◌, inl, inr, ℕ, ◌+◌, ◌<◌, ◌≤◌, true, false, List, [], ◌∷◌, ◌++◌, length, take, drop, refl, sym, ap, ap₂, ◌∙◌, subst, arith, append_assoc, append-nil, take_all, length-drop}
+use Rattle.std.proofs.Common.{◌≡◌, ◌⊎◌, inl, inr, ℕ, ◌+◌, ◌<◌, ◌≤◌, true, false, List, [], ◌++◌, length, take, drop, refl, sym, ap, ap₂, ◌∙◌, subst, arith, append_assoc, append-nil, take_all, length-drop, length-take}
+use Rattle.std.specs.Prelude.{min}
 use Rattle.std.proofs.Math.Seq.{take-add}
 use Rattle.std.proofs.lemmas.Grind.{flat_map-append}
 use Rattle.message_view.specs.declared.KeyWord.{KeyWord}
@@ -8,17 +9,18 @@ use Rattle.message_view.specs.declared.refusal.Refusal.TheVariants.{OutOfMemory}
 use Rattle.message_view.specs.Refusals.{joined_pieces}
 use Rattle.link_laws.specs.Standing.{ClientFacts}
 use Rattle.server_end.specs.declared.Moved.{Moved}
-use Rattle.server_end.specs.Moves.{ClientReads, ClientWrites}
+use Rattle.server_end.specs.declared.Moved.TheVariants.{Ended, Fault}
+use Rattle.server_end.specs.Moves.{ClientReads, ClientWrites, moved}
 use Rattle.login_core.specs.declared.steps.LoginStep.{LoginStep}
 use Rattle.login_core.specs.declared.steps.LoginStep.TheVariants as step
 use Rattle.login_core.specs.Talk.{End}
 use Rattle.login_core.specs.Talk.End.{Stopped as StoppedFor}
 use Rattle.login_core.specs.Dialogue.{Rows, Dialogue, Way, Reason, Refused as RefusedBy, AtFirst, row_in, login_among}
-use Rattle.login_core.specs.Logins.{Hearing, Hears, Arriving, LoginView, login_view, rows_of, goes_on, Tells, Heard, LeadsTo, missing}
-use Rattle.login_core.specs.Laws.{GoesOn, waits, arrived, asks, NewTells, StepsTell, StepsSay}
+use Rattle.login_core.specs.Logins.{Hearing, Hears, Arriving, LoginView, login_view, rows_of, goes_on, Tells, Heard, missing}
+use Rattle.login_core.specs.Laws.{waits, arrived, asks, NewTells, StepsTell, StepsSay}
 use Rattle.login_run.specs.declared.said.Said.{Said}
 use Rattle.login_run.specs.declared.said.Said.TheVariants as said
-use Rattle.login_run.specs.Runs.{PhaseOf, Talking, Arrived, Passed, Console, Stopped, Refused, Gone, RunView, run_view, said_bytes, said_pieces, IsPiece, phase_after, said_after, IsBegun, HasEnded, IsStopped, StandsAt, Runs, Awaits, IsArriving, IsRun}
+use Rattle.login_run.specs.Runs.{PhaseOf, Talking, Arrived, Passed, Console, Stopped, Refused, Gone, RunView, run_view, said_bytes, said_pieces, IsPiece, phase_after, said_after, IsBegun, HasEnded, IsStopped, StandsAt, Runs, Awaits, IsArriving, IsAllGiven, IsRun}
 
 -- ---- the login's first pieces
 
@@ -59,18 +61,18 @@ rows_same old new bytes s h = ap₂ row_in (sym h.settings) (sym h.users)
 ended_on : (old new : LoginView) (bytes taken : List ℕ) (pieces : List (List ℕ)) (ended : List ℕ → End Way Reason) (s : LoginStep) → Heard old bytes s new → HasEnded (rows_of old) old.word taken pieces ended → HasEnded (rows_of new) new.word taken pieces ended
 ended_on old new bytes taken pieces ended s h x =
     subst (λ (w : KeyWord). HasEnded (rows_of new) w taken pieces ended) (sym h.word)
-      (subst (λ (r : Rows). HasEnded r old.word taken pieces ended) (rows_same old new bytes s h) x)
+    (subst (λ (r : Rows). HasEnded r old.word taken pieces ended) (rows_same old new bytes s h) x)
 
 begun_on : (old new : LoginView) (bytes taken : List ℕ) (pieces : List (List ℕ)) (s : LoginStep) → Heard old bytes s new → IsBegun (rows_of old) old.word taken pieces → IsBegun (rows_of new) new.word taken pieces
 begun_on old new bytes taken pieces s h x =
     subst (λ (w : KeyWord). IsBegun (rows_of new) w taken pieces) (sym h.word)
-      (subst (λ (r : Rows). IsBegun r old.word taken pieces) (rows_same old new bytes s h) x)
+    (subst (λ (r : Rows). IsBegun r old.word taken pieces) (rows_same old new bytes s h) x)
 
 -- it told these pieces, and nothing more
 begun_still : (old new : LoginView) (taken bytes : List ℕ) (done : List (List ℕ)) (s : LoginStep) → Tells old taken done → Heard old bytes s new → IsBegun (rows_of new) new.word (taken ++ bytes) (done ++ [])
 begun_still old new taken bytes done s t h =
     begun_on old new bytes (taken ++ bytes) (done ++ []) s h
-      (subst (λ (ps : List (List ℕ)). IsBegun (rows_of old) old.word (taken ++ bytes) ps) (sym (append-nil done)) (begun_more (rows_of old) old.word taken bytes done (tells_begun old taken done t)))
+    (subst (λ (ps : List (List ℕ)). IsBegun (rows_of old) old.word (taken ++ bytes) ps) (sym (append-nil done)) (begun_more (rows_of old) old.word taken bytes done (tells_begun old taken done t)))
 
 refused_stands : (old new : LoginView) (taken bytes : List ℕ) (done : List (List ℕ)) (r : Refusal) (K : Type 0) → Tells old taken done → Heard old bytes (step.Refused r) new
     → (HasEnded (rows_of old) old.word (taken ++ bytes) (done ++ []) (λ more. StoppedFor (RefusedBy r)) ⊎ ((r ≡ OutOfMemory) × K)) → IsStopped (rows_of new) new.word (taken ++ bytes) (done ++ []) (said.Refusal r)
@@ -142,8 +144,12 @@ wrote_runs c d v p s sent more put m e k x = record {
       ∙ (ap (λ (l : List ℕ). l ++ put) (x.given (sym k.tells ∙ tells)) ∙ (append_assoc (joined_pieces x.done) (take sent (said_bytes s)) put ∙ ap (λ (l : List ℕ). joined_pieces x.done ++ l) (sym e)));
 }
 
-pub wrote_some : (c d : ClientFacts) (v : LoginView) (p : PhaseOf) (s : Said) (sent n : ℕ) (m : Moved) → n ≤ length (drop sent (said_bytes s)) → sent < length (said_bytes s) → ClientWrites c d (take n (drop sent (said_bytes s))) m → IsRun (run_view c v p s sent) → IsRun (run_view d v p s (sent + n))
-wrote_some c d v p s sent n m w l k x = (omega (arith, w, l, length-drop sent (said_bytes s)), x.1, wrote_runs c d v p s sent n (take n (drop sent (said_bytes s))) m (take-add sent n (said_bytes s)) k x.2)
+pub wrote_some : (c d : ClientFacts) (v : LoginView) (p : PhaseOf) (s : Said) (sent n : ℕ) (unsent : List ℕ) (m : Moved) → unsent ≡ drop sent (said_bytes s) → n ≤ length unsent → sent < length (said_bytes s) → ClientWrites c d (take n unsent) m → IsRun (run_view c v p s sent) → IsRun (run_view d v p s (sent + n))
+wrote_some c d v p s sent n unsent m e w l k x = (
+  omega (arith, ap (λ (u : List ℕ). length u) e, w, l, length-drop sent (said_bytes s)),
+  x.1,
+  wrote_runs c d v p s sent n (take n unsent) m (take-add sent n (said_bytes s) ∙ ap (λ (u : List ℕ). take sent (said_bytes s) ++ take n u) (sym e)) k x.2,
+)
 
 -- the client's end was called to no avail
 idle_runs : (c d : ClientFacts) (v : LoginView) (p : PhaseOf) (s : Said) (sent : ℕ) → d.tells ≡ c.tells → (c.tells ≡ true → d.taken ≡ c.taken) → (c.tells ≡ true → d.given ≡ c.given) → Runs (run_view c v p s sent) → Runs (run_view d v p s sent)
@@ -161,8 +167,12 @@ wrote_none c d v p s sent m k x = (x.0, x.1, idle_runs c d v p s sent k.tells k.
 pub gone_run : (c : ClientFacts) (v : LoginView) (p : PhaseOf) (s : Said) (sent : ℕ) → IsRun (run_view c v p s sent) → IsRun (run_view c v Gone s sent)
 gone_run c v p s sent x = (x.0, tt, record { heard = x.2.heard; done = x.2.done; stands = stands_begun p s v x.2.heard (x.2.done ++ said_pieces s) x.2.stands; taken = x.2.taken; given = x.2.given })
 
-pub wrote_last : (c d : ClientFacts) (v : LoginView) (p : PhaseOf) (s : Said) (sent : ℕ) (m : Moved) → ClientWrites c d [] m → IsRun (run_view c v p s sent) → IsRun (run_view d v Gone s sent)
-wrote_last c d v p s sent m k x = gone_run d v p s sent (wrote_none c d v p s sent m k x)
+none_moved : (m : Moved) (bytes : List ℕ) → (m ≡ Ended) ⊎ (m ≡ Fault) → moved m bytes ≡ []
+none_moved m bytes (inl e) = ap (λ (n : Moved). moved n bytes) e
+none_moved m bytes (inr e) = ap (λ (n : Moved). moved n bytes) e
+
+pub wrote_last : (c d : ClientFacts) (v : LoginView) (p : PhaseOf) (s : Said) (sent : ℕ) (bytes : List ℕ) (m : Moved) → (m ≡ Ended) ⊎ (m ≡ Fault) → ClientWrites c d (moved m bytes) m → IsRun (run_view c v p s sent) → IsRun (run_view d v Gone s sent)
+wrote_last c d v p s sent bytes m e k x = gone_run d v p s sent (wrote_none c d v p s sent m (subst (λ (l : List ℕ). ClientWrites c d l m) (none_moved m bytes e) k) x)
 
 -- ---- a read
 
@@ -183,11 +193,27 @@ done_run c v s sent n x = (
 read_none : (c d : ClientFacts) (v : LoginView) (s : Said) (sent : ℕ) (m : Moved) → ClientReads c d [] m → IsRun (run_view c v Talking s sent) → IsRun (run_view d v Talking s sent)
 read_none c d v s sent m k x = (x.0, x.1, idle_runs c d v Talking s sent k.tells (λ tells. k.taken tells ∙ append-nil c.taken) k.given x.2)
 
-pub read_idle : (c d : ClientFacts) (v : LoginView) (s : Said) (sent : ℕ) (m : Moved) → sent ≡ length (said_bytes s) → ClientReads c d [] m → IsRun (run_view c v Talking s sent) → IsRun (run_view d v Talking said.Nothing 0)
-read_idle c d v s sent m n k x = done_run d v s sent n (read_none c d v s sent m k x)
+idle_run : (c d : ClientFacts) (v : LoginView) (s : Said) (sent : ℕ) (m : Moved) → sent ≡ length (said_bytes s) → ClientReads c d [] m → IsRun (run_view c v Talking s sent) → IsRun (run_view d v Talking said.Nothing 0)
+idle_run c d v s sent m n k x = done_run d v s sent n (read_none c d v s sent m k x)
 
-pub read_last : (c d : ClientFacts) (v : LoginView) (s : Said) (sent : ℕ) (m : Moved) → sent ≡ length (said_bytes s) → ClientReads c d [] m → IsRun (run_view c v Talking s sent) → IsRun (run_view d v Gone said.Nothing 0)
-read_last c d v s sent m n k x = gone_run d v Talking said.Nothing 0 (read_idle c d v s sent m n k x)
+-- what the caller knows of it: it talks, and all was given
+at_talking : (c : ClientFacts) (v : LoginView) (p : PhaseOf) (s : Said) (sent : ℕ) (w : RunView) → run_view c v p s sent ≡ w → w.phase ≡ Talking → p ≡ Talking
+at_talking c v p s sent w e t = ap (λ (x : RunView). x.phase) e ∙ t
+
+pub all_given : (c : ClientFacts) (v : LoginView) (p : PhaseOf) (s : Said) (sent : ℕ) (w : RunView) → run_view c v p s sent ≡ w → IsAllGiven w → sent ≡ length (said_bytes s)
+all_given c v p s sent w e n = subst IsAllGiven (sym e) n
+
+talks : (c : ClientFacts) (v : LoginView) (p : PhaseOf) (s : Said) (sent : ℕ) (w : RunView) → run_view c v p s sent ≡ w → w.phase ≡ Talking → IsRun (run_view c v p s sent) → IsRun (run_view c v Talking s sent)
+talks c v p s sent w e t x = subst (λ (q : PhaseOf). IsRun (run_view c v q s sent)) (at_talking c v p s sent w e t) x
+
+pub read_idle : (c d : ClientFacts) (v : LoginView) (p : PhaseOf) (s : Said) (sent : ℕ) (w : RunView) (m : Moved) → run_view c v p s sent ≡ w → w.phase ≡ Talking → IsAllGiven w → ClientReads c d [] m → IsRun (run_view c v p s sent) → IsRun (run_view d v p said.Nothing 0)
+read_idle c d v p s sent w m e t n k x =
+    subst (λ (q : PhaseOf). IsRun (run_view d v q said.Nothing 0)) (sym (at_talking c v p s sent w e t)) (idle_run c d v s sent m (all_given c v p s sent w e n) k (talks c v p s sent w e t x))
+
+pub read_last : (c d : ClientFacts) (v : LoginView) (p : PhaseOf) (s : Said) (sent : ℕ) (w : RunView) (bytes : List ℕ) (m : Moved) → run_view c v p s sent ≡ w → w.phase ≡ Talking → IsAllGiven w → (m ≡ Ended) ⊎ (m ≡ Fault) → ClientReads c d (moved m bytes) m → IsRun (run_view c v p s sent)
+    → IsRun (run_view d v Gone said.Nothing 0)
+read_last c d v p s sent w bytes m e t n o k x =
+    gone_run d v Talking said.Nothing 0 (idle_run c d v s sent m (all_given c v p s sent w e n) (subst (λ (l : List ℕ). ClientReads c d l m) (none_moved m bytes o) k) (talks c v p s sent w e t x))
 
 -- bytes that a login heard, which had told these pieces
 heard_runs : StepsTell → StepsSay → (c d : ClientFacts) (v w : LoginView) (s : Said) (sent : ℕ) (got : List ℕ) (step : LoginStep) (heard : List ℕ) (done : List (List ℕ)) → Tells v heard (done ++ said_pieces s) → Heard v got step w
@@ -200,29 +226,52 @@ heard_runs tell say c d v w s sent got step heard done t h taken given = record 
   given = λ tells. given tells ∙ sym (append-nil (joined_pieces (done ++ said_pieces s)));
 }
 
-pub read_some : StepsTell → StepsSay → (c d : ClientFacts) (v w : LoginView) (s : Said) (sent : ℕ) (got : List ℕ) (m : Moved) (step : LoginStep) → sent ≡ length (said_bytes s) → ClientReads c d got m → Heard v got step w → IsRun (run_view c v Talking s sent)
+read_on : StepsTell → StepsSay → (c d : ClientFacts) (v w : LoginView) (s : Said) (sent : ℕ) (got : List ℕ) (m : Moved) (step : LoginStep) → sent ≡ length (said_bytes s) → ClientReads c d got m → Heard v got step w → IsRun (run_view c v Talking s sent)
     → IsRun (run_view d w (phase_after step) (said_after step) 0)
-read_some tell say c d v w s sent got m step n k h x = (
+read_on tell say c d v w s sent got m step n k h x = (
   omega arith,
   heard_awaits v w got step h,
   heard_runs tell say c d v w s sent got step x.2.heard x.2.done x.2.stands h
-    (λ tells. k.taken (sym k.tells ∙ tells) ∙ ap (λ (l : List ℕ). l ++ got) (x.2.taken (sym k.tells ∙ tells)))
-    (λ tells. k.given (sym k.tells ∙ tells) ∙ settled c.given x.2.done s sent x.1.0 n (x.2.given (sym k.tells ∙ tells))),
+      (λ tells. k.taken (sym k.tells ∙ tells) ∙ ap (λ (l : List ℕ). l ++ got) (x.2.taken (sym k.tells ∙ tells)))
+      (λ tells. k.given (sym k.tells ∙ tells) ∙ settled c.given x.2.done s sent x.1.0 n (x.2.given (sym k.tells ∙ tells))),
 )
+
+after_step : (c : ClientFacts) (v : LoginView) (step : LoginStep) (p : PhaseOf) (s : Said) → p ≡ phase_after step → s ≡ said_after step → IsRun (run_view c v (phase_after step) (said_after step) 0) → IsRun (run_view c v p s 0)
+after_step c v step p s e f x = rw (e, f) x
+
+pub read_some : StepsTell → StepsSay → (c d : ClientFacts) (v w : LoginView) (p : PhaseOf) (s : Said) (sent : ℕ) (u : RunView) (got heard : List ℕ) (m : Moved) (step : LoginStep) (q : PhaseOf) (r : Said) → run_view c v p s sent ≡ u → u.phase ≡ Talking → IsAllGiven u
+    → q ≡ phase_after step → r ≡ said_after step → heard ≡ got → ClientReads c d got m → Heard v heard step w → IsRun (run_view c v p s sent) → IsRun (run_view d w q r 0)
+read_some tell say c d v w p s sent u got heard m step q r e t n eq er same k h x =
+    after_step d w step q r eq er (read_on tell say c d v w s sent got m step (all_given c v p s sent u e n) k (subst (λ (l : List ℕ). Heard v l step w) same h) (talks c v p s sent u e t x))
+
+-- no more is read than the login waits for, so it takes all
+pub all_used : (used count missing : ℕ) (chunk : List ℕ) → used ≡ min missing (length (take count chunk)) → count ≤ missing → take used (take count chunk) ≡ take count chunk
+all_used used count missing chunk e l = take_all used (take count chunk) (omega (arith, e, l, length-take count chunk))
 
 -- ---- a client that has arrived
 
-pub went_on : StepsTell → StepsSay → (c : ClientFacts) (v w : LoginView) (s : Said) (sent : ℕ) (step : LoginStep) → sent ≡ length (said_bytes s) → Heard v [] step w → IsRun (run_view c v Arrived s sent) → IsRun (run_view c w (phase_after step) (said_after step) 0)
-went_on tell say c v w s sent step n h x = (
+arrives : (c : ClientFacts) (v : LoginView) (p : PhaseOf) (s : Said) (sent : ℕ) (w : RunView) → run_view c v p s sent ≡ w → w.phase ≡ Arrived → IsRun (run_view c v p s sent) → IsRun (run_view c v Arrived s sent)
+arrives c v p s sent w e t x = subst (λ (q : PhaseOf). IsRun (run_view c v q s sent)) (ap (λ (y : RunView). y.phase) e ∙ t) x
+
+go_on : StepsTell → StepsSay → (c : ClientFacts) (v w : LoginView) (s : Said) (sent : ℕ) (step : LoginStep) → sent ≡ length (said_bytes s) → Heard v [] step w → IsRun (run_view c v Arrived s sent) → IsRun (run_view c w (phase_after step) (said_after step) 0)
+go_on tell say c v w s sent step n h x = (
   omega arith,
   heard_awaits v w [] step h,
   heard_runs tell say c c v w s sent [] step x.2.heard x.2.done x.2.stands h
-    (λ tells. x.2.taken tells ∙ sym (append-nil x.2.heard))
-    (λ tells. settled c.given x.2.done s sent x.1.0 n (x.2.given tells)),
+      (λ tells. x.2.taken tells ∙ sym (append-nil x.2.heard))
+      (λ tells. settled c.given x.2.done s sent x.1.0 n (x.2.given tells)),
 )
 
-pub refused_run : (c : ClientFacts) (v : LoginView) (s : Said) (sent : ℕ) (r : Refusal) → sent ≡ length (said_bytes s) → IsRun (run_view c v Arrived s sent) → IsRun (run_view c v Refused (said.Refusal r) 0)
-refused_run c v s sent r n x = (
+nothing_of : (n : ℕ) → take {A = ℕ} n [] ≡ []
+nothing_of n = take_all {A = ℕ} n [] (omega arith)
+
+pub went_on : StepsTell → StepsSay → (c : ClientFacts) (v w : LoginView) (p : PhaseOf) (s : Said) (sent used : ℕ) (u : RunView) (step : LoginStep) (q : PhaseOf) (r : Said) → run_view c v p s sent ≡ u → u.phase ≡ Arrived → IsAllGiven u → q ≡ phase_after step → r ≡ said_after step → Heard v (take used []) step w
+    → IsRun (run_view c v p s sent) → IsRun (run_view c w q r 0)
+went_on tell say c v w p s sent used u step q r e t n eq er h x =
+    after_step c w step q r eq er (go_on tell say c v w s sent step (all_given c v p s sent u e n) (subst (λ (l : List ℕ). Heard v l step w) (nothing_of used) h) (arrives c v p s sent u e t x))
+
+refused_on : (c : ClientFacts) (v : LoginView) (s : Said) (sent : ℕ) (r : Refusal) → sent ≡ length (said_bytes s) → IsRun (run_view c v Arrived s sent) → IsRun (run_view c v Refused (said.Refusal r) 0)
+refused_on c v s sent r n x = (
   omega arith,
   tt,
   record {
@@ -233,3 +282,6 @@ refused_run c v s sent r n x = (
     given = λ tells. settled c.given x.2.done s sent x.1.0 n (x.2.given tells) ∙ sym (append-nil (joined_pieces (x.2.done ++ said_pieces s)));
   },
 )
+
+pub refused_run : (c : ClientFacts) (v : LoginView) (p : PhaseOf) (s : Said) (sent : ℕ) (u : RunView) (r : Refusal) → run_view c v p s sent ≡ u → u.phase ≡ Arrived → IsAllGiven u → IsRun (run_view c v p s sent) → IsRun (run_view c v Refused (said.Refusal r) 0)
+refused_run c v p s sent u r e t n x = refused_on c v s sent r (all_given c v p s sent u e n) (arrives c v p s sent u e t x)

@@ -3,7 +3,6 @@ use Rattle.std.specs.Prelude.{◌≡◌, ◌⊎◌, ℕ, ◌+◌, ◌<◌, ◌�
 use Rattle.std.specs.declared.sync.Arc.{Arc}
 use Rattle.std.specs.Arc.{arc_value}
 use Rattle.message_view.specs.declared.KeyWord.{KeyWord}
-use Rattle.message_view.specs.declared.refusal.Refusal.{Refusal}
 use Rattle.message_view.specs.declared.refusal.Refusal.TheVariants.{OutOfMemory}
 use Rattle.message_view.specs.Refusals.{joined_pieces, refusal}
 use Rattle.session_values.specs.State.{StartKeyOf}
@@ -13,7 +12,7 @@ use Rattle.login_core.specs.declared.steps.LoginStep.TheVariants as step
 use Rattle.login_core.specs.Talk.{End}
 use Rattle.login_core.specs.Talk.End.{Passed as PassedWith, Stopped as StoppedFor}
 use Rattle.login_core.specs.Dialogue.{Rows, Way, ToLink, ToConsole, Reason, Refused as RefusedBy, Failed, Left, ok, login_among}
-use Rattle.login_core.specs.Logins.{Hearing, Hears, Arriving, Over, LoginView, rows_of, Tells, missing, question_bytes, failure_bytes}
+use Rattle.login_core.specs.Logins.{Hearing, Arriving, LoginView, rows_of, Tells, missing, question_bytes, failure_bytes}
 use Rattle.login_run.specs.declared.said.Said.{Said}
 use Rattle.login_run.specs.declared.said.Said.TheVariants as said
 use Rattle.login_run.specs.declared.run.Phase.{Phase}
@@ -172,14 +171,14 @@ bytes_moved c = length c.taken + length c.given
 -- a write: some bytes of what was said, or none at that time
 abbrev pub HasWritten : RunView → RunView → LoginTurn → Type 0
 HasWritten old new turn.Again = (old.client.tells ≡ true → bytes_moved old.client < bytes_moved new.client) × (new.phase ≡ old.phase) × (new.said ≡ old.said) × (new.login ≡ old.login)
-HasWritten old new turn.Wait = (new.client.write_waits ≡ old.client.write_waits + 1) × (new.phase ≡ old.phase) × (new.said ≡ old.said) × (new.login ≡ old.login) × (new.sent ≡ old.sent)
+HasWritten old new turn.Wait = (new.client.write_waits ≡ old.client.write_waits + 1) × (new.client.read_waits ≡ old.client.read_waits) × (new.phase ≡ old.phase) × (new.said ≡ old.said) × (new.login ≡ old.login) × (new.sent ≡ old.sent)
 HasWritten old new turn.Over = (new.phase ≡ Gone) × IsClientOver old.client new.client
 HasWritten old new _ = ⊥
 
 -- a read: some bytes of the packet that the login waits for, or none at that time
 abbrev pub HasRead : RunView → RunView → LoginTurn → Type 0
 HasRead old new turn.Again = old.client.tells ≡ true → bytes_moved old.client < bytes_moved new.client
-HasRead old new turn.Wait = (new.client.read_waits ≡ old.client.read_waits + 1) × (new.phase ≡ Talking) × (new.login ≡ old.login)
+HasRead old new turn.Wait = (new.client.read_waits ≡ old.client.read_waits + 1) × (new.client.write_waits ≡ old.client.write_waits) × (new.phase ≡ Talking) × (new.login ≡ old.login)
 HasRead old new turn.Over = (new.phase ≡ Gone) × IsClientOver old.client new.client
 HasRead old new _ = ⊥
 

@@ -1,6 +1,7 @@
 //! The turns of a login over a client's end.
-ghost use Rattle.std.specs.Prelude.{◌≡◌, ◌<◌, [], length, false, true};
+ghost use Rattle.std.specs.Prelude.{◌≡◌, ◌<◌, ◌≤◌, [], drop, length, false, true};
 ghost use Rattle.std.specs.Arc.{arc_value};
+ghost use Rattle.server_end.specs.Moves.{ClientReads, IsWithin, moved};
 ghost use Rattle.login_core.specs.Dialogue.{AtFirst};
 ghost use Rattle.login_core.specs.Logins.{Hears};
 ghost use Rattle.login_run.specs.declared.said.Said.TheVariants as said;
@@ -96,6 +97,24 @@ fn after(step: LoginStep) -> (Phase, Said)
     }
 }
 
+/// What is left of some bytes.
+fn rest_of(bytes: &[u8], from: usize) -> &[u8]
+    requires { from ≤ length bytes.now }
+    ensures { result.now ≡ drop from bytes.now }
+{
+    &bytes[from..]
+}
+
+/// Reads at most so many bytes of a client into the front of a slice.
+fn read_at_most<C: ClientEnd>(client: &mut C, into: &mut [u8], wanted: usize) -> Moved
+    requires some { 0 < wanted }
+    requires room { wanted ≤ length into.old }
+    ensures within { IsWithin result wanted }
+    ensures reads { ClientReads (C.facts client.old) (C.facts client.new) (moved result into.new) result }
+{
+    client.read_some(&mut into[..wanted])
+}
+
 impl<C: ClientEnd> LoginRun<C> {
     /// A login over this end. Where the client tells, no byte was taken from it or given to it; the login has taken none.
     pub fn new(client: C, login: Login) -> LoginRun<C>
@@ -149,7 +168,7 @@ impl<C: ClientEnd> LoginRun<C> {
         ensures login { IsSameLogin self.old self.new }
         ensures turned { HasWritten self.old self.new result }
     {
-        let unsent = &self.said.as_bytes()[self.sent..];
+        let unsent = rest_of(self.said.as_bytes(), self.sent);
         match self.client.write_some(unsent) {
             Moved::Count(count) => {
                 self.sent += count;
@@ -174,7 +193,7 @@ impl<C: ClientEnd> LoginRun<C> {
         steps_say();
         let mut chunk = [0u8; CHUNK];
         let wanted = self.login.wants().min(CHUNK);
-        let moved = self.client.read_some(&mut chunk[..wanted]);
+        let moved = read_at_most(&mut self.client, &mut chunk, wanted);
         self.said = Said::Nothing;
         self.sent = 0;
         match moved {
