@@ -6,6 +6,9 @@ ghost use Rattle.desk_tallies.specs.Shares.{AtMost, by_class, of_each, sum_of, s
 use std::marker::Model;
 use std::sync::ledger::{Ledger, Share};
 
+/// Into so many parts the shares of each ledger can be cut.
+pub const ALL_PARTS: u64 = 1 << 32;
+
 /// Decisions by class.
 #[derive(Clone, Copy, Debug, PartialEq, Eq, Drop)]
 pub struct Totals {

@@ -1,8 +1,9 @@
 //! Counters of decisions by class, each with a ledger of who made them.
 ghost use Rattle.std.specs.Prelude.{◌≡◌, ◌+◌, ◌<◌, ◌≤◌, ◌||◌, vec_len};
+ghost use Rattle.desk_tallies.specs.declared.passes.TheConstants.{ALL_PARTS};
 ghost use Rattle.desk_tallies.specs.Shares.{AtMost, by_class, made_of, names_of, of_each, parts_of, sum_of, sum_over};
 
-use crate::passes::{Pass, Shares, Totals};
+use crate::passes::{ALL_PARTS, Pass, Shares, Totals};
 use std::marker::Model;
 use std::sync::ledger::{Blank, Book, Ledger, Share};
 
@@ -65,12 +66,16 @@ pub struct Tallies<A: Ledger, G: Ledger, B: Ledger, L: Ledger, W: Ledger, O: Led
 
 impl<A: Ledger, G: Ledger, B: Ledger, L: Ledger, W: Ledger, O: Ledger> Model
     for Tallies<A, G, B, L, W, O> {
+    ghost use Rattle.std.specs.Prelude.{◌≡◌};
     ghost use Rattle.desk_tallies.specs.Passes.{Made};
-    ghost use Rattle.desk_tallies.specs.Shares.{by_class};
+    ghost use Rattle.desk_tallies.specs.Shares.{by_class, of_each};
+    ghost use Rattle.desk_tallies.specs.declared.passes.TheConstants.{ALL_PARTS};
 
     ghost Value = { Made };
 
     ghost view = { λ t. by_class t.arrived.count t.granted.count t.given_back.count t.lost.count t.left.count t.others.count };
+
+    ghost invariant = { λ t. by_class A.parts G.parts B.parts L.parts W.parts O.parts ≡ of_each ALL_PARTS };
 }
 
 /// The ledgers of the classes, before anything was counted.
@@ -84,13 +89,30 @@ pub struct Blanks {
     pub others: Blank,
 }
 
+impl Blanks {
+    /// Six new ledgers, of 4,294,967,296 parts each.
+    pub fn new() -> Blanks
+        ensures { parts_of result ≡ of_each ALL_PARTS }
+    {
+        Blanks {
+            arrived: Blank::new(ALL_PARTS),
+            granted: Blank::new(ALL_PARTS),
+            given_back: Blank::new(ALL_PARTS),
+            lost: Blank::new(ALL_PARTS),
+            left: Blank::new(ALL_PARTS),
+            others: Blank::new(ALL_PARTS),
+        }
+    }
+}
+
 impl<A: Ledger, G: Ledger, B: Ledger, L: Ledger, W: Ledger, O: Ledger> Tallies<A, G, B, L, W, O> {
     /// Counters at 0, and shares with every part.
     pub fn open(blanks: Blanks) -> (Tallies<A, G, B, L, W, O>, Shares<A, G, B, L, W, O>)
         requires names { names_of blanks ≡ by_class A.name G.name B.name L.name W.name O.name }
-        requires parts { parts_of blanks ≡ by_class A.parts G.parts B.parts L.parts W.parts O.parts }
+        requires parts { by_class A.parts G.parts B.parts L.parts W.parts O.parts ≡ parts_of blanks }
+        requires all { parts_of blanks ≡ of_each ALL_PARTS }
         ensures none { result.0 ≡ of_each 0 }
-        ensures parts { result.1.parts ≡ by_class A.parts G.parts B.parts L.parts W.parts O.parts }
+        ensures parts { result.1.parts ≡ of_each ALL_PARTS }
         ensures amounts { result.1.amounts ≡ of_each 0 }
     {
         let (arrived, arrivals) = Tally::<A>::open(blanks.arrived);
@@ -137,7 +159,7 @@ impl<A: Ledger, G: Ledger, B: Ledger, L: Ledger, W: Ledger, O: Ledger> Tallies<A
         ensures same { self.new ≡ self.old }
         ensures mine { mine.new ≡ mine.old }
         ensures bound { AtMost mine.old.amounts self.old }
-        ensures whole { mine.old.parts ≡ by_class A.parts G.parts B.parts L.parts W.parts O.parts → mine.old.amounts ≡ self.old }
+        ensures whole { mine.old.parts ≡ of_each ALL_PARTS → mine.old.amounts ≡ self.old }
     {
         self.arrived.audit(&mut mine.arrived);
         self.granted.audit(&mut mine.granted);
@@ -171,7 +193,7 @@ impl<A: Ledger, G: Ledger, B: Ledger, L: Ledger, W: Ledger, O: Ledger> Tallies<A
     /// Takes in all passes and what was never cut off: the counts are what was made through the passes.
     pub fn settle(self, shares: Shares<A, G, B, L, W, O>, passes: Vec<Pass<A, G, B, L, W, O>>)
         requires none { shares.amounts ≡ of_each 0 }
-        requires all { sum_of shares.parts (of_each (vec_len passes)) ≡ by_class A.parts G.parts B.parts L.parts W.parts O.parts }
+        requires all { sum_of shares.parts (of_each (vec_len passes)) ≡ of_each ALL_PARTS }
         ensures { self ≡ sum_over passes.items }
     {
         let mut all = shares;
