@@ -17,7 +17,7 @@ use Rattle.book_order.proofs.KeepingLists.{impossible, not_found}
 use Rattle.desk_tallies.specs.Passes.{Made, PassOf}
 use Rattle.desk_tallies.specs.Shares.{AtMost, by_class, sum_of}
 use Rattle.pool_desk.specs.Classes.{class_counts}
-use Rattle.pool_desk.specs.Tells.{Tells}
+use Rattle.pool_desk.specs.Tells.{Tells, breaks}
 
 -- ---- one decision more of a kind
 
@@ -107,13 +107,7 @@ counts_rise k old = subst (AtMost old) (sym (one_more_is k old)) (at_most_sum ol
 
 -- ---- what an event's outcome keeps
 
-abbrev breaks : Reply → Bool
-breaks (Refuse LastDecision) = true
-breaks (Refuse refusal) = false
-breaks Stranger = true
-breaks _ = false
-
-abbrev passed : Option Kind → Reply → PassOf → PassOf
+abbrev pub passed : Option Kind → Reply → PassOf → PassOf
 passed k r p = record { made = one_more k p.made; is_broken = breaks r || p.is_broken }
 
 record Fits (b : Book) (e : Event) (a : Answer) : Type 0 where

@@ -1,5 +1,5 @@
 -- What a pass tells after an event that was made through it.
-use Rattle.std.specs.Prelude.{◌≡◌, ◌⊎◌}
+use Rattle.std.specs.Prelude.{◌≡◌, ◌⊎◌, Bool, true, false}
 use Rattle.message_view.specs.declared.refusal.Refusal.{Refusal}
 use Rattle.message_view.specs.declared.refusal.Refusal.TheVariants.{LastDecision}
 use Rattle.book_lists.specs.Outcomes.{Event}
@@ -7,6 +7,13 @@ use Rattle.book_lists.specs.Outcomes.Event.{Arrive, Ask, Take, GiveBack, Lost, S
 use Rattle.book_lists.specs.declared.events.Reply.{Reply}
 use Rattle.book_lists.specs.declared.events.Reply.TheVariants.{Arrived, Queued, Lend, Start, Close, Refuse, Done, Stranger}
 use Rattle.desk_tallies.specs.Passes.{PassOf, after_refusal, broken, one_arrived, one_given_back, one_granted, one_left, one_lost, one_other}
+
+-- nothing more is promised of a pass after these replies
+abbrev pub breaks : Reply → Bool
+breaks (Refuse LastDecision) = true
+breaks (Refuse refusal) = false
+breaks Stranger = true
+breaks _ = false
 
 -- by the event and its reply; a tick that is done may be a decision or none, and to no event are other replies given
 abbrev pub Tells : Event → Reply → PassOf → PassOf → Type 0

@@ -1,5 +1,9 @@
 //! The desk that lends links: the lease book behind one lock.
 #![tactic(auto)]
 
-ghost use Rattle.pool_desk.specs.Tells.{Tells};
-ghost use Rattle.pool_desk.specs.Classes.{class_counts};
+pub mod answers;
+mod bells;
+pub mod desk;
+pub mod dial;
+pub mod handle;
+mod inner;
