@@ -5,6 +5,7 @@ ghost use Rattle.book_lists.specs.Book.{empty_book, is_link};
 ghost use Rattle.book_lists.specs.Events.{event_of};
 ghost use Rattle.book_lists.specs.Outcomes.{apply, apply_return, is_started_as};
 ghost use Rattle.book_lists.specs.Outcomes.Event.{GiveBack};
+ghost use Rattle.book_order.specs.Kept.{total};
 ghost use Rattle.book_register.specs.Counted.{counted_book};
 ghost use Rattle.book_register.specs.Views.{view_of, waiting_at};
 ghost use Rattle.book_lists.specs.Replay.{noted_of};
@@ -157,9 +158,17 @@ impl<E: ServerEnd> Book<E> {
         self.register.kept()
     }
 
+    /// How many decisions there were.
+    pub fn decisions(&self) -> u64
+        ensures { result ≡ self.now.lists.decisions }
+    {
+        self.register.lists().decisions()
+    }
+
     /// How many decisions there were of each kind.
     pub fn counts(&self) -> Counts
-        ensures { result ≡ self.now.lists.counts }
+        ensures counts { result ≡ self.now.lists.counts }
+        ensures all { total result ≡ self.now.lists.decisions }
     {
         self.register.lists().counts()
     }

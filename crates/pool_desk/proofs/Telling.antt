@@ -14,7 +14,7 @@ use Rattle.book_lists.specs.declared.counts.Kind.TheVariants.{Arrival, ArrivalRe
 use Rattle.book_lists.specs.declared.events.Reply.{Reply}
 use Rattle.book_lists.specs.declared.events.Reply.TheVariants.{Arrived, Queued, Lend, Start, Close, Refuse, Done, Stranger}
 use Rattle.book_order.proofs.KeepingLists.{impossible, not_found}
-use Rattle.desk_tallies.specs.Passes.{Made, PassOf}
+use Rattle.link_desk.specs.Passes.{Made, PassOf}
 use Rattle.desk_tallies.specs.Shares.{AtMost, by_class, sum_of}
 use Rattle.pool_desk.specs.Classes.{class_counts}
 use Rattle.pool_desk.specs.Tells.{Tells, breaks}
