@@ -2,4 +2,4 @@
 #![tactic(auto)]
 
 pub mod connection;
-mod talk;
+pub mod talk;
