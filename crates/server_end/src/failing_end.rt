@@ -1,6 +1,6 @@
 //! An end that fails from one of its calls on.
-ghost use Rattle.std.specs.Prelude.{◌≡◌, ◌<◌, ◌-◌};
-ghost use Rattle.server_end.specs.Failing.{Counts, Fails};
+ghost use Rattle.std.specs.Prelude.{◌≡◌, ◌<◌, ◌-◌, length};
+ghost use Rattle.server_end.specs.Failing.{Counts, Fails, IsCall};
 ghost use Rattle.server_end.specs.declared.failing_end.Calls.TheVariants.{Good};
 
 use crate::{ClientEnd, Moved, ServerEnd};
@@ -67,8 +67,11 @@ impl<E: ServerEnd> ServerEnd for FailingEnd<E> {
 
     ghost standing = { λ f. failing_server f.calls (E.standing f.inner) };
 
-    #[tactic(auto, using(crate::proofs::Failing::read_fails, crate::proofs::Failing::read_counts_fail, crate::proofs::Failing::read_passes, crate::proofs::Failing::read_counts_pass))]
-    fn read_some(&mut self, into: &mut [u8]) -> Moved {
+    #[tactic(auto, using(crate::proofs::Failing::call_fails, crate::proofs::Failing::call_passes, crate::proofs::Failing::read_fails, crate::proofs::Failing::read_counts_fail, crate::proofs::Failing::read_passes, crate::proofs::Failing::read_counts_pass))]
+    fn read_some(&mut self, into: &mut [u8]) -> Moved
+        requires { 0 < length into.old }
+        ensures call { IsCall self.old.calls self.new.calls self.old.inner self.new.inner (E.standing self.old.inner).faults result }
+    {
         let faults = self.inner.faults();
         match self.calls.failure(faults) {
             Some(answer) => answer,
@@ -76,8 +79,11 @@ impl<E: ServerEnd> ServerEnd for FailingEnd<E> {
         }
     }
 
-    #[tactic(auto, using(crate::proofs::Failing::write_fails, crate::proofs::Failing::write_counts_fail, crate::proofs::Failing::write_passes, crate::proofs::Failing::write_counts_pass))]
-    fn write_some(&mut self, from: &[u8]) -> Moved {
+    #[tactic(auto, using(crate::proofs::Failing::call_fails, crate::proofs::Failing::call_passes, crate::proofs::Failing::write_fails, crate::proofs::Failing::write_counts_fail, crate::proofs::Failing::write_passes, crate::proofs::Failing::write_counts_pass))]
+    fn write_some(&mut self, from: &[u8]) -> Moved
+        requires { 0 < length from.now }
+        ensures call { IsCall self.old.calls self.new.calls self.old.inner self.new.inner (E.standing self.old.inner).faults result }
+    {
         let faults = self.inner.faults();
         match self.calls.failure(faults) {
             Some(answer) => answer,
@@ -102,8 +108,11 @@ impl<E: ClientEnd> ClientEnd for FailingEnd<E> {
 
     ghost facts = { λ f. failing_client f.calls (E.facts f.inner) };
 
-    #[tactic(auto, using(crate::proofs::Failing::client_read_fails, crate::proofs::Failing::client_read_passes))]
-    fn read_some(&mut self, into: &mut [u8]) -> Moved {
+    #[tactic(auto, using(crate::proofs::Failing::call_fails, crate::proofs::Failing::call_passes, crate::proofs::Failing::client_read_fails, crate::proofs::Failing::client_read_passes))]
+    fn read_some(&mut self, into: &mut [u8]) -> Moved
+        requires { 0 < length into.old }
+        ensures call { IsCall self.old.calls self.new.calls self.old.inner self.new.inner (E.facts self.old.inner).faults result }
+    {
         let faults = self.inner.faults();
         match self.calls.failure(faults) {
             Some(answer) => answer,
@@ -111,8 +120,11 @@ impl<E: ClientEnd> ClientEnd for FailingEnd<E> {
         }
     }
 
-    #[tactic(auto, using(crate::proofs::Failing::client_write_fails, crate::proofs::Failing::client_write_passes))]
-    fn write_some(&mut self, from: &[u8]) -> Moved {
+    #[tactic(auto, using(crate::proofs::Failing::call_fails, crate::proofs::Failing::call_passes, crate::proofs::Failing::client_write_fails, crate::proofs::Failing::client_write_passes))]
+    fn write_some(&mut self, from: &[u8]) -> Moved
+        requires { 0 < length from.now }
+        ensures call { IsCall self.old.calls self.new.calls self.old.inner self.new.inner (E.facts self.old.inner).faults result }
+    {
         let faults = self.inner.faults();
         match self.calls.failure(faults) {
             Some(answer) => answer,
