@@ -16,7 +16,6 @@ pub fn resets_are_answered()
 {}
 
 /// The whole answer to a reset answers its `DISCARD ALL`: one ReadyForQuery, the last, and it is idle.
-#[tactic(auto, using(crate::proofs::Answering::is_answered))]
 pub fn reset_answers_answer()
     ensures { ResetAnswersAnswer }
 {}
