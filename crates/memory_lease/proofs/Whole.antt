@@ -107,15 +107,12 @@ same_service : (cat : CatalogueOf) (key : StartKeyOf) (pid secret : ℕ) (fs : L
     → service cat key pid secret (flat_map spelling fs ++ tail) ≡ service cat key pid secret bytes
 same_service cat key pid secret fs tail bytes each x = by x.nothing
   where
-    own : List ℕ → List ℕ
-    own b = service cat key pid secret b
-
-    by : (x.rest ≡ []) ⊎ ((tail ≡ []) × AddsNothing x.rest) → own (flat_map spelling fs ++ tail) ≡ own bytes
-    unfolding own
-    by (inl e) = ap own (sym (append-nil (flat_map spelling fs ++ tail)) ∙ (ap (λ (r : List ℕ). (flat_map spelling fs ++ tail) ++ r) (sym e) ∙ sym x.whole))
+    by : (x.rest ≡ []) ⊎ ((tail ≡ []) × AddsNothing x.rest) → service cat key pid secret (flat_map spelling fs ++ tail) ≡ service cat key pid secret bytes
+    by (inl e) = ap (service cat key pid secret) (sym (append-nil (flat_map spelling fs ++ tail)) ∙ (ap (λ (r : List ℕ). (flat_map spelling fs ++ tail) ++ r) (sym e) ∙ sym x.whole))
     by (inr y) =
         let front : flat_map spelling fs ++ tail ≡ flat_map spelling fs = ap (λ (t : List ℕ). flat_map spelling fs ++ t) y.0 ∙ append-nil (flat_map spelling fs) in
-        ap own front ∙ (sym (service_same cat key pid secret fs x.rest each y.1) ∙ (ap (λ (f : List ℕ). own (f ++ x.rest)) (sym front) ∙ ap own (sym x.whole)))
+        ap (service cat key pid secret) front
+        ∙ (sym (service_same cat key pid secret fs x.rest each y.1) ∙ (ap (λ (f : List ℕ). service cat key pid secret (f ++ x.rest)) (sym front) ∙ ap (service cat key pid secret) (sym x.whole)))
 
 -- at its end the client was done: what it gave is all of its bytes, or a Terminate stands next
 pub record IsOver (bytes : List ℕ) (v : RelayView) : Type 0 where

@@ -1,5 +1,5 @@
 -- What `replay` answers to one client's bytes: its login under the standing settings and users, and then what a server started for
--- that client alone answers, as far as the link to that server gives it.
+-- that client alone answers: all of it, or as much as the link gives whose server dies (`dies` bytes are read from it before).
 use Rattle.std.specs.Prelude.{◌≡◌, ℕ, List, [], ◌∷◌, ◌++◌, Option, Some, None, codes}
 use Rattle.std.specs.Io.KnownBytes.{Appends}
 use Rattle.message_view.specs.declared.KeyWord.{KeyWord}
@@ -60,33 +60,34 @@ standing_row bytes = row_for standing_rows (names_in bytes)
 
 -- what follows the pieces of a login: the refusal of the login, or what the client may be answered over its link, where a refusal
 -- has its cause (the standing settings allow the longest frames); a client of the console is closed without a byte
-abbrev pub Follows : CatalogueOf → End Way Reason → List ℕ → Type 0
-Follows cat Unfinished more = more ≡ []
-Follows cat (Passed (ToLink key) left) more = IsAnswer LONGEST_FRAME left more (service_pieces cat key standing_word left)
-Follows cat (Passed ToConsole left) more = more ≡ []
-Follows cat (Stopped (Refused cause)) more = more ≡ refusal cause
-Follows cat (Stopped Failed) more = more ≡ []
-Follows cat (Stopped Left) more = more ≡ []
+abbrev pub Follows : Option ℕ → CatalogueOf → End Way Reason → List ℕ → Type 0
+Follows dies cat Unfinished more = more ≡ []
+Follows dies cat (Passed (ToLink key) left) more = IsAnswer dies LONGEST_FRAME left more (service_pieces cat key standing_word left)
+Follows dies cat (Passed ToConsole left) more = more ≡ []
+Follows dies cat (Stopped (Refused cause)) more = more ≡ refusal cause
+Follows dies cat (Stopped Failed) more = more ≡ []
+Follows dies cat (Stopped Left) more = more ≡ []
 
 -- the pieces of what the login says, and what follows them
-pub record IsAnswered (cat : CatalogueOf) (said : Dialogue) (out : List ℕ) : Type 0 where
+pub record IsAnswered (dies : Option ℕ) (cat : CatalogueOf) (said : Dialogue) (out : List ℕ) : Type 0 where
   pub more : List ℕ
-  pub follows : Follows cat said.ended more
+  pub follows : Follows dies cat said.ended more
   pub out_is : out ≡ joined_pieces said.pieces ++ more
 
 -- what a server started for this client alone answers from its first byte on, each frame a piece
 abbrev pub own : List ℕ → List (List ℕ)
 own bytes = solo standing_catalogue (standing_row bytes) standing_word bytes
 
--- What a client is answered begins that, or is some first whole pieces of it and one refusal; and its login is answered as it says.
-pub record IsReply (bytes out : List ℕ) : Type 0 where
-  pub login : IsAnswered standing_catalogue (login (standing_row bytes) standing_word bytes) out
-  pub allowed : IsAllowed out (own bytes)
+-- What a client is answered is all of that, or begins it where the server may die, or is some first whole pieces of it and one
+-- refusal; and its login is answered as it says.
+pub record IsReply (dies : Option ℕ) (bytes out : List ℕ) : Type 0 where
+  pub login : IsAnswered dies standing_catalogue (login (standing_row bytes) standing_word bytes) out
+  pub allowed : IsAllowed dies out (own bytes)
 
--- such an answer was added to the output, where its contents are known
+-- the answer over a server that doesn't die was added to the output, where its contents are known
 pub record WritesReply (before after : Option (List ℕ)) (bytes : List ℕ) : Type 0 where
   pub out : List ℕ
-  pub reply : IsReply bytes out
+  pub reply : IsReply None bytes out
   pub adds : Appends before after out
 
 -- ---- what is left of the output after a fault

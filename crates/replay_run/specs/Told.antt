@@ -1,5 +1,5 @@
 -- What the code of `replay` holds, in the definitions' words.
-use Rattle.std.specs.Prelude.{◌≡◌, ◌⊎◌, ◌<◌, ℕ, List, [], ◌++◌, Bool, true, false}
+use Rattle.std.specs.Prelude.{◌≡◌, ◌⊎◌, ◌<◌, ℕ, List, [], ◌++◌, Bool, true, false, Option}
 use Rattle.std.specs.Arc.{arc_value}
 use Rattle.message_view.specs.declared.refusal.Refusal.TheVariants as refused
 use Rattle.session_values.specs.State.{CatalogueOf}
@@ -47,9 +47,9 @@ IsPastArrival (step.Failed f) v = Unit {0}
 IsPastArrival step.Left v = Unit {0}
 
 -- what may be answered to what the login says was added
-pub record Adds (cat : CatalogueOf) (said : Dialogue) (before after : List ℕ) : Type 0 where
+pub record Adds (dies : Option ℕ) (cat : CatalogueOf) (said : Dialogue) (before after : List ℕ) : Type 0 where
   pub given : List ℕ
-  pub answered : IsAnswered cat said given
+  pub answered : IsAnswered dies cat said given
   pub both : after ≡ before ++ given
 
 -- the key with which a login passes can start a link

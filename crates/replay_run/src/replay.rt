@@ -73,7 +73,7 @@ fn served(
     rest: &[u8],
 ) -> Result<BytesMut, AllocError>
     requires key { IsLinkKey (arc_value key.now) }
-    ensures { IfOk result (λ out. IsAnswer LONGEST_FRAME rest.now out.items (service_pieces (arc_value service.now.catalogue) (arc_value key.now) standing_word rest.now)) }
+    ensures { IfOk result (λ out. IsAnswer service.now.dies_after LONGEST_FRAME rest.now out.items (service_pieces (arc_value service.now.catalogue) (arc_value key.now) standing_word rest.now)) }
 {
     service.catalogue.is_lawful();
     let catalogue = Arc::try_clone(&service.catalogue)?;
@@ -109,7 +109,7 @@ fn put_passed(
     out: &mut BytesMut,
 ) -> Result<(), AllocError>
     requires key { IsLinkKey (arc_value key.now) }
-    ensures { OnOk result (Adds (arc_value service.now.catalogue) (record { pieces = ok ∷ []; ended = Passed (ToLink (arc_value key.now)) rest.now }) out.old.items out.new.items) }
+    ensures { OnOk result (Adds service.now.dies_after (arc_value service.now.catalogue) (record { pieces = ok ∷ []; ended = Passed (ToLink (arc_value key.now)) rest.now }) out.old.items out.new.items) }
 {
     put_authentication_ok(out)?;
     let answer = served(alloc, service, key, rest)?;
@@ -127,7 +127,7 @@ fn put_step(
     out: &mut BytesMut,
 ) -> Result<(), AllocError>
     requires { HasLinkKey step.now }
-    ensures given { OnOk result (Adds (arc_value service.now.catalogue) (after step.now rest.now silence) out.old.items out.new.items) }
+    ensures given { OnOk result (Adds service.now.dies_after (arc_value service.now.catalogue) (after step.now rest.now silence) out.old.items out.new.items) }
     ensures memory { OnOk result (WantsMemory step.now → ⊥) }
 {
     match step {
@@ -176,7 +176,7 @@ fn put_login(
 ) -> Result<(), AllocError>
     requires missing { 0 < missing login.old.hearing login.old.held }
     requires keyed { IsKeyed (goes_on login.old bytes.now).ended }
-    ensures { OnOk result (Adds (arc_value service.now.catalogue) (goes_on login.old bytes.now) out.old.items out.new.items) }
+    ensures { OnOk result (Adds service.now.dies_after (arc_value service.now.catalogue) (goes_on login.old bytes.now) out.old.items out.new.items) }
 {
     if bytes.is_empty() {
         return Ok(());
@@ -207,7 +207,8 @@ fn standing_service(
     dies_after: Option<u64>,
 ) -> Result<Service, AllocError>
     requires { 0 < cut }
-    ensures { IfOk result (λ s. arc_value s.catalogue ≡ standing_catalogue) }
+    ensures catalogue { IfOk result (λ s. arc_value s.catalogue ≡ standing_catalogue) }
+    ensures dies { IfOk result (λ s. s.dies_after ≡ dies_after) }
 {
     let settings = settings(alloc)?;
     Ok(Service {
@@ -219,7 +220,8 @@ fn standing_service(
 }
 
 /// What a client of the standing settings is answered: its bytes in, its replies out. A call of an end of its lease moves at most
-/// `cut` bytes, and its server dies once `dies_after` bytes were read from it. The only error is want of memory.
+/// `cut` bytes, and its server dies once `dies_after` bytes were read from it; over one that doesn't, all is answered. The only
+/// error is want of memory, or a lease that comes to no end ([`serve_alone`]).
 pub fn replies(
     alloc: Global,
     cut: usize,
@@ -227,7 +229,7 @@ pub fn replies(
     bytes: &[u8],
 ) -> Result<BytesMut, AllocError>
     requires { 0 < cut }
-    ensures { IfOk result (λ out. IsReply bytes.now out.items) }
+    ensures { IfOk result (λ out. IsReply dies_after bytes.now out.items) }
 {
     login_is_of_its_row();
     settings_rows_are_lawful();

@@ -7,14 +7,14 @@ use Rattle.replay_run.proofs.Replaying.{given_last, given_on, key_of_step, keyed
 use Rattle.replay_run.proofs.replay.+put_login.Goals as goal
 
 pub returns-then-is_empty : goal.returns-then-is_empty
-returns-then-is_empty t c = nothing_given (arc_value c.args.service.now.catalogue) c.args.login.now c.args.bytes.now c.args.out.now.items c.requires.missing c.if-is_empty.ensures
+returns-then-is_empty t c = nothing_given c.args.service.now.dies_after (arc_value c.args.service.now.catalogue) c.args.login.now c.args.bytes.now c.args.out.now.items c.requires.missing c.if-is_empty.ensures
 
 pub put_step-requires : goal.put_step-requires
 put_step-requires t c = key_of_step c.args.login.now c.advance-used.new.login c.args.bytes.now _ c.advance-used.result.1 c.advance-used.ensures.says c.requires.keyed
 
 pub returns-then-is_end : goal.returns-then-is_end
-returns-then-is_end t c = given_last (arc_value c.args.service.now.catalogue) c.args.login.now c.advance-used.new.login c.args.bytes.now _ _ _ c.advance-used.result.1 c.advance-used.ensures.says c.in_ok-put_step.ensures.memory (sym c.if-is_end.ensures)
-    (subst (λ (r : List ℕ). Adds (arc_value c.args.service.now.catalogue) (after c.advance-used.result.1 r silence) c.args.out.now.items c.put_step.new.out.items) (all_of c.advance-used.result.0 c.args.bytes.now) c.in_ok-put_step.ensures.given)
+returns-then-is_end t c = given_last c.args.service.now.dies_after (arc_value c.args.service.now.catalogue) c.args.login.now c.advance-used.new.login c.args.bytes.now _ _ _ c.advance-used.result.1 c.advance-used.ensures.says c.in_ok-put_step.ensures.memory (sym c.if-is_end.ensures)
+    (subst (λ (r : List ℕ). Adds c.args.service.now.dies_after (arc_value c.args.service.now.catalogue) (after c.advance-used.result.1 r silence) c.args.out.now.items c.put_step.new.out.items) (all_of c.advance-used.result.0 c.args.bytes.now) c.in_ok-put_step.ensures.given)
 
 pub put_login-requires : goal.put_login-requires
 put_login-requires t c = (
@@ -28,7 +28,7 @@ put_login-requires t c = (
 
 pub returns : goal.returns
 returns t c = on_ok c.put_login.result
-    (λ x. given_on (arc_value c.args.service.now.catalogue) c.args.login.now c.advance-used.new.login c.args.bytes.now _ _ _ _ c.advance-used.result.1 c.advance-used.ensures.says c.in_ok-put_step.ensures.memory (sym c.if-is_end.ensures)
-    (subst (λ (r : List ℕ). Adds (arc_value c.args.service.now.catalogue) (after c.advance-used.result.1 r silence) c.args.out.now.items c.put_step.new.out.items) (all_of c.advance-used.result.0 c.args.bytes.now) c.in_ok-put_step.ensures.given)
-    (subst (λ (r : List ℕ). Adds (arc_value c.args.service.now.catalogue) (goes_on c.advance-used.new.login r) c.put_step.new.out.items c.put_login.new.out.items) (all_of c.advance-used.result.0 c.args.bytes.now) x))
+    (λ x. given_on c.args.service.now.dies_after (arc_value c.args.service.now.catalogue) c.args.login.now c.advance-used.new.login c.args.bytes.now _ _ _ _ c.advance-used.result.1 c.advance-used.ensures.says c.in_ok-put_step.ensures.memory (sym c.if-is_end.ensures)
+    (subst (λ (r : List ℕ). Adds c.args.service.now.dies_after (arc_value c.args.service.now.catalogue) (after c.advance-used.result.1 r silence) c.args.out.now.items c.put_step.new.out.items) (all_of c.advance-used.result.0 c.args.bytes.now) c.in_ok-put_step.ensures.given)
+    (subst (λ (r : List ℕ). Adds c.args.service.now.dies_after (arc_value c.args.service.now.catalogue) (goes_on c.advance-used.new.login r) c.put_step.new.out.items c.put_login.new.out.items) (all_of c.advance-used.result.0 c.args.bytes.now) x))
     c.put_login.ensures
