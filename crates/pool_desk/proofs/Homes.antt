@@ -99,4 +99,4 @@ module _ {E : Type 0} where
   pub comes_back : (e : Event E) (back : Option LinkView) (r told : ListsReply) (idle : List LinkView) → back ≡ handed_after e told idle → r ≡ told → IfSome (brought e) (λ l. back ≡ handed_back l r)
   comes_back e back r told idle is same =
       subst (λ (o : Option LinkView). IfSome (brought e) (λ l. o ≡ handed_back l r)) (sym is)
-        (subst (λ (x : ListsReply). IfSome (brought e) (λ l. handed_after e told idle ≡ handed_back l x)) (sym same) (handed_of_return e told idle))
+      (subst (λ (x : ListsReply). IfSome (brought e) (λ l. handed_after e told idle ≡ handed_back l x)) (sym same) (handed_of_return e told idle))

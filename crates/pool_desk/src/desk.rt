@@ -188,13 +188,11 @@ impl<S: Dial, A: Ledger, G: Ledger, B: Ledger, L: Ledger, W: Ledger, O: Ledger> 
     {
         let mut core = self.core.lock(rt);
         for _ in rt.forever() {
-            let reply = core.apply(pass, Event::Take { client });
-            if let Reply::Queued(_) = reply {
-                core = self.bells.of(client).wait(rt, core);
-                continue;
-            }
-            self.ring_first(&core);
-            return match reply {
+            let grant = match core.apply(pass, Event::Take { client }) {
+                Reply::Queued(_before) => {
+                    core = self.bells.of(client).wait(rt, core);
+                    continue;
+                }
                 Reply::Lend(link) => Grant::Lend(link),
                 Reply::Start {
                     number,
@@ -205,10 +203,12 @@ impl<S: Dial, A: Ledger, G: Ledger, B: Ledger, L: Ledger, W: Ledger, O: Ledger> 
                     born,
                     evicted,
                 },
-                Reply::Refuse(refusal, _) => Grant::Refused(refusal),
-                Reply::Stranger(_) => Grant::Stranger,
+                Reply::Refuse(refusal, _back) => Grant::Refused(refusal),
+                Reply::Stranger(_back) => Grant::Stranger,
                 _ => unreachable!(),
             };
+            self.ring_first(&core);
+            return grant;
         }
         unreachable!()
     }
