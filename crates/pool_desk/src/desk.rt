@@ -51,10 +51,18 @@ fn helped_by<E: ServerEnd>(event: &Event<E>) -> Helps {
 }
 
 /// The lease book behind one lock, and the bells of the clients that wait. Each event is one hold of the lock, in which no byte moves.
-#[derive(Drop)]
 pub struct Desk<S: Dial, A: Ledger, G: Ledger, B: Ledger, L: Ledger, W: Ledger, O: Ledger> {
     core: Mutex<Core<S, A, G, B, L, W, O>>,
     bells: Bells,
+}
+
+/// A drop of its own is proved here once. A derived one would be proved, with that of each part of a book, in every crate that has a
+/// desk.
+impl<S: Dial, A: Ledger, G: Ledger, B: Ledger, L: Ledger, W: Ledger, O: Ledger> Drop
+    for Desk<S, A, G, B, L, W, O> {
+    fn drop(self) {
+        let Desk { core: _, bells: _ } = self;
+    }
 }
 
 impl<S: Dial, A: Ledger, G: Ledger, B: Ledger, L: Ledger, W: Ledger, O: Ledger> Desk<
