@@ -5,3 +5,5 @@
 mod parts;
 #[cfg(test)]
 mod stories;
+#[cfg(test)]
+mod waits;
