@@ -3,14 +3,13 @@ ghost use Rattle.std.specs.Prelude.{◌<◌};
 ghost use Rattle.link_start.specs.Starts.{CanStart};
 
 use crate::making::{SHOP, begin, server};
-use disposal::Verdict;
 use link_run::links::{CleanLink, UsedLink};
 use link_run::reset::{ResetFault, reset_link};
 use message_view::KeyWord;
 use paced_client::PacedClient;
-use relay_core::relay::{Cause, Relay, Returned};
+use relay_core::relay::{Relay, Returned};
 use relay_steps::Next;
-use server_end::ServerEnd;
+use server_end::{ClientEnd, ServerEnd};
 use server_end::failing_end::FailingEnd;
 use server_end::gate::{OpenGate, Ready};
 use server_end::memory_server::ServerAuth;
@@ -64,13 +63,13 @@ fn client(alloc: Global, packets: &[u8]) -> Result<PacedClient, Fail> {
     Ok(client)
 }
 
-/// A lease of the link to such a client, until the client is done: the client, and what becomes of the link.
-fn lease<E: ServerEnd>(
+/// A lease of the link to this client, until the client is done: the client, and what becomes of the link.
+pub fn lease<C: ClientEnd, E: ServerEnd>(
     alloc: Global,
     link: CleanLink<E>,
     pid: u32,
-    packets: &[u8],
-) -> Result<(PacedClient, Returned<E>), Fail> {
+    client: C,
+) -> Result<(C, Returned<E>), Fail> {
     let word = KeyWord {
         pid,
         secret: 2,
@@ -80,7 +79,6 @@ fn lease<E: ServerEnd>(
         client: true,
         server: true,
     };
-    let client = client(alloc, packets)?;
     let Ok(mut relay) = Relay::begin(alloc, client, link, word, 1000) else {
         return Err("no lease")?;
     };
@@ -93,7 +91,7 @@ fn lease<E: ServerEnd>(
 }
 
 /// A link over this end.
-fn link<E: ServerEnd>(alloc: Global, end: E) -> Result<CleanLink<E>, Fail>
+pub fn link<E: ServerEnd>(alloc: Global, end: E) -> Result<CleanLink<E>, Fail>
     requires { CanStart (E.standing end) }
 {
     let Ok(link) = begin(alloc, end, SHOP)? else {
@@ -106,7 +104,7 @@ fn link<E: ServerEnd>(alloc: Global, end: E) -> Result<CleanLink<E>, Fail>
 fn used<E: ServerEnd>(alloc: Global, end: E) -> Result<(PacedClient, UsedLink<E>), Fail>
     requires { CanStart (E.standing end) }
 {
-    let (client, Returned::Used(link)) = lease(alloc, link(alloc, end)?, 1, set())? else {
+    let (client, Returned::Used(link)) = lease(alloc, link(alloc, end)?, 1, client(alloc, set())?)? else {
         return Err("not used")?;
     };
     Ok((client, link))
@@ -120,7 +118,7 @@ fn is_clean<E: ServerEnd>(alloc: Global, end: E) -> Result<bool, Fail>
     let Ok(link) = reset_link(alloc, link, &mut OpenGate, 20) else {
         return Err("not reset")?;
     };
-    let (second, _) = lease(alloc, link, 3, show())?;
+    let (second, _) = lease(alloc, link, 3, client(alloc, show())?)?;
     Ok(
         first.given().strip_prefix(reports()) == Some(told_first())
             && second.given().strip_prefix(reports()) == Some(told_second()),
@@ -131,32 +129,6 @@ fn is_clean<E: ServerEnd>(alloc: Global, end: E) -> Result<bool, Fail>
 fn a_second_client_is_given_nothing_of_the_first(rt: HostRuntime) -> Result<(), Fail> {
     let alloc = rt.alloc();
     assert!(rt; is_clean(alloc, server(alloc, ServerAuth::Trust, 100, None)?)?);
-    Ok(())
-}
-
-/// Whether a link comes back unused from a client that sends these packets; or why it is gone.
-fn returned<E: ServerEnd>(
-    alloc: Global,
-    end: E,
-    packets: &[u8],
-) -> Result<(bool, Option<Cause>), Fail>
-    requires { CanStart (E.standing end) }
-{
-    match lease(alloc, link(alloc, end)?, 1, packets)?.1 {
-        Returned::Unused(_) => Ok((true, None)),
-        Returned::Used(_) => Ok((false, None)),
-        Returned::Gone(_, cause) => Ok((false, Some(cause))),
-    }
-}
-
-#[test]
-fn a_link_is_unused_or_gone(rt: HostRuntime) -> Result<(), Fail> {
-    let alloc = rt.alloc();
-    let end = server(alloc, ServerAuth::Trust, 100, None)?;
-    assert!(rt; returned(alloc, end, b"")? == (true, None));
-    let end = server(alloc, ServerAuth::Trust, 100, None)?;
-    let in_block = Some(Cause::Left(Verdict::InBlock));
-    assert!(rt; returned(alloc, end, b"Q\0\0\0\x0aBEGIN\0")? == (false, in_block));
     Ok(())
 }
 

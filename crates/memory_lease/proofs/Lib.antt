@@ -1,4 +1,6 @@
 pub mod Pieces
 pub mod Service
 pub mod Causes
+pub mod Rest
+pub mod Whole
 pub mod Answering

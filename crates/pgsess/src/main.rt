@@ -7,7 +7,7 @@ ghost use Rattle.pgsess.specs.Statuses as spec;
 use pool_app::fault::{self, AppFault};
 use pool_app::files;
 use pool_app::line::{self, Job};
-use pool_app::replay::replay;
+use replay_run::replay::replay;
 use std::alloc::Global;
 use std::process::ExitCode;
 use std::rt::Files;

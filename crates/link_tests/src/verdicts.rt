@@ -1,0 +1,84 @@
+//! What becomes of a link by what went over it.
+ghost use Rattle.link_start.specs.Starts.{CanStart};
+
+use crate::making::server;
+use crate::resets::{lease, link};
+use disposal::Verdict;
+use relay_core::relay::{Cause, Returned};
+use server_end::ServerEnd;
+use server_end::memory_client::MemoryClient;
+use server_end::memory_server::ServerAuth;
+use std::alloc::Global;
+use std::test::Fail;
+
+/// A Parse of `SELEC`, which the server refuses: it skips what comes up to a Sync.
+const REFUSED: &[u8] = b"P\0\0\0\x0d\0SELEC\0\0\0";
+
+/// The Query `SHOW TimeZone`.
+const SHOW: &[u8] = b"Q\0\0\0\x12SHOW TimeZone\0";
+
+const SYNC: &[u8] = b"S\0\0\0\x04";
+
+/// What the client of such a lease is given last: the ErrorResponse.
+const ERROR: &[u8] = b"E\0\0\0\x28SERROR\0VERROR\0C42601\0Msyntax error\0\0";
+
+/// What becomes of a link.
+#[derive(Clone, Copy, Debug, PartialEq, Eq)]
+enum End {
+    Unused,
+    Used,
+    Gone(Cause),
+}
+
+/// What becomes of the link of a client that sends these messages at once and ends, and whether the client was given these bytes last.
+fn end<E: ServerEnd>(alloc: Global, end: E, messages: &[&[u8]], last: &[u8]) -> Result<(End, bool), Fail>
+    requires { CanStart (E.standing end) }
+{
+    let Ok(mut client) = MemoryClient::new(alloc, b"", 1_000) else {
+        return Err("no memory")?;
+    };
+    for message in messages {
+        client.feed(message)?;
+    }
+    client.hang_up();
+    let (client, link) = lease(alloc, link(alloc, end)?, 1, client)?;
+    let told = client.given().ends_with(last);
+    match link {
+        Returned::Unused(_) => Ok((End::Unused, told)),
+        Returned::Used(_) => Ok((End::Used, told)),
+        Returned::Gone(_, cause) => Ok((End::Gone(cause), told)),
+    }
+}
+
+/// The same over a server that asks for nothing.
+fn left(alloc: Global, messages: &[&[u8]], last: &[u8]) -> Result<(End, bool), Fail> {
+    end(alloc, server(alloc, ServerAuth::Trust, 1_000, None)?, messages, last)
+}
+
+#[test]
+fn a_link_is_unused_or_used(rt: HostRuntime) -> Result<(), Fail> {
+    let alloc = rt.alloc();
+    assert!(rt; left(alloc, &[], b"Z\0\0\0\x05I")? == (End::Unused, true));
+    assert!(rt; left(alloc, &[SHOW], b"Z\0\0\0\x05I")? == (End::Used, true));
+    Ok(())
+}
+
+#[test]
+fn a_block_is_left_open(rt: HostRuntime) -> Result<(), Fail> {
+    let in_block = End::Gone(Cause::Left(Verdict::InBlock));
+    assert!(rt; left(rt.alloc(), &[b"Q\0\0\0\x0aBEGIN\0"], b"Z\0\0\0\x05T")? == (in_block, true));
+    Ok(())
+}
+
+/// A Query that the server skips is never answered, also where a Sync behind it is: two messages asked for a ReadyForQuery, and one
+/// came.
+#[test]
+fn a_skipped_query_is_unanswered(rt: HostRuntime) -> Result<(), Fail> {
+    let alloc = rt.alloc();
+    let unanswered = End::Gone(Cause::Left(Verdict::Unanswered));
+    assert!(rt; left(alloc, &[REFUSED, SHOW], ERROR)? == (unanswered, true));
+    let idle = left(alloc, &[REFUSED, SHOW, SYNC], b"Msyntax error\0\0Z\0\0\0\x05I")?;
+    assert!(rt; idle == (unanswered, true));
+    assert!(rt; left(alloc, &[REFUSED, SYNC], b"Z\0\0\0\x05I")? == (End::Used, true));
+    Ok(())
+}
