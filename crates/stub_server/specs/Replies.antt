@@ -24,7 +24,7 @@ first_reply v again (LacksFirst n) = []
 first_reply v again (FaultyFirst fault) = []
 
 -- where at most so many first packets are answered
-pub replies_to_first : Server → ℕ → List ℕ → List ℕ
+abbrev pub replies_to_first : Server → ℕ → List ℕ → List ℕ
 replies_to_first v zero bytes = []
 replies_to_first v (suc n) bytes = first_reply v (replies_to_first v n) (first_front bytes)
 

@@ -26,7 +26,7 @@ pub enum Ending {
 }
 
 /// What a turn of a connection came to.
-#[derive(Clone, Copy, Debug, PartialEq, Eq, Drop)]
+#[derive(Clone, Copy, Drop)]
 pub enum Progress {
     /// Bytes were moved.
     Moved,

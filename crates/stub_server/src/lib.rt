@@ -2,4 +2,5 @@
 #![tactic(auto)]
 
 pub mod connection;
+pub mod server;
 pub mod talk;

@@ -10,10 +10,10 @@ ghost use Rattle.stub_server.specs.declared.talk.Stage.TheVariants.{Serves, Wait
 use bytes::{BufMut, BytesMut};
 use frame_view::client::TERMINATE;
 use frame_view::laws::{
-    are_bytes, first_grows, first_read_is_spelled, first_spelled_is_read, front_grows,
-    front_is_spelled, spelled_is_first,
+    are_bytes, first_grows, first_read_is_spelled, front_grows, front_is_spelled,
 };
 use frame_view::{FirstStep, LONGEST_FRAME, Side, Step, first_packet, next_frame};
+use link_laws::futures_stay;
 use message_view::{KeyWord, StartupView, put_authentication_ok};
 use server_catalogue::Catalogue;
 use session_machine::Session;
@@ -41,7 +41,7 @@ pub enum Stage {
 }
 
 /// What was taken.
-#[derive(Clone, Copy, Debug, PartialEq, Eq, Drop)]
+#[derive(Clone, Copy, Drop)]
 pub enum Took {
     /// A whole packet.
     Packet,
@@ -105,6 +105,41 @@ impl Host {
         }
     }
 
+    /// Takes the first packet, if a whole one stands first.
+    fn take_first(
+        &self,
+        left: u8,
+        stage: &mut Stage,
+        inbox: &mut BytesMut,
+        outbox: &mut BytesMut,
+    ) -> Result<Took, AllocError>
+        requires stage { stage.old ≡ Waits left }
+        requires some { 0 < left }
+        ensures { IfOk result (λ took. Takes took (talk_of self.now stage.old inbox.old.items outbox.old.items) (talk_of self.now stage.new inbox.new.items outbox.new.items)) }
+    {
+        first_read_is_spelled();
+        first_grows();
+        let held = inbox.as_slice();
+        are_bytes(held);
+        match first_packet(held) {
+            FirstStep::Startup(start) => {
+                let used = FIRST_HEAD + start.len();
+                *stage = self.open(start, outbox)?;
+                inbox.advance(used);
+                Ok(Took::Packet)
+            }
+            FirstStep::Tls | FirstStep::Gss => {
+                outbox.put_u8(NOT_ENCRYPTED)?;
+                *stage = Stage::Waits(left - 1);
+                inbox.advance(FIRST_HEAD);
+                Ok(Took::Packet)
+            }
+            FirstStep::Need(_) => Ok(Took::Nothing),
+            FirstStep::Cancel { .. } => Ok(Took::End),
+            FirstStep::Bad(_) => Ok(Took::End),
+        }
+    }
+
     /// Answers the frame that stands first, if a whole one does.
     fn take_frame(
         &self,
@@ -115,7 +150,7 @@ impl Host {
         ensures { IfOk result (λ took. Takes took (talk_of self.now (Serves session.old) inbox.old.items outbox.old.items) (talk_of self.now (Serves session.new) inbox.new.items outbox.new.items)) }
     {
         front_is_spelled();
-        spelled_is_first();
+        futures_stay();
         front_grows();
         let held = inbox.as_slice();
         are_bytes(held);
@@ -181,41 +216,6 @@ impl Talk {
         self.outbox.advance(count);
     }
 
-    /// Takes the first packet, if a whole one stands first.
-    fn take_first(&mut self, left: u8) -> Result<Took, AllocError>
-        requires stage { self.old.stage ≡ Waits left }
-        requires some { 0 < left }
-        ensures { IfOk result (λ took. Takes took self.old self.new) }
-    {
-        first_read_is_spelled();
-        first_spelled_is_read();
-        first_grows();
-        let Talk {
-            host,
-            stage,
-            inbox,
-            outbox,
-        } = self;
-        let held = inbox.as_slice();
-        are_bytes(held);
-        match first_packet(held) {
-            FirstStep::Startup(start) => {
-                let used = FIRST_HEAD + start.len();
-                *stage = host.open(start, outbox)?;
-                inbox.advance(used);
-                Ok(Took::Packet)
-            }
-            FirstStep::Tls | FirstStep::Gss => {
-                outbox.put_u8(NOT_ENCRYPTED)?;
-                *stage = Stage::Waits(left - 1);
-                inbox.advance(FIRST_HEAD);
-                Ok(Took::Packet)
-            }
-            FirstStep::Need(_) => Ok(Took::Nothing),
-            FirstStep::Cancel { .. } | FirstStep::Bad(_) => Ok(Took::End),
-        }
-    }
-
     /// Takes the packet that stands first, if a whole one does.
     fn take_one(&mut self) -> Result<bool, AllocError>
         ensures { IfOk result (λ taken. TakesOne taken self.old self.new) }
@@ -230,7 +230,7 @@ impl Talk {
             Stage::Waits(0) => Took::Nothing,
             Stage::Waits(left) => {
                 let left = *left;
-                self.take_first(left)?
+                host.take_first(left, stage, inbox, outbox)?
             }
             Stage::Serves(session) => host.take_frame(session, inbox, outbox)?,
         };

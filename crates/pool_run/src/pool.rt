@@ -1,0 +1,151 @@
+//! One pool, from the first connection to the last.
+ghost use Rattle.std.specs.Prelude.{◌≡◌, IfSome};
+ghost use Rattle.std.specs.Arc.{arc_value};
+ghost use Rattle.ini_config.specs.Bounds.{AreWithinBounds};
+ghost use Rattle.desk_tallies.specs.declared.passes.TheConstants.{ALL_PARTS};
+ghost use Rattle.desk_tallies.specs.Shares.{by_class, names_of, of_each, parts_of};
+
+use crate::dialing::TcpDial;
+use crate::limits::limits;
+use desk_tallies::passes::Pass;
+use desk_tallies::tallies::Blanks;
+use ini_config::Settings;
+use key_source::KeySource;
+use link_start::close::close_link;
+use login_core::Login;
+use message_view::KeyWord;
+use mio::net::TcpListener;
+use pool_desk::answers::Ticked;
+use pool_desk::desk::Desk;
+use pool_desk::handle::DeskAt;
+use pool_serve::serve::serve;
+use std::alloc::{AllocError, Global};
+use std::marker::Brand;
+use std::net::Net;
+use std::rt::Clock;
+use std::sync::atomic::{AtomicBool, Ordering};
+use std::sync::ledger::Ledger;
+use std::sync::{Arc, Mutex, Wait};
+use std::thread::Threads;
+use std::time::{Duration, Instant};
+use std::{io, net, thread};
+use tcp_end::acceptor::Acceptor;
+use tcp_end::connection::TcpEnd;
+use tcp_end::gate::TcpGate;
+use user_file::Users;
+use worker_threads::Workers;
+
+/// Passes that no worker has at this time.
+#[derive(Drop)]
+struct Free<A: Ledger, G: Ledger, B: Ledger, L: Ledger, W: Ledger, O: Ledger> {
+    passes: Vec<Pass<A, G, B, L, W, O>>,
+}
+
+/// What all threads of a pool share.
+struct Pool<R: Net, A: Ledger, G: Ledger, B: Ledger, L: Ledger, W: Ledger, O: Ledger> {
+    alloc: Global,
+    desk: Desk<TcpDial<R>, A, G, B, L, W, O>,
+    dialer: TcpDial<R>,
+    free: Mutex<Free<A, G, B, L, W, O>>,
+    settings: Arc<Settings>,
+    users: Arc<Users>,
+    /// The last connection is done.
+    has_ended: AtomicBool,
+    ghost bounds: { AreWithinBounds (arc_value settings) },
+}
+
+/// A drop of its own is proved here once.
+impl<R: Net, A: Ledger, G: Ledger, B: Ledger, L: Ledger, W: Ledger, O: Ledger> Drop
+    for Pool<R, A, G, B, L, W, O> {
+    fn drop(self) {
+        let Pool {
+            alloc: _,
+            desk: _,
+            dialer: _,
+            free: _,
+            settings: _,
+            users: _,
+            has_ended: _,
+        } = self;
+    }
+}
+
+impl<R: Net, A: Ledger, G: Ledger, B: Ledger, L: Ledger, W: Ledger, O: Ledger> Pool<
+    R,
+    A,
+    G,
+    B,
+    L,
+    W,
+    O,
+> {
+    /// A pass that another worker gave back, or a new one.
+    fn pass<T: Wait>(&self, rt: &T) -> Option<Pass<A, G, B, L, W, O>> {
+        let free = self.free.lock(rt).passes.pop();
+        match free {
+            Some(pass) => Some(pass),
+            None => self.desk.pass(rt),
+        }
+    }
+
+    /// A worker is done with this pass.
+    fn give_back<T: Wait>(&self, rt: &T, pass: Pass<A, G, B, L, W, O>) {
+        // one that isn't kept is never used again
+        let _ = self.free.lock(rt).passes.push(pass);
+    }
+
+    /// The login of a client with this key word.
+    fn login(&self, word: KeyWord) -> Result<Login, AllocError> {
+        let settings = Arc::try_clone(&self.settings)?;
+        let users = Arc::try_clone(&self.users)?;
+        Login::new(self.alloc, settings, users, word)
+    }
+
+    /// Serves one connection to its end. One for which there is no poll, no pass or no memory is closed.
+    fn attend<T: Wait + Net>(&self, rt: &T, word: KeyWord, client: TcpEnd) {
+        let mut client = client;
+        let (Ok(gate), Ok(login)) = (TcpGate::new(rt, self.alloc, &mut client), self.login(word))
+        else {
+            return;
+        };
+        let Some(pass) = self.pass(rt) else {
+            return;
+        };
+        let desk = DeskAt {
+            rt,
+            desk: &self.desk,
+            dialer: &self.dialer,
+        };
+        let (_, pass) = serve(self.alloc, &desk, pass, client, login, word, gate);
+        self.give_back(rt, pass);
+    }
+
+    /// Tells the desk this second until nothing more is to be closed; whether the clock is still wanted.
+    fn tick<T: Wait>(&self, rt: &T, pass: &mut Pass<A, G, B, L, W, O>, now: u64) -> bool {
+        for _ in rt.forever() {
+            match self.desk.tick(rt, pass, now) {
+                Ticked::Done => return true,
+                Ticked::Close(link) => close_link(link),
+                Ticked::Last => return false,
+            }
+        }
+        unreachable!()
+    }
+
+    /// The clock: the whole seconds since the start, one after the other, until the last connection is done.
+    fn run_clock<T: Wait + Clock>(&self, rt: &T) -> io::Result<()> {
+        let start = Instant::now(rt)?;
+        let Some(mut pass) = self.desk.pass(rt) else {
+            return Ok(());
+        };
+        for _ in rt.forever() {
+            thread::sleep(rt, Duration::from_millis(1000));
+            let now = start.elapsed(rt)?.as_secs();
+            if self.has_ended.load(Ordering::SeqCst) || !self.tick(rt, &mut pass, now) {
+                break;
+            }
+        }
+        self.give_back(rt, pass);
+        Ok(())
+    }
+}
