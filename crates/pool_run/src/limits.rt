@@ -14,7 +14,7 @@ fn row_sizes(alloc: Global, settings: &Settings) -> Result<Vec<RowSize>, AllocEr
     for at in 0..settings.rows.len() {
         if let Some(row) = settings.rows.at(at) {
             sizes.push(RowSize {
-                row: Text::from_slice(alloc, row.name.as_slice())?,
+                row: Text::from_slice(alloc, row.name.as_bytes())?,
                 size: settings.pool_size(row),
             })?;
         }

@@ -149,3 +149,138 @@ impl<R: Net, A: Ledger, G: Ledger, B: Ledger, L: Ledger, W: Ledger, O: Ledger> P
         Ok(())
     }
 }
+
+/// Serves one connection on a thread of its own.
+fn start_worker<
+    R: Threads
+        + Wait
+        + Net<Listener = net::TcpListener, Stream = net::TcpStream>
+        + Copy
+        + Send
+        + Sync
+        + 'static,
+    A: Ledger + Send + Sync + 'static,
+    G: Ledger + Send + Sync + 'static,
+    B: Ledger + Send + Sync + 'static,
+    L: Ledger + Send + Sync + 'static,
+    W: Ledger + Send + Sync + 'static,
+    O: Ledger + Send + Sync + 'static,
+>(
+    rt: R,
+    workers: &mut Workers,
+    pool: &Arc<Pool<R, A, G, B, L, W, O>>,
+    word: KeyWord,
+    client: TcpEnd,
+) -> Result<(), AllocError> {
+    let pool = Arc::try_clone(pool)?;
+    workers.start(rt, move || pool.attend(&rt, word, client))
+}
+
+/// Serves the connections of a listener, each on a thread of its own, over links of one desk: as many as `count` says, and then no
+/// more, or for ever. It returns when the last is done. A thread more tells the desk the seconds, and closes the links that are idle
+/// or old.
+///
+/// A connection for which there is no thread, no poll, no pass or no memory is closed, and the others go on. The error is that the
+/// system has no poll for the listener or no thread for the clock, or that an allocation failed before the first connection.
+fn serve_all<
+    R: Threads
+        + Wait
+        + Clock
+        + Net<Listener = net::TcpListener, Stream = net::TcpStream>
+        + Copy
+        + Send
+        + Sync
+        + 'static,
+    A: Ledger + Send + Sync + 'static,
+    G: Ledger + Send + Sync + 'static,
+    B: Ledger + Send + Sync + 'static,
+    L: Ledger + Send + Sync + 'static,
+    W: Ledger + Send + Sync + 'static,
+    O: Ledger + Send + Sync + 'static,
+>(
+    rt: R,
+    alloc: Global,
+    listener: TcpListener,
+    settings: Settings,
+    users: Users,
+    seed: [u8; 32],
+    count: Option<u64>,
+    blanks: Blanks,
+) -> io::Result<()>
+    requires bounds { AreWithinBounds settings }
+    requires names { names_of blanks ≡ by_class A.name G.name B.name L.name W.name O.name }
+    requires parts { by_class A.parts G.parts B.parts L.parts W.parts O.parts ≡ parts_of blanks }
+    requires all { parts_of blanks ≡ of_each ALL_PARTS }
+{
+    let limits = Arc::new(alloc, limits(alloc, &settings)?)?;
+    let desk = Desk::<TcpDial<R>, A, G, B, L, W, O>::new(alloc, limits, blanks)?;
+    let free = Free {
+        passes: Vec::new(alloc),
+    };
+    let pool = Pool {
+        alloc,
+        desk,
+        dialer: TcpDial { rt, alloc },
+        free: Mutex::new(free),
+        settings: Arc::new(alloc, settings)?,
+        users: Arc::new(alloc, users)?,
+        has_ended: AtomicBool::new(false),
+    };
+    let pool = Arc::new(alloc, pool)?;
+    let shared = Arc::try_clone(&pool)?;
+    let clock = thread::spawn(&rt, move || {
+        let _ = shared.run_clock(&rt);
+    })?;
+    let mut acceptor = Acceptor::new(&rt, alloc, listener)?;
+    let mut workers = Workers::new(alloc)?;
+    let mut keys = KeySource::new(seed);
+    let mut accepted: u64 = 0;
+    for _ in rt.forever() {
+        if count == Some(accepted) {
+            break;
+        }
+        if let Some(client) = acceptor.turn() {
+            accepted = accepted.wrapping_add(1);
+            let word = keys.next();
+            // a thread that can't be started closes this connection alone
+            let _ = start_worker(rt, &mut workers, &pool, word, client);
+        }
+    }
+    workers.join_all(&rt);
+    pool.has_ended.store(true, Ordering::SeqCst);
+    clock.join(&rt);
+    Ok(())
+}
+
+/// The same, over new ledgers.
+pub fn serve_on<
+    R: Threads
+        + Wait
+        + Clock
+        + Net<Listener = net::TcpListener, Stream = net::TcpStream>
+        + Copy
+        + Send
+        + Sync
+        + 'static,
+>(
+    rt: R,
+    alloc: Global,
+    listener: TcpListener,
+    settings: Settings,
+    users: Users,
+    seed: [u8; 32],
+    count: Option<u64>,
+) -> io::Result<()>
+    requires { AreWithinBounds settings }
+{
+    serve_all::<R, Brand, Brand, Brand, Brand, Brand, Brand>(
+        rt,
+        alloc,
+        listener,
+        settings,
+        users,
+        seed,
+        count,
+        Blanks::new(),
+    )
+}
