@@ -1,5 +1,6 @@
 //! Stand-in servers in memory, as a desk's workers reach them.
 #![tactic(auto)]
+
 ghost use Rattle.std.specs.Prelude.{◌≡◌, ◌<◌};
 ghost use Rattle.std.specs.Arc.{arc_value};
 ghost use Rattle.memory_dial.specs.Names.{IsEverywhere};
