@@ -1,0 +1,5 @@
+pub mod Telling
+pub mod Answering
+pub mod Homing
+pub mod Owing
+pub mod Stopping

@@ -96,7 +96,7 @@ fn attend<C: ClientEnd, D: LinkDesk, G: Gate<D::End>>(
 /// Where the client tells, and the desk's ends follow and let its user in, what it was given is allowed for what a server
 /// started for it alone answers, over the catalogue of its row. Unless a call of the desk was answered by the last decision or as
 /// strange, as many links were granted as given back or lost, and as many clients arrived as left.
-pub fn serve<C: ClientEnd, D: LinkDesk, G: Gate<D::End>>(
+pub fn serve<C: ClientEnd, D: LinkDesk, G: Gate<D::End> + Drop>(
     alloc: Global,
     desk: &D,
     pass: D::Pass,
