@@ -1,6 +1,7 @@
 -- Links keep the catalogues of their addresses.
-use Rattle.std.proofs.Common.{◌≡◌, ℕ, true, Bool, List, Option, Some, sym, ap, ap₂, ◌∙◌, subst}
-use Rattle.std.specs.Prelude.{bytes_eq}
+use Rattle.std.proofs.Common.{◌≡◌, ℕ, true, false, Bool, List, [], ◌∷◌, Option, Some, refl, sym, ap, ◌∙◌, subst}
+use Rattle.std.specs.Prelude.{bytes_eq, if◌then◌else◌}
+use Rattle.std.proofs.lemmas.Slice.Eq.{bytes_eq-Decides}
 use Rattle.std.specs.Arc.{arc_value}
 use Rattle.ini_config.specs.declared.database_rows.DbRow.{DbRow}
 use Rattle.ini_config.specs.Tables.{row_named}
@@ -34,9 +35,26 @@ module _ (catalogue : Address → CatalogueOf) (client : ClientFacts) (link : Li
 
 -- ---- a new link
 
+named_here : (name : List ℕ) (r row : DbRow) (rest : Option DbRow) → (rest ≡ Some row → name ≡ row.name) → (b : Bool) → bytes_eq name r.name ≡ b → (if b then Some r else rest) ≡ Some row → name ≡ row.name
+named_here name r row rest f true d e =
+    let same : r ≡ row = cc in
+    (bytes_eq-Decides name r.name).0 d ∙ ap (λ (x : DbRow). x.name) same
+named_here name r row rest f false d e = f e
+
+-- the row of a name has it
+named : (name : List ℕ) (rows : List DbRow) (row : DbRow) → row_named name rows ≡ Some row → name ≡ row.name
+named name [] row e = absurd cc
+named name (r ∷ rows) row e = named_here name r row (row_named name rows) (named name rows row) (bytes_eq name r.name) refl e
+
+of_some : (o : Option DbRow) (row : DbRow) (key : StartKeyOf) → o ≡ Some row → IsOfRow o key → IsAtRow row key
+of_some o row key e h = subst (λ (x : Option DbRow). IsOfRow x key) e h
+
 -- the address of the row of this name is that of a key of the row
-pub same_address : (row : DbRow) (key : StartKeyOf) → key.row ≡ row.name → IsAtRow row key → address_in row ≡ address_of key
-same_address row key n x = λ i. record { row = sym n i; host = sym x.host i; port = sym x.port i; dbname = sym x.dbname i }
+same_address : (row : DbRow) (key : StartKeyOf) → key.row ≡ row.name → IsAtRow row key → address_in row ≡ address_of key
+same_address row key n x = rw (n, x.host, x.port, x.dbname) refl
+
+pub row_address : (rows : List DbRow) (row : DbRow) (key : StartKeyOf) → Some row ≡ row_named key.row rows → IsOfRow (row_named key.row rows) key → address_in row ≡ address_of key
+row_address rows row key e h = same_address row key (named key.row rows row (sym e)) (of_some (row_named key.row rows) row key (sym e) h)
 
 -- a link that was started over an end of that row's server
 pub started_home : (catalogue : Address → CatalogueOf) (began : Standing) (secret : Secret) (row : DbRow) (key : StartKeyOf) (l : LinkView) → (began.follows ≡ true → began.server.catalogue ≡ catalogue (address_in row)) → address_in row ≡ address_of key → IsStarted began secret l → l.key ≡ key → IsAtHome catalogue l

@@ -3,3 +3,5 @@ pub mod Answering
 pub mod Homing
 pub mod Owing
 pub mod Stopping
+pub mod Logging
+pub mod Giving

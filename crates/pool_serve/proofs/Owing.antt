@@ -4,6 +4,7 @@ use Rattle.std.specs.Prelude.{map}
 use Rattle.std.specs.Arc.{arc_value}
 use Rattle.frame_view.specs.Frames.{FrameOf, spelling}
 use Rattle.message_view.specs.declared.KeyWord.{KeyWord}
+use Rattle.message_view.specs.declared.refusal.Refusal.TheVariants.{OutOfMemory, ServerNotReached}
 use Rattle.message_view.specs.Refusals.{Begins, joined_pieces}
 use Rattle.session_values.specs.declared.cause.Cause.{Cause}
 use Rattle.session_values.specs.State.{Address, CatalogueOf, State, StartKeyOf, address_of, fresh}
@@ -47,11 +48,11 @@ refused_start began secret key word error l x =
 
 unstarted_at : (began now : Standing) (secret : Secret) (key : StartKeyOf) (word : KeyWord) (c : StartCause) → began.follows ≡ true → IsLetIn began key secret → IsCause began now secret key c → MayEnd [] (service_pieces began.server.catalogue key word []) (last_of c)
 unstarted_at began now secret key word (cause.Refused error) f l x = refused_start began secret key word error l (x.1 f)
-unstarted_at began now secret key word cause.Memory f l x = refusal_ends _ _
-unstarted_at began now secret key word cause.Lost f l x = refusal_ends _ _
-unstarted_at began now secret key word cause.Unanswerable f l x = refusal_ends _ _
-unstarted_at began now secret key word cause.Unexpected f l x = refusal_ends _ _
-unstarted_at began now secret key word cause.Turns f l x = refusal_ends _ _
+unstarted_at began now secret key word cause.Memory f l x = refusal_ends (service_pieces began.server.catalogue key word []) OutOfMemory
+unstarted_at began now secret key word cause.Lost f l x = refusal_ends (service_pieces began.server.catalogue key word []) ServerNotReached
+unstarted_at began now secret key word cause.Unanswerable f l x = refusal_ends (service_pieces began.server.catalogue key word []) ServerNotReached
+unstarted_at began now secret key word cause.Unexpected f l x = refusal_ends (service_pieces began.server.catalogue key word []) ServerNotReached
+unstarted_at began now secret key word cause.Turns f l x = refusal_ends (service_pieces began.server.catalogue key word []) ServerNotReached
 
 pub unstarted : (cat : CatalogueOf) (began now : Standing) (secret : Secret) (key : StartKeyOf) (word : KeyWord) (c : StartCause) (last : LastWord) → last ≡ last_of c → began.server.catalogue ≡ cat → began.follows ≡ true → IsLetIn began key secret → IsCause began now secret key c → MayEnd [] (service_pieces cat key word []) last
 unstarted cat began now secret key word c last e h f l x =
