@@ -1,5 +1,5 @@
 -- What a client was given by its lease.
-use Rattle.std.proofs.Common.{◌≡◌, ◌⊎◌, inl, inr, ℕ, ◌+◌, ◌^◌, ◌<◌, ◌≤◌, true, List, [], ◌∷◌, ◌++◌, refl, sym, ap, ap₂, ◌∙◌, subst, arith, append_assoc, append-nil, Result, Ok, Err, Option, Some}
+use Rattle.std.proofs.Common.{◌≡◌, inl, ℕ, true, List, [], ◌∷◌, ◌++◌, refl, sym, ap, ap₂, ◌∙◌, subst, arith, append_assoc, append-nil, Result, Ok, Err, Option, Some}
 use Rattle.std.specs.Prelude.{map, None, IfSome}
 use Rattle.std.specs.List.{flat_map, AllByRecursion}
 use Rattle.std.proofs.lemmas.Grind.{flat_map-append}
@@ -10,7 +10,7 @@ use Rattle.frame_view.specs.Frames.{Cut, FrameOf, IsFrame, Stops, frames, front,
 use Rattle.frame_view.proofs.Splitting.{frames-go_on, splits-one_way}
 use Rattle.message_view.specs.declared.KeyWord.{KeyWord}
 use Rattle.message_view.specs.declared.refusal.Refusal.{Refusal}
-use Rattle.message_view.specs.Refusals.{Allowed, Begins, joined_pieces}
+use Rattle.message_view.specs.Refusals.{Begins, joined_pieces}
 use Rattle.session_values.specs.declared.cause.Cause.{Cause}
 use Rattle.session_values.specs.State.{Answer, CatalogueOf, State, StartKeyOf, fresh}
 use Rattle.session_values.specs.Step.{run_frames}
@@ -19,7 +19,6 @@ use Rattle.session_laws.specs.Laws.{IsSent, Reaches}
 use Rattle.session_laws.proofs.ByName.{fresh_is_reached}
 use Rattle.run_laws.proofs.ByName.{run_replies_are_frames, runs_go_on}
 use Rattle.link_laws.specs.Standing.{ClientFacts}
-use Rattle.link_laws.specs.Stages as stages
 use Rattle.link_laws.proofs.Splits.{SplitsOff, same_back, split_whole}
 use Rattle.link_run.specs.Links.{IsFreshLink, LinkView}
 use Rattle.login_core.specs.Laws.{ServiceIsItsPieces}
@@ -32,7 +31,7 @@ use Rattle.relay_laws.specs.Leases.{IsAllowed, IsLease, Keeps, Place, RelayView,
 use Rattle.relay_laws.proofs.Exact.{all-sent}
 use Rattle.relay_steps.specs.Answers.{AtBorder, RefusedBy}
 use Rattle.pool_serve.specs.Words.{or_nothing}
-use Rattle.pool_serve.specs.Serving.{MayEnd, Serves}
+use Rattle.pool_serve.specs.Serving.{Serves}
 use Rattle.pool_serve.specs.declared.word.LastWord.TheVariants as last
 
 -- ---- the service of more bytes
@@ -153,8 +152,7 @@ at_border law own p v x t f b =
     let out_is : b.since ≡ flat_map spelling ws ++ flat_map spelling b.arrived =
     b.whole ∙ ap (λ (g : List ℕ). g ++ flat_map spelling b.arrived) (x.greets f s c.stands.is_fresh ∙ ap (λ (w : KeyWord). flat_map spelling (welcome s w.pid w.secret)) x.same.3) in
     let g : Begins b.since (joined_pieces (owed_at p went)) = subst (λ (l : List ℕ). Begins l (joined_pieces (owed_at p went))) (same_since p.given b.since a.since v.client.given (b.given t) a.given) (front_given own p v x a) in
-    let all : b.since ++ g.more ≡ flat_map spelling ws ++ flat_map spelling rs = g.both ∙ (ap joined_pieces pieces ∙ (pieces_join (ws ++ rs) ∙ flat_map-append spelling ws rs)) in
-    (
+    let all : b.since ++ g.more ≡ flat_map spelling ws ++ flat_map spelling rs = g.both ∙ (ap joined_pieces pieces ∙ (pieces_join (ws ++ rs) ∙ flat_map-append spelling ws rs)) in (
       went,
       (a.taken ∙ ap (λ (d : List ℕ). p.taken ++ d) (sym (append_assoc (flat_map spelling a.forwarded) a.tail v.to_link.part)), whole_pieces ws b.arrived rs b.since g.more (owed_at p went) whole b.came out_is all pieces),
     )

@@ -4,7 +4,7 @@ use Rattle.std.proofs.Math.Seq.{take-add}
 use Rattle.link_laws.specs.Standing.{ClientFacts}
 use Rattle.server_end.specs.declared.Moved.{Moved}
 use Rattle.server_end.specs.declared.Moved.TheVariants.{Count, NotNow, Ended, Fault}
-use Rattle.server_end.specs.Moves.{ClientWrites, IsWithin, moved}
+use Rattle.server_end.specs.Moves.{ClientWrites, moved}
 use Rattle.pool_serve.specs.Words.{HasGiven}
 
 -- so many bytes were given, in so many turns

@@ -1,5 +1,5 @@
 -- A client's login, and what it leads to.
-use Rattle.std.proofs.Common.{◌≡◌, ℕ, true, List, [], ◌++◌, refl, sym, ap, ap₂, ◌∙◌, subst, Option, Some, None}
+use Rattle.std.proofs.Common.{◌≡◌, ℕ, true, List, [], sym, ap, ap₂, ◌∙◌, subst, Option, Some}
 use Rattle.std.specs.declared.sync.Arc.{Arc}
 use Rattle.std.specs.Arc.{arc_value}
 use Rattle.message_view.specs.declared.KeyWord.{KeyWord}
@@ -44,7 +44,7 @@ same_end catalogue old new out bytes word s m = subst (λ (ps : List (List ℕ))
 pub run_ends : RunsAreAllowed → (catalogue : Address → CatalogueOf) (old new : RunView) (c : ClientFacts) → IsSameLogin old new → IsRun new → c ≡ new.client → old.client.tells ≡ true → MayEnd c.given (own catalogue old.login c.taken) last.Nothing
 run_ends law catalogue old new c s x e t =
     same_end catalogue old new c.given c.taken last.Nothing s
-      (subst (λ (d : ClientFacts). Allowed d.given (own catalogue new.login d.taken)) (sym e) (law new catalogue x (s.tells ∙ t)))
+    (subst (λ (d : ClientFacts). Allowed d.given (own catalogue new.login d.taken)) (sym e) (law new catalogue x (s.tells ∙ t)))
 
 arrived_piece : (v : RunView) → v.phase ≡ Arrived → IsRun v → IsPiece v.said
 arrived_piece v e x = (subst (λ (p : PhaseOf). Awaits p v.said v.login) e x.1).0

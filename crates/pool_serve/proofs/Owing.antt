@@ -1,5 +1,5 @@
 -- What a client is owed, by its link and by its login.
-use Rattle.std.proofs.Common.{◌≡◌, ℕ, true, List, [], ◌∷◌, ◌++◌, refl, sym, ap, ◌∙◌, subst, append_assoc, append-nil, Result, Ok, Err, Some}
+use Rattle.std.proofs.Common.{◌≡◌, ℕ, true, List, [], ◌∷◌, ◌++◌, sym, ap, ◌∙◌, subst, append-nil, Result, Ok, Err, Some}
 use Rattle.std.specs.Prelude.{map}
 use Rattle.std.specs.Arc.{arc_value}
 use Rattle.frame_view.specs.Frames.{FrameOf, spelling}
@@ -33,7 +33,7 @@ pub over_link : (catalogue : Address → CatalogueOf) (before after : ClientFact
 over_link catalogue before after g link word h f k s =
     let home : link.stands.server.catalogue ≡ catalogue (address_of (arc_value g.key)) = h f ∙ ap (λ (x : StartKeyOf). catalogue (address_of x)) k in
     subst (λ (c : CatalogueOf). Serves before after (service_pieces c (arc_value g.key) g.word) word) home
-      (subst (λ (x : StartKeyOf). Serves before after (service_pieces link.stands.server.catalogue x g.word) word) k s)
+    (subst (λ (x : StartKeyOf). Serves before after (service_pieces link.stands.server.catalogue x g.word) word) k s)
 
 -- ---- a link that wasn't started
 

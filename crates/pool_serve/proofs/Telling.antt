@@ -1,9 +1,8 @@
 -- What was given, once the last word was told.
-use Rattle.std.proofs.Common.{◌≡◌, ◌⊎◌, inl, inr, ℕ, ◌≤◌, true, List, [], ◌∷◌, ◌++◌, length, take, drop, refl, sym, ap, ◌∙◌, subst, arith, append_assoc, append-nil, take_all, take-append-drop}
+use Rattle.std.proofs.Common.{◌≡◌, inl, inr, ℕ, true, List, [], ◌++◌, take, drop, refl, sym, ap, ◌∙◌, subst, arith, append_assoc, append-nil, take_all, take-append-drop}
 use Rattle.std.proofs.lemmas.Grind.{flat_map-append}
-use Rattle.message_view.specs.Refusals.{Allowed, Begins, IsRefused, joined_pieces, refusal}
+use Rattle.message_view.specs.Refusals.{Allowed, joined_pieces, refusal}
 use Rattle.link_laws.specs.Standing.{ClientFacts}
-use Rattle.login_run.specs.Laws.{IsAtPiece}
 use Rattle.pool_serve.specs.Words.{HasGiven, last_bytes}
 use Rattle.pool_serve.specs.Serving.{MayEnd, Serves}
 use Rattle.pool_serve.specs.declared.word.LastWord.{LastWord}
