@@ -1,6 +1,6 @@
 -- Shares of the six ledgers, class by class.
 use Rattle.std.specs.Prelude.{ℕ, ◌+◌, ◌≤◌, List, sum_by}
-use Rattle.desk_tallies.specs.Passes.{Made, PassOf}
+use Rattle.link_desk.specs.Passes.{Made, PassOf}
 use Rattle.desk_tallies.specs.declared.passes.Totals.{Totals}
 use Rattle.desk_tallies.specs.declared.tallies.Blanks.{Blanks}
 

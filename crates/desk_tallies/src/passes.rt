@@ -1,6 +1,6 @@
 //! Passes: who made which decisions.
 ghost use Rattle.std.specs.Prelude.{◌≡◌, ℕ, ◌+◌, ◌≤◌, length, vec_len, false};
-ghost use Rattle.desk_tallies.specs.Passes.{new_pass};
+ghost use Rattle.link_desk.specs.Passes.{new_pass};
 ghost use Rattle.desk_tallies.specs.Shares.{AtMost, by_class, of_each, sum_of, sum_over};
 
 use std::marker::Model;

@@ -67,7 +67,7 @@ pub struct Tallies<A: Ledger, G: Ledger, B: Ledger, L: Ledger, W: Ledger, O: Led
 impl<A: Ledger, G: Ledger, B: Ledger, L: Ledger, W: Ledger, O: Ledger> Model
     for Tallies<A, G, B, L, W, O> {
     ghost use Rattle.std.specs.Prelude.{◌≡◌};
-    ghost use Rattle.desk_tallies.specs.Passes.{Made};
+    ghost use Rattle.link_desk.specs.Passes.{Made};
     ghost use Rattle.desk_tallies.specs.Shares.{by_class, of_each};
     ghost use Rattle.desk_tallies.specs.declared.passes.TheConstants.{ALL_PARTS};
 
