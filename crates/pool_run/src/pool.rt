@@ -55,7 +55,7 @@ struct Pool<R: Net, A: Ledger, G: Ledger, B: Ledger, L: Ledger, W: Ledger, O: Le
 }
 
 /// A drop of its own is proved here once.
-impl<R: Net, A: Ledger, G: Ledger, B: Ledger, L: Ledger, W: Ledger, O: Ledger> Drop
+impl<R: Net + Drop, A: Ledger, G: Ledger, B: Ledger, L: Ledger, W: Ledger, O: Ledger> Drop
     for Pool<R, A, G, B, L, W, O> {
     fn drop(self) {
         let Pool {
@@ -117,6 +117,11 @@ impl<R: Net, A: Ledger, G: Ledger, B: Ledger, L: Ledger, W: Ledger, O: Ledger> P
             dialer: &self.dialer,
         };
         let (_, pass) = serve(self.alloc, &desk, pass, client, login, word, gate);
+        let DeskAt {
+            rt,
+            desk: _,
+            dialer: _,
+        } = desk;
         self.give_back(rt, pass);
     }
 
