@@ -6,7 +6,6 @@ ghost use Rattle.desk_tallies.specs.declared.passes.TheConstants.{ALL_PARTS};
 ghost use Rattle.desk_tallies.specs.Shares.{by_class, names_of, of_each, parts_of};
 
 use crate::dialing::TcpDial;
-use crate::limits::limits;
 use desk_tallies::passes::Pass;
 use desk_tallies::tallies::Blanks;
 use ini_config::Settings;
@@ -18,6 +17,7 @@ use mio::net::TcpListener;
 use pool_desk::answers::Ticked;
 use pool_desk::desk::Desk;
 use pool_desk::handle::DeskAt;
+use pool_limits::limits;
 use pool_serve::serve::serve;
 use std::alloc::{AllocError, Global};
 use std::marker::Brand;

@@ -1,23 +1,35 @@
 //! The limits of the lease book, out of the settings.
-ghost use Rattle.std.specs.Prelude.{◌≡◌, ◌≤◌, IfOk};
+#![tactic(auto)]
+
+ghost use Rattle.std.specs.Prelude.{◌≡◌, map, IfOk};
 ghost use Rattle.ini_config.specs.Bounds.{AreWithinBounds};
-ghost use Rattle.pool_run.specs.Limits.{limits_of};
+ghost use Rattle.pool_limits.specs.Limits.{limits_of};
+ghost use Rattle.pool_limits.specs.Limits as spec;
 
 use book_lists::limits::{Limits, RowSize};
-use ini_config::Settings;
+use ini_config::{DbRow, Settings};
 use session_values::text::Text;
 use std::alloc::{AllocError, Global};
 
+/// The size of a row's pool.
+fn row_size(alloc: Global, settings: &Settings, row: &DbRow) -> Result<RowSize, AllocError>
+    ensures { IfOk result (λ s. s ≡ spec.row_size settings.now.default_pool_size row.now) }
+{
+    Ok(RowSize {
+        row: Text::from_slice(alloc, row.name.as_bytes())?,
+        size: settings.pool_size(row),
+    })
+}
+
 /// The sizes of the rows' pools, in the order of the file.
-fn row_sizes(alloc: Global, settings: &Settings) -> Result<Vec<RowSize>, AllocError> {
+fn row_sizes(alloc: Global, settings: &Settings) -> Result<Vec<RowSize>, AllocError>
+    ensures { IfOk result (λ v. v.items ≡ map (spec.row_size settings.now.default_pool_size) settings.now.rows) }
+{
     let mut sizes = Vec::new(alloc);
-    for at in 0..settings.rows.len() {
-        if let Some(row) = settings.rows.at(at) {
-            sizes.push(RowSize {
-                row: Text::from_slice(alloc, row.name.as_bytes())?,
-                size: settings.pool_size(row),
-            })?;
-        }
+    let mut at = 0;
+    while let Some(row) = settings.rows.at(at) {
+        sizes.push(row_size(alloc, settings, row)?)?;
+        at += 1;
     }
     Ok(sizes)
 }
