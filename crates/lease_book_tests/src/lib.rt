@@ -2,6 +2,10 @@
 #![tactic(auto)]
 
 #[cfg(test)]
-mod books;
+mod acts;
+#[cfg(test)]
+mod histories;
 #[cfg(test)]
 mod parts;
+#[cfg(test)]
+mod stories;

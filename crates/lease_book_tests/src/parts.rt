@@ -1,7 +1,5 @@
 //! Keys, limits and links of the tests.
 use book_lists::limits::Limits;
-use lease_book::book::Book;
-use lease_book::events::{Event, Reply};
 use link_run::links::{CleanLink, Lent};
 use param_track::Reported;
 use server_end::{Moved, ServerEnd};
@@ -36,8 +34,8 @@ impl ServerEnd for Gone {
     }
 }
 
-/// Ann's key on the database shop, under this application_name.
-pub(crate) fn key(alloc: Global, name: &[u8]) -> Result<Arc<StartKey>, AllocError> {
+/// A key on the database shop, of this user under this application_name.
+fn key(alloc: Global, user: &[u8], name: &[u8]) -> Result<Arc<StartKey>, AllocError> {
     let mut parameters = Vec::new(alloc);
     let parameter = Text::from_slice(alloc, b"application_name")?;
     parameters.push((parameter, Text::from_slice(alloc, name)?))?;
@@ -46,57 +44,75 @@ pub(crate) fn key(alloc: Global, name: &[u8]) -> Result<Arc<StartKey>, AllocErro
         host: None,
         port: 0,
         dbname: Text::from_slice(alloc, b"shop")?,
-        user: Text::from_slice(alloc, b"ann")?,
+        user: Text::from_slice(alloc, user)?,
         parameters,
     };
     Ok(Arc::new(alloc, key)?)
 }
 
-/// Limits of 100 clients and 100 links, with pools of this size and no timeouts.
-pub(crate) fn limits(alloc: Global, size: u32) -> Result<Arc<Limits>, AllocError> {
-    let limits = Limits {
+/// Whose key it is: of ann's two keys, which are of one pool, or of bc's, which is of another.
+#[derive(Clone, Copy, Debug, PartialEq, Eq, Drop)]
+pub(crate) enum Whose {
+    Ann,
+    AnnAsB,
+    Bc,
+}
+
+/// The key.
+pub(crate) fn key_of(alloc: Global, whose: Whose) -> Result<Arc<StartKey>, AllocError> {
+    match whose {
+        Whose::Ann => key(alloc, b"ann", b"a"),
+        Whose::AnnAsB => key(alloc, b"ann", b"b"),
+        Whose::Bc => key(alloc, b"bc", b"a"),
+    }
+}
+
+/// What a test's settings are, apart from the default ones: 100 clients and links, pools of 20, no timeouts.
+#[derive(Clone, Copy, Debug, Drop)]
+pub(crate) enum Settings {
+    Default,
+    PoolsOf(u32),
+    OneClient,
+    TwoLinks,
+    /// Pools of one link, and a wait of so many seconds.
+    Wait(u32),
+    /// A lifetime of 3,600 seconds, and an idle timeout of so many.
+    Idle(u32),
+}
+
+/// The limits of these settings.
+pub(crate) fn limits(alloc: Global, settings: Settings) -> Result<Arc<Limits>, AllocError> {
+    let mut limits = Limits {
         max_client_conn: 100,
         max_links: 100,
-        default_pool_size: size,
+        default_pool_size: 20,
         query_wait_timeout: 0,
         server_lifetime: 3_600,
         server_idle_timeout: 0,
         row_sizes: Vec::new(alloc),
     };
+    match settings {
+        Settings::Default => {}
+        Settings::PoolsOf(size) => limits.default_pool_size = size,
+        Settings::OneClient => limits.max_client_conn = 1,
+        Settings::TwoLinks => limits.max_links = 2,
+        Settings::Wait(seconds) => {
+            limits.default_pool_size = 1;
+            limits.query_wait_timeout = seconds;
+        }
+        Settings::Idle(seconds) => limits.server_idle_timeout = seconds,
+    }
     Ok(Arc::new(alloc, limits)?)
 }
 
-/// A link of this key and number, begun in second 0.
-pub(crate) fn link(alloc: Global, key: &Arc<StartKey>, number: u64) -> Result<CleanLink<Gone>, AllocError> {
+/// A link of this key and number, begun in this second.
+pub(crate) fn link(alloc: Global, key: Arc<StartKey>, number: u64, born: u64) -> CleanLink<Gone> {
     let lent = Lent {
         end: Gone,
-        key: Arc::try_clone(key)?,
+        key,
         number,
-        born: 0,
+        born,
         reported: Reported::new(alloc),
     };
-    Ok(lent.clean())
-}
-
-/// What a client is answered that comes, asks for a link of this key and takes it.
-pub(crate) fn taken(book: &mut Book<Gone>, key: &Arc<StartKey>) -> Result<Reply<Gone>, AllocError> {
-    let Reply::Client(client) = book.apply(0, Event::Arrive) else {
-        return Err(AllocError);
-    };
-    let key = Arc::try_clone(key)?;
-    let again = Arc::try_clone(&key)?;
-    drop(book.apply(0, Event::Ask { client, key, again }));
-    Ok(book.apply(0, Event::Take { client }))
-}
-
-/// The number of the link that comes with a reply.
-pub(crate) fn number_in(reply: Reply<Gone>) -> Option<u64> {
-    match reply {
-        Reply::Lend(link) => Some(link.number()),
-        Reply::Close(link) => Some(link.number()),
-        Reply::Start { evicted, .. } => Some(evicted?.number()),
-        Reply::Refuse(_, back) => Some(back?.number()),
-        Reply::Stranger(back) => Some(back?.number()),
-        Reply::Client(_) | Reply::Queued(_) | Reply::Done => None,
-    }
+    lent.clean()
 }

@@ -51,7 +51,8 @@ fn a_server_dies_inside_a_frame(rt: HostRuntime) -> Result<(), Fail> {
 #[test]
 fn a_server_dies_inside_a_row(rt: HostRuntime) -> Result<(), Fail> {
     let select = b"Q\0\0\0\x17SELECT * FROM city\0";
-    let given = b"T\0\0\0\x37\0\x02name\0\0\0\0\0\0\0\0\0\0\x19\xff\xff\xff\xff\xff\xff\0\0country\0\0\0\0\0\0\0\0\0\0\x19\xff\xff\xff\xff\xff\xff\0\0D\0\0\0\x14\0\x02";
+    let given =
+        b"T\0\0\0\x37\0\x02name\0\0\0\0\0\0\0\0\0\0\x19\xff\xff\xff\xff\xff\xff\0\0country\0\0\0\0\0\0\0\0\0\0\x19\xff\xff\xff\xff\xff\xff\0\0D\0\0\0\x14\0\x02";
     let wanted = welcome_and(rt.alloc(), given)?;
     for cut in [1, 7, 8_192] {
         let part = served(rt.alloc(), Some(BEFORE + 56 + 7), LIMIT, cut, select)?;
@@ -65,7 +66,13 @@ fn a_server_dies_inside_a_row(rt: HostRuntime) -> Result<(), Fail> {
 fn a_server_dies_behind_its_answer(rt: HostRuntime) -> Result<(), Fail> {
     let mut wanted = welcome_and(rt.alloc(), ANSWER)?;
     wanted.extend_from_slice(refusal_bytes(Refusal::ServerFailed))?;
-    let answer = served(rt.alloc(), Some(BEFORE + 11), LIMIT, 8_192, b"Q\0\0\0\x05\0Q\0\0\0\x05\0")?;
+    let answer = served(
+        rt.alloc(),
+        Some(BEFORE + 11),
+        LIMIT,
+        8_192,
+        b"Q\0\0\0\x05\0Q\0\0\0\x05\0",
+    )?;
     assert_eq!(rt; answer.as_slice(), wanted.as_slice());
     Ok(())
 }
@@ -119,7 +126,15 @@ fn a_message_is_malformed(rt: HostRuntime) -> Result<(), Fail> {
 #[test]
 fn a_client_goes_inside_a_message(rt: HostRuntime) -> Result<(), Fail> {
     let wanted = welcome_and(rt.alloc(), ANSWER)?;
-    for rest in [b"".as_slice(), b"Q", b"Q\0\0\0\x09", b"Q\0\0\0\x09abc", b"X", b"X\0\0\0\x08", b"X\0\0\0\x04"] {
+    for rest in [
+        b"".as_slice(),
+        b"Q",
+        b"Q\0\0\0\x09",
+        b"Q\0\0\0\x09abc",
+        b"X",
+        b"X\0\0\0\x08",
+        b"X\0\0\0\x04",
+    ] {
         let mut bytes = Vec::from_slice(rt.alloc(), EMPTY)?;
         bytes.extend_from_slice(rest)?;
         let answer = served(rt.alloc(), None, LIMIT, 8_192, bytes.as_slice())?;

@@ -9,7 +9,7 @@ use message_view::KeyWord;
 use paced_client::PacedClient;
 use relay_core::relay::{Relay, Returned};
 use relay_steps::Next;
-use server_end::{ClientEnd, ServerEnd};
+use server_end::ServerEnd;
 use server_end::failing_end::FailingEnd;
 use server_end::gate::{OpenGate, Ready};
 use server_end::memory_server::ServerAuth;
@@ -63,13 +63,13 @@ fn client(alloc: Global, packets: &[u8]) -> Result<PacedClient, Fail> {
     Ok(client)
 }
 
-/// A lease of the link to this client, until the client is done: the client, and what becomes of the link.
-pub fn lease<C: ClientEnd, E: ServerEnd>(
+/// A lease of the link to such a client, until the client is done: the client, and what becomes of the link.
+fn lease<E: ServerEnd>(
     alloc: Global,
     link: CleanLink<E>,
     pid: u32,
-    client: C,
-) -> Result<(C, Returned<E>), Fail> {
+    packets: &[u8],
+) -> Result<(PacedClient, Returned<E>), Fail> {
     let word = KeyWord {
         pid,
         secret: 2,
@@ -79,6 +79,7 @@ pub fn lease<C: ClientEnd, E: ServerEnd>(
         client: true,
         server: true,
     };
+    let client = client(alloc, packets)?;
     let Ok(mut relay) = Relay::begin(alloc, client, link, word, 1000) else {
         return Err("no lease")?;
     };
@@ -104,7 +105,7 @@ pub fn link<E: ServerEnd>(alloc: Global, end: E) -> Result<CleanLink<E>, Fail>
 fn used<E: ServerEnd>(alloc: Global, end: E) -> Result<(PacedClient, UsedLink<E>), Fail>
     requires { CanStart (E.standing end) }
 {
-    let (client, Returned::Used(link)) = lease(alloc, link(alloc, end)?, 1, client(alloc, set())?)? else {
+    let (client, Returned::Used(link)) = lease(alloc, link(alloc, end)?, 1, set())? else {
         return Err("not used")?;
     };
     Ok((client, link))
@@ -118,7 +119,7 @@ fn is_clean<E: ServerEnd>(alloc: Global, end: E) -> Result<bool, Fail>
     let Ok(link) = reset_link(alloc, link, &mut OpenGate, 20) else {
         return Err("not reset")?;
     };
-    let (second, _) = lease(alloc, link, 3, client(alloc, show())?)?;
+    let (second, _) = lease(alloc, link, 3, show())?;
     Ok(
         first.given().strip_prefix(reports()) == Some(told_first())
             && second.given().strip_prefix(reports()) == Some(told_second()),

@@ -2,10 +2,14 @@
 ghost use Rattle.link_start.specs.Starts.{CanStart};
 
 use crate::making::server;
-use crate::resets::{lease, link};
+use crate::resets::link;
 use disposal::Verdict;
-use relay_core::relay::{Cause, Returned};
+use link_run::links::CleanLink;
+use message_view::KeyWord;
+use relay_core::relay::{Cause, Relay, Returned};
+use relay_steps::Next;
 use server_end::ServerEnd;
+use server_end::gate::Ready;
 use server_end::memory_client::MemoryClient;
 use server_end::memory_server::ServerAuth;
 use std::alloc::Global;
@@ -24,48 +28,82 @@ const ERROR: &[u8] = b"E\0\0\0\x28SERROR\0VERROR\0C42601\0Msyntax error\0\0";
 
 /// What becomes of a link.
 #[derive(Clone, Copy, Debug, PartialEq, Eq)]
-enum End {
+enum Fate {
     Unused,
     Used,
     Gone(Cause),
 }
 
-/// What becomes of the link of a client that sends these messages at once and ends, and whether the client was given these bytes last.
-fn end<E: ServerEnd>(alloc: Global, end: E, messages: &[&[u8]], last: &[u8]) -> Result<(End, bool), Fail>
-    requires { CanStart (E.standing end) }
-{
-    let Ok(mut client) = MemoryClient::new(alloc, b"", 1_000) else {
-        return Err("no memory")?;
+/// A lease of the link to a client that sends these messages at once, until nothing moves any more: what the client was given begins
+/// with its welcome, and what becomes of the link.
+fn lease<E: ServerEnd>(
+    alloc: Global,
+    link: CleanLink<E>,
+    messages: &[&[u8]],
+) -> Result<(MemoryClient, Returned<E>), Fail> {
+    let word = KeyWord {
+        pid: 1,
+        secret: 2,
+        salt: [0; 4],
     };
+    let both = Ready {
+        client: true,
+        server: true,
+    };
+    let mut client = MemoryClient::new(alloc, b"", 1_000)?;
     for message in messages {
         client.feed(message)?;
     }
-    client.hang_up();
-    let (client, link) = lease(alloc, link(alloc, end)?, 1, client)?;
+    let Ok(mut relay) = Relay::begin(alloc, client, link, word, 1_000) else {
+        return Err("no lease")?;
+    };
+    for _ in 0..200 {
+        if relay.pump(both) == Next::Wait {
+            return Ok(relay.close());
+        }
+    }
+    Err("bytes move on and on")?
+}
+
+/// What becomes of the link, and whether the client was given these bytes last.
+fn fate_of<E: ServerEnd>(
+    alloc: Global,
+    end: E,
+    messages: &[&[u8]],
+    last: &[u8],
+) -> Result<(Fate, bool), Fail>
+    requires { CanStart (E.standing end) }
+{
+    let (client, link) = lease(alloc, link(alloc, end)?, messages)?;
     let told = client.given().ends_with(last);
     match link {
-        Returned::Unused(_) => Ok((End::Unused, told)),
-        Returned::Used(_) => Ok((End::Used, told)),
-        Returned::Gone(_, cause) => Ok((End::Gone(cause), told)),
+        Returned::Unused(_) => Ok((Fate::Unused, told)),
+        Returned::Used(_) => Ok((Fate::Used, told)),
+        Returned::Gone(_, cause) => Ok((Fate::Gone(cause), told)),
     }
 }
 
 /// The same over a server that asks for nothing.
-fn left(alloc: Global, messages: &[&[u8]], last: &[u8]) -> Result<(End, bool), Fail> {
-    end(alloc, server(alloc, ServerAuth::Trust, 1_000, None)?, messages, last)
+fn left(alloc: Global, messages: &[&[u8]], last: &[u8]) -> Result<(Fate, bool), Fail> {
+    fate_of(
+        alloc,
+        server(alloc, ServerAuth::Trust, 1_000, None)?,
+        messages,
+        last,
+    )
 }
 
 #[test]
 fn a_link_is_unused_or_used(rt: HostRuntime) -> Result<(), Fail> {
     let alloc = rt.alloc();
-    assert!(rt; left(alloc, &[], b"Z\0\0\0\x05I")? == (End::Unused, true));
-    assert!(rt; left(alloc, &[SHOW], b"Z\0\0\0\x05I")? == (End::Used, true));
+    assert!(rt; left(alloc, &[], b"Z\0\0\0\x05I")? == (Fate::Unused, true));
+    assert!(rt; left(alloc, &[SHOW], b"Z\0\0\0\x05I")? == (Fate::Used, true));
     Ok(())
 }
 
 #[test]
 fn a_block_is_left_open(rt: HostRuntime) -> Result<(), Fail> {
-    let in_block = End::Gone(Cause::Left(Verdict::InBlock));
+    let in_block = Fate::Gone(Cause::Left(Verdict::InBlock));
     assert!(rt; left(rt.alloc(), &[b"Q\0\0\0\x0aBEGIN\0"], b"Z\0\0\0\x05T")? == (in_block, true));
     Ok(())
 }
@@ -75,10 +113,14 @@ fn a_block_is_left_open(rt: HostRuntime) -> Result<(), Fail> {
 #[test]
 fn a_skipped_query_is_unanswered(rt: HostRuntime) -> Result<(), Fail> {
     let alloc = rt.alloc();
-    let unanswered = End::Gone(Cause::Left(Verdict::Unanswered));
+    let unanswered = Fate::Gone(Cause::Left(Verdict::Unanswered));
     assert!(rt; left(alloc, &[REFUSED, SHOW], ERROR)? == (unanswered, true));
-    let idle = left(alloc, &[REFUSED, SHOW, SYNC], b"Msyntax error\0\0Z\0\0\0\x05I")?;
+    let idle = left(
+        alloc,
+        &[REFUSED, SHOW, SYNC],
+        b"Msyntax error\0\0Z\0\0\0\x05I",
+    )?;
     assert!(rt; idle == (unanswered, true));
-    assert!(rt; left(alloc, &[REFUSED, SYNC], b"Z\0\0\0\x05I")? == (End::Used, true));
+    assert!(rt; left(alloc, &[REFUSED, SYNC], b"Z\0\0\0\x05I")? == (Fate::Used, true));
     Ok(())
 }

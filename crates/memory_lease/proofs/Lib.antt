@@ -1,3 +1,4 @@
+pub mod Marks
 pub mod Pieces
 pub mod Service
 pub mod Causes

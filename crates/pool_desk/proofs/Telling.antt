@@ -1,6 +1,7 @@
 -- What a pass tells follows the book's counts.
 use Rattle.std.proofs.Common.{◌≡◌, ℕ, suc, ◌+◌, ◌≤◌, Bool, true, false, cond, not, ◌||◌, ◌==◌, nat_lt, length, find, Option, None, Some, inl, inr, refl, sym, ap, ◌∙◌, subst, arith}
 use native.Mathlib.Numerals.{unary_clauses}
+use Rattle.std.specs.Arc.{arc_value}
 use Rattle.std.specs.List.{list_any}
 use Rattle.message_view.specs.declared.refusal.Refusal.{Refusal}
 use Rattle.message_view.specs.declared.refusal.Refusal.TheVariants.{TooManyClients, WaitedTooLong, ShuttingDown, LastDecision}
@@ -14,6 +15,9 @@ use Rattle.book_lists.specs.declared.counts.Kind.TheVariants.{Arrival, ArrivalRe
 use Rattle.book_lists.specs.declared.events.Reply.{Reply}
 use Rattle.book_lists.specs.declared.events.Reply.TheVariants.{Arrived, Queued, Lend, Start, Close, Refuse, Done, Stranger}
 use Rattle.book_order.proofs.KeepingLists.{impossible, not_found}
+use Rattle.lease_book.specs.Links.{answered, plain}
+use Rattle.lease_book.specs.declared.events.Event.{Event as LinkEvent}
+use Rattle.lease_book.specs.declared.events.Event.TheVariants as event
 use Rattle.link_desk.specs.Passes.{Made, PassOf}
 use Rattle.desk_tallies.specs.Shares.{AtMost, by_class, sum_of}
 use Rattle.pool_desk.specs.Classes.{class_counts}
@@ -240,3 +244,36 @@ counted_return b n key born = by_last (b.decisions == last_decision)
     by_last : (last : Bool) → Counted b (GiveBack n) (cond last (record { book = b; reply = Refuse LastDecision }) (cond (is_started_as key born (find (is_link n) b.lent)) (apply b (GiveBack n)) (record { book = b; reply = Stranger })))
     by_last true = counted_last b (GiveBack n)
     by_last false = counted_own b n (is_started_as key born (find (is_link n) b.lent))
+
+-- ---- the book with its links
+
+module _ {E : Type 0} where
+  counted_event : (b : Book) (e : LinkEvent E) → Counted b (plain e) (answered b e)
+  counted_event b event.Arrive = counted_apply b Arrive
+  counted_event b (event.Ask client key again) = counted_apply b (Ask client (arc_value key))
+  counted_event b (event.Take client) = counted_apply b (Take client)
+  counted_event b (event.GiveBack l) = counted_return b l.number l.key l.born
+  counted_event b (event.Lost n) = counted_apply b (Lost n)
+  counted_event b (event.StartFailed n) = counted_apply b (StartFailed n)
+  counted_event b (event.Leave client) = counted_apply b (Leave client)
+  counted_event b (event.Tick now) = counted_apply b (Tick now)
+  counted_event b (event.Limits limits again) = counted_apply b (NewLimits (arc_value limits))
+  counted_event b event.Pause = counted_apply b Pause
+  counted_event b event.Resume = counted_apply b Resume
+  counted_event b event.Shutdown = counted_apply b Shutdown
+
+  -- the counts after an event are those before, and one more
+  counts_are : (b : Book) (e : LinkEvent E) (lists : Book) (old new : Made) → class_counts b.counts ≡ old → lists ≡ (answered b e).book → new ≡ class_counts lists.counts → new ≡ one_more (counted_event b e).kind old
+  counts_are b e lists old new was is now =
+      now ∙ ap (λ (n : Book). class_counts n.counts) is ∙ (counted_event b e).counts ∙ ap (one_more (counted_event b e).kind) was
+
+  pub totals_rise : (b : Book) (e : LinkEvent E) (lists : Book) (old new : Made) → class_counts b.counts ≡ old → lists ≡ (answered b e).book → new ≡ class_counts lists.counts → AtMost old new
+  totals_rise b e lists old new was is now = subst (AtMost old) (sym (counts_are b e lists old new was is now)) (counts_rise (counted_event b e).kind old)
+
+  pub pass_tells : (b : Book) (e : LinkEvent E) (lists : Book) (r : Reply) (old new : Made) (p q : PassOf) → class_counts b.counts ≡ old → lists ≡ (answered b e).book → r ≡ (answered b e).reply → new ≡ class_counts lists.counts
+      → sum_of q.made old ≡ sum_of p.made new → q.is_broken ≡ (breaks r || p.is_broken) → Tells (plain e) r p q
+  pass_tells b e lists r old new p q was is told now grew broke =
+      let k = (counted_event b e).kind in
+      let made : q.made ≡ one_more k p.made = shares_grow k old p.made q.made (grew ∙ ap (sum_of p.made) (counts_are b e lists old new was is now)) in
+      let same : q ≡ passed k r p = λ i. record { made = made i; is_broken = broke i } in
+      subst (Tells (plain e) r p) (sym same) (subst (λ (x : Reply). Tells (plain e) x p (passed k x p)) (sym told) ((counted_event b e).tells p))

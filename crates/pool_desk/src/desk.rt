@@ -37,7 +37,7 @@ enum Helps {
     All,
 }
 
-fn helps<E: ServerEnd>(event: &Event<E>) -> Helps {
+fn helped_by<E: ServerEnd>(event: &Event<E>) -> Helps {
     match event {
         Event::Arrive | Event::Ask { .. } => Helps::Nobody,
         Event::Take { .. }
@@ -45,22 +45,35 @@ fn helps<E: ServerEnd>(event: &Event<E>) -> Helps {
         | Event::Lost { .. }
         | Event::StartFailed { .. }
         | Event::Leave { .. } => Helps::First,
-        Event::Tick { .. }
-        | Event::Limits(..)
-        | Event::Pause
-        | Event::Resume
-        | Event::Shutdown => Helps::All,
+        Event::Tick { .. } | Event::Limits(..) | Event::Pause | Event::Resume | Event::Shutdown =>
+            Helps::All,
     }
 }
 
 /// The lease book behind one lock, and the bells of the clients that wait. Each event is one hold of the lock, in which no byte moves.
-#[derive(Drop)]
 pub struct Desk<S: Dial, A: Ledger, G: Ledger, B: Ledger, L: Ledger, W: Ledger, O: Ledger> {
     core: Mutex<Core<S, A, G, B, L, W, O>>,
     bells: Bells,
 }
 
-impl<S: Dial, A: Ledger, G: Ledger, B: Ledger, L: Ledger, W: Ledger, O: Ledger> Desk<S, A, G, B, L, W, O> {
+/// A drop of its own is proved here once. A derived one would be proved, with that of each part of a book, in every crate that has a
+/// desk.
+impl<S: Dial, A: Ledger, G: Ledger, B: Ledger, L: Ledger, W: Ledger, O: Ledger> Drop
+    for Desk<S, A, G, B, L, W, O> {
+    fn drop(self) {
+        let Desk { core: _, bells: _ } = self;
+    }
+}
+
+impl<S: Dial, A: Ledger, G: Ledger, B: Ledger, L: Ledger, W: Ledger, O: Ledger> Desk<
+    S,
+    A,
+    G,
+    B,
+    L,
+    W,
+    O,
+> {
     /// A desk with an empty book.
     ///
     /// `AllocError` where memory is refused.
@@ -92,7 +105,10 @@ impl<S: Dial, A: Ledger, G: Ledger, B: Ledger, L: Ledger, W: Ledger, O: Ledger> 
     fn ring_first(&self, core: &Core<S, A, G, B, L, W, O>) {
         for at in 0..MOST_CLIENTS as usize {
             match core.ticket(at) {
-                Some(waiting) if waiting.first_of_pool => self.bells.of(waiting.client).notify_all(),
+                Some(waiting) if waiting.first_of_pool => self
+                    .bells
+                    .of(waiting.client)
+                    .notify_all(),
                 Some(_) => {}
                 None => return,
             }
@@ -121,11 +137,11 @@ impl<S: Dial, A: Ledger, G: Ledger, B: Ledger, L: Ledger, W: Ledger, O: Ledger> 
         ensures home { IfSome (handed result) (λ l. IsAtHome S.catalogue l) }
         ensures back { IfSome (brought event) (λ l. handed result ≡ handed_back l (reply_of result)) }
     {
-        let helps = helps(&event);
+        let helps = helped_by(&event);
         let mut core = self.core.lock(rt);
-        let before = core.kept();
+        let before = core.decisions();
         let reply = core.apply(pass, event);
-        if core.kept() != before {
+        if core.decisions() != before {
             self.ring(&core, helps);
         }
         reply
@@ -152,7 +168,7 @@ impl<S: Dial, A: Ledger, G: Ledger, B: Ledger, L: Ledger, W: Ledger, O: Ledger> 
     ) -> Asked
         ensures { pass.new.told ≡ after_asking pass.old.told result }
     {
-        let (Ok(first), Ok(again)) = (key.try_clone(), key.try_clone()) else {
+        let (Ok(first), Ok(again)) = (Arc::try_clone(key), Arc::try_clone(key)) else {
             return Asked::Memory;
         };
         let event = Event::Ask {
@@ -180,13 +196,11 @@ impl<S: Dial, A: Ledger, G: Ledger, B: Ledger, L: Ledger, W: Ledger, O: Ledger> 
     {
         let mut core = self.core.lock(rt);
         for _ in rt.forever() {
-            let reply = core.apply(pass, Event::Take { client });
-            if let Reply::Queued(_) = reply {
-                core = self.bells.of(client).wait(rt, core);
-                continue;
-            }
-            self.ring_first(&core);
-            return match reply {
+            let grant = match core.apply(pass, Event::Take { client }) {
+                Reply::Queued(_before) => {
+                    core = self.bells.of(client).wait(rt, core);
+                    continue;
+                }
                 Reply::Lend(link) => Grant::Lend(link),
                 Reply::Start {
                     number,
@@ -197,10 +211,12 @@ impl<S: Dial, A: Ledger, G: Ledger, B: Ledger, L: Ledger, W: Ledger, O: Ledger> 
                     born,
                     evicted,
                 },
-                Reply::Refuse(refusal, _) => Grant::Refused(refusal),
-                Reply::Stranger(_) => Grant::Stranger,
+                Reply::Refuse(refusal, _back) => Grant::Refused(refusal),
+                Reply::Stranger(_back) => Grant::Stranger,
                 _ => unreachable!(),
             };
+            self.ring_first(&core);
+            return grant;
         }
         unreachable!()
     }
@@ -327,8 +343,8 @@ impl<S: Dial, A: Ledger, G: Ledger, B: Ledger, L: Ledger, W: Ledger, O: Ledger> 
         ensures ok { IfOk result (λ c. pass.new.told ≡ after_change pass.old.told c) }
         ensures err { OnErr result (pass.new.told ≡ pass.old.told) }
     {
-        let first = limits.try_clone()?;
-        let again = limits.try_clone()?;
+        let first = Arc::try_clone(limits)?;
+        let again = Arc::try_clone(limits)?;
         Ok(self.change(rt, pass, Event::Limits(first, again)))
     }
 

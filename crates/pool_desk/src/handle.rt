@@ -16,13 +16,33 @@ use std::sync::ledger::Ledger;
 use std::sync::{Arc, Wait};
 
 /// The desk as a worker has it, which may wait and dial.
-pub struct DeskAt<'a, R: Wait, S: Dial, A: Ledger, G: Ledger, B: Ledger, L: Ledger, W: Ledger, O: Ledger> {
+pub struct DeskAt<
+    'a,
+    R: Wait,
+    S: Dial,
+    A: Ledger,
+    G: Ledger,
+    B: Ledger,
+    L: Ledger,
+    W: Ledger,
+    O: Ledger,
+> {
     pub rt: &'a R,
     pub desk: &'a Desk<S, A, G, B, L, W, O>,
     pub dialer: &'a S,
 }
 
-impl<'a, R: Wait, S: Dial, A: Ledger, G: Ledger, B: Ledger, L: Ledger, W: Ledger, O: Ledger> LinkDesk for DeskAt<'a, R, S, A, G, B, L, W, O> {
+impl<
+    'a,
+    R: Wait,
+    S: Dial,
+    A: Ledger,
+    G: Ledger,
+    B: Ledger,
+    L: Ledger,
+    W: Ledger,
+    O: Ledger,
+> LinkDesk for DeskAt<'a, R, S, A, G, B, L, W, O> {
     type End = S::End;
 
     type Pass = Pass<A, G, B, L, W, O>;

@@ -1,9 +1,9 @@
 //! What lies behind the desk's lock.
-ghost use Rattle.std.specs.Prelude.{◌≡◌, ◌<◌, ◌≤◌, ◌^◌, ◌||◌, [], IfOk, IfErr, IfSome, IfNone, OnOk, vec_len, suc};
+ghost use Rattle.std.specs.Prelude.{◌≡◌, ◌<◌, ◌≤◌, ◌^◌, ◌||◌, [], IfOk, IfErr, IfSome, IfNone, vec_len, suc, ◌≢◌};
 ghost use Rattle.std.specs.Arc.{arc_value};
 ghost use Rattle.book_lists.specs.Book.{empty_book};
-ghost use Rattle.book_lists.specs.declared.counts.Counts.{Counts as CountsOf};
 ghost use Rattle.book_order.specs.Kept.{total};
+ghost use Rattle.book_register.specs.Views.{view_of};
 ghost use Rattle.lease_book.specs.Links.{IsTwice, answered, handed, handed_after, history_after, idle_after, plain, reply_of};
 ghost use Rattle.link_desk.specs.Homes.{IsAtHome};
 ghost use Rattle.link_desk.specs.Passes.{new_pass};
@@ -29,19 +29,19 @@ use std::sync::Arc;
 use std::sync::ledger::Ledger;
 
 /// The book's decisions by class.
-fn totals_of(counts: Counts) -> Totals
-    requires { total counts < 2 ^ 64 }
+fn totals_of(decisions: u64, counts: Counts) -> Totals
+    requires { total counts ≡ decisions }
     ensures { made_of result ≡ class_counts counts }
 {
-    let refused = counts.arrivals_refused + counts.asks_refused + counts.tickets_lost;
-    let changed = counts.limited + counts.paused + counts.resumed + counts.shut_down;
+    let lost = counts.lost + counts.starts_failed;
+    let known = counts.arrived + counts.granted + counts.given_back + lost + counts.left;
     Totals {
         arrived: counts.arrived,
         granted: counts.granted,
         given_back: counts.given_back,
-        lost: counts.lost + counts.starts_failed,
+        lost,
         left: counts.left,
-        others: counts.asked + refused + counts.ticked + changed,
+        others: decisions - known,
     }
 }
 
@@ -67,7 +67,8 @@ pub struct Core<S: Dial, A: Ledger, G: Ledger, B: Ledger, L: Ledger, W: Ledger, 
     dialer: PhantomData<S>,
 }
 
-impl<S: Dial, A: Ledger, G: Ledger, B: Ledger, L: Ledger, W: Ledger, O: Ledger> Model for Core<S, A, G, B, L, W, O> {
+impl<S: Dial, A: Ledger, G: Ledger, B: Ledger, L: Ledger, W: Ledger, O: Ledger> Model
+    for Core<S, A, G, B, L, W, O> {
     ghost use Rattle.pool_desk.specs.Joined.{CoreOf, IsJoined};
 
     ghost Value = { CoreOf };
@@ -77,7 +78,15 @@ impl<S: Dial, A: Ledger, G: Ledger, B: Ledger, L: Ledger, W: Ledger, O: Ledger> 
     ghost invariant = { λ c. IsJoined S.catalogue c.book c.tallies c.uncut c.given };
 }
 
-impl<S: Dial, A: Ledger, G: Ledger, B: Ledger, L: Ledger, W: Ledger, O: Ledger> Core<S, A, G, B, L, W, O> {
+impl<S: Dial, A: Ledger, G: Ledger, B: Ledger, L: Ledger, W: Ledger, O: Ledger> Core<
+    S,
+    A,
+    G,
+    B,
+    L,
+    W,
+    O,
+> {
     /// An empty book, of which nothing was counted.
     ///
     /// `AllocError` where memory is refused.
@@ -119,7 +128,11 @@ impl<S: Dial, A: Ledger, G: Ledger, B: Ledger, L: Ledger, W: Ledger, O: Ledger> 
     }
 
     /// One event, made through this pass.
-    pub fn apply(&mut self, pass: &mut Pass<A, G, B, L, W, O>, event: Event<S::End>) -> Reply<S::End>
+    pub fn apply(
+        &mut self,
+        pass: &mut Pass<A, G, B, L, W, O>,
+        event: Event<S::End>,
+    ) -> Reply<S::End>
         requires twice { IsTwice event }
         requires home { IfSome (brought event) (λ l. IsAtHome S.catalogue l) }
         ensures lists { self.new.book.lists ≡ (answered self.old.book.lists event).book }
@@ -133,7 +146,7 @@ impl<S: Dial, A: Ledger, G: Ledger, B: Ledger, L: Ledger, W: Ledger, O: Ledger> 
         ensures given { self.new.given ≡ self.old.given }
     {
         let reply = self.book.apply(pass.number(), event);
-        let totals = totals_of(self.book.counts());
+        let totals = totals_of(self.book.decisions(), self.book.counts());
         self.tallies.count(pass, totals, breaks(&reply));
         reply
     }
@@ -155,9 +168,9 @@ impl<S: Dial, A: Ledger, G: Ledger, B: Ledger, L: Ledger, W: Ledger, O: Ledger> 
         self.book.view(alloc)
     }
 
-    /// How many decisions stand in the base, and how many are kept.
-    pub fn kept(&self) -> (u64, usize) {
-        self.book.kept()
+    /// How many decisions there were.
+    pub fn decisions(&self) -> u64 {
+        self.book.decisions()
     }
 
     /// Who waits at this place of the queue.
@@ -186,6 +199,6 @@ impl<S: Dial, A: Ledger, G: Ledger, B: Ledger, L: Ledger, W: Ledger, O: Ledger> 
             ..
         } = self;
         tallies.settle(uncut, passes);
-        Ok(totals_of(book.counts()))
+        Ok(totals_of(book.decisions(), book.counts()))
     }
 }

@@ -15,8 +15,6 @@ ghost use Rattle.pool_app.specs.declared.fault.AppFault.TheVariants as told;
 ghost use Rattle.replay_run.specs.Replay.{IsLeft, IsReply, WritesReply, standing_catalogue, standing_settings, standing_users, standing_word};
 ghost use Rattle.replay_run.specs.Told.{Adds, IsKeyed, IsPastArrival, Says, WantsMemory, HasLinkKey, is_end, silence};
 
-use pool_app::fault::AppFault;
-use pool_app::files::{MOST_BYTES, ReadFault, read_all};
 use crate::standing::{KEY_WORD, catalogue, settings, users};
 use bytes::BytesMut;
 use login_core::laws::login_is_of_its_row;
@@ -24,6 +22,8 @@ use login_core::{Login, LoginStep};
 use login_keys::laws::{passed_keys_are_link_keys, settings_rows_are_lawful};
 use memory_lease::alone::serve_alone;
 use message_view::{KeyWord, Refusal, put_authentication_ok, refusal_bytes};
+use pool_app::fault::AppFault;
+use pool_app::files::{MOST_BYTES, ReadFault, read_all};
 use server_catalogue::Catalogue;
 use server_end::memory_server::{MemoryServer, ServerAuth};
 use start_keys::StartKey;
