@@ -126,17 +126,71 @@ fn gives_back<A: Ledger, G: Ledger, B: Ledger, L: Ledger, W: Ledger, O: Ledger, 
     Ok(waiting)
 }
 
-/// Two clients wait for the link of a third, in turn.
-#[derive(Clone, Copy, Debug, PartialEq, Eq, Drop)]
-struct Turns {
-    /// How many wait before it comes back.
-    before: usize,
-    /// The link of the first, and how many wait then.
-    first: (u64, usize),
-    second: (u64, usize),
-    totals: Totals,
+/// The totals of a desk with three passes.
+fn gathered<A: Ledger, G: Ledger, B: Ledger, L: Ledger, W: Ledger, O: Ledger>(
+    alloc: Global,
+    desk: Desk<Nowhere, A, G, B, L, W, O>,
+    first: Pass<A, G, B, L, W, O>,
+    second: Pass<A, G, B, L, W, O>,
+    third: Pass<A, G, B, L, W, O>,
+) -> Result<Totals, Fail> {
+    let mut passes = Vec::new(alloc);
+    passes.push(first).ok().ok_or("no memory")?;
+    passes.push(second).ok().ok_or("no memory")?;
+    passes.push(third).ok().ok_or("no memory")?;
+    Ok(desk.gather(passes).ok().ok_or("other passes")?)
 }
 
+/// The first client gives its link back, and the second has its turn: how many waited before, and the turn.
+fn goes_on<
+    A: Ledger + Send + Sync,
+    G: Ledger + Send + Sync,
+    B: Ledger + Send + Sync,
+    L: Ledger + Send + Sync,
+    W: Ledger + Send + Sync,
+    O: Ledger + Send + Sync,
+    R: Threads + Wait + Sync,
+>(
+    rt: &R,
+    alloc: Global,
+    desk: &Desk<Nowhere, A, G, B, L, W, O>,
+    first: &mut Pass<A, G, B, L, W, O>,
+    second: &mut Pass<A, G, B, L, W, O>,
+) -> (usize, (u64, usize)) {
+    let (turn, waited) = join(
+        rt,
+        || -> (u64, usize) { has_its_turn(rt, alloc, desk, second, 2) },
+        || -> usize { gives_back(rt, alloc, desk, first).unwrap_or(9) },
+    );
+    (waited, turn)
+}
+
+/// The same, and the turn of the third.
+fn takes_turns<
+    A: Ledger + Send + Sync,
+    G: Ledger + Send + Sync,
+    B: Ledger + Send + Sync,
+    L: Ledger + Send + Sync,
+    W: Ledger + Send + Sync,
+    O: Ledger + Send + Sync,
+    R: Threads + Wait + Sync,
+>(
+    rt: &R,
+    alloc: Global,
+    desk: &Desk<Nowhere, A, G, B, L, W, O>,
+    first: &mut Pass<A, G, B, L, W, O>,
+    second: &mut Pass<A, G, B, L, W, O>,
+    third: &mut Pass<A, G, B, L, W, O>,
+) -> (usize, (u64, usize), (u64, usize)) {
+    let (last, (waited, turn)) = join(
+        rt,
+        || -> (u64, usize) { has_its_turn(rt, alloc, desk, third, 3) },
+        || -> (usize, (u64, usize)) { goes_on(rt, alloc, desk, first, second) },
+    );
+    (waited, turn, last)
+}
+
+/// Three clients come to a new desk; the first has the only link, and the others their turns.
 fn in_turn<
     A: Ledger + Send + Sync,
     G: Ledger + Send + Sync,
@@ -145,49 +199,33 @@ fn in_turn<
     W: Ledger + Send + Sync,
     O: Ledger + Send + Sync,
     R: Threads + Wait + Sync,
->(rt: &R, alloc: Global, blanks: Blanks) -> Result<Turns, Fail>
+>(
+    rt: &R,
+    alloc: Global,
+    blanks: Blanks,
+) -> Result<((usize, (u64, usize), (u64, usize)), Totals), Fail>
     requires names { names_of blanks ≡ by_class A.name G.name B.name L.name W.name O.name }
     requires parts { by_class A.parts G.parts B.parts L.parts W.parts O.parts ≡ parts_of blanks }
     requires all { parts_of blanks ≡ of_each ALL_PARTS }
 {
     let desk = Desk::<Nowhere, A, G, B, L, W, O>::new(alloc, limits(alloc, 100)?, blanks)?;
-    let mut one = desk.pass(rt).ok_or("no pass")?;
-    let mut two = desk.pass(rt).ok_or("no pass")?;
-    let mut three = desk.pass(rt).ok_or("no pass")?;
-    come(rt, alloc, &desk, &mut one, 3)?;
-    let shared = &desk;
-    let (last, (first, returned)) = join(
-        rt,
-        || -> (u64, usize) { has_its_turn(rt, alloc, shared, &mut three, 3) },
-        || -> ((u64, usize), Result<usize, AllocError>) {
-            join(
-                rt,
-                || -> (u64, usize) { has_its_turn(rt, alloc, shared, &mut two, 2) },
-                || -> Result<usize, AllocError> { gives_back(rt, alloc, shared, &mut one) },
-            )
-        },
-    );
-    let mut passes = Vec::new(alloc);
-    passes.push(one).ok().ok_or("no memory")?;
-    passes.push(two).ok().ok_or("no memory")?;
-    passes.push(three).ok().ok_or("no memory")?;
-    let totals = desk.gather(passes).ok().ok_or("other passes")?;
-    Ok(Turns {
-        before: returned?,
-        first,
-        second: last,
-        totals,
-    })
+    let mut first = desk.pass(rt).ok_or("no pass")?;
+    let mut second = desk.pass(rt).ok_or("no pass")?;
+    let mut third = desk.pass(rt).ok_or("no pass")?;
+    come(rt, alloc, &desk, &mut first, 3)?;
+    let turns = takes_turns(rt, alloc, &desk, &mut first, &mut second, &mut third);
+    let totals = gathered(alloc, desk, first, second, third)?;
+    Ok((turns, totals))
 }
 
 #[test]
 fn clients_have_their_turns(rt: HostRuntime) -> Result<(), Fail> {
-    let turns = in_turn::<Brand, Brand, Brand, Brand, Brand, Brand, HostRuntime>(
+    let (turns, totals) = in_turn::<Brand, Brand, Brand, Brand, Brand, Brand, HostRuntime>(
         &rt,
         rt.alloc(),
         Blanks::new(),
     )?;
-    let totals = Totals {
+    let wanted = Totals {
         arrived: 3,
         granted: 3,
         given_back: 3,
@@ -195,12 +233,7 @@ fn clients_have_their_turns(rt: HostRuntime) -> Result<(), Fail> {
         left: 0,
         others: 3,
     };
-    let wanted = Turns {
-        before: 2,
-        first: (1, 1),
-        second: (1, 0),
-        totals,
-    };
-    assert_eq!(rt; turns, wanted);
+    assert_eq!(rt; turns, (2, (1, 1), (1, 0)));
+    assert_eq!(rt; totals, wanted);
     Ok(())
 }

@@ -17,8 +17,8 @@ use mio::net::TcpListener;
 use pool_desk::answers::Ticked;
 use pool_desk::desk::Desk;
 use pool_desk::handle::DeskAt;
-use pool_limits::limits;
 use pool_serve::serve::serve;
+use settings_limits::limits_of;
 use std::alloc::{AllocError, Global};
 use std::marker::Brand;
 use std::net::Net;
@@ -217,7 +217,7 @@ fn serve_all<
     requires parts { by_class A.parts G.parts B.parts L.parts W.parts O.parts ≡ parts_of blanks }
     requires all { parts_of blanks ≡ of_each ALL_PARTS }
 {
-    let limits = Arc::new(alloc, limits(alloc, &settings)?)?;
+    let limits = Arc::new(alloc, limits_of(alloc, &settings)?)?;
     let desk = Desk::<TcpDial<R>, A, G, B, L, W, O>::new(alloc, limits, blanks)?;
     let free = Free {
         passes: Vec::new(alloc),

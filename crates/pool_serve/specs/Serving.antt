@@ -1,5 +1,5 @@
 -- What a worker gives its client.
-use Rattle.std.specs.Prelude.{◌≡◌, ℕ, true, List, [], ◌++◌, Some}
+use Rattle.std.specs.Prelude.{◌≡◌, ℕ, true, List, ◌++◌, Some}
 use Rattle.std.specs.Arc.{arc_value}
 use Rattle.message_view.specs.Refusals.{Allowed, Begins, joined_pieces}
 use Rattle.ini_config.specs.Bounds.{AreWithinBounds}

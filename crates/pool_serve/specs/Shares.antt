@@ -1,5 +1,5 @@
 -- What a worker does to its pass, unless a call of the desk was answered by the last decision or as strange.
-use Rattle.std.specs.Prelude.{◌≡◌, ℕ, ◌+◌, false}
+use Rattle.std.specs.Prelude.{◌≡◌, ◌+◌, false}
 use Rattle.link_desk.specs.Passes.{Made, PassOf}
 
 -- one link went back or was lost

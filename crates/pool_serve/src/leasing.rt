@@ -1,5 +1,6 @@
 //! A link for a client, and its lease.
 ghost use Rattle.std.specs.Prelude.{◌≡◌, true};
+ghost use Rattle.std.specs.Arc.{arc_value};
 ghost use Rattle.start_keys.specs.Keys.{same_key};
 ghost use Rattle.link_desk.specs.Homes.{IsAtHome};
 ghost use Rattle.pool_serve.specs.Serving.{AllFollow, IsGuest, LetsIn, Serves, owed};
@@ -16,14 +17,13 @@ use link_start::close::close_link;
 use message_view::Refusal;
 use server_end::gate::Gate;
 use server_end::{ClientEnd, ServerEnd};
-use start_keys::StartKey;
 use std::alloc::Global;
 
-/// Whether a link's session is of this key.
-fn is_of<E: ServerEnd>(link: &CleanLink<E>, key: &StartKey) -> bool
-    ensures { result ≡ same_key link.now.key key.now }
+/// Whether a link's session is of a client's key.
+fn is_for<E: ServerEnd>(link: &CleanLink<E>, guest: &Guest) -> bool
+    ensures { result ≡ same_key link.now.key (arc_value guest.now.key) }
 {
-    **link.key() == *key
+    **link.key() == *guest.key
 }
 
 /// The same link; from here on the gate's turns tell of its end.
@@ -52,7 +52,7 @@ fn over_lent<C: ClientEnd, D: LinkDesk, G: Gate<D::End>>(
     ensures share { Ends (D.told pass.old) (D.told pass.new) }
     ensures serves { (C.facts client).tells ≡ true → LetsIn D.End.standing guest.now.login.users → Serves (C.facts client) (C.facts result.0) (owed D.catalogue guest.now) result.1 }
 {
-    if !is_of(&link, &guest.key) {
+    if !is_for(&link, guest) {
         let number = link.number();
         close_link(link);
         desk.lost(pass, number);

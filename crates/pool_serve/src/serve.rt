@@ -5,7 +5,7 @@ ghost use Rattle.message_view.specs.Refusals.{Allowed};
 ghost use Rattle.login_core.specs.Dialogue.{AtFirst};
 ghost use Rattle.login_core.specs.Logins.{Hears};
 ghost use Rattle.login_run.specs.Laws.{own};
-ghost use Rattle.login_run.specs.Runs.{IsSameLogin};
+ghost use Rattle.login_run.specs.Runs.{Arrived, IsAllGiven, IsSameLogin};
 ghost use Rattle.pool_serve.specs.Serving.{HasStopped, LetsIn, MayEnd};
 ghost use Rattle.pool_serve.specs.Shares.{Evens, Settles};
 
@@ -71,10 +71,16 @@ fn attend<C: ClientEnd, D: LinkDesk, G: Gate<D::End>>(
     passed_runs_are_let_in();
     passed_runs_have_passed();
     let mut run = run;
-    let turn = converse(alloc, &mut run, gate);
+    match converse(alloc, &mut run, gate) {
+        LoginTurn::Passed => {}
+        _ => {
+            let (client, _, _) = run.finish();
+            return (client, LastWord::Nothing);
+        }
+    }
     let (client, login, key) = run.finish();
-    match (turn, key) {
-        (LoginTurn::Passed, Some(key)) => {
+    match key {
+        Some(key) => {
             let guest = Guest {
                 number,
                 key,
@@ -83,7 +89,40 @@ fn attend<C: ClientEnd, D: LinkDesk, G: Gate<D::End>>(
             };
             lease(alloc, desk, pass, client, &guest, gate)
         }
-        _ => (client, LastWord::Nothing),
+        None => (client, LastWord::Nothing),
+    }
+}
+
+/// Lets a client that arrives in, and serves it.
+fn admit<C: ClientEnd, D: LinkDesk, G: Gate<D::End>>(
+    alloc: Global,
+    desk: &D,
+    pass: &mut D::Pass,
+    run: LoginRun<C>,
+    word: KeyWord,
+    gate: &mut G,
+) -> (C, LastWord)
+    requires arrived { run.phase ≡ Arrived }
+    requires given { IsAllGiven run }
+    requires settings { AreWithinBounds run.login.settings }
+    requires word { run.login.word ≡ word }
+    ensures tells { (C.facts result.0).tells ≡ run.client.tells }
+    ensures share { Settles (D.told pass.old) (D.told pass.new) }
+    ensures serves { run.client.tells ≡ true → LetsIn D.End.standing run.login.users → MayEnd (C.facts result.0).given (own D.catalogue run.login (C.facts result.0).taken) result.1 }
+{
+    runs_stand_at_pieces();
+    match desk.arrive(pass) {
+        Arrival::Client(number) => {
+            let mut run = run;
+            run.go_on(alloc);
+            let served = attend(alloc, desk, pass, run, number, word, gate);
+            desk.leave(pass, number);
+            served
+        }
+        Arrival::Refused(refusal) => {
+            let (client, _, _) = run.finish();
+            (client, LastWord::Refusal(refusal))
+        }
     }
 }
 
@@ -96,7 +135,7 @@ fn attend<C: ClientEnd, D: LinkDesk, G: Gate<D::End>>(
 /// Where the client tells, and the desk's ends follow and let its user in, what it was given is allowed for what a server
 /// started for it alone answers, over the catalogue of its row. Unless a call of the desk was answered by the last decision or as
 /// strange, as many links were granted as given back or lost, and as many clients arrived as left.
-pub fn serve<C: ClientEnd, D: LinkDesk, G: Gate<D::End>>(
+pub fn serve<C: ClientEnd, D: LinkDesk, G: Gate<D::End> + Drop>(
     alloc: Global,
     desk: &D,
     pass: D::Pass,
@@ -116,26 +155,17 @@ pub fn serve<C: ClientEnd, D: LinkDesk, G: Gate<D::End>>(
     ensures share { Settles (D.told pass) (D.told result.1) }
 {
     runs_are_allowed();
-    runs_stand_at_pieces();
     let mut pass = pass;
     let mut gate = gate;
     let mut run = LoginRun::new(client, login);
-    if converse(alloc, &mut run, &mut gate) != LoginTurn::Arrived {
-        let (client, _, _) = run.finish();
-        return (client, pass);
-    }
-    let (mut client, last) = match desk.arrive(&mut pass) {
-        Arrival::Client(number) => {
-            run.go_on(alloc);
-            let served = attend(alloc, desk, &mut pass, run, number, word, &mut gate);
-            desk.leave(&mut pass, number);
-            served
-        }
-        Arrival::Refused(refusal) => {
+    match converse(alloc, &mut run, &mut gate) {
+        LoginTurn::Arrived => {}
+        _ => {
             let (client, _, _) = run.finish();
-            (client, LastWord::Refusal(refusal))
+            return (client, pass);
         }
-    };
+    }
+    let (mut client, last) = admit(alloc, desk, &mut pass, run, word, &mut gate);
     last.tell(&mut client, &mut gate);
     (client, pass)
 }
