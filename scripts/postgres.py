@@ -168,7 +168,8 @@ class Show:
     def few_links(self):
         pooler = self.pooler(auth="md5", size=4)
         before = self.cluster.logins()
-        status, out, errors = run(["pgbench", "-n", "-S", "-C", "-c", "32", "-j", "4", "-T", "5"], pooler.port, "ann")
+        # a thread of pgbench waits for each login, which comes with its link, and would leave its other clients on their links
+        status, out, errors = run(["pgbench", "-n", "-S", "-C", "-c", "32", "-j", "32", "-T", "5"], pooler.port, "ann")
         self.passes.same("pgbench -C, 32 clients on 4 links for 5 s: no error", (status, failures(out, errors)), (0, []))
         print(f"       {rate(out)} connections a second")
         opened = self.cluster.logins() - before

@@ -2,5 +2,4 @@
 #![tactic(auto)]
 
 mod dialing;
-pub mod limits;
 pub mod pool;

@@ -6,7 +6,6 @@ ghost use Rattle.desk_tallies.specs.declared.passes.TheConstants.{ALL_PARTS};
 ghost use Rattle.desk_tallies.specs.Shares.{by_class, names_of, of_each, parts_of};
 
 use crate::dialing::TcpDial;
-use crate::limits::limits;
 use desk_tallies::passes::Pass;
 use desk_tallies::tallies::Blanks;
 use ini_config::Settings;
@@ -19,6 +18,7 @@ use pool_desk::answers::Ticked;
 use pool_desk::desk::Desk;
 use pool_desk::handle::DeskAt;
 use pool_serve::serve::serve;
+use settings_limits::limits_of;
 use std::alloc::{AllocError, Global};
 use std::marker::Brand;
 use std::net::Net;
@@ -55,7 +55,7 @@ struct Pool<R: Net, A: Ledger, G: Ledger, B: Ledger, L: Ledger, W: Ledger, O: Le
 }
 
 /// A drop of its own is proved here once.
-impl<R: Net, A: Ledger, G: Ledger, B: Ledger, L: Ledger, W: Ledger, O: Ledger> Drop
+impl<R: Net + Drop, A: Ledger, G: Ledger, B: Ledger, L: Ledger, W: Ledger, O: Ledger> Drop
     for Pool<R, A, G, B, L, W, O> {
     fn drop(self) {
         let Pool {
@@ -117,6 +117,11 @@ impl<R: Net, A: Ledger, G: Ledger, B: Ledger, L: Ledger, W: Ledger, O: Ledger> P
             dialer: &self.dialer,
         };
         let (_, pass) = serve(self.alloc, &desk, pass, client, login, word, gate);
+        let DeskAt {
+            rt,
+            desk: _,
+            dialer: _,
+        } = desk;
         self.give_back(rt, pass);
     }
 
@@ -212,7 +217,7 @@ fn serve_all<
     requires parts { by_class A.parts G.parts B.parts L.parts W.parts O.parts ≡ parts_of blanks }
     requires all { parts_of blanks ≡ of_each ALL_PARTS }
 {
-    let limits = Arc::new(alloc, limits(alloc, &settings)?)?;
+    let limits = Arc::new(alloc, limits_of(alloc, &settings)?)?;
     let desk = Desk::<TcpDial<R>, A, G, B, L, W, O>::new(alloc, limits, blanks)?;
     let free = Free {
         passes: Vec::new(alloc),

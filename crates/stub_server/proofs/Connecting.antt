@@ -5,10 +5,12 @@ use Rattle.link_laws.specs.Stages.{Server}
 use Rattle.server_end.specs.declared.Moved.{Moved}
 use Rattle.server_end.specs.declared.Moved.TheVariants.{Ended, Fault}
 use Rattle.server_end.specs.Moves.{ClientWrites, moved}
+use Rattle.stub_server.specs.declared.connection.Ending.{Ending}
 use Rattle.stub_server.specs.declared.connection.Ending.TheVariants.{Left}
+use Rattle.stub_server.specs.declared.connection.Progress.{Progress}
 use Rattle.stub_server.specs.declared.connection.Progress.TheVariants.{Ends}
 use Rattle.stub_server.specs.Replies.{stub_replies}
-use Rattle.stub_server.specs.Talks.{TalkOf, Says, GivesFront, Turns, future}
+use Rattle.stub_server.specs.Talks.{TalkOf, Says, GivesFront, HasEnded, HasTurned, Turns, future}
 
 -- a client whose end has ended was given a beginning
 pub front_written : (old new : ClientFacts) (s : TalkOf) (m : Moved) (v : Server) → ClientWrites old new [] m → Says v old s → GivesFront v new
@@ -25,3 +27,9 @@ writes_over old new s t m bytes which w =
   where
     by : ClientWrites old new [] m → Turns old new s t (Ends Left)
     by x = record { turns = λ v h. front_written old new s m v x h }
+
+pub ended_by : (old new : ClientFacts) (s t : TalkOf) (p : Progress) (ending : Ending) (v : Server) → p ≡ Ends ending → Turns old new s t p → Says v old s → HasEnded v new ending
+ended_by old new s t p ending v e k h = subst (λ (x : Progress). HasTurned v new t x) e (k.turns v h)
+
+pub front_so_far : (client : ClientFacts) (t : TalkOf) (v : Server) → Says v client t → GivesFront v client
+front_so_far client t v h = record { unsent = future t []; front = λ x. h.says x [] ∙ ap (stub_replies v) (append-nil client.taken) }

@@ -1,5 +1,5 @@
 -- One packet of a client is taken, and then all of them.
-use Rattle.std.proofs.Common.{◌≡◌, ℕ, zero, suc, ◌+◌, ◌-◌, ◌<◌, Bool, true, false, List, [], ◌∷◌, ◌++◌, length, drop, take, Result, Ok, Err, refl, sym, ap, ap₂, ◌∙◌, append_assoc, append-nil, arith, subst, length-drop, length-append, ◌⊎◌, ⊎_elim}
+use Rattle.std.proofs.Common.{◌≡◌, ℕ, zero, suc, ◌+◌, ◌-◌, ◌<◌, Bool, true, false, List, [], ◌∷◌, ◌++◌, length, drop, Result, Ok, Err, refl, sym, ap, ap₂, ◌∙◌, append_assoc, append-nil, arith, subst, length-drop, length-append, ◌⊎◌, ⊎_elim}
 use Rattle.std.specs.Prelude.{◌==◌}
 use Rattle.std.proofs.Math.Seq.{drop-append_seam}
 use Rattle.std.proofs.lemmas.Bool.{true≢false, eqb-true}
@@ -9,7 +9,6 @@ use Rattle.frame_view.specs.declared.Frame.{Frame}
 use Rattle.frame_view.specs.declared.FrameFault.{FrameFault}
 use Rattle.frame_view.specs.declared.FirstStep.{FirstStep}
 use Rattle.frame_view.specs.declared.FirstStep.TheVariants.{Startup, Cancel, Tls, Gss, Need, Bad}
-use Rattle.frame_view.specs.declared.Step.{Step}
 use Rattle.frame_view.specs.declared.Step.TheVariants as found
 use Rattle.frame_view.specs.declared.Side.TheVariants.{Client}
 use Rattle.frame_view.specs.declared.frames.TheConstants.{LONGEST_FRAME}
@@ -39,7 +38,7 @@ use Rattle.stub_server.specs.declared.talk.Stage.TheVariants.{Waits, Serves}
 use Rattle.stub_server.specs.declared.talk.Took.{Took}
 use Rattle.stub_server.specs.declared.talk.Took.TheVariants.{Packet, Nothing, End}
 use Rattle.stub_server.specs.Replies.{NOT_ENCRYPTED, first_reply, replies_to_first}
-use Rattle.stub_server.specs.Talks.{TalkOf, Hears, Gives, IsAnswered, IsSilent, IsTurn, Takes, TakesOne, after_frame, future, replies_from, server_of, stage_of, talk_of}
+use Rattle.stub_server.specs.Talks.{TalkOf, Hears, IsTurn, Takes, after_frame, replies_from, server_of, stage_of, talk_of}
 
 -- ---- the stage of a server that was started
 

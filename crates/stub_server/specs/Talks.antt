@@ -4,7 +4,6 @@ use Rattle.std.specs.List.{flat_map}
 use Rattle.std.specs.Arc.{arc_value}
 use Rattle.frame_view.specs.declared.client.TheConstants.{TERMINATE}
 use Rattle.frame_view.specs.Frames.{spelling}
-use Rattle.session_values.specs.State.{State}
 use Rattle.link_laws.specs.Stages.{Server, Turn, Open}
 use Rattle.link_laws.specs.Stages as stages
 use Rattle.link_laws.specs.Standing.{ClientFacts}

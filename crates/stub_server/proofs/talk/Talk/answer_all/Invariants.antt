@@ -1,4 +1,4 @@
-use Rattle.std.proofs.Common.{◌≡◌, [], length}
+use Rattle.std.proofs.Common.{[], length}
 use Rattle.stub_server.specs.Talks.{Hears}
 use Rattle.stub_server.proofs.talk.Talk.answer_all.Given as goal
 
