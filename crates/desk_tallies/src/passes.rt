@@ -49,7 +49,10 @@ impl<A: Ledger, G: Ledger, B: Ledger, L: Ledger, W: Ledger, O: Ledger> Model
     } };
 }
 
-/// A pass: a number, and one part of each ledger, with what was counted on it.
+/// A pass: a number, and one part of each ledger, with what was counted on it. Decisions are made through it.
+///
+/// `A` to `O` are the ledgers of the classes of decisions: clients let in, links granted, given back, lost or not started, clients
+/// gone, and all others.
 #[derive(Drop)]
 pub struct Pass<A: Ledger, G: Ledger, B: Ledger, L: Ledger, W: Ledger, O: Ledger> {
     number: u64,

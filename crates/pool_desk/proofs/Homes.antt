@@ -4,7 +4,7 @@ use Rattle.std.specs.Prelude.{IfSome, filter, find}
 use Rattle.session_values.specs.State.{Address, CatalogueOf}
 use Rattle.link_run.specs.Links.{LinkView}
 use Rattle.book_lists.specs.declared.events.Reply.{Reply as ListsReply}
-use Rattle.lease_book.specs.Links.{found, goes_out, handed_after, handed_back, idle_after, idle_with, is_done, is_numbered, left}
+use Rattle.lease_book.specs.Links.{found, goes_out, handed_after, handed_back, idle_after, is_done, is_numbered, left}
 use Rattle.lease_book.specs.declared.events.Event.{Event}
 use Rattle.lease_book.specs.declared.events.Event.TheVariants as event
 use Rattle.link_desk.specs.Homes.{IsAtHome}

@@ -1,19 +1,17 @@
 -- What a pass tells follows the book's counts.
-use Rattle.std.proofs.Common.{◌≡◌, ℕ, suc, ◌+◌, ◌≤◌, Bool, true, false, cond, not, ◌||◌, ◌==◌, nat_lt, length, find, Option, None, Some, inl, inr, refl, sym, ap, ◌∙◌, subst, arith}
+use Rattle.std.proofs.Common.{◌≡◌, ℕ, suc, Bool, true, false, cond, not, ◌||◌, ◌==◌, nat_lt, length, find, Option, None, Some, inl, inr, refl, sym, ap, ◌∙◌, subst, arith}
 use native.Mathlib.Numerals.{unary_clauses}
 use Rattle.std.specs.Arc.{arc_value}
-use Rattle.std.specs.List.{list_any}
-use Rattle.message_view.specs.declared.refusal.Refusal.{Refusal}
-use Rattle.message_view.specs.declared.refusal.Refusal.TheVariants.{TooManyClients, WaitedTooLong, ShuttingDown, LastDecision}
+use Rattle.message_view.specs.declared.refusal.Refusal.TheVariants.{LastDecision}
 use Rattle.session_values.specs.State.{StartKeyOf}
 use Rattle.book_lists.specs.Book.{Book, Link, Ticket, in_pool, is_link, is_of, latest_of, link_count, pool_count, pool_size, waiting_before}
-use Rattle.book_lists.specs.Outcomes.{Answer, Event, apply, apply_return, at_clock, closes, counted, decided, evicts, gives_back, grants, has_waited, is_crowded, is_old, is_stale, is_started_as, is_strange, kind_of, last_decision, loses_ticket, outcome, raised, takes}
+use Rattle.book_lists.specs.Outcomes.{Answer, Event, apply, apply_return, at_clock, closes, counted, decided, evicts, gives_back, grants, has_waited, is_crowded, is_old, is_stale, is_started_as, is_strange, kind_of, last_decision, outcome, raised, takes}
 use Rattle.book_lists.specs.Outcomes.Event.{Arrive, Ask, Take, GiveBack, Lost, StartFailed, Leave, Tick, NewLimits, Pause, Resume, Shutdown}
 use Rattle.book_lists.specs.declared.counts.Counts.{Counts}
 use Rattle.book_lists.specs.declared.counts.Kind.{Kind}
 use Rattle.book_lists.specs.declared.counts.Kind.TheVariants.{Arrival, ArrivalRefused, Asking, AskRefused, Grant, TicketLost, Return, Loss, FailedStart, Leaving, Ticking, Limiting, Pausing, Resuming, Closing}
 use Rattle.book_lists.specs.declared.events.Reply.{Reply}
-use Rattle.book_lists.specs.declared.events.Reply.TheVariants.{Arrived, Queued, Lend, Start, Close, Refuse, Done, Stranger}
+use Rattle.book_lists.specs.declared.events.Reply.TheVariants.{Refuse, Done, Stranger}
 use Rattle.book_order.proofs.KeepingLists.{impossible, not_found}
 use Rattle.lease_book.specs.Links.{answered, plain}
 use Rattle.lease_book.specs.declared.events.Event.{Event as LinkEvent}

@@ -28,7 +28,7 @@ use std::alloc::{AllocError, Global};
 use std::sync::ledger::Ledger;
 use std::sync::{Arc, Mutex, Wait};
 
-/// Whom a decision may help, who waits.
+/// Which of the clients that wait a decision may help.
 #[derive(Clone, Copy, Drop)]
 enum Helps {
     Nobody,
@@ -51,6 +51,9 @@ fn helped_by<E: ServerEnd>(event: &Event<E>) -> Helps {
 }
 
 /// The lease book behind one lock, and the bells of the clients that wait. Each event is one hold of the lock, in which no byte moves.
+///
+/// `A` to `O` are the ledgers of the classes of decisions: clients let in, links granted, given back, lost or not started, clients
+/// gone, and all others.
 pub struct Desk<S: Dial, A: Ledger, G: Ledger, B: Ledger, L: Ledger, W: Ledger, O: Ledger> {
     core: Mutex<Core<S, A, G, B, L, W, O>>,
     bells: Bells,

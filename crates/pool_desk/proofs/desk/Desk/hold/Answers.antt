@@ -1,5 +1,4 @@
-use Rattle.std.proofs.Common.{◌≡◌}
-use Rattle.lease_book.specs.Links.{answered, handed, reply_of}
+use Rattle.lease_book.specs.Links.{handed, reply_of}
 use Rattle.pool_desk.proofs.Homes.{comes_back}
 use Rattle.pool_desk.proofs.desk.Desk.hold.Goals as goal
 

@@ -1,10 +1,8 @@
-use Rattle.std.proofs.Common.{◌≡◌, ◌∙◌, sym, ap, subst}
-use Rattle.std.specs.Prelude.{IfSome, ◌||◌}
-use Rattle.lease_book.specs.Links.{answered, reply_of}
-use Rattle.link_desk.specs.Homes.{IsAtHome}
+use Rattle.std.proofs.Common.{◌≡◌, ◌∙◌, sym, ap}
+use Rattle.std.specs.Prelude.{◌||◌}
+use Rattle.lease_book.specs.Links.{reply_of}
 use Rattle.desk_tallies.specs.Shares.{made_of}
 use Rattle.pool_desk.specs.Classes.{class_counts}
-use Rattle.pool_desk.specs.Joined.{AreAtHome}
 use Rattle.pool_desk.proofs.Telling.{pass_tells, totals_rise}
 use Rattle.pool_desk.proofs.Homes.{comes_home, stay_home}
 use Rattle.pool_desk.proofs.inner.Core.apply.Goals as goal
