@@ -4,13 +4,11 @@ ghost use Rattle.desk_tallies.specs.declared.passes.TheConstants.{ALL_PARTS};
 ghost use Rattle.desk_tallies.specs.Shares.{by_class, names_of, of_each, parts_of};
 
 use crate::ends::{HoldingGate, NotedClient};
-use crate::parts::{Everywhere, WELCOME, dial, input, limits, login, word};
+use crate::parts::{Everywhere, WELCOME, dial, input, limits, login, serve_by};
 use desk_tallies::passes::Pass;
 use desk_tallies::tallies::Blanks;
 use paced_client::PacedClient;
 use pool_desk::desk::Desk;
-use pool_desk::handle::DeskAt;
-use pool_serve::serve::serve;
 use server_end::gate::OpenGate;
 use std::alloc::Global;
 use std::marker::Brand;
@@ -24,11 +22,7 @@ use std::thread::{Threads, join};
 /// What each client sends.
 const QUERIES: &[&[u8]] = &[b"SHOW application_name"];
 
-fn client<'a>(
-    alloc: Global,
-    bytes: usize,
-    given: &'a AtomicBool,
-) -> Result<NotedClient<'a>, Fail> {
+fn client<'a>(alloc: Global, bytes: usize, given: &'a AtomicBool) -> Result<NotedClient<'a>, Fail> {
     let input = input(alloc, QUERIES)?;
     Ok(NotedClient {
         client: PacedClient::new(alloc, input.as_slice(), 8_192)?,
@@ -73,21 +67,31 @@ fn at_once<
     let (given, in_time) = join(
         rt,
         move || -> usize {
-            let at = DeskAt {
+            let (client, _pass) = serve_by(
                 rt,
-                desk: shared,
-                dialer: servers,
-            };
-            let (client, _pass) = serve(alloc, &at, first_pass, first, first_login, word(1), gate);
+                alloc,
+                shared,
+                servers,
+                first_pass,
+                first,
+                first_login,
+                1,
+                gate,
+            );
             client.client.given().len()
         },
         move || -> bool {
-            let at = DeskAt {
+            let (client, _pass) = serve_by(
                 rt,
-                desk: shared,
-                dialer: servers,
-            };
-            let (client, _pass) = serve(alloc, &at, second_pass, second, second_login, word(2), OpenGate);
+                alloc,
+                shared,
+                servers,
+                second_pass,
+                second,
+                second_login,
+                2,
+                OpenGate,
+            );
             client.given.load(Ordering::SeqCst)
         },
     );

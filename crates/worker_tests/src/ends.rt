@@ -10,7 +10,6 @@ use std::sync::atomic::{AtomicBool, Ordering};
 use std::thread::sleep;
 use std::time::Duration;
 
-
 /// A paced client that notes once it was given more than so many bytes.
 #[derive(Drop)]
 pub(crate) struct NotedClient<'a> {

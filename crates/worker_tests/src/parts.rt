@@ -1,5 +1,6 @@
 //! Settings, logins, limits and messages of the tests.
-ghost use Rattle.std.specs.Prelude.{◌≡◌, [], IfOk, false};
+ghost use Rattle.std.specs.Prelude.{◌≡◌, [], IfOk, false, true};
+ghost use Rattle.worker_tests.specs.Shop.{key_word};
 ghost use Rattle.std.specs.Arc.{arc_value};
 ghost use Rattle.ini_config.specs.Bounds.{AreWithinBounds};
 ghost use Rattle.login_core.specs.Dialogue.{AtFirst};
@@ -7,16 +8,23 @@ ghost use Rattle.login_core.specs.Logins.{Hears};
 
 use book_lists::limits::Limits;
 use bytes::BytesMut;
+use desk_tallies::passes::Pass;
 use ini_config::laws::read_settings_are_within_bounds;
 use ini_config::{DbRow, Settings, read_settings};
 use link_start::laws::memory_servers_can_start;
 use login_core::Login;
 use message_view::{KeyWord, put_query};
+use pool_desk::desk::Desk;
 use pool_desk::dial::Dial;
+use pool_desk::handle::DeskAt;
+use pool_serve::serve::serve;
 use server_catalogue::Catalogue;
+use server_end::ClientEnd;
+use server_end::gate::Gate;
 use server_end::memory_server::{MemoryServer, ServerAuth};
 use std::alloc::{AllocError, Global};
-use std::sync::Arc;
+use std::sync::ledger::Ledger;
+use std::sync::{Arc, Wait};
 use user_file::read_users;
 
 const SETTINGS: &[u8] =
@@ -33,7 +41,9 @@ pub(crate) const START: &[u8] = b"\0\0\0\x20\0\x03\0\0user\0ann\0database\0shop\
 pub(crate) const WELCOME: usize = 260;
 
 /// The key word of a client with this number.
-pub(crate) fn word(number: u32) -> KeyWord {
+pub(crate) fn word(number: u32) -> KeyWord
+    ensures { result ≡ key_word number }
+{
     KeyWord {
         pid: number,
         secret: number,
@@ -55,7 +65,7 @@ fn settings(alloc: Global) -> Result<Arc<Settings>, AllocError>
 pub(crate) fn login(alloc: Global, number: u32) -> Result<Login, AllocError>
     ensures hearing { IfOk result (λ l. l.hearing ≡ Hears (AtFirst false false)) }
     ensures held { IfOk result (λ l. l.held ≡ []) }
-    ensures word { IfOk result (λ l. l.word.pid ≡ number) }
+    ensures word { IfOk result (λ l. l.word ≡ key_word number) }
     ensures settings { IfOk result (λ l. AreWithinBounds l.settings) }
 {
     let settings = settings(alloc)?;
@@ -85,15 +95,7 @@ impl Dial for Everywhere {
         self.catalogue.is_lawful();
         let catalogue = Arc::try_clone(&self.catalogue).ok()?;
         let own = word(7);
-        MemoryServer::new(
-            self.alloc,
-            catalogue,
-            ServerAuth::Trust,
-            own,
-            8_192,
-            None,
-        )
-        .ok()
+        MemoryServer::new(self.alloc, catalogue, ServerAuth::Trust, own, 8_192, None).ok()
     }
 }
 
@@ -129,4 +131,43 @@ pub(crate) fn input(alloc: Global, queries: &[&[u8]]) -> Result<BytesMut, AllocE
         put_query(&mut out, query)?;
     }
     Ok(out)
+}
+
+/// Serves a client by this desk, and hands back its end and the pass.
+pub(crate) fn serve_by<
+    C: ClientEnd,
+    A: Ledger,
+    G: Ledger,
+    B: Ledger,
+    L: Ledger,
+    W: Ledger,
+    O: Ledger,
+    T: Gate<MemoryServer> + Drop,
+    R: Wait,
+>(
+    rt: &R,
+    alloc: Global,
+    desk: &Desk<Everywhere, A, G, B, L, W, O>,
+    dialer: &Everywhere,
+    pass: Pass<A, G, B, L, W, O>,
+    client: C,
+    login: Login,
+    number: u32,
+    gate: T,
+) -> (C, Pass<A, G, B, L, W, O>)
+    requires hearing { login.hearing ≡ Hears (AtFirst false false) }
+    requires held { login.held ≡ [] }
+    requires word { login.word ≡ key_word number }
+    requires settings { AreWithinBounds login.settings }
+    requires taken { (C.facts client).tells ≡ true → (C.facts client).taken ≡ [] }
+    requires given { (C.facts client).tells ≡ true → (C.facts client).given ≡ [] }
+{
+    let at = DeskAt { rt, desk, dialer };
+    let served = serve(alloc, &at, pass, client, login, word(number), gate);
+    let DeskAt {
+        rt: _,
+        desk: _,
+        dialer: _,
+    } = at;
+    served
 }

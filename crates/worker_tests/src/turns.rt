@@ -3,13 +3,11 @@ ghost use Rattle.std.specs.Prelude.{◌≡◌};
 ghost use Rattle.desk_tallies.specs.declared.passes.TheConstants.{ALL_PARTS};
 ghost use Rattle.desk_tallies.specs.Shares.{by_class, names_of, of_each, parts_of};
 
-use crate::parts::{Everywhere, WELCOME, dial, input, limits, login, word};
+use crate::parts::{Everywhere, WELCOME, dial, input, limits, login, serve_by};
 use desk_tallies::passes::{Pass, Totals};
 use desk_tallies::tallies::Blanks;
 use paced_client::PacedClient;
 use pool_desk::desk::Desk;
-use pool_desk::handle::DeskAt;
-use pool_serve::serve::serve;
 use server_end::gate::OpenGate;
 use std::alloc::Global;
 use std::marker::Brand;
@@ -27,12 +25,15 @@ const FIRST: &[&[u8]] = &[
 const SECOND: &[&[u8]] = &[b"SHOW application_name", b"SELECT * FROM t"];
 
 /// The answer to `SHOW application_name` in a fresh session.
-const SHOWN: &[u8] = b"T\0\0\0\x29\0\x01application_name\0\0\0\0\0\0\0\0\0\0\x19\xff\xff\xff\xff\xff\xff\0\0D\0\0\0\x0a\0\x01\0\0\0\0C\0\0\0\x09SHOW\0Z\0\0\0\x05I";
+const SHOWN: &[u8] =
+    b"T\0\0\0\x29\0\x01application_name\0\0\0\0\0\0\0\0\0\0\x19\xff\xff\xff\xff\xff\xff\0\0D\0\0\0\x0a\0\x01\0\0\0\0C\0\0\0\x09SHOW\0Z\0\0\0\x05I";
 
 /// Serves a client that sends these Queries and leaves.
 fn served<A: Ledger, G: Ledger, B: Ledger, L: Ledger, W: Ledger, O: Ledger, R: Wait>(
+    rt: &R,
     alloc: Global,
-    desk: &DeskAt<'_, R, Everywhere, A, G, B, L, W, O>,
+    desk: &Desk<Everywhere, A, G, B, L, W, O>,
+    dialer: &Everywhere,
     pass: Pass<A, G, B, L, W, O>,
     number: u32,
     queries: &[&[u8]],
@@ -40,7 +41,9 @@ fn served<A: Ledger, G: Ledger, B: Ledger, L: Ledger, W: Ledger, O: Ledger, R: W
     let input = input(alloc, queries)?;
     let client = PacedClient::new(alloc, input.as_slice(), 8_192)?;
     let login = login(alloc, number)?;
-    Ok(serve(alloc, desk, pass, client, login, word(number), OpenGate))
+    Ok(serve_by(
+        rt, alloc, desk, dialer, pass, client, login, number, OpenGate,
+    ))
 }
 
 /// Both clients, and the totals of the desk.
@@ -56,13 +59,8 @@ fn both<A: Ledger, G: Ledger, B: Ledger, L: Ledger, W: Ledger, O: Ledger, R: Wai
     let dialer = dial(alloc)?;
     let desk = Desk::<Everywhere, A, G, B, L, W, O>::new(alloc, limits(alloc)?, blanks)?;
     let pass = desk.pass(rt).ok_or("no pass")?;
-    let at = DeskAt {
-        rt,
-        desk: &desk,
-        dialer: &dialer,
-    };
-    let (first, pass) = served(alloc, &at, pass, 1, FIRST)?;
-    let (second, pass) = served(alloc, &at, pass, 2, SECOND)?;
+    let (first, pass) = served(rt, alloc, &desk, &dialer, pass, 1, FIRST)?;
+    let (second, pass) = served(rt, alloc, &desk, &dialer, pass, 2, SECOND)?;
     let mut passes = Vec::new(alloc);
     passes.push(pass).ok().ok_or("no memory")?;
     let totals = desk.gather(passes).ok().ok_or("other passes")?;
@@ -79,7 +77,10 @@ fn a_link_comes_back_as_it_was(rt: HostRuntime) -> Result<(), Fail> {
     assert!(rt; first.given().len() > WELCOME);
     assert_eq!(rt; &second.given()[WELCOME..WELCOME + SHOWN.len()], SHOWN);
     assert_eq!(rt; second.given()[WELCOME + SHOWN.len()], b'E');
-    assert_eq!(rt; (totals.arrived, totals.granted, totals.given_back), (2, 2, 2));
+    assert_eq!(rt;
+        (totals.arrived, totals.granted, totals.given_back),
+        (2, 2, 2)
+    );
     assert_eq!(rt; (totals.lost, totals.left), (0, 2));
     Ok(())
 }
