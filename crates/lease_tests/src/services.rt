@@ -54,10 +54,13 @@ fn a_server_dies_inside_a_row(rt: HostRuntime) -> Result<(), Fail> {
     let given =
         b"T\0\0\0\x37\0\x02name\0\0\0\0\0\0\0\0\0\0\x19\xff\xff\xff\xff\xff\xff\0\0country\0\0\0\0\0\0\0\0\0\0\x19\xff\xff\xff\xff\xff\xff\0\0D\0\0\0\x14\0\x02";
     let wanted = welcome_and(rt.alloc(), given)?;
-    for cut in [1, 7, 8_192] {
-        let part = served(rt.alloc(), Some(BEFORE + 56 + 7), LIMIT, cut, select)?;
-        assert_eq!(rt; part.as_slice(), wanted.as_slice());
-    }
+    let dies = Some(BEFORE + 56 + 7);
+    let whole = served(rt.alloc(), dies, LIMIT, 8_192, select)?;
+    assert_eq!(rt; whole.as_slice(), wanted.as_slice());
+    let bytewise = served(rt.alloc(), dies, LIMIT, 1, select)?;
+    assert_eq!(rt; bytewise.as_slice(), wanted.as_slice());
+    let sevens = served(rt.alloc(), dies, LIMIT, 7, select)?;
+    assert_eq!(rt; sevens.as_slice(), wanted.as_slice());
     Ok(())
 }
 
