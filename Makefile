@@ -50,6 +50,8 @@ test:
 	scripts/clients.sh $(trials)
 	scripts/refuse-growth.sh $(program) $(trials)
 	PGSESS=$(program) scripts/cli.sh
+	scripts/postgres.sh $(program)
+	scripts/abuse.sh $(program)
 
 # the wrong versions of functions that aren't tried by the gate; CRATES names some crates. It is no part of `test`: on top of the
 # gate it would need each library built once more, which takes longer than all edits. Run it before a crate lands
@@ -68,7 +70,7 @@ $(relay_bench): $(sources)
 
 # all run; the status says whether a bound was missed
 bench: build/pgsess $(relay_bench)
-	@status=0; bench/replay.sh build/pgsess || status=$$?; bench/tables.sh build/pgsess || status=$$?; bench/relay.sh $(relay_bench) || status=$$?; exit $$status
+	@status=0; bench/replay.sh build/pgsess || status=$$?; bench/tables.sh build/pgsess || status=$$?; bench/relay.sh $(relay_bench) || status=$$?; bench/pool.sh build/pgsess || status=$$?; exit $$status
 
 clean:
 	rm -rf build crates/*/out
