@@ -2,6 +2,7 @@
 ghost use Rattle.lease_book.specs.Links.{IsTwice};
 
 use crate::parts::{Gone, Settings, Whose, key_of, limits, link};
+use book_lists::events::ClientState;
 use lease_book::book::Book;
 use lease_book::events::{Event, Reply};
 use link_run::links::CleanLink;
@@ -151,10 +152,70 @@ impl Story {
             view.idle.len(),
         ])
     }
+
+    /// The state that the view shows of a client.
+    pub(crate) fn state_of(&self, client: u64) -> Result<Option<ClientState>, AllocError> {
+        let view = self.book.view(self.alloc)?;
+        for shown in &view.clients {
+            if shown.number == client {
+                return Ok(Some(shown.state));
+            }
+        }
+        Ok(None)
+    }
+
+    /// The client and the second of the view's first ticket.
+    pub(crate) fn first_ticket(&self) -> Result<Option<(u64, u64)>, AllocError> {
+        let view = self.book.view(self.alloc)?;
+        match view.tickets.first() {
+            Some(ticket) => Ok(Some((ticket.client, ticket.since))),
+            None => Ok(None),
+        }
+    }
+
+    /// The number and the second of birth of the view's first lent link.
+    pub(crate) fn first_lent(&self) -> Result<Option<(u64, u64)>, AllocError> {
+        let view = self.book.view(self.alloc)?;
+        match view.lent.first() {
+            Some(link) => Ok(Some((link.number, link.born))),
+            None => Ok(None),
+        }
+    }
+
+    /// Decisions, starts, reuses, evictions and losses, as the view shows them.
+    pub(crate) fn totals(&self) -> Result<[u64; 5], AllocError> {
+        let view = self.book.view(self.alloc)?;
+        Ok([
+            view.decisions,
+            view.starts,
+            view.reuses,
+            view.evictions,
+            view.losses,
+        ])
+    }
+
+    /// The clock, the decisions and how many of them are Ticks, as the view shows them.
+    pub(crate) fn ticks(&self) -> Result<[u64; 3], AllocError> {
+        let view = self.book.view(self.alloc)?;
+        Ok([view.clock, view.decisions, view.counts.ticked])
+    }
+
+    /// Arrivals, Asks, grants, returns, losses and Ticks.
+    pub(crate) fn counts(&self) -> [u64; 6] {
+        let counts = self.book.counts();
+        [
+            counts.arrived,
+            counts.asked,
+            counts.granted,
+            counts.given_back,
+            counts.lost,
+            counts.ticked,
+        ]
+    }
 }
 
 /// The first act that the book answers otherwise than told: its place, and the answer.
-pub(crate) fn surprise_in(
+pub(crate) fn surprise(
     story: &mut Story,
     acts: &[(Act, Told)],
 ) -> Result<Option<(usize, Told)>, AllocError> {
@@ -165,14 +226,4 @@ pub(crate) fn surprise_in(
         }
     }
     Ok(None)
-}
-
-/// The same of an empty book with these settings.
-pub(crate) fn surprise(
-    alloc: Global,
-    settings: Settings,
-    acts: &[(Act, Told)],
-) -> Result<Option<(usize, Told)>, AllocError> {
-    let mut story = Story::new(alloc, settings)?;
-    surprise_in(&mut story, acts)
 }

@@ -1,5 +1,5 @@
 //! What a book keeps and shows of itself.
-use crate::acts::{Act, Story, Told, surprise_in};
+use crate::acts::{Act, Story, Told, surprise};
 use crate::parts::{Settings, Whose};
 use book_lists::events::ClientState;
 use book_register::view::Waiting;
@@ -13,11 +13,7 @@ fn the_last_decisions_are_kept(rt: HostRuntime) -> Result<(), Fail> {
         assert_eq!(rt; story.play(Act::Tick(now))?, Told::Done);
     }
     assert_eq!(rt; story.book.kept(), (44, 256));
-    let view = story.book.view(rt.alloc())?;
-    assert_eq!(rt;
-        (view.clock, view.decisions, view.counts.ticked),
-        (300, 300, 300)
-    );
+    assert_eq!(rt; story.ticks()?, [300, 300, 300]);
     Ok(())
 }
 
@@ -31,10 +27,8 @@ fn after_the_last_decision_nothing_changes(rt: HostRuntime) -> Result<(), Fail> 
         (Act::Pause, Told::Refuse(last, None)),
     ];
     let mut story = Story::after(rt.alloc(), u64::MAX)?;
-    assert_eq!(rt; surprise_in(&mut story, &acts)?, None);
-    let view = story.book.view(rt.alloc())?;
-    assert_eq!(rt; (view.decisions, view.counts.ticked), (u64::MAX, u64::MAX));
-    assert!(rt; !view.is_paused);
+    assert_eq!(rt; surprise(&mut story, &acts)?, None);
+    assert_eq!(rt; story.ticks()?, [0, u64::MAX, u64::MAX]);
     assert_eq!(rt; story.sizes()?, [0, 0, 0, 0]);
     Ok(())
 }
@@ -51,7 +45,7 @@ fn the_last_decision_is_an_end(rt: HostRuntime) -> Result<(), Fail> {
         ),
     ];
     let mut story = Story::after(rt.alloc(), u64::MAX - 3)?;
-    assert_eq!(rt; surprise_in(&mut story, &acts)?, None);
+    assert_eq!(rt; surprise(&mut story, &acts)?, None);
     assert_eq!(rt; story.book.kept(), (u64::MAX - 3, 3));
     assert_eq!(rt; story.sizes()?, [1, 0, 1, 0]);
     Ok(())
@@ -78,53 +72,38 @@ fn the_view_shows_who_is_there(rt: HostRuntime) -> Result<(), Fail> {
     for act in three_clients() {
         let _ = story.play(act)?;
     }
-    let view = story.book.view(rt.alloc())?;
-    let states = [
-        ClientState::Active,
-        ClientState::Waiting,
-        ClientState::LoggingIn,
-    ];
-    for (client, state) in view.clients.iter().zip(&states) {
-        assert_eq!(rt; client.state, *state);
-    }
-    assert_eq!(rt; view.clients.len(), 3);
-    for ticket in &view.tickets {
-        assert_eq!(rt; (ticket.client, ticket.since), (2, 5));
-        assert!(rt; ticket.key.user.is(b"ann"));
-    }
-    for link in &view.lent {
-        assert_eq!(rt; (link.number, link.born, link.since), (1, 4, 4));
-    }
+    assert_eq!(rt; story.state_of(1)?, Some(ClientState::Active));
+    assert_eq!(rt; story.state_of(2)?, Some(ClientState::Waiting));
+    assert_eq!(rt; story.state_of(3)?, Some(ClientState::LoggingIn));
+    assert_eq!(rt; story.first_ticket()?, Some((2, 5)));
+    assert_eq!(rt; story.first_lent()?, Some((1, 4)));
     Ok(())
 }
 
-#[test]
-fn the_view_shows_what_was_counted(rt: HostRuntime) -> Result<(), Fail> {
-    let more = [
+/// The first link comes back and is lent again, then lost; another of another key comes back.
+fn two_links() -> [Act; 6] {
+    [
         Act::BackFrom(1, Whose::Ann, 4),
         Act::Take(2),
         Act::Lost(1),
         Act::Ask(3, Whose::AnnAsB),
         Act::Take(3),
         Act::BackFrom(2, Whose::AnnAsB, 5),
-    ];
+    ]
+}
+
+#[test]
+fn the_view_shows_what_was_counted(rt: HostRuntime) -> Result<(), Fail> {
     let mut story = Story::new(rt.alloc(), Settings::PoolsOf(1))?;
     for act in three_clients() {
         let _ = story.play(act)?;
     }
-    for act in more {
+    for act in two_links() {
         let _ = story.play(act)?;
     }
-    let view = story.book.view(rt.alloc())?;
-    assert_eq!(rt;
-        [view.starts, view.reuses, view.evictions, view.losses],
-        [2, 1, 0, 1]
-    );
-    assert_eq!(rt; view.counts, story.book.counts());
-    let counts = view.counts;
-    assert_eq!(rt; [counts.arrived, counts.asked, counts.granted], [3, 3, 3]);
-    assert_eq!(rt; [counts.given_back, counts.lost, counts.ticked], [2, 1, 2]);
-    assert_eq!(rt; view.decisions, 14);
+    assert_eq!(rt; story.totals()?, [14, 2, 1, 0, 1]);
+    assert_eq!(rt; story.counts(), [3, 3, 3, 2, 1, 2]);
+    assert_eq!(rt; story.sizes()?, [3, 0, 0, 1]);
     Ok(())
 }
 

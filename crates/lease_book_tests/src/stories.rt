@@ -1,5 +1,5 @@
 //! What a book answers, event after event.
-use crate::acts::{Act, Story, Told, surprise, surprise_in};
+use crate::acts::{Act, Story, Told, surprise};
 use crate::parts::{Settings, Whose};
 use message_view::{Refusal, refusal_bytes};
 use std::test::Fail;
@@ -15,33 +15,12 @@ static AN_IDLE_LINK_OF_ANOTHER_KEY_MAKES_ROOM: [(Act, Told); 8] = [
     (Act::Take(2), Told::Start(2, 0, Some(1))),
 ];
 
-#[test]
-fn an_idle_link_of_another_key_makes_room(rt: HostRuntime) -> Result<(), Fail> {
-    let surprise = surprise(
-        rt.alloc(),
-        Settings::PoolsOf(1),
-        &AN_IDLE_LINK_OF_ANOTHER_KEY_MAKES_ROOM,
-    )?;
-    assert_eq!(rt; surprise, None);
-    Ok(())
-}
-
-static ONE_CLIENT: [(Act, Told); 4] = [
+static ONE_CLIENT_TOO_MANY_IS_REFUSED: [(Act, Told); 4] = [
     (Act::Come, Told::Client(1)),
     (Act::Come, Told::Refuse(Refusal::TooManyClients, None)),
     (Act::Leave(1), Told::Done),
     (Act::Come, Told::Client(2)),
 ];
-
-#[test]
-fn one_client_too_many_is_refused(rt: HostRuntime) -> Result<(), Fail> {
-    assert_eq!(rt;
-        surprise(rt.alloc(), Settings::OneClient, &ONE_CLIENT)?,
-        None
-    );
-    assert_eq!(rt; refusal_bytes(Refusal::TooManyClients).len(), 56);
-    Ok(())
-}
 
 static A_TICKET_WAITS_FOR_SO_LONG: [(Act, Told); 10] = [
     (Act::Come, Told::Client(1)),
@@ -55,13 +34,6 @@ static A_TICKET_WAITS_FOR_SO_LONG: [(Act, Told); 10] = [
     (Act::Take(2), Told::Refuse(Refusal::WaitedTooLong, None)),
     (Act::Take(2), Told::Stranger(None)),
 ];
-
-#[test]
-fn a_ticket_waits_for_so_long(rt: HostRuntime) -> Result<(), Fail> {
-    let surprise = surprise(rt.alloc(), Settings::Wait(5), &A_TICKET_WAITS_FOR_SO_LONG)?;
-    assert_eq!(rt; surprise, None);
-    Ok(())
-}
 
 static THE_LATEST_RETURNED_LINK_IS_LENT: [(Act, Told); 11] = [
     (Act::Come, Told::Client(1)),
@@ -77,17 +49,6 @@ static THE_LATEST_RETURNED_LINK_IS_LENT: [(Act, Told); 11] = [
     (Act::Take(3), Told::Lend(2)),
 ];
 
-#[test]
-fn the_latest_returned_link_is_lent(rt: HostRuntime) -> Result<(), Fail> {
-    let surprise = surprise(
-        rt.alloc(),
-        Settings::Default,
-        &THE_LATEST_RETURNED_LINK_IS_LENT,
-    )?;
-    assert_eq!(rt; surprise, None);
-    Ok(())
-}
-
 static WHO_ASKED_FIRST_IS_SERVED_FIRST: [(Act, Told); 11] = [
     (Act::Come, Told::Client(1)),
     (Act::Come, Told::Client(2)),
@@ -102,17 +63,6 @@ static WHO_ASKED_FIRST_IS_SERVED_FIRST: [(Act, Told); 11] = [
     (Act::Take(2), Told::Lend(1)),
 ];
 
-#[test]
-fn who_asked_first_is_served_first(rt: HostRuntime) -> Result<(), Fail> {
-    let surprise = surprise(
-        rt.alloc(),
-        Settings::PoolsOf(1),
-        &WHO_ASKED_FIRST_IS_SERVED_FIRST,
-    )?;
-    assert_eq!(rt; surprise, None);
-    Ok(())
-}
-
 static A_LINK_LIVES_FOR_SO_LONG: [(Act, Told); 10] = [
     (Act::Come, Told::Client(1)),
     (Act::Ask(1, Whose::Ann), Told::Queued(0)),
@@ -126,13 +76,6 @@ static A_LINK_LIVES_FOR_SO_LONG: [(Act, Told); 10] = [
     (Act::Back(2, Whose::Ann), Told::Close(2)),
 ];
 
-#[test]
-fn a_link_lives_for_so_long(rt: HostRuntime) -> Result<(), Fail> {
-    let surprise = surprise(rt.alloc(), Settings::Default, &A_LINK_LIVES_FOR_SO_LONG)?;
-    assert_eq!(rt; surprise, None);
-    Ok(())
-}
-
 static A_LINK_LIES_IDLE_FOR_SO_LONG: [(Act, Told); 8] = [
     (Act::Come, Told::Client(1)),
     (Act::Ask(1, Whose::Ann), Told::Queued(0)),
@@ -143,17 +86,6 @@ static A_LINK_LIES_IDLE_FOR_SO_LONG: [(Act, Told); 8] = [
     (Act::Tick(610), Told::Close(1)),
     (Act::Tick(610), Told::Done),
 ];
-
-#[test]
-fn a_link_lies_idle_for_so_long(rt: HostRuntime) -> Result<(), Fail> {
-    let surprise = surprise(
-        rt.alloc(),
-        Settings::Idle(600),
-        &A_LINK_LIES_IDLE_FOR_SO_LONG,
-    )?;
-    assert_eq!(rt; surprise, None);
-    Ok(())
-}
 
 static THE_LONGEST_IDLE_LINK_MAKES_ROOM_FOR_ANOTHER_POOL: [(Act, Told); 11] = [
     (Act::Come, Told::Client(1)),
@@ -169,17 +101,6 @@ static THE_LONGEST_IDLE_LINK_MAKES_ROOM_FOR_ANOTHER_POOL: [(Act, Told); 11] = [
     (Act::Take(3), Told::Start(3, 0, Some(2))),
 ];
 
-#[test]
-fn the_longest_idle_link_makes_room_for_another_pool(rt: HostRuntime) -> Result<(), Fail> {
-    let surprise = surprise(
-        rt.alloc(),
-        Settings::TwoLinks,
-        &THE_LONGEST_IDLE_LINK_MAKES_ROOM_FOR_ANOTHER_POOL,
-    )?;
-    assert_eq!(rt; surprise, None);
-    Ok(())
-}
-
 static STRANGERS_CHANGE_NOTHING: [(Act, Told); 12] = [
     (Act::Ask(1, Whose::Ann), Told::Stranger(None)),
     (Act::Come, Told::Client(1)),
@@ -194,14 +115,6 @@ static STRANGERS_CHANGE_NOTHING: [(Act, Told); 12] = [
     (Act::StartFailed(2), Told::Stranger(None)),
     (Act::Leave(2), Told::Stranger(None)),
 ];
-
-#[test]
-fn strangers_change_nothing(rt: HostRuntime) -> Result<(), Fail> {
-    let mut story = Story::new(rt.alloc(), Settings::Default)?;
-    assert_eq!(rt; surprise_in(&mut story, &STRANGERS_CHANGE_NOTHING)?, None);
-    assert_eq!(rt; story.sizes()?, [1, 0, 1, 0]);
-    Ok(())
-}
 
 static NO_LINK_IS_LENT_IN_A_PAUSE_OR_AFTER_THE_SHUTDOWN: [(Act, Told); 18] = [
     (Act::Come, Told::Client(1)),
@@ -227,17 +140,6 @@ static NO_LINK_IS_LENT_IN_A_PAUSE_OR_AFTER_THE_SHUTDOWN: [(Act, Told); 18] = [
     (Act::Tick(0), Told::Done),
 ];
 
-#[test]
-fn no_link_is_lent_in_a_pause_or_after_the_shutdown(rt: HostRuntime) -> Result<(), Fail> {
-    let surprise = surprise(
-        rt.alloc(),
-        Settings::Default,
-        &NO_LINK_IS_LENT_IN_A_PAUSE_OR_AFTER_THE_SHUTDOWN,
-    )?;
-    assert_eq!(rt; surprise, None);
-    Ok(())
-}
-
 static SMALLER_LIMITS_HOLD_FOR_LINKS_THAT_COME_BACK: [(Act, Told); 9] = [
     (Act::Come, Told::Client(1)),
     (Act::Come, Told::Client(2)),
@@ -250,13 +152,50 @@ static SMALLER_LIMITS_HOLD_FOR_LINKS_THAT_COME_BACK: [(Act, Told); 9] = [
     (Act::Back(2, Whose::Ann), Told::Done),
 ];
 
+/// The stories, each with its settings.
+fn story(at: usize) -> Option<(&'static [(Act, Told)], Settings)> {
+    match at {
+        0 => Some((
+            &AN_IDLE_LINK_OF_ANOTHER_KEY_MAKES_ROOM,
+            Settings::PoolsOf(1),
+        )),
+        1 => Some((&ONE_CLIENT_TOO_MANY_IS_REFUSED, Settings::OneClient)),
+        2 => Some((&A_TICKET_WAITS_FOR_SO_LONG, Settings::Wait(5))),
+        3 => Some((&THE_LATEST_RETURNED_LINK_IS_LENT, Settings::Default)),
+        4 => Some((&WHO_ASKED_FIRST_IS_SERVED_FIRST, Settings::PoolsOf(1))),
+        5 => Some((&A_LINK_LIVES_FOR_SO_LONG, Settings::Default)),
+        6 => Some((&A_LINK_LIES_IDLE_FOR_SO_LONG, Settings::Idle(600))),
+        7 => Some((
+            &THE_LONGEST_IDLE_LINK_MAKES_ROOM_FOR_ANOTHER_POOL,
+            Settings::TwoLinks,
+        )),
+        8 => Some((&STRANGERS_CHANGE_NOTHING, Settings::Default)),
+        9 => Some((
+            &NO_LINK_IS_LENT_IN_A_PAUSE_OR_AFTER_THE_SHUTDOWN,
+            Settings::Default,
+        )),
+        10 => Some((
+            &SMALLER_LIMITS_HOLD_FOR_LINKS_THAT_COME_BACK,
+            Settings::Default,
+        )),
+        _ => None,
+    }
+}
+
 #[test]
-fn smaller_limits_hold_for_links_that_come_back(rt: HostRuntime) -> Result<(), Fail> {
-    let surprise = surprise(
-        rt.alloc(),
-        Settings::Default,
-        &SMALLER_LIMITS_HOLD_FOR_LINKS_THAT_COME_BACK,
-    )?;
-    assert_eq!(rt; surprise, None);
+fn each_story_goes_as_told(rt: HostRuntime) -> Result<(), Fail> {
+    for at in 0..11usize {
+        let Some((acts, settings)) = story(at) else {
+            break;
+        };
+        let mut story = Story::new(rt.alloc(), settings)?;
+        assert_eq!(rt; (at, surprise(&mut story, acts)?), (at, None));
+    }
+    Ok(())
+}
+
+#[test]
+fn a_client_too_many_is_told_so(rt: HostRuntime) -> Result<(), Fail> {
+    assert_eq!(rt; refusal_bytes(Refusal::TooManyClients).len(), 56);
     Ok(())
 }

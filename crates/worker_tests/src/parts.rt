@@ -8,10 +8,13 @@ ghost use Rattle.login_core.specs.Logins.{Hears};
 use book_lists::limits::Limits;
 use bytes::BytesMut;
 use ini_config::laws::read_settings_are_within_bounds;
-use ini_config::{Settings, read_settings};
+use ini_config::{DbRow, Settings, read_settings};
+use link_start::laws::memory_servers_can_start;
 use login_core::Login;
 use message_view::{KeyWord, put_query};
+use pool_desk::dial::Dial;
 use server_catalogue::Catalogue;
+use server_end::memory_server::{MemoryServer, ServerAuth};
 use std::alloc::{AllocError, Global};
 use std::sync::Arc;
 use user_file::read_users;
@@ -63,10 +66,44 @@ pub(crate) fn login(alloc: Global, number: u32) -> Result<Login, AllocError>
     Login::new(alloc, settings, users, word(number))
 }
 
-/// The catalogue of the servers.
-pub(crate) fn catalogue(alloc: Global) -> Result<Arc<Catalogue>, AllocError> {
+/// Reaches servers in memory, each with the tests' catalogue, which let everybody in.
+#[derive(Drop)]
+pub(crate) struct Everywhere {
+    alloc: Global,
+    catalogue: Arc<Catalogue>,
+}
+
+impl Dial for Everywhere {
+    ghost use Rattle.worker_tests.specs.Shop.{shop};
+
+    type End = MemoryServer;
+
+    ghost catalogue = { λ address. shop };
+
+    fn dial(&self, _row: &DbRow) -> Option<MemoryServer> {
+        memory_servers_can_start();
+        self.catalogue.is_lawful();
+        let catalogue = Arc::try_clone(&self.catalogue).ok()?;
+        let own = word(7);
+        MemoryServer::new(
+            self.alloc,
+            catalogue,
+            ServerAuth::Trust,
+            own,
+            8_192,
+            None,
+        )
+        .ok()
+    }
+}
+
+/// Reaches the tests' servers.
+pub(crate) fn dial(alloc: Global) -> Result<Everywhere, AllocError> {
     match Catalogue::read(alloc, CATALOGUE) {
-        Ok(catalogue) => Ok(Arc::new(alloc, catalogue)?),
+        Ok(catalogue) => Ok(Everywhere {
+            alloc,
+            catalogue: Arc::new(alloc, catalogue)?,
+        }),
         Err(_) => Err(AllocError),
     }
 }

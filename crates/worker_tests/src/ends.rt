@@ -5,10 +5,11 @@ ghost use Rattle.server_end.specs.Moves.{ClientReads, ClientWrites, IsWithin, mo
 use paced_client::PacedClient;
 use server_end::gate::{Gate, Ready};
 use server_end::{ClientEnd, Moved, ServerEnd};
+use std::rt::Clock;
 use std::sync::atomic::{AtomicBool, Ordering};
 use std::thread::sleep;
 use std::time::Duration;
-use std::time::Clock;
+
 
 /// A paced client that notes once it was given more than so many bytes.
 #[derive(Drop)]
@@ -50,17 +51,27 @@ pub(crate) struct HoldingGate<'a, R: Clock> {
     pub rt: &'a R,
     pub welcomed: &'a AtomicBool,
     pub answered: &'a AtomicBool,
+    /// Set where all those sleeps were used.
+    pub late: &'a AtomicBool,
+}
+
+impl<'a, R: Clock> HoldingGate<'a, R> {
+    /// Waits for the other client.
+    fn hold(&self) {
+        for _ in 0..60_000u32 {
+            if self.answered.load(Ordering::SeqCst) {
+                return;
+            }
+            sleep(self.rt, Duration::from_millis(1));
+        }
+        self.late.store(true, Ordering::SeqCst);
+    }
 }
 
 impl<'a, R: Clock, E: ServerEnd> Gate<E> for HoldingGate<'a, R> {
     fn turn(&mut self) -> Ready {
         if self.welcomed.load(Ordering::SeqCst) {
-            for _ in 0..60_000u32 {
-                if self.answered.load(Ordering::SeqCst) {
-                    break;
-                }
-                sleep(self.rt, Duration::from_millis(1));
-            }
+            self.hold();
         }
         Ready {
             client: true,
