@@ -1,7 +1,9 @@
 //! One pool, from the first connection to the last.
-ghost use Rattle.std.specs.Prelude.{◌≡◌, IfSome};
+ghost use Rattle.std.specs.Prelude.{◌≡◌, [], false, IfOk};
 ghost use Rattle.std.specs.Arc.{arc_value};
 ghost use Rattle.ini_config.specs.Bounds.{AreWithinBounds};
+ghost use Rattle.login_core.specs.Dialogue.{AtFirst};
+ghost use Rattle.login_core.specs.Logins.{Hears, login_view};
 ghost use Rattle.desk_tallies.specs.declared.passes.TheConstants.{ALL_PARTS};
 ghost use Rattle.desk_tallies.specs.Shares.{by_class, names_of, of_each, parts_of};
 
@@ -95,7 +97,9 @@ impl<R: Net, A: Ledger, G: Ledger, B: Ledger, L: Ledger, W: Ledger, O: Ledger> P
     }
 
     /// The login of a client with this key word.
-    fn login(&self, word: KeyWord) -> Result<Login, AllocError> {
+    fn login(&self, word: KeyWord) -> Result<Login, AllocError>
+        ensures { IfOk result (λ l. l ≡ login_view (arc_value self.now.settings) (arc_value self.now.users) word (Hears (AtFirst false false)) []) }
+    {
         let settings = Arc::try_clone(&self.settings)?;
         let users = Arc::try_clone(&self.users)?;
         Login::new(self.alloc, settings, users, word)
