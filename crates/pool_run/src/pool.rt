@@ -1,7 +1,9 @@
 //! One pool, from the first connection to the last.
-ghost use Rattle.std.specs.Prelude.{◌≡◌, IfSome};
+ghost use Rattle.std.specs.Prelude.{◌≡◌, [], false, IfOk};
 ghost use Rattle.std.specs.Arc.{arc_value};
 ghost use Rattle.ini_config.specs.Bounds.{AreWithinBounds};
+ghost use Rattle.login_core.specs.Dialogue.{AtFirst};
+ghost use Rattle.login_core.specs.Logins.{Hears, login_view};
 ghost use Rattle.desk_tallies.specs.declared.passes.TheConstants.{ALL_PARTS};
 ghost use Rattle.desk_tallies.specs.Shares.{by_class, names_of, of_each, parts_of};
 
@@ -20,7 +22,7 @@ use pool_desk::handle::DeskAt;
 use pool_serve::serve::serve;
 use settings_limits::limits_of;
 use std::alloc::{AllocError, Global};
-use std::marker::Brand;
+use std::marker::{Brand, Model};
 use std::net::Net;
 use std::rt::Clock;
 use std::sync::atomic::{AtomicBool, Ordering};
@@ -41,17 +43,52 @@ struct Free<A: Ledger, G: Ledger, B: Ledger, L: Ledger, W: Ledger, O: Ledger> {
     passes: Vec<Pass<A, G, B, L, W, O>>,
 }
 
+/// Settings within their bounds, which are shared.
+#[derive(Drop)]
+struct Bounded {
+    settings: Arc<Settings>,
+}
+
+impl Model for Bounded {
+    ghost use Rattle.std.specs.Arc.{arc_value};
+    ghost use Rattle.ini_config.specs.Bounds.{AreWithinBounds};
+    ghost use Rattle.ini_config.specs.declared.option_values.Settings.{Settings as SettingsOf};
+
+    ghost Value = { SettingsOf };
+
+    ghost view = { λ b. arc_value b.settings };
+
+    ghost invariant = { λ b. AreWithinBounds (arc_value b.settings) };
+}
+
+impl Bounded {
+    fn new(alloc: Global, settings: Settings) -> Result<Bounded, AllocError>
+        requires { AreWithinBounds settings }
+        ensures { IfOk result (λ b. b ≡ settings) }
+    {
+        Ok(Bounded {
+            settings: Arc::new(alloc, settings)?,
+        })
+    }
+
+    fn share(&self) -> Result<Arc<Settings>, AllocError>
+        ensures same { IfOk result (λ s. arc_value s ≡ self.now) }
+        ensures bounds { AreWithinBounds self.now }
+    {
+        Arc::try_clone(&self.settings)
+    }
+}
+
 /// What all threads of a pool share.
 struct Pool<R: Net, A: Ledger, G: Ledger, B: Ledger, L: Ledger, W: Ledger, O: Ledger> {
     alloc: Global,
     desk: Desk<TcpDial<R>, A, G, B, L, W, O>,
     dialer: TcpDial<R>,
     free: Mutex<Free<A, G, B, L, W, O>>,
-    settings: Arc<Settings>,
+    settings: Bounded,
     users: Arc<Users>,
     /// The last connection is done.
     has_ended: AtomicBool,
-    ghost bounds: { AreWithinBounds (arc_value settings) },
 }
 
 /// A drop of its own is proved here once.
@@ -95,8 +132,11 @@ impl<R: Net, A: Ledger, G: Ledger, B: Ledger, L: Ledger, W: Ledger, O: Ledger> P
     }
 
     /// The login of a client with this key word.
-    fn login(&self, word: KeyWord) -> Result<Login, AllocError> {
-        let settings = Arc::try_clone(&self.settings)?;
+    fn login(&self, word: KeyWord) -> Result<Login, AllocError>
+        ensures login { IfOk result (λ l. l ≡ login_view self.now.settings (arc_value self.now.users) word (Hears (AtFirst false false)) []) }
+        ensures bounds { AreWithinBounds self.now.settings }
+    {
+        let settings = self.settings.share()?;
         let users = Arc::try_clone(&self.users)?;
         Login::new(self.alloc, settings, users, word)
     }
@@ -227,7 +267,7 @@ fn serve_all<
         desk,
         dialer: TcpDial { rt, alloc },
         free: Mutex::new(free),
-        settings: Arc::new(alloc, settings)?,
+        settings: Bounded::new(alloc, settings)?,
         users: Arc::new(alloc, users)?,
         has_ended: AtomicBool::new(false),
     };
