@@ -1,9 +1,11 @@
 //! The files that a command line names.
 ghost use Rattle.std.specs.Prelude.{◌≡◌, ◌<◌, ◌≤◌, ◌^◌, IfErr, IfOk, IfSome, length};
+ghost use Rattle.ini_config.specs.Bounds.{AreWithinBounds};
 ghost use Rattle.text_lines.specs.Lines.{lines, raw_lines};
 ghost use Rattle.pool_app.specs.Files as spec;
 
 use crate::fault::AppFault;
+use ini_config::laws::read_settings_are_within_bounds;
 use ini_config::{Settings, read_settings};
 use server_catalogue::Catalogue;
 use std::alloc::Global;
@@ -102,14 +104,18 @@ pub fn users_of<'a>(alloc: Global, text: &[u8]) -> Result<Users, AppFault<'a>>
     }
 }
 
-/// The files of the pooler. Each is read and checked before the next: settings, users, key seed.
+/// The files of the pooler. Each is read and checked before the next: settings, users, key seed. The settings are within their
+/// bounds.
 pub fn read_inputs<'a, R: Files>(
     rt: &R,
     alloc: Global,
     ini: &'a str,
     users: &'a str,
     key_seed: &'a str,
-) -> Result<Inputs, AppFault<'a>> {
+) -> Result<Inputs, AppFault<'a>>
+    ensures bounds { IfOk result (λ inputs. AreWithinBounds inputs.settings) }
+{
+    read_settings_are_within_bounds();
     let text = read_file(rt, alloc, ini)?;
     let settings = settings_of(alloc, text.as_slice())?;
     let text = read_file(rt, alloc, users)?;
