@@ -1,8 +1,8 @@
 -- Each law by its name. A proof in another crate imports it so:
 --     use Rattle.login_keys.proofs.ByName.{passed_keys_are_link_keys}
-use Rattle.login_keys.specs.Laws.{PassedKeysAreLinkKeys, ReadRowsAreLawful, SettingsRowsAreLawful}
-use Rattle.login_keys.proofs.Rows.{read-rows-lawful, rows-lawful}
-use Rattle.login_keys.proofs.PassedKeys.{passed_keys-linked}
+use Rattle.login_keys.specs.Laws.{BoundedRowsAreLawful, PassedKeysAreLinkKeys, PassedKeysAreOfTheirRows, ReadRowsAreLawful, SettingsRowsAreLawful}
+use Rattle.login_keys.proofs.Rows.{bounded-rows-lawful, read-rows-lawful, rows-lawful}
+use Rattle.login_keys.proofs.PassedKeys.{passed_keys-linked, passed_keys-of_rows}
 
 pub passed_keys_are_link_keys : PassedKeysAreLinkKeys
 passed_keys_are_link_keys = passed_keys-linked
@@ -12,3 +12,9 @@ settings_rows_are_lawful = rows-lawful
 
 pub read_rows_are_lawful : ReadRowsAreLawful
 read_rows_are_lawful = read-rows-lawful
+
+pub passed_keys_are_of_their_rows : PassedKeysAreOfTheirRows
+passed_keys_are_of_their_rows = passed_keys-of_rows
+
+pub bounded_rows_are_lawful : BoundedRowsAreLawful
+bounded_rows_are_lawful = bounded-rows-lawful

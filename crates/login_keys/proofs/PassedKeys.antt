@@ -25,8 +25,8 @@ use Rattle.login_core.specs.Talk.{Cut, End, Said, follow, hears, talk}
 use Rattle.login_core.specs.Talk.Cut.{Whole, Need, Bad}
 use Rattle.login_core.specs.Talk.Reaction.{Goes, Passes, Stops}
 use Rattle.login_core.specs.Talk.End.{Unfinished, Passed, Stopped}
-use Rattle.login_core.specs.Dialogue.{LoginRow, Rows, Reason, Left, Way, ToLink, ToConsole, Stage, AtFirst, Asked, Packet, First, Message, Reacts, packet, of_first, of_front, longest_message, react, to_first, to_password, to_console, to_database, begins, asks, judged, admitted, is_right, is_admin, wrong, malformed, not_twice, key_of, or_refusal}
-use Rattle.login_keys.specs.Laws.{AreLawfulRows, IsLinkKey, PassedKeysAreLinkKeys}
+use Rattle.login_core.specs.Dialogue.{login_among, LoginRow, Rows, Reason, Left, Way, ToLink, ToConsole, Stage, AtFirst, Asked, Packet, First, Message, Reacts, packet, of_first, of_front, longest_message, react, to_first, to_password, to_console, to_database, begins, asks, judged, admitted, is_right, is_admin, wrong, malformed, not_twice, key_of, or_refusal}
+use Rattle.login_keys.specs.Laws.{AreLawfulRows, IsLinkKey, IsOfRow, PassedKeysAreLinkKeys, PassedKeysAreOfTheirRows}
 
 -- ---- the key of these pairs
 
@@ -46,10 +46,10 @@ client-of row names pairs h k = by_result (start_key row names pairs) refl
     by_result (Ok key) e = start_keys_are_client_keys row names pairs key h k e
     by_result (Err fault) e = tt
 
--- where the database has a row, it has a name
+-- where the database has a row, it has a name, and the key is of that row
 abbrev IsServed : Option DbRow → StartKeyOf → Type 0
 IsServed None key = Unit {0}
-IsServed (Some row) key = 0 < length key.dbname
+IsServed (Some row) key = (0 < length key.dbname) × IsOfRow (Some row) key
 
 module _ (rows : Rows) where
   abbrev IsAmong : StartKeyOf → Type 0
@@ -57,7 +57,7 @@ module _ (rows : Rows) where
 
   key_at-among : (row : Option DbRow) (database user : Text) (parameters : List Pair) → IsLawfulRow row → row ≡ (rows database user).database → IsAmong (key_at row database user parameters)
   key_at-among None database user parameters h e = subst (λ (o : Option DbRow). IsServed o (key_at None database user parameters)) e tt
-  key_at-among (Some row) database user parameters h e = subst (λ (o : Option DbRow). IsServed o (key_at (Some row) database user parameters)) e h.0
+  key_at-among (Some row) database user parameters h e = subst (λ (o : Option DbRow). IsServed o (key_at (Some row) database user parameters)) e (h.0, record { host = refl; port = refl; dbname = refl })
 
   unless-among : (o : Option StartFault) (key : StartKeyOf) → IsAmong key → OfKey IsAmong (unless o key)
   unless-among None key h = h
@@ -136,7 +136,7 @@ module _ (rows : Rows) where
   IsLawfulStage (Asked key) = IsKey rows key
 
   abbrev IsLawfulWay : Way → Type 0
-  IsLawfulWay (ToLink key) = IsLinkKey key
+  IsLawfulWay (ToLink key) = IsLinkKey key × IsOfRow (rows key.row key.user).database key
   IsLawfulWay ToConsole = Unit {0}
 
   abbrev IsLawfulReaction : Reacts → Type 0
@@ -182,17 +182,17 @@ module _ (rows : Rows) where
   to_console-lawful true = tt
   to_console-lawful false = tt
 
-  to_database-lawful : (row : Option DbRow) (key : StartKeyOf) → IsClientKey key → IsServed row key → IsLawfulReaction (to_database row key)
-  to_database-lawful None key h k = tt
-  to_database-lawful (Some row) key h k = record { client = h; dbname = k }
+  to_database-lawful : (row : Option DbRow) (key : StartKeyOf) → IsClientKey key → IsServed row key → row ≡ (rows key.row key.user).database → IsLawfulReaction (to_database row key)
+  to_database-lawful None key h k e = tt
+  to_database-lawful (Some row) key h k e = (record { client = h; dbname = k.0 }, subst (λ (o : Option DbRow). IsOfRow o key) e k.1)
 
-  judged-lawful : (row : LoginRow) (word : KeyWord) (key : StartKeyOf) (given : Text) → IsClientKey key → IsServed row.database key → IsLawfulReaction (judged row word key given)
-  judged-lawful row word key given h k =
+  judged-lawful : (row : LoginRow) (word : KeyWord) (key : StartKeyOf) (given : Text) → IsClientKey key → IsServed row.database key → row.database ≡ (rows key.row key.user).database → IsLawfulReaction (judged row word key given)
+  judged-lawful row word key given h k of =
       choose IsLawfulReaction (is_right row word key given) (admitted row key) wrong
-      (λ e. choose IsLawfulReaction (bytes_eq key.row (codes "pgbouncer")) (to_console (is_admin row key.user)) (to_database row.database key) (λ f. to_console-lawful (is_admin row key.user)) (λ f. to_database-lawful row.database key h k)) (λ e. tt)
+      (λ e. choose IsLawfulReaction (bytes_eq key.row (codes "pgbouncer")) (to_console (is_admin row key.user)) (to_database row.database key) (λ f. to_console-lawful (is_admin row key.user)) (λ f. to_database-lawful row.database key h k of)) (λ e. tt)
 
   asks-lawful : (auth : AuthType) (word : KeyWord) (key : StartKeyOf) → IsKey rows key → IsLawfulReaction (asks auth (rows key.row key.user) word key)
-  asks-lawful Trust word key h = judged-lawful (rows key.row key.user) word key [] h.0 h.1
+  asks-lawful Trust word key h = judged-lawful (rows key.row key.user) word key [] h.0 h.1 refl
   asks-lawful Plain word key h = h
   asks-lawful Md5 word key h = h
 
@@ -211,7 +211,7 @@ module _ (rows : Rows) where
   first-lawful lawful word tls gss AsksGss h = twice-lawful gss (AtFirst tls true) tt
 
   password-lawful : (word : KeyWord) (key : StartKeyOf) (r : Result Text ViewFault) → IsKey rows key → IsLawfulReaction (to_password (rows key.row key.user) word key r)
-  password-lawful word key (Ok given) h = judged-lawful (rows key.row key.user) word key given h.0 h.1
+  password-lawful word key (Ok given) h = judged-lawful (rows key.row key.user) word key given h.0 h.1 refl
   password-lawful word key (Err fault) h = tt
 
   react-lawful : AreLawfulRows rows → (word : KeyWord) (stage : Stage) (p : Packet) → IsLawfulStage stage → IsLawfulPacket p → IsLawfulReaction (react rows word stage p)
@@ -238,5 +238,11 @@ module _ (rows : Rows) where
   talk-lawful lawful word (suc n) stage bytes h =
       hears-lawful (react rows word stage) (talk packet (react rows word) n) (packet stage bytes) (λ p k. react-lawful lawful word stage p h k) (λ s b k. talk-lawful lawful word n s b k) (packet-lawful stage bytes)
 
+passed-lawful : (rows : Rows) (word : KeyWord) (bytes left : List ℕ) (key : StartKeyOf) → AreLawfulRows rows → (login_among rows word bytes).ended ≡ Passed (ToLink key) left → IsLawfulEnd rows (Passed (ToLink key) left)
+passed-lawful rows word bytes left key lawful e = subst (IsLawfulEnd rows) e (talk-lawful rows lawful word 4 (AtFirst false false) bytes tt)
+
 pub passed_keys-linked : PassedKeysAreLinkKeys
-passed_keys-linked rows word bytes left key lawful e = subst (IsLawfulEnd rows) e (talk-lawful rows lawful word 4 (AtFirst false false) bytes tt)
+passed_keys-linked rows word bytes left key lawful e = (passed-lawful rows word bytes left key lawful e).0
+
+pub passed_keys-of_rows : PassedKeysAreOfTheirRows
+passed_keys-of_rows rows word bytes left key lawful e = (passed-lawful rows word bytes left key lawful e).1

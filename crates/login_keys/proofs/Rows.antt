@@ -12,7 +12,7 @@ use Rattle.ini_config.specs.Tables.{row_named}
 use Rattle.session_values.proofs.Alls.{OfSome, all-find}
 use Rattle.start_key_laws.specs.StartKeys.{IsLawfulRow}
 use Rattle.login_core.specs.Dialogue.{row_in}
-use Rattle.login_keys.specs.Laws.{SettingsRowsAreLawful, ReadRowsAreLawful}
+use Rattle.login_keys.specs.Laws.{BoundedRowsAreLawful, SettingsRowsAreLawful, ReadRowsAreLawful}
 
 abbrev IsRow : DbRow → Type 0
 IsRow row = IsLawfulRow (Some row)
@@ -58,5 +58,8 @@ all-lawful : (rows : List DbRow) → AllByRecursion IsServedRow rows → AllByRe
 all-lawful [] h = tt
 all-lawful (row ∷ rows) h = (lawful-row row h.0.database, all-lawful rows h.1)
 
+pub bounded-rows-lawful : BoundedRowsAreLawful
+bounded-rows-lawful s users b = rows-lawful s users (all-lawful s.rows b.rows)
+
 pub read-rows-lawful : ReadRowsAreLawful
-read-rows-lawful lines s users e = rows-lawful s users (all-lawful s.rows (read_settings_are_within_bounds lines s e).rows)
+read-rows-lawful lines s users e = bounded-rows-lawful s users (read_settings_are_within_bounds lines s e)

@@ -1,6 +1,6 @@
 //! Laws of logins, each the contract of a function that does nothing.
 
-ghost use Rattle.login_keys.specs.Laws.{PassedKeysAreLinkKeys, ReadRowsAreLawful, SettingsRowsAreLawful};
+ghost use Rattle.login_keys.specs.Laws.{BoundedRowsAreLawful, PassedKeysAreLinkKeys, PassedKeysAreOfTheirRows, ReadRowsAreLawful, SettingsRowsAreLawful};
 
 /// The key with which a login passes can start a link: it is lawful, has a user and a database, and its parameters stand in
 /// order, by names in lower case, none of them `user` or `database`.
@@ -17,4 +17,15 @@ pub fn settings_rows_are_lawful()
 /// The login rows of settings that a file spells name their servers' databases.
 pub fn read_rows_are_lawful()
     ensures { ReadRowsAreLawful }
+{}
+
+/// The key with which a login passes is of the server that the row of its database names.
+pub fn passed_keys_are_of_their_rows()
+    ensures { PassedKeysAreOfTheirRows }
+{}
+
+/// The login rows of settings that are within their bounds name their servers' databases.
+#[tactic(auto, using(crate::proofs::ByName::bounded_rows_are_lawful))]
+pub fn bounded_rows_are_lawful()
+    ensures { BoundedRowsAreLawful }
 {}
