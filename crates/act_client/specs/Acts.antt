@@ -11,10 +11,19 @@ sends n (Send m bytes ∷ acts) = cond (m == n) bytes.now [] ++ sends n acts
 sends n (Go m ∷ acts) = cond (m == n) [] (sends n acts)
 sends n (Tick now ∷ acts) = sends n acts
 
--- What each client sends that comes by these acts, the first of them with this number: nothing by the acts before it comes.
-abbrev pub all_send : ℕ → List Act → List (List ℕ)
+-- a client, and all that it sends
+pub record Sender : Type 0 where
+  pub number : ℕ
+  pub bytes : List ℕ
+
+-- the client of this number, by the acts that follow its coming
+abbrev pub sender : ℕ → List Act → Sender
+sender n acts = record { number = n; bytes = sends n acts }
+
+-- The clients that come by these acts, the first of them with this number. The acts before a client comes are none of its own.
+abbrev pub all_send : ℕ → List Act → List Sender
 all_send n [] = []
-all_send n (Come ∷ acts) = sends n acts ∷ all_send (suc n) acts
+all_send n (Come ∷ acts) = sender n acts ∷ all_send (suc n) acts
 all_send n (Send m bytes ∷ acts) = all_send n acts
 all_send n (Go m ∷ acts) = all_send n acts
 all_send n (Tick now ∷ acts) = all_send n acts

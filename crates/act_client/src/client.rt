@@ -29,16 +29,16 @@ impl<'a> Model for ActClient<'a> {
 
     ghost Value = { ActClientOf };
 
-    ghost view = { λ c. record { input = c.script.now; at = c.at; given = c.given.items; hung_up = c.hung_up; faults = c.faults; waits = c.waits } };
+    ghost view = { λ c. record { input = c.script.now.bytes; at = c.at; given = c.given.items; hung_up = c.hung_up; faults = c.faults; waits = c.waits } };
 
-    ghost invariant = { λ c. (0 < c.cut) × (c.at ≤ length c.script.now) };
+    ghost invariant = { λ c. (0 < c.cut) × (c.at ≤ length c.script.now.bytes) };
 }
 
 impl<'a> ActClient<'a> {
     /// A client of this script, of whose bytes a call moves at most `cut`.
     pub fn new(alloc: Global, script: &'a Script, cut: usize) -> ActClient<'a>
         requires { 0 < cut }
-        ensures { result ≡ new_client script.now }
+        ensures { result ≡ new_client script.now.bytes }
     {
         ActClient {
             script,
@@ -53,7 +53,7 @@ impl<'a> ActClient<'a> {
 
     /// Its script.
     pub fn script(&self) -> &'a Script
-        ensures { result.now ≡ self.now.input }
+        ensures { result.now.bytes ≡ self.now.input }
     {
         self.script
     }

@@ -1,6 +1,6 @@
 //! The acts of a play, and what each of its clients sends by them.
-ghost use Rattle.std.specs.Prelude.{◌≡◌, ◌≤◌, length, IfOk};
-ghost use Rattle.act_client.specs.Acts.{all_send, sends};
+ghost use Rattle.std.specs.Prelude.{◌≡◌, ◌≤◌, ◌+◌, length, IfOk};
+ghost use Rattle.act_client.specs.Acts.{all_send, sender, sends};
 
 use bytes::BytesMut;
 use std::alloc::{AllocError, Global};
@@ -13,16 +13,17 @@ pub enum Act<'a> {
     /// The next client comes.
     Come,
     /// This client sends these bytes.
-    Send(u64, &'a [u8]),
+    Send(u32, &'a [u8]),
     /// This client hangs up.
-    Go(u64),
+    Go(u32),
     /// It is this second.
     Tick(u64),
 }
 
-/// All that one client sends in a play, and how far the play has come with it.
+/// One client of a play: its number, all that it sends, and how far the play has come with it.
 #[derive(Drop)]
 pub struct Script {
+    number: u32,
     input: BytesMut,
     has_come: Cell<bool>,
     has_gone: Cell<bool>,
@@ -31,15 +32,15 @@ pub struct Script {
 }
 
 impl Model for Script {
-    ghost use Rattle.std.specs.Prelude.{ℕ, List};
+    ghost use Rattle.act_client.specs.Acts.{Sender};
 
-    ghost Value = { List ℕ };
+    ghost Value = { Sender };
 
-    ghost view = { λ s. s.input.items };
+    ghost view = { λ s. record { number = s.number; bytes = s.input.items } };
 }
 
 /// What the client of this number sends by these acts, which follow its coming.
-fn sent_by(alloc: Global, client: u64, acts: &[Act<'_>]) -> Result<BytesMut, AllocError>
+fn sent_by(alloc: Global, client: u32, acts: &[Act<'_>]) -> Result<BytesMut, AllocError>
     ensures { IfOk result (λ b. b.items ≡ sends client acts.now) }
 {
     let mut sent = BytesMut::new(alloc);
@@ -55,7 +56,18 @@ fn sent_by(alloc: Global, client: u64, acts: &[Act<'_>]) -> Result<BytesMut, All
     Ok(sent)
 }
 
-/// The scripts of all clients that come by these acts, in their order.
+/// The number after this one.
+fn next_number(number: u32) -> Result<u32, AllocError>
+    ensures { IfOk result (λ next. next ≡ number + 1) }
+{
+    match number.checked_add(1) {
+        Some(next) => Ok(next),
+        None => Err(AllocError),
+    }
+}
+
+/// The scripts of all clients that come by these acts, in their order. `AllocError` where memory is refused, and where 4,294,967,295
+/// clients come or more.
 pub fn scripts(alloc: Global, acts: &[Act<'_>]) -> Result<Vec<Script>, AllocError>
     ensures { IfOk result (λ v. v.items ≡ all_send 1 acts.now) }
 {
@@ -65,7 +77,7 @@ pub fn scripts(alloc: Global, acts: &[Act<'_>]) -> Result<Vec<Script>, AllocErro
     while let [act, later @ ..] = left {
         if let Act::Come = act {
             all.push(Script::new(alloc, number, later)?)?;
-            number += 1;
+            number = next_number(number)?;
         }
         left = later;
     }
@@ -73,27 +85,35 @@ pub fn scripts(alloc: Global, acts: &[Act<'_>]) -> Result<Vec<Script>, AllocErro
 }
 
 impl Script {
-    fn new(alloc: Global, client: u64, acts: &[Act<'_>]) -> Result<Script, AllocError>
-        ensures { IfOk result (λ s. s ≡ sends client acts.now) }
+    fn new(alloc: Global, number: u32, acts: &[Act<'_>]) -> Result<Script, AllocError>
+        ensures { IfOk result (λ s. s ≡ sender number acts.now) }
     {
         Ok(Script {
-            input: sent_by(alloc, client, acts)?,
+            number,
+            input: sent_by(alloc, number, acts)?,
             has_come: Cell::new(false),
             has_gone: Cell::new(false),
             sent: Cell::new(0),
         })
     }
 
+    /// The client's number.
+    pub fn number(&self) -> u32
+        ensures { result ≡ self.now.number }
+    {
+        self.number
+    }
+
     /// All that the client sends.
     pub fn input(&self) -> &[u8]
-        ensures { result.now ≡ self.now }
+        ensures { result.now ≡ self.now.bytes }
     {
         self.input.as_slice()
     }
 
     /// How much of it was sent by now.
     pub(crate) fn sent(&self) -> usize
-        ensures { result ≤ length self.now }
+        ensures { result ≤ length self.now.bytes }
     {
         self.sent.get().min(self.input.len())
     }

@@ -290,8 +290,9 @@ impl House {
         requires { IsServerOf self.old.catalogue link.stands }
         ensures { self.new ≡ self.old }
     {
-        let number = link.number();
-        match reset_link(self.alloc, link, &mut OpenGate, TURNS) {
+        let lent = link.lend();
+        let number = lent.number;
+        match reset_link(self.alloc, lent.used(), &mut OpenGate, TURNS) {
             Ok(link) => self.give_back(link),
             Err(_) => self.lose(number),
         }
