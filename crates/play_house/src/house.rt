@@ -22,6 +22,7 @@ use link_start::start::{StartCause, StartLinkFault, start_link};
 use login_core::Login;
 use message_view::{KeyWord, Refusal};
 use server_catalogue::Catalogue;
+use server_end::ServerEnd;
 use server_end::gate::OpenGate;
 use server_end::memory_server::{MemoryServer, ServerAuth};
 use start_keys::StartKey;
@@ -71,16 +72,15 @@ impl Model for House {
 fn untaken(fault: StartLinkFault<MemoryServer>) -> Result<Taken, AllocError>
     ensures { IfOk result (IsUntaken fault.cause) }
 {
-    if fault.end.faults() > 0 {
+    let StartLinkFault { end, cause } = fault;
+    if end.faults() > 0 {
         return Err(AllocError);
     }
-    match fault.cause {
+    match cause {
         StartCause::Memory => Err(AllocError),
         StartCause::Refused(error) => Ok(Taken::Failed(error)),
-        StartCause::Lost
-        | StartCause::Unanswerable
-        | StartCause::Unexpected
-        | StartCause::Turns => Ok(Taken::Refused(Refusal::ServerNotReached)),
+        StartCause::Lost | StartCause::Unanswerable | StartCause::Unexpected | StartCause::Turns =>
+            Ok(Taken::Refused(Refusal::ServerNotReached)),
     }
 }
 
@@ -172,15 +172,17 @@ impl House {
     {
         let first = Arc::try_clone(key)?;
         let again = Arc::try_clone(key)?;
-        Ok(match self.tell(Event::Ask {
-            client,
-            key: first,
-            again,
-        }) {
-            Reply::Queued(_) => Ok(()),
-            Reply::Refuse(refusal, _) => Err(Some(refusal)),
-            _ => Err(None),
-        })
+        Ok(
+            match self.tell(Event::Ask {
+                client,
+                key: first,
+                again,
+            }) {
+                Reply::Queued(_) => Ok(()),
+                Reply::Refuse(refusal, _) => Err(Some(refusal)),
+                _ => Err(None),
+            },
+        )
     }
 
     /// The client of this number takes its link, if it may have one now. The only error is want of memory.
@@ -238,12 +240,7 @@ impl House {
     }
 
     /// A new link of this key.
-    fn start(
-        &mut self,
-        key: &Arc<StartKey>,
-        number: u64,
-        born: u64,
-    ) -> Result<Taken, AllocError>
+    fn start(&mut self, key: &Arc<StartKey>, number: u64, born: u64) -> Result<Taken, AllocError>
         requires { IsLinkKey (arc_value key.now) }
         ensures same { self.new ≡ self.old }
         ensures taken { IfOk result (IsTaken self.old.catalogue (arc_value key.now)) }
@@ -278,9 +275,8 @@ impl House {
         ensures { self.new ≡ self.old }
     {
         match self.tell(Event::GiveBack(link)) {
-            Reply::Close(link)
-            | Reply::Refuse(_, Some(link))
-            | Reply::Stranger(Some(link)) => close_link(link),
+            Reply::Close(link) | Reply::Refuse(_, Some(link)) | Reply::Stranger(Some(link)) =>
+                close_link(link),
             _ => {}
         }
     }

@@ -15,7 +15,7 @@ fn sizes(alloc: Global, settings: &Settings) -> Result<Vec<RowSize>, AllocError>
     let mut sizes = Vec::new(alloc);
     'rows: while let Some(row) = settings.rows.at(sizes.len()) {
         sizes.push(RowSize {
-            row: Text::from_slice(alloc, row.name.as_slice())?,
+            row: Text::from_slice(alloc, row.name.as_bytes())?,
             size: settings.pool_size(row),
         })?;
     }
