@@ -10,7 +10,7 @@ ghost use Rattle.login_core.specs.Logins.{Hears, login_view};
 ghost use Rattle.play_house.specs.Houses.{IsAtHome, IsBroughtHome, IsServerOf, IsTaken, IsUntaken, house_of};
 
 use crate::limits::limits;
-use crate::taken::Taken;
+use crate::taken::{Answer, Taken};
 use ini_config::Settings;
 use lease_book::book::Book;
 use lease_book::events::{Event, Reply};
@@ -151,38 +151,34 @@ impl House {
         self.book.apply(PASS, event)
     }
 
-    /// A client comes. It has this number in the book, or is refused, or is closed without a byte.
-    pub fn arrive(&mut self) -> Result<u64, Option<Refusal>>
+    /// A client comes: it has a number, or is refused.
+    pub fn arrive(&mut self) -> Answer
         ensures { self.new ≡ self.old }
     {
         match self.tell(Event::Arrive) {
-            Reply::Client(number) => Ok(number),
-            Reply::Refuse(refusal, _) => Err(Some(refusal)),
-            _ => Err(None),
+            Reply::Client(number) => Answer::Number(number),
+            Reply::Refuse(refusal, _) => Answer::Refused(refusal),
+            _ => Answer::Strange,
         }
     }
 
-    /// The client of this number asks for a link of this key: it waits, or is refused, or is closed without a byte.
-    pub fn ask(
-        &mut self,
-        client: u64,
-        key: &Arc<StartKey>,
-    ) -> Result<Result<(), Option<Refusal>>, AllocError>
+    /// The client of this number asks for a link of this key: it waits behind a number of others, or is refused. The only error is
+    /// want of memory.
+    pub fn ask(&mut self, client: u64, key: &Arc<StartKey>) -> Result<Answer, AllocError>
         ensures { self.new ≡ self.old }
     {
         let first = Arc::try_clone(key)?;
         let again = Arc::try_clone(key)?;
-        Ok(
-            match self.tell(Event::Ask {
-                client,
-                key: first,
-                again,
-            }) {
-                Reply::Queued(_) => Ok(()),
-                Reply::Refuse(refusal, _) => Err(Some(refusal)),
-                _ => Err(None),
-            },
-        )
+        let told = self.tell(Event::Ask {
+            client,
+            key: first,
+            again,
+        });
+        match told {
+            Reply::Queued(before) => Ok(Answer::Number(before)),
+            Reply::Refuse(refusal, _) => Ok(Answer::Refused(refusal)),
+            _ => Ok(Answer::Strange),
+        }
     }
 
     /// The client of this number takes its link, if it may have one now. The only error is want of memory.

@@ -6,4 +6,4 @@ mod limits;
 mod taken;
 
 pub use house::House;
-pub use taken::Taken;
+pub use taken::{Answer, Taken};

@@ -9,6 +9,7 @@ use session_values::text::Text;
 use std::alloc::{AllocError, Global};
 
 /// The most links of each row's pool, in the rows' order.
+#[tactic(auto, using(crate::proofs::Sizes::size_there, crate::proofs::Sizes::no_size, crate::proofs::Sizes::size_within))]
 fn sizes(alloc: Global, settings: &Settings) -> Result<Vec<RowSize>, AllocError>
     ensures { IfOk result (λ v. v.items ≡ sizes_of settings.now.default_pool_size settings.now.rows) }
 {

@@ -4,6 +4,17 @@ use link_start::start::StartError;
 use message_view::Refusal;
 use server_end::memory_server::MemoryServer;
 
+/// What a client is answered that comes, or that asks for a link.
+#[derive(Clone, Copy, Debug, PartialEq, Eq, Drop)]
+pub enum Answer {
+    /// Its number in the book; or how many of its pool wait before it.
+    Number(u64),
+    /// It is refused.
+    Refused(Refusal),
+    /// The book doesn't know it.
+    Strange,
+}
+
 /// What a client that takes its link is answered.
 #[derive(Drop)]
 pub enum Taken {
