@@ -30,7 +30,7 @@ use Rattle.relay_laws.specs.Leases.{IsAllowed, IsLease, Keeps, Place, RelayView,
 use Rattle.relay_laws.proofs.Exact.{lease_allowed}
 use Rattle.relay_steps.specs.Answers.{AtBorder}
 use Rattle.act_client.specs.Clients.{ActClientOf, facts_of, given_more, given_with, taken}
-use Rattle.play_house.specs.Houses.{HouseOf, IsAtHome, IsServerOf, IsStartError}
+use Rattle.play.specs.Houses.{HouseOf, IsAtHome, IsServerOf, IsStartError}
 use Rattle.play.specs.Players.{HasPassed, IsAtPiece, IsDone, IsServed, StopsAt, Waits, rows_of}
 use Rattle.play.proofs.Pieces.{joined_both, joined_one, own_is, service_piece}
 
@@ -124,9 +124,9 @@ begun : (h : HouseOf) (word : KeyWord) (c : ActClientOf) (pieces : List (List �
 begun h word c pieces key left since held e g b = inl (record {
   more = held ++ b.more;
   both = ap (λ (l : List ℕ). l ++ (held ++ b.more)) g
-    ∙ (append_assoc (joined_pieces pieces) since (held ++ b.more)
-    ∙ (ap (λ (l : List ℕ). joined_pieces pieces ++ l) (sym (append_assoc since held b.more) ∙ (b.both ∙ sym (service_is h.catalogue key word left)))
-    ∙ (sym (joined_both pieces (service_pieces h.catalogue key word left)) ∙ ap joined_pieces (sym (own_is h word c.input _ e)))));
+      ∙ (append_assoc (joined_pieces pieces) since (held ++ b.more)
+      ∙ (ap (λ (l : List ℕ). joined_pieces pieces ++ l) (sym (append_assoc since held b.more) ∙ (b.both ∙ sym (service_is h.catalogue key word left)))
+      ∙ (sym (joined_both pieces (service_pieces h.catalogue key word left)) ∙ ap joined_pieces (sym (own_is h word c.input _ e)))));
 })
 
 pub lease_done : (h : HouseOf) (word : KeyWord) (bytes : List ℕ) (c : ActClientOf) (v : RelayView) → IsServed h word bytes v → facts_of c ≡ v.client → IsDone h word c

@@ -1,3 +1,5 @@
+pub mod Homes
+pub mod Sizes
 pub mod Pieces
-pub mod Leases
 pub mod Logins
+pub mod Leases

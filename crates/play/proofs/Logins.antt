@@ -24,7 +24,7 @@ use Rattle.login_core.specs.Laws.GoesOn.{waits, arrived, asks}
 use Rattle.login_core.specs.Logins.{Heard, Hears, LoginView, Tells, after, failure_bytes, goes_on, login_view, question_bytes, rows_of as login_rows}
 use Rattle.login_core.proofs.Telling.{new_tells, steps_say, steps_tell}
 use Rattle.act_client.specs.Clients.{ActClientOf, given_more, new_client, taken}
-use Rattle.play_house.specs.Houses.{HouseOf}
+use Rattle.play.specs.Houses.{HouseOf}
 use Rattle.play.specs.Players.{HasPassed, IsAtPiece, IsDone, IsLetIn, LogsIn, Steps, Waits, own, rows_of}
 use Rattle.play.proofs.Pieces.{joined_both, joined_one, login_piece, piece_done, refused_done, service_piece}
 

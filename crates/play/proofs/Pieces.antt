@@ -10,7 +10,7 @@ use Rattle.login_core.specs.Dialogue.{Dialogue, ToLink, login_among}
 use Rattle.login_core.specs.Solo.{after_login, service_pieces}
 use Rattle.login_core.proofs.Owning.{its_row}
 use Rattle.act_client.specs.Clients.{ActClientOf, given_more}
-use Rattle.play_house.specs.Houses.{HouseOf}
+use Rattle.play.specs.Houses.{HouseOf}
 use Rattle.play.specs.Players.{HasPassed, IsAtPiece, IsDone, own, rows_of}
 
 pub joined_both : (ps qs : List (List ℕ)) → joined_pieces (ps ++ qs) ≡ joined_pieces ps ++ joined_pieces qs

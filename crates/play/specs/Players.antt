@@ -15,7 +15,7 @@ use Rattle.relay_laws.specs.Leases.{IsLease, Place, RelayView}
 use Rattle.relay_steps.specs.Answers.{AtBorder}
 use Rattle.act_client.specs.Acts.{Sender}
 use Rattle.act_client.specs.Clients.{ActClientOf, given_with, taken}
-use Rattle.play_house.specs.Houses.{HouseOf, IsServerOf}
+use Rattle.play.specs.Houses.{HouseOf, IsServerOf}
 use Rattle.play.specs.declared.stage.Stage.{Stage}
 use Rattle.play.specs.declared.stage.Stage.TheVariants.{LoggingIn, Waiting, Served, Closed, Absent}
 use Rattle.play.specs.declared.player.Player.{Player}

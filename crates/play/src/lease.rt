@@ -3,11 +3,11 @@ ghost use Rattle.std.specs.Prelude.{◌≡◌, IfOk};
 ghost use Rattle.act_client.specs.Clients.{facts_of};
 ghost use Rattle.play.specs.Players.{IsAt, IsDone, IsServed};
 
+use crate::house::House;
 use crate::stage::{Stage, leave, refuse};
 use act_client::{ActClient, Script};
 use frame_view::laws::are_bytes;
 use message_view::KeyWord;
-use play_house::House;
 use relay_core::relay::{Relay, Returned};
 use relay_steps::Next;
 use server_end::gate::Ready;

@@ -1,15 +1,18 @@
 //! Plays: several clients over one lease book and its links, on one thread.
 #![tactic(auto)]
 
+mod acts;
+mod house;
 mod lease;
+mod limits;
 mod login;
-mod play;
 mod played;
 mod player;
 mod stage;
 mod table;
+mod taken;
 mod waiting;
 
 pub use act_client::Act;
-pub use play::play;
+pub use acts::play;
 pub use played::{Given, Played};

@@ -4,12 +4,13 @@ ghost use Rattle.std.specs.Arc.{arc_value};
 ghost use Rattle.login_core.specs.Logins.{ArrivesOnce, IsAfterArrival, missing};
 ghost use Rattle.play.specs.Players.{IsAt, IsLetIn, LogsIn, Steps};
 
-use crate::stage::{Stage, leave, refuse, turn_away};
+use crate::house::House;
+use crate::stage::{Stage, leave, refuse};
+use crate::taken::Answer;
 use act_client::ActClient;
 use login_core::laws::{login_is_of_its_row, steps_say, steps_tell};
 use login_core::{Login, LoginStep};
 use message_view::{KeyWord, Refusal};
-use play_house::House;
 use server_end::Moved;
 use start_keys::StartKey;
 use std::alloc::{AllocError, Global};
@@ -71,11 +72,12 @@ fn hear<'a>(
 {
     match step {
         LoginStep::Arrived(_) => match house.arrive() {
-            Ok(number) => {
+            Answer::Number(number) => {
                 let (_, step) = login.on_bytes(alloc, b"");
                 follow(house, word, client, login, Some(number), step)
             }
-            Err(refusal) => turn_away(house, word, client, None, refusal),
+            Answer::Refused(refusal) => refuse(house, word, client, None, refusal),
+            Answer::Strange => Ok(leave(house, word, client, None)),
         },
         step => follow(house, word, client, login, number, step),
     }
@@ -133,11 +135,12 @@ fn ask<'a>(
         return Ok(leave(house, word, client, None));
     };
     match house.ask(asks, &key)? {
-        Ok(()) => Ok(Stage::Waiting {
+        Answer::Number(_) => Ok(Stage::Waiting {
             client,
             key,
             number: asks,
         }),
-        Err(refusal) => turn_away(house, word, client, number, refusal),
+        Answer::Refused(refusal) => refuse(house, word, client, number, refusal),
+        Answer::Strange => Ok(leave(house, word, client, number)),
     }
 }

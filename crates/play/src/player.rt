@@ -2,6 +2,7 @@
 ghost use Rattle.std.specs.Prelude.{◌≡◌, IfOk};
 ghost use Rattle.play.specs.Players.{IsAllowedTo, IsPlayer};
 
+use crate::house::House;
 use crate::lease::{last, serve};
 use crate::login::log_in;
 use crate::played::Given;
@@ -9,7 +10,6 @@ use crate::stage::Stage;
 use crate::waiting::wait;
 use act_client::{ActClient, Script};
 use message_view::KeyWord;
-use play_house::House;
 use std::alloc::{AllocError, Global};
 use std::mem;
 
@@ -79,11 +79,7 @@ impl<'a> Player<'a> {
     }
 
     /// What it was given, and the numbers of the links that it had. The only error is want of memory.
-    pub(crate) fn finish(
-        self,
-        house: &mut House,
-        script: &Script,
-    ) -> Result<Given, AllocError>
+    pub(crate) fn finish(self, house: &mut House, script: &Script) -> Result<Given, AllocError>
         requires { IsPlayer house.old script.now self }
         ensures same { house.new ≡ house.old }
         ensures allowed { IfOk result (IsAllowedTo house.old script.now) }

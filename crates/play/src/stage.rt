@@ -2,12 +2,12 @@
 ghost use Rattle.std.specs.Prelude.{◌≡◌, ◌++◌, IfOk, IfSome};
 ghost use Rattle.message_view.specs.Refusals.{refusal as refused};
 ghost use Rattle.play.specs.Players.{IsAt, IsAtPiece, IsDone};
-ghost use Rattle.play_house.specs.Houses.{HouseOf};
+ghost use Rattle.play.specs.Houses.{HouseOf};
 
+use crate::house::House;
 use act_client::ActClient;
 use login_core::Login;
 use message_view::{KeyWord, Refusal, refusal_bytes};
-use play_house::House;
 use relay_core::relay::Relay;
 use server_end::memory_server::MemoryServer;
 use start_keys::StartKey;
@@ -43,13 +43,13 @@ pub(crate) enum Stage<'a> {
 /// The client is closed, and leaves the book, where it is in it.
 pub(crate) fn leave<'a>(
     house: &mut House,
-    _word: KeyWord,
+    word: KeyWord,
     client: ActClient<'a>,
     number: Option<u64>,
 ) -> Stage<'a>
-    requires { IsDone house.old _word client }
+    requires { IsDone house.old word client }
     ensures same { house.new ≡ house.old }
-    ensures at { IsAt house.old _word client.input result }
+    ensures at { IsAt house.old word client.input result }
 {
     if let Some(number) = number {
         house.leave(number);
@@ -71,22 +71,4 @@ pub(crate) fn refuse<'a>(
 {
     client.give(refusal_bytes(refusal))?;
     Ok(leave(house, word, client, number))
-}
-
-/// The client is refused, or closed without a byte.
-pub(crate) fn turn_away<'a>(
-    house: &mut House,
-    word: KeyWord,
-    client: ActClient<'a>,
-    number: Option<u64>,
-    refusal: Option<Refusal>,
-) -> Result<Stage<'a>, AllocError>
-    requires { IsAtPiece house.old word client }
-    ensures same { house.new ≡ house.old }
-    ensures at { IfOk result (IsAt house.old word client.input) }
-{
-    match refusal {
-        Some(refusal) => refuse(house, word, client, number, refusal),
-        None => Ok(leave(house, word, client, number)),
-    }
 }

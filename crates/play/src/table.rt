@@ -2,10 +2,10 @@
 ghost use Rattle.std.specs.Prelude.{◌≡◌, ◌<◌, IfOk, length};
 ghost use Rattle.play.specs.Players.{AreAllowed, ArePlayers, IsPlayer};
 
+use crate::house::House;
 use crate::played::Given;
 use crate::player::Player;
 use act_client::{Act, Script};
-use play_house::House;
 use std::alloc::{AllocError, Global};
 use std::marker::Model;
 

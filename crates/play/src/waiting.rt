@@ -2,16 +2,17 @@
 ghost use Rattle.std.specs.Prelude.{◌≡◌, IfOk};
 ghost use Rattle.std.specs.Arc.{arc_value};
 ghost use Rattle.play.specs.Players.{IsAt, Waits};
-ghost use Rattle.play_house.specs.Houses.{IsAtHome};
+ghost use Rattle.play.specs.Houses.{IsAtHome};
 
+use crate::house::House;
 use crate::stage::{Stage, leave, refuse};
+use crate::taken::Taken;
 use act_client::ActClient;
 use link_run::links::CleanLink;
 use link_start::close::close_link;
 use login_core::laws::login_is_of_its_row;
 use login_keys::laws::{bounded_rows_are_lawful, passed_keys_are_link_keys};
 use message_view::KeyWord;
-use play_house::{House, Taken};
 use relay_core::relay::Relay;
 use server_end::memory_server::MemoryServer;
 use start_keys::StartKey;

@@ -15,8 +15,8 @@ use Rattle.link_start.specs.declared.start.StartCause.{StartCause}
 use Rattle.link_start.specs.declared.start.StartCause.TheVariants as cause
 use Rattle.lease_book.specs.declared.events.Event.{Event}
 use Rattle.lease_book.specs.declared.events.Event.TheVariants as event
-use Rattle.play_house.specs.declared.taken.Taken.{Taken}
-use Rattle.play_house.specs.declared.taken.Taken.TheVariants as taken
+use Rattle.play.specs.declared.taken.Taken.{Taken}
+use Rattle.play.specs.declared.taken.Taken.TheVariants as taken
 
 pub record HouseOf : Type 0 where
   pub settings : Settings

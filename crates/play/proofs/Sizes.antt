@@ -1,7 +1,7 @@
 -- The sizes of rows, one after the other.
 use Rattle.std.proofs.Common.{◌≡◌, ℕ, zero, suc, ◌+◌, ◌<◌, List, [], ◌∷◌, Option, Some, None, refl, ap, drop, length, arith, slice_get}
 use Rattle.ini_config.specs.declared.database_rows.DbRow.{DbRow}
-use Rattle.play_house.specs.Houses.{size_of, sizes_of}
+use Rattle.play.specs.Houses.{size_of, sizes_of}
 
 pub size_there : (d : ℕ) (rows : List DbRow) (n : ℕ) (row : DbRow) → slice_get rows n ≡ Some row → sizes_of d (drop n rows) ≡ size_of d row ∷ sizes_of d (drop (n + 1) rows)
 size_there d [] n row e = absurd cc

@@ -6,7 +6,7 @@ use server_end::memory_server::MemoryServer;
 
 /// What a client is answered that comes, or that asks for a link.
 #[derive(Clone, Copy, Debug, PartialEq, Eq, Drop)]
-pub enum Answer {
+pub(crate) enum Answer {
     /// Its number in the book; or how many of its pool wait before it.
     Number(u64),
     /// It is refused.
@@ -17,7 +17,7 @@ pub enum Answer {
 
 /// What a client that takes its link is answered.
 #[derive(Drop)]
-pub enum Taken {
+pub(crate) enum Taken {
     /// It has this link, which was idle or is new.
     Link(CleanLink<MemoryServer>),
     /// It waits on.

@@ -4,13 +4,13 @@ ghost use Rattle.std.specs.Arc.{arc_value};
 ghost use Rattle.ini_config.specs.Bounds.{AreWithinBounds};
 ghost use Rattle.act_client.specs.Acts.{all_send};
 ghost use Rattle.play.specs.Players.{AreAllowed};
-ghost use Rattle.play_house.specs.Houses.{house_of};
+ghost use Rattle.play.specs.Houses.{house_of};
 
+use crate::house::House;
 use crate::played::Played;
 use crate::table::Table;
 use act_client::{Act, scripts};
 use ini_config::Settings;
-use play_house::House;
 use server_catalogue::Catalogue;
 use std::alloc::{AllocError, Global};
 use std::sync::Arc;

@@ -1,7 +1,7 @@
 //! The limits of a lease book, of the settings.
 ghost use Rattle.ini_config.specs.Bounds.{AreWithinBounds};
 ghost use Rattle.std.specs.Prelude.{◌≡◌, IfOk};
-ghost use Rattle.play_house.specs.Houses.{limits_of, sizes_of};
+ghost use Rattle.play.specs.Houses.{limits_of, sizes_of};
 
 use book_lists::limits::{Limits, RowSize};
 use ini_config::Settings;

@@ -9,7 +9,7 @@ use Rattle.lease_book.specs.declared.events.Event.{Event}
 use Rattle.lease_book.specs.declared.events.Event.TheVariants as event
 use Rattle.lease_book.specs.declared.events.Reply.{Reply}
 use Rattle.lease_book.specs.Links.{found, goes_out, handed, handed_after, handed_back, idle_after, idle_with, is_done, is_numbered, left}
-use Rattle.play_house.specs.Houses.{AreAtHome, IsAtHome, IsBroughtHome}
+use Rattle.play.specs.Houses.{AreAtHome, IsAtHome, IsBroughtHome}
 
 all-left : (cat : CatalogueOf) (o : Option ℕ) (idle : List LinkView) → AreAtHome cat idle → AreAtHome cat (left o idle)
 all-left cat None idle h = h

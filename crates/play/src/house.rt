@@ -7,7 +7,7 @@ ghost use Rattle.lease_book.specs.Links.{IsTwice, handed};
 ghost use Rattle.link_start.specs.Starts.{IsLinkKey};
 ghost use Rattle.login_core.specs.Dialogue.{AtFirst};
 ghost use Rattle.login_core.specs.Logins.{Hears, login_view};
-ghost use Rattle.play_house.specs.Houses.{IsAtHome, IsBroughtHome, IsServerOf, IsTaken, IsUntaken, house_of};
+ghost use Rattle.play.specs.Houses.{IsAtHome, IsBroughtHome, IsServerOf, IsTaken, IsUntaken, house_of};
 
 use crate::limits::limits;
 use crate::taken::{Answer, Taken};
@@ -48,7 +48,7 @@ const PASS: u64 = 0;
 ///
 /// Contracts see the settings, the users and the catalogue. Each idle link's server is of that catalogue.
 #[derive(Drop)]
-pub struct House {
+pub(crate) struct House {
     alloc: Global,
     settings: Arc<Settings>,
     users: Arc<Users>,
@@ -59,7 +59,7 @@ pub struct House {
 
 impl Model for House {
     ghost use Rattle.std.specs.Arc.{arc_value};
-    ghost use Rattle.play_house.specs.Houses.{HouseOf, IsHouse, house_of};
+    ghost use Rattle.play.specs.Houses.{HouseOf, IsHouse, house_of};
 
     ghost Value = { HouseOf };
 
@@ -86,7 +86,7 @@ fn untaken(fault: StartLinkFault<MemoryServer>) -> Result<Taken, AllocError>
 
 impl House {
     /// A house without links. A call of an end moves at most `cut` bytes. The only error is want of memory.
-    pub fn new(
+    pub(crate) fn new(
         alloc: Global,
         settings: Arc<Settings>,
         users: Arc<Users>,
@@ -110,14 +110,14 @@ impl House {
     }
 
     /// The most bytes that a call of an end moves.
-    pub fn cut(&self) -> usize
+    pub(crate) fn cut(&self) -> usize
         ensures { 0 < result }
     {
         self.cut
     }
 
     /// The greatest length of a frame.
-    pub fn limit(&self) -> u32
+    pub(crate) fn limit(&self) -> u32
         ensures low { 4 ≤ result }
         ensures high { result ≤ LONGEST_FRAME }
     {
@@ -125,14 +125,14 @@ impl House {
     }
 
     /// The settings are within their bounds.
-    pub fn is_bounded(&self)
+    pub(crate) fn is_bounded(&self)
         ensures { AreWithinBounds self.now.settings }
     {
         let _ = &self.cut;
     }
 
     /// A login of a client with this key word.
-    pub fn login(&self, word: KeyWord) -> Result<Login, AllocError>
+    pub(crate) fn login(&self, word: KeyWord) -> Result<Login, AllocError>
         ensures { IfOk result (λ l. l ≡ login_view self.now.settings self.now.users word (Hears (AtFirst false false)) []) }
     {
         let settings = Arc::try_clone(&self.settings)?;
@@ -152,7 +152,7 @@ impl House {
     }
 
     /// A client comes: it has a number, or is refused.
-    pub fn arrive(&mut self) -> Answer
+    pub(crate) fn arrive(&mut self) -> Answer
         ensures { self.new ≡ self.old }
     {
         match self.tell(Event::Arrive) {
@@ -164,7 +164,7 @@ impl House {
 
     /// The client of this number asks for a link of this key: it waits behind a number of others, or is refused. The only error is
     /// want of memory.
-    pub fn ask(&mut self, client: u64, key: &Arc<StartKey>) -> Result<Answer, AllocError>
+    pub(crate) fn ask(&mut self, client: u64, key: &Arc<StartKey>) -> Result<Answer, AllocError>
         ensures { self.new ≡ self.old }
     {
         let first = Arc::try_clone(key)?;
@@ -182,7 +182,7 @@ impl House {
     }
 
     /// The client of this number takes its link, if it may have one now. The only error is want of memory.
-    pub fn take(&mut self, client: u64, key: &Arc<StartKey>) -> Result<Taken, AllocError>
+    pub(crate) fn take(&mut self, client: u64, key: &Arc<StartKey>) -> Result<Taken, AllocError>
         requires { IsLinkKey (arc_value key.now) }
         ensures same { self.new ≡ self.old }
         ensures taken { IfOk result (IsTaken self.old.catalogue (arc_value key.now)) }
@@ -266,7 +266,7 @@ impl House {
     }
 
     /// A link comes back that nobody used.
-    pub fn give_back(&mut self, link: CleanLink<MemoryServer>)
+    pub(crate) fn give_back(&mut self, link: CleanLink<MemoryServer>)
         requires { IsAtHome self.old.catalogue link }
         ensures { self.new ≡ self.old }
     {
@@ -278,7 +278,7 @@ impl House {
     }
 
     /// A link comes back that was used: it is reset first, and lost where that fails.
-    pub fn reset(&mut self, link: UsedLink<MemoryServer>)
+    pub(crate) fn reset(&mut self, link: UsedLink<MemoryServer>)
         requires { IsServerOf self.old.catalogue link.stands }
         ensures { self.new ≡ self.old }
     {
@@ -291,21 +291,21 @@ impl House {
     }
 
     /// A lent link is closed.
-    pub fn lose(&mut self, number: u64)
+    pub(crate) fn lose(&mut self, number: u64)
         ensures { self.new ≡ self.old }
     {
         self.tell(Event::Lost { number });
     }
 
     /// The client of this number goes.
-    pub fn leave(&mut self, client: u64)
+    pub(crate) fn leave(&mut self, client: u64)
         ensures { self.new ≡ self.old }
     {
         self.tell(Event::Leave { client });
     }
 
     /// It is this second: each link that is due is closed.
-    pub fn tick(&mut self, now: u64)
+    pub(crate) fn tick(&mut self, now: u64)
         ensures { self.new ≡ self.old }
     {
         for _ in 0..u64::MAX {
