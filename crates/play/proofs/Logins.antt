@@ -23,6 +23,9 @@ use Rattle.login_core.specs.Laws.{GoesOn, given_by}
 use Rattle.login_core.specs.Laws.GoesOn.{waits, arrived, asks}
 use Rattle.login_core.specs.Logins.{Heard, Hears, LoginView, Tells, after, failure_bytes, goes_on, login_view, question_bytes, rows_of as login_rows}
 use Rattle.login_core.proofs.Telling.{new_tells, steps_say, steps_tell}
+use Rattle.ini_config.specs.Bounds.{AreWithinBounds}
+use Rattle.link_start.specs.Starts.{IsLinkKey as IsStartKey}
+use Rattle.login_keys.specs.Laws.{BoundedRowsAreLawful, PassedKeysAreLinkKeys}
 use Rattle.act_client.specs.Clients.{ActClientOf, given_more, new_client, taken}
 use Rattle.play.specs.Houses.{HouseOf}
 use Rattle.play.specs.Players.{HasPassed, IsAtPiece, IsDone, IsLetIn, LogsIn, Steps, Waits, own, rows_of}
@@ -134,3 +137,12 @@ let_in_waits h word c key x = record {
   passed = x.passed;
   given = ap (λ (b : List ℕ). b ++ ok) x.given ∙ joined_one x.pieces ok;
 }
+
+-- its key can start a link
+pub key_starts : BoundedRowsAreLawful → PassedKeysAreLinkKeys → (h : HouseOf) (word : KeyWord) (c : ActClientOf) (key : StartKeyOf) → AreWithinBounds h.settings → Waits h word c key → IsStartKey key
+key_starts rows law h word c key b x =
+    let k = law (rows_of h) word c.input (drop c.at c.input) key (rows h.settings h.users b) (ap (λ (d : Dialogue). d.ended) (passed_at h word c key x.pieces x.passed)) in
+    (k.client, k.dbname)
+
+pub let_in_piece : (h : HouseOf) (word : KeyWord) (c : ActClientOf) (key : StartKeyOf) → IsLetIn h word c key → IsAtPiece h word (given_more c ok)
+let_in_piece h word c key x = waits_piece h word (given_more c ok) key (let_in_waits h word c key x)

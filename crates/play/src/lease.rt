@@ -16,6 +16,7 @@ use server_end::{ClientEnd, ServerEnd};
 use std::alloc::AllocError;
 
 /// A turn of a client that has a link: its lease is pumped once. At its end the client is refused, if it is, and leaves.
+#[tactic(auto, using(crate::proofs::Leases::lease_goes, crate::proofs::Leases::lease_stops, crate::proofs::Leases::lease_piece, crate::proofs::Leases::lease_done, crate::proofs::Leases::lease_input))]
 pub(crate) fn serve<'a>(
     house: &mut House,
     word: KeyWord,
@@ -48,6 +49,7 @@ pub(crate) fn serve<'a>(
 }
 
 /// The lease ends: its link is given back, where it can be used again, and the client's end is left.
+#[tactic(auto, using(crate::proofs::Leases::lease_home))]
 fn part<'a>(
     house: &mut House,
     word: KeyWord,
@@ -56,7 +58,7 @@ fn part<'a>(
 ) -> Result<ActClient<'a>, AllocError>
     requires { IsServed house.old word script.now.bytes relay }
     ensures same { house.new ≡ house.old }
-    ensures client { IfOk result (λ c. facts_of c ≡ relay.client) }
+    ensures client { IfOk result (λ c. facts_of c ≡ relay.entry.client) }
 {
     let (client, link) = relay.close();
     match link {
@@ -76,6 +78,7 @@ fn part<'a>(
 }
 
 /// The client's end, once nothing more comes.
+#[tactic(auto, using(crate::proofs::Logins::logs_in_piece, crate::proofs::Logins::waits_piece, crate::proofs::Pieces::piece_done, crate::proofs::Leases::lease_done, crate::proofs::Leases::lease_input))]
 pub(crate) fn last<'a>(
     house: &mut House,
     word: KeyWord,

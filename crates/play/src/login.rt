@@ -23,6 +23,7 @@ const CHUNK: usize = 256;
 static LET_IN: [u8; 9] = *b"R\0\0\0\x08\0\0\0\0";
 
 /// A turn of a client's login: it reads once of the packet that the login waits for.
+#[tactic(auto, using(crate::proofs::Logins::logs_in_piece, crate::proofs::Pieces::piece_done, crate::proofs::Logins::takes))]
 pub(crate) fn log_in<'a>(
     alloc: Global,
     house: &mut House,
@@ -34,7 +35,7 @@ pub(crate) fn log_in<'a>(
     requires logs_in { LogsIn house.old word client login }
     requires missing { 0 < missing login.hearing login.held }
     ensures same { house.new ≡ house.old }
-    ensures at { IfOk result (λ r. IsAt house.old word client.input r.0) }
+    ensures at { IfOk result (λ r. IsAt house.old word client.entry.input r.0) }
 {
     let mut chunk = [0u8; CHUNK];
     let wanted = login.wants().min(CHUNK);
@@ -57,6 +58,7 @@ pub(crate) fn log_in<'a>(
 }
 
 /// A step of the login. The client that arrives is let go on by the book, or turned away.
+#[tactic(auto, using(crate::proofs::Logins::steps_piece, crate::proofs::Pieces::piece_done, crate::proofs::Logins::goes_arrived, crate::proofs::Logins::takes))]
 fn hear<'a>(
     alloc: Global,
     house: &mut House,
@@ -68,7 +70,7 @@ fn hear<'a>(
 ) -> Result<Stage<'a>, AllocError>
     requires { Steps house.old word client step login }
     ensures same { house.new ≡ house.old }
-    ensures at { IfOk result (IsAt house.old word client.input) }
+    ensures at { IfOk result (IsAt house.old word client.entry.input) }
 {
     match step {
         LoginStep::Arrived(_) => match house.arrive() {
@@ -84,6 +86,7 @@ fn hear<'a>(
 }
 
 /// Any other step of the login.
+#[tactic(auto, using(crate::proofs::Logins::steps_piece, crate::proofs::Pieces::piece_done, crate::proofs::Logins::goes_more, crate::proofs::Logins::goes_asked, crate::proofs::Logins::passes, crate::proofs::Logins::fails))]
 fn follow<'a>(
     house: &mut House,
     word: KeyWord,
@@ -95,7 +98,7 @@ fn follow<'a>(
     requires steps { Steps house.old word client step login }
     requires later { IsAfterArrival step }
     ensures same { house.new ≡ house.old }
-    ensures at { IfOk result (IsAt house.old word client.input) }
+    ensures at { IfOk result (IsAt house.old word client.entry.input) }
 {
     match step {
         LoginStep::More => {}
@@ -119,6 +122,7 @@ fn follow<'a>(
 }
 
 /// The client is let in, and asks for a link of this key.
+#[tactic(auto, using(crate::proofs::Logins::let_in_waits, crate::proofs::Logins::waits_piece, crate::proofs::Pieces::piece_done, crate::proofs::Logins::let_in_piece))]
 fn ask<'a>(
     house: &mut House,
     word: KeyWord,
@@ -128,7 +132,7 @@ fn ask<'a>(
 ) -> Result<Stage<'a>, AllocError>
     requires { IsLetIn house.old word client (arc_value key) }
     ensures same { house.new ≡ house.old }
-    ensures at { IfOk result (IsAt house.old word client.input) }
+    ensures at { IfOk result (IsAt house.old word client.entry.input) }
 {
     client.give(&LET_IN)?;
     let Some(asks) = number else {

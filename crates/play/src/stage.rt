@@ -49,7 +49,7 @@ pub(crate) fn leave<'a>(
 ) -> Stage<'a>
     requires { IsDone house.old word client }
     ensures same { house.new ≡ house.old }
-    ensures at { IsAt house.old word client.input result }
+    ensures at { IsAt house.old word client.entry.input result }
 {
     if let Some(number) = number {
         house.leave(number);
@@ -58,6 +58,7 @@ pub(crate) fn leave<'a>(
 }
 
 /// The client is given this refusal, and leaves.
+#[tactic(auto, using(crate::proofs::Pieces::refused_done))]
 pub(crate) fn refuse<'a>(
     house: &mut House,
     word: KeyWord,
@@ -67,7 +68,7 @@ pub(crate) fn refuse<'a>(
 ) -> Result<Stage<'a>, AllocError>
     requires { IsAtPiece house.old word client }
     ensures same { house.new ≡ house.old }
-    ensures at { IfOk result (IsAt house.old word client.input) }
+    ensures at { IfOk result (IsAt house.old word client.entry.input) }
 {
     client.give(refusal_bytes(refusal))?;
     Ok(leave(house, word, client, number))

@@ -164,7 +164,7 @@ impl<'a> Table<'a> {
 
     /// What each client was given. The only error is want of memory.
     pub(crate) fn finish(self) -> Result<Vec<Given>, AllocError>
-        ensures { IfOk result (λ v. AreAllowed self.house self.senders v.items) }
+        ensures { IfOk result (λ v. AreAllowed self.entry.house self.entry.senders v.items) }
     {
         let Table {
             alloc,

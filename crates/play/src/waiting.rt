@@ -21,6 +21,7 @@ use std::sync::Arc;
 
 /// A turn of a client that waits: it takes its link, if it may have one now, and leaves if it has hung up. The link's number is
 /// kept.
+#[tactic(auto, using(crate::proofs::Logins::waits_piece, crate::proofs::Pieces::piece_done, crate::proofs::Leases::start_fails, crate::proofs::Logins::key_starts))]
 pub(crate) fn wait<'a>(
     alloc: Global,
     house: &mut House,
@@ -32,7 +33,7 @@ pub(crate) fn wait<'a>(
 ) -> Result<(Stage<'a>, bool), AllocError>
     requires { Waits house.old word client (arc_value key) }
     ensures same { house.new ≡ house.old }
-    ensures at { IfOk result (λ r. IsAt house.old word client.input r.0) }
+    ensures at { IfOk result (λ r. IsAt house.old word client.entry.input r.0) }
 {
     house.is_bounded();
     bounded_rows_are_lawful();
@@ -64,6 +65,7 @@ pub(crate) fn wait<'a>(
 }
 
 /// The lease of a link to a client begins.
+#[tactic(auto, using(crate::proofs::Leases::lease_begins))]
 fn begin<'a>(
     alloc: Global,
     house: &House,
@@ -74,7 +76,7 @@ fn begin<'a>(
 ) -> Result<Stage<'a>, AllocError>
     requires waits { Waits house.now word client link.key }
     requires home { IsAtHome house.now.catalogue link }
-    ensures { IfOk result (IsAt house.now word client.input) }
+    ensures { IfOk result (IsAt house.now word client.entry.input) }
 {
     match Relay::begin(alloc, client, link, word, house.limit()) {
         Ok(relay) => Ok(Stage::Served { relay, number }),
