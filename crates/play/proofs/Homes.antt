@@ -2,7 +2,9 @@
 use Rattle.std.proofs.Common.{◌≡◌, ℕ, List, [], ◌∷◌, ◌++◌, Option, Some, None, filter, find, cond, Bool, true, false}
 use Rattle.std.specs.Prelude.{IfSome, not}
 use Rattle.session_values.proofs.Alls.{OfSome, all-append, all-filter, all-find}
-use Rattle.session_values.specs.State.{CatalogueOf}
+use Rattle.session_values.specs.State.{CatalogueOf, StartKeyOf}
+use Rattle.start_keys.specs.Keys.{same_key}
+use Rattle.start_keys.specs.SameKeys.{same_keys-one}
 use Rattle.link_run.specs.Links.{LinkView}
 use Rattle.book_lists.specs.declared.events.Reply.{Reply as ListsReply}
 use Rattle.lease_book.specs.declared.events.Event.{Event}
@@ -59,3 +61,7 @@ module _ {E : Type 0} where
   handed_home cat event.Pause r idle k h = all-found cat (goes_out r) idle h
   handed_home cat event.Resume r idle k h = all-found cat (goes_out r) idle h
   handed_home cat event.Shutdown r idle k h = all-found cat (goes_out r) idle h
+
+-- keys that the comparison finds the same are one key
+pub of_same_key : (a b : StartKeyOf) → same_key a b ≡ true → a ≡ b
+of_same_key a b e = (same_keys-one a b).0 e

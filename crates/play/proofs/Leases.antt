@@ -62,6 +62,7 @@ lease_goes h word bytes v w k x = record {
 }
 
 pub lease_stops : (h : HouseOf) (word : KeyWord) (bytes : List ℕ) (v w : RelayView) → Keeps v w → ((p : Place) → IsLease p v → AtBorder p w) → IsServed h word bytes v → StopsAt h word bytes w
+unfolding lease_goes
 lease_stops h word bytes v w k b x = record { served = lease_goes h word bytes v w k x; border = b x.at x.lease }
 
 -- its link is at home

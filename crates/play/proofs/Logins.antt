@@ -21,7 +21,7 @@ use Rattle.login_core.specs.Talk.End.{Passed, Stopped}
 use Rattle.login_core.specs.Dialogue.{Dialogue, Rows, AtFirst, ToLink, Failed, login_among, ok, row_in}
 use Rattle.login_core.specs.Laws.{GoesOn, given_by}
 use Rattle.login_core.specs.Laws.GoesOn.{waits, arrived, asks}
-use Rattle.login_core.specs.Logins.{Heard, Hears, LoginView, Tells, after, failure_bytes, goes_on, login_view, question_bytes, rows_of as login_rows}
+use Rattle.login_core.specs.Logins.{Heard, Hears, LoginView, Tells, after, failure_bytes, goes_on, login_view, missing, question_bytes, rows_of as login_rows}
 use Rattle.login_core.proofs.Telling.{new_tells, steps_say, steps_tell}
 use Rattle.ini_config.specs.Bounds.{AreWithinBounds}
 use Rattle.link_start.specs.Starts.{IsLinkKey as IsStartKey}
@@ -146,3 +146,10 @@ key_starts rows law h word c key b x =
 
 pub let_in_piece : (h : HouseOf) (word : KeyWord) (c : ActClientOf) (key : StartKeyOf) → IsLetIn h word c key → IsAtPiece h word (given_more c ok)
 let_in_piece h word c key x = waits_piece h word (given_more c ok) key (let_in_waits h word c key x)
+
+-- a step after which the login waits for more
+pub more_at : (h : HouseOf) (word : KeyWord) (c d : ActClientOf) (l : LoginView) → Steps h word c step.More l → d ≡ c → (d.input ≡ c.input) × LogsIn h word d l × (0 < missing l.hearing l.held)
+more_at h word c d l x e = subst (λ (y : ActClientOf). (y.input ≡ c.input) × LogsIn h word y l × (0 < missing l.hearing l.held)) (sym e) (refl, goes_more h word c l x, x.heard.leads)
+
+pub asked_at : (h : HouseOf) (word : KeyWord) (c d : ActClientOf) (q : Question) (l : LoginView) → Steps h word c (step.Ask q) l → d ≡ given_more c (question_bytes q) → (d.input ≡ c.input) × LogsIn h word d l × (0 < missing l.hearing l.held)
+asked_at h word c d q l x e = subst (λ (y : ActClientOf). (y.input ≡ c.input) × LogsIn h word y l × (0 < missing l.hearing l.held)) (sym e) (refl, goes_asked h word c q l x, x.heard.leads)

@@ -206,6 +206,7 @@ impl House {
     }
 
     /// An idle link, for a client of this key. One of another key is closed.
+    #[tactic(auto, using(crate::proofs::Homes::of_same_key))]
     fn lent(&mut self, link: CleanLink<MemoryServer>, key: &Arc<StartKey>) -> Taken
         requires { IsAtHome self.old.catalogue link }
         ensures same { self.new ≡ self.old }

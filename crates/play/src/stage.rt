@@ -58,7 +58,7 @@ pub(crate) fn leave<'a>(
 }
 
 /// The client is given this refusal, and leaves.
-#[tactic(auto, using(crate::proofs::Pieces::refused_done))]
+
 pub(crate) fn refuse<'a>(
     house: &mut House,
     word: KeyWord,
