@@ -50,6 +50,8 @@ test:
 	scripts/clients.sh $(trials)
 	scripts/refuse-growth.sh $(program) $(trials)
 	PGSESS=$(program) scripts/cli.sh
+	scripts/postgres.sh $(program)
+	scripts/abuse.sh $(program)
 
 # the wrong versions of functions that aren't tried by the gate; CRATES names some crates. It is no part of `test`: on top of the
 # gate it would need each library built once more, which takes longer than all edits. Run it before a crate lands

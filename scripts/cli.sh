@@ -115,10 +115,59 @@ serve() {
     ends "$name" "$status" "$line" serve --ini "$1" --users "$2" --key-seed "$3"
 }
 
-checked="pgsess: settings, users and key seed are in order; this version doesn't serve yet"
-serve 'good files' 0 "$checked" good.ini good.txt good.bin
-serve 'empty files' 0 "$checked" empty empty good.bin
-serve 'the example' 0 "$checked" "$here/examples/pgsess.ini" "$here/examples/users.txt" good.bin
+# a port of this machine that is free
+free_port() {
+    python3 -c 'import socket; s = socket.socket(); s.bind(("127.0.0.1", 0)); print(s.getsockname()[1])'
+}
+
+# listens NAME LINE PORT WORD.. : the program says this line on standard output (none: nothing) and nothing on standard error, can be
+# reached at the port, and runs until it is told to end
+listens() {
+    local name=$1 line=$2 port=$3 process reached=1
+    shift 3
+    "$program" "$@" >out.txt 2>err.txt </dev/null &
+    process=$!
+    for _ in {1..100}; do
+        if (: <>"/dev/tcp/127.0.0.1/$port") 2>/dev/null; then
+            reached=0
+            break
+        fi
+        sleep 0.05
+    done
+    result "$name: reached" 0 "$reached"
+    result "$name: standard output" "$line" "$(cat out.txt)"
+    result "$name: standard error" 0 "$(wc -c <err.txt)"
+    kill -TERM "$process"
+    wait "$process" 2>/dev/null
+    result "$name: told to end" 143 $?
+}
+
+port=$(free_port)
+printf '[databases]\nshop = host=127.0.0.1\n[pgbouncer]\nlisten_port = %s\n' "$port" >listens.ini
+printf '[pgbouncer]\nlisten_addr = *\nlisten_port = %s\n' "$port" >everywhere.ini
+sed "s/^listen_port = .*/listen_port = $port/" "$here/examples/pgsess.ini" >example.ini
+printf '[pgbouncer]\nlisten_port = %s\n' "$port" | cat - largest | head -c 16777215 >large.ini
+echo >>large.ini
+listens 'good files' "listening 127.0.0.1 $port" "$port" serve --ini listens.ini --users good.txt --key-seed good.bin
+listens 'no users' "listening 127.0.0.1 $port" "$port" serve --ini listens.ini --users empty --key-seed good.bin
+listens 'all addresses' "listening 0.0.0.0 $port" "$port" serve --ini everywhere.ini --users good.txt --key-seed good.bin
+listens 'the example' "listening 127.0.0.1 $port" "$port" serve --ini example.ini --users "$here/examples/users.txt" --key-seed good.bin
+listens 'the largest file' "listening 127.0.0.1 $port" "$port" serve --ini large.ini --users good.txt --key-seed good.bin
+listens 'stub' '' "$port" stub --port "$port" --catalogue "$here/examples/catalogue.tsv"
+
+# while another listens there
+python3 -c 'import socket, sys, time; s = socket.socket(); s.bind(("127.0.0.1", int(sys.argv[1]))); s.listen(); print("held", flush=True); time.sleep(60)' "$port" >held.txt &
+holder=$!
+for _ in {1..100}; do
+    [ -s held.txt ] && break
+    sleep 0.05
+done
+serve 'a port that is taken' 3 "pgsess: port $port" listens.ini good.txt good.bin
+ends 'a port of the stub that is taken' 3 "pgsess: port $port" stub --port "$port" --catalogue "$here/examples/catalogue.tsv"
+serve 'a fault of a file before the port' 1 'pgsess: file nowhere.bin' listens.ini good.txt nowhere.bin
+kill "$holder"
+wait "$holder" 2>/dev/null
+
 serve 'no ini file' 1 'pgsess: file nowhere.ini' nowhere.ini nowhere.txt nowhere.bin
 serve 'no user file' 1 'pgsess: file nowhere.txt' good.ini nowhere.txt nowhere.bin
 serve 'no seed file' 1 'pgsess: file nowhere.bin' good.ini good.txt nowhere.bin
@@ -130,10 +179,8 @@ serve 'a path with spaces' 1 'pgsess: file no where' 'no where' good.txt good.bi
 serve 'a seed of 31 bytes' 1 'pgsess: file short.bin' good.ini good.txt short.bin
 serve 'a seed of 33 bytes' 1 'pgsess: file long.bin' good.ini good.txt long.bin
 serve 'an empty seed' 1 'pgsess: file empty' good.ini good.txt empty
-serve 'the largest file' 0 "$checked" largest good.txt good.bin
 serve 'a file that is too long' 1 'pgsess: file too_long' too_long good.txt good.bin
 serve 'a user file that is too long' 1 'pgsess: file too_long' good.ini too_long good.bin
-ends 'stub' 0 '' stub --port 5432 --catalogue "$here/examples/catalogue.tsv"
 ends 'no catalogue file' 1 'pgsess: file nowhere.tsv' stub --port 5432 --catalogue nowhere.tsv
 ends 'a catalogue that is too long' 1 'pgsess: file too_long' stub --port 65535 --catalogue too_long
 

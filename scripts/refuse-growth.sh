@@ -1,7 +1,8 @@
 #!/usr/bin/env bash
 # refuse-growth.sh [PROGRAM [TRIALS]]: runs the program with its first allocation refused, then with its second, and so on
 # until none is left to refuse. Each run must end with status 1 and the line `pgsess: memory` alone, or with status 0 and
-# the whole answer. Where a file's line can't be kept, `serve` and `stub` may name it, as in `pgsess: C8 line 7`.
+# the whole answer. Where a file's line can't be kept, `serve` and `stub` may name it, as in `pgsess: C8 line 7`; they are run at a
+# port that another has, so that what they end with is `pgsess: port N` and status 3.
 # Logins with a password are tried likewise through `trials login`.
 set -euo pipefail
 cd "$(dirname "$0")/.."
@@ -14,6 +15,8 @@ head -c 32 /dev/zero >"$work/seed.bin"
 
 passed=0
 failed=0
+# the status of a run in which nothing is refused
+whole=0
 
 # one_run NUMBER INPUT PROGRAM WORD.. : runs the program with this call refused; its status
 one_run() {
@@ -26,13 +29,13 @@ one_run() {
     echo "$status"
 }
 
-# holds STATUS ANSWER LINES : the run told want of memory and nothing else, or gave the whole answer, and said on standard
-# error what stands in ANSWER.err, or nothing where there is no such file
+# holds STATUS ANSWER LINES : the run told want of memory and nothing else; or it ended with the status `whole`, gave the whole answer,
+# and said on standard error what stands in ANSWER.err, or nothing where there is no such file
 holds() {
     local said=$2.err
     [ -e "$said" ] || said=/dev/null
     case $1 in
-    0) cmp -s "$work/err" "$said" && cmp -s "$work/out" "$2" ;;
+    "$whole") cmp -s "$work/err" "$said" && cmp -s "$work/out" "$2" ;;
     1) [ ! -s "$work/out" ] && [ "$(wc -l <"$work/err")" = 1 ] && grep -qE "^($3)\$" "$work/err" ;;
     *) false ;;
     esac
@@ -53,7 +56,7 @@ sweep() {
         [ -e "$work/struck" ] || break
         [ "$status" -eq 1 ] && told=$((told + 1))
     done
-    if [ "$faults" -eq 0 ] && [ "$status" -eq 0 ]; then
+    if [ "$faults" -eq 0 ] && [ "$status" -eq "$whole" ]; then
         passed=$((passed + 1))
         echo "ok     $name: $((number - 1)) calls refused, $told told, $((number - 1 - told)) answered all the same"
     else
@@ -66,12 +69,24 @@ sweep() {
 for row in bind_values temporary_table_and_statement suspended_portal set_show_discard; do
     sweep "replay of $row" "tests/rows/$row.out" 'pgsess: memory' "tests/rows/$row.in" "$program" replay
 done
-: >"$work/checked"
-echo "pgsess: settings, users and key seed are in order; this version doesn't serve yet" >"$work/checked.err"
-sweep 'serve with the example files' "$work/checked" 'pgsess: (memory|C8 line [0-9]+|U3 line [0-9]+)' /dev/null \
-    "$program" serve --ini examples/pgsess.ini --users examples/users.txt --key-seed "$work/seed.bin"
-sweep 'stub with the example file' "$work/nothing" 'pgsess: (memory|K4 line [0-9]+)' /dev/null \
-    "$program" stub --port 5432 --catalogue examples/catalogue.tsv
+# a port that is taken
+python3 -c 'import socket, time; s = socket.socket(); s.bind(("127.0.0.1", 0)); s.listen(); print(s.getsockname()[1], flush=True); time.sleep(3600)' >"$work/port" &
+holder=$!
+trap 'kill "$holder"; rm -rf "$work"' EXIT
+for _ in {1..100}; do
+    [ -s "$work/port" ] && break
+    sleep 0.05
+done
+port=$(cat "$work/port")
+sed "s/^listen_port = .*/listen_port = $port/" examples/pgsess.ini >"$work/taken.ini"
+: >"$work/taken"
+echo "pgsess: port $port" >"$work/taken.err"
+whole=3
+sweep 'serve with the example files' "$work/taken" 'pgsess: (memory|C8 line [0-9]+|U3 line [0-9]+)' /dev/null \
+    "$program" serve --ini "$work/taken.ini" --users examples/users.txt --key-seed "$work/seed.bin"
+sweep 'stub with the example file' "$work/taken" 'pgsess: (memory|K4 line [0-9]+)' /dev/null \
+    "$program" stub --port "$port" --catalogue examples/catalogue.tsv
+whole=0
 for login in plain_behind_encryption md5; do
     python3 scripts/logins.py answer tests/logins "$login" >"$work/answer"
     sweep "login of $login" "$work/answer" 'trials: memory' "tests/logins/$login.in" \

@@ -1,6 +1,6 @@
 //! What `replay` answers.
 use message_view::{Refusal, refusal_bytes};
-use pool_app::replay::{replay, replies};
+use replay_run::replay::{replay, replies};
 use std::alloc::Global;
 use std::test::Fail;
 

@@ -7,54 +7,33 @@ use Rattle.book_lists.specs.Outcomes.{Answer, Event, apply, at_clock, closes, co
 use Rattle.book_lists.specs.Outcomes.Event.{Arrive, Ask, Take, GiveBack, Lost, StartFailed, Leave, Tick, NewLimits, Pause, Resume, Shutdown}
 use Rattle.book_lists.specs.declared.counts.Kind.{Kind}
 use Rattle.book_lists.specs.declared.events.Reply.{Reply}
-use Rattle.book_lists.specs.declared.events.Reply.TheVariants.{Arrived, Queued, Lend, Start, Close, Refuse, Done, Stranger}
+use Rattle.book_lists.specs.declared.events.Reply.TheVariants.{Refuse, Done, Stranger}
 use Rattle.message_view.specs.declared.refusal.Refusal.TheVariants.{LastDecision}
 use Rattle.book_register.specs.Choices.{Gives}
-use Rattle.book_register.specs.Happenings.{happening_of, kind_by}
+use Rattle.book_register.specs.Kinds.{kind_in, kinds_of}
+use Rattle.book_register.specs.declared.deciding.Kinds.{Kinds}
 use Rattle.book_order.specs.Kept.{KeptClients, KeptCounts, total}
 use Rattle.book_order.proofs.KeepingLists.{any_counts, longer, none_counts}
 
-pub kind_is : (b : Book) (e : Event) (r : Reply) → kind_by (happening_of b e) r ≡ kind_of b e r
-kind_is b Arrive (Arrived n) = refl
-kind_is b Arrive (Queued n) = refl
-kind_is b Arrive (Lend n) = refl
-kind_is b Arrive (Start n born evicted) = refl
-kind_is b Arrive (Close n) = refl
-kind_is b Arrive (Refuse refusal) = refl
-kind_is b Arrive Done = refl
-kind_is b Arrive Stranger = refl
-kind_is b (Ask client key) (Arrived n) = refl
-kind_is b (Ask client key) (Queued n) = refl
-kind_is b (Ask client key) (Lend n) = refl
-kind_is b (Ask client key) (Start n born evicted) = refl
-kind_is b (Ask client key) (Close n) = refl
-kind_is b (Ask client key) (Refuse refusal) = refl
-kind_is b (Ask client key) Done = refl
-kind_is b (Ask client key) Stranger = refl
-kind_is b (Take client) (Arrived n) = refl
-kind_is b (Take client) (Queued n) = refl
-kind_is b (Take client) (Lend n) = refl
-kind_is b (Take client) (Start n born evicted) = refl
-kind_is b (Take client) (Close n) = refl
-kind_is b (Take client) (Refuse refusal) = refl
-kind_is b (Take client) Done = refl
-kind_is b (Take client) Stranger = refl
-kind_is b (Tick now) (Arrived n) = refl
-kind_is b (Tick now) (Queued n) = refl
-kind_is b (Tick now) (Lend n) = refl
-kind_is b (Tick now) (Start n born evicted) = refl
-kind_is b (Tick now) (Close n) = refl
-kind_is b (Tick now) (Refuse refusal) = refl
-kind_is b (Tick now) Done = refl
-kind_is b (Tick now) Stranger = refl
-kind_is b (GiveBack n) r = refl
-kind_is b (Lost n) r = refl
-kind_is b (StartFailed n) r = refl
-kind_is b (Leave client) r = refl
-kind_is b (NewLimits limits) r = refl
-kind_is b Pause r = refl
-kind_is b Resume r = refl
-kind_is b Shutdown r = refl
+pub kind_is : (b : Book) (e : Event) (r : Reply) → kind_in (kinds_of b e) r ≡ kind_of b e r
+kind_is b Arrive r = elim r as (λ x. kind_in (kinds_of b Arrive) x ≡ kind_of b Arrive x) [ Done ↦ refl | _ ↦ refl ]
+kind_is b (Ask client key) r = elim r as (λ x. kind_in (kinds_of b (Ask client key)) x ≡ kind_of b (Ask client key) x) [ Done ↦ refl | _ ↦ refl ]
+kind_is b (Take client) r = elim r as (λ x. kind_in (kinds_of b (Take client)) x ≡ kind_of b (Take client) x) [ Done ↦ refl | _ ↦ refl ]
+kind_is b (GiveBack n) r = elim r as (λ x. kind_in (kinds_of b (GiveBack n)) x ≡ kind_of b (GiveBack n) x) [ Done ↦ refl | _ ↦ refl ]
+kind_is b (Lost n) r = elim r as (λ x. kind_in (kinds_of b (Lost n)) x ≡ kind_of b (Lost n) x) [ Done ↦ refl | _ ↦ refl ]
+kind_is b (StartFailed n) r = elim r as (λ x. kind_in (kinds_of b (StartFailed n)) x ≡ kind_of b (StartFailed n) x) [ Done ↦ refl | _ ↦ refl ]
+kind_is b (Leave client) r = elim r as (λ x. kind_in (kinds_of b (Leave client)) x ≡ kind_of b (Leave client) x) [ Done ↦ refl | _ ↦ refl ]
+kind_is b (Tick now) r = elim r as (λ x. kind_in (kinds_of b (Tick now)) x ≡ kind_of b (Tick now) x) [ Done ↦ refl | _ ↦ refl ]
+kind_is b (NewLimits limits) r = elim r as (λ x. kind_in (kinds_of b (NewLimits limits)) x ≡ kind_of b (NewLimits limits) x) [ Done ↦ refl | _ ↦ refl ]
+kind_is b Pause r = elim r as (λ x. kind_in (kinds_of b Pause) x ≡ kind_of b Pause x) [ Done ↦ refl | _ ↦ refl ]
+kind_is b Resume r = elim r as (λ x. kind_in (kinds_of b Resume) x ≡ kind_of b Resume x) [ Done ↦ refl | _ ↦ refl ]
+kind_is b Shutdown r = elim r as (λ x. kind_in (kinds_of b Shutdown) x ≡ kind_of b Shutdown x) [ Done ↦ refl | _ ↦ refl ]
+
+-- an event's answer with its count, of the kind that its reply tells
+pub counted_is : (next new b : Book) (e : Event) (r : Reply) (kinds : Kinds) (k : Option Kind) → Gives next r (outcome b e) → kinds ≡ kinds_of b e → k ≡ kind_in kinds r → new ≡ counted next k → Gives new r (decided b e (outcome b e))
+counted_is next new b e r kinds k gave are is more =
+    let kind : k ≡ kind_of b e (outcome b e).reply = is ∙ ap (λ (x : Kinds). kind_in x r) are ∙ kind_is b e r ∙ ap (kind_of b e) gave.1 in
+    (more ∙ ap (λ (x : Book). counted x k) gave.0 ∙ ap (counted (outcome b e).book) kind, gave.1)
 
 -- ---- an event leaves the counts alone
 
@@ -159,7 +138,7 @@ pub goes_on : (before b after : Book) (e : Event) (r : Reply) → before ≡ b �
 goes_on before b after e r same h s given = by_cases b after e r false false (before_last before b same h) s given
 
 -- the lists after the event, counted by what told its kind before
-pub decided_so : (b mid after : Book) (e : Event) (r : Reply) (k : Option Kind) → Gives mid r (outcome b e) → k ≡ kind_by (happening_of b e) r → after ≡ counted mid k → Gives after r (decided b e (outcome b e))
+pub decided_so : (b mid after : Book) (e : Event) (r : Reply) (k : Option Kind) → Gives mid r (outcome b e) → k ≡ kind_in (kinds_of b e) r → after ≡ counted mid k → Gives after r (decided b e (outcome b e))
 decided_so b mid after e r k given told done =
     let kind : k ≡ kind_of b e (outcome b e).reply = told ∙ (kind_is b e r ∙ ap (kind_of b e) given.1) in
     (done ∙ (ap (λ (m : Book). counted m k) given.0 ∙ ap (counted (outcome b e).book) kind), given.1)

@@ -1,5 +1,6 @@
 pub mod Finds
 pub mod Room
 pub mod Choices
-pub mod Happenings
+pub mod Kinds
 pub mod Counted
+pub mod Views

@@ -1,9 +1,10 @@
 //! What an event makes of the lists, its reply, and how it is counted.
-ghost use Rattle.std.specs.Prelude.{◌≡◌, ◌<◌, Some, false};
+ghost use Rattle.std.specs.Prelude.{◌≡◌, ◌<◌, Some, None, cond, false};
 ghost use Rattle.book_lists.specs.Events.{event_of};
 ghost use Rattle.book_lists.specs.Outcomes as outcome;
 ghost use Rattle.book_register.specs.Choices.{Gives};
-ghost use Rattle.book_register.specs.Happenings.{happening_of, kind_by};
+ghost use Rattle.book_lists.specs.declared.counts.Kind.TheVariants.{Ticking};
+ghost use Rattle.book_register.specs.Kinds.{kind_in, kinds_of};
 ghost use Rattle.book_order.specs.Kept.{Kept, total};
 
 use crate::board::Board;
@@ -12,47 +13,38 @@ use book_lists::counts::{Counts, Kind};
 use book_lists::events::{Event, Reply};
 use message_view::Refusal;
 
-/// What of an event tells its kind.
+/// The kinds that an event may be of, by its replies; none, where it changed nothing.
 #[derive(Clone, Copy, Drop)]
-enum Happening {
-    Arrive,
-    Ask,
-    Take,
-    GiveBack,
-    Lost,
-    StartFailed,
-    Leave,
-    Tick { is_later: bool },
-    Limits,
-    Pause,
-    Resume,
-    Shutdown,
+struct Kinds {
+    refused: Option<Kind>,
+    queued: Option<Kind>,
+    done: Option<Kind>,
+    other: Option<Kind>,
 }
 
-/// The kind of an event with this reply; none, where it changed nothing.
-fn kind_of(happening: Happening, reply: Reply) -> Option<Kind>
-    ensures { result ≡ kind_by happening reply }
-{
-    match (happening, reply) {
-        (Happening::Arrive, Reply::Refuse(_)) => Some(Kind::ArrivalRefused),
-        (Happening::Arrive, _) => Some(Kind::Arrival),
-        (Happening::Ask, Reply::Refuse(_)) => Some(Kind::AskRefused),
-        (Happening::Ask, _) => Some(Kind::Asking),
-        (Happening::Take, Reply::Queued(_)) => None,
-        (Happening::Take, Reply::Refuse(_)) => Some(Kind::TicketLost),
-        (Happening::Take, _) => Some(Kind::Grant),
-        (Happening::GiveBack, _) => Some(Kind::Return),
-        (Happening::Lost, _) => Some(Kind::Loss),
-        (Happening::StartFailed, _) => Some(Kind::FailedStart),
-        (Happening::Leave, _) => Some(Kind::Leaving),
-        (Happening::Tick { is_later }, Reply::Done) => {
-            if is_later { Some(Kind::Ticking) } else { None }
+impl Kinds {
+    /// One kind, whatever the reply.
+    fn all(kind: Kind) -> Kinds
+        ensures { result ≡ record { refused = Some kind; queued = Some kind; done = Some kind; other = Some kind } }
+    {
+        Kinds {
+            refused: Some(kind),
+            queued: Some(kind),
+            done: Some(kind),
+            other: Some(kind),
         }
-        (Happening::Tick { .. }, _) => Some(Kind::Ticking),
-        (Happening::Limits, _) => Some(Kind::Limiting),
-        (Happening::Pause, _) => Some(Kind::Pausing),
-        (Happening::Resume, _) => Some(Kind::Resuming),
-        (Happening::Shutdown, _) => Some(Kind::Closing),
+    }
+
+    /// The kind with this reply.
+    fn of(self, reply: Reply) -> Option<Kind>
+        ensures { result ≡ kind_in self reply }
+    {
+        match reply {
+            Reply::Refuse(_) => self.refused,
+            Reply::Queued(_) => self.queued,
+            Reply::Done => self.done,
+            _ => self.other,
+        }
     }
 }
 
@@ -78,6 +70,13 @@ fn raise(counts: &mut Counts, kind: Kind)
         Kind::Resuming => counts.resumed += 1,
         Kind::Closing => counts.shut_down += 1,
     }
+}
+
+/// The kind of a Tick that closes no link.
+fn ticking(is_later: bool) -> Option<Kind>
+    ensures { result ≡ cond is_later (Some Ticking) None }
+{
+    if is_later { Some(Kind::Ticking) } else { None }
 }
 
 impl Board {
@@ -112,25 +111,36 @@ impl Board {
         }
     }
 
-    /// What of the event tells its kind.
-    fn happening(&self, event: &Event) -> Happening
-        ensures { result ≡ happening_of self.now (event_of event.now) }
+    /// The kinds that the event may be of.
+    fn kinds(&self, event: &Event) -> Kinds
+        ensures { result ≡ kinds_of self.now (event_of event.now) }
     {
         match event {
-            Event::Arrive => Happening::Arrive,
-            Event::Ask { .. } => Happening::Ask,
-            Event::Take { .. } => Happening::Take,
-            Event::GiveBack { .. } => Happening::GiveBack,
-            Event::Lost { .. } => Happening::Lost,
-            Event::StartFailed { .. } => Happening::StartFailed,
-            Event::Leave { .. } => Happening::Leave,
-            Event::Tick { now } => Happening::Tick {
-                is_later: self.clock < *now,
+            Event::Arrive => Kinds {
+                refused: Some(Kind::ArrivalRefused),
+                ..Kinds::all(Kind::Arrival)
             },
-            Event::Limits(_) => Happening::Limits,
-            Event::Pause => Happening::Pause,
-            Event::Resume => Happening::Resume,
-            Event::Shutdown => Happening::Shutdown,
+            Event::Ask { .. } => Kinds {
+                refused: Some(Kind::AskRefused),
+                ..Kinds::all(Kind::Asking)
+            },
+            Event::Take { .. } => Kinds {
+                refused: Some(Kind::TicketLost),
+                queued: None,
+                ..Kinds::all(Kind::Grant)
+            },
+            Event::GiveBack { .. } => Kinds::all(Kind::Return),
+            Event::Lost { .. } => Kinds::all(Kind::Loss),
+            Event::StartFailed { .. } => Kinds::all(Kind::FailedStart),
+            Event::Leave { .. } => Kinds::all(Kind::Leaving),
+            Event::Tick { now } => Kinds {
+                done: ticking(self.clock < *now),
+                ..Kinds::all(Kind::Ticking)
+            },
+            Event::Limits(_) => Kinds::all(Kind::Limiting),
+            Event::Pause => Kinds::all(Kind::Pausing),
+            Event::Resume => Kinds::all(Kind::Resuming),
+            Event::Shutdown => Kinds::all(Kind::Closing),
         }
     }
 
@@ -141,9 +151,9 @@ impl Board {
         requires known { outcome.is_strange self.old (event_of event) ≡ false }
         ensures { Gives self.new result (outcome.decided self.old (event_of event) (outcome.outcome self.old (event_of event))) }
     {
-        let happening = self.happening(&event);
+        let kinds = self.kinds(&event);
         let reply = self.happens(event);
-        if let Some(kind) = kind_of(happening, reply) {
+        if let Some(kind) = kinds.of(reply) {
             self.count(kind);
         }
         reply

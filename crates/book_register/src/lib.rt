@@ -6,3 +6,4 @@ mod deciding;
 mod finds;
 pub mod lists;
 pub mod rows;
+pub mod view;

@@ -195,6 +195,13 @@ impl Lists {
         self.board.clock
     }
 
+    /// The settings that it decides by.
+    pub fn limits(&self) -> &Arc<Limits>
+        ensures { arc_value result.now ≡ self.now.limits }
+    {
+        &self.board.limits
+    }
+
     /// Whether no link is lent until Resume.
     pub fn is_paused(&self) -> bool
         ensures { result ≡ self.now.is_paused }

@@ -18,7 +18,7 @@ fn is_same_pool(left: &StartKey, right: &StartKey) -> bool
 }
 
 /// A client that is there.
-#[derive(Drop)]
+#[derive(Clone, Drop)]
 pub struct Client {
     pub number: u64,
     pub state: ClientState,
@@ -42,7 +42,7 @@ impl Client {
 }
 
 /// A client waits for a link of this key, since this second.
-#[derive(Drop)]
+#[derive(Clone, Drop)]
 pub struct Ticket {
     pub client: u64,
     pub key: Arc<StartKey>,
@@ -75,7 +75,7 @@ impl Ticket {
 }
 
 /// A link that is lent or idle: when it was started, and when it came back last.
-#[derive(Drop)]
+#[derive(Clone, Drop)]
 pub struct Link {
     pub number: u64,
     pub key: Arc<StartKey>,

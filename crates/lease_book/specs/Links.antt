@@ -104,6 +104,13 @@ module _ {E : Type 0} where
   plain event.Resume = Resume
   plain event.Shutdown = Shutdown
 
+  -- no link comes with it, nor a key, nor limits
+  abbrev pub brings_nothing : Event E → Bool
+  brings_nothing (event.Ask client key again) = false
+  brings_nothing (event.GiveBack link) = false
+  brings_nothing (event.Limits limits again) = false
+  brings_nothing _ = true
+
   -- both copies of a key, or of limits, are of the same value
   abbrev pub IsTwice : Event E → Type 0
   IsTwice (event.Ask client key again) = arc_value again ≡ arc_value key

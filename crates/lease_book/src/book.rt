@@ -5,15 +5,19 @@ ghost use Rattle.book_lists.specs.Book.{empty_book, is_link};
 ghost use Rattle.book_lists.specs.Events.{event_of};
 ghost use Rattle.book_lists.specs.Outcomes.{apply, apply_return, is_started_as};
 ghost use Rattle.book_lists.specs.Outcomes.Event.{GiveBack};
+ghost use Rattle.book_order.specs.Kept.{total};
 ghost use Rattle.book_register.specs.Counted.{counted_book};
+ghost use Rattle.book_register.specs.Views.{view_of, waiting_at};
 ghost use Rattle.book_lists.specs.Replay.{noted_of};
-ghost use Rattle.lease_book.specs.Links.{answered, found, goes_out, handed, handed_after, handed_back, history_after, idle_after, idle_with, is_done, is_return, IsTwice, left, may_hand_back, number_of, reply_of};
+ghost use Rattle.lease_book.specs.Links.{answered, brings_nothing, found, goes_out, handed, handed_after, handed_back, history_after, idle_after, idle_with, is_done, is_return, IsTwice, left, may_hand_back, number_of, plain, reply_of};
 
 use crate::events::{Event, Reply};
 use crate::history::Register;
 use crate::idle::IdleLinks;
+use book_lists::counts::Counts;
 use book_lists::events as lists;
 use book_lists::limits::Limits;
+use book_register::view::{BookView, Waiting};
 use link_run::links::CleanLink;
 use server_end::ServerEnd;
 use std::alloc::{AllocError, Global};
@@ -80,6 +84,25 @@ fn back_with<E: ServerEnd>(told: lists::Reply, link: CleanLink<E>) -> Reply<E>
     }
 }
 
+/// An event that brings no link, key or limits, as the lists have it.
+fn by_number<E: ServerEnd>(event: &Event<E>) -> lists::Event
+    requires { brings_nothing event.now ≡ true }
+    ensures { event_of result ≡ plain event.now }
+{
+    match event {
+        Event::Arrive => lists::Event::Arrive,
+        Event::Take { client } => lists::Event::Take { client: *client },
+        Event::Lost { number } => lists::Event::Lost { link: *number },
+        Event::StartFailed { number } => lists::Event::StartFailed { link: *number },
+        Event::Leave { client } => lists::Event::Leave { client: *client },
+        Event::Tick { now } => lists::Event::Tick { now: *now },
+        Event::Pause => lists::Event::Pause,
+        Event::Resume => lists::Event::Resume,
+        Event::Shutdown => lists::Event::Shutdown,
+        Event::Ask { .. } | Event::GiveBack(_) | Event::Limits(..) => unreachable!(),
+    }
+}
+
 /// The lease book: the lists with their history, and the idle links.
 #[derive(Drop)]
 pub struct Book<E: ServerEnd> {
@@ -135,6 +158,38 @@ impl<E: ServerEnd> Book<E> {
         self.register.kept()
     }
 
+    /// How many decisions there were.
+    pub fn decisions(&self) -> u64
+        ensures { result ≡ self.now.lists.decisions }
+    {
+        self.register.lists().decisions()
+    }
+
+    /// How many decisions there were of each kind.
+    pub fn counts(&self) -> Counts
+        ensures counts { result ≡ self.now.lists.counts }
+        ensures all { total result ≡ self.now.lists.decisions }
+    {
+        self.register.lists().counts()
+    }
+
+    /// The book as it is now, in rows of the caller's own.
+    ///
+    /// `AllocError` where memory is refused.
+    pub fn view(&self, alloc: Global) -> Result<BookView, AllocError>
+        ensures { IfOk result (λ v. v ≡ view_of self.now.lists) }
+    {
+        self.register.lists().view(alloc)
+    }
+
+    /// Who waits with the ticket at this place, places counted from 0 in the order of the Asks, and whether it is the first of its
+    /// pool: no other may have a link before. None, where there are so few.
+    pub fn ticket(&self, at: usize) -> Option<Waiting>
+        ensures { result ≡ waiting_at self.now.lists.tickets at }
+    {
+        self.register.lists().ticket(at)
+    }
+
     /// An event with no link.
     fn play(&mut self, pass: u64, event: lists::Event, again: lists::Event) -> Reply<E>
         requires same { event_of again ≡ event_of event }
@@ -179,46 +234,18 @@ impl<E: ServerEnd> Book<E> {
         ensures handed { handed result ≡ handed_after event (answered self.old.lists event).reply self.old.idle }
     {
         match event {
-            Event::Arrive => self.play(pass, lists::Event::Arrive, lists::Event::Arrive),
+            Event::GiveBack(link) => self.give_back(pass, link),
             Event::Ask { client, key, again } => self.play(
                 pass,
                 lists::Event::Ask { client, key },
                 lists::Event::Ask { client, key: again },
-            ),
-            Event::Take { client } => self.play(
-                pass,
-                lists::Event::Take { client },
-                lists::Event::Take { client },
-            ),
-            Event::GiveBack(link) => self.give_back(pass, link),
-            Event::Lost { number } => self.play(
-                pass,
-                lists::Event::Lost { link: number },
-                lists::Event::Lost { link: number },
-            ),
-            Event::StartFailed { number } => self.play(
-                pass,
-                lists::Event::StartFailed { link: number },
-                lists::Event::StartFailed { link: number },
-            ),
-            Event::Leave { client } => self.play(
-                pass,
-                lists::Event::Leave { client },
-                lists::Event::Leave { client },
-            ),
-            Event::Tick { now } => self.play(
-                pass,
-                lists::Event::Tick { now },
-                lists::Event::Tick { now },
             ),
             Event::Limits(limits, again) => self.play(
                 pass,
                 lists::Event::Limits(limits),
                 lists::Event::Limits(again),
             ),
-            Event::Pause => self.play(pass, lists::Event::Pause, lists::Event::Pause),
-            Event::Resume => self.play(pass, lists::Event::Resume, lists::Event::Resume),
-            Event::Shutdown => self.play(pass, lists::Event::Shutdown, lists::Event::Shutdown),
+            event => self.play(pass, by_number(&event), by_number(&event)),
         }
     }
 }

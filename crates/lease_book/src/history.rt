@@ -124,6 +124,13 @@ impl Register {
         Ok(Register { lists, history })
     }
 
+    /// The lists.
+    pub fn lists(&self) -> &Lists
+        ensures { result.now ≡ self.now.lists }
+    {
+        &self.lists
+    }
+
     /// How many decisions stand in the base, and how many are kept.
     #[tactic(auto, using(crate::proofs::Kept::all_counted))]
     pub fn kept(&self) -> (u64, usize)

@@ -15,7 +15,8 @@ use std::alloc::{AllocError, Global};
 use std::sync::Arc;
 use user_file::Secret;
 
-const CATALOGUE: &[u8] = b"version\t16.0\ndatabase\tshop\n";
+const CATALOGUE: &[u8] =
+    b"version\t16.0\ndatabase\tshop\ntable\tcity\tname\tcountry\nrow\tBern\tCH\n";
 
 const CLIENT: KeyWord = KeyWord {
     pid: 1,

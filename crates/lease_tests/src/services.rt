@@ -47,6 +47,39 @@ fn a_server_dies_inside_a_frame(rt: HostRuntime) -> Result<(), Fail> {
     Ok(())
 }
 
+/// The same inside the head of a row's values: what stands before it was given, and no refusal follows.
+#[test]
+fn a_server_dies_inside_a_row(rt: HostRuntime) -> Result<(), Fail> {
+    let select = b"Q\0\0\0\x17SELECT * FROM city\0";
+    let given =
+        b"T\0\0\0\x37\0\x02name\0\0\0\0\0\0\0\0\0\0\x19\xff\xff\xff\xff\xff\xff\0\0country\0\0\0\0\0\0\0\0\0\0\x19\xff\xff\xff\xff\xff\xff\0\0D\0\0\0\x14\0\x02";
+    let wanted = welcome_and(rt.alloc(), given)?;
+    let dies = Some(BEFORE + 56 + 7);
+    let whole = served(rt.alloc(), dies, LIMIT, 8_192, select)?;
+    assert_eq!(rt; whole.as_slice(), wanted.as_slice());
+    let bytewise = served(rt.alloc(), dies, LIMIT, 1, select)?;
+    assert_eq!(rt; bytewise.as_slice(), wanted.as_slice());
+    let sevens = served(rt.alloc(), dies, LIMIT, 7, select)?;
+    assert_eq!(rt; sevens.as_slice(), wanted.as_slice());
+    Ok(())
+}
+
+/// A server that dies once all was answered: the client is told, where it sends one more message.
+#[test]
+fn a_server_dies_behind_its_answer(rt: HostRuntime) -> Result<(), Fail> {
+    let mut wanted = welcome_and(rt.alloc(), ANSWER)?;
+    wanted.extend_from_slice(refusal_bytes(Refusal::ServerFailed))?;
+    let answer = served(
+        rt.alloc(),
+        Some(BEFORE + 11),
+        LIMIT,
+        8_192,
+        b"Q\0\0\0\x05\0Q\0\0\0\x05\0",
+    )?;
+    assert_eq!(rt; answer.as_slice(), wanted.as_slice());
+    Ok(())
+}
+
 /// A server that dies before its welcome is whole: the link isn't started.
 #[test]
 fn a_server_dies_in_its_start(rt: HostRuntime) -> Result<(), Fail> {
@@ -68,6 +101,48 @@ fn a_message_is_too_long(rt: HostRuntime) -> Result<(), Fail> {
         b"Q\0\0\0\x05\0Q\0\0\x04\x01",
     )?;
     assert_eq!(rt; answer.as_slice(), wanted.as_slice());
+    Ok(())
+}
+
+/// A Query of spaces that is as long as the limit allows is served.
+#[test]
+fn a_message_is_as_long_as_it_may_be(rt: HostRuntime) -> Result<(), Fail> {
+    let mut query = Vec::from_slice(rt.alloc(), b"Q\0\0\x04\0")?;
+    query.extend_from_slice(&[b' '; 1_019])?;
+    query.push(0)?;
+    let wanted = welcome_and(rt.alloc(), ANSWER)?;
+    let answer = served(rt.alloc(), None, LIMIT, 8_192, query.as_slice())?;
+    assert_eq!(rt; answer.as_slice(), wanted.as_slice());
+    Ok(())
+}
+
+/// A message of length 3 is none.
+#[test]
+fn a_message_is_malformed(rt: HostRuntime) -> Result<(), Fail> {
+    let wanted = welcome_and(rt.alloc(), refusal_bytes(Refusal::MalformedClientMessage))?;
+    let answer = served(rt.alloc(), None, LIMIT, 8_192, b"Q\0\0\0\x03")?;
+    assert_eq!(rt; answer.as_slice(), wanted.as_slice());
+    Ok(())
+}
+
+/// What is left of a message, or of a Terminate, is answered by nothing.
+#[test]
+fn a_client_goes_inside_a_message(rt: HostRuntime) -> Result<(), Fail> {
+    let wanted = welcome_and(rt.alloc(), ANSWER)?;
+    for rest in [
+        b"".as_slice(),
+        b"Q",
+        b"Q\0\0\0\x09",
+        b"Q\0\0\0\x09abc",
+        b"X",
+        b"X\0\0\0\x08",
+        b"X\0\0\0\x04",
+    ] {
+        let mut bytes = Vec::from_slice(rt.alloc(), EMPTY)?;
+        bytes.extend_from_slice(rest)?;
+        let answer = served(rt.alloc(), None, LIMIT, 8_192, bytes.as_slice())?;
+        assert_eq!(rt; answer.as_slice(), wanted.as_slice());
+    }
     Ok(())
 }
 

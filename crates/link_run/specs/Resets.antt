@@ -12,6 +12,7 @@ use Rattle.start_keys.specs.StartPairs.{Text}
 use Rattle.session_values.specs.State.{State, StartKeyOf}
 use Rattle.param_track.specs.Kept.{Kept, has_name}
 use Rattle.session_laws.specs.Laws.{discard_all, discard_replies}
+use Rattle.run_laws.specs.Settling.{IsAnswered}
 use Rattle.link_laws.specs.Standing.{Standing, Moves}
 use Rattle.link_run.specs.Links.{IsUsed, after_frame}
 use Rattle.server_end.specs.declared.Moved.{Moved}
@@ -56,6 +57,10 @@ at_rest a (Faulty fault) = Other
 -- What a session at rest answers to DISCARD ALL is such an answer.
 abbrev pub ResetsAreAnswered : Type 0
 ResetsAreAnswered = (origin s : State) → IsResetAnswer (discard_replies origin s)
+
+-- Such an answer answers the one message of a reset, by the counts of what was sent and received.
+abbrev pub ResetAnswersAnswer : Type 0
+ResetAnswersAnswer = (fs : List FrameOf) → IsResetAnswer fs → IsAnswered (discard_all ∷ []) fs
 
 abbrev pub reads : Cut → Answered
 reads cut = at_rest (answered_by_all Nothing cut.frames) (front Server LONGEST_REPLY cut.rest)

@@ -7,3 +7,5 @@ mod making;
 mod resets;
 #[cfg(test)]
 mod starts;
+#[cfg(test)]
+mod verdicts;

@@ -3,12 +3,11 @@ ghost use Rattle.std.specs.Prelude.{◌<◌};
 ghost use Rattle.link_start.specs.Starts.{CanStart};
 
 use crate::making::{SHOP, begin, server};
-use disposal::Verdict;
 use link_run::links::{CleanLink, UsedLink};
 use link_run::reset::{ResetFault, reset_link};
 use message_view::KeyWord;
 use paced_client::PacedClient;
-use relay_core::relay::{Cause, Relay, Returned};
+use relay_core::relay::{Relay, Returned};
 use relay_steps::Next;
 use server_end::ServerEnd;
 use server_end::failing_end::FailingEnd;
@@ -93,7 +92,7 @@ fn lease<E: ServerEnd>(
 }
 
 /// A link over this end.
-fn link<E: ServerEnd>(alloc: Global, end: E) -> Result<CleanLink<E>, Fail>
+pub fn link<E: ServerEnd>(alloc: Global, end: E) -> Result<CleanLink<E>, Fail>
     requires { CanStart (E.standing end) }
 {
     let Ok(link) = begin(alloc, end, SHOP)? else {
@@ -131,32 +130,6 @@ fn is_clean<E: ServerEnd>(alloc: Global, end: E) -> Result<bool, Fail>
 fn a_second_client_is_given_nothing_of_the_first(rt: HostRuntime) -> Result<(), Fail> {
     let alloc = rt.alloc();
     assert!(rt; is_clean(alloc, server(alloc, ServerAuth::Trust, 100, None)?)?);
-    Ok(())
-}
-
-/// Whether a link comes back unused from a client that sends these packets; or why it is gone.
-fn returned<E: ServerEnd>(
-    alloc: Global,
-    end: E,
-    packets: &[u8],
-) -> Result<(bool, Option<Cause>), Fail>
-    requires { CanStart (E.standing end) }
-{
-    match lease(alloc, link(alloc, end)?, 1, packets)?.1 {
-        Returned::Unused(_) => Ok((true, None)),
-        Returned::Used(_) => Ok((false, None)),
-        Returned::Gone(_, cause) => Ok((false, Some(cause))),
-    }
-}
-
-#[test]
-fn a_link_is_unused_or_gone(rt: HostRuntime) -> Result<(), Fail> {
-    let alloc = rt.alloc();
-    let end = server(alloc, ServerAuth::Trust, 100, None)?;
-    assert!(rt; returned(alloc, end, b"")? == (true, None));
-    let end = server(alloc, ServerAuth::Trust, 100, None)?;
-    let in_block = Some(Cause::Left(Verdict::InBlock));
-    assert!(rt; returned(alloc, end, b"Q\0\0\0\x0aBEGIN\0")? == (false, in_block));
     Ok(())
 }
 

@@ -1,6 +1,7 @@
 -- What a client was given, by its lease.
-use Rattle.std.proofs.Common.{◌≡◌, ◌⊎◌, inl, inr, ℕ, true, List, [], ◌∷◌, ◌++◌, refl, sym, ap, ap₂, ◌∙◌, arith, append_assoc, append-nil, subst, take, drop, take-append-drop, Result, Ok, Err, Option, Some}
-use Rattle.std.specs.Prelude.{map, None, IfSome}
+use Rattle.std.proofs.Common.{◌≡◌, ◌⊎◌, inl, inr, ℕ, ◌<◌, Bool, true, false, List, [], ◌∷◌, ◌++◌, refl, sym, ap, ap₂, ◌∙◌, arith, append_assoc, append-nil, subst, take, drop, take-append-drop, Result, Ok, Err, Option, Some}
+use Rattle.std.specs.Prelude.{map, None}
+use Rattle.std.proofs.lemmas.Bool.{true≢false}
 use Rattle.std.specs.List.{flat_map, AllByRecursion}
 use Rattle.std.proofs.lemmas.Grind.{flat_map-append}
 use Rattle.frame_view.specs.declared.Side.TheVariants.{Client, Server}
@@ -22,19 +23,27 @@ use Rattle.link_laws.specs.Stages as stages
 use Rattle.link_laws.specs.Dialogues.{start_error}
 use Rattle.link_laws.proofs.Splits.{SplitsOff, same_back, split_whole}
 use Rattle.link_run.specs.Links.{LinkView, IsFreshLink}
-use Rattle.link_start.specs.Starts.{IsCause, IsStarted, IsRefusalOf}
+use Rattle.link_start.specs.Starts.{CanStart, IsCause, IsStartable, IsStarted, IsRefusalOf}
 use Rattle.link_start.specs.declared.start.StartCause.{StartCause}
-use Rattle.link_start.specs.declared.start.StartCause.TheVariants.{Refused, Lost, Unanswerable, Unexpected, Memory, Turns}
+use Rattle.link_start.specs.declared.start.StartCause.TheVariants as cause
 use Rattle.message_view.specs.declared.refusal.Refusal.TheVariants.{ServerNotReached}
-use Rattle.relay_laws.specs.Leases.{RelayView, Place, place, IsLease, IsAllowed, Keeps}
+use Rattle.relay_laws.specs.Leases.{RelayView, Place, place, IsLease, IsAllowed, IsLinkOver, Keeps}
 use Rattle.relay_laws.proofs.Exact.{lease_allowed}
-use Rattle.relay_steps.specs.Answers.{AtBorder, RefusedBy}
-use Rattle.memory_lease.specs.Answers.{IsAnswer, IsLetIn, IsRefusedAt, own_pieces}
-use Rattle.memory_lease.specs.Held.{TellsCause, refused_by}
+use Rattle.relay_steps.specs.Answers.{AtBorder, EndsByClient, RefusedBy}
+use Rattle.relay_steps.specs.Steps.{IsStuck}
+use Rattle.relay_core.specs.Returns.{is_clear}
+use Rattle.link_laws.specs.Futures.{future}
+use Rattle.server_end.specs.Servers.{has_some}
+use Rattle.memory_lease.specs.Answers.{IsAnswer, IsGiven as IsGivenOf, IsLetIn, IsRefusedAt, MayDie, own_pieces}
+use Rattle.memory_lease.specs.declared.alone.Ending.{Ending}
+use Rattle.memory_lease.specs.declared.alone.Ending.TheVariants.{Done, Refused, Cut}
+use Rattle.memory_lease.specs.Held.{IsAtEnd, IsEnding, IsPut, TellsCause, TellsEnding}
+use Rattle.memory_lease.specs.Own.{IsMarked, OwnOf, mark, marked, own_server}
 use Rattle.memory_lease.specs.Patient.{PatientOf, IsGiven, given_with, new_patient}
 use Rattle.memory_lease.proofs.Pieces.{Apart, pieces_join, pieces_of_both, whose}
 use Rattle.memory_lease.proofs.Service.{begins_both, service_on}
 use Rattle.memory_lease.proofs.Causes.{caused_by}
+use Rattle.memory_lease.proofs.Whole.{IsOver, all_given, clear_is}
 
 -- A client with this input has been served over a link to this server, which was started with this key: its lease, and what it
 -- was given.
@@ -51,6 +60,9 @@ pub record IsServed (began : Standing) (key : StartKeyOf) (word : KeyWord) (byte
   -- whatever it was given since then is this
   pub given : (since : List ℕ) → v.client.given ≡ at.given ++ since → out ≡ since
   pub taken : (some : List ℕ) → v.client.taken ≡ some → Begins some bytes
+  -- it ends by itself only once all of its bytes were taken
+  pub faults : v.client.faults ≡ 0
+  pub all : v.client.ended ≡ true → (some : List ℕ) → v.client.taken ≡ some → some ≡ bytes
 
 follows_now : (began : Standing) (key : StartKeyOf) (word : KeyWord) (bytes out : List ℕ) (v : RelayView) (at : Place) → IsServed began key word bytes out v at → v.link.follows ≡ true
 follows_now began key word bytes out v at x = x.lease.moves.follows ∙ x.stands ∙ x.follows
@@ -90,8 +102,34 @@ given_begins began key word bytes out v at x =
     let t : Begins (a.since ++ (v.greeting ++ (v.to_client.held ++ v.to_client.part))) (service began.server.catalogue key word.pid word.secret bytes) = there_begins began key word bytes out v at x in
     subst (λ (l : List ℕ). Begins l (service began.server.catalogue key word.pid word.secret bytes)) (sym (x.given a.since a.given)) (front_begins a.since (v.greeting ++ (v.to_client.held ++ v.to_client.part)) (service began.server.catalogue key word.pid word.secret bytes) t.more t.both)
 
-unrefused : (began : Standing) (key : StartKeyOf) (word : KeyWord) (bytes out : List ℕ) (v : RelayView) (at : Place) → IsServed began key word bytes out v at → IsAnswer at.limit bytes out (own_pieces began.server.catalogue key word bytes)
-unrefused began key word bytes out v at x = inl (subst (Begins out) (sym (own_joined began.server.catalogue key word bytes)) (given_begins began key word bytes out v at x))
+-- what it was given is what may be given, or more
+given_all : (dies : Option ℕ) (out : List ℕ) (pieces : List (List ℕ)) → out ≡ joined_pieces pieces → IsGivenOf dies out pieces
+given_all None out pieces e = e
+given_all (Some n) out pieces e = record { more = []; both = append-nil out ∙ e }
+
+given_some : (dies : Option ℕ) (out : List ℕ) (pieces : List (List ℕ)) → Begins out (joined_pieces pieces) → (dies ≡ None → out ≡ joined_pieces pieces) → IsGivenOf dies out pieces
+given_some None out pieces b e = e refl
+given_some (Some n) out pieces b e = b
+
+unrefused : (dies : Option ℕ) (began : Standing) (key : StartKeyOf) (word : KeyWord) (bytes out : List ℕ) (v : RelayView) (at : Place) → IsServed began key word bytes out v at → (dies ≡ None → out ≡ service began.server.catalogue key word.pid word.secret bytes)
+    → IsAnswer dies at.limit bytes out (own_pieces began.server.catalogue key word bytes)
+unrefused dies began key word bytes out v at x e =
+    let joined : joined_pieces (own_pieces began.server.catalogue key word bytes) ≡ service began.server.catalogue key word.pid word.secret bytes = own_joined began.server.catalogue key word bytes in
+    inl (given_some dies out (own_pieces began.server.catalogue key word bytes) (subst (Begins out) (sym joined) (given_begins began key word bytes out v at x)) (λ n. e n ∙ sym joined))
+
+-- ---- given all
+
+over : (began : Standing) (key : StartKeyOf) (word : KeyWord) (bytes out : List ℕ) (v : RelayView) (at : Place) → IsServed began key word bytes out v at → EndsByClient at v → IsOver bytes v
+over began key word bytes out v at x (inl (inl e)) = record { taken = x.taken; all = inl (x.all e) }
+over began key word bytes out v at x (inl (inr f)) = absurd (omega (arith, f, x.faults))
+over began key word bytes out v at x (inr e) = record { taken = x.taken; all = inr e.0 }
+
+whole : (began : Standing) (key : StartKeyOf) (word : KeyWord) (bytes out : List ℕ) (v : RelayView) (at : Place) → IsServed began key word bytes out v at → v.link.lives ≡ true → is_clear v ≡ true → future v.link [] ≡ [] → IsStuck v.to_link → EndsByClient at v
+    → out ≡ service began.server.catalogue key word.pid word.secret bytes
+whole began key word bytes out v at x l c silent stuck e =
+    let g = all_given at v bytes x.lease x.tells (follows_now began key word bytes out v at x) l x.none_taken x.bytes_are (clear_is v c) stuck silent (over began key word bytes out v at x e) in
+    x.given g.0.since g.0.given ∙ (g.1 ∙ (ap (λ (s : stages.Server). service s.catalogue v.key v.word.pid v.word.secret bytes) x.server
+    ∙ ap₂ (λ (k : StartKeyOf) (w : KeyWord). service began.server.catalogue k w.pid w.secret bytes) x.key_is x.word_is))
 
 -- ---- refused at a border
 
@@ -123,10 +161,10 @@ part_begins began key word bytes out v at x g h =
     let s : Begins (a.since ++ (v.greeting ++ (v.to_client.held ++ v.to_client.part))) (service began.server.catalogue key word.pid word.secret bytes) = there_begins began key word bytes out v at x in
     subst (λ (l : List ℕ). Begins l (service began.server.catalogue key word.pid word.secret bytes)) (ap₂ (λ (c d : List ℕ). a.since ++ (c ++ (d ++ v.to_client.part))) g h ∙ ap (λ (o : List ℕ). o ++ v.to_client.part) (sym (x.given a.since a.given))) s
 
-refused : (began : Standing) (key : StartKeyOf) (word : KeyWord) (bytes out last : List ℕ) (v : RelayView) (at : Place) (r : Refusal) → (x : IsServed began key word bytes out v at) → AtBorder at v → RefusedBy at v r → last ≡ out ++ refusal r
-    → IsAnswer at.limit bytes last (own_pieces began.server.catalogue key word bytes)
+refused : (dies : Option ℕ) (began : Standing) (key : StartKeyOf) (word : KeyWord) (bytes out last : List ℕ) (v : RelayView) (at : Place) (r : Refusal) → (x : IsServed began key word bytes out v at) → AtBorder at v → RefusedBy at v r → (IsLinkOver at.stands.faults v.link → MayDie dies)
+    → last ≡ out ++ refusal r → IsAnswer dies at.limit bytes last (own_pieces began.server.catalogue key word bytes)
 unfolding refused_at
-refused began key word bytes out last v at r x b why l =
+refused dies began key word bytes out last v at r x b why died l =
     let c : IsFreshLink at.stands v.key at.reports = fresh_link began key word bytes out v at x in
     let s : State = c.stands.session in
     let cat : CatalogueOf = began.server.catalogue in
@@ -146,7 +184,7 @@ refused began key word bytes out last v at r x b why l =
     let later : AllByRecursion (IsFrame Server LONGEST_FRAME) o.more = all_back b.arrived o.more (subst (λ (fs : List FrameOf). AllByRecursion (IsFrame Server LONGEST_FRAME) fs) o.all whole) in
     inr (record {
       at = refused_at ws b.arrived o.more out last r (own_pieces cat key word bytes) out_is (served_fresh cat key word bytes s opened ∙ ap (λ (fs : List FrameOf). map spelling (ws ++ fs)) o.all) l;
-      because = caused_by at v bytes held.more (map spelling (ws ++ b.arrived)) o.more r x.lease x.tells x.none_taken x.taken later o.bytes why;
+      because = caused_by dies at v bytes held.more (map spelling (ws ++ b.arrived)) o.more r x.lease x.tells x.none_taken x.taken later o.bytes why died;
     })
 
 -- ---- a client of the service
@@ -161,15 +199,27 @@ takes_some bytes out some c v g e i h = record {
   both = ap (λ (l : List ℕ). l ++ drop c.at bytes) (sym h ∙ (sym (ap (λ (t : ClientFacts). t.taken) e) ∙ (g.taken ∙ ap (take c.at) i))) ∙ take-append-drop c.at bytes;
 }
 
+-- a client of which all was taken, where it has ended
+takes_all : (bytes out since some : List ℕ) (c : PatientOf) (v : RelayView) → c.facts ≡ v.client → c.input ≡ bytes → (c.facts.ended ≡ true → c.facts.taken ≡ c.input) → v.client.ended ≡ true → v.client.taken ≡ some → some ≡ bytes
+takes_all bytes out since some c v e i a d h =
+    let ended : c.facts.ended ≡ true = ap (λ (t : ClientFacts). t.ended) e ∙ d in
+    sym h ∙ (sym (ap (λ (t : ClientFacts). t.taken) e) ∙ (a ended ∙ i))
+
 -- what a patient client tells at the end of its lease
+pub record IsClient (c : PatientOf) (v : RelayView) (out : List ℕ) : Type 0 where
+  pub facts : c.facts ≡ v.client
+  pub given : IsGiven c out
+  pub faults : c.facts.faults ≡ 0
+  pub all : c.facts.ended ≡ true → c.facts.taken ≡ c.input
+
 served_by : (began : Standing) (secret : Secret) (key : StartKeyOf) (word : KeyWord) (bytes out : List ℕ) (link : LinkView) (limit : ℕ) (old v : RelayView) (c : PatientOf) → began.follows ≡ true → IsStarted began secret link → link.key ≡ key
-    → AreBytes bytes → IsLease (place (new_patient bytes).facts link word limit) old → Keeps old v → c.facts ≡ v.client → IsGiven c out → IsServed began key word bytes out v (place (new_patient bytes).facts link word limit)
-served_by began secret key word bytes out link limit old v c f st k ab l kp e g =
+    → AreBytes bytes → IsLease (place (new_patient bytes).facts link word limit) old → Keeps old v → IsClient c v out → IsServed began key word bytes out v (place (new_patient bytes).facts link word limit)
+served_by began secret key word bytes out link limit old v c f st k ab l kp g =
     let at : Place = place (new_patient bytes).facts link word limit in
     let lease : IsLease at v = kp at l in
     let stands : link.stands.follows ≡ began.follows = st.under_way.starting.moves.follows in
     let a : IsAllowed at v = lease_allowed at v lease lease.told (lease.moves.follows ∙ (stands ∙ f)) in
-    let input : c.input ≡ bytes = (whose_is bytes out a.since c v at g e refl a.given).front in
+    let input : c.input ≡ bytes = (whose_is bytes out a.since c v at g.given g.facts refl a.given).front in
     record {
       lease = lease;
       follows = f;
@@ -180,29 +230,75 @@ served_by began secret key word bytes out link limit old v c f st k ab l kp e g 
       word_is = lease.same.3;
       tells = lease.told;
       none_taken = refl;
-      given = λ since h. (whose_is bytes out since c v at g e refl h).back;
-      taken = λ some h. takes_some bytes out some c v g e input h;
+      given = λ since h. (whose_is bytes out since c v at g.given g.facts refl h).back;
+      taken = λ some h. takes_some bytes out some c v g.given g.facts input h;
+      faults = sym (ap (λ (t : ClientFacts). t.faults) g.facts) ∙ g.faults;
+      all = λ d some h. takes_all bytes out a.since some c v g.facts input g.all d h;
     }
 
--- what it was given, where nothing was refused, and where it was refused then
 begun_as : (bytes : List ℕ) (first : PatientOf) (link : LinkView) (word : KeyWord) (limit : ℕ) (old : RelayView) → first ≡ new_patient bytes → IsLease (place first.facts link word limit) old → IsLease (place (new_patient bytes).facts link word limit) old
 begun_as bytes first link word limit old e l = subst (λ (x : PatientOf). IsLease (place x.facts link word limit) old) e l
 
 same_out : (began : Standing) (key : StartKeyOf) (word : KeyWord) (bytes out last : List ℕ) (v : RelayView) (at : Place) → last ≡ out → IsServed began key word bytes out v at → IsServed began key word bytes last v at
 same_out began key word bytes out last v at e x = subst (λ (o : List ℕ). IsServed began key word bytes o v at) (sym e) x
 
-answered : (began : Standing) (key : StartKeyOf) (word : KeyWord) (bytes out last : List ℕ) (at : Place) (old v : RelayView) (r : Option Refusal) → IsServed began key word bytes out v at → IsLease at old
-    → IfSome r (λ s. (p : Place) → IsLease p old → AtBorder p v × RefusedBy p v s) → last ≡ out ++ refused_by r → IsAnswer at.limit bytes last (own_pieces began.server.catalogue key word bytes)
-answered began key word bytes out last at old v None x i b l = unrefused began key word bytes last v at (same_out began key word bytes out last v at (l ∙ append-nil out) x)
-answered began key word bytes out last at old v (Some r) x i b l = refused began key word bytes out last v at r x (b at i).0 (b at i).1 l
+-- ---- the server at the end of its lease
 
-pub given_answered : (began : Standing) (secret : Secret) (key : StartKeyOf) (word : KeyWord) (bytes out last : List ℕ) (r : Option Refusal) (link : LinkView) (limit : ℕ) (old v : RelayView) (first c : PatientOf) → began.follows ≡ true → IsStarted began secret link → link.key ≡ key
-    → AreBytes bytes → first ≡ new_patient bytes → IsLease (place first.facts link word limit) old → Keeps old v → c.facts ≡ v.client → IsGiven c out → IfSome r (λ s. (p : Place) → IsLease p old → AtBorder p v × RefusedBy p v s) → last ≡ out ++ refused_by r
-    → IsAnswer limit bytes last (own_pieces began.server.catalogue key word bytes)
-given_answered began secret key word bytes out last r link limit old v first c f st k ab n b kp e g border l =
+marks_same : (a b : Option ℕ) → mark a ≡ mark b → b ≡ None → a ≡ None
+marks_same None b e n = refl
+marks_same (Some m) None e n = absurd (omega (arith, e))
+marks_same (Some m) (Some k) e n = absurd cc
+
+-- one that may not die still lives, and has counted no fault
+pub record IsServer (dies : Option ℕ) (server : OwnOf) (v : RelayView) : Type 0 where
+  pub stands : server.standing ≡ v.link
+  pub faults : server.standing.faults ≡ 0
+  pub lives : dies ≡ None → server.standing.lives ≡ true
+
+server_by : (dies : Option ℕ) (began : Standing) (secret : Secret) (link : LinkView) (at : Place) (v : RelayView) (server : OwnOf) (rest : List ℕ) → began.accepted ≡ mark dies ∷ rest → IsStarted began secret link → at.stands ≡ link.stands → IsLease at v → server.standing ≡ v.link
+    → IsMarked server → server.standing.faults ≡ 0 → server.standing.lives ≡ has_some server.left → IsServer dies server v
+server_by dies began secret link at v server rest e st a x s m f l =
+    let start = st.under_way.starting in
+    let all : v.link.accepted ≡ ((mark dies ∷ rest) ++ start.sent) ++ x.sent = x.moves.accepted ∙ (ap (λ (t : Standing). t.accepted ++ x.sent) a ∙ (ap (λ (t : List ℕ). t ++ x.sent) start.moves.accepted ∙ ap (λ (t : List ℕ). (t ++ start.sent) ++ x.sent) e)) in
+    let both : mark server.left ∷ m.0 ≡ mark dies ∷ ((rest ++ start.sent) ++ x.sent) = sym m.1 ∙ (ap (λ (t : Standing). t.accepted) s ∙ all) in
+    let same : mark server.left ≡ mark dies = cc in
+    record {
+      stands = s;
+      faults = f;
+      lives = λ n. l ∙ ap has_some (marks_same server.left dies same n);
+    }
+
+died : (dies : Option ℕ) (server : OwnOf) (v : RelayView) (faults : ℕ) → IsServer dies server v → IsLinkOver faults v.link → MayDie dies
+died (Some n) server v faults x o = tt
+died None server v faults x (inl e) = absurd (true≢false (sym (x.lives refl) ∙ (ap (λ (t : Standing). t.lives) x.stands ∙ e)))
+died None server v faults x (inr h) = absurd (omega (arith, h, ap (λ (t : Standing). t.faults) x.stands, x.faults))
+
+-- ---- its answer
+
+ended_whole : (dies : Option ℕ) (began : Standing) (key : StartKeyOf) (word : KeyWord) (bytes out : List ℕ) (v : RelayView) (at : Place) (clear : Bool) (server : OwnOf) → IsServed began key word bytes out v at → IsServer dies server v → clear ≡ is_clear v → IsStuck v.to_link → EndsByClient at v
+    → IsAtEnd clear server → dies ≡ None → out ≡ service began.server.catalogue key word.pid word.secret bytes
+ended_whole dies began key word bytes out v at clear server x s c stuck e (inl y) n =
+    whole began key word bytes out v at x (sym (ap (λ (t : Standing). t.lives) s.stands) ∙ s.lives n) (sym c ∙ y.0) (sym (ap (λ (t : Standing). future t []) s.stands) ∙ y.1) stuck e
+ended_whole dies began key word bytes out v at clear server x s c stuck e (inr d) n = absurd (true≢false (sym (s.lives n) ∙ d))
+
+answered : (dies : Option ℕ) (began : Standing) (key : StartKeyOf) (word : KeyWord) (bytes out last : List ℕ) (at : Place) (old v : RelayView) (ending : Ending) (clear : Bool) (server : OwnOf) → IsServed began key word bytes out v at → IsLease at old → IsServer dies server v → clear ≡ is_clear v
+    → IsEnding old v ending → IsPut ending clear server out last → IsAnswer dies at.limit bytes last (own_pieces began.server.catalogue key word bytes)
+answered dies began key word bytes out last at old v Done clear server x i s c e put =
+    unrefused dies began key word bytes last v at (same_out began key word bytes out last v at put.0 x) (λ n. put.0 ∙ ended_whole dies began key word bytes out v at clear server x s c e.0 (e.1 at i) put.1 n)
+answered dies began key word bytes out last at old v (Refused r) clear server x i s c e put = refused dies began key word bytes out last v at r x (e at i).0 (e at i).1 (died dies server v at.stands.faults s) put
+answered dies began key word bytes out last at old v Cut clear server x i s c e put =
+    unrefused dies began key word bytes last v at (same_out began key word bytes out last v at put.0 x) (λ n. absurd (true≢false (sym (s.lives n) ∙ put.1)))
+
+pub given_answered : (dies : Option ℕ) (start : Standing) (first_own : OwnOf) (secret : Secret) (key : StartKeyOf) (word : KeyWord) (bytes out last : List ℕ) (ending : Ending) (clear : Bool) (link : LinkView) (limit : ℕ) (old v : RelayView) (first c : PatientOf) (server : OwnOf)
+    → first_own ≡ own_server dies start → start.follows ≡ true → IsStarted first_own.standing secret link → link.key ≡ key → AreBytes bytes → first ≡ new_patient bytes → IsLease (place first.facts link word limit) old → Keeps old v → IsClient c v out → server.standing ≡ v.link
+    → clear ≡ is_clear v → IsEnding old v ending → TellsEnding ending clear server out last → IsAnswer dies limit bytes last (own_pieces start.server.catalogue key word bytes)
+given_answered dies start first_own secret key word bytes out last ending clear link limit old v first c server o f st k ab n b kp g s cl e t =
     let at : Place = place (new_patient bytes).facts link word limit in
+    let began : Standing = marked dies start in
+    let started : IsStarted began secret link = subst (λ (x : OwnOf). IsStarted x.standing secret link) o st in
     let lease : IsLease at old = begun_as bytes first link word limit old n b in
-    answered began key word bytes out last at old v r (served_by began secret key word bytes out link limit old v c f st k ab lease kp e g) lease border l
+    answered dies began key word bytes out last at old v ending clear server (served_by began secret key word bytes out link limit old v c f started k ab lease kp g) lease
+    (server_by dies began secret link at v server start.accepted refl started refl (kp at lease) s t.marked t.faults t.lives) cl e t.put
 
 -- ---- a start that the server refuses
 
@@ -210,23 +306,36 @@ fresh_error : (r : Result State Cause) (f : FrameOf) (cat : CatalogueOf) (word :
 fresh_error (Ok s) f cat word fs e = absurd cc
 fresh_error (Err c) f cat word fs e = cc
 
-refused_start : (began : Standing) (secret : Secret) (key : StartKeyOf) (word : KeyWord) (limit : ℕ) (bytes out error : List ℕ) → IsLetIn began key secret → IsRefusalOf began secret key error → out ≡ [] ++ error
-    → IsAnswer limit bytes out (own_pieces began.server.catalogue key word bytes)
-refused_start began secret key word limit bytes out error l x e =
+refused_start : (dies : Option ℕ) (began : Standing) (secret : Secret) (key : StartKeyOf) (word : KeyWord) (limit : ℕ) (bytes out error : List ℕ) → IsLetIn began key secret → IsRefusalOf began secret key error → out ≡ [] ++ error
+    → IsAnswer dies limit bytes out (own_pieces began.server.catalogue key word bytes)
+refused_start dies began secret key word limit bytes out error l x e =
     let one : own_pieces began.server.catalogue key word bytes ≡ spelling x.frame ∷ [] = fresh_error (fresh began.server.catalogue key) x.frame began.server.catalogue word (client_frames bytes) (sym l ∙ x.refusal) in
-    inl (record { more = []; both = append-nil out ∙ (e ∙ (x.whole ∙ (sym (append-nil (spelling x.frame)) ∙ ap joined_pieces (sym one)))) })
+    inl (given_all dies out (own_pieces began.server.catalogue key word bytes) (e ∙ (x.whole ∙ (sym (append-nil (spelling x.frame)) ∙ ap joined_pieces (sym one)))))
 
 -- ---- a start that fails otherwise
 
-refused_first : (limit : ℕ) (bytes out : List ℕ) (pieces : List (List ℕ)) → out ≡ [] ++ refusal ServerNotReached → IsAnswer limit bytes out pieces
-refused_first limit bytes out pieces e = inr (record { at = record { given = []; kept = pieces; pieces_are = refl; cause = ServerNotReached; out_is = e }; because = refl })
+refused_first : (dies : Option ℕ) (limit : ℕ) (bytes out : List ℕ) (pieces : List (List ℕ)) → out ≡ [] ++ refusal ServerNotReached → IsAnswer dies limit bytes out pieces
+refused_first dies limit bytes out pieces e = inr (record { at = record { given = []; kept = pieces; pieces_are = refl; cause = ServerNotReached; out_is = e }; because = refl })
+
+unstarted_by : (dies : Option ℕ) (began now : Standing) (secret : Secret) (key : StartKeyOf) (word : KeyWord) (limit : ℕ) (bytes old new : List ℕ) (c : StartCause) → began.follows ≡ true → IsLetIn began key secret → IsCause began now secret key c → old ≡ [] → TellsCause c old new
+    → IsAnswer dies limit bytes new (own_pieces began.server.catalogue key word bytes)
+unstarted_by dies began now secret key word limit bytes old new (cause.Refused error) f l x n t = refused_start dies began secret key word limit bytes new error l (x.1 f) (t ∙ ap (λ (o : List ℕ). o ++ error) n)
+unstarted_by dies began now secret key word limit bytes old new cause.Lost f l x n t = refused_first dies limit bytes new _ (t ∙ ap (λ (o : List ℕ). o ++ refusal ServerNotReached) n)
+unstarted_by dies began now secret key word limit bytes old new cause.Unanswerable f l x n t = refused_first dies limit bytes new _ (t ∙ ap (λ (o : List ℕ). o ++ refusal ServerNotReached) n)
+unstarted_by dies began now secret key word limit bytes old new cause.Unexpected f l x n t = refused_first dies limit bytes new _ (t ∙ ap (λ (o : List ℕ). o ++ refusal ServerNotReached) n)
+unstarted_by dies began now secret key word limit bytes old new cause.Turns f l x n t = refused_first dies limit bytes new _ (t ∙ ap (λ (o : List ℕ). o ++ refusal ServerNotReached) n)
+unstarted_by dies began now secret key word limit bytes old new cause.Memory f l x n t = absurd t
 
 -- what a client is told whose link wasn't started
-pub unstarted : (began now : Standing) (secret : Secret) (key : StartKeyOf) (word : KeyWord) (limit : ℕ) (bytes old new : List ℕ) (c : StartCause) → began.follows ≡ true → IsLetIn began key secret → IsCause began now secret key c → old ≡ [] → TellsCause c old new
-    → IsAnswer limit bytes new (own_pieces began.server.catalogue key word bytes)
-unstarted began now secret key word limit bytes old new (Refused error) f l x n t = refused_start began secret key word limit bytes new error l (x.1 f) (t ∙ ap (λ (o : List ℕ). o ++ error) n)
-unstarted began now secret key word limit bytes old new Lost f l x n t = refused_first limit bytes new _ (t ∙ ap (λ (o : List ℕ). o ++ refusal ServerNotReached) n)
-unstarted began now secret key word limit bytes old new Unanswerable f l x n t = refused_first limit bytes new _ (t ∙ ap (λ (o : List ℕ). o ++ refusal ServerNotReached) n)
-unstarted began now secret key word limit bytes old new Unexpected f l x n t = refused_first limit bytes new _ (t ∙ ap (λ (o : List ℕ). o ++ refusal ServerNotReached) n)
-unstarted began now secret key word limit bytes old new Turns f l x n t = refused_first limit bytes new _ (t ∙ ap (λ (o : List ℕ). o ++ refusal ServerNotReached) n)
-unstarted began now secret key word limit bytes old new Memory f l x n t = absurd t
+pub unstarted : (dies : Option ℕ) (start now : Standing) (first_own : OwnOf) (secret : Secret) (key : StartKeyOf) (word : KeyWord) (limit : ℕ) (bytes old new : List ℕ) (c : StartCause) → first_own ≡ own_server dies start → start.follows ≡ true → IsLetIn start key secret
+    → IsCause first_own.standing now secret key c → old ≡ [] → TellsCause c old new → IsAnswer dies limit bytes new (own_pieces start.server.catalogue key word bytes)
+unstarted dies start now first_own secret key word limit bytes old new c o f l x n t =
+    unstarted_by dies (marked dies start) now secret key word limit bytes old new c f l (subst (λ (y : OwnOf). IsCause y.standing now secret key c) o x) n t
+
+-- a start may begin as one of the server alone
+pub can_start : (dies : Option ℕ) (start : Standing) (first_own : OwnOf) → first_own ≡ own_server dies start → IsStartable start → CanStart first_own.standing
+can_start dies start first_own o s = subst (λ (y : OwnOf). CanStart y.standing) (sym o) (λ f. record {
+  is_new = record { stage = s.is_new.stage; inbox = s.is_new.inbox; outbox = s.is_new.outbox; lawful = s.is_new.lawful };
+  in_frame = s.in_frame;
+  question = s.question;
+})

@@ -18,13 +18,13 @@ use Rattle.message_view.specs.Refusals.{Begins}
 use Rattle.relay_flow.specs.declared.flow.Ends.{Ends}
 use Rattle.relay_flow.specs.declared.flow.Ends.TheVariants.{Open, Last, Faulty}
 use Rattle.relay_flow.specs.Flows.{IsEndedBy, is_faulty}
-use Rattle.relay_laws.specs.Leases.{RelayView, Place, IsForwarded, IsLease}
+use Rattle.relay_laws.specs.Leases.{RelayView, Place, IsForwarded, IsLease, IsLinkOver}
 use Rattle.relay_steps.specs.Answers.{RefusedBy, refusal_by, refusal_of}
-use Rattle.memory_lease.specs.Answers.{HasCause, IsAllowed, IsAnswer, IsAtFault, IsTooLong}
+use Rattle.memory_lease.specs.Answers.{HasCause, IsAllowed, IsAnswer, IsAtFault, IsTooLong, MayDie}
 
-pub was_allowed : (limit : ℕ) (bytes out : List ℕ) (pieces : List (List ℕ)) → IsAnswer limit bytes out pieces → IsAllowed out pieces
-was_allowed limit bytes out pieces (inl x) = inl x
-was_allowed limit bytes out pieces (inr x) = inr x.at
+pub was_allowed : (dies : Option ℕ) (limit : ℕ) (bytes out : List ℕ) (pieces : List (List ℕ)) → IsAnswer dies limit bytes out pieces → IsAllowed dies out pieces
+was_allowed dies limit bytes out pieces (inl x) = inl x
+was_allowed dies limit bytes out pieces (inr x) = inr x.at
 
 -- ---- a faulty message at a border
 
@@ -48,11 +48,11 @@ server_stops (Faulty fault) side limit part rest e x = record { fault = fault; b
 
 -- ---- of the client
 
-cause_of_fault : (limit : ℕ) (bytes : List ℕ) (given kept : List (List ℕ)) (fault : FrameFault) → IsAtFault limit bytes (refusal_by fault) → HasCause limit bytes given kept (refusal_by fault)
-cause_of_fault limit bytes given kept TooShort x = x
-cause_of_fault limit bytes given kept TooLong x = x
-cause_of_fault limit bytes given kept UnknownType x = x
-cause_of_fault limit bytes given kept UnknownCode x = x
+cause_of_fault : (dies : Option ℕ) (limit : ℕ) (bytes : List ℕ) (given kept : List (List ℕ)) (fault : FrameFault) → IsAtFault limit bytes (refusal_by fault) → HasCause dies limit bytes given kept (refusal_by fault)
+cause_of_fault dies limit bytes given kept TooShort x = x
+cause_of_fault dies limit bytes given kept TooLong x = x
+cause_of_fault dies limit bytes given kept UnknownType x = x
+cause_of_fault dies limit bytes given kept UnknownCode x = x
 
 by_client : (p : Place) (v : RelayView) (bytes : List ℕ) (r : Refusal) → IsLease p v → v.client.tells ≡ true → p.taken ≡ [] → ((some : List ℕ) → v.client.taken ≡ some → Begins some bytes) → refusal_of v.to_link.ends ≡ Some r
     → (fault : FrameFault) × (r ≡ refusal_by fault) × IsAtFault p.limit bytes (refusal_by fault)
@@ -99,10 +99,10 @@ by_server p v fs more x e a h =
 
 -- ---- of a relay that refuses
 
-pub caused_by : (p : Place) (v : RelayView) (bytes more : List ℕ) (given : List (List ℕ)) (fs : List FrameOf) (r : Refusal) → IsLease p v → v.client.tells ≡ true → p.taken ≡ [] → ((some : List ℕ) → v.client.taken ≡ some → Begins some bytes)
-    → AllByRecursion (IsFrame Server LONGEST_FRAME) fs → v.to_client.part ++ more ≡ flat_map spelling fs ++ [] → RefusedBy p v r → HasCause p.limit bytes given (map spelling fs) r
-caused_by p v bytes more given fs r x t n b a h (inl e) =
+pub caused_by : (dies : Option ℕ) (p : Place) (v : RelayView) (bytes more : List ℕ) (given : List (List ℕ)) (fs : List FrameOf) (r : Refusal) → IsLease p v → v.client.tells ≡ true → p.taken ≡ [] → ((some : List ℕ) → v.client.taken ≡ some → Begins some bytes)
+    → AllByRecursion (IsFrame Server LONGEST_FRAME) fs → v.to_client.part ++ more ≡ flat_map spelling fs ++ [] → RefusedBy p v r → (IsLinkOver p.stands.faults v.link → MayDie dies) → HasCause dies p.limit bytes given (map spelling fs) r
+caused_by dies p v bytes more given fs r x t n b a h (inl e) d =
     let c = by_client p v bytes r x t n b e in
-    subst (HasCause p.limit bytes given (map spelling fs)) (sym c.1) (cause_of_fault p.limit bytes given (map spelling fs) c.0 c.2)
-caused_by p v bytes more given fs r x t n b a h (inr (inl e)) = subst (HasCause p.limit bytes given (map spelling fs)) (sym e.0) (by_server p v fs more x e.1 a h)
-caused_by p v bytes more given fs r x t n b a h (inr (inr e)) = subst (HasCause p.limit bytes given (map spelling fs)) (sym e.0) tt
+    subst (HasCause dies p.limit bytes given (map spelling fs)) (sym c.1) (cause_of_fault dies p.limit bytes given (map spelling fs) c.0 c.2)
+caused_by dies p v bytes more given fs r x t n b a h (inr (inl e)) d = subst (HasCause dies p.limit bytes given (map spelling fs)) (sym e.0) (by_server p v fs more x e.1 a h)
+caused_by dies p v bytes more given fs r x t n b a h (inr (inr e)) d = subst (HasCause dies p.limit bytes given (map spelling fs)) (sym e.0) (d e.1)

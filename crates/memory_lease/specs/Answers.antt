@@ -1,5 +1,5 @@
 -- What one client may be answered by a server that is started for it alone.
-use Rattle.std.specs.Prelude.{◌≡◌, ◌⊎◌, ℕ, ◌+◌, ◌<◌, List, [], ◌∷◌, ◌++◌, length, map}
+use Rattle.std.specs.Prelude.{◌≡◌, ◌⊎◌, ℕ, ◌+◌, ◌<◌, List, [], ◌∷◌, ◌++◌, length, map, Option, Some, None}
 use Rattle.std.specs.List.{flat_map, AllByRecursion}
 use Rattle.frame_view.specs.declared.FrameFault.{FrameFault}
 use Rattle.frame_view.specs.declared.Side.TheVariants.{Client}
@@ -25,9 +25,20 @@ pub record IsRefusedAt (out : List ℕ) (pieces : List (List ℕ)) : Type 0 wher
   pub cause : Refusal
   pub out_is : out ≡ joined_pieces given ++ refusal cause
 
--- What was given is a beginning of the pieces' bytes, all of them or less; or some first whole pieces and then one refusal.
-abbrev pub IsAllowed : List ℕ → List (List ℕ) → Type 0
-IsAllowed out pieces = Begins out (joined_pieces pieces) ⊎ IsRefusedAt out pieces
+-- ---- a server that dies once so many bytes were read from it, or one that doesn't
+
+abbrev pub MayDie : Option ℕ → Type 0
+MayDie (Some n) = Unit {0}
+MayDie None = ⊥
+
+-- all of the pieces' bytes; of a server that may die, a beginning of them
+abbrev pub IsGiven : Option ℕ → List ℕ → List (List ℕ) → Type 0
+IsGiven (Some n) out pieces = Begins out (joined_pieces pieces)
+IsGiven None out pieces = out ≡ joined_pieces pieces
+
+-- What was given is that, or some first whole pieces and then one refusal.
+abbrev pub IsAllowed : Option ℕ → List ℕ → List (List ℕ) → Type 0
+IsAllowed dies out pieces = IsGiven dies out pieces ⊎ IsRefusedAt out pieces
 
 -- the frames that a server of this client's own answers to its bytes, each a piece
 abbrev pub own_pieces : CatalogueOf → StartKeyOf → KeyWord → List ℕ → List (List ℕ)
@@ -58,19 +69,19 @@ pub record IsTooLong (limit : ℕ) (kept : List (List ℕ)) : Type 0 where
   pub kept_is : kept ≡ spelling next ∷ others
   pub long : limit < 4 + length next.body
 
--- P7 comes before anything was given. P6 may come behind any piece, since a server may die there. No other refusal is there.
-abbrev pub HasCause : ℕ → List ℕ → List (List ℕ) → List (List ℕ) → Refusal → Type 0
-HasCause limit bytes given kept MalformedClientMessage = IsAtFault limit bytes MalformedClientMessage
-HasCause limit bytes given kept ClientMessageTooLong = IsAtFault limit bytes ClientMessageTooLong
-HasCause limit bytes given kept MalformedServerMessage = IsTooLong limit kept
-HasCause limit bytes given kept ServerFailed = Unit {0}
-HasCause limit bytes given kept ServerNotReached = given ≡ []
-HasCause limit bytes given kept other = ⊥
+-- P7 comes before anything was given. P6 may come behind any piece, where the server may die. No other refusal is there.
+abbrev pub HasCause : Option ℕ → ℕ → List ℕ → List (List ℕ) → List (List ℕ) → Refusal → Type 0
+HasCause dies limit bytes given kept MalformedClientMessage = IsAtFault limit bytes MalformedClientMessage
+HasCause dies limit bytes given kept ClientMessageTooLong = IsAtFault limit bytes ClientMessageTooLong
+HasCause dies limit bytes given kept MalformedServerMessage = IsTooLong limit kept
+HasCause dies limit bytes given kept ServerFailed = MayDie dies
+HasCause dies limit bytes given kept ServerNotReached = given ≡ []
+HasCause dies limit bytes given kept other = ⊥
 
-pub record IsRefusedFor (limit : ℕ) (bytes out : List ℕ) (pieces : List (List ℕ)) : Type 0 where
+pub record IsRefusedFor (dies : Option ℕ) (limit : ℕ) (bytes out : List ℕ) (pieces : List (List ℕ)) : Type 0 where
   pub at : IsRefusedAt out pieces
-  pub because : HasCause limit bytes at.given at.kept at.cause
+  pub because : HasCause dies limit bytes at.given at.kept at.cause
 
 -- as `IsAllowed`, but a refusal has its cause
-abbrev pub IsAnswer : ℕ → List ℕ → List ℕ → List (List ℕ) → Type 0
-IsAnswer limit bytes out pieces = Begins out (joined_pieces pieces) ⊎ IsRefusedFor limit bytes out pieces
+abbrev pub IsAnswer : Option ℕ → ℕ → List ℕ → List ℕ → List (List ℕ) → Type 0
+IsAnswer dies limit bytes out pieces = IsGiven dies out pieces ⊎ IsRefusedFor dies limit bytes out pieces

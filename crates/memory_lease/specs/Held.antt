@@ -1,21 +1,47 @@
 -- What the code of a client's service holds, in the definitions' words.
-use Rattle.std.specs.Prelude.{◌≡◌, ℕ, List, [], ◌++◌, Option, Some, None}
+use Rattle.std.specs.Prelude.{◌≡◌, ◌⊎◌, ℕ, Bool, true, false, List, [], ◌++◌}
 use Rattle.message_view.specs.declared.refusal.Refusal.{Refusal}
 use Rattle.message_view.specs.declared.refusal.Refusal.TheVariants.{ServerNotReached}
 use Rattle.message_view.specs.Refusals.{refusal}
+use Rattle.link_laws.specs.Futures.{future}
 use Rattle.link_start.specs.declared.start.StartCause.{StartCause}
-use Rattle.link_start.specs.declared.start.StartCause.TheVariants.{Refused, Lost, Unanswerable, Unexpected, Memory, Turns}
+use Rattle.link_start.specs.declared.start.StartCause.TheVariants as cause
+use Rattle.relay_laws.specs.Leases.{RelayView, Place, IsLease}
+use Rattle.relay_steps.specs.Answers.{AtBorder, EndsByClient, RefusedBy}
+use Rattle.relay_steps.specs.Steps.{IsStuck}
+use Rattle.server_end.specs.Servers.{has_some}
+use Rattle.memory_lease.specs.Own.{IsMarked, OwnOf}
+use Rattle.memory_lease.specs.declared.alone.Ending.{Ending}
+use Rattle.memory_lease.specs.declared.alone.Ending.TheVariants.{Done, Refused, Cut}
 
 -- the bytes that tell a client why its link wasn't started; want of memory tells nothing
 abbrev pub TellsCause : StartCause → List ℕ → List ℕ → Type 0
-TellsCause (Refused error) before after = after ≡ before ++ error
-TellsCause Lost before after = after ≡ before ++ refusal ServerNotReached
-TellsCause Unanswerable before after = after ≡ before ++ refusal ServerNotReached
-TellsCause Unexpected before after = after ≡ before ++ refusal ServerNotReached
-TellsCause Turns before after = after ≡ before ++ refusal ServerNotReached
-TellsCause Memory before after = ⊥
+TellsCause (cause.Refused error) before after = after ≡ before ++ error
+TellsCause cause.Lost before after = after ≡ before ++ refusal ServerNotReached
+TellsCause cause.Unanswerable before after = after ≡ before ++ refusal ServerNotReached
+TellsCause cause.Unexpected before after = after ≡ before ++ refusal ServerNotReached
+TellsCause cause.Turns before after = after ≡ before ++ refusal ServerNotReached
+TellsCause cause.Memory before after = ⊥
 
--- the bytes of a refusal, or nothing
-abbrev pub refused_by : Option Refusal → List ℕ
-refused_by None = []
-refused_by (Some r) = refusal r
+-- How a lease ended: by its client, and nothing more of the client's may go on; or at a border, by a refusal.
+abbrev pub IsEnding : RelayView → RelayView → Ending → Type 0
+IsEnding old v Done = IsStuck v.to_link × ((p : Place) → IsLease p old → EndsByClient p v)
+IsEnding old v (Refused r) = (p : Place) → IsLease p old → AtBorder p v × RefusedBy p v r
+IsEnding old v Cut = Unit {0}
+
+-- the server doesn't live, or nothing is on its way and it has nothing more to give
+abbrev pub IsAtEnd : Bool → OwnOf → Type 0
+IsAtEnd clear server = ((clear ≡ true) × (future server.standing [] ≡ [])) ⊎ (server.standing.lives ≡ false)
+
+-- what stands behind all that was given
+abbrev pub IsPut : Ending → Bool → OwnOf → List ℕ → List ℕ → Type 0
+IsPut Done clear server before after = (after ≡ before) × IsAtEnd clear server
+IsPut (Refused r) clear server before after = after ≡ before ++ refusal r
+IsPut Cut clear server before after = (after ≡ before) × (server.standing.lives ≡ false)
+
+-- the same, of a server that dies of nothing but the bytes that were read from it
+pub record TellsEnding (ending : Ending) (clear : Bool) (server : OwnOf) (before after : List ℕ) : Type 0 where
+  pub marked : IsMarked server
+  pub faults : server.standing.faults ≡ 0
+  pub lives : server.standing.lives ≡ has_some server.left
+  pub put : IsPut ending clear server before after

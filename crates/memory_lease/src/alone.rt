@@ -1,14 +1,16 @@
 //! A client's whole service, over a link of its own.
-ghost use Rattle.std.specs.Prelude.{◌≡◌, ◌<◌, ◌≤◌, ◌++◌, IfOk, IfSome, OnOk, true};
+ghost use Rattle.std.specs.Prelude.{◌≡◌, ◌<◌, ◌≤◌, ◌++◌, IfOk, OnOk, false, true};
 ghost use Rattle.std.specs.Arc.{arc_value};
 ghost use Rattle.frame_view.specs.declared.frames.TheConstants.{LONGEST_FRAME};
 ghost use Rattle.message_view.specs.declared.refusal.Refusal.{Refusal};
 ghost use Rattle.link_start.specs.Starts.{IsLinkKey, IsStartable};
-ghost use Rattle.relay_laws.specs.Leases.{IsLease, Keeps, Place, place};
-ghost use Rattle.relay_steps.specs.Answers.{AtBorder, RefusedBy};
+ghost use Rattle.relay_core.specs.Returns.{IsReturned};
+ghost use Rattle.relay_laws.specs.Leases.{IsLease, Keeps, RelayView, place};
+ghost use Rattle.relay_laws.specs.declared.Phase.TheVariants.{Running};
 ghost use Rattle.memory_lease.specs.Answers.{IsAnswer, IsLetIn, own_pieces};
-ghost use Rattle.memory_lease.specs.Held.{TellsCause, refused_by};
+ghost use Rattle.memory_lease.specs.Held.{IsEnding, TellsCause, TellsEnding};
 
+use crate::own_server::OwnServer;
 use crate::patient_client::PatientClient;
 use bytes::BytesMut;
 use frame_view::laws::are_bytes;
@@ -33,7 +35,7 @@ const START_TURNS: u32 = 65_536;
 const MOST_WAITS: u32 = 4;
 
 /// What a client is told whose link wasn't started.
-fn put_unstarted(fault: &StartLinkFault<MemoryServer>, out: &mut BytesMut) -> Result<(), AllocError>
+fn put_unstarted(fault: &StartLinkFault<OwnServer>, out: &mut BytesMut) -> Result<(), AllocError>
     ensures { OnOk result (TellsCause fault.now.cause out.old.items out.new.items) }
 {
     if fault.end.faults() > 0 {
@@ -51,13 +53,14 @@ fn put_unstarted(fault: &StartLinkFault<MemoryServer>, out: &mut BytesMut) -> Re
 fn begin_lease<'a>(
     alloc: Global,
     client: PatientClient<'a>,
-    link: CleanLink<MemoryServer>,
+    link: CleanLink<OwnServer>,
     word: KeyWord,
     limit: u32,
-) -> Result<Relay<PatientClient<'a>, MemoryServer>, AllocError>
+) -> Result<Relay<PatientClient<'a>, OwnServer>, AllocError>
     requires low { 4 ≤ limit }
     requires high { limit ≤ LONGEST_FRAME }
-    ensures { IfOk result (IsLease (place client.entry.facts link word limit)) }
+    ensures begun { IfOk result (IsLease (place client.entry.facts link word limit)) }
+    ensures phase { IfOk result (λ r. r.phase ≡ Running) }
 {
     match Relay::begin(alloc, client, link, word, limit) {
         Ok(relay) => Ok(relay),
@@ -68,11 +71,22 @@ fn begin_lease<'a>(
     }
 }
 
-/// Pumps until the lease ends, or nothing moves any more: the server's side alone until nothing moves there, and then both. What the
-/// client is refused by, if it is.
-fn converse<C: ClientEnd, E: ServerEnd>(relay: &mut Relay<C, E>) -> Option<Refusal>
+/// How a lease ended.
+#[derive(Clone, Copy, Drop)]
+enum Ending {
+    /// Its client was done.
+    Done,
+    /// The client is refused.
+    Refused(Refusal),
+    /// The server ended inside a frame, or nothing moved any more.
+    Cut,
+}
+
+/// Pumps until the lease ends, or nothing moves any more: the server's side alone until nothing moves there, and then both.
+fn converse<C: ClientEnd, E: ServerEnd>(relay: &mut Relay<C, E>) -> Ending
+    requires { relay.old.phase ≡ Running }
     ensures keeps { Keeps relay.old relay.new }
-    ensures refused { IfSome result (λ r. (p : Place) → IsLease p relay.old → AtBorder p relay.new × RefusedBy p relay.new r) }
+    ensures ending { IsEnding relay.old relay.new result }
 {
     let mut waits = 0;
     for _ in 0..u64::MAX {
@@ -83,36 +97,51 @@ fn converse<C: ClientEnd, E: ServerEnd>(relay: &mut Relay<C, E>) -> Option<Refus
         }) {
             Next::Again => waits = 0,
             Next::Wait if waits < MOST_WAITS => waits += 1,
-            Next::Refuse(refusal) => return Some(refusal),
-            Next::Wait | Next::ClientDone | Next::Closed => return None,
+            Next::Refuse(refusal) => return Ending::Refused(refusal),
+            Next::ClientDone => return Ending::Done,
+            Next::Wait | Next::Closed => return Ending::Cut,
         }
     }
-    None
+    Ending::Cut
 }
 
-fn put_refused(refusal: Option<Refusal>, out: &mut BytesMut) -> Result<(), AllocError>
-    ensures { OnOk result (out.new.items ≡ out.old.items ++ refused_by refusal) }
+/// The end of a link whose lease has ended.
+fn end_of<E: ServerEnd>(link: Returned<E>) -> E
+    ensures { (v : RelayView) → IsReturned E.standing v link → E.standing result ≡ v.link }
 {
-    match refusal {
-        Some(refusal) => out.extend_from_slice(refusal_bytes(refusal)),
-        None => Ok(()),
-    }
-}
-
-/// The end of a link whose lease has ended; an unused one is closed. The only error is that its server was refused memory.
-fn give_back(link: Returned<MemoryServer>) -> Result<(), AllocError> {
-    let end = match link {
-        Returned::Unused(link) => {
-            close_link(link);
-            return Ok(());
-        }
+    match link {
+        Returned::Unused(link) => link.lend().end,
         Returned::Used(link) => link.lend().end,
         Returned::Gone(lent, _) => lent.end,
-    };
-    if end.faults() > 0 {
+    }
+}
+
+/// What stands behind all that the client was given. Where its server lives and it isn't refused, nothing was on its way
+/// (`clear`), and the server had nothing more to give.
+///
+/// The only error is that memory was refused, or that a lease came to no end: its turns were used up, or it ended with something on
+/// its way.
+fn put_ending(
+    ending: Ending,
+    clear: bool,
+    server: &OwnServer,
+    out: &mut BytesMut,
+) -> Result<(), AllocError>
+    ensures { OnOk result (TellsEnding ending clear server.now out.old.items out.new.items) }
+{
+    if server.is_broken() {
         return Err(AllocError);
     }
-    Ok(())
+    match ending {
+        Ending::Refused(refusal) => out.extend_from_slice(refusal_bytes(refusal)),
+        Ending::Done if clear && server.rests() => Ok(()),
+        Ending::Done | Ending::Cut => {
+            if server.lives() {
+                return Err(AllocError);
+            }
+            Ok(())
+        }
+    }
 }
 
 /// Serves one client from the first byte after its login (`bytes`) to its end, over a new link to this server, and answers what the
@@ -121,8 +150,10 @@ fn give_back(link: Returned<MemoryServer>) -> Result<(), AllocError> {
 /// The client sends a frame only once it was given the answers to those before, and hangs up behind its last byte. A start that the
 /// server refuses is answered by the server's error alone; any other fault of a start by the refusal P7. Over its link the client is
 /// refused by P3 or P10 for a faulty message of its own, by P11 where the server's next message is above the limit, and by P6 where
-/// the server ended. `word` is what the client's BackendKeyData has, `limit` the greatest length of a frame both ways, and a call of
-/// the client moves at most `cut` bytes. The only error is that memory was refused.
+/// the server died. A client that isn't refused is answered all, unless its server may die. `word` is what the client's
+/// BackendKeyData has, `limit` the greatest length of a frame both ways, and a call of the client moves at most `cut` bytes.
+///
+/// The only error is that memory was refused, or that the lease came to no end in 18,446,744,073,709,551,615 turns.
 pub fn serve_alone(
     alloc: Global,
     server: MemoryServer,
@@ -140,9 +171,10 @@ pub fn serve_alone(
     requires cut { 0 < cut }
     requires low { 4 ≤ limit }
     requires high { limit ≤ LONGEST_FRAME }
-    ensures { IfOk result (λ out. IsAnswer limit bytes.now out.items (own_pieces server.standing.server.catalogue (arc_value key) word bytes.now)) }
+    ensures { IfOk result (λ out. IsAnswer server.left limit bytes.now out.items (own_pieces server.standing.server.catalogue (arc_value key) word bytes.now)) }
 {
     are_bytes(bytes);
+    let server = OwnServer::new(server);
     let link = match start_link(alloc, server, key, secret, 0, 0, &mut OpenGate, START_TURNS) {
         Ok(link) => link,
         Err(fault) => {
@@ -153,10 +185,10 @@ pub fn serve_alone(
     };
     let client = PatientClient::new(alloc, bytes, cut);
     let mut relay = begin_lease(alloc, client, link, word, limit)?;
-    let refusal = converse(&mut relay);
+    let ending = converse(&mut relay);
+    let clear = relay.is_clear();
     let (client, link) = relay.close();
-    give_back(link)?;
     let mut out = client.into_given()?;
-    put_refused(refusal, &mut out)?;
+    put_ending(ending, clear, &end_of(link), &mut out)?;
     Ok(out)
 }

@@ -2,4 +2,5 @@
 #![tactic(auto)]
 
 pub mod alone;
+mod own_server;
 mod patient_client;

@@ -1,5 +1,5 @@
 //! A client in memory that waits for its answers.
-ghost use Rattle.std.specs.Prelude.{◌≡◌, ◌<◌, ◌≤◌, false, length, IfOk};
+ghost use Rattle.std.specs.Prelude.{◌≡◌, ◌<◌, ◌≤◌, false, length, true, IfOk};
 ghost use Rattle.server_end.specs.Moves.{ClientReads, ClientWrites, IsWithin, moved};
 ghost use Rattle.server_end.specs.Clients.{is_broken};
 ghost use Rattle.memory_lease.specs.Patient.{IsGiven, new_patient};
@@ -29,14 +29,14 @@ pub(crate) struct PatientClient<'a> {
 }
 
 impl<'a> Model for PatientClient<'a> {
-    ghost use Rattle.std.specs.Prelude.{◌<◌, ◌≤◌, length};
+    ghost use Rattle.std.specs.Prelude.{◌≡◌, ◌<◌, ◌≤◌, length, true};
     ghost use Rattle.memory_lease.specs.Patient.{PatientOf, patient_view};
 
     ghost Value = { PatientOf };
 
     ghost view = { λ c. patient_view c.input.now c.at c.border c.given.items c.hung_up c.faults c.waits };
 
-    ghost invariant = { λ c. (0 < c.cut) × (c.at ≤ c.border) × (c.border ≤ length c.input.now) };
+    ghost invariant = { λ c. (0 < c.cut) × (c.at ≤ c.border) × (c.border ≤ length c.input.now) × (c.hung_up ≡ true → c.at ≡ length c.input.now) };
 }
 
 /// The end of the whole frame that stands there; where none does, the end of all bytes.
@@ -70,10 +70,16 @@ impl<'a> PatientClient<'a> {
         }
     }
 
-    /// All that it was given. The only error is that memory for it was refused.
+    /// All that it was given, where neither a fault nor the last count ended it: so it has ended only where its whole input was
+    /// taken. The only error is that one of them did.
     pub(crate) fn into_given(self) -> Result<BytesMut, AllocError>
-        ensures { IfOk result (λ out. IsGiven self.entry out.items) }
+        ensures given { IfOk result (λ out. IsGiven self.entry out.items) }
+        ensures faults { IfOk result (λ _. self.entry.facts.faults ≡ 0) }
+        ensures all { IfOk result (λ _. self.entry.facts.ended ≡ true → self.entry.facts.taken ≡ self.entry.input) }
     {
+        if self.is_broken() {
+            return Err(AllocError);
+        }
         let PatientClient {
             input: _,
             at: _,
@@ -82,12 +88,9 @@ impl<'a> PatientClient<'a> {
             cut: _,
             rests: _,
             hung_up: _,
-            faults,
+            faults: _,
             waits: _,
         } = self;
-        if faults > 0 {
-            return Err(AllocError);
-        }
         Ok(given)
     }
 

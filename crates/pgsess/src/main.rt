@@ -2,41 +2,111 @@
 #![tactic(auto)]
 
 ghost use Rattle.std.specs.Prelude.{◌≡◌};
+ghost use Rattle.ini_config.specs.Bounds.{AreWithinBounds};
 ghost use Rattle.pgsess.specs.Statuses as spec;
 
+use mio::net::TcpListener;
 use pool_app::fault::{self, AppFault};
-use pool_app::files;
+use pool_app::files::{self, Inputs};
 use pool_app::line::{self, Job};
-use pool_app::replay::replay;
+use pool_run::pool::serve_on;
+use replay_run::replay::replay;
+use server_catalogue::Catalogue;
 use std::alloc::Global;
+use std::net::{Ipv4Addr, Net, SocketAddr};
 use std::process::ExitCode;
-use std::rt::Files;
-use std::{env, io};
+use std::rt::{Clock, Files};
+use std::sync::Wait;
+use std::thread::Threads;
+use std::{env, io, net};
+use stub_server::server::stub_on;
 
-/// What `serve` says where its files are good.
-const CHECKED: &str =
-    "pgsess: settings, users and key seed are in order; this version doesn't serve yet";
+/// A listener on this port.
+fn listen<'a, R: Net>(rt: &R, address: [u8; 4], port: u16) -> Result<TcpListener, AppFault<'a>> {
+    let [a, b, c, d] = address;
+    match TcpListener::bind(rt, SocketAddr::from((Ipv4Addr::new(a, b, c, d), port))) {
+        Ok(listener) => Ok(listener),
+        Err(_) => Err(AppFault::Port(port)),
+    }
+}
 
-/// Does the job. Until the pooler serves, `serve` and `stub` read and check their files, and `serve` says so.
-fn run<'a, R: Files + Input + Print + Eprint>(
-    rt: &R,
-    alloc: Global,
-    job: Job<'a>,
-) -> Result<(), AppFault<'a>> {
+/// Serves clients as the settings say, from when its line tells where.
+fn serve<
+    'a,
+    R: Files
+        + Print
+        + Threads
+        + Wait
+        + Clock
+        + Net<Listener = net::TcpListener, Stream = net::TcpStream>
+        + Copy
+        + Send
+        + Sync
+        + 'static,
+>(rt: R, alloc: Global, inputs: Inputs) -> Result<(), AppFault<'a>>
+    requires { AreWithinBounds inputs.settings }
+{
+    let [a, b, c, d] = inputs.settings.listen_addr();
+    let port = inputs.settings.listen_port();
+    let listener = listen(&rt, [a, b, c, d], port)?;
+    // that nobody reads it is no reason not to serve
+    let _ = println!(rt; "listening {a}.{b}.{c}.{d} {port}");
+    let Inputs {
+        settings,
+        users,
+        seed,
+    } = inputs;
+    match serve_on(rt, alloc, listener, settings, users, seed, None) {
+        Ok(()) => Ok(()),
+        Err(_) => Err(AppFault::Memory),
+    }
+}
+
+/// Serves as the stand-in server of this catalogue.
+fn stub<
+    'a,
+    R: Threads
+        + Wait
+        + Net<Listener = net::TcpListener, Stream = net::TcpStream>
+        + Copy
+        + Send
+        + 'static,
+>(rt: R, alloc: Global, port: u16, catalogue: Catalogue) -> Result<(), AppFault<'a>> {
+    let listener = listen(&rt, [127, 0, 0, 1], port)?;
+    match stub_on(rt, alloc, listener, catalogue, None) {
+        Ok(()) => Ok(()),
+        Err(_) => Err(AppFault::Memory),
+    }
+}
+
+/// Does the job.
+fn run<
+    'a,
+    R: Files
+        + Input
+        + Print
+        + Threads
+        + Wait
+        + Clock
+        + Net<Listener = net::TcpListener, Stream = net::TcpStream>
+        + Copy
+        + Send
+        + Sync
+        + 'static,
+>(rt: R, alloc: Global, job: Job<'a>) -> Result<(), AppFault<'a>> {
     match job {
-        Job::Replay => replay(alloc, rt.reader(), &mut io::writer(rt)),
+        Job::Replay => replay(alloc, rt.reader(), &mut io::writer(&rt)),
         Job::Serve {
             ini,
             users,
             key_seed,
         } => {
-            let _ = files::read_inputs(rt, alloc, ini, users, key_seed)?;
-            let _ = eprintln!(rt; "{CHECKED}");
-            Ok(())
+            let inputs = files::read_inputs(&rt, alloc, ini, users, key_seed)?;
+            serve(rt, alloc, inputs)
         }
-        Job::Stub { port: _, catalogue } => {
-            let _ = files::read_catalogue(rt, alloc, catalogue)?;
-            Ok(())
+        Job::Stub { port, catalogue } => {
+            let catalogue = files::read_catalogue(&rt, alloc, catalogue)?;
+            stub(rt, alloc, port, catalogue)
         }
     }
 }
@@ -86,7 +156,7 @@ fn main(rt: HostRuntime) -> ExitCode {
     };
     match line::read_line(rt.alloc(), words.as_slice()) {
         Ok(job) => {
-            let done = run(&rt, rt.alloc(), job);
+            let done = run(rt, rt.alloc(), job);
             if let Err(fault) = &done {
                 let _ = fault::tell(&rt, rt.alloc(), fault);
             }

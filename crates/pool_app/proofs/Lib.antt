@@ -1,3 +1,1 @@
-pub mod StandingText
-pub mod Replaying
 pub mod Taken

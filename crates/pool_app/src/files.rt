@@ -5,7 +5,7 @@ ghost use Rattle.pool_app.specs.Files as spec;
 
 use crate::fault::AppFault;
 use ini_config::{Settings, read_settings};
-use session_machine::Catalogue;
+use server_catalogue::Catalogue;
 use std::alloc::Global;
 use std::io::{ErrorKind, Read};
 use std::rt::Files;

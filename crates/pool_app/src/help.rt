@@ -13,6 +13,7 @@ pub(crate) const SERVE: &str =
 A fault is told in one line on standard error, as `pgsess: C3 line 7`, and the status is 1.
   file F  the file F can't be read or is too long, or the key seed hasn't 32 bytes
   memory  no memory was left, elsewhere than in a file's text
+  port N  the port N can't be had; then the status is 3
 Of the settings:
   C1  a header of an unknown section, or a line in [users] or [peers]
   C2  an unknown key in [pgbouncer]

@@ -1,15 +1,22 @@
--- What a lease's end hands back.
-use Rattle.std.specs.Prelude.{◌≡◌, ◌≢◌, true, false}
+-- What a lease's end hands back, and whether anything is on its way then.
+use Rattle.std.specs.Prelude.{◌≡◌, ◌≢◌, Bool, true, false, ◌&&◌, not}
 use Rattle.disposal.specs.declared.Verdict.TheVariants.{Settled}
 use Rattle.std.specs.Arc.{arc_value}
 use Rattle.link_laws.specs.Standing.{Standing}
 use Rattle.link_run.specs.Links.{LinkView}
 use Rattle.link_run.specs.declared.links.Lent.{Lent}
 use Rattle.relay_laws.specs.Leases.{RelayView, relay_verdict}
+use Rattle.relay_flow.specs.Flows.{is_empty, is_faulty}
+use Rattle.relay_steps.specs.Answers.{is_quiet}
 use Rattle.relay_core.specs.declared.relay.Cause.{Cause}
 use Rattle.relay_core.specs.declared.relay.Cause.TheVariants.{Left, Lost}
 use Rattle.relay_core.specs.declared.relay.Returned.{Returned}
 use Rattle.relay_core.specs.declared.relay.Returned.TheVariants.{Unused, Used, Gone}
+
+-- Nothing is on its way: all that came from the link was given to the client, all of the client's that may go on was written to
+-- the link, and no fault of the client keeps back what is left of its bytes.
+abbrev pub is_clear : RelayView → Bool
+is_clear v = (is_quiet v && is_empty v.to_client.part) && (is_empty v.to_link.held && not (is_faulty v.to_link.ends))
 
 pub record IsThatLink (v : RelayView) (l : LinkView) : Type 0 where
   pub stands : l.stands ≡ v.link

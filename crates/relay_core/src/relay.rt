@@ -75,7 +75,7 @@ impl<C: ClientEnd, E: ServerEnd> Relay<C, E> {
     ghost use Rattle.std.specs.Prelude.{Bool};
     ghost use Rattle.relay_laws.specs.Leases.{Place, place, IsLease, IsExact, IsAllowed, Keeps, relay_verdict, at_border};
     ghost use Rattle.relay_steps.specs.Answers.{EndsByClient, RefusedBy, AtBorder, IsCut, judged, phase_after};
-    ghost use Rattle.relay_core.specs.Returns.{IsReturned};
+    ghost use Rattle.relay_core.specs.Returns.{IsReturned, is_clear};
     ghost use Rattle.relay_steps.specs.Steps.{bytes_moved, HoldsAll, Waits};
     ghost use Rattle.relay_steps.specs.declared.Next.TheVariants.{Again, Wait, ClientDone, Refuse, Closed};
     ghost use Rattle.relay_laws.specs.declared.Phase.TheVariants.{Running, Done, Shut};
@@ -160,6 +160,14 @@ impl<C: ClientEnd, E: ServerEnd> Relay<C, E> {
             Phase::Done => Next::ClientDone,
             Phase::Shut => Next::Closed,
         }
+    }
+
+    /// Whether nothing is on its way, and no fault of the client keeps back what is left of its bytes.
+    pub fn is_clear(&self) -> bool
+        ensures { result ≡ is_clear self.now }
+    {
+        (self.is_quiet() && self.to_client.part_is_empty())
+            && (self.to_link.held_is_empty() && !self.to_link.is_faulty())
     }
 
     /// The lease ends: the client's end, and the link for what it is worth.

@@ -1,4 +1,7 @@
 pub mod Settling
-pub mod Leasing
+pub mod Flowing
+pub mod Moving
+pub mod Passing
+pub mod Beginning
 pub mod Exact
 pub mod Rest

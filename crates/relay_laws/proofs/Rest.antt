@@ -32,7 +32,7 @@ use Rattle.relay_laws.proofs.Settling.{Answered, answered_by}
 use Rattle.relay_flow.specs.Flows.{is_empty, is_faulty}
 use Rattle.relay_laws.specs.Leases.{RelayView, Place, IsLease, at_border, relay_verdict}
 use Rattle.relay_laws.specs.Verdicts.{all_kept, verdict_by}
-use Rattle.relay_laws.proofs.Leasing.{empty_is}
+use Rattle.relay_laws.proofs.Flowing.{empty_is}
 use Rattle.relay_laws.proofs.Exact.{lease_of, under_way}
 
 -- ---- a link to which nothing was sent is fresh still

@@ -1,7 +1,7 @@
 //! A lease under way, by definitions alone: what each move of bytes keeps of it, and what it says of the client and the link.
 //!
 //! What follows from it are the laws here, contracts of functions that do nothing. That each move keeps it are lemmas in
-//! `proofs/Leasing`, which the relay's code cites. The types are those that the definitions name.
+//! `proofs/Moving` and `proofs/Passing`, which the relay's code cites. The types are those that the definitions name.
 #![tactic(auto)]
 
 ghost use Rattle.relay_laws.specs.Laws.{LeasesAreAllowed, LeasesAreExact, SettledLinksAreUsed, UntouchedLinksAreClean};

@@ -14,7 +14,7 @@ use Rattle.relay_steps.specs.declared.Next.TheVariants.{Again, Wait, ClientDone,
 use Rattle.relay_flow.specs.Flows.{is_empty, is_faulty, is_last_end}
 use Rattle.relay_laws.specs.Leases.{RelayView, Place, IsLease}
 use Rattle.relay_steps.specs.Answers.{refusal_of, is_done, is_quiet, moved_or, refused, border_next, quiet_next, judged, EndsByClient, RefusedBy, AtBorder, IsCut}
-use Rattle.relay_laws.proofs.Leasing.{empty_is}
+use Rattle.relay_laws.proofs.Flowing.{empty_is}
 
 abbrev Why : RelayView → Refusal → Type 0
 Why v r = (refusal_of v.to_link.ends ≡ Some r) ⊎ (((r ≡ MalformedServerMessage) × (is_faulty v.to_client.ends ≡ true)) ⊎ ((r ≡ ServerFailed) × (v.flags.link_over ≡ true)))

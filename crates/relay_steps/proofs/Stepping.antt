@@ -18,7 +18,7 @@ use Rattle.relay_flow.specs.Flows.{FlowView, SameCursor, came, count_of, Fills, 
 use Rattle.relay_laws.specs.Leases.{RelayView, relay_view, any_over, is_end, is_fault, link_moved, client_read, client_wrote}
 use Rattle.relay_steps.specs.Answers.{is_quiet, judged}
 use Rattle.relay_steps.specs.Steps.{bytes_moved, Adds, HasRoom, over_in, Kept, may_read_client, may_read_link, may_write_link, may_write_client, IsStuck, IsStuckClient, HoldsAll, OnlyToLink, OnlyToClient, ReadsClient, WritesLink, ReadsLink, WritesClient, Waits}
-use Rattle.relay_laws.proofs.Leasing.{Writes, Gives}
+use Rattle.relay_laws.proofs.Moving.{Writes, Gives}
 use Rattle.relay_steps.proofs.Judging.{means}
 
 -- ---- flags

@@ -1,14 +1,24 @@
 -- An end that fails from one of its calls on.
-use Rattle.std.proofs.Common.{◌≡◌, ℕ, ◌+◌, Some, None, List, [], refl, sym, ap, ◌∙◌, append-nil, arith}
+use Rattle.std.proofs.Common.{◌≡◌, inl, inr, ℕ, ◌+◌, Some, None, List, [], refl, sym, ap, ◌∙◌, append-nil, arith}
 use Rattle.link_laws.specs.Standing.{Standing, ClientFacts, Moves}
 use Rattle.server_end.specs.declared.Moved.{Moved}
 use Rattle.server_end.specs.declared.Moved.TheVariants.{Count, NotNow, Ended, Fault}
 use Rattle.server_end.specs.declared.failing_end.Calls.{Calls}
 use Rattle.server_end.specs.declared.failing_end.Calls.TheVariants.{Good, Failed}
 use Rattle.server_end.specs.Moves.{moved, CountsRead, CountsWrite, ClientReads, ClientWrites}
-use Rattle.server_end.specs.Failing.{failing_server, failing_client, Counts, Fails}
+use Rattle.server_end.specs.Failing.{failing_server, failing_client, Counts, Fails, IsCall}
 use Rattle.server_end.specs.Servers.{KeepsServer}
 use Rattle.server_end.proofs.Moving.{moves_die}
+
+-- ---- which call it is
+
+pub call_passes : {E : Type 0} (old new : Calls) (before after : E) (inner : ℕ) (m : Moved) → Fails old new inner None → IsCall old new before after inner m
+call_passes (Good n) new before after inner m h = inl h
+call_passes (Failed f) new before after inner m h = absurd h
+
+pub call_fails : {E : Type 0} (old new : Calls) (before : E) (inner : ℕ) (m : Moved) → Fails old new inner (Some m) → IsCall old new before before inner m
+call_fails (Good n) new before inner m h = inr (h.0, refl, h.1)
+call_fails (Failed f) new before inner m h = (refl, h)
 
 -- ---- a call that goes to the end inside
 

@@ -36,21 +36,29 @@ client_view input at given cut hung_up faults waits = record {
 abbrev pub new_client : List ℕ → ℕ → ClientOf
 new_client input cut = client_view input 0 [] cut false 0 0
 
+-- the same client with other facts
+abbrev pub with_facts : ClientOf → ClientFacts → ClientOf
+with_facts c facts = record c { facts = facts }
+
 -- What a read comes to: at most `cut` bytes, to nothing only where all was read and more may be fed, and to the end only where
 -- it has ended. It takes no memory.
 abbrev pub ReadsClient : ClientOf → ClientOf → Moved → Type 0
-ReadsClient old new (Count n) = (n ≤ old.cut) × (new.unread ≡ drop n old.unread) × (new.hung_up ≡ old.hung_up)
-ReadsClient old new NotNow = (old.unread ≡ []) × (old.hung_up ≡ false) × (new.hung_up ≡ false)
+ReadsClient old new (Count n) = (n ≤ old.cut) × (new ≡ record old { facts = new.facts; unread = drop n old.unread })
+ReadsClient old new NotNow = (old.unread ≡ []) × (old.hung_up ≡ false) × (new ≡ with_facts old new.facts)
 ReadsClient old new Ended = (old.facts.ended ≡ true) × (new ≡ old)
 ReadsClient old new Fault = ⊥
 
 -- What a write comes to: a client that hung up still takes what it is given.
 abbrev pub WritesClient : ClientOf → ClientOf → Moved → Type 0
-WritesClient old new (Count n) = (n ≤ old.cut) × (new.unread ≡ old.unread) × (new.hung_up ≡ old.hung_up)
+WritesClient old new (Count n) = (n ≤ old.cut) × (new ≡ with_facts old new.facts)
 WritesClient old new NotNow = ⊥
 WritesClient old new Ended = (is_broken old.facts.faults old.facts.read_waits ≡ true) × (new ≡ old)
-WritesClient old new Fault = new.facts.ended ≡ true
+WritesClient old new Fault = (new.facts.ended ≡ true) × (new ≡ with_facts old new.facts)
 
--- the input after more of it came, which a client that hung up doesn't have
-abbrev pub fed : Bool → List ℕ → List ℕ → List ℕ
-fed hung_up unread more = if hung_up then unread else unread ++ more
+-- the client after more of its input came, which one that hung up doesn't have
+abbrev pub fed : ClientOf → List ℕ → ClientOf
+fed c more = record c { unread = if c.hung_up then c.unread else c.unread ++ more }
+
+-- the client once it hung up: it has ended where all of its input was taken
+abbrev pub after_hang_up : ClientOf → ClientOf
+after_hang_up c = record c { hung_up = true; facts = record c.facts { ended = c.facts.ended || length c.unread == 0 } }

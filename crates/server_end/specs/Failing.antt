@@ -1,5 +1,5 @@
 -- An end that fails from one of its calls on.
-use Rattle.std.specs.Prelude.{◌≡◌, ℕ, ◌+◌, ◌-◌, ◌^◌, ◌<◌, true, false, Option, Some, None}
+use Rattle.std.specs.Prelude.{◌≡◌, ◌⊎◌, ℕ, ◌+◌, ◌-◌, ◌^◌, ◌<◌, true, false, Option, Some, None}
 use Rattle.link_laws.specs.Standing.{Standing, ClientFacts}
 use Rattle.server_end.specs.declared.Moved.{Moved}
 use Rattle.server_end.specs.declared.Moved.TheVariants.{Count, NotNow, Ended, Fault}
@@ -28,3 +28,8 @@ Fails (Good n) new inner None = (0 < n) × (new ≡ Good (n - 1))
 Fails (Good n) new inner (Some m) = (n ≡ 0) × Counts inner new m
 Fails (Failed faults) new inner None = ⊥
 Fails (Failed faults) new inner (Some m) = Counts faults new m
+
+-- A call: a good one goes to the end inside, and one fewer is left. Any other fails, and the end inside isn't called.
+abbrev pub IsCall : {E : Type 0} → Calls → Calls → E → E → ℕ → Moved → Type 0
+IsCall (Good n) new before after inner m = ((0 < n) × (new ≡ Good (n - 1))) ⊎ ((n ≡ 0) × (after ≡ before) × Counts inner new m)
+IsCall (Failed faults) new before after inner m = (after ≡ before) × Counts faults new m

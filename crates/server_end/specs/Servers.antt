@@ -53,17 +53,17 @@ at_most None count = count
 -- What a read comes to: at most `cut` bytes, after which it lives if more are left; to nothing only where nothing is to
 -- come; and to the end only where it doesn't live.
 abbrev pub ReadsServer : ServerOf → ServerOf → Moved → Type 0
-ReadsServer old new (Count n) = (n ≤ old.cut) × (new.left ≡ less old.left n) × (new.standing.lives ≡ has_some new.left)
-ReadsServer old new NotNow = (future new.standing [] ≡ []) × (new.left ≡ old.left)
+ReadsServer old new (Count n) = (n ≤ old.cut) × (new.cut ≡ old.cut) × (new.left ≡ less old.left n) × (new.standing.lives ≡ has_some new.left)
+ReadsServer old new NotNow = (future new.standing [] ≡ []) × (new.cut ≡ old.cut) × (new.left ≡ old.left)
 ReadsServer old new Ended = (old.standing.lives ≡ false) × (new ≡ old)
-ReadsServer old new Fault = new.standing.lives ≡ false
+ReadsServer old new Fault = (new.standing.lives ≡ false) × (new.cut ≡ old.cut) × (new.left ≡ old.left)
 
 -- What a write comes to, never to nothing.
 abbrev pub WritesServer : ServerOf → ServerOf → Moved → Type 0
-WritesServer old new (Count n) = (n ≤ old.cut) × (new.left ≡ old.left) × (new.standing.lives ≡ true)
+WritesServer old new (Count n) = (n ≤ old.cut) × (new.cut ≡ old.cut) × (new.left ≡ old.left) × (new.standing.lives ≡ true)
 WritesServer old new NotNow = ⊥
 WritesServer old new Ended = (old.standing.lives ≡ false) × (new ≡ old)
-WritesServer old new Fault = new.standing.lives ≡ false
+WritesServer old new Fault = (new.standing.lives ≡ false) × (new.cut ≡ old.cut) × (new.left ≡ old.left)
 
 -- ---- between the steps of a call
 

@@ -1,6 +1,8 @@
 //! An end that fails from one of its calls on.
-ghost use Rattle.std.specs.Prelude.{◌≡◌, ◌<◌, ◌-◌};
-ghost use Rattle.server_end.specs.Failing.{Counts, Fails};
+ghost use Rattle.std.specs.Prelude.{◌≡◌, ◌<◌, ◌-◌, [], length};
+ghost use Rattle.link_laws.specs.Standing.{Moves};
+ghost use Rattle.server_end.specs.Failing.{Counts, Fails, IsCall, failing_client, failing_server};
+ghost use Rattle.server_end.specs.Moves.{ClientReads, ClientWrites, CountsRead, CountsWrite, IsWithin, moved};
 ghost use Rattle.server_end.specs.declared.failing_end.Calls.TheVariants.{Good};
 
 use crate::{ClientEnd, Moved, ServerEnd};
@@ -63,12 +65,16 @@ impl<E: Drop> FailingEnd<E> {
 }
 
 impl<E: ServerEnd> ServerEnd for FailingEnd<E> {
-    ghost use Rattle.server_end.specs.Failing.{failing_server};
-
     ghost standing = { λ f. failing_server f.calls (E.standing f.inner) };
 
-    #[tactic(auto, using(crate::proofs::Failing::read_fails, crate::proofs::Failing::read_counts_fail, crate::proofs::Failing::read_passes, crate::proofs::Failing::read_counts_pass))]
-    fn read_some(&mut self, into: &mut [u8]) -> Moved {
+    #[tactic(auto, using(crate::proofs::Failing::call_fails, crate::proofs::Failing::call_passes, crate::proofs::Failing::read_fails, crate::proofs::Failing::read_counts_fail, crate::proofs::Failing::read_passes, crate::proofs::Failing::read_counts_pass))]
+    fn read_some(&mut self, into: &mut [u8]) -> Moved
+        requires { 0 < length into.old }
+        ensures within { IsWithin result (length into.old) }
+        ensures moves { Moves (failing_server self.old.calls (E.standing self.old.inner)) [] (failing_server self.new.calls (E.standing self.new.inner)) (moved result into.new) }
+        ensures counts { CountsRead (failing_server self.old.calls (E.standing self.old.inner)) (failing_server self.new.calls (E.standing self.new.inner)) result }
+        ensures call { IsCall self.old.calls self.new.calls self.old.inner self.new.inner (E.standing self.old.inner).faults result }
+    {
         let faults = self.inner.faults();
         match self.calls.failure(faults) {
             Some(answer) => answer,
@@ -76,8 +82,14 @@ impl<E: ServerEnd> ServerEnd for FailingEnd<E> {
         }
     }
 
-    #[tactic(auto, using(crate::proofs::Failing::write_fails, crate::proofs::Failing::write_counts_fail, crate::proofs::Failing::write_passes, crate::proofs::Failing::write_counts_pass))]
-    fn write_some(&mut self, from: &[u8]) -> Moved {
+    #[tactic(auto, using(crate::proofs::Failing::call_fails, crate::proofs::Failing::call_passes, crate::proofs::Failing::write_fails, crate::proofs::Failing::write_counts_fail, crate::proofs::Failing::write_passes, crate::proofs::Failing::write_counts_pass))]
+    fn write_some(&mut self, from: &[u8]) -> Moved
+        requires { 0 < length from.now }
+        ensures within { IsWithin result (length from.now) }
+        ensures moves { Moves (failing_server self.old.calls (E.standing self.old.inner)) (moved result from.now) (failing_server self.new.calls (E.standing self.new.inner)) [] }
+        ensures counts { CountsWrite (failing_server self.old.calls (E.standing self.old.inner)) (failing_server self.new.calls (E.standing self.new.inner)) result }
+        ensures call { IsCall self.old.calls self.new.calls self.old.inner self.new.inner (E.standing self.old.inner).faults result }
+    {
         let faults = self.inner.faults();
         match self.calls.failure(faults) {
             Some(answer) => answer,
@@ -98,12 +110,15 @@ impl<E: ServerEnd> ServerEnd for FailingEnd<E> {
 }
 
 impl<E: ClientEnd> ClientEnd for FailingEnd<E> {
-    ghost use Rattle.server_end.specs.Failing.{failing_client};
-
     ghost facts = { λ f. failing_client f.calls (E.facts f.inner) };
 
-    #[tactic(auto, using(crate::proofs::Failing::client_read_fails, crate::proofs::Failing::client_read_passes))]
-    fn read_some(&mut self, into: &mut [u8]) -> Moved {
+    #[tactic(auto, using(crate::proofs::Failing::call_fails, crate::proofs::Failing::call_passes, crate::proofs::Failing::client_read_fails, crate::proofs::Failing::client_read_passes))]
+    fn read_some(&mut self, into: &mut [u8]) -> Moved
+        requires { 0 < length into.old }
+        ensures within { IsWithin result (length into.old) }
+        ensures reads { ClientReads (failing_client self.old.calls (E.facts self.old.inner)) (failing_client self.new.calls (E.facts self.new.inner)) (moved result into.new) result }
+        ensures call { IsCall self.old.calls self.new.calls self.old.inner self.new.inner (E.facts self.old.inner).faults result }
+    {
         let faults = self.inner.faults();
         match self.calls.failure(faults) {
             Some(answer) => answer,
@@ -111,8 +126,13 @@ impl<E: ClientEnd> ClientEnd for FailingEnd<E> {
         }
     }
 
-    #[tactic(auto, using(crate::proofs::Failing::client_write_fails, crate::proofs::Failing::client_write_passes))]
-    fn write_some(&mut self, from: &[u8]) -> Moved {
+    #[tactic(auto, using(crate::proofs::Failing::call_fails, crate::proofs::Failing::call_passes, crate::proofs::Failing::client_write_fails, crate::proofs::Failing::client_write_passes))]
+    fn write_some(&mut self, from: &[u8]) -> Moved
+        requires { 0 < length from.now }
+        ensures within { IsWithin result (length from.now) }
+        ensures writes { ClientWrites (failing_client self.old.calls (E.facts self.old.inner)) (failing_client self.new.calls (E.facts self.new.inner)) (moved result from.now) result }
+        ensures call { IsCall self.old.calls self.new.calls self.old.inner self.new.inner (E.facts self.old.inner).faults result }
+    {
         let faults = self.inner.faults();
         match self.calls.failure(faults) {
             Some(answer) => answer,

@@ -1,7 +1,7 @@
 //! A client in memory.
-ghost use Rattle.std.specs.Prelude.{◌≡◌, ◌<◌, true, length, IfOk, OnOk, OnErr};
+ghost use Rattle.std.specs.Prelude.{◌≡◌, ◌<◌, length, IfOk, OnOk, OnErr};
 ghost use Rattle.server_end.specs.Moves.{ClientReads, ClientWrites, IsWithin, moved};
-ghost use Rattle.server_end.specs.Clients.{ReadsClient, WritesClient, fed, is_broken, new_client};
+ghost use Rattle.server_end.specs.Clients.{ReadsClient, WritesClient, after_hang_up, fed, is_broken, new_client};
 
 use crate::{ClientEnd, Moved};
 use bytes::BytesMut;
@@ -53,10 +53,8 @@ impl MemoryClient {
     /// Adds to the input; a client that hung up has no more. The only error is that an allocation failed, which changes
     /// nothing.
     pub fn feed(&mut self, bytes: &[u8]) -> Result<(), AllocError>
-        ensures facts { self.new.facts ≡ self.old.facts }
-        ensures unread { OnOk result (self.new.unread ≡ fed self.old.hung_up self.old.unread bytes.now) }
+        ensures ok { OnOk result (self.new ≡ fed self.old bytes.now) }
         ensures err { OnErr result (self.new ≡ self.old) }
-        ensures hung_up { self.new.hung_up ≡ self.old.hung_up }
     {
         if self.hung_up {
             return Ok(());
@@ -66,10 +64,7 @@ impl MemoryClient {
 
     /// It ends once its input is read.
     pub fn hang_up(&mut self)
-        ensures hung_up { self.new.hung_up ≡ true }
-        ensures unread { self.new.unread ≡ self.old.unread }
-        ensures taken { self.new.facts.taken ≡ self.old.facts.taken }
-        ensures given { self.new.facts.given ≡ self.old.facts.given }
+        ensures { self.new ≡ after_hang_up self.old }
     {
         self.hung_up = true;
     }

@@ -1,12 +1,12 @@
 //! A stand-in server in memory.
-ghost use Rattle.std.specs.Prelude.{◌≡◌, ◌<◌, [], length, not, true, IfOk, OnErr, OnOk};
+ghost use Rattle.std.specs.Prelude.{◌≡◌, ◌<◌, [], length, true, IfOk, OnErr, OnOk};
 ghost use Rattle.std.specs.Arc.{arc_value};
 ghost use Rattle.link_laws.specs.Futures.{replies_in};
 ghost use Rattle.link_laws.specs.Standing.{Moves};
 ghost use Rattle.server_end.specs.Dialogues.{asks};
 ghost use Rattle.server_end.specs.Moves.{CountsRead, CountsWrite, IsWithin, moved};
 ghost use Rattle.server_end.specs.Servers as spec;
-ghost use Rattle.server_end.specs.Servers.{Faults, KeepsCounts, KeepsServer, ReadsServer, WritesServer, at_most, auth_of, new_server};
+ghost use Rattle.server_end.specs.Servers.{Faults, KeepsCounts, KeepsServer, ReadsServer, WritesServer, at_most, auth_of, lives_on, new_server};
 ghost use Rattle.server_end.specs.declared.Moved.TheVariants.{Fault};
 
 use crate::dialogue::{Dialogue, Host, Progress, Question};
@@ -144,10 +144,13 @@ impl MemoryServer {
         })
     }
 
-    fn has_ended(&self) -> bool
-        ensures { result ≡ not self.now.standing.lives }
+    /// Whether it lives. It has died once all was read that may be, once a call came to a fault, or at the last count of reads
+    /// that came to nothing.
+    pub fn lives(&self) -> bool
+        ensures lives { result ≡ self.now.standing.lives }
+        ensures counts { result ≡ lives_on self.now.left self.now.standing.faults self.now.standing.read_waits }
     {
-        matches!(self.left, Some(0)) || self.faults > 0 || self.waits == u64::MAX
+        !matches!(self.left, Some(0)) && self.faults == 0 && self.waits < u64::MAX
     }
 
     /// Every whole packet is answered. After an error what it holds is of no use.
@@ -177,6 +180,8 @@ impl MemoryServer {
         requires { self.old.standing.lives ≡ true }
         ensures fault { result ≡ Fault }
         ensures faults { Faults self.old.standing self.new.standing }
+        ensures cut { self.new.cut ≡ self.old.cut }
+        ensures left { self.new.left ≡ self.old.left }
     {
         self.faults += 1;
         Moved::Fault
@@ -216,7 +221,7 @@ impl MemoryServer {
         ensures counts { CountsRead self.old.standing self.new.standing result }
         ensures reads { ReadsServer self.old self.new result }
     {
-        if self.has_ended() {
+        if !self.lives() {
             return Moved::Ended;
         }
         if self.serve().is_err() {
@@ -234,7 +239,7 @@ impl MemoryServer {
         ensures counts { CountsWrite self.old.standing self.new.standing result }
         ensures writes { WritesServer self.old self.new result }
     {
-        if self.has_ended() {
+        if !self.lives() {
             return Moved::Ended;
         }
         let count = self.cut.min(from.len());

@@ -9,6 +9,7 @@
 #![tactic(auto)]
 
 mod accepted;
+pub mod acceptor;
 pub mod connection;
 pub mod dial;
 pub mod gate;

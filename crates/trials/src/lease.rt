@@ -1,7 +1,7 @@
 //! `trials lease`: what a client is given by its login and its lease, over ends that move few bytes a call and a server that dies.
 use crate::input::read_input;
 use pool_app::fault::AppFault;
-use pool_app::replay::replies;
+use replay_run::replay::replies;
 use std::alloc::Global;
 
 /// The answer of the subcommand.

@@ -7,7 +7,7 @@ use Rattle.frame_view.specs.Frames.{FrameOf, Cut, spelling}
 use Rattle.frame_view.proofs.Splitting.{frames-stopped}
 use Rattle.message_view.specs.declared.KeyWord.{KeyWord}
 use Rattle.message_view.specs.Refusals.{Allowed, Begins, joined_pieces}
-use Rattle.session_values.specs.State.{State, CatalogueOf, StartKeyOf}
+use Rattle.session_values.specs.State.{State, CatalogueOf, StartKeyOf, Address, address_of}
 use Rattle.session_values.specs.Step.{run_frames}
 use Rattle.session_values.specs.Service.{welcome, client_frames}
 use Rattle.login_core.specs.Talk.{End}
@@ -32,7 +32,7 @@ use Rattle.frame_view.specs.declared.frames.TheConstants.{LONGEST_FRAME}
 use Rattle.world_model.specs.Headline.{Agree, IsQuiet, IsFreshLink, future, OutsBegin, TwoWorlds}
 use Rattle.world_steps.specs.Clients.{Client, given}
 use Rattle.world_steps.specs.Laws.{BookStepsKeep, ClientStepsKeep, ByteStepsKeep, LinkStepsKeep, EndStepsKeep}
-use Rattle.world_steps.specs.Links.{Address, address_of, Link}
+use Rattle.world_steps.specs.Links.{Link}
 use Rattle.world_steps.specs.Relation.{IsFront, Related, IsOver, IsLent, InService}
 use Rattle.world_steps.specs.Steps.{Step, Reached}
 use Rattle.world_steps.specs.Worlds.{World, own}

@@ -1,5 +1,7 @@
+use Rattle.std.proofs.Common.{◌≡◌}
 use Rattle.relay_laws.specs.Leases.{Keeps}
+use Rattle.relay_laws.specs.declared.Phase.TheVariants.{Running}
 use Rattle.memory_lease.proofs.alone.converse.Given as goal
 
 abbrev pub invariant-loop : goal.invariant-loop
-invariant-loop g l = Keeps l.initial.relay l.relay
+invariant-loop g l = Keeps l.initial.relay l.relay × (l.relay.phase ≡ Running)

@@ -1,0 +1,143 @@
+#!/usr/bin/env python3
+"""pgbench through pgsess, through PgBouncer with equal settings, and over PostgreSQL directly, in turn.
+
+Usage: pool.py PROGRAM [ROUNDS [SECONDS]]: so many rounds (5), each measurement of so many seconds (2). What is printed is the median
+of the rounds, and the least and the greatest.
+"""
+import os
+import pathlib
+import re
+import resource
+import shutil
+import signal
+import statistics
+import subprocess
+import sys
+import time
+
+sys.path.insert(0, str(pathlib.Path(__file__).resolve().parent.parent / "scripts"))
+from cluster import HERE, USERS, Cluster, Place, Pooler, need, set_up, until
+from wire import Client, startup
+
+CONNECTS = (1, 8, 32, 100, 400)
+QUERIES = (1, 8, 32)
+# bytes of a row, and rows
+BULK = ((1_048_576, 500), (90, 3_000_000), (1, 10_000_000))
+IDLE = (0, 1_000, 4_000)
+LINKS = 40
+MOST_CLIENTS = 10_000
+# a row of COPY: type, length, value, end of line
+ROW_MORE = 6
+GIGABYTE = 1e9
+
+
+class Bench:
+    def __init__(self, program, rounds, seconds):
+        self.rounds, self.seconds, self.place = rounds, seconds, Place()
+        self.cluster = Cluster(self.place, "shared_buffers = 256MB\n")
+        self.poolers = {}
+        kinds = ["pgsess"] + (["pgbouncer"] if shutil.which("pgbouncer") else [])
+        for kind in kinds:
+            self.poolers[kind] = Pooler(self.place, self.cluster, program, kind, auth="md5", size=LINKS, clients=MOST_CLIENTS, wait=0)
+        self.ports = {**{kind: it.port for kind, it in self.poolers.items()}, "directly": self.cluster.port}
+        self.pgbench(self.cluster.port, "-i", "-q", "-s", "10", timed=False)
+        self.found = {}
+
+    def environment(self, port):
+        return {**os.environ, "PGHOST": HERE, "PGPORT": str(port), "PGUSER": "ann", "PGDATABASE": "shop", "PGPASSWORD": USERS["ann"][0]}
+
+    def pgbench(self, port, *words, timed=True):
+        words = ["pgbench", *(["-n", "-S", "-T", str(self.seconds)] if timed else []), *words]
+        done = subprocess.run(words, env=self.environment(port), capture_output=True, text=True)
+        found = re.search(r"^tps = ([\d.]+)", done.stdout, re.MULTILINE)
+        if done.returncode != 0 or (timed and not found):
+            print(f"  {' '.join(words)}: {done.stderr.strip()[-200:]}")
+            return None
+        return float(found[1]) if timed else None
+
+    def bulk(self, kind, size, rows):
+        """Seconds of the pooler's processor for a gigabyte, all of its bytes counted."""
+        pooler = self.poolers[kind]
+        before = pooler.used()
+        text = f"COPY (SELECT repeat('x', {size}) FROM generate_series(1, {rows})) TO STDOUT"
+        subprocess.run(["psql", "-X", "-q", "-c", text], env=self.environment(pooler.port), stdout=subprocess.DEVNULL, check=True)
+        return (pooler.used() - before) * GIGABYTE / (rows * (size + ROW_MORE))
+
+    def note(self, name, kind, value):
+        if value is not None:
+            self.found.setdefault(name, {}).setdefault(kind, []).append(value)
+
+    def measure(self):
+        """One round: each measurement over all of them, one after the other."""
+        for clients in CONNECTS:
+            for kind, port in self.ports.items():
+                self.note(f"connects a second, {clients} clients", kind, self.pgbench(port, "-C", "-c", str(clients), "-j", str(min(clients, 4))))
+        for manner in ("simple", "prepared"):
+            for clients in QUERIES:
+                for kind, port in self.ports.items():
+                    self.note(f"{manner} queries a second, {clients} clients", kind, self.pgbench(port, "-M", manner, "-c", str(clients), "-j", str(min(clients, 4))))
+        for size, rows in BULK:
+            for kind in self.poolers:
+                self.note(f"s/GB of the pooler's processor, rows of {size} bytes", kind, self.bulk(kind, size, rows))
+
+    def idle(self):
+        """Memory a client that has sent its StartupMessage and waits."""
+        for kind, pooler in self.poolers.items():
+            clients, least = [], None
+            for count in IDLE:
+                while len(clients) < count:
+                    client = Client(pooler.port)
+                    client.send(startup("ann", "shop"))
+                    clients.append(client)
+                time.sleep(1)
+                kilobytes = pooler.resident()
+                least = kilobytes if least is None else least
+                each = f", {(kilobytes - least) / count:.1f} kB a client" if count else ""
+                print(f"memory of {kind} with {count} clients: {kilobytes} kB{each}")
+            for client in clients:
+                client.socket.close()
+            until(lambda: pooler.files() < 200, 20)
+
+    def tell(self):
+        for name, kinds in self.found.items():
+            shown = [f"{kind} {number(statistics.median(values))} ({number(min(values))} to {number(max(values))})" for kind, values in kinds.items()]
+            ours, theirs = kinds.get("pgsess"), kinds.get("pgbouncer")
+            ratio = f"; pgsess to pgbouncer {statistics.median(ours) / statistics.median(theirs):.2f}" if ours and theirs else ""
+            print(f"{name}: {', '.join(shown)}{ratio}")
+
+    def all(self):
+        self.idle()
+        for count in range(self.rounds):
+            print(f"round {count + 1} of {self.rounds}", flush=True)
+            self.measure()
+        self.tell()
+        for pooler in self.poolers.values():
+            pooler.stop()
+        self.cluster.stop()
+
+
+def number(value):
+    return f"{value:.0f}" if value >= 100 else f"{value:.2f}"
+
+
+def main():
+    if not 2 <= len(sys.argv) <= 4:
+        sys.exit(__doc__)
+    set_up()
+    need(["pgbouncer"], ["pgbouncer"])
+    signal.signal(signal.SIGTERM, lambda *_: sys.exit(1))
+    hard = resource.getrlimit(resource.RLIMIT_NOFILE)[1]
+    resource.setrlimit(resource.RLIMIT_NOFILE, (hard, hard))
+    rounds, seconds = [int(word) for word in (sys.argv[2:] + ["5", "2"][len(sys.argv) - 2:])]
+    bench = Bench(os.path.abspath(sys.argv[1]), rounds, seconds)
+    try:
+        bench.all()
+    finally:
+        for pid in bench.place.processes():
+            os.kill(pid, signal.SIGKILL)
+        until(lambda: not bench.place.processes())
+        bench.place.clear()
+
+
+if __name__ == "__main__":
+    main()

@@ -1,0 +1,18 @@
+-- Where the end of the benchmark stands: it is gone, and follows no session.
+use Rattle.std.specs.Prelude.{false, []}
+use Rattle.link_laws.specs.Stages.{Closed}
+use Rattle.link_laws.specs.Standing.{Standing}
+
+abbrev pub gone : Standing
+gone = record {
+  follows = false;
+  lives = false;
+  server = record { catalogue = record { version = []; databases = []; tables = [] }; pid = 0; secret = 0 };
+  stage = Closed;
+  inbox = [];
+  outbox = [];
+  accepted = [];
+  faults = 0;
+  read_waits = 0;
+  write_waits = 0;
+}

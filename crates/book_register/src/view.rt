@@ -1,0 +1,121 @@
+//! What a book shows of itself.
+ghost use Rattle.std.specs.Prelude.{◌≡◌, IfOk};
+ghost use Rattle.std.specs.List.{list_any};
+ghost use Rattle.book_lists.specs.Book.{same_pool};
+ghost use Rattle.book_register.specs.Views.{view_of, waiting_at};
+
+use crate::lists::Lists;
+use crate::rows::{Client, Link, Ticket};
+use book_lists::counts::Counts;
+use book_lists::limits::Limits;
+use start_keys::StartKey;
+use std::alloc::{AllocError, Global};
+use std::marker::Model;
+use std::sync::Arc;
+
+/// A book at one moment, in rows of the holder's own. Keys and limits are shared with the book.
+#[derive(Drop)]
+pub struct BookView {
+    /// Who is there, in the order in which they came.
+    pub clients: Vec<Client>,
+    /// Who waits, in the order of the Asks.
+    pub tickets: Vec<Ticket>,
+    /// The links that are lent, in the order in which they were.
+    pub lent: Vec<Link>,
+    /// The links that are idle, in the order in which they came back.
+    pub idle: Vec<Link>,
+    /// The greatest second of any Tick.
+    pub clock: u64,
+    pub limits: Arc<Limits>,
+    /// Whether no link is lent until Resume.
+    pub is_paused: bool,
+    /// Whether no client is let in and no link lent any more.
+    pub is_shut: bool,
+    /// How many decisions there were, and how many of each kind.
+    pub decisions: u64,
+    pub counts: Counts,
+    /// How many links were started.
+    pub starts: u64,
+    /// How many times an idle link was lent again.
+    pub reuses: u64,
+    /// How many idle links were closed for another's start.
+    pub evictions: u64,
+    /// How many links were lost, or failed to start.
+    pub losses: u64,
+}
+
+impl Model for BookView {
+    ghost use Rattle.std.specs.Arc.{arc_value};
+    ghost use Rattle.book_register.specs.Views.{View};
+
+    ghost Value = { View };
+
+    ghost view = { λ v. record {
+      clients = v.clients.items;
+      tickets = v.tickets.items;
+      lent = v.lent.items;
+      idle = v.idle.items;
+      clock = v.clock;
+      limits = arc_value v.limits;
+      is_paused = v.is_paused;
+      is_shut = v.is_shut;
+      decisions = v.decisions;
+      counts = v.counts;
+      starts = v.starts;
+      reuses = v.reuses;
+      evictions = v.evictions;
+      losses = v.losses;
+    } };
+}
+
+/// A client that waits, and whether no other of its pool has waited longer.
+#[derive(Clone, Copy, Debug, PartialEq, Eq, Drop)]
+pub struct Waiting {
+    pub client: u64,
+    pub first_of_pool: bool,
+}
+
+/// Whether a ticket is of this key's pool.
+fn has_pool(tickets: &[Ticket], pool: &StartKey) -> bool
+    ensures { result ≡ list_any (λ o. same_pool o.key pool.now) tickets.now }
+{
+    tickets.iter().any(|t| t.is_in_pool(pool))
+}
+
+impl Lists {
+    /// The lists as they are now.
+    ///
+    /// `AllocError` where memory is refused.
+    pub fn view(&self, alloc: Global) -> Result<BookView, AllocError>
+        ensures { IfOk result (λ v. v ≡ view_of self.now) }
+    {
+        Ok(BookView {
+            clients: Vec::from_clones(alloc, self.clients())?,
+            tickets: Vec::from_clones(alloc, self.tickets())?,
+            lent: Vec::from_clones(alloc, self.lent())?,
+            idle: Vec::from_clones(alloc, self.idle())?,
+            clock: self.clock(),
+            limits: Arc::try_clone(self.limits())?,
+            is_paused: self.is_paused(),
+            is_shut: self.is_shut(),
+            decisions: self.decisions(),
+            counts: self.counts(),
+            starts: self.starts(),
+            reuses: self.reuses(),
+            evictions: self.evictions(),
+            losses: self.losses(),
+        })
+    }
+
+    /// Who waits with the ticket at this place, places counted from 0 in the order of the Asks; none, where there are so few.
+    pub fn ticket(&self, at: usize) -> Option<Waiting>
+        ensures { result ≡ waiting_at self.now.tickets at }
+    {
+        let tickets = self.tickets();
+        let ticket = tickets.get(at)?;
+        Some(Waiting {
+            client: ticket.client,
+            first_of_pool: !has_pool(&tickets[..at], &ticket.key),
+        })
+    }
+}

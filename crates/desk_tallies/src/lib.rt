@@ -1,0 +1,5 @@
+//! Counters of decisions by class, and the passes that share in them.
+#![tactic(auto)]
+
+pub mod passes;
+pub mod tallies;

@@ -1,0 +1,138 @@
+//! Passes: who made which decisions.
+ghost use Rattle.std.specs.Prelude.{◌≡◌, ℕ, ◌+◌, ◌≤◌, length, vec_len, false};
+ghost use Rattle.link_desk.specs.Passes.{new_pass};
+ghost use Rattle.desk_tallies.specs.Shares.{AtMost, by_class, of_each, sum_of, sum_over};
+
+use std::marker::Model;
+use std::sync::ledger::{Ledger, Share};
+
+/// Into so many parts the shares of each ledger can be cut.
+pub const ALL_PARTS: u64 = 1 << 32;
+
+/// Decisions by class.
+#[derive(Clone, Copy, Debug, PartialEq, Eq, Drop)]
+pub struct Totals {
+    /// Clients let in.
+    pub arrived: u64,
+    /// Links granted.
+    pub granted: u64,
+    /// Links given back.
+    pub given_back: u64,
+    /// Links lost, or not started.
+    pub lost: u64,
+    /// Clients gone.
+    pub left: u64,
+    /// All others.
+    pub others: u64,
+}
+
+/// A share of each ledger.
+#[derive(Drop)]
+pub struct Shares<A: Ledger, G: Ledger, B: Ledger, L: Ledger, W: Ledger, O: Ledger> {
+    pub(crate) arrived: Share<A>,
+    pub(crate) granted: Share<G>,
+    pub(crate) given_back: Share<B>,
+    pub(crate) lost: Share<L>,
+    pub(crate) left: Share<W>,
+    pub(crate) others: Share<O>,
+}
+
+impl<A: Ledger, G: Ledger, B: Ledger, L: Ledger, W: Ledger, O: Ledger> Model
+    for Shares<A, G, B, L, W, O> {
+    ghost use Rattle.desk_tallies.specs.Shares.{SharesOf, by_class};
+
+    ghost Value = { SharesOf };
+
+    ghost view = { λ s. record {
+      parts = by_class s.arrived.parts s.granted.parts s.given_back.parts s.lost.parts s.left.parts s.others.parts;
+      amounts = by_class s.arrived.amount s.granted.amount s.given_back.amount s.lost.amount s.left.amount s.others.amount;
+    } };
+}
+
+/// A pass: a number, and one part of each ledger, with what was counted on it. Decisions are made through it.
+///
+/// `A` to `O` are the ledgers of the classes of decisions: clients let in, links granted, given back, lost or not started, clients
+/// gone, and all others.
+#[derive(Drop)]
+pub struct Pass<A: Ledger, G: Ledger, B: Ledger, L: Ledger, W: Ledger, O: Ledger> {
+    number: u64,
+    /// Whether a call through it was answered as strange, or by the last decision.
+    pub(crate) is_broken: bool,
+    pub(crate) shares: Shares<A, G, B, L, W, O>,
+}
+
+impl<A: Ledger, G: Ledger, B: Ledger, L: Ledger, W: Ledger, O: Ledger> Model
+    for Pass<A, G, B, L, W, O> {
+    ghost use Rattle.std.specs.Prelude.{◌≡◌};
+    ghost use Rattle.desk_tallies.specs.Shares.{PassView, of_each};
+
+    ghost Value = { PassView };
+
+    ghost view = { λ p. record { number = p.number; told = record { made = p.shares.amounts; is_broken = p.is_broken } } };
+
+    ghost invariant = { λ p. p.shares.parts ≡ of_each 1 };
+}
+
+impl<A: Ledger, G: Ledger, B: Ledger, L: Ledger, W: Ledger, O: Ledger> Pass<A, G, B, L, W, O> {
+    /// Its number, counted from 0.
+    pub fn number(&self) -> u64
+        ensures { result ≡ self.now.number }
+    {
+        self.number
+    }
+}
+
+impl<A: Ledger, G: Ledger, B: Ledger, L: Ledger, W: Ledger, O: Ledger> Shares<A, G, B, L, W, O> {
+    /// Cuts one part off each, as a pass.
+    pub fn cut(&mut self, number: u64) -> Pass<A, G, B, L, W, O>
+        requires none { self.old.amounts ≡ of_each 0 }
+        requires some { AtMost (of_each 2) self.old.parts }
+        ensures pass { result ≡ record { number = number; told = new_pass } }
+        ensures parts { sum_of self.new.parts (of_each 1) ≡ self.old.parts }
+        ensures amounts { self.new.amounts ≡ self.old.amounts }
+    {
+        let shares = Shares {
+            arrived: self.arrived.split_off(1, 0),
+            granted: self.granted.split_off(1, 0),
+            given_back: self.given_back.split_off(1, 0),
+            lost: self.lost.split_off(1, 0),
+            left: self.left.split_off(1, 0),
+            others: self.others.split_off(1, 0),
+        };
+        Pass {
+            number,
+            is_broken: false,
+            shares,
+        }
+    }
+
+    fn merge(&mut self, other: Shares<A, G, B, L, W, O>)
+        ensures parts { self.new.parts ≡ sum_of self.old.parts other.parts }
+        ensures amounts { self.new.amounts ≡ sum_of self.old.amounts other.amounts }
+    {
+        let Shares {
+            arrived,
+            granted,
+            given_back,
+            lost,
+            left,
+            others,
+        } = other;
+        self.arrived.merge(arrived);
+        self.granted.merge(granted);
+        self.given_back.merge(given_back);
+        self.lost.merge(lost);
+        self.left.merge(left);
+        self.others.merge(others);
+    }
+
+    /// Takes the passes in.
+    pub(crate) fn merge_all(&mut self, mut passes: Vec<Pass<A, G, B, L, W, O>>)
+        ensures parts { self.new.parts ≡ sum_of self.old.parts (of_each (vec_len passes)) }
+        ensures amounts { self.new.amounts ≡ sum_of self.old.amounts (sum_over passes.items) }
+    {
+        while let Some(pass) = passes.pop() {
+            self.merge(pass.shares);
+        }
+    }
+}

@@ -1,0 +1,204 @@
+//! Counters of decisions by class, each with a ledger of who made them.
+ghost use Rattle.std.specs.Prelude.{◌≡◌, ◌+◌, ◌<◌, ◌≤◌, ◌||◌, vec_len};
+ghost use Rattle.desk_tallies.specs.declared.passes.TheConstants.{ALL_PARTS};
+ghost use Rattle.desk_tallies.specs.Shares.{AtMost, by_class, made_of, names_of, of_each, parts_of, sum_of, sum_over};
+
+use crate::passes::{ALL_PARTS, Pass, Shares, Totals};
+use std::marker::Model;
+use std::sync::ledger::{Blank, Book, Ledger, Share};
+
+/// A counter that is its ledger's total.
+#[derive(Drop)]
+pub struct Tally<L: Ledger> {
+    pub count: u64,
+    ledger: Book<L>,
+    ghost same: { ledger.total ≡ count },
+}
+
+impl<L: Ledger> Tally<L> {
+    /// A counter at 0, and a share with every part.
+    pub fn open(blank: Blank) -> (Tally<L>, Share<L>)
+        requires name { blank.name ≡ L.name }
+        requires parts { blank.parts ≡ L.parts }
+        ensures count { result.0.count ≡ 0 }
+        ensures parts { result.1.parts ≡ L.parts }
+        ensures amount { result.1.amount ≡ 0 }
+    {
+        let (ledger, share) = blank.open::<L>();
+        (Tally { count: 0, ledger }, share)
+    }
+
+    /// The counter goes on to `to`, and what is added counts for this share.
+    pub fn follow(&mut self, mine: &mut Share<L>, to: u64)
+        requires part { 0 < mine.old.parts }
+        requires more { self.old.count ≤ to }
+        ensures count { self.new.count ≡ to }
+        ensures amount { mine.new.amount + self.old.count ≡ mine.old.amount + to }
+        ensures parts { mine.new.parts ≡ mine.old.parts }
+    {
+        let Tally { count, ledger } = self;
+        ledger.add(mine, to - *count);
+        *count = to;
+    }
+
+    /// A share is part of the count, and the whole share is all of it. Nothing changes.
+    pub fn audit(&mut self, mine: &mut Share<L>)
+        ensures same { self.new.count ≡ self.old.count }
+        ensures amount { mine.new.amount ≡ mine.old.amount }
+        ensures parts { mine.new.parts ≡ mine.old.parts }
+        ensures bound { mine.old.amount ≤ self.old.count }
+        ensures whole { mine.old.parts ≡ L.parts → mine.old.amount ≡ self.old.count }
+    {
+        self.ledger.audit(mine);
+    }
+}
+
+/// The counters of all classes.
+#[derive(Drop)]
+pub struct Tallies<A: Ledger, G: Ledger, B: Ledger, L: Ledger, W: Ledger, O: Ledger> {
+    arrived: Tally<A>,
+    granted: Tally<G>,
+    given_back: Tally<B>,
+    lost: Tally<L>,
+    left: Tally<W>,
+    others: Tally<O>,
+}
+
+impl<A: Ledger, G: Ledger, B: Ledger, L: Ledger, W: Ledger, O: Ledger> Model
+    for Tallies<A, G, B, L, W, O> {
+    ghost use Rattle.std.specs.Prelude.{◌≡◌};
+    ghost use Rattle.link_desk.specs.Passes.{Made};
+    ghost use Rattle.desk_tallies.specs.Shares.{by_class, of_each};
+    ghost use Rattle.desk_tallies.specs.declared.passes.TheConstants.{ALL_PARTS};
+
+    ghost Value = { Made };
+
+    ghost view = { λ t. by_class t.arrived.count t.granted.count t.given_back.count t.lost.count t.left.count t.others.count };
+
+    ghost invariant = { λ t. by_class A.parts G.parts B.parts L.parts W.parts O.parts ≡ of_each ALL_PARTS };
+}
+
+/// The ledgers of the classes, before anything was counted.
+#[derive(Drop)]
+pub struct Blanks {
+    pub arrived: Blank,
+    pub granted: Blank,
+    pub given_back: Blank,
+    pub lost: Blank,
+    pub left: Blank,
+    pub others: Blank,
+}
+
+impl Blanks {
+    /// Six new ledgers, of 4,294,967,296 parts each.
+    pub fn new() -> Blanks
+        ensures { parts_of result ≡ of_each ALL_PARTS }
+    {
+        Blanks {
+            arrived: Blank::new(ALL_PARTS),
+            granted: Blank::new(ALL_PARTS),
+            given_back: Blank::new(ALL_PARTS),
+            lost: Blank::new(ALL_PARTS),
+            left: Blank::new(ALL_PARTS),
+            others: Blank::new(ALL_PARTS),
+        }
+    }
+}
+
+impl<A: Ledger, G: Ledger, B: Ledger, L: Ledger, W: Ledger, O: Ledger> Tallies<A, G, B, L, W, O> {
+    /// Counters at 0, and shares with every part.
+    pub fn open(blanks: Blanks) -> (Tallies<A, G, B, L, W, O>, Shares<A, G, B, L, W, O>)
+        requires names { names_of blanks ≡ by_class A.name G.name B.name L.name W.name O.name }
+        requires parts { by_class A.parts G.parts B.parts L.parts W.parts O.parts ≡ parts_of blanks }
+        requires all { parts_of blanks ≡ of_each ALL_PARTS }
+        ensures none { result.0 ≡ of_each 0 }
+        ensures parts { result.1.parts ≡ of_each ALL_PARTS }
+        ensures amounts { result.1.amounts ≡ of_each 0 }
+    {
+        let (arrived, arrivals) = Tally::<A>::open(blanks.arrived);
+        let (granted, grants) = Tally::<G>::open(blanks.granted);
+        let (given_back, returns) = Tally::<B>::open(blanks.given_back);
+        let (lost, losses) = Tally::<L>::open(blanks.lost);
+        let (left, leavings) = Tally::<W>::open(blanks.left);
+        let (others, rest) = Tally::<O>::open(blanks.others);
+        let tallies = Tallies {
+            arrived,
+            granted,
+            given_back,
+            lost,
+            left,
+            others,
+        };
+        let shares = Shares {
+            arrived: arrivals,
+            granted: grants,
+            given_back: returns,
+            lost: losses,
+            left: leavings,
+            others: rest,
+        };
+        (tallies, shares)
+    }
+
+    fn follow(&mut self, mine: &mut Shares<A, G, B, L, W, O>, to: Totals)
+        requires part { AtMost (of_each 1) mine.old.parts }
+        requires more { AtMost self.old (made_of to) }
+        ensures count { self.new ≡ made_of to }
+        ensures amounts { sum_of mine.new.amounts self.old ≡ sum_of mine.old.amounts (made_of to) }
+        ensures parts { mine.new.parts ≡ mine.old.parts }
+    {
+        self.arrived.follow(&mut mine.arrived, to.arrived);
+        self.granted.follow(&mut mine.granted, to.granted);
+        self.given_back.follow(&mut mine.given_back, to.given_back);
+        self.lost.follow(&mut mine.lost, to.lost);
+        self.left.follow(&mut mine.left, to.left);
+        self.others.follow(&mut mine.others, to.others);
+    }
+
+    fn audit(&mut self, mine: &mut Shares<A, G, B, L, W, O>)
+        ensures same { self.new ≡ self.old }
+        ensures mine { mine.new ≡ mine.old }
+        ensures bound { AtMost mine.old.amounts self.old }
+        ensures whole { mine.old.parts ≡ of_each ALL_PARTS → mine.old.amounts ≡ self.old }
+    {
+        self.arrived.audit(&mut mine.arrived);
+        self.granted.audit(&mut mine.granted);
+        self.given_back.audit(&mut mine.given_back);
+        self.lost.audit(&mut mine.lost);
+        self.left.audit(&mut mine.left);
+        self.others.audit(&mut mine.others);
+    }
+
+    /// The counters go on to these, and what is added was made through this pass, whose call may have broken it.
+    pub fn count(&mut self, pass: &mut Pass<A, G, B, L, W, O>, to: Totals, breaks: bool)
+        requires more { AtMost self.old (made_of to) }
+        ensures count { self.new ≡ made_of to }
+        ensures number { pass.new.number ≡ pass.old.number }
+        ensures made { sum_of pass.new.told.made self.old ≡ sum_of pass.old.told.made (made_of to) }
+        ensures broken { pass.new.told.is_broken ≡ (breaks || pass.old.told.is_broken) }
+    {
+        self.follow(&mut pass.shares, to);
+        pass.is_broken = breaks || pass.is_broken;
+    }
+
+    /// What was made through a pass is among the counts. Nothing changes.
+    pub fn compare(&mut self, pass: &mut Pass<A, G, B, L, W, O>)
+        ensures same { self.new ≡ self.old }
+        ensures pass { pass.new ≡ pass.old }
+        ensures bound { AtMost pass.old.told.made self.old }
+    {
+        self.audit(&mut pass.shares);
+    }
+
+    /// Takes in all passes and what was never cut off: the counts are what was made through the passes.
+    pub fn settle(self, shares: Shares<A, G, B, L, W, O>, passes: Vec<Pass<A, G, B, L, W, O>>)
+        requires none { shares.amounts ≡ of_each 0 }
+        requires all { sum_of shares.parts (of_each (vec_len passes)) ≡ of_each ALL_PARTS }
+        ensures { self ≡ sum_over passes.items }
+    {
+        let mut all = shares;
+        all.merge_all(passes);
+        let mut tallies = self;
+        tallies.audit(&mut all);
+    }
+}

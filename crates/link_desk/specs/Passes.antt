@@ -1,0 +1,103 @@
+-- What a pass tells: the decisions that were made through it, by class.
+use Rattle.std.specs.Prelude.{ℕ, suc, Bool, true, false, Option, None}
+use Rattle.message_view.specs.declared.refusal.Refusal.{Refusal}
+use Rattle.message_view.specs.declared.refusal.Refusal.TheVariants.{LastDecision}
+use Rattle.link_run.specs.Links.{LinkView}
+use Rattle.link_desk.specs.declared.answers.Arrival.{Arrival}
+use Rattle.link_desk.specs.declared.answers.Arrival.TheVariants as arrival
+use Rattle.link_desk.specs.declared.answers.Asked.{Asked}
+use Rattle.link_desk.specs.declared.answers.Asked.TheVariants as asked
+use Rattle.link_desk.specs.declared.answers.Grant.{Grant}
+use Rattle.link_desk.specs.declared.answers.Grant.TheVariants as grant
+use Rattle.link_desk.specs.declared.answers.Back.{Back}
+use Rattle.link_desk.specs.declared.answers.Back.TheVariants as back
+use Rattle.link_desk.specs.declared.answers.Gone.{Gone}
+use Rattle.link_desk.specs.declared.answers.Gone.TheVariants as gone
+
+-- decisions by class: clients let in, links granted, links given back, links lost or not started, clients gone, and all others
+pub record Made : Type 0 where
+  pub arrived : ℕ
+  pub granted : ℕ
+  pub given_back : ℕ
+  pub lost : ℕ
+  pub left : ℕ
+  pub others : ℕ
+
+-- the decisions made through a pass; and whether a call through it was answered as strange, or by the last decision
+pub record PassOf : Type 0 where
+  pub made : Made
+  pub is_broken : Bool
+
+abbrev pub none_made : Made
+none_made = record { arrived = 0; granted = 0; given_back = 0; lost = 0; left = 0; others = 0 }
+
+abbrev pub new_pass : PassOf
+new_pass = record { made = none_made; is_broken = false }
+
+abbrev pub broken : PassOf → PassOf
+broken p = record p { is_broken = true }
+
+abbrev pub one_arrived : PassOf → PassOf
+one_arrived p = record p { made = record p.made { arrived = suc p.made.arrived } }
+
+abbrev pub one_granted : PassOf → PassOf
+one_granted p = record p { made = record p.made { granted = suc p.made.granted } }
+
+abbrev pub one_given_back : PassOf → PassOf
+one_given_back p = record p { made = record p.made { given_back = suc p.made.given_back } }
+
+abbrev pub one_lost : PassOf → PassOf
+one_lost p = record p { made = record p.made { lost = suc p.made.lost } }
+
+abbrev pub one_left : PassOf → PassOf
+one_left p = record p { made = record p.made { left = suc p.made.left } }
+
+abbrev pub one_other : PassOf → PassOf
+one_other p = record p { made = record p.made { others = suc p.made.others } }
+
+-- a refusal is a decision, but for that of the last decision
+abbrev pub after_refusal : PassOf → Refusal → PassOf
+after_refusal p LastDecision = broken p
+after_refusal p refusal = one_other p
+
+-- ---- what each call makes of its pass
+
+abbrev pub after_arrival : PassOf → Arrival → PassOf
+after_arrival p (arrival.Client n) = one_arrived p
+after_arrival p (arrival.Refused refusal) = after_refusal p refusal
+
+abbrev pub after_asking : PassOf → Asked → PassOf
+after_asking p (asked.Queued n) = one_other p
+after_asking p (asked.Refused refusal) = after_refusal p refusal
+after_asking p asked.Memory = p
+after_asking p asked.Stranger = broken p
+
+module _ {E : Type 0} where
+  abbrev pub after_grant : PassOf → Grant E → PassOf
+  after_grant p (grant.Lend l) = one_granted p
+  after_grant p (grant.Start number born evicted) = one_granted p
+  after_grant p (grant.Refused refusal) = after_refusal p refusal
+  after_grant p grant.Stranger = broken p
+
+abbrev pub after_back : PassOf → Back → PassOf
+after_back p back.Done = one_given_back p
+after_back p back.Close = one_given_back p
+after_back p back.Last = broken p
+after_back p back.Stranger = broken p
+
+abbrev pub after_loss : PassOf → Gone → PassOf
+after_loss p gone.Done = one_lost p
+after_loss p gone.Last = broken p
+after_loss p gone.Stranger = broken p
+
+abbrev pub after_leaving : PassOf → Gone → PassOf
+after_leaving p gone.Done = one_left p
+after_leaving p gone.Last = broken p
+after_leaving p gone.Stranger = broken p
+
+-- the desk keeps the link where it is done, and else leaves it there
+abbrev pub keeps : Back → Option LinkView → Option LinkView
+keeps back.Done link = None
+keeps back.Close link = link
+keeps back.Last link = link
+keeps back.Stranger link = link

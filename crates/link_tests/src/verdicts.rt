@@ -1,0 +1,126 @@
+//! What becomes of a link by what went over it.
+ghost use Rattle.link_start.specs.Starts.{CanStart};
+
+use crate::making::server;
+use crate::resets::link;
+use disposal::Verdict;
+use link_run::links::CleanLink;
+use message_view::KeyWord;
+use relay_core::relay::{Cause, Relay, Returned};
+use relay_steps::Next;
+use server_end::ServerEnd;
+use server_end::gate::Ready;
+use server_end::memory_client::MemoryClient;
+use server_end::memory_server::ServerAuth;
+use std::alloc::Global;
+use std::test::Fail;
+
+/// A Parse of `SELEC`, which the server refuses: it skips what comes up to a Sync.
+const REFUSED: &[u8] = b"P\0\0\0\x0d\0SELEC\0\0\0";
+
+/// The Query `SHOW TimeZone`.
+const SHOW: &[u8] = b"Q\0\0\0\x12SHOW TimeZone\0";
+
+const SYNC: &[u8] = b"S\0\0\0\x04";
+
+/// What the client of such a lease is given last: the ErrorResponse.
+const ERROR: &[u8] = b"E\0\0\0\x28SERROR\0VERROR\0C42601\0Msyntax error\0\0";
+
+/// What becomes of a link.
+#[derive(Clone, Copy, Debug, PartialEq, Eq)]
+enum Fate {
+    Unused,
+    Used,
+    Gone(Cause),
+}
+
+/// A lease of the link to a client that sends these messages at once, until nothing moves any more: what the client was given begins
+/// with its welcome, and what becomes of the link.
+fn lease<E: ServerEnd>(
+    alloc: Global,
+    link: CleanLink<E>,
+    messages: &[&[u8]],
+) -> Result<(MemoryClient, Returned<E>), Fail> {
+    let word = KeyWord {
+        pid: 1,
+        secret: 2,
+        salt: [0; 4],
+    };
+    let both = Ready {
+        client: true,
+        server: true,
+    };
+    let mut client = MemoryClient::new(alloc, b"", 1_000)?;
+    for message in messages {
+        client.feed(message)?;
+    }
+    let Ok(mut relay) = Relay::begin(alloc, client, link, word, 1_000) else {
+        return Err("no lease")?;
+    };
+    for _ in 0..200 {
+        if relay.pump(both) == Next::Wait {
+            return Ok(relay.close());
+        }
+    }
+    Err("bytes move on and on")?
+}
+
+/// What becomes of the link, and whether the client was given these bytes last.
+fn fate_of<E: ServerEnd>(
+    alloc: Global,
+    end: E,
+    messages: &[&[u8]],
+    last: &[u8],
+) -> Result<(Fate, bool), Fail>
+    requires { CanStart (E.standing end) }
+{
+    let (client, link) = lease(alloc, link(alloc, end)?, messages)?;
+    let told = client.given().ends_with(last);
+    match link {
+        Returned::Unused(_) => Ok((Fate::Unused, told)),
+        Returned::Used(_) => Ok((Fate::Used, told)),
+        Returned::Gone(_, cause) => Ok((Fate::Gone(cause), told)),
+    }
+}
+
+/// The same over a server that asks for nothing.
+fn left(alloc: Global, messages: &[&[u8]], last: &[u8]) -> Result<(Fate, bool), Fail> {
+    fate_of(
+        alloc,
+        server(alloc, ServerAuth::Trust, 1_000, None)?,
+        messages,
+        last,
+    )
+}
+
+#[test]
+fn a_link_is_unused_or_used(rt: HostRuntime) -> Result<(), Fail> {
+    let alloc = rt.alloc();
+    assert!(rt; left(alloc, &[], b"Z\0\0\0\x05I")? == (Fate::Unused, true));
+    assert!(rt; left(alloc, &[SHOW], b"Z\0\0\0\x05I")? == (Fate::Used, true));
+    Ok(())
+}
+
+#[test]
+fn a_block_is_left_open(rt: HostRuntime) -> Result<(), Fail> {
+    let in_block = Fate::Gone(Cause::Left(Verdict::InBlock));
+    assert!(rt; left(rt.alloc(), &[b"Q\0\0\0\x0aBEGIN\0"], b"Z\0\0\0\x05T")? == (in_block, true));
+    Ok(())
+}
+
+/// A Query that the server skips is never answered, also where a Sync behind it is: two messages asked for a ReadyForQuery, and one
+/// came.
+#[test]
+fn a_skipped_query_is_unanswered(rt: HostRuntime) -> Result<(), Fail> {
+    let alloc = rt.alloc();
+    let unanswered = Fate::Gone(Cause::Left(Verdict::Unanswered));
+    assert!(rt; left(alloc, &[REFUSED, SHOW], ERROR)? == (unanswered, true));
+    let idle = left(
+        alloc,
+        &[REFUSED, SHOW, SYNC],
+        b"Msyntax error\0\0Z\0\0\0\x05I",
+    )?;
+    assert!(rt; idle == (unanswered, true));
+    assert!(rt; left(alloc, &[REFUSED, SYNC], b"Z\0\0\0\x05I")? == (Fate::Used, true));
+    Ok(())
+}

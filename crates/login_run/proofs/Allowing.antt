@@ -1,0 +1,108 @@
+-- What a client was given in its login is allowed.
+use Rattle.std.proofs.Common.{◌≡◌, inl, inr, ℕ, true, List, [], ◌++◌, take, drop, sym, ap, ◌∙◌, subst, append_assoc, append-nil, take-append-drop}
+use Rattle.std.proofs.lemmas.Grind.{flat_map-append}
+use Rattle.message_view.specs.declared.refusal.Refusal.{Refusal}
+use Rattle.message_view.specs.Refusals.{Allowed, joined_pieces, refusal}
+use Rattle.session_values.specs.State.{Address, CatalogueOf, StartKeyOf, address_of}
+use Rattle.login_core.specs.Talk.End.{Passed as PassedWith}
+use Rattle.login_core.specs.Dialogue.{Dialogue, ToLink, login_among}
+use Rattle.login_core.specs.Laws.{LoginIsOfItsRow}
+use Rattle.login_core.specs.Logins.{LoginView, rows_of}
+use Rattle.login_core.specs.Solo.{after_in, service_pieces}
+use Rattle.login_run.specs.declared.said.Said.{Said}
+use Rattle.login_run.specs.declared.said.Said.TheVariants as said
+use Rattle.login_run.specs.Runs.{PhaseOf, Passed, RunView, said_bytes, said_pieces, IsPiece, IsBegun, HasEnded, StandsAt, Runs, Awaits}
+use Rattle.login_run.specs.Laws.{own, RunsAreAllowed, RunsStandAtPieces, PassedRunsAreLetIn, PassedRunsHavePassed}
+use Rattle.login_run.proofs.Running.{joined_said, settled, stands_begun}
+
+joined_both : (ps qs : List (List ℕ)) → joined_pieces (ps ++ qs) ≡ joined_pieces ps ++ joined_pieces qs
+joined_both ps qs = flat_map-append (λ (p : List ℕ). p) ps qs
+
+-- the pieces, as the login under all rows says them, and what follows them
+own_by : LoginIsOfItsRow → (catalogue : Address → CatalogueOf) (v : LoginView) (bytes : List ℕ) → own catalogue v bytes ≡ (login_among (rows_of v) v.word bytes).pieces ++ after_in catalogue v.word (login_among (rows_of v) v.word bytes).ended
+own_by law catalogue v bytes = ap (λ (d : Dialogue). d.pieces ++ after_in catalogue v.word d.ended) (sym (law (rows_of v) v.word bytes))
+
+-- these are the first pieces
+record Continues (pieces all : List (List ℕ)) : Type 0 where
+  more : List (List ℕ)
+  all_is : all ≡ pieces ++ more
+
+begun_own : LoginIsOfItsRow → (catalogue : Address → CatalogueOf) (v : LoginView) (bytes : List ℕ) (pieces : List (List ℕ)) → IsBegun (rows_of v) v.word bytes pieces → Continues pieces (own catalogue v bytes)
+begun_own law catalogue v bytes pieces b =
+    let x = b [] in
+    let d : Dialogue = login_among (rows_of v) v.word bytes in
+    record {
+      more = x.0 ++ after_in catalogue v.word d.ended;
+      all_is = own_by law catalogue v bytes
+          ∙ (ap (λ (ps : List (List ℕ)). ps ++ after_in catalogue v.word d.ended) (ap (λ (l : List ℕ). (login_among (rows_of v) v.word l).pieces) (sym (append-nil bytes)) ∙ sym x.1)
+          ∙ append_assoc pieces x.0 (after_in catalogue v.word d.ended));
+    }
+
+-- a part of the last piece
+part_allowed : (given : List ℕ) (done : List (List ℕ)) (s : Said) (sent : ℕ) (all : List (List ℕ)) → IsPiece s → given ≡ joined_pieces done ++ take sent (said_bytes s) → Continues (done ++ said_pieces s) all → Allowed given all
+part_allowed given done s sent all p g c = inl (record {
+  more = drop sent (said_bytes s) ++ joined_pieces c.more;
+  both =
+      ap (λ (l : List ℕ). l ++ (drop sent (said_bytes s) ++ joined_pieces c.more)) g
+      ∙ (append_assoc (joined_pieces done) (take sent (said_bytes s)) (drop sent (said_bytes s) ++ joined_pieces c.more)
+      ∙ (ap (λ (l : List ℕ). joined_pieces done ++ l) (sym (append_assoc (take sent (said_bytes s)) (drop sent (said_bytes s)) (joined_pieces c.more)) ∙ ap (λ (l : List ℕ). l ++ joined_pieces c.more) (take-append-drop sent (said_bytes s) ∙ sym (joined_said s p)))
+      ∙ (sym (append_assoc (joined_pieces done) (joined_pieces (said_pieces s)) (joined_pieces c.more))
+      ∙ (ap (λ (l : List ℕ). l ++ joined_pieces c.more) (sym (joined_both done (said_pieces s)))
+      ∙ (sym (joined_both (done ++ said_pieces s) c.more) ∙ ap joined_pieces (sym c.all_is))))));
+})
+
+-- or of a refusal
+refusal_allowed : (given : List ℕ) (done : List (List ℕ)) (r : Refusal) (sent : ℕ) (all : List (List ℕ)) → given ≡ joined_pieces done ++ take sent (refusal r) → Continues (done ++ []) all → Allowed given all
+refusal_allowed given done r sent all g c = inr (record {
+  given = done;
+  kept = c.more;
+  pieces_are = ap (λ (ps : List (List ℕ)). ps ++ c.more) (sym (append-nil done)) ∙ sym c.all_is;
+  cause = r;
+  last = take sent (refusal r);
+  begins = record { more = drop sent (refusal r); both = take-append-drop sent (refusal r) };
+  out_is = g;
+})
+
+said_allowed : (given : List ℕ) (done : List (List ℕ)) (s : Said) (sent : ℕ) (all : List (List ℕ)) → given ≡ joined_pieces done ++ take sent (said_bytes s) → Continues (done ++ said_pieces s) all → Allowed given all
+said_allowed given done said.Nothing sent all g c = part_allowed given done said.Nothing sent all tt g c
+said_allowed given done (said.Question q) sent all g c = part_allowed given done (said.Question q) sent all tt g c
+said_allowed given done said.LetIn sent all g c = part_allowed given done said.LetIn sent all tt g c
+said_allowed given done (said.Failure f) sent all g c = part_allowed given done (said.Failure f) sent all tt g c
+said_allowed given done (said.Refusal r) sent all g c = refusal_allowed given done r sent all g c
+
+continues : LoginIsOfItsRow → (v : RunView) (catalogue : Address → CatalogueOf) (x : Runs v) → v.client.tells ≡ true → Continues (x.done ++ said_pieces v.said) (own catalogue v.login v.client.taken)
+continues law v catalogue x t =
+    subst (λ (l : List ℕ). Continues (x.done ++ said_pieces v.said) (own catalogue v.login l)) (sym (x.taken t))
+    (begun_own law catalogue v.login x.heard (x.done ++ said_pieces v.said) (stands_begun v.phase v.said v.login x.heard (x.done ++ said_pieces v.said) x.stands))
+
+pub runs_allowed : LoginIsOfItsRow → RunsAreAllowed
+runs_allowed law v catalogue x t = said_allowed v.client.given x.2.done v.said v.sent (own catalogue v.login v.client.taken) (x.2.given t) (continues law v catalogue x.2 t)
+
+pub runs_at_pieces : LoginIsOfItsRow → RunsStandAtPieces
+runs_at_pieces law v catalogue x t p n =
+    let c = continues law v catalogue x.2 t in
+    record { given = x.2.done ++ said_pieces v.said; kept = c.more; pieces_are = sym c.all_is; out_is = settled v.client.given x.2.done v.said v.sent p n (x.2.given t) }
+
+-- ---- a client that was let in
+
+ended_of : (v : RunView) (key : StartKeyOf) (taken : List ℕ) (pieces : List (List ℕ)) → v.phase ≡ Passed key → StandsAt v.phase v.said v.login taken pieces → HasEnded (rows_of v.login) v.login.word taken pieces (λ more. PassedWith (ToLink key) more)
+ended_of v key taken pieces e h = subst (λ (p : PhaseOf). StandsAt p v.said v.login taken pieces) e h
+
+own_passed : LoginIsOfItsRow → (catalogue : Address → CatalogueOf) (v : LoginView) (key : StartKeyOf) (bytes : List ℕ) (pieces : List (List ℕ)) (left : List ℕ) → login_among (rows_of v) v.word bytes ≡ record { pieces = pieces; ended = PassedWith (ToLink key) left }
+    → own catalogue v bytes ≡ pieces ++ service_pieces (catalogue (address_of key)) key v.word left
+own_passed law catalogue v key bytes pieces left e = own_by law catalogue v bytes ∙ ap (λ (d : Dialogue). d.pieces ++ after_in catalogue v.word d.ended) e
+
+pub passed_let_in : LoginIsOfItsRow → PassedRunsAreLetIn
+passed_let_in law v catalogue key x t e n =
+    let h = ended_of v key x.2.heard (x.2.done ++ said_pieces v.said) e x.2.stands in
+    let p : IsPiece v.said = subst (λ (q : PhaseOf). Awaits q v.said v.login) e x.1 in
+    record {
+      pieces = x.2.done ++ said_pieces v.said;
+      given = settled v.client.given x.2.done v.said v.sent p n (x.2.given t);
+      owed = λ more. own_passed law catalogue v.login key (v.client.taken ++ more) (x.2.done ++ said_pieces v.said) more (ap (λ (l : List ℕ). login_among (rows_of v.login) v.login.word (l ++ more)) (x.2.taken t) ∙ h more);
+    }
+
+pub passed_passed : PassedRunsHavePassed
+passed_passed v key x e =
+    let h = ended_of v key x.2.heard (x.2.done ++ said_pieces v.said) e x.2.stands in
+    (x.2.heard ++ [], ap (λ (d : Dialogue). d.ended) (h []))

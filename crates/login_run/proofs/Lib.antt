@@ -1,0 +1,3 @@
+pub mod Running
+pub mod Turning
+pub mod Allowing

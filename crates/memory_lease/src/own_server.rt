@@ -1,0 +1,108 @@
+//! The stand-in server of one client.
+ghost use Rattle.std.specs.Prelude.{◌≡◌, ◌<◌, [], length, true, false};
+ghost use Rattle.link_laws.specs.Futures.{future};
+ghost use Rattle.link_laws.specs.Standing.{Moves};
+ghost use Rattle.server_end.specs.Moves.{CountsRead, CountsWrite, IsWithin, moved};
+ghost use Rattle.server_end.specs.Servers.{has_some};
+ghost use Rattle.memory_lease.specs.Own.{IsMarked, own_server};
+
+use server_end::memory_server::MemoryServer;
+use server_end::{Moved, ServerEnd};
+use std::marker::Model;
+
+/// A stand-in server in memory, and whether it has nothing to give.
+#[derive(Drop)]
+pub(crate) struct OwnServer {
+    server: MemoryServer,
+    /// The last call was a read that came to nothing.
+    rests: bool,
+}
+
+impl Model for OwnServer {
+    ghost use Rattle.std.specs.Prelude.{◌≡◌, true, []};
+    ghost use Rattle.link_laws.specs.Futures.{future};
+    ghost use Rattle.memory_lease.specs.Own.{OwnOf, own_server};
+
+    ghost Value = { OwnOf };
+
+    ghost view = { λ s. own_server s.server.left s.server.standing };
+
+    ghost invariant = { λ s. s.rests ≡ true → future s.server.standing [] ≡ [] };
+}
+
+impl OwnServer {
+    pub(crate) fn new(server: MemoryServer) -> OwnServer
+        ensures { result ≡ own_server server.left server.standing }
+    {
+        OwnServer {
+            server,
+            rests: false,
+        }
+    }
+
+    /// Whether it lives.
+    pub(crate) fn lives(&self) -> bool
+        ensures { result ≡ self.now.standing.lives }
+    {
+        self.server.lives()
+    }
+
+    /// Whether it has nothing to give.
+    pub(crate) fn rests(&self) -> bool
+        ensures { result ≡ true → future self.now.standing [] ≡ [] }
+    {
+        self.rests
+    }
+
+    /// Whether it was ended by a fault or the last count. Else it dies of nothing but the bytes that were read from it.
+    pub(crate) fn is_broken(&self) -> bool
+        ensures faults { result ≡ false → self.now.standing.faults ≡ 0 }
+        ensures lives { result ≡ false → self.now.standing.lives ≡ has_some self.now.left }
+        ensures marked { IsMarked self.now }
+    {
+        !self.server.lives() && (self.server.faults() > 0 || self.server.waits().0 == u64::MAX)
+    }
+
+    /// [`MemoryServer::read`].
+    fn read(&mut self, into: &mut [u8]) -> Moved
+        requires { 0 < length into.old }
+        ensures within { IsWithin result (length into.old) }
+        ensures moves { Moves self.old.standing [] self.new.standing (moved result into.new) }
+        ensures counts { CountsRead self.old.standing self.new.standing result }
+    {
+        let moved = self.server.read(into);
+        self.rests = matches!(moved, Moved::NotNow);
+        moved
+    }
+
+    /// [`MemoryServer::write`].
+    fn write(&mut self, from: &[u8]) -> Moved
+        requires { 0 < length from.now }
+        ensures within { IsWithin result (length from.now) }
+        ensures moves { Moves self.old.standing (moved result from.now) self.new.standing [] }
+        ensures counts { CountsWrite self.old.standing self.new.standing result }
+    {
+        self.rests = false;
+        self.server.write(from)
+    }
+}
+
+impl ServerEnd for OwnServer {
+    ghost standing = { λ s. s.standing };
+
+    fn read_some(&mut self, into: &mut [u8]) -> Moved {
+        self.read(into)
+    }
+
+    fn write_some(&mut self, from: &[u8]) -> Moved {
+        self.write(from)
+    }
+
+    fn faults(&self) -> u64 {
+        self.server.faults()
+    }
+
+    fn waits(&self) -> (u64, u64) {
+        self.server.waits()
+    }
+}

@@ -1,7 +1,0 @@
-use Rattle.std.proofs.Common.{◌∙◌, ap, ◌++◌, List, ℕ}
-use Rattle.pool_app.proofs.Replaying.{passed_given}
-use Rattle.pool_app.proofs.replay.put_passed.Goals as goal
-
-pub returns : goal.returns
-returns c = passed_given _ _ c.args.rest.now _ _ _ _ c.in_ok-put_authentication_ok.ensures.0 c.in_ok-answer.ensures
-    (c.in_ok-extend_from_slice.ensures.ok ∙ ap (λ (a : List ℕ). c.put_authentication_ok.new.out.items ++ a) c.as_slice.ensures)

@@ -1,9 +1,0 @@
-use Rattle.std.specs.Arc.{arc_value}
-use Rattle.pool_app.proofs.Replaying.{refusal_given, refusal_wants}
-use Rattle.pool_app.proofs.replay.put_step.Goals as goal
-
-pub returns-in-Refused : goal.returns-in-Refused
-returns-in-Refused c = record {
-  given = refusal_given (arc_value c.args.service.now.catalogue) _ _ c.args.rest.now _ _ _ c.in-Refused.is c.put_refusal.ensures.given;
-  memory = refusal_wants _ _ _ c.in-Refused.is c.put_refusal.ensures.memory;
-}

@@ -1,8 +1,0 @@
-use Rattle.pool_app.proofs.Replaying.{all_given, standing_keyed}
-use Rattle.pool_app.proofs.replay.replies.Goals as goal
-
-pub put_login-requires-clause-keyed : goal.put_login-requires-clause-keyed
-put_login-requires-clause-keyed c = standing_keyed c.settings_rows_are_lawful.ensures c.passed_keys_are_link_keys.ensures _ c.args.bytes.now c.in_ok-login.ensures
-
-pub returns : goal.returns
-returns c = all_given c.login_is_of_its_row.ensures _ _ c.args.bytes.now _ _ c.new-out.ensures.items c.in_ok-service.ensures c.in_ok-login.ensures c.in_ok-put_login.ensures

@@ -1,5 +1,0 @@
-use Rattle.pool_app.proofs.StandingText.{standing_read}
-use Rattle.pool_app.proofs.standing.catalogue.Goals as goal
-
-pub returns-in-Ok : goal.returns-in-Ok
-returns-in-Ok c = standing_read c.in-Ok.catalogue c.in-Ok.ensures

@@ -1,0 +1,34 @@
+-- What the clock's calls and the console's make of their pass.
+use Rattle.std.specs.Prelude.{◌≡◌, ◌⊎◌, Bool, true, false}
+use Rattle.session_values.specs.State.{Address, CatalogueOf}
+use Rattle.link_desk.specs.Homes.{IsAtHome}
+use Rattle.link_desk.specs.Passes.{PassOf, broken, one_other}
+use Rattle.lease_book.specs.declared.events.Event.{Event}
+use Rattle.lease_book.specs.declared.events.Event.TheVariants as event
+use Rattle.pool_desk.specs.declared.answers.Changed.{Changed}
+use Rattle.pool_desk.specs.declared.answers.Changed.TheVariants as changed
+use Rattle.pool_desk.specs.declared.answers.Ticked.{Ticked}
+use Rattle.pool_desk.specs.declared.answers.Ticked.TheVariants as ticked
+
+module _ {E : Type 0} where
+  -- a second that was done may have been told before
+  abbrev pub AfterTick : Ticked E → PassOf → PassOf → Type 0
+  AfterTick ticked.Done p q = (q ≡ p) ⊎ (q ≡ one_other p)
+  AfterTick (ticked.Close link) p q = q ≡ one_other p
+  AfterTick ticked.Last p q = q ≡ broken p
+
+  abbrev pub IsTickAtHome : (Address → CatalogueOf) → Ticked E → Type 0
+  IsTickAtHome catalogue (ticked.Close link) = IsAtHome catalogue link
+  IsTickAtHome catalogue _ = Unit {0}
+
+abbrev pub after_change : PassOf → Changed → PassOf
+after_change p changed.Done = one_other p
+after_change p changed.Last = broken p
+
+module _ {E : Type 0} where
+  abbrev pub is_change : Event E → Bool
+  is_change (event.Limits limits again) = true
+  is_change event.Pause = true
+  is_change event.Resume = true
+  is_change event.Shutdown = true
+  is_change _ = false

@@ -1,0 +1,4 @@
+pub mod Classes
+pub mod Tells
+pub mod Joined
+pub mod Changes

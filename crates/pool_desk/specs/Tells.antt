@@ -1,0 +1,53 @@
+-- What a pass tells after an event that was made through it.
+use Rattle.std.specs.Prelude.{◌≡◌, ◌⊎◌, Bool, true, false}
+use Rattle.message_view.specs.declared.refusal.Refusal.TheVariants.{LastDecision}
+use Rattle.book_lists.specs.Outcomes.{Event}
+use Rattle.book_lists.specs.Outcomes.Event.{Arrive, Ask, Take, GiveBack, Lost, StartFailed, Leave, Tick, NewLimits, Pause, Resume, Shutdown}
+use Rattle.book_lists.specs.declared.events.Reply.{Reply}
+use Rattle.book_lists.specs.declared.events.Reply.TheVariants.{Arrived, Queued, Lend, Start, Close, Refuse, Done, Stranger}
+use Rattle.link_desk.specs.Passes.{PassOf, after_refusal, broken, one_arrived, one_given_back, one_granted, one_left, one_lost, one_other}
+
+-- nothing more is promised of a pass after these replies
+abbrev pub breaks : Reply → Bool
+breaks (Refuse LastDecision) = true
+breaks (Refuse refusal) = false
+breaks Stranger = true
+breaks _ = false
+
+-- by the event and its reply; a tick that is done may be a decision or none, and to no event are other replies given
+abbrev pub Tells : Event → Reply → PassOf → PassOf → Type 0
+Tells Arrive (Arrived n) p q = q ≡ one_arrived p
+Tells Arrive (Refuse refusal) p q = q ≡ after_refusal p refusal
+Tells (Ask client key) (Queued n) p q = q ≡ one_other p
+Tells (Ask client key) (Refuse refusal) p q = q ≡ after_refusal p refusal
+Tells (Ask client key) Stranger p q = q ≡ broken p
+Tells (Take client) (Queued n) p q = q ≡ p
+Tells (Take client) (Lend link) p q = q ≡ one_granted p
+Tells (Take client) (Start link born evicted) p q = q ≡ one_granted p
+Tells (Take client) (Refuse refusal) p q = q ≡ after_refusal p refusal
+Tells (Take client) Stranger p q = q ≡ broken p
+Tells (GiveBack link) Done p q = q ≡ one_given_back p
+Tells (GiveBack link) (Close n) p q = q ≡ one_given_back p
+Tells (GiveBack link) (Refuse LastDecision) p q = q ≡ broken p
+Tells (GiveBack link) Stranger p q = q ≡ broken p
+Tells (Lost link) Done p q = q ≡ one_lost p
+Tells (Lost link) (Refuse LastDecision) p q = q ≡ broken p
+Tells (Lost link) Stranger p q = q ≡ broken p
+Tells (StartFailed link) Done p q = q ≡ one_lost p
+Tells (StartFailed link) (Refuse LastDecision) p q = q ≡ broken p
+Tells (StartFailed link) Stranger p q = q ≡ broken p
+Tells (Leave client) Done p q = q ≡ one_left p
+Tells (Leave client) (Refuse LastDecision) p q = q ≡ broken p
+Tells (Leave client) Stranger p q = q ≡ broken p
+Tells (Tick now) Done p q = (q ≡ p) ⊎ (q ≡ one_other p)
+Tells (Tick now) (Close link) p q = q ≡ one_other p
+Tells (Tick now) (Refuse LastDecision) p q = q ≡ broken p
+Tells (NewLimits limits) Done p q = q ≡ one_other p
+Tells (NewLimits limits) (Refuse LastDecision) p q = q ≡ broken p
+Tells Pause Done p q = q ≡ one_other p
+Tells Pause (Refuse LastDecision) p q = q ≡ broken p
+Tells Resume Done p q = q ≡ one_other p
+Tells Resume (Refuse LastDecision) p q = q ≡ broken p
+Tells Shutdown Done p q = q ≡ one_other p
+Tells Shutdown (Refuse LastDecision) p q = q ≡ broken p
+Tells _ _ p q = ⊥

@@ -1,0 +1,23 @@
+//! What the desk answers to those who run it.
+
+use link_run::links::CleanLink;
+use server_end::ServerEnd;
+
+/// To the clock.
+#[derive(Drop)]
+pub enum Ticked<E: ServerEnd> {
+    /// Nothing is to be closed.
+    Done,
+    /// This idle link is to be closed, and there may be more: the same second is told again.
+    Close(CleanLink<E>),
+    /// The book has made its last decision.
+    Last,
+}
+
+/// To new limits, Pause, Resume and Shutdown.
+#[derive(Clone, Copy, Debug, PartialEq, Eq, Drop)]
+pub enum Changed {
+    Done,
+    /// The book has made its last decision.
+    Last,
+}

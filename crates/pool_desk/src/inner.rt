@@ -1,0 +1,204 @@
+//! What lies behind the desk's lock.
+ghost use Rattle.std.specs.Prelude.{◌≡◌, ◌<◌, ◌≤◌, ◌^◌, ◌||◌, [], IfOk, IfErr, IfSome, IfNone, vec_len, suc, ◌≢◌};
+ghost use Rattle.std.specs.Arc.{arc_value};
+ghost use Rattle.book_lists.specs.Book.{empty_book};
+ghost use Rattle.book_order.specs.Kept.{total};
+ghost use Rattle.book_register.specs.Views.{view_of};
+ghost use Rattle.lease_book.specs.Links.{IsTwice, answered, handed, handed_after, history_after, idle_after, plain, reply_of};
+ghost use Rattle.link_desk.specs.Homes.{IsAtHome};
+ghost use Rattle.link_desk.specs.Passes.{new_pass};
+ghost use Rattle.desk_tallies.specs.declared.passes.TheConstants.{ALL_PARTS};
+ghost use Rattle.desk_tallies.specs.Shares.{AtMost, by_class, made_of, names_of, of_each, parts_of, sum_over};
+ghost use Rattle.pool_desk.specs.Classes.{class_counts};
+ghost use Rattle.pool_desk.specs.Joined.{brought};
+ghost use Rattle.pool_desk.specs.Tells.{Tells, breaks};
+
+use crate::dial::Dial;
+use book_lists::counts::Counts;
+use book_lists::limits::Limits;
+use book_register::view::{BookView, Waiting};
+use desk_tallies::passes::{ALL_PARTS, Pass, Shares, Totals};
+use desk_tallies::tallies::{Blanks, Tallies};
+use lease_book::book::Book;
+use lease_book::events::{Event, Reply};
+use message_view::Refusal;
+use server_end::ServerEnd;
+use std::alloc::{AllocError, Global};
+use std::marker::{Model, PhantomData};
+use std::sync::Arc;
+use std::sync::ledger::Ledger;
+
+/// The book's decisions by class.
+fn totals_of(decisions: u64, counts: Counts) -> Totals
+    requires { total counts ≡ decisions }
+    ensures { made_of result ≡ class_counts counts }
+{
+    let lost = counts.lost + counts.starts_failed;
+    let known = counts.arrived + counts.granted + counts.given_back + lost + counts.left;
+    Totals {
+        arrived: counts.arrived,
+        granted: counts.granted,
+        given_back: counts.given_back,
+        lost,
+        left: counts.left,
+        others: decisions - known,
+    }
+}
+
+/// Whether nothing more is promised of a pass after this reply.
+fn breaks<E: ServerEnd>(reply: &Reply<E>) -> bool
+    ensures { result ≡ breaks (reply_of reply.now) }
+{
+    match reply {
+        Reply::Refuse(Refusal::LastDecision, _) => true,
+        Reply::Stranger(_) => true,
+        _ => false,
+    }
+}
+
+/// The book, the counters of its decisions by class, and the shares that no pass has.
+#[derive(Drop)]
+pub struct Core<S: Dial, A: Ledger, G: Ledger, B: Ledger, L: Ledger, W: Ledger, O: Ledger> {
+    book: Book<S::End>,
+    tallies: Tallies<A, G, B, L, W, O>,
+    uncut: Shares<A, G, B, L, W, O>,
+    /// So many passes were cut off.
+    given: u64,
+    dialer: PhantomData<S>,
+}
+
+impl<S: Dial, A: Ledger, G: Ledger, B: Ledger, L: Ledger, W: Ledger, O: Ledger> Model
+    for Core<S, A, G, B, L, W, O> {
+    ghost use Rattle.pool_desk.specs.Joined.{CoreOf, IsJoined};
+
+    ghost Value = { CoreOf };
+
+    ghost view = { λ c. record { book = c.book; given = c.given } };
+
+    ghost invariant = { λ c. IsJoined S.catalogue c.book c.tallies c.uncut c.given };
+}
+
+impl<S: Dial, A: Ledger, G: Ledger, B: Ledger, L: Ledger, W: Ledger, O: Ledger> Core<
+    S,
+    A,
+    G,
+    B,
+    L,
+    W,
+    O,
+> {
+    /// An empty book, of which nothing was counted.
+    ///
+    /// `AllocError` where memory is refused.
+    pub fn new(
+        alloc: Global,
+        limits: Arc<Limits>,
+        blanks: Blanks,
+    ) -> Result<Core<S, A, G, B, L, W, O>, AllocError>
+        requires names { names_of blanks ≡ by_class A.name G.name B.name L.name W.name O.name }
+        requires parts { by_class A.parts G.parts B.parts L.parts W.parts O.parts ≡ parts_of blanks }
+        requires all { parts_of blanks ≡ of_each ALL_PARTS }
+        ensures lists { IfOk result (λ c. c.book.lists ≡ empty_book (arc_value limits)) }
+        ensures given { IfOk result (λ c. c.given ≡ 0) }
+    {
+        let book = Book::new(alloc, limits)?;
+        let (tallies, uncut) = Tallies::open(blanks);
+        Ok(Core {
+            book,
+            tallies,
+            uncut,
+            given: 0,
+            dialer: PhantomData,
+        })
+    }
+
+    /// Cuts a pass off; `None` where one part of each ledger is left.
+    pub fn pass(&mut self) -> Option<Pass<A, G, B, L, W, O>>
+        ensures pass { IfSome result (λ p. p ≡ record { number = self.old.given; told = new_pass }) }
+        ensures given { IfSome result (λ p. self.new.given ≡ suc self.old.given) }
+        ensures none { IfNone result (suc self.old.given ≡ ALL_PARTS) }
+        ensures book { self.new.book ≡ self.old.book }
+    {
+        if self.given + 1 == ALL_PARTS {
+            return None;
+        }
+        let pass = self.uncut.cut(self.given);
+        self.given += 1;
+        Some(pass)
+    }
+
+    /// One event, made through this pass.
+    pub fn apply(
+        &mut self,
+        pass: &mut Pass<A, G, B, L, W, O>,
+        event: Event<S::End>,
+    ) -> Reply<S::End>
+        requires twice { IsTwice event }
+        requires home { IfSome (brought event) (λ l. IsAtHome S.catalogue l) }
+        ensures lists { self.new.book.lists ≡ (answered self.old.book.lists event).book }
+        ensures history { self.new.book.history ≡ history_after self.old.book.lists pass.old.number event self.old.book.history }
+        ensures reply { reply_of result ≡ (answered self.old.book.lists event).reply }
+        ensures idle { self.new.book.idle ≡ idle_after event (answered self.old.book.lists event).reply self.old.book.idle }
+        ensures handed { handed result ≡ handed_after event (answered self.old.book.lists event).reply self.old.book.idle }
+        ensures home { IfSome (handed result) (λ l. IsAtHome S.catalogue l) }
+        ensures number { pass.new.number ≡ pass.old.number }
+        ensures told { Tells (plain event) (reply_of result) pass.old.told pass.new.told }
+        ensures given { self.new.given ≡ self.old.given }
+    {
+        let reply = self.book.apply(pass.number(), event);
+        let totals = totals_of(self.book.decisions(), self.book.counts());
+        self.tallies.count(pass, totals, breaks(&reply));
+        reply
+    }
+
+    /// The book as it is now, in rows of the caller's own; what was made through the pass is among its decisions.
+    ///
+    /// `AllocError` where memory is refused.
+    pub fn view(
+        &mut self,
+        alloc: Global,
+        pass: &mut Pass<A, G, B, L, W, O>,
+    ) -> Result<BookView, AllocError>
+        ensures view { IfOk result (λ v. v ≡ view_of self.old.book.lists) }
+        ensures at_least { IfOk result (λ v. AtMost pass.old.told.made (class_counts v.counts)) }
+        ensures pass { pass.new ≡ pass.old }
+        ensures same { self.new ≡ self.old }
+    {
+        self.tallies.compare(pass);
+        self.book.view(alloc)
+    }
+
+    /// How many decisions there were.
+    pub fn decisions(&self) -> u64 {
+        self.book.decisions()
+    }
+
+    /// Who waits at this place of the queue.
+    pub fn ticket(&self, at: usize) -> Option<Waiting> {
+        self.book.ticket(at)
+    }
+
+    /// The book's decisions by class, which are those made through all passes together. `Err`: these are not as many passes as
+    /// were cut off.
+    pub fn gather(
+        self,
+        passes: Vec<Pass<A, G, B, L, W, O>>,
+    ) -> Result<Totals, (Core<S, A, G, B, L, W, O>, Vec<Pass<A, G, B, L, W, O>>)>
+        ensures counts { IfOk result (λ t. made_of t ≡ class_counts self.book.lists.counts) }
+        ensures sums { IfOk result (λ t. made_of t ≡ sum_over passes.items) }
+        ensures all { IfOk result (λ t. vec_len passes ≡ self.given) }
+        ensures back { IfErr result (λ e. (e.0 ≡ self) × (e.1 ≡ passes) × (vec_len passes ≢ self.given)) }
+    {
+        if passes.len() as u64 != self.given {
+            return Err((self, passes));
+        }
+        let Core {
+            book,
+            tallies,
+            uncut,
+            ..
+        } = self;
+        tallies.settle(uncut, passes);
+        Ok(totals_of(book.decisions(), book.counts()))
+    }
+}

@@ -1,0 +1,26 @@
+//! Servers that are reached over TCP.
+use ini_config::DbRow;
+use pool_desk::dial::Dial;
+use std::alloc::Global;
+use std::net::Net;
+use tcp_end::connection::TcpEnd;
+use tcp_end::dial::{CONNECT_SECONDS, dial};
+
+/// Reaches a row's server at its address and port.
+#[derive(Drop)]
+pub struct TcpDial<R: Net> {
+    pub(crate) rt: R,
+    pub(crate) alloc: Global,
+}
+
+impl<R: Net> Dial for TcpDial<R> {
+    ghost use Rattle.pool_run.specs.Dialling.{no_catalogue};
+
+    type End = TcpEnd;
+
+    ghost catalogue = { no_catalogue };
+
+    fn dial(&self, row: &DbRow) -> Option<TcpEnd> {
+        dial(&self.rt, self.alloc, row.host, row.port, CONNECT_SECONDS)
+    }
+}

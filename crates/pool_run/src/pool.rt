@@ -1,0 +1,291 @@
+//! One pool, from the first connection to the last.
+ghost use Rattle.std.specs.Prelude.{◌≡◌, IfSome};
+ghost use Rattle.std.specs.Arc.{arc_value};
+ghost use Rattle.ini_config.specs.Bounds.{AreWithinBounds};
+ghost use Rattle.desk_tallies.specs.declared.passes.TheConstants.{ALL_PARTS};
+ghost use Rattle.desk_tallies.specs.Shares.{by_class, names_of, of_each, parts_of};
+
+use crate::dialing::TcpDial;
+use desk_tallies::passes::Pass;
+use desk_tallies::tallies::Blanks;
+use ini_config::Settings;
+use key_source::KeySource;
+use link_start::close::close_link;
+use login_core::Login;
+use message_view::KeyWord;
+use mio::net::TcpListener;
+use pool_desk::answers::Ticked;
+use pool_desk::desk::Desk;
+use pool_desk::handle::DeskAt;
+use pool_serve::serve::serve;
+use settings_limits::limits_of;
+use std::alloc::{AllocError, Global};
+use std::marker::Brand;
+use std::net::Net;
+use std::rt::Clock;
+use std::sync::atomic::{AtomicBool, Ordering};
+use std::sync::ledger::Ledger;
+use std::sync::{Arc, Mutex, Wait};
+use std::thread::Threads;
+use std::time::{Duration, Instant};
+use std::{io, net, thread};
+use tcp_end::acceptor::Acceptor;
+use tcp_end::connection::TcpEnd;
+use tcp_end::gate::TcpGate;
+use user_file::Users;
+use worker_threads::Workers;
+
+/// Passes that no worker has at this time.
+#[derive(Drop)]
+struct Free<A: Ledger, G: Ledger, B: Ledger, L: Ledger, W: Ledger, O: Ledger> {
+    passes: Vec<Pass<A, G, B, L, W, O>>,
+}
+
+/// What all threads of a pool share.
+struct Pool<R: Net, A: Ledger, G: Ledger, B: Ledger, L: Ledger, W: Ledger, O: Ledger> {
+    alloc: Global,
+    desk: Desk<TcpDial<R>, A, G, B, L, W, O>,
+    dialer: TcpDial<R>,
+    free: Mutex<Free<A, G, B, L, W, O>>,
+    settings: Arc<Settings>,
+    users: Arc<Users>,
+    /// The last connection is done.
+    has_ended: AtomicBool,
+    ghost bounds: { AreWithinBounds (arc_value settings) },
+}
+
+/// A drop of its own is proved here once.
+impl<R: Net + Drop, A: Ledger, G: Ledger, B: Ledger, L: Ledger, W: Ledger, O: Ledger> Drop
+    for Pool<R, A, G, B, L, W, O> {
+    fn drop(self) {
+        let Pool {
+            alloc: _,
+            desk: _,
+            dialer: _,
+            free: _,
+            settings: _,
+            users: _,
+            has_ended: _,
+        } = self;
+    }
+}
+
+impl<R: Net, A: Ledger, G: Ledger, B: Ledger, L: Ledger, W: Ledger, O: Ledger> Pool<
+    R,
+    A,
+    G,
+    B,
+    L,
+    W,
+    O,
+> {
+    /// A pass that another worker gave back, or a new one.
+    fn pass<T: Wait>(&self, rt: &T) -> Option<Pass<A, G, B, L, W, O>> {
+        let free = self.free.lock(rt).passes.pop();
+        match free {
+            Some(pass) => Some(pass),
+            None => self.desk.pass(rt),
+        }
+    }
+
+    /// A worker is done with this pass.
+    fn give_back<T: Wait>(&self, rt: &T, pass: Pass<A, G, B, L, W, O>) {
+        // one that isn't kept is never used again
+        let _ = self.free.lock(rt).passes.push(pass);
+    }
+
+    /// The login of a client with this key word.
+    fn login(&self, word: KeyWord) -> Result<Login, AllocError> {
+        let settings = Arc::try_clone(&self.settings)?;
+        let users = Arc::try_clone(&self.users)?;
+        Login::new(self.alloc, settings, users, word)
+    }
+
+    /// Serves one connection to its end. One for which there is no poll, no pass or no memory is closed.
+    fn attend<T: Wait + Net>(&self, rt: &T, word: KeyWord, client: TcpEnd) {
+        let mut client = client;
+        let (Ok(gate), Ok(login)) = (TcpGate::new(rt, self.alloc, &mut client), self.login(word))
+        else {
+            return;
+        };
+        let Some(pass) = self.pass(rt) else {
+            return;
+        };
+        let desk = DeskAt {
+            rt,
+            desk: &self.desk,
+            dialer: &self.dialer,
+        };
+        let (_, pass) = serve(self.alloc, &desk, pass, client, login, word, gate);
+        let DeskAt {
+            rt,
+            desk: _,
+            dialer: _,
+        } = desk;
+        self.give_back(rt, pass);
+    }
+
+    /// Tells the desk this second until nothing more is to be closed; whether the clock is still wanted.
+    fn tick<T: Wait>(&self, rt: &T, pass: &mut Pass<A, G, B, L, W, O>, now: u64) -> bool {
+        for _ in rt.forever() {
+            match self.desk.tick(rt, pass, now) {
+                Ticked::Done => return true,
+                Ticked::Close(link) => close_link(link),
+                Ticked::Last => return false,
+            }
+        }
+        unreachable!()
+    }
+
+    /// The clock: the whole seconds since the start, one after the other, until the last connection is done.
+    fn run_clock<T: Wait + Clock>(&self, rt: &T) -> io::Result<()> {
+        let start = Instant::now(rt)?;
+        let Some(mut pass) = self.desk.pass(rt) else {
+            return Ok(());
+        };
+        for _ in rt.forever() {
+            thread::sleep(rt, Duration::from_millis(1000));
+            let now = start.elapsed(rt)?.as_secs();
+            if self.has_ended.load(Ordering::SeqCst) || !self.tick(rt, &mut pass, now) {
+                break;
+            }
+        }
+        self.give_back(rt, pass);
+        Ok(())
+    }
+}
+
+/// Serves one connection on a thread of its own.
+fn start_worker<
+    R: Threads
+        + Wait
+        + Net<Listener = net::TcpListener, Stream = net::TcpStream>
+        + Copy
+        + Send
+        + Sync
+        + 'static,
+    A: Ledger + Send + Sync + 'static,
+    G: Ledger + Send + Sync + 'static,
+    B: Ledger + Send + Sync + 'static,
+    L: Ledger + Send + Sync + 'static,
+    W: Ledger + Send + Sync + 'static,
+    O: Ledger + Send + Sync + 'static,
+>(
+    rt: R,
+    workers: &mut Workers,
+    pool: &Arc<Pool<R, A, G, B, L, W, O>>,
+    word: KeyWord,
+    client: TcpEnd,
+) -> Result<(), AllocError> {
+    let pool = Arc::try_clone(pool)?;
+    workers.start(rt, move || pool.attend(&rt, word, client))
+}
+
+/// Serves the connections of a listener, each on a thread of its own, over links of one desk: as many as `count` says, and then no
+/// more, or for ever. It returns when the last is done. A thread more tells the desk the seconds, and closes the links that are idle
+/// or old.
+///
+/// A connection for which there is no thread, no poll, no pass or no memory is closed, and the others go on. The error is that the
+/// system has no poll for the listener or no thread for the clock, or that an allocation failed before the first connection.
+fn serve_all<
+    R: Threads
+        + Wait
+        + Clock
+        + Net<Listener = net::TcpListener, Stream = net::TcpStream>
+        + Copy
+        + Send
+        + Sync
+        + 'static,
+    A: Ledger + Send + Sync + 'static,
+    G: Ledger + Send + Sync + 'static,
+    B: Ledger + Send + Sync + 'static,
+    L: Ledger + Send + Sync + 'static,
+    W: Ledger + Send + Sync + 'static,
+    O: Ledger + Send + Sync + 'static,
+>(
+    rt: R,
+    alloc: Global,
+    listener: TcpListener,
+    settings: Settings,
+    users: Users,
+    seed: [u8; 32],
+    count: Option<u64>,
+    blanks: Blanks,
+) -> io::Result<()>
+    requires bounds { AreWithinBounds settings }
+    requires names { names_of blanks ≡ by_class A.name G.name B.name L.name W.name O.name }
+    requires parts { by_class A.parts G.parts B.parts L.parts W.parts O.parts ≡ parts_of blanks }
+    requires all { parts_of blanks ≡ of_each ALL_PARTS }
+{
+    let limits = Arc::new(alloc, limits_of(alloc, &settings)?)?;
+    let desk = Desk::<TcpDial<R>, A, G, B, L, W, O>::new(alloc, limits, blanks)?;
+    let free = Free {
+        passes: Vec::new(alloc),
+    };
+    let pool = Pool {
+        alloc,
+        desk,
+        dialer: TcpDial { rt, alloc },
+        free: Mutex::new(free),
+        settings: Arc::new(alloc, settings)?,
+        users: Arc::new(alloc, users)?,
+        has_ended: AtomicBool::new(false),
+    };
+    let pool = Arc::new(alloc, pool)?;
+    let shared = Arc::try_clone(&pool)?;
+    let clock = thread::spawn(&rt, move || {
+        let _ = shared.run_clock(&rt);
+    })?;
+    let mut acceptor = Acceptor::new(&rt, alloc, listener)?;
+    let mut workers = Workers::new(alloc)?;
+    let mut keys = KeySource::new(seed);
+    let mut accepted: u64 = 0;
+    for _ in rt.forever() {
+        if count == Some(accepted) {
+            break;
+        }
+        if let Some(client) = acceptor.turn() {
+            accepted = accepted.wrapping_add(1);
+            let word = keys.next();
+            // a thread that can't be started closes this connection alone
+            let _ = start_worker(rt, &mut workers, &pool, word, client);
+        }
+    }
+    workers.join_all(&rt);
+    pool.has_ended.store(true, Ordering::SeqCst);
+    clock.join(&rt);
+    Ok(())
+}
+
+/// The same, over new ledgers.
+pub fn serve_on<
+    R: Threads
+        + Wait
+        + Clock
+        + Net<Listener = net::TcpListener, Stream = net::TcpStream>
+        + Copy
+        + Send
+        + Sync
+        + 'static,
+>(
+    rt: R,
+    alloc: Global,
+    listener: TcpListener,
+    settings: Settings,
+    users: Users,
+    seed: [u8; 32],
+    count: Option<u64>,
+) -> io::Result<()>
+    requires { AreWithinBounds settings }
+{
+    serve_all::<R, Brand, Brand, Brand, Brand, Brand, Brand>(
+        rt,
+        alloc,
+        listener,
+        settings,
+        users,
+        seed,
+        count,
+        Blanks::new(),
+    )
+}

@@ -1,0 +1,62 @@
+-- Links keep the catalogues of their addresses.
+use Rattle.std.proofs.Common.{◌≡◌, ℕ, true, false, Bool, List, [], ◌∷◌, Option, Some, refl, sym, ap, ◌∙◌, subst}
+use Rattle.std.specs.Prelude.{bytes_eq, if◌then◌else◌}
+use Rattle.std.proofs.lemmas.Slice.Eq.{bytes_eq-Decides}
+use Rattle.ini_config.specs.declared.database_rows.DbRow.{DbRow}
+use Rattle.ini_config.specs.Tables.{row_named}
+use Rattle.session_values.specs.State.{Address, CatalogueOf, StartKeyOf, address_of}
+use Rattle.link_laws.specs.Standing.{ClientFacts, Standing}
+use Rattle.link_laws.specs.Stages as stages
+use Rattle.link_run.specs.Links.{LinkView}
+use Rattle.link_desk.specs.Homes.{IsAtHome, address_in}
+use Rattle.link_start.specs.Starts.{IsStarted}
+use Rattle.login_keys.specs.Laws.{IsOfRow, IsAtRow}
+use Rattle.user_file.specs.declared.secrets.Secret.{Secret}
+use Rattle.message_view.specs.declared.KeyWord.{KeyWord}
+use Rattle.relay_laws.specs.Leases.{RelayView, IsLease, place}
+use Rattle.relay_core.specs.declared.relay.Returned.{Returned}
+use Rattle.relay_core.specs.declared.relay.Returned.TheVariants.{Unused, Used, Gone}
+use Rattle.relay_core.specs.Returns.{IsReturned, IsThatLink}
+use Rattle.pool_serve.specs.Backs.{IsBackHome}
+
+-- a link of the same key, whose end has the same server still
+pub home_still : (catalogue : Address → CatalogueOf) (old new : LinkView) → new.stands.follows ≡ old.stands.follows → new.stands.server ≡ old.stands.server → new.key ≡ old.key → IsAtHome catalogue old → IsAtHome catalogue new
+home_still catalogue old new f s k h = λ follows. ap (λ (x : stages.Server). x.catalogue) s ∙ (h (sym f ∙ follows) ∙ ap (λ (x : StartKeyOf). catalogue (address_of x)) (sym k))
+
+module _ (catalogue : Address → CatalogueOf) (client : ClientFacts) (link : LinkView) (word : KeyWord) (limit : ℕ) (v : RelayView) (x : IsLease (place client link word limit) v) where
+  that_home : (l : LinkView) → IsThatLink v l → IsAtHome catalogue link → IsAtHome catalogue l
+  that_home l t h = home_still catalogue link l (ap (λ (s : Standing). s.follows) t.stands ∙ x.moves.follows) (ap (λ (s : Standing). s.server) t.stands ∙ x.moves.server) (t.key ∙ x.same.0) h
+
+  pub back_home : {E : Type 0} (standing : E → Standing) (r : Returned E) → IsReturned standing v r → IsAtHome catalogue link → IsBackHome catalogue r
+  back_home standing (Unused l) t h = that_home l t.2 h
+  back_home standing (Used l) t h = that_home l t.2 h
+  back_home standing (Gone lent cause) t h = tt
+
+-- ---- a new link
+
+named_here : (name : List ℕ) (r row : DbRow) (rest : Option DbRow) → (rest ≡ Some row → name ≡ row.name) → (b : Bool) → bytes_eq name r.name ≡ b → (if b then Some r else rest) ≡ Some row → name ≡ row.name
+named_here name r row rest f true d e =
+    let same : r ≡ row = cc in
+    (bytes_eq-Decides name r.name).0 d ∙ ap (λ (x : DbRow). x.name) same
+named_here name r row rest f false d e = f e
+
+-- the row of a name has it
+named : (name : List ℕ) (rows : List DbRow) (row : DbRow) → row_named name rows ≡ Some row → name ≡ row.name
+named name [] row e = absurd cc
+named name (r ∷ rows) row e = named_here name r row (row_named name rows) (named name rows row) (bytes_eq name r.name) refl e
+
+of_some : (o : Option DbRow) (row : DbRow) (key : StartKeyOf) → o ≡ Some row → IsOfRow o key → IsAtRow row key
+of_some o row key e h = subst (λ (x : Option DbRow). IsOfRow x key) e h
+
+-- the address of the row of this name is that of a key of the row
+same_address : (row : DbRow) (key : StartKeyOf) → key.row ≡ row.name → IsAtRow row key → address_in row ≡ address_of key
+same_address row key n x = rw (n, x.host, x.port, x.dbname) refl
+
+pub row_address : (rows : List DbRow) (row : DbRow) (key : StartKeyOf) → Some row ≡ row_named key.row rows → IsOfRow (row_named key.row rows) key → address_in row ≡ address_of key
+row_address rows row key e h = same_address row key (named key.row rows row (sym e)) (of_some (row_named key.row rows) row key (sym e) h)
+
+-- a link that was started over an end of that row's server
+pub started_home : (catalogue : Address → CatalogueOf) (began : Standing) (secret : Secret) (row : DbRow) (key : StartKeyOf) (l : LinkView) → (began.follows ≡ true → began.server.catalogue ≡ catalogue (address_in row)) → address_in row ≡ address_of key → IsStarted began secret l → l.key ≡ key → IsAtHome catalogue l
+started_home catalogue began secret row key l h a st k = λ follows.
+    let m = st.under_way.starting.moves in
+    ap (λ (x : stages.Server). x.catalogue) m.server ∙ (h (sym m.follows ∙ follows) ∙ (ap catalogue a ∙ ap (λ (x : StartKeyOf). catalogue (address_of x)) (sym k)))

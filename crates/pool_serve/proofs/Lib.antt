@@ -1,0 +1,7 @@
+pub mod Telling
+pub mod Answering
+pub mod Homing
+pub mod Owing
+pub mod Stopping
+pub mod Logging
+pub mod Giving

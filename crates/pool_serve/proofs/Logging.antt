@@ -1,0 +1,85 @@
+-- A client's login, and what it leads to.
+use Rattle.std.proofs.Common.{◌≡◌, ℕ, true, List, [], sym, ap, ap₂, ◌∙◌, subst, Option, Some}
+use Rattle.std.specs.declared.sync.Arc.{Arc}
+use Rattle.std.specs.Arc.{arc_value}
+use Rattle.message_view.specs.declared.KeyWord.{KeyWord}
+use Rattle.message_view.specs.declared.refusal.Refusal.{Refusal}
+use Rattle.message_view.specs.Refusals.{Allowed}
+use Rattle.ini_config.specs.Bounds.{AreWithinBounds}
+use Rattle.ini_config.specs.Tables.{row_named}
+use Rattle.ini_config.specs.declared.option_values.Settings.{Settings}
+use Rattle.user_file.specs.declared.user_table.UserRow.{UserRow}
+use Rattle.session_values.specs.State.{Address, CatalogueOf, StartKeyOf}
+use Rattle.link_laws.specs.Standing.{ClientFacts}
+use Rattle.login_core.specs.Dialogue.{Rows, row_in}
+use Rattle.login_core.specs.Logins.{LoginView, rows_of}
+use Rattle.login_core.specs.Laws.{names_in, row_for}
+use Rattle.login_core.specs.Solo.{solo_in}
+use Rattle.login_keys.specs.Laws.{BoundedRowsAreLawful, IsOfRow, PassedKeysAreLinkKeys, PassedKeysAreOfTheirRows}
+use Rattle.login_run.specs.Runs.{Arrived, Awaits, Console, Gone, IsAllGiven, IsKeyOf, IsPiece, IsRun, IsSameLogin, Passed, PhaseOf, Refused, RunView, Stopped, Talking}
+use Rattle.login_run.specs.Laws.{PassedRunsAreLetIn, PassedRunsHavePassed, RunsAreAllowed, RunsStandAtPieces, own}
+use Rattle.pool_serve.specs.declared.guest.Guest.{Guest}
+use Rattle.pool_serve.specs.declared.word.LastWord.{LastWord}
+use Rattle.pool_serve.specs.declared.word.LastWord.TheVariants as last
+use Rattle.pool_serve.specs.Serving.{IsGuest, MayEnd, Serves, owed}
+use Rattle.pool_serve.proofs.Owing.{behind_login}
+
+-- ---- the same login
+
+pub same_both : (a b c : RunView) → IsSameLogin a b → IsSameLogin b c → IsSameLogin a c
+same_both a b c x y = record { settings = y.settings ∙ x.settings; users = y.users ∙ x.users; word = y.word ∙ x.word; tells = y.tells ∙ x.tells }
+
+owes : (Address → CatalogueOf) → Rows → KeyWord → List ℕ → List (List ℕ)
+owes catalogue rows word bytes = solo_in catalogue (row_for rows (names_in bytes)) word bytes
+
+same_owed : (catalogue : Address → CatalogueOf) (v w : LoginView) (bytes : List ℕ) → w.settings ≡ v.settings → w.users ≡ v.users → w.word ≡ v.word → own catalogue w bytes ≡ own catalogue v bytes
+same_owed catalogue v w bytes s u k =
+    ap₂ (λ (r : Rows) (x : KeyWord). solo_in catalogue (row_for r (names_in bytes)) x bytes) (ap₂ (λ (a : Settings) (b : List UserRow). row_in a b) s u) k
+
+pub same_end : (catalogue : Address → CatalogueOf) (old new : RunView) (out bytes : List ℕ) (word : LastWord) → IsSameLogin old new → MayEnd out (own catalogue new.login bytes) word → MayEnd out (own catalogue old.login bytes) word
+same_end catalogue old new out bytes word s m = subst (λ (ps : List (List ℕ)). MayEnd out ps word) (same_owed catalogue old.login new.login bytes s.settings s.users s.word) m
+
+-- ---- a login that leads nowhere
+
+pub run_ends : RunsAreAllowed → (catalogue : Address → CatalogueOf) (old new : RunView) (c : ClientFacts) → IsSameLogin old new → IsRun new → c ≡ new.client → old.client.tells ≡ true → MayEnd c.given (own catalogue old.login c.taken) last.Nothing
+run_ends law catalogue old new c s x e t =
+    same_end catalogue old new c.given c.taken last.Nothing s
+    (subst (λ (d : ClientFacts). Allowed d.given (own catalogue new.login d.taken)) (sym e) (law new catalogue x (s.tells ∙ t)))
+
+arrived_piece : (v : RunView) → v.phase ≡ Arrived → IsRun v → IsPiece v.said
+arrived_piece v e x = (subst (λ (p : PhaseOf). Awaits p v.said v.login) e x.1).0
+
+pub arrival_ends : RunsStandAtPieces → (catalogue : Address → CatalogueOf) (v : RunView) (c : ClientFacts) (r : Refusal) → v.phase ≡ Arrived → IsAllGiven v → IsRun v → c ≡ v.client → v.client.tells ≡ true → MayEnd c.given (own catalogue v.login c.taken) (last.Refusal r)
+arrival_ends law catalogue v c r p n x e t =
+    subst (λ (d : ClientFacts). MayEnd d.given (own catalogue v.login d.taken) (last.Refusal r)) (sym e) (law v catalogue x t (arrived_piece v p x) n)
+
+-- ---- a client that was let in
+
+pub key_is : {Z : Type 0} (p : PhaseOf) (o : Option (Arc StartKeyOf Z)) (k : Arc StartKeyOf Z) → o ≡ Some k → IsKeyOf p o → p ≡ Passed (arc_value k)
+key_is p o k e h = key_of p k (subst (IsKeyOf p) e h)
+  where
+    key_of : {Z : Type 0} (q : PhaseOf) (l : Arc StartKeyOf Z) → IsKeyOf q (Some l) → q ≡ Passed (arc_value l)
+    key_of (Passed key) l i = ap Passed (sym i)
+    key_of Talking l i = absurd cc
+    key_of Arrived l i = absurd cc
+    key_of Console l i = absurd cc
+    key_of Stopped l i = absurd cc
+    key_of Refused l i = absurd cc
+    key_of Gone l i = absurd cc
+
+pub is_guest : BoundedRowsAreLawful → PassedKeysAreLinkKeys → PassedKeysAreOfTheirRows → PassedRunsHavePassed → (v : RunView) (g : Guest) → IsRun v → v.phase ≡ Passed (arc_value g.key) → g.login ≡ v.login → AreWithinBounds v.login.settings → IsGuest g
+unfolding row_in
+is_guest bounded keys rows passed v g x e l b =
+    let p = passed v (arc_value g.key) x e in
+    let lawful = bounded v.login.settings v.login.users b in
+    let k = keys (rows_of v.login) v.login.word p.0 [] (arc_value g.key) lawful p.1 in
+    record {
+      key = (k.client, k.dbname);
+      row = subst (λ (w : LoginView). IsOfRow (row_named (arc_value g.key).row w.settings.rows) (arc_value g.key)) (sym l) (rows (rows_of v.login) v.login.word p.0 [] (arc_value g.key) lawful p.1);
+      settings = subst (λ (w : LoginView). AreWithinBounds w.settings) (sym l) b;
+    }
+
+pub guest_ends : PassedRunsAreLetIn → (catalogue : Address → CatalogueOf) (old new : RunView) (g : Guest) (before after : ClientFacts) (word : LastWord) → IsSameLogin old new → IsRun new → new.phase ≡ Passed (arc_value g.key) → IsAllGiven new → before ≡ new.client → g.word ≡ new.login.word → old.client.tells ≡ true
+    → Serves before after (owed catalogue g) word → MayEnd after.given (own catalogue old.login after.taken) word
+guest_ends law catalogue old new g before after word s x p n e w t m =
+    same_end catalogue old new after.given after.taken word s (behind_login catalogue new g before after word e w (law new catalogue (arc_value g.key) x (s.tells ∙ t) p n) m)

@@ -1,0 +1,19 @@
+use Rattle.std.proofs.Common.{◌≡◌, true, sym, ap, ◌∙◌, subst}
+use Rattle.std.specs.Arc.{arc_value}
+use Rattle.start_keys.specs.SameKeys.{same_keys-one}
+use Rattle.link_run.specs.Links.{LinkView}
+use Rattle.link_desk.specs.Homes.{IsAtHome}
+use Rattle.pool_serve.proofs.Owing.{over_link}
+use Rattle.pool_serve.proofs.leasing.over_lent.Goals as goal
+
+pub returns-clause-serves : goal.returns-clause-serves
+returns-clause-serves g c = λ t l.
+    let link = c.watched-link.result in
+    let same = c.watched-link.ensures.same in
+    let follows = c.watched-link.ensures.follows l.follow in
+    let still = subst (λ (x : LinkView). x.stands.follows ≡ true) (sym same) follows in
+    over_link g.D.LinkDesk.catalogue (g.C.ClientEnd.facts c.args.client) (g.C.ClientEnd.facts c.relayed.result.0) c.args.guest.now link c.relayed.result.1
+    (subst (λ (x : LinkView). IsAtHome g.D.LinkDesk.catalogue x) (sym same) c.requires.home)
+    still
+    (ap (λ (x : LinkView). x.key) same ∙ (same_keys-one c.args.link.key (arc_value c.args.guest.now.key)).0 (sym c.is_for.ensures ∙ c.if-not-is_for.false))
+    (c.relayed.ensures.serves t still)

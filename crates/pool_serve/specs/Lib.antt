@@ -1,0 +1,4 @@
+pub mod Words
+pub mod Shares
+pub mod Backs
+pub mod Serving

@@ -1,0 +1,70 @@
+-- What a worker gives its client.
+use Rattle.std.specs.Prelude.{◌≡◌, ℕ, true, List, ◌++◌, Some}
+use Rattle.std.specs.Arc.{arc_value}
+use Rattle.message_view.specs.Refusals.{Allowed, Begins, joined_pieces}
+use Rattle.ini_config.specs.Bounds.{AreWithinBounds}
+use Rattle.ini_config.specs.Tables.{row_named}
+use Rattle.user_file.specs.declared.user_table.UserRow.{UserRow}
+use Rattle.user_file.specs.Users.{user_named}
+use Rattle.session_values.specs.State.{Address, CatalogueOf, StartKeyOf, address_of}
+use Rattle.link_laws.specs.Standing.{ClientFacts, Standing}
+use Rattle.link_start.specs.Starts.{IsLinkKey}
+use Rattle.login_core.specs.Solo.{service_pieces}
+use Rattle.login_keys.specs.Laws.{IsOfRow}
+use Rattle.login_run.specs.declared.run.LoginTurn.{LoginTurn}
+use Rattle.login_run.specs.declared.run.LoginTurn.TheVariants as turn
+use Rattle.login_run.specs.Runs.{RunView, Arrived, IsAllGiven}
+use Rattle.login_run.specs.Laws.{IsAtPiece}
+use Rattle.memory_lease.specs.Answers.{IsLetIn}
+use Rattle.pool_serve.specs.declared.guest.Guest.{Guest}
+use Rattle.pool_serve.specs.declared.word.LastWord.{LastWord}
+use Rattle.pool_serve.specs.declared.word.LastWord.TheVariants as last
+
+-- ---- the premise
+
+-- each end answers as the stand-in server does
+abbrev pub AllFollow : {E : Type 0} → (E → Standing) → Type 0
+AllFollow {E} standing = (e : E) → (standing e).follows ≡ true
+
+-- and refuses a start with a user's own secret only as it refuses the key's session
+pub record LetsIn {E : Type 0} (standing : E → Standing) (users : List UserRow) : Type 0 where
+  pub follow : AllFollow standing
+  pub accept : (e : E) (key : StartKeyOf) (user : UserRow) → user_named key.user users ≡ Some user → IsLetIn (standing e) key user.secret
+
+-- ---- what was given
+
+-- what was given of these pieces, where this is the last word to be given
+abbrev pub MayEnd : List ℕ → List (List ℕ) → LastWord → Type 0
+MayEnd out pieces last.Nothing = Allowed out pieces
+MayEnd out pieces (last.Refusal r) = IsAtPiece out pieces
+MayEnd out pieces (last.Error error) = Begins (out ++ error) (joined_pieces pieces)
+
+-- since then, of the pieces that are owed for the bytes taken since
+pub record Serves (before after : ClientFacts) (owed : List ℕ → List (List ℕ)) (word : LastWord) : Type 0 where
+  pub took : List ℕ
+  pub gave : List ℕ
+  pub taken : after.taken ≡ before.taken ++ took
+  pub given : after.given ≡ before.given ++ gave
+  pub ends : MayEnd gave (owed took) word
+
+-- ---- a client that is through its login
+
+-- its key starts a link to the server of its row, under settings within their bounds
+pub record IsGuest (g : Guest) : Type 0 where
+  pub key : IsLinkKey (arc_value g.key)
+  pub row : IsOfRow (row_named (arc_value g.key).row g.login.settings.rows) (arc_value g.key)
+  pub settings : AreWithinBounds g.login.settings
+
+-- what it is owed: the service of its bytes, over the catalogue of its key's address
+abbrev pub owed : (Address → CatalogueOf) → Guest → List ℕ → List (List ℕ)
+owed catalogue g bytes = service_pieces (catalogue (address_of (arc_value g.key))) (arc_value g.key) g.word bytes
+
+-- ---- a login that goes on no further
+
+abbrev pub HasStopped : RunView → LoginTurn → Type 0
+HasStopped v turn.Arrived = (v.phase ≡ Arrived) × IsAllGiven v
+HasStopped v turn.Passed = IsAllGiven v
+HasStopped v turn.Console = Unit {0}
+HasStopped v turn.Over = Unit {0}
+HasStopped v turn.Again = ⊥
+HasStopped v turn.Wait = ⊥

@@ -1,0 +1,37 @@
+-- The last word to a client.
+use Rattle.std.specs.Prelude.{◌≡◌, ◌⊎◌, ℕ, ◌+◌, ◌≤◌, true, List, [], ◌++◌, length, take, Option, Some, None}
+use Rattle.message_view.specs.declared.refusal.Refusal.{Refusal}
+use Rattle.message_view.specs.declared.refusal.Refusal.TheVariants.{OutOfMemory, ServerNotReached}
+use Rattle.message_view.specs.Refusals.{refusal}
+use Rattle.link_laws.specs.Standing.{ClientFacts}
+use Rattle.link_start.specs.declared.start.StartCause.{StartCause}
+use Rattle.link_start.specs.declared.start.StartCause.TheVariants as cause
+use Rattle.login_run.specs.Runs.{IsClientOver}
+use Rattle.pool_serve.specs.declared.word.LastWord.{LastWord}
+use Rattle.pool_serve.specs.declared.word.LastWord.TheVariants as last
+
+abbrev pub last_bytes : LastWord → List ℕ
+last_bytes last.Nothing = []
+last_bytes (last.Refusal r) = refusal r
+last_bytes (last.Error error) = error
+
+abbrev pub or_nothing : Option Refusal → LastWord
+or_nothing None = last.Nothing
+or_nothing (Some r) = last.Refusal r
+
+-- what a client is told whose link wasn't started
+abbrev pub last_of : StartCause → LastWord
+last_of (cause.Refused error) = last.Error error
+last_of cause.Memory = last.Refusal OutOfMemory
+last_of cause.Lost = last.Refusal ServerNotReached
+last_of cause.Unanswerable = last.Refusal ServerNotReached
+last_of cause.Unexpected = last.Refusal ServerNotReached
+last_of cause.Turns = last.Refusal ServerNotReached
+
+-- So many of these bytes were given: all, unless the client's end ended or faulted, or 600 times bytes went or none did.
+pub record HasGiven (old new : ClientFacts) (bytes : List ℕ) : Type 0 where
+  pub tells : new.tells ≡ old.tells
+  pub taken : old.tells ≡ true → new.taken ≡ old.taken
+  pub count : ℕ
+  pub given : old.tells ≡ true → new.given ≡ old.given ++ take count bytes
+  pub why : (count ≡ length bytes) ⊎ (IsClientOver old new ⊎ (old.write_waits + 600 ≤ new.write_waits + count))

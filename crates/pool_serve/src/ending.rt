@@ -1,0 +1,60 @@
+//! How a link goes back to its desk.
+ghost use Rattle.link_desk.specs.Homes.{IsAtHome};
+ghost use Rattle.pool_serve.specs.Shares.{Ends};
+ghost use Rattle.pool_serve.specs.Backs.{IsBackHome};
+
+use link_desk::desk::LinkDesk;
+use link_run::links::CleanLink;
+use link_run::reset::reset_link;
+use link_start::close::close_link;
+use relay_core::relay::Returned;
+use server_end::gate::Gate;
+use std::alloc::Global;
+
+/// The turns that a reset may take.
+const TURNS: u32 = 600;
+
+/// Gives a clean link back; where the desk doesn't keep it, it is closed.
+pub(crate) fn give_back<D: LinkDesk, G: Gate<D::End>>(
+    desk: &D,
+    pass: &mut D::Pass,
+    link: CleanLink<D::End>,
+    gate: &mut G,
+)
+    requires home { IsAtHome D.catalogue link }
+    ensures { Ends (D.told pass.old) (D.told pass.new) }
+{
+    let mut link = link;
+    link.unwatch(gate);
+    let mut held = Some(link);
+    desk.give_back(pass, &mut held);
+    if let Some(link) = held {
+        close_link(link);
+    }
+}
+
+/// Gives back the link of a lease that has ended: clean as it was, or reset; or reports it lost.
+pub(crate) fn hand_back<D: LinkDesk, G: Gate<D::End>>(
+    alloc: Global,
+    desk: &D,
+    pass: &mut D::Pass,
+    number: u64,
+    link: Returned<D::End>,
+    gate: &mut G,
+)
+    requires home { IsBackHome D.catalogue link }
+    ensures { Ends (D.told pass.old) (D.told pass.new) }
+{
+    match link {
+        Returned::Unused(link) => give_back(desk, pass, link, gate),
+        Returned::Used(link) => match reset_link(alloc, link, gate, TURNS) {
+            Ok(link) => give_back(desk, pass, link, gate),
+            Err(_) => {
+                desk.lost(pass, number);
+            }
+        },
+        Returned::Gone(_, _) => {
+            desk.lost(pass, number);
+        }
+    }
+}

@@ -1,0 +1,16 @@
+//! A client that is through its login.
+
+use login_core::Login;
+use message_view::KeyWord;
+use start_keys::StartKey;
+use std::sync::Arc;
+
+/// A client that is through its login: its number in the book, its start key, its key word, and the login, whose settings and
+/// users it keeps.
+#[derive(Drop)]
+pub(crate) struct Guest {
+    pub number: u64,
+    pub key: Arc<StartKey>,
+    pub word: KeyWord,
+    pub login: Login,
+}

@@ -1,0 +1,70 @@
+//! A new link for a client.
+ghost use Rattle.std.specs.Prelude.{◌≡◌, [], IfErr, IfOk, option_copied, true};
+ghost use Rattle.ini_config.specs.Tables.{row_named};
+ghost use Rattle.user_file.specs.Users.{user_named};
+ghost use Rattle.std.specs.Arc.{arc_value};
+ghost use Rattle.link_desk.specs.Homes.{IsAtHome};
+ghost use Rattle.pool_serve.specs.Serving.{IsGuest, LetsIn, MayEnd, owed};
+
+use crate::guest::Guest;
+use crate::word::LastWord;
+use ini_config::DbRow;
+use link_desk::desk::LinkDesk;
+use link_run::links::CleanLink;
+use link_start::start::start_link;
+use message_view::Refusal;
+use server_end::gate::Gate;
+use std::alloc::Global;
+use std::sync::Arc;
+use user_file::UserRow;
+
+/// The turns that a start may take.
+const TURNS: u32 = 600;
+
+/// The row of the database that a client asked for.
+fn row_of(guest: &Guest) -> Option<&DbRow>
+    ensures { option_copied result ≡ row_named (arc_value guest.now.key).row guest.now.login.settings.rows }
+{
+    guest.login.settings().row(guest.key.row.as_slice())
+}
+
+/// The row of a client's user.
+fn user_of(guest: &Guest) -> Option<&UserRow>
+    ensures { option_copied result ≡ user_named (arc_value guest.now.key).user guest.now.login.users }
+{
+    guest.login.users().row(guest.key.user.as_slice())
+}
+
+/// Starts a link of this number and second of birth for a client, over a new end of its row's server; or what the client is told.
+pub(crate) fn open_link<D: LinkDesk, G: Gate<D::End>>(
+    alloc: Global,
+    desk: &D,
+    guest: &Guest,
+    number: u64,
+    born: u64,
+    gate: &mut G,
+) -> Result<CleanLink<D::End>, LastWord>
+    requires guest { IsGuest guest.now }
+    ensures key { IfOk result (λ l. l.key ≡ arc_value guest.now.key) }
+    ensures home { IfOk result (λ l. IsAtHome D.catalogue l) }
+    ensures follows { LetsIn D.End.standing guest.now.login.users → IfOk result (λ l. l.stands.follows ≡ true) }
+    ensures told { LetsIn D.End.standing guest.now.login.users → IfErr result (λ last. MayEnd [] (owed D.catalogue guest.now []) last) }
+{
+    let Some(row) = row_of(guest) else {
+        return Err(LastWord::Refusal(Refusal::ServerNotReached));
+    };
+    let Some(user) = user_of(guest) else {
+        return Err(LastWord::Refusal(Refusal::ServerNotReached));
+    };
+    let Ok(key) = Arc::try_clone(&guest.key) else {
+        return Err(LastWord::Refusal(Refusal::OutOfMemory));
+    };
+    let Some(mut end) = desk.dial(row) else {
+        return Err(LastWord::Refusal(Refusal::ServerNotReached));
+    };
+    gate.watch(&mut end);
+    match start_link(alloc, end, key, &user.secret, number, born, gate, TURNS) {
+        Ok(link) => Ok(link),
+        Err(fault) => Err(LastWord::of_start(fault.cause)),
+    }
+}

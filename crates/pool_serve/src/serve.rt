@@ -1,0 +1,171 @@
+//! One client, from its first byte to its end.
+ghost use Rattle.std.specs.Prelude.{◌≡◌, [], false, true};
+ghost use Rattle.ini_config.specs.Bounds.{AreWithinBounds};
+ghost use Rattle.message_view.specs.Refusals.{Allowed};
+ghost use Rattle.login_core.specs.Dialogue.{AtFirst};
+ghost use Rattle.login_core.specs.Logins.{Hears};
+ghost use Rattle.login_run.specs.Laws.{own};
+ghost use Rattle.login_run.specs.Runs.{Arrived, IsAllGiven, IsSameLogin};
+ghost use Rattle.pool_serve.specs.Serving.{HasStopped, LetsIn, MayEnd};
+ghost use Rattle.pool_serve.specs.Shares.{Evens, Settles};
+
+use crate::guest::Guest;
+use crate::leasing::lease;
+use crate::word::LastWord;
+use link_desk::answers::Arrival;
+use link_desk::desk::LinkDesk;
+use login_core::Login;
+use login_keys::laws::{
+    bounded_rows_are_lawful, passed_keys_are_link_keys, passed_keys_are_of_their_rows,
+};
+use login_run::laws::{
+    passed_runs_are_let_in, passed_runs_have_passed, runs_are_allowed, runs_stand_at_pieces,
+};
+use login_run::{LoginRun, LoginTurn};
+use message_view::KeyWord;
+use server_end::gate::Gate;
+use server_end::{ClientEnd, ServerEnd};
+use std::alloc::Global;
+
+/// Goes on with a login until it has arrived, is let in or is over. A turn of the gate is taken only where nothing moved.
+fn converse<C: ClientEnd, E: ServerEnd, G: Gate<E>>(
+    alloc: Global,
+    run: &mut LoginRun<C>,
+    gate: &mut G,
+) -> LoginTurn
+    ensures login { IsSameLogin run.old run.new }
+    ensures stopped { HasStopped run.new result }
+{
+    for _ in 0..u64::MAX {
+        match run.turn(alloc) {
+            LoginTurn::Again => {}
+            LoginTurn::Wait => {
+                gate.turn();
+            }
+            turn => return turn,
+        }
+    }
+    LoginTurn::Over
+}
+
+/// Serves a client that has arrived, with this number.
+fn attend<C: ClientEnd, D: LinkDesk, G: Gate<D::End>>(
+    alloc: Global,
+    desk: &D,
+    pass: &mut D::Pass,
+    run: LoginRun<C>,
+    number: u64,
+    word: KeyWord,
+    gate: &mut G,
+) -> (C, LastWord)
+    requires settings { AreWithinBounds run.login.settings }
+    requires word { run.login.word ≡ word }
+    ensures tells { (C.facts result.0).tells ≡ run.client.tells }
+    ensures share { Evens (D.told pass.old) (D.told pass.new) }
+    ensures serves { run.client.tells ≡ true → LetsIn D.End.standing run.login.users → MayEnd (C.facts result.0).given (own D.catalogue run.login (C.facts result.0).taken) result.1 }
+{
+    bounded_rows_are_lawful();
+    passed_keys_are_link_keys();
+    passed_keys_are_of_their_rows();
+    runs_are_allowed();
+    passed_runs_are_let_in();
+    passed_runs_have_passed();
+    let mut run = run;
+    match converse(alloc, &mut run, gate) {
+        LoginTurn::Passed => {}
+        _ => {
+            let (client, _, _) = run.finish();
+            return (client, LastWord::Nothing);
+        }
+    }
+    let (client, login, key) = run.finish();
+    match key {
+        Some(key) => {
+            let guest = Guest {
+                number,
+                key,
+                word,
+                login,
+            };
+            lease(alloc, desk, pass, client, &guest, gate)
+        }
+        None => (client, LastWord::Nothing),
+    }
+}
+
+/// Lets a client that arrives in, and serves it.
+fn admit<C: ClientEnd, D: LinkDesk, G: Gate<D::End>>(
+    alloc: Global,
+    desk: &D,
+    pass: &mut D::Pass,
+    run: LoginRun<C>,
+    word: KeyWord,
+    gate: &mut G,
+) -> (C, LastWord)
+    requires arrived { run.phase ≡ Arrived }
+    requires given { IsAllGiven run }
+    requires settings { AreWithinBounds run.login.settings }
+    requires word { run.login.word ≡ word }
+    ensures tells { (C.facts result.0).tells ≡ run.client.tells }
+    ensures share { Settles (D.told pass.old) (D.told pass.new) }
+    ensures serves { run.client.tells ≡ true → LetsIn D.End.standing run.login.users → MayEnd (C.facts result.0).given (own D.catalogue run.login (C.facts result.0).taken) result.1 }
+{
+    runs_stand_at_pieces();
+    match desk.arrive(pass) {
+        Arrival::Client(number) => {
+            let mut run = run;
+            run.go_on(alloc);
+            let served = attend(alloc, desk, pass, run, number, word, gate);
+            desk.leave(pass, number);
+            served
+        }
+        Arrival::Refused(refusal) => {
+            let (client, _, _) = run.finish();
+            (client, LastWord::Refusal(refusal))
+        }
+    }
+}
+
+/// Serves one client from its first byte to its end: its login, then a link of the desk's, which it gives back, reset, or reports
+/// lost, before the client is told why it is refused. Answers the client's end and the pass.
+///
+/// `login` was made with the key word `word`, under settings within their bounds, and has taken no byte; where the client tells,
+/// none was taken from it or given to it. Only the desk and the gate wait: a turn of the gate is taken where nothing moved.
+///
+/// Where the client tells, and the desk's ends follow and let its user in, what it was given is allowed for what a server
+/// started for it alone answers, over the catalogue of its row. Unless a call of the desk was answered by the last decision or as
+/// strange, as many links were granted as given back or lost, and as many clients arrived as left.
+pub fn serve<C: ClientEnd, D: LinkDesk, G: Gate<D::End> + Drop>(
+    alloc: Global,
+    desk: &D,
+    pass: D::Pass,
+    client: C,
+    login: Login,
+    word: KeyWord,
+    gate: G,
+) -> (C, D::Pass)
+    requires hearing { login.hearing ≡ Hears (AtFirst false false) }
+    requires held { login.held ≡ [] }
+    requires word { login.word ≡ word }
+    requires settings { AreWithinBounds login.settings }
+    requires taken { (C.facts client).tells ≡ true → (C.facts client).taken ≡ [] }
+    requires given { (C.facts client).tells ≡ true → (C.facts client).given ≡ [] }
+    ensures tells { (C.facts result.0).tells ≡ (C.facts client).tells }
+    ensures allowed { (C.facts client).tells ≡ true → LetsIn D.End.standing login.users → Allowed (C.facts result.0).given (own D.catalogue login (C.facts result.0).taken) }
+    ensures share { Settles (D.told pass) (D.told result.1) }
+{
+    runs_are_allowed();
+    let mut pass = pass;
+    let mut gate = gate;
+    let mut run = LoginRun::new(client, login);
+    match converse(alloc, &mut run, &mut gate) {
+        LoginTurn::Arrived => {}
+        _ => {
+            let (client, _, _) = run.finish();
+            return (client, pass);
+        }
+    }
+    let (mut client, last) = admit(alloc, desk, &mut pass, run, word, &mut gate);
+    last.tell(&mut client, &mut gate);
+    (client, pass)
+}

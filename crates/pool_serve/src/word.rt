@@ -1,0 +1,90 @@
+//! The last word to a client.
+ghost use Rattle.std.specs.Prelude.{◌≡◌, ◌≤◌, drop, length};
+ghost use Rattle.pool_serve.specs.Words.{HasGiven, last_bytes, last_of, or_nothing};
+
+use link_start::start::{StartCause, StartError};
+use message_view::{Refusal, refusal_bytes};
+use server_end::gate::Gate;
+use server_end::{ClientEnd, Moved, ServerEnd};
+
+/// The turns in which a client may take its last word.
+const TURNS: u32 = 600;
+
+/// What a client is told last.
+#[derive(Drop)]
+pub(crate) enum LastWord {
+    Nothing,
+    Refusal(Refusal),
+    /// The ErrorResponse by which a server refused the start of the client's link.
+    Error(StartError),
+}
+
+/// What is left of some bytes.
+fn rest_of(bytes: &[u8], from: usize) -> &[u8]
+    requires { from ≤ length bytes.now }
+    ensures { result.now ≡ drop from bytes.now }
+{
+    &bytes[from..]
+}
+
+/// Gives a client these bytes, in at most so many turns; the gate's turns are taken where it takes none.
+fn give<C: ClientEnd, E: ServerEnd, G: Gate<E>>(client: &mut C, bytes: &[u8], gate: &mut G)
+    ensures { HasGiven (C.facts client.old) (C.facts client.new) bytes.now }
+{
+    let mut sent = 0;
+    for _ in 0..TURNS {
+        if sent == bytes.len() {
+            return;
+        }
+        match client.write_some(rest_of(bytes, sent)) {
+            Moved::Count(count) => sent += count,
+            Moved::NotNow => {
+                gate.turn();
+            }
+            Moved::Ended | Moved::Fault => return,
+        }
+    }
+}
+
+impl LastWord {
+    /// The refusal, if there is one.
+    pub(crate) fn of(refusal: Option<Refusal>) -> LastWord
+        ensures { result ≡ or_nothing refusal }
+    {
+        match refusal {
+            Some(refusal) => LastWord::Refusal(refusal),
+            None => LastWord::Nothing,
+        }
+    }
+
+    /// What a client is told whose link wasn't started.
+    pub(crate) fn of_start(cause: StartCause) -> LastWord
+        ensures { result ≡ last_of cause }
+    {
+        match cause {
+            StartCause::Refused(error) => LastWord::Error(error),
+            StartCause::Memory => LastWord::Refusal(Refusal::OutOfMemory),
+            StartCause::Lost
+            | StartCause::Unanswerable
+            | StartCause::Unexpected
+            | StartCause::Turns => LastWord::Refusal(Refusal::ServerNotReached),
+        }
+    }
+
+    fn as_bytes(&self) -> &[u8]
+        ensures { result.now ≡ last_bytes self.now }
+    {
+        match self {
+            LastWord::Nothing => b"",
+            LastWord::Refusal(refusal) => refusal_bytes(*refusal),
+            LastWord::Error(error) => error.as_bytes(),
+        }
+    }
+
+    /// Tells the client.
+    pub(crate) fn tell<C: ClientEnd, E: ServerEnd, G: Gate<E>>(&self, client: &mut C, gate: &mut G)
+        ensures { HasGiven (C.facts client.old) (C.facts client.new) (last_bytes self.now) }
+    {
+        give(client, self.as_bytes(), gate);
+    }
+}

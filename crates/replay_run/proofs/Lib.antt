@@ -1,0 +1,2 @@
+pub mod StandingText
+pub mod Replaying

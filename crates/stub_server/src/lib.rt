@@ -1,0 +1,6 @@
+//! The stand-in server for one connection, and for all that a listener has.
+#![tactic(auto)]
+
+pub mod connection;
+pub mod server;
+pub mod talk;

@@ -1,0 +1,276 @@
+"""A PostgreSQL server in a folder of its own, and a pooler in front of it: pgsess, or PgBouncer with equal settings."""
+import glob
+import hashlib
+import os
+import pathlib
+import pwd
+import shutil
+import signal
+import socket
+import subprocess
+import sys
+import tempfile
+import time
+
+from wire import Client
+
+TOP = pathlib.Path(__file__).resolve().parent.parent
+HERE = "127.0.0.1"
+PACKAGES = ["postgresql", "postgresql-client"]
+SECONDS = 60
+# name, password, and the secret of the pooler's user file
+USERS = {
+    "ann": ("secret", "secret"),
+    "bc": ("a", "md5" + hashlib.md5(b"abc").hexdigest()),
+    "root": ("r", "r"),
+}
+
+
+def free_port():
+    with socket.socket() as probe:
+        probe.bind((HERE, 0))
+        return probe.getsockname()[1]
+
+
+def server_folders():
+    return sorted(glob.glob("/usr/lib/postgresql/*/bin"), key=lambda it: int(it.split("/")[-2]))
+
+
+def need(programs, packages):
+    """Installs the packages where a program is missing and the caller is root; else says which to install."""
+    missing = [it for it in programs if not shutil.which(it)]
+    if not missing:
+        return
+    if os.geteuid() != 0:
+        sys.exit(f"{' and '.join(missing)} not found: install the packages {' '.join(packages)}")
+    quiet = {"stdout": subprocess.DEVNULL, "env": {**os.environ, "DEBIAN_FRONTEND": "noninteractive"}, "check": True}
+    subprocess.run(["apt-get", "update", "-q"], **quiet)
+    subprocess.run(["apt-get", "install", "-q", "-y", *packages], **quiet)
+
+
+def set_up():
+    """Makes the server's programs and its clients callable by name."""
+    os.environ["PATH"] = os.pathsep.join([os.environ["PATH"], "/usr/sbin", *reversed(server_folders())])
+    need(["initdb", "postgres", "pg_ctl", "psql", "pgbench"], PACKAGES)
+    os.environ["PATH"] = os.pathsep.join([os.environ["PATH"], *reversed(server_folders())])
+
+
+def until(holds, seconds=SECONDS):
+    """Whether it holds in time."""
+    end = time.monotonic() + seconds
+    while not holds():
+        if time.monotonic() > end:
+            return False
+        time.sleep(0.02)
+    return True
+
+
+class Place:
+    """A temporary folder of an unprivileged user, by whom servers run; it and what runs there go at the end."""
+
+    def __init__(self, user="postgres"):
+        self.folder = pathlib.Path(tempfile.mkdtemp(prefix="pgsess-"))
+        self.as_user = {}
+        if os.geteuid() == 0:
+            entry = pwd.getpwnam(user)
+            os.chown(self.folder, entry.pw_uid, entry.pw_gid)
+            self.as_user = {"user": entry.pw_uid, "group": entry.pw_gid, "extra_groups": []}
+
+    def run(self, *words, **more):
+        return subprocess.run([str(word) for word in words], cwd=self.folder, check=True, timeout=SECONDS,
+                              stdout=subprocess.DEVNULL, stderr=subprocess.PIPE, **self.as_user, **more)
+
+    def start(self, *words, **more):
+        return subprocess.Popen([str(word) for word in words], cwd=self.folder, stdin=subprocess.DEVNULL, **self.as_user, **more)
+
+    def write(self, name, data):
+        file = self.folder / name
+        file.write_bytes(data if isinstance(data, bytes) else data.encode())
+        file.chmod(0o644)
+        return file
+
+    def processes(self):
+        """Those that run with this folder in their words."""
+        found = []
+        for words in glob.glob("/proc/[0-9]*/cmdline"):
+            try:
+                if str(self.folder).encode() in pathlib.Path(words).read_bytes():
+                    found.append(int(words.split("/")[2]))
+            except OSError:
+                pass
+        return found
+
+    def clear(self):
+        shutil.rmtree(self.folder)
+
+
+class Cluster:
+    """A PostgreSQL server with the database shop, and the users above: it asks for md5 over TCP."""
+
+    def __init__(self, place, settings=""):
+        self.place, self.port, self.data = place, free_port(), place.folder / "data"
+        self.log = place.folder / "server.log"
+        place.run("initdb", "-D", self.data, "-U", "postgres", "-A", "trust", "-E", "UTF8", "--locale=C", "--no-sync")
+        with open(self.data / "postgresql.conf", "a") as file:
+            file.write(f"listen_addresses = '{HERE}'\nport = {self.port}\nunix_socket_directories = '{place.folder}'\n"
+                       "max_connections = 450\nfsync = off\nsynchronous_commit = off\nfull_page_writes = off\n"
+                       "password_encryption = md5\nlog_connections = on\nlog_line_prefix = '%p %u '\n"
+                       "logging_collector = off\nmax_wal_size = 4GB\n" + settings)
+        (self.data / "pg_hba.conf").write_text(f"local all all trust\nhost all postgres {HERE}/32 trust\nhost all all {HERE}/32 md5\n")
+        self.start()
+        for name, (password, _) in USERS.items():
+            self.tell(f"CREATE ROLE {name} LOGIN PASSWORD '{password}'", "postgres")
+        self.tell("CREATE ROLE clerk; GRANT clerk TO ann", "postgres")
+        self.tell("CREATE DATABASE shop OWNER ann", "postgres")
+
+    def start(self):
+        self.place.run("pg_ctl", "-D", self.data, "-l", self.log, "-w", "-s", "start")
+
+    def stop(self, mode="fast"):
+        self.place.run("pg_ctl", "-D", self.data, "-m", mode, "-w", "-s", "stop")
+
+    def tell(self, text, database="shop"):
+        """The rows of a statement of the superuser, over a connection of its own."""
+        client = Client(self.port, "postgres", database)
+        try:
+            return client.ask(text)
+        finally:
+            client.leave()
+
+    def is_ready(self):
+        try:
+            self.tell("SELECT 1")
+        except Exception:
+            return False
+        return True
+
+    def backends(self, user="ann"):
+        """The processes of this user's sessions."""
+        return [int(pid) for pid, in self.tell(f"SELECT pid FROM pg_stat_activity WHERE usename = '{user}'")]
+
+    def logins(self, user="ann"):
+        """How many sessions of this user were ever opened."""
+        return self.log.read_text(errors="replace").count(f"connection authorized: user={user} ")
+
+
+PGBOUNCER = """[databases]
+shop = host=127.0.0.1 port={port} dbname=shop
+closed = host=127.0.0.1 port={closed} dbname=shop
+[pgbouncer]
+listen_addr = 127.0.0.1
+listen_port = {listen}
+unix_socket_dir =
+auth_type = {auth}
+auth_file = {users}
+admin_users = root
+pool_mode = session
+server_reset_query = DISCARD ALL
+max_client_conn = {clients}
+default_pool_size = {size}
+query_wait_timeout = {wait}
+server_idle_timeout = 600
+server_check_query =
+server_check_delay = 1000000
+ignore_startup_parameters = options, extra_float_digits
+max_packet_size = 2147483647
+tcp_keepalive = 0
+log_connections = 0
+log_disconnections = 0
+log_pooler_errors = 0
+server_connect_timeout = 15
+"""
+
+
+class Pooler:
+    """A pooler in front of the server, with the settings of examples/pgsess.ini but for those that are named."""
+
+    def __init__(self, place, cluster, program, kind="pgsess", auth="trust", size=20, clients=100, wait=120, closed=1):
+        self.place, self.port, self.kind = place, free_port(), kind
+        users = place.write("users.txt", "".join(f'"{name}" "{secret}"\n' for name, (_, secret) in USERS.items()))
+        self.errors = open(place.folder / f"{kind}.err", "ab")
+        if kind == "pgbouncer":
+            ini = place.write("pgbouncer.ini", PGBOUNCER.format(port=cluster.port, closed=closed, listen=self.port, auth=auth, users=users,
+                                                                  clients=clients, size=size, wait=wait))
+            self.process = place.start("pgbouncer", ini, stdout=self.errors, stderr=self.errors)
+            if not until(self.answers, 5):
+                sys.exit(f"pgbouncer doesn't answer: {(place.folder / 'pgbouncer.err').read_text()!r}")
+            return
+        changes = {
+            r"^shop = .*": rf"shop = host={HERE} port={cluster.port} dbname=shop\nclosed = host={HERE} port={closed} dbname=shop",
+            "^listen_port = .*": f"listen_port = {self.port}",
+            "^auth_type = .*": f"auth_type = {auth}",
+            "^max_client_conn = .*": f"max_client_conn = {clients}",
+            "^default_pool_size = .*": f"default_pool_size = {size}",
+            "^query_wait_timeout = .*": f"query_wait_timeout = {wait}",
+        }
+        words = [part for old, new in changes.items() for part in ("-e", f"s/{old}/{new}/")]
+        settings = subprocess.run(["sed", *words, TOP / "examples/pgsess.ini"], capture_output=True, check=True).stdout
+        ini, seed = place.write("pgsess.ini", settings), place.write("seed", os.urandom(32))
+        self.process = place.start(program, "serve", "--ini", ini, "--users", users, "--key-seed", seed, stdout=subprocess.PIPE, stderr=self.errors)
+        line = self.process.stdout.readline().decode().strip()
+        if line != f"listening {HERE} {self.port}":
+            self.process.wait(SECONDS)
+            sys.exit(f"{program} serve said {line!r}, and ended with {self.process.returncode}: {(place.folder / 'pgsess.err').read_text()!r}")
+
+    def answers(self):
+        try:
+            socket.create_connection((HERE, self.port), 1).close()
+        except OSError:
+            return False
+        return True
+
+    def runs(self):
+        return self.process.poll() is None
+
+    def files(self):
+        """How many files it has open."""
+        return len(os.listdir(f"/proc/{self.process.pid}/fd"))
+
+    def threads(self):
+        return len(os.listdir(f"/proc/{self.process.pid}/task"))
+
+    def resident(self):
+        """Its memory, in kB."""
+        for line in pathlib.Path(f"/proc/{self.process.pid}/status").read_text().splitlines():
+            if line.startswith("VmRSS:"):
+                return int(line.split()[1])
+        return 0
+
+    def used(self):
+        """Its processor time so far, in seconds."""
+        parts = pathlib.Path(f"/proc/{self.process.pid}/stat").read_text().rsplit(")", 1)[1].split()
+        return (int(parts[11]) + int(parts[12])) / os.sysconf("SC_CLK_TCK")
+
+    def stop(self):
+        if self.runs():
+            self.process.send_signal(signal.SIGTERM)
+            try:
+                self.process.wait(5)
+            except subprocess.TimeoutExpired:
+                self.process.kill()
+                self.process.wait(SECONDS)
+        if self.process.stdout:
+            self.process.stdout.close()
+        self.errors.close()
+
+
+class Passes:
+    """Counts what holds and what doesn't."""
+
+    def __init__(self, name):
+        self.name, self.passed, self.failed = name, 0, 0
+
+    def tell(self, what, fault=""):
+        self.passed += not fault
+        self.failed += bool(fault)
+        print(f"{'FAILED' if fault else 'ok    '} {what}{': ' if fault else ''}{fault}", flush=True)
+
+    def same(self, what, got, wanted):
+        self.tell(what, "" if got == wanted else f"{str(got)[:600]!r} for {str(wanted)[:600]!r}")
+
+    def holds(self, what, fact, why="it doesn't hold"):
+        self.tell(what, "" if fact else why)
+
+    def end(self):
+        print(f"{self.name}: {self.passed} passed, {self.failed} failed")
+        sys.exit(self.failed > 0 or self.passed == 0)

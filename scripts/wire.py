@@ -1,0 +1,140 @@
+"""A plain client of PostgreSQL's protocol 3.0, for what psql and pgbench can't do: half a message, a cut, many idle connections."""
+import hashlib
+import socket
+import struct
+
+SECONDS = 20
+PROTOCOL_3_0 = 196608
+ASKS_NOTHING, ASKS_CLEARTEXT, ASKS_MD5 = 0, 3, 5
+
+
+def message(kind, body=b""):
+    return kind + (4 + len(body)).to_bytes(4, "big") + body
+
+
+def query(text):
+    return message(b"Q", text.encode() + b"\0")
+
+
+def startup(user, database, **parameters):
+    pairs = {"user": user, "database": database, **parameters}
+    body = b"".join(f"{name}\0{value}\0".encode() for name, value in pairs.items()) + b"\0"
+    return (8 + len(body)).to_bytes(4, "big") + PROTOCOL_3_0.to_bytes(4, "big") + body
+
+
+def fields(body):
+    """The fields of an ErrorResponse or a NoticeResponse."""
+    return {part[:1].decode(): part[1:].decode() for part in body.split(b"\0") if part}
+
+
+class Cut(Exception):
+    """The other side closed the connection."""
+
+
+class Refused(Exception):
+    """The server's error."""
+
+    def __init__(self, body):
+        parts = fields(body)
+        self.code, self.text = parts.get("C", ""), parts.get("M", "")
+        super().__init__(f"{self.code} {self.text}")
+
+
+class Client:
+    """A connection. What is unexpected is an exception."""
+
+    def __init__(self, port, user=None, database="shop", password="", host="127.0.0.1", seconds=SECONDS, **parameters):
+        self.socket = socket.create_connection((host, port), seconds)
+        self.socket.setsockopt(socket.IPPROTO_TCP, socket.TCP_NODELAY, 1)
+        self.held, self.reports = b"", {}
+        if user is not None:
+            try:
+                self.log_in(user, database, password, parameters)
+            except BaseException:
+                self.socket.close()
+                raise
+
+    def send(self, data):
+        self.socket.sendall(data)
+
+    def take(self, count):
+        while len(self.held) < count:
+            try:
+                piece = self.socket.recv(65536)
+            except ConnectionResetError:
+                piece = b""
+            if not piece:
+                raise Cut
+            self.held += piece
+        part, self.held = self.held[:count], self.held[count:]
+        return part
+
+    def next(self):
+        """The next message: its kind and its body."""
+        head = self.take(5)
+        return head[:1], self.take(int.from_bytes(head[1:], "big") - 4)
+
+    def until(self, *kinds):
+        """The next message of these kinds; an error is raised once it is there."""
+        while True:
+            kind, body = self.next()
+            if kind in kinds:
+                return kind, body
+            if kind == b"E":
+                raise Refused(body)
+            if kind == b"S":
+                name, value = body.split(b"\0")[:2]
+                self.reports[name.decode()] = value.decode()
+
+    def log_in(self, user, database, password, parameters):
+        self.send(startup(user, database, **parameters))
+        while True:
+            _, body = self.until(b"R")
+            asked = int.from_bytes(body[:4], "big")
+            if asked == ASKS_NOTHING:
+                break
+            if asked == ASKS_CLEARTEXT:
+                answer = password
+            else:
+                inner = hashlib.md5((password + user).encode()).hexdigest()
+                answer = "md5" + hashlib.md5(inner.encode() + body[4:8]).hexdigest()
+            self.send(message(b"p", answer.encode() + b"\0"))
+        self.until(b"Z")
+
+    def ask(self, text):
+        """The rows of a Query, each a list of texts and Nones. An error is raised once the server is ready again."""
+        self.send(query(text))
+        rows, error = [], None
+        while True:
+            kind, body = self.next()
+            if kind == b"D":
+                rows.append(values(body))
+            elif kind == b"E":
+                error = body
+                if fields(body).get("S") == "FATAL":
+                    raise Refused(error)
+            elif kind == b"Z":
+                if error:
+                    raise Refused(error)
+                return rows
+
+    def leave(self):
+        """Ends in the manner of clients."""
+        self.send(message(b"X"))
+        self.socket.close()
+
+    def cut(self):
+        """Ends by a reset."""
+        self.socket.setsockopt(socket.SOL_SOCKET, socket.SO_LINGER, struct.pack("ii", 1, 0))
+        self.socket.close()
+
+
+def values(body):
+    """The values of a DataRow."""
+    found, at = [], 2
+    for _ in range(int.from_bytes(body[:2], "big")):
+        size = int.from_bytes(body[at:at + 4], "big", signed=True)
+        at += 4
+        found.append(None if size < 0 else body[at:at + size].decode())
+        at += max(size, 0)
+    return found
