@@ -1,13 +1,11 @@
 -- What the clients of a play are served over, and whose links they are.
-use Rattle.std.specs.Prelude.{◌≡◌, ℕ, ◌<◌, true, List, [], ◌∷◌, map, Option, Some, unwrap_or}
+use Rattle.std.specs.Prelude.{◌≡◌, ℕ, ◌<◌, true, List, [], ◌∷◌, Option, Some}
 use Rattle.std.specs.List.{AllByRecursion}
 use Rattle.frame_view.specs.Frames.{FrameOf, spelling}
 use Rattle.ini_config.specs.Bounds.{AreWithinBounds}
-use Rattle.ini_config.specs.declared.database_rows.DbRow.{DbRow}
 use Rattle.ini_config.specs.declared.option_values.Settings.{Settings}
 use Rattle.user_file.specs.declared.user_table.UserRow.{UserRow}
 use Rattle.session_values.specs.State.{CatalogueOf, StartKeyOf, fresh}
-use Rattle.book_lists.specs.Book.{Limits, RowSize}
 use Rattle.link_laws.specs.Dialogues.{start_error}
 use Rattle.link_laws.specs.Standing.{Standing}
 use Rattle.link_run.specs.Links.{LinkView}
@@ -25,25 +23,6 @@ pub record HouseOf : Type 0 where
 
 abbrev pub house_of : Settings → List UserRow → CatalogueOf → HouseOf
 house_of settings users catalogue = record { settings = settings; users = users; catalogue = catalogue }
-
--- ---- its limits
-
-abbrev pub size_of : ℕ → DbRow → RowSize
-size_of default row = record { row = row.name; size = unwrap_or row.pool_size default }
-
-abbrev pub sizes_of : ℕ → List DbRow → List RowSize
-sizes_of default rows = map (size_of default) rows
-
-abbrev pub limits_of : Settings → Limits
-limits_of s = record {
-  max_clients = s.max_client_conn;
-  max_links = s.max_links;
-  row_sizes = sizes_of s.default_pool_size s.rows;
-  default_size = s.default_pool_size;
-  wait_timeout = s.query_wait_timeout;
-  lifetime = s.server_lifetime;
-  idle_timeout = s.server_idle_timeout;
-}
 
 -- ---- its links
 

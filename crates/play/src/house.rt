@@ -9,7 +9,6 @@ ghost use Rattle.login_core.specs.Dialogue.{AtFirst};
 ghost use Rattle.login_core.specs.Logins.{Hears, login_view};
 ghost use Rattle.play.specs.Houses.{IsAtHome, IsBroughtHome, IsServerOf, IsTaken, IsUntaken, house_of};
 
-use crate::limits::limits;
 use crate::taken::{Answer, Taken};
 use ini_config::Settings;
 use lease_book::book::Book;
@@ -25,6 +24,7 @@ use server_catalogue::Catalogue;
 use server_end::ServerEnd;
 use server_end::gate::OpenGate;
 use server_end::memory_server::{MemoryServer, ServerAuth};
+use settings_limits::limits_of;
 use start_keys::StartKey;
 use std::alloc::{AllocError, Global};
 use std::marker::Model;
@@ -97,7 +97,7 @@ impl House {
         requires bounds { AreWithinBounds (arc_value settings) }
         ensures { IfOk result (λ h. h ≡ house_of (arc_value settings) (arc_value users) (arc_value catalogue)) }
     {
-        let limits = Arc::new(alloc, limits(alloc, &settings)?)?;
+        let limits = Arc::new(alloc, limits_of(alloc, &settings)?)?;
         let book = Book::new(alloc, limits)?;
         Ok(House {
             alloc,

@@ -4,7 +4,6 @@
 mod acts;
 mod house;
 mod lease;
-mod limits;
 mod login;
 mod played;
 mod player;
