@@ -1,0 +1,9 @@
+//! Tests of `play`: several clients over one lease book.
+#![tactic(auto)]
+
+#[cfg(test)]
+mod links;
+#[cfg(test)]
+mod parts;
+#[cfg(test)]
+mod refusals;
