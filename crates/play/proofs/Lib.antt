@@ -1,5 +1,0 @@
-pub mod Homes
-pub mod Pieces
-pub mod Logins
-pub mod Turns
-pub mod Leases

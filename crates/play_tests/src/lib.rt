@@ -1,9 +1,0 @@
-//! Tests of `play`: several clients over one lease book.
-#![tactic(auto)]
-
-#[cfg(test)]
-mod links;
-#[cfg(test)]
-mod parts;
-#[cfg(test)]
-mod refusals;
