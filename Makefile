@@ -12,6 +12,7 @@ DESTDIR ?=
 program := crates/pgsess/out/pgsess
 trials := crates/trials/out/trials
 relay_bench := crates/relay_bench/out/relay_bench
+book_bench := crates/book_bench/out/book_bench
 sources := crates.txt $(shell find crates -name out -prune -o -name must-fail -prune -o \( -name '*.rt' -o -name '*.antt' \) -print)
 
 # the program, as `rt ci` or an earlier build left it; else proved and built now
@@ -68,8 +69,14 @@ $(relay_bench): $(sources)
 	@touch $(relay_bench)
 	@echo "built $(relay_bench) ($$(date +%T))"
 
+# events of a lease book; it isn't installed
+$(book_bench): $(sources)
+	@scripts/prove.py book_bench 10 100
+	@touch $(book_bench)
+	@echo "built $(book_bench) ($$(date +%T))"
+
 # all run; the status says whether a bound was missed
-bench: build/pgsess $(relay_bench)
+bench: build/pgsess $(relay_bench) $(book_bench)
 	@status=0; bench/replay.sh build/pgsess || status=$$?; bench/tables.sh build/pgsess || status=$$?; bench/relay.sh $(relay_bench) || status=$$?; bench/pool.sh build/pgsess || status=$$?; exit $$status
 
 clean:

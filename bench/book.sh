@@ -1,0 +1,25 @@
+#!/usr/bin/env bash
+# book.sh BOOK_BENCH [EVENTS]: what an event of the lease book costs with 100 clients and with 10,000, in processor time. The bound: with
+# 10,000 at most 3 times as much.
+set -euo pipefail
+cd "$(dirname "$0")/.."
+exec python3 - "$1" "${2:-20000}" <<'END'
+import resource
+import subprocess
+import sys
+
+program, events = sys.argv[1], int(sys.argv[2])
+
+
+def seconds(clients, events):
+    """The processor time of one run."""
+    before = resource.getrusage(resource.RUSAGE_CHILDREN).ru_utime
+    subprocess.run([program, str(clients), str(events)], check=True, stdout=subprocess.DEVNULL)
+    return resource.getrusage(resource.RUSAGE_CHILDREN).ru_utime - before
+
+
+# the clients' coming counts for nothing
+few, many = ((seconds(clients, events) - seconds(clients, 1)) / events * 1e6 for clients in (100, 10_000))
+print(f"an event with 100 clients {few:.1f} us, with 10,000 clients {many:.1f} us: {many / few:.1f} times (wanted: at most 3)")
+sys.exit(many > 3 * few)
+END
