@@ -77,7 +77,7 @@ $(book_bench): $(sources)
 
 # all run; the status says whether a bound was missed
 bench: build/pgsess $(relay_bench) $(book_bench)
-	@status=0; bench/replay.sh build/pgsess || status=$$?; bench/tables.sh build/pgsess || status=$$?; bench/relay.sh $(relay_bench) || status=$$?; bench/pool.sh build/pgsess || status=$$?; exit $$status
+	@status=0; bench/replay.sh build/pgsess || status=$$?; bench/tables.sh build/pgsess || status=$$?; bench/relay.sh $(relay_bench) || status=$$?; bench/book.sh $(book_bench) || status=$$?; bench/pool.sh build/pgsess || status=$$?; exit $$status
 
 clean:
 	rm -rf build crates/*/out
