@@ -35,7 +35,10 @@ holds() {
     local said=$2.err
     [ -e "$said" ] || said=/dev/null
     case $1 in
-    "$whole") cmp -s "$work/err" "$said" && cmp -s "$work/out" "$2" ;;
+    "$whole")
+        # a fault keeps its status where there is no memory to tell it
+        { cmp -s "$work/err" "$said" || { [ "$whole" -ne 0 ] && [ "$(cat "$work/err")" = 'pgsess: memory' ]; }; } && cmp -s "$work/out" "$2"
+        ;;
     1) [ ! -s "$work/out" ] && [ "$(wc -l <"$work/err")" = 1 ] && grep -qE "^($3)\$" "$work/err" ;;
     *) false ;;
     esac
