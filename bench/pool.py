@@ -69,9 +69,11 @@ class Bench:
 
     def measure(self):
         """One round: each measurement over all of them, one after the other."""
+        # A thread of pgbench connects its clients one after the other and reads no answer meanwhile: where a link is lent at the login, one
+        # thread's clients would wait for a link that another client of the same thread holds. So each client has a thread of its own.
         for clients in CONNECTS:
             for kind, port in self.ports.items():
-                self.note(f"connects a second, {clients} clients", kind, self.pgbench(port, "-C", "-c", str(clients), "-j", str(min(clients, 4))))
+                self.note(f"connects a second, {clients} clients", kind, self.pgbench(port, "-C", "-c", str(clients), "-j", str(clients)))
         for manner in ("simple", "prepared"):
             for clients in QUERIES:
                 for kind, port in self.ports.items():
