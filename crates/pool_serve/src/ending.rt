@@ -21,7 +21,7 @@ pub(crate) fn give_back<D: LinkDesk, G: Gate<D::End>>(
     link: CleanLink<D::End>,
     gate: &mut G,
 )
-    requires home { IsAtHome D.catalogue link }
+    requires home { IsAtHome D.home link }
     ensures { Ends (D.told pass.old) (D.told pass.new) }
 {
     let mut link = link;
@@ -42,7 +42,7 @@ pub(crate) fn hand_back<D: LinkDesk, G: Gate<D::End>>(
     link: Returned<D::End>,
     gate: &mut G,
 )
-    requires home { IsBackHome D.catalogue link }
+    requires home { IsBackHome D.home link }
     ensures { Ends (D.told pass.old) (D.told pass.new) }
 {
     match link {

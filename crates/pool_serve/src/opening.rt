@@ -1,5 +1,5 @@
 //! A new link for a client.
-ghost use Rattle.std.specs.Prelude.{◌≡◌, [], IfErr, IfOk, option_copied, true};
+ghost use Rattle.std.specs.Prelude.{◌≡◌, [], IfErr, IfOk, option_copied};
 ghost use Rattle.ini_config.specs.Tables.{row_named};
 ghost use Rattle.user_file.specs.Users.{user_named};
 ghost use Rattle.std.specs.Arc.{arc_value};
@@ -46,9 +46,8 @@ pub(crate) fn open_link<D: LinkDesk, G: Gate<D::End>>(
 ) -> Result<CleanLink<D::End>, LastWord>
     requires guest { IsGuest guest.now }
     ensures key { IfOk result (λ l. l.key ≡ arc_value guest.now.key) }
-    ensures home { IfOk result (λ l. IsAtHome D.catalogue l) }
-    ensures follows { LetsIn D.End.standing guest.now.login.users → IfOk result (λ l. l.stands.follows ≡ true) }
-    ensures told { LetsIn D.End.standing guest.now.login.users → IfErr result (λ last. MayEnd [] (owed D.catalogue guest.now []) last) }
+    ensures home { IfOk result (λ l. IsAtHome D.home l) }
+    ensures told { LetsIn D.home guest.now.login.users → IfErr result (λ last. MayEnd [] (owed D.home.catalogue guest.now []) last) }
 {
     let Some(row) = row_of(guest) else {
         return Err(LastWord::Refusal(Refusal::ServerNotReached));
