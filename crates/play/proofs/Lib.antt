@@ -1,0 +1,4 @@
+pub mod Pieces
+pub mod Logins
+pub mod Turns
+pub mod Leases

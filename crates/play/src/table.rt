@@ -1,0 +1,178 @@
+//! The clients of a play, and what they are served over.
+ghost use Rattle.std.specs.Prelude.{◌≡◌, ◌<◌, IfOk, length};
+ghost use Rattle.play.specs.Players.{AreAllowed, ArePlayers, IsPlayer};
+
+use crate::played::Given;
+use crate::player::Player;
+use act_client::{Act, Script};
+use memory_house::House;
+use std::alloc::{AllocError, Global};
+use std::marker::Model;
+
+/// The turns that are taken after an act at most.
+const MOST_TURNS: u32 = 100_000;
+
+/// The clients of a play, in the order of their scripts, and what they are served over.
+#[derive(Drop)]
+pub(crate) struct Table<'a> {
+    alloc: Global,
+    house: House,
+    scripts: &'a [Script],
+    players: Vec<Player<'a>>,
+}
+
+impl<'a> Model for Table<'a> {
+    ghost use Rattle.play.specs.Players.{ArePlayers, TableOf};
+
+    ghost Value = { TableOf };
+
+    ghost view = { λ t. record { house = t.house; senders = t.scripts.now } };
+
+    ghost invariant = { λ t. ArePlayers t.house t.scripts.now t.players.items };
+}
+
+/// The clients of these scripts, none of which has come. The only error is want of memory.
+fn players<'a>(
+    alloc: Global,
+    house: &House,
+    scripts: &'a [Script],
+) -> Result<Vec<Player<'a>>, AllocError>
+    ensures { IfOk result (λ v. ArePlayers house.now scripts.now v.items) }
+{
+    let mut players = Vec::new(alloc);
+    for script in scripts {
+        players.push(Player::new(alloc, house, script)?)?;
+    }
+    Ok(players)
+}
+
+/// What each client was given. The only error is want of memory.
+fn finish(
+    alloc: Global,
+    house: &mut House,
+    scripts: &[Script],
+    players: Vec<Player<'_>>,
+) -> Result<Vec<Given>, AllocError>
+    requires { ArePlayers house.old scripts.now players.items }
+    ensures { IfOk result (λ v. AreAllowed house.old scripts.now v.items) }
+{
+    let mut given = Vec::new(alloc);
+    for player in players {
+        let script = &scripts[given.len()];
+        given.push(player.finish(house, script)?)?;
+    }
+    Ok(given)
+}
+
+impl<'a> Table<'a> {
+    /// The clients of these scripts, none of which has come. The only error is want of memory.
+    pub(crate) fn new(
+        alloc: Global,
+        house: House,
+        scripts: &'a [Script],
+    ) -> Result<Table<'a>, AllocError>
+        ensures { IfOk result (λ t. t ≡ record { house = house; senders = scripts.now }) }
+    {
+        let players = players(alloc, &house, scripts)?;
+        Ok(Table {
+            alloc,
+            house,
+            scripts,
+            players,
+        })
+    }
+
+    /// An act. It changes nothing where its client hasn't come or has hung up.
+    pub(crate) fn perform(&mut self, act: &Act<'_>)
+        ensures { self.new ≡ self.old }
+    {
+        match act {
+            Act::Come => self.come(),
+            Act::Send(client, bytes) => {
+                if let Some(script) = self.script(*client) {
+                    script.send(bytes.len());
+                }
+            }
+            Act::Go(client) => {
+                if let Some(script) = self.script(*client) {
+                    script.go();
+                }
+            }
+            Act::Tick(second) => self.house.tick(*second),
+            Act::ServersDieAfter(count) => self.house.let_servers_die(*count),
+        }
+    }
+
+    /// The next client comes.
+    fn come(&self) {
+        for script in self.scripts {
+            if !script.has_come() {
+                script.come();
+                return;
+            }
+        }
+    }
+
+    /// The script of the client of this number.
+    fn script(&self, client: u32) -> Option<&'a Script> {
+        let at = (client as usize).checked_sub(1)?;
+        self.scripts.get(at)
+    }
+
+    /// Serves each client until nothing moves. The only error is want of memory.
+    pub(crate) fn serve(&mut self) -> Result<(), AllocError>
+        ensures { self.new ≡ self.old }
+    {
+        for _ in 0..MOST_TURNS {
+            if !self.turn()? {
+                return Ok(());
+            }
+        }
+        Ok(())
+    }
+
+    /// Each client that has come takes one turn. Whether anything moved.
+    fn turn(&mut self) -> Result<bool, AllocError>
+        ensures { self.new ≡ self.old }
+    {
+        let mut moved = false;
+        for at in 0..self.players.len() {
+            if self.turn_of(at)? {
+                moved = true;
+            }
+        }
+        Ok(moved)
+    }
+
+    /// One client's turn, where it has come. Whether anything moved.
+    fn turn_of(&mut self, at: usize) -> Result<bool, AllocError>
+        ensures { self.new ≡ self.old }
+    {
+        let Table {
+            alloc,
+            house,
+            scripts,
+            players,
+        } = self;
+        let (Some(script), Some(player)) = (scripts.get(at), players.get_mut(at)) else {
+            return Ok(false);
+        };
+        if !script.has_come() {
+            return Ok(false);
+        }
+        player.turn(*alloc, house, script)
+    }
+
+    /// What each client was given. The only error is want of memory.
+    pub(crate) fn finish(self) -> Result<Vec<Given>, AllocError>
+        ensures { IfOk result (λ v. AreAllowed self.entry.house self.entry.senders v.items) }
+    {
+        let Table {
+            alloc,
+            mut house,
+            scripts,
+            players,
+        } = self;
+        finish(alloc, &mut house, scripts, players)
+    }
+}
