@@ -4,7 +4,7 @@ use Rattle.std.proofs.lemmas.List.{take_min}
 use Rattle.message_view.specs.declared.KeyWord.{KeyWord}
 use Rattle.login_core.specs.declared.steps.LoginStep.{LoginStep}
 use Rattle.login_core.specs.declared.steps.LoginStep.TheVariants as step
-use Rattle.login_core.specs.Logins.{ArrivesOnce, Heard, IsAfterArrival, LoginView, Tells}
+use Rattle.login_core.specs.Logins.{Heard, LoginView, Tells}
 use Rattle.act_client.specs.Clients.{ActClientOf, SameGiven, taken}
 use Rattle.memory_house.specs.Houses.{HouseOf}
 use Rattle.play.specs.Players.{LogsIn, Steps}
@@ -35,6 +35,3 @@ nothing (suc n) = refl
 -- the login of a client that has arrived goes on
 pub arrived_steps : (h : HouseOf) (word : KeyWord) (c : ActClientOf) (key : _) (s : LoginStep) (l m : LoginView) (n : ℕ) → Steps h word c (step.Arrived key) l → Heard l (take n []) s m → Steps h word c s m
 arrived_steps h word c key s l m n x k = takes h word c c s l m [] (goes_arrived h word c key l x) (sym (append-nil (taken c))) refl (subst (λ (b : List ℕ). Heard l b s m) (nothing n) k)
-
-pub arrived_later : (h : HouseOf) (word : KeyWord) (c : ActClientOf) (key : _) (s : LoginStep) (l : LoginView) → Steps h word c (step.Arrived key) l → ArrivesOnce l.hearing s → IsAfterArrival s
-arrived_later h word c key s l x a = subst (λ q. ArrivesOnce q s) x.heard.leads a

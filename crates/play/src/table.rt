@@ -57,9 +57,13 @@ fn finish(
     ensures { IfOk result (λ v. AreAllowed house.old scripts.now v.items) }
 {
     let mut given = Vec::new(alloc);
+    let mut left = scripts;
     for player in players {
-        let script = &scripts[given.len()];
+        let [script, later @ ..] = left else {
+            return Err(AllocError);
+        };
         given.push(player.finish(house, script)?)?;
+        left = later;
     }
     Ok(given)
 }
@@ -154,13 +158,14 @@ impl<'a> Table<'a> {
             scripts,
             players,
         } = self;
-        let (Some(script), Some(player)) = (scripts.get(at), players.get_mut(at)) else {
+        if at >= scripts.len() || at >= players.len() {
             return Ok(false);
-        };
+        }
+        let script = &scripts[at];
         if !script.has_come() {
             return Ok(false);
         }
-        player.turn(*alloc, house, script)
+        players[at].turn(*alloc, house, script)
     }
 
     /// What each client was given. The only error is want of memory.
