@@ -1,11 +1,7 @@
 -- Where the end of the tests stands: it is gone, and follows no session.
 use Rattle.std.specs.Prelude.{false, []}
-use Rattle.session_values.specs.State.{Address, CatalogueOf}
 use Rattle.link_laws.specs.Stages.{Closed}
 use Rattle.link_laws.specs.Standing.{Standing}
-
-abbrev pub no_catalogue : Address → CatalogueOf
-no_catalogue address = record { version = []; databases = []; tables = [] }
 
 abbrev pub gone : Standing
 gone = record {

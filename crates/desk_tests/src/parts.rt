@@ -43,11 +43,11 @@ impl ServerEnd for Gone {
 pub(crate) struct Nowhere;
 
 impl Dial for Nowhere {
-    ghost use Rattle.desk_tests.specs.Ends.{no_catalogue};
+    ghost use Rattle.link_desk.specs.Homes.{unknown_home};
 
     type End = Gone;
 
-    ghost catalogue = { no_catalogue };
+    ghost home = { unknown_home };
 
     fn dial(&self, _row: &DbRow) -> Option<Gone> {
         Some(Gone)

@@ -1,21 +1,44 @@
--- Which catalogue stands behind a link.
-use Rattle.std.specs.Prelude.{◌≡◌, true, Some}
+-- Where a desk's links lead.
+use Rattle.std.specs.Prelude.{◌≡◌, Bool, true, false, Some, []}
 use Rattle.ini_config.specs.declared.database_rows.DbRow.{DbRow}
-use Rattle.session_values.specs.State.{Address, CatalogueOf, address_of}
+use Rattle.message_view.specs.Bodies.{Text}
+use Rattle.session_values.specs.State.{Address, CatalogueOf, StartKeyOf, address_of}
+use Rattle.user_file.specs.declared.secrets.Secret.{Secret}
+use Rattle.link_laws.specs.Standing.{Standing}
 use Rattle.link_run.specs.Links.{LinkView}
+use Rattle.link_start.specs.Starts.{CanStart, IsLetIn}
 use Rattle.link_desk.specs.declared.answers.Grant.{Grant}
 use Rattle.link_desk.specs.declared.answers.Grant.TheVariants as grant
+
+-- The catalogue that stands behind each address; whether the ends that are dialled follow their servers; and whether those let a
+-- user of this name and secret in.
+pub record HomeOf : Type 0 where
+  pub catalogue : Address → CatalogueOf
+  pub follows : Bool
+  pub lets_in : Text → Secret → Bool
+
+-- nothing is claimed of what is dialled
+abbrev pub unknown_home : HomeOf
+unknown_home = record { catalogue = λ address. record { version = []; databases = []; tables = [] }; follows = false; lets_in = λ name secret. false }
 
 -- the address of the servers of a row, under the name by which clients ask for it
 abbrev pub address_in : DbRow → Address
 address_in row = record { row = row.name; host = Some row.host; port = row.port; dbname = row.dbname }
 
--- where the link's end follows, its server has the catalogue of its key's address
-abbrev pub IsAtHome : (Address → CatalogueOf) → LinkView → Type 0
-IsAtHome catalogue link = link.stands.follows ≡ true → link.stands.server.catalogue ≡ catalogue (address_of link.key)
+-- an end that was dialled to the servers of this row, and waits for its StartupMessage
+pub record IsDialled (home : HomeOf) (row : DbRow) (at : Standing) : Type 0 where
+  pub start : CanStart at
+  pub follows : home.follows ≡ true → at.follows ≡ true
+  pub catalogue : at.follows ≡ true → at.server.catalogue ≡ home.catalogue (address_in row)
+  pub lets_in : (key : StartKeyOf) (secret : Secret) → home.lets_in key.user secret ≡ true → IsLetIn at key secret
+
+-- A link to the servers of its key's address.
+pub record IsAtHome (home : HomeOf) (link : LinkView) : Type 0 where
+  pub follows : home.follows ≡ true → link.stands.follows ≡ true
+  pub catalogue : link.stands.follows ≡ true → link.stands.server.catalogue ≡ home.catalogue (address_of link.key)
 
 module _ {E : Type 0} where
   -- a link that is lent is
-  abbrev pub IsGrantAtHome : (Address → CatalogueOf) → Grant E → Type 0
-  IsGrantAtHome catalogue (grant.Lend l) = IsAtHome catalogue l
-  IsGrantAtHome catalogue _ = Unit {0}
+  abbrev pub IsGrantAtHome : HomeOf → Grant E → Type 0
+  IsGrantAtHome home (grant.Lend l) = IsAtHome home l
+  IsGrantAtHome home _ = Unit {0}

@@ -1,8 +1,6 @@
 //! A desk that lends links.
-ghost use Rattle.std.specs.Prelude.{◌≡◌, ◌⊎◌, IfSome, IsSome, None, true};
-ghost use Rattle.std.specs.Arc.{arc_value};
-ghost use Rattle.link_start.specs.Starts.{CanStart};
-ghost use Rattle.link_desk.specs.Homes.{IsAtHome, IsGrantAtHome, address_in};
+ghost use Rattle.std.specs.Prelude.{◌≡◌, IfSome, IsSome};
+ghost use Rattle.link_desk.specs.Homes.{IsAtHome, IsDialled, IsGrantAtHome};
 ghost use Rattle.link_desk.specs.Passes.{after_arrival, after_asking, after_back, after_grant, after_leaving, after_loss, keeps};
 
 use crate::answers::{Arrival, Asked, Back, Gone, Grant};
@@ -15,15 +13,15 @@ use std::sync::Arc;
 /// A desk that lends links, as each worker holds it. Its calls are those of the lease book, each made through a pass, which tells
 /// how many decisions of each class were made through it.
 pub trait LinkDesk {
-    ghost use Rattle.session_values.specs.State.{Address, CatalogueOf};
+    ghost use Rattle.link_desk.specs.Homes.{HomeOf};
     ghost use Rattle.link_desk.specs.Passes.{PassOf};
 
     type End: ServerEnd;
 
     type Pass;
 
-    /// The catalogue that stands behind each address.
-    ghost catalogue: { Address → CatalogueOf };
+    /// Where its links lead.
+    ghost home: { HomeOf };
 
     ghost told: { Self.Pass → PassOf };
 
@@ -38,12 +36,12 @@ pub trait LinkDesk {
     /// Waits until the client needn't wait any longer for its link.
     fn take(&self, pass: &mut Self::Pass, client: u64) -> Grant<Self::End>
         ensures told { told pass.new ≡ after_grant (told pass.old) result }
-        ensures home { IsGrantAtHome catalogue result };
+        ensures home { IsGrantAtHome home result };
 
     /// Takes a clean link back, or leaves it there to be closed.
     fn give_back(&self, pass: &mut Self::Pass, link: &mut Option<CleanLink<Self::End>>) -> Back
         requires here { IsSome link.old }
-        requires home { IfSome link.old (λ l. IsAtHome catalogue l) }
+        requires home { IfSome link.old (λ l. IsAtHome home l) }
         ensures told { told pass.new ≡ after_back (told pass.old) result }
         ensures link { link.new ≡ keeps result link.old };
 
@@ -61,6 +59,5 @@ pub trait LinkDesk {
 
     /// A new end of this row's server, which waits for its StartupMessage; `None` where it can't be reached.
     fn dial(&self, row: &DbRow) -> Option<Self::End>
-        ensures start { IfSome result (λ e. CanStart (Self.End.standing e)) }
-        ensures home { IfSome result (λ e. (Self.End.standing e).follows ≡ true → (Self.End.standing e).server.catalogue ≡ catalogue (address_in row.now)) };
+        ensures { IfSome result (λ e. IsDialled home row.now (Self.End.standing e)) };
 }

@@ -8,13 +8,13 @@ use Rattle.frame_view.specs.declared.server.TheConstants.{ERROR_RESPONSE}
 use Rattle.message_view.specs.Bodies.{Text}
 use Rattle.message_view.specs.Messages.{authentication}
 use Rattle.session_values.specs.Lawful.{IsClientKey, IsLawfulCatalogue}
-use Rattle.session_values.specs.State.{StartKeyOf}
+use Rattle.session_values.specs.State.{StartKeyOf, fresh}
 use Rattle.user_file.specs.declared.secrets.Secret.{Secret}
 use Rattle.user_file.specs.declared.secrets.Secret.TheVariants as secrets
 use Rattle.user_file.specs.Secrets.{answer}
 use Rattle.link_laws.specs.Stages.{Server as TheServer, Auth, NoAuth, Asks}
 use Rattle.link_laws.specs.Standing.{Standing, Moves}
-use Rattle.link_laws.specs.Dialogues.{IsNew, AsksInFrame, IsStarting, auth_of, start_refusal}
+use Rattle.link_laws.specs.Dialogues.{IsNew, AsksInFrame, IsStarting, auth_of, start_error, start_refusal}
 use Rattle.server_end.specs.declared.memory_server.ServerAuth.{ServerAuth}
 use Rattle.server_end.specs.declared.memory_server.ServerAuth.TheVariants as memory
 use Rattle.server_end.specs.Servers.{auth_of as memory_auth, new_server}
@@ -90,6 +90,11 @@ answer_heard secret user heard.Other = None
 abbrev pub own_answer : Secret → Text → Auth → Option Text
 own_answer secret user NoAuth = None
 own_answer secret user (Asks kind more right) = answer_heard secret user (spec.asked (authentication kind more).body)
+
+-- The server refuses a start with this secret only as it refuses the key's session: it asks for nothing, or what the user answers
+-- is right, or the user answers nothing.
+abbrev pub IsLetIn : Standing → StartKeyOf → Secret → Type 0
+IsLetIn at key secret = start_refusal at.server (auth_of at.stage) key (own_answer secret key.user (auth_of at.stage)) ≡ start_error (fresh at.server.catalogue key)
 
 -- ---- a start under way
 

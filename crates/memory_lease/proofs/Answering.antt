@@ -23,7 +23,7 @@ use Rattle.link_laws.specs.Stages as stages
 use Rattle.link_laws.specs.Dialogues.{start_error}
 use Rattle.link_laws.proofs.Splits.{SplitsOff, same_back, split_whole}
 use Rattle.link_run.specs.Links.{LinkView, IsFreshLink}
-use Rattle.link_start.specs.Starts.{CanStart, IsCause, IsStartable, IsStarted, IsRefusalOf}
+use Rattle.link_start.specs.Starts.{CanStart, IsCause, IsLetIn, IsStartable, IsStarted, IsRefusalOf}
 use Rattle.link_start.specs.declared.start.StartCause.{StartCause}
 use Rattle.link_start.specs.declared.start.StartCause.TheVariants as cause
 use Rattle.message_view.specs.declared.refusal.Refusal.TheVariants.{ServerNotReached}
@@ -34,7 +34,7 @@ use Rattle.relay_steps.specs.Steps.{IsStuck}
 use Rattle.relay_core.specs.Returns.{is_clear}
 use Rattle.link_laws.specs.Futures.{future}
 use Rattle.server_end.specs.Servers.{has_some}
-use Rattle.memory_lease.specs.Answers.{IsAnswer, IsGiven as IsGivenOf, IsLetIn, IsRefusedAt, MayDie, own_pieces}
+use Rattle.memory_lease.specs.Answers.{IsAnswer, IsGiven as IsGivenOf, IsRefusedAt, MayDie, own_pieces}
 use Rattle.memory_lease.specs.declared.alone.Ending.{Ending}
 use Rattle.memory_lease.specs.declared.alone.Ending.TheVariants.{Done, Refused, Cut}
 use Rattle.memory_lease.specs.Held.{IsAtEnd, IsEnding, IsPut, TellsCause, TellsEnding}

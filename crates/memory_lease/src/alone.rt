@@ -3,11 +3,11 @@ ghost use Rattle.std.specs.Prelude.{◌≡◌, ◌<◌, ◌≤◌, ◌++◌, IfO
 ghost use Rattle.std.specs.Arc.{arc_value};
 ghost use Rattle.frame_view.specs.declared.frames.TheConstants.{LONGEST_FRAME};
 ghost use Rattle.message_view.specs.declared.refusal.Refusal.{Refusal};
-ghost use Rattle.link_start.specs.Starts.{IsLinkKey, IsStartable};
+ghost use Rattle.link_start.specs.Starts.{IsLetIn, IsLinkKey, IsStartable};
 ghost use Rattle.relay_core.specs.Returns.{IsReturned};
 ghost use Rattle.relay_laws.specs.Leases.{IsLease, Keeps, RelayView, place};
 ghost use Rattle.relay_laws.specs.declared.Phase.TheVariants.{Running};
-ghost use Rattle.memory_lease.specs.Answers.{IsAnswer, IsLetIn, own_pieces};
+ghost use Rattle.memory_lease.specs.Answers.{IsAnswer, own_pieces};
 ghost use Rattle.memory_lease.specs.Held.{IsEnding, TellsCause, TellsEnding};
 
 use crate::own_server::OwnServer;

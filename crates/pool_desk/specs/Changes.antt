@@ -1,7 +1,6 @@
 -- What the clock's calls and the console's make of their pass.
 use Rattle.std.specs.Prelude.{◌≡◌, ◌⊎◌, Bool, true, false}
-use Rattle.session_values.specs.State.{Address, CatalogueOf}
-use Rattle.link_desk.specs.Homes.{IsAtHome}
+use Rattle.link_desk.specs.Homes.{HomeOf, IsAtHome}
 use Rattle.link_desk.specs.Passes.{PassOf, broken, one_other}
 use Rattle.lease_book.specs.declared.events.Event.{Event}
 use Rattle.lease_book.specs.declared.events.Event.TheVariants as event
@@ -17,9 +16,9 @@ module _ {E : Type 0} where
   AfterTick (ticked.Close link) p q = q ≡ one_other p
   AfterTick ticked.Last p q = q ≡ broken p
 
-  abbrev pub IsTickAtHome : (Address → CatalogueOf) → Ticked E → Type 0
-  IsTickAtHome catalogue (ticked.Close link) = IsAtHome catalogue link
-  IsTickAtHome catalogue _ = Unit {0}
+  abbrev pub IsTickAtHome : HomeOf → Ticked E → Type 0
+  IsTickAtHome home (ticked.Close link) = IsAtHome home link
+  IsTickAtHome home _ = Unit {0}
 
 abbrev pub after_change : PassOf → Changed → PassOf
 after_change p changed.Done = one_other p

@@ -1,11 +1,10 @@
 -- What lies behind the desk's lock.
 use Rattle.std.specs.Prelude.{◌≡◌, ◌<◌, ℕ, List, [], ◌∷◌, Option, Some, None}
-use Rattle.session_values.specs.State.{Address, CatalogueOf}
 use Rattle.link_run.specs.Links.{LinkView}
 use Rattle.lease_book.specs.Links.{BookOf}
 use Rattle.lease_book.specs.declared.events.Event.{Event}
 use Rattle.lease_book.specs.declared.events.Event.TheVariants as event
-use Rattle.link_desk.specs.Homes.{IsAtHome}
+use Rattle.link_desk.specs.Homes.{HomeOf, IsAtHome}
 use Rattle.link_desk.specs.Passes.{Made}
 use Rattle.desk_tallies.specs.Shares.{SharesOf, of_each, sum_of}
 use Rattle.desk_tallies.specs.declared.passes.TheConstants.{ALL_PARTS}
@@ -16,15 +15,15 @@ pub record CoreOf : Type 0 where
   pub book : BookOf
   pub given : ℕ
 
-abbrev pub AreAtHome : (Address → CatalogueOf) → List LinkView → Type 0
-AreAtHome catalogue [] = Unit {0}
-AreAtHome catalogue (link ∷ links) = IsAtHome catalogue link × AreAtHome catalogue links
+abbrev pub AreAtHome : HomeOf → List LinkView → Type 0
+AreAtHome home [] = Unit {0}
+AreAtHome home (link ∷ links) = IsAtHome home link × AreAtHome home links
 
 -- each counter is the book's count of its class, the idle links are at home, and no part of a ledger was lost: those that no pass
 -- has are here, with nothing counted on them
-pub record IsJoined (catalogue : Address → CatalogueOf) (book : BookOf) (tallies : Made) (uncut : SharesOf) (given : ℕ) : Type 0 where
+pub record IsJoined (home : HomeOf) (book : BookOf) (tallies : Made) (uncut : SharesOf) (given : ℕ) : Type 0 where
   pub counted : class_counts book.lists.counts ≡ tallies
-  pub at_home : AreAtHome catalogue book.idle
+  pub at_home : AreAtHome home book.idle
   pub parts : sum_of uncut.parts (of_each given) ≡ of_each ALL_PARTS
   pub some_left : given < ALL_PARTS
   pub none_made : uncut.amounts ≡ of_each 0

@@ -134,10 +134,10 @@ impl<S: Dial, A: Ledger, G: Ledger, B: Ledger, L: Ledger, W: Ledger, O: Ledger> 
         event: Event<S::End>,
     ) -> Reply<S::End>
         requires twice { IsTwice event }
-        requires home { IfSome (brought event) (λ l. IsAtHome S.catalogue l) }
+        requires home { IfSome (brought event) (λ l. IsAtHome S.home l) }
         ensures number { pass.new.number ≡ pass.old.number }
         ensures told { Tells (plain event) (reply_of result) pass.old.told pass.new.told }
-        ensures home { IfSome (handed result) (λ l. IsAtHome S.catalogue l) }
+        ensures home { IfSome (handed result) (λ l. IsAtHome S.home l) }
         ensures back { IfSome (brought event) (λ l. handed result ≡ handed_back l (reply_of result)) }
     {
         let helps = helped_by(&event);
@@ -195,7 +195,7 @@ impl<S: Dial, A: Ledger, G: Ledger, B: Ledger, L: Ledger, W: Ledger, O: Ledger> 
         client: u64,
     ) -> Grant<S::End>
         ensures told { pass.new.told ≡ after_grant pass.old.told result }
-        ensures home { IsGrantAtHome S.catalogue result }
+        ensures home { IsGrantAtHome S.home result }
     {
         let mut core = self.core.lock(rt);
         for _ in rt.forever() {
@@ -232,7 +232,7 @@ impl<S: Dial, A: Ledger, G: Ledger, B: Ledger, L: Ledger, W: Ledger, O: Ledger> 
         link: &mut Option<CleanLink<S::End>>,
     ) -> Back
         requires here { IsSome link.old }
-        requires home { IfSome link.old (λ l. IsAtHome S.catalogue l) }
+        requires home { IfSome link.old (λ l. IsAtHome S.home l) }
         ensures told { pass.new.told ≡ after_back pass.old.told result }
         ensures link { link.new ≡ keeps result link.old }
     {
@@ -306,7 +306,7 @@ impl<S: Dial, A: Ledger, G: Ledger, B: Ledger, L: Ledger, W: Ledger, O: Ledger> 
         now: u64,
     ) -> Ticked<S::End>
         ensures told { AfterTick result pass.old.told pass.new.told }
-        ensures home { IsTickAtHome S.catalogue result }
+        ensures home { IsTickAtHome S.home result }
     {
         match self.hold(rt, pass, Event::Tick { now }) {
             Reply::Done => Ticked::Done,

@@ -1,21 +1,19 @@
 //! How servers are reached.
-ghost use Rattle.std.specs.Prelude.{◌≡◌, IfSome, true};
-ghost use Rattle.link_start.specs.Starts.{CanStart};
-ghost use Rattle.link_desk.specs.Homes.{address_in};
+ghost use Rattle.std.specs.Prelude.{IfSome};
+ghost use Rattle.link_desk.specs.Homes.{IsDialled};
 
 use ini_config::DbRow;
 use server_end::ServerEnd;
 
-/// How servers are reached, and which catalogue stands behind each address.
+/// How servers are reached, and what is claimed of them.
 pub trait Dial {
-    ghost use Rattle.session_values.specs.State.{Address, CatalogueOf};
+    ghost use Rattle.link_desk.specs.Homes.{HomeOf};
 
     type End: ServerEnd;
 
-    ghost catalogue: { Address → CatalogueOf };
+    ghost home: { HomeOf };
 
     /// A new end of this row's server, which waits for its StartupMessage; `None` where it can't be reached.
     fn dial(&self, row: &DbRow) -> Option<Self::End>
-        ensures start { IfSome result (λ e. CanStart (Self.End.standing e)) }
-        ensures home { IfSome result (λ e. (Self.End.standing e).follows ≡ true → (Self.End.standing e).server.catalogue ≡ catalogue (address_in row.now)) };
+        ensures { IfSome result (λ e. IsDialled home row.now (Self.End.standing e)) };
 }

@@ -1,7 +1,6 @@
 //! The desk in a worker's hand.
-ghost use Rattle.std.specs.Prelude.{◌≡◌, IfSome, IsSome, true};
-ghost use Rattle.link_start.specs.Starts.{CanStart};
-ghost use Rattle.link_desk.specs.Homes.{IsAtHome, IsGrantAtHome, address_in};
+ghost use Rattle.std.specs.Prelude.{◌≡◌, IfSome, IsSome};
+ghost use Rattle.link_desk.specs.Homes.{IsAtHome, IsDialled, IsGrantAtHome};
 ghost use Rattle.link_desk.specs.Passes.{after_arrival, after_asking, after_back, after_grant, after_leaving, after_loss, keeps};
 
 use crate::desk::Desk;
@@ -47,7 +46,7 @@ impl<
 
     type Pass = Pass<A, G, B, L, W, O>;
 
-    ghost catalogue = { S.catalogue };
+    ghost home = { S.home };
 
     ghost told = { λ p. p.told };
 

@@ -75,7 +75,7 @@ impl<S: Dial, A: Ledger, G: Ledger, B: Ledger, L: Ledger, W: Ledger, O: Ledger> 
 
     ghost view = { λ c. record { book = c.book; given = c.given } };
 
-    ghost invariant = { λ c. IsJoined S.catalogue c.book c.tallies c.uncut c.given };
+    ghost invariant = { λ c. IsJoined S.home c.book c.tallies c.uncut c.given };
 }
 
 impl<S: Dial, A: Ledger, G: Ledger, B: Ledger, L: Ledger, W: Ledger, O: Ledger> Core<
@@ -134,13 +134,13 @@ impl<S: Dial, A: Ledger, G: Ledger, B: Ledger, L: Ledger, W: Ledger, O: Ledger> 
         event: Event<S::End>,
     ) -> Reply<S::End>
         requires twice { IsTwice event }
-        requires home { IfSome (brought event) (λ l. IsAtHome S.catalogue l) }
+        requires home { IfSome (brought event) (λ l. IsAtHome S.home l) }
         ensures lists { self.new.book.lists ≡ (answered self.old.book.lists event).book }
         ensures history { self.new.book.history ≡ history_after self.old.book.lists pass.old.number event self.old.book.history }
         ensures reply { reply_of result ≡ (answered self.old.book.lists event).reply }
         ensures idle { self.new.book.idle ≡ idle_after event (answered self.old.book.lists event).reply self.old.book.idle }
         ensures handed { handed result ≡ handed_after event (answered self.old.book.lists event).reply self.old.book.idle }
-        ensures home { IfSome (handed result) (λ l. IsAtHome S.catalogue l) }
+        ensures home { IfSome (handed result) (λ l. IsAtHome S.home l) }
         ensures number { pass.new.number ≡ pass.old.number }
         ensures told { Tells (plain event) (reply_of result) pass.old.told pass.new.told }
         ensures given { self.new.given ≡ self.old.given }

@@ -14,11 +14,11 @@ pub struct TcpDial<R: Net> {
 }
 
 impl<R: Net> Dial for TcpDial<R> {
-    ghost use Rattle.pool_run.specs.Dialling.{no_catalogue};
+    ghost use Rattle.link_desk.specs.Homes.{unknown_home};
 
     type End = TcpEnd;
 
-    ghost catalogue = { no_catalogue };
+    ghost home = { unknown_home };
 
     fn dial(&self, row: &DbRow) -> Option<TcpEnd> {
         dial(&self.rt, self.alloc, row.host, row.port, CONNECT_SECONDS)

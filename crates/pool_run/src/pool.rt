@@ -107,6 +107,45 @@ impl<R: Net + Drop, A: Ledger, G: Ledger, B: Ledger, L: Ledger, W: Ledger, O: Le
     }
 }
 
+impl<R: Net + Drop, A: Ledger, G: Ledger, B: Ledger, L: Ledger, W: Ledger, O: Ledger> Pool<
+    R,
+    A,
+    G,
+    B,
+    L,
+    W,
+    O,
+> {
+    /// A pool with an empty book.
+    fn open(
+        rt: R,
+        alloc: Global,
+        settings: Settings,
+        users: Users,
+        blanks: Blanks,
+    ) -> Result<Pool<R, A, G, B, L, W, O>, AllocError>
+        requires bounds { AreWithinBounds settings }
+        requires names { names_of blanks ≡ by_class A.name G.name B.name L.name W.name O.name }
+        requires parts { by_class A.parts G.parts B.parts L.parts W.parts O.parts ≡ parts_of blanks }
+        requires all { parts_of blanks ≡ of_each ALL_PARTS }
+    {
+        let limits = Arc::new(alloc, limits_of(alloc, &settings)?)?;
+        let desk = Desk::<TcpDial<R>, A, G, B, L, W, O>::new(alloc, limits, blanks)?;
+        let free = Free {
+            passes: Vec::new(alloc),
+        };
+        Ok(Pool {
+            alloc,
+            desk,
+            dialer: TcpDial { rt, alloc },
+            free: Mutex::new(free),
+            settings: Bounded::new(alloc, settings)?,
+            users: Arc::new(alloc, users)?,
+            has_ended: AtomicBool::new(false),
+        })
+    }
+}
+
 impl<R: Net, A: Ledger, G: Ledger, B: Ledger, L: Ledger, W: Ledger, O: Ledger> Pool<
     R,
     A,
@@ -221,6 +260,44 @@ fn start_worker<
     workers.start(rt, move || pool.attend(&rt, word, client))
 }
 
+/// Accepts connections, each served on a thread of its own: as many as `count` says, and then no more, or for ever.
+fn accept_all<
+    R: Threads
+        + Wait
+        + Net<Listener = net::TcpListener, Stream = net::TcpStream>
+        + Copy
+        + Send
+        + Sync
+        + 'static,
+    A: Ledger + Send + Sync + 'static,
+    G: Ledger + Send + Sync + 'static,
+    B: Ledger + Send + Sync + 'static,
+    L: Ledger + Send + Sync + 'static,
+    W: Ledger + Send + Sync + 'static,
+    O: Ledger + Send + Sync + 'static,
+>(
+    rt: R,
+    acceptor: &mut Acceptor,
+    workers: &mut Workers,
+    pool: &Arc<Pool<R, A, G, B, L, W, O>>,
+    seed: [u8; 32],
+    count: Option<u64>,
+) {
+    let mut keys = KeySource::new(seed);
+    let mut accepted: u64 = 0;
+    for _ in rt.forever() {
+        if count == Some(accepted) {
+            return;
+        }
+        if let Some(client) = acceptor.turn() {
+            accepted = accepted.wrapping_add(1);
+            let word = keys.next();
+            // a thread that can't be started closes this connection alone
+            let _ = start_worker(rt, workers, pool, word, client);
+        }
+    }
+}
+
 /// Serves the connections of a listener, each on a thread of its own, over links of one desk: as many as `count` says, and then no
 /// more, or for ever. It returns when the last is done. A thread more tells the desk the seconds, and closes the links that are idle
 /// or old.
@@ -257,40 +334,15 @@ fn serve_all<
     requires parts { by_class A.parts G.parts B.parts L.parts W.parts O.parts ≡ parts_of blanks }
     requires all { parts_of blanks ≡ of_each ALL_PARTS }
 {
-    let limits = Arc::new(alloc, limits_of(alloc, &settings)?)?;
-    let desk = Desk::<TcpDial<R>, A, G, B, L, W, O>::new(alloc, limits, blanks)?;
-    let free = Free {
-        passes: Vec::new(alloc),
-    };
-    let pool = Pool {
-        alloc,
-        desk,
-        dialer: TcpDial { rt, alloc },
-        free: Mutex::new(free),
-        settings: Bounded::new(alloc, settings)?,
-        users: Arc::new(alloc, users)?,
-        has_ended: AtomicBool::new(false),
-    };
+    let mut acceptor = Acceptor::new(&rt, alloc, listener)?;
+    let mut workers = Workers::new(alloc)?;
+    let pool = Pool::<R, A, G, B, L, W, O>::open(rt, alloc, settings, users, blanks)?;
     let pool = Arc::new(alloc, pool)?;
     let shared = Arc::try_clone(&pool)?;
     let clock = thread::spawn(&rt, move || {
         let _ = shared.run_clock(&rt);
     })?;
-    let mut acceptor = Acceptor::new(&rt, alloc, listener)?;
-    let mut workers = Workers::new(alloc)?;
-    let mut keys = KeySource::new(seed);
-    let mut accepted: u64 = 0;
-    for _ in rt.forever() {
-        if count == Some(accepted) {
-            break;
-        }
-        if let Some(client) = acceptor.turn() {
-            accepted = accepted.wrapping_add(1);
-            let word = keys.next();
-            // a thread that can't be started closes this connection alone
-            let _ = start_worker(rt, &mut workers, &pool, word, client);
-        }
-    }
+    accept_all(rt, &mut acceptor, &mut workers, &pool, seed, count);
     workers.join_all(&rt);
     pool.has_ended.store(true, Ordering::SeqCst);
     clock.join(&rt);

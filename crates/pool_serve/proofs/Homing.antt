@@ -1,14 +1,14 @@
--- Links keep the catalogues of their addresses.
+-- Links stay at home.
 use Rattle.std.proofs.Common.{◌≡◌, ℕ, true, false, Bool, List, [], ◌∷◌, Option, Some, refl, sym, ap, ◌∙◌, subst}
 use Rattle.std.specs.Prelude.{bytes_eq, if◌then◌else◌}
 use Rattle.std.proofs.lemmas.Slice.Eq.{bytes_eq-Decides}
 use Rattle.ini_config.specs.declared.database_rows.DbRow.{DbRow}
 use Rattle.ini_config.specs.Tables.{row_named}
-use Rattle.session_values.specs.State.{Address, CatalogueOf, StartKeyOf, address_of}
+use Rattle.session_values.specs.State.{StartKeyOf, address_of}
 use Rattle.link_laws.specs.Standing.{ClientFacts, Standing}
 use Rattle.link_laws.specs.Stages as stages
 use Rattle.link_run.specs.Links.{LinkView}
-use Rattle.link_desk.specs.Homes.{IsAtHome, address_in}
+use Rattle.link_desk.specs.Homes.{HomeOf, IsAtHome, IsDialled, address_in}
 use Rattle.link_start.specs.Starts.{IsStarted}
 use Rattle.login_keys.specs.Laws.{IsOfRow, IsAtRow}
 use Rattle.user_file.specs.declared.secrets.Secret.{Secret}
@@ -20,14 +20,17 @@ use Rattle.relay_core.specs.Returns.{IsReturned, IsThatLink}
 use Rattle.pool_serve.specs.Backs.{IsBackHome}
 
 -- a link of the same key, whose end has the same server still
-pub home_still : (catalogue : Address → CatalogueOf) (old new : LinkView) → new.stands.follows ≡ old.stands.follows → new.stands.server ≡ old.stands.server → new.key ≡ old.key → IsAtHome catalogue old → IsAtHome catalogue new
-home_still catalogue old new f s k h = λ follows. ap (λ (x : stages.Server). x.catalogue) s ∙ (h (sym f ∙ follows) ∙ ap (λ (x : StartKeyOf). catalogue (address_of x)) (sym k))
+pub home_still : (home : HomeOf) (old new : LinkView) → new.stands.follows ≡ old.stands.follows → new.stands.server ≡ old.stands.server → new.key ≡ old.key → IsAtHome home old → IsAtHome home new
+home_still home old new f s k h = record {
+  follows = λ t. f ∙ h.follows t;
+  catalogue = λ t. ap (λ (x : stages.Server). x.catalogue) s ∙ (h.catalogue (sym f ∙ t) ∙ ap (λ (x : StartKeyOf). home.catalogue (address_of x)) (sym k));
+}
 
-module _ (catalogue : Address → CatalogueOf) (client : ClientFacts) (link : LinkView) (word : KeyWord) (limit : ℕ) (v : RelayView) (x : IsLease (place client link word limit) v) where
-  that_home : (l : LinkView) → IsThatLink v l → IsAtHome catalogue link → IsAtHome catalogue l
-  that_home l t h = home_still catalogue link l (ap (λ (s : Standing). s.follows) t.stands ∙ x.moves.follows) (ap (λ (s : Standing). s.server) t.stands ∙ x.moves.server) (t.key ∙ x.same.0) h
+module _ (home : HomeOf) (client : ClientFacts) (link : LinkView) (word : KeyWord) (limit : ℕ) (v : RelayView) (x : IsLease (place client link word limit) v) where
+  that_home : (l : LinkView) → IsThatLink v l → IsAtHome home link → IsAtHome home l
+  that_home l t h = home_still home link l (ap (λ (s : Standing). s.follows) t.stands ∙ x.moves.follows) (ap (λ (s : Standing). s.server) t.stands ∙ x.moves.server) (t.key ∙ x.same.0) h
 
-  pub back_home : {E : Type 0} (standing : E → Standing) (r : Returned E) → IsReturned standing v r → IsAtHome catalogue link → IsBackHome catalogue r
+  pub back_home : {E : Type 0} (standing : E → Standing) (r : Returned E) → IsReturned standing v r → IsAtHome home link → IsBackHome home r
   back_home standing (Unused l) t h = that_home l t.2 h
   back_home standing (Used l) t h = that_home l t.2 h
   back_home standing (Gone lent cause) t h = tt
@@ -56,7 +59,10 @@ pub row_address : (rows : List DbRow) (row : DbRow) (key : StartKeyOf) → Some 
 row_address rows row key e h = same_address row key (named key.row rows row (sym e)) (of_some (row_named key.row rows) row key (sym e) h)
 
 -- a link that was started over an end of that row's server
-pub started_home : (catalogue : Address → CatalogueOf) (began : Standing) (secret : Secret) (row : DbRow) (key : StartKeyOf) (l : LinkView) → (began.follows ≡ true → began.server.catalogue ≡ catalogue (address_in row)) → address_in row ≡ address_of key → IsStarted began secret l → l.key ≡ key → IsAtHome catalogue l
-started_home catalogue began secret row key l h a st k = λ follows.
+pub started_home : (home : HomeOf) (began : Standing) (secret : Secret) (row : DbRow) (key : StartKeyOf) (l : LinkView) → IsDialled home row began → address_in row ≡ address_of key → IsStarted began secret l → l.key ≡ key → IsAtHome home l
+started_home home began secret row key l d a st k =
     let m = st.under_way.starting.moves in
-    ap (λ (x : stages.Server). x.catalogue) m.server ∙ (h (sym m.follows ∙ follows) ∙ (ap catalogue a ∙ ap (λ (x : StartKeyOf). catalogue (address_of x)) (sym k)))
+    record {
+      follows = λ t. m.follows ∙ d.follows t;
+      catalogue = λ t. ap (λ (x : stages.Server). x.catalogue) m.server ∙ (d.catalogue (sym m.follows ∙ t) ∙ (ap home.catalogue a ∙ ap (λ (x : StartKeyOf). home.catalogue (address_of x)) (sym k)));
+    }

@@ -13,14 +13,13 @@ use Rattle.user_file.specs.declared.secrets.Secret.{Secret}
 use Rattle.link_laws.specs.Standing.{ClientFacts, Standing}
 use Rattle.link_laws.specs.Dialogues.{start_error}
 use Rattle.link_run.specs.Links.{LinkView}
-use Rattle.link_desk.specs.Homes.{IsAtHome}
-use Rattle.link_start.specs.Starts.{IsCause, IsRefusalOf}
+use Rattle.link_desk.specs.Homes.{HomeOf, IsAtHome}
+use Rattle.link_start.specs.Starts.{IsCause, IsLetIn, IsRefusalOf}
 use Rattle.link_start.specs.declared.start.StartCause.{StartCause}
 use Rattle.link_start.specs.declared.start.StartCause.TheVariants as cause
 use Rattle.login_core.specs.Solo.{service_pieces}
 use Rattle.login_run.specs.Runs.{RunView}
 use Rattle.login_run.specs.Laws as runs
-use Rattle.memory_lease.specs.Answers.{IsLetIn}
 use Rattle.pool_serve.specs.declared.guest.Guest.{Guest}
 use Rattle.pool_serve.specs.declared.word.LastWord.{LastWord}
 use Rattle.pool_serve.specs.Words.{last_of}
@@ -29,10 +28,10 @@ use Rattle.pool_serve.proofs.Telling.{behind, refusal_ends}
 
 -- ---- over a link of its key, with the catalogue of its address
 
-pub over_link : (catalogue : Address → CatalogueOf) (before after : ClientFacts) (g : Guest) (link : LinkView) (word : LastWord) → IsAtHome catalogue link → link.stands.follows ≡ true → link.key ≡ arc_value g.key → Serves before after (service_pieces link.stands.server.catalogue link.key g.word) word → Serves before after (owed catalogue g) word
-over_link catalogue before after g link word h f k s =
-    let home : link.stands.server.catalogue ≡ catalogue (address_of (arc_value g.key)) = h f ∙ ap (λ (x : StartKeyOf). catalogue (address_of x)) k in
-    subst (λ (c : CatalogueOf). Serves before after (service_pieces c (arc_value g.key) g.word) word) home
+pub over_link : (home : HomeOf) (before after : ClientFacts) (g : Guest) (link : LinkView) (word : LastWord) → IsAtHome home link → link.stands.follows ≡ true → link.key ≡ arc_value g.key → Serves before after (service_pieces link.stands.server.catalogue link.key g.word) word → Serves before after (owed home.catalogue g) word
+over_link home before after g link word h f k s =
+    let same : link.stands.server.catalogue ≡ home.catalogue (address_of (arc_value g.key)) = h.catalogue f ∙ ap (λ (x : StartKeyOf). home.catalogue (address_of x)) k in
+    subst (λ (c : CatalogueOf). Serves before after (service_pieces c (arc_value g.key) g.word) word) same
     (subst (λ (x : StartKeyOf). Serves before after (service_pieces link.stands.server.catalogue x g.word) word) k s)
 
 -- ---- a link that wasn't started

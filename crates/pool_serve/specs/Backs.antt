@@ -1,10 +1,9 @@
--- A link whose lease has ended has the catalogue of its key's address still.
-use Rattle.session_values.specs.State.{Address, CatalogueOf}
-use Rattle.link_desk.specs.Homes.{IsAtHome}
+-- A link whose lease has ended is at home still.
+use Rattle.link_desk.specs.Homes.{HomeOf, IsAtHome}
 use Rattle.relay_core.specs.declared.relay.Returned.{Returned}
 use Rattle.relay_core.specs.declared.relay.Returned.TheVariants.{Unused, Used, Gone}
 
-abbrev pub IsBackHome : {E : Type 0} → (Address → CatalogueOf) → Returned E → Type 0
-IsBackHome catalogue (Unused link) = IsAtHome catalogue link
-IsBackHome catalogue (Used link) = IsAtHome catalogue link
-IsBackHome catalogue (Gone lent cause) = Unit {0}
+abbrev pub IsBackHome : {E : Type 0} → HomeOf → Returned E → Type 0
+IsBackHome home (Unused link) = IsAtHome home link
+IsBackHome home (Used link) = IsAtHome home link
+IsBackHome home (Gone lent cause) = Unit {0}

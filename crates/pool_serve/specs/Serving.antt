@@ -1,35 +1,32 @@
 -- What a worker gives its client.
 use Rattle.std.specs.Prelude.{◌≡◌, ℕ, true, List, ◌++◌, Some}
 use Rattle.std.specs.Arc.{arc_value}
+use Rattle.message_view.specs.Bodies.{Text}
 use Rattle.message_view.specs.Refusals.{Allowed, Begins, joined_pieces}
 use Rattle.ini_config.specs.Bounds.{AreWithinBounds}
 use Rattle.ini_config.specs.Tables.{row_named}
 use Rattle.user_file.specs.declared.user_table.UserRow.{UserRow}
 use Rattle.user_file.specs.Users.{user_named}
-use Rattle.session_values.specs.State.{Address, CatalogueOf, StartKeyOf, address_of}
-use Rattle.link_laws.specs.Standing.{ClientFacts, Standing}
+use Rattle.session_values.specs.State.{Address, CatalogueOf, address_of}
+use Rattle.link_laws.specs.Standing.{ClientFacts}
 use Rattle.link_start.specs.Starts.{IsLinkKey}
+use Rattle.link_desk.specs.Homes.{HomeOf}
 use Rattle.login_core.specs.Solo.{service_pieces}
 use Rattle.login_keys.specs.Laws.{IsOfRow}
 use Rattle.login_run.specs.declared.run.LoginTurn.{LoginTurn}
 use Rattle.login_run.specs.declared.run.LoginTurn.TheVariants as turn
 use Rattle.login_run.specs.Runs.{RunView, Arrived, IsAllGiven}
 use Rattle.login_run.specs.Laws.{IsAtPiece}
-use Rattle.memory_lease.specs.Answers.{IsLetIn}
 use Rattle.pool_serve.specs.declared.guest.Guest.{Guest}
 use Rattle.pool_serve.specs.declared.word.LastWord.{LastWord}
 use Rattle.pool_serve.specs.declared.word.LastWord.TheVariants as last
 
 -- ---- the premise
 
--- each end answers as the stand-in server does
-abbrev pub AllFollow : {E : Type 0} → (E → Standing) → Type 0
-AllFollow {E} standing = (e : E) → (standing e).follows ≡ true
-
--- and refuses a start with a user's own secret only as it refuses the key's session
-pub record LetsIn {E : Type 0} (standing : E → Standing) (users : List UserRow) : Type 0 where
-  pub follow : AllFollow standing
-  pub accept : (e : E) (key : StartKeyOf) (user : UserRow) → user_named key.user users ≡ Some user → IsLetIn (standing e) key user.secret
+-- the ends that are dialled follow their servers, which let each of these users in with the user's own secret
+pub record LetsIn (home : HomeOf) (users : List UserRow) : Type 0 where
+  pub follow : home.follows ≡ true
+  pub accept : (name : Text) (user : UserRow) → user_named name users ≡ Some user → home.lets_in name user.secret ≡ true
 
 -- ---- what was given
 

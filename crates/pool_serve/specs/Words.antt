@@ -7,6 +7,7 @@ use Rattle.link_laws.specs.Standing.{ClientFacts}
 use Rattle.link_start.specs.declared.start.StartCause.{StartCause}
 use Rattle.link_start.specs.declared.start.StartCause.TheVariants as cause
 use Rattle.login_run.specs.Runs.{IsClientOver}
+use Rattle.pool_serve.specs.declared.TheConstants.{TURNS}
 use Rattle.pool_serve.specs.declared.word.LastWord.{LastWord}
 use Rattle.pool_serve.specs.declared.word.LastWord.TheVariants as last
 
@@ -28,10 +29,10 @@ last_of cause.Unanswerable = last.Refusal ServerNotReached
 last_of cause.Unexpected = last.Refusal ServerNotReached
 last_of cause.Turns = last.Refusal ServerNotReached
 
--- So many of these bytes were given: all, unless the client's end ended or faulted, or 600 times bytes went or none did.
+-- So many of these bytes were given: all, unless the client's end ended or faulted, or so many times as `TURNS` bytes went or none did.
 pub record HasGiven (old new : ClientFacts) (bytes : List ℕ) : Type 0 where
   pub tells : new.tells ≡ old.tells
   pub taken : old.tells ≡ true → new.taken ≡ old.taken
   pub count : ℕ
   pub given : old.tells ≡ true → new.given ≡ old.given ++ take count bytes
-  pub why : (count ≡ length bytes) ⊎ (IsClientOver old new ⊎ (old.write_waits + 600 ≤ new.write_waits + count))
+  pub why : (count ≡ length bytes) ⊎ (IsClientOver old new ⊎ (old.write_waits + TURNS ≤ new.write_waits + count))

@@ -3,6 +3,7 @@ ghost use Rattle.link_desk.specs.Homes.{IsAtHome};
 ghost use Rattle.pool_serve.specs.Shares.{Ends};
 ghost use Rattle.pool_serve.specs.Backs.{IsBackHome};
 
+use crate::TURNS;
 use link_desk::desk::LinkDesk;
 use link_run::links::CleanLink;
 use link_run::reset::reset_link;
@@ -11,9 +12,6 @@ use relay_core::relay::Returned;
 use server_end::gate::Gate;
 use std::alloc::Global;
 
-/// The turns that a reset may take.
-const TURNS: u32 = 600;
-
 /// Gives a clean link back; where the desk doesn't keep it, it is closed.
 pub(crate) fn give_back<D: LinkDesk, G: Gate<D::End>>(
     desk: &D,
@@ -21,7 +19,7 @@ pub(crate) fn give_back<D: LinkDesk, G: Gate<D::End>>(
     link: CleanLink<D::End>,
     gate: &mut G,
 )
-    requires home { IsAtHome D.catalogue link }
+    requires home { IsAtHome D.home link }
     ensures { Ends (D.told pass.old) (D.told pass.new) }
 {
     let mut link = link;
@@ -42,7 +40,7 @@ pub(crate) fn hand_back<D: LinkDesk, G: Gate<D::End>>(
     link: Returned<D::End>,
     gate: &mut G,
 )
-    requires home { IsBackHome D.catalogue link }
+    requires home { IsBackHome D.home link }
     ensures { Ends (D.told pass.old) (D.told pass.new) }
 {
     match link {

@@ -3,7 +3,7 @@ ghost use Rattle.std.specs.Prelude.{◌≡◌, true};
 ghost use Rattle.std.specs.Arc.{arc_value};
 ghost use Rattle.start_keys.specs.Keys.{same_key};
 ghost use Rattle.link_desk.specs.Homes.{IsAtHome};
-ghost use Rattle.pool_serve.specs.Serving.{AllFollow, IsGuest, LetsIn, Serves, owed};
+ghost use Rattle.pool_serve.specs.Serving.{IsGuest, LetsIn, Serves, owed};
 ghost use Rattle.pool_serve.specs.Shares.{Ends, Evens};
 
 use crate::guest::Guest;
@@ -28,8 +28,7 @@ fn is_for<E: ServerEnd>(link: &CleanLink<E>, guest: &Guest) -> bool
 
 /// The same link; from here on the gate's turns tell of its end.
 fn watched<E: ServerEnd, G: Gate<E>>(link: CleanLink<E>, gate: &mut G) -> CleanLink<E>
-    ensures same { result ≡ link }
-    ensures follows { AllFollow E.standing → link.stands.follows ≡ true }
+    ensures { result ≡ link }
 {
     let mut lent = link.lend();
     gate.watch(&mut lent.end);
@@ -46,11 +45,11 @@ fn over_lent<C: ClientEnd, D: LinkDesk, G: Gate<D::End>>(
     link: CleanLink<D::End>,
     gate: &mut G,
 ) -> (C, LastWord)
-    requires home { IsAtHome D.catalogue link }
+    requires home { IsAtHome D.home link }
     requires guest { IsGuest guest.now }
     ensures tells { (C.facts result.0).tells ≡ (C.facts client).tells }
     ensures share { Ends (D.told pass.old) (D.told pass.new) }
-    ensures serves { (C.facts client).tells ≡ true → LetsIn D.End.standing guest.now.login.users → Serves (C.facts client) (C.facts result.0) (owed D.catalogue guest.now) result.1 }
+    ensures serves { (C.facts client).tells ≡ true → LetsIn D.home guest.now.login.users → Serves (C.facts client) (C.facts result.0) (owed D.home.catalogue guest.now) result.1 }
 {
     if !is_for(&link, guest) {
         let number = link.number();
@@ -76,7 +75,7 @@ fn over_new<C: ClientEnd, D: LinkDesk, G: Gate<D::End>>(
     requires guest { IsGuest guest.now }
     ensures tells { (C.facts result.0).tells ≡ (C.facts client).tells }
     ensures share { Ends (D.told pass.old) (D.told pass.new) }
-    ensures serves { (C.facts client).tells ≡ true → LetsIn D.End.standing guest.now.login.users → Serves (C.facts client) (C.facts result.0) (owed D.catalogue guest.now) result.1 }
+    ensures serves { (C.facts client).tells ≡ true → LetsIn D.home guest.now.login.users → Serves (C.facts client) (C.facts result.0) (owed D.home.catalogue guest.now) result.1 }
 {
     match open_link(alloc, desk, guest, number, born, gate) {
         Ok(link) => relayed(alloc, desk, pass, client, guest, link, gate),
@@ -99,7 +98,7 @@ fn granted<C: ClientEnd, D: LinkDesk, G: Gate<D::End>>(
     requires guest { IsGuest guest.now }
     ensures tells { (C.facts result.0).tells ≡ (C.facts client).tells }
     ensures share { Evens (D.told pass.old) (D.told pass.new) }
-    ensures serves { (C.facts client).tells ≡ true → LetsIn D.End.standing guest.now.login.users → Serves (C.facts client) (C.facts result.0) (owed D.catalogue guest.now) result.1 }
+    ensures serves { (C.facts client).tells ≡ true → LetsIn D.home guest.now.login.users → Serves (C.facts client) (C.facts result.0) (owed D.home.catalogue guest.now) result.1 }
 {
     match desk.take(pass, guest.number) {
         Grant::Lend(link) => over_lent(alloc, desk, pass, client, guest, link, gate),
@@ -130,7 +129,7 @@ pub(crate) fn lease<C: ClientEnd, D: LinkDesk, G: Gate<D::End>>(
     requires guest { IsGuest guest.now }
     ensures tells { (C.facts result.0).tells ≡ (C.facts client).tells }
     ensures share { Evens (D.told pass.old) (D.told pass.new) }
-    ensures serves { (C.facts client).tells ≡ true → LetsIn D.End.standing guest.now.login.users → Serves (C.facts client) (C.facts result.0) (owed D.catalogue guest.now) result.1 }
+    ensures serves { (C.facts client).tells ≡ true → LetsIn D.home guest.now.login.users → Serves (C.facts client) (C.facts result.0) (owed D.home.catalogue guest.now) result.1 }
 {
     match desk.ask(pass, guest.number, &guest.key) {
         Asked::Queued(_) => granted(alloc, desk, pass, client, guest, gate),

@@ -1,11 +1,12 @@
 //! A new link for a client.
-ghost use Rattle.std.specs.Prelude.{◌≡◌, [], IfErr, IfOk, option_copied, true};
+ghost use Rattle.std.specs.Prelude.{◌≡◌, [], IfErr, IfOk, option_copied};
 ghost use Rattle.ini_config.specs.Tables.{row_named};
 ghost use Rattle.user_file.specs.Users.{user_named};
 ghost use Rattle.std.specs.Arc.{arc_value};
 ghost use Rattle.link_desk.specs.Homes.{IsAtHome};
 ghost use Rattle.pool_serve.specs.Serving.{IsGuest, LetsIn, MayEnd, owed};
 
+use crate::TURNS;
 use crate::guest::Guest;
 use crate::word::LastWord;
 use ini_config::DbRow;
@@ -17,9 +18,6 @@ use server_end::gate::Gate;
 use std::alloc::Global;
 use std::sync::Arc;
 use user_file::UserRow;
-
-/// The turns that a start may take.
-const TURNS: u32 = 600;
 
 /// The row of the database that a client asked for.
 fn row_of(guest: &Guest) -> Option<&DbRow>
@@ -46,9 +44,8 @@ pub(crate) fn open_link<D: LinkDesk, G: Gate<D::End>>(
 ) -> Result<CleanLink<D::End>, LastWord>
     requires guest { IsGuest guest.now }
     ensures key { IfOk result (λ l. l.key ≡ arc_value guest.now.key) }
-    ensures home { IfOk result (λ l. IsAtHome D.catalogue l) }
-    ensures follows { LetsIn D.End.standing guest.now.login.users → IfOk result (λ l. l.stands.follows ≡ true) }
-    ensures told { LetsIn D.End.standing guest.now.login.users → IfErr result (λ last. MayEnd [] (owed D.catalogue guest.now []) last) }
+    ensures home { IfOk result (λ l. IsAtHome D.home l) }
+    ensures told { LetsIn D.home guest.now.login.users → IfErr result (λ last. MayEnd [] (owed D.home.catalogue guest.now []) last) }
 {
     let Some(row) = row_of(guest) else {
         return Err(LastWord::Refusal(Refusal::ServerNotReached));

@@ -56,7 +56,7 @@ pub(crate) fn relayed<C: ClientEnd, D: LinkDesk, G: Gate<D::End>>(
     link: CleanLink<D::End>,
     gate: &mut G,
 ) -> (C, LastWord)
-    requires home { IsAtHome D.catalogue link }
+    requires home { IsAtHome D.home link }
     requires settings { AreWithinBounds guest.now.login.settings }
     ensures tells { (C.facts result.0).tells ≡ (C.facts client).tells }
     ensures share { Ends (D.told pass.old) (D.told pass.new) }

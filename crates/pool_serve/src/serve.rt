@@ -62,7 +62,7 @@ fn attend<C: ClientEnd, D: LinkDesk, G: Gate<D::End>>(
     requires word { run.login.word ≡ word }
     ensures tells { (C.facts result.0).tells ≡ run.client.tells }
     ensures share { Evens (D.told pass.old) (D.told pass.new) }
-    ensures serves { run.client.tells ≡ true → LetsIn D.End.standing run.login.users → MayEnd (C.facts result.0).given (own D.catalogue run.login (C.facts result.0).taken) result.1 }
+    ensures serves { run.client.tells ≡ true → LetsIn D.home run.login.users → MayEnd (C.facts result.0).given (own D.home.catalogue run.login (C.facts result.0).taken) result.1 }
 {
     bounded_rows_are_lawful();
     passed_keys_are_link_keys();
@@ -108,7 +108,7 @@ fn admit<C: ClientEnd, D: LinkDesk, G: Gate<D::End>>(
     requires word { run.login.word ≡ word }
     ensures tells { (C.facts result.0).tells ≡ run.client.tells }
     ensures share { Settles (D.told pass.old) (D.told pass.new) }
-    ensures serves { run.client.tells ≡ true → LetsIn D.End.standing run.login.users → MayEnd (C.facts result.0).given (own D.catalogue run.login (C.facts result.0).taken) result.1 }
+    ensures serves { run.client.tells ≡ true → LetsIn D.home run.login.users → MayEnd (C.facts result.0).given (own D.home.catalogue run.login (C.facts result.0).taken) result.1 }
 {
     runs_stand_at_pieces();
     match desk.arrive(pass) {
@@ -132,7 +132,7 @@ fn admit<C: ClientEnd, D: LinkDesk, G: Gate<D::End>>(
 /// `login` was made with the key word `word`, under settings within their bounds, and has taken no byte; where the client tells,
 /// none was taken from it or given to it. Only the desk and the gate wait: a turn of the gate is taken where nothing moved.
 ///
-/// Where the client tells, and the desk's ends follow and let its user in, what it was given is allowed for what a server
+/// Where the client tells, and the desk's home follows and lets its user in, what it was given is allowed for what a server
 /// started for it alone answers, over the catalogue of its row. Unless a call of the desk was answered by the last decision or as
 /// strange, as many links were granted as given back or lost, and as many clients arrived as left.
 pub fn serve<C: ClientEnd, D: LinkDesk, G: Gate<D::End> + Drop>(
@@ -151,7 +151,7 @@ pub fn serve<C: ClientEnd, D: LinkDesk, G: Gate<D::End> + Drop>(
     requires taken { (C.facts client).tells ≡ true → (C.facts client).taken ≡ [] }
     requires given { (C.facts client).tells ≡ true → (C.facts client).given ≡ [] }
     ensures tells { (C.facts result.0).tells ≡ (C.facts client).tells }
-    ensures allowed { (C.facts client).tells ≡ true → LetsIn D.End.standing login.users → Allowed (C.facts result.0).given (own D.catalogue login (C.facts result.0).taken) }
+    ensures allowed { (C.facts client).tells ≡ true → LetsIn D.home login.users → Allowed (C.facts result.0).given (own D.home.catalogue login (C.facts result.0).taken) }
     ensures share { Settles (D.told pass) (D.told result.1) }
 {
     runs_are_allowed();

@@ -2,13 +2,11 @@
 ghost use Rattle.std.specs.Prelude.{◌≡◌, ◌≤◌, drop, length};
 ghost use Rattle.pool_serve.specs.Words.{HasGiven, last_bytes, last_of, or_nothing};
 
+use crate::TURNS;
 use link_start::start::{StartCause, StartError};
 use message_view::{Refusal, refusal_bytes};
 use server_end::gate::Gate;
 use server_end::{ClientEnd, Moved, ServerEnd};
-
-/// The turns in which a client may take its last word.
-const TURNS: u32 = 600;
 
 /// What a client is told last.
 #[derive(Drop)]

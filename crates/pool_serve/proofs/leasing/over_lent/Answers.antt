@@ -9,11 +9,11 @@ use Rattle.pool_serve.proofs.leasing.over_lent.Goals as goal
 pub returns-clause-serves : goal.returns-clause-serves
 returns-clause-serves g c = λ t l.
     let link = c.watched-link.result in
-    let same = c.watched-link.ensures.same in
-    let follows = c.watched-link.ensures.follows l.follow in
-    let still = subst (λ (x : LinkView). x.stands.follows ≡ true) (sym same) follows in
-    over_link g.D.LinkDesk.catalogue (g.C.ClientEnd.facts c.args.client) (g.C.ClientEnd.facts c.relayed.result.0) c.args.guest.now link c.relayed.result.1
-    (subst (λ (x : LinkView). IsAtHome g.D.LinkDesk.catalogue x) (sym same) c.requires.home)
-    still
+    let same = c.watched-link.ensures in
+    let home = subst (λ (x : LinkView). IsAtHome g.D.LinkDesk.home x) (sym same) c.requires.home in
+    let follows = home.follows l.follow in
+    over_link g.D.LinkDesk.home (g.C.ClientEnd.facts c.args.client) (g.C.ClientEnd.facts c.relayed.result.0) c.args.guest.now link c.relayed.result.1
+    home
+    follows
     (ap (λ (x : LinkView). x.key) same ∙ (same_keys-one c.args.link.key (arc_value c.args.guest.now.key)).0 (sym c.is_for.ensures ∙ c.if-not-is_for.false))
-    (c.relayed.ensures.serves t still)
+    (c.relayed.ensures.serves t follows)

@@ -4,7 +4,9 @@ use Rattle.pool_serve.proofs.leasing.over_new.Goals as goal
 
 pub returns-in-Ok-clause-serves : goal.returns-in-Ok-clause-serves
 returns-in-Ok-clause-serves g c = λ t l.
-    over_link g.D.LinkDesk.catalogue (g.C.ClientEnd.facts c.args.client) (g.C.ClientEnd.facts c.relayed.result.0) c.args.guest.now c.in-Ok.link c.relayed.result.1 c.in-Ok.ensures.home (c.in-Ok.ensures.follows l) c.in-Ok.ensures.key (c.relayed.ensures.serves t (c.in-Ok.ensures.follows l))
+    let home = c.in-Ok.ensures.home in
+    let follows = home.follows l.follow in
+    over_link g.D.LinkDesk.home (g.C.ClientEnd.facts c.args.client) (g.C.ClientEnd.facts c.relayed.result.0) c.args.guest.now c.in-Ok.link c.relayed.result.1 home follows c.in-Ok.ensures.key (c.relayed.ensures.serves t follows)
 
 pub returns-in-Err-clause-serves : goal.returns-in-Err-clause-serves
 returns-in-Err-clause-serves g c = λ t l. nothing_more _ _ c.in-Err.last (c.in-Err.ensures.told l)

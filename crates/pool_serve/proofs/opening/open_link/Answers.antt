@@ -1,8 +1,8 @@
-use Rattle.std.proofs.Common.{◌≡◌, true, sym, ap, ◌∙◌, subst}
+use Rattle.std.proofs.Common.{sym, ap, ◌∙◌, subst}
 use Rattle.std.specs.Arc.{arc_value}
 use Rattle.session_values.specs.State.{StartKeyOf, address_of}
 use Rattle.link_laws.specs.Standing.{Standing}
-use Rattle.link_desk.specs.Homes.{address_in}
+use Rattle.link_desk.specs.Homes.{IsDialled}
 use Rattle.link_start.specs.Starts.{IsCause}
 use Rattle.pool_serve.proofs.Homing.{row_address, started_home}
 use Rattle.pool_serve.proofs.Owing.{unstarted}
@@ -10,8 +10,8 @@ use Rattle.pool_serve.proofs.opening.open_link.Goals as goal
 
 pub returns-in-Ok-start_link-clause-home : goal.returns-in-Ok-start_link-clause-home
 returns-in-Ok-start_link-clause-home g c =
-    started_home g.D.LinkDesk.catalogue (g.D.End.ServerEnd.standing c.watch.new.end) c.in-Some-user_of.user.now.secret c.in-Some.row.now (arc_value c.args.guest.now.key) c.in-Ok-start_link.link
-    (subst (λ (s : Standing). s.follows ≡ true → s.server.catalogue ≡ g.D.LinkDesk.catalogue (address_in c.in-Some.row.now)) (sym c.watch.ensures) c.in-Some-dial.ensures.home)
+    started_home g.D.LinkDesk.home (g.D.End.ServerEnd.standing c.watch.new.end) c.in-Some-user_of.user.now.secret c.in-Some.row.now (arc_value c.args.guest.now.key) c.in-Ok-start_link.link
+    (subst (λ (s : Standing). IsDialled g.D.LinkDesk.home c.in-Some.row.now s) (sym c.watch.ensures) c.in-Some-dial.ensures)
     (row_address c.args.guest.now.login.settings.rows c.in-Some.row.now (arc_value c.args.guest.now.key) c.in-Some.ensures c.requires.guest.row)
     c.in-Ok-start_link.ensures.started
     (c.in-Ok-start_link.ensures.key ∙ c.in-Ok.ensures)
@@ -19,9 +19,11 @@ returns-in-Ok-start_link-clause-home g c =
 pub returns-in-Err-clause-told : goal.returns-in-Err-clause-told
 returns-in-Err-clause-told g c = λ lets.
     let end = c.watch.new.end in
-    unstarted (g.D.LinkDesk.catalogue (address_of (arc_value c.args.guest.now.key))) (g.D.End.ServerEnd.standing end) (g.D.End.ServerEnd.standing c.in-Err.fault.end) c.in-Some-user_of.user.now.secret (arc_value c.args.guest.now.key) c.args.guest.now.word c.in-Err.fault.cause c.of_start.result c.of_start.ensures
-    (subst (λ (s : Standing). s.follows ≡ true → s.server.catalogue ≡ g.D.LinkDesk.catalogue (address_in c.in-Some.row.now)) (sym c.watch.ensures) c.in-Some-dial.ensures.home (lets.follow end)
-    ∙ ap g.D.LinkDesk.catalogue (row_address c.args.guest.now.login.settings.rows c.in-Some.row.now (arc_value c.args.guest.now.key) c.in-Some.ensures c.requires.guest.row))
-    (lets.follow end)
-    (lets.accept end (arc_value c.args.guest.now.key) c.in-Some-user_of.user.now (sym c.in-Some-user_of.ensures))
-    (subst (λ (k : StartKeyOf). IsCause (g.D.End.ServerEnd.standing end) (g.D.End.ServerEnd.standing c.in-Err.fault.end) c.in-Some-user_of.user.now.secret k c.in-Err.fault.cause) c.in-Ok.ensures c.in-Err.ensures.cause)
+    let dialled = subst (λ (s : Standing). IsDialled g.D.LinkDesk.home c.in-Some.row.now s) (sym c.watch.ensures) c.in-Some-dial.ensures in
+    let key = arc_value c.args.guest.now.key in
+    let user = c.in-Some-user_of.user.now in
+    unstarted (g.D.LinkDesk.home.catalogue (address_of key)) (g.D.End.ServerEnd.standing end) (g.D.End.ServerEnd.standing c.in-Err.fault.end) user.secret key c.args.guest.now.word c.in-Err.fault.cause c.of_start.result c.of_start.ensures
+    (dialled.catalogue (dialled.follows lets.follow) ∙ ap g.D.LinkDesk.home.catalogue (row_address c.args.guest.now.login.settings.rows c.in-Some.row.now key c.in-Some.ensures c.requires.guest.row))
+    (dialled.follows lets.follow)
+    (dialled.lets_in key user.secret (lets.accept key.user user (sym c.in-Some-user_of.ensures)))
+    (subst (λ (k : StartKeyOf). IsCause (g.D.End.ServerEnd.standing end) (g.D.End.ServerEnd.standing c.in-Err.fault.end) user.secret k c.in-Err.fault.cause) c.in-Ok.ensures c.in-Err.ensures.cause)

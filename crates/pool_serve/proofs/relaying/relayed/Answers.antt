@@ -12,7 +12,7 @@ use Rattle.pool_serve.proofs.relaying.relayed.Goals as goal
 
 pub hand_back-requires : goal.hand_back-requires
 hand_back-requires g c = record {
-  home = back_home g.D.LinkDesk.catalogue (g.C.ClientEnd.facts c.args.client) c.args.link c.args.guest.now.word c.max_packet_size-limit.result c.pumped-refusal.new.relay (c.pumped-refusal.ensures.keeps _ c.in-Ok.ensures.begun) g.D.End.ServerEnd.standing c.close-client.result.1 c.close-client.ensures.link c.requires.home;
+  home = back_home g.D.LinkDesk.home (g.C.ClientEnd.facts c.args.client) c.args.link c.args.guest.now.word c.max_packet_size-limit.result c.pumped-refusal.new.relay (c.pumped-refusal.ensures.keeps _ c.in-Ok.ensures.begun) g.D.End.ServerEnd.standing c.close-client.result.1 c.close-client.ensures.link c.requires.home;
 }
 
 pub returns-in-Err-clause-serves : goal.returns-in-Err-clause-serves

@@ -7,8 +7,8 @@ use Rattle.pool_serve.proofs.serve.admit.Goals as goal
 
 pub returns-in-Client-clause-serves : goal.returns-in-Client-clause-serves
 returns-in-Client-clause-serves g c = λ t l.
-    same_end g.D.LinkDesk.catalogue c.args.run c.go_on.new.self (g.C.ClientEnd.facts c.attend-served.result.0).given (g.C.ClientEnd.facts c.attend-served.result.0).taken c.attend-served.result.1 c.go_on.ensures.login
-    (c.attend-served.ensures.serves (ap (λ (x : ClientFacts). x.tells) c.go_on.ensures.client ∙ t) (subst (λ (u : List UserRow). LetsIn g.D.End.ServerEnd.standing u) (sym c.go_on.ensures.login.users) l))
+    same_end g.D.LinkDesk.home.catalogue c.args.run c.go_on.new.self (g.C.ClientEnd.facts c.attend-served.result.0).given (g.C.ClientEnd.facts c.attend-served.result.0).taken c.attend-served.result.1 c.go_on.ensures.login
+    (c.attend-served.ensures.serves (ap (λ (x : ClientFacts). x.tells) c.go_on.ensures.client ∙ t) (subst (λ (u : List UserRow). LetsIn g.D.LinkDesk.home u) (sym c.go_on.ensures.login.users) l))
 
 pub returns-in-Refused-clause-serves : goal.returns-in-Refused-clause-serves
-returns-in-Refused-clause-serves g c = λ t l. arrival_ends c.runs_stand_at_pieces.ensures g.D.LinkDesk.catalogue c.args.run (g.C.ClientEnd.facts c.finish-client.result.0) c.in-Refused.refusal c.requires.arrived c.requires.given c.finish-client.ensures.run c.finish-client.ensures.client t
+returns-in-Refused-clause-serves g c = λ t l. arrival_ends c.runs_stand_at_pieces.ensures g.D.LinkDesk.home.catalogue c.args.run (g.C.ClientEnd.facts c.finish-client.result.0) c.in-Refused.refusal c.requires.arrived c.requires.given c.finish-client.ensures.run c.finish-client.ensures.client t

@@ -13,8 +13,8 @@ pub returns-in_default : goal.returns-in_default
 returns-in_default g c = record {
   tells = ap (λ (x : ClientFacts). x.tells) c.finish-client.ensures.client ∙ (c.converse.ensures.login.tells ∙ ap (λ (x : ClientFacts). x.tells) c.new-run.ensures.client);
   allowed = λ t l.
-      subst (λ (v : LoginView). Allowed (g.C.ClientEnd.facts c.finish-client.result.0).given (own g.D.LinkDesk.catalogue v (g.C.ClientEnd.facts c.finish-client.result.0).taken)) c.new-run.ensures.login
-      (run_ends c.runs_are_allowed.ensures g.D.LinkDesk.catalogue c.new-run.result c.converse.new.run (g.C.ClientEnd.facts c.finish-client.result.0) c.converse.ensures.login c.finish-client.ensures.run c.finish-client.ensures.client (ap (λ (x : ClientFacts). x.tells) c.new-run.ensures.client ∙ t));
+      subst (λ (v : LoginView). Allowed (g.C.ClientEnd.facts c.finish-client.result.0).given (own g.D.LinkDesk.home.catalogue v (g.C.ClientEnd.facts c.finish-client.result.0).taken)) c.new-run.ensures.login
+      (run_ends c.runs_are_allowed.ensures g.D.LinkDesk.home.catalogue c.new-run.result c.converse.new.run (g.C.ClientEnd.facts c.finish-client.result.0) c.converse.ensures.login c.finish-client.ensures.run c.finish-client.ensures.client (ap (λ (x : ClientFacts). x.tells) c.new-run.ensures.client ∙ t));
   share = λ e. record { leases = refl; clients = refl };
 }
 
@@ -22,7 +22,7 @@ pub returns-clause-allowed : goal.returns-clause-allowed
 returns-clause-allowed g c = λ t l.
     let client = g.C.ClientEnd.facts c.admit-client.result.0 in
     let tells = c.converse.ensures.login.tells ∙ (ap (λ (x : ClientFacts). x.tells) c.new-run.ensures.client ∙ t) in
-    let lets = subst (λ (u : List UserRow). LetsIn g.D.End.ServerEnd.standing u) (sym (c.converse.ensures.login.users ∙ ap (λ (x : LoginView). x.users) c.new-run.ensures.login)) l in
-    told_client client (g.C.ClientEnd.facts c.tell.new.client) (own g.D.LinkDesk.catalogue c.args.login) c.admit-client.result.1 c.tell.ensures (c.admit-client.ensures.tells ∙ tells)
-    (subst (λ (v : LoginView). MayEnd client.given (own g.D.LinkDesk.catalogue v client.taken) c.admit-client.result.1) c.new-run.ensures.login
-    (same_end g.D.LinkDesk.catalogue c.new-run.result c.converse.new.run client.given client.taken c.admit-client.result.1 c.converse.ensures.login (c.admit-client.ensures.serves tells lets)))
+    let lets = subst (λ (u : List UserRow). LetsIn g.D.LinkDesk.home u) (sym (c.converse.ensures.login.users ∙ ap (λ (x : LoginView). x.users) c.new-run.ensures.login)) l in
+    told_client client (g.C.ClientEnd.facts c.tell.new.client) (own g.D.LinkDesk.home.catalogue c.args.login) c.admit-client.result.1 c.tell.ensures (c.admit-client.ensures.tells ∙ tells)
+    (subst (λ (v : LoginView). MayEnd client.given (own g.D.LinkDesk.home.catalogue v client.taken) c.admit-client.result.1) c.new-run.ensures.login
+    (same_end g.D.LinkDesk.home.catalogue c.new-run.result c.converse.new.run client.given client.taken c.admit-client.result.1 c.converse.ensures.login (c.admit-client.ensures.serves tells lets)))

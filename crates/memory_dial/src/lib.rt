@@ -1,0 +1,94 @@
+//! Stand-in servers in memory, as a desk's workers reach them.
+#![tactic(auto)]
+
+ghost use Rattle.std.specs.Prelude.{◌≡◌, ◌<◌, IfSome};
+ghost use Rattle.std.specs.Arc.{arc_value};
+ghost use Rattle.link_desk.specs.Homes.{IsDialled};
+ghost use Rattle.memory_dial.specs.Homes.{IsEverywhere};
+
+use ini_config::DbRow;
+use link_start::laws::memory_servers_can_start;
+use message_view::KeyWord;
+use pool_desk::dial::Dial;
+use server_catalogue::Catalogue;
+use server_end::memory_server::{MemoryServer, ServerAuth};
+use std::alloc::Global;
+use std::marker::{Brand, Model, PhantomData};
+use std::sync::Arc;
+
+/// Which catalogue stands behind each address. Who calls at [`Brand`] picks it.
+pub trait Naming {
+    ghost use Rattle.session_values.specs.State.{Address, CatalogueOf};
+
+    ghost catalogue: { Address → CatalogueOf };
+}
+
+impl Naming for Brand {
+    ghost use Rattle.link_desk.specs.Homes.{unknown_home};
+
+    ghost catalogue = { unknown_home.catalogue };
+}
+
+/// Reaches new servers of one catalogue and key word, whatever the row, which let everybody in.
+#[derive(Drop)]
+pub struct MemoryDial<N: Naming> {
+    alloc: Global,
+    catalogue: Arc<Catalogue>,
+    own: KeyWord,
+    /// The greatest number of bytes that a call moves.
+    cut: usize,
+    naming: PhantomData<N>,
+}
+
+impl<N: Naming> Model for MemoryDial<N> {
+    ghost use Rattle.std.specs.Arc.{arc_value};
+    ghost use Rattle.std.specs.Prelude.{◌<◌};
+    ghost use Rattle.memory_dial.specs.Homes.{IsEverywhere};
+    ghost use Rattle.session_values.specs.State.{CatalogueOf};
+
+    ghost Value = { CatalogueOf };
+
+    ghost view = { λ d. arc_value d.catalogue };
+
+    ghost invariant = { λ d. (0 < d.cut) × IsEverywhere N.catalogue (arc_value d.catalogue) };
+}
+
+impl<N: Naming> MemoryDial<N> {
+    /// Servers of this catalogue and key word, of which a call moves at most `cut` bytes.
+    pub fn new(alloc: Global, catalogue: Arc<Catalogue>, own: KeyWord, cut: usize) -> MemoryDial<N>
+        requires cut { 0 < cut }
+        requires everywhere { IsEverywhere N.catalogue (arc_value catalogue) }
+        ensures { result ≡ arc_value catalogue }
+    {
+        MemoryDial {
+            alloc,
+            catalogue,
+            own,
+            cut,
+            naming: PhantomData,
+        }
+    }
+}
+
+impl<N: Naming> Dial for MemoryDial<N> {
+    ghost use Rattle.memory_dial.specs.Homes.{open_home};
+
+    type End = MemoryServer;
+
+    ghost home = { open_home N.catalogue };
+
+    fn dial(&self, _row: &DbRow) -> Option<MemoryServer> {
+        memory_servers_can_start();
+        self.catalogue.is_lawful();
+        let catalogue = Arc::try_clone(&self.catalogue).ok()?;
+        MemoryServer::new(
+            self.alloc,
+            catalogue,
+            ServerAuth::Trust,
+            self.own,
+            self.cut,
+            None,
+        )
+        .ok()
+    }
+}

@@ -1,0 +1,123 @@
+//! Two clients at once.
+ghost use Rattle.std.specs.Prelude.{◌≡◌};
+ghost use Rattle.std.specs.Arc.{arc_value};
+ghost use Rattle.desk_tallies.specs.declared.passes.TheConstants.{ALL_PARTS};
+ghost use Rattle.desk_tallies.specs.Shares.{by_class, names_of, of_each, parts_of};
+ghost use Rattle.memory_dial.specs.Homes.{IsEverywhere};
+
+use crate::ends::{HoldingGate, NotedClient};
+use crate::parts::{CUT, WELCOME, catalogue, limits, login, serve_by, word};
+use desk_tallies::passes::Pass;
+use desk_tallies::tallies::Blanks;
+use memory_dial::{MemoryDial, Naming};
+use paced_client::PacedClient;
+use pool_desk::desk::Desk;
+use server_catalogue::Catalogue;
+use server_end::gate::OpenGate;
+use std::alloc::{AllocError, Global};
+use std::marker::Brand;
+use std::rt::Clock;
+use std::sync::atomic::{AtomicBool, Ordering};
+use std::sync::ledger::Ledger;
+use std::sync::{Arc, Wait};
+use std::test::Fail;
+use std::thread::{Threads, join};
+
+/// What each client sends: Ann's StartupMessage for the database shop, and `SHOW application_name`.
+const INPUT: &[u8] =
+    b"\0\0\0\x20\0\x03\0\0user\0ann\0database\0shop\0\0Q\0\0\0\x1aSHOW application_name\0";
+
+/// A client that notes once it was given more than so many bytes.
+fn client<'a>(
+    alloc: Global,
+    bytes: usize,
+    given: &'a AtomicBool,
+) -> Result<NotedClient<'a>, AllocError> {
+    Ok(NotedClient {
+        client: PacedClient::new(alloc, INPUT, CUT)?,
+        bytes,
+        given,
+    })
+}
+
+/// Whether the second client was answered while the first one's gate kept its turn, and how much the first was given.
+fn at_once<
+    N: Naming + Send + Sync,
+    A: Ledger + Send + Sync,
+    G: Ledger + Send + Sync,
+    B: Ledger + Send + Sync,
+    L: Ledger + Send + Sync,
+    W: Ledger + Send + Sync,
+    O: Ledger + Send + Sync,
+    R: Threads + Wait + Clock + Sync,
+>(rt: &R, alloc: Global, catalogue: Arc<Catalogue>, blanks: Blanks) -> Result<(bool, usize), Fail>
+    requires everywhere { IsEverywhere N.catalogue (arc_value catalogue) }
+    requires names { names_of blanks ≡ by_class A.name G.name B.name L.name W.name O.name }
+    requires parts { by_class A.parts G.parts B.parts L.parts W.parts O.parts ≡ parts_of blanks }
+    requires all { parts_of blanks ≡ of_each ALL_PARTS }
+{
+    let dialer = MemoryDial::<N>::new(alloc, catalogue, word(7), CUT);
+    let desk = Desk::<MemoryDial<N>, A, G, B, L, W, O>::new(alloc, limits(alloc, 100)?, blanks)?;
+    let first_pass = desk.pass(rt).ok_or("no pass")?;
+    let second_pass = desk.pass(rt).ok_or("no pass")?;
+    let welcomed = AtomicBool::new(false);
+    let answered = AtomicBool::new(false);
+    let late = AtomicBool::new(false);
+    let first = client(alloc, WELCOME - 1, &welcomed)?;
+    let second = client(alloc, WELCOME, &answered)?;
+    let first_login = login(alloc, 1)?;
+    let second_login = login(alloc, 2)?;
+    let gate = HoldingGate {
+        rt,
+        welcomed: &welcomed,
+        answered: &answered,
+        late: &late,
+    };
+    let shared = &desk;
+    let servers = &dialer;
+    let (given, in_time) = join(
+        rt,
+        move || -> usize {
+            let (client, _pass) = serve_by(
+                rt,
+                alloc,
+                shared,
+                servers,
+                first_pass,
+                first,
+                first_login,
+                1,
+                gate,
+            );
+            client.client.given().len()
+        },
+        move || -> bool {
+            let (client, _pass) = serve_by(
+                rt,
+                alloc,
+                shared,
+                servers,
+                second_pass,
+                second,
+                second_login,
+                2,
+                OpenGate,
+            );
+            client.given.load(Ordering::SeqCst)
+        },
+    );
+    Ok((in_time && !late.load(Ordering::SeqCst), given))
+}
+
+#[test]
+fn two_clients_at_once(rt: HostRuntime) -> Result<(), Fail> {
+    let (in_time, given) = at_once::<Brand, Brand, Brand, Brand, Brand, Brand, Brand, HostRuntime>(
+        &rt,
+        rt.alloc(),
+        catalogue(rt.alloc())?,
+        Blanks::new(),
+    )?;
+    assert!(rt; in_time);
+    assert!(rt; given > WELCOME);
+    Ok(())
+}

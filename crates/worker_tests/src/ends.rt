@@ -1,0 +1,80 @@
+//! A client that notes how far it has come, and a gate that waits for another client.
+ghost use Rattle.std.specs.Prelude.{◌≡◌, true};
+ghost use Rattle.server_end.specs.Moves.{ClientReads, ClientWrites, IsWithin, moved};
+
+use paced_client::PacedClient;
+use server_end::gate::{Gate, Ready};
+use server_end::{ClientEnd, Moved, ServerEnd};
+use std::rt::Clock;
+use std::sync::atomic::{AtomicBool, Ordering};
+use std::thread::sleep;
+use std::time::Duration;
+
+/// A paced client that notes once it was given more than so many bytes.
+#[derive(Drop)]
+pub(crate) struct NotedClient<'a> {
+    pub client: PacedClient,
+    pub bytes: usize,
+    pub given: &'a AtomicBool,
+}
+
+impl<'a> ClientEnd for NotedClient<'a> {
+    ghost use Rattle.paced_client.specs.Paced.{facts_of};
+
+    ghost facts = { λ c. facts_of c.client };
+
+    fn read_some(&mut self, into: &mut [u8]) -> Moved {
+        self.client.read(into)
+    }
+
+    fn write_some(&mut self, from: &[u8]) -> Moved {
+        let moved = self.client.write(from);
+        if self.client.given().len() > self.bytes {
+            self.given.store(true, Ordering::SeqCst);
+        }
+        moved
+    }
+
+    fn faults(&self) -> u64 {
+        self.client.faults()
+    }
+
+    fn waits(&self) -> (u64, u64) {
+        self.client.waits()
+    }
+}
+
+/// Once its own client was welcomed, its turns last until the other was answered, or for 60,000 sleeps of 1 ms.
+#[derive(Drop)]
+pub(crate) struct HoldingGate<'a, R: Clock> {
+    pub rt: &'a R,
+    pub welcomed: &'a AtomicBool,
+    pub answered: &'a AtomicBool,
+    /// Set where all those sleeps were used.
+    pub late: &'a AtomicBool,
+}
+
+impl<'a, R: Clock> HoldingGate<'a, R> {
+    /// Waits for the other client.
+    fn hold(&self) {
+        for _ in 0..60_000u32 {
+            if self.answered.load(Ordering::SeqCst) {
+                return;
+            }
+            sleep(self.rt, Duration::from_millis(1));
+        }
+        self.late.store(true, Ordering::SeqCst);
+    }
+}
+
+impl<'a, R: Clock, E: ServerEnd> Gate<E> for HoldingGate<'a, R> {
+    fn turn(&mut self) -> Ready {
+        if self.welcomed.load(Ordering::SeqCst) {
+            self.hold();
+        }
+        Ready {
+            client: true,
+            server: true,
+        }
+    }
+}
