@@ -44,7 +44,7 @@ fn given<
     let listener = TcpListener::bind(&rt, SocketAddr::from((Ipv4Addr::LOCALHOST, 0)))?;
     let address = listener.local_addr()?;
     let catalogue = catalogue(alloc)?;
-    let count = clients.len() as u32;
+    let count = u32::try_from(clients.len()).ok().ok_or("too many clients")?;
     let server = thread::spawn(
         &rt,
         move || stub_on(rt, alloc, listener, catalogue, Some(count)).is_ok(),

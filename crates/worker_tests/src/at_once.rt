@@ -13,7 +13,8 @@ use memory_dial::{MemoryDial, Naming};
 use paced_client::PacedClient;
 use pool_desk::desk::Desk;
 use server_catalogue::Catalogue;
-use server_end::gate::OpenGate;
+use server_end::gate::{Gate, OpenGate};
+use server_end::memory_server::MemoryServer;
 use std::alloc::{AllocError, Global};
 use std::marker::Brand;
 use std::rt::Clock;
@@ -27,17 +28,37 @@ use std::thread::{Threads, join};
 const INPUT: &[u8] =
     b"\0\0\0\x20\0\x03\0\0user\0ann\0database\0shop\0\0Q\0\0\0\x1aSHOW application_name\0";
 
-/// A client that notes once it was given more than so many bytes.
-fn client<'a>(
+/// Serves the client with this number, which notes once it was given more than so many bytes: how many it was given at its end.
+fn served<
+    'a,
+    T: Gate<MemoryServer> + Drop,
+    N: Naming,
+    A: Ledger,
+    G: Ledger,
+    B: Ledger,
+    L: Ledger,
+    W: Ledger,
+    O: Ledger,
+    R: Wait,
+>(
+    rt: &R,
     alloc: Global,
+    desk: &Desk<MemoryDial<N>, A, G, B, L, W, O>,
+    dialer: &MemoryDial<N>,
+    pass: Pass<A, G, B, L, W, O>,
+    number: u32,
     bytes: usize,
     given: &'a AtomicBool,
-) -> Result<NotedClient<'a>, AllocError> {
-    Ok(NotedClient {
+    gate: T,
+) -> Result<usize, AllocError> {
+    let client = NotedClient {
         client: PacedClient::new(alloc, INPUT, CUT)?,
         bytes,
         given,
-    })
+    };
+    let login = login(alloc, number)?;
+    let (client, _pass) = serve_by(rt, alloc, desk, dialer, pass, client, login, number, gate);
+    Ok(client.client.given().len())
 }
 
 /// Whether the second client was answered while the first one's gate kept its turn, and how much the first was given.
@@ -63,10 +84,6 @@ fn at_once<
     let welcomed = AtomicBool::new(false);
     let answered = AtomicBool::new(false);
     let late = AtomicBool::new(false);
-    let first = client(alloc, WELCOME - 1, &welcomed)?;
-    let second = client(alloc, WELCOME, &answered)?;
-    let first_login = login(alloc, 1)?;
-    let second_login = login(alloc, 2)?;
     let gate = HoldingGate {
         rt,
         welcomed: &welcomed,
@@ -75,38 +92,38 @@ fn at_once<
     };
     let shared = &desk;
     let servers = &dialer;
-    let (given, in_time) = join(
+    let (first, second) = join(
         rt,
-        move || -> usize {
-            let (client, _pass) = serve_by(
+        || -> Result<usize, AllocError> {
+            served(
                 rt,
                 alloc,
                 shared,
                 servers,
                 first_pass,
-                first,
-                first_login,
                 1,
+                WELCOME - 1,
+                &welcomed,
                 gate,
-            );
-            client.client.given().len()
+            )
         },
-        move || -> bool {
-            let (client, _pass) = serve_by(
+        || -> Result<usize, AllocError> {
+            served(
                 rt,
                 alloc,
                 shared,
                 servers,
                 second_pass,
-                second,
-                second_login,
                 2,
+                WELCOME,
+                &answered,
                 OpenGate,
-            );
-            client.given.load(Ordering::SeqCst)
+            )
         },
     );
-    Ok((in_time && !late.load(Ordering::SeqCst), given))
+    second?;
+    let in_time = answered.load(Ordering::SeqCst) && !late.load(Ordering::SeqCst);
+    Ok((in_time, first?))
 }
 
 #[test]
