@@ -1,5 +1,5 @@
 -- Links that stay at home in the book.
-use Rattle.std.proofs.Common.{◌≡◌, ℕ, List, [], ◌∷◌, ◌++◌, Option, Some, None, filter, find, cond, Bool, true, false}
+use Rattle.std.proofs.Common.{◌≡◌, ℕ, List, [], ◌∷◌, ◌++◌, Option, Some, None, find, cond, Bool, true, false}
 use Rattle.std.specs.Prelude.{IfSome, not}
 use Rattle.session_values.proofs.Alls.{OfSome, all-append, all-filter, all-find}
 use Rattle.session_values.specs.State.{CatalogueOf, StartKeyOf}
@@ -9,8 +9,7 @@ use Rattle.link_run.specs.Links.{LinkView}
 use Rattle.book_lists.specs.declared.events.Reply.{Reply as ListsReply}
 use Rattle.lease_book.specs.declared.events.Event.{Event}
 use Rattle.lease_book.specs.declared.events.Event.TheVariants as event
-use Rattle.lease_book.specs.declared.events.Reply.{Reply}
-use Rattle.lease_book.specs.Links.{found, goes_out, handed, handed_after, handed_back, idle_after, idle_with, is_done, is_numbered, left}
+use Rattle.lease_book.specs.Links.{found, goes_out, handed_after, idle_after, is_done, is_numbered, left}
 use Rattle.memory_house.specs.Houses.{AreAtHome, IsAtHome, IsBroughtHome}
 
 all-left : (cat : CatalogueOf) (o : Option ℕ) (idle : List LinkView) → AreAtHome cat idle → AreAtHome cat (left o idle)

@@ -1,14 +1,16 @@
 -- What the clients of a play are served over, and whose links they are.
-use Rattle.std.specs.Prelude.{◌≡◌, ℕ, ◌<◌, true, List, [], ◌∷◌, Option, Some}
+use Rattle.std.specs.Prelude.{◌≡◌, ℕ, ◌<◌, true, List, Some}
 use Rattle.std.specs.List.{AllByRecursion}
 use Rattle.frame_view.specs.Frames.{FrameOf, spelling}
 use Rattle.ini_config.specs.Bounds.{AreWithinBounds}
 use Rattle.ini_config.specs.declared.option_values.Settings.{Settings}
 use Rattle.user_file.specs.declared.user_table.UserRow.{UserRow}
 use Rattle.session_values.specs.State.{CatalogueOf, StartKeyOf, fresh}
-use Rattle.link_laws.specs.Dialogues.{start_error}
+use Rattle.link_laws.specs.Dialogues.{auth_of, start_error}
+use Rattle.link_laws.specs.Stages.{NoAuth}
 use Rattle.link_laws.specs.Standing.{Standing}
 use Rattle.link_run.specs.Links.{LinkView}
+use Rattle.link_start.specs.Starts.{CanStart}
 use Rattle.link_start.specs.declared.start.StartCause.{StartCause}
 use Rattle.link_start.specs.declared.start.StartCause.TheVariants as cause
 use Rattle.lease_book.specs.declared.events.Event.{Event}
@@ -37,6 +39,12 @@ IsAtHome cat l = IsServerOf cat l.stands
 abbrev pub AreAtHome : CatalogueOf → List LinkView → Type 0
 AreAtHome cat links = AllByRecursion (IsAtHome cat) links
 
+-- a new server of this catalogue, which waits for a StartupMessage and asks for nothing
+pub record IsNewServer (cat : CatalogueOf) (at : Standing) : Type 0 where
+  pub home : IsServerOf cat at
+  pub starts : CanStart at
+  pub trusts : auth_of at.stage ≡ NoAuth
+
 -- the idle links of a house
 pub record IsHouse (h : HouseOf) (cut : ℕ) (idle : List LinkView) : Type 0 where
   pub some : 0 < cut
@@ -55,6 +63,10 @@ pub record IsStartError (cat : CatalogueOf) (key : StartKeyOf) (error : List ℕ
   pub frame : FrameOf
   pub refused : start_error (fresh cat key) ≡ Some frame
   pub whole : error ≡ spelling frame
+
+abbrev pub IsUnstarted : CatalogueOf → StartKeyOf → StartCause → Type 0
+IsUnstarted cat key (cause.Refused error) = IsStartError cat key error
+IsUnstarted cat key _ = Unit {0}
 
 abbrev pub IsTaken : CatalogueOf → StartKeyOf → Taken → Type 0
 IsTaken cat key (taken.Link l) = IsAtHome cat l × (l.key ≡ key)

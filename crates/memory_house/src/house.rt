@@ -1,5 +1,5 @@
 //! Settings, users, a catalogue, and the lease book with its links.
-ghost use Rattle.std.specs.Prelude.{◌≡◌, ◌<◌, ◌≤◌, [], false, IfOk, IfSome};
+ghost use Rattle.std.specs.Prelude.{◌≡◌, ◌<◌, ◌≤◌, [], false, IfErr, IfOk, IfSome};
 ghost use Rattle.std.specs.Arc.{arc_value};
 ghost use Rattle.frame_view.specs.declared.frames.TheConstants.{LONGEST_FRAME};
 ghost use Rattle.ini_config.specs.Bounds.{AreWithinBounds};
@@ -7,7 +7,7 @@ ghost use Rattle.lease_book.specs.Links.{IsTwice, handed};
 ghost use Rattle.link_start.specs.Starts.{IsLinkKey};
 ghost use Rattle.login_core.specs.Dialogue.{AtFirst};
 ghost use Rattle.login_core.specs.Logins.{Hears, login_view};
-ghost use Rattle.memory_house.specs.Houses.{IsAtHome, IsBroughtHome, IsServerOf, IsTaken, IsUntaken, house_of};
+ghost use Rattle.memory_house.specs.Houses.{IsAtHome, IsBroughtHome, IsNewServer, IsServerOf, IsTaken, IsUnstarted, IsUntaken, house_of};
 
 use crate::answers::{Answer, Taken};
 use ini_config::Settings;
@@ -223,10 +223,12 @@ impl House {
         Taken::Strange
     }
 
-    /// A new server, which waits for a StartupMessage.
+    /// A new server, which waits for a StartupMessage and asks for no password.
     fn server(&self) -> Result<MemoryServer, AllocError>
-        ensures { IfOk result (λ s. IsServerOf self.now.catalogue s.standing) }
+        ensures { IfOk result (λ s. IsNewServer self.now.catalogue s.standing) }
     {
+        self.catalogue.is_lawful();
+        memory_servers_can_start();
         let catalogue = Arc::try_clone(&self.catalogue)?;
         MemoryServer::new(
             self.alloc,
@@ -238,19 +240,24 @@ impl House {
         )
     }
 
-    /// A new link of this key.
-    fn start(&mut self, key: &Arc<StartKey>, number: u64, born: u64) -> Result<Taken, AllocError>
-        requires { IsLinkKey (arc_value key.now) }
-        ensures same { self.new ≡ self.old }
-        ensures taken { IfOk result (IsTaken self.old.catalogue (arc_value key.now)) }
+    /// A link of this key over a new server, or why there is none.
+    #[tactic(auto, using(crate::proofs::Starting::started_home, crate::proofs::Starting::unstarted))]
+    fn open(
+        &self,
+        server: MemoryServer,
+        key: Arc<StartKey>,
+        number: u64,
+        born: u64,
+    ) -> Result<CleanLink<MemoryServer>, StartLinkFault<MemoryServer>>
+        requires server { IsNewServer self.now.catalogue server.standing }
+        requires key { IsLinkKey (arc_value key) }
+        ensures home { IfOk result (IsAtHome self.now.catalogue) }
+        ensures key { IfOk result (λ l. l.key ≡ arc_value key) }
+        ensures cause { IfErr result (λ f. IsUnstarted self.now.catalogue (arc_value key) f.cause) }
     {
-        self.catalogue.is_lawful();
-        memory_servers_can_start();
         // the server asks for nothing
         let unasked = Secret::Md5([0; 32]);
-        let server = self.server()?;
-        let key = Arc::try_clone(key)?;
-        match start_link(
+        start_link(
             self.alloc,
             server,
             key,
@@ -259,13 +266,32 @@ impl House {
             born,
             &mut OpenGate,
             TURNS,
-        ) {
+        )
+    }
+
+    /// A new link of this key.
+    #[tactic(auto, using(crate::proofs::Starting::untaken_is))]
+    fn start(&mut self, key: &Arc<StartKey>, number: u64, born: u64) -> Result<Taken, AllocError>
+        requires { IsLinkKey (arc_value key.now) }
+        ensures same { self.new ≡ self.old }
+        ensures taken { IfOk result (IsTaken self.old.catalogue (arc_value key.now)) }
+    {
+        let server = self.server()?;
+        let key = Arc::try_clone(key)?;
+        match self.open(server, key, number, born) {
             Ok(link) => Ok(Taken::Link(link)),
             Err(fault) => {
-                self.tell(Event::StartFailed { number });
+                self.fail_start(number);
                 untaken(fault)
             }
         }
+    }
+
+    /// A link couldn't be started.
+    fn fail_start(&mut self, number: u64)
+        ensures { self.new ≡ self.old }
+    {
+        self.tell(Event::StartFailed { number });
     }
 
     /// A link comes back that nobody used.
