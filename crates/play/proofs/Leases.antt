@@ -1,5 +1,5 @@
 -- A client's lease, and what it was given at its end.
-use Rattle.std.proofs.Common.{◌≡◌, inl, ℕ, ◌<◌, ◌^◌, true, List, [], ◌∷◌, ◌++◌, refl, sym, ap, ap₂, ◌∙◌, arith, append_assoc, append-nil, subst, take, drop, take-append-drop, Result, Ok, Err, Option, Some, length}
+use Rattle.std.proofs.Common.{◌≡◌, inl, ℕ, true, List, [], ◌∷◌, ◌++◌, refl, sym, ap, ap₂, ◌∙◌, arith, append_assoc, append-nil, subst, drop, take-append-drop, Result, Ok, Err, Some, length}
 use Rattle.std.specs.Prelude.{map}
 use Rattle.std.specs.List.{flat_map, AllByRecursion}
 use Rattle.std.proofs.lemmas.Grind.{flat_map-append}
@@ -29,9 +29,9 @@ use Rattle.memory_lease.proofs.Service.{begins_both, service_on}
 use Rattle.relay_laws.specs.Leases.{IsAllowed, IsLease, Keeps, Place, RelayView, place}
 use Rattle.relay_laws.proofs.Exact.{lease_allowed}
 use Rattle.relay_steps.specs.Answers.{AtBorder}
-use Rattle.act_client.specs.Clients.{ActClientOf, facts_of, given_more, given_with, taken}
+use Rattle.act_client.specs.Clients.{ActClientOf, facts_of, given_more, given_with}
 use Rattle.memory_house.specs.Houses.{HouseOf, IsAtHome, IsServerOf, IsStartError}
-use Rattle.play.specs.Players.{HasPassed, IsAtPiece, IsDone, IsServed, StopsAt, Waits, rows_of}
+use Rattle.play.specs.Players.{IsAtPiece, IsDone, IsServed, StopsAt, Waits, rows_of}
 use Rattle.play.proofs.Pieces.{joined_both, joined_one, own_is, service_piece}
 
 -- ---- a lease begins

@@ -2,3 +2,4 @@ pub mod Pieces
 pub mod Logins
 pub mod Turns
 pub mod Leases
+pub mod Tables

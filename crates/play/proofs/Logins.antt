@@ -1,24 +1,16 @@
 -- A client's login, step by step.
-use Rattle.std.proofs.Common.{◌≡◌, ◌≢◌, ◌⊎◌, inl, inr, ℕ, List, [], ◌∷◌, ◌++◌, refl, sym, ap, ap₂, ◌∙◌, append_assoc, append-nil, subst, take, drop, take-append-drop, take_all, length, min, ◌≤◌, ◌<◌, Some}
+use Rattle.std.proofs.Common.{◌≡◌, ℕ, List, [], ◌∷◌, ◌++◌, refl, sym, ap, ap₂, ◌∙◌, append_assoc, append-nil, subst, drop, take-append-drop, arith, ◌<◌}
 use Rattle.std.specs.Arc.{arc_value}
-use Rattle.frame_view.specs.Frames.{spelling}
-use Rattle.ini_config.specs.declared.option_values.Settings.{Settings}
-use Rattle.user_file.specs.declared.user_table.UserRow.{UserRow}
 use Rattle.message_view.specs.declared.KeyWord.{KeyWord}
-use Rattle.message_view.specs.declared.refusal.Refusal.{Refusal}
-use Rattle.message_view.specs.declared.refusal.Refusal.TheVariants.{OutOfMemory}
-use Rattle.message_view.specs.Refusals.{joined_pieces, refusal}
-use Rattle.session_values.specs.State.{StartKeyOf, fresh}
-use Rattle.session_values.specs.Service.{client_frames}
-use Rattle.session_values.specs.declared.cause.Cause.{Cause}
-use Rattle.link_laws.specs.Dialogues.{start_error}
+use Rattle.message_view.specs.Refusals.{joined_pieces}
+use Rattle.session_values.specs.State.{StartKeyOf}
 use Rattle.login_core.specs.declared.steps.LoginStep.{LoginStep}
 use Rattle.login_core.specs.declared.steps.LoginStep.TheVariants as step
 use Rattle.login_core.specs.declared.steps.Question.{Question}
 use Rattle.login_core.specs.declared.steps.Failure.{Failure}
 use Rattle.login_core.specs.Talk.{says}
-use Rattle.login_core.specs.Talk.End.{Passed, Stopped}
-use Rattle.login_core.specs.Dialogue.{Dialogue, Rows, AtFirst, ToLink, Failed, login_among, ok, row_in}
+use Rattle.login_core.specs.Talk.End.{Passed}
+use Rattle.login_core.specs.Dialogue.{Dialogue, Rows, AtFirst, ToLink, login_among, ok, row_in}
 use Rattle.login_core.specs.Laws.{GoesOn, given_by}
 use Rattle.login_core.specs.Laws.GoesOn.{waits, arrived, asks}
 use Rattle.login_core.specs.Logins.{Heard, Hears, LoginView, Tells, after, failure_bytes, goes_on, login_view, missing, question_bytes, rows_of as login_rows}
@@ -28,8 +20,8 @@ use Rattle.link_start.specs.Starts.{IsLinkKey as IsStartKey}
 use Rattle.login_keys.specs.Laws.{BoundedRowsAreLawful, PassedKeysAreLinkKeys}
 use Rattle.act_client.specs.Clients.{ActClientOf, given_more, new_client, taken}
 use Rattle.memory_house.specs.Houses.{HouseOf}
-use Rattle.play.specs.Players.{HasPassed, IsAtPiece, IsDone, IsLetIn, LogsIn, Steps, Waits, own, rows_of}
-use Rattle.play.proofs.Pieces.{joined_both, joined_one, login_piece, piece_done, refused_done, service_piece}
+use Rattle.play.specs.Players.{HasPassed, IsAtPiece, IsLetIn, LogsIn, Steps, Waits, rows_of}
+use Rattle.play.proofs.Pieces.{joined_one, login_piece}
 
 -- what was taken begins the input
 pub input_is : (c : ActClientOf) → taken c ++ drop c.at c.input ≡ c.input
@@ -73,6 +65,11 @@ new_logs_in h word input = record {
   tells = new_tells h.settings h.users word;
   given = refl;
 }
+
+pub first_at : (h : HouseOf) (word : KeyWord) (input : List ℕ) (c : ActClientOf) (l : LoginView) → c ≡ new_client input → l ≡ login_view h.settings h.users word (Hears (AtFirst Rattle.std.specs.Prelude.false Rattle.std.specs.Prelude.false)) [] → (c.input ≡ input) × LogsIn h word c l × (0 < missing l.hearing l.held)
+first_at h word input c l e k =
+    subst (λ (d : ActClientOf). (d.input ≡ input) × LogsIn h word d l × (0 < missing l.hearing l.held)) (sym e)
+    (subst (λ (m : LoginView). (input ≡ input) × LogsIn h word (new_client input) m × (0 < missing m.hearing m.held)) (sym k) (refl, new_logs_in h word input, omega arith))
 
 -- bytes were taken, and heard
 pub takes : (h : HouseOf) (word : KeyWord) (c d : ActClientOf) (s : LoginStep) (old new : LoginView) (bytes : List ℕ) → LogsIn h word c old → taken d ≡ taken c ++ bytes → d.given ≡ c.given → Heard old bytes s new → Steps h word d s new

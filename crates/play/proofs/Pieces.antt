@@ -1,17 +1,18 @@
 -- What may be given to a client at a piece's end.
-use Rattle.std.proofs.Common.{◌≡◌, inl, inr, ℕ, List, [], ◌∷◌, ◌++◌, refl, sym, ap, ◌∙◌, append_assoc, append-nil, subst}
+use Rattle.std.proofs.Common.{◌≡◌, inl, inr, ℕ, List, [], ◌∷◌, ◌++◌, sym, ap, ◌∙◌, append_assoc, append-nil, subst}
 use Rattle.std.proofs.lemmas.Grind.{flat_map-append}
 use Rattle.message_view.specs.declared.KeyWord.{KeyWord}
 use Rattle.message_view.specs.declared.refusal.Refusal.{Refusal}
-use Rattle.message_view.specs.Refusals.{Allowed, Begins, IsRefused, joined_pieces, refusal}
+use Rattle.message_view.specs.Refusals.{Allowed, joined_pieces, refusal}
 use Rattle.session_values.specs.State.{StartKeyOf}
 use Rattle.login_core.specs.Talk.End.{Passed}
 use Rattle.login_core.specs.Dialogue.{Dialogue, ToLink, login_among}
 use Rattle.login_core.specs.Solo.{after_login, service_pieces}
 use Rattle.login_core.proofs.Owning.{its_row}
+use Rattle.act_client.specs.Acts.{Sender}
 use Rattle.act_client.specs.Clients.{ActClientOf, given_more}
 use Rattle.memory_house.specs.Houses.{HouseOf}
-use Rattle.play.specs.Players.{HasPassed, IsAtPiece, IsDone, own, rows_of}
+use Rattle.play.specs.Players.{IsAtPiece, IsDone, own, rows_of, word_of}
 
 pub joined_both : (ps qs : List (List ℕ)) → joined_pieces (ps ++ qs) ≡ joined_pieces ps ++ joined_pieces qs
 joined_both ps qs = flat_map-append (λ (p : List ℕ). p) ps qs
@@ -61,3 +62,9 @@ refused_done h word c r x = inr (record {
   begins = record { more = []; both = append-nil (refusal r) };
   out_is = ap (λ (l : List ℕ). l ++ refusal r) x.given;
 })
+
+-- at the end of a play
+pub finished : (h : HouseOf) (s : Sender) (word : KeyWord) (c : ActClientOf) (out : List ℕ) → word ≡ word_of s.number → (c.input ≡ s.bytes) × IsDone h word c → out ≡ c.given → Allowed out (own h (word_of s.number) s.bytes)
+finished h s word c out e d o =
+    subst (λ (w : KeyWord). Allowed out (own h w s.bytes)) e
+    (subst (λ (i : List ℕ). Allowed out (own h word i)) d.0 (subst (λ (g : List ℕ). Allowed g (own h word c.input)) (sym o) d.1))

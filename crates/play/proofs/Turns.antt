@@ -1,10 +1,13 @@
 -- A turn of a login.
-use Rattle.std.proofs.Common.{◌≡◌, ℕ, zero, suc, ◌≤◌, List, [], ◌++◌, refl, sym, ap, ◌∙◌, append-nil, subst, take, length, min, take_all}
+use Rattle.std.proofs.Common.{◌≡◌, ◌⊎◌, inl, inr, ℕ, zero, suc, ◌≤◌, List, [], ◌++◌, refl, sym, ◌∙◌, append-nil, subst, take, length, min, take_all}
 use Rattle.std.proofs.lemmas.List.{take_min}
 use Rattle.message_view.specs.declared.KeyWord.{KeyWord}
+use Rattle.server_end.specs.declared.Moved.{Moved}
+use Rattle.server_end.specs.declared.Moved.TheVariants.{Ended, Fault}
+use Rattle.server_end.specs.Moves.{moved}
 use Rattle.login_core.specs.declared.steps.LoginStep.{LoginStep}
 use Rattle.login_core.specs.declared.steps.LoginStep.TheVariants as step
-use Rattle.login_core.specs.Logins.{ArrivesOnce, Heard, IsAfterArrival, LoginView, Tells}
+use Rattle.login_core.specs.Logins.{Heard, LoginView, Tells}
 use Rattle.act_client.specs.Clients.{ActClientOf, SameGiven, taken}
 use Rattle.memory_house.specs.Houses.{HouseOf}
 use Rattle.play.specs.Players.{LogsIn, Steps}
@@ -28,13 +31,15 @@ stays h word c d l x t g = record {
   given = g.1 ∙ x.given;
 }
 
-nothing : (n : ℕ) → take n ([] {A = ℕ}) ≡ []
+-- nor was where the end ended or faulted
+pub over_stays : (h : HouseOf) (word : KeyWord) (c d : ActClientOf) (l : LoginView) (m : Moved) (b : List ℕ) → LogsIn h word c l → taken d ≡ taken c ++ moved m b → SameGiven c d → (m ≡ Ended) ⊎ (m ≡ Fault) → LogsIn h word d l
+over_stays h word c d l m b x t g (inl e) = stays h word c d l x (subst (λ (k : Moved). taken d ≡ taken c ++ moved k b) e t) g
+over_stays h word c d l m b x t g (inr e) = stays h word c d l x (subst (λ (k : Moved). taken d ≡ taken c ++ moved k b) e t) g
+
+nothing : (n : ℕ) → ◌≡◌ {A = List ℕ} (take n []) []
 nothing zero = refl
 nothing (suc n) = refl
 
 -- the login of a client that has arrived goes on
 pub arrived_steps : (h : HouseOf) (word : KeyWord) (c : ActClientOf) (key : _) (s : LoginStep) (l m : LoginView) (n : ℕ) → Steps h word c (step.Arrived key) l → Heard l (take n []) s m → Steps h word c s m
 arrived_steps h word c key s l m n x k = takes h word c c s l m [] (goes_arrived h word c key l x) (sym (append-nil (taken c))) refl (subst (λ (b : List ℕ). Heard l b s m) (nothing n) k)
-
-pub arrived_later : (h : HouseOf) (word : KeyWord) (c : ActClientOf) (key : _) (s : LoginStep) (l : LoginView) → Steps h word c (step.Arrived key) l → ArrivesOnce l.hearing s → IsAfterArrival s
-arrived_later h word c key s l x a = subst (λ q. ArrivesOnce q s) x.heard.leads a

@@ -1,7 +1,7 @@
 //! A client's login.
 ghost use Rattle.std.specs.Prelude.{◌≡◌, ◌<◌, [], IfOk};
 ghost use Rattle.std.specs.Arc.{arc_value};
-ghost use Rattle.login_core.specs.Logins.{ArrivesOnce, IsAfterArrival, missing};
+ghost use Rattle.login_core.specs.Logins.{missing};
 ghost use Rattle.play.specs.Players.{IsAt, IsLetIn, LogsIn, Steps};
 
 use crate::stage::{Stage, leave, refuse};
@@ -95,8 +95,7 @@ fn follow<'a>(
     number: Option<u64>,
     step: LoginStep,
 ) -> Result<Stage<'a>, AllocError>
-    requires steps { Steps house.old word client step login }
-    requires later { IsAfterArrival step }
+    requires { Steps house.old word client step login }
     ensures same { house.new ≡ house.old }
     ensures at { IfOk result (IsAt house.old word client.entry.input) }
 {

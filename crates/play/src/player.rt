@@ -78,14 +78,21 @@ impl<'a> Player<'a> {
         Ok(moved)
     }
 
-    /// What it was given, and the numbers of the links that it had. The only error is want of memory.
-    pub(crate) fn finish(self, house: &mut House, script: &Script) -> Result<Given, AllocError>
-        requires { IsPlayer house.old script.now self }
+    /// What it was given, and the numbers of the links that it had; its turns are over. The only error is want of memory.
+    pub(crate) fn finish(
+        &mut self,
+        alloc: Global,
+        house: &mut House,
+        script: &Script,
+    ) -> Result<Given, AllocError>
+        requires { IsPlayer house.old script.now self.old }
         ensures same { house.new ≡ house.old }
+        ensures player { IsPlayer house.old script.now self.new }
         ensures allowed { IfOk result (IsAllowedTo house.old script.now) }
     {
-        let Player { word, links, stage } = self;
-        let client = last(house, word, script, stage)?;
+        let stage = mem::replace(&mut self.stage, Stage::Absent);
+        let links = mem::replace(&mut self.links, Vec::new(alloc));
+        let client = last(house, self.word, script, stage)?;
         Ok(Given {
             bytes: client.into_given(),
             links,

@@ -1,6 +1,6 @@
 //! The clients of a play, and what they are served over.
-ghost use Rattle.std.specs.Prelude.{◌≡◌, ◌<◌, IfOk, length};
-ghost use Rattle.play.specs.Players.{AreAllowed, ArePlayers, IsPlayer};
+ghost use Rattle.std.specs.Prelude.{◌≡◌, ◌<◌, IfOk, length, slice_index_or};
+ghost use Rattle.play.specs.Players.{AreAllowed, ArePlayers, IsAllowedTo, IsPlayer};
 
 use crate::played::Given;
 use crate::player::Player;
@@ -44,24 +44,6 @@ fn players<'a>(
         players.push(Player::new(alloc, house, script)?)?;
     }
     Ok(players)
-}
-
-/// What each client was given. The only error is want of memory.
-fn finish(
-    alloc: Global,
-    house: &mut House,
-    scripts: &[Script],
-    players: Vec<Player<'_>>,
-) -> Result<Vec<Given>, AllocError>
-    requires { ArePlayers house.old scripts.now players.items }
-    ensures { IfOk result (λ v. AreAllowed house.old scripts.now v.items) }
-{
-    let mut given = Vec::new(alloc);
-    for player in players {
-        let script = &scripts[given.len()];
-        given.push(player.finish(house, script)?)?;
-    }
-    Ok(given)
 }
 
 impl<'a> Table<'a> {
@@ -154,25 +136,41 @@ impl<'a> Table<'a> {
             scripts,
             players,
         } = self;
-        let (Some(script), Some(player)) = (scripts.get(at), players.get_mut(at)) else {
+        if at >= scripts.len() || at >= players.len() {
             return Ok(false);
-        };
+        }
+        let script = &scripts[at];
         if !script.has_come() {
             return Ok(false);
         }
-        player.turn(*alloc, house, script)
+        players[at].turn(*alloc, house, script)
     }
 
-    /// What each client was given. The only error is want of memory.
-    pub(crate) fn finish(self) -> Result<Vec<Given>, AllocError>
-        ensures { IfOk result (λ v. AreAllowed self.entry.house self.entry.senders v.items) }
+    /// What the client at this place was given.
+    fn given_to(&mut self, at: usize, script: &Script) -> Result<Given, AllocError>
+        requires there { at < length self.old.senders }
+        requires script { script.now ≡ slice_index_or self.old.senders at script.now }
+        ensures same { self.new ≡ self.old }
+        ensures allowed { IfOk result (IsAllowedTo self.old.house script.now) }
     {
         let Table {
             alloc,
-            mut house,
-            scripts,
+            house,
+            scripts: _,
             players,
         } = self;
-        finish(alloc, &mut house, scripts, players)
+        players[at].finish(*alloc, house, script)
+    }
+
+    /// What each client was given; their turns are over. The only error is want of memory.
+    pub(crate) fn finish(&mut self) -> Result<Vec<Given>, AllocError>
+        ensures { IfOk result (λ v. AreAllowed self.old.house self.old.senders v.items) }
+    {
+        let mut all = Vec::new(self.alloc);
+        let scripts = self.scripts;
+        for at in 0..scripts.len() {
+            all.push(self.given_to(at, &scripts[at])?)?;
+        }
+        Ok(all)
     }
 }
