@@ -1,6 +1,6 @@
 -- Places in a list of rows that each bear a number of their own.
 use Rattle.std.proofs.Common.{get_or, ◌≡◌, ℕ, suc, zero, ◌+◌, ◌≤◌, ◌<◌, Bool, true, false, List, [], ◌∷◌, ◌++◌, length, take, length-take, Option, None, Some, cond, refl, sym, ap, ◌∙◌, subst, arith, map}
-use Rattle.std.specs.Prelude.{remove, position, find, filter, not, count_by, slice_get, ◌||◌, is_some}
+use Rattle.std.specs.Prelude.{remove, position, find, filter, not, count_by, slice_get, ◌||◌, ◌==◌, is_some}
 use Rattle.std.specs.List.{prefix_len, position_or_len, list_any}
 use Rattle.std.proofs.Math.ListN.{set}
 use Rattle.std.proofs.lemmas.List.Quantifiers.{position-Some}
@@ -281,3 +281,12 @@ started_nowhere links n born key e = sym (ap (is_started_as key born) (not_found
 
 pub started_at : (links : List Link) (n born place : ℕ) (key : StartKeyOf) (x : Link) → position (is_link n) links ≡ Some place → x ≡ get_or links place x → is_started_as key born (Some x) ≡ is_started_as key born (find (is_link n) links)
 started_at links n born place key x e g = ap (is_started_as key born) (sym (at_place (is_link n) links place x e g))
+
+-- ---- the first place
+
+pub first_place : {A : Type 0} (xs : List A) → 1 ≤ length xs → position (λ _. true) xs ≡ Some 0
+first_place [] h = absurd (omega arith)
+first_place (x ∷ xs) h = grind (arith, nat_tests)
+
+pub first_is : {A : Type 0} (xs : List A) → (length xs == 0) ≡ false → Some 0 ≡ position (λ _. true) xs
+first_is xs e = sym (first_place xs (grind (arith, nat_tests)))

@@ -1,5 +1,5 @@
 //! The links that are lent, or idle.
-ghost use Rattle.std.specs.Prelude.{◌≡◌, ◌<◌, ◌≤◌, ◌++◌, ◌∷◌, [], ℕ, Some, IfOk, count_by, find, length, position, slice_get};
+ghost use Rattle.std.specs.Prelude.{◌≡◌, ◌<◌, ◌≤◌, ◌^◌, ◌++◌, ◌∷◌, [], ℕ, true, Some, IfOk, count_by, find, length, position, slice_get, slice_index_or};
 ghost use Rattle.std.specs.List.{list_any};
 ghost use Rattle.start_keys.specs.Keys.{same_key};
 ghost use Rattle.book_lists.specs.Book as book;
@@ -89,9 +89,17 @@ impl Links {
 
     /// How many there are.
     pub fn len(&self) -> usize
-        ensures { result ≡ length self.now }
+        ensures count { result ≡ length self.now }
+        ensures fits { result < 2 ^ 63 }
     {
         self.rows.len()
+    }
+
+    /// The links, in rows of the holder's own.
+    pub fn copied(&self, alloc: Global) -> Result<Vec<Link>, AllocError>
+        ensures { IfOk result (λ v. v.items ≡ self.now) }
+    {
+        Vec::from_clones(alloc, &self.rows)
     }
 
     /// The links.
@@ -99,6 +107,14 @@ impl Links {
         ensures { result.now ≡ self.now }
     {
         &self.rows
+    }
+
+    /// The link at this place.
+    pub fn at(&self, place: usize) -> &Link
+        requires { place < length self.now }
+        ensures { result.now ≡ slice_index_or self.now place result.now }
+    {
+        &self.rows[place]
     }
 
     /// Where the link stands.
@@ -126,6 +142,14 @@ impl Links {
         }
     }
 
+    /// Where the first link stands.
+    #[tactic(auto, using(crate::proofs::Places::first_is))]
+    pub fn first(&self) -> Option<usize>
+        ensures { result ≡ position (λ l. true) self.now }
+    {
+        if self.rows.is_empty() { None } else { Some(0) }
+    }
+
     /// Where the first link of this pool stands.
     pub fn first_of_pool(&self, pool: &PoolKey) -> Option<usize>
         ensures { result ≡ position (book.in_pool pool.now) self.now }
@@ -148,7 +172,8 @@ impl Links {
 
     /// How many links are of this pool.
     pub fn count_of_pool(&self, pool: &PoolKey) -> usize
-        ensures { result ≡ count_by (book.in_pool pool.now) self.now }
+        ensures count { result ≡ count_by (book.in_pool pool.now) self.now }
+        ensures fits { result < 2 ^ 63 }
     {
         self.rows.iter().filter(|l| l.is_in_pool(pool)).count()
     }

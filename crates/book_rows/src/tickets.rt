@@ -1,5 +1,5 @@
 //! The tickets of the clients that wait.
-ghost use Rattle.std.specs.Prelude.{◌≡◌, ◌<◌, ◌≤◌, ◌++◌, ◌∷◌, [], ℕ, IfOk, count_by, length, position, slice_get, take};
+ghost use Rattle.std.specs.Prelude.{◌≡◌, ◌<◌, ◌≤◌, ◌++◌, ◌∷◌, [], ℕ, None, Some, IfOk, MatchOption, count_by, length, position, slice_get, slice_index_or, take};
 ghost use Rattle.std.specs.List.{list_any};
 ghost use Rattle.book_lists.specs.Book as book;
 ghost use Rattle.book_lists.specs.declared.limits.TheConstants.{MOST_CLIENTS};
@@ -84,9 +84,16 @@ impl Tickets {
     /// The ticket at this place.
     pub fn at(&self, place: usize) -> &Ticket
         requires { place < length self.now }
-        ensures { slice_get self.now place ≡ Some result.now }
+        ensures { result.now ≡ slice_index_or self.now place result.now }
     {
         &self.rows[place]
+    }
+
+    /// The ticket at this place, where there are so many.
+    pub fn get(&self, place: usize) -> Option<&Ticket>
+        ensures { MatchOption result (slice_get self.now place ≡ None) (λ t. slice_get self.now place ≡ Some t.now) }
+    {
+        self.rows.get(place)
     }
 
     /// Whether there are so many tickets, and the one at this place is the client's.
