@@ -94,7 +94,7 @@ by_server : (p : Place) (v : RelayView) (fs : List FrameOf) (more : List ℕ) �
 by_server p v fs more x e a h =
     let s : StopsAt v.to_client.side v.to_client.limit v.to_client.part v.to_client.rest = server_stops v.to_client.ends v.to_client.side v.to_client.limit v.to_client.part v.to_client.rest e x.comes.flow.ended in
     let high : v.to_client.limit ≤ LONGEST_FRAME = x.comes.flow.high in
-    let same : v.to_client.limit ≡ p.limit = x.same.5 in
+    let same : v.to_client.limit ≡ p.limit = x.same.5.0 in
     next_is_long p.limit v.to_client.part more s.fault fs (omega (arith, high, same)) a (sym (ap₂ (λ (d : Side) (l : ℕ). front d l v.to_client.part) x.comes.flow.side_is same) ∙ s.stops) h
 
 -- ---- of a relay that refuses
