@@ -1,6 +1,6 @@
 -- Why a client is refused.
-use Rattle.std.proofs.Common.{◌≡◌, ◌⊎◌, inl, inr, ℕ, ◌+◌, ◌^◌, ◌<◌, ◌≤◌, Bool, true, false, List, [], ◌∷◌, ◌++◌, length, refl, sym, ap, ap₂, ◌∙◌, arith, append_assoc, append-nil, subst, Option, Some}
-use Rattle.std.specs.Prelude.{map, nat_lt, None}
+use Rattle.std.proofs.Common.{◌≡◌, inl, inr, ℕ, ◌+◌, ◌^◌, ◌<◌, ◌≤◌, Bool, true, false, List, [], ◌∷◌, ◌++◌, length, refl, sym, ap, ap₂, ◌∙◌, arith, append_assoc, subst, Option, Some}
+use Rattle.std.specs.Prelude.{map, nat_lt}
 use Rattle.std.specs.List.{flat_map, AllByRecursion}
 use Rattle.std.proofs.lemmas.Bool.{false≢true, ltb-true, ltb-false}
 use Rattle.frame_view.specs.declared.FrameFault.{FrameFault}
@@ -13,7 +13,6 @@ use Rattle.frame_view.specs.Frames as frames
 use Rattle.frame_view.proofs.Growth.{front-grows}
 use Rattle.frame_view.proofs.Cuts.{front-spelling}
 use Rattle.message_view.specs.declared.refusal.Refusal.{Refusal}
-use Rattle.message_view.specs.declared.refusal.Refusal.TheVariants.{MalformedServerMessage, ServerFailed}
 use Rattle.message_view.specs.Refusals.{Begins}
 use Rattle.relay_flow.specs.declared.flow.Ends.{Ends}
 use Rattle.relay_flow.specs.declared.flow.Ends.TheVariants.{Open, Last, Faulty}
@@ -94,7 +93,7 @@ by_server : (p : Place) (v : RelayView) (fs : List FrameOf) (more : List ℕ) �
 by_server p v fs more x e a h =
     let s : StopsAt v.to_client.side v.to_client.limit v.to_client.part v.to_client.rest = server_stops v.to_client.ends v.to_client.side v.to_client.limit v.to_client.part v.to_client.rest e x.comes.flow.ended in
     let high : v.to_client.limit ≤ LONGEST_FRAME = x.comes.flow.high in
-    let same : v.to_client.limit ≡ p.limit = x.same.5.0 in
+    let same : v.to_client.limit ≡ p.limit = x.same.5 in
     next_is_long p.limit v.to_client.part more s.fault fs (omega (arith, high, same)) a (sym (ap₂ (λ (d : Side) (l : ℕ). front d l v.to_client.part) x.comes.flow.side_is same) ∙ s.stops) h
 
 -- ---- of a relay that refuses
