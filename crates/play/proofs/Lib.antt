@@ -1,0 +1,5 @@
+pub mod Pieces
+pub mod Logins
+pub mod Turns
+pub mod Leases
+pub mod Tables

@@ -1,0 +1,88 @@
+//! A client that waits for its link.
+ghost use Rattle.std.specs.Prelude.{◌≡◌, IfOk};
+ghost use Rattle.std.specs.Arc.{arc_value};
+ghost use Rattle.play.specs.Players.{IsAt, Waits};
+ghost use Rattle.memory_house.specs.Houses.{IsAtHome};
+
+use crate::stage::{Stage, leave, refuse};
+use act_client::ActClient;
+use link_run::links::CleanLink;
+use link_start::close::close_link;
+use login_core::laws::login_is_of_its_row;
+use login_keys::laws::{bounded_rows_are_lawful, passed_keys_are_link_keys};
+use memory_house::House;
+use memory_house::answers::Taken;
+use message_view::KeyWord;
+use relay_core::relay::Relay;
+use server_end::memory_server::MemoryServer;
+use start_keys::StartKey;
+use std::alloc::{AllocError, Global};
+use std::sync::Arc;
+
+/// A turn of a client that waits: it takes its link, if it may have one now, and leaves if it has hung up. The link's number is
+/// kept.
+#[tactic(auto, using(crate::proofs::Logins::waits_piece, crate::proofs::Pieces::piece_done, crate::proofs::Leases::start_fails, crate::proofs::Logins::key_starts))]
+pub(crate) fn wait<'a>(
+    alloc: Global,
+    house: &mut House,
+    word: KeyWord,
+    links: &mut Vec<u64>,
+    mut client: ActClient<'a>,
+    key: Arc<StartKey>,
+    number: u64,
+) -> Result<(Stage<'a>, bool), AllocError>
+    requires { Waits house.old word client (arc_value key) }
+    ensures same { house.new ≡ house.old }
+    ensures at { IfOk result (λ r. IsAt house.old word client.entry.input r.0) }
+{
+    house.is_bounded();
+    bounded_rows_are_lawful();
+    passed_keys_are_link_keys();
+    if client.script().has_gone() {
+        return Ok((leave(house, word, client, Some(number)), true));
+    }
+    let stage = match house.take(number, &key)? {
+        Taken::Link(link) => {
+            links.push(link.number())?;
+            begin(alloc, house, word, client, link, number)?
+        }
+        Taken::Waits => {
+            let stage = Stage::Waiting {
+                client,
+                key,
+                number,
+            };
+            return Ok((stage, false));
+        }
+        Taken::Refused(refusal) => refuse(house, word, client, Some(number), refusal)?,
+        Taken::Failed(error) => {
+            client.give(error.as_bytes())?;
+            leave(house, word, client, Some(number))
+        }
+        Taken::Strange => leave(house, word, client, Some(number)),
+    };
+    Ok((stage, true))
+}
+
+/// The lease of a link to a client begins.
+#[tactic(auto, using(crate::proofs::Leases::lease_begins))]
+fn begin<'a>(
+    alloc: Global,
+    house: &House,
+    word: KeyWord,
+    client: ActClient<'a>,
+    link: CleanLink<MemoryServer>,
+    number: u64,
+) -> Result<Stage<'a>, AllocError>
+    requires waits { Waits house.now word client link.key }
+    requires home { IsAtHome house.now.catalogue link }
+    ensures { IfOk result (IsAt house.now word client.entry.input) }
+{
+    match Relay::begin(alloc, client, link, word, house.limit()) {
+        Ok(relay) => Ok(Stage::Served { relay, number }),
+        Err((_, link)) => {
+            close_link(link);
+            Err(AllocError)
+        }
+    }
+}
