@@ -1,6 +1,5 @@
 //! The parts of the plays: what clients send, what they are given, and the settings.
 ghost use Rattle.std.specs.Prelude.{◌<◌, IfOk};
-ghost use Rattle.std.specs.Arc.{arc_value};
 ghost use Rattle.ini_config.specs.Bounds.{AreWithinBounds};
 
 use ini_config::laws::read_settings_are_within_bounds;
@@ -36,13 +35,12 @@ pub(crate) const START_B: &[u8] =
 /// What a client is given in its login.
 pub(crate) const LET_IN: &[u8] = b"R\0\0\0\x08\0\0\0\0";
 
-/// Settings with these options.
-fn settings_of(alloc: Global, text: &[u8]) -> Result<Arc<Settings>, AllocError>
-    ensures { IfOk result (λ s. AreWithinBounds (arc_value s)) }
+fn settings_of(alloc: Global, text: &[u8]) -> Result<Settings, AllocError>
+    ensures { IfOk result (λ s. AreWithinBounds s) }
 {
     read_settings_are_within_bounds();
     match read_settings(alloc, text) {
-        Ok(settings) => Ok(Arc::new(alloc, settings)?),
+        Ok(settings) => Ok(settings),
         Err(_) => Err(AllocError),
     }
 }
@@ -58,7 +56,7 @@ pub(crate) fn played(
 {
     let mut text = Vec::from_slice(alloc, SHOP)?;
     text.extend_from_slice(options)?;
-    let settings = settings_of(alloc, text.as_slice())?;
+    let settings = Arc::new(alloc, settings_of(alloc, text.as_slice())?)?;
     let users = match read_users(alloc, USERS) {
         Ok(users) => Arc::new(alloc, users)?,
         Err(_) => return Err(AllocError),
