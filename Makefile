@@ -51,6 +51,7 @@ test:
 	scripts/clients.sh $(trials)
 	scripts/refuse-growth.sh $(program) $(trials)
 	PGSESS=$(program) scripts/cli.sh
+	scripts/welcomes.sh $(program)
 	scripts/postgres.sh $(program)
 	scripts/abuse.sh $(program)
 
