@@ -5,7 +5,7 @@ ghost use Rattle.desk_tallies.specs.declared.passes.TheConstants.{ALL_PARTS};
 ghost use Rattle.desk_tallies.specs.Shares.{by_class, names_of, of_each, parts_of};
 ghost use Rattle.memory_dial.specs.Homes.{IsEverywhere};
 
-use crate::ends::{HoldingGate, NotedClient};
+use crate::ends::{HoldingGate, NotedClient, Notes};
 use crate::parts::{CUT, WELCOME, catalogue, limits, login, serve_by, word};
 use desk_tallies::passes::Pass;
 use desk_tallies::tallies::Blanks;
@@ -18,7 +18,7 @@ use server_end::memory_server::MemoryServer;
 use std::alloc::{AllocError, Global};
 use std::marker::Brand;
 use std::rt::Clock;
-use std::sync::atomic::{AtomicBool, Ordering};
+use std::sync::atomic::AtomicBool;
 use std::sync::ledger::Ledger;
 use std::sync::{Arc, Wait};
 use std::test::Fail;
@@ -28,7 +28,15 @@ use std::thread::{Threads, join};
 const INPUT: &[u8] =
     b"\0\0\0\x20\0\x03\0\0user\0ann\0database\0shop\0\0Q\0\0\0\x1aSHOW application_name\0";
 
-/// Serves the client with this number, which notes once it was given more than so many bytes: how many it was given at its end.
+/// One of the clients.
+struct One<'a> {
+    number: u32,
+    /// It notes once it was given more bytes than these.
+    bytes: usize,
+    given: &'a AtomicBool,
+}
+
+/// Serves this client: how many bytes it was given at its end.
 fn served<
     'a,
     T: Gate<MemoryServer> + Drop,
@@ -42,22 +50,22 @@ fn served<
     R: Wait,
 >(
     rt: &R,
-    alloc: Global,
     desk: &Desk<MemoryDial<N>, A, G, B, L, W, O>,
     dialer: &MemoryDial<N>,
     pass: Pass<A, G, B, L, W, O>,
-    number: u32,
-    bytes: usize,
-    given: &'a AtomicBool,
+    one: One<'a>,
     gate: T,
 ) -> Result<usize, AllocError> {
+    let alloc = Global;
     let client = NotedClient {
         client: PacedClient::new(alloc, INPUT, CUT)?,
-        bytes,
-        given,
+        bytes: one.bytes,
+        given: one.given,
     };
-    let login = login(alloc, number)?;
-    let (client, _pass) = serve_by(rt, alloc, desk, dialer, pass, client, login, number, gate);
+    let login = login(alloc, one.number)?;
+    let (client, _pass) = serve_by(
+        rt, alloc, desk, dialer, pass, client, login, one.number, gate,
+    );
     Ok(client.client.given().len())
 }
 
@@ -81,49 +89,29 @@ fn at_once<
     let desk = Desk::<MemoryDial<N>, A, G, B, L, W, O>::new(alloc, limits(alloc, 100)?, blanks)?;
     let first_pass = desk.pass(rt).ok_or("no pass")?;
     let second_pass = desk.pass(rt).ok_or("no pass")?;
-    let welcomed = AtomicBool::new(false);
-    let answered = AtomicBool::new(false);
-    let late = AtomicBool::new(false);
-    let gate = HoldingGate {
-        rt,
-        welcomed: &welcomed,
-        answered: &answered,
-        late: &late,
+    let notes = Notes::new();
+    let gate = HoldingGate { rt, notes: &notes };
+    let first = One {
+        number: 1,
+        bytes: WELCOME - 1,
+        given: &notes.welcomed,
+    };
+    let second = One {
+        number: 2,
+        bytes: WELCOME,
+        given: &notes.answered,
     };
     let shared = &desk;
     let servers = &dialer;
     let (first, second) = join(
         rt,
+        || -> Result<usize, AllocError> { served(rt, shared, servers, first_pass, first, gate) },
         || -> Result<usize, AllocError> {
-            served(
-                rt,
-                alloc,
-                shared,
-                servers,
-                first_pass,
-                1,
-                WELCOME - 1,
-                &welcomed,
-                gate,
-            )
-        },
-        || -> Result<usize, AllocError> {
-            served(
-                rt,
-                alloc,
-                shared,
-                servers,
-                second_pass,
-                2,
-                WELCOME,
-                &answered,
-                OpenGate,
-            )
+            served(rt, shared, servers, second_pass, second, OpenGate)
         },
     );
     second?;
-    let in_time = answered.load(Ordering::SeqCst) && !late.load(Ordering::SeqCst);
-    Ok((in_time, first?))
+    Ok((notes.are_in_time(), first?))
 }
 
 #[test]

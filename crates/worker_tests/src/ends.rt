@@ -44,32 +44,55 @@ impl<'a> ClientEnd for NotedClient<'a> {
     }
 }
 
-/// Once its own client was welcomed, its turns last until the other was answered, or for 60,000 sleeps of 1 ms.
+/// How far two clients have come, of which the first waits for the second.
+pub(crate) struct Notes {
+    /// Set once the first client was welcomed.
+    pub welcomed: AtomicBool,
+    /// Set once the second client was answered.
+    pub answered: AtomicBool,
+    /// Set where the first client waited in vain.
+    pub late: AtomicBool,
+}
+
+impl Notes {
+    /// Of clients that haven't come yet.
+    pub fn new() -> Notes {
+        Notes {
+            welcomed: AtomicBool::new(false),
+            answered: AtomicBool::new(false),
+            late: AtomicBool::new(false),
+        }
+    }
+
+    /// Whether the second client was answered while the first one waited for it.
+    pub fn are_in_time(&self) -> bool {
+        self.answered.load(Ordering::SeqCst) && !self.late.load(Ordering::SeqCst)
+    }
+}
+
+/// The first client's: once it was welcomed, its turns last until the second was answered, or for 60,000 sleeps of 1 ms.
 #[derive(Drop)]
 pub(crate) struct HoldingGate<'a, R: Clock> {
     pub rt: &'a R,
-    pub welcomed: &'a AtomicBool,
-    pub answered: &'a AtomicBool,
-    /// Set where all those sleeps were used.
-    pub late: &'a AtomicBool,
+    pub notes: &'a Notes,
 }
 
 impl<'a, R: Clock> HoldingGate<'a, R> {
     /// Waits for the other client.
     fn hold(&self) {
         for _ in 0..60_000u32 {
-            if self.answered.load(Ordering::SeqCst) {
+            if self.notes.answered.load(Ordering::SeqCst) {
                 return;
             }
             sleep(self.rt, Duration::from_millis(1));
         }
-        self.late.store(true, Ordering::SeqCst);
+        self.notes.late.store(true, Ordering::SeqCst);
     }
 }
 
 impl<'a, R: Clock, E: ServerEnd> Gate<E> for HoldingGate<'a, R> {
     fn turn(&mut self) -> Ready {
-        if self.welcomed.load(Ordering::SeqCst) {
+        if self.notes.welcomed.load(Ordering::SeqCst) {
             self.hold();
         }
         Ready {

@@ -9,3 +9,6 @@ mod histories;
 mod parts;
 #[cfg(test)]
 mod stories;
+
+/// Nothing: the crate is there for its tests.
+fn main() {}

@@ -9,3 +9,6 @@ mod resets;
 mod starts;
 #[cfg(test)]
 mod verdicts;
+
+/// Nothing: the crate is there for its tests.
+fn main() {}

@@ -15,3 +15,6 @@ mod packets;
 mod server_talk;
 #[cfg(test)]
 mod starts;
+
+/// Nothing: the crate is there for its tests.
+fn main() {}

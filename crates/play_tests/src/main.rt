@@ -11,3 +11,6 @@ mod parts;
 mod refusals;
 #[cfg(test)]
 mod waiting;
+
+/// Nothing: the crate is there for its tests.
+fn main() {}

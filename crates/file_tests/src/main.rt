@@ -11,3 +11,6 @@ mod lines;
 mod secrets;
 #[cfg(test)]
 mod user_files;
+
+/// Nothing: the crate is there for its tests.
+fn main() {}

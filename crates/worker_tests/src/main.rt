@@ -11,3 +11,6 @@ mod parts;
 mod too_many;
 #[cfg(test)]
 mod turns;
+
+/// Nothing: the crate is there for its tests.
+fn main() {}

@@ -5,3 +5,6 @@
 mod conversations;
 #[cfg(test)]
 mod settings;
+
+/// Nothing: the crate is there for its tests.
+fn main() {}

@@ -9,3 +9,6 @@ mod loopback;
 mod stubs;
 #[cfg(test)]
 mod workers;
+
+/// Nothing: the crate is there for its tests.
+fn main() {}

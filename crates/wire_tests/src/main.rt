@@ -11,3 +11,6 @@ mod readers;
 mod refusals;
 #[cfg(test)]
 mod writers;
+
+/// Nothing: the crate is there for its tests.
+fn main() {}

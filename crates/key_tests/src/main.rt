@@ -5,3 +5,6 @@
 mod client_keys;
 #[cfg(test)]
 mod stub_keys;
+
+/// Nothing: the crate is there for its tests.
+fn main() {}

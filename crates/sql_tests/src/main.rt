@@ -13,3 +13,6 @@ mod settings;
 mod shown;
 #[cfg(test)]
 mod tables;
+
+/// Nothing: the crate is there for its tests.
+fn main() {}

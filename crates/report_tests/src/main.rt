@@ -3,3 +3,6 @@
 
 #[cfg(test)]
 mod reports;
+
+/// Nothing: the crate is there for its tests.
+fn main() {}

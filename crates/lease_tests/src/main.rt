@@ -5,3 +5,6 @@
 mod parts;
 #[cfg(test)]
 mod services;
+
+/// Nothing: the crate is there for its tests.
+fn main() {}

@@ -7,3 +7,6 @@ mod ends;
 mod gates;
 #[cfg(test)]
 mod pairs;
+
+/// Nothing: the crate is there for its tests.
+fn main() {}

@@ -7,3 +7,6 @@ mod parts;
 mod stories;
 #[cfg(test)]
 mod waits;
+
+/// Nothing: the crate is there for its tests.
+fn main() {}

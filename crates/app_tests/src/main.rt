@@ -7,3 +7,6 @@ mod faults;
 mod lines;
 #[cfg(test)]
 mod replies;
+
+/// Nothing: the crate is there for its tests.
+fn main() {}

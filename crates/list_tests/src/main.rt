@@ -5,3 +5,6 @@
 mod logs;
 #[cfg(test)]
 mod shared_lists;
+
+/// Nothing: the crate is there for its tests.
+fn main() {}
