@@ -55,13 +55,26 @@ class Bench:
             return None
         return float(found[1]) if timed else None
 
-    def bulk(self, kind, size, rows):
-        """Seconds of the pooler's processor for a gigabyte, all of its bytes counted."""
-        pooler = self.poolers[kind]
-        before = pooler.used()
+    def slowest(self, port):
+        """The microseconds in which 99 of 100 simple queries of one client are answered."""
+        if self.pgbench(port, "-M", "simple", "-c", "1", "-l", f"--log-prefix={self.place.folder / 'queries'}") is None:
+            return None
+        times = []
+        for file in self.place.folder.glob("queries.*"):
+            times += [int(line.split()[2]) for line in file.read_text().splitlines()]
+            file.unlink()
+        return sorted(times)[len(times) * 99 // 100]
+
+    def bulk(self, port, size, rows):
+        """Seconds for a gigabyte of rows, all of its bytes counted."""
+        begin = time.monotonic()
         text = f"COPY (SELECT repeat('x', {size}) FROM generate_series(1, {rows})) TO STDOUT"
-        subprocess.run(["psql", "-X", "-q", "-c", text], env=self.environment(pooler.port), stdout=subprocess.DEVNULL, check=True)
-        return (pooler.used() - before) * GIGABYTE / (rows * (size + ROW_MORE))
+        subprocess.run(["psql", "-X", "-q", "-c", text], env=self.environment(port), stdout=subprocess.DEVNULL, check=True)
+        return (time.monotonic() - begin) * GIGABYTE / (rows * (size + ROW_MORE))
+
+    def used(self, kind):
+        """Seconds of the pooler's processor so far."""
+        return self.poolers[kind].used() if kind in self.poolers else None
 
     def note(self, name, kind, value):
         if value is not None:
@@ -78,9 +91,15 @@ class Bench:
             for clients in QUERIES:
                 for kind, port in self.ports.items():
                     self.note(f"{manner} queries a second, {clients} clients", kind, self.pgbench(port, "-M", manner, "-c", str(clients), "-j", str(min(clients, 4))))
+        for kind, port in self.ports.items():
+            self.note("us of a simple query, 99 of 100, 1 client", kind, self.slowest(port))
         for size, rows in BULK:
-            for kind in self.poolers:
-                self.note(f"s/GB of the pooler's processor, rows of {size} bytes", kind, self.bulk(kind, size, rows))
+            for kind, port in self.ports.items():
+                before = self.used(kind)
+                self.note(f"s/GB, rows of {size} bytes", kind, self.bulk(port, size, rows))
+                if before is not None:
+                    used = (self.used(kind) - before) * GIGABYTE / (rows * (size + ROW_MORE))
+                    self.note(f"s/GB of the pooler's processor, rows of {size} bytes", kind, used)
 
     def idle(self):
         """Memory a client that has sent its StartupMessage and waits."""

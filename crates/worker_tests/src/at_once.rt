@@ -29,7 +29,9 @@ const INPUT: &[u8] =
     b"\0\0\0\x20\0\x03\0\0user\0ann\0database\0shop\0\0Q\0\0\0\x1aSHOW application_name\0";
 
 /// One of the clients.
+#[derive(Drop)]
 struct One<'a> {
+    alloc: Global,
     number: u32,
     /// It notes once it was given more bytes than these.
     bytes: usize,
@@ -56,7 +58,7 @@ fn served<
     one: One<'a>,
     gate: T,
 ) -> Result<usize, AllocError> {
-    let alloc = Global;
+    let alloc = one.alloc;
     let client = NotedClient {
         client: PacedClient::new(alloc, INPUT, CUT)?,
         bytes: one.bytes,
@@ -92,11 +94,13 @@ fn at_once<
     let notes = Notes::new();
     let gate = HoldingGate { rt, notes: &notes };
     let first = One {
+        alloc,
         number: 1,
         bytes: WELCOME - 1,
         given: &notes.welcomed,
     };
     let second = One {
+        alloc,
         number: 2,
         bytes: WELCOME,
         given: &notes.answered,

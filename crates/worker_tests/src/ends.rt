@@ -45,6 +45,7 @@ impl<'a> ClientEnd for NotedClient<'a> {
 }
 
 /// How far two clients have come, of which the first waits for the second.
+#[derive(Drop)]
 pub(crate) struct Notes {
     /// Set once the first client was welcomed.
     pub welcomed: AtomicBool,
