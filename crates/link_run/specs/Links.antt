@@ -1,8 +1,9 @@
 -- A link as contracts see it, and what it keeps of its server's reports.
-use Rattle.std.specs.Prelude.{◌≡◌, ℕ, true, List, [], ◌∷◌, ◌++◌, map, Result, Ok, Err, ◌==◌, if◌then◌else◌}
+use Rattle.std.specs.Prelude.{◌≡◌, ℕ, true, Option, List, [], ◌∷◌, ◌++◌, map, Result, Ok, Err, ◌==◌, if◌then◌else◌}
 use Rattle.frame_view.specs.declared.server.TheConstants.{PARAMETER_STATUS}
 use Rattle.frame_view.specs.Frames.{FrameOf}
 use Rattle.message_view.specs.declared.ViewFault.{ViewFault}
+use Rattle.message_view.specs.declared.views.KeyView.{KeyView}
 use Rattle.message_view.specs.declared.kinds.TheConstants.{IDLE}
 use Rattle.message_view.specs.Messages.{backend_key_data, parameter_status, ready_for_query}
 use Rattle.message_view.specs.Reading.{status_of}
@@ -21,6 +22,8 @@ pub record LinkView : Type 0 where
   pub key : StartKeyOf
   pub number : ℕ
   pub born : ℕ
+  -- the words of its server's BackendKeyData, if it sent one
+  pub server_key : Option KeyView
   -- what its start reported, and of which parameters another value was told since
   pub reports : List Kept
 

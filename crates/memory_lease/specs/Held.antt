@@ -1,6 +1,5 @@
 -- What the code of a client's service holds, in the definitions' words.
 use Rattle.std.specs.Prelude.{◌≡◌, ◌⊎◌, ℕ, Bool, true, false, List, [], ◌++◌}
-use Rattle.message_view.specs.declared.refusal.Refusal.{Refusal}
 use Rattle.message_view.specs.declared.refusal.Refusal.TheVariants.{ServerNotReached}
 use Rattle.message_view.specs.Refusals.{refusal}
 use Rattle.link_laws.specs.Futures.{future}

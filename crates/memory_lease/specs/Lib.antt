@@ -2,3 +2,4 @@ pub mod Answers
 pub mod Held
 pub mod Own
 pub mod Patient
+pub mod Unended

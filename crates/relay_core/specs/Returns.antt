@@ -23,6 +23,7 @@ pub record IsThatLink (v : RelayView) (l : LinkView) : Type 0 where
   pub key : l.key ≡ v.key
   pub number : l.number ≡ v.number
   pub born : l.born ≡ v.born
+  pub server_key : l.server_key ≡ v.server_key
   pub reports : l.reports ≡ v.told.reports
 
 -- the same of a link taken apart
@@ -31,6 +32,7 @@ pub record IsThatLent {E : Type 0} (standing : E → Standing) (v : RelayView) (
   pub key : arc_value l.key ≡ v.key
   pub number : l.number ≡ v.number
   pub born : l.born ≡ v.born
+  pub server_key : l.server_key ≡ v.server_key
   pub reports : l.reported ≡ v.told.reports
 
 -- the cause is the verdict; where nothing went over the link, its end is lost

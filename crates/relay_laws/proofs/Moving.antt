@@ -1,11 +1,12 @@
 -- What reads and writes of the ends do to a lease.
-use Rattle.std.proofs.Common.{◌≡◌, ◌≢◌, ℕ, ◌+◌, ◌≤◌, inl, inr, ⊎_elim, length, arith, Bool, true, false, List, [], ◌∷◌, ◌++◌, refl, sym, ap, ap₂, ◌∙◌, append_assoc, subst, take, drop, ◌-◌, take-append-drop, length-take-le}
+use Rattle.std.proofs.Common.{◌≡◌, ◌≢◌, ℕ, ◌+◌, ◌≤◌, inl, inr, ⊎_elim, length, arith, Bool, true, false, List, Option, [], ◌∷◌, ◌++◌, refl, sym, ap, ap₂, ◌∙◌, append_assoc, subst, take, drop, ◌-◌, take-append-drop, length-take-le}
 use Rattle.std.specs.Prelude.{◌||◌}
 use Rattle.std.specs.List.{flat_map}
 use Rattle.std.proofs.lemmas.Bool.{true≢false, false≢true}
 use Rattle.frame_view.specs.declared.Side.TheVariants.{Client, Server}
 use Rattle.frame_view.specs.Frames.{spelling}
 use Rattle.message_view.specs.declared.KeyWord.{KeyWord}
+use Rattle.message_view.specs.declared.views.KeyView.{KeyView}
 use Rattle.session_values.specs.State.{StartKeyOf}
 use Rattle.server_end.specs.declared.Moved.{Moved}
 use Rattle.server_end.specs.declared.Moved.TheVariants.{Count, NotNow, Ended, Fault}
@@ -73,10 +74,10 @@ still false m bytes h w = (refl, none_counts m bytes h w)
 
 -- ---- the moves
 
-pub lease_room_link : (p : Place) (cf : ClientFacts) (l : Standing) (k : StartKeyOf) (n : ℕ) (b : ℕ) (w : KeyWord) (gr : List ℕ) (tl : FlowView) (tm : FlowView) (tc : FlowView) (t : Told) (fs : Flags) (ph : Phase)
+pub lease_room_link : (p : Place) (cf : ClientFacts) (l : Standing) (k : StartKeyOf) (n : ℕ) (b : ℕ) (sk : Option KeyView) (w : KeyWord) (gr : List ℕ) (tl : FlowView) (tm : FlowView) (tc : FlowView) (t : Told) (fs : Flags) (ph : Phase)
     → tm.held ≡ tl.held → tm.part ≡ tl.part → SameCursor tl tm
-    → IsLease p (relay_view cf l k n b w gr tl tc t fs ph) → IsLease p (relay_view cf l k n b w gr tm tc t fs ph)
-lease_room_link p cf l k n b w gr tl tm tc t fs ph h e s x = record {
+    → IsLease p (relay_view cf l k n b sk w gr tl tc t fs ph) → IsLease p (relay_view cf l k n b sk w gr tm tc t fs ph)
+lease_room_link p cf l k n b sk w gr tl tm tc t fs ph h e s x = record {
   sent = x.sent;
   received = x.received;
   since = x.since;
@@ -86,7 +87,7 @@ lease_room_link p cf l k n b w gr tl tm tc t fs ph h e s x = record {
   front = x.front;
   clean = x.clean;
   greets = x.greets;
-  same = (x.same.0, x.same.1, x.same.2, x.same.3, s.limit ∙ x.same.4, x.same.5);
+  same = (x.same.0, x.same.1, x.same.2, x.same.3, s.limit ∙ x.same.4, x.same.5, x.same.6);
   told = x.told;
   moves = x.moves;
   goes = record {
@@ -102,10 +103,10 @@ lease_room_link p cf l k n b w gr tl tm tc t fs ph h e s x = record {
   says = x.says;
 }
 
-pub lease_room_client : (p : Place) (cf : ClientFacts) (l : Standing) (k : StartKeyOf) (n : ℕ) (b : ℕ) (w : KeyWord) (gr : List ℕ) (tl : FlowView) (tc : FlowView) (td : FlowView) (t : Told) (fs : Flags) (ph : Phase)
+pub lease_room_client : (p : Place) (cf : ClientFacts) (l : Standing) (k : StartKeyOf) (n : ℕ) (b : ℕ) (sk : Option KeyView) (w : KeyWord) (gr : List ℕ) (tl : FlowView) (tc : FlowView) (td : FlowView) (t : Told) (fs : Flags) (ph : Phase)
     → td.held ≡ tc.held → td.part ≡ tc.part → SameCursor tc td
-    → IsLease p (relay_view cf l k n b w gr tl tc t fs ph) → IsLease p (relay_view cf l k n b w gr tl td t fs ph)
-lease_room_client p cf l k n b w gr tl tc td t fs ph h e s x = record {
+    → IsLease p (relay_view cf l k n b sk w gr tl tc t fs ph) → IsLease p (relay_view cf l k n b sk w gr tl td t fs ph)
+lease_room_client p cf l k n b sk w gr tl tc td t fs ph h e s x = record {
   sent = x.sent;
   received = x.received;
   since = x.since;
@@ -115,7 +116,7 @@ lease_room_client p cf l k n b w gr tl tc td t fs ph h e s x = record {
   front = x.front;
   clean = x.clean;
   greets = x.greets;
-  same = (x.same.0, x.same.1, x.same.2, x.same.3, x.same.4, s.limit ∙ x.same.5);
+  same = (x.same.0, x.same.1, x.same.2, x.same.3, x.same.4, s.limit ∙ x.same.5, x.same.6);
   told = x.told;
   moves = x.moves;
   goes = x.goes;
@@ -131,10 +132,10 @@ lease_room_client p cf l k n b w gr tl tc td t fs ph h e s x = record {
   says = x.says;
 }
 
-pub lease_read_link : (p : Place) (cf : ClientFacts) (l : Standing) (m : Standing) (k : StartKeyOf) (n : ℕ) (b : ℕ) (w : KeyWord) (gr : List ℕ) (tl : FlowView) (tc : FlowView) (td : FlowView) (t : Told) (fs : Flags) (fz : Flags) (ph : Phase) (r : Moved)
+pub lease_read_link : (p : Place) (cf : ClientFacts) (l : Standing) (m : Standing) (k : StartKeyOf) (n : ℕ) (b : ℕ) (sk : Option KeyView) (w : KeyWord) (gr : List ℕ) (tl : FlowView) (tc : FlowView) (td : FlowView) (t : Told) (fs : Flags) (fz : Flags) (ph : Phase) (r : Moved)
     → is_open tc.ends ≡ true → Fills tc td r → Moves l [] m (came tc td) → CountsRead l m r → fz ≡ link_moved fs r
-    → IsLease p (relay_view cf l k n b w gr tl tc t fs ph) → IsLease p (relay_view cf m k n b w gr tl td t fz ph)
-lease_read_link p cf l m k n b w gr tl tc td t fs fz ph r o f y z q x = record {
+    → IsLease p (relay_view cf l k n b sk w gr tl tc t fs ph) → IsLease p (relay_view cf m k n b sk w gr tl td t fz ph)
+lease_read_link p cf l m k n b sk w gr tl tc td t fs fz ph r o f y z q x = record {
   sent = x.sent;
   received = x.received ++ came tc td;
   since = x.since;
@@ -144,7 +145,7 @@ lease_read_link p cf l m k n b w gr tl tc td t fs fz ph r o f y z q x = record {
   front = x.front;
   clean = x.clean;
   greets = x.greets;
-  same = (x.same.0, x.same.1, x.same.2, x.same.3, x.same.4, f.cursor.limit ∙ x.same.5);
+  same = (x.same.0, x.same.1, x.same.2, x.same.3, x.same.4, f.cursor.limit ∙ x.same.5, x.same.6);
   told = x.told;
   moves = moves_got p.stands l m x.sent x.received (came tc td) x.moves y;
   goes = x.goes;
@@ -167,10 +168,10 @@ lease_read_link p cf l m k n b w gr tl tc td t fs fz ph r o f y z q x = record {
   };
 }
 
-pub lease_read_client : (p : Place) (cf : ClientFacts) (cg : ClientFacts) (l : Standing) (k : StartKeyOf) (n : ℕ) (b : ℕ) (w : KeyWord) (gr : List ℕ) (tl : FlowView) (tm : FlowView) (tc : FlowView) (t : Told) (fs : Flags) (fz : Flags) (ph : Phase) (r : Moved)
+pub lease_read_client : (p : Place) (cf : ClientFacts) (cg : ClientFacts) (l : Standing) (k : StartKeyOf) (n : ℕ) (b : ℕ) (sk : Option KeyView) (w : KeyWord) (gr : List ℕ) (tl : FlowView) (tm : FlowView) (tc : FlowView) (t : Told) (fs : Flags) (fz : Flags) (ph : Phase) (r : Moved)
     → is_open tl.ends ≡ true → Fills tl tm r → ClientReads cf cg (came tl tm) r → fz ≡ client_read fs r
-    → IsLease p (relay_view cf l k n b w gr tl tc t fs ph) → IsLease p (relay_view cg l k n b w gr tm tc t fz ph)
-lease_read_client p cf cg l k n b w gr tl tm tc t fs fz ph r o f y q x = record {
+    → IsLease p (relay_view cf l k n b sk w gr tl tc t fs ph) → IsLease p (relay_view cg l k n b sk w gr tm tc t fz ph)
+lease_read_client p cf cg l k n b sk w gr tl tm tc t fs fz ph r o f y q x = record {
   sent = x.sent;
   received = x.received;
   since = x.since;
@@ -180,7 +181,7 @@ lease_read_client p cf cg l k n b w gr tl tm tc t fs fz ph r o f y q x = record 
   front = x.front;
   clean = x.clean;
   greets = x.greets;
-  same = (x.same.0, x.same.1, x.same.2, x.same.3, f.cursor.limit ∙ x.same.4, x.same.5);
+  same = (x.same.0, x.same.1, x.same.2, x.same.3, f.cursor.limit ∙ x.same.4, x.same.5, x.same.6);
   told = y.tells ∙ x.told;
   moves = x.moves;
   goes = record {
@@ -238,10 +239,10 @@ gives_by v w h NotNow e i d = record { both = sym d; count = refl }
 gives_by v w h Ended e i d = record { both = sym d; count = refl }
 gives_by v w h Fault e i d = record { both = sym d; count = refl }
 
-pub lease_write_link : (p : Place) (cf : ClientFacts) (l : Standing) (m : Standing) (k : StartKeyOf) (n : ℕ) (b : ℕ) (w : KeyWord) (gr : List ℕ) (tl : FlowView) (tm : FlowView) (tc : FlowView) (t : Told) (fs : Flags) (fz : Flags) (ph : Phase) (put : List ℕ) (r : Moved)
+pub lease_write_link : (p : Place) (cf : ClientFacts) (l : Standing) (m : Standing) (k : StartKeyOf) (n : ℕ) (b : ℕ) (sk : Option KeyView) (w : KeyWord) (gr : List ℕ) (tl : FlowView) (tm : FlowView) (tc : FlowView) (t : Told) (fs : Flags) (fz : Flags) (ph : Phase) (put : List ℕ) (r : Moved)
     → Writes tl tm put r → Moves l put m [] → CountsWrite l m r → fz ≡ link_moved fs r
-    → IsLease p (relay_view cf l k n b w gr tl tc t fs ph) → IsLease p (relay_view cf m k n b w gr tm tc t fz ph)
-lease_write_link p cf l m k n b w gr tl tm tc t fs fz ph put r f y z q x = record {
+    → IsLease p (relay_view cf l k n b sk w gr tl tc t fs ph) → IsLease p (relay_view cf m k n b sk w gr tm tc t fz ph)
+lease_write_link p cf l m k n b sk w gr tl tm tc t fs fz ph put r f y z q x = record {
   sent = x.sent ++ put;
   received = x.received;
   since = x.since;
@@ -251,7 +252,7 @@ lease_write_link p cf l m k n b w gr tl tm tc t fs fz ph put r f y z q x = recor
   front = x.front;
   clean = x.clean;
   greets = x.greets;
-  same = (x.same.0, x.same.1, x.same.2, x.same.3, f.cursor.limit ∙ x.same.4, x.same.5);
+  same = (x.same.0, x.same.1, x.same.2, x.same.3, f.cursor.limit ∙ x.same.4, x.same.5, x.same.6);
   told = x.told;
   moves = moves_put p.stands l m x.sent put x.received x.moves y;
   goes = record {
@@ -280,10 +281,10 @@ written_by s h q i put all f o = cc (f, o, append_assoc s put (i ++ q), append_a
 written : (s g h q i j put all : List ℕ) → g ≡ [] → h ≡ put ++ i → j ≡ q → s ++ (g ++ (h ++ q)) ≡ all → (s ++ put) ++ (g ++ (i ++ j)) ≡ all
 written s g h q i j put all e f d o = rw (e, d) (written_by s h q i put all f (subst (λ (x : List ℕ). s ++ (x ++ (h ++ q)) ≡ all) e o))
 
-pub lease_write_client : (p : Place) (cf : ClientFacts) (cg : ClientFacts) (l : Standing) (k : StartKeyOf) (n : ℕ) (b : ℕ) (w : KeyWord) (gr : List ℕ) (tl : FlowView) (tc : FlowView) (td : FlowView) (t : Told) (fs : Flags) (fz : Flags) (ph : Phase) (put : List ℕ) (r : Moved)
+pub lease_write_client : (p : Place) (cf : ClientFacts) (cg : ClientFacts) (l : Standing) (k : StartKeyOf) (n : ℕ) (b : ℕ) (sk : Option KeyView) (w : KeyWord) (gr : List ℕ) (tl : FlowView) (tc : FlowView) (td : FlowView) (t : Told) (fs : Flags) (fz : Flags) (ph : Phase) (put : List ℕ) (r : Moved)
     → gr ≡ [] → Writes tc td put r → ClientWrites cf cg put r → fz ≡ client_wrote fs r
-    → IsLease p (relay_view cf l k n b w gr tl tc t fs ph) → IsLease p (relay_view cg l k n b w gr tl td t fz ph)
-lease_write_client p cf cg l k n b w gr tl tc td t fs fz ph put r e f y q x = record {
+    → IsLease p (relay_view cf l k n b sk w gr tl tc t fs ph) → IsLease p (relay_view cg l k n b sk w gr tl td t fz ph)
+lease_write_client p cf cg l k n b sk w gr tl tc td t fs fz ph put r e f y q x = record {
   sent = x.sent;
   received = x.received;
   since = x.since ++ put;
@@ -293,7 +294,7 @@ lease_write_client p cf cg l k n b w gr tl tc td t fs fz ph put r e f y q x = re
   front = x.front;
   clean = x.clean;
   greets = x.greets;
-  same = (x.same.0, x.same.1, x.same.2, x.same.3, x.same.4, f.cursor.limit ∙ x.same.5);
+  same = (x.same.0, x.same.1, x.same.2, x.same.3, x.same.4, f.cursor.limit ∙ x.same.5, x.same.6);
   told = y.tells ∙ x.told;
   moves = x.moves;
   goes = record {
@@ -323,10 +324,10 @@ lease_write_client p cf cg l k n b w gr tl tc td t fs fz ph put r e f y q x = re
   };
 }
 
-pub lease_write_welcome : (p : Place) (cf : ClientFacts) (cg : ClientFacts) (l : Standing) (k : StartKeyOf) (n : ℕ) (b : ℕ) (w : KeyWord) (gr : List ℕ) (gs : List ℕ) (tl : FlowView) (tc : FlowView) (t : Told) (fs : Flags) (fz : Flags) (ph : Phase) (put : List ℕ) (r : Moved)
+pub lease_write_welcome : (p : Place) (cf : ClientFacts) (cg : ClientFacts) (l : Standing) (k : StartKeyOf) (n : ℕ) (b : ℕ) (sk : Option KeyView) (w : KeyWord) (gr : List ℕ) (gs : List ℕ) (tl : FlowView) (tc : FlowView) (t : Told) (fs : Flags) (fz : Flags) (ph : Phase) (put : List ℕ) (r : Moved)
     → Gives gr gs put r → ClientWrites cf cg put r → fz ≡ client_wrote fs r
-    → IsLease p (relay_view cf l k n b w gr tl tc t fs ph) → IsLease p (relay_view cg l k n b w gs tl tc t fz ph)
-lease_write_welcome p cf cg l k n b w gr gs tl tc t fs fz ph put r f y q x = record {
+    → IsLease p (relay_view cf l k n b sk w gr tl tc t fs ph) → IsLease p (relay_view cg l k n b sk w gs tl tc t fz ph)
+lease_write_welcome p cf cg l k n b sk w gr gs tl tc t fs fz ph put r f y q x = record {
   sent = x.sent;
   received = x.received;
   since = x.since ++ put;
@@ -366,9 +367,9 @@ lease_write_welcome p cf cg l k n b w gr gs tl tc t fs fz ph put r f y q x = rec
   };
 }
 
-pub lease_phase : (p : Place) (cf : ClientFacts) (l : Standing) (k : StartKeyOf) (n : ℕ) (b : ℕ) (w : KeyWord) (gr : List ℕ) (tl : FlowView) (tc : FlowView) (t : Told) (fs : Flags) (ph : Phase) (pi : Phase)
-    → IsLease p (relay_view cf l k n b w gr tl tc t fs ph) → IsLease p (relay_view cf l k n b w gr tl tc t fs pi)
-lease_phase p cf l k n b w gr tl tc t fs ph pi x = record {
+pub lease_phase : (p : Place) (cf : ClientFacts) (l : Standing) (k : StartKeyOf) (n : ℕ) (b : ℕ) (sk : Option KeyView) (w : KeyWord) (gr : List ℕ) (tl : FlowView) (tc : FlowView) (t : Told) (fs : Flags) (ph : Phase) (pi : Phase)
+    → IsLease p (relay_view cf l k n b sk w gr tl tc t fs ph) → IsLease p (relay_view cf l k n b sk w gr tl tc t fs pi)
+lease_phase p cf l k n b sk w gr tl tc t fs ph pi x = record {
   sent = x.sent;
   received = x.received;
   since = x.since;
