@@ -239,7 +239,8 @@ impl Board {
         ensures reply { result ≡ (outcome.lends self.old ticket link).reply }
     {
         let number = link.number;
-        self.clients.put_in_state(ClientState::Active, ticket.client);
+        self.clients
+            .put_in_state(ClientState::Active, ticket.client);
         self.lent.push(link);
         self.reuses += 1;
         Reply::Lend(number)

@@ -99,9 +99,7 @@ impl Board {
         ensures { result ≡ outcome.is_strange self.now (event_of event.now) }
     {
         match event {
-            Event::Ask { client, .. } => {
-                !self.clients.has(*client) || self.tickets.has(*client)
-            }
+            Event::Ask { client, .. } => { !self.clients.has(*client) || self.tickets.has(*client) }
             Event::Take { client } => !self.tickets.has(*client),
             Event::GiveBack { link } => !self.lent.has(*link),
             Event::Lost { link } => !self.lent.has(*link),
