@@ -1,9 +1,7 @@
 -- What a register begins with, and that it stays in order.
-use Rattle.std.proofs.Common.{◌≡◌, ℕ, false, List, None, Some, sym, ap, subst, arith, refl, get_or}
-use Rattle.std.specs.Prelude.{find, position}
-use Rattle.session_values.specs.State.{StartKeyOf}
-use Rattle.book_lists.specs.Book.{Book, Limits, Link, is_link}
-use Rattle.book_lists.specs.Outcomes.{Event, apply, is_started_as}
+use Rattle.std.proofs.Common.{ℕ, sym, subst, arith, refl}
+use Rattle.book_lists.specs.Book.{Book, Limits}
+use Rattle.book_lists.specs.Outcomes.{Event, apply}
 use Rattle.book_lists.specs.declared.events.Reply.{Reply}
 use Rattle.book_register.specs.Choices.{Gives}
 use Rattle.book_register.specs.Counted.{counted_book}

@@ -1,6 +1,5 @@
-use Rattle.std.proofs.Common.{◌≡◌, ◌≤◌, ℕ, ap, sym, ◌∙◌, subst}
-use Rattle.std.specs.Prelude.{count_by}
-use Rattle.book_lists.specs.Book.{Book, Ticket, is_of, waiting_before}
+use Rattle.std.proofs.Common.{◌≡◌, ap, sym, ◌∙◌}
+use Rattle.book_lists.specs.Book.{Book, Ticket, waiting_before}
 use Rattle.session_values.specs.State.{StartKeyOf}
 use Rattle.book_register.proofs.Takes.{granted_done, is_first, late_done, one_ticket, shut_done, waiting_done}
 use Rattle.book_register.proofs.board.Board.takes_by.Goals as goal
@@ -27,7 +26,7 @@ returns c =
     granted_done _ c.args.self.now _ c.args.client c.args.place c.waiting_before-before.result c.at-ticket.result.now _ c.self.view_is c.requires.found c.at-ticket.ensures c.if-self.false (sym c.has_waited.ensures ∙ c.if-has_waited.false) counted (sym c.must_wait.ensures ∙ c.if-must_wait.false) c.grants.ensures
 
 pub loses_ticket-requires : goal.loses_ticket-requires
-loses_ticket-requires c = let P : Book → Type 0 = λ b. (n : ℕ) → count_by (is_of n) b.tickets ≤ 1 in record { once = subst P (sym c.self.view_is) (one_ticket _ _ _ c.requires.kept.clients) }
+loses_ticket-requires c = record { once = one_ticket _ _ _ c.requires.kept.clients }
 
 pub loses_ticket-requires-then-has_waited : goal.loses_ticket-requires-then-has_waited
-loses_ticket-requires-then-has_waited c = let P : Book → Type 0 = λ b. (n : ℕ) → count_by (is_of n) b.tickets ≤ 1 in record { once = subst P (sym c.self.view_is) (one_ticket _ _ _ c.requires.kept.clients) }
+loses_ticket-requires-then-has_waited c = record { once = one_ticket _ _ _ c.requires.kept.clients }
