@@ -149,6 +149,7 @@ impl Bench {
             key: self.key_of(client.key)?,
             number,
             born,
+            server_key: None,
             reported: Reported::new(self.alloc),
         };
         self.has(client, lent.clean())

@@ -1,16 +1,12 @@
 -- What a register begins with, and that it stays in order.
-use Rattle.std.proofs.Common.{◌≡◌, ℕ, false, List, None, Some, sym, ap, subst, arith, refl, get_or}
-use Rattle.std.specs.Prelude.{find, position}
-use Rattle.session_values.specs.State.{StartKeyOf}
-use Rattle.book_lists.specs.Book.{Book, Limits, Link, is_link}
-use Rattle.book_lists.specs.Outcomes.{Event, apply, is_started_as}
+use Rattle.std.proofs.Common.{ℕ, sym, subst, arith, refl}
+use Rattle.book_lists.specs.Book.{Book, Limits}
+use Rattle.book_lists.specs.Outcomes.{Event, apply}
 use Rattle.book_lists.specs.declared.events.Reply.{Reply}
 use Rattle.book_register.specs.Choices.{Gives}
 use Rattle.book_register.specs.Counted.{counted_book}
 use Rattle.book_order.specs.Kept.{FitsLimits, Kept, KeptLimits}
-use Rattle.book_register.proofs.Choices.{not_found}
 use Rattle.book_order.proofs.Keeping.{applied_keeps}
-use Rattle.book_register.proofs.Takes.{at_place}
 
 pub counted_keeps : (limits : Limits) (n : ℕ) → KeptLimits limits → Kept (counted_book limits n)
 counted_keeps limits n l = record {
@@ -22,9 +18,3 @@ counted_keeps limits n l = record {
 
 pub kept_on : (b after : Book) (e : Event) (r : Reply) → FitsLimits e → Kept b → Gives after r (apply b e) → Kept after
 kept_on b after e r fits kept given = subst Kept (sym given.0) (applied_keeps b e fits kept)
-
-pub started_nowhere : (links : List Link) (n born : ℕ) (key : StartKeyOf) → position (is_link n) links ≡ None → false ≡ is_started_as key born (find (is_link n) links)
-started_nowhere links n born key e = sym (ap (is_started_as key born) (not_found (is_link n) links e))
-
-pub started_at : (links : List Link) (n born place : ℕ) (key : StartKeyOf) (x : Link) → position (is_link n) links ≡ Some place → x ≡ get_or links place x → is_started_as key born (Some x) ≡ is_started_as key born (find (is_link n) links)
-started_at links n born place key x e g = ap (is_started_as key born) (sym (at_place (is_link n) links place x e g))

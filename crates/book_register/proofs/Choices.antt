@@ -1,44 +1,14 @@
 -- What the first ticket of a pool is answered, by what is found among the idle links.
-use Rattle.std.proofs.Common.{◌≡◌, ℕ, suc, zero, ◌≤◌, ◌<◌, Bool, true, false, List, [], ◌∷◌, length, Option, None, Some, cond, refl, sym, ap, ◌∙◌, arith}
-use Rattle.std.specs.Prelude.{position, find, slice_get, nat_lt, ◌==◌}
-use Rattle.std.specs.List.{position_or_len}
+use Rattle.std.proofs.Common.{◌≡◌, ℕ, Bool, true, false, Option, None, Some, cond, refl, sym, ap, ◌∙◌}
+use Rattle.std.specs.Prelude.{position, find, nat_lt}
 use Rattle.std.proofs.Math.Dec.{ltb}
-use Rattle.std.proofs.lemmas.Bool.Decides.{nat_tests}
-use Rattle.std.proofs.lemmas.List.Folds.{find_at}
 use Rattle.start_keys.specs.Keys.{same_key}
 use Rattle.book_lists.specs.Book.{Book, Link, Ticket, in_pool, latest_of, link_count, pool_count, pool_size}
 use Rattle.book_lists.specs.Outcomes.{Answer, evicts, grants, starts}
 use Rattle.book_register.specs.Choices.{Chooses, eviction_of}
-use Rattle.book_register.specs.Finds.{IsLast}
+use Rattle.book_rows.specs.Places.{IsLast}
+use Rattle.book_rows.proofs.Places.{found, not_found}
 use Rattle.book_register.specs.declared.board.Choice.TheVariants.{Lend, Start}
-
-at_place : (n len i : ℕ) (b : Bool) → ltb n len ≡ b → cond b (Some n) None ≡ Some i → (i ≡ n) × (n < len)
-at_place n len i true e h = (cc, grind (arith, nat_tests))
-at_place n len i false e h = cc
-
-beyond : (n len : ℕ) (b : Bool) → ltb n len ≡ b → cond b (Some n) None ≡ None → len ≤ n
-beyond n len true e h = cc
-beyond n len false e h = grind (arith, nat_tests)
-
-none_beyond : {A : Type 0} (xs : List A) (i : ℕ) → length xs ≤ i → slice_get xs i ≡ None
-none_beyond [] i h = refl
-none_beyond (x ∷ xs) zero h = absurd (omega arith)
-none_beyond (x ∷ xs) (suc i) h = none_beyond xs i (omega arith)
-
-pub found : {A : Type 0} (p : A → Bool) (xs : List A) (i : ℕ) → position p xs ≡ Some i → (i < length xs) × (find p xs ≡ slice_get xs i)
-found p xs i e =
-    let at : (i ≡ position_or_len p xs) × (position_or_len p xs < length xs) = at_place _ _ i _ refl e in
-    (omega arith, find_at p xs ∙ ap (slice_get xs) (sym at.0))
-
-pub not_found : {A : Type 0} (p : A → Bool) (xs : List A) → position p xs ≡ None → find p xs ≡ None
-not_found p xs e = find_at p xs ∙ none_beyond xs _ (beyond _ _ _ refl e)
-
-pub first_place : {A : Type 0} (xs : List A) → 1 ≤ length xs → position (λ _. true) xs ≡ Some 0
-first_place [] h = absurd (omega arith)
-first_place (x ∷ xs) h = grind (arith, nat_tests)
-
-pub first_is : {A : Type 0} (xs : List A) → (length xs == 0) ≡ false → Some 0 ≡ position (λ _. true) xs
-first_is xs e = sym (first_place xs (grind (arith, nat_tests)))
 
 pub lend_chosen : (b : Book) (t : Ticket) (place : ℕ) → IsLast (λ l. same_key l.key t.key) b.idle (Some place) → Chooses b t (Lend place)
 lend_chosen b t place h = (h.0, λ link at. ap (grants b t) (h.1 ∙ at))

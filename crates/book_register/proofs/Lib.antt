@@ -1,4 +1,3 @@
-pub mod Places
 pub mod Choices
 pub mod Takes
 pub mod Returns

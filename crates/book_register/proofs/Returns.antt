@@ -6,8 +6,7 @@ use Rattle.book_lists.specs.Outcomes.{Answer, at_clock, closes, gives_back, is_c
 use Rattle.book_lists.specs.declared.events.Reply.{Reply}
 use Rattle.book_lists.specs.declared.events.Reply.TheVariants.{Close, Done, Stranger}
 use Rattle.book_register.specs.Choices.{Gives}
-use Rattle.book_register.proofs.Choices.{found, not_found}
-use Rattle.book_register.proofs.Takes.{at_place}
+use Rattle.book_rows.proofs.Places.{at_place, found, not_found}
 
 abbrev kept_back : Book → Link → Answer
 kept_back b l = record { book = record (loses b l.number) { idle = b.idle ++ record l { since = b.clock } ∷ [] }; reply = Done }

@@ -12,11 +12,7 @@ use Rattle.book_lists.specs.declared.events.Reply.TheVariants.{Queued, Refuse, S
 use Rattle.book_register.specs.Choices.{Chooses, Gives}
 use Rattle.book_register.specs.declared.board.Choice.TheVariants.{Lend, Start, Evict, Wait}
 use Rattle.book_order.specs.Kept.{KeptClients, KeptLinks}
-use Rattle.book_register.proofs.Choices.{found, not_found}
-use Rattle.book_register.proofs.Places.{get_is}
-
-pub at_place : {A : Type 0} (p : A → Bool) (xs : List A) (i : ℕ) (x : A) → position p xs ≡ Some i → x ≡ get_or xs i x → find p xs ≡ Some x
-at_place p xs i x e g = let at = found p xs i e in at.1 ∙ (get_is xs i x at.0 ∙ ap Some (sym g))
+use Rattle.book_rows.proofs.Places.{at_place, found, get_is, not_found}
 
 pub one_ticket : (clients : List Client) (tickets : List Ticket) (next : ℕ) → KeptClients clients tickets next → (n : ℕ) → count_by (is_of n) tickets ≤ 1
 one_ticket clients tickets next k n = omega (arith, k.of_clients n, k.once n)

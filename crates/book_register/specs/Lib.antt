@@ -1,5 +1,3 @@
-pub mod Finds
-pub mod Room
 pub mod Choices
 pub mod Kinds
 pub mod Counted

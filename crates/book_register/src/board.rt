@@ -11,26 +11,25 @@ ghost use Rattle.book_lists.specs.declared.limits.TheConstants.{MOST_LINKS};
 ghost use Rattle.book_register.specs.Choices.{Chooses, Gives, eviction_of};
 ghost use Rattle.book_order.specs.Kept.{Kept};
 
-use crate::finds::{
-    count_of_pool, drop_client, drop_link, drop_ticket, first_of_pool, has_client, last_of_key,
-    place_of, put_in_state, take_out, take_ticket, ticket_of, waiting, waiting_before,
-};
-use crate::rows::{Client, Link, Ticket};
 use book_lists::counts::Counts;
 use book_lists::events::{ClientState, Event, Reply};
 use book_lists::limits::Limits;
+use book_rows::clients::{Client, Clients};
+use book_rows::links::{Link, Links};
+use book_rows::pools::PoolKey;
+use book_rows::tickets::{Ticket, Tickets};
 use message_view::Refusal;
 use start_keys::StartKey;
 use std::marker::Model;
 use std::sync::Arc;
 
-/// The lists of the book. They have room for as many rows as there can be.
+/// The lists of the book.
 #[derive(Drop)]
 pub struct Board {
-    pub clients: Vec<Client>,
-    pub tickets: Vec<Ticket>,
-    pub lent: Vec<Link>,
-    pub idle: Vec<Link>,
+    pub clients: Clients,
+    pub tickets: Tickets,
+    pub lent: Links,
+    pub idle: Links,
     pub last_client: u64,
     pub last_link: u64,
     pub clock: u64,
@@ -46,18 +45,17 @@ pub struct Board {
 }
 
 impl Model for Board {
-    ghost use Rattle.std.specs.Prelude.{suc, vec_capacity};
+    ghost use Rattle.std.specs.Prelude.{suc};
     ghost use Rattle.std.specs.Arc.{arc_value};
     ghost use Rattle.book_lists.specs.Book.{Book};
-    ghost use Rattle.book_register.specs.Room.{Room};
 
     ghost Value = { Book };
 
     ghost view = { λ b. record {
-      clients = b.clients.items;
-      tickets = b.tickets.items;
-      lent = b.lent.items;
-      idle = b.idle.items;
+      clients = b.clients;
+      tickets = b.tickets;
+      lent = b.lent;
+      idle = b.idle;
       next_client = suc b.last_client;
       next_link = suc b.last_link;
       clock = b.clock;
@@ -71,8 +69,6 @@ impl Model for Board {
       evictions = b.evictions;
       losses = b.losses;
     } };
-
-    ghost invariant = { λ b. Room (vec_capacity b.clients) (vec_capacity b.tickets) (vec_capacity b.lent) (vec_capacity b.idle) };
 }
 
 impl Board {
@@ -89,7 +85,7 @@ impl Board {
         let limits: &Limits = &self.limits;
         if self.clients.len() < limits.max_client_conn as usize {
             self.last_client += 1;
-            self.clients.push_reserved(Client {
+            self.clients.push(Client {
                 number: self.last_client,
                 state: ClientState::LoggingIn,
             });
@@ -108,23 +104,25 @@ impl Board {
         if self.is_shut {
             return Reply::Refuse(Refusal::ShuttingDown);
         }
-        let before = waiting(&self.tickets, &key);
-        put_in_state(&mut self.clients, ClientState::Waiting, client);
-        self.tickets.push_reserved(Ticket {
+        let ticket = Ticket {
             client,
-            key,
+            key: PoolKey::new(key),
             since: self.clock,
-        });
+        };
+        let before = self.tickets.waiting(&ticket.key);
+        self.clients.put_in_state(ClientState::Waiting, client);
+        self.tickets.push(ticket);
         Reply::Queued(before as u64)
     }
 
     /// A client leaves.
     pub fn leaves(&mut self, client: u64) -> Reply
+        requires kept { Kept self.old }
         ensures book { self.new ≡ (outcome.leaves self.old client).book }
         ensures reply { result ≡ (outcome.leaves self.old client).reply }
     {
-        drop_client(&mut self.clients, client);
-        drop_ticket(&mut self.tickets, client);
+        self.clients.remove(client);
+        self.tickets.remove(client);
         Reply::Done
     }
 
@@ -135,7 +133,7 @@ impl Board {
         ensures book { self.new ≡ record (outcome.loses self.old link) { losses = suc self.old.losses } }
         ensures reply { result ≡ Done }
     {
-        drop_link(&mut self.lent, link);
+        self.lent.remove(link);
         self.losses += 1;
         Reply::Done
     }
@@ -164,7 +162,7 @@ impl Board {
     {
         let limits: &Limits = &self.limits;
         self.link_count() > limits.max_links as usize
-            || self.pool_count(&link.key) > limits.pool_size(link.key.row.as_slice()) as usize
+            || self.pool_count(&link.key) > limits.pool_size(link.key.key().row.as_slice()) as usize
     }
 
     /// How many links there are.
@@ -175,10 +173,10 @@ impl Board {
     }
 
     /// How many links of this pool there are.
-    fn pool_count(&self, pool: &StartKey) -> usize
+    fn pool_count(&self, pool: &PoolKey) -> usize
         ensures { result ≡ book.pool_count self.now pool.now }
     {
-        count_of_pool(&self.lent, pool) + count_of_pool(&self.idle, pool)
+        self.lent.count_of_pool(pool) + self.idle.count_of_pool(pool)
     }
 
     /// Whether a ticket has waited for as long as it may.
@@ -191,11 +189,11 @@ impl Board {
     }
 
     /// Whether the key's pool has room for a link more.
-    fn has_pool_room(&self, pool: &StartKey) -> bool
+    fn has_pool_room(&self, pool: &PoolKey) -> bool
         ensures { result ≡ nat_lt (book.pool_count self.now pool.now) (book.pool_size self.now.limits pool.now) }
     {
         let limits: &Limits = &self.limits;
-        self.pool_count(pool) < limits.pool_size(pool.row.as_slice()) as usize
+        self.pool_count(pool) < limits.pool_size(pool.key().row.as_slice()) as usize
     }
 
     /// Whether the book has room for a link more.
@@ -211,7 +209,7 @@ impl Board {
     fn choice(&self, ticket: &Ticket) -> Choice
         ensures { Chooses self.now ticket.now result }
     {
-        match last_of_key(&self.idle, &ticket.key) {
+        match self.idle.last_of_key(ticket.key.key()) {
             Some(place) => Choice::Lend(place),
             None => self.room_for(ticket),
         }
@@ -224,24 +222,26 @@ impl Board {
         ensures { Chooses self.now ticket.now result }
     {
         if !self.has_pool_room(&ticket.key) {
-            return eviction(first_of_pool(&self.idle, &ticket.key));
+            return eviction(self.idle.first_of_pool(&ticket.key));
         }
         if self.has_room() {
             return Choice::Start;
         }
-        eviction(first(&self.idle))
+        eviction(self.idle.first())
     }
 
     /// A link goes to the ticket's client. Both have been taken out.
     fn lends(&mut self, ticket: Ticket, link: Link) -> Reply
         requires room { length self.old.lent < MOST_LINKS }
+        requires once { (n : ℕ) → count_by (book.is_client n) self.old.clients ≤ 1 }
         requires more { self.old.reuses < outcome.last_decision }
         ensures book { self.new ≡ record ((outcome.lends self.old ticket link).book) { tickets = self.old.tickets; idle = self.old.idle } }
         ensures reply { result ≡ (outcome.lends self.old ticket link).reply }
     {
         let number = link.number;
-        put_in_state(&mut self.clients, ClientState::Active, ticket.client);
-        self.lent.push_reserved(link);
+        self.clients
+            .put_in_state(ClientState::Active, ticket.client);
+        self.lent.push(link);
         self.reuses += 1;
         Reply::Lend(number)
     }
@@ -249,6 +249,7 @@ impl Board {
     /// A link is to be started for the ticket's client. The ticket has been taken out.
     fn starts(&mut self, ticket: Ticket, evicted: Option<u64>) -> Reply
         requires room { length self.old.lent < MOST_LINKS }
+        requires once { (n : ℕ) → count_by (book.is_client n) self.old.clients ≤ 1 }
         requires more { self.old.starts < outcome.last_decision }
         requires next { self.old.next_link ≤ outcome.last_decision }
         ensures book { self.new ≡ record ((outcome.starts self.old ticket self.old.idle evicted).book) { tickets = self.old.tickets } }
@@ -259,8 +260,8 @@ impl Board {
         self.last_link += 1;
         self.starts += 1;
         let link = self.last_link;
-        put_in_state(&mut self.clients, ClientState::Active, client);
-        self.lent.push_reserved(Link {
+        self.clients.put_in_state(ClientState::Active, client);
+        self.lent.push(Link {
             number: link,
             key,
             born,
@@ -279,7 +280,7 @@ impl Board {
         requires more { self.old.decisions < outcome.last_decision }
         ensures { Gives self.new result (outcome.takes self.old (find (book.is_of client) self.old.tickets)) }
     {
-        match ticket_of(&self.tickets, client) {
+        match self.tickets.place_of(client) {
             Some(place) => self.takes_by(place, client),
             None => Reply::Stranger,
         }
@@ -299,14 +300,14 @@ impl Board {
         requires more { self.old.decisions < outcome.last_decision }
         ensures { Gives self.new result (outcome.takes self.old (find (book.is_of client) self.old.tickets)) }
     {
-        let ticket = &self.tickets[place];
+        let ticket = self.tickets.at(place);
         if self.is_shut {
             return self.loses_ticket(client, Refusal::ShuttingDown);
         }
         if self.has_waited(ticket) {
             return self.loses_ticket(client, Refusal::WaitedTooLong);
         }
-        let before = waiting_before(&self.tickets, place, &ticket.key, client);
+        let before = self.tickets.waiting_before(place, &ticket.key, client);
         if self.must_wait(before) {
             return Reply::Queued(before as u64);
         }
@@ -315,10 +316,11 @@ impl Board {
 
     /// The client's ticket goes.
     fn loses_ticket(&mut self, client: u64, refusal: Refusal) -> Reply
+        requires once { (n : ℕ) → count_by (book.is_of n) self.old.tickets ≤ 1 }
         ensures book { self.new ≡ record self.old { tickets = book.without_ticket client self.old.tickets } }
         ensures reply { result ≡ Refuse refusal }
     {
-        drop_ticket(&mut self.tickets, client);
+        self.tickets.remove(client);
         Reply::Refuse(refusal)
     }
 
@@ -330,20 +332,20 @@ impl Board {
         requires more { self.old.decisions < outcome.last_decision }
         ensures { (t : TicketRow) → slice_get self.old.tickets place ≡ Some t → Gives self.new result (outcome.grants self.old t (book.latest_of t.key self.old.idle)) }
     {
-        let ticket = &self.tickets[place];
+        let ticket = self.tickets.at(place);
         match self.choice(ticket) {
             Choice::Lend(idle) => {
-                let ticket = take_ticket(&mut self.tickets, place);
-                let link = take_out(&mut self.idle, idle);
+                let ticket = self.tickets.take_out(place);
+                let link = self.idle.take_out(idle);
                 self.lends(ticket, link)
             }
             Choice::Start => {
-                let ticket = take_ticket(&mut self.tickets, place);
+                let ticket = self.tickets.take_out(place);
                 self.starts(ticket, None)
             }
             Choice::Evict(idle) => {
-                let ticket = take_ticket(&mut self.tickets, place);
-                let old = take_out(&mut self.idle, idle);
+                let ticket = self.tickets.take_out(place);
+                let old = self.idle.take_out(idle);
                 self.evictions += 1;
                 self.starts(ticket, Some(old.number))
             }
@@ -356,7 +358,7 @@ impl Board {
         requires kept { Kept self.old }
         ensures { Gives self.new result (outcome.gives_back self.old (find (book.is_link number) self.old.lent)) }
     {
-        match place_of(&self.lent, number) {
+        match self.lent.place_of(number) {
             Some(place) => self.takes_back(place, number),
             None => Reply::Stranger,
         }
@@ -375,9 +377,9 @@ impl Board {
         requires kept { Kept self.old }
         ensures { Gives self.new result (outcome.gives_back self.old (find (book.is_link number) self.old.lent)) }
     {
-        let link = &self.lent[place];
+        let link = self.lent.at(place);
         let closes = self.closes(link);
-        let link = take_out(&mut self.lent, place);
+        let link = self.lent.take_out(place);
         if closes {
             return Reply::Close(link.number);
         }
@@ -390,18 +392,8 @@ impl Board {
         ensures book { self.new ≡ record self.old { idle = self.old.idle ++ record link { since = self.old.clock } ∷ [] } }
         ensures reply { result ≡ Done }
     {
-        let Link {
-            number,
-            key,
-            born,
-            ..
-        } = link;
-        self.idle.push_reserved(Link {
-            number,
-            key,
-            born,
-            since: self.clock,
-        });
+        let since = self.clock;
+        self.idle.push(Link { since, ..link });
         Reply::Done
     }
 
@@ -421,7 +413,7 @@ impl Board {
     {
         match self.first_stale() {
             Some(place) => {
-                let link = take_out(&mut self.idle, place);
+                let link = self.idle.take_out(place);
                 Reply::Close(link.number)
             }
             None => Reply::Done,
@@ -468,7 +460,7 @@ impl Board {
     fn first_stale(&self) -> Option<usize>
         ensures { result ≡ position (outcome.is_stale self.now) self.now.idle }
     {
-        self.idle.iter().position(|l| self.is_stale(l))
+        self.idle.as_slice().iter().position(|l| self.is_stale(l))
     }
 }
 
@@ -495,12 +487,4 @@ fn eviction(place: Option<usize>) -> Choice
         Some(place) => Choice::Evict(place),
         None => Choice::Wait,
     }
-}
-
-/// The place of the first link.
-#[tactic(auto, using(crate::proofs::Choices::first_is))]
-fn first(links: &[Link]) -> Option<usize>
-    ensures { result ≡ position (λ l. true) links.now }
-{
-    if links.is_empty() { None } else { Some(0) }
 }

@@ -8,7 +8,6 @@ ghost use Rattle.book_register.specs.Kinds.{kind_in, kinds_of};
 ghost use Rattle.book_order.specs.Kept.{Kept, total};
 
 use crate::board::Board;
-use crate::finds::{has_client, has_link, has_ticket};
 use book_lists::counts::{Counts, Kind};
 use book_lists::events::{Event, Reply};
 use message_view::Refusal;
@@ -96,17 +95,16 @@ impl Board {
 
     /// Whether the event's client or link isn't there, or has a ticket already.
     fn is_strange(&self, event: &Event) -> bool
+        requires kept { Kept self.now }
         ensures { result ≡ outcome.is_strange self.now (event_of event.now) }
     {
         match event {
-            Event::Ask { client, .. } => {
-                !has_client(&self.clients, *client) || has_ticket(&self.tickets, *client)
-            }
-            Event::Take { client } => !has_ticket(&self.tickets, *client),
-            Event::GiveBack { link } => !has_link(&self.lent, *link),
-            Event::Lost { link } => !has_link(&self.lent, *link),
-            Event::StartFailed { link } => !has_link(&self.lent, *link),
-            Event::Leave { client } => !has_client(&self.clients, *client),
+            Event::Ask { client, .. } => { !self.clients.has(*client) || self.tickets.has(*client) }
+            Event::Take { client } => !self.tickets.has(*client),
+            Event::GiveBack { link } => !self.lent.has(*link),
+            Event::Lost { link } => !self.lent.has(*link),
+            Event::StartFailed { link } => !self.lent.has(*link),
+            Event::Leave { client } => !self.clients.has(*client),
             _ => false,
         }
     }

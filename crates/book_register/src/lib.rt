@@ -3,7 +3,5 @@
 
 mod board;
 mod deciding;
-mod finds;
 pub mod lists;
-pub mod rows;
 pub mod view;

@@ -5,14 +5,17 @@ ghost use Rattle.book_lists.specs.Book.{empty_book, is_link, no_counts};
 ghost use Rattle.book_lists.specs.Events.{event_of};
 ghost use Rattle.book_lists.specs.Outcomes.{apply, is_started_as};
 ghost use Rattle.book_register.specs.Counted.{counted_book};
+ghost use Rattle.book_register.specs.Views.{view_of, waiting_at};
 ghost use Rattle.book_order.specs.Kept.{FitsLimits, Kept, KeptLimits};
 
 use crate::board::Board;
-use crate::finds::is_there_as;
-use crate::rows::{Client, Link, Ticket};
+use crate::view::{BookView, Waiting};
 use book_lists::counts::Counts;
 use book_lists::events::{Event, Reply};
-use book_lists::limits::{Limits, MOST_CLIENTS, MOST_LINKS};
+use book_lists::limits::Limits;
+use book_rows::clients::Clients;
+use book_rows::links::Links;
+use book_rows::tickets::Tickets;
 use start_keys::StartKey;
 use std::alloc::{AllocError, Global};
 use std::marker::Model;
@@ -80,19 +83,11 @@ fn all_ticks(decisions: u64) -> Counts
 fn empty_board(alloc: Global, limits: Arc<Limits>, decisions: u64) -> Result<Board, AllocError>
     ensures { IfOk result (λ b. b ≡ counted_book (arc_value limits) decisions) }
 {
-    let mut clients = Vec::new(alloc);
-    clients.reserve(MOST_CLIENTS as usize)?;
-    let mut tickets = Vec::new(alloc);
-    tickets.reserve(MOST_CLIENTS as usize)?;
-    let mut lent = Vec::new(alloc);
-    lent.reserve(MOST_LINKS as usize)?;
-    let mut idle = Vec::new(alloc);
-    idle.reserve(MOST_LINKS as usize)?;
     Ok(Board {
-        clients,
-        tickets,
-        lent,
-        idle,
+        clients: Clients::new(alloc)?,
+        tickets: Tickets::new(alloc)?,
+        lent: Links::new(alloc)?,
+        idle: Links::new(alloc)?,
         last_client: 0,
         last_link: 0,
         clock: 0,
@@ -157,63 +152,7 @@ impl Lists {
     pub fn is_lent_as(&self, number: u64, key: &StartKey, born: u64) -> bool
         ensures { result ≡ is_started_as key.now born (find (is_link number) self.now.lent) }
     {
-        is_there_as(&self.board.lent, number, key, born)
-    }
-
-    /// The clients that are there, in the order in which they came.
-    pub fn clients(&self) -> &[Client]
-        ensures { result.now ≡ self.now.clients }
-    {
-        &self.board.clients
-    }
-
-    /// The tickets that wait, in the order of their Ask.
-    pub fn tickets(&self) -> &[Ticket]
-        ensures { result.now ≡ self.now.tickets }
-    {
-        &self.board.tickets
-    }
-
-    /// The lent links, in the order in which they were lent.
-    pub fn lent(&self) -> &[Link]
-        ensures { result.now ≡ self.now.lent }
-    {
-        &self.board.lent
-    }
-
-    /// The idle links, in the order in which they came back.
-    pub fn idle(&self) -> &[Link]
-        ensures { result.now ≡ self.now.idle }
-    {
-        &self.board.idle
-    }
-
-    /// The greatest second of any Tick.
-    pub fn clock(&self) -> u64
-        ensures { result ≡ self.now.clock }
-    {
-        self.board.clock
-    }
-
-    /// The settings that it decides by.
-    pub fn limits(&self) -> &Arc<Limits>
-        ensures { arc_value result.now ≡ self.now.limits }
-    {
-        &self.board.limits
-    }
-
-    /// Whether no link is lent until Resume.
-    pub fn is_paused(&self) -> bool
-        ensures { result ≡ self.now.is_paused }
-    {
-        self.board.is_paused
-    }
-
-    /// Whether no client is let in and no link lent any more.
-    pub fn is_shut(&self) -> bool
-        ensures { result ≡ self.now.is_shut }
-    {
-        self.board.is_shut
+        self.board.lent.has_as(number, key, born)
     }
 
     /// How many decisions there were of each kind.
@@ -223,31 +162,19 @@ impl Lists {
         self.board.counts
     }
 
-    /// How many links were started.
-    pub fn starts(&self) -> u64
-        ensures { result ≡ self.now.starts }
+    /// The lists as they are now.
+    ///
+    /// `AllocError` where memory is refused.
+    pub fn view(&self, alloc: Global) -> Result<BookView, AllocError>
+        ensures { IfOk result (λ v. v ≡ view_of self.now) }
     {
-        self.board.starts
+        self.board.view(alloc)
     }
 
-    /// How many times an idle link was lent again.
-    pub fn reuses(&self) -> u64
-        ensures { result ≡ self.now.reuses }
+    /// Who waits with the ticket at this place, places counted from 0 in the order of the Asks; none, where there are so few.
+    pub fn ticket(&self, at: usize) -> Option<Waiting>
+        ensures { result ≡ waiting_at self.now.tickets at }
     {
-        self.board.reuses
-    }
-
-    /// How many idle links were closed for another's start.
-    pub fn evictions(&self) -> u64
-        ensures { result ≡ self.now.evictions }
-    {
-        self.board.evictions
-    }
-
-    /// How many links were lost, or failed to start.
-    pub fn losses(&self) -> u64
-        ensures { result ≡ self.now.losses }
-    {
-        self.board.losses
+        self.board.ticket(at)
     }
 }

@@ -1,14 +1,13 @@
 //! What a book shows of itself.
 ghost use Rattle.std.specs.Prelude.{◌≡◌, IfOk};
-ghost use Rattle.std.specs.List.{list_any};
-ghost use Rattle.book_lists.specs.Book.{same_pool};
 ghost use Rattle.book_register.specs.Views.{view_of, waiting_at};
 
-use crate::lists::Lists;
-use crate::rows::{Client, Link, Ticket};
+use crate::board::Board;
 use book_lists::counts::Counts;
 use book_lists::limits::Limits;
-use start_keys::StartKey;
+use book_rows::clients::Client;
+use book_rows::links::Link;
+use book_rows::tickets::Ticket;
 use std::alloc::{AllocError, Global};
 use std::marker::Model;
 use std::sync::Arc;
@@ -75,47 +74,37 @@ pub struct Waiting {
     pub first_of_pool: bool,
 }
 
-/// Whether a ticket is of this key's pool.
-fn has_pool(tickets: &[Ticket], pool: &StartKey) -> bool
-    ensures { result ≡ list_any (λ o. same_pool o.key pool.now) tickets.now }
-{
-    tickets.iter().any(|t| t.is_in_pool(pool))
-}
-
-impl Lists {
+impl Board {
     /// The lists as they are now.
-    ///
-    /// `AllocError` where memory is refused.
     pub fn view(&self, alloc: Global) -> Result<BookView, AllocError>
         ensures { IfOk result (λ v. v ≡ view_of self.now) }
     {
         Ok(BookView {
-            clients: Vec::from_clones(alloc, self.clients())?,
-            tickets: Vec::from_clones(alloc, self.tickets())?,
-            lent: Vec::from_clones(alloc, self.lent())?,
-            idle: Vec::from_clones(alloc, self.idle())?,
-            clock: self.clock(),
-            limits: Arc::try_clone(self.limits())?,
-            is_paused: self.is_paused(),
-            is_shut: self.is_shut(),
-            decisions: self.decisions(),
-            counts: self.counts(),
-            starts: self.starts(),
-            reuses: self.reuses(),
-            evictions: self.evictions(),
-            losses: self.losses(),
+            clients: self.clients.copied(alloc)?,
+            tickets: self.tickets.copied(alloc)?,
+            lent: self.lent.copied(alloc)?,
+            idle: self.idle.copied(alloc)?,
+            clock: self.clock,
+            limits: Arc::try_clone(&self.limits)?,
+            is_paused: self.is_paused,
+            is_shut: self.is_shut,
+            decisions: self.decisions,
+            counts: self.counts,
+            starts: self.starts,
+            reuses: self.reuses,
+            evictions: self.evictions,
+            losses: self.losses,
         })
     }
 
-    /// Who waits with the ticket at this place, places counted from 0 in the order of the Asks; none, where there are so few.
+    /// Who waits with the ticket at this place; none, where there are so few.
     pub fn ticket(&self, at: usize) -> Option<Waiting>
         ensures { result ≡ waiting_at self.now.tickets at }
     {
-        let tickets = self.tickets();
-        let ticket = tickets.get(at)?;
+        let ticket = self.tickets.get(at)?;
         Some(Waiting {
             client: ticket.client,
-            first_of_pool: !has_pool(&tickets[..at], &ticket.key),
+            first_of_pool: !self.tickets.has_before(at, &ticket.key),
         })
     }
 }

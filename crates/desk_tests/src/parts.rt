@@ -90,6 +90,7 @@ pub(crate) fn link(alloc: Global, number: u64) -> Result<CleanLink<Gone>, AllocE
         key: key(alloc)?,
         number,
         born: 0,
+        server_key: None,
         reported: Reported::new(alloc),
     };
     Ok(lent.clean())

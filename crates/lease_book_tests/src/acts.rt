@@ -3,6 +3,7 @@ ghost use Rattle.lease_book.specs.Links.{IsTwice};
 
 use crate::parts::{Gone, Settings, Whose, key_of, limits, link};
 use book_lists::events::ClientState;
+use book_register::view::Waiting;
 use lease_book::book::Book;
 use lease_book::events::{Event, Reply};
 use link_run::links::CleanLink;
@@ -78,8 +79,8 @@ fn by_numbers(reply: Reply<Gone>) -> Told {
 /// A book, of which a test knows nothing but what it answers.
 #[derive(Drop)]
 pub(crate) struct Story {
-    pub(crate) alloc: Global,
-    pub(crate) book: Book<Gone>,
+    alloc: Global,
+    book: Book<Gone>,
 }
 
 impl Story {
@@ -96,11 +97,18 @@ impl Story {
         Ok(Story { alloc, book })
     }
 
-    /// An event that brings no key and no limits, or a link.
+    /// What the book answers, of which a proof knows nothing: so none of a test carries the book's definition along.
+    fn reply(&mut self, event: Event<Gone>) -> Reply<Gone>
+        requires { IsTwice event }
+    {
+        self.book.apply(7, event)
+    }
+
+    /// The same, with links by their numbers.
     fn happens(&mut self, event: Event<Gone>) -> Told
         requires { IsTwice event }
     {
-        by_numbers(self.book.apply(7, event))
+        by_numbers(self.reply(event))
     }
 
     /// A client asks.
@@ -198,6 +206,16 @@ impl Story {
     pub(crate) fn ticks(&self) -> Result<[u64; 3], AllocError> {
         let view = self.book.view(self.alloc)?;
         Ok([view.clock, view.decisions, view.counts.ticked])
+    }
+
+    /// How many decisions stand in the base, and how many are kept.
+    pub(crate) fn kept(&self) -> (u64, usize) {
+        self.book.kept()
+    }
+
+    /// Who waits with the ticket at this place.
+    pub(crate) fn ticket(&self, at: usize) -> Option<Waiting> {
+        self.book.ticket(at)
     }
 
     /// Arrivals, Asks, grants, returns, losses and Ticks.

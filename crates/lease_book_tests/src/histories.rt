@@ -12,7 +12,7 @@ fn the_last_decisions_are_kept(rt: HostRuntime) -> Result<(), Fail> {
     for now in 1..301u64 {
         assert_eq!(rt; story.play(Act::Tick(now))?, Told::Done);
     }
-    assert_eq!(rt; story.book.kept(), (44, 256));
+    assert_eq!(rt; story.kept(), (44, 256));
     assert_eq!(rt; story.ticks()?, [300, 300, 300]);
     Ok(())
 }
@@ -46,7 +46,7 @@ fn the_last_decision_is_an_end(rt: HostRuntime) -> Result<(), Fail> {
     ];
     let mut story = Story::after(rt.alloc(), u64::MAX - 3)?;
     assert_eq!(rt; surprise(&mut story, &acts)?, None);
-    assert_eq!(rt; story.book.kept(), (u64::MAX - 3, 3));
+    assert_eq!(rt; story.kept(), (u64::MAX - 3, 3));
     assert_eq!(rt; story.sizes()?, [1, 0, 1, 0]);
     Ok(())
 }
@@ -127,8 +127,8 @@ fn the_first_of_each_pool_may_have_a_link(rt: HostRuntime) -> Result<(), Fail> {
             client,
             first_of_pool,
         };
-        assert_eq!(rt; story.book.ticket(at), Some(waiting));
+        assert_eq!(rt; story.ticket(at), Some(waiting));
     }
-    assert!(rt; story.book.ticket(3).is_none());
+    assert!(rt; story.ticket(3).is_none());
     Ok(())
 }

@@ -112,6 +112,7 @@ pub(crate) fn link(alloc: Global, key: Arc<StartKey>, number: u64, born: u64) ->
         key,
         number,
         born,
+        server_key: None,
         reported: Reported::new(alloc),
     };
     lent.clean()

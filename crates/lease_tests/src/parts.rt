@@ -80,7 +80,7 @@ pub(crate) fn served(
     let server = MemoryServer::new(alloc, catalogue, ServerAuth::Trust, SERVER, cut, dies_after)?;
     // the server asks for nothing
     let unasked = Secret::Md5([0; 32]);
-    serve_alone(
+    match serve_alone(
         alloc,
         server,
         ann(alloc)?,
@@ -89,5 +89,8 @@ pub(crate) fn served(
         limit,
         cut,
         bytes,
-    )
+    ) {
+        Ok(answer) => Ok(answer),
+        Err(_) => Err(AllocError),
+    }
 }

@@ -5,7 +5,7 @@ use Rattle.message_view.specs.Bodies.{Text}
 use Rattle.session_values.specs.State.{Address, CatalogueOf, StartKeyOf, address_of}
 use Rattle.user_file.specs.declared.secrets.Secret.{Secret}
 use Rattle.link_laws.specs.Standing.{Standing}
-use Rattle.link_run.specs.Links.{LinkView}
+use Rattle.link_start.specs.Links.{LinkView}
 use Rattle.link_start.specs.Starts.{CanStart, IsLetIn}
 use Rattle.link_desk.specs.declared.answers.Grant.{Grant}
 use Rattle.link_desk.specs.declared.answers.Grant.TheVariants as grant

@@ -2,7 +2,7 @@
 use Rattle.std.specs.Prelude.{ℕ, suc, Bool, true, false, Option, None}
 use Rattle.message_view.specs.declared.refusal.Refusal.{Refusal}
 use Rattle.message_view.specs.declared.refusal.Refusal.TheVariants.{LastDecision}
-use Rattle.link_run.specs.Links.{LinkView}
+use Rattle.link_start.specs.Links.{LinkView}
 use Rattle.link_desk.specs.declared.answers.Arrival.{Arrival}
 use Rattle.link_desk.specs.declared.answers.Arrival.TheVariants as arrival
 use Rattle.link_desk.specs.declared.answers.Asked.{Asked}

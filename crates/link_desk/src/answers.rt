@@ -1,6 +1,6 @@
 //! What each call of a desk answers.
 
-use link_run::links::CleanLink;
+use link_start::links::CleanLink;
 use message_view::Refusal;
 use server_end::ServerEnd;
 

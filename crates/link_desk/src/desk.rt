@@ -5,7 +5,7 @@ ghost use Rattle.link_desk.specs.Passes.{after_arrival, after_asking, after_back
 
 use crate::answers::{Arrival, Asked, Back, Gone, Grant};
 use ini_config::DbRow;
-use link_run::links::CleanLink;
+use link_start::links::CleanLink;
 use server_end::ServerEnd;
 use start_keys::StartKey;
 use std::sync::Arc;

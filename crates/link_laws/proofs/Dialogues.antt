@@ -19,9 +19,9 @@ use Rattle.session_values.specs.Errors.{fatal}
 use Rattle.session_values.specs.Lawful.{IsLawfulCatalogue, IsClientKey}
 use Rattle.session_values.specs.Parameters.{reported_parameters}
 use Rattle.session_values.specs.State.{State, StartKeyOf, fresh, all_reports, all_reports_from}
-use Rattle.session_laws.specs.Laws.{has_ready}
-use Rattle.session_laws.specs.Starts.{Welcomes}
-use Rattle.session_laws.proofs.ByName.{fresh_is_reached, welcome_is_read, start_error_is_short}
+use Rattle.run_laws.specs.Laws.{has_ready}
+use Rattle.run_laws.specs.Starts.{Welcomes}
+use Rattle.run_laws.proofs.SessionsByName.{fresh_is_reached, welcome_is_read, start_error_is_short}
 use Rattle.link_laws.specs.Stages.{Server, Auth, NoAuth, Asks, Stage, Before, Asked, Open, Closed, Packet, Starts, Sends, Turn, packet_bytes, packets_bytes, let_in, wrong_password, opened, started_by, opens, begins, is_answer, serve, after, answers, MayTake, MayTakeAll}
 use Rattle.link_laws.specs.Standing.{Standing, Served, Passed}
 use Rattle.link_laws.specs.Starts.{start_body}

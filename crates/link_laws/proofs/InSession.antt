@@ -4,7 +4,7 @@ use Rattle.std.specs.List.{flat_map, AllByRecursion}
 use Rattle.frame_view.specs.Frames.{FrameOf, spelling}
 use Rattle.session_values.specs.State.{State}
 use Rattle.session_values.specs.Step.{step, run_frames}
-use Rattle.session_laws.specs.Laws.{IsSent}
+use Rattle.run_laws.specs.Laws.{IsSent}
 use Rattle.link_laws.specs.Stages.{Server, Open, Packet, Starts, Sends, packets_bytes, after, answers, MayTakeAll}
 
 pub record InSession (v : Server) (s : State) (ps : List Packet) : Type 0 where

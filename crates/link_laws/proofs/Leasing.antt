@@ -11,7 +11,7 @@ use Rattle.session_values.specs.declared.cause.Cause.{Cause}
 use Rattle.session_values.specs.State.{State, CatalogueOf, StartKeyOf, Answer, fresh}
 use Rattle.session_values.specs.Step.{run_frames}
 use Rattle.session_values.specs.Service.{service, served, welcome, client_frames}
-use Rattle.session_laws.specs.Laws.{IsSent, Reaches}
+use Rattle.run_laws.specs.Laws.{IsSent, Reaches}
 use Rattle.link_laws.specs.Stages as stages
 use Rattle.link_laws.specs.Stages.{Stage, Open, Packet, packets_bytes, after, answers, MayTakeAll}
 use Rattle.link_laws.specs.Standing.{Served, Passed}
@@ -20,7 +20,7 @@ use Rattle.link_laws.proofs.InSession.{InSession, in_session}
 use Rattle.link_laws.specs.Links.{IsIdle, IsResting}
 use Rattle.run_laws.specs.Settling.{IsAnswered, IsQuiet}
 use Rattle.run_laws.proofs.ByName.{runs_go_on, runs_stay_reached, run_replies_are_frames, settled_is_quiet}
-use Rattle.session_laws.proofs.ByName.{fresh_is_reached}
+use Rattle.run_laws.proofs.SessionsByName.{fresh_is_reached}
 use Rattle.link_laws.proofs.Splits.{SplitsOff, split_off, split_whole}
 use Rattle.link_laws.specs.Futures.{replies_in}
 use Rattle.link_laws.specs.Leases.{Lease, IsUnderWay, own, IsExact, IsFront}

@@ -6,7 +6,7 @@ use Rattle.message_laws.proofs.EndTrips.{pairs_read}
 use Rattle.session_values.specs.declared.cause.Cause.{Cause}
 use Rattle.session_values.specs.Lawful.{IsLawfulKey}
 use Rattle.session_values.specs.State.{StartKeyOf, fresh, bound}
-use Rattle.session_laws.proofs.ByName.{fresh_by_names}
+use Rattle.run_laws.proofs.SessionsByName.{fresh_by_names}
 use Rattle.start_keys.specs.StartPairs.{Pair}
 use Rattle.start_keys.specs.StubKeys.{stub}
 use Rattle.key_laws.specs.Keys.{key_pairs}

@@ -10,7 +10,7 @@ use Rattle.session_values.specs.declared.cause.Cause.{Cause}
 use Rattle.session_values.specs.Errors.{fatal}
 use Rattle.session_values.specs.Lawful.{IsLawfulCatalogue, IsClientKey}
 use Rattle.session_values.specs.State.{State, StartKeyOf, fresh}
-use Rattle.session_laws.specs.Laws.{has_ready}
+use Rattle.run_laws.specs.Laws.{has_ready}
 use Rattle.link_laws.specs.Stages.{Server, Auth, NoAuth, Asks, Stage, Before, Asked, Open, Closed, Packet, Starts, Sends, packets_bytes, is_answer, wrong_password, answers, MayTakeAll}
 use Rattle.link_laws.specs.Standing.{Standing, Moves}
 use Rattle.link_laws.specs.Starts.{start_body}

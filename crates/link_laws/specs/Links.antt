@@ -2,7 +2,7 @@
 use Rattle.std.specs.Prelude.{◌≡◌, true, [], Ok}
 use Rattle.session_values.specs.Lawful.{IsLawfulCatalogue, IsLawfulKey}
 use Rattle.session_values.specs.State.{State, StartKeyOf, fresh}
-use Rattle.session_laws.specs.Laws.{IsAtRest, Reaches}
+use Rattle.run_laws.specs.Laws.{IsAtRest, Reaches}
 use Rattle.link_laws.specs.Stages.{Open}
 use Rattle.link_laws.specs.Standing.{Standing}
 

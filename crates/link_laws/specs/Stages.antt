@@ -15,7 +15,7 @@ use Rattle.session_values.specs.Errors.{fatal}
 use Rattle.session_values.specs.State.{State, CatalogueOf, StartKeyOf, fresh, bound}
 use Rattle.session_values.specs.Step.{step}
 use Rattle.session_values.specs.Service.{welcome}
-use Rattle.session_laws.specs.Laws.{IsSent}
+use Rattle.run_laws.specs.Laws.{IsSent}
 use Rattle.start_keys.specs.StartPairs.{Pair}
 use Rattle.start_keys.specs.StubKeys.{stub_key}
 

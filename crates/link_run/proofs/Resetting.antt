@@ -1,5 +1,5 @@
 -- A reset's moves, and what its answer says of the session behind it.
-use Rattle.std.proofs.Common.{◌≡◌, ◌≢◌, ◌⊎◌, inl, inr, ◌<◌, length-append, length-take-le, ⊎_elim, ℕ, ◌+◌, ◌-◌, ◌≤◌, ◌==◌, Bool, true, false, List, [], ◌∷◌, ◌++◌, take, drop, length, refl, sym, ap, ap₂, ◌∙◌, append_assoc, append-nil, take-append-drop, drop-drop, arith, take_all, length-drop, subst, Result, Ok, Err, ◌&&◌}
+use Rattle.std.proofs.Common.{◌≡◌, ◌≢◌, ◌⊎◌, inl, inr, ◌<◌, length-append, length-take-le, ⊎_elim, ℕ, ◌+◌, ◌-◌, ◌≤◌, ◌==◌, Bool, true, false, List, [], ◌∷◌, ◌++◌, take, drop, length, refl, sym, ap, ap₂, ◌∙◌, append_assoc, append-nil, take-append-drop, drop-drop, arith, take_all, length-drop, subst, Result, Ok, Err, Option, ◌&&◌}
 use Rattle.std.proofs.lemmas.Bool.{cases_Bool, eqb-false, eqb-true, true≢false}
 use Rattle.std.proofs.Math.Seq.{drop-length}
 use Rattle.std.specs.List.{flat_map, AllByRecursion}
@@ -12,6 +12,7 @@ use Rattle.frame_view.specs.declared.Step.TheVariants.{Whole}
 use Rattle.frame_view.specs.Answers.{Tells}
 use Rattle.frame_view.specs.Frames.{AreBytes, FrameOf, IsFrame, Cut, front, frames, spelling}
 use Rattle.frame_view.proofs.Splitting.{frames-split, frames-stopped}
+use Rattle.message_view.specs.declared.views.KeyView.{KeyView}
 use Rattle.start_keys.specs.StartPairs.{Text}
 use Rattle.session_values.specs.Parameters.{reported_parameters}
 use Rattle.session_values.specs.declared.cause.Cause.{Cause}
@@ -23,12 +24,12 @@ use Rattle.session_laws.proofs.ByName.{discard_all_gives_fresh, reached_has_key,
 use Rattle.run_laws.specs.Settling.{IsQuiet}
 use Rattle.run_laws.proofs.ByName.{run_replies_are_frames, run_reports_tell_values, settled_is_quiet}
 use Rattle.param_track.specs.Kept.{Kept, is_at_start}
-use Rattle.link_laws.specs.Stages.{Server as TheServer, Stage, Open, Packet, packets_bytes, MayTakeAll, answers, after}
-use Rattle.link_laws.specs.Standing.{Standing, Served, Passed, Moves}
-use Rattle.link_laws.specs.Links.{IsIdle, IsFresh, IsResting}
-use Rattle.link_laws.proofs.Both.{moves_none, moves_got, moves_put}
-use Rattle.link_laws.proofs.InSession.{InSession, in_session}
-use Rattle.link_laws.proofs.Splits.{SplitsOff, split_whole}
+use Rattle.server_end.specs.Stages.{Server as TheServer, Stage, Open, Packet, packets_bytes, MayTakeAll, answers, after}
+use Rattle.server_end.specs.Standing.{Standing, Served, Passed, Moves}
+use Rattle.server_end.specs.Links.{IsIdle, IsFresh, IsResting}
+use Rattle.server_end.proofs.Both.{moves_none, moves_got, moves_put}
+use Rattle.server_end.proofs.InSession.{InSession, in_session}
+use Rattle.server_end.proofs.Splits.{SplitsOff, split_whole}
 use Rattle.server_end.specs.declared.Moved.{Moved}
 use Rattle.server_end.specs.declared.Moved.TheVariants.{Count, NotNow, Ended, Fault}
 use Rattle.server_end.specs.Moves.{faults_in, moved, waits_in, IsWithin}
@@ -45,12 +46,12 @@ use Rattle.link_run.proofs.Reporting.{told-frames}
 
 -- ---- moves
 
-pub reset_begun : (l : Standing) (k : StartKeyOf) (n b : ℕ) (ks : List Kept) (r : List ℕ) → r ≡ [] → IsUsed l k ks → IsResetFrom l (reset_view l k n b ks (spelling discard_all) r)
-reset_begun l k n b ks r e u = record { sent = []; used = u; moves = rw e (moves_none l); all = refl; faults = omega arith }
+pub reset_begun : (l : Standing) (k : StartKeyOf) (n b : ℕ) (sk : Option KeyView) (ks : List Kept) (r : List ℕ) → r ≡ [] → IsUsed l k ks → IsResetFrom l (reset_view l k n b sk ks (spelling discard_all) r)
+reset_begun l k n b sk ks r e u = record { sent = []; used = u; moves = rw e (moves_none l); all = refl; faults = omega arith }
 
-pub reset_sent : (start l m : Standing) (k : StartKeyOf) (n b : ℕ) (ks : List Kept) (put u w r : List ℕ) → Moves l put m [] → l.faults ≤ m.faults → u ≡ put ++ w
-    → IsResetFrom start (reset_view l k n b ks u r) → IsResetFrom start (reset_view m k n b ks w r)
-reset_sent start l m k n b ks put u w r y f e x = record {
+pub reset_sent : (start l m : Standing) (k : StartKeyOf) (n b : ℕ) (sk : Option KeyView) (ks : List Kept) (put u w r : List ℕ) → Moves l put m [] → l.faults ≤ m.faults → u ≡ put ++ w
+    → IsResetFrom start (reset_view l k n b sk ks u r) → IsResetFrom start (reset_view m k n b sk ks w r)
+reset_sent start l m k n b sk ks put u w r y f e x = record {
   sent = x.sent ++ put;
   used = x.used;
   moves = moves_put start l m x.sent put r x.moves y;
@@ -58,9 +59,9 @@ reset_sent start l m k n b ks put u w r y f e x = record {
   faults = (let a = x.faults in omega (arith, a, f));
 }
 
-pub reset_got : (start l m : Standing) (k : StartKeyOf) (n b : ℕ) (ks : List Kept) (got u r s : List ℕ) → Moves l [] m got → l.faults ≤ m.faults → s ≡ r ++ got
-    → IsResetFrom start (reset_view l k n b ks u r) → IsResetFrom start (reset_view m k n b ks u s)
-reset_got start l m k n b ks got u r s y f e x = record {
+pub reset_got : (start l m : Standing) (k : StartKeyOf) (n b : ℕ) (sk : Option KeyView) (ks : List Kept) (got u r s : List ℕ) → Moves l [] m got → l.faults ≤ m.faults → s ≡ r ++ got
+    → IsResetFrom start (reset_view l k n b sk ks u r) → IsResetFrom start (reset_view m k n b sk ks u s)
+reset_got start l m k n b sk ks got u r s y f e x = record {
   sent = x.sent;
   used = x.used;
   moves = rw e (moves_got start l m x.sent r got x.moves y);

@@ -20,11 +20,11 @@ use Rattle.session_values.specs.Step.{step, run_frames}
 use Rattle.session_laws.specs.Laws.{discard_all, discard_replies}
 use Rattle.session_laws.specs.Starts.{Resets}
 use Rattle.session_laws.proofs.ByName.{discard_all_gives_fresh, resets_are_read}
-use Rattle.link_laws.specs.Stages.{Server as TheServer, Stage, MayTakeAll, answers as answers_to}
-use Rattle.link_laws.specs.Standing.{Standing, Passed}
-use Rattle.link_laws.specs.Links.{IsResting}
-use Rattle.link_laws.proofs.InSession.{InSession, in_session}
-use Rattle.link_laws.proofs.Splits.{SplitsOff, split_whole}
+use Rattle.server_end.specs.Stages.{Server as TheServer, Stage, MayTakeAll, answers as answers_to}
+use Rattle.server_end.specs.Standing.{Standing, Passed}
+use Rattle.server_end.specs.Links.{IsResting}
+use Rattle.server_end.proofs.InSession.{InSession, in_session}
+use Rattle.server_end.proofs.Splits.{SplitsOff, split_whole}
 use Rattle.link_run.specs.declared.reply.Answered.{Answered}
 use Rattle.link_run.specs.declared.reply.Answered.TheVariants.{Nothing, Tag, All, Other}
 use Rattle.link_run.specs.declared.reply.TheConstants.{LONGEST_REPLY}

@@ -1,8 +1,9 @@
 -- A link as contracts see it, and what it keeps of its server's reports.
-use Rattle.std.specs.Prelude.{◌≡◌, ℕ, true, List, [], ◌∷◌, ◌++◌, map, Result, Ok, Err, ◌==◌, if◌then◌else◌}
+use Rattle.std.specs.Prelude.{◌≡◌, ℕ, true, Option, List, [], ◌∷◌, ◌++◌, map, Result, Ok, Err, ◌==◌, if◌then◌else◌}
 use Rattle.frame_view.specs.declared.server.TheConstants.{PARAMETER_STATUS}
 use Rattle.frame_view.specs.Frames.{FrameOf}
 use Rattle.message_view.specs.declared.ViewFault.{ViewFault}
+use Rattle.message_view.specs.declared.views.KeyView.{KeyView}
 use Rattle.message_view.specs.declared.kinds.TheConstants.{IDLE}
 use Rattle.message_view.specs.Messages.{backend_key_data, parameter_status, ready_for_query}
 use Rattle.message_view.specs.Reading.{status_of}
@@ -13,14 +14,16 @@ use Rattle.session_values.specs.State.{State, StartKeyOf, fresh}
 use Rattle.session_values.specs.Service.{welcome}
 use Rattle.param_track.specs.Reports.{Report}
 use Rattle.param_track.specs.Kept.{Kept, kept_of, with_told}
-use Rattle.link_laws.specs.Standing.{Standing}
-use Rattle.link_laws.specs.Links.{IsFresh, IsResting}
+use Rattle.server_end.specs.Standing.{Standing}
+use Rattle.server_end.specs.Links.{IsFresh, IsResting}
 
 pub record LinkView : Type 0 where
   pub stands : Standing
   pub key : StartKeyOf
   pub number : ℕ
   pub born : ℕ
+  -- the words of its server's BackendKeyData, if it sent one
+  pub server_key : Option KeyView
   -- what its start reported, and of which parameters another value was told since
   pub reports : List Kept
 

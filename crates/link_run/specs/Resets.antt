@@ -1,5 +1,5 @@
 -- A reset by DISCARD ALL: what it is answered by, and a reset under way.
-use Rattle.std.specs.Prelude.{◌≡◌, ◌≢◌, ◌⊎◌, ℕ, ◌+◌, ◌<◌, ◌≤◌, length, Bool, true, false, Result, Ok, Err, ◌||◌, ◌&&◌, ◌==◌, if◌then◌else◌, bytes_eq, codes, List, [], ◌∷◌, ◌++◌}
+use Rattle.std.specs.Prelude.{◌≡◌, ◌≢◌, ◌⊎◌, ℕ, ◌+◌, ◌<◌, ◌≤◌, length, Bool, true, false, Result, Ok, Err, Option, ◌||◌, ◌&&◌, ◌==◌, if◌then◌else◌, bytes_eq, codes, List, [], ◌∷◌, ◌++◌}
 use Rattle.std.specs.List.{flat_map, AllByRecursion}
 use Rattle.frame_view.specs.declared.Side.TheVariants.{Server}
 use Rattle.frame_view.specs.declared.server.TheConstants.{COMMAND_COMPLETE, NOTICE_RESPONSE, PARAMETER_STATUS, READY_FOR_QUERY}
@@ -7,13 +7,14 @@ use Rattle.frame_view.specs.Frames.{AreBytes, FrameOf, IsFrame, Front, AFrame, L
 use Rattle.message_view.specs.declared.kinds.TheConstants.{IDLE}
 use Rattle.message_view.specs.Bodies.{text}
 use Rattle.message_view.specs.declared.ViewFault.{ViewFault}
+use Rattle.message_view.specs.declared.views.KeyView.{KeyView}
 use Rattle.message_view.specs.Reading.{status_of}
 use Rattle.start_keys.specs.StartPairs.{Text}
 use Rattle.session_values.specs.State.{State, StartKeyOf}
 use Rattle.param_track.specs.Kept.{Kept, has_name}
 use Rattle.session_laws.specs.Laws.{discard_all, discard_replies}
 use Rattle.run_laws.specs.Settling.{IsAnswered}
-use Rattle.link_laws.specs.Standing.{Standing, Moves}
+use Rattle.server_end.specs.Standing.{Standing, Moves}
 use Rattle.link_run.specs.Links.{IsUsed, after_frame}
 use Rattle.server_end.specs.declared.Moved.{Moved}
 use Rattle.server_end.specs.declared.Moved.TheVariants.{Count, NotNow, Ended, Fault}
@@ -84,12 +85,13 @@ pub record ResetView : Type 0 where
   pub key : StartKeyOf
   pub number : ℕ
   pub born : ℕ
+  pub server_key : Option KeyView
   pub reports : List Kept
   pub unsent : List ℕ
   pub received : List ℕ
 
-abbrev pub reset_view : Standing → StartKeyOf → ℕ → ℕ → List Kept → List ℕ → List ℕ → ResetView
-reset_view link key number born reports unsent received = record { link = link; key = key; number = number; born = born; reports = reports; unsent = unsent; received = received }
+abbrev pub reset_view : Standing → StartKeyOf → ℕ → ℕ → Option KeyView → List Kept → List ℕ → List ℕ → ResetView
+reset_view link key number born server_key reports unsent received = record { link = link; key = key; number = number; born = born; server_key = server_key; reports = reports; unsent = unsent; received = received }
 
 -- since the settled link stood there: what was sent and what was received
 pub record IsResetFrom (start : Standing) (v : ResetView) : Type 0 where

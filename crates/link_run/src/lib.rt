@@ -5,3 +5,5 @@ pub mod laws;
 pub mod links;
 pub mod reply;
 pub mod reset;
+
+pub use server_end::{Moved, ServerEnd, gate, memory_server};

@@ -7,7 +7,7 @@ ghost use Rattle.link_run.specs.Links.{IsClean, IsUsed, welcome_by};
 
 use bytes::BytesMut;
 use message_view::{
-    KeyWord, Status, put_backend_key_data, put_parameter_status, put_ready_for_query,
+    KeyView, KeyWord, Status, put_backend_key_data, put_parameter_status, put_ready_for_query,
 };
 use param_track::Reported;
 use server_end::ServerEnd;
@@ -26,6 +26,8 @@ pub struct Lent<E: ServerEnd> {
     /// Its number, and the second in which it was begun.
     pub number: u64,
     pub born: u64,
+    /// The words of its server's BackendKeyData, if it sent one.
+    pub server_key: Option<KeyView>,
     /// What its start reported, and whether the server has told otherwise since.
     pub reported: Reported,
 }
@@ -43,7 +45,7 @@ impl<E: ServerEnd> Model for CleanLink<E> {
 
     ghost Value = { LinkView };
 
-    ghost view = { λ l. record { stands = E.standing l.link.end; key = arc_value l.link.key; number = l.link.number; born = l.link.born; reports = l.link.reported } };
+    ghost view = { λ l. record { stands = E.standing l.link.end; key = arc_value l.link.key; number = l.link.number; born = l.link.born; server_key = l.link.server_key; reports = l.link.reported } };
 
     ghost invariant = { λ l. IsClean (E.standing l.link.end) (arc_value l.link.key) l.link.reported };
 }
@@ -61,7 +63,7 @@ impl<E: ServerEnd> Model for UsedLink<E> {
 
     ghost Value = { LinkView };
 
-    ghost view = { λ l. record { stands = E.standing l.link.end; key = arc_value l.link.key; number = l.link.number; born = l.link.born; reports = l.link.reported } };
+    ghost view = { λ l. record { stands = E.standing l.link.end; key = arc_value l.link.key; number = l.link.number; born = l.link.born; server_key = l.link.server_key; reports = l.link.reported } };
 
     ghost invariant = { λ l. IsUsed (E.standing l.link.end) (arc_value l.link.key) l.link.reported };
 }
@@ -79,6 +81,14 @@ impl<E: ServerEnd> CleanLink<E> {
         ensures { result ≡ self.now.born }
     {
         self.link.born
+    }
+
+    /// The words by which the link's server lets its session be cancelled: those of the BackendKeyData that it sent while the link
+    /// was started, or none where it sent none. No client is given them.
+    pub fn server_key(&self) -> Option<KeyView>
+        ensures { result ≡ self.now.server_key }
+    {
+        self.link.server_key
     }
 
     /// The start key of its session.
@@ -124,6 +134,7 @@ impl<E: ServerEnd> CleanLink<E> {
         ensures key { arc_value result.key ≡ self.key }
         ensures number { result.number ≡ self.number }
         ensures born { result.born ≡ self.born }
+        ensures server_key { result.server_key ≡ self.server_key }
         ensures reports { result.reported ≡ self.reports }
         ensures clean { IsClean (E.standing result.end) (arc_value result.key) result.reported }
     {
@@ -139,6 +150,7 @@ impl<E: ServerEnd> UsedLink<E> {
         ensures key { arc_value result.key ≡ self.key }
         ensures number { result.number ≡ self.number }
         ensures born { result.born ≡ self.born }
+        ensures server_key { result.server_key ≡ self.server_key }
         ensures reports { result.reported ≡ self.reports }
         ensures used { IsUsed (E.standing result.end) (arc_value result.key) result.reported }
     {
@@ -155,6 +167,7 @@ impl<E: ServerEnd> Lent<E> {
         ensures key { result.key ≡ arc_value self.key }
         ensures number { result.number ≡ self.number }
         ensures born { result.born ≡ self.born }
+        ensures server_key { result.server_key ≡ self.server_key }
         ensures reports { result.reports ≡ self.reported }
     {
         CleanLink { link: self }
@@ -167,6 +180,7 @@ impl<E: ServerEnd> Lent<E> {
         ensures key { result.key ≡ arc_value self.key }
         ensures number { result.number ≡ self.number }
         ensures born { result.born ≡ self.born }
+        ensures server_key { result.server_key ≡ self.server_key }
         ensures reports { result.reports ≡ self.reported }
     {
         UsedLink { link: self }

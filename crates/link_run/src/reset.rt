@@ -59,9 +59,9 @@ impl<E: ServerEnd> Model for Reset<E> {
 
     ghost Value = { ResetView };
 
-    ghost view = { λ r. reset_view (E.standing r.link.end) (arc_value r.link.key) r.link.number r.link.born r.link.reported (drop r.sent (spelling discard_all)) r.reply.items };
+    ghost view = { λ r. reset_view (E.standing r.link.end) (arc_value r.link.key) r.link.number r.link.born r.link.server_key r.link.reported (drop r.sent (spelling discard_all)) r.reply.items };
 
-    ghost invariant = { λ r. (r.sent ≤ 17) × IsReset (reset_view (E.standing r.link.end) (arc_value r.link.key) r.link.number r.link.born r.link.reported (drop r.sent (spelling discard_all)) r.reply.items) };
+    ghost invariant = { λ r. (r.sent ≤ 17) × IsReset (reset_view (E.standing r.link.end) (arc_value r.link.key) r.link.number r.link.born r.link.server_key r.link.reported (drop r.sent (spelling discard_all)) r.reply.items) };
 }
 
 /// The fault of a read or a write.
@@ -80,6 +80,7 @@ impl<E: ServerEnd> Reset<E> {
         ensures key { result.key ≡ used.key }
         ensures number { result.number ≡ used.number }
         ensures born { result.born ≡ used.born }
+        ensures server_key { result.server_key ≡ used.server_key }
         ensures from { IsResetFrom used.stands result }
         ensures reads { read_so_far result ≡ used.stands.read_waits }
     {
@@ -95,6 +96,7 @@ impl<E: ServerEnd> Reset<E> {
         ensures key { self.new.key ≡ self.old.key }
         ensures number { self.new.number ≡ self.old.number }
         ensures born { self.new.born ≡ self.old.born }
+        ensures server_key { self.new.server_key ≡ self.old.server_key }
         ensures keeps { KeepsReset self.old self.new }
         ensures reads { read_so_far self.new ≡ read_so_far self.old }
         ensures faults { IfErr result (MoveFailsBy self.old.link self.new.link) }
@@ -115,6 +117,7 @@ impl<E: ServerEnd> Reset<E> {
         ensures key { self.new.key ≡ self.old.key }
         ensures number { self.new.number ≡ self.old.number }
         ensures born { self.new.born ≡ self.old.born }
+        ensures server_key { self.new.server_key ≡ self.old.server_key }
         ensures keeps { KeepsReset self.old self.new }
         ensures reads { IfOk result (λ _. read_so_far self.old < read_so_far self.new) }
         ensures faults { IfErr result (MoveFailsBy self.old.link self.new.link) }
@@ -148,6 +151,7 @@ impl<E: ServerEnd> Reset<E> {
         ensures key { IfOk result (λ l. l.key ≡ self.key) }
         ensures number { IfOk result (λ l. l.number ≡ self.number) }
         ensures born { IfOk result (λ l. l.born ≡ self.born) }
+        ensures server_key { IfOk result (λ l. l.server_key ≡ self.server_key) }
         ensures reports { IfOk result (λ l. is_at_start l.reports ≡ true) }
         ensures whole { IfOk result (λ l. EndsDialogue self l.stands) }
         ensures faults { IfErr result (λ d. ((d.cause ≡ Unexpected) ⊎ (d.cause ≡ Changed)) × (self.link.follows ≢ true)) }
@@ -188,6 +192,7 @@ fn dispose<E: ServerEnd>(link: Lent<E>, cause: ResetFault) -> Disposed<E>
         key: _,
         number: _,
         born: _,
+        server_key: _,
         reported: _,
     } = link;
     Disposed { end, cause }
@@ -208,6 +213,7 @@ pub fn reset_link<E: ServerEnd, G: Gate<E>>(
     ensures key { IfOk result (λ l. l.key ≡ used.key) }
     ensures number { IfOk result (λ l. l.number ≡ used.number) }
     ensures born { IfOk result (λ l. l.born ≡ used.born) }
+    ensures server_key { IfOk result (λ l. l.server_key ≡ used.server_key) }
     ensures reports { IfOk result (λ l. is_at_start l.reports ≡ true) }
     ensures whole { IfOk result (λ l. IsResetDialogue used.stands l.stands) }
     ensures faults { IfErr result (λ d. FailsBy used.stands (E.standing d.end) turns d.cause) }

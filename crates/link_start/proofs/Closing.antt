@@ -2,9 +2,9 @@
 use Rattle.std.proofs.Common.{◌≡◌, inl, inr, ℕ, zero, suc, ◌<◌, [], take, drop, refl, arith, take-append-drop}
 use Rattle.frame_view.specs.Frames.{spelling}
 use Rattle.link_laws.specs.Standing.{Standing, Moves}
-use Rattle.server_end.specs.declared.Moved.{Moved}
-use Rattle.server_end.specs.declared.Moved.TheVariants.{Count, NotNow, Ended, Fault}
-use Rattle.server_end.specs.Moves.{CountsWrite, IsWithin, moved}
+use Rattle.link_run.specs.declared.Moved.{Moved}
+use Rattle.link_run.specs.declared.Moved.TheVariants.{Count, NotNow, Ended, Fault}
+use Rattle.link_run.specs.Moves.{CountsWrite, IsWithin, moved}
 use Rattle.link_start.specs.Closes.{IsOffered, terminate}
 
 some_taken : {A : Type 0} (n : ℕ) → 0 < n → take n (spelling terminate) ≡ [] → A

@@ -3,5 +3,6 @@ mod Servers
 mod Reading
 mod Hearing
 mod Reporting
+mod Keying
 mod Telling
 mod Starting

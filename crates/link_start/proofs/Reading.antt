@@ -1,5 +1,5 @@
 -- The frames of an answer, one after the other.
-use Rattle.std.proofs.Common.{◌≡◌, ◌≢◌, ℕ, suc, ◌+◌, ◌-◌, ◌<◌, Bool, true, false, List, get_or, get_or-drop, [], ◌∷◌, ◌++◌, take, drop, length, refl, sym, ap, ap₂, ◌∙◌, arith, take_all, length-drop, subst, Err, Option, Some}
+use Rattle.std.proofs.Common.{◌≡◌, ◌≢◌, ℕ, suc, ◌+◌, ◌-◌, ◌<◌, Bool, true, false, List, get_or, get_or-drop, [], ◌∷◌, ◌++◌, take, drop, length, refl, sym, ap, ap₂, ◌∙◌, arith, take_all, length-drop, subst, Result, Ok, Err, Option, Some}
 use Rattle.std.specs.Prelude.{◌==◌, ◌||◌, if◌then◌else◌}
 use Rattle.std.proofs.lemmas.Bool.{eq-eqb, eqb-true}
 use Rattle.std.proofs.lemmas.List.{append_cancel_right}
@@ -13,13 +13,15 @@ use Rattle.frame_view.specs.Answers.{Tells}
 use Rattle.frame_view.specs.declared.server.TheConstants.{ERROR_RESPONSE}
 use Rattle.frame_view.specs.Frames.{AreBytes, FrameOf, Front, AFrame, Lacks, Faulty, Cut, front, frames, spelling}
 use Rattle.frame_view.proofs.Splitting.{frames-stopped}
+use Rattle.message_view.specs.declared.ViewFault.{ViewFault}
+use Rattle.message_view.specs.declared.views.KeyView.{KeyView}
 use Rattle.param_track.specs.Kept.{Kept}
 use Rattle.link_start.specs.declared.heard.Heard.{Heard}
 use Rattle.link_start.specs.declared.heard.Heard.TheVariants.{Nothing}
 use Rattle.link_start.specs.declared.heard.Untaken.{Untaken}
 use Rattle.link_start.specs.declared.heard.Untaken.TheVariants.{Unexpected, Memory}
 use Rattle.link_start.specs.Starts.{with_zero}
-use Rattle.link_start.specs.Heard.{before, heard, heard_all, error_in, Takes, reported_by, reported_next, reported_all}
+use Rattle.link_start.specs.Heard.{before, heard, heard_all, error_in, Takes, reported_by, reported_next, reported_all, keyed_by, keyed_next, keyed_all}
 
 stopped : (x : Step) (bytes : List ℕ) → ((frame : Frame) → x ≡ Whole frame → ⊥) → Tells x bytes (front Server 65536 bytes) → frames Server 65536 bytes ≡ record { frames = []; rest = bytes }
 stopped x bytes n t = frames-stopped Server 65536 bytes (not_whole x bytes (front Server 65536 bytes) n t)
@@ -48,6 +50,16 @@ reports_next kept new f fs e = ap (λ (o : Option (List Kept)). reported_next o 
 pub none_next : (kept new : List Kept) (f : FrameOf) (fs : List FrameOf) (whole : Option (List Kept)) (u : Untaken) → Takes (reported_by kept f) new (Err u) → reported_all kept (f ∷ fs) ≡ whole → Takes whole new (Err u)
 none_next kept new f fs whole Unexpected t e = sym e ∙ ap (λ (o : Option (List Kept)). reported_next o (λ ks. reported_all ks fs)) t
 none_next kept new f fs whole Memory t e = tt
+
+pub key_at : (x : Step) (bytes : List ℕ) (key : Option KeyView) (whole : Result (Option KeyView) ViewFault) → ((frame : Frame) → x ≡ Whole frame → ⊥) → Tells x bytes (front Server 65536 bytes)
+    → keyed_all key (frames Server 65536 bytes).frames ≡ whole → Ok key ≡ whole
+key_at x bytes key whole n t e = ap (λ (c : Cut). keyed_all key c.frames) (sym (stopped x bytes n t)) ∙ e
+
+pub key_next : (key new : Option KeyView) (f : FrameOf) (fs : List FrameOf) → keyed_by key f ≡ Ok new → keyed_all new fs ≡ keyed_all key (f ∷ fs)
+key_next key new f fs e = ap (λ (r : Result (Option KeyView) ViewFault). keyed_next r (λ k. keyed_all k fs)) (sym e)
+
+pub no_key_next : (key : Option KeyView) (f : FrameOf) (fs : List FrameOf) (fault : ViewFault) → keyed_by key f ≡ Err fault → Err fault ≡ keyed_all key (f ∷ fs)
+no_key_next key f fs fault e = ap (λ (r : Result (Option KeyView) ViewFault). keyed_next r (λ k. keyed_all k fs)) (sym e)
 
 -- ---- a frame that is handed out
 

@@ -6,8 +6,8 @@ use Rattle.message_view.specs.declared.kinds.TheConstants.{ASKS_CLEARTEXT, ASKS_
 use Rattle.session_values.specs.Lawful.{IsLawfulCatalogue}
 use Rattle.link_laws.specs.Stages.{Server}
 use Rattle.link_laws.specs.Dialogues.{AsksInFrame, IsNew, auth_of}
-use Rattle.server_end.specs.declared.memory_server.ServerAuth.TheVariants.{Trust, Plain, Md5}
-use Rattle.server_end.specs.Servers.{auth_of as memory_auth, new_server}
+use Rattle.link_run.specs.declared.memory_server.ServerAuth.TheVariants.{Trust, Plain, Md5}
+use Rattle.link_run.specs.Servers.{auth_of as memory_auth, new_server}
 use Rattle.link_start.specs.declared.heard.Heard.TheVariants.{Asked}
 use Rattle.link_start.specs.declared.heard.Question.TheVariants as question
 use Rattle.link_start.specs.Heard.{asked}

@@ -8,6 +8,8 @@ use Rattle.std.proofs.lemmas.Bool.{true≢false}
 use Rattle.frame_view.specs.declared.Side.TheVariants.{Server as FromServer}
 use Rattle.frame_view.specs.Frames.{AreBytes, FrameOf, Front, AFrame, Lacks, Faulty, Start, Splits, first_spelling, front, frames, spelling}
 use Rattle.frame_view.proofs.Splitting.{frames-split}
+use Rattle.message_view.specs.declared.ViewFault.{ViewFault}
+use Rattle.message_view.specs.declared.views.KeyView.{KeyView}
 use Rattle.message_view.specs.Bodies.{Text}
 use Rattle.message_view.specs.Messages.{authentication, password_message}
 use Rattle.session_values.specs.declared.cause.Cause.{Cause}
@@ -28,9 +30,10 @@ use Rattle.link_start.specs.declared.heard.Question.{Question}
 use Rattle.link_start.specs.declared.start.StartCause.{StartCause}
 use Rattle.link_start.specs.declared.start.StartCause.TheVariants.{Lost, Unanswerable, Unexpected, Memory, Turns}
 use Rattle.link_start.specs.declared.start.StartCause.TheVariants as causes
-use Rattle.link_start.specs.Heard.{asked, bare, before, if_lawful, heard, heard_by, heard_all, error_in, reported_all}
-use Rattle.link_start.specs.Starts.{IsStartable, CanStart, IsLinkKey, answer_to, answer_heard, own_answer, AsksQuestion, StartView, start_view, IsOwn, IsUnderWay, IsWelcomed, IsDone, IsError, IsRefusalOf, IsUnanswerable, IsEndCause, IsCause, shown}
+use Rattle.link_start.specs.Heard.{asked, bare, before, if_lawful, heard, heard_by, heard_all, error_in, reported_all, TellsKey, keyed_all}
+use Rattle.link_start.specs.Starts.{IsStartable, CanStart, IsLinkKey, answer_to, answer_heard, own_answer, AsksQuestion, StartView, start_view, IsOwn, IsUnderWay, IsWelcomed, IsDone, IsOwnKey, IsError, IsRefusalOf, IsUnanswerable, IsEndCause, IsCause, shown}
 use Rattle.link_start.proofs.Hearing.{no_other, still_refused, ready_is_last, never_asked, asked_stays, ready_came, first_error, is_error}
+use Rattle.link_start.proofs.Keying.{TellsOwnKey}
 use Rattle.link_start.proofs.Telling.{OpensReported, RefusedBy, IsHeard, replies_heard, let_in_heard, not_faulty}
 
 -- ---- moves
@@ -321,6 +324,10 @@ module _ (began : Standing) (secret : Secret) (v : StartView) (c : CanStart bega
     unfolding got
     reports_are = ap (reported_all []) (sym all_came) ∙ opens_reported.reported ∙ ap (λ (s : State). Some (kept_by s.reported s.reported)) same_session
 
+    key_is : TellsOwnKey began.server (frames FromServer 65536 v.received).frames
+    unfolding got
+    key_is = subst (TellsOwnKey began.server) all_came opens_reported.keyed
+
 some_kept : (ks ls : List Kept) → Some ks ≡ Some ls → ks ≡ ls
 some_kept ks ls e = cc
 
@@ -335,6 +342,19 @@ started_clean v d kept bytes e f =
 pub never_unreported : (began : Standing) (secret : Secret) (v : StartView) → CanStart began → IsLinkKey v.key → IsUnderWay began secret v → began.follows ≡ true → AreBytes v.received → IsWelcomed v
     → reported_all [] (frames FromServer 65536 v.received).frames ≢ None
 never_unreported began secret v c k x f bytes w e = let z : Some _ ≡ None = sym (reports_are began secret v c k x f bytes w) ∙ e in cc
+
+pub never_unkeyed : (began : Standing) (secret : Secret) (v : StartView) (r : Result (Option KeyView) ViewFault) → CanStart began → IsLinkKey v.key → IsUnderWay began secret v → began.follows ≡ true → AreBytes v.received → IsWelcomed v
+    → ((key : Option KeyView) → r ≡ Ok key → ⊥) → r ≢ keyed_all None (frames FromServer 65536 v.received).frames
+never_unkeyed began secret v r c k x f bytes w n e = let y = key_is began secret v c k x f bytes w in n y.key (e ∙ y.told)
+
+some_key : (k l : Option KeyView) (r : Result (Option KeyView) ViewFault) → r ≡ Ok k → r ≡ Ok l → k ≡ l
+some_key k l r e d = cc
+
+pub own_key : (began : Standing) (secret : Secret) (v : StartView) (key : Option KeyView) → CanStart began → IsLinkKey v.key → IsUnderWay began secret v → began.follows ≡ true → AreBytes v.received → IsWelcomed v
+    → TellsKey (frames FromServer 65536 v.received).frames key → IsOwnKey began.server key
+own_key began secret v key c k x f bytes w t =
+    let y = key_is began secret v c k x f bytes w in
+    subst (IsOwnKey began.server) (some_key y.key key _ y.told t) y.own
 
 pub error_is : (received : List ℕ) → heard received ≡ Refused → IsError (error_in (frames FromServer 65536 received).frames)
 error_is received e =

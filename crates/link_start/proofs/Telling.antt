@@ -31,6 +31,7 @@ use Rattle.link_start.specs.declared.heard.Question.{Question}
 use Rattle.link_start.specs.Heard.{heard_by, heard_all, error_in, reported_all}
 use Rattle.link_start.specs.Starts.{AsksQuestion, IsLinkKey}
 use Rattle.link_start.proofs.Reporting.{welcome_reports}
+use Rattle.link_start.proofs.Keying.{TellsOwnKey, behind_none, welcome_tells_key}
 
 -- ---- a welcome, and what refuses
 
@@ -52,6 +53,7 @@ pub record OpensReported (v : Server) (key : StartKeyOf) (replies : List FrameOf
   pub session : State
   pub is_fresh : fresh v.catalogue key ≡ Ok session
   pub reported : reported_all [] replies ≡ Some (kept_by session.reported session.reported)
+  pub keyed : TellsOwnKey v replies
 
 pub record RefusedBy (refusal : Option FrameOf) (bytes : List ℕ) : Type 0 where
   pub frame : FrameOf
@@ -71,7 +73,7 @@ opened_heard v key h (Ok s) e f c k =
     let is : heard_all h (opened v (Ok s)).replies ≡ Ready = ap (λ (x : Heard). heard_all x (welcome s v.pid v.secret)) e ∙ welcome_heard reported_parameters s.reported v.pid v.secret in
     record {
       lawful = λ o. let z : Ready ≡ Other = sym is ∙ o in cc;
-      ready = λ _. record { session = s; is_fresh = f; reported = welcome_reports s v.pid v.secret w };
+      ready = λ _. record { session = s; is_fresh = f; reported = welcome_reports s v.pid v.secret w; keyed = behind_none v let_in (welcome s v.pid v.secret) refl (welcome_tells_key v s) };
       refused = λ o. absurd (let z : Ready ≡ Refused = sym is ∙ o in cc);
     }
 opened_heard v key h (Err c) e f l k =
@@ -109,7 +111,7 @@ after_question v key kind more q replies refusal e x =
     let is : heard_all Nothing (authentication kind more ∷ replies) ≡ heard_all (Asked q) replies = ap (λ (h : Heard). heard_all h replies) e in
     record {
       lawful = λ o. x.lawful (sym is ∙ o);
-      ready = λ o. let y = x.ready (sym is ∙ o) in record { session = y.session; is_fresh = y.is_fresh; reported = y.reported };
+      ready = λ o. let y = x.ready (sym is ∙ o) in record { session = y.session; is_fresh = y.is_fresh; reported = y.reported; keyed = behind_none v (authentication kind more) replies refl y.keyed };
       refused = λ o. let y = x.refused (sym is ∙ o) in record { frame = y.frame; is = y.is; whole = y.whole };
     }
 

@@ -5,7 +5,8 @@ use Rattle.frame_view.specs.declared.server.TheConstants.{AUTHENTICATION, BACKEN
 use Rattle.frame_view.specs.Frames.{FrameOf, Cut, Front, AFrame, Lacks, Faulty, front, frames, spelling}
 use Rattle.message_view.specs.declared.kinds.TheConstants.{ASKS_NOTHING, ASKS_CLEARTEXT, ASKS_MD5, IDLE}
 use Rattle.message_view.specs.declared.ViewFault.{ViewFault}
-use Rattle.message_view.specs.Reading.{authentication_of, status_of}
+use Rattle.message_view.specs.declared.views.KeyView.{KeyView}
+use Rattle.message_view.specs.Reading.{authentication_of, key_of, status_of}
 use Rattle.param_track.specs.Kept.{Kept, fits, with_first}
 use Rattle.param_track.specs.Reports.{Report}
 use Rattle.link_run.specs.declared.reply.TheConstants.{LONGEST_REPLY}
@@ -130,3 +131,25 @@ TakesReport old f new r = Takes (reported_by old f) new r
 
 abbrev pub TakesReports : List Kept → List FrameOf → List Kept → Result (Unit {0}) Untaken → Type 0
 TakesReports old fs new r = Takes (reported_all old fs) new r
+
+-- ---- the server's key
+
+abbrev pub key_read : Result (ℕ × ℕ) ViewFault → Result (Option KeyView) ViewFault
+key_read (Ok k) = Ok (Some (record { pid = k.0; secret = k.1 }))
+key_read (Err fault) = Err fault
+
+-- the key that was told, once one more frame has come: a BackendKeyData tells it, where it can be read
+abbrev pub keyed_by : Option KeyView → FrameOf → Result (Option KeyView) ViewFault
+keyed_by key f = if f.kind == BACKEND_KEY_DATA then key_read (key_of f.body) else Ok key
+
+abbrev pub keyed_next : Result (Option KeyView) ViewFault → (Option KeyView → Result (Option KeyView) ViewFault) → Result (Option KeyView) ViewFault
+keyed_next (Ok key) go = go key
+keyed_next (Err fault) go = Err fault
+
+abbrev pub keyed_all : Option KeyView → List FrameOf → Result (Option KeyView) ViewFault
+keyed_all key [] = Ok key
+keyed_all key (f ∷ fs) = keyed_next (keyed_by key f) (λ k. keyed_all k fs)
+
+-- The dialogue of a start tells this key: the last that a BackendKeyData of it told, or none where it has none.
+abbrev pub TellsKey : List FrameOf → Option KeyView → Type 0
+TellsKey fs key = keyed_all None fs ≡ Ok key

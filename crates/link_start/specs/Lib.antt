@@ -1,3 +1,4 @@
 pub mod Heard
 pub mod Starts
 pub mod Closes
+pub use Rattle.link_run.specs.Links

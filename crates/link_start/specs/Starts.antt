@@ -1,10 +1,11 @@
 -- The start of a link: what it may begin with, how far it has come, and what it ends with.
-use Rattle.std.specs.Prelude.{◌≡◌, ◌⊎◌, ℕ, ◌+◌, ◌<◌, ◌≤◌, length, Bool, true, false, if◌then◌else◌, ◌==◌, Option, Some, None, List, []}
+use Rattle.std.specs.Prelude.{◌≡◌, ◌⊎◌, ℕ, ◌+◌, ◌^◌, ◌<◌, ◌≤◌, length, Bool, true, false, if◌then◌else◌, ◌==◌, Option, Some, None, List, []}
 use Rattle.std.specs.Borrow.{Bor}
 use Rattle.std.specs.List.{list_any}
 use Rattle.frame_view.specs.Frames.{FrameOf, frames, spelling}
 use Rattle.frame_view.specs.declared.Side.TheVariants.{Server}
 use Rattle.frame_view.specs.declared.server.TheConstants.{ERROR_RESPONSE}
+use Rattle.message_view.specs.declared.views.KeyView.{KeyView}
 use Rattle.message_view.specs.Bodies.{Text}
 use Rattle.message_view.specs.Messages.{authentication}
 use Rattle.session_values.specs.Lawful.{IsClientKey, IsLawfulCatalogue}
@@ -15,9 +16,9 @@ use Rattle.user_file.specs.Secrets.{answer}
 use Rattle.link_laws.specs.Stages.{Server as TheServer, Auth, NoAuth, Asks}
 use Rattle.link_laws.specs.Standing.{Standing, Moves}
 use Rattle.link_laws.specs.Dialogues.{IsNew, AsksInFrame, IsStarting, auth_of, start_error, start_refusal}
-use Rattle.server_end.specs.declared.memory_server.ServerAuth.{ServerAuth}
-use Rattle.server_end.specs.declared.memory_server.ServerAuth.TheVariants as memory
-use Rattle.server_end.specs.Servers.{auth_of as memory_auth, new_server}
+use Rattle.link_run.specs.declared.memory_server.ServerAuth.{ServerAuth}
+use Rattle.link_run.specs.declared.memory_server.ServerAuth.TheVariants as memory
+use Rattle.link_run.specs.Servers.{auth_of as memory_auth, new_server}
 use Rattle.link_run.specs.Links.{LinkView}
 use Rattle.link_run.specs.declared.reply.TheConstants.{LONGEST_REPLY}
 use Rattle.link_start.specs.declared.heard.Heard.{Heard}
@@ -147,13 +148,18 @@ pub record IsDone (v : StartView) : Type 0 where
   pub under_way : IsUnderWay began secret v
   pub welcomed : IsWelcomed v
 
--- A link comes of a whole dialogue alone, and keeps what was reported in it.
+-- A link comes of a whole dialogue alone, and keeps what was reported in it, and the key that it told.
 pub record IsStarted (began : Standing) (secret : Secret) (l : LinkView) : Type 0 where
   pub received : List ℕ
   pub answered : Bool
   pub under_way : IsUnderWay began secret (start_view l.stands l.key l.number l.born answered [] received)
   pub ready : spec.heard received ≡ heard.Ready
   pub reports : spec.reported_all [] (frames Server LONGEST_REPLY received).frames ≡ Some l.reports
+  pub tells_key : spec.TellsKey (frames Server LONGEST_REPLY received).frames l.server_key
+
+-- the words of this server's BackendKeyData, where they fit its fields
+abbrev pub IsOwnKey : TheServer → Option KeyView → Type 0
+IsOwnKey v key = v.pid < 2 ^ 32 → v.secret < 2 ^ 32 → key ≡ Some (record { pid = v.pid; secret = v.secret })
 
 -- an ErrorResponse
 pub record IsError (bytes : List ℕ) : Type 0 where

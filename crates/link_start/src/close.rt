@@ -1,8 +1,8 @@
 //! The close of a link that nobody uses.
 ghost use Rattle.link_start.specs.Closes.{IsOffered};
 
+use link_run::ServerEnd;
 use link_run::links::CleanLink;
-use server_end::ServerEnd;
 
 /// The message Terminate (PostgreSQL manual, "Message Flow", "Termination").
 static TERMINATE: [u8; 5] = *b"X\0\0\0\x04";

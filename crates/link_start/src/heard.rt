@@ -1,11 +1,11 @@
 //! What a server answers to a start, frame by frame.
-ghost use Rattle.std.specs.Prelude.{◌≡◌, [], ℕ, List, Ok, Err};
+ghost use Rattle.std.specs.Prelude.{◌≡◌, [], ℕ, List, Ok, Err, None};
 ghost use Rattle.frame_view.specs.Frames.{AreBytes, frames};
 ghost use Rattle.frame_view.specs.declared.Side.TheVariants.{Server};
 ghost use Rattle.link_run.specs.declared.reply.TheConstants.{LONGEST_REPLY};
 ghost use Rattle.session_values.specs.Answers.{frame_of};
 ghost use Rattle.link_start.specs.Heard as spec;
-ghost use Rattle.link_start.specs.Heard.{TakesReport, TakesReports, error_in, heard, heard_all, heard_by};
+ghost use Rattle.link_start.specs.Heard.{TakesReport, TakesReports, error_in, heard, heard_all, heard_by, keyed_all, keyed_by};
 
 use frame_view::laws::are_bytes;
 use frame_view::server::{
@@ -15,7 +15,7 @@ use frame_view::server::{
 use frame_view::{Frame, Side, Step, next_frame};
 use link_run::reply::LONGEST_REPLY;
 use message_view::kinds::{ASKS_CLEARTEXT, ASKS_MD5, ASKS_NOTHING};
-use message_view::{AuthView, StatusView};
+use message_view::{AuthView, KeyView, StatusView, ViewFault};
 use param_track::{ReportFault, Reported};
 use std::alloc::Global;
 
@@ -236,4 +236,35 @@ pub(crate) fn take_reports(
         }
     }
     Ok(())
+}
+
+/// The server's key, where this one was told before, as one more frame tells it.
+fn keyed_by(key: Option<KeyView>, frame: Frame<'_>) -> Result<Option<KeyView>, ViewFault>
+    ensures { result ≡ keyed_by key (frame_of frame.entry) }
+{
+    if frame.kind != BACKEND_KEY_DATA {
+        return Ok(key);
+    }
+    match KeyView::read(frame.body) {
+        Ok(told) => Ok(Some(told)),
+        Err(fault) => Err(fault),
+    }
+}
+
+/// The server's key, as the whole frames of these bytes tell it: that of the last BackendKeyData among them.
+pub(crate) fn key_told(reply: &[u8]) -> Result<Option<KeyView>, ViewFault>
+    ensures key { result ≡ keyed_all None (frames Server LONGEST_REPLY reply.now).frames }
+    ensures bytes { AreBytes reply.now }
+{
+    are_bytes(reply);
+    let mut key = None;
+    let mut at = 0;
+    while let Step::Whole(frame) = next_frame(reply, at, LONGEST_REPLY, Side::Server) {
+        match keyed_by(key, frame) {
+            Ok(told) => key = told,
+            Err(fault) => return Err(fault),
+        }
+        at += frame.whole.len();
+    }
+    Ok(key)
 }

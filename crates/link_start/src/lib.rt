@@ -7,3 +7,5 @@ pub mod heard;
 pub mod laws;
 mod messages;
 pub mod start;
+
+pub use link_run::links;

@@ -10,16 +10,16 @@ ghost use Rattle.link_start.specs.declared.heard.Heard.TheVariants.{Asked};
 ghost use Rattle.link_start.specs.declared.start.Progress.TheVariants.{Ready};
 ghost use Rattle.user_file.specs.declared.secrets.Secret.{Secret};
 ghost use Rattle.link_start.specs.declared.start.StartCause.TheVariants as causes;
-ghost use Rattle.link_start.specs.Starts.{CanStart, HasTried, IsCause, IsDone, IsEndCause, IsLinkKey, IsSameStart, IsStarted, IsUnderWay, IsWelcomed, tried_before, tried_so_far};
+ghost use Rattle.link_start.specs.Starts.{CanStart, HasTried, IsCause, IsDone, IsEndCause, IsLinkKey, IsOwnKey, IsSameStart, IsStarted, IsUnderWay, IsWelcomed, tried_before, tried_so_far};
 
-use crate::heard::{Heard, Question, Untaken, error_in, hear, take_reports};
+use crate::heard::{Heard, Question, Untaken, error_in, hear, key_told, take_reports};
 use crate::messages::{password_of, startup_message};
 use bytes::BytesMut;
+use link_run::gate::Gate;
 use link_run::links::{CleanLink, Lent};
+use link_run::{Moved, ServerEnd};
 use message_view::put_password_message;
 use param_track::Reported;
-use server_end::gate::Gate;
-use server_end::{Moved, ServerEnd};
 use start_keys::StartKey;
 use std::alloc::{AllocError, Global};
 use std::marker::Model;
@@ -66,8 +66,8 @@ pub enum StartCause {
     /// L3: the server asks for neither nothing, nor a password, nor its MD5 digest; or for a password where the secret keeps only
     /// its digest, or has a zero byte.
     Unanswerable,
-    /// L4: something else was answered, a report can't be read, more than 64 names were reported, or a frame is longer than
-    /// [`link_run::reply::LONGEST_REPLY`].
+    /// L4: something else was answered, a report or the server's key can't be read, more than 64 names were reported, or a frame is
+    /// longer than [`link_run::reply::LONGEST_REPLY`].
     Unexpected,
     /// L6: an allocation failed, or the key has no StartupMessage of the greatest length.
     Memory,
@@ -274,6 +274,7 @@ impl<E: ServerEnd> Start<E> {
     fn finish(self, alloc: Global) -> Result<CleanLink<E>, StartLinkFault<E>>
         requires { IsDone self }
         ensures started { (b : Standing) (s : Secret) → IsUnderWay b s self → IfOk result (λ l. IsStarted b s l) }
+        ensures own_key { (b : Standing) (s : Secret) → CanStart b → IsUnderWay b s self → b.follows ≡ true → IfOk result (λ l. IsOwnKey b.server l.server_key) }
         ensures key { IfOk result (λ l. l.key ≡ self.key) }
         ensures number { IfOk result (λ l. l.number ≡ self.number) }
         ensures born { IfOk result (λ l. l.born ≡ self.born) }
@@ -290,6 +291,12 @@ impl<E: ServerEnd> Start<E> {
             sent: _,
             reply,
         } = self;
+        let Ok(server_key) = key_told(reply.as_slice()) else {
+            return Err(StartLinkFault {
+                end,
+                cause: StartCause::Unexpected,
+            });
+        };
         let mut reported = Reported::new(alloc);
         match take_reports(alloc, reply.as_slice(), &mut reported) {
             Ok(()) => Ok(Lent {
@@ -297,6 +304,7 @@ impl<E: ServerEnd> Start<E> {
                 key,
                 number,
                 born,
+                server_key,
                 reported,
             }
             .clean()),
@@ -334,7 +342,8 @@ impl<E: ServerEnd> Start<E> {
 /// (PostgreSQL manual, "Message Flow", "Start-up"). Each turn of the gate allows at most one write and then one read; nothing is
 /// read before all was sent, nor after the ReadyForQuery.
 ///
-/// `number` and `born` are kept in the link: its number, and the second in which it was begun. Where it fails the end comes back
+/// `number` and `born` are kept in the link: its number, and the second in which it was begun. So is the server's key, that of the
+/// last BackendKeyData of the dialogue; where the end follows, those are the server's own words. Where it fails the end comes back
 /// with the cause; it is Turns only after so many turns.
 pub fn start_link<E: ServerEnd, G: Gate<E>>(
     alloc: Global,
@@ -349,6 +358,7 @@ pub fn start_link<E: ServerEnd, G: Gate<E>>(
     requires can_start { CanStart (E.standing end) }
     requires key { IsLinkKey (arc_value key) }
     ensures started { IfOk result (λ l. IsStarted (E.standing end) secret.now l) }
+    ensures own_key { (E.standing end).follows ≡ true → IfOk result (λ l. IsOwnKey (E.standing end).server l.server_key) }
     ensures key { IfOk result (λ l. l.key ≡ arc_value key) }
     ensures number { IfOk result (λ l. l.number ≡ number) }
     ensures born { IfOk result (λ l. l.born ≡ born) }

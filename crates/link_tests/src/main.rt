@@ -2,6 +2,8 @@
 #![tactic(auto)]
 
 #[cfg(test)]
+mod handover;
+#[cfg(test)]
 mod making;
 #[cfg(test)]
 mod resets;

@@ -27,7 +27,7 @@ fn show() -> &'static [u8] {
 }
 
 /// The reports of a welcome.
-fn reports() -> &'static [u8] {
+pub fn reports() -> &'static [u8] {
     b"S\0\0\0\x16application_name\0\0\
       S\0\0\0\x19client_encoding\0UTF8\0\
       S\0\0\0\x17DateStyle\0ISO, MDY\0\

@@ -4,7 +4,7 @@ ghost use Rattle.link_start.specs.Starts.{CanStart, HasSalt};
 
 use crate::making::{SHOP, Start, begin, server};
 use link_start::start::{StartCause, StartError};
-use message_view::KeyWord;
+use message_view::{KeyView, KeyWord};
 use server_end::ServerEnd;
 use server_end::failing_end::FailingEnd;
 use server_end::memory_server::ServerAuth;
@@ -16,6 +16,23 @@ fn digest() -> [u8; 35] {
     *b"md59009ce60b9ca97f1e752376843d1309e"
 }
 
+/// What is told of a started link.
+#[derive(Clone, Copy, PartialEq, Drop)]
+struct Begun {
+    number: u64,
+    born: u64,
+    welcome: usize,
+    server_key: Option<KeyView>,
+}
+
+/// The link of number 5 and birth 9 to the server whose words are 7 and 8.
+const BEGUN: Begun = Begun {
+    number: 5,
+    born: 9,
+    welcome: 251,
+    server_key: Some(KeyView { pid: 7, secret: 8 }),
+};
+
 fn wrong_password() -> &'static [u8] {
     b"E\0\0\0\x3aSFATAL\0VFATAL\0C28P01\0Mpassword authentication failed\0\0"
 }
@@ -24,12 +41,8 @@ fn no_database() -> &'static [u8] {
     b"E\0\0\0\x33SFATAL\0VFATAL\0C3D000\0Mdatabase does not exist\0\0"
 }
 
-/// Of a started link its number and birth, and the length of what its client is given first; or why there is none.
-fn told<E: ServerEnd>(
-    alloc: Global,
-    end: E,
-    how: Start,
-) -> Result<Result<(u64, u64, usize), StartCause>, Fail>
+/// Of a started link its number and birth, the length of what its client is given first, and its server's key; or why there is none.
+fn told<E: ServerEnd>(alloc: Global, end: E, how: Start) -> Result<Result<Begun, StartCause>, Fail>
     requires { CanStart (E.standing end) }
 {
     let word = KeyWord {
@@ -38,17 +51,21 @@ fn told<E: ServerEnd>(
         salt: [0; 4],
     };
     match begin(alloc, end, how)? {
-        Ok(link) => Ok(Ok((link.number(), link.born(), link.welcome(alloc, word)?.len()))),
+        Ok(link) => {
+            let welcome = link.welcome(alloc, word)?;
+            Ok(Ok(Begun {
+                number: link.number(),
+                born: link.born(),
+                welcome: welcome.len(),
+                server_key: link.server_key(),
+            }))
+        }
         Err(cause) => Ok(Err(cause)),
     }
 }
 
 /// What a start over a server comes to that asks this.
-fn asked(
-    alloc: Global,
-    auth: ServerAuth<'_>,
-    how: Start,
-) -> Result<Result<(u64, u64, usize), StartCause>, Fail>
+fn asked(alloc: Global, auth: ServerAuth<'_>, how: Start) -> Result<Result<Begun, StartCause>, Fail>
     requires { HasSalt auth }
 {
     told(alloc, server(alloc, auth, 100, None)?, how)
@@ -61,14 +78,9 @@ fn each_question_is_answered(rt: HostRuntime) -> Result<(), Fail> {
         salt: [1, 2, 3, 4],
         answer: digest(),
     };
-    assert!(rt; matches!(asked(alloc, ServerAuth::Trust, SHOP)?, Ok((5, 9, 251))));
-    assert!(rt;
-        matches!(
-            asked(alloc, ServerAuth::Plain(b"secret"), SHOP)?,
-            Ok((5, 9, 251))
-        )
-    );
-    assert!(rt; matches!(asked(alloc, md5, SHOP)?, Ok((5, 9, 251))));
+    assert!(rt; asked(alloc, ServerAuth::Trust, SHOP)?.is_ok_and(|told| told == BEGUN));
+    assert!(rt; asked(alloc, ServerAuth::Plain(b"secret"), SHOP)?.is_ok_and(|told| told == BEGUN));
+    assert!(rt; asked(alloc, md5, SHOP)?.is_ok_and(|told| told == BEGUN));
     Ok(())
 }
 

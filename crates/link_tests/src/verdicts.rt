@@ -1,4 +1,5 @@
 //! What becomes of a link by what went over it.
+ghost use Rattle.std.specs.Prelude.{◌<◌};
 ghost use Rattle.link_start.specs.Starts.{CanStart};
 
 use crate::making::server;
@@ -34,15 +35,19 @@ enum Fate {
     Gone(Cause),
 }
 
-/// A lease of the link to a client that sends these messages at once, until nothing moves any more: what the client was given begins
-/// with its welcome, and what becomes of the link.
-fn lease<E: ServerEnd>(
+/// A lease of the link to a client of this pid that sends these messages at once, over an end that moves so many bytes a call, until
+/// nothing moves any more: what the client was given begins with its welcome, and what becomes of the link.
+pub fn lease<E: ServerEnd>(
     alloc: Global,
     link: CleanLink<E>,
+    cut: usize,
+    pid: u32,
     messages: &[&[u8]],
-) -> Result<(MemoryClient, Returned<E>), Fail> {
+) -> Result<(MemoryClient, Returned<E>), Fail>
+    requires { 0 < cut }
+{
     let word = KeyWord {
-        pid: 1,
+        pid,
         secret: 2,
         salt: [0; 4],
     };
@@ -50,14 +55,14 @@ fn lease<E: ServerEnd>(
         client: true,
         server: true,
     };
-    let mut client = MemoryClient::new(alloc, b"", 1_000)?;
+    let mut client = MemoryClient::new(alloc, b"", cut)?;
     for message in messages {
         client.feed(message)?;
     }
     let Ok(mut relay) = Relay::begin(alloc, client, link, word, 1_000) else {
         return Err("no lease")?;
     };
-    for _ in 0..200 {
+    for _ in 0..2_000 {
         if relay.pump(both) == Next::Wait {
             return Ok(relay.close());
         }
@@ -74,7 +79,7 @@ fn fate_of<E: ServerEnd>(
 ) -> Result<(Fate, bool), Fail>
     requires { CanStart (E.standing end) }
 {
-    let (client, link) = lease(alloc, link(alloc, end)?, messages)?;
+    let (client, link) = lease(alloc, link(alloc, end)?, 1_000, 1, messages)?;
     let told = client.given().ends_with(last);
     match link {
         Returned::Unused(_) => Ok((Fate::Unused, told)),

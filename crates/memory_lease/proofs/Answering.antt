@@ -1,10 +1,10 @@
 -- What a client was given, by its lease.
-use Rattle.std.proofs.Common.{◌≡◌, ◌⊎◌, inl, inr, ℕ, ◌<◌, Bool, true, false, List, [], ◌∷◌, ◌++◌, refl, sym, ap, ap₂, ◌∙◌, arith, append_assoc, append-nil, subst, take, drop, take-append-drop, Result, Ok, Err, Option, Some}
+use Rattle.std.proofs.Common.{◌≡◌, inl, inr, ℕ, Bool, true, List, [], ◌∷◌, ◌++◌, refl, sym, ap, ap₂, ◌∙◌, arith, append_assoc, append-nil, subst, take, drop, take-append-drop, Result, Ok, Err, Option, Some}
 use Rattle.std.specs.Prelude.{map, None}
 use Rattle.std.proofs.lemmas.Bool.{true≢false}
 use Rattle.std.specs.List.{flat_map, AllByRecursion}
 use Rattle.std.proofs.lemmas.Grind.{flat_map-append}
-use Rattle.frame_view.specs.declared.Side.TheVariants.{Client, Server}
+use Rattle.frame_view.specs.declared.Side.TheVariants.{Server}
 use Rattle.frame_view.specs.declared.frames.TheConstants.{LONGEST_FRAME}
 use Rattle.frame_view.specs.Frames.{AreBytes, FrameOf, IsFrame, spelling}
 use Rattle.message_view.specs.declared.KeyWord.{KeyWord}
@@ -14,7 +14,7 @@ use Rattle.session_values.specs.declared.cause.Cause.{Cause}
 use Rattle.session_values.specs.State.{State, CatalogueOf, StartKeyOf, fresh}
 use Rattle.session_values.specs.Step.{run_frames}
 use Rattle.session_values.specs.Service.{client_frames, served, service, welcome}
-use Rattle.session_laws.specs.Laws.{IsSent, Reaches}
+use Rattle.session_laws.specs.Laws.{Reaches}
 use Rattle.session_laws.proofs.ByName.{fresh_is_reached}
 use Rattle.run_laws.proofs.ByName.{client_frames_are_sent, run_replies_are_frames}
 use Rattle.user_file.specs.declared.secrets.Secret.{Secret}
@@ -27,10 +27,10 @@ use Rattle.link_start.specs.Starts.{CanStart, IsCause, IsLetIn, IsStartable, IsS
 use Rattle.link_start.specs.declared.start.StartCause.{StartCause}
 use Rattle.link_start.specs.declared.start.StartCause.TheVariants as cause
 use Rattle.message_view.specs.declared.refusal.Refusal.TheVariants.{ServerNotReached}
-use Rattle.relay_laws.specs.Leases.{RelayView, Place, place, IsLease, IsAllowed, IsLinkOver, Keeps}
-use Rattle.relay_laws.proofs.Exact.{lease_allowed}
-use Rattle.relay_steps.specs.Answers.{AtBorder, EndsByClient, RefusedBy}
-use Rattle.relay_steps.specs.Steps.{IsStuck}
+use Rattle.relay_core.specs.Leases.{RelayView, Place, place, IsLease, IsAllowed, IsLinkOver, Keeps}
+use Rattle.relay_core.proofs.Exact.{lease_allowed}
+use Rattle.relay_core.specs.Answers.{AtBorder, EndsByClient, RefusedBy}
+use Rattle.relay_core.specs.Steps.{IsStuck}
 use Rattle.relay_core.specs.Returns.{is_clear}
 use Rattle.link_laws.specs.Futures.{future}
 use Rattle.server_end.specs.Servers.{has_some}
@@ -212,7 +212,7 @@ pub record IsClient (c : PatientOf) (v : RelayView) (out : List ℕ) : Type 0 wh
   pub faults : c.facts.faults ≡ 0
   pub all : c.facts.ended ≡ true → c.facts.taken ≡ c.input
 
-served_by : (began : Standing) (secret : Secret) (key : StartKeyOf) (word : KeyWord) (bytes out : List ℕ) (link : LinkView) (limit : ℕ) (old v : RelayView) (c : PatientOf) → began.follows ≡ true → IsStarted began secret link → link.key ≡ key
+pub served_by : (began : Standing) (secret : Secret) (key : StartKeyOf) (word : KeyWord) (bytes out : List ℕ) (link : LinkView) (limit : ℕ) (old v : RelayView) (c : PatientOf) → began.follows ≡ true → IsStarted began secret link → link.key ≡ key
     → AreBytes bytes → IsLease (place (new_patient bytes).facts link word limit) old → Keeps old v → IsClient c v out → IsServed began key word bytes out v (place (new_patient bytes).facts link word limit)
 served_by began secret key word bytes out link limit old v c f st k ab l kp g =
     let at : Place = place (new_patient bytes).facts link word limit in
@@ -236,7 +236,7 @@ served_by began secret key word bytes out link limit old v c f st k ab l kp g =
       all = λ d some h. takes_all bytes out a.since some c v g.facts input g.all d h;
     }
 
-begun_as : (bytes : List ℕ) (first : PatientOf) (link : LinkView) (word : KeyWord) (limit : ℕ) (old : RelayView) → first ≡ new_patient bytes → IsLease (place first.facts link word limit) old → IsLease (place (new_patient bytes).facts link word limit) old
+pub begun_as : (bytes : List ℕ) (first : PatientOf) (link : LinkView) (word : KeyWord) (limit : ℕ) (old : RelayView) → first ≡ new_patient bytes → IsLease (place first.facts link word limit) old → IsLease (place (new_patient bytes).facts link word limit) old
 begun_as bytes first link word limit old e l = subst (λ (x : PatientOf). IsLease (place x.facts link word limit) old) e l
 
 same_out : (began : Standing) (key : StartKeyOf) (word : KeyWord) (bytes out last : List ℕ) (v : RelayView) (at : Place) → last ≡ out → IsServed began key word bytes out v at → IsServed began key word bytes last v at

@@ -1,6 +1,6 @@
 -- Why a client is refused.
-use Rattle.std.proofs.Common.{◌≡◌, ◌⊎◌, inl, inr, ℕ, ◌+◌, ◌^◌, ◌<◌, ◌≤◌, Bool, true, false, List, [], ◌∷◌, ◌++◌, length, refl, sym, ap, ap₂, ◌∙◌, arith, append_assoc, append-nil, subst, Option, Some}
-use Rattle.std.specs.Prelude.{map, nat_lt, None}
+use Rattle.std.proofs.Common.{◌≡◌, inl, inr, ℕ, ◌+◌, ◌^◌, ◌<◌, ◌≤◌, Bool, true, false, List, [], ◌∷◌, ◌++◌, length, refl, sym, ap, ap₂, ◌∙◌, arith, append_assoc, subst, Option, Some}
+use Rattle.std.specs.Prelude.{map, nat_lt}
 use Rattle.std.specs.List.{flat_map, AllByRecursion}
 use Rattle.std.proofs.lemmas.Bool.{false≢true, ltb-true, ltb-false}
 use Rattle.frame_view.specs.declared.FrameFault.{FrameFault}
@@ -13,13 +13,12 @@ use Rattle.frame_view.specs.Frames as frames
 use Rattle.frame_view.proofs.Growth.{front-grows}
 use Rattle.frame_view.proofs.Cuts.{front-spelling}
 use Rattle.message_view.specs.declared.refusal.Refusal.{Refusal}
-use Rattle.message_view.specs.declared.refusal.Refusal.TheVariants.{MalformedServerMessage, ServerFailed}
 use Rattle.message_view.specs.Refusals.{Begins}
 use Rattle.relay_flow.specs.declared.flow.Ends.{Ends}
 use Rattle.relay_flow.specs.declared.flow.Ends.TheVariants.{Open, Last, Faulty}
 use Rattle.relay_flow.specs.Flows.{IsEndedBy, is_faulty}
-use Rattle.relay_laws.specs.Leases.{RelayView, Place, IsForwarded, IsLease, IsLinkOver}
-use Rattle.relay_steps.specs.Answers.{RefusedBy, refusal_by, refusal_of}
+use Rattle.relay_core.specs.Leases.{RelayView, Place, IsForwarded, IsLease, IsLinkOver}
+use Rattle.relay_core.specs.Answers.{RefusedBy, refusal_by, refusal_of}
 use Rattle.memory_lease.specs.Answers.{HasCause, IsAllowed, IsAnswer, IsAtFault, IsTooLong, MayDie}
 
 pub was_allowed : (dies : Option ℕ) (limit : ℕ) (bytes out : List ℕ) (pieces : List (List ℕ)) → IsAnswer dies limit bytes out pieces → IsAllowed dies out pieces

@@ -5,3 +5,4 @@ pub mod Causes
 pub mod Rest
 pub mod Whole
 pub mod Answering
+mod Ending

@@ -1,14 +1,13 @@
 -- What is left of a client's bytes, once nothing more of them goes on: it adds nothing to a service.
-use Rattle.std.proofs.Common.{◌≡◌, ◌⊎◌, inl, inr, ℕ, zero, suc, ◌+◌, ◌^◌, ◌<◌, ◌≤◌, Bool, true, false, List, [], ◌∷◌, ◌++◌, take, drop, length, refl, sym, ap, ◌∙◌, arith, append-nil, append_assoc, subst, Result, Ok, Err, slice_index}
-use Rattle.std.specs.Prelude.{◌==◌, if◌then◌else◌}
+use Rattle.std.proofs.Common.{◌≡◌, ◌⊎◌, inl, inr, ℕ, zero, suc, ◌+◌, Bool, true, false, List, [], ◌∷◌, ◌++◌, take, drop, length, refl, sym, ap, ◌∙◌, arith, append-nil, subst, Result, Ok, Err}
+use Rattle.std.specs.Prelude.{if◌then◌else◌}
 use Rattle.std.specs.List.{flat_map, AllByRecursion}
 use Rattle.std.specs.Int.{w32, to_be_bytes}
-use Rattle.std.proofs.lemmas.Bool.{false≢true, true≢false, eqb-true}
-use Rattle.frame_view.specs.declared.Side.{Side}
+use Rattle.std.proofs.lemmas.Bool.{false≢true, eqb-true}
 use Rattle.frame_view.specs.declared.Side.TheVariants.{Client}
 use Rattle.frame_view.specs.declared.client.TheConstants.{TERMINATE}
 use Rattle.frame_view.specs.declared.frames.TheConstants.{LONGEST_FRAME}
-use Rattle.frame_view.specs.Frames.{AreBytes, Cut, FrameOf, Front, AFrame, Lacks, Faulty, IsFrame, Stops, cut_after, front, frames, spelling}
+use Rattle.frame_view.specs.Frames.{AreBytes, Cut, FrameOf, Front, AFrame, Lacks, Faulty, IsFrame, Stops, cut_after, front, spelling}
 use Rattle.frame_view.proofs.Cuts.{front-spelled}
 use Rattle.frame_view.proofs.Splitting.{frames-spellings, frames-stopped}
 use Rattle.frame_view.proofs.Taking.{frames-front}
@@ -18,7 +17,7 @@ use Rattle.session_values.specs.Step.{answer_skipping, answer_to, asked, run_fra
 use Rattle.session_values.specs.Service.{client_frames, served, service, welcome}
 use Rattle.run_laws.proofs.ByName.{runs_go_on}
 use Rattle.relay_flow.specs.Parts.{Begins, Spells, is_stuck}
-use Rattle.relay_flow.specs.Flows.{AtTerminate, is_last}
+use Rattle.relay_flow.specs.Flows.{AtTerminate}
 
 -- no session answers to these bytes
 abbrev pub AddsNothing : List ℕ → Type 0

@@ -1,29 +1,25 @@
 -- A client whose lease ended with nothing on its way, over a server that lives and has nothing more to give, was given all.
-use Rattle.std.proofs.Common.{◌≡◌, ◌⊎◌, inl, inr, ℕ, zero, suc, ◌+◌, ◌^◌, ◌<◌, ◌≤◌, Bool, true, false, List, [], ◌∷◌, ◌++◌, length, refl, sym, ap, ap₂, ◌∙◌, arith, append-nil, append_assoc, subst}
+use Rattle.std.proofs.Common.{◌≡◌, ◌⊎◌, inl, inr, ℕ, zero, suc, ◌<◌, ◌≤◌, Bool, true, false, List, [], ◌∷◌, ◌++◌, refl, sym, ap, ap₂, ◌∙◌, arith, append-nil, append_assoc, subst}
 use Rattle.std.specs.Prelude.{◌&&◌, not}
 use Rattle.std.specs.List.{flat_map, AllByRecursion}
 use Rattle.std.proofs.lemmas.Bool.{false≢true, true≢false}
-use Rattle.frame_view.specs.declared.FrameFault.{FrameFault}
 use Rattle.frame_view.specs.declared.Side.{Side}
 use Rattle.frame_view.specs.declared.Side.TheVariants.{Client}
 use Rattle.frame_view.specs.declared.frames.TheConstants.{LONGEST_FRAME}
 use Rattle.frame_view.specs.Frames.{AreBytes, FrameOf, IsFrame, front, spelling}
-use Rattle.message_view.specs.declared.KeyWord.{KeyWord}
 use Rattle.message_view.specs.Refusals.{Begins}
 use Rattle.session_values.specs.State.{CatalogueOf, StartKeyOf}
 use Rattle.session_values.specs.Service.{service}
-use Rattle.link_laws.specs.Standing.{Standing}
-use Rattle.link_laws.specs.Stages as stages
 use Rattle.link_laws.specs.Futures.{future}
-use Rattle.relay_flow.specs.Parts.{Opens, is_stuck}
+use Rattle.relay_flow.specs.Parts.{is_stuck}
 use Rattle.relay_flow.specs.declared.flow.Ends.{Ends}
 use Rattle.relay_flow.specs.declared.flow.Ends.TheVariants.{Open, Last, Faulty}
-use Rattle.relay_flow.specs.Flows.{AtTerminate, FlowView, NoneGoes, IsEndedBy, is_empty, is_faulty, is_open}
-use Rattle.relay_laws.specs.Leases.{RelayView, Place, IsClientOver, IsExact, IsForwarded, IsLease}
-use Rattle.relay_laws.proofs.Exact.{lease_exact}
-use Rattle.relay_laws.proofs.Flowing.{empty_is}
-use Rattle.relay_steps.specs.Answers.{EndsByClient, is_quiet}
-use Rattle.relay_steps.specs.Steps.{IsStuck}
+use Rattle.relay_flow.specs.Flows.{AtTerminate, IsEndedBy, is_empty, is_faulty, is_open}
+use Rattle.relay_core.specs.Leases.{RelayView, Place, IsExact, IsForwarded, IsLease}
+use Rattle.relay_core.proofs.Exact.{lease_exact}
+use Rattle.relay_core.proofs.Flowing.{empty_is}
+use Rattle.relay_core.specs.Answers.{is_quiet}
+use Rattle.relay_core.specs.Steps.{IsStuck}
 use Rattle.relay_core.specs.Returns.{is_clear}
 use Rattle.memory_lease.proofs.Rest.{AddsNothing, at_terminate_adds, service_same, short_stops, stopped_adds}
 

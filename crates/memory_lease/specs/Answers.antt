@@ -10,8 +10,8 @@ use Rattle.message_view.specs.declared.refusal.Refusal.TheVariants.{ClientMessag
 use Rattle.message_view.specs.Refusals.{Begins, joined_pieces, refusal}
 use Rattle.session_values.specs.State.{CatalogueOf, StartKeyOf, fresh}
 use Rattle.session_values.specs.Service.{client_frames, served}
-use Rattle.relay_laws.specs.Leases.{IsForwarded}
-use Rattle.relay_steps.specs.Answers.{refusal_by}
+use Rattle.relay_core.specs.Leases.{IsForwarded}
+use Rattle.relay_core.specs.Answers.{refusal_by}
 
 -- some first whole pieces, and then one refusal of the pooler's table
 pub record IsRefusedAt (out : List ℕ) (pieces : List (List ℕ)) : Type 0 where

@@ -1,14 +1,13 @@
 -- What the code of a client's service holds, in the definitions' words.
 use Rattle.std.specs.Prelude.{◌≡◌, ◌⊎◌, ℕ, Bool, true, false, List, [], ◌++◌}
-use Rattle.message_view.specs.declared.refusal.Refusal.{Refusal}
 use Rattle.message_view.specs.declared.refusal.Refusal.TheVariants.{ServerNotReached}
 use Rattle.message_view.specs.Refusals.{refusal}
 use Rattle.link_laws.specs.Futures.{future}
 use Rattle.link_start.specs.declared.start.StartCause.{StartCause}
 use Rattle.link_start.specs.declared.start.StartCause.TheVariants as cause
-use Rattle.relay_laws.specs.Leases.{RelayView, Place, IsLease}
-use Rattle.relay_steps.specs.Answers.{AtBorder, EndsByClient, RefusedBy}
-use Rattle.relay_steps.specs.Steps.{IsStuck}
+use Rattle.relay_core.specs.Leases.{RelayView, Place, IsLease}
+use Rattle.relay_core.specs.Answers.{AtBorder, EndsByClient, RefusedBy}
+use Rattle.relay_core.specs.Steps.{IsStuck}
 use Rattle.server_end.specs.Servers.{has_some}
 use Rattle.memory_lease.specs.Own.{IsMarked, OwnOf}
 use Rattle.memory_lease.specs.declared.alone.Ending.{Ending}

@@ -1,7 +1,6 @@
 -- A client in memory that waits for its answers, as its callers see it.
-use Rattle.std.specs.Prelude.{◌≡◌, ℕ, Bool, true, false, ◌||◌, List, [], ◌∷◌, ◌++◌, length, take}
+use Rattle.std.specs.Prelude.{◌≡◌, ℕ, Bool, true, false, ◌||◌, nat_lt, List, [], ◌∷◌, ◌++◌, length, take}
 use Rattle.link_laws.specs.Standing.{ClientFacts}
-use Rattle.server_end.specs.Clients.{is_broken}
 
 pub record PatientOf : Type 0 where
   pub facts : ClientFacts
@@ -17,7 +16,7 @@ abbrev pub patient_view : List ℕ → ℕ → ℕ → List ℕ → Bool → ℕ
 patient_view input at border given hung_up faults waits = record {
   facts = record {
     tells = true;
-    ended = is_broken faults waits || hung_up;
+    ended = nat_lt 0 faults || hung_up;
     taken = take at input;
     given = given_with input given;
     faults = faults;

@@ -1,14 +1,16 @@
 //! A client's whole service, over a link of its own.
-ghost use Rattle.std.specs.Prelude.{◌≡◌, ◌<◌, ◌≤◌, ◌++◌, IfOk, OnOk, false, true};
+ghost use Rattle.std.specs.Prelude.{◌≡◌, ◌<◌, ◌≤◌, ◌++◌, IfErr, IfOk, OnOk, false, true};
 ghost use Rattle.std.specs.Arc.{arc_value};
 ghost use Rattle.frame_view.specs.declared.frames.TheConstants.{LONGEST_FRAME};
 ghost use Rattle.message_view.specs.declared.refusal.Refusal.{Refusal};
 ghost use Rattle.link_start.specs.Starts.{IsLetIn, IsLinkKey, IsStartable};
 ghost use Rattle.relay_core.specs.Returns.{IsReturned};
-ghost use Rattle.relay_laws.specs.Leases.{IsLease, Keeps, RelayView, place};
-ghost use Rattle.relay_laws.specs.declared.Phase.TheVariants.{Running};
+ghost use Rattle.relay_core.specs.Leases.{IsLease, Keeps, RelayView, place};
+ghost use Rattle.relay_core.specs.declared.Phase.TheVariants.{Running};
 ghost use Rattle.memory_lease.specs.Answers.{IsAnswer, own_pieces};
 ghost use Rattle.memory_lease.specs.Held.{IsEnding, TellsCause, TellsEnding};
+ghost use Rattle.memory_lease.specs.Unended.{IsUnserved, StillWaits};
+ghost use Rattle.memory_lease.specs.declared.alone.Unserved.TheVariants as unserved;
 
 use crate::own_server::OwnServer;
 use crate::patient_client::PatientClient;
@@ -18,8 +20,8 @@ use link_run::links::CleanLink;
 use link_start::close::close_link;
 use link_start::start::{StartCause, StartLinkFault, start_link};
 use message_view::{KeyWord, Refusal, refusal_bytes};
+use relay_core::Next;
 use relay_core::relay::{Relay, Returned};
-use relay_steps::Next;
 use server_end::gate::{OpenGate, Ready};
 use server_end::memory_server::MemoryServer;
 use server_end::{ClientEnd, ServerEnd};
@@ -33,6 +35,24 @@ const START_TURNS: u32 = 65_536;
 
 /// So many pumps in a row that move nothing end a lease: the client takes one to wait, and the next one to go on.
 const MOST_WAITS: u32 = 4;
+
+/// Why a client isn't served to its end.
+#[derive(Drop)]
+pub enum Unserved {
+    /// An allocation failed.
+    Memory,
+    /// The lease came to no end while its server lives: it ended with something on its way, nothing moved any more, or its turns were
+    /// used up. Or the server is at the last count of its waits, 18,446,744,073,709,551,615. The server is handed back.
+    Unended(MemoryServer),
+}
+
+impl From<AllocError> for Unserved {
+    ghost from_gives = { λ _ fault. fault ≡ unserved.Memory };
+
+    fn from(_error: AllocError) -> Unserved {
+        Unserved::Memory
+    }
+}
 
 /// What a client is told whose link wasn't started.
 fn put_unstarted(fault: &StartLinkFault<OwnServer>, out: &mut BytesMut) -> Result<(), AllocError>
@@ -117,31 +137,28 @@ fn end_of<E: ServerEnd>(link: Returned<E>) -> E
 }
 
 /// What stands behind all that the client was given. Where its server lives and it isn't refused, nothing was on its way
-/// (`clear`), and the server had nothing more to give.
-///
-/// The only error is that memory was refused, or that a lease came to no end: its turns were used up, or it ended with something on
-/// its way.
+/// (`clear`), and the server had nothing more to give. `false`: the lease came to no end.
 fn put_ending(
     ending: Ending,
     clear: bool,
     server: &OwnServer,
     out: &mut BytesMut,
-) -> Result<(), AllocError>
-    ensures { OnOk result (TellsEnding ending clear server.now out.old.items out.new.items) }
+) -> Result<bool, AllocError>
+    ensures told { IfOk result (λ ends. ends ≡ true → TellsEnding ending clear server.now out.old.items out.new.items) }
+    ensures unended { IfOk result (λ ends. ends ≡ false → StillWaits server.now.standing) }
 {
-    if server.is_broken() {
+    if server.is_faulty() {
         return Err(AllocError);
     }
-    match ending {
-        Ending::Refused(refusal) => out.extend_from_slice(refusal_bytes(refusal)),
-        Ending::Done if clear && server.rests() => Ok(()),
-        Ending::Done | Ending::Cut => {
-            if server.lives() {
-                return Err(AllocError);
-            }
-            Ok(())
-        }
+    if server.is_counted_out() {
+        return Ok(false);
     }
+    match ending {
+        Ending::Refused(refusal) => out.extend_from_slice(refusal_bytes(refusal))?,
+        Ending::Done if clear && server.rests() => {}
+        Ending::Done | Ending::Cut => return Ok(!server.lives()),
+    }
+    Ok(true)
 }
 
 /// Serves one client from the first byte after its login (`bytes`) to its end, over a new link to this server, and answers what the
@@ -153,7 +170,8 @@ fn put_ending(
 /// the server died. A client that isn't refused is answered all, unless its server may die. `word` is what the client's
 /// BackendKeyData has, `limit` the greatest length of a frame both ways, and a call of the client moves at most `cut` bytes.
 ///
-/// The only error is that memory was refused, or that the lease came to no end in 18,446,744,073,709,551,615 turns.
+/// It fails only where memory is refused, or where the lease comes to no end, and then its server was started with this key and
+/// accepted a beginning of the client's bytes.
 pub fn serve_alone(
     alloc: Global,
     server: MemoryServer,
@@ -163,7 +181,7 @@ pub fn serve_alone(
     limit: u32,
     cut: usize,
     bytes: &[u8],
-) -> Result<BytesMut, AllocError>
+) -> Result<BytesMut, Unserved>
     requires startable { IsStartable server.standing }
     requires follows { server.standing.follows ≡ true }
     requires let_in { IsLetIn server.standing (arc_value key) secret.now }
@@ -171,7 +189,8 @@ pub fn serve_alone(
     requires cut { 0 < cut }
     requires low { 4 ≤ limit }
     requires high { limit ≤ LONGEST_FRAME }
-    ensures { IfOk result (λ out. IsAnswer server.left limit bytes.now out.items (own_pieces server.standing.server.catalogue (arc_value key) word bytes.now)) }
+    ensures answer { IfOk result (λ out. IsAnswer server.left limit bytes.now out.items (own_pieces server.standing.server.catalogue (arc_value key) word bytes.now)) }
+    ensures unended { IfErr result (IsUnserved server.standing (arc_value key) bytes.now) }
 {
     are_bytes(bytes);
     let server = OwnServer::new(server);
@@ -189,6 +208,9 @@ pub fn serve_alone(
     let clear = relay.is_clear();
     let (client, link) = relay.close();
     let mut out = client.into_given()?;
-    put_ending(ending, clear, &end_of(link), &mut out)?;
-    Ok(out)
+    let server = end_of(link);
+    if put_ending(ending, clear, &server, &mut out)? {
+        return Ok(out);
+    }
+    Err(Unserved::Unended(server.into_server()))
 }

@@ -4,3 +4,5 @@
 pub mod alone;
 mod own_server;
 mod patient_client;
+
+pub use relay_core::relay;

@@ -3,7 +3,7 @@ ghost use Rattle.std.specs.Prelude.{◌≡◌, ◌<◌, [], length, true, false}
 ghost use Rattle.link_laws.specs.Futures.{future};
 ghost use Rattle.link_laws.specs.Standing.{Moves};
 ghost use Rattle.server_end.specs.Moves.{CountsRead, CountsWrite, IsWithin, moved};
-ghost use Rattle.server_end.specs.Servers.{has_some};
+ghost use Rattle.server_end.specs.Servers.{LAST_COUNT, has_some};
 ghost use Rattle.memory_lease.specs.Own.{IsMarked, own_server};
 
 use server_end::memory_server::MemoryServer;
@@ -54,13 +54,29 @@ impl OwnServer {
         self.rests
     }
 
-    /// Whether it was ended by a fault or the last count. Else it dies of nothing but the bytes that were read from it.
-    pub(crate) fn is_broken(&self) -> bool
+    /// Whether a fault ended it: an allocation failed.
+    pub(crate) fn is_faulty(&self) -> bool
         ensures faults { result ≡ false → self.now.standing.faults ≡ 0 }
-        ensures lives { result ≡ false → self.now.standing.lives ≡ has_some self.now.left }
         ensures marked { IsMarked self.now }
     {
-        !self.server.lives() && (self.server.faults() > 0 || self.server.waits().0 == u64::MAX)
+        self.server.faults() > 0
+    }
+
+    /// Whether the last count of its waits ended it. Else, without a fault, it dies of nothing but the bytes that
+    /// were read from it.
+    pub(crate) fn is_counted_out(&self) -> bool
+        ensures last { result ≡ true → self.now.standing.read_waits ≡ LAST_COUNT }
+        ensures lives { result ≡ false → self.now.standing.faults ≡ 0 → self.now.standing.lives ≡ has_some self.now.left }
+    {
+        !self.server.lives() && self.server.waits().0 == u64::MAX
+    }
+
+    /// The server itself.
+    pub(crate) fn into_server(self) -> MemoryServer
+        ensures { own_server result.left result.standing ≡ self }
+    {
+        let OwnServer { server, rests: _ } = self;
+        server
     }
 
     /// [`MemoryServer::read`].

@@ -1,7 +1,6 @@
 //! A client in memory that waits for its answers.
-ghost use Rattle.std.specs.Prelude.{◌≡◌, ◌<◌, ◌≤◌, false, length, true, IfOk};
+ghost use Rattle.std.specs.Prelude.{◌≡◌, ◌<◌, ◌≤◌, false, length, nat_lt, true, IfOk};
 ghost use Rattle.server_end.specs.Moves.{ClientReads, ClientWrites, IsWithin, moved};
-ghost use Rattle.server_end.specs.Clients.{is_broken};
 ghost use Rattle.memory_lease.specs.Patient.{IsGiven, new_patient};
 
 use bytes::BytesMut;
@@ -70,8 +69,8 @@ impl<'a> PatientClient<'a> {
         }
     }
 
-    /// All that it was given, where neither a fault nor the last count ended it: so it has ended only where its whole input was
-    /// taken. The only error is that one of them did.
+    /// All that it was given, where no fault ended it: so it has ended only where its whole input was taken. The only error is that
+    /// one did: an allocation failed.
     pub(crate) fn into_given(self) -> Result<BytesMut, AllocError>
         ensures given { IfOk result (λ out. IsGiven self.entry out.items) }
         ensures faults { IfOk result (λ _. self.entry.facts.faults ≡ 0) }
@@ -102,15 +101,15 @@ impl<'a> PatientClient<'a> {
     }
 
     fn is_broken(&self) -> bool
-        ensures { result ≡ is_broken self.now.facts.faults self.now.facts.read_waits }
+        ensures { result ≡ nat_lt 0 self.now.facts.faults }
     {
-        self.faults > 0 || self.waits == u64::MAX
+        self.faults > 0
     }
 
     /// [`ClientEnd::read_some`] of this client.
     ///
-    /// [`Moved::NotNow`]: it waits for answers, once at each border of its frames, and again after each turn that brought some.
-    /// [`Moved::Ended`]: it has hung up, or ended by a fault or the last count.
+    /// [`Moved::NotNow`]: it waits for answers, once at each border of its frames, and again after each turn that brought some; at
+    /// the last count it waits no more. [`Moved::Ended`]: it has hung up, or ended by a fault.
     fn read(&mut self, into: &mut [u8]) -> Moved
         requires { 0 < length into.old }
         ensures within { IsWithin result (length into.old) }
@@ -120,7 +119,7 @@ impl<'a> PatientClient<'a> {
             return Moved::Ended;
         }
         if self.at == self.border {
-            if !self.rests {
+            if !self.rests && self.waits < u64::MAX {
                 self.rests = true;
                 self.waits += 1;
                 return Moved::NotNow;
@@ -152,7 +151,7 @@ impl<'a> PatientClient<'a> {
 
     /// [`ClientEnd::write_some`] of this client, also after it hung up.
     ///
-    /// [`Moved::Ended`]: it ended by a fault or the last count. [`Moved::Fault`]: an allocation failed, which ends it.
+    /// [`Moved::Ended`]: it ended by a fault. [`Moved::Fault`]: an allocation failed, which ends it.
     fn write(&mut self, from: &[u8]) -> Moved
         requires { 0 < length from.now }
         ensures within { IsWithin result (length from.now) }

@@ -48,6 +48,7 @@ fn relayed(alloc: Global, size: u32, total: u64) -> Result<u64, AllocError>
         key: key(alloc)?,
         number: 1,
         born: 0,
+        server_key: None,
         reported: Reported::new(alloc),
     };
     let word = KeyWord {

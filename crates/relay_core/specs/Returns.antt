@@ -5,7 +5,7 @@ use Rattle.std.specs.Arc.{arc_value}
 use Rattle.link_laws.specs.Standing.{Standing}
 use Rattle.link_run.specs.Links.{LinkView}
 use Rattle.link_run.specs.declared.links.Lent.{Lent}
-use Rattle.relay_laws.specs.Leases.{RelayView, relay_verdict}
+use Rattle.relay_steps.specs.Leases.{RelayView, relay_verdict}
 use Rattle.relay_flow.specs.Flows.{is_empty, is_faulty}
 use Rattle.relay_steps.specs.Answers.{is_quiet}
 use Rattle.relay_core.specs.declared.relay.Cause.{Cause}
@@ -23,6 +23,7 @@ pub record IsThatLink (v : RelayView) (l : LinkView) : Type 0 where
   pub key : l.key ≡ v.key
   pub number : l.number ≡ v.number
   pub born : l.born ≡ v.born
+  pub server_key : l.server_key ≡ v.server_key
   pub reports : l.reports ≡ v.told.reports
 
 -- the same of a link taken apart
@@ -31,6 +32,7 @@ pub record IsThatLent {E : Type 0} (standing : E → Standing) (v : RelayView) (
   pub key : arc_value l.key ≡ v.key
   pub number : l.number ≡ v.number
   pub born : l.born ≡ v.born
+  pub server_key : l.server_key ≡ v.server_key
   pub reports : l.reported ≡ v.told.reports
 
 -- the cause is the verdict; where nothing went over the link, its end is lost

@@ -7,8 +7,7 @@ use crate::relay::Relay;
 use frame_view::FrameFault;
 use message_view::Refusal;
 use relay_flow::flow::Ends;
-use relay_laws::Phase;
-use relay_steps::Next;
+use relay_steps::{Next, Phase};
 use server_end::{ClientEnd, ServerEnd};
 
 /// Wait where nothing was moved.

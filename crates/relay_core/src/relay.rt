@@ -12,8 +12,7 @@ use frame_view::Side;
 use link_run::links::{CleanLink, Lent, UsedLink};
 use message_view::KeyWord;
 use relay_flow::flow::Flow;
-use relay_laws::{Flags, Phase};
-use relay_steps::Next;
+use relay_steps::{Flags, Next, Phase};
 use server_end::gate::Ready;
 use server_end::{ClientEnd, ServerEnd};
 use std::alloc::Global;
@@ -61,24 +60,24 @@ pub struct Relay<C: ClientEnd, E: ServerEnd> {
 impl<C: ClientEnd, E: ServerEnd> Model for Relay<C, E> {
     ghost use Rattle.std.specs.Prelude.{◌≤◌, drop, length};
     ghost use Rattle.std.specs.Arc.{arc_value};
-    ghost use Rattle.relay_laws.specs.Leases.{RelayView, relay_view, IsRelay};
-    ghost use Rattle.relay_laws.specs.Verdicts.{told_of};
+    ghost use Rattle.relay_steps.specs.Leases.{RelayView, relay_view, IsRelay};
+    ghost use Rattle.relay_steps.specs.Verdicts.{told_of};
 
     ghost Value = { RelayView };
 
-    ghost view = { λ r. relay_view (C.facts r.client) (E.standing r.link.end) (arc_value r.link.key) r.link.number r.link.born r.word (drop r.greeted r.welcome.items) r.to_link r.to_client (told_of r.traffic r.link.reported) r.flags r.phase };
+    ghost view = { λ r. relay_view (C.facts r.client) (E.standing r.link.end) (arc_value r.link.key) r.link.number r.link.born r.link.server_key r.word (drop r.greeted r.welcome.items) r.to_link r.to_client (told_of r.traffic r.link.reported) r.flags r.phase };
 
-    ghost invariant = { λ r. (r.greeted ≤ length r.welcome.items) × IsRelay (relay_view (C.facts r.client) (E.standing r.link.end) (arc_value r.link.key) r.link.number r.link.born r.word (drop r.greeted r.welcome.items) r.to_link r.to_client (told_of r.traffic r.link.reported) r.flags r.phase) };
+    ghost invariant = { λ r. (r.greeted ≤ length r.welcome.items) × IsRelay (relay_view (C.facts r.client) (E.standing r.link.end) (arc_value r.link.key) r.link.number r.link.born r.link.server_key r.word (drop r.greeted r.welcome.items) r.to_link r.to_client (told_of r.traffic r.link.reported) r.flags r.phase) };
 }
 
 impl<C: ClientEnd, E: ServerEnd> Relay<C, E> {
     ghost use Rattle.std.specs.Prelude.{Bool};
-    ghost use Rattle.relay_laws.specs.Leases.{Place, place, IsLease, IsExact, IsAllowed, Keeps, relay_verdict, at_border};
+    ghost use Rattle.relay_steps.specs.Leases.{Place, place, IsLease, IsExact, IsAllowed, Keeps, relay_verdict, at_border};
     ghost use Rattle.relay_steps.specs.Answers.{EndsByClient, RefusedBy, AtBorder, IsCut, judged, phase_after};
     ghost use Rattle.relay_core.specs.Returns.{IsReturned, is_clear};
     ghost use Rattle.relay_steps.specs.Steps.{bytes_moved, HoldsAll, Waits};
     ghost use Rattle.relay_steps.specs.declared.Next.TheVariants.{Again, Wait, ClientDone, Refuse, Closed};
-    ghost use Rattle.relay_laws.specs.declared.Phase.TheVariants.{Running, Done, Shut};
+    ghost use Rattle.relay_steps.specs.declared.Phase.TheVariants.{Running, Done, Shut};
     ghost use Rattle.message_view.specs.declared.refusal.Refusal.{Refusal};
 
     /// The lease of a link to a client begins. The client is to be given the link's welcome first, with the client's own key

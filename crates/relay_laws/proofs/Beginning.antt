@@ -1,5 +1,5 @@
 -- The beginning of a lease.
-use Rattle.std.proofs.Common.{◌≡◌, ◌≢◌, ℕ, ◌≤◌, arith, true, false, List, [], Result, Ok, refl, sym, ap, ◌∙◌, append-nil, subst, ◌-◌}
+use Rattle.std.proofs.Common.{◌≡◌, ◌≢◌, ℕ, ◌≤◌, arith, true, false, List, Option, [], Result, Ok, refl, sym, ap, ◌∙◌, append-nil, subst, ◌-◌}
 use Rattle.std.specs.List.{flat_map}
 use Rattle.std.proofs.lemmas.Bool.{false≢true}
 use Rattle.disposal.specs.Tallies.{Tells}
@@ -8,6 +8,7 @@ use Rattle.frame_view.specs.declared.Side.TheVariants.{Client, Server}
 use Rattle.frame_view.specs.Frames.{spelling}
 use Rattle.frame_view.specs.declared.frames.TheConstants.{LONGEST_FRAME}
 use Rattle.message_view.specs.declared.KeyWord.{KeyWord}
+use Rattle.message_view.specs.declared.views.KeyView.{KeyView}
 use Rattle.session_values.specs.declared.cause.Cause.{Cause}
 use Rattle.session_values.specs.State.{State, StartKeyOf, fresh}
 use Rattle.session_values.specs.Service.{welcome}
@@ -28,8 +29,8 @@ use Rattle.relay_laws.proofs.Flowing.{no_opens}
 empty_flow : (s : Side) (lm : ℕ) (f : FlowView) → 4 ≤ lm → lm ≤ LONGEST_FRAME → IsEmptyFlow s lm f → IsFlow s f
 empty_flow s lm f low high x = record { side_is = x.side_is; low = rw x.limit_is low; high = rw x.limit_is high; ended = rw x.ends tt }
 
-abbrev link_of : Standing → StartKeyOf → ℕ → ℕ → List Kept → LinkView
-link_of l k n b ks = record { stands = l; key = k; number = n; born = b; reports = ks }
+abbrev link_of : Standing → StartKeyOf → ℕ → ℕ → Option KeyView → List Kept → LinkView
+link_of l k n b sk ks = record { stands = l; key = k; number = n; born = b; server_key = sk; reports = ks }
 
 same_session : (r : Result State Cause) (s t : State) → r ≡ Ok s → r ≡ Ok t → s ≡ t
 same_session r s t e d = cc
@@ -42,10 +43,10 @@ clean_greets l k ks w c f s e =
     ap (λ (kept : List Kept). greeting_of kept w) x.kept ∙ ap (flat_map spelling) (welcome_is z w.pid w.secret)
     ∙ ap (λ (t : State). flat_map spelling (welcome t w.pid w.secret)) (same_session (fresh l.server.catalogue k) z s x.stands.is_fresh e)
 
-lease_begun : (cf : ClientFacts) (l : Standing) (k : StartKeyOf) (n b : ℕ) (w : KeyWord) (tl tc : FlowView) (t : Told) (ph : Phase) (lm : ℕ)
+lease_begun : (cf : ClientFacts) (l : Standing) (k : StartKeyOf) (n b : ℕ) (sk : Option KeyView) (w : KeyWord) (tl tc : FlowView) (t : Told) (ph : Phase) (lm : ℕ)
     → IsClean l k t.reports → 4 ≤ lm → lm ≤ LONGEST_FRAME → IsEmptyFlow Client lm tl → IsEmptyFlow Server lm tc → Tells t.tally [] []
-    → IsLease (place cf (link_of l k n b t.reports) w lm) (relay_view cf l k n b w (greeting_of t.reports w) tl tc t (flags_of false false false false) ph)
-lease_begun cf l k n b w tl tc t ph lm c low high x y z = record {
+    → IsLease (place cf (link_of l k n b sk t.reports) w lm) (relay_view cf l k n b sk w (greeting_of t.reports w) tl tc t (flags_of false false false false) ph)
+lease_begun cf l k n b sk w tl tc t ph lm c low high x y z = record {
   sent = [];
   received = [];
   since = [];
@@ -55,7 +56,7 @@ lease_begun cf l k n b w tl tc t ph lm c low high x y z = record {
   front = [];
   clean = c;
   greets = clean_greets l k t.reports w c;
-  same = (refl, refl, refl, refl, x.limit_is, y.limit_is);
+  same = (refl, refl, refl, refl, x.limit_is, y.limit_is, refl);
   told = refl;
   moves = moves_none l;
   goes = record {
@@ -81,18 +82,20 @@ lease_begun cf l k n b w tl tc t ph lm c low high x y z = record {
     client_over = λ z. absurd (false≢true z);
     input_over = λ z. absurd (false≢true z);
     link_over = λ z. absurd (false≢true z);
+    unfaulted = λ z. refl;
     untouched = λ z. (refl, refl);
+    touched = λ z. absurd (false≢true z);
   };
 }
 
-link_is : (lk : LinkView) (l : Standing) (k : StartKeyOf) (n b : ℕ) (ks : List Kept) → l ≡ lk.stands → k ≡ lk.key → n ≡ lk.number → b ≡ lk.born → ks ≡ lk.reports → link_of l k n b ks ≡ lk
-link_is lk l k n b ks e d f g r = rw (e, d, f, g, r) refl
+link_is : (lk : LinkView) (l : Standing) (k : StartKeyOf) (n b : ℕ) (sk : Option KeyView) (ks : List Kept) → l ≡ lk.stands → k ≡ lk.key → n ≡ lk.number → b ≡ lk.born → sk ≡ lk.server_key → ks ≡ lk.reports → link_of l k n b sk ks ≡ lk
+link_is lk l k n b sk ks e d f g s r = rw (e, d, f, g, s, r) refl
 
 -- A lease of this link begins, whose client is to be given what its reports tell.
-pub lease_begun_at : (lk : LinkView) (cf : ClientFacts) (l : Standing) (k : StartKeyOf) (n b : ℕ) (w : KeyWord) (gr : List ℕ) (tl tc : FlowView) (t : Told) (ph : Phase) (lm : ℕ)
-    → l ≡ lk.stands → k ≡ lk.key → n ≡ lk.number → b ≡ lk.born → t.reports ≡ lk.reports → gr ≡ greeting_of lk.reports w
+pub lease_begun_at : (lk : LinkView) (cf : ClientFacts) (l : Standing) (k : StartKeyOf) (n b : ℕ) (sk : Option KeyView) (w : KeyWord) (gr : List ℕ) (tl tc : FlowView) (t : Told) (ph : Phase) (lm : ℕ)
+    → l ≡ lk.stands → k ≡ lk.key → n ≡ lk.number → b ≡ lk.born → sk ≡ lk.server_key → t.reports ≡ lk.reports → gr ≡ greeting_of lk.reports w
     → IsClean l k t.reports → 4 ≤ lm → lm ≤ LONGEST_FRAME → IsEmptyFlow Client lm tl → IsEmptyFlow Server lm tc → Tells t.tally [] []
-    → IsLease (place cf lk w lm) (relay_view cf l k n b w gr tl tc t (flags_of false false false false) ph)
-lease_begun_at lk cf l k n b w gr tl tc t ph lm e d f h r g c low high x y z =
-    subst (λ (a : List ℕ). IsLease (place cf lk w lm) (relay_view cf l k n b w a tl tc t (flags_of false false false false) ph)) (ap (λ (ks : List Kept). greeting_of ks w) r ∙ sym g)
-    (subst (λ (a : LinkView). IsLease (place cf a w lm) (relay_view cf l k n b w (greeting_of t.reports w) tl tc t (flags_of false false false false) ph)) (link_is lk l k n b t.reports e d f h r) (lease_begun cf l k n b w tl tc t ph lm c low high x y z))
+    → IsLease (place cf lk w lm) (relay_view cf l k n b sk w gr tl tc t (flags_of false false false false) ph)
+lease_begun_at lk cf l k n b sk w gr tl tc t ph lm e d f h s r g c low high x y z =
+    subst (λ (a : List ℕ). IsLease (place cf lk w lm) (relay_view cf l k n b sk w a tl tc t (flags_of false false false false) ph)) (ap (λ (ks : List Kept). greeting_of ks w) r ∙ sym g)
+    (subst (λ (a : LinkView). IsLease (place cf a w lm) (relay_view cf l k n b sk w (greeting_of t.reports w) tl tc t (flags_of false false false false) ph)) (link_is lk l k n b sk t.reports e d f h s r) (lease_begun cf l k n b sk w tl tc t ph lm c low high x y z))

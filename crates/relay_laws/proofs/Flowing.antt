@@ -4,9 +4,9 @@ use Rattle.std.specs.List.{AllByRecursion}
 use Rattle.std.proofs.lemmas.Bool.{false≢true}
 use Rattle.frame_view.specs.declared.Side.{Side}
 use Rattle.frame_view.specs.Frames.{FrameOf}
-use Rattle.server_end.specs.declared.Moved.{Moved}
-use Rattle.server_end.specs.declared.Moved.TheVariants.{Count, NotNow, Ended, Fault}
-use Rattle.server_end.specs.Moves.{IsWithin}
+use Rattle.link_run.specs.declared.Moved.{Moved}
+use Rattle.link_run.specs.declared.Moved.TheVariants.{Count, NotNow, Ended, Fault}
+use Rattle.link_run.specs.Moves.{IsWithin}
 use Rattle.relay_flow.specs.Parts.{Opens}
 use Rattle.relay_flow.specs.declared.flow.Ends.{Ends}
 use Rattle.relay_flow.specs.declared.flow.Ends.TheVariants.{Open, Last, Faulty}

@@ -1,22 +1,23 @@
 -- What reads and writes of the ends do to a lease.
-use Rattle.std.proofs.Common.{◌≡◌, ◌≢◌, ℕ, ◌+◌, ◌≤◌, inl, inr, ⊎_elim, length, arith, Bool, true, false, List, [], ◌∷◌, ◌++◌, refl, sym, ap, ap₂, ◌∙◌, append_assoc, subst, take, drop, ◌-◌, take-append-drop, length-take-le}
+use Rattle.std.proofs.Common.{◌≡◌, ◌≢◌, ℕ, ◌+◌, ◌≤◌, inl, inr, ⊎_elim, length, arith, Bool, true, false, List, Option, [], ◌∷◌, ◌++◌, refl, sym, ap, ap₂, ◌∙◌, append_assoc, subst, take, drop, ◌-◌, take-append-drop, length-take-le, length-append, ◌<◌}
 use Rattle.std.specs.Prelude.{◌||◌}
 use Rattle.std.specs.List.{flat_map}
 use Rattle.std.proofs.lemmas.Bool.{true≢false, false≢true}
 use Rattle.frame_view.specs.declared.Side.TheVariants.{Client, Server}
 use Rattle.frame_view.specs.Frames.{spelling}
 use Rattle.message_view.specs.declared.KeyWord.{KeyWord}
+use Rattle.message_view.specs.declared.views.KeyView.{KeyView}
 use Rattle.session_values.specs.State.{StartKeyOf}
-use Rattle.server_end.specs.declared.Moved.{Moved}
-use Rattle.server_end.specs.declared.Moved.TheVariants.{Count, NotNow, Ended, Fault}
-use Rattle.server_end.specs.Moves.{faults_in, moved, IsWithin}
+use Rattle.link_run.specs.declared.Moved.{Moved}
+use Rattle.link_run.specs.declared.Moved.TheVariants.{Count, NotNow, Ended, Fault}
+use Rattle.link_run.specs.Moves.{faults_in, moved, IsWithin}
 use Rattle.link_laws.specs.Standing.{Standing, ClientFacts, Moves}
-use Rattle.server_end.specs.Moves.{CountsRead, CountsWrite, ClientReads, ClientWrites}
+use Rattle.link_run.specs.Moves.{CountsRead, CountsWrite, ClientReads, ClientWrites}
 use Rattle.link_laws.proofs.Both.{moves_got, moves_put}
 use Rattle.relay_laws.specs.Verdicts.{Told}
 use Rattle.relay_laws.specs.declared.Flags.{Flags}
 use Rattle.relay_laws.specs.declared.Phase.{Phase}
-use Rattle.relay_flow.specs.Flows.{FlowView, SameCursor, came, count_of, Fills, is_open}
+use Rattle.relay_flow.specs.Flows.{FlowView, SameCursor, came, count_of, Fills, IsPositive, is_open}
 use Rattle.relay_laws.specs.Leases.{relay_view, Place, IsLease, IsClientOver, IsLinkOver, is_end, is_fault, counts, link_moved, client_read, client_wrote}
 use Rattle.relay_laws.proofs.Flowing.{at_end, flow_open, flow_same, same_opens, same_went}
 
@@ -71,12 +72,35 @@ still : (a : Bool) (m : Moved) (bytes : List ℕ) → length bytes ≡ count_of 
 still true m bytes h w = absurd (true≢false w)
 still false m bytes h w = (refl, none_counts m bytes h w)
 
+-- touched: at least a byte was counted
+some_long : (m : Moved) (bytes : List ℕ) → IsPositive m → length bytes ≡ count_of m → counts m ≡ true → 0 < length bytes
+some_long (Count n) bytes p h w = omega (arith, p, h)
+some_long NotNow bytes p h w = absurd (false≢true w)
+some_long Ended bytes p h w = absurd (false≢true w)
+some_long Fault bytes p h w = absurd (false≢true w)
+
+no_faults : (m : Moved) → (is_end m || is_fault m) ≡ false → faults_in m ≡ 0
+no_faults (Count n) w = refl
+no_faults NotNow w = refl
+no_faults Ended w = absurd (true≢false w)
+no_faults Fault w = absurd (true≢false w)
+
+unfaulted_still : (a : Bool) (m : Moved) → (a || (is_end m || is_fault m)) ≡ false → (a ≡ false) × (faults_in m ≡ 0)
+unfaulted_still true m w = absurd (true≢false w)
+unfaulted_still false m w = (refl, no_faults m w)
+
+pub positive_of : (m : Moved) (n : ℕ) → IsWithin m n → IsPositive m
+positive_of (Count k) n w = w.0
+positive_of NotNow n w = tt
+positive_of Ended n w = tt
+positive_of Fault n w = tt
+
 -- ---- the moves
 
-pub lease_room_link : (p : Place) (cf : ClientFacts) (l : Standing) (k : StartKeyOf) (n : ℕ) (b : ℕ) (w : KeyWord) (gr : List ℕ) (tl : FlowView) (tm : FlowView) (tc : FlowView) (t : Told) (fs : Flags) (ph : Phase)
+pub lease_room_link : (p : Place) (cf : ClientFacts) (l : Standing) (k : StartKeyOf) (n : ℕ) (b : ℕ) (sk : Option KeyView) (w : KeyWord) (gr : List ℕ) (tl : FlowView) (tm : FlowView) (tc : FlowView) (t : Told) (fs : Flags) (ph : Phase)
     → tm.held ≡ tl.held → tm.part ≡ tl.part → SameCursor tl tm
-    → IsLease p (relay_view cf l k n b w gr tl tc t fs ph) → IsLease p (relay_view cf l k n b w gr tm tc t fs ph)
-lease_room_link p cf l k n b w gr tl tm tc t fs ph h e s x = record {
+    → IsLease p (relay_view cf l k n b sk w gr tl tc t fs ph) → IsLease p (relay_view cf l k n b sk w gr tm tc t fs ph)
+lease_room_link p cf l k n b sk w gr tl tm tc t fs ph h e s x = record {
   sent = x.sent;
   received = x.received;
   since = x.since;
@@ -86,7 +110,7 @@ lease_room_link p cf l k n b w gr tl tm tc t fs ph h e s x = record {
   front = x.front;
   clean = x.clean;
   greets = x.greets;
-  same = (x.same.0, x.same.1, x.same.2, x.same.3, s.limit ∙ x.same.4, x.same.5);
+  same = (x.same.0, x.same.1, x.same.2, x.same.3, s.limit ∙ x.same.4, x.same.5, x.same.6);
   told = x.told;
   moves = x.moves;
   goes = record {
@@ -102,10 +126,10 @@ lease_room_link p cf l k n b w gr tl tm tc t fs ph h e s x = record {
   says = x.says;
 }
 
-pub lease_room_client : (p : Place) (cf : ClientFacts) (l : Standing) (k : StartKeyOf) (n : ℕ) (b : ℕ) (w : KeyWord) (gr : List ℕ) (tl : FlowView) (tc : FlowView) (td : FlowView) (t : Told) (fs : Flags) (ph : Phase)
+pub lease_room_client : (p : Place) (cf : ClientFacts) (l : Standing) (k : StartKeyOf) (n : ℕ) (b : ℕ) (sk : Option KeyView) (w : KeyWord) (gr : List ℕ) (tl : FlowView) (tc : FlowView) (td : FlowView) (t : Told) (fs : Flags) (ph : Phase)
     → td.held ≡ tc.held → td.part ≡ tc.part → SameCursor tc td
-    → IsLease p (relay_view cf l k n b w gr tl tc t fs ph) → IsLease p (relay_view cf l k n b w gr tl td t fs ph)
-lease_room_client p cf l k n b w gr tl tc td t fs ph h e s x = record {
+    → IsLease p (relay_view cf l k n b sk w gr tl tc t fs ph) → IsLease p (relay_view cf l k n b sk w gr tl td t fs ph)
+lease_room_client p cf l k n b sk w gr tl tc td t fs ph h e s x = record {
   sent = x.sent;
   received = x.received;
   since = x.since;
@@ -115,7 +139,7 @@ lease_room_client p cf l k n b w gr tl tc td t fs ph h e s x = record {
   front = x.front;
   clean = x.clean;
   greets = x.greets;
-  same = (x.same.0, x.same.1, x.same.2, x.same.3, x.same.4, s.limit ∙ x.same.5);
+  same = (x.same.0, x.same.1, x.same.2, x.same.3, x.same.4, s.limit ∙ x.same.5, x.same.6);
   told = x.told;
   moves = x.moves;
   goes = x.goes;
@@ -131,10 +155,10 @@ lease_room_client p cf l k n b w gr tl tc td t fs ph h e s x = record {
   says = x.says;
 }
 
-pub lease_read_link : (p : Place) (cf : ClientFacts) (l : Standing) (m : Standing) (k : StartKeyOf) (n : ℕ) (b : ℕ) (w : KeyWord) (gr : List ℕ) (tl : FlowView) (tc : FlowView) (td : FlowView) (t : Told) (fs : Flags) (fz : Flags) (ph : Phase) (r : Moved)
-    → is_open tc.ends ≡ true → Fills tc td r → Moves l [] m (came tc td) → CountsRead l m r → fz ≡ link_moved fs r
-    → IsLease p (relay_view cf l k n b w gr tl tc t fs ph) → IsLease p (relay_view cf m k n b w gr tl td t fz ph)
-lease_read_link p cf l m k n b w gr tl tc td t fs fz ph r o f y z q x = record {
+pub lease_read_link : (p : Place) (cf : ClientFacts) (l : Standing) (m : Standing) (k : StartKeyOf) (n : ℕ) (b : ℕ) (sk : Option KeyView) (w : KeyWord) (gr : List ℕ) (tl : FlowView) (tc : FlowView) (td : FlowView) (t : Told) (fs : Flags) (fz : Flags) (ph : Phase) (r : Moved)
+    → is_open tc.ends ≡ true → IsPositive r → Fills tc td r → Moves l [] m (came tc td) → CountsRead l m r → fz ≡ link_moved fs r
+    → IsLease p (relay_view cf l k n b sk w gr tl tc t fs ph) → IsLease p (relay_view cf m k n b sk w gr tl td t fz ph)
+lease_read_link p cf l m k n b sk w gr tl tc td t fs fz ph r o u f y z q x = record {
   sent = x.sent;
   received = x.received ++ came tc td;
   since = x.since;
@@ -144,7 +168,7 @@ lease_read_link p cf l m k n b w gr tl tc td t fs fz ph r o f y z q x = record {
   front = x.front;
   clean = x.clean;
   greets = x.greets;
-  same = (x.same.0, x.same.1, x.same.2, x.same.3, x.same.4, f.cursor.limit ∙ x.same.5);
+  same = (x.same.0, x.same.1, x.same.2, x.same.3, x.same.4, f.cursor.limit ∙ x.same.5, x.same.6);
   told = x.told;
   moves = moves_got p.stands l m x.sent x.received (came tc td) x.moves y;
   goes = x.goes;
@@ -163,14 +187,16 @@ lease_read_link p cf l m k n b w gr tl tc td t fs fz ph r o f y z q x = record {
     client_over = λ v. x.says.client_over (sym (ap (λ (f : Flags). f.client_over) q) ∙ v);
     input_over = λ v. x.says.input_over (sym (ap (λ (f : Flags). f.input_over) q) ∙ v);
     link_over = λ v. or_by fs.link_over (is_end r || is_fault r) (sym (ap (λ (f : Flags). f.link_over) q) ∙ v) (λ a. link_stays p.stands.faults l m r z.faults y.dead (x.says.link_over a)) (λ a. link_now p.stands.faults l m r x.says.link_faults z.faults z.ended a);
+    unfaulted = λ v. let a : (fs.link_over ≡ false) × (faults_in r ≡ 0) = unfaulted_still fs.link_over r (sym (ap (λ (f : Flags). f.link_over) q) ∙ v) in omega (arith, x.says.unfaulted a.0, a.1, z.faults);
     untouched = λ v. let a : (fs.touched ≡ false) × (came tc td ≡ []) = still fs.touched r (came tc td) f.count (sym (ap (λ (f : Flags). f.touched) q) ∙ v) in let c : (x.sent ≡ []) × (x.received ≡ []) = x.says.untouched a.0 in (c.0, rw (c.1, a.1) refl);
+    touched = λ v. or_by fs.touched (counts r) (sym (ap (λ (f : Flags). f.touched) q) ∙ v) (λ a. omega (arith, x.says.touched a, length-append x.received (came tc td))) (λ a. omega (arith, some_long r (came tc td) u f.count a, length-append x.received (came tc td)));
   };
 }
 
-pub lease_read_client : (p : Place) (cf : ClientFacts) (cg : ClientFacts) (l : Standing) (k : StartKeyOf) (n : ℕ) (b : ℕ) (w : KeyWord) (gr : List ℕ) (tl : FlowView) (tm : FlowView) (tc : FlowView) (t : Told) (fs : Flags) (fz : Flags) (ph : Phase) (r : Moved)
+pub lease_read_client : (p : Place) (cf : ClientFacts) (cg : ClientFacts) (l : Standing) (k : StartKeyOf) (n : ℕ) (b : ℕ) (sk : Option KeyView) (w : KeyWord) (gr : List ℕ) (tl : FlowView) (tm : FlowView) (tc : FlowView) (t : Told) (fs : Flags) (fz : Flags) (ph : Phase) (r : Moved)
     → is_open tl.ends ≡ true → Fills tl tm r → ClientReads cf cg (came tl tm) r → fz ≡ client_read fs r
-    → IsLease p (relay_view cf l k n b w gr tl tc t fs ph) → IsLease p (relay_view cg l k n b w gr tm tc t fz ph)
-lease_read_client p cf cg l k n b w gr tl tm tc t fs fz ph r o f y q x = record {
+    → IsLease p (relay_view cf l k n b sk w gr tl tc t fs ph) → IsLease p (relay_view cg l k n b sk w gr tm tc t fz ph)
+lease_read_client p cf cg l k n b sk w gr tl tm tc t fs fz ph r o f y q x = record {
   sent = x.sent;
   received = x.received;
   since = x.since;
@@ -180,7 +206,7 @@ lease_read_client p cf cg l k n b w gr tl tm tc t fs fz ph r o f y q x = record 
   front = x.front;
   clean = x.clean;
   greets = x.greets;
-  same = (x.same.0, x.same.1, x.same.2, x.same.3, f.cursor.limit ∙ x.same.4, x.same.5);
+  same = (x.same.0, x.same.1, x.same.2, x.same.3, f.cursor.limit ∙ x.same.4, x.same.5, x.same.6);
   told = y.tells ∙ x.told;
   moves = x.moves;
   goes = record {
@@ -207,7 +233,9 @@ lease_read_client p cf cg l k n b w gr tl tm tc t fs fz ph r o f y q x = record 
     client_over = λ v. or_by fs.client_over (is_fault r) (sym (ap (λ (f : Flags). f.client_over) q) ∙ v) (λ a. client_stays p.faults cf cg r y.faults y.stays_ended (x.says.client_over a)) (λ a. client_now p.faults cf cg r x.says.client_faults y.faults y.ended (over_if_fault r a));
     input_over = λ v. or_by fs.input_over (is_end r) (sym (ap (λ (f : Flags). f.input_over) q) ∙ v) (λ a. client_stays p.faults cf cg r y.faults y.stays_ended (x.says.input_over a)) (λ a. client_now p.faults cf cg r x.says.client_faults y.faults y.ended (over_if_end r a));
     link_over = λ v. x.says.link_over (sym (ap (λ (f : Flags). f.link_over) q) ∙ v);
+    unfaulted = λ v. x.says.unfaulted (sym (ap (λ (f : Flags). f.link_over) q) ∙ v);
     untouched = λ v. x.says.untouched (sym (ap (λ (f : Flags). f.touched) q) ∙ v);
+    touched = λ v. x.says.touched (sym (ap (λ (f : Flags). f.touched) q) ∙ v);
   };
 }
 
@@ -238,10 +266,10 @@ gives_by v w h NotNow e i d = record { both = sym d; count = refl }
 gives_by v w h Ended e i d = record { both = sym d; count = refl }
 gives_by v w h Fault e i d = record { both = sym d; count = refl }
 
-pub lease_write_link : (p : Place) (cf : ClientFacts) (l : Standing) (m : Standing) (k : StartKeyOf) (n : ℕ) (b : ℕ) (w : KeyWord) (gr : List ℕ) (tl : FlowView) (tm : FlowView) (tc : FlowView) (t : Told) (fs : Flags) (fz : Flags) (ph : Phase) (put : List ℕ) (r : Moved)
-    → Writes tl tm put r → Moves l put m [] → CountsWrite l m r → fz ≡ link_moved fs r
-    → IsLease p (relay_view cf l k n b w gr tl tc t fs ph) → IsLease p (relay_view cf m k n b w gr tm tc t fz ph)
-lease_write_link p cf l m k n b w gr tl tm tc t fs fz ph put r f y z q x = record {
+pub lease_write_link : (p : Place) (cf : ClientFacts) (l : Standing) (m : Standing) (k : StartKeyOf) (n : ℕ) (b : ℕ) (sk : Option KeyView) (w : KeyWord) (gr : List ℕ) (tl : FlowView) (tm : FlowView) (tc : FlowView) (t : Told) (fs : Flags) (fz : Flags) (ph : Phase) (put : List ℕ) (r : Moved)
+    → IsPositive r → Writes tl tm put r → Moves l put m [] → CountsWrite l m r → fz ≡ link_moved fs r
+    → IsLease p (relay_view cf l k n b sk w gr tl tc t fs ph) → IsLease p (relay_view cf m k n b sk w gr tm tc t fz ph)
+lease_write_link p cf l m k n b sk w gr tl tm tc t fs fz ph put r u f y z q x = record {
   sent = x.sent ++ put;
   received = x.received;
   since = x.since;
@@ -251,7 +279,7 @@ lease_write_link p cf l m k n b w gr tl tm tc t fs fz ph put r f y z q x = recor
   front = x.front;
   clean = x.clean;
   greets = x.greets;
-  same = (x.same.0, x.same.1, x.same.2, x.same.3, f.cursor.limit ∙ x.same.4, x.same.5);
+  same = (x.same.0, x.same.1, x.same.2, x.same.3, f.cursor.limit ∙ x.same.4, x.same.5, x.same.6);
   told = x.told;
   moves = moves_put p.stands l m x.sent put x.received x.moves y;
   goes = record {
@@ -270,7 +298,9 @@ lease_write_link p cf l m k n b w gr tl tm tc t fs fz ph put r f y z q x = recor
     client_over = λ v. x.says.client_over (sym (ap (λ (f : Flags). f.client_over) q) ∙ v);
     input_over = λ v. x.says.input_over (sym (ap (λ (f : Flags). f.input_over) q) ∙ v);
     link_over = λ v. or_by fs.link_over (is_end r || is_fault r) (sym (ap (λ (f : Flags). f.link_over) q) ∙ v) (λ a. link_stays p.stands.faults l m r z.faults y.dead (x.says.link_over a)) (λ a. link_now p.stands.faults l m r x.says.link_faults z.faults z.ended a);
+    unfaulted = λ v. let a : (fs.link_over ≡ false) × (faults_in r ≡ 0) = unfaulted_still fs.link_over r (sym (ap (λ (f : Flags). f.link_over) q) ∙ v) in omega (arith, x.says.unfaulted a.0, a.1, z.faults);
     untouched = λ v. let a : (fs.touched ≡ false) × (put ≡ []) = still fs.touched r put f.count (sym (ap (λ (f : Flags). f.touched) q) ∙ v) in let c : (x.sent ≡ []) × (x.received ≡ []) = x.says.untouched a.0 in (rw (c.0, a.1) refl, c.1);
+    touched = λ v. or_by fs.touched (counts r) (sym (ap (λ (f : Flags). f.touched) q) ∙ v) (λ a. omega (arith, x.says.touched a, length-append x.sent put)) (λ a. omega (arith, some_long r put u f.count a, length-append x.sent put));
   };
 }
 
@@ -280,10 +310,10 @@ written_by s h q i put all f o = cc (f, o, append_assoc s put (i ++ q), append_a
 written : (s g h q i j put all : List ℕ) → g ≡ [] → h ≡ put ++ i → j ≡ q → s ++ (g ++ (h ++ q)) ≡ all → (s ++ put) ++ (g ++ (i ++ j)) ≡ all
 written s g h q i j put all e f d o = rw (e, d) (written_by s h q i put all f (subst (λ (x : List ℕ). s ++ (x ++ (h ++ q)) ≡ all) e o))
 
-pub lease_write_client : (p : Place) (cf : ClientFacts) (cg : ClientFacts) (l : Standing) (k : StartKeyOf) (n : ℕ) (b : ℕ) (w : KeyWord) (gr : List ℕ) (tl : FlowView) (tc : FlowView) (td : FlowView) (t : Told) (fs : Flags) (fz : Flags) (ph : Phase) (put : List ℕ) (r : Moved)
+pub lease_write_client : (p : Place) (cf : ClientFacts) (cg : ClientFacts) (l : Standing) (k : StartKeyOf) (n : ℕ) (b : ℕ) (sk : Option KeyView) (w : KeyWord) (gr : List ℕ) (tl : FlowView) (tc : FlowView) (td : FlowView) (t : Told) (fs : Flags) (fz : Flags) (ph : Phase) (put : List ℕ) (r : Moved)
     → gr ≡ [] → Writes tc td put r → ClientWrites cf cg put r → fz ≡ client_wrote fs r
-    → IsLease p (relay_view cf l k n b w gr tl tc t fs ph) → IsLease p (relay_view cg l k n b w gr tl td t fz ph)
-lease_write_client p cf cg l k n b w gr tl tc td t fs fz ph put r e f y q x = record {
+    → IsLease p (relay_view cf l k n b sk w gr tl tc t fs ph) → IsLease p (relay_view cg l k n b sk w gr tl td t fz ph)
+lease_write_client p cf cg l k n b sk w gr tl tc td t fs fz ph put r e f y q x = record {
   sent = x.sent;
   received = x.received;
   since = x.since ++ put;
@@ -293,7 +323,7 @@ lease_write_client p cf cg l k n b w gr tl tc td t fs fz ph put r e f y q x = re
   front = x.front;
   clean = x.clean;
   greets = x.greets;
-  same = (x.same.0, x.same.1, x.same.2, x.same.3, x.same.4, f.cursor.limit ∙ x.same.5);
+  same = (x.same.0, x.same.1, x.same.2, x.same.3, x.same.4, f.cursor.limit ∙ x.same.5, x.same.6);
   told = y.tells ∙ x.told;
   moves = x.moves;
   goes = record {
@@ -319,14 +349,16 @@ lease_write_client p cf cg l k n b w gr tl tc td t fs fz ph put r e f y q x = re
     client_over = λ v. or_by fs.client_over (is_end r || is_fault r) (sym (ap (λ (f : Flags). f.client_over) q) ∙ v) (λ a. client_stays p.faults cf cg r y.faults y.stays_ended (x.says.client_over a)) (λ a. client_now p.faults cf cg r x.says.client_faults y.faults y.ended a);
     input_over = λ v. client_stays p.faults cf cg r y.faults y.stays_ended (x.says.input_over (sym (ap (λ (f : Flags). f.input_over) q) ∙ v));
     link_over = λ v. x.says.link_over (sym (ap (λ (f : Flags). f.link_over) q) ∙ v);
+    unfaulted = λ v. x.says.unfaulted (sym (ap (λ (f : Flags). f.link_over) q) ∙ v);
     untouched = λ v. x.says.untouched (sym (ap (λ (f : Flags). f.touched) q) ∙ v);
+    touched = λ v. x.says.touched (sym (ap (λ (f : Flags). f.touched) q) ∙ v);
   };
 }
 
-pub lease_write_welcome : (p : Place) (cf : ClientFacts) (cg : ClientFacts) (l : Standing) (k : StartKeyOf) (n : ℕ) (b : ℕ) (w : KeyWord) (gr : List ℕ) (gs : List ℕ) (tl : FlowView) (tc : FlowView) (t : Told) (fs : Flags) (fz : Flags) (ph : Phase) (put : List ℕ) (r : Moved)
+pub lease_write_welcome : (p : Place) (cf : ClientFacts) (cg : ClientFacts) (l : Standing) (k : StartKeyOf) (n : ℕ) (b : ℕ) (sk : Option KeyView) (w : KeyWord) (gr : List ℕ) (gs : List ℕ) (tl : FlowView) (tc : FlowView) (t : Told) (fs : Flags) (fz : Flags) (ph : Phase) (put : List ℕ) (r : Moved)
     → Gives gr gs put r → ClientWrites cf cg put r → fz ≡ client_wrote fs r
-    → IsLease p (relay_view cf l k n b w gr tl tc t fs ph) → IsLease p (relay_view cg l k n b w gs tl tc t fz ph)
-lease_write_welcome p cf cg l k n b w gr gs tl tc t fs fz ph put r f y q x = record {
+    → IsLease p (relay_view cf l k n b sk w gr tl tc t fs ph) → IsLease p (relay_view cg l k n b sk w gs tl tc t fz ph)
+lease_write_welcome p cf cg l k n b sk w gr gs tl tc t fs fz ph put r f y q x = record {
   sent = x.sent;
   received = x.received;
   since = x.since ++ put;
@@ -362,13 +394,15 @@ lease_write_welcome p cf cg l k n b w gr gs tl tc t fs fz ph put r f y q x = rec
     client_over = λ v. or_by fs.client_over (is_end r || is_fault r) (sym (ap (λ (f : Flags). f.client_over) q) ∙ v) (λ a. client_stays p.faults cf cg r y.faults y.stays_ended (x.says.client_over a)) (λ a. client_now p.faults cf cg r x.says.client_faults y.faults y.ended a);
     input_over = λ v. client_stays p.faults cf cg r y.faults y.stays_ended (x.says.input_over (sym (ap (λ (f : Flags). f.input_over) q) ∙ v));
     link_over = λ v. x.says.link_over (sym (ap (λ (f : Flags). f.link_over) q) ∙ v);
+    unfaulted = λ v. x.says.unfaulted (sym (ap (λ (f : Flags). f.link_over) q) ∙ v);
     untouched = λ v. x.says.untouched (sym (ap (λ (f : Flags). f.touched) q) ∙ v);
+    touched = λ v. x.says.touched (sym (ap (λ (f : Flags). f.touched) q) ∙ v);
   };
 }
 
-pub lease_phase : (p : Place) (cf : ClientFacts) (l : Standing) (k : StartKeyOf) (n : ℕ) (b : ℕ) (w : KeyWord) (gr : List ℕ) (tl : FlowView) (tc : FlowView) (t : Told) (fs : Flags) (ph : Phase) (pi : Phase)
-    → IsLease p (relay_view cf l k n b w gr tl tc t fs ph) → IsLease p (relay_view cf l k n b w gr tl tc t fs pi)
-lease_phase p cf l k n b w gr tl tc t fs ph pi x = record {
+pub lease_phase : (p : Place) (cf : ClientFacts) (l : Standing) (k : StartKeyOf) (n : ℕ) (b : ℕ) (sk : Option KeyView) (w : KeyWord) (gr : List ℕ) (tl : FlowView) (tc : FlowView) (t : Told) (fs : Flags) (ph : Phase) (pi : Phase)
+    → IsLease p (relay_view cf l k n b sk w gr tl tc t fs ph) → IsLease p (relay_view cf l k n b sk w gr tl tc t fs pi)
+lease_phase p cf l k n b sk w gr tl tc t fs ph pi x = record {
   sent = x.sent;
   received = x.received;
   since = x.since;

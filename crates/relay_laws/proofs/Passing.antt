@@ -11,6 +11,7 @@ use Rattle.frame_view.specs.Frames.{AreBytes, FrameOf, IsFrame, spelling}
 use Rattle.frame_view.specs.declared.frames.TheConstants.{LONGEST_FRAME}
 use Rattle.frame_view.specs.declared.client.TheConstants.{TERMINATE}
 use Rattle.message_view.specs.declared.KeyWord.{KeyWord}
+use Rattle.message_view.specs.declared.views.KeyView.{KeyView}
 use Rattle.session_values.specs.State.{StartKeyOf}
 use Rattle.link_laws.specs.Standing.{Standing, ClientFacts}
 use Rattle.session_values.proofs.Alls.{all-append}
@@ -115,10 +116,10 @@ more_frames fs f = flat_map-append spelling fs (f ∷ []) ∙ ap (λ (b : List �
 
 -- ---- the moves
 
-pub lease_stays_link : (p : Place) (cf : ClientFacts) (l : Standing) (k : StartKeyOf) (n : ℕ) (b : ℕ) (w : KeyWord) (gr : List ℕ) (tl : FlowView) (tm : FlowView) (tc : FlowView) (t : Told) (fs : Flags) (ph : Phase)
+pub lease_stays_link : (p : Place) (cf : ClientFacts) (l : Standing) (k : StartKeyOf) (n : ℕ) (b : ℕ) (sk : Option KeyView) (w : KeyWord) (gr : List ℕ) (tl : FlowView) (tm : FlowView) (tc : FlowView) (t : Told) (fs : Flags) (ph : Phase)
     → Stays tl tm
-    → IsLease p (relay_view cf l k n b w gr tl tc t fs ph) → IsLease p (relay_view cf l k n b w gr tm tc t fs ph)
-lease_stays_link p cf l k n b w gr tl tm tc t fs ph y x = record {
+    → IsLease p (relay_view cf l k n b sk w gr tl tc t fs ph) → IsLease p (relay_view cf l k n b sk w gr tm tc t fs ph)
+lease_stays_link p cf l k n b sk w gr tl tm tc t fs ph y x = record {
   sent = x.sent;
   received = x.received;
   since = x.since;
@@ -128,7 +129,7 @@ lease_stays_link p cf l k n b w gr tl tm tc t fs ph y x = record {
   front = x.front;
   clean = x.clean;
   greets = x.greets;
-  same = (x.same.0, x.same.1, x.same.2, x.same.3, y.limit ∙ x.same.4, x.same.5);
+  same = (x.same.0, x.same.1, x.same.2, x.same.3, y.limit ∙ x.same.4, x.same.5, x.same.6);
   told = x.told;
   moves = x.moves;
   goes = record {
@@ -144,10 +145,10 @@ lease_stays_link p cf l k n b w gr tl tm tc t fs ph y x = record {
   says = x.says;
 }
 
-pub lease_stays_client : (p : Place) (cf : ClientFacts) (l : Standing) (k : StartKeyOf) (n : ℕ) (b : ℕ) (w : KeyWord) (gr : List ℕ) (tl : FlowView) (tc : FlowView) (td : FlowView) (t : Told) (fs : Flags) (ph : Phase)
+pub lease_stays_client : (p : Place) (cf : ClientFacts) (l : Standing) (k : StartKeyOf) (n : ℕ) (b : ℕ) (sk : Option KeyView) (w : KeyWord) (gr : List ℕ) (tl : FlowView) (tc : FlowView) (td : FlowView) (t : Told) (fs : Flags) (ph : Phase)
     → Stays tc td
-    → IsLease p (relay_view cf l k n b w gr tl tc t fs ph) → IsLease p (relay_view cf l k n b w gr tl td t fs ph)
-lease_stays_client p cf l k n b w gr tl tc td t fs ph y x = record {
+    → IsLease p (relay_view cf l k n b sk w gr tl tc t fs ph) → IsLease p (relay_view cf l k n b sk w gr tl td t fs ph)
+lease_stays_client p cf l k n b sk w gr tl tc td t fs ph y x = record {
   sent = x.sent;
   received = x.received;
   since = x.since;
@@ -157,7 +158,7 @@ lease_stays_client p cf l k n b w gr tl tc td t fs ph y x = record {
   front = x.front;
   clean = x.clean;
   greets = x.greets;
-  same = (x.same.0, x.same.1, x.same.2, x.same.3, x.same.4, y.limit ∙ x.same.5);
+  same = (x.same.0, x.same.1, x.same.2, x.same.3, x.same.4, y.limit ∙ x.same.5, x.same.6);
   told = x.told;
   moves = x.moves;
   goes = x.goes;
@@ -173,10 +174,10 @@ lease_stays_client p cf l k n b w gr tl tc td t fs ph y x = record {
   says = x.says;
 }
 
-pub lease_part_link : (p : Place) (cf : ClientFacts) (l : Standing) (k : StartKeyOf) (n : ℕ) (b : ℕ) (w : KeyWord) (gr : List ℕ) (tl : FlowView) (tm : FlowView) (tc : FlowView) (t : Told) (fs : Flags) (ph : Phase) (ps : Passed)
+pub lease_part_link : (p : Place) (cf : ClientFacts) (l : Standing) (k : StartKeyOf) (n : ℕ) (b : ℕ) (sk : Option KeyView) (w : KeyWord) (gr : List ℕ) (tl : FlowView) (tm : FlowView) (tc : FlowView) (t : Told) (fs : Flags) (ph : Phase) (ps : Passed)
     → is_open tl.ends ≡ true → Passes tl tm ps → ps.whole ≡ false
-    → IsLease p (relay_view cf l k n b w gr tl tc t fs ph) → IsLease p (relay_view cf l k n b w gr tm tc t fs ph)
-lease_part_link p cf l k n b w gr tl tm tc t fs ph ps o y h x = record {
+    → IsLease p (relay_view cf l k n b sk w gr tl tc t fs ph) → IsLease p (relay_view cf l k n b sk w gr tm tc t fs ph)
+lease_part_link p cf l k n b sk w gr tl tm tc t fs ph ps o y h x = record {
   sent = x.sent;
   received = x.received;
   since = x.since;
@@ -186,7 +187,7 @@ lease_part_link p cf l k n b w gr tl tm tc t fs ph ps o y h x = record {
   front = x.front;
   clean = x.clean;
   greets = x.greets;
-  same = (x.same.0, x.same.1, x.same.2, x.same.3, y.limit ∙ x.same.4, x.same.5);
+  same = (x.same.0, x.same.1, x.same.2, x.same.3, y.limit ∙ x.same.4, x.same.5, x.same.6);
   told = x.told;
   moves = x.moves;
   goes = record {
@@ -202,10 +203,10 @@ lease_part_link p cf l k n b w gr tl tm tc t fs ph ps o y h x = record {
   says = x.says;
 }
 
-pub lease_whole_link : (p : Place) (cf : ClientFacts) (l : Standing) (k : StartKeyOf) (n : ℕ) (b : ℕ) (w : KeyWord) (gr : List ℕ) (tl : FlowView) (tm : FlowView) (tc : FlowView) (t : Told) (u : Told) (fs : Flags) (ph : Phase) (ps : Passed)
+pub lease_whole_link : (p : Place) (cf : ClientFacts) (l : Standing) (k : StartKeyOf) (n : ℕ) (b : ℕ) (sk : Option KeyView) (w : KeyWord) (gr : List ℕ) (tl : FlowView) (tm : FlowView) (tc : FlowView) (t : Told) (u : Told) (fs : Flags) (ph : Phase) (ps : Passed)
     → CallsTell → is_open tl.ends ≡ true → Passes tl tm ps → ps.whole ≡ true → u.tally ≡ told_sent ps.kind t.tally → u.reports ≡ t.reports
-    → IsLease p (relay_view cf l k n b w gr tl tc t fs ph) → IsLease p (relay_view cf l k n b w gr tm tc u fs ph)
-lease_whole_link p cf l k n b w gr tl tm tc t u fs ph ps law o y h e r x =
+    → IsLease p (relay_view cf l k n b sk w gr tl tc t fs ph) → IsLease p (relay_view cf l k n b sk w gr tm tc u fs ph)
+lease_whole_link p cf l k n b sk w gr tl tm tc t u fs ph ps law o y h e r x =
     let s : Spells tl.side tl.limit (x.tail ++ y.bytes) ps.kind ps.status ps.is_foreign = y.spells h x.tail x.goes.opens in
     record {
       sent = x.sent;
@@ -217,7 +218,7 @@ lease_whole_link p cf l k n b w gr tl tm tc t u fs ph ps law o y h e r x =
       front = x.front;
       clean = x.clean;
       greets = x.greets;
-      same = (x.same.0, x.same.1, x.same.2, x.same.3, y.limit ∙ x.same.4, x.same.5);
+      same = (x.same.0, x.same.1, x.same.2, x.same.3, y.limit ∙ x.same.4, x.same.5, x.same.6);
       told = x.told;
       moves = x.moves;
       goes = record {
@@ -233,10 +234,10 @@ lease_whole_link p cf l k n b w gr tl tm tc t u fs ph ps law o y h e r x =
       says = x.says;
     }
 
-pub lease_part_client : (p : Place) (cf : ClientFacts) (l : Standing) (k : StartKeyOf) (n : ℕ) (b : ℕ) (w : KeyWord) (gr : List ℕ) (tl : FlowView) (tc : FlowView) (td : FlowView) (t : Told) (fs : Flags) (ph : Phase) (ps : Passed)
+pub lease_part_client : (p : Place) (cf : ClientFacts) (l : Standing) (k : StartKeyOf) (n : ℕ) (b : ℕ) (sk : Option KeyView) (w : KeyWord) (gr : List ℕ) (tl : FlowView) (tc : FlowView) (td : FlowView) (t : Told) (fs : Flags) (ph : Phase) (ps : Passed)
     → is_open tc.ends ≡ true → Passes tc td ps → ps.whole ≡ false
-    → IsLease p (relay_view cf l k n b w gr tl tc t fs ph) → IsLease p (relay_view cf l k n b w gr tl td t fs ph)
-lease_part_client p cf l k n b w gr tl tc td t fs ph ps o y h x = record {
+    → IsLease p (relay_view cf l k n b sk w gr tl tc t fs ph) → IsLease p (relay_view cf l k n b sk w gr tl td t fs ph)
+lease_part_client p cf l k n b sk w gr tl tc td t fs ph ps o y h x = record {
   sent = x.sent;
   received = x.received;
   since = x.since;
@@ -246,7 +247,7 @@ lease_part_client p cf l k n b w gr tl tc td t fs ph ps o y h x = record {
   front = x.front ++ y.bytes;
   clean = x.clean;
   greets = x.greets;
-  same = (x.same.0, x.same.1, x.same.2, x.same.3, x.same.4, y.limit ∙ x.same.5);
+  same = (x.same.0, x.same.1, x.same.2, x.same.3, x.same.4, y.limit ∙ x.same.5, x.same.6);
   told = x.told;
   moves = x.moves;
   goes = x.goes;
@@ -262,10 +263,10 @@ lease_part_client p cf l k n b w gr tl tc td t fs ph ps o y h x = record {
   says = x.says;
 }
 
-pub lease_whole_client : (p : Place) (cf : ClientFacts) (l : Standing) (k : StartKeyOf) (n : ℕ) (b : ℕ) (w : KeyWord) (gr : List ℕ) (tl : FlowView) (tc : FlowView) (td : FlowView) (t : Told) (u : Told) (fs : Flags) (ph : Phase) (ps : Passed) (own : Bool)
+pub lease_whole_client : (p : Place) (cf : ClientFacts) (l : Standing) (k : StartKeyOf) (n : ℕ) (b : ℕ) (sk : Option KeyView) (w : KeyWord) (gr : List ℕ) (tl : FlowView) (tc : FlowView) (td : FlowView) (t : Told) (u : Told) (fs : Flags) (ph : Phase) (ps : Passed) (own : Bool)
     → CallsTell → is_open tc.ends ≡ true → Passes tc td ps → ps.whole ≡ true → u.tally ≡ told_arrived ps own t.tally → IsRead t.reports u.reports own td ps
-    → IsLease p (relay_view cf l k n b w gr tl tc t fs ph) → IsLease p (relay_view cf l k n b w gr tl td u fs ph)
-lease_whole_client p cf l k n b w gr tl tc td t u fs ph ps own law o y h e r x =
+    → IsLease p (relay_view cf l k n b sk w gr tl tc t fs ph) → IsLease p (relay_view cf l k n b sk w gr tl td u fs ph)
+lease_whole_client p cf l k n b sk w gr tl tc td t u fs ph ps own law o y h e r x =
     let s : Spells tc.side tc.limit (x.front ++ y.bytes) ps.kind ps.status ps.is_foreign = y.spells h x.front x.comes.opens in
     record {
       sent = x.sent;
@@ -277,7 +278,7 @@ lease_whole_client p cf l k n b w gr tl tc td t u fs ph ps own law o y h e r x =
       front = [];
       clean = x.clean;
       greets = x.greets;
-      same = (x.same.0, x.same.1, x.same.2, x.same.3, x.same.4, y.limit ∙ x.same.5);
+      same = (x.same.0, x.same.1, x.same.2, x.same.3, x.same.4, y.limit ∙ x.same.5, x.same.6);
       told = x.told;
       moves = x.moves;
       goes = x.goes;

@@ -1,5 +1,5 @@
 -- A relay as contracts see it, and what one lease keeps.
-use Rattle.std.specs.Prelude.{◌≡◌, ◌⊎◌, ◌≢◌, ℕ, ◌<◌, ◌≤◌, Bool, true, false, ◌&&◌, ◌||◌, ◌==◌, List, [], ◌++◌, Ok}
+use Rattle.std.specs.Prelude.{◌≡◌, ◌⊎◌, ◌≢◌, ℕ, ◌+◌, ◌<◌, ◌≤◌, Bool, true, false, ◌&&◌, ◌||◌, ◌==◌, Option, List, [], ◌++◌, length, Ok}
 use Rattle.std.specs.List.{flat_map, AllByRecursion}
 use Rattle.disposal.specs.declared.Verdict.{Verdict}
 use Rattle.disposal.specs.Tallies.{verdict_of}
@@ -10,12 +10,13 @@ use Rattle.frame_view.specs.Frames.{AreBytes, FrameOf, IsFrame, spelling}
 use Rattle.frame_view.specs.declared.frames.TheConstants.{LONGEST_FRAME}
 use Rattle.frame_view.specs.declared.client.TheConstants.{TERMINATE}
 use Rattle.message_view.specs.declared.KeyWord.{KeyWord}
+use Rattle.message_view.specs.declared.views.KeyView.{KeyView}
 use Rattle.session_values.specs.State.{State, StartKeyOf, fresh}
 use Rattle.session_values.specs.Service.{service, welcome}
 use Rattle.session_laws.specs.Laws.{IsSent}
 use Rattle.link_laws.specs.Standing.{Standing, ClientFacts, Moves}
-use Rattle.server_end.specs.declared.Moved.{Moved}
-use Rattle.server_end.specs.declared.Moved.TheVariants as moved
+use Rattle.link_run.specs.declared.Moved.{Moved}
+use Rattle.link_run.specs.declared.Moved.TheVariants as moved
 use Rattle.link_run.specs.Links.{LinkView, IsClean, welcome_by}
 use Rattle.link_laws.specs.Futures.{future}
 use Rattle.relay_flow.specs.Parts.{Opens}
@@ -30,6 +31,7 @@ pub record RelayView : Type 0 where
   pub key : StartKeyOf
   pub number : ℕ
   pub born : ℕ
+  pub server_key : Option KeyView
   pub word : KeyWord
   -- what the client is still to be given of its welcome
   pub greeting : List ℕ
@@ -39,13 +41,14 @@ pub record RelayView : Type 0 where
   pub flags : Flags
   pub phase : Phase
 
-abbrev pub relay_view : ClientFacts → Standing → StartKeyOf → ℕ → ℕ → KeyWord → List ℕ → FlowView → FlowView → Told → Flags → Phase → RelayView
-relay_view client link key number born word greeting to_link to_client told flags phase = record {
+abbrev pub relay_view : ClientFacts → Standing → StartKeyOf → ℕ → ℕ → Option KeyView → KeyWord → List ℕ → FlowView → FlowView → Told → Flags → Phase → RelayView
+relay_view client link key number born server_key word greeting to_link to_client told flags phase = record {
   client = client;
   link = link;
   key = key;
   number = number;
   born = born;
+  server_key = server_key;
   word = word;
   greeting = greeting;
   to_link = to_link;
@@ -103,6 +106,7 @@ pub record Place : Type 0 where
   pub key : StartKeyOf
   pub number : ℕ
   pub born : ℕ
+  pub server_key : Option KeyView
   pub word : KeyWord
   pub limit : ℕ
   pub greeting : List ℕ
@@ -112,7 +116,7 @@ abbrev pub greeting_of : List Kept → KeyWord → List ℕ
 greeting_of reports word = flat_map spelling (welcome_by reports word.pid word.secret)
 
 abbrev pub place : ClientFacts → LinkView → KeyWord → ℕ → Place
-place client link word limit = record { told = client.tells; taken = client.taken; given = client.given; faults = client.faults; stands = link.stands; reports = link.reports; key = link.key; number = link.number; born = link.born; word = word; limit = limit; greeting = greeting_of link.reports word }
+place client link word limit = record { told = client.tells; taken = client.taken; given = client.given; faults = client.faults; stands = link.stands; reports = link.reports; key = link.key; number = link.number; born = link.born; server_key = link.server_key; word = word; limit = limit; greeting = greeting_of link.reports word }
 
 -- the welcome of the link's fresh session, with the client's own key word
 abbrev pub IsGreeting : Standing → StartKeyOf → KeyWord → List ℕ → Type 0
@@ -139,7 +143,7 @@ pub record IsFlow (side : Side) (f : FlowView) : Type 0 where
 
 -- it is the same link, key word and limit still
 abbrev pub IsSame : Place → RelayView → Type 0
-IsSame p v = (v.key ≡ p.key) × (v.number ≡ p.number) × (v.born ≡ p.born) × (v.word ≡ p.word) × (v.to_link.limit ≡ p.limit) × (v.to_client.limit ≡ p.limit)
+IsSame p v = (v.key ≡ p.key) × (v.number ≡ p.number) × (v.born ≡ p.born) × (v.word ≡ p.word) × (v.to_link.limit ≡ p.limit) × (v.to_client.limit ≡ p.limit) × (v.server_key ≡ p.server_key)
 
 -- From the client to the link, since that place: these frames went on, and the beginning (tail) of one more. What was
 -- sent over the link and what is held for it are these; what was taken from the client are these and the part behind them.
@@ -169,7 +173,9 @@ pub record Says (p : Place) (client : ClientFacts) (link : Standing) (flags : Fl
   pub client_over : flags.client_over ≡ true → IsClientOver p.faults client
   pub input_over : flags.input_over ≡ true → IsClientOver p.faults client
   pub link_over : flags.link_over ≡ true → IsLinkOver p.stands.faults link
+  pub unfaulted : flags.link_over ≡ false → link.faults ≡ p.stands.faults
   pub untouched : flags.touched ≡ false → (sent ≡ []) × (received ≡ [])
+  pub touched : flags.touched ≡ true → 0 < length sent + length received
 
 -- A lease that began at that place.
 pub record IsLease (p : Place) (v : RelayView) : Type 0 where

@@ -1,13 +1,14 @@
 -- What each move counts, and why a pump waits.
-use Rattle.std.proofs.Common.{◌≡◌, ◌≢◌, ℕ, ◌+◌, ◌<◌, Bool, true, false, List, [], ◌∷◌, ◌++◌, length, refl, sym, ap, ap₂, ◌∙◌, arith, length-append, subst, drop}
+use Rattle.std.proofs.Common.{◌≡◌, ◌≢◌, ℕ, ◌+◌, ◌<◌, Bool, true, false, List, Option, [], ◌∷◌, ◌++◌, length, refl, sym, ap, ap₂, ◌∙◌, arith, length-append, subst, drop}
 use Rattle.std.specs.Prelude.{◌||◌, ◌&&◌, ◌==◌, not}
 use Rattle.std.proofs.lemmas.Bool.{true≢false, false≢true}
 use Rattle.relay_laws.specs.Verdicts.{Told}
 use Rattle.message_view.specs.declared.KeyWord.{KeyWord}
+use Rattle.message_view.specs.declared.views.KeyView.{KeyView}
 use Rattle.session_values.specs.State.{StartKeyOf}
 use Rattle.server_end.specs.declared.Moved.{Moved}
 use Rattle.server_end.specs.declared.Moved.TheVariants.{Count, NotNow, Ended, Fault}
-use Rattle.server_end.specs.Moves.{waits_in, IsWithin}
+use Rattle.server_end.specs.Moves.{waits_in}
 use Rattle.link_laws.specs.Standing.{Standing, ClientFacts, Moves}
 use Rattle.server_end.specs.Moves.{CountsRead, CountsWrite, ClientReads, ClientWrites}
 use Rattle.relay_laws.specs.declared.Flags.{Flags}
@@ -90,12 +91,6 @@ grown a b c n e l = ap length e ∙ length-append b c ∙ ap (λ (k : ℕ). leng
 one_wait : (m : Moved) (a b : ℕ) → a ≡ b + waits_in m → m ≡ NotNow → a ≡ b + 1
 one_wait m a b e h = e ∙ ap (λ (k : Moved). b + waits_in k) h
 
-pub positive_of : (m : Moved) (n : ℕ) → IsWithin m n → IsPositive m
-positive_of (Count k) n w = w.0
-positive_of NotNow n w = tt
-positive_of Ended n w = tt
-positive_of Fault n w = tt
-
 same_adds : (v : RelayView) → Adds v v 0
 same_adds v = record { adds = λ t. omega arith; tells = refl }
 
@@ -108,11 +103,11 @@ none_left : (held put rest : List ℕ) (m : Moved) → held ≡ put ++ rest → 
 none_left held [] rest m e l h = sym e
 none_left held (b ∷ put) rest m e l h = absurd (omega (arith, l, ap count_of h))
 
-pub steps_read_client : (ready : Bool) (v : RelayView) (cf cg : ClientFacts) (l : Standing) (k : StartKeyOf) (n b : ℕ) (w : KeyWord) (gr : List ℕ) (tl tn tm tc : FlowView) (t : Told) (fs fz : Flags) (ph : Phase) (r : Moved)
-    → relay_view cf l k n b w gr tl tc t fs ph ≡ v → IsPositive r → Fills tn tm r → ClientReads cf cg (came tn tm) r → fz ≡ client_read fs r
-    → ReadsClient ready v (relay_view cg l k n b w gr tm tc t fz ph) r
-steps_read_client ready v cf cg l k n b w gr tl tn tm tc t fs fz ph r e i f y q =
-    subst (λ (u : RelayView). ReadsClient ready u (relay_view cg l k n b w gr tm tc t fz ph) r) e (record {
+pub steps_read_client : (ready : Bool) (v : RelayView) (cf cg : ClientFacts) (l : Standing) (k : StartKeyOf) (n b : ℕ) (sk : Option KeyView) (w : KeyWord) (gr : List ℕ) (tl tn tm tc : FlowView) (t : Told) (fs fz : Flags) (ph : Phase) (r : Moved)
+    → relay_view cf l k n b sk w gr tl tc t fs ph ≡ v → IsPositive r → Fills tn tm r → ClientReads cf cg (came tn tm) r → fz ≡ client_read fs r
+    → ReadsClient ready v (relay_view cg l k n b sk w gr tm tc t fz ph) r
+steps_read_client ready v cf cg l k n b sk w gr tl tn tm tc t fs fz ph r e i f y q =
+    subst (λ (u : RelayView). ReadsClient ready u (relay_view cg l k n b sk w gr tm tc t fz ph) r) e (record {
       positive = i;
       adds = record {
         adds = λ z. let a : length cg.taken ≡ length cf.taken + count_of r = grown cg.taken cf.taken (came tn tm) (count_of r) (y.taken z) f.count in
@@ -145,11 +140,11 @@ no_read_client ready v w c l g d f never = record {
     same_moved : w.client ≡ v.client → w.link ≡ v.link → w.greeting ≡ v.greeting → w.to_client ≡ v.to_client → bytes_moved w ≡ bytes_moved v + 0
     same_moved c l g d = rw (c, l, g, d) (omega arith)
 
-pub steps_read_link : (ready : Bool) (v : RelayView) (cf : ClientFacts) (l m : Standing) (k : StartKeyOf) (n b : ℕ) (w : KeyWord) (gr : List ℕ) (tl tc tn td : FlowView) (t : Told) (fs fz : Flags) (ph : Phase) (r : Moved)
-    → relay_view cf l k n b w gr tl tc t fs ph ≡ v → IsPositive r → tn.held ≡ tc.held → tn.part ≡ tc.part → Fills tn td r → Moves l [] m (came tn td) → CountsRead l m r → fz ≡ link_moved fs r
-    → ReadsLink ready v (relay_view cf m k n b w gr tl td t fz ph) r
-steps_read_link ready v cf l m k n b w gr tl tc tn td t fs fz ph r e i h p f y z q =
-    subst (λ (u : RelayView). ReadsLink ready u (relay_view cf m k n b w gr tl td t fz ph) r) e (record {
+pub steps_read_link : (ready : Bool) (v : RelayView) (cf : ClientFacts) (l m : Standing) (k : StartKeyOf) (n b : ℕ) (sk : Option KeyView) (w : KeyWord) (gr : List ℕ) (tl tc tn td : FlowView) (t : Told) (fs fz : Flags) (ph : Phase) (r : Moved)
+    → relay_view cf l k n b sk w gr tl tc t fs ph ≡ v → IsPositive r → tn.held ≡ tc.held → tn.part ≡ tc.part → Fills tn td r → Moves l [] m (came tn td) → CountsRead l m r → fz ≡ link_moved fs r
+    → ReadsLink ready v (relay_view cf m k n b sk w gr tl td t fz ph) r
+steps_read_link ready v cf l m k n b sk w gr tl tc tn td t fs fz ph r e i h p f y z q =
+    subst (λ (u : RelayView). ReadsLink ready u (relay_view cf m k n b sk w gr tl td t fz ph) r) e (record {
       positive = i;
       adds = record {
         adds = λ _. let a : length m.accepted ≡ length l.accepted + 0 = grown m.accepted l.accepted [] 0 y.accepted refl in
@@ -181,11 +176,11 @@ no_read_link ready v w c l g d h p f never = record {
   reads = λ x z y. absurd (never x z);
 }
 
-pub steps_write_link : (ready : Bool) (v : RelayView) (cf : ClientFacts) (l m : Standing) (k : StartKeyOf) (n b : ℕ) (w : KeyWord) (gr : List ℕ) (tl tm tc : FlowView) (t : Told) (fs fz : Flags) (ph : Phase) (put : List ℕ) (r : Moved)
-    → relay_view cf l k n b w gr tl tc t fs ph ≡ v → IsPositive r → Writes tl tm put r → Moves l put m [] → CountsWrite l m r → fz ≡ link_moved fs r
-    → WritesLink ready v (relay_view cf m k n b w gr tm tc t fz ph) r
-steps_write_link ready v cf l m k n b w gr tl tm tc t fs fz ph put r e i f y z q =
-    subst (λ (u : RelayView). WritesLink ready u (relay_view cf m k n b w gr tm tc t fz ph) r) e (record {
+pub steps_write_link : (ready : Bool) (v : RelayView) (cf : ClientFacts) (l m : Standing) (k : StartKeyOf) (n b : ℕ) (sk : Option KeyView) (w : KeyWord) (gr : List ℕ) (tl tm tc : FlowView) (t : Told) (fs fz : Flags) (ph : Phase) (put : List ℕ) (r : Moved)
+    → relay_view cf l k n b sk w gr tl tc t fs ph ≡ v → IsPositive r → Writes tl tm put r → Moves l put m [] → CountsWrite l m r → fz ≡ link_moved fs r
+    → WritesLink ready v (relay_view cf m k n b sk w gr tm tc t fz ph) r
+steps_write_link ready v cf l m k n b sk w gr tl tm tc t fs fz ph put r e i f y z q =
+    subst (λ (u : RelayView). WritesLink ready u (relay_view cf m k n b sk w gr tm tc t fz ph) r) e (record {
       positive = i;
       adds = record {
         adds = λ _. let a : length m.accepted ≡ length l.accepted + count_of r = grown m.accepted l.accepted put (count_of r) y.accepted f.count in omega (arith, a);
@@ -219,11 +214,11 @@ no_write_link ready v never = record {
   writes = λ x h. absurd (false≢true (sym never ∙ x));
 }
 
-pub steps_write_client : (ready : Bool) (v : RelayView) (cf cg : ClientFacts) (l : Standing) (k : StartKeyOf) (n b : ℕ) (w : KeyWord) (gr : List ℕ) (tl tc td : FlowView) (t : Told) (fs fz : Flags) (ph : Phase) (put : List ℕ) (r : Moved)
-    → relay_view cf l k n b w gr tl tc t fs ph ≡ v → IsPositive r → Writes tc td put r → ClientWrites cf cg put r → fz ≡ client_wrote fs r
-    → WritesClient ready v (relay_view cg l k n b w gr tl td t fz ph) r
-steps_write_client ready v cf cg l k n b w gr tl tc td t fs fz ph put r e i f y q =
-    subst (λ (u : RelayView). WritesClient ready u (relay_view cg l k n b w gr tl td t fz ph) r) e (record {
+pub steps_write_client : (ready : Bool) (v : RelayView) (cf cg : ClientFacts) (l : Standing) (k : StartKeyOf) (n b : ℕ) (sk : Option KeyView) (w : KeyWord) (gr : List ℕ) (tl tc td : FlowView) (t : Told) (fs fz : Flags) (ph : Phase) (put : List ℕ) (r : Moved)
+    → relay_view cf l k n b sk w gr tl tc t fs ph ≡ v → IsPositive r → Writes tc td put r → ClientWrites cf cg put r → fz ≡ client_wrote fs r
+    → WritesClient ready v (relay_view cg l k n b sk w gr tl td t fz ph) r
+steps_write_client ready v cf cg l k n b sk w gr tl tc td t fs fz ph put r e i f y q =
+    subst (λ (u : RelayView). WritesClient ready u (relay_view cg l k n b sk w gr tl td t fz ph) r) e (record {
       positive = i;
       adds = record {
         adds = λ z. let a : length cg.given ≡ length cf.given + count_of r = grown cg.given cf.given put (count_of r) (y.given z) f.count in
@@ -243,11 +238,11 @@ steps_write_client ready v cf cg l k n b w gr tl tc td t fs fz ph put r e i f y 
       writes = λ x h. one_wait r cg.write_waits cf.write_waits y.write_waits h;
     })
 
-pub steps_write_welcome : (ready : Bool) (v : RelayView) (cf cg : ClientFacts) (l : Standing) (k : StartKeyOf) (n b : ℕ) (w : KeyWord) (gr gs : List ℕ) (tl tc : FlowView) (t : Told) (fs fz : Flags) (ph : Phase) (put : List ℕ) (r : Moved)
-    → relay_view cf l k n b w gr tl tc t fs ph ≡ v → IsPositive r → Gives gr gs put r → ClientWrites cf cg put r → fz ≡ client_wrote fs r
-    → WritesClient ready v (relay_view cg l k n b w gs tl tc t fz ph) r
-steps_write_welcome ready v cf cg l k n b w gr gs tl tc t fs fz ph put r e i f y q =
-    subst (λ (u : RelayView). WritesClient ready u (relay_view cg l k n b w gs tl tc t fz ph) r) e (record {
+pub steps_write_welcome : (ready : Bool) (v : RelayView) (cf cg : ClientFacts) (l : Standing) (k : StartKeyOf) (n b : ℕ) (sk : Option KeyView) (w : KeyWord) (gr gs : List ℕ) (tl tc : FlowView) (t : Told) (fs fz : Flags) (ph : Phase) (put : List ℕ) (r : Moved)
+    → relay_view cf l k n b sk w gr tl tc t fs ph ≡ v → IsPositive r → Gives gr gs put r → ClientWrites cf cg put r → fz ≡ client_wrote fs r
+    → WritesClient ready v (relay_view cg l k n b sk w gs tl tc t fz ph) r
+steps_write_welcome ready v cf cg l k n b sk w gr gs tl tc t fs fz ph put r e i f y q =
+    subst (λ (u : RelayView). WritesClient ready u (relay_view cg l k n b sk w gs tl tc t fz ph) r) e (record {
       positive = i;
       adds = record {
         adds = λ z. let a : length cg.given ≡ length cf.given + count_of r = grown cg.given cf.given put (count_of r) (y.given z) f.count in
@@ -392,8 +387,8 @@ waits_by none cr sr v w n sum e zero all h =
     let m = means none w Wait (sym h ∙ e) in
     all (zero m.0) ((or_false w.flags.client_over (is_empty w.to_link.held && (w.flags.input_over || is_last_end w.to_link.ends)) m.1).0)
 
-pub waits_phase : (cr sr : Bool) (v : RelayView) (cf : ClientFacts) (l : Standing) (k : StartKeyOf) (n b : ℕ) (w : KeyWord) (gr : List ℕ) (tl tc : FlowView) (t : Told) (fs : Flags) (ph pi : Phase) → Waits cr sr v (relay_view cf l k n b w gr tl tc t fs ph) → Waits cr sr v (relay_view cf l k n b w gr tl tc t fs pi)
-waits_phase cr sr v cf l k n b w gr tl tc t fs ph pi x = record { client_read = x.client_read; client_write = x.client_write; link_read = x.link_read; link_write = x.link_write }
+pub waits_phase : (cr sr : Bool) (v : RelayView) (cf : ClientFacts) (l : Standing) (k : StartKeyOf) (n b : ℕ) (sk : Option KeyView) (w : KeyWord) (gr : List ℕ) (tl tc : FlowView) (t : Told) (fs : Flags) (ph pi : Phase) → Waits cr sr v (relay_view cf l k n b sk w gr tl tc t fs ph) → Waits cr sr v (relay_view cf l k n b sk w gr tl tc t fs pi)
+waits_phase cr sr v cf l k n b sk w gr tl tc t fs ph pi x = record { client_read = x.client_read; client_write = x.client_write; link_read = x.link_read; link_write = x.link_write }
 
 -- what may be written is there
 not_true : (a : Bool) → not a ≡ true → a ≡ false

@@ -1,2 +1,4 @@
 pub mod Answers
 pub mod Steps
+pub use Rattle.relay_laws.specs.Leases
+pub use Rattle.relay_laws.specs.Verdicts

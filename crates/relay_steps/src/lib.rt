@@ -4,6 +4,7 @@
 #![tactic(auto)]
 
 use message_view::Refusal;
+pub use relay_laws::{Flags, Phase};
 
 /// What a pump came to.
 #[derive(Clone, Copy, Debug, PartialEq, Eq, Drop)]

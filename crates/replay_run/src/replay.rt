@@ -20,7 +20,7 @@ use bytes::BytesMut;
 use login_core::laws::login_is_of_its_row;
 use login_core::{Login, LoginStep};
 use login_keys::laws::{passed_keys_are_link_keys, settings_rows_are_lawful};
-use memory_lease::alone::serve_alone;
+use memory_lease::alone::{Unserved, serve_alone};
 use message_view::{KeyWord, Refusal, put_authentication_ok, refusal_bytes};
 use pool_app::fault::AppFault;
 use pool_app::files::{MOST_BYTES, ReadFault, read_all};
@@ -65,7 +65,8 @@ fn put_refusal(out: &mut BytesMut, cause: Refusal) -> Result<(), AllocError>
     out.extend_from_slice(refusal_bytes(cause))
 }
 
-/// What a client is answered behind its login over a link of its own.
+/// What a client is answered behind its login over a link of its own. A lease that comes to no end is told as want of memory: the
+/// program has no fault of its own for it.
 fn served(
     alloc: Global,
     service: &Service,
@@ -88,7 +89,7 @@ fn served(
         service.dies_after,
     )?;
     let key = Arc::try_clone(key)?;
-    serve_alone(
+    match serve_alone(
         alloc,
         server,
         key,
@@ -97,7 +98,10 @@ fn served(
         service.limit,
         service.cut,
         rest,
-    )
+    ) {
+        Ok(answer) => Ok(answer),
+        Err(Unserved::Memory | Unserved::Unended(_)) => Err(AllocError),
+    }
 }
 
 /// What follows a login that has passed: AuthenticationOk, and what the client is answered over its link.
@@ -221,7 +225,7 @@ fn standing_service(
 
 /// What a client of the standing settings is answered: its bytes in, its replies out. A call of an end of its lease moves at most
 /// `cut` bytes, and its server dies once `dies_after` bytes were read from it; over one that doesn't, all is answered. The only
-/// error is want of memory, or a lease that comes to no end ([`serve_alone`]).
+/// error is want of memory, or a lease that comes to no end ([`Unserved::Unended`]), which is told as want of memory too.
 pub fn replies(
     alloc: Global,
     cut: usize,

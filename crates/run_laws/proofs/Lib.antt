@@ -4,3 +4,4 @@ pub mod Settling
 pub mod ByName
 pub mod Worked
 pub mod Instance
+pub use Rattle.session_laws.proofs.ByName as SessionsByName

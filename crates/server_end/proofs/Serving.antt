@@ -23,7 +23,7 @@ use Rattle.session_values.specs.Answers.{Gave, frame_of}
 use Rattle.session_values.specs.Errors.{fatal}
 use Rattle.session_values.specs.State.{State, CatalogueOf}
 use Rattle.session_values.specs.Step.{step, run_frames}
-use Rattle.session_laws.specs.Laws.{IsSent}
+use Rattle.link_laws.specs.Laws.{IsSent}
 use Rattle.message_laws.proofs.Trips.{bytes_after}
 use Rattle.link_laws.specs.Futures.{replies_in}
 use Rattle.link_laws.specs.Stages.{Server, Auth, Stage, Before, Asked, Open, Closed, Starts, Sends, packet_bytes, begins, hears, let_in, opened, serve}

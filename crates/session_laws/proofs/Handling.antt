@@ -18,14 +18,16 @@ use Rattle.session_values.specs.Parameters.{Values, name, parameter_named, value
 use Rattle.session_values.specs.Named.{named, is_named}
 use Rattle.session_values.specs.State.{State, CatalogueOf, TableOf, table_name, Row, Answer, bound}
 use Rattle.session_values.specs.Lookups.{Columns, look_up, found, or_else, readable, to_read, shown, selected, has_all, has_filter, look_up_select, look_up_insert, to_change}
-use Rattle.session_values.specs.Runs.{Ran, rows_of, rows_from, picked, column_of, cell, cell_at, meets, shown_rows, table_rows, row_tag, end_of, or_null, condition_of, places_of}
-use Rattle.session_values.specs.Extended.{usable, reading, let_through, may_end_block}
+use Rattle.session_values.specs.Runs as runs
+use Rattle.session_values.specs.Runs.{Ran, Outcome, rows_from, picked, column_of, cell, cell_at, meets, row_tag, given_frames, or_null, condition_of, places_of}
+use Rattle.session_values.specs.Extended.{usable, reading, let_through, may_end_block, formats_of}
+use Rattle.session_values.specs.Step.{heading}
 use Rattle.session_values.specs.Lawful.{IsShort, IsValue}
 use Rattle.session_values.proofs.Alls.{OfSome, all-each, all-append, all-map, all-filter, all-find}
 use Rattle.session_laws.proofs.GoodValues.{AreSettings, AreReported, OfOk, longest, value-setting}
 use Rattle.statement_laws.specs.Statements.{IsSpelled}
 use Rattle.statement_laws.proofs.Spelled.{spelled, longer-some}
-use Rattle.session_laws.proofs.Lawful.{IsPlain, IsSendable, row-plain, IsRow, IsTable, IsSource, IsPrepared, IsPortal, IsSaved, Lawful, row-sendable, one-sendable, AreColumns, tag-plain, decimal-length}
+use Rattle.session_laws.proofs.Lawful.{IsPlain, IsSendable, row-plain, IsRow, IsTable, IsSource, IsPrepared, IsPortal, IsSaved, Lawful, row-sendable, one-sendable, AreColumns, columns-plain, tag-plain, decimal-length}
 
 pub record Kept (s : State) (after : State) (sent : List FrameOf) : Type 0 where
   pub lawful : Lawful after
@@ -36,10 +38,18 @@ abbrev pub AllKept : State → Result Answer Cause → Type 0
 AllKept s (Ok a) = Kept s a.next a.replies
 AllKept s (Err c) = Unit {0}
 
--- a run's state and notices, and its tag
+-- what a statement gives can be sent
+abbrev pub IsOutcome : Outcome → Type 0
+IsOutcome runs.Nothing = Unit {0}
+IsOutcome (runs.Done tag) = length tag ≤ 100
+IsOutcome (runs.Rows rows) = AllByRecursion IsSendable rows
+
+-- a run's state and notices, and what it gives
+abbrev pub IsRan : State → Ran → Type 0
+IsRan s r = Kept s r.after r.notices × IsOutcome r.outcome
+
 abbrev pub RanKept : State → Result Ran Cause → Type 0
-RanKept s (Ok r) = Kept s r.after r.notices × IsPlain (end_of r.tag)
-RanKept s (Err c) = Unit {0}
+RanKept s r = OfOk (IsRan s) r
 
 pub kept : (s after : State) (sent : List FrameOf) → Lawful after → after.reported ≡ s.reported → AllByRecursion IsPlain sent → Kept s after sent
 kept s after sent l r p = record { lawful = l; reported = r; plain = p }
@@ -124,7 +134,7 @@ bound-columns P (Ok x) f h g = g x h
 bound-columns P (Err c) f h g = tt
 
 module _ (cat : CatalogueOf) (lawful_tables : AllByRecursion IsTable cat.tables) where
-  read-table : (s : State) (t : Text) → Lawful s → OfOk IsTable (to_read cat s t)
+  pub read-table : (s : State) (t : Text) → Lawful s → OfOk IsTable (to_read cat s t)
   read-table s t h = found-ok IsTable NoTable (readable cat s t) (or_else-some IsTable (named table_name s.tables t) (named table_name cat.tables t) (all-find IsTable (is_named table_name t) s.tables h.tables) (all-find IsTable (is_named table_name t) cat.tables lawful_tables))
 
   pub look_up-columns : (s : State) (x : Statement) → Lawful s → IsRead x → OfOk AreColumns (look_up cat s x)
@@ -167,7 +177,7 @@ map-length f (x ∷ xs) = ap suc (map-length f xs)
 picked-row : (places : List (Option ℕ)) (r : Row) → length places ≤ 64 → IsRow r → IsRow (picked places r)
 picked-row places r l h = (omega (arith, map-length (cell r) places), all-map Any IsValue (cell r) (λ o u. place-value r o h.1) places (all-each Any (λ o. tt) places))
 
-rows-sent : (given : Row) (w : Option Equals) (cs : List Text) (t : TableOf) → IsTable t → length cs ≤ 64 × AllByRecursion (IsShort 63) cs → AllByRecursion IsSendable (rows_from given w cs t)
+pub rows-sent : (given : Row) (w : Option Equals) (cs : List Text) (t : TableOf) → IsTable t → length cs ≤ 64 × AllByRecursion (IsShort 63) cs → AllByRecursion IsSendable (rows_from given w cs t)
 rows-sent given w cs t h k =
     let s : length (selected t.columns cs) ≤ 64 = (selected-columns t.columns cs (h.width, h.names) k).0 in
     let l : length (places_of t.columns cs) ≤ 64 = omega (arith, map-length (column_of t.columns) (selected t.columns cs)) in
@@ -188,28 +198,8 @@ longest-fits ExtraFloatDigits = omega arith
 longest-fits SearchPath = omega arith
 longest-fits StatementTimeout = omega arith
 
-shown-sent : (vs : Values) (o : Option Parameter) → AreSettings vs → AllByRecursion IsSendable (shown_rows vs o)
-shown-sent vs None h = tt
-shown-sent vs (Some p) h = (one-sendable (value_of vs p) (omega (arith, longest-fits p, (value-setting vs p h).1)), tt)
-
-table-sent : (given : Row) (w : Option Equals) (cs : List Text) (r : Result TableOf Cause) → OfOk IsTable r → length cs ≤ 64 × AllByRecursion (IsShort 63) cs → AllByRecursion IsSendable (table_rows given w cs r)
-table-sent given w cs (Ok t) h k = rows-sent given w cs t h k
-table-sent given w cs (Err c) h k = tt
-
-pub rows-sendable : (cat : CatalogueOf) → AllByRecursion IsTable cat.tables → (s : State) (given : Row) (x : Statement) → Lawful s → IsRead x → AllByRecursion IsSendable (rows_of cat s given x)
-rows-sendable cat c s given st.Empty h k = tt
-rows-sendable cat c s given st.Begin h k = tt
-rows-sendable cat c s given st.Commit h k = tt
-rows-sendable cat c s given st.Rollback h k = tt
-rows-sendable cat c s given (st.Set n v) h k = tt
-rows-sendable cat c s given (st.Reset n) h k = tt
-rows-sendable cat c s given st.ResetAll h k = tt
-rows-sendable cat c s given (st.Show n) h k = shown-sent s.current (parameter_named n) h.current
-rows-sendable cat c s given st.DiscardAll h k = tt
-rows-sendable cat c s given (st.Create t cs) h k = tt
-rows-sendable cat c s given (st.Drop t) h k = tt
-rows-sendable cat c s given (st.Insert t vs) h k = tt
-rows-sendable cat c s given (st.Select cs t w) h k = table-sent given w cs (to_read cat s t) (read-table cat c s t h) (k.0, k.1)
+pub shown-sent : (vs : Values) (p : Parameter) → AreSettings vs → AllByRecursion IsSendable ((Some (value_of vs p) ∷ []) ∷ [])
+shown-sent vs p h = (one-sendable (value_of vs p) (omega (arith, longest-fits p, (value-setting vs p h).1)), tt)
 
 -- rows and what is sent after them
 pub rows-plain : (rows : List Row) (last : FrameOf) → AllByRecursion IsSendable rows → IsPlain last → AllByRecursion IsPlain (map data_row rows ++ last ∷ [])
@@ -235,3 +225,14 @@ row_tag-plain x n = tag-plain (row_tag x n) (row_tag-short x)
     row_tag-short (st.Drop t) = counted
     row_tag-short (st.Insert t vs) = counted
     row_tag-short (st.Select cs t w) = counted
+
+-- ---- what is sent of a run
+
+pub given-plain : (x : Statement) (o : Outcome) → IsOutcome o → AllByRecursion IsPlain (given_frames x o)
+given-plain x runs.Nothing h = ((omega arith, refl), tt)
+given-plain x (runs.Done tag) h = (tag-plain tag h, tt)
+given-plain x (runs.Rows rows) h = rows-plain rows (command_complete (row_tag x (length rows))) h (row_tag-plain x (length rows))
+
+pub heading-plain : (cs : Columns) → AreColumns cs → AllByRecursion IsPlain (heading cs)
+heading-plain None h = tt
+heading-plain (Some cs) h = (columns-plain cs (formats_of cs []) h.0 h.1, tt)

@@ -14,20 +14,22 @@ use Rattle.session_values.specs.declared.block.Block.{Block}
 use Rattle.session_values.specs.declared.block.Block.TheVariants.{Outside, Inside, Failed}
 use Rattle.session_values.specs.declared.cause.Cause.{Cause}
 use Rattle.session_values.specs.declared.cause.Cause.TheVariants.{NoPlaceholder, PortalExists, StatementExists, NoStatement, NoPortal, MalformedMessage, ColumnTwice, InvalidValue}
-use Rattle.session_values.specs.Parameters.{Values, parameters}
+use Rattle.session_values.specs.declared.parameter.Parameter.{Parameter}
+use Rattle.session_values.specs.Parameters.{Values, parameters, parameter_named}
 use Rattle.session_values.specs.Errors.{already_in_transaction, no_transaction}
 use Rattle.session_values.specs.Named.{named, without, is_named, is_other, set_at}
-use Rattle.session_values.specs.State.{State, CatalogueOf, TableOf, table_name, Row, SavedOf, PreparedOf, prepared_name, portal_name, PortalOf, ProgressOf, NotRun, Remaining, Finished, Answer, answers, bound, set_parameter, roll_back, roll_back_to, commit}
-use Rattle.session_values.specs.Lookups.{Columns, look_up, found}
-use Rattle.session_values.specs.Runs.{Ran, ran, run, begin_run, commit_run, rollback_run, discard_run, create_run, insert_run, set_run, reset_from, rows_of, row_tag, end_of, are_distinct, fits, all_fit, padded, with_row, operand_value, with_table, insert_into}
-use Rattle.session_values.specs.Extended.{values_fault, unless_some, parse, bind, bindable, prepared_of, with_statement, without_statement, portal_to, with_portal, orphaned, describe, described, is_describable, is_result_count, parameter_count, oid_at, oids_of, Described, close, is_of_other, execute, execute_on, execute_first, execute_rows, execute_ran, sent_rows, progressed, at_progress, description, formats_of, is_limit, usable, reading, unless, is_taken, is_there}
+use Rattle.session_values.specs.State.{State, CatalogueOf, TableOf, table_name, Row, SavedOf, PreparedOf, prepared_name, portal_name, PortalOf, ProgressOf, NotRun, Remaining, Finished, Answer, answers, bound, set_parameter, roll_back, restored, commit}
+use Rattle.session_values.specs.Lookups.{Columns, look_up, found, to_read}
+use Rattle.session_values.specs.Runs as runs
+use Rattle.session_values.specs.Runs.{Ran, Outcome, ran, run, begin_run, commit_run, rollback_run, discard_run, create_run, insert_run, set_run, show_run, select_run, reset_from, row_tag, given_frames, are_distinct, fits, all_fit, padded, with_row, operand_value, with_table, insert_into}
+use Rattle.session_values.specs.Extended.{values_fault, unless_some, parse, bind, bindable, prepared_of, with_statement, without_statement, portal_to, with_portal, orphaned, describe, described, is_describable, is_result_count, parameter_count, oid_at, oids_of, Described, close, is_of_other, execute, execute_on, execute_rows, execute_outcome, execute_ran, sent_rows, progressed, at_progress, description, formats_of, is_limit, usable, reading, unless, is_taken, is_there}
 use Rattle.session_values.specs.Lawful.{IsShort, IsValue}
 use Rattle.session_values.proofs.Alls.{OfSome, all-append, all-map, all-filter, all-find, all-set, all-take, all-drop, and-first, and-second}
 use Rattle.session_laws.proofs.GoodValues.{AreSettings, IsGiven, OfOk, set-settings, reset-settings}
 use Rattle.statement_laws.proofs.Spelled.{few-parameters}
-use Rattle.session_values.specs.Step.{query, query_with, query_ran, without_unnamed}
-use Rattle.session_laws.proofs.Handling.{Kept, AllKept, RanKept, kept, made, bound-kept, Any, any, found-ok, IsRead, reading-read, usable-read, look_up-columns, rows-sendable, rows-plain, row_tag-plain}
-use Rattle.session_laws.proofs.Lawful.{IsPlain, IsSendable, IsRow, IsTable, IsSource, AreLeft, IsPrepared, IsPortal, IsSaved, Lawful, AreColumns, columns-plain, oids-plain, tag-plain}
+use Rattle.session_values.specs.Step.{query, query_ran, heading, without_unnamed}
+use Rattle.session_laws.proofs.Handling.{Kept, AllKept, IsOutcome, IsRan, RanKept, kept, made, bound-kept, Any, any, found-ok, IsRead, reading-read, usable-read, look_up-columns, read-table, rows-sent, shown-sent, rows-plain, row_tag-plain, given-plain, heading-plain}
+use Rattle.session_laws.proofs.Lawful.{IsPlain, IsSendable, IsRow, IsTable, IsSource, AreLeft, IsPrepared, IsPortal, IsSaved, Lawful, AreColumns, columns-plain, oids-plain}
 
 -- ---- runs
 
@@ -37,7 +39,7 @@ choose-ran s false r q h k = k
 
 -- a tag of so few bytes, no notice, and the same reported values
 ran-kept : (s after : State) (tag : Text) → Lawful after → after.reported ≡ s.reported → length tag ≤ 100 → RanKept s (ran after [] tag)
-ran-kept s after tag l r t = (kept s after [] l r tt, tag-plain tag t)
+ran-kept s after tag l r t = (kept s after [] l r tt, t)
 
 warned-plain : IsPlain already_in_transaction
 warned-plain = (omega arith, refl)
@@ -51,29 +53,29 @@ block-lawful s b h = made _ h.defaults h.current h.reported h.saved h.statements
 pub commit-lawful : (s : State) → Lawful s → Lawful (commit s)
 commit-lawful s h = made _ h.defaults h.current h.reported tt h.statements tt h.tables
 
-roll_back_to-lawful : (s : State) (c : Option SavedOf) → Lawful s → IsSaved c → Lawful (roll_back_to s c)
-roll_back_to-lawful s None h k = h
-roll_back_to-lawful s (Some c) h k = made _ h.defaults k.0 h.reported h.saved h.statements h.portals k.1
+restored-lawful : (s : State) (c : Option SavedOf) → Lawful s → IsSaved c → Lawful (restored s c)
+restored-lawful s None h k = h
+restored-lawful s (Some c) h k = made _ h.defaults k.0 h.reported h.saved h.statements h.portals k.1
 
 pub roll_back-lawful : (s : State) → Lawful s → Lawful (roll_back s)
-roll_back-lawful s h = commit-lawful (roll_back_to s s.saved) (roll_back_to-lawful s s.saved h h.saved)
+roll_back-lawful s h = let g = restored-lawful s s.saved h h.saved in made _ g.defaults g.current g.reported tt g.statements tt g.tables
 
-pub roll_back-reported : (s : State) (c : Option SavedOf) → (roll_back_to s c).reported ≡ s.reported
+pub roll_back-reported : (s : State) (c : Option SavedOf) → (restored s c).reported ≡ s.reported
 roll_back-reported s None = refl
 roll_back-reported s (Some c) = refl
 
 begin-kept : (s : State) (b : Block) → Lawful s → RanKept s (begin_run s b)
 begin-kept s Outside h = ran-kept s _ (codes "BEGIN") (block-lawful s Inside h) refl (omega arith)
-begin-kept s Inside h = (kept s s _ h refl (warned-plain, tt), tag-plain (codes "BEGIN") (omega arith))
+begin-kept s Inside h = (kept s s _ h refl (warned-plain, tt), omega arith)
 begin-kept s Failed h = ran-kept s _ (codes "BEGIN") h refl (omega arith)
 
 commit-kept : (s : State) (b : Block) → Lawful s → RanKept s (commit_run s b)
-commit-kept s Outside h = (kept s _ _ (commit-lawful s h) refl (unwarned-plain, tt), tag-plain (codes "COMMIT") (omega arith))
+commit-kept s Outside h = (kept s _ _ (commit-lawful s h) refl (unwarned-plain, tt), omega arith)
 commit-kept s Inside h = ran-kept s _ (codes "COMMIT") (block-lawful (commit s) Outside (commit-lawful s h)) refl (omega arith)
 commit-kept s Failed h = ran-kept s _ (codes "ROLLBACK") (block-lawful s Outside h) refl (omega arith)
 
 rollback-kept : (s : State) (b : Block) → Lawful s → RanKept s (rollback_run s b)
-rollback-kept s Outside h = (kept s _ _ (roll_back-lawful s h) (roll_back-reported s s.saved) (unwarned-plain, tt), tag-plain (codes "ROLLBACK") (omega arith))
+rollback-kept s Outside h = (kept s _ _ (roll_back-lawful s h) (roll_back-reported s s.saved) (unwarned-plain, tt), omega arith)
 rollback-kept s Inside h = ran-kept s _ (codes "ROLLBACK") (block-lawful (roll_back s) Outside (roll_back-lawful s h)) (roll_back-reported s s.saved) (omega arith)
 rollback-kept s Failed h = ran-kept s _ (codes "ROLLBACK") (block-lawful (roll_back s) Outside (roll_back-lawful s h)) (roll_back-reported s s.saved) (omega arith)
 
@@ -132,32 +134,34 @@ set-given : (n : Text) (v : Option Text) → IsRead (st.Set n v) → OfSome IsGi
 set-given n None h = tt
 set-given n (Some t) h = (h.0, omega (arith, h.1))
 
-empty-kept : (s : State) → Lawful s → RanKept s (Ok (record { after = s; notices = []; tag = None }))
-empty-kept s h = (kept s s [] h refl tt, (omega arith, refl))
+show-kept : (s : State) (o : Option Parameter) → Lawful s → RanKept s (show_run s o)
+show-kept s None h = tt
+show-kept s (Some p) h = (kept s s [] h refl tt, shown-sent s.current p h.current)
 
-pub run-kept : (s : State) (given : Row) (x : Statement) → Lawful s → IsRead x → RanKept s (run s given x)
-run-kept s given st.Empty h k = empty-kept s h
-run-kept s given st.Begin h k = begin-kept s s.block h
-run-kept s given st.Commit h k = commit-kept s s.block h
-run-kept s given st.Rollback h k = rollback-kept s s.block h
-run-kept s given (st.Set n v) h k = set-kept s (codes "SET") (set_parameter s.defaults s.current n v) h (omega arith) (set-settings s.defaults s.current n v h.defaults h.current (set-given n v k))
-run-kept s given (st.Reset n) h k = set-kept s (codes "RESET") (set_parameter s.defaults s.current n None) h (omega arith) (set-settings s.defaults s.current n None h.defaults h.current tt)
-run-kept s given st.ResetAll h k = set-kept s (codes "RESET") (Ok (reset_from parameters s.current s.defaults)) h (omega arith) (reset-settings s.current s.defaults h.current h.defaults)
-run-kept s given st.DiscardAll h k = discard-kept s s.block h
-run-kept s given (st.Create t cs) h k = create-kept s t cs (named table_name s.tables t) h k
-run-kept s given (st.Drop t) h k = ran-kept s _ (codes "DROP TABLE") (with_tables-lawful s _ h (all-filter IsTable (is_other table_name t) s.tables h.tables)) refl (omega arith)
-run-kept s given (st.Insert t vs) h k = insert-kept s t (map (operand_value given) vs) h
-run-kept s given (st.Show n) h k = empty-kept s h
-run-kept s given (st.Select cs t w) h k = empty-kept s h
+select-kept : (s : State) (given : Row) (w : Option Equals) (cs : List Text) (r : Result TableOf Cause) → Lawful s → OfOk IsTable r → length cs ≤ 64 × AllByRecursion (IsShort 63) cs → RanKept s (select_run s given w cs r)
+select-kept s given w cs (Ok t) h g k = (kept s s [] h refl tt, rows-sent given w cs t g k)
+select-kept s given w cs (Err c) h g k = tt
+
+module _ (cat : CatalogueOf) (lawful_tables : AllByRecursion IsTable cat.tables) where
+  pub run-kept : (s : State) (given : Row) (x : Statement) → Lawful s → IsRead x → RanKept s (run cat s given x)
+  run-kept s given st.Empty h k = (kept s s [] h refl tt, tt)
+  run-kept s given st.Begin h k = begin-kept s s.block h
+  run-kept s given st.Commit h k = commit-kept s s.block h
+  run-kept s given st.Rollback h k = rollback-kept s s.block h
+  run-kept s given (st.Set n v) h k = set-kept s (codes "SET") (set_parameter s.defaults s.current n v) h (omega arith) (set-settings s.defaults s.current n v h.defaults h.current (set-given n v k))
+  run-kept s given (st.Reset n) h k = set-kept s (codes "RESET") (set_parameter s.defaults s.current n None) h (omega arith) (set-settings s.defaults s.current n None h.defaults h.current tt)
+  run-kept s given st.ResetAll h k = set-kept s (codes "RESET") (Ok (reset_from parameters s.current s.defaults)) h (omega arith) (reset-settings s.current s.defaults h.current h.defaults)
+  run-kept s given (st.Show n) h k = show-kept s (parameter_named n) h
+  run-kept s given st.DiscardAll h k = discard-kept s s.block h
+  run-kept s given (st.Create t cs) h k = create-kept s t cs (named table_name s.tables t) h k
+  run-kept s given (st.Drop t) h k = ran-kept s _ (codes "DROP TABLE") (with_tables-lawful s _ h (all-filter IsTable (is_other table_name t) s.tables h.tables)) refl (omega arith)
+  run-kept s given (st.Insert t vs) h k = insert-kept s t (map (operand_value given) vs) h
+  run-kept s given (st.Select cs t w) h k = select-kept s given w cs (to_read cat s t) h (read-table cat lawful_tables s t h) (k.0, k.1)
 
 -- ---- queries
 
-ran-sent : (r : Ran) (after : State) (s : State) → Kept s r.after r.notices × IsPlain (end_of r.tag) → Lawful after → after.reported ≡ r.after.reported → Kept s after (r.notices ++ end_of r.tag ∷ [])
-ran-sent r after s h l e = kept s after _ l (e ∙ h.0.reported) (all-append IsPlain r.notices (end_of r.tag ∷ []) h.0.plain (h.1, tt))
-
-query_ran-kept : (s : State) (r : Result Ran Cause) → RanKept s r → AllKept s (bound r (λ x. Ok (query_ran x)))
-query_ran-kept s (Ok r) h = ran-sent r r.after s h h.0.lawful refl
-query_ran-kept s (Err c) h = tt
+query_ran-kept : (s : State) (x : Statement) (cs : Columns) (r : Ran) → AreColumns cs → IsRan s r → AllKept s (Ok (query_ran x cs r))
+query_ran-kept s x cs r c h = kept s r.after _ h.0.lawful h.0.reported (all-append IsPlain (r.notices ++ heading cs) (given_frames x r.outcome) (all-append IsPlain r.notices (heading cs) h.0.plain (heading-plain cs c)) (given-plain x r.outcome h.1))
 
 -- ---- statements and portals
 
@@ -249,24 +253,25 @@ execute_rows-kept s n x limit rows h k = by_test (is_limit limit && nat_le limit
     by_test true = sent-kept s n (take limit rows) (drop limit rows) portal_suspended h (all-take IsSendable limit rows k) (all-drop IsSendable limit rows k) (omega arith, refl)
     by_test false = sent-kept s n rows [] (command_complete (row_tag x (length rows))) h k tt (row_tag-plain x (length rows))
 
-execute_ran-kept : (s : State) (n : Text) (r : Result Ran Cause) → RanKept s r → AllKept s (bound r (λ x. Ok (execute_ran n x)))
-execute_ran-kept s n (Ok r) h = ran-sent r (progressed r.after n Finished) s h (progressed-lawful r.after n Finished h.0.lawful tt) refl
-execute_ran-kept s n (Err c) h = tt
+execute_outcome-kept : (s : State) (n : Text) (x : Statement) (limit : ℕ) (o : Outcome) → Lawful s → IsOutcome o → AllKept s (Ok (execute_outcome s n x limit o))
+execute_outcome-kept s n x limit (runs.Rows rows) h k = execute_rows-kept s n x limit rows h k
+execute_outcome-kept s n x limit runs.Nothing h k = kept s _ _ (progressed-lawful s n Finished h tt) refl (given-plain x runs.Nothing k)
+execute_outcome-kept s n x limit (runs.Done tag) h k = kept s _ _ (progressed-lawful s n Finished h tt) refl (given-plain x (runs.Done tag) k)
+
+execute_ran-kept : (s : State) (n : Text) (x : Statement) (limit : ℕ) (r : Ran) → IsRan s r → AllKept s (Ok (execute_ran n x limit r))
+execute_ran-kept s n x limit r h =
+    let o = execute_outcome-kept r.after n x limit r.outcome h.0.lawful h.1 in
+    kept s _ _ o.lawful (o.reported ∙ h.0.reported) (all-append IsPlain r.notices _ h.0.plain o.plain)
 
 -- ---- with a catalogue
 
 module _ (cat : CatalogueOf) (lawful_tables : AllByRecursion IsTable cat.tables) where
-  query_with-kept : (s : State) (x : Statement) (columns : Columns) → Lawful s → IsRead x → AreColumns columns → AllKept s (query_with cat s x columns)
-  query_with-kept s x (Some cs) h k c =
-      let rows : List Row = rows_of cat s [] x in
-      kept s s _ h refl (columns-plain cs (formats_of cs []) c.0 c.1, rows-plain rows (command_complete (row_tag x (length rows))) (rows-sendable cat lawful_tables s [] x h k) (row_tag-plain x (length rows)))
-  query_with-kept s x None h k c = query_ran-kept s (run s [] x) (run-kept s [] x h k)
-
   pub query-kept : (s : State) (t : Text) → Lawful s → IsSource t → AllKept s (query cat s t)
   query-kept s t h k =
       bound-kept IsRead s (usable s t) _ (usable-read s t k) (λ x g.
       bound-kept Any s (unless (nat_lt 0 (parameters_of x)) NoPlaceholder) _ (any _) (λ u v.
-      bound-kept AreColumns s (look_up cat s x) _ (look_up-columns cat lawful_tables s x h g) (λ cs c. query_with-kept s x cs h g c)))
+      bound-kept AreColumns s (look_up cat s x) _ (look_up-columns cat lawful_tables s x h g) (λ cs c.
+      bound-kept (IsRan s) s (run cat s [] x) _ (run-kept cat lawful_tables s [] x h g) (λ r k. query_ran-kept s x cs r c k))))
 
   -- ---- the extended query
 
@@ -296,17 +301,13 @@ module _ (cat : CatalogueOf) (lawful_tables : AllByRecursion IsTable cat.tables)
       bound-kept IsDescribed s (described cat s p.query) _ (described-ok s p.query h g.source) (λ d k.
       choose-kept s (is_result_count (length p.formats) d.columns) (answers s (description p.formats d.columns ∷ [])) MalformedMessage (kept s s _ h refl (description-plain p.formats d.columns k.1, tt))))
 
-  execute_first-kept : (s : State) (p : PortalOf) (limit : ℕ) (x : Statement) (columns : Columns) → Lawful s → IsRead x → AllKept s (execute_first cat s p limit x columns)
-  execute_first-kept s p limit x (Some cs) h k = execute_rows-kept s p.name x limit (rows_of cat s p.given x) h (rows-sendable cat lawful_tables s p.given x h k)
-  execute_first-kept s p limit x None h k = execute_ran-kept s p.name (run s p.given x) (run-kept s p.given x h k)
-
-  execute_on-kept : (s : State) (p : PortalOf) (limit : ℕ) (x : Statement) (g : ProgressOf) (columns : Columns) → Lawful s → IsRead x → AreLeft g → AllKept s (execute_on cat s p limit x g columns)
-  execute_on-kept s p limit x NotRun columns h k l = execute_first-kept s p limit x columns h k
-  execute_on-kept s p limit x (Remaining rows) columns h k l = execute_rows-kept s p.name x limit rows h l
-  execute_on-kept s p limit x Finished columns h k l = tt
+  execute_on-kept : (s : State) (p : PortalOf) (limit : ℕ) (x : Statement) (g : ProgressOf) → Lawful s → IsRead x → AreLeft g → AllKept s (execute_on cat s p limit x g)
+  execute_on-kept s p limit x NotRun h k l = bound-kept (IsRan s) s (run cat s p.given x) _ (run-kept cat lawful_tables s p.given x h k) (λ r g. execute_ran-kept s p.name x limit r g)
+  execute_on-kept s p limit x (Remaining rows) h k l = execute_rows-kept s p.name x limit rows h l
+  execute_on-kept s p limit x Finished h k l = tt
 
   pub execute-kept : (s : State) (n : Text) (limit : ℕ) → Lawful s → AllKept s (execute cat s n limit)
   execute-kept s n limit h =
       bound-kept IsPortal s (found NoPortal (named portal_name s.portals n)) _ (found-ok IsPortal NoPortal (named portal_name s.portals n) (all-find IsPortal (is_named portal_name n) s.portals h.portals)) (λ p g.
       bound-kept IsRead s (usable s p.query) _ (usable-read s p.query g.source) (λ x k.
-      bound-kept Any s (look_up cat s x) _ (any _) (λ cs c. execute_on-kept s p limit x p.progress cs h k g.left)))
+      bound-kept Any s (look_up cat s x) _ (any _) (λ cs c. execute_on-kept s p limit x p.progress h k g.left)))

@@ -11,20 +11,21 @@ use Rattle.message_view.specs.Messages.{data_row, ready_for_query, parameter_sta
 use Rattle.message_view.specs.Reading.{query_of, parse_of, bind_of, target_of, execute_of}
 use Rattle.mini_sql.specs.Words.{Text, same_text}
 use Rattle.mini_sql.specs.Statements as st
-use Rattle.mini_sql.specs.Statements.{Statement}
+use Rattle.mini_sql.specs.Statements.{Statement, Equals}
 use Rattle.session_values.specs.declared.block.Block.{Block}
 use Rattle.session_values.specs.declared.block.Block.TheVariants.{Outside, Inside, Failed}
 use Rattle.session_values.specs.declared.parameter.Parameter.{Parameter}
 use Rattle.session_values.specs.declared.cause.Cause.{Cause}
 use Rattle.session_values.specs.declared.cause.Cause.TheVariants.{NoStatement, NoPortal, MalformedMessage, NotSupported, ColumnTwice, InvalidValue}
-use Rattle.session_values.specs.Parameters.{Values, reported_parameters, name}
+use Rattle.session_values.specs.Parameters.{Values, reported_parameters, name, parameter_named}
 use Rattle.session_values.specs.Errors.{error}
 use Rattle.session_values.specs.Named.{named}
-use Rattle.session_values.specs.State.{State, CatalogueOf, TableOf, table_name, Row, SavedOf, prepared_name, portal_name, PortalOf, ProgressOf, NotRun, Remaining, Finished, Answer, answers, bound, set_parameter, roll_back_to, failed, commit_outside, save, save_unless, ready, reports, report_of, reports_from, status}
-use Rattle.session_values.specs.Lookups.{look_up, found}
-use Rattle.session_values.specs.Runs.{Ran, ran, run, begin_run, commit_run, rollback_run, discard_run, create_run, insert_run, set_run, rows_of, row_tag, end_of, are_distinct, all_fit, operand_value, with_table, insert_into}
-use Rattle.session_values.specs.Extended.{parse, bind, bindable, describe, described, describe_portal, is_result_count, close, execute, execute_on, execute_first, execute_rows, execute_ran, sent_rows, description, is_limit, usable, settle, Described}
-use Rattle.session_values.specs.Step.{Asked, Terminate, Sync, Query, FunctionCall, ParseMessage, BindMessage, Describe, Close, Execute, Password, Nothing, asked, answer_to, answer_skipping, end_query, step, step_query, without_unnamed, sync, saved, reading_body, query_with, query_ran, query}
+use Rattle.session_values.specs.State.{State, CatalogueOf, TableOf, table_name, Row, SavedOf, prepared_name, portal_name, PortalOf, ProgressOf, NotRun, Remaining, Finished, Answer, answers, bound, set_parameter, restored, failed, commit_outside, save, save_unless, ready, reports, report_of, reports_from, status}
+use Rattle.session_values.specs.Lookups.{Columns, look_up, found, to_read}
+use Rattle.session_values.specs.Runs as runs
+use Rattle.session_values.specs.Runs.{Ran, Outcome, ran, run, begin_run, commit_run, rollback_run, discard_run, create_run, insert_run, set_run, show_run, select_run, row_tag, given_frames, are_distinct, all_fit, operand_value, with_table, insert_into}
+use Rattle.session_values.specs.Extended.{parse, bind, bindable, describe, described, describe_portal, is_result_count, close, execute, execute_on, execute_rows, execute_outcome, execute_ran, sent_rows, description, is_limit, usable, settle, Described}
+use Rattle.session_values.specs.Step.{Asked, Terminate, Sync, Query, FunctionCall, ParseMessage, BindMessage, Describe, Close, Execute, Password, Nothing, asked, answer_to, answer_skipping, end_query, step, step_query, without_unnamed, sync, saved, reading_body, heading, query_ran, query}
 use Rattle.session_laws.specs.Laws.{has_ready, Ends, without_ready, with_ready}
 
 pub record Fine (s : State) (after : State) (sent : List FrameOf) : Type 0 where
@@ -87,7 +88,7 @@ discard-fine s Outside = plainly _ _ _ refl refl refl refl
 discard-fine s Inside = tt
 discard-fine s Failed = tt
 
-pub roll_back-same : (s : State) (c : Option SavedOf) → (roll_back_to s c).skipping ≡ s.skipping × (roll_back_to s c).ended ≡ s.ended × (roll_back_to s c).defaults ≡ s.defaults
+pub roll_back-same : (s : State) (c : Option SavedOf) → (restored s c).skipping ≡ s.skipping × (restored s c).ended ≡ s.ended × (restored s c).defaults ≡ s.defaults
 roll_back-same s None = (refl, refl, refl)
 roll_back-same s (Some c) = (refl, refl, refl)
 
@@ -111,38 +112,47 @@ inserted-fine s (Some t) r = plainly _ _ _ refl refl refl refl
 insert-fine : (s : State) (t : Text) (r : Row) → RanFine s (insert_run s t r)
 insert-fine s t r = chosen-fine s (all_fit r) (ran (insert_into s (named table_name s.tables t) r) [] (codes "INSERT 0 1")) (Err InvalidValue) (inserted-fine s (named table_name s.tables t) r) tt
 
-pub run-fine : (s : State) (given : Row) (x : Statement) → RanFine s (run s given x)
-run-fine s given st.Empty = plainly _ _ _ refl refl refl refl
-run-fine s given st.Begin = begin-fine s s.block
-run-fine s given st.Commit = commit-fine s s.block
-run-fine s given st.Rollback = rollback-fine s s.block
-run-fine s given (st.Set n v) = set-fine s (codes "SET") (set_parameter s.defaults s.current n v)
-run-fine s given (st.Reset n) = set-fine s (codes "RESET") (set_parameter s.defaults s.current n None)
-run-fine s given st.ResetAll = plainly _ _ _ refl refl refl refl
-run-fine s given st.DiscardAll = discard-fine s s.block
-run-fine s given (st.Create t cs) = create-fine s t cs (named table_name s.tables t)
-run-fine s given (st.Drop t) = plainly _ _ _ refl refl refl refl
-run-fine s given (st.Insert t vs) = insert-fine s t (map (operand_value given) vs)
-run-fine s given (st.Show n) = plainly _ _ _ refl refl refl refl
-run-fine s given (st.Select cs t w) = plainly _ _ _ refl refl refl refl
+show-fine : (s : State) (o : Option Parameter) → RanFine s (show_run s o)
+show-fine s None = tt
+show-fine s (Some p) = plainly _ _ _ refl refl refl refl
+
+select-fine : (s : State) (given : Row) (w : Option Equals) (cs : List Text) (r : Result TableOf Cause) → RanFine s (select_run s given w cs r)
+select-fine s given w cs (Ok t) = plainly _ _ _ refl refl refl refl
+select-fine s given w cs (Err c) = tt
+
+run-fine : (cat : CatalogueOf) (s : State) (given : Row) (x : Statement) → RanFine s (run cat s given x)
+run-fine cat s given st.Empty = plainly _ _ _ refl refl refl refl
+run-fine cat s given st.Begin = begin-fine s s.block
+run-fine cat s given st.Commit = commit-fine s s.block
+run-fine cat s given st.Rollback = rollback-fine s s.block
+run-fine cat s given (st.Set n v) = set-fine s (codes "SET") (set_parameter s.defaults s.current n v)
+run-fine cat s given (st.Reset n) = set-fine s (codes "RESET") (set_parameter s.defaults s.current n None)
+run-fine cat s given st.ResetAll = plainly _ _ _ refl refl refl refl
+run-fine cat s given (st.Show n) = show-fine s (parameter_named n)
+run-fine cat s given st.DiscardAll = discard-fine s s.block
+run-fine cat s given (st.Create t cs) = create-fine s t cs (named table_name s.tables t)
+run-fine cat s given (st.Drop t) = plainly _ _ _ refl refl refl refl
+run-fine cat s given (st.Insert t vs) = insert-fine s t (map (operand_value given) vs)
+run-fine cat s given (st.Select cs t w) = select-fine s given w cs (to_read cat s t)
 
 -- ---- queries
 
-tagged : (tag : Option Text) → has_ready (end_of tag ∷ []) ≡ false
-tagged None = refl
-tagged (Some t) = refl
+given-fine : (x : Statement) (o : Outcome) → has_ready (given_frames x o) ≡ false
+given-fine x runs.Nothing = refl
+given-fine x (runs.Done tag) = refl
+given-fine x (runs.Rows rows) = has_ready-rows rows _ refl
 
-ran-fine : (s : State) (r : Result Ran Cause) → RanFine s r → AllFine s (bound r (λ x. Ok (query_ran x)))
-ran-fine s (Ok r) h = plainly _ _ _ (has_ready-append r.notices (end_of r.tag ∷ []) h.no_ready (tagged r.tag)) h.skipping h.ended h.defaults
-ran-fine s (Err c) h = tt
+heading-fine : (cs : Columns) → has_ready (heading cs) ≡ false
+heading-fine None = refl
+heading-fine (Some cs) = refl
 
-query_with-fine : (cat : CatalogueOf) (s : State) (x : Statement) (columns : Option (List Text)) → AllFine s (query_with cat s x columns)
-query_with-fine cat s x (Some cs) = plainly _ _ _ (has_ready-rows (rows_of cat s [] x) _ refl) refl refl refl
-query_with-fine cat s x None = ran-fine s (run s [] x) (run-fine s [] x)
+query_ran-fine : (s : State) (x : Statement) (cs : Columns) (r : Result Ran Cause) → RanFine s r → AllFine s (bound r (λ y. Ok (query_ran x cs y)))
+query_ran-fine s x cs (Ok r) h = plainly _ _ _ (has_ready-append (r.notices ++ heading cs) (given_frames x r.outcome) (has_ready-append r.notices (heading cs) h.no_ready (heading-fine cs)) (given-fine x r.outcome)) h.skipping h.ended h.defaults
+query_ran-fine s x cs (Err c) h = tt
 
 pub query-fine : (cat : CatalogueOf) (s : State) (t : Text) → AllFine s (query cat s t)
 query-fine cat s t =
-    bound-fine s (usable s t) _ (λ x. bound-fine s _ _ (λ u. bound-fine s (look_up cat s x) _ (λ cs. query_with-fine cat s x cs)))
+    bound-fine s (usable s t) _ (λ x. bound-fine s _ _ (λ u. bound-fine s (look_up cat s x) _ (λ cs. query_ran-fine s x cs (run cat s [] x) (run-fine cat s [] x))))
 
 -- ---- the extended query
 
@@ -181,22 +191,25 @@ sent-fine s n x limit rows = by_test (is_limit limit && nat_le limit (length row
     by_test true = plainly _ _ _ (has_ready-rows (take limit rows) _ refl) refl refl refl
     by_test false = plainly _ _ _ (has_ready-rows rows _ refl) refl refl refl
 
-other-fine : (s : State) (n : Text) (r : Result Ran Cause) → RanFine s r → AllFine s (bound r (λ x. Ok (execute_ran n x)))
-other-fine s n (Ok r) h = plainly _ _ _ (has_ready-append r.notices (end_of r.tag ∷ []) h.no_ready (tagged r.tag)) h.skipping h.ended h.defaults
-other-fine s n (Err c) h = tt
+outcome-fine : (s : State) (n : Text) (x : Statement) (limit : ℕ) (o : Outcome) → Fine s (execute_outcome s n x limit o).next (execute_outcome s n x limit o).replies
+outcome-fine s n x limit (runs.Rows rows) = sent-fine s n x limit rows
+outcome-fine s n x limit runs.Nothing = plainly _ _ _ refl refl refl refl
+outcome-fine s n x limit (runs.Done tag) = plainly _ _ _ refl refl refl refl
 
-first-fine : (cat : CatalogueOf) (s : State) (p : PortalOf) (limit : ℕ) (x : Statement) (cs : Option (List Text)) → AllFine s (execute_first cat s p limit x cs)
-first-fine cat s p limit x (Some cs) = sent-fine s p.name x limit (rows_of cat s p.given x)
-first-fine cat s p limit x None = other-fine s p.name (run s p.given x) (run-fine s p.given x)
+first-fine : (s : State) (n : Text) (x : Statement) (limit : ℕ) (r : Result Ran Cause) → RanFine s r → AllFine s (bound r (λ y. Ok (execute_ran n x limit y)))
+first-fine s n x limit (Ok r) h =
+    let o = outcome-fine r.after n x limit r.outcome in
+    plainly _ _ _ (has_ready-append r.notices _ h.no_ready o.no_ready) (o.skipping ∙ h.skipping) (o.ended ∙ h.ended) (o.defaults ∙ h.defaults)
+first-fine s n x limit (Err c) h = tt
 
-on-fine : (cat : CatalogueOf) (s : State) (p : PortalOf) (limit : ℕ) (x : Statement) (g : ProgressOf) (cs : Option (List Text)) → AllFine s (execute_on cat s p limit x g cs)
-on-fine cat s p limit x NotRun cs = first-fine cat s p limit x cs
-on-fine cat s p limit x (Remaining rows) cs = sent-fine s p.name x limit rows
-on-fine cat s p limit x Finished cs = tt
+on-fine : (cat : CatalogueOf) (s : State) (p : PortalOf) (limit : ℕ) (x : Statement) (g : ProgressOf) → AllFine s (execute_on cat s p limit x g)
+on-fine cat s p limit x NotRun = first-fine s p.name x limit (run cat s p.given x) (run-fine cat s p.given x)
+on-fine cat s p limit x (Remaining rows) = sent-fine s p.name x limit rows
+on-fine cat s p limit x Finished = tt
 
 pub execute-fine : (cat : CatalogueOf) (s : State) (n : Text) (limit : ℕ) → AllFine s (execute cat s n limit)
 execute-fine cat s n limit =
-    bound-fine s (found NoPortal (named portal_name s.portals n)) _ (λ p. bound-fine s (usable s p.query) _ (λ x. bound-fine s (look_up cat s x) _ (λ cs. on-fine cat s p limit x p.progress cs)))
+    bound-fine s (found NoPortal (named portal_name s.portals n)) _ (λ p. bound-fine s (usable s p.query) _ (λ x. bound-fine s (look_up cat s x) _ (λ cs. on-fine cat s p limit x p.progress)))
 
 -- ---- a step
 

@@ -1,14 +1,17 @@
 -- An answer that goes on to reports and ReadyForQuery.
-use Rattle.std.proofs.Common.{◌≡◌, ℕ, List, ◌++◌, Result, Ok, Err, sym, ap, ◌∙◌, append_assoc}
+use Rattle.std.proofs.Common.{◌≡◌, ℕ, List, ◌++◌, Result, Ok, Err, refl, sym, ap, subst, ◌∙◌, append_assoc}
 use Rattle.std.specs.Prelude.{OnOk}
 use Rattle.std.specs.List.{flat_map}
 use Rattle.std.proofs.lemmas.List.Concat.{flat_map-append}
 use Rattle.frame_view.specs.Frames.{spelling}
 use Rattle.session_values.specs.declared.cause.Cause.{Cause}
 use Rattle.session_values.specs.declared.stop.Stop.TheVariants.{Refused}
-use Rattle.session_values.specs.State.{State, Answer, and_then, commit_outside, ready}
+use Rattle.mini_sql.specs.Statements.{Statement}
+use Rattle.mini_sql.specs.Words.{Text}
+use Rattle.session_values.specs.Runs.{Ran}
+use Rattle.session_values.specs.State.{State, Answer, and_then, answers, bound, commit_outside, ready}
 use Rattle.session_values.specs.Step.{end_query, saved}
-use Rattle.session_values.specs.Extended.{refused, settle}
+use Rattle.session_values.specs.Extended.{execute_outcome, execute_ran, refused, settle}
 use Rattle.session_values.specs.Answers.{Gave, Gives, Performs}
 
 on_ok : {E : Type 0} {P Q : Type 0} (r : Result (Unit {0}) E) → (P → Q) → OnOk r P → OnOk r Q
@@ -22,6 +25,14 @@ Gave-then a f mid new before between after s w g = record {
   written = g.written ∙ ap (λ (b : List ℕ). b ++ flat_map spelling (f mid).replies) w ∙ append_assoc before (flat_map spelling a.replies) (flat_map spelling (f mid).replies)
       ∙ ap (λ (b : List ℕ). before ++ b) (sym (flat_map-append spelling a.replies (f mid).replies)) ∙ ap (λ (t : State). before ++ flat_map spelling (a.replies ++ (f t).replies)) s;
 }
+
+-- a portal's statement that ran, and what it gave
+pub ran_executes : (old new : State) (before between after : List ℕ) (n : Text) (st : Statement) (limit : ℕ) (x : Result Ran Cause) (r : Ran)
+    → x ≡ Ok r → between ≡ before ++ flat_map spelling r.notices → Gave new between after (execute_outcome r.after n st limit r.outcome)
+    → Gives (Ok tt) old new before after (bound x (λ q. Ok (execute_ran n st limit q)))
+ran_executes old new before between after n st limit x r e w g =
+    let all = Gave-then (answers r.after r.notices) (λ s. execute_outcome s n st limit r.outcome) r.after new before between after refl w g in
+    subst (λ (y : Result Ran Cause). Gives (Ok tt) old new before after (bound y (λ q. Ok (execute_ran n st limit q)))) (sym e) (all.next, all.written)
 
 -- a Query that ran
 pub query_ends : {E : Type 0} (old mid new : State) (before between after : List ℕ) (x : Result Answer Cause) (r : Result (Unit {0}) E)

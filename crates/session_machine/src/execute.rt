@@ -3,11 +3,12 @@ ghost use Rattle.std.specs.Prelude.{◌≡◌, ◌≤◌, ◌<◌, [], length, t
 ghost use Rattle.std.specs.Int.{w32, cast_unsigned};
 ghost use Rattle.mini_sql.specs.Meanings.{meaning};
 ghost use Rattle.message_view.specs.Messages.{command_complete, portal_suspended};
-ghost use Rattle.session_values.specs.Runs.{row_tag, run};
+ghost use Rattle.session_values.specs.Runs.{row_tag};
 ghost use Rattle.session_values.specs.Answers.{Gave, Performs};
-ghost use Rattle.session_values.specs.Extended.{execute, execute_first, execute_on, execute_ran, execute_rows, is_suspended, sent_rows};
+ghost use Rattle.session_values.specs.Extended.{execute, execute_on, execute_outcome, execute_rows, is_suspended, sent_rows};
 ghost use Rattle.session_values.specs.Picks.{IsNarrow};
-ghost use Rattle.session_values.specs.State.{bound};
+ghost use Rattle.session_values.specs.State.{NotRun};
+ghost use Rattle.statement_runs.specs.Rans.{outcome_of};
 
 use bytes::BytesMut;
 use message_view::put_portal_suspended;
@@ -16,13 +17,12 @@ use server_catalogue::Catalogue;
 use session_state::portal::{Portal, Progress, Rows};
 use session_state::session::SessionState;
 use session_values::cause::Cause;
-use session_values::names::Names;
 use session_values::naming::{HasName, find_named};
 use session_values::stop::Stop;
 use shared_list::Shared;
 use statement_runs::lookup::look_up;
 use statement_runs::output::{put_row_tag, put_rows};
-use statement_runs::rows::rows_of;
+use statement_runs::ran::{Outcome, put_notices, put_outcome};
 use statement_runs::run::{run, usable};
 use std::alloc::{AllocError, Global};
 
@@ -88,20 +88,28 @@ fn execute_rows(
     }
 }
 
-/// Runs a statement that gives no rows.
-fn execute_run(
+/// Answers what a portal's statement gave: its rows are the portal's from then on.
+fn execute_outcome(
     alloc: Global,
     session: &mut SessionState,
-    portal: &Portal,
+    name: &[u8],
     statement: &Stmt<'_>,
+    limit: i32,
+    outcome: Outcome,
     out: &mut BytesMut,
-) -> Result<(), Stop>
-    requires { IsNarrow (meaning statement.now) }
-    ensures { Performs result session.old session.new out.old.items out.new.items (bound (run session.old portal.now.given (meaning statement.now)) (λ r. Ok (execute_ran portal.now.name r))) }
+) -> Result<(), AllocError>
+    ensures { OnOk result (Gave session.new out.old.items out.new.items (execute_outcome session.old name.now (meaning statement.now) (cast_unsigned w32 limit) (outcome_of outcome))) }
 {
-    run(alloc, session, portal.given(), statement, out)?;
-    session.put_progress(alloc, portal.name().as_slice(), &Progress::Finished)?;
-    Ok(())
+    match outcome {
+        Outcome::Rows(rows) => {
+            let rows = Rows::new(rows);
+            execute_rows(alloc, session, name, statement, limit, &rows, out)
+        }
+        outcome => {
+            put_outcome(alloc, statement, &outcome, out)?;
+            session.put_progress(alloc, name, &Progress::Finished)
+        }
+    }
 }
 
 /// The first Execute of a portal, which fixes its rows.
@@ -112,23 +120,20 @@ fn execute_first(
     portal: &Portal,
     limit: i32,
     statement: &Stmt<'_>,
-    names: &Option<Names>,
     out: &mut BytesMut,
 ) -> Result<(), Stop>
     requires { IsNarrow (meaning statement.now) }
-    ensures { Performs result session.old session.new out.old.items out.new.items (execute_first catalogue.now session.old portal.now (cast_unsigned w32 limit) (meaning statement.now) names.now) }
+    ensures { Performs result session.old session.new out.old.items out.new.items (execute_on catalogue.now session.old portal.now (cast_unsigned w32 limit) (meaning statement.now) NotRun) }
 {
-    if names.is_none() {
-        return execute_run(alloc, session, portal, statement, out);
-    }
-    let rows = Rows::new(rows_of(alloc, session, catalogue, portal.given(), statement)?);
-    execute_rows(
+    let ran = run(alloc, session, catalogue, portal.given(), statement)?;
+    put_notices(ran.notice, out)?;
+    execute_outcome(
         alloc,
         session,
         portal.name().as_slice(),
         statement,
         limit,
-        &rows,
+        ran.outcome,
         out,
     )?;
     Ok(())
@@ -141,16 +146,13 @@ fn execute_on(
     portal: &Portal,
     limit: i32,
     statement: &Stmt<'_>,
-    names: &Option<Names>,
     out: &mut BytesMut,
 ) -> Result<(), Stop>
     requires { IsNarrow (meaning statement.now) }
-    ensures { Performs result session.old session.new out.old.items out.new.items (execute_on catalogue.now session.old portal.now (cast_unsigned w32 limit) (meaning statement.now) portal.now.progress names.now) }
+    ensures { Performs result session.old session.new out.old.items out.new.items (execute_on catalogue.now session.old portal.now (cast_unsigned w32 limit) (meaning statement.now) portal.now.progress) }
 {
     match portal.progress() {
-        Progress::NotRun => execute_first(
-            alloc, session, catalogue, portal, limit, statement, names, out,
-        ),
+        Progress::NotRun => execute_first(alloc, session, catalogue, portal, limit, statement, out),
         Progress::Remaining(rows) => {
             execute_rows(
                 alloc,
@@ -183,8 +185,6 @@ pub(crate) fn execute(
     };
     let portal = portal.at(portal.progress().copied()?)?;
     let statement = usable(session, portal.query().as_slice())?;
-    let names = look_up(alloc, session, catalogue, &statement)?;
-    execute_on(
-        alloc, session, catalogue, &portal, limit, &statement, &names, out,
-    )
+    let _ = look_up(alloc, session, catalogue, &statement)?;
+    execute_on(alloc, session, catalogue, &portal, limit, &statement, out)
 }

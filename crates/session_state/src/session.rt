@@ -1,7 +1,7 @@
 //! The state of a session, and what a transaction keeps and gives back (PostgreSQL manual, "BEGIN", "ROLLBACK").
 ghost use Rattle.std.specs.Prelude.{◌≡◌, ◌<◌, [], None, length, OnOk, IfOk, true};
 ghost use Rattle.session_values.specs.Runs.{discarded};
-ghost use Rattle.session_values.specs.State.{failing, roll_back_to, save_unless};
+ghost use Rattle.session_values.specs.State.{failing, restored, save_unless};
 
 use crate::portal::{Portal, Prepared};
 use crate::work::{Saved, Work};
@@ -154,7 +154,7 @@ impl SessionState {
 
     /// Gives back the values and temporary tables that are kept, if some are.
     fn restore(&mut self)
-        ensures { self.new ≡ record (roll_back_to self.old self.old.saved) { saved = None } }
+        ensures { self.new ≡ record (restored self.old self.old.saved) { saved = None } }
     {
         if let Saved::Changed(saved) = mem::replace(&mut self.saved, Saved::Nothing) {
             self.work = saved;

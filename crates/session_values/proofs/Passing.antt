@@ -1,5 +1,5 @@
 -- Lists of which all items pass a test, and names that none of them has.
-use Rattle.std.proofs.Common.{◌≡◌, List, [], ◌∷◌, filter, Option, Some, None, refl, ap, Bool, true, false, cond, not}
+use Rattle.std.proofs.Common.{◌≡◌, List, [], ◌∷◌, filter, Some, None, refl, ap, Bool, true, false, cond, not}
 use Rattle.std.specs.List.{list_all}
 use Rattle.mini_sql.specs.Words.{Text, same_text}
 use Rattle.session_values.specs.Named.{named, without}

@@ -6,9 +6,7 @@ use Rattle.frame_view.specs.declared.Frame.{Frame}
 use Rattle.session_values.specs.declared.cause.Cause.{Cause}
 use Rattle.session_values.specs.declared.stop.Stop.{Stop}
 use Rattle.session_values.specs.declared.stop.Stop.TheVariants.{Refused, OutOfMemory}
-use Rattle.session_values.specs.State.{State, Answer, bound}
-use Rattle.session_values.specs.Runs.{Ran}
-use Rattle.session_values.specs.Step.{query_ran}
+use Rattle.session_values.specs.State.{State, Answer}
 
 -- a frame without where it lies in memory
 abbrev pub frame_of : Frame → FrameOf
@@ -26,9 +24,6 @@ Gives (Err c) old new before after (Err d) = (d ≡ c) × (new ≡ old) × (afte
 Gives (Ok u) old new before after (Err d) = ⊥
 Gives (Err c) old new before after (Ok a) = ⊥
 
-abbrev pub RunGives : Result (Unit {0}) Cause → State → State → List ℕ → List ℕ → Result Ran Cause → Type 0
-RunGives done old new before after r = Gives done old new before after (bound r (λ x. Ok (query_ran x)))
-
 -- the definition's result, unless an allocation failed
 abbrev pub Finds : {A : Type 0} → Result A Stop → Result A Cause → Type 0
 Finds (Ok x) wanted = wanted ≡ Ok x
@@ -40,6 +35,3 @@ abbrev pub Performs : Result (Unit {0}) Stop → State → State → List ℕ �
 Performs (Ok u) old new before after wanted = Gives (Ok u) old new before after wanted
 Performs (Err (Refused cause)) old new before after wanted = Gives (Err cause) old new before after wanted
 Performs (Err OutOfMemory) old new before after wanted = Unit {0}
-
-abbrev pub RunPerforms : Result (Unit {0}) Stop → State → State → List ℕ → List ℕ → Result Ran Cause → Type 0
-RunPerforms done old new before after wanted = Performs done old new before after (bound wanted (λ x. Ok (query_ran x)))

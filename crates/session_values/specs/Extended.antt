@@ -13,9 +13,9 @@ use Rattle.session_values.specs.declared.cause.Cause.{Cause}
 use Rattle.session_values.specs.declared.cause.Cause.TheVariants.{Syntax, Aborted, StatementExists, PortalExists, NoStatement, NoPortal, MalformedMessage, InvalidValue, PortalIsDone}
 use Rattle.session_values.specs.Errors.{error}
 use Rattle.session_values.specs.Named.{named, without}
-use Rattle.session_values.specs.State.{State, CatalogueOf, Row, PreparedOf, prepared_name, PortalOf, portal_name, ProgressOf, NotRun, Remaining, Finished, Answer, answers, bound, ◌>>=◌, failed}
+use Rattle.session_values.specs.State.{State, CatalogueOf, Row, PreparedOf, prepared_name, PortalOf, portal_name, ProgressOf, NotRun, Remaining, Finished, Answer, answers, and_then, bound, ◌>>=◌, failed}
 use Rattle.session_values.specs.Lookups.{Columns, look_up, found}
-use Rattle.session_values.specs.Runs.{Ran, run, rows_of, row_tag, end_of}
+use Rattle.session_values.specs.Runs.{Outcome, Rows, Ran, run, row_tag, given_frames}
 
 -- ---- refusals
 
@@ -238,22 +238,22 @@ execute_rows s n st limit rows =
     if is_suspended limit (length rows) then sent_rows s n (take limit rows) (drop limit rows) portal_suspended
     else sent_rows s n rows [] (command_complete (row_tag st (length rows)))
 
-abbrev pub execute_ran : Text → Ran → Answer
-execute_ran n r = answers (progressed r.after n Finished) (r.notices ++ end_of r.tag ∷ [])
+-- what an Execute answers of a statement that ran; its rows are the portal's from then on
+abbrev pub execute_outcome : State → Text → Statement → ℕ → Outcome → Answer
+execute_outcome s n st limit (Rows rows) = execute_rows s n st limit rows
+execute_outcome s n st limit outcome = answers (progressed s n Finished) (given_frames st outcome)
 
--- the first Execute of a portal, which fixes its rows
-abbrev pub execute_first : CatalogueOf → State → PortalOf → ℕ → Statement → Columns → Result Answer Cause
-execute_first cat s p limit st (Some columns) = Ok (execute_rows s p.name st limit (rows_of cat s p.given st))
-execute_first cat s p limit st None = bound (run s p.given st) (λ r. Ok (execute_ran p.name r))
+abbrev pub execute_ran : Text → Statement → ℕ → Ran → Answer
+execute_ran n st limit r = and_then (answers r.after r.notices) (λ s. execute_outcome s n st limit r.outcome)
 
-abbrev pub execute_on : CatalogueOf → State → PortalOf → ℕ → Statement → ProgressOf → Columns → Result Answer Cause
-execute_on cat s p limit st NotRun columns = execute_first cat s p limit st columns
-execute_on cat s p limit st (Remaining rows) columns = Ok (execute_rows s p.name st limit rows)
-execute_on cat s p limit st Finished columns = Err PortalIsDone
+abbrev pub execute_on : CatalogueOf → State → PortalOf → ℕ → Statement → ProgressOf → Result Answer Cause
+execute_on cat s p limit st NotRun = bound (run cat s p.given st) (λ r. Ok (execute_ran p.name st limit r))
+execute_on cat s p limit st (Remaining rows) = Ok (execute_rows s p.name st limit rows)
+execute_on cat s p limit st Finished = Err PortalIsDone
 
 abbrev pub execute : CatalogueOf → State → Text → ℕ → Result Answer Cause
 execute cat s n limit = do
   p ← found NoPortal (named portal_name s.portals n)
   st ← usable s p.query
   columns ← look_up cat s st
-  execute_on cat s p limit st p.progress columns
+  execute_on cat s p limit st p.progress

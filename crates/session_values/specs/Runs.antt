@@ -1,29 +1,41 @@
--- Running a statement whose look-ups are done.
+-- Running a statement: the state after it, its notices, and what it gives.
 use Rattle.std.specs.Prelude.{ℕ, suc, ◌-◌, List, [], ◌∷◌, ◌++◌, length, map, filter, slice_get, Option, Some, None, Result, Ok, Err, Bool, true, false, nat_le, ◌&&◌, not, if◌then◌else◌, codes}
 use Rattle.std.specs.Fmt.{decimal}
 use Rattle.frame_view.specs.Frames.{FrameOf}
-use Rattle.message_view.specs.Messages.{command_complete, empty_query_response}
+use Rattle.message_view.specs.Messages.{command_complete, data_row, empty_query_response}
 use Rattle.mini_sql.specs.Words.{Text, same_text}
-use Rattle.mini_sql.specs.Statements.{Statement, Begin, Commit, Rollback, Set, Reset, ResetAll, Show, DiscardAll, Create, Drop, Insert, Select, Equals, Operand, Constant, Placeholder, Null}
+use Rattle.mini_sql.specs.Statements.{Statement, Empty, Begin, Commit, Rollback, Set, Reset, ResetAll, Show, DiscardAll, Create, Drop, Insert, Select, Equals, Operand, Constant, Placeholder, Null}
 use Rattle.session_values.specs.declared.block.Block.{Block}
 use Rattle.session_values.specs.declared.block.Block.TheVariants.{Outside, Inside, Failed}
 use Rattle.session_values.specs.declared.parameter.Parameter.{Parameter}
 use Rattle.session_values.specs.declared.cause.Cause.{Cause}
-use Rattle.session_values.specs.declared.cause.Cause.TheVariants.{InTransaction, ColumnTwice, TableExists, InvalidValue}
+use Rattle.session_values.specs.declared.cause.Cause.TheVariants.{InTransaction, ColumnTwice, TableExists, InvalidValue, NoParameter}
 use Rattle.session_values.specs.Parameters.{Values, parameters, parameter_named, is_fixed, value_of}
 use Rattle.session_values.specs.Errors.{already_in_transaction, no_transaction}
 use Rattle.session_values.specs.Named.{named, without, with_named}
 use Rattle.session_values.specs.State.{State, CatalogueOf, TableOf, Row, table_name, has_text, commit, roll_back, set_parameter}
 use Rattle.session_values.specs.Lookups.{to_read, selected}
 
--- what a run leaves: the state, the notices before its tag, and the tag; None: the empty statement
+-- what a statement gives
+pub data Outcome : Type 0 where
+  -- the empty statement
+  Nothing : Outcome
+  -- it was done, as its tag tells
+  Done : Text → Outcome
+  Rows : List Row → Outcome
+
+-- what a run leaves: the state, the notices on the way, and what the statement gives
 pub record Ran : Type 0 where
   pub after : State
   pub notices : List FrameOf
-  pub tag : Option Text
+  pub outcome : Outcome
 
 abbrev pub ran : State → List FrameOf → Text → Result Ran Cause
-ran s notices tag = Ok (record { after = s; notices = notices; tag = Some tag })
+ran s notices tag = Ok (record { after = s; notices = notices; outcome = Done tag })
+
+-- rows, which change nothing
+abbrev pub gave : State → List Row → Result Ran Cause
+gave s rows = Ok (record { after = s; notices = []; outcome = Rows rows })
 
 -- ---- transaction blocks
 
@@ -118,25 +130,6 @@ insert_into s (Some t) r = record s { tables = with_named table_name s.tables (w
 abbrev pub insert_run : State → Text → Row → Result Ran Cause
 insert_run s t r = if all_fit r then ran (insert_into s (named table_name s.tables t) r) [] (codes "INSERT 0 1") else Err InvalidValue
 
--- Runs a statement; one that gives rows changes nothing, and neither does the empty one.
-abbrev pub run : State → Row → Statement → Result Ran Cause
-run s given Begin = begin_run s s.block
-run s given Commit = commit_run s s.block
-run s given Rollback = rollback_run s s.block
-run s given (Set n v) = set_run s (codes "SET") (set_parameter s.defaults s.current n v)
-run s given (Reset n) = set_run s (codes "RESET") (set_parameter s.defaults s.current n None)
-run s given ResetAll = set_run s (codes "RESET") (Ok (reset_from parameters s.current s.defaults))
-run s given DiscardAll = discard_run s s.block
-run s given (Create t cs) = create_run s t cs (named table_name s.tables t)
-run s given (Drop t) = drop_run s t
-run s given (Insert t vs) = insert_run s t (map (operand_value given) vs)
-run s given _ = Ok (record { after = s; notices = []; tag = None })
-
--- the empty statement has no tag
-abbrev pub end_of : Option Text → FrameOf
-end_of None = empty_query_response
-end_of (Some tag) = command_complete tag
-
 -- ---- rows
 
 abbrev pub place_from : ℕ → List Text → Text → Option ℕ
@@ -182,21 +175,41 @@ picked_rows c places rows = map (picked places) (filter (meets c) rows)
 abbrev pub rows_from : Row → Option Equals → List Text → TableOf → List Row
 rows_from given w cs t = picked_rows (condition_of given t.columns w) (places_of t.columns cs) t.rows
 
-abbrev pub shown_rows : Values → Option Parameter → List Row
-shown_rows vs None = []
-shown_rows vs (Some p) = (Some (value_of vs p) ∷ []) ∷ []
+abbrev pub show_run : State → Option Parameter → Result Ran Cause
+show_run s None = Err NoParameter
+show_run s (Some p) = gave s ((Some (value_of s.current p) ∷ []) ∷ [])
 
-abbrev pub table_rows : Row → Option Equals → List Text → Result TableOf Cause → List Row
-table_rows given w cs (Ok t) = rows_from given w cs t
-table_rows given w cs (Err c) = []
+abbrev pub select_run : State → Row → Option Equals → List Text → Result TableOf Cause → Result Ran Cause
+select_run s given w cs (Ok t) = gave s (rows_from given w cs t)
+select_run s given w cs (Err c) = Err c
 
--- the rows that a statement gives
-abbrev pub rows_of : CatalogueOf → State → Row → Statement → List Row
-rows_of cat s given (Show n) = shown_rows s.current (parameter_named n)
-rows_of cat s given (Select cs t w) = table_rows given w cs (to_read cat s t)
-rows_of cat s given _ = []
+-- ---- every statement
+
+-- Runs a statement, with the values that a portal was given.
+abbrev pub run : CatalogueOf → State → Row → Statement → Result Ran Cause
+run cat s given Empty = Ok (record { after = s; notices = []; outcome = Nothing })
+run cat s given Begin = begin_run s s.block
+run cat s given Commit = commit_run s s.block
+run cat s given Rollback = rollback_run s s.block
+run cat s given (Set n v) = set_run s (codes "SET") (set_parameter s.defaults s.current n v)
+run cat s given (Reset n) = set_run s (codes "RESET") (set_parameter s.defaults s.current n None)
+run cat s given ResetAll = set_run s (codes "RESET") (Ok (reset_from parameters s.current s.defaults))
+run cat s given (Show n) = show_run s (parameter_named n)
+run cat s given DiscardAll = discard_run s s.block
+run cat s given (Create t cs) = create_run s t cs (named table_name s.tables t)
+run cat s given (Drop t) = drop_run s t
+run cat s given (Insert t vs) = insert_run s t (map (operand_value given) vs)
+run cat s given (Select cs t w) = select_run s given w cs (to_read cat s t)
+
+-- ---- what is sent of it
 
 -- the tag after so many rows
 abbrev pub row_tag : Statement → ℕ → Text
 row_tag (Show n) sent = codes "SHOW"
 row_tag _ sent = codes "SELECT " ++ decimal sent
+
+-- all that a statement gives, and its end
+abbrev pub given_frames : Statement → Outcome → List FrameOf
+given_frames st Nothing = empty_query_response ∷ []
+given_frames st (Done tag) = command_complete tag ∷ []
+given_frames st (Rows rows) = map data_row rows ++ command_complete (row_tag st (length rows)) ∷ []

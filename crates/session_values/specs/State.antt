@@ -109,12 +109,13 @@ save s Failed = s
 abbrev pub commit : State → State
 commit s = record s { saved = None; portals = [] }
 
-abbrev pub roll_back_to : State → Option SavedOf → State
-roll_back_to s None = s
-roll_back_to s (Some c) = record s { current = c.values; tables = c.tables }
+-- what was saved is given back
+abbrev pub restored : State → Option SavedOf → State
+restored s None = s
+restored s (Some c) = record s { current = c.values; tables = c.tables }
 
 abbrev pub roll_back : State → State
-roll_back s = commit (roll_back_to s s.saved)
+roll_back s = record (restored s s.saved) { saved = None; portals = [] }
 
 abbrev pub failing : Block → Block
 failing Outside = Outside

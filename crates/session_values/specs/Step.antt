@@ -1,10 +1,10 @@
 -- One frame and one state give the next state and the reply frames
 -- (PostgreSQL manual, "Frontend/Backend Protocol", "Message Flow").
-use Rattle.std.specs.Prelude.{ℕ, List, [], ◌∷◌, ◌++◌, length, map, Some, None, Result, Ok, Err, true, false, nat_lt, ◌==◌, if◌then◌else◌}
+use Rattle.std.specs.Prelude.{ℕ, List, [], ◌∷◌, ◌++◌, Some, None, Result, Ok, Err, true, false, nat_lt, ◌==◌, if◌then◌else◌}
 use Rattle.frame_view.specs.declared.client.TheConstants.{BIND, CLOSE, DESCRIBE, EXECUTE, FUNCTION_CALL, PARSE, PASSWORD_MESSAGE, QUERY, SYNC, TERMINATE}
 use Rattle.frame_view.specs.Frames.{FrameOf}
 use Rattle.message_view.specs.declared.ViewFault.{ViewFault}
-use Rattle.message_view.specs.Messages.{row_description, data_row, command_complete}
+use Rattle.message_view.specs.Messages.{row_description}
 use Rattle.message_view.specs.Reading.{query_of, parse_of, bind_of, target_of, execute_of}
 use Rattle.mini_sql.specs.Words.{Text}
 use Rattle.mini_sql.specs.Statements.{Statement, parameters_of}
@@ -12,9 +12,9 @@ use Rattle.session_values.specs.declared.cause.Cause.{Cause}
 use Rattle.session_values.specs.declared.cause.Cause.TheVariants.{MalformedMessage, NotSupported, NoPlaceholder}
 use Rattle.session_values.specs.Errors.{error}
 use Rattle.session_values.specs.Named.{without}
-use Rattle.session_values.specs.State.{State, CatalogueOf, Row, portal_name, Answer, answers, and_then, bound, ◌>>=◌, save, failed, commit_outside, ready}
+use Rattle.session_values.specs.State.{State, CatalogueOf, portal_name, Answer, answers, and_then, ◌>>=◌, save, failed, commit_outside, ready}
 use Rattle.session_values.specs.Lookups.{Columns, look_up}
-use Rattle.session_values.specs.Runs.{Ran, run, rows_of, row_tag, end_of}
+use Rattle.session_values.specs.Runs.{Ran, run, given_frames}
 use Rattle.session_values.specs.Extended.{usable, unless, settle, without_statement, parse, bind, describe, close, execute, formats_of}
 
 -- ---- the kinds of a client's messages
@@ -53,24 +53,22 @@ asked kind =
 abbrev pub without_unnamed : State → State
 without_unnamed s = let t = without_statement s [] in record t { portals = without portal_name t.portals [] }
 
-abbrev pub query_rows : CatalogueOf → State → Statement → List Text → Answer
-query_rows cat s st columns =
-    let rows : List Row = rows_of cat s [] st in
-    answers s (row_description columns (formats_of columns []) ∷ map data_row rows ++ command_complete (row_tag st (length rows)) ∷ [])
+-- RowDescription, before rows
+abbrev pub heading : Columns → List FrameOf
+heading None = []
+heading (Some columns) = row_description columns (formats_of columns []) ∷ []
 
-abbrev pub query_ran : Ran → Answer
-query_ran r = answers r.after (r.notices ++ end_of r.tag ∷ [])
-
-abbrev pub query_with : CatalogueOf → State → Statement → Columns → Result Answer Cause
-query_with cat s st (Some columns) = Ok (query_rows cat s st columns)
-query_with cat s st None = bound (run s [] st) (λ r. Ok (query_ran r))
+-- what a statement with these columns is answered by, that ran so
+abbrev pub query_ran : Statement → Columns → Ran → Answer
+query_ran st columns r = answers r.after (r.notices ++ heading columns ++ given_frames st r.outcome)
 
 abbrev pub query : CatalogueOf → State → Text → Result Answer Cause
 query cat s t = do
   st ← usable s t
   bare ← unless (nat_lt 0 (parameters_of st)) NoPlaceholder
   columns ← look_up cat s st
-  query_with cat s st columns
+  r ← run cat s [] st
+  Ok (query_ran st columns r)
 
 -- A Query ends with reports and ReadyForQuery, and commits outside a block; after an error it rolls back.
 abbrev pub end_query : State → Result Answer Cause → Answer

@@ -1,15 +1,14 @@
 //! CREATE TEMP TABLE, DROP TABLE and INSERT (PostgreSQL manual, "SQL Commands").
-ghost use Rattle.std.specs.Prelude.{◌≡◌, ◌≤◌, ◌<◌, length, map, OnOk, IfOk, Ok};
+ghost use Rattle.std.specs.Prelude.{◌≡◌, ◌≤◌, ◌<◌, length, map, OnOk, IfOk};
 ghost use Rattle.std.specs.Arc.{arc_value};
 ghost use Rattle.mini_sql.specs.Meanings.{columns_left, operand_value as meant, operands_left};
 ghost use Rattle.mini_sql.specs.Words.{folded};
-ghost use Rattle.session_values.specs.Answers.{RunGives, RunPerforms};
 ghost use Rattle.session_values.specs.Named.{named};
 ghost use Rattle.session_values.specs.Runs.{all_fit, are_distinct, cell_at, create_run, drop_run, fits, insert_into, insert_run, operand_value, padded};
 ghost use Rattle.session_values.specs.State.{has_text, table_name};
+ghost use Rattle.statement_runs.specs.Rans.{Runs};
 
-use bytes::BytesMut;
-use message_view::put_command_complete;
+use crate::ran::Ran;
 use mini_sql::{Columns, Operand, Operands};
 use session_state::session::SessionState;
 use session_values::cause::Cause;
@@ -145,10 +144,9 @@ pub fn create(
     session: &mut SessionState,
     name: &[u8],
     columns: Columns<'_>,
-    out: &mut BytesMut,
-) -> Result<(), Stop>
+) -> Result<Ran, Stop>
     requires { length (columns_left columns) ≤ 64 }
-    ensures { RunPerforms result session.old session.new out.old.items out.new.items (create_run session.old (folded name.now) (columns_left columns.entry) (named table_name session.old.tables (folded name.now))) }
+    ensures { Runs result session.old session.new (create_run session.old (folded name.now) (columns_left columns.entry) (named table_name session.old.tables (folded name.now))) }
 {
     let name = Text::folded(alloc, name)?;
     if find_named(session.tables(), name.as_slice()).is_some() {
@@ -161,23 +159,17 @@ pub fn create(
     let table = Table::new(alloc, name, shared_names(alloc, columns)?)?;
     let tables = session.tables().pushed(alloc, table)?;
     session.put_tables(tables)?;
-    put_command_complete(out, b"CREATE TABLE")?;
-    Ok(())
+    Ok(Ran::done(b"CREATE TABLE"))
 }
 
 /// DROP TABLE of a temporary table.
-pub fn drop_table(
-    alloc: Global,
-    session: &mut SessionState,
-    name: &[u8],
-    out: &mut BytesMut,
-) -> Result<(), AllocError>
-    ensures { OnOk result (RunGives (Ok tt) session.old session.new out.old.items out.new.items (drop_run session.old (folded name.now))) }
+pub fn drop_table(alloc: Global, session: &mut SessionState, name: &[u8]) -> Result<Ran, Stop>
+    ensures { Runs result session.old session.new (drop_run session.old (folded name.now)) }
 {
     let name = Text::folded(alloc, name)?;
     let tables = without_named(alloc, session.tables(), name.as_slice())?;
     session.put_tables(tables)?;
-    put_command_complete(out, b"DROP TABLE")
+    Ok(Ran::done(b"DROP TABLE"))
 }
 
 fn insert_into(
@@ -204,9 +196,8 @@ pub fn insert(
     given: &Row,
     name: &[u8],
     operands: Operands<'_>,
-    out: &mut BytesMut,
-) -> Result<(), Stop>
-    ensures { RunPerforms result session.old session.new out.old.items out.new.items (insert_run session.old (folded name.now) (map (operand_value given.now) (operands_left operands.entry))) }
+) -> Result<Ran, Stop>
+    ensures { Runs result session.old session.new (insert_run session.old (folded name.now) (map (operand_value given.now) (operands_left operands.entry))) }
 {
     let name = Text::folded(alloc, name)?;
     let values = operand_texts(alloc, given.as_slice(), operands)?;
@@ -214,6 +205,5 @@ pub fn insert(
         return Err(Stop::Refused(Cause::InvalidValue));
     }
     insert_into(alloc, session, name.as_slice(), &values)?;
-    put_command_complete(out, b"INSERT 0 1")?;
-    Ok(())
+    Ok(Ran::done(b"INSERT 0 1"))
 }

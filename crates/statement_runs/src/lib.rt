@@ -5,6 +5,7 @@ mod blocks;
 mod changes;
 pub mod lookup;
 pub mod output;
-pub mod rows;
+pub mod ran;
+mod rows;
 pub mod run;
 mod set;

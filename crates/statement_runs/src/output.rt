@@ -1,5 +1,5 @@
 //! What a session writes of rows and columns.
-ghost use Rattle.std.specs.Prelude.{◌≡◌, ◌++◌, ◌∷◌, [], Some, codes, length, map, OnOk, IfOk};
+ghost use Rattle.std.specs.Prelude.{◌≡◌, ◌++◌, length, map, OnOk, IfOk};
 ghost use Rattle.std.specs.List.{flat_map};
 ghost use Rattle.std.specs.Arc.{arc_value};
 ghost use Rattle.frame_view.specs.Frames.{spelling};
@@ -7,14 +7,12 @@ ghost use Rattle.message_view.specs.Messages.{command_complete, data_row, row_de
 ghost use Rattle.message_view.specs.Parts.{formats_of as formats_in, names_of, row_of, shown_value};
 ghost use Rattle.mini_sql.specs.Meanings.{meaning};
 ghost use Rattle.session_values.specs.Extended.{description, format_at, formats_of};
-ghost use Rattle.session_values.specs.Parameters.{name};
 ghost use Rattle.session_values.specs.Runs.{row_tag};
 
 use bytes::BytesMut;
 use message_view::{Column, put_command_complete, put_data_row, put_no_data, put_row_description};
 use mini_sql::Stmt;
 use session_values::names::Names;
-use session_values::parameter::Parameter;
 use session_values::row::Row;
 use session_values::text::Text;
 use std::alloc::{AllocError, Global};
@@ -115,33 +113,6 @@ pub fn put_columns(
 {
     let columns = columns_of(alloc, names.as_slice(), formats)?;
     put_row_description(out, &columns)
-}
-
-/// The answer to SHOW, with the value written from where it lies.
-pub fn put_shown(parameter: Parameter, value: &Text, out: &mut BytesMut) -> Result<(), AllocError>
-    ensures { OnOk result (out.new.items ≡ out.old.items ++ flat_map spelling (row_description (name parameter ∷ []) (0 ∷ []) ∷ data_row (Some value.now ∷ []) ∷ command_complete (codes "SHOW") ∷ [])) }
-{
-    put_parameter(parameter, out)?;
-    put_value(value, out)?;
-    put_command_complete(out, b"SHOW")
-}
-
-/// RowDescription of the one column of SHOW.
-fn put_parameter(parameter: Parameter, out: &mut BytesMut) -> Result<(), AllocError>
-    ensures { OnOk result (out.new.items ≡ out.old.items ++ spelling (row_description (name parameter ∷ []) (0 ∷ []))) }
-{
-    let column = Column {
-        name: parameter.name(),
-        format: 0,
-    };
-    put_row_description(out, &[column])
-}
-
-/// DataRow of one value.
-fn put_value(value: &Text, out: &mut BytesMut) -> Result<(), AllocError>
-    ensures { OnOk result (out.new.items ≡ out.old.items ++ spelling (data_row (Some value.now ∷ []))) }
-{
-    put_data_row(out, &[Some(value.as_slice())])
 }
 
 /// CommandComplete after so many rows.

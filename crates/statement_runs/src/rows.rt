@@ -1,23 +1,25 @@
-//! The rows of SELECT and SHOW (PostgreSQL manual, "SQL Commands").
-ghost use Rattle.std.specs.Prelude.{◌≡◌, ◌≤◌, ◌<◌, ◌^◌, Some, filter, length, map, IfOk};
+//! SELECT and SHOW (PostgreSQL manual, "SQL Commands").
+ghost use Rattle.std.specs.Prelude.{◌≡◌, ◌≤◌, ◌<◌, ◌^◌, ◌∷◌, [], Some, filter, length, map, IfOk};
 ghost use Rattle.std.specs.Option.{option_copied};
 ghost use Rattle.std.specs.Arc.{arc_value};
-ghost use Rattle.mini_sql.specs.Meanings.{columns_left, filter_of, meaning};
-ghost use Rattle.mini_sql.specs.Statements.{Select};
+ghost use Rattle.mini_sql.specs.Meanings.{columns_left, filter_of};
 ghost use Rattle.mini_sql.specs.Words.{folded};
 ghost use Rattle.session_values.specs.Parameters.{parameter_named};
-ghost use Rattle.session_values.specs.Runs.{cell, column_of, condition_of, meets, picked, rows_from, rows_of, same_value, shown_rows};
-ghost use Rattle.session_values.specs.Lookups.{selected};
-ghost use Rattle.session_values.specs.Picks.{IsNarrow};
+ghost use Rattle.session_values.specs.Runs.{cell, column_of, condition_of, meets, picked, rows_from, same_value, select_run, show_run};
+ghost use Rattle.session_values.specs.Lookups.{selected, to_read};
+ghost use Rattle.statement_runs.specs.Rans.{Runs};
 
 use crate::changes::operand_text;
 use crate::lookup::{readable, selected};
-use mini_sql::{Columns, Filter, Stmt};
+use crate::ran::Ran;
+use mini_sql::{Columns, Filter};
 use server_catalogue::Catalogue;
 use session_state::session::SessionState;
+use session_values::cause::Cause;
 use session_values::names::Names;
 use session_values::parameter::Parameter;
 use session_values::row::Row;
+use session_values::stop::Stop;
 use session_values::table::Table;
 use session_values::text::Text;
 use shared_list::Shared;
@@ -187,40 +189,28 @@ fn table_rows(
     Shared::from_shared(alloc, picked_rows(alloc, &places, &met)?)
 }
 
-fn shown_rows(alloc: Global, session: &SessionState, name: &[u8]) -> Result<Shared<Row>, AllocError>
-    ensures { IfOk result (λ r. r ≡ shown_rows session.now.current (parameter_named name.now)) }
+/// One row of one value.
+fn one_row(alloc: Global, value: &Text) -> Result<Shared<Row>, AllocError>
+    ensures { IfOk result (λ r. r ≡ (Some value.now ∷ []) ∷ []) }
 {
-    let Some(parameter) = Parameter::named(name) else {
-        return Shared::new(alloc);
-    };
     let mut values = Vec::with_capacity(alloc, 1)?;
-    values.push(Some(session.values().get(parameter).copied()?))?;
+    values.push(Some(value.copied()?))?;
     Shared::new(alloc)?.pushed(alloc, Row::from_vec(values))
 }
 
-/// The rows that a statement gives, with the values that a portal was given.
-pub fn rows_of(
-    alloc: Global,
-    session: &SessionState,
-    catalogue: &Catalogue,
-    given: &Row,
-    statement: &Stmt<'_>,
-) -> Result<Shared<Row>, AllocError>
-    requires { IsNarrow (meaning statement.now) }
-    ensures { IfOk result (λ r. r ≡ rows_of catalogue.now session.now given.now (meaning statement.now)) }
+/// SHOW of a parameter.
+pub fn show(alloc: Global, session: &SessionState, name: &[u8]) -> Result<Ran, Stop>
+    ensures { Runs result session.now session.now (show_run session.now (parameter_named name.now)) }
 {
-    match statement {
-        Stmt::Show { name } => shown_rows(alloc, session, name),
-        Stmt::Select {
-            columns,
-            table,
-            filter,
-        } => selected_rows(alloc, session, catalogue, given, *columns, table, filter),
-        _ => Shared::new(alloc),
-    }
+    let Some(parameter) = Parameter::named(name) else {
+        return Err(Stop::Refused(Cause::NoParameter));
+    };
+    let rows = one_row(alloc, session.values().get(parameter))?;
+    Ok(Ran::rows(rows))
 }
 
-fn selected_rows(
+/// SELECT of a table's rows, with the values that a portal was given.
+pub fn select(
     alloc: Global,
     session: &SessionState,
     catalogue: &Catalogue,
@@ -228,13 +218,14 @@ fn selected_rows(
     columns: Columns<'_>,
     table: &[u8],
     filter: &Option<Filter<'_>>,
-) -> Result<Shared<Row>, AllocError>
+) -> Result<Ran, Stop>
     requires { length (columns_left columns) ≤ 64 }
-    ensures { IfOk result (λ r. r ≡ rows_of catalogue.now session.now given.now (Select (columns_left columns.entry) (folded table.now) (filter_of filter.now))) }
+    ensures { Runs result session.now session.now (select_run session.now given.now (filter_of filter.now) (columns_left columns.entry) (to_read catalogue.now session.now (folded table.now))) }
 {
     let name = Text::folded(alloc, table)?;
-    match readable(session, catalogue, name.as_slice()) {
-        Some(table) => table_rows(alloc, given.as_slice(), table, columns, filter),
-        None => Shared::new(alloc),
-    }
+    let Some(table) = readable(session, catalogue, name.as_slice()) else {
+        return Err(Stop::Refused(Cause::NoTable));
+    };
+    let rows = table_rows(alloc, given.as_slice(), table, columns, filter)?;
+    Ok(Ran::rows(rows))
 }

@@ -1,19 +1,20 @@
-//! Reading a statement, and running it once its look-ups are done.
+//! Reading a statement, and running it.
 ghost use Rattle.std.specs.Prelude.{◌≡◌, IfOk};
 ghost use Rattle.mini_sql.specs.Meanings.{Reads, meaning};
 ghost use Rattle.mini_sql.specs.Statements.{statement};
-ghost use Rattle.session_values.specs.Answers.{RunPerforms};
 ghost use Rattle.session_values.specs.Extended.{may_end_block, usable};
 ghost use Rattle.statement_runs.specs.Found.{meant};
+ghost use Rattle.statement_runs.specs.Rans.{Runs};
 ghost use Rattle.session_values.specs.Picks.{IsNarrow};
 ghost use Rattle.session_values.specs.Runs.{run};
 
 use crate::blocks::{begin, commit_block, discard, roll_back_block};
 use crate::changes::{create, drop_table, insert};
+use crate::ran::Ran;
+use crate::rows::{select, show};
 use crate::set::{reset, reset_all, set};
-use bytes::BytesMut;
-use message_view::put_empty_query_response;
 use mini_sql::{SqlFault, Stmt, read_statement};
+use server_catalogue::Catalogue;
 use session_state::session::SessionState;
 use session_values::block::Block;
 use session_values::cause::Cause;
@@ -51,32 +52,34 @@ pub fn usable<'a>(session: &SessionState, text: &'a [u8]) -> Result<Stmt<'a>, Ca
     }
 }
 
-/// Runs a statement that gives no rows, with the values that a portal was given, and writes
-/// its notices and its tag.
+/// Runs a statement, with the values that a portal was given.
 pub fn run(
     alloc: Global,
     session: &mut SessionState,
+    catalogue: &Catalogue,
     given: &Row,
     statement: &Stmt<'_>,
-    out: &mut BytesMut,
-) -> Result<(), Stop>
+) -> Result<Ran, Stop>
     requires { IsNarrow (meaning statement.now) }
-    ensures { RunPerforms result session.old session.new out.old.items out.new.items (run session.old given.now (meaning statement.now)) }
+    ensures { Runs result session.old session.new (run catalogue.now session.old given.now (meaning statement.now)) }
 {
     match statement {
-        Stmt::Begin => begin(session, out)?,
-        Stmt::Commit => commit_block(alloc, session, out)?,
-        Stmt::Rollback => roll_back_block(alloc, session, out)?,
-        Stmt::Set { name, to } => return set(alloc, session, name, to, out),
-        Stmt::Reset { name } => return reset(alloc, session, name, out),
-        Stmt::ResetAll => reset_all(alloc, session, out)?,
-        Stmt::DiscardAll => return discard(alloc, session, out),
-        Stmt::Create { table, columns } => return create(alloc, session, table, *columns, out),
-        Stmt::Drop { table } => drop_table(alloc, session, table, out)?,
-        Stmt::Insert { table, operands } => return insert(
-            alloc, session, given, table, *operands, out,
-        ),
-        Stmt::Empty | Stmt::Show { .. } | Stmt::Select { .. } => put_empty_query_response(out)?,
+        Stmt::Empty => Ok(Ran::nothing()),
+        Stmt::Begin => Ok(begin(session)),
+        Stmt::Commit => commit_block(alloc, session),
+        Stmt::Rollback => roll_back_block(alloc, session),
+        Stmt::Set { name, to } => set(alloc, session, name, to),
+        Stmt::Reset { name } => reset(alloc, session, name),
+        Stmt::ResetAll => reset_all(alloc, session),
+        Stmt::Show { name } => show(alloc, session, name),
+        Stmt::DiscardAll => discard(alloc, session),
+        Stmt::Create { table, columns } => create(alloc, session, table, *columns),
+        Stmt::Drop { table } => drop_table(alloc, session, table),
+        Stmt::Insert { table, operands } => insert(alloc, session, given, table, *operands),
+        Stmt::Select {
+            columns,
+            table,
+            filter,
+        } => select(alloc, session, catalogue, given, *columns, table, filter),
     }
-    Ok(())
 }

@@ -1,34 +1,31 @@
 //! SET and RESET (PostgreSQL manual, "SQL Commands").
-ghost use Rattle.std.specs.Prelude.{OnOk, Ok, None, codes};
+ghost use Rattle.std.specs.Prelude.{Ok, None, codes};
 ghost use Rattle.mini_sql.specs.Meanings.{setting_value};
-ghost use Rattle.session_values.specs.Answers.{RunGives, RunPerforms};
 ghost use Rattle.session_values.specs.State.{set_parameter};
 ghost use Rattle.session_values.specs.Parameters.{parameters};
 ghost use Rattle.session_values.specs.Runs.{reset_from, set_run};
+ghost use Rattle.statement_runs.specs.Rans.{Runs};
 
-use bytes::BytesMut;
-use message_view::put_command_complete;
+use crate::ran::Ran;
 use mini_sql::Setting;
 use session_state::session::SessionState;
 use session_values::setting::{set_parameter, setting_text};
 use session_values::stop::Stop;
 use session_values::text::Text;
-use std::alloc::{AllocError, Global};
+use std::alloc::Global;
 
 fn set_text(
     alloc: Global,
     session: &mut SessionState,
     name: &[u8],
     text: &Option<Text>,
-    tag: &[u8],
-    out: &mut BytesMut,
-) -> Result<(), Stop>
-    ensures { RunPerforms result session.old session.new out.old.items out.new.items (set_run session.old tag.now (set_parameter session.old.defaults session.old.current name.now text.now)) }
+    tag: &'static [u8],
+) -> Result<Ran, Stop>
+    ensures { Runs result session.old session.new (set_run session.old tag.now (set_parameter session.old.defaults session.old.current name.now text.now)) }
 {
     let values = set_parameter(alloc, session.defaults(), session.values(), name, text)?;
     session.put_values(values)?;
-    put_command_complete(out, tag)?;
-    Ok(())
+    Ok(Ran::done(tag))
 }
 
 /// SET of a parameter.
@@ -37,35 +34,25 @@ pub fn set(
     session: &mut SessionState,
     name: &[u8],
     setting: &Setting<'_>,
-    out: &mut BytesMut,
-) -> Result<(), Stop>
-    ensures { RunPerforms result session.old session.new out.old.items out.new.items (set_run session.old (codes "SET") (set_parameter session.old.defaults session.old.current name.now (setting_value setting.now))) }
+) -> Result<Ran, Stop>
+    ensures { Runs result session.old session.new (set_run session.old (codes "SET") (set_parameter session.old.defaults session.old.current name.now (setting_value setting.now))) }
 {
     let text = setting_text(alloc, setting)?;
-    set_text(alloc, session, name, &text, b"SET", out)
+    set_text(alloc, session, name, &text, b"SET")
 }
 
 /// RESET of a parameter to its value at the session's start.
-pub fn reset(
-    alloc: Global,
-    session: &mut SessionState,
-    name: &[u8],
-    out: &mut BytesMut,
-) -> Result<(), Stop>
-    ensures { RunPerforms result session.old session.new out.old.items out.new.items (set_run session.old (codes "RESET") (set_parameter session.old.defaults session.old.current name.now None)) }
+pub fn reset(alloc: Global, session: &mut SessionState, name: &[u8]) -> Result<Ran, Stop>
+    ensures { Runs result session.old session.new (set_run session.old (codes "RESET") (set_parameter session.old.defaults session.old.current name.now None)) }
 {
-    set_text(alloc, session, name, &None, b"RESET", out)
+    set_text(alloc, session, name, &None, b"RESET")
 }
 
 /// RESET ALL.
-pub fn reset_all(
-    alloc: Global,
-    session: &mut SessionState,
-    out: &mut BytesMut,
-) -> Result<(), AllocError>
-    ensures { OnOk result (RunGives (Ok tt) session.old session.new out.old.items out.new.items (set_run session.old (codes "RESET") (Ok (reset_from parameters session.old.current session.old.defaults)))) }
+pub fn reset_all(alloc: Global, session: &mut SessionState) -> Result<Ran, Stop>
+    ensures { Runs result session.old session.new (set_run session.old (codes "RESET") (Ok (reset_from parameters session.old.current session.old.defaults))) }
 {
     let values = session.values().reset(alloc, session.defaults())?;
     session.put_values(values)?;
-    put_command_complete(out, b"RESET")
+    Ok(Ran::done(b"RESET"))
 }

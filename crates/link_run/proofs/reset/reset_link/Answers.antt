@@ -1,6 +1,6 @@
 use Rattle.std.proofs.Common.{sym, subst, ◌∙◌}
 use Rattle.std.proofs.lemmas.Result.{IfErr-weaker}
-use Rattle.link_laws.specs.Standing.{Standing}
+use Rattle.server_end.specs.Standing.{Standing}
 use Rattle.link_run.specs.declared.reset.ResetFault.{ResetFault}
 use Rattle.link_run.specs.Resets.{FailsBy}
 use Rattle.link_run.proofs.Resetting.{fails_by, answer_fails_by}

@@ -1,6 +1,6 @@
 use Rattle.std.proofs.Common.{◌≡◌}
-use Rattle.relay_laws.specs.Leases.{Keeps}
-use Rattle.relay_laws.specs.declared.Phase.TheVariants.{Running}
+use Rattle.relay_core.specs.Leases.{Keeps}
+use Rattle.relay_core.specs.declared.Phase.TheVariants.{Running}
 use Rattle.memory_lease.proofs.alone.converse.Given as goal
 
 abbrev pub invariant-loop : goal.invariant-loop

@@ -9,7 +9,7 @@ pub take_out-link-requires-clause-once : goal.take_out-link-requires-clause-once
 take_out-link-requires-clause-once c = let P : Book → Type 0 = λ b. (n : ℕ) → count_by (is_link n) b.lent ≤ 1 in subst P (sym c.self.view_is) (one_lent _ _ _ c.requires.kept.links)
 
 pub returns-then-closes : goal.returns-then-closes
-returns-then-closes c = closing_done _ c.args.self.now c.args.number c.args.place _ c.take_out-link.result c.index-link.result.now _ c.self.view_is c.requires.found c.take_out-link.ensures.link c.index-link.ensures (sym c.closes-closes.ensures ∙ c.if-closes.true) c.take_out-link.ensures.rest (ap (λ (l : Link). l.number) c.link.view_is)
+returns-then-closes c = closing_done _ c.args.self.now c.args.number c.args.place _ c.take_out-link.result c.at-link.result.now _ c.self.view_is c.requires.found c.take_out-link.ensures.link c.at-link.ensures (sym c.closes-closes.ensures ∙ c.if-closes.true) c.take_out-link.ensures.rest (ap (λ (l : Link). l.number) c.link.view_is)
 
 pub returns : goal.returns
-returns c = keeping_done _ c.args.self.now _ c.args.number c.args.place c.take_out-link.result c.index-link.result.now _ _ c.self.view_is c.requires.found c.take_out-link.ensures.link c.index-link.ensures (sym c.closes-closes.ensures ∙ c.if-closes.false) c.take_out-link.ensures.rest c.keeps.ensures.book c.keeps.ensures.reply
+returns c = keeping_done _ c.args.self.now _ c.args.number c.args.place c.take_out-link.result c.at-link.result.now _ _ c.self.view_is c.requires.found c.take_out-link.ensures.link c.at-link.ensures (sym c.closes-closes.ensures ∙ c.if-closes.false) c.take_out-link.ensures.rest c.keeps.ensures.book c.keeps.ensures.reply

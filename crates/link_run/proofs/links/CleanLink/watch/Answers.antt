@@ -1,6 +1,6 @@
 use Rattle.std.proofs.Common.{sym, subst}
 use Rattle.std.specs.Arc.{arc_value}
-use Rattle.link_laws.specs.Standing.{Standing}
+use Rattle.server_end.specs.Standing.{Standing}
 use Rattle.link_run.specs.Links.{IsClean}
 use Rattle.link_run.proofs.links.CleanLink.watch.Goals as goal
 

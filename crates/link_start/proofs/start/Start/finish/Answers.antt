@@ -1,24 +1,40 @@
-use Rattle.std.proofs.Common.{ℕ, List, sym, ap, ap₂, ◌∙◌, subst, Err, Option}
+use Rattle.std.proofs.Common.{ℕ, List, sym, ap, ap₂, ◌∙◌, subst, Result, Err, Option, None}
 use Rattle.frame_view.specs.declared.Side.TheVariants.{Server}
 use Rattle.frame_view.specs.Frames.{AreBytes, frames}
+use Rattle.message_view.specs.declared.ViewFault.{ViewFault}
+use Rattle.message_view.specs.declared.views.KeyView.{KeyView}
 use Rattle.param_track.specs.Kept.{Kept}
 use Rattle.link_start.specs.declared.heard.Untaken.{Untaken}
-use Rattle.link_start.specs.Heard.{Takes, reported_all}
-use Rattle.link_start.specs.Starts.{StartView, IsDone}
-use Rattle.link_start.proofs.Starting.{started_clean, never_unreported}
+use Rattle.link_start.specs.Heard.{Takes, reported_all, keyed_all}
+use Rattle.link_start.specs.Starts.{StartView, IsDone, IsOwnKey}
+use Rattle.link_start.proofs.Starting.{started_clean, never_unreported, never_unkeyed, own_key}
 use Rattle.link_start.proofs.start.Start.finish.Goals as goal
 
 abbrev reported : List Kept → List ℕ → Option (List Kept)
 reported kept bytes = reported_all kept (frames Server 65536 bytes).frames
 
+abbrev keyed : List ℕ → Result (Option KeyView) ViewFault
+keyed bytes = keyed_all None (frames Server 65536 bytes).frames
+
 pub clean-requires : goal.clean-requires
 clean-requires g c =
     started_clean _ (subst (λ (v : StartView). IsDone v) (sym c.self.view_is) c.requires) c.take_reports.new.reported (subst AreBytes c.as_slice.ensures c.in-Ok.ensures.bytes)
-    (ap₂ reported (sym c.new-reported.ensures) (sym c.as_slice.ensures) ∙ c.in-Ok.ensures.taken)
+    (ap₂ reported (sym c.new-reported.ensures) (sym c.as_slice-2.ensures) ∙ c.in-Ok-take_reports.ensures.taken)
+
+pub returns-in_default-clause-cause : goal.returns-in_default-clause-cause
+returns-in_default-clause-cause g c = λ b s can x f.
+    let received = c.as_slice.ensures ∙ ap (λ (v : StartView). v.received) c.self.view_is in
+    never_unkeyed b s c.args.self c.key_told.result can c.requires.key x f (subst AreBytes received c.key_told.ensures.bytes) c.requires.welcomed c.in_default.not-Ok (c.key_told.ensures.key ∙ ap keyed received)
+
+pub returns-in-Ok-take_reports-clause-own_key : goal.returns-in-Ok-take_reports-clause-own_key
+returns-in-Ok-take_reports-clause-own_key g c = λ b s can x f.
+    let received = c.as_slice.ensures ∙ ap (λ (v : StartView). v.received) c.self.view_is in
+    subst (IsOwnKey b.server) (sym c.clean.ensures.server_key)
+    (own_key b s c.args.self c.in-Ok.server_key can c.requires.key x f (subst AreBytes received c.key_told.ensures.bytes) c.requires.welcomed (ap keyed (sym received) ∙ sym c.in-Ok.ensures.key))
 
 pub returns-in-Err-Unexpected-clause-cause : goal.returns-in-Err-Unexpected-clause-cause
 returns-in-Err-Unexpected-clause-cause g c = λ b s can x f.
-    let received = c.as_slice.ensures ∙ ap (λ (v : StartView). v.received) c.self.view_is in
+    let received = c.as_slice-2.ensures ∙ ap (λ (v : StartView). v.received) c.self.view_is in
     never_unreported b s c.args.self can c.requires.key x f (subst AreBytes received c.in-Err-Unexpected.ensures.bytes) c.requires.welcomed
     (ap₂ reported (sym c.new-reported.ensures) (sym received)
-    ∙ subst (λ (u : Untaken). Takes (reported c.new-reported.result c.as_slice.result.now) c.take_reports.new.reported (Err u)) c.in-Err-Unexpected.field-0-is c.in-Err-Unexpected.ensures.taken)
+    ∙ subst (λ (u : Untaken). Takes (reported c.new-reported.result c.as_slice-2.result.now) c.take_reports.new.reported (Err u)) c.in-Err-Unexpected.field-0-is c.in-Err-Unexpected.ensures.taken)

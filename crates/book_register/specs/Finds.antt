@@ -1,8 +1,0 @@
--- Places in a list.
-use Rattle.std.specs.Prelude.{◌≡◌, ◌<◌, ℕ, Bool, List, Option, Some, None, length, slice_get}
-use Rattle.book_lists.specs.Book.{find_last}
-
--- the place of the last that passes
-abbrev pub IsLast : {A : Type 0} → (A → Bool) → List A → Option ℕ → Type 0
-IsLast test xs None = find_last test xs ≡ None
-IsLast test xs (Some i) = (i < length xs) × (find_last test xs ≡ slice_get xs i)

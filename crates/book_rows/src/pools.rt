@@ -1,0 +1,80 @@
+//! Pools: a pool is a database row's name and a user.
+ghost use Rattle.std.specs.Prelude.{◌≡◌};
+ghost use Rattle.std.specs.Arc.{arc_value};
+ghost use Rattle.start_keys.specs.Keys.{same_key};
+ghost use Rattle.book_lists.specs.Book as book;
+ghost use Rattle.book_rows.specs.Marks.{mark_of};
+
+use start_keys::StartKey;
+use std::hash::{FoldHasher, Hasher};
+use std::marker::Model;
+use std::sync::Arc;
+
+/// A number that the keys of a pool share, and hardly ever those of two.
+fn mark(key: &StartKey) -> u64
+    ensures { result ≡ mark_of key.now }
+{
+    let mut hasher = FoldHasher::default();
+    hasher.write(key.row.as_slice());
+    hasher.write(key.user.as_slice());
+    hasher.finish()
+}
+
+/// Whether the keys are of one pool: of one database row and one user.
+fn is_same_pool(left: &StartKey, right: &StartKey) -> bool
+    ensures { result ≡ book.same_pool left.now right.now }
+{
+    left.row == right.row && left.user == right.user
+}
+
+/// A start key with its pool's number, which tells most pools apart before their names are compared.
+#[derive(Clone, Drop)]
+pub struct PoolKey {
+    key: Arc<StartKey>,
+    mark: u64,
+}
+
+impl Model for PoolKey {
+    ghost use Rattle.std.specs.Prelude.{◌≡◌};
+    ghost use Rattle.std.specs.Arc.{arc_value};
+    ghost use Rattle.session_values.specs.State.{StartKeyOf};
+    ghost use Rattle.book_rows.specs.Marks.{mark_of};
+
+    ghost Value = { StartKeyOf };
+
+    ghost view = { λ k. arc_value k.key };
+
+    ghost invariant = { λ k. k.mark ≡ mark_of (arc_value k.key) };
+}
+
+impl PoolKey {
+    /// The key, with its pool's number.
+    pub fn new(key: Arc<StartKey>) -> PoolKey
+        ensures { result ≡ arc_value key }
+    {
+        let mark = mark(&key);
+        PoolKey { key, mark }
+    }
+
+    /// The key.
+    pub fn key(&self) -> &StartKey
+        ensures { result.now ≡ self.now }
+    {
+        &self.key
+    }
+
+    /// Whether the other key is of the same pool.
+    #[tactic(auto, using(crate::proofs::Marks::unlike))]
+    pub fn is_in_pool_of(&self, other: &PoolKey) -> bool
+        ensures { result ≡ book.same_pool self.now other.now }
+    {
+        self.mark == other.mark && is_same_pool(&self.key, &other.key)
+    }
+
+    /// Whether the keys are equal.
+    pub fn is(&self, key: &StartKey) -> bool
+        ensures { result ≡ same_key self.now key.now }
+    {
+        *self.key == *key
+    }
+}

@@ -1,0 +1,28 @@
+-- A lease that comes to no end.
+use Rattle.std.specs.Prelude.{◌≡◌, ◌⊎◌, ℕ, true, List, ◌++◌, Option}
+use Rattle.message_view.specs.Bodies.{Text}
+use Rattle.message_view.specs.Refusals.{Begins}
+use Rattle.session_values.specs.State.{StartKeyOf}
+use Rattle.link_laws.specs.Stages.{packets_bytes}
+use Rattle.link_laws.specs.Standing.{Standing}
+use Rattle.link_laws.specs.Dialogues.{start_packets}
+use Rattle.server_end.specs.Servers.{LAST_COUNT}
+use Rattle.memory_lease.specs.declared.alone.Unserved.{Unserved}
+use Rattle.memory_lease.specs.declared.alone.Unserved.TheVariants.{Memory, Unended}
+
+-- the server lives; or it was read in vain as often as is counted
+abbrev pub StillWaits : Standing → Type 0
+StillWaits now = (now.lives ≡ true) ⊎ (now.read_waits ≡ LAST_COUNT)
+
+-- It still waits, and since it was new it accepted a whole start with this key, and then a beginning of the client's bytes.
+pub record IsUnended (began : Standing) (key : StartKeyOf) (bytes : List ℕ) (now : Standing) : Type 0 where
+  pub waits : StillWaits now
+  pub answer : Option Text
+  pub over : List ℕ
+  pub accepted : now.accepted ≡ (began.accepted ++ packets_bytes (start_packets key answer)) ++ over
+  pub own : Begins over bytes
+
+-- That memory was refused no contract can say.
+abbrev pub IsUnserved : Standing → StartKeyOf → List ℕ → Unserved → Type 0
+IsUnserved began key bytes Memory = Unit {0}
+IsUnserved began key bytes (Unended server) = IsUnended began key bytes server.standing
