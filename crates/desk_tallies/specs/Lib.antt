@@ -1,1 +1,3 @@
 pub mod Shares
+pub use Rattle.link_desk.specs.Homes
+pub use Rattle.link_desk.specs.Passes

@@ -3,3 +3,5 @@
 
 pub mod passes;
 pub mod tallies;
+
+pub use link_desk::{answers, desk};

@@ -4,9 +4,9 @@ use Rattle.std.specs.Str.{str_to_ascii_lowercase}
 use Rattle.std.specs.Prelude.{cond, if◌then◌else◌, ◌==◌, nat_lt, fold, bytes_eq, codes}
 use Rattle.std.specs.List.{AllByRecursion}
 use Rattle.message_view.specs.Bodies.{HasNoZero}
-use Rattle.session_values.specs.declared.cause.Cause.{Cause}
-use Rattle.session_values.specs.Lawful.{is_before, is_identity, AreOrdered, IsLawfulParameter, IsLawfulKey}
-use Rattle.session_values.specs.State.{StartKeyOf}
+use Rattle.start_keys.specs.declared.cause.Cause.{Cause}
+use Rattle.start_keys.specs.Lawful.{is_before, is_identity, AreOrdered, IsLawfulParameter, IsLawfulKey}
+use Rattle.start_keys.specs.State.{StartKeyOf}
 use Rattle.start_keys.specs.StartPairs.{Text, Pair, value_after, value_of, user_in, database_in, put_here, put, folded}
 use Rattle.start_keys.specs.StubKeys.{put_parameter, stub_parameters, stub}
 use Rattle.key_laws.specs.Keys.{ArePairs, StubKeysAreLawful}

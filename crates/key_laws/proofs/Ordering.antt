@@ -10,7 +10,7 @@ use Rattle.std.specs.Ordering.{nat_cmp, is_lt, is_eq, ordering_reverse}
 use Rattle.std.specs.declared.cmp.Ordering.{Ordering}
 use Rattle.std.specs.declared.cmp.Ordering.TheVariants.{Less, Equal, Greater}
 use Rattle.std.specs.List.{AllByRecursion}
-use Rattle.session_values.specs.Lawful.{is_before, AreOrdered}
+use Rattle.start_keys.specs.Lawful.{is_before, AreOrdered}
 use Rattle.start_keys.specs.StartPairs.{Text, Pair, put}
 use Rattle.key_laws.specs.Keys.{PutKeepsOrder}
 

@@ -5,7 +5,7 @@ use Rattle.std.specs.List.{AllByRecursion}
 use Rattle.message_view.specs.declared.ViewFault.{ViewFault}
 use Rattle.message_view.specs.Bodies.{HasNoZero}
 use Rattle.message_view.specs.Reading.{Part, ◌>>=◌, text_at, with_first, pair_named, pair_at, and_more, list_until, ended_at, at_end, alone, startup_of}
-use Rattle.session_values.specs.Lawful.{IsLawfulParameter}
+use Rattle.start_keys.specs.Lawful.{IsLawfulParameter}
 use Rattle.start_keys.specs.StartPairs.{Text, Pair}
 use Rattle.key_laws.specs.Keys.{ArePairs, PairsAreLawful}
 use Rattle.key_laws.proofs.Choices.{choose}

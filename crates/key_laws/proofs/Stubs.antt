@@ -5,10 +5,10 @@ use Rattle.std.proofs.lemmas.Bool.{true≢false, ne_eqb}
 use Rattle.std.specs.List.{AllByRecursion}
 use Rattle.message_view.specs.Spelled.{FitsPair}
 use Rattle.mini_sql.specs.Words as words
-use Rattle.session_values.specs.declared.cause.Cause.{Cause}
-use Rattle.session_values.specs.State.{StartKeyOf}
-use Rattle.session_values.specs.Lawful.{is_before, is_identity, AreOrdered, IsFollowedName, IsLawfulParameter, IsClientKey}
-use Rattle.session_values.proofs.Alls.{all-as, plain-text}
+use Rattle.start_keys.specs.declared.cause.Cause.{Cause}
+use Rattle.start_keys.specs.State.{StartKeyOf}
+use Rattle.start_keys.specs.Lawful.{is_before, is_identity, AreOrdered, IsFollowedName, IsLawfulParameter, IsClientKey}
+use Rattle.start_keys.proofs.Alls.{all-as, plain-text}
 use Rattle.start_keys.specs.StartPairs.{Text, Pair, put, value_after, user_in, database_in, if_empty}
 use Rattle.start_keys.specs.StubKeys.{put_parameter, stub_parameters, stub}
 use Rattle.key_laws.specs.Keys.{key_pairs, KeyPairsFit, StubsOfClientKeys}

@@ -3,8 +3,8 @@ use Rattle.std.specs.Prelude.{◌≡◌, ◌<◌, ◌≤◌, ℕ, ◌∷◌, Lis
 use Rattle.std.specs.List.{AllByRecursion}
 use Rattle.message_view.specs.Reading.{startup_of}
 use Rattle.message_view.specs.Spelled.{FitsPair}
-use Rattle.session_values.specs.Lawful.{AreOrdered, IsLawfulParameter, IsLawfulKey, IsClientKey}
-use Rattle.session_values.specs.State.{StartKeyOf}
+use Rattle.start_keys.specs.Lawful.{AreOrdered, IsLawfulParameter, IsLawfulKey, IsClientKey}
+use Rattle.start_keys.specs.State.{StartKeyOf}
 use Rattle.start_keys.specs.StartPairs.{Pair, put}
 use Rattle.start_keys.specs.StubKeys.{stub, stub_key}
 

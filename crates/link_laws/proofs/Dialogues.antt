@@ -13,12 +13,12 @@ use Rattle.frame_view.proofs.Cuts.{front-spelling}
 use Rattle.message_view.specs.Bodies.{Text}
 use Rattle.message_view.specs.Messages.{authentication, password_message, backend_key_data, ready_for_query}
 use Rattle.message_view.specs.declared.kinds.TheConstants.{IDLE}
-use Rattle.session_values.specs.declared.cause.Cause.{Cause}
-use Rattle.session_values.specs.declared.parameter.Parameter.{Parameter}
-use Rattle.session_values.specs.Errors.{fatal}
-use Rattle.session_values.specs.Lawful.{IsLawfulCatalogue, IsClientKey}
-use Rattle.session_values.specs.Parameters.{reported_parameters}
-use Rattle.session_values.specs.State.{State, StartKeyOf, fresh, all_reports, all_reports_from}
+use Rattle.run_laws.specs.declared.cause.Cause.{Cause}
+use Rattle.run_laws.specs.declared.parameter.Parameter.{Parameter}
+use Rattle.run_laws.specs.Errors.{fatal}
+use Rattle.run_laws.specs.Lawful.{IsLawfulCatalogue, IsClientKey}
+use Rattle.run_laws.specs.Parameters.{reported_parameters}
+use Rattle.run_laws.specs.State.{State, StartKeyOf, fresh, all_reports, all_reports_from}
 use Rattle.run_laws.specs.Laws.{has_ready}
 use Rattle.run_laws.specs.Starts.{Welcomes}
 use Rattle.run_laws.proofs.SessionsByName.{fresh_is_reached, welcome_is_read, start_error_is_short}

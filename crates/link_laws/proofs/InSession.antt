@@ -2,8 +2,8 @@
 use Rattle.std.proofs.Common.{◌≡◌, ℕ, List, [], ◌∷◌, ◌++◌, refl, ap}
 use Rattle.std.specs.List.{flat_map, AllByRecursion}
 use Rattle.frame_view.specs.Frames.{FrameOf, spelling}
-use Rattle.session_values.specs.State.{State}
-use Rattle.session_values.specs.Step.{step, run_frames}
+use Rattle.run_laws.specs.State.{State}
+use Rattle.run_laws.specs.Step.{step, run_frames}
 use Rattle.run_laws.specs.Laws.{IsSent}
 use Rattle.link_laws.specs.Stages.{Server, Open, Packet, Starts, Sends, packets_bytes, after, answers, MayTakeAll}
 

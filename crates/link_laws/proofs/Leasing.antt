@@ -7,10 +7,10 @@ use Rattle.frame_view.specs.declared.Side.TheVariants.{Client, Server}
 use Rattle.frame_view.specs.declared.frames.TheConstants.{LONGEST_FRAME}
 use Rattle.frame_view.specs.Frames.{FrameOf, IsFrame, Stops, Cut, front, spelling}
 use Rattle.frame_view.proofs.Splitting.{splits-one_way}
-use Rattle.session_values.specs.declared.cause.Cause.{Cause}
-use Rattle.session_values.specs.State.{State, CatalogueOf, StartKeyOf, Answer, fresh}
-use Rattle.session_values.specs.Step.{run_frames}
-use Rattle.session_values.specs.Service.{service, served, welcome, client_frames}
+use Rattle.run_laws.specs.declared.cause.Cause.{Cause}
+use Rattle.run_laws.specs.State.{State, CatalogueOf, StartKeyOf, Answer, fresh}
+use Rattle.run_laws.specs.Step.{run_frames}
+use Rattle.run_laws.specs.Service.{service, served, welcome, client_frames}
 use Rattle.run_laws.specs.Laws.{IsSent, Reaches}
 use Rattle.link_laws.specs.Stages as stages
 use Rattle.link_laws.specs.Stages.{Stage, Open, Packet, packets_bytes, after, answers, MayTakeAll}

@@ -3,12 +3,12 @@ use Rattle.std.proofs.Common.{◌≡◌, ℕ, List, [], Result, Ok, refl, sym, a
 use Rattle.message_view.specs.declared.ViewFault.{ViewFault}
 use Rattle.message_view.specs.Reading.{Part, alone, ended_at, pair_at, startup_of}
 use Rattle.message_laws.proofs.EndTrips.{pairs_read}
-use Rattle.session_values.specs.declared.cause.Cause.{Cause}
-use Rattle.session_values.specs.Lawful.{IsLawfulKey}
-use Rattle.session_values.specs.State.{StartKeyOf, fresh, bound}
+use Rattle.run_laws.specs.declared.cause.Cause.{Cause}
+use Rattle.run_laws.specs.Lawful.{IsLawfulKey}
+use Rattle.run_laws.specs.State.{StartKeyOf, fresh, bound}
 use Rattle.run_laws.proofs.SessionsByName.{fresh_by_names}
-use Rattle.start_keys.specs.StartPairs.{Pair}
-use Rattle.start_keys.specs.StubKeys.{stub}
+use Rattle.key_laws.specs.StartPairs.{Pair}
+use Rattle.key_laws.specs.StubKeys.{stub}
 use Rattle.key_laws.specs.Keys.{key_pairs}
 use Rattle.key_laws.proofs.ByName.{key_pairs_fit, stubs_of_client_keys}
 use Rattle.link_laws.specs.Stages.{key_of}

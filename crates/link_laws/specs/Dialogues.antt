@@ -6,10 +6,10 @@ use Rattle.frame_view.specs.declared.Side.TheVariants.{Server as FromServer}
 use Rattle.frame_view.specs.Frames.{FrameOf, IsFrame, spelling}
 use Rattle.message_view.specs.Bodies.{Text}
 use Rattle.message_view.specs.Messages.{authentication, password_message}
-use Rattle.session_values.specs.declared.cause.Cause.{Cause}
-use Rattle.session_values.specs.Errors.{fatal}
-use Rattle.session_values.specs.Lawful.{IsLawfulCatalogue, IsClientKey}
-use Rattle.session_values.specs.State.{State, StartKeyOf, fresh}
+use Rattle.run_laws.specs.declared.cause.Cause.{Cause}
+use Rattle.run_laws.specs.Errors.{fatal}
+use Rattle.run_laws.specs.Lawful.{IsLawfulCatalogue, IsClientKey}
+use Rattle.run_laws.specs.State.{State, StartKeyOf, fresh}
 use Rattle.run_laws.specs.Laws.{has_ready}
 use Rattle.link_laws.specs.Stages.{Server, Auth, NoAuth, Asks, Stage, Before, Asked, Open, Closed, Packet, Starts, Sends, packets_bytes, is_answer, wrong_password, answers, MayTakeAll}
 use Rattle.link_laws.specs.Standing.{Standing, Moves}

@@ -5,8 +5,8 @@ use Rattle.frame_view.specs.Frames.{Front, AFrame, Lacks, Faulty, Start, Cancels
 use Rattle.frame_view.specs.declared.Side.TheVariants.{Client}
 use Rattle.frame_view.specs.declared.frames.TheConstants.{LONGEST_FRAME}
 use Rattle.message_view.specs.Bodies.{Text}
-use Rattle.session_values.specs.Step.{run_frames}
-use Rattle.session_values.specs.Service.{client_frames}
+use Rattle.run_laws.specs.Step.{run_frames}
+use Rattle.run_laws.specs.Service.{client_frames}
 use Rattle.link_laws.specs.Stages.{Server, Auth, Stage, Open, Before, Asked, Closed, Turn, begins, hears}
 use Rattle.link_laws.specs.Standing.{Standing, Moves}
 

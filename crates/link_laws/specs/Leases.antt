@@ -5,8 +5,8 @@ use Rattle.frame_view.specs.declared.Side.TheVariants.{Client, Server}
 use Rattle.frame_view.specs.declared.frames.TheConstants.{LONGEST_FRAME}
 use Rattle.frame_view.specs.Frames.{FrameOf, IsFrame, Stops, front, spelling}
 use Rattle.message_view.specs.declared.KeyWord.{KeyWord}
-use Rattle.session_values.specs.State.{StartKeyOf}
-use Rattle.session_values.specs.Service.{service, welcome}
+use Rattle.run_laws.specs.State.{StartKeyOf}
+use Rattle.run_laws.specs.Service.{service, welcome}
 use Rattle.run_laws.specs.Laws.{IsSent}
 use Rattle.run_laws.specs.Settling.{IsAnswered}
 use Rattle.link_laws.specs.Standing.{Standing, Moves}

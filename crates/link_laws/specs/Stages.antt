@@ -9,15 +9,15 @@ use Rattle.message_view.specs.declared.kinds.TheConstants.{ASKS_NOTHING}
 use Rattle.message_view.specs.Bodies.{Text}
 use Rattle.message_view.specs.Messages.{authentication, error_response}
 use Rattle.message_view.specs.Reading.{startup_of, password_of}
-use Rattle.session_values.specs.declared.cause.Cause.{Cause}
-use Rattle.session_values.specs.declared.cause.Cause.TheVariants.{MalformedMessage}
-use Rattle.session_values.specs.Errors.{fatal}
-use Rattle.session_values.specs.State.{State, CatalogueOf, StartKeyOf, fresh, bound}
-use Rattle.session_values.specs.Step.{step}
-use Rattle.session_values.specs.Service.{welcome}
+use Rattle.run_laws.specs.declared.cause.Cause.{Cause}
+use Rattle.run_laws.specs.declared.cause.Cause.TheVariants.{MalformedMessage}
+use Rattle.run_laws.specs.Errors.{fatal}
+use Rattle.run_laws.specs.State.{State, CatalogueOf, StartKeyOf, fresh, bound}
+use Rattle.run_laws.specs.Step.{step}
+use Rattle.run_laws.specs.Service.{welcome}
 use Rattle.run_laws.specs.Laws.{IsSent}
-use Rattle.start_keys.specs.StartPairs.{Pair}
-use Rattle.start_keys.specs.StubKeys.{stub_key}
+use Rattle.key_laws.specs.StartPairs.{Pair}
+use Rattle.key_laws.specs.StubKeys.{stub_key}
 
 -- what a server keeps from its beginning to its end: its catalogue, and the words of its BackendKeyData
 pub record Server : Type 0 where

@@ -19,8 +19,8 @@ use Rattle.session_values.specs.declared.cause.Cause.{Cause}
 use Rattle.session_values.specs.Lawful.{IsLawfulCatalogue, IsLawfulKey}
 use Rattle.session_values.specs.State.{State, CatalogueOf, StartKeyOf, Answer, fresh}
 use Rattle.session_values.specs.Step.{step, run_frames}
-use Rattle.session_laws.specs.Laws.{IsSent, HasKey, IsReportIf, Reaches, begins, steps, discard_all, after_replies}
-use Rattle.session_laws.proofs.ByName.{discard_all_gives_fresh, reached_has_key, statuses_are_reports, welcome_is_read}
+use Rattle.run_laws.specs.Laws.{IsSent, HasKey, IsReportIf, Reaches, begins, steps, discard_all, after_replies}
+use Rattle.run_laws.proofs.SessionsByName.{discard_all_gives_fresh, reached_has_key, statuses_are_reports, welcome_is_read}
 use Rattle.run_laws.specs.Settling.{IsQuiet}
 use Rattle.run_laws.proofs.ByName.{run_replies_are_frames, run_reports_tell_values, settled_is_quiet}
 use Rattle.param_track.specs.Kept.{Kept, is_at_start}

@@ -17,9 +17,9 @@ use Rattle.session_values.specs.declared.parameter.Parameter.{Parameter}
 use Rattle.session_values.specs.Parameters.{reported_parameters, name}
 use Rattle.session_values.specs.State.{State, CatalogueOf, Answer, answers, report_of, reports_from, status}
 use Rattle.session_values.specs.Step.{step, run_frames}
-use Rattle.session_laws.specs.Laws.{discard_all, discard_replies}
-use Rattle.session_laws.specs.Starts.{Resets}
-use Rattle.session_laws.proofs.ByName.{discard_all_gives_fresh, resets_are_read}
+use Rattle.run_laws.specs.Laws.{discard_all, discard_replies}
+use Rattle.run_laws.specs.Starts.{Resets}
+use Rattle.run_laws.proofs.SessionsByName.{discard_all_gives_fresh, resets_are_read}
 use Rattle.server_end.specs.Stages.{Server as TheServer, Stage, MayTakeAll, answers as answers_to}
 use Rattle.server_end.specs.Standing.{Standing, Passed}
 use Rattle.server_end.specs.Links.{IsResting}

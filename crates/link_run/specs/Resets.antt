@@ -12,7 +12,7 @@ use Rattle.message_view.specs.Reading.{status_of}
 use Rattle.start_keys.specs.StartPairs.{Text}
 use Rattle.session_values.specs.State.{State, StartKeyOf}
 use Rattle.param_track.specs.Kept.{Kept, has_name}
-use Rattle.session_laws.specs.Laws.{discard_all, discard_replies}
+use Rattle.run_laws.specs.Laws.{discard_all, discard_replies}
 use Rattle.run_laws.specs.Settling.{IsAnswered}
 use Rattle.server_end.specs.Standing.{Standing, Moves}
 use Rattle.link_run.specs.Links.{IsUsed, after_frame}

@@ -54,7 +54,7 @@ impl<E: ServerEnd> Model for Reset<E> {
     ghost use Rattle.std.specs.Prelude.{◌≤◌, drop};
     ghost use Rattle.std.specs.Arc.{arc_value};
     ghost use Rattle.frame_view.specs.Frames.{spelling};
-    ghost use Rattle.session_laws.specs.Laws.{discard_all};
+    ghost use Rattle.run_laws.specs.Laws.{discard_all};
     ghost use Rattle.link_run.specs.Resets.{ResetView, reset_view, IsReset};
 
     ghost Value = { ResetView };

@@ -22,7 +22,7 @@ use Rattle.link_laws.specs.Standing.{ClientFacts, Standing}
 use Rattle.link_laws.specs.Stages as stages
 use Rattle.link_laws.specs.Dialogues.{start_error}
 use Rattle.link_laws.proofs.Splits.{SplitsOff, same_back, split_whole}
-use Rattle.link_run.specs.Links.{LinkView, IsFreshLink}
+use Rattle.link_start.specs.Links.{LinkView, IsFreshLink}
 use Rattle.link_start.specs.Starts.{CanStart, IsCause, IsLetIn, IsStartable, IsStarted, IsRefusalOf}
 use Rattle.link_start.specs.declared.start.StartCause.{StartCause}
 use Rattle.link_start.specs.declared.start.StartCause.TheVariants as cause

@@ -9,7 +9,7 @@ use Rattle.user_file.specs.declared.secrets.Secret.{Secret}
 use Rattle.link_laws.specs.Stages.{packets_bytes}
 use Rattle.link_laws.specs.Standing.{Standing}
 use Rattle.link_laws.specs.Dialogues.{start_packets}
-use Rattle.link_run.specs.Links.{LinkView}
+use Rattle.link_start.specs.Links.{LinkView}
 use Rattle.link_start.specs.Starts.{IsStarted}
 use Rattle.relay_core.specs.Leases.{RelayView, Place, place, IsLease, IsAllowed, Keeps}
 use Rattle.relay_core.proofs.Exact.{lease_allowed}

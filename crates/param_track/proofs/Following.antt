@@ -3,7 +3,7 @@ use Rattle.std.proofs.Common.{◌≡◌, Bool, true, false, refl}
 use Rattle.std.specs.Prelude.{if◌then◌else◌}
 use Rattle.std.proofs.lemmas.Bool.{false≢true}
 use Rattle.ini_config.specs.OptionValues.{has_folded}
-use Rattle.session_values.specs.Lawful.{is_identity}
+use Rattle.start_keys.specs.Lawful.{is_identity}
 use Rattle.param_track.specs.declared.uses.Use.TheVariants.{Identity, Followed, Dropped, Unsupported, Replication}
 use Rattle.param_track.specs.StartKeys.{Text, Names, is_replication, is_followed, use_of, is_use}
 

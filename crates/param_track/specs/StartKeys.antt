@@ -7,8 +7,8 @@ use Rattle.ini_config.specs.declared.database_rows.DbRow.{DbRow}
 use Rattle.ini_config.specs.declared.option_values.Settings.{Settings}
 use Rattle.ini_config.specs.OptionValues.{has_folded}
 use Rattle.ini_config.specs.Tables.{row_named}
-use Rattle.session_values.specs.Lawful.{is_identity}
-use Rattle.session_values.specs.State.{StartKeyOf}
+use Rattle.start_keys.specs.Lawful.{is_identity}
+use Rattle.start_keys.specs.State.{StartKeyOf}
 pub use Rattle.start_keys.specs.StartPairs.{Text, Pair, user_in, database_in}
 use Rattle.start_keys.specs.StartPairs.{put, folded}
 use Rattle.param_track.specs.declared.StartFault.{StartFault}

@@ -7,8 +7,8 @@ use crate::StartFault;
 use crate::uses::{Use, has_use, use_of};
 use ini_config::Settings;
 use message_view::StartupView;
-use session_values::text::Text;
 use start_keys::pairs::{database_of, next_pair, put_pair, user_of};
+use start_keys::text::Text;
 use start_keys::{StartKey, StartParameter};
 use std::alloc::{AllocError, Global};
 

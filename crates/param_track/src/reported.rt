@@ -6,7 +6,7 @@ ghost use Rattle.param_track.specs.Kept as spec;
 ghost use Rattle.param_track.specs.Kept.{Adds, Tells, first_told, has_name, is_at_start, told, with_first, with_told};
 
 use message_view::StatusView;
-use session_values::text::Text;
+use start_keys::text::Text;
 use std::alloc::{AllocError, Global};
 use std::marker::Model;
 

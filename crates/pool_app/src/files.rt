@@ -104,6 +104,28 @@ pub fn users_of<'a>(alloc: Global, text: &[u8]) -> Result<Users, AppFault<'a>>
     }
 }
 
+/// The settings in the file at this path. They are within their bounds.
+fn settings_at<'a, R: Files>(rt: &R, alloc: Global, path: &'a str) -> Result<Settings, AppFault<'a>>
+    ensures { IfOk result (λ settings. AreWithinBounds settings) }
+{
+    read_settings_are_within_bounds();
+    let text = read_file(rt, alloc, path)?;
+    let settings = settings_of(alloc, text.as_slice())?;
+    Ok(settings)
+}
+
+/// The users in the file at this path.
+fn users_at<'a, R: Files>(rt: &R, alloc: Global, path: &'a str) -> Result<Users, AppFault<'a>> {
+    let text = read_file(rt, alloc, path)?;
+    users_of(alloc, text.as_slice())
+}
+
+/// The key seed in the file at this path.
+fn seed_at<'a, R: Files>(rt: &R, alloc: Global, path: &'a str) -> Result<[u8; 32], AppFault<'a>> {
+    let bytes = read_file(rt, alloc, path)?;
+    seed_of(path, bytes.as_slice())
+}
+
 /// The files of the pooler. Each is read and checked before the next: settings, users, key seed. The settings are within their
 /// bounds.
 pub fn read_inputs<'a, R: Files>(
@@ -115,17 +137,10 @@ pub fn read_inputs<'a, R: Files>(
 ) -> Result<Inputs, AppFault<'a>>
     ensures bounds { IfOk result (λ inputs. AreWithinBounds inputs.settings) }
 {
-    read_settings_are_within_bounds();
-    let text = read_file(rt, alloc, ini)?;
-    let settings = settings_of(alloc, text.as_slice())?;
-    let text = read_file(rt, alloc, users)?;
-    let users = users_of(alloc, text.as_slice())?;
-    let bytes = read_file(rt, alloc, key_seed)?;
-    let seed = seed_of(key_seed, bytes.as_slice())?;
     Ok(Inputs {
-        settings,
-        users,
-        seed,
+        settings: settings_at(rt, alloc, ini)?,
+        users: users_at(rt, alloc, users)?,
+        seed: seed_at(rt, alloc, key_seed)?,
     })
 }
 

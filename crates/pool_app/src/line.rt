@@ -110,25 +110,20 @@ fn serve_command<'a>(alloc: Global) -> Result<Command<'a>, AllocError>
     ensures app { IfOk result (λ c. app_of c ≡ spec.serve) }
     ensures local { IfOk result (λ c. (fields_of c).has_globals ≡ false) }
 {
-    let ini = file_option(alloc, "ini", "The settings, in the format of pgbouncer.ini");
-    let users = file_option(
-        alloc,
-        "users",
-        "The users and their secrets, in the format of userlist.txt",
-    );
-    let seed = file_option(
-        alloc,
-        "key-seed",
-        "32 random bytes, from which the clients' cancel keys and salts are made",
-    );
-    Ok(
-        Command::new(alloc, "serve")
-            .about("Pool the sessions of PostgreSQL servers")
-            .after_help(help::SERVE)
-            .arg(ini)?
-            .arg(users)?
-            .arg(seed)?,
-    )
+    Command::new(alloc, "serve")
+        .about("Pool the sessions of PostgreSQL servers")
+        .after_help(help::SERVE)
+        .arg(file_option(alloc, "ini", "The settings, in the format of pgbouncer.ini"))?
+        .arg(file_option(
+            alloc,
+            "users",
+            "The users and their secrets, in the format of userlist.txt",
+        ))?
+        .arg(file_option(
+            alloc,
+            "key-seed",
+            "32 random bytes, from which the clients' cancel keys and salts are made",
+        ))
 }
 
 /// The subcommand `stub`.
@@ -136,19 +131,15 @@ fn stub_command<'a>(alloc: Global) -> Result<Command<'a>, AllocError>
     ensures app { IfOk result (λ c. app_of c ≡ spec.stub) }
     ensures local { IfOk result (λ c. (fields_of c).has_globals ≡ false) }
 {
-    let port = port_option(alloc);
-    let catalogue = file_option(
-        alloc,
-        "catalogue",
-        "The version, databases, tables and rows that the server has",
-    );
-    Ok(
-        Command::new(alloc, "stub")
-            .about("Stand in for a PostgreSQL server, for tests: any user is let in")
-            .after_help(help::STUB)
-            .arg(port)?
-            .arg(catalogue)?,
-    )
+    Command::new(alloc, "stub")
+        .about("Stand in for a PostgreSQL server, for tests: any user is let in")
+        .after_help(help::STUB)
+        .arg(port_option(alloc))?
+        .arg(file_option(
+            alloc,
+            "catalogue",
+            "The version, databases, tables and rows that the server has",
+        ))
 }
 
 /// The program without its subcommands, of which a line must name one.
@@ -166,13 +157,10 @@ fn program<'a>(alloc: Global) -> Command<'a>
 fn command<'a>(alloc: Global) -> Result<Command<'a>, AllocError>
     ensures { IfOk result (λ c. app_of c ≡ spec.pgsess) }
 {
-    let replay = replay_command(alloc);
-    let serve = serve_command(alloc)?;
-    let stub = stub_command(alloc)?;
     program(alloc)
-        .subcommand(replay)?
-        .subcommand(serve)?
-        .subcommand(stub)
+        .subcommand(replay_command(alloc))?
+        .subcommand(serve_command(alloc)?)?
+        .subcommand(stub_command(alloc)?)
 }
 
 /// The matches of the words, of which the subcommand's are a function of the words.

@@ -6,7 +6,7 @@ use Rattle.book_lists.specs.declared.events.Reply.{Reply as ListsReply}
 use Rattle.lease_book.specs.Links.{found, goes_out, handed_after, handed_back, idle_after, is_done, is_numbered, left}
 use Rattle.lease_book.specs.declared.events.Event.{Event}
 use Rattle.lease_book.specs.declared.events.Event.TheVariants as event
-use Rattle.link_desk.specs.Homes.{HomeOf, IsAtHome}
+use Rattle.desk_tallies.specs.Homes.{HomeOf, IsAtHome}
 use Rattle.pool_desk.specs.Joined.{AreAtHome, brought}
 
 home_filter : (home : HomeOf) (test : LinkView → Bool) (links : List LinkView) → AreAtHome home links → AreAtHome home (filter test links)

@@ -16,7 +16,7 @@ use Rattle.book_order.proofs.KeepingLists.{impossible, not_found}
 use Rattle.lease_book.specs.Links.{answered, plain}
 use Rattle.lease_book.specs.declared.events.Event.{Event as LinkEvent}
 use Rattle.lease_book.specs.declared.events.Event.TheVariants as event
-use Rattle.link_desk.specs.Passes.{Made, PassOf}
+use Rattle.desk_tallies.specs.Passes.{Made, PassOf}
 use Rattle.desk_tallies.specs.Shares.{AtMost, by_class, sum_of}
 use Rattle.pool_desk.specs.Classes.{class_counts}
 use Rattle.pool_desk.specs.Tells.{Tells, breaks}

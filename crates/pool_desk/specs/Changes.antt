@@ -1,7 +1,7 @@
 -- What the clock's calls and the console's make of their pass.
 use Rattle.std.specs.Prelude.{◌≡◌, ◌⊎◌, Bool, true, false}
-use Rattle.link_desk.specs.Homes.{HomeOf, IsAtHome}
-use Rattle.link_desk.specs.Passes.{PassOf, broken, one_other}
+use Rattle.desk_tallies.specs.Homes.{HomeOf, IsAtHome}
+use Rattle.desk_tallies.specs.Passes.{PassOf, broken, one_other}
 use Rattle.lease_book.specs.declared.events.Event.{Event}
 use Rattle.lease_book.specs.declared.events.Event.TheVariants as event
 use Rattle.pool_desk.specs.declared.answers.Changed.{Changed}

@@ -1,7 +1,7 @@
 -- The book's decisions by class.
 use Rattle.std.specs.Prelude.{◌+◌}
 use Rattle.book_lists.specs.declared.counts.Counts.{Counts}
-use Rattle.link_desk.specs.Passes.{Made}
+use Rattle.desk_tallies.specs.Passes.{Made}
 
 abbrev pub class_counts : Counts → Made
 class_counts c = record {

@@ -4,8 +4,8 @@ use Rattle.link_run.specs.Links.{LinkView}
 use Rattle.lease_book.specs.Links.{BookOf}
 use Rattle.lease_book.specs.declared.events.Event.{Event}
 use Rattle.lease_book.specs.declared.events.Event.TheVariants as event
-use Rattle.link_desk.specs.Homes.{HomeOf, IsAtHome}
-use Rattle.link_desk.specs.Passes.{Made}
+use Rattle.desk_tallies.specs.Homes.{HomeOf, IsAtHome}
+use Rattle.desk_tallies.specs.Passes.{Made}
 use Rattle.desk_tallies.specs.Shares.{SharesOf, of_each, sum_of}
 use Rattle.desk_tallies.specs.declared.passes.TheConstants.{ALL_PARTS}
 use Rattle.pool_desk.specs.Classes.{class_counts}

@@ -5,7 +5,7 @@ use Rattle.book_lists.specs.Outcomes.{Event}
 use Rattle.book_lists.specs.Outcomes.Event.{Arrive, Ask, Take, GiveBack, Lost, StartFailed, Leave, Tick, NewLimits, Pause, Resume, Shutdown}
 use Rattle.book_lists.specs.declared.events.Reply.{Reply}
 use Rattle.book_lists.specs.declared.events.Reply.TheVariants.{Arrived, Queued, Lend, Start, Close, Refuse, Done, Stranger}
-use Rattle.link_desk.specs.Passes.{PassOf, after_refusal, broken, one_arrived, one_given_back, one_granted, one_left, one_lost, one_other}
+use Rattle.desk_tallies.specs.Passes.{PassOf, after_refusal, broken, one_arrived, one_given_back, one_granted, one_left, one_lost, one_other}
 
 -- nothing more is promised of a pass after these replies
 abbrev pub breaks : Reply → Bool

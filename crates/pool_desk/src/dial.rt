@@ -1,13 +1,13 @@
 //! How servers are reached.
 ghost use Rattle.std.specs.Prelude.{IfSome};
-ghost use Rattle.link_desk.specs.Homes.{IsDialled};
+ghost use Rattle.desk_tallies.specs.Homes.{IsDialled};
 
 use ini_config::DbRow;
 use server_end::ServerEnd;
 
 /// How servers are reached, and what is claimed of them.
 pub trait Dial {
-    ghost use Rattle.link_desk.specs.Homes.{HomeOf};
+    ghost use Rattle.desk_tallies.specs.Homes.{HomeOf};
 
     type End: ServerEnd;
 

@@ -1,14 +1,14 @@
 //! The desk in a worker's hand.
 ghost use Rattle.std.specs.Prelude.{◌≡◌, IfSome, IsSome};
-ghost use Rattle.link_desk.specs.Homes.{IsAtHome, IsDialled, IsGrantAtHome};
-ghost use Rattle.link_desk.specs.Passes.{after_arrival, after_asking, after_back, after_grant, after_leaving, after_loss, keeps};
+ghost use Rattle.desk_tallies.specs.Homes.{IsAtHome, IsDialled, IsGrantAtHome};
+ghost use Rattle.desk_tallies.specs.Passes.{after_arrival, after_asking, after_back, after_grant, after_leaving, after_loss, keeps};
 
 use crate::desk::Desk;
 use crate::dial::Dial;
+use desk_tallies::answers::{Arrival, Asked, Back, Gone, Grant};
+use desk_tallies::desk::LinkDesk;
 use desk_tallies::passes::Pass;
 use ini_config::DbRow;
-use link_desk::answers::{Arrival, Asked, Back, Gone, Grant};
-use link_desk::desk::LinkDesk;
 use link_run::links::CleanLink;
 use start_keys::StartKey;
 use std::sync::ledger::Ledger;

@@ -26,9 +26,9 @@ use Rattle.login_core.specs.Solo.{service_pieces}
 use Rattle.login_run.specs.Laws.{IsAtPiece}
 use Rattle.memory_lease.proofs.Pieces.{pieces_join, pieces_of_both}
 use Rattle.relay_flow.proofs.Parting.{opens_stops}
-use Rattle.relay_laws.specs.Laws.{LeasesAreAllowed}
-use Rattle.relay_laws.specs.Leases.{IsAllowed, IsLease, Keeps, Place, RelayView, place}
-use Rattle.relay_laws.proofs.Exact.{all-sent}
+use Rattle.relay_steps.specs.Laws.{LeasesAreAllowed}
+use Rattle.relay_steps.specs.Leases.{IsAllowed, IsLease, Keeps, Place, RelayView, place}
+use Rattle.relay_steps.proofs.Exact.{all-sent}
 use Rattle.relay_steps.specs.Answers.{AtBorder, RefusedBy}
 use Rattle.pool_serve.specs.Words.{or_nothing}
 use Rattle.pool_serve.specs.Serving.{Serves}

@@ -13,7 +13,7 @@ use Rattle.link_start.specs.Starts.{IsStarted}
 use Rattle.login_keys.specs.Laws.{IsOfRow, IsAtRow}
 use Rattle.user_file.specs.declared.secrets.Secret.{Secret}
 use Rattle.message_view.specs.declared.KeyWord.{KeyWord}
-use Rattle.relay_laws.specs.Leases.{RelayView, IsLease, place}
+use Rattle.relay_steps.specs.Leases.{RelayView, IsLease, place}
 use Rattle.memory_lease.specs.declared.relay.Returned.{Returned}
 use Rattle.memory_lease.specs.declared.relay.Returned.TheVariants.{Unused, Used, Gone}
 use Rattle.memory_lease.specs.Returns.{IsReturned, IsThatLink}

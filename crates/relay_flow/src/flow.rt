@@ -10,7 +10,7 @@ ghost use Rattle.std.specs.Prelude.{◌≡◌, ◌+◌, ◌-◌, ◌<◌, ◌≤
 ghost use Rattle.frame_view.specs.Frames.{AreBytes};
 ghost use Rattle.frame_view.specs.declared.Side.TheVariants.{Client};
 ghost use Rattle.server_end.specs.Moves.{ClientReads, CountsRead};
-ghost use Rattle.link_laws.specs.Standing.{Moves};
+ghost use Rattle.server_end.specs.Standing.{Moves};
 ghost use Rattle.relay_flow.specs.Flows.{came, Fills, IsAhead, IsEmptyFlow, IsPositive, is_empty, is_faulty, is_last, is_last_end, is_open, Passes, SameCursor, Stays};
 ghost use Rattle.relay_flow.specs.declared.flow.Ends.TheVariants.{Open};
 ghost use Rattle.frame_view.specs.declared.client.TheConstants.{TERMINATE};

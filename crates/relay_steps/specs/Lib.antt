@@ -2,3 +2,4 @@ pub mod Answers
 pub mod Steps
 pub use Rattle.relay_laws.specs.Leases
 pub use Rattle.relay_laws.specs.Verdicts
+pub use Rattle.relay_laws.specs.Laws

@@ -4,7 +4,7 @@
 #![tactic(auto)]
 
 use message_view::Refusal;
-pub use relay_laws::{Flags, Phase};
+pub use relay_laws::{Flags, Phase, leases_are_allowed};
 
 /// What a pump came to.
 #[derive(Clone, Copy, Debug, PartialEq, Eq, Drop)]

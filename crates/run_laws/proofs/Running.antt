@@ -12,7 +12,7 @@ use Rattle.session_values.specs.Service.{client_frames}
 use Rattle.session_laws.specs.Laws.{IsSent, steps, after_replies}
 use Rattle.run_laws.specs.Runs.{RunsStayReached, ClientFramesAreSent, RunRepliesAreFrames, RunReportsTellValues}
 use Rattle.session_values.proofs.Alls.{all-append}
-use Rattle.message_laws.proofs.Trips.{bytes_after}
+use Rattle.session_laws.proofs.Trips.{bytes_after}
 use Rattle.session_laws.proofs.ByName.{replies_are_frames, reports_tell_values}
 use Rattle.session_laws.proofs.Telling.{after-append}
 

@@ -2,3 +2,9 @@ pub mod Runs
 pub mod Settling
 pub use Rattle.session_laws.specs.Laws
 pub use Rattle.session_laws.specs.Starts
+pub use Rattle.session_values.specs.Errors
+pub use Rattle.session_values.specs.Lawful
+pub use Rattle.session_values.specs.Parameters
+pub use Rattle.session_values.specs.Service
+pub use Rattle.session_values.specs.State
+pub use Rattle.session_values.specs.Step

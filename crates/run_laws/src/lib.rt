@@ -2,3 +2,5 @@
 #![tactic(auto)]
 
 pub mod runs;
+
+pub use session_values::{cause, parameter};

@@ -15,11 +15,9 @@ use message_view::{
     KeyWord, PasswordView, Severity, StartupView, put_authentication_ok, put_cleartext_password,
     put_error_response, put_md5_password,
 };
-use server_catalogue::Catalogue;
-use session_machine::Session;
+use session_machine::{Catalogue, Session, stub_key};
 use session_values::stop::Stop;
 use session_values::text::Text;
-use start_keys::stub_key;
 use std::alloc::{AllocError, Global};
 use std::sync::Arc;
 

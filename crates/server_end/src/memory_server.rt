@@ -13,7 +13,7 @@ use crate::dialogue::{Dialogue, Host, Progress, Question};
 use crate::{Moved, ServerEnd};
 use bytes::BytesMut;
 use message_view::KeyWord;
-use server_catalogue::Catalogue;
+use session_machine::Catalogue;
 use session_values::text::Text;
 use std::alloc::{AllocError, Global};
 use std::marker::Model;

@@ -9,3 +9,4 @@ pub mod Telling
 pub mod Reached
 pub mod Starting
 pub mod ByName
+pub use Rattle.message_laws.proofs.Trips

@@ -15,8 +15,6 @@ use bytes::BytesMut;
 use message_view::{BindView, Codes, Values, put_bind_complete};
 use mini_sql::Stmt;
 use server_catalogue::Catalogue;
-use session_state::portal::{BoundStatement, Portal, Prepared};
-use session_state::session::SessionState;
 use session_values::cause::Cause;
 use session_values::names::Names;
 use session_values::naming::{HasName, find_named};
@@ -24,7 +22,9 @@ use session_values::row::Row;
 use session_values::stop::Stop;
 use session_values::text::Text;
 use statement_runs::lookup::look_up;
+use statement_runs::portal::{BoundStatement, Portal, Prepared};
 use statement_runs::run::usable;
+use statement_runs::session::SessionState;
 use std::alloc::{AllocError, Global};
 
 /// How many values a prepared statement asks for: its greatest `$n`, or as many as its Parse gave

@@ -12,8 +12,6 @@ use bytes::BytesMut;
 use message_view::{Target, put_parameter_description};
 use mini_sql::Stmt;
 use server_catalogue::Catalogue;
-use session_state::portal::{Portal, Prepared};
-use session_state::session::SessionState;
 use session_values::block::Block;
 use session_values::cause::Cause;
 use session_values::names::Names;
@@ -21,7 +19,9 @@ use session_values::naming::find_named;
 use session_values::stop::Stop;
 use statement_runs::lookup::look_up;
 use statement_runs::output::put_description;
+use statement_runs::portal::{Portal, Prepared};
 use statement_runs::run::read_narrow;
+use statement_runs::session::SessionState;
 use std::alloc::{AllocError, Global};
 
 /// The oid of the type text.

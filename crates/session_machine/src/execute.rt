@@ -14,16 +14,16 @@ use bytes::BytesMut;
 use message_view::put_portal_suspended;
 use mini_sql::Stmt;
 use server_catalogue::Catalogue;
-use session_state::portal::{Portal, Progress, Rows};
-use session_state::session::SessionState;
 use session_values::cause::Cause;
 use session_values::naming::{HasName, find_named};
 use session_values::stop::Stop;
 use shared_list::Shared;
 use statement_runs::lookup::look_up;
 use statement_runs::output::{put_row_tag, put_rows};
+use statement_runs::portal::{Portal, Progress, Rows};
 use statement_runs::ran::{Outcome, put_notices, put_outcome};
 use statement_runs::run::{run, usable};
+use statement_runs::session::SessionState;
 use std::alloc::{AllocError, Global};
 
 /// Whether a portal with so many rows left is suspended: where a row limit above 0 is no greater.

@@ -19,3 +19,4 @@ pub use session_values::cause::Cause;
 pub use session_values::parameter::Parameter;
 pub use session_values::text::Text;
 pub use start_keys::key::{StartKey, StartParameter};
+pub use start_keys::stub_key;

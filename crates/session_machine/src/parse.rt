@@ -8,14 +8,14 @@ ghost use Rattle.session_values.specs.Extended.{is_taken, parse, prepared_of};
 use bytes::BytesMut;
 use message_view::{Oids, ParseView, put_parse_complete};
 use server_catalogue::Catalogue;
-use session_state::portal::Prepared;
-use session_state::session::SessionState;
 use session_values::cause::Cause;
 use session_values::naming::find_named;
 use session_values::stop::Stop;
 use session_values::text::Text;
 use statement_runs::lookup::look_up;
+use statement_runs::portal::Prepared;
 use statement_runs::run::usable;
+use statement_runs::session::SessionState;
 use std::alloc::{AllocError, Global};
 
 /// Only what has no name may be replaced.

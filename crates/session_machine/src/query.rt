@@ -14,7 +14,6 @@ use bytes::BytesMut;
 use message_view::QueryView;
 use mini_sql::Stmt;
 use server_catalogue::Catalogue;
-use session_state::session::SessionState;
 use session_values::cause::Cause;
 use session_values::names::Names;
 use session_values::row::Row;
@@ -23,6 +22,7 @@ use statement_runs::lookup::look_up;
 use statement_runs::output::put_columns;
 use statement_runs::ran::{Ran, put_notices, put_outcome};
 use statement_runs::run::{run, usable};
+use statement_runs::session::SessionState;
 use std::alloc::{AllocError, Global};
 
 /// RowDescription, before rows.

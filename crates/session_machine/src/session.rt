@@ -13,10 +13,10 @@ use bytes::BytesMut;
 use frame_view::Frame;
 use message_view::KeyWord;
 use server_catalogue::Catalogue;
-use session_state::session::SessionState;
 use session_values::cause::Cause;
 use session_values::stop::Stop;
 use start_keys::key::StartKey;
+use statement_runs::session::SessionState;
 use std::alloc::{AllocError, Global};
 use std::marker::Model;
 

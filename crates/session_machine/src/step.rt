@@ -15,9 +15,9 @@ use bytes::BytesMut;
 use frame_view::{Frame, client};
 use message_view::{BindView, CloseView, DescribeView, ExecuteView, ParseView};
 use server_catalogue::Catalogue;
-use session_state::session::SessionState;
 use session_values::cause::Cause;
 use session_values::stop::Stop;
+use statement_runs::session::SessionState;
 use std::alloc::{AllocError, Global};
 
 /// The error of an extended message: everything is skipped until the next Sync.

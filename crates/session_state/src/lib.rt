@@ -7,3 +7,5 @@ pub mod ready;
 pub mod session;
 pub mod start;
 pub mod work;
+
+pub use server_catalogue::Catalogue;

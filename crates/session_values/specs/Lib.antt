@@ -11,3 +11,6 @@ pub mod Service
 pub mod Picks
 pub mod Lawful
 pub mod Answers
+pub use Rattle.message_view.specs.Left
+pub use Rattle.message_view.specs.Views
+pub use Rattle.mini_sql.specs.Words as MiniSqlWords

@@ -12,3 +12,5 @@ pub mod stop;
 pub mod table;
 pub mod text;
 pub mod values;
+
+pub use message_view::{Pairs, StartupView};

@@ -1,1 +1,2 @@
 pub mod Putting
+pub use Rattle.session_values.proofs.Alls

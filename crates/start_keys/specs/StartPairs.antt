@@ -1,7 +1,7 @@
 -- What the pairs of a StartupMessage ask for (PostgreSQL manual, "StartupMessage"): user and database,
 -- matched exactly, and parameters, named without regard to the case of ASCII letters.
 use Rattle.std.specs.Prelude.{ℕ, List, [], ◌∷◌, length, fold, ◌==◌, if◌then◌else◌, bytes_eq, codes}
-use Rattle.mini_sql.specs.Words as words
+use Rattle.session_values.specs.MiniSqlWords as words
 use Rattle.session_values.specs.Lawful.{is_before}
 
 abbrev pub Text : Type 0

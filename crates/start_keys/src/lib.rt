@@ -6,4 +6,5 @@ pub mod pairs;
 pub mod stub;
 
 pub use key::{StartKey, StartParameter};
+pub use session_values::{cause, text};
 pub use stub::stub_key;

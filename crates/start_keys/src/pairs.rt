@@ -1,15 +1,15 @@
 //! What the pairs of a StartupMessage ask for (PostgreSQL manual, "StartupMessage").
 ghost use Rattle.std.specs.Prelude.{◌≡◌, ◌≤◌, length, OnOk};
 ghost use Rattle.std.specs.Iterator.{YieldsFirstBy};
-ghost use Rattle.message_view.specs.Left.{pairs_left};
-ghost use Rattle.message_view.specs.Views.{texts_of};
+ghost use Rattle.session_values.specs.Left.{pairs_left};
+ghost use Rattle.session_values.specs.Views.{texts_of};
 ghost use Rattle.session_values.specs.Lawful as lawful;
 ghost use Rattle.start_keys.specs.Places.{is_at, place_in};
 ghost use Rattle.start_keys.specs.StartPairs as spec;
 
 use crate::key::StartParameter;
-use message_view::{Pairs, StartupView};
 use session_values::text::Text;
+use session_values::{Pairs, StartupView};
 use std::alloc::{AllocError, Global};
 use std::cmp::Ordering;
 

@@ -1,12 +1,12 @@
 //! The start key of a stand-in server's own session.
 ghost use Rattle.std.specs.Prelude.{◌≡◌, IfOk};
-ghost use Rattle.message_view.specs.Left.{pairs_left};
+ghost use Rattle.session_values.specs.Left.{pairs_left};
 ghost use Rattle.session_values.specs.Answers.{Finds};
 ghost use Rattle.start_keys.specs.StubKeys as spec;
 
 use crate::key::{StartKey, StartParameter};
 use crate::pairs::{database_of, is_identity, next_pair, put_pair, user_of};
-use message_view::StartupView;
+use session_values::StartupView;
 use session_values::cause::Cause;
 use session_values::stop::Stop;
 use session_values::text::Text;

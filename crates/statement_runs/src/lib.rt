@@ -9,3 +9,5 @@ pub mod ran;
 mod rows;
 pub mod run;
 mod set;
+
+pub use session_state::{portal, session};

@@ -13,7 +13,7 @@ ghost use Rattle.session_values.specs.Picks.{IsNarrow};
 ghost use Rattle.session_values.specs.Lookups.{has_all, has_filter, look_up, look_up_select, readable, selected, shown, to_change};
 
 use mini_sql::{Columns, Filter, Operands, Stmt};
-use server_catalogue::Catalogue;
+use session_state::Catalogue;
 use session_state::session::SessionState;
 use session_values::cause::Cause;
 use session_values::names::Names;

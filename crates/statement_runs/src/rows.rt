@@ -13,7 +13,7 @@ use crate::changes::operand_text;
 use crate::lookup::{readable, selected};
 use crate::ran::Ran;
 use mini_sql::{Columns, Filter};
-use server_catalogue::Catalogue;
+use session_state::Catalogue;
 use session_state::session::SessionState;
 use session_values::cause::Cause;
 use session_values::names::Names;

@@ -14,7 +14,7 @@ use crate::ran::Ran;
 use crate::rows::{select, show};
 use crate::set::{reset, reset_all, set};
 use mini_sql::{SqlFault, Stmt, read_statement};
-use server_catalogue::Catalogue;
+use session_state::Catalogue;
 use session_state::session::SessionState;
 use session_values::block::Block;
 use session_values::cause::Cause;

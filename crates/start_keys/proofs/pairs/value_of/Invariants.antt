@@ -1,5 +1,5 @@
 use Rattle.std.proofs.Common.{◌≡◌, length}
-use Rattle.message_view.specs.Left.{pairs_left}
+use Rattle.session_values.specs.Left.{pairs_left}
 use Rattle.start_keys.specs.StartPairs as spec
 use Rattle.start_keys.proofs.pairs.value_of.Given as goal
 

@@ -1,5 +1,5 @@
 use Rattle.std.proofs.Common.{◌≡◌, fold, length}
-use Rattle.message_view.specs.Left.{pairs_left}
+use Rattle.session_values.specs.Left.{pairs_left}
 use Rattle.start_keys.specs.StubKeys as spec
 use Rattle.start_keys.proofs.stub.stub_parameters.Given as goal
 

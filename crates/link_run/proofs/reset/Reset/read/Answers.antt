@@ -1,7 +1,7 @@
 use Rattle.std.proofs.Common.{⊎_elim, ap, ◌∙◌, subst}
 use Rattle.std.proofs.lemmas.List.{drop_all}
 use Rattle.frame_view.specs.Frames.{spelling}
-use Rattle.session_laws.specs.Laws.{discard_all}
+use Rattle.run_laws.specs.Laws.{discard_all}
 use Rattle.link_run.specs.Resets.{ResetView, IsAnsweredReset}
 use Rattle.link_run.proofs.Resetting.{answered}
 use Rattle.link_run.proofs.Told.{no_other, none_early, some_unsent}

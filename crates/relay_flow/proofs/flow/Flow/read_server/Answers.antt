@@ -1,6 +1,6 @@
 use Rattle.std.proofs.Common.{ℕ, List, [], ◌-◌, length, ap, subst, sym, refl, ◌∙◌, arith}
 use Rattle.server_end.specs.declared.Moved.TheVariants.{Count}
-use Rattle.link_laws.specs.Standing.{Moves}
+use Rattle.server_end.specs.Standing.{Moves}
 use Rattle.relay_flow.proofs.flow.Flow.read_server.Goals as goal
 use borrow.Rule.Slice.PartMut.{post_of, same_len_mid}
 use Rattle.std.proofs.lemmas.List.{with_items_is}

@@ -1,11 +1,11 @@
-use Rattle.std.proofs.Common.{◌≡◌, List, ℕ, Result, Ok, subst}
+use Rattle.std.proofs.Common.{Result, Ok, subst}
 use Rattle.ini_config.specs.declared.option_values.Settings.{Settings}
 use Rattle.text_lines.specs.Lines.{lines}
 use Rattle.pool_app.specs.Files as spec
 use Rattle.pool_app.specs.declared.fault.AppFault.{AppFault}
-use Rattle.pool_app.proofs.files.read_inputs.Goals as goal
+use Rattle.pool_app.proofs.files.settings_at.Goals as goal
 
 pub returns : goal.returns
 returns g c =
     let said : spec.IsSettingsOf (lines c.as_slice.result.now) (Ok c.in_ok-settings.settings) = subst (λ (r : Result Settings AppFault). spec.IsSettingsOf (lines c.as_slice.result.now) r) c.in_ok-settings.was c.settings_of.ensures in
-    record { bounds = c.read_settings_are_within_bounds.ensures (lines c.as_slice.result.now) c.in_ok-settings.settings said }
+    c.read_settings_are_within_bounds.ensures (lines c.as_slice.result.now) c.in_ok-settings.settings said
