@@ -44,6 +44,8 @@ pub(crate) fn open_link<D: LinkDesk, G: Gate<D::End>>(
 ) -> Result<CleanLink<D::End>, LastWord>
     requires guest { IsGuest guest.now }
     ensures key { IfOk result (λ l. l.key ≡ arc_value guest.now.key) }
+    ensures number { IfOk result (λ l. l.number ≡ number) }
+    ensures born { IfOk result (λ l. l.born ≡ born) }
     ensures home { IfOk result (λ l. IsAtHome D.home l) }
     ensures told { LetsIn D.home guest.now.login.users → IfErr result (λ last. MayEnd [] (owed D.home.catalogue guest.now []) last) }
 {
