@@ -110,6 +110,7 @@ fn settings_at<'a, R: Files>(rt: &R, alloc: Global, path: &'a str) -> Result<Set
 {
     read_settings_are_within_bounds();
     let text = read_file(rt, alloc, path)?;
+    // named, since the proof of their bounds cites them
     let settings = settings_of(alloc, text.as_slice())?;
     Ok(settings)
 }
