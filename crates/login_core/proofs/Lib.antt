@@ -6,4 +6,4 @@ pub mod Growing
 pub mod Turning
 pub mod Taking
 pub mod Starting
-pub mod Hearing
+pub mod Awaiting

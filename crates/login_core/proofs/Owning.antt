@@ -13,7 +13,7 @@ use Rattle.message_view.specs.Reading.{startup_of, password_of}
 use Rattle.session_values.specs.State.{StartKeyOf}
 use Rattle.param_track.specs.declared.StartFault.{StartFault}
 use Rattle.param_track.specs.StartKeys.{Text, Pair, Names, database_in, user_in, key_at, unless, refusal, parameters_in}
-use Rattle.login_core.specs.Talk.{Cut, says, talk, follow, hears}
+use Rattle.login_core.specs.Talk.{Cut, says, talk, follow, on_cut}
 use Rattle.login_core.specs.Talk.Cut.{Whole, Need, Bad}
 use Rattle.login_core.specs.Talk.Reaction.{Goes, Passes, Stops}
 use Rattle.login_core.specs.Dialogue.{Rows, LoginRow, Reacts, Dialogue, Packet, First, Message, Reason, Stage, AtFirst, Asked, of_first, packet, react, key_of, or_refusal, asked, asks, begins, judged, not_twice, to_message, asks_cleartext, asks_md5}
@@ -57,7 +57,7 @@ module _ (rows : Rows) (word : KeyWord) where
         ap (λ (r : LoginRow). from rows n rest (to_message r word key kind body)) same
         ∙ ends_alike rows (one row) n rest (to_message row word key kind body) (message_ends word row key (kind == PASSWORD_MESSAGE) (kind == TERMINATE) (password_of body))
 
-    cut_alike : (n : ℕ) (c : Cut Packet Reason) → hears (react rows word (Asked key)) (talk packet (react rows word) n) c ≡ hears (react (one row) word (Asked key)) (talk packet (react (one row) word) n) c
+    cut_alike : (n : ℕ) (c : Cut Packet Reason) → on_cut (react rows word (Asked key)) (talk packet (react rows word) n) c ≡ on_cut (react (one row) word (Asked key)) (talk packet (react (one row) word) n) c
     cut_alike n (Whole (Message kind body) rest) = message_alike n rest kind body
     cut_alike n (Whole (First p) rest) = refl
     cut_alike n (Need m) = refl
@@ -99,8 +99,8 @@ module _ (rows : Rows) (word : KeyWord) where
   of_its_row (suc n) tls gss bytes = go (first_front bytes) (λ t g rest. of_its_row n t g rest)
     where
       go : (f : FirstFront) → ((t g : Bool) (rest : List ℕ) → talk packet (react rows word) n (AtFirst t g) rest ≡ talk packet (react (one (row_for rows (names_within n rest))) word) n (AtFirst t g) rest) →
-          hears (react rows word (AtFirst tls gss)) (talk packet (react rows word) n) (of_first f)
-          ≡ hears (react (one (row_for rows (names_in_front (names_within n) f))) word (AtFirst tls gss)) (talk packet (react (one (row_for rows (names_in_front (names_within n) f))) word) n) (of_first f)
+          on_cut (react rows word (AtFirst tls gss)) (talk packet (react rows word) n) (of_first f)
+          ≡ on_cut (react (one (row_for rows (names_in_front (names_within n) f))) word (AtFirst tls gss)) (talk packet (react (one (row_for rows (names_in_front (names_within n) f))) word) n) (of_first f)
       go (AFirst (Start text) rest) ih = start_alike n rest (startup_of text)
       go (AFirst (Cancels pid secret) rest) ih = refl
       go (AFirst AsksTls rest) ih = twice_alike rows (one (row_for rows (names_within n rest))) n rest tls (AtFirst true gss) (ih true gss rest)

@@ -7,9 +7,9 @@ use Rattle.login_core.specs.declared.steps.LoginStep.{LoginStep}
 use Rattle.login_core.specs.declared.steps.LoginStep.TheVariants as step
 use Rattle.login_core.specs.Talk.{Cut}
 use Rattle.login_core.specs.Talk.Cut.{Whole, Need, Bad}
-use Rattle.login_core.specs.Dialogue.{Rows, row_in, Packet, Reason, Stage, packet, hear}
+use Rattle.login_core.specs.Dialogue.{Rows, row_in, Packet, Reason, Stage, packet, dialogue_from}
 use Rattle.login_core.specs.Laws.{PacketsGrow}
-use Rattle.login_core.specs.Logins.{Hearing, Hears, Arriving, Over, LoginView, login_view, rows_of, with_held, goes_from, Fits, FitsCut, missing, missing_of, Heard, Turned, OrNoMemory, GivesKey, left_after, IsMore}
+use Rattle.login_core.specs.Logins.{Awaiting, AwaitsPacket, Arriving, Over, LoginView, login_view, rows_of, with_held, goes_from, Fits, FitsCut, missing, missing_of, StepMeans, StepIs, OrNoMemory, GivesKey, left_after, IsMore}
 
 none_more : (bytes : List ℕ) → length bytes ≤ 0 → bytes ≡ []
 none_more [] h = refl
@@ -22,20 +22,20 @@ module _ (grow : PacketsGrow) where
     after_need m e h (Need k) w = (grow s (held ++ bytes) []).room k w
     after_need m e h (Bad r) w = tt
 
-    fits_from : (c : Cut Packet Reason) → packet s held ≡ c → Fits (Hears s) held → length bytes ≤ missing_of c → Fits (Hears s) (held ++ bytes)
-    fits_from (Whole p rest) e f h = subst (λ (l : List ℕ). Fits (Hears s) l) (sym (ap (λ (l : List ℕ). held ++ l) (none_more bytes h) ∙ append-nil held)) f
+    fits_from : (c : Cut Packet Reason) → packet s held ≡ c → Fits (AwaitsPacket s) held → length bytes ≤ missing_of c → Fits (AwaitsPacket s) (held ++ bytes)
+    fits_from (Whole p rest) e f h = subst (λ (l : List ℕ). Fits (AwaitsPacket s) l) (sym (ap (λ (l : List ℕ). held ++ l) (none_more bytes h) ∙ append-nil held)) f
     fits_from (Need m) e f h = after_need m e h (packet s (held ++ bytes)) refl
-    fits_from (Bad r) e f h = subst (λ (l : List ℕ). Fits (Hears s) l) (sym (ap (λ (l : List ℕ). held ++ l) (none_more bytes h) ∙ append-nil held)) f
+    fits_from (Bad r) e f h = subst (λ (l : List ℕ). Fits (AwaitsPacket s) l) (sym (ap (λ (l : List ℕ). held ++ l) (none_more bytes h) ∙ append-nil held)) f
 
-  fits_more : (h : Hearing) (held bytes : List ℕ) → Fits h held → length bytes ≤ missing h held → Fits h (held ++ bytes)
-  fits_more (Hears s) held bytes f l = fits_from s held bytes (packet s held) refl f l
+  fits_more : (h : Awaiting) (held bytes : List ℕ) → Fits h held → length bytes ≤ missing h held → Fits h (held ++ bytes)
+  fits_more (AwaitsPacket s) held bytes f l = fits_from s held bytes (packet s held) refl f l
   fits_more (Arriving k) held bytes f l = ap (λ (x : List ℕ). held ++ x) (none_more bytes l) ∙ append-nil held ∙ f
   fits_more Over held bytes f l = ap (λ (x : List ℕ). held ++ x) (none_more bytes l) ∙ append-nil held ∙ f
 
-  within : (h : Hearing) (held piece : List ℕ) (w u : ℕ) → w ≡ missing h held → u ≤ w → length (take u piece) ≤ missing h held
+  within : (h : Awaiting) (held piece : List ℕ) (w u : ℕ) → w ≡ missing h held → u ≤ w → length (take u piece) ≤ missing h held
   within h held piece w u e l = omega (arith, e, l, length-take u piece)
 
-  pub taken_fits : (h : Hearing) (held piece now : List ℕ) (w u : ℕ) → Fits h held → w ≡ missing h held → u ≤ w → now ≡ held ++ take u piece → Fits h now
+  pub taken_fits : (h : Awaiting) (held piece now : List ℕ) (w u : ℕ) → Fits h held → w ≡ missing h held → u ≤ w → now ≡ held ++ take u piece → Fits h now
   taken_fits h held piece now w u f e l n = subst (λ (x : List ℕ). Fits h x) (sym n) (fits_more h held (take u piece) f (within h held piece w u e l))
 
 room_by : (c : Cut Packet Reason) (here spare used : ℕ) → FitsCut c here → 10001 ≤ here + spare → used ≤ missing_of c → used ≤ spare
@@ -44,8 +44,8 @@ room_by (Need m) here spare used f r u = let g : here + m ≤ 10001 = f in omega
 room_by (Bad r) here spare used f q u = omega (arith, u)
 
 -- there is room for what is missing
-pub room_for : (h : Hearing) (held : List ℕ) (spare used : ℕ) → Fits h held → 10001 ≤ length held + spare → used ≤ missing h held → used ≤ spare
-room_for (Hears s) held spare used f r u = room_by (packet s held) (length held) spare used f r u
+pub room_for : (h : Awaiting) (held : List ℕ) (spare used : ℕ) → Fits h held → 10001 ≤ length held + spare → used ≤ missing h held → used ≤ spare
+room_for (AwaitsPacket s) held spare used f r u = room_by (packet s held) (length held) spare used f r u
 room_for (Arriving k) held spare used f r u = omega (arith, u)
 room_for Over held spare used f r u = omega (arith, u)
 
@@ -54,9 +54,9 @@ taken_room held bytes now spare left h e n = omega (arith, h, e, ap length n, le
 
 -- ---- what is still said
 
-said_after : (rows : Rows) (word : KeyWord) (h : Hearing) (held bytes : List ℕ) → length bytes ≤ missing h held → (more : List ℕ) →
+said_after : (rows : Rows) (word : KeyWord) (h : Awaiting) (held bytes : List ℕ) → length bytes ≤ missing h held → (more : List ℕ) →
     goes_from rows word h held (bytes ++ more) ≡ goes_from rows word h (held ++ bytes) more
-said_after rows word (Hears s) held bytes l more = ap (hear rows word s) (sym (append_assoc held bytes more))
+said_after rows word (AwaitsPacket s) held bytes l more = ap (dialogue_from rows word s) (sym (append_assoc held bytes more))
 said_after rows word (Arriving k) held bytes l more = ap (λ (x : List ℕ). goes_from rows word (Arriving k) held (x ++ more)) (none_more bytes l)
 said_after rows word Over held bytes l more = refl
 
@@ -72,14 +72,14 @@ or_changed (step.Failed x) A B C D f g a = f a
 or_changed step.Left A B C D f g a = f a
 
 -- a step on the bytes that were taken
-pub heard_after : (old mid new : LoginView) (bytes : List ℕ) (s : LoginStep) → length bytes ≤ missing old.hearing old.held → mid ≡ with_held old (old.held ++ bytes) → Heard mid [] s new → Heard old bytes s new
-heard_after old mid new bytes s l e h = from (subst (λ (v : LoginView). Heard v [] s new) e h)
+pub heard_after : (old mid new : LoginView) (bytes : List ℕ) (s : LoginStep) → length bytes ≤ missing old.awaiting old.held → mid ≡ with_held old (old.held ++ bytes) → StepMeans mid [] s new → StepMeans old bytes s new
+heard_after old mid new bytes s l e h = from (subst (λ (v : LoginView). StepMeans v [] s new) e h)
   where
-    from : Heard (with_held old (old.held ++ bytes)) [] s new → Heard old bytes s new
+    from : StepMeans (with_held old (old.held ++ bytes)) [] s new → StepMeans old bytes s new
     from x = record {
       said = or_changed s _ _ _ _
-          (λ f more. said_after (rows_of old) old.word old.hearing old.held bytes l more ∙ f more)
-          (λ k. subst (λ (b : List ℕ). GivesKey (rows_of old) old.hearing b) (append-nil (old.held ++ bytes)) k)
+          (λ f more. said_after (rows_of old) old.word old.awaiting old.held bytes l more ∙ f more)
+          (λ k. subst (λ (b : List ℕ). GivesKey (rows_of old) old.awaiting b) (append-nil (old.held ++ bytes)) k)
           x.said;
       leads = x.leads;
       settings = x.settings;
@@ -87,10 +87,10 @@ heard_after old mid new bytes s l e h = from (subst (λ (v : LoginView). Heard v
       word = x.word;
     }
 
-pub turned_heard : (settings : Settings) (users : List UserRow) (word : KeyWord) (h : Hearing) (held : List ℕ) (s : LoginStep) (to : Hearing) (left : List ℕ) (old : LoginView) →
-    login_view settings users word h held ≡ old → Turned (row_in settings users) word h held s to left → Heard old [] s (login_view settings users word to left)
+pub turned_heard : (settings : Settings) (users : List UserRow) (word : KeyWord) (h : Awaiting) (held : List ℕ) (s : LoginStep) (to : Awaiting) (left : List ℕ) (old : LoginView) →
+    login_view settings users word h held ≡ old → StepIs (row_in settings users) word h held s to left → StepMeans old [] s (login_view settings users word to left)
 turned_heard settings users word h held s to left old e t =
-    subst (λ (v : LoginView). Heard v [] s (login_view settings users word to left)) e
+    subst (λ (v : LoginView). StepMeans v [] s (login_view settings users word to left)) e
     (record {
       said = or_changed s _ _ _ _ (λ f. f) (λ k. subst (λ (b : List ℕ). GivesKey (row_in settings users) h b) (sym (append-nil held)) k) t.said;
       leads = t.leads;

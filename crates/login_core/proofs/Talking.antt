@@ -1,6 +1,6 @@
 -- What more bytes make of a dialogue over packets that stay when more bytes come.
 use Rattle.std.proofs.Common.{◌≡◌, ℕ, zero, suc, List, [], ◌++◌, refl, sym, ap, ◌∙◌, subst, append_assoc, append-nil}
-use Rattle.login_core.specs.Talk.{Cut, Reaction, End, Said, says, talk, follow, hears}
+use Rattle.login_core.specs.Talk.{Cut, Reaction, End, Said, says, talk, follow, on_cut}
 use Rattle.login_core.specs.Talk.Cut.{Whole, Need, Bad}
 use Rattle.login_core.specs.Talk.Reaction.{Goes, Passes, Stops}
 use Rattle.login_core.specs.Talk.End.{Unfinished, Passed, Stopped}
@@ -38,12 +38,12 @@ module _ (P S K R : Type 0) (packet : S → List ℕ → Cut P R) (react : S →
   later (suc n) s bytes more = go (packet s bytes) refl (λ rest t. later n t rest more)
     where
       go : (o : Cut P R) → packet s bytes ≡ o → ((rest : List ℕ) (t : S) → Later more (talk packet react n t rest) (talk packet react n t (rest ++ more))) →
-          Later more (hears (react s) (talk packet react n) o) (hears (react s) (talk packet react n) (packet s (bytes ++ more)))
+          Later more (on_cut (react s) (talk packet react n) o) (on_cut (react s) (talk packet react n) (packet s (bytes ++ more)))
       go (Whole p rest) e ih =
-          subst (λ (c : Cut P R). Later more (follow rest (λ t. talk packet react n t rest) (react s p)) (hears (react s) (talk packet react n) c)) (sym (stable.whole s bytes more p rest e))
+          subst (λ (c : Cut P R). Later more (follow rest (λ t. talk packet react n t rest) (react s p)) (on_cut (react s) (talk packet react n) c)) (sym (stable.whole s bytes more p rest e))
           (later_follows n rest more (react s p) (ih rest))
       go (Need m) e ih = goes_on refl _ refl
-      go (Bad reason) e ih = stopped_on reason refl (ap (hears (react s) (talk packet react n)) (stable.bad s bytes more reason e))
+      go (Bad reason) e ih = stopped_on reason refl (ap (on_cut (react s) (talk packet react n)) (stable.bad s bytes more reason e))
 
 pub later_front : {K R : Type 0} (more : List ℕ) (a b : Said K R) → Later more a b → (rest : List (List ℕ)) × (a.pieces ++ rest ≡ b.pieces)
 later_front more a b (goes_on e rest h) = (rest, h)

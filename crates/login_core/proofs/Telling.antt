@@ -10,7 +10,7 @@ use Rattle.session_values.specs.Service.{service, served, client_frames}
 use Rattle.login_core.specs.declared.steps.LoginStep.{LoginStep}
 use Rattle.login_core.specs.Talk.{says}
 use Rattle.login_core.specs.Dialogue.{row_in, login_among}
-use Rattle.login_core.specs.Logins.{LoginView, rows_of, goes_on, Tells, Heard, after, question_bytes}
+use Rattle.login_core.specs.Logins.{LoginView, rows_of, goes_on, Tells, StepMeans, after, question_bytes}
 use Rattle.login_core.specs.Laws.{NewTells, StepsTell, StepsSay, waits, arrived, asks, ServiceIsItsPieces}
 use Rattle.login_core.proofs.Taking.{or_changed}
 
@@ -25,7 +25,7 @@ pub steps_say : StepsSay
 steps_say old new taken bytes given s t h = or_changed s _ _ _ _ (told old new taken bytes given s t) (λ k. k) h.said
 
 -- the same settings, users and word
-moved : (old new : LoginView) (bytes : List ℕ) (s : LoginStep) → Heard old bytes s new → (all : List ℕ) → login_among (rows_of new) new.word all ≡ login_among (rows_of old) old.word all
+moved : (old new : LoginView) (bytes : List ℕ) (s : LoginStep) → StepMeans old bytes s new → (all : List ℕ) → login_among (rows_of new) new.word all ≡ login_among (rows_of old) old.word all
 moved old new bytes s h all =
     ap (λ (x : _). login_among (row_in x new.users) new.word all) h.settings
     ∙ (ap (λ (x : _). login_among (row_in old.settings x) new.word all) h.users

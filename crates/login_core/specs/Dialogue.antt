@@ -222,12 +222,12 @@ packets_left (AtFirst false true) = 3
 packets_left (AtFirst true true) = 2
 packets_left (Asked key) = 1
 
-abbrev pub hear : Rows → KeyWord → Stage → List ℕ → Dialogue
-hear rows word stage bytes = talk packet (react rows word) (packets_left stage) stage bytes
+abbrev pub dialogue_from : Rows → KeyWord → Stage → List ℕ → Dialogue
+dialogue_from rows word stage bytes = talk packet (react rows word) (packets_left stage) stage bytes
 
 -- under settings and users
 abbrev pub login_among : Rows → KeyWord → List ℕ → Dialogue
-login_among rows word bytes = hear rows word (AtFirst false false) bytes
+login_among rows word bytes = dialogue_from rows word (AtFirst false false) bytes
 
 -- of a client whose login row is known
 abbrev pub login : LoginRow → KeyWord → List ℕ → Dialogue

@@ -17,7 +17,7 @@ use Rattle.login_core.specs.Talk.{Cut, says}
 use Rattle.login_core.specs.Talk.Cut.{Whole, Need, Bad}
 use Rattle.login_core.specs.Talk.End.{Unfinished, Passed, Stopped}
 use Rattle.login_core.specs.Dialogue.{Rows, LoginRow, Packet, Reason, Way, Dialogue, Stage, AtFirst, packet, login_among, login}
-use Rattle.login_core.specs.Logins.{LoginView, login_view, Hears, rows_of, goes_on, Tells, Heard, after, OrNoMemory, GivesKey, question_bytes}
+use Rattle.login_core.specs.Logins.{LoginView, login_view, AwaitsPacket, rows_of, goes_on, Tells, StepMeans, after, OrNoMemory, GivesKey, question_bytes}
 use Rattle.login_core.specs.Solo.{service_pieces}
 
 -- What stands at the front of a client's bytes (so many are here), and what stands there once more have come.
@@ -86,7 +86,7 @@ LoginIsOfItsRow = (rows : Rows) (word : KeyWord) (bytes : List ℕ) → login_am
 
 -- A login that has taken no byte tells that nothing was taken and nothing given.
 abbrev pub NewTells : Type 0
-NewTells = (settings : Settings) (users : List UserRow) (word : KeyWord) → Tells (login_view settings users word (Hears (AtFirst false false)) []) [] []
+NewTells = (settings : Settings) (users : List UserRow) (word : KeyWord) → Tells (login_view settings users word (AwaitsPacket (AtFirst false false)) []) [] []
 
 -- what a step that isn't an end gives
 abbrev pub given_by : LoginStep → List (List ℕ)
@@ -101,13 +101,13 @@ pub data GoesOn : LoginStep → Type 0 where
 
 -- Where a step goes on, the login tells the bytes and the pieces that the step adds.
 abbrev pub StepsTell : Type 0
-StepsTell = (old new : LoginView) (taken bytes : List ℕ) (given : List (List ℕ)) (s : LoginStep) → GoesOn s → Tells old taken given → Heard old bytes s new → Tells new (taken ++ bytes) (given ++ given_by s)
+StepsTell = (old new : LoginView) (taken bytes : List ℕ) (given : List (List ℕ)) (s : LoginStep) → GoesOn s → Tells old taken given → StepMeans old bytes s new → Tells new (taken ++ bytes) (given ++ given_by s)
 
 -- Where it ends, the whole login says what was given and what the step says, whatever comes; or a growth
 -- was refused while the key was made.
 abbrev pub StepsSay : Type 0
-StepsSay = (old new : LoginView) (taken bytes : List ℕ) (given : List (List ℕ)) (s : LoginStep) → Tells old taken given → Heard old bytes s new →
-    OrNoMemory s ((more : List ℕ) → login_among (rows_of old) old.word ((taken ++ bytes) ++ more) ≡ says given (after s more (goes_on new more))) (GivesKey (rows_of old) old.hearing (old.held ++ bytes))
+StepsSay = (old new : LoginView) (taken bytes : List ℕ) (given : List (List ℕ)) (s : LoginStep) → Tells old taken given → StepMeans old bytes s new →
+    OrNoMemory s ((more : List ℕ) → login_among (rows_of old) old.word ((taken ++ bytes) ++ more) ≡ says given (after s more (goes_on new more))) (GivesKey (rows_of old) old.awaiting (old.held ++ bytes))
 
 -- ---- the service
 

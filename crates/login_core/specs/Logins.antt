@@ -25,41 +25,41 @@ use Rattle.login_core.specs.Talk.{Cut, says, follow, talk}
 use Rattle.login_core.specs.Talk.Cut.{Whole, Need, Bad}
 use Rattle.login_core.specs.Talk.Reaction.{Passes, Stops}
 use Rattle.login_core.specs.Talk.End.{Passed, Stopped}
-use Rattle.login_core.specs.Dialogue.{Rows, row_in, Reacts, Dialogue, Packet, First, Reason, Refused, Failed, Left, ToLink, ToConsole, Stage, AtFirst, Asked, packet, react, hear, login_among, key_of, asked, no_encryption, asks_cleartext, wrong_password, no_database, ok, wrong}
+use Rattle.login_core.specs.Dialogue.{Rows, row_in, Reacts, Dialogue, Packet, First, Reason, Refused, Failed, Left, ToLink, ToConsole, Stage, AtFirst, Asked, packet, react, dialogue_from, login_among, key_of, asked, no_encryption, asks_cleartext, wrong_password, no_database, ok, wrong}
 
 -- what it waits for: a packet, the word to go on, or nothing any more
-pub data Hearing : Type 0 where
-  Hears : Stage → Hearing
-  Arriving : StartKeyOf → Hearing
-  Over : Hearing
+pub data Awaiting : Type 0 where
+  AwaitsPacket : Stage → Awaiting
+  Arriving : StartKeyOf → Awaiting
+  Over : Awaiting
 
 pub record LoginView : Type 0 where
   pub settings : Settings
   pub users : List UserRow
   pub word : KeyWord
-  pub hearing : Hearing
+  pub awaiting : Awaiting
   -- the bytes of the packet that it waits for
   pub held : List ℕ
 
-abbrev pub login_view : Settings → List UserRow → KeyWord → Hearing → List ℕ → LoginView
-login_view settings users word hearing held = record { settings = settings; users = users; word = word; hearing = hearing; held = held }
+abbrev pub login_view : Settings → List UserRow → KeyWord → Awaiting → List ℕ → LoginView
+login_view settings users word awaiting held = record { settings = settings; users = users; word = word; awaiting = awaiting; held = held }
 
 abbrev pub rows_of : LoginView → Rows
 rows_of v = row_in v.settings v.users
 
 abbrev pub with_held : LoginView → List ℕ → LoginView
-with_held v held = login_view v.settings v.users v.word v.hearing held
+with_held v held = login_view v.settings v.users v.word v.awaiting held
 
 -- ---- what is still said
 
 -- when these bytes come
-abbrev pub goes_from : Rows → KeyWord → Hearing → List ℕ → List ℕ → Dialogue
-goes_from rows word (Hears stage) held more = hear rows word stage (held ++ more)
+abbrev pub goes_from : Rows → KeyWord → Awaiting → List ℕ → List ℕ → Dialogue
+goes_from rows word (AwaitsPacket stage) held more = dialogue_from rows word stage (held ++ more)
 goes_from rows word (Arriving key) held more = follow more (λ s. talk packet (react rows word) 1 s more) (asked rows word key)
 goes_from rows word Over held more = record { pieces = []; ended = Stopped Left }
 
 abbrev pub goes_on : LoginView → List ℕ → Dialogue
-goes_on v more = goes_from (rows_of v) v.word v.hearing v.held more
+goes_on v more = goes_from (rows_of v) v.word v.awaiting v.held more
 
 -- A login tells the bytes that it took and the pieces that it gave: whatever comes, the whole login says
 -- these pieces and what is still said.
@@ -74,8 +74,8 @@ FitsCut (Whole p rest) here = rest ≡ []
 FitsCut (Need missing) here = here + missing ≤ 10001
 FitsCut (Bad reason) here = Unit {0}
 
-abbrev pub Fits : Hearing → List ℕ → Type 0
-Fits (Hears stage) held = FitsCut (packet stage held) (length held)
+abbrev pub Fits : Awaiting → List ℕ → Type 0
+Fits (AwaitsPacket stage) held = FitsCut (packet stage held) (length held)
 Fits (Arriving key) held = held ≡ []
 Fits Over held = held ≡ []
 
@@ -85,8 +85,8 @@ missing_of (Whole p rest) = 0
 missing_of (Need missing) = missing
 missing_of (Bad reason) = 0
 
-abbrev pub missing : Hearing → List ℕ → ℕ
-missing (Hears stage) held = missing_of (packet stage held)
+abbrev pub missing : Awaiting → List ℕ → ℕ
+missing (AwaitsPacket stage) held = missing_of (packet stage held)
 missing (Arriving key) held = 0
 missing Over held = 0
 
@@ -117,8 +117,8 @@ abbrev pub IsKeyed : Rows → Cut Packet Reason → Type 0
 IsKeyed rows (Whole (First (Start text)) rest) = IsOk (key_of rows (startup_of text))
 IsKeyed rows _ = ⊥
 
-abbrev pub GivesKey : Rows → Hearing → List ℕ → Type 0
-GivesKey rows (Hears stage) held = IsKeyed rows (packet stage held)
+abbrev pub GivesKey : Rows → Awaiting → List ℕ → Type 0
+GivesKey rows (AwaitsPacket stage) held = IsKeyed rows (packet stage held)
 GivesKey rows (Arriving key) held = ⊥
 GivesKey rows Over held = ⊥
 
@@ -128,15 +128,15 @@ OrNoMemory (step.Refused refusal) said keyed = said ⊎ ((refusal ≡ OutOfMemor
 OrNoMemory _ said keyed = said
 
 -- after More and Ask bytes are known to be missing; the key that arrived is waited with; the others are ends
-abbrev pub LeadsTo : LoginStep → Hearing → List ℕ → Type 0
-LeadsTo step.More hearing held = 0 < missing hearing held
-LeadsTo (step.Ask q) hearing held = 0 < missing hearing held
-LeadsTo (step.Arrived key) hearing held = hearing ≡ Arriving (arc_value key)
-LeadsTo (step.Passed key) hearing held = hearing ≡ Over
-LeadsTo step.Console hearing held = hearing ≡ Over
-LeadsTo (step.Refused refusal) hearing held = hearing ≡ Over
-LeadsTo (step.Failed f) hearing held = hearing ≡ Over
-LeadsTo step.Left hearing held = hearing ≡ Over
+abbrev pub LeadsTo : LoginStep → Awaiting → List ℕ → Type 0
+LeadsTo step.More awaiting held = 0 < missing awaiting held
+LeadsTo (step.Ask q) awaiting held = 0 < missing awaiting held
+LeadsTo (step.Arrived key) awaiting held = awaiting ≡ Arriving (arc_value key)
+LeadsTo (step.Passed key) awaiting held = awaiting ≡ Over
+LeadsTo step.Console awaiting held = awaiting ≡ Over
+LeadsTo (step.Refused refusal) awaiting held = awaiting ≡ Over
+LeadsTo (step.Failed f) awaiting held = awaiting ≡ Over
+LeadsTo step.Left awaiting held = awaiting ≡ Over
 
 -- before a client has arrived it is asked about encryption alone, and neither passes nor fails
 abbrev pub IsBeforeArrival : LoginStep → Type 0
@@ -153,16 +153,16 @@ IsAfterArrival (step.Arrived key) = ⊥
 IsAfterArrival _ = Unit {0}
 
 -- each client that is asked for its password, let in or told no arrives before that, and once
-abbrev pub ArrivesOnce : Hearing → LoginStep → Type 0
-ArrivesOnce (Hears (AtFirst tls gss)) s = IsBeforeArrival s
-ArrivesOnce (Hears (Asked key)) s = IsAfterArrival s
+abbrev pub ArrivesOnce : Awaiting → LoginStep → Type 0
+ArrivesOnce (AwaitsPacket (AtFirst tls gss)) s = IsBeforeArrival s
+ArrivesOnce (AwaitsPacket (Asked key)) s = IsAfterArrival s
 ArrivesOnce (Arriving key) s = IsAfterArrival s
 ArrivesOnce Over s = IsAfterArrival s
 
 -- these bytes were taken, and this was answered
-pub record Heard (old : LoginView) (bytes : List ℕ) (s : LoginStep) (new : LoginView) : Type 0 where
-  pub said : OrNoMemory s ((more : List ℕ) → goes_on old (bytes ++ more) ≡ after s more (goes_on new more)) (GivesKey (rows_of old) old.hearing (old.held ++ bytes))
-  pub leads : LeadsTo s new.hearing new.held
+pub record StepMeans (old : LoginView) (bytes : List ℕ) (s : LoginStep) (new : LoginView) : Type 0 where
+  pub said : OrNoMemory s ((more : List ℕ) → goes_on old (bytes ++ more) ≡ after s more (goes_on new more)) (GivesKey (rows_of old) old.awaiting (old.held ++ bytes))
+  pub leads : LeadsTo s new.awaiting new.held
   pub settings : new.settings ≡ old.settings
   pub users : new.users ≡ old.users
   pub word : new.word ≡ old.word
@@ -172,11 +172,11 @@ pub record Heard (old : LoginView) (bytes : List ℕ) (s : LoginStep) (new : Log
 abbrev pub rows_under : Rules → Rows
 rows_under rules = row_in (arc_value rules.settings) (arc_value rules.users)
 
-abbrev pub hearing_of : Place → Hearing
-hearing_of (place.First tls gss) = Hears (AtFirst tls gss)
-hearing_of (place.Asked key) = Hears (Asked (arc_value key))
-hearing_of (place.Arriving key) = Arriving (arc_value key)
-hearing_of place.Over = Over
+abbrev pub awaiting_of : Place → Awaiting
+awaiting_of (place.First tls gss) = AwaitsPacket (AtFirst tls gss)
+awaiting_of (place.Asked key) = AwaitsPacket (Asked (arc_value key))
+awaiting_of (place.Arriving key) = Arriving (arc_value key)
+awaiting_of place.Over = Over
 
 -- the key that a start message gives, or its refusal, or that of a growth in the stead of the key
 abbrev pub Begun : {Z : Type 0} → Result (Arc StartKeyOf Z) Refusal → Result StartKeyOf Refusal → Type 0
@@ -184,10 +184,10 @@ Begun (Ok key) wanted = wanted ≡ Ok (arc_value key)
 Begun (Err refusal) wanted = (wanted ≡ Err refusal) ⊎ ((refusal ≡ OutOfMemory) × IsOk wanted)
 
 -- the same of a step and the place that it leads to
-abbrev pub StartHeard : Result StartKeyOf Refusal → LoginStep → Hearing → Type 0
-StartHeard wanted (step.Arrived key) (Arriving other) = (wanted ≡ Ok other) × (other ≡ arc_value key)
-StartHeard wanted (step.Refused refusal) Over = (wanted ≡ Err refusal) ⊎ ((refusal ≡ OutOfMemory) × IsOk wanted)
-StartHeard wanted _ _ = ⊥
+abbrev pub StartMeans : Result StartKeyOf Refusal → LoginStep → Awaiting → Type 0
+StartMeans wanted (step.Arrived key) (Arriving other) = (wanted ≡ Ok other) × (other ≡ arc_value key)
+StartMeans wanted (step.Refused refusal) Over = (wanted ≡ Err refusal) ⊎ ((refusal ≡ OutOfMemory) × IsOk wanted)
+StartMeans wanted _ _ = ⊥
 
 abbrev pub verdict_of : Verdict → StartKeyOf → Reacts
 verdict_of verdict.ToLink key = Passes (ok ∷ []) (ToLink key)
@@ -212,7 +212,7 @@ IsMore b step.More = b ≡ true
 IsMore b _ = b ≡ false
 
 -- a step from what is held, and the place that it leads to
-pub record Turned (rows : Rows) (word : KeyWord) (from : Hearing) (held : List ℕ) (s : LoginStep) (to : Hearing) (left : List ℕ) : Type 0 where
+pub record StepIs (rows : Rows) (word : KeyWord) (from : Awaiting) (held : List ℕ) (s : LoginStep) (to : Awaiting) (left : List ℕ) : Type 0 where
   pub said : OrNoMemory s ((more : List ℕ) → goes_from rows word from held more ≡ after s more (goes_from rows word to left more)) (GivesKey rows from held)
   pub fits : Fits to left
   pub leads : LeadsTo s to left

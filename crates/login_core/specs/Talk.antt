@@ -33,12 +33,12 @@ follow rest next (Goes pieces s) = says pieces (next s)
 follow rest next (Passes pieces key) = record { pieces = pieces; ended = Passed key rest }
 follow rest next (Stops pieces reason) = record { pieces = pieces; ended = Stopped reason }
 
-abbrev pub hears : {P S K R : Type 0} → (P → Reaction S K R) → (S → List ℕ → Said K R) → Cut P R → Said K R
-hears react next (Whole p rest) = follow rest (λ s. next s rest) (react p)
-hears react next (Need missing) = record { pieces = []; ended = Unfinished }
-hears react next (Bad reason) = record { pieces = []; ended = Stopped reason }
+abbrev pub on_cut : {P S K R : Type 0} → (P → Reaction S K R) → (S → List ℕ → Said K R) → Cut P R → Said K R
+on_cut react next (Whole p rest) = follow rest (λ s. next s rest) (react p)
+on_cut react next (Need missing) = record { pieces = []; ended = Unfinished }
+on_cut react next (Bad reason) = record { pieces = []; ended = Stopped reason }
 
 -- of at most so many packets
 abbrev pub talk : {P S K R : Type 0} → (S → List ℕ → Cut P R) → (S → P → Reaction S K R) → (packets : ℕ) → S → List ℕ → Said K R
 talk packet react zero s bytes = record { pieces = []; ended = Unfinished }
-talk packet react (suc n) s bytes = hears (react s) (talk packet react n) (packet s bytes)
+talk packet react (suc n) s bytes = on_cut (react s) (talk packet react n) (packet s bytes)

@@ -5,7 +5,7 @@ ghost use Rattle.message_view.specs.Reading.{startup_of};
 ghost use Rattle.login_core.specs.Dialogue as login;
 ghost use Rattle.login_core.specs.Dialogue.{AtFirst, Asked};
 ghost use Rattle.login_core.specs.declared.steps.LoginStep.TheVariants.{Left};
-ghost use Rattle.login_core.specs.Logins.{ArrivesOnce, Begun, Decides, Fits, Hears, Arriving, IsBeforeArrival, Over, StartHeard, Turned, hearing_of, left_after, rows_under, verdict_of};
+ghost use Rattle.login_core.specs.Logins.{ArrivesOnce, Begun, Decides, Fits, AwaitsPacket, Arriving, IsBeforeArrival, Over, StartMeans, StepIs, awaiting_of, left_after, rows_under, verdict_of};
 
 use crate::laws::packets_grow;
 use crate::steps::{Failure, LoginStep, Question};
@@ -160,8 +160,8 @@ impl Rules {
     }
 
     /// A client's StartupMessage.
-    fn hear_start(&self, alloc: Global, text: &[u8]) -> (LoginStep, Place)
-        ensures heard { StartHeard (login.key_of (rows_under self.now) (startup_of text.now)) result.0 (hearing_of result.1) }
+    fn on_startup_message(&self, alloc: Global, text: &[u8]) -> (LoginStep, Place)
+        ensures means { StartMeans (login.key_of (rows_under self.now) (startup_of text.now)) result.0 (awaiting_of result.1) }
         ensures once { IsBeforeArrival result.0 }
     {
         match self.begin(alloc, text) {
@@ -173,14 +173,20 @@ impl Rules {
         }
     }
 
-    fn hear_first(&self, alloc: Global, held: &[u8], tls: bool, gss: bool) -> (LoginStep, Place)
-        requires { Fits (Hears (AtFirst tls gss)) held.now }
-        ensures turned { Turned (rows_under self.now) self.now.word (Hears (AtFirst tls gss)) held.now result.0 (hearing_of result.1) (left_after result.0 held.now) }
-        ensures once { ArrivesOnce (Hears (AtFirst tls gss)) result.0 }
+    fn on_first_packet(
+        &self,
+        alloc: Global,
+        held: &[u8],
+        tls: bool,
+        gss: bool,
+    ) -> (LoginStep, Place)
+        requires { Fits (AwaitsPacket (AtFirst tls gss)) held.now }
+        ensures step { StepIs (rows_under self.now) self.now.word (AwaitsPacket (AtFirst tls gss)) held.now result.0 (awaiting_of result.1) (left_after result.0 held.now) }
+        ensures once { ArrivesOnce (AwaitsPacket (AtFirst tls gss)) result.0 }
     {
         packets_grow();
         match first_packet(held) {
-            FirstStep::Startup(text) => self.hear_start(alloc, text),
+            FirstStep::Startup(text) => self.on_startup_message(alloc, text),
             FirstStep::Cancel { .. } => (LoginStep::Left, Place::Over),
             FirstStep::Tls => {
                 if tls {
@@ -214,7 +220,7 @@ impl Rules {
     /// The client has arrived, and is asked, or judged at once.
     fn go_on(&self, key: Arc<StartKey>) -> (LoginStep, Place)
         ensures once { ArrivesOnce (Arriving (arc_value key)) result.0 }
-        ensures turned { Turned (rows_under self.now) self.now.word (Arriving (arc_value key)) [] result.0 (hearing_of result.1) [] }
+        ensures step { StepIs (rows_under self.now) self.now.word (Arriving (arc_value key)) [] result.0 (awaiting_of result.1) [] }
     {
         match self.auth_type(&key) {
             AuthType::Trust => (self.judged(key, b""), Place::Over),
@@ -226,10 +232,10 @@ impl Rules {
         }
     }
 
-    fn hear_answer(&self, held: &[u8], key: Arc<StartKey>) -> (LoginStep, Place)
-        requires { Fits (Hears (Asked (arc_value key))) held.now }
-        ensures turned { Turned (rows_under self.now) self.now.word (Hears (Asked (arc_value key))) held.now result.0 (hearing_of result.1) (left_after result.0 held.now) }
-        ensures once { ArrivesOnce (Hears (Asked (arc_value key))) result.0 }
+    fn on_password_message(&self, held: &[u8], key: Arc<StartKey>) -> (LoginStep, Place)
+        requires { Fits (AwaitsPacket (Asked (arc_value key))) held.now }
+        ensures step { StepIs (rows_under self.now) self.now.word (AwaitsPacket (Asked (arc_value key))) held.now result.0 (awaiting_of result.1) (left_after result.0 held.now) }
+        ensures once { ArrivesOnce (AwaitsPacket (Asked (arc_value key))) result.0 }
     {
         packets_grow();
         let frame = match next_frame(held, 0, LONGEST_MESSAGE, Side::Client) {
@@ -262,15 +268,15 @@ impl Rules {
 
     /// One step from what is held, and the place that it leads to.
     pub(crate) fn turn(&self, alloc: Global, held: &[u8], place: Place) -> (LoginStep, Place)
-        requires { Fits (hearing_of place) held.now }
-        ensures turned { Turned (rows_under self.now) self.now.word (hearing_of place) held.now result.0 (hearing_of result.1) (left_after result.0 held.now) }
-        ensures once { ArrivesOnce (hearing_of place) result.0 }
-        ensures over { hearing_of place ≡ Over → result.0 ≡ Left }
+        requires { Fits (awaiting_of place) held.now }
+        ensures step { StepIs (rows_under self.now) self.now.word (awaiting_of place) held.now result.0 (awaiting_of result.1) (left_after result.0 held.now) }
+        ensures once { ArrivesOnce (awaiting_of place) result.0 }
+        ensures over { awaiting_of place ≡ Over → result.0 ≡ Left }
     {
         match place {
-            Place::First { tls, gss } => self.hear_first(alloc, held, tls, gss),
+            Place::First { tls, gss } => self.on_first_packet(alloc, held, tls, gss),
             Place::Arriving(key) => self.go_on(key),
-            Place::Asked(key) => self.hear_answer(held, key),
+            Place::Asked(key) => self.on_password_message(held, key),
             Place::Over => (LoginStep::Left, Place::Over),
         }
     }

@@ -2,7 +2,7 @@
 ghost use Rattle.std.specs.Prelude.{◌≡◌, ◌<◌, ◌≤◌, ◌+◌, ◌++◌, [], length, take, min, IfOk, false};
 ghost use Rattle.std.specs.Arc.{arc_value};
 ghost use Rattle.login_core.specs.Dialogue.{AtFirst};
-ghost use Rattle.login_core.specs.Logins.{ArrivesOnce, Heard, Hears, Over, hearing_of, login_view, missing, with_held};
+ghost use Rattle.login_core.specs.Logins.{ArrivesOnce, StepMeans, AwaitsPacket, Over, awaiting_of, login_view, missing, with_held};
 ghost use Rattle.login_core.specs.declared.steps.LoginStep.TheVariants.{Left};
 
 use crate::dialogue::{LONGEST_MESSAGE, Place, Rules};
@@ -34,24 +34,24 @@ pub struct Login {
 impl Model for Login {
     ghost use Rattle.std.specs.Prelude.{◌≤◌, ◌+◌, length};
     ghost use Rattle.std.specs.Arc.{arc_value};
-    ghost use Rattle.login_core.specs.Logins.{LoginView, login_view, hearing_of, Fits};
+    ghost use Rattle.login_core.specs.Logins.{LoginView, login_view, awaiting_of, Fits};
 
     ghost Value = { LoginView };
 
-    ghost view = { λ l. login_view (arc_value l.rules.settings) (arc_value l.rules.users) l.rules.word (hearing_of l.place) l.held.items };
+    ghost view = { λ l. login_view (arc_value l.rules.settings) (arc_value l.rules.users) l.rules.word (awaiting_of l.place) l.held.items };
 
-    ghost invariant = { λ l. Fits (hearing_of l.place) l.held.items × (10001 ≤ length l.held.items + l.held.spare) };
+    ghost invariant = { λ l. Fits (awaiting_of l.place) l.held.items × (10001 ≤ length l.held.items + l.held.spare) };
 }
 
 impl Login {
-    /// A login that has taken no byte. Its buffer, of 10,001 bytes, is reserved here; the only error is want of memory.
+    /// A login that has taken no byte. Its buffer, of 10,001 bytes, is reserved here; the only error is that an allocation failed.
     pub fn new(
         alloc: Global,
         settings: Arc<Settings>,
         users: Arc<Users>,
         word: KeyWord,
     ) -> Result<Login, AllocError>
-        ensures { IfOk result (λ l. l ≡ login_view (arc_value settings) (arc_value users) word (Hears (AtFirst false false)) []) }
+        ensures { IfOk result (λ l. l ≡ login_view (arc_value settings) (arc_value users) word (AwaitsPacket (AtFirst false false)) []) }
     {
         Ok(Login {
             rules: Rules {
@@ -84,7 +84,7 @@ impl Login {
     /// The bytes that are known to be missing from the packet that it waits for: at least one after `new`,
     /// [`LoginStep::More`] and [`LoginStep::Ask`], and never past the packet; 0 else.
     pub fn wants(&self) -> usize
-        ensures { result ≡ missing self.now.hearing self.now.held }
+        ensures { result ≡ missing self.now.awaiting self.now.held }
     {
         match &self.place {
             Place::First { .. } => match first_packet(self.held.as_slice()) {
@@ -106,7 +106,7 @@ impl Login {
 
     /// Takes what is known to be missing, as far as it is there.
     fn take_in(&mut self, piece: &[u8]) -> usize
-        ensures used { result ≡ min (missing self.old.hearing self.old.held) (length piece.now) }
+        ensures used { result ≡ min (missing self.old.awaiting self.old.held) (length piece.now) }
         ensures held { self.new ≡ with_held self.old (self.old.held ++ take result piece.now) }
     {
         packets_grow();
@@ -116,9 +116,9 @@ impl Login {
     }
 
     fn turn(&mut self, alloc: Global) -> LoginStep
-        ensures heard { Heard self.old [] result self.new }
-        ensures once { ArrivesOnce self.old.hearing result }
-        ensures over { self.old.hearing ≡ Over → result ≡ Left }
+        ensures means { StepMeans self.old [] result self.new }
+        ensures once { ArrivesOnce self.old.awaiting result }
+        ensures over { self.old.awaiting ≡ Over → result ≡ Left }
     {
         let place = mem::replace(&mut self.place, Place::Over);
         let (step, next) = self.rules.turn(alloc, self.held.as_slice(), place);
@@ -136,10 +136,10 @@ impl Login {
     /// [`LoginStep::Refused`], [`LoginStep::Failed`] and [`LoginStep::Left`] it takes none and answers [`LoginStep::Left`].
     /// Want of memory is refused as [`message_view::Refusal::OutOfMemory`], and comes only where a start key is made.
     pub fn on_bytes(&mut self, alloc: Global, piece: &[u8]) -> (usize, LoginStep)
-        ensures used { result.0 ≡ min (missing self.old.hearing self.old.held) (length piece.now) }
-        ensures heard { Heard self.old (take result.0 piece.now) result.1 self.new }
-        ensures once { ArrivesOnce self.old.hearing result.1 }
-        ensures over { self.old.hearing ≡ Over → (result.0 ≡ 0) × (result.1 ≡ Left) }
+        ensures used { result.0 ≡ min (missing self.old.awaiting self.old.held) (length piece.now) }
+        ensures means { StepMeans self.old (take result.0 piece.now) result.1 self.new }
+        ensures once { ArrivesOnce self.old.awaiting result.1 }
+        ensures over { self.old.awaiting ≡ Over → (result.0 ≡ 0) × (result.1 ≡ Left) }
     {
         let used = self.take_in(piece);
         (used, self.turn(alloc))

@@ -21,7 +21,7 @@ use Rattle.key_laws.proofs.ByName.{pairs_are_lawful}
 use Rattle.key_laws.proofs.Choices.{choose}
 use Rattle.start_key_laws.specs.StartKeys.{IsLawfulRow}
 use Rattle.start_key_laws.proofs.ByName.{start_keys_are_client_keys}
-use Rattle.login_core.specs.Talk.{Cut, End, Said, follow, hears, talk}
+use Rattle.login_core.specs.Talk.{Cut, End, Said, follow, on_cut, talk}
 use Rattle.login_core.specs.Talk.Cut.{Whole, Need, Bad}
 use Rattle.login_core.specs.Talk.Reaction.{Goes, Passes, Stops}
 use Rattle.login_core.specs.Talk.End.{Unfinished, Passed, Stopped}
@@ -227,16 +227,16 @@ module _ (rows : Rows) where
   follow-lawful rest next (Passes pieces way) f h = h
   follow-lawful rest next (Stops pieces reason) f h = tt
 
-  hears-lawful : (react : Packet → Reacts) (next : Stage → List ℕ → Said Way Reason) (c : Cut Packet Reason) → ((p : Packet) → IsLawfulPacket p → IsLawfulReaction (react p)) →
-      ((stage : Stage) (bytes : List ℕ) → IsLawfulStage stage → IsLawfulEnd (next stage bytes).ended) → IsLawfulCut c → IsLawfulEnd (hears react next c).ended
-  hears-lawful react next (Whole p rest) f g h = follow-lawful rest (λ s. next s rest) (react p) (λ s k. g s rest k) (f p h)
-  hears-lawful react next (Need n) f g h = tt
-  hears-lawful react next (Bad reason) f g h = tt
+  on_cut-lawful : (react : Packet → Reacts) (next : Stage → List ℕ → Said Way Reason) (c : Cut Packet Reason) → ((p : Packet) → IsLawfulPacket p → IsLawfulReaction (react p)) →
+      ((stage : Stage) (bytes : List ℕ) → IsLawfulStage stage → IsLawfulEnd (next stage bytes).ended) → IsLawfulCut c → IsLawfulEnd (on_cut react next c).ended
+  on_cut-lawful react next (Whole p rest) f g h = follow-lawful rest (λ s. next s rest) (react p) (λ s k. g s rest k) (f p h)
+  on_cut-lawful react next (Need n) f g h = tt
+  on_cut-lawful react next (Bad reason) f g h = tt
 
   talk-lawful : AreLawfulRows rows → (word : KeyWord) (n : ℕ) (stage : Stage) (bytes : List ℕ) → IsLawfulStage stage → IsLawfulEnd (talk packet (react rows word) n stage bytes).ended
   talk-lawful lawful word zero stage bytes h = tt
   talk-lawful lawful word (suc n) stage bytes h =
-      hears-lawful (react rows word stage) (talk packet (react rows word) n) (packet stage bytes) (λ p k. react-lawful lawful word stage p h k) (λ s b k. talk-lawful lawful word n s b k) (packet-lawful stage bytes)
+      on_cut-lawful (react rows word stage) (talk packet (react rows word) n) (packet stage bytes) (λ p k. react-lawful lawful word stage p h k) (λ s b k. talk-lawful lawful word n s b k) (packet-lawful stage bytes)
 
 passed-lawful : (rows : Rows) (word : KeyWord) (bytes left : List ℕ) (key : StartKeyOf) → AreLawfulRows rows → (login_among rows word bytes).ended ≡ Passed (ToLink key) left → IsLawfulEnd rows (Passed (ToLink key) left)
 passed-lawful rows word bytes left key lawful e = subst (IsLawfulEnd rows) e (talk-lawful rows lawful word 4 (AtFirst false false) bytes tt)

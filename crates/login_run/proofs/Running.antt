@@ -16,7 +16,7 @@ use Rattle.login_core.specs.declared.steps.LoginStep.TheVariants as step
 use Rattle.login_core.specs.Talk.{End}
 use Rattle.login_core.specs.Talk.End.{Stopped as StoppedFor}
 use Rattle.login_core.specs.Dialogue.{Rows, Dialogue, Way, Reason, Refused as RefusedBy, AtFirst, row_in, login_among}
-use Rattle.login_core.specs.Logins.{Hearing, Hears, Arriving, LoginView, login_view, rows_of, goes_on, Tells, Heard, missing}
+use Rattle.login_core.specs.Logins.{Awaiting, AwaitsPacket, Arriving, LoginView, login_view, rows_of, goes_on, Tells, StepMeans, missing}
 use Rattle.login_core.specs.Laws.{waits, arrived, asks, NewTells, StepsTell, StepsSay}
 use Rattle.login_run.specs.declared.said.Said.{Said}
 use Rattle.login_run.specs.declared.said.Said.TheVariants as said
@@ -55,31 +55,31 @@ stands_begun Gone s v taken pieces h = h
 
 -- ---- a step of the login
 
-rows_same : (old new : LoginView) (bytes : List ℕ) (s : LoginStep) → Heard old bytes s new → rows_of old ≡ rows_of new
+rows_same : (old new : LoginView) (bytes : List ℕ) (s : LoginStep) → StepMeans old bytes s new → rows_of old ≡ rows_of new
 rows_same old new bytes s h = ap₂ row_in (sym h.settings) (sym h.users)
 
-ended_on : (old new : LoginView) (bytes taken : List ℕ) (pieces : List (List ℕ)) (ended : List ℕ → End Way Reason) (s : LoginStep) → Heard old bytes s new → HasEnded (rows_of old) old.word taken pieces ended → HasEnded (rows_of new) new.word taken pieces ended
+ended_on : (old new : LoginView) (bytes taken : List ℕ) (pieces : List (List ℕ)) (ended : List ℕ → End Way Reason) (s : LoginStep) → StepMeans old bytes s new → HasEnded (rows_of old) old.word taken pieces ended → HasEnded (rows_of new) new.word taken pieces ended
 ended_on old new bytes taken pieces ended s h x =
     subst (λ (w : KeyWord). HasEnded (rows_of new) w taken pieces ended) (sym h.word)
     (subst (λ (r : Rows). HasEnded r old.word taken pieces ended) (rows_same old new bytes s h) x)
 
-begun_on : (old new : LoginView) (bytes taken : List ℕ) (pieces : List (List ℕ)) (s : LoginStep) → Heard old bytes s new → IsBegun (rows_of old) old.word taken pieces → IsBegun (rows_of new) new.word taken pieces
+begun_on : (old new : LoginView) (bytes taken : List ℕ) (pieces : List (List ℕ)) (s : LoginStep) → StepMeans old bytes s new → IsBegun (rows_of old) old.word taken pieces → IsBegun (rows_of new) new.word taken pieces
 begun_on old new bytes taken pieces s h x =
     subst (λ (w : KeyWord). IsBegun (rows_of new) w taken pieces) (sym h.word)
     (subst (λ (r : Rows). IsBegun r old.word taken pieces) (rows_same old new bytes s h) x)
 
 -- it told these pieces, and nothing more
-begun_still : (old new : LoginView) (taken bytes : List ℕ) (done : List (List ℕ)) (s : LoginStep) → Tells old taken done → Heard old bytes s new → IsBegun (rows_of new) new.word (taken ++ bytes) (done ++ [])
+begun_still : (old new : LoginView) (taken bytes : List ℕ) (done : List (List ℕ)) (s : LoginStep) → Tells old taken done → StepMeans old bytes s new → IsBegun (rows_of new) new.word (taken ++ bytes) (done ++ [])
 begun_still old new taken bytes done s t h =
     begun_on old new bytes (taken ++ bytes) (done ++ []) s h
     (subst (λ (ps : List (List ℕ)). IsBegun (rows_of old) old.word (taken ++ bytes) ps) (sym (append-nil done)) (begun_more (rows_of old) old.word taken bytes done (tells_begun old taken done t)))
 
-refused_stands : (old new : LoginView) (taken bytes : List ℕ) (done : List (List ℕ)) (r : Refusal) (K : Type 0) → Tells old taken done → Heard old bytes (step.Refused r) new
+refused_stands : (old new : LoginView) (taken bytes : List ℕ) (done : List (List ℕ)) (r : Refusal) (K : Type 0) → Tells old taken done → StepMeans old bytes (step.Refused r) new
     → (HasEnded (rows_of old) old.word (taken ++ bytes) (done ++ []) (λ more. StoppedFor (RefusedBy r)) ⊎ ((r ≡ OutOfMemory) × K)) → IsStopped (rows_of new) new.word (taken ++ bytes) (done ++ []) (said.Refusal r)
 refused_stands old new taken bytes done r K t h (inl x) = inl (ended_on old new bytes (taken ++ bytes) (done ++ []) _ (step.Refused r) h x)
 refused_stands old new taken bytes done r K t h (inr x) = inr (x.0, begun_still old new taken bytes done (step.Refused r) t h)
 
-pub heard_stands : StepsTell → StepsSay → (old new : LoginView) (taken bytes : List ℕ) (done : List (List ℕ)) (s : LoginStep) → Tells old taken done → Heard old bytes s new
+pub heard_stands : StepsTell → StepsSay → (old new : LoginView) (taken bytes : List ℕ) (done : List (List ℕ)) (s : LoginStep) → Tells old taken done → StepMeans old bytes s new
     → StandsAt (phase_after s) (said_after s) new (taken ++ bytes) (done ++ said_pieces (said_after s))
 heard_stands tell say old new taken bytes done step.More t h = tell old new taken bytes done step.More waits t h
 heard_stands tell say old new taken bytes done (step.Ask q) t h = tell old new taken bytes done (step.Ask q) (asks q) t h
@@ -90,13 +90,13 @@ heard_stands tell say old new taken bytes done (step.Refused r) t h = refused_st
 heard_stands tell say old new taken bytes done (step.Failed f) t h = ended_on old new bytes (taken ++ bytes) _ _ (step.Failed f) h (say old new taken bytes done (step.Failed f) t h)
 heard_stands tell say old new taken bytes done step.Left t h = ended_on old new bytes (taken ++ bytes) _ _ step.Left h (say old new taken bytes done step.Left t h)
 
-arriving : (h : Hearing) (key : _) → h ≡ Arriving key → IsArriving h
+arriving : (h : Awaiting) (key : _) → h ≡ Arriving key → IsArriving h
 arriving h key e = subst IsArriving (sym e) tt
 
-pub heard_awaits : (old new : LoginView) (bytes : List ℕ) (s : LoginStep) → Heard old bytes s new → Awaits (phase_after s) (said_after s) new
+pub heard_awaits : (old new : LoginView) (bytes : List ℕ) (s : LoginStep) → StepMeans old bytes s new → Awaits (phase_after s) (said_after s) new
 heard_awaits old new bytes step.More h = (tt, h.leads)
 heard_awaits old new bytes (step.Ask q) h = (tt, h.leads)
-heard_awaits old new bytes (step.Arrived key) h = (tt, arriving new.hearing _ h.leads)
+heard_awaits old new bytes (step.Arrived key) h = (tt, arriving new.awaiting _ h.leads)
 heard_awaits old new bytes (step.Passed key) h = tt
 heard_awaits old new bytes step.Console h = tt
 heard_awaits old new bytes (step.Refused r) h = tt
@@ -122,13 +122,13 @@ settled given done s sent p n g =
 -- ---- the calls
 
 -- the client's bytes at a new login
-new_tells : NewTells → (v : LoginView) → v.hearing ≡ Hears (AtFirst false false) → v.held ≡ [] → Tells v [] []
-new_tells law v h e = subst (λ (x : LoginView). Tells x [] []) (ap₂ (λ (x : Hearing) (l : List ℕ). login_view v.settings v.users v.word x l) (sym h) (sym e)) (law v.settings v.users v.word)
+new_tells : NewTells → (v : LoginView) → v.awaiting ≡ AwaitsPacket (AtFirst false false) → v.held ≡ [] → Tells v [] []
+new_tells law v h e = subst (λ (x : LoginView). Tells x [] []) (ap₂ (λ (x : Awaiting) (l : List ℕ). login_view v.settings v.users v.word x l) (sym h) (sym e)) (law v.settings v.users v.word)
 
-new_awaits : (v : LoginView) → v.hearing ≡ Hears (AtFirst false false) → v.held ≡ [] → 0 < missing v.hearing v.held
-new_awaits v h e = subst (λ (x : Hearing). 0 < missing x v.held) (sym h) (subst (λ (l : List ℕ). 0 < missing (Hears (AtFirst false false)) l) (sym e) (omega arith))
+new_awaits : (v : LoginView) → v.awaiting ≡ AwaitsPacket (AtFirst false false) → v.held ≡ [] → 0 < missing v.awaiting v.held
+new_awaits v h e = subst (λ (x : Awaiting). 0 < missing x v.held) (sym h) (subst (λ (l : List ℕ). 0 < missing (AwaitsPacket (AtFirst false false)) l) (sym e) (omega arith))
 
-pub new_run : NewTells → (c : ClientFacts) (v : LoginView) → v.hearing ≡ Hears (AtFirst false false) → v.held ≡ [] → (c.tells ≡ true → c.taken ≡ []) → (c.tells ≡ true → c.given ≡ []) → IsRun (run_view c v Talking said.Nothing 0)
+pub new_run : NewTells → (c : ClientFacts) (v : LoginView) → v.awaiting ≡ AwaitsPacket (AtFirst false false) → v.held ≡ [] → (c.tells ≡ true → c.taken ≡ []) → (c.tells ≡ true → c.given ≡ []) → IsRun (run_view c v Talking said.Nothing 0)
 new_run law c v h e t g = (omega arith, (tt, new_awaits v h e), record { heard = []; done = []; stands = new_tells law v h e; taken = t; given = g })
 
 -- ---- a write
@@ -216,7 +216,7 @@ read_last c d v p s sent w bytes m e t n o k x =
     gone_run d v Talking said.Nothing 0 (idle_run c d v s sent m (all_given c v p s sent w e n) (subst (λ (l : List ℕ). ClientReads c d l m) (none_moved m bytes o) k) (talks c v p s sent w e t x))
 
 -- bytes that a login heard, which had told these pieces
-heard_runs : StepsTell → StepsSay → (c d : ClientFacts) (v w : LoginView) (s : Said) (sent : ℕ) (got : List ℕ) (step : LoginStep) (heard : List ℕ) (done : List (List ℕ)) → Tells v heard (done ++ said_pieces s) → Heard v got step w
+heard_runs : StepsTell → StepsSay → (c d : ClientFacts) (v w : LoginView) (s : Said) (sent : ℕ) (got : List ℕ) (step : LoginStep) (heard : List ℕ) (done : List (List ℕ)) → Tells v heard (done ++ said_pieces s) → StepMeans v got step w
     → (d.tells ≡ true → d.taken ≡ heard ++ got) → (d.tells ≡ true → d.given ≡ joined_pieces (done ++ said_pieces s)) → Runs (run_view d w (phase_after step) (said_after step) 0)
 heard_runs tell say c d v w s sent got step heard done t h taken given = record {
   heard = heard ++ got;
@@ -226,7 +226,7 @@ heard_runs tell say c d v w s sent got step heard done t h taken given = record 
   given = λ tells. given tells ∙ sym (append-nil (joined_pieces (done ++ said_pieces s)));
 }
 
-read_on : StepsTell → StepsSay → (c d : ClientFacts) (v w : LoginView) (s : Said) (sent : ℕ) (got : List ℕ) (m : Moved) (step : LoginStep) → sent ≡ length (said_bytes s) → ClientReads c d got m → Heard v got step w → IsRun (run_view c v Talking s sent)
+read_on : StepsTell → StepsSay → (c d : ClientFacts) (v w : LoginView) (s : Said) (sent : ℕ) (got : List ℕ) (m : Moved) (step : LoginStep) → sent ≡ length (said_bytes s) → ClientReads c d got m → StepMeans v got step w → IsRun (run_view c v Talking s sent)
     → IsRun (run_view d w (phase_after step) (said_after step) 0)
 read_on tell say c d v w s sent got m step n k h x = (
   omega arith,
@@ -240,9 +240,9 @@ after_step : (c : ClientFacts) (v : LoginView) (step : LoginStep) (p : PhaseOf) 
 after_step c v step p s e f x = rw (e, f) x
 
 pub read_some : StepsTell → StepsSay → (c d : ClientFacts) (v w : LoginView) (p : PhaseOf) (s : Said) (sent : ℕ) (u : RunView) (got heard : List ℕ) (m : Moved) (step : LoginStep) (q : PhaseOf) (r : Said) → run_view c v p s sent ≡ u → u.phase ≡ Talking → IsAllGiven u
-    → q ≡ phase_after step → r ≡ said_after step → heard ≡ got → ClientReads c d got m → Heard v heard step w → IsRun (run_view c v p s sent) → IsRun (run_view d w q r 0)
+    → q ≡ phase_after step → r ≡ said_after step → heard ≡ got → ClientReads c d got m → StepMeans v heard step w → IsRun (run_view c v p s sent) → IsRun (run_view d w q r 0)
 read_some tell say c d v w p s sent u got heard m step q r e t n eq er same k h x =
-    after_step d w step q r eq er (read_on tell say c d v w s sent got m step (all_given c v p s sent u e n) k (subst (λ (l : List ℕ). Heard v l step w) same h) (talks c v p s sent u e t x))
+    after_step d w step q r eq er (read_on tell say c d v w s sent got m step (all_given c v p s sent u e n) k (subst (λ (l : List ℕ). StepMeans v l step w) same h) (talks c v p s sent u e t x))
 
 -- no more is read than the login waits for, so it takes all
 pub all_used : (used count missing : ℕ) (chunk : List ℕ) → used ≡ min missing (length (take count chunk)) → count ≤ missing → take used (take count chunk) ≡ take count chunk
@@ -253,7 +253,7 @@ all_used used count missing chunk e l = take_all used (take count chunk) (omega 
 arrives : (c : ClientFacts) (v : LoginView) (p : PhaseOf) (s : Said) (sent : ℕ) (w : RunView) → run_view c v p s sent ≡ w → w.phase ≡ Arrived → IsRun (run_view c v p s sent) → IsRun (run_view c v Arrived s sent)
 arrives c v p s sent w e t x = subst (λ (q : PhaseOf). IsRun (run_view c v q s sent)) (ap (λ (y : RunView). y.phase) e ∙ t) x
 
-go_on : StepsTell → StepsSay → (c : ClientFacts) (v w : LoginView) (s : Said) (sent : ℕ) (step : LoginStep) → sent ≡ length (said_bytes s) → Heard v [] step w → IsRun (run_view c v Arrived s sent) → IsRun (run_view c w (phase_after step) (said_after step) 0)
+go_on : StepsTell → StepsSay → (c : ClientFacts) (v w : LoginView) (s : Said) (sent : ℕ) (step : LoginStep) → sent ≡ length (said_bytes s) → StepMeans v [] step w → IsRun (run_view c v Arrived s sent) → IsRun (run_view c w (phase_after step) (said_after step) 0)
 go_on tell say c v w s sent step n h x = (
   omega arith,
   heard_awaits v w [] step h,
@@ -265,10 +265,10 @@ go_on tell say c v w s sent step n h x = (
 nothing_of : (n : ℕ) → take {A = ℕ} n [] ≡ []
 nothing_of n = take_all {A = ℕ} n [] (omega arith)
 
-pub went_on : StepsTell → StepsSay → (c : ClientFacts) (v w : LoginView) (p : PhaseOf) (s : Said) (sent used : ℕ) (u : RunView) (step : LoginStep) (q : PhaseOf) (r : Said) → run_view c v p s sent ≡ u → u.phase ≡ Arrived → IsAllGiven u → q ≡ phase_after step → r ≡ said_after step → Heard v (take used []) step w
+pub went_on : StepsTell → StepsSay → (c : ClientFacts) (v w : LoginView) (p : PhaseOf) (s : Said) (sent used : ℕ) (u : RunView) (step : LoginStep) (q : PhaseOf) (r : Said) → run_view c v p s sent ≡ u → u.phase ≡ Arrived → IsAllGiven u → q ≡ phase_after step → r ≡ said_after step → StepMeans v (take used []) step w
     → IsRun (run_view c v p s sent) → IsRun (run_view c w q r 0)
 went_on tell say c v w p s sent used u step q r e t n eq er h x =
-    after_step c w step q r eq er (go_on tell say c v w s sent step (all_given c v p s sent u e n) (subst (λ (l : List ℕ). Heard v l step w) (nothing_of used) h) (arrives c v p s sent u e t x))
+    after_step c w step q r eq er (go_on tell say c v w s sent step (all_given c v p s sent u e n) (subst (λ (l : List ℕ). StepMeans v l step w) (nothing_of used) h) (arrives c v p s sent u e t x))
 
 refused_on : (c : ClientFacts) (v : LoginView) (s : Said) (sent : ℕ) (r : Refusal) → sent ≡ length (said_bytes s) → IsRun (run_view c v Arrived s sent) → IsRun (run_view c v Refused (said.Refusal r) 0)
 refused_on c v s sent r n x = (

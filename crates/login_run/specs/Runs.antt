@@ -12,7 +12,7 @@ use Rattle.login_core.specs.declared.steps.LoginStep.TheVariants as step
 use Rattle.login_core.specs.Talk.{End}
 use Rattle.login_core.specs.Talk.End.{Passed as PassedWith, Stopped as StoppedFor}
 use Rattle.login_core.specs.Dialogue.{Rows, Way, ToLink, ToConsole, Reason, Refused as RefusedBy, Failed, Left, ok, login_among}
-use Rattle.login_core.specs.Logins.{Hearing, Arriving, LoginView, rows_of, Tells, missing, question_bytes, failure_bytes}
+use Rattle.login_core.specs.Logins.{Awaiting, Arriving, LoginView, rows_of, Tells, missing, question_bytes, failure_bytes}
 use Rattle.login_run.specs.declared.said.Said.{Said}
 use Rattle.login_run.specs.declared.said.Said.TheVariants as said
 use Rattle.login_run.specs.declared.run.Phase.{Phase}
@@ -134,14 +134,14 @@ pub record Runs (v : RunView) : Type 0 where
   pub taken : v.client.tells ≡ true → v.client.taken ≡ heard
   pub given : v.client.tells ≡ true → v.client.given ≡ joined_pieces done ++ take v.sent (said_bytes v.said)
 
-abbrev pub IsArriving : Hearing → Type 0
+abbrev pub IsArriving : Awaiting → Type 0
 IsArriving (Arriving key) = Unit {0}
 IsArriving _ = ⊥
 
 -- what a phase says of the login
 abbrev pub Awaits : PhaseOf → Said → LoginView → Type 0
-Awaits Talking s v = IsPiece s × (0 < missing v.hearing v.held)
-Awaits Arrived s v = IsPiece s × IsArriving v.hearing
+Awaits Talking s v = IsPiece s × (0 < missing v.awaiting v.held)
+Awaits Arrived s v = IsPiece s × IsArriving v.awaiting
 Awaits (Passed key) s v = IsPiece s
 Awaits Console s v = IsPiece s
 Awaits _ s v = Unit {0}

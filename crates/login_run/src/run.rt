@@ -3,7 +3,7 @@ ghost use Rattle.std.specs.Prelude.{◌≡◌, ◌<◌, ◌≤◌, [], drop, len
 ghost use Rattle.std.specs.Arc.{arc_value};
 ghost use Rattle.server_end.specs.Moves.{ClientReads, IsWithin, moved};
 ghost use Rattle.login_core.specs.Dialogue.{AtFirst};
-ghost use Rattle.login_core.specs.Logins.{Hears};
+ghost use Rattle.login_core.specs.Logins.{AwaitsPacket};
 ghost use Rattle.login_run.specs.declared.said.Said.TheVariants as said;
 ghost use Rattle.login_run.specs.Runs as spec;
 ghost use Rattle.login_run.specs.Runs.{IsRun, IsSameLogin, IsAllGiven, HasTurned, HasRead, HasWritten, said_bytes};
@@ -118,7 +118,7 @@ fn read_at_most<C: ClientEnd>(client: &mut C, into: &mut [u8], wanted: usize) ->
 impl<C: ClientEnd> LoginRun<C> {
     /// A login over this end. Where the client tells, no byte was taken from it or given to it; the login has taken none.
     pub fn new(client: C, login: Login) -> LoginRun<C>
-        requires hearing { login.hearing ≡ Hears (AtFirst false false) }
+        requires awaiting { login.awaiting ≡ AwaitsPacket (AtFirst false false) }
         requires held { login.held ≡ [] }
         requires taken { (C.facts client).tells ≡ true → (C.facts client).taken ≡ [] }
         requires given { (C.facts client).tells ≡ true → (C.facts client).given ≡ [] }

@@ -6,7 +6,7 @@ ghost use Rattle.ini_config.specs.Bounds.{AreWithinBounds};
 ghost use Rattle.lease_book.specs.Links.{IsTwice, handed};
 ghost use Rattle.link_start.specs.Starts.{IsLinkKey};
 ghost use Rattle.login_core.specs.Dialogue.{AtFirst};
-ghost use Rattle.login_core.specs.Logins.{Hears, login_view};
+ghost use Rattle.login_core.specs.Logins.{AwaitsPacket, login_view};
 ghost use Rattle.memory_house.specs.Houses.{IsAtHome, IsBroughtHome, IsNewServer, IsServerOf, IsTaken, IsUnstarted, IsUntaken, house_of};
 
 use crate::answers::{Answer, Taken};
@@ -86,7 +86,7 @@ fn untaken(fault: StartLinkFault<MemoryServer>) -> Result<Taken, AllocError>
 }
 
 impl House {
-    /// A house without links. A call of an end moves at most `cut` bytes. The only error is want of memory.
+    /// A house without links. A call of an end moves at most `cut` bytes. The only error is that an allocation failed.
     pub fn new(
         alloc: Global,
         settings: Arc<Settings>,
@@ -135,7 +135,7 @@ impl House {
 
     /// A login of a client with this key word.
     pub fn login(&self, word: KeyWord) -> Result<Login, AllocError>
-        ensures { IfOk result (λ l. l ≡ login_view self.now.settings self.now.users word (Hears (AtFirst false false)) []) }
+        ensures { IfOk result (λ l. l ≡ login_view self.now.settings self.now.users word (AwaitsPacket (AtFirst false false)) []) }
     {
         let settings = Arc::try_clone(&self.settings)?;
         let users = Arc::try_clone(&self.users)?;
@@ -165,7 +165,7 @@ impl House {
     }
 
     /// The client of this number asks for a link of this key: it waits behind a number of others, or is refused. The only error is
-    /// want of memory.
+    /// an allocation that failed.
     pub fn ask(&mut self, client: u64, key: &Arc<StartKey>) -> Result<Answer, AllocError>
         ensures { self.new ≡ self.old }
     {
@@ -183,7 +183,7 @@ impl House {
         }
     }
 
-    /// The client of this number takes its link, if it may have one now. The only error is want of memory.
+    /// The client of this number takes its link, if it may have one now. The only error is that an allocation failed.
     pub fn take(&mut self, client: u64, key: &Arc<StartKey>) -> Result<Taken, AllocError>
         requires { IsLinkKey (arc_value key.now) }
         ensures same { self.new ≡ self.old }

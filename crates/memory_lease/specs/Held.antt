@@ -13,7 +13,7 @@ use Rattle.memory_lease.specs.Own.{IsMarked, OwnOf}
 use Rattle.memory_lease.specs.declared.alone.Ending.{Ending}
 use Rattle.memory_lease.specs.declared.alone.Ending.TheVariants.{Done, Refused, Cut}
 
--- the bytes that tell a client why its link wasn't started; want of memory tells nothing
+-- the bytes that tell a client why its link wasn't started; out of memory tells nothing
 abbrev pub TellsCause : StartCause → List ℕ → List ℕ → Type 0
 TellsCause (cause.Refused error) before after = after ≡ before ++ error
 TellsCause cause.Lost before after = after ≡ before ++ refusal ServerNotReached

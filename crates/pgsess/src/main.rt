@@ -121,7 +121,7 @@ fn status_after(done: &Result<(), AppFault<'_>>) -> u8
     }
 }
 
-/// The status that the program ends with where its words can't be had: 2 where one isn't UTF-8, 1 for want of memory.
+/// The status that the program ends with where its words can't be had: 2 where one isn't UTF-8, 1 where an allocation failed.
 fn status_without_words(kind: io::ErrorKind) -> u8
     ensures { result ≡ spec.status_without_words kind }
 {

@@ -13,7 +13,7 @@ use Rattle.login_core.specs.Talk.End.{Passed}
 use Rattle.login_core.specs.Dialogue.{Dialogue, Rows, AtFirst, ToLink, login_among, ok, row_in}
 use Rattle.login_core.specs.Laws.{GoesOn, given_by}
 use Rattle.login_core.specs.Laws.GoesOn.{waits, arrived, asks}
-use Rattle.login_core.specs.Logins.{Heard, Hears, LoginView, Tells, after, failure_bytes, goes_on, login_view, missing, question_bytes, rows_of as login_rows}
+use Rattle.login_core.specs.Logins.{StepMeans, AwaitsPacket, LoginView, Tells, after, failure_bytes, goes_on, login_view, missing, question_bytes, rows_of as login_rows}
 use Rattle.login_core.proofs.Telling.{new_tells, steps_say, steps_tell}
 use Rattle.ini_config.specs.Bounds.{AreWithinBounds}
 use Rattle.link_start.specs.Starts.{IsLinkKey as IsStartKey}
@@ -56,7 +56,7 @@ waits_piece h word c key x = login_piece h word c _ x.pieces [] (passed_at h wor
 -- ---- the steps
 
 -- the first
-pub new_logs_in : (h : HouseOf) (word : KeyWord) (input : List ℕ) → LogsIn h word (new_client input) (login_view h.settings h.users word (Hears (AtFirst Rattle.std.specs.Prelude.false Rattle.std.specs.Prelude.false)) [])
+pub new_logs_in : (h : HouseOf) (word : KeyWord) (input : List ℕ) → LogsIn h word (new_client input) (login_view h.settings h.users word (AwaitsPacket (AtFirst Rattle.std.specs.Prelude.false Rattle.std.specs.Prelude.false)) [])
 new_logs_in h word input = record {
   settings = refl;
   users = refl;
@@ -66,13 +66,13 @@ new_logs_in h word input = record {
   given = refl;
 }
 
-pub first_at : (h : HouseOf) (word : KeyWord) (input : List ℕ) (c : ActClientOf) (l : LoginView) → c ≡ new_client input → l ≡ login_view h.settings h.users word (Hears (AtFirst Rattle.std.specs.Prelude.false Rattle.std.specs.Prelude.false)) [] → (c.input ≡ input) × LogsIn h word c l × (0 < missing l.hearing l.held)
+pub first_at : (h : HouseOf) (word : KeyWord) (input : List ℕ) (c : ActClientOf) (l : LoginView) → c ≡ new_client input → l ≡ login_view h.settings h.users word (AwaitsPacket (AtFirst Rattle.std.specs.Prelude.false Rattle.std.specs.Prelude.false)) [] → (c.input ≡ input) × LogsIn h word c l × (0 < missing l.awaiting l.held)
 first_at h word input c l e k =
-    subst (λ (d : ActClientOf). (d.input ≡ input) × LogsIn h word d l × (0 < missing l.hearing l.held)) (sym e)
-    (subst (λ (m : LoginView). (input ≡ input) × LogsIn h word (new_client input) m × (0 < missing m.hearing m.held)) (sym k) (refl, new_logs_in h word input, omega arith))
+    subst (λ (d : ActClientOf). (d.input ≡ input) × LogsIn h word d l × (0 < missing l.awaiting l.held)) (sym e)
+    (subst (λ (m : LoginView). (input ≡ input) × LogsIn h word (new_client input) m × (0 < missing m.awaiting m.held)) (sym k) (refl, new_logs_in h word input, omega arith))
 
 -- bytes were taken, and heard
-pub takes : (h : HouseOf) (word : KeyWord) (c d : ActClientOf) (s : LoginStep) (old new : LoginView) (bytes : List ℕ) → LogsIn h word c old → taken d ≡ taken c ++ bytes → d.given ≡ c.given → Heard old bytes s new → Steps h word d s new
+pub takes : (h : HouseOf) (word : KeyWord) (c d : ActClientOf) (s : LoginStep) (old new : LoginView) (bytes : List ℕ) → LogsIn h word c old → taken d ≡ taken c ++ bytes → d.given ≡ c.given → StepMeans old bytes s new → Steps h word d s new
 takes h word c d s old new bytes x t g k = record {
   old = old;
   settings = x.settings;
@@ -145,8 +145,8 @@ pub let_in_piece : (h : HouseOf) (word : KeyWord) (c : ActClientOf) (key : Start
 let_in_piece h word c key x = waits_piece h word (given_more c ok) key (let_in_waits h word c key x)
 
 -- a step after which the login waits for more
-pub more_at : (h : HouseOf) (word : KeyWord) (c d : ActClientOf) (l : LoginView) → Steps h word c step.More l → d ≡ c → (d.input ≡ c.input) × LogsIn h word d l × (0 < missing l.hearing l.held)
-more_at h word c d l x e = subst (λ (y : ActClientOf). (y.input ≡ c.input) × LogsIn h word y l × (0 < missing l.hearing l.held)) (sym e) (refl, goes_more h word c l x, x.heard.leads)
+pub more_at : (h : HouseOf) (word : KeyWord) (c d : ActClientOf) (l : LoginView) → Steps h word c step.More l → d ≡ c → (d.input ≡ c.input) × LogsIn h word d l × (0 < missing l.awaiting l.held)
+more_at h word c d l x e = subst (λ (y : ActClientOf). (y.input ≡ c.input) × LogsIn h word y l × (0 < missing l.awaiting l.held)) (sym e) (refl, goes_more h word c l x, x.heard.leads)
 
-pub asked_at : (h : HouseOf) (word : KeyWord) (c d : ActClientOf) (q : Question) (l : LoginView) → Steps h word c (step.Ask q) l → d ≡ given_more c (question_bytes q) → (d.input ≡ c.input) × LogsIn h word d l × (0 < missing l.hearing l.held)
-asked_at h word c d q l x e = subst (λ (y : ActClientOf). (y.input ≡ c.input) × LogsIn h word y l × (0 < missing l.hearing l.held)) (sym e) (refl, goes_asked h word c q l x, x.heard.leads)
+pub asked_at : (h : HouseOf) (word : KeyWord) (c d : ActClientOf) (q : Question) (l : LoginView) → Steps h word c (step.Ask q) l → d ≡ given_more c (question_bytes q) → (d.input ≡ c.input) × LogsIn h word d l × (0 < missing l.awaiting l.held)
+asked_at h word c d q l x e = subst (λ (y : ActClientOf). (y.input ≡ c.input) × LogsIn h word y l × (0 < missing l.awaiting l.held)) (sym e) (refl, goes_asked h word c q l x, x.heard.leads)

@@ -9,7 +9,7 @@ use Rattle.login_core.specs.declared.steps.LoginStep.{LoginStep}
 use Rattle.login_core.specs.Talk.End.{Passed}
 use Rattle.login_core.specs.Dialogue.{Rows, ToLink, login_among, ok, row_in}
 use Rattle.login_core.specs.Laws.{names_in, row_for}
-use Rattle.login_core.specs.Logins.{Heard, LoginView, Tells, missing}
+use Rattle.login_core.specs.Logins.{StepMeans, LoginView, Tells, missing}
 use Rattle.login_core.specs.Solo.{solo}
 use Rattle.relay_laws.specs.Leases.{IsLease, Place, RelayView}
 use Rattle.relay_steps.specs.Answers.{AtBorder}
@@ -64,7 +64,7 @@ pub record Steps (h : HouseOf) (word : KeyWord) (c : ActClientOf) (s : LoginStep
   pub taken_is : taken c ≡ before ++ bytes
   pub pieces : List (List ℕ)
   pub tells : Tells old before pieces
-  pub heard : Heard old bytes s l
+  pub heard : StepMeans old bytes s l
   pub given : c.given ≡ joined_pieces pieces
 
 -- whatever comes, these are the login's pieces, and it has passed with this key; what comes is left for the link
@@ -97,7 +97,7 @@ abbrev pub IsDone : HouseOf → KeyWord → ActClientOf → Type 0
 IsDone h word c = Allowed c.given (own h word c.input)
 
 abbrev pub IsAt : HouseOf → KeyWord → List ℕ → Stage → Type 0
-IsAt h word bytes (LoggingIn client login number) = (client.input ≡ bytes) × LogsIn h word client login × (0 < missing login.hearing login.held)
+IsAt h word bytes (LoggingIn client login number) = (client.input ≡ bytes) × LogsIn h word client login × (0 < missing login.awaiting login.held)
 IsAt h word bytes (Waiting client key number) = (client.input ≡ bytes) × Waits h word client (arc_value key)
 IsAt h word bytes (Served relay number) = IsServed h word bytes relay
 IsAt h word bytes (Closed client) = (client.input ≡ bytes) × IsDone h word client

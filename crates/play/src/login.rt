@@ -33,7 +33,7 @@ pub(crate) fn log_in<'a>(
     number: Option<u64>,
 ) -> Result<(Stage<'a>, bool), AllocError>
     requires logs_in { LogsIn house.old word client login }
-    requires missing { 0 < missing login.hearing login.held }
+    requires missing { 0 < missing login.awaiting login.held }
     ensures same { house.new ≡ house.old }
     ensures at { IfOk result (λ r. IsAt house.old word client.entry.input r.0) }
 {
@@ -42,7 +42,7 @@ pub(crate) fn log_in<'a>(
     match client.read(&mut chunk[..wanted]) {
         Moved::Count(count) => {
             let (_, step) = login.on_bytes(alloc, &chunk[..count]);
-            let stage = hear(alloc, house, word, client, login, number, step)?;
+            let stage = on_step(alloc, house, word, client, login, number, step)?;
             Ok((stage, true))
         }
         Moved::NotNow => Ok((
@@ -59,7 +59,7 @@ pub(crate) fn log_in<'a>(
 
 /// A step of the login. The client that arrives is let go on by the book, or turned away.
 #[tactic(auto, using(crate::proofs::Logins::steps_piece, crate::proofs::Pieces::piece_done, crate::proofs::Logins::goes_arrived, crate::proofs::Logins::takes))]
-fn hear<'a>(
+fn on_step<'a>(
     alloc: Global,
     house: &mut House,
     word: KeyWord,

@@ -47,7 +47,7 @@ impl<'a> Player<'a> {
         })
     }
 
-    /// One turn, and whether anything moved. The only error is want of memory.
+    /// One turn, and whether anything moved. The only error is that an allocation failed.
     pub(crate) fn turn(
         &mut self,
         alloc: Global,
@@ -78,7 +78,7 @@ impl<'a> Player<'a> {
         Ok(moved)
     }
 
-    /// What it was given, and the numbers of the links that it had; its turns are over. The only error is want of memory.
+    /// What it was given, and the numbers of the links that it had; its turns are over. The only error is that an allocation failed.
     pub(crate) fn finish(
         &mut self,
         alloc: Global,

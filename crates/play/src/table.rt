@@ -31,7 +31,7 @@ impl<'a> Model for Table<'a> {
     ghost invariant = { λ t. ArePlayers t.house t.scripts.now t.players.items };
 }
 
-/// The clients of these scripts, none of which has come. The only error is want of memory.
+/// The clients of these scripts, none of which has come. The only error is that an allocation failed.
 fn players<'a>(
     alloc: Global,
     house: &House,
@@ -47,7 +47,7 @@ fn players<'a>(
 }
 
 impl<'a> Table<'a> {
-    /// The clients of these scripts, none of which has come. The only error is want of memory.
+    /// The clients of these scripts, none of which has come. The only error is that an allocation failed.
     pub(crate) fn new(
         alloc: Global,
         house: House,
@@ -101,7 +101,7 @@ impl<'a> Table<'a> {
         self.scripts.get(at)
     }
 
-    /// Serves each client until nothing moves. The only error is want of memory.
+    /// Serves each client until nothing moves. The only error is that an allocation failed.
     pub(crate) fn serve(&mut self) -> Result<(), AllocError>
         ensures { self.new ≡ self.old }
     {
@@ -162,7 +162,7 @@ impl<'a> Table<'a> {
         players[at].finish(*alloc, house, script)
     }
 
-    /// What each client was given; their turns are over. The only error is want of memory.
+    /// What each client was given; their turns are over. The only error is that an allocation failed.
     pub(crate) fn finish(&mut self) -> Result<Vec<Given>, AllocError>
         ensures { IfOk result (λ v. AreAllowed self.old.house self.old.senders v.items) }
     {

@@ -73,7 +73,7 @@ fn line_fault(alloc: Global, code: &str, line: usize) -> Result<String, AllocErr
     Ok(text)
 }
 
-/// The line that tells a fault, without its end. The only error is want of memory.
+/// The line that tells a fault, without its end. The only error is that an allocation failed.
 pub fn fault_line(alloc: Global, fault: &AppFault<'_>) -> Result<String, AllocError>
     ensures { IfOk result (λ t. string_bytes t ≡ spec.fault_line fault.now) }
 {

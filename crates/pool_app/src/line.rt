@@ -37,14 +37,14 @@ pub enum Job<'a> {
 /// A command line that asks for no job: for help or the version, or a faulty one.
 #[derive(Debug, Drop)]
 pub enum LineFault {
-    /// What clap says: help, the version, a fault of the words, or want of memory.
+    /// What clap says: help, the version, a fault of the words, or that an allocation failed.
     Refused(Error),
     /// Words that clap accepts and that name no job.
     NoJob,
 }
 
 impl LineFault {
-    /// The status that the program ends with: 0 after help and the version, 1 for want of memory, 2 for every other fault.
+    /// The status that the program ends with: 0 after help and the version, 1 where an allocation failed, 2 for every other fault.
     pub fn status(&self) -> u8
         ensures { result ≡ spec.status self.now }
     {

@@ -3,7 +3,7 @@ ghost use Rattle.std.specs.Prelude.{◌≡◌, [], false, IfOk};
 ghost use Rattle.std.specs.Arc.{arc_value};
 ghost use Rattle.ini_config.specs.Bounds.{AreWithinBounds};
 ghost use Rattle.login_core.specs.Dialogue.{AtFirst};
-ghost use Rattle.login_core.specs.Logins.{Hears, login_view};
+ghost use Rattle.login_core.specs.Logins.{AwaitsPacket, login_view};
 ghost use Rattle.desk_tallies.specs.declared.passes.TheConstants.{ALL_PARTS};
 ghost use Rattle.desk_tallies.specs.Shares.{by_class, names_of, of_each, parts_of};
 
@@ -172,7 +172,7 @@ impl<R: Net, A: Ledger, G: Ledger, B: Ledger, L: Ledger, W: Ledger, O: Ledger> P
 
     /// The login of a client with this key word.
     fn login(&self, word: KeyWord) -> Result<Login, AllocError>
-        ensures login { IfOk result (λ l. l ≡ login_view self.now.settings (arc_value self.now.users) word (Hears (AtFirst false false)) []) }
+        ensures login { IfOk result (λ l. l ≡ login_view self.now.settings (arc_value self.now.users) word (AwaitsPacket (AtFirst false false)) []) }
         ensures bounds { AreWithinBounds self.now.settings }
     {
         let settings = self.settings.share()?;

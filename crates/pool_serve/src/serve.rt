@@ -3,7 +3,7 @@ ghost use Rattle.std.specs.Prelude.{◌≡◌, [], false, true};
 ghost use Rattle.ini_config.specs.Bounds.{AreWithinBounds};
 ghost use Rattle.message_view.specs.Refusals.{Allowed};
 ghost use Rattle.login_core.specs.Dialogue.{AtFirst};
-ghost use Rattle.login_core.specs.Logins.{Hears};
+ghost use Rattle.login_core.specs.Logins.{AwaitsPacket};
 ghost use Rattle.login_run.specs.Laws.{own};
 ghost use Rattle.login_run.specs.Runs.{Arrived, IsAllGiven, IsSameLogin};
 ghost use Rattle.pool_serve.specs.Serving.{HasStopped, LetsIn, MayEnd};
@@ -144,7 +144,7 @@ pub fn serve<C: ClientEnd, D: LinkDesk, G: Gate<D::End> + Drop>(
     word: KeyWord,
     gate: G,
 ) -> (C, D::Pass)
-    requires hearing { login.hearing ≡ Hears (AtFirst false false) }
+    requires awaiting { login.awaiting ≡ AwaitsPacket (AtFirst false false) }
     requires held { login.held ≡ [] }
     requires word { login.word ≡ word }
     requires settings { AreWithinBounds login.settings }

@@ -9,14 +9,14 @@ use Rattle.std.proofs.lemmas.Bool.{eqb-true}
 use Rattle.std.specs.Prelude.{◌==◌, ◌≢◌, OnOk, Option, Some, None}
 use Rattle.std.specs.Io.KnownBytes.{Appends}
 use Rattle.session_values.specs.State.{CatalogueOf, StartKeyOf}
-use Rattle.login_core.specs.Talk.{Cut, End, hears, says, talk}
+use Rattle.login_core.specs.Talk.{Cut, End, on_cut, says, talk}
 use Rattle.login_core.specs.Talk.Cut.{Whole, Need, Bad}
 use Rattle.login_core.specs.declared.steps.LoginStep.{LoginStep}
 use Rattle.login_core.specs.declared.steps.LoginStep.TheVariants as step
 use Rattle.login_core.specs.Laws.{LoginIsOfItsRow}
 use Rattle.login_core.specs.Talk.End.{Unfinished, Passed, Stopped}
-use Rattle.login_core.specs.Dialogue.{Rows, Dialogue, Way, ToConsole, ToLink, ok, Packet, Reason, Refused, Failed, Left, Stage, AtFirst, Asked, hear, login, login_among, packet, packets_left, react}
-use Rattle.login_core.specs.Logins.{LoginView, Hearing, Hears, Arriving, Over, after, goes_on, goes_from, login_view, missing, missing_of, question_bytes, rows_of}
+use Rattle.login_core.specs.Dialogue.{Rows, Dialogue, Way, ToConsole, ToLink, ok, Packet, Reason, Refused, Failed, Left, Stage, AtFirst, Asked, dialogue_from, login, login_among, packet, packets_left, react}
+use Rattle.login_core.specs.Logins.{LoginView, Awaiting, AwaitsPacket, Arriving, Over, after, goes_on, goes_from, login_view, missing, missing_of, question_bytes, rows_of}
 use Rattle.login_core.specs.Solo.{after_login, service_pieces}
 use Rattle.login_keys.specs.Laws.{AreLawfulRows, PassedKeysAreLinkKeys, SettingsRowsAreLawful}
 use Rattle.frame_view.specs.declared.frames.TheConstants.{LONGEST_FRAME}
@@ -34,26 +34,26 @@ some_left (AtFirst false true) = (2, refl)
 some_left (AtFirst true true) = (1, refl)
 some_left (Asked key) = (0, refl)
 
-cut_silent : (rows : Rows) (word : KeyWord) (s : Stage) (n : ℕ) (c : Cut Packet Reason) → 0 < missing_of c → hears (react rows word s) (talk packet (react rows word) n) c ≡ silence
+cut_silent : (rows : Rows) (word : KeyWord) (s : Stage) (n : ℕ) (c : Cut Packet Reason) → 0 < missing_of c → on_cut (react rows word s) (talk packet (react rows word) n) c ≡ silence
 cut_silent rows word s n (Whole p rest) k = absurd (omega (arith, k))
 cut_silent rows word s n (Need m) k = refl
 cut_silent rows word s n (Bad r) k = absurd (omega (arith, k))
 
-stage_silent : (rows : Rows) (word : KeyWord) (s : Stage) (held : List ℕ) → 0 < missing_of (packet s held) → hear rows word s (held ++ []) ≡ silence
+stage_silent : (rows : Rows) (word : KeyWord) (s : Stage) (held : List ℕ) → 0 < missing_of (packet s held) → dialogue_from rows word s (held ++ []) ≡ silence
 stage_silent rows word s held k =
     let n = some_left s in
-    ap (hear rows word s) (append-nil held)
+    ap (dialogue_from rows word s) (append-nil held)
     ∙ (ap (λ (m : ℕ). talk packet (react rows word) m s held) n.1
     ∙ cut_silent rows word s n.0 (packet s held) k)
 
-from_silent : (rows : Rows) (word : KeyWord) (h : Hearing) (held : List ℕ) → 0 < missing h held → goes_from rows word h held [] ≡ silence
-from_silent rows word (Hears s) held k = stage_silent rows word s held k
+from_silent : (rows : Rows) (word : KeyWord) (h : Awaiting) (held : List ℕ) → 0 < missing h held → goes_from rows word h held [] ≡ silence
+from_silent rows word (AwaitsPacket s) held k = stage_silent rows word s held k
 from_silent rows word (Arriving key) held k = absurd (omega (arith, k))
 from_silent rows word Over held k = absurd (omega (arith, k))
 
 -- what is said to no bytes, where some are missing, gives nothing
-pub silent : (v : LoginView) → 0 < missing v.hearing v.held → goes_on v [] ≡ silence
-silent v k = from_silent (rows_of v) v.word v.hearing v.held k
+pub silent : (v : LoginView) → 0 < missing v.awaiting v.held → goes_on v [] ≡ silence
+silent v k = from_silent (rows_of v) v.word v.awaiting v.held k
 
 pub on_ok : {E : Type 0} {P Q : Type 0} (r : Result (Unit {0}) E) → (P → Q) → OnOk r P → OnOk r Q
 on_ok (Ok u) f p = f p
@@ -114,7 +114,7 @@ given_on dies cat old new bytes rest before mid after_it s h n e x y =
     subst (λ (d : Dialogue). Adds dies cat d before after_it) (sym (said_by old new bytes rest s h n)) (step_on dies cat s rest (goes_on new rest) before mid after_it e x y)
 
 -- bytes are missing where the login isn't over
-pub missing_on : (s : LoginStep) (v : LoginView) → IsPastArrival s v → is_end s ≡ false → 0 < missing v.hearing v.held
+pub missing_on : (s : LoginStep) (v : LoginView) → IsPastArrival s v → is_end s ≡ false → 0 < missing v.awaiting v.held
 missing_on step.More v p e = p
 missing_on (step.Ask q) v p e = p
 missing_on (step.Arrived k) v p e = absurd p
@@ -150,7 +150,7 @@ step_key (step.Refused r) rest d k = tt
 step_key (step.Failed f) rest d k = tt
 step_key step.Left rest d k = tt
 
--- want of memory gives no key
+-- out of memory gives no key
 wanting : (s : LoginStep) → WantsMemory s → HasLinkKey s
 wanting s w = subst HasLinkKey (sym w) tt
 
@@ -182,7 +182,7 @@ keyed_by rows word bytes (Passed (ToLink key) left) law l h = ((law rows word by
 keyed_by rows word bytes (Passed ToConsole left) law l h = tt
 keyed_by rows word bytes (Stopped reason) law l h = tt
 
-pub standing_keyed : SettingsRowsAreLawful → PassedKeysAreLinkKeys → (v : LoginView) (bytes : List ℕ) → v ≡ login_view standing_settings standing_users standing_word (Hears (AtFirst false false)) [] → IsKeyed (goes_on v bytes).ended
+pub standing_keyed : SettingsRowsAreLawful → PassedKeysAreLinkKeys → (v : LoginView) (bytes : List ℕ) → v ≡ login_view standing_settings standing_users standing_word (AwaitsPacket (AtFirst false false)) [] → IsKeyed (goes_on v bytes).ended
 standing_keyed rows law v bytes e =
     subst (λ (x : LoginView). IsKeyed (goes_on x bytes).ended) (sym e) (keyed_by standing_rows standing_word bytes _ law (standing_lawful rows) refl)
 
@@ -245,7 +245,7 @@ no_bytes : (bytes : List ℕ) → length bytes ≡ 0 → bytes ≡ []
 no_bytes [] e = refl
 no_bytes (b ∷ bytes) e = absurd (omega (arith, e))
 
-pub nothing_given : (dies : Option ℕ) (cat : CatalogueOf) (v : LoginView) (bytes out : List ℕ) → 0 < missing v.hearing v.held → true ≡ (length bytes == 0) → Adds dies cat (goes_on v bytes) out out
+pub nothing_given : (dies : Option ℕ) (cat : CatalogueOf) (v : LoginView) (bytes out : List ℕ) → 0 < missing v.awaiting v.held → true ≡ (length bytes == 0) → Adds dies cat (goes_on v bytes) out out
 nothing_given dies cat v bytes out k e =
     let silent_then : goes_on v bytes ≡ silence = ap (goes_on v) (no_bytes bytes (eqb-true (length bytes) 0 (sym e))) ∙ silent v k in
     record {
@@ -254,7 +254,7 @@ nothing_given dies cat v bytes out k e =
       both = sym (append-nil out);
     }
 
-pub all_given : LoginIsOfItsRow → (dies : Option ℕ) (cat : CatalogueOf) (v : LoginView) (bytes start out : List ℕ) → start ≡ [] → cat ≡ standing_catalogue → v ≡ login_view standing_settings standing_users standing_word (Hears (AtFirst false false)) [] →
+pub all_given : LoginIsOfItsRow → (dies : Option ℕ) (cat : CatalogueOf) (v : LoginView) (bytes start out : List ℕ) → start ≡ [] → cat ≡ standing_catalogue → v ≡ login_view standing_settings standing_users standing_word (AwaitsPacket (AtFirst false false)) [] →
     Adds dies cat (goes_on v bytes) start out → IsReply dies bytes out
 all_given law dies cat v bytes start out n c l x =
     let given : out ≡ x.given = x.both ∙ ap (λ (s : List ℕ). s ++ x.given) n in

@@ -92,7 +92,7 @@ pub record WritesReply (before after : Option (List ℕ)) (bytes : List ℕ) : T
 
 -- ---- what is left of the output after a fault
 
--- A fault of the input and want of memory come before anything is written; there is no other fault but
+-- A fault of the input and out of memory come before anything is written; there is no other fault but
 -- one of the output itself.
 abbrev pub IsLeft : {A : Type 0} → A → A → AppFault → Type 0
 IsLeft before after fault.Stdin = after ≡ before

@@ -38,8 +38,8 @@ is_end step.Left = true
 -- a step other than an arrival; where it isn't the end, bytes are missing
 abbrev pub IsPastArrival : LoginStep → LoginView → Type 0
 IsPastArrival (step.Arrived key) v = ⊥
-IsPastArrival step.More v = 0 < missing v.hearing v.held
-IsPastArrival (step.Ask q) v = 0 < missing v.hearing v.held
+IsPastArrival step.More v = 0 < missing v.awaiting v.held
+IsPastArrival (step.Ask q) v = 0 < missing v.awaiting v.held
 IsPastArrival (step.Passed key) v = Unit {0}
 IsPastArrival step.Console v = Unit {0}
 IsPastArrival (step.Refused refusal) v = Unit {0}

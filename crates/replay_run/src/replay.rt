@@ -7,7 +7,7 @@ ghost use Rattle.message_view.specs.Refusals.{refusal};
 ghost use Rattle.message_view.specs.declared.refusal.Refusal.TheVariants as refused;
 ghost use Rattle.link_start.specs.Starts.{IsLinkKey};
 ghost use Rattle.login_core.specs.Dialogue.{AtFirst, ToLink, ok};
-ghost use Rattle.login_core.specs.Logins.{Hears, after, goes_on, login_view, missing};
+ghost use Rattle.login_core.specs.Logins.{AwaitsPacket, after, goes_on, login_view, missing};
 ghost use Rattle.login_core.specs.Solo.{service_pieces};
 ghost use Rattle.login_core.specs.Talk.End.{Passed};
 ghost use Rattle.memory_lease.specs.Answers.{IsAnswer};
@@ -54,7 +54,7 @@ struct Service {
     ghost all: { limit ≡ LONGEST_FRAME },
 }
 
-/// Puts this refusal; there is none for want of memory.
+/// Puts this refusal; there is none where an allocation failed.
 fn put_refusal(out: &mut BytesMut, cause: Refusal) -> Result<(), AllocError>
     ensures given { OnOk result (out.new.items ≡ out.old.items ++ refusal cause) }
     ensures memory { OnOk result (cause ≢ refused.OutOfMemory) }
@@ -65,7 +65,7 @@ fn put_refusal(out: &mut BytesMut, cause: Refusal) -> Result<(), AllocError>
     out.extend_from_slice(refusal_bytes(cause))
 }
 
-/// What a client is answered behind its login over a link of its own. A lease that comes to no end is told as want of memory: the
+/// What a client is answered behind its login over a link of its own. A lease that comes to no end is told as an allocation that failed: the
 /// program has no fault of its own for it.
 fn served(
     alloc: Global,
@@ -145,7 +145,7 @@ fn put_step(
 
 /// Gives the login bytes up to its next step that isn't an arrival.
 fn advance(login: &mut Login, alloc: Global, bytes: &[u8]) -> (usize, LoginStep)
-    requires missing { 0 < missing login.old.hearing login.old.held }
+    requires missing { 0 < missing login.old.awaiting login.old.held }
     requires some { 0 < length bytes.now }
     ensures used { (0 < result.0) × (result.0 ≤ length bytes.now) }
     ensures says { Says login.old bytes.now result.1 login.new (drop result.0 bytes.now) }
@@ -178,7 +178,7 @@ fn put_login(
     bytes: &[u8],
     out: &mut BytesMut,
 ) -> Result<(), AllocError>
-    requires missing { 0 < missing login.old.hearing login.old.held }
+    requires missing { 0 < missing login.old.awaiting login.old.held }
     requires keyed { IsKeyed (goes_on login.old bytes.now).ended }
     ensures { OnOk result (Adds service.now.dies_after (arc_value service.now.catalogue) (goes_on login.old bytes.now) out.old.items out.new.items) }
 {
@@ -196,7 +196,7 @@ fn put_login(
 
 /// A login under the standing settings and users.
 fn standing_login(alloc: Global) -> Result<Login, AllocError>
-    ensures { IfOk result (λ l. l ≡ login_view standing_settings standing_users standing_word (Hears (AtFirst false false)) []) }
+    ensures { IfOk result (λ l. l ≡ login_view standing_settings standing_users standing_word (AwaitsPacket (AtFirst false false)) []) }
 {
     let settings = Arc::new(alloc, settings(alloc)?)?;
     let users = Arc::new(alloc, users(alloc)?)?;
@@ -225,7 +225,7 @@ fn standing_service(
 
 /// What a client of the standing settings is answered: its bytes in, its replies out. A call of an end of its lease moves at most
 /// `cut` bytes, and its server dies once `dies_after` bytes were read from it; over one that doesn't, all is answered. The only
-/// error is want of memory, or a lease that comes to no end ([`Unserved::Unended`]), which is told as want of memory too.
+/// error is that an allocation failed, or a lease that comes to no end ([`Unserved::Unended`]), which is told as an allocation that failed too.
 pub fn replies(
     alloc: Global,
     cut: usize,

@@ -6,7 +6,7 @@ ghost use Rattle.message_view.specs.Messages.{command_complete, portal_suspended
 ghost use Rattle.session_values.specs.Runs.{row_tag};
 ghost use Rattle.session_values.specs.Answers.{Gave, Performs};
 ghost use Rattle.session_values.specs.Extended.{execute, execute_on, execute_outcome, execute_rows, is_suspended, sent_rows};
-ghost use Rattle.session_values.specs.Picks.{IsNarrow};
+ghost use Rattle.session_values.specs.Picks.{HasAtMost64Columns};
 ghost use Rattle.session_values.specs.State.{NotRun};
 ghost use Rattle.statement_runs.specs.Rans.{outcome_of};
 
@@ -122,7 +122,7 @@ fn execute_first(
     statement: &Stmt<'_>,
     out: &mut BytesMut,
 ) -> Result<(), Stop>
-    requires { IsNarrow (meaning statement.now) }
+    requires { HasAtMost64Columns (meaning statement.now) }
     ensures { Performs result session.old session.new out.old.items out.new.items (execute_on catalogue.now session.old portal.now (cast_unsigned w32 limit) (meaning statement.now) NotRun) }
 {
     let ran = run(alloc, session, catalogue, portal.given(), statement)?;
@@ -148,7 +148,7 @@ fn execute_on(
     statement: &Stmt<'_>,
     out: &mut BytesMut,
 ) -> Result<(), Stop>
-    requires { IsNarrow (meaning statement.now) }
+    requires { HasAtMost64Columns (meaning statement.now) }
     ensures { Performs result session.old session.new out.old.items out.new.items (execute_on catalogue.now session.old portal.now (cast_unsigned w32 limit) (meaning statement.now) portal.now.progress) }
 {
     match portal.progress() {

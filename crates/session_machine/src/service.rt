@@ -51,7 +51,7 @@ fn answer_all(
 
 /// Appends what a server started for this client alone answers to the bytes after its login: the
 /// welcome and the replies to all whole frames, or the start's error. It takes the whole input. The
-/// only error is want of memory, which leaves `out` as it was.
+/// only error is that an allocation failed, which leaves `out` as it was.
 #[tactic(auto, unfolding(session_values::specs::Service::service))]
 pub fn solo_bytes(
     alloc: Global,

@@ -1,5 +1,5 @@
 //! The prepared statements and portals of a session (PostgreSQL manual, "Extended Query").
-ghost use Rattle.std.specs.Prelude.{◌≡◌, [], filter, map, OnOk, IfOk};
+ghost use Rattle.std.specs.Prelude.{◌≡◌, [], false, filter, map, OnOk, IfOk};
 ghost use Rattle.std.specs.Arc.{arc_value};
 ghost use Rattle.message_view.specs.Bodies.{OfPortal, OfStatement};
 ghost use Rattle.session_values.specs.Extended.{at_progress, close, is_of_other, orphaned, progressed, with_portal, with_statement, without_statement};
@@ -78,13 +78,48 @@ fn all_at_progress(
     Ok(list)
 }
 
+/// The prepared statements and portals of a session. What copies hold is shared.
+#[derive(Drop)]
+pub(crate) struct Kept {
+    pub statements: Shared<Prepared>,
+    /// Where this is false, a Query has no unnamed statement to look for.
+    pub may_have_unnamed: bool,
+    pub portals: Shared<Portal>,
+}
+
+impl Kept {
+    /// None.
+    pub(crate) fn none(alloc: Global) -> Result<Kept, AllocError>
+        ensures statements { IfOk result (λ k. k.statements ≡ []) }
+        ensures named { IfOk result (λ k. k.may_have_unnamed ≡ false) }
+        ensures portals { IfOk result (λ k. k.portals ≡ []) }
+    {
+        Ok(Kept {
+            statements: Shared::new(alloc)?,
+            may_have_unnamed: false,
+            portals: Shared::new(alloc)?,
+        })
+    }
+
+    /// The same.
+    pub(crate) fn copied(&self) -> Result<Kept, AllocError>
+        ensures { IfOk result (λ k. k ≡ self.now) }
+    {
+        Ok(Kept {
+            statements: self.statements.copied()?,
+            may_have_unnamed: self.may_have_unnamed,
+            portals: self.portals.copied()?,
+        })
+    }
+}
+
 impl SessionState {
     /// Keeps a prepared statement after the others.
     pub fn put_statement(&mut self, alloc: Global, prepared: Prepared) -> Result<(), AllocError>
         ensures { OnOk result (self.new ≡ with_statement self.old prepared) }
     {
-        self.may_have_unnamed = true;
-        self.statements = self.statements.pushed(alloc, prepared)?;
+        self.kept.may_have_unnamed = true;
+        self.kept.statements = self.kept.statements.pushed(alloc, prepared)?;
         Ok(())
     }
 
@@ -92,8 +127,8 @@ impl SessionState {
     pub fn put_portal(&mut self, alloc: Global, portal: Portal) -> Result<(), AllocError>
         ensures { OnOk result (self.new ≡ with_portal self.old portal) }
     {
-        let others = without_named(alloc, &self.portals, portal.name().as_slice())?;
-        self.portals = others.pushed(alloc, portal)?;
+        let others = without_named(alloc, &self.kept.portals, portal.name().as_slice())?;
+        self.kept.portals = others.pushed(alloc, portal)?;
         Ok(())
     }
 
@@ -102,7 +137,7 @@ impl SessionState {
     pub fn drop_statement(&mut self, alloc: Global, name: &[u8]) -> Result<(), AllocError>
         ensures { OnOk result (self.new ≡ without_statement self.old name.now) }
     {
-        self.statements = without_named(alloc, &self.statements, name)?;
+        self.kept.statements = without_named(alloc, &self.kept.statements, name)?;
         self.orphan(alloc, name)
     }
 
@@ -111,11 +146,11 @@ impl SessionState {
     fn orphan(&mut self, alloc: Global, name: &[u8]) -> Result<(), AllocError>
         ensures { OnOk result (self.new ≡ record self.old { portals = map (orphaned name.now) self.old.portals }) }
     {
-        if are_of_others(self.portals.as_slice(), name) {
+        if are_of_others(self.kept.portals.as_slice(), name) {
             return Ok(());
         }
-        let portals = orphaned(alloc, self.portals.as_slice(), name)?;
-        self.portals = Shared::from_shared(alloc, portals)?;
+        let portals = orphaned(alloc, self.kept.portals.as_slice(), name)?;
+        self.kept.portals = Shared::from_shared(alloc, portals)?;
         Ok(())
     }
 
@@ -124,21 +159,21 @@ impl SessionState {
     fn drop_unnamed_statement(&mut self, alloc: Global) -> Result<(), AllocError>
         ensures { OnOk result (self.new ≡ without_statement self.old []) }
     {
-        if !self.may_have_unnamed {
+        if !self.kept.may_have_unnamed {
             return self.orphan(alloc, b"");
         }
-        self.statements = without_named(alloc, &self.statements, b"")?;
-        self.may_have_unnamed = false;
+        self.kept.statements = without_named(alloc, &self.kept.statements, b"")?;
+        self.kept.may_have_unnamed = false;
         self.orphan(alloc, b"")
     }
 
     fn drop_unnamed_portal(&mut self, alloc: Global) -> Result<(), AllocError>
         ensures { OnOk result (self.new ≡ record self.old { portals = without portal_name self.old.portals [] }) }
     {
-        if self.portals.len() == 0 {
+        if self.kept.portals.len() == 0 {
             return Ok(());
         }
-        self.portals = without_named(alloc, &self.portals, b"")?;
+        self.kept.portals = without_named(alloc, &self.kept.portals, b"")?;
         Ok(())
     }
 
@@ -155,12 +190,12 @@ impl SessionState {
     pub fn close_statement(&mut self, alloc: Global, name: &[u8]) -> Result<(), AllocError>
         ensures { OnOk result (self.new ≡ (close self.old (OfStatement name.now)).next) }
     {
-        self.statements = without_named(alloc, &self.statements, name)?;
-        if are_of_others(self.portals.as_slice(), name) {
+        self.kept.statements = without_named(alloc, &self.kept.statements, name)?;
+        if are_of_others(self.kept.portals.as_slice(), name) {
             return Ok(());
         }
-        let portals = portals_of_others(alloc, self.portals.as_slice(), name)?;
-        self.portals = Shared::from_shared(alloc, portals)?;
+        let portals = portals_of_others(alloc, self.kept.portals.as_slice(), name)?;
+        self.kept.portals = Shared::from_shared(alloc, portals)?;
         Ok(())
     }
 
@@ -168,7 +203,7 @@ impl SessionState {
     pub fn close_portal(&mut self, alloc: Global, name: &[u8]) -> Result<(), AllocError>
         ensures { OnOk result (self.new ≡ (close self.old (OfPortal name.now)).next) }
     {
-        self.portals = without_named(alloc, &self.portals, name)?;
+        self.kept.portals = without_named(alloc, &self.kept.portals, name)?;
         Ok(())
     }
 
@@ -181,8 +216,8 @@ impl SessionState {
     ) -> Result<(), AllocError>
         ensures { OnOk result (self.new ≡ progressed self.old name.now (progress_of progress.now)) }
     {
-        let portals = all_at_progress(alloc, self.portals.as_slice(), name, progress)?;
-        self.portals = Shared::from_shared(alloc, portals)?;
+        let portals = all_at_progress(alloc, self.kept.portals.as_slice(), name, progress)?;
+        self.kept.portals = Shared::from_shared(alloc, portals)?;
         Ok(())
     }
 }

@@ -3,6 +3,7 @@ ghost use Rattle.std.specs.Prelude.{◌≡◌, ◌<◌, [], None, length, OnOk, 
 ghost use Rattle.session_values.specs.Runs.{discarded};
 ghost use Rattle.session_values.specs.State.{failing, restored, save_unless};
 
+use crate::kept::Kept;
 use crate::portal::{Portal, Prepared};
 use crate::work::{Saved, Work};
 use session_values::block::Block;
@@ -26,10 +27,7 @@ pub struct SessionState {
     pub(crate) block: Block,
     pub(crate) is_skipping: bool,
     pub(crate) has_ended: bool,
-    pub(crate) statements: Shared<Prepared>,
-    /// Where this is false, a Query has no unnamed statement to look for.
-    pub(crate) may_have_unnamed: bool,
-    pub(crate) portals: Shared<Portal>,
+    pub(crate) kept: Kept,
 }
 
 impl Model for SessionState {
@@ -49,12 +47,12 @@ impl Model for SessionState {
       block = s.block;
       skipping = s.is_skipping;
       ended = s.has_ended;
-      statements = s.statements;
-      portals = s.portals;
+      statements = s.kept.statements;
+      portals = s.kept.portals;
       tables = s.work.tables;
     } };
 
-    ghost invariant = { λ s. (length s.reported ≡ REPORTED) × AreReportedIf s.is_reported s.work.values s.reported × AreNamedUnless s.may_have_unnamed s.statements };
+    ghost invariant = { λ s. (length s.reported ≡ REPORTED) × AreReportedIf s.is_reported s.work.values s.reported × AreNamedUnless s.kept.may_have_unnamed s.kept.statements };
 }
 
 impl SessionState {
@@ -67,18 +65,13 @@ impl SessionState {
         Ok(SessionState {
             reported: values.reported(alloc)?,
             is_reported: true,
-            work: Work {
-                values: values.copied()?,
-                tables: Shared::new(alloc)?,
-            },
+            work: Work::begun(alloc, &values)?,
+            kept: Kept::none(alloc)?,
             defaults: values,
             saved: Saved::Nothing,
             block: Block::Outside,
             is_skipping: false,
             has_ended: false,
-            statements: Shared::new(alloc)?,
-            may_have_unnamed: false,
-            portals: Shared::new(alloc)?,
         })
     }
 
@@ -95,9 +88,7 @@ impl SessionState {
             block: self.block,
             is_skipping: self.is_skipping,
             has_ended: self.has_ended,
-            statements: self.statements.copied()?,
-            may_have_unnamed: self.may_have_unnamed,
-            portals: self.portals.copied()?,
+            kept: self.kept.copied()?,
         })
     }
 
@@ -126,10 +117,10 @@ impl SessionState {
     fn drop_portals(&mut self, alloc: Global) -> Result<(), AllocError>
         ensures { OnOk result (self.new ≡ record self.old { portals = [] }) }
     {
-        if self.portals.len() == 0 {
+        if self.kept.portals.len() == 0 {
             return Ok(());
         }
-        self.portals = Shared::new(alloc)?;
+        self.kept.portals = Shared::new(alloc)?;
         Ok(())
     }
 
@@ -206,13 +197,10 @@ impl SessionState {
     pub fn discard(&mut self, alloc: Global) -> Result<(), AllocError>
         ensures { OnOk result (self.new ≡ discarded self.old) }
     {
-        self.work.values = self.defaults.copied()?;
+        self.work = Work::begun(alloc, &self.defaults)?;
         self.is_reported = false;
-        self.work.tables = Shared::new(alloc)?;
         self.saved = Saved::Nothing;
-        self.statements = Shared::new(alloc)?;
-        self.may_have_unnamed = false;
-        self.portals = Shared::new(alloc)?;
+        self.kept = Kept::none(alloc)?;
         Ok(())
     }
 
@@ -283,14 +271,14 @@ impl SessionState {
     pub fn statements(&self) -> &Shared<Prepared>
         ensures { result.now ≡ self.now.statements }
     {
-        &self.statements
+        &self.kept.statements
     }
 
     /// The portals.
     pub fn portals(&self) -> &Shared<Portal>
         ensures { result.now ≡ self.now.portals }
     {
-        &self.portals
+        &self.kept.portals
     }
 }
 

@@ -1,10 +1,10 @@
 //! What a transaction may change and a roll back gives back.
-ghost use Rattle.std.specs.Prelude.{◌≡◌, IfOk};
+ghost use Rattle.std.specs.Prelude.{◌≡◌, [], IfOk};
 
 use session_values::table::Table;
 use session_values::values::Values;
 use shared_list::Shared;
-use std::alloc::AllocError;
+use std::alloc::{AllocError, Global};
 use std::marker::Model;
 
 /// What a transaction may change and a roll back gives back: values and temporary tables.
@@ -23,6 +23,16 @@ impl Model for Work {
 }
 
 impl Work {
+    /// These values, and no temporary tables.
+    pub fn begun(alloc: Global, values: &Values) -> Result<Work, AllocError>
+        ensures { IfOk result (λ w. w ≡ record { values = values.now; tables = [] }) }
+    {
+        Ok(Work {
+            values: values.copied()?,
+            tables: Shared::new(alloc)?,
+        })
+    }
+
     /// The same work; what it holds is shared.
     pub fn copied(&self) -> Result<Work, AllocError>
         ensures { IfOk result (λ w. w ≡ self.now) }

@@ -4,7 +4,7 @@ ghost use Rattle.std.specs.Prelude.{◌≡◌, ◌≤◌, length, IfOk, [], ◌�
 use crate::naming::HasName;
 use crate::row::Row;
 use crate::text::Text;
-use shared_list::{Log, Shared};
+use shared_list::{AppendList, Shared};
 use std::alloc::{AllocError, Global};
 use std::marker::Model;
 
@@ -13,7 +13,7 @@ use std::marker::Model;
 pub struct Table {
     name: Text,
     columns: Shared<Text>,
-    rows: Log<Row>,
+    rows: AppendList<Row>,
 }
 
 impl Model for Table {
@@ -48,7 +48,7 @@ impl Table {
         Ok(Table {
             name,
             columns,
-            rows: Log::new(alloc)?,
+            rows: AppendList::new(alloc)?,
         })
     }
 
@@ -61,7 +61,7 @@ impl Table {
     }
 
     /// Its rows, in order of insertion.
-    pub fn rows(&self) -> &Log<Row>
+    pub fn rows(&self) -> &AppendList<Row>
         ensures { result.now ≡ self.now.rows }
     {
         &self.rows

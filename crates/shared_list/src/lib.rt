@@ -2,8 +2,8 @@
 //! shares what it leaves alone.
 #![tactic(auto)]
 
-mod log;
+mod append_list;
 mod shared;
 
-pub use log::Log;
+pub use append_list::AppendList;
 pub use shared::Shared;

@@ -9,7 +9,7 @@ ghost use Rattle.session_values.specs.Parameters.{parameter_named};
 ghost use Rattle.session_values.specs.State.{has_text};
 ghost use Rattle.session_values.specs.Answers.{Finds};
 ghost use Rattle.statement_runs.specs.Found.{found_table};
-ghost use Rattle.session_values.specs.Picks.{IsNarrow};
+ghost use Rattle.session_values.specs.Picks.{HasAtMost64Columns};
 ghost use Rattle.session_values.specs.Lookups.{has_all, has_filter, look_up, look_up_select, readable, selected, shown, to_change};
 
 use mini_sql::{Columns, Filter, Operands, Stmt};
@@ -120,7 +120,7 @@ pub fn look_up(
     catalogue: &Catalogue,
     statement: &Stmt<'_>,
 ) -> Result<Option<Names>, Stop>
-    requires { IsNarrow (meaning statement.now) }
+    requires { HasAtMost64Columns (meaning statement.now) }
     ensures { Finds result (look_up catalogue.now session.now (meaning statement.now)) }
 {
     match statement {

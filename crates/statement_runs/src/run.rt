@@ -5,7 +5,7 @@ ghost use Rattle.mini_sql.specs.Statements.{statement};
 ghost use Rattle.session_values.specs.Extended.{may_end_block, usable};
 ghost use Rattle.statement_runs.specs.Found.{meant};
 ghost use Rattle.statement_runs.specs.Rans.{Runs};
-ghost use Rattle.session_values.specs.Picks.{IsNarrow};
+ghost use Rattle.session_values.specs.Picks.{HasAtMost64Columns};
 ghost use Rattle.session_values.specs.Runs.{run};
 
 use crate::blocks::{begin, commit_block, discard, roll_back_block};
@@ -32,7 +32,7 @@ fn may_end_block(statement: &Stmt<'_>) -> bool
 /// A statement that is read, with at most 64 columns in a list.
 pub fn read_narrow(text: &[u8]) -> Result<Stmt<'_>, SqlFault>
     ensures reads { Reads result (statement text.now) }
-    ensures narrow { IfOk result (λ s. IsNarrow (meaning s)) }
+    ensures narrow { IfOk result (λ s. HasAtMost64Columns (meaning s)) }
 {
     mini_sql::laws::statement_is_derived();
     read_statement(text)
@@ -41,7 +41,7 @@ pub fn read_narrow(text: &[u8]) -> Result<Stmt<'_>, SqlFault>
 /// The statement that a text spells, where it may be used now.
 pub fn usable<'a>(session: &SessionState, text: &'a [u8]) -> Result<Stmt<'a>, Cause>
     ensures statement { meant result ≡ usable session.now text.now }
-    ensures narrow { IfOk result (λ s. IsNarrow (meaning s)) }
+    ensures narrow { IfOk result (λ s. HasAtMost64Columns (meaning s)) }
 {
     match read_narrow(text) {
         Ok(statement) if session.block() == Block::Failed && !may_end_block(&statement) => Err(
@@ -60,7 +60,7 @@ pub fn run(
     given: &Row,
     statement: &Stmt<'_>,
 ) -> Result<Ran, Stop>
-    requires { IsNarrow (meaning statement.now) }
+    requires { HasAtMost64Columns (meaning statement.now) }
     ensures { Runs result session.old session.new (run catalogue.now session.old given.now (meaning statement.now)) }
 {
     match statement {

@@ -6,7 +6,7 @@ use session_machine::CatalogueCause;
 use std::io;
 use user_file::Cause as UsersCause;
 
-/// Whether it is want of memory, wherever that came.
+/// Whether it is out of memory, wherever that came.
 fn is_memory(fault: &AppFault<'_>) -> bool {
     match fault {
         AppFault::Memory => true,

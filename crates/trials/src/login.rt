@@ -77,8 +77,8 @@ fn put_arrived(alloc: Global, key: &StartKey, told: &mut Told) -> Result<(), All
     told.lines.extend_from_slice(b"\n")
 }
 
-/// Appends what the client is given at a step, and that it has arrived. The error is want of memory.
-fn hear(alloc: Global, step: LoginStep, told: &mut Told) -> Result<Next, AllocError> {
+/// Appends what the client is given at a step, and that it has arrived. The error is that an allocation failed.
+fn on_step(alloc: Global, step: LoginStep, told: &mut Told) -> Result<Next, AllocError> {
     match step {
         LoginStep::More => Ok(Next::Piece),
         LoginStep::Ask(question) => {
@@ -126,7 +126,7 @@ fn fed<'a>(
         };
         let (used, step) = login.on_bytes(alloc, &rest[..most.min(rest.len())]);
         rest = &rest[used..];
-        next = hear(alloc, step, told)?;
+        next = on_step(alloc, step, told)?;
         if matches!(&next, Next::Piece) && rest.is_empty() {
             break;
         }

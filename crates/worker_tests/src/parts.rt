@@ -3,7 +3,7 @@ ghost use Rattle.std.specs.Prelude.{◌≡◌, [], IfOk, false, true};
 ghost use Rattle.std.specs.Arc.{arc_value};
 ghost use Rattle.ini_config.specs.Bounds.{AreWithinBounds};
 ghost use Rattle.login_core.specs.Dialogue.{AtFirst};
-ghost use Rattle.login_core.specs.Logins.{Hears};
+ghost use Rattle.login_core.specs.Logins.{AwaitsPacket};
 ghost use Rattle.worker_tests.specs.Words.{key_word};
 
 use book_lists::limits::{Limits, MOST_CLIENTS};
@@ -65,7 +65,7 @@ fn settings_of(alloc: Global, text: &[u8]) -> Result<Settings, AllocError>
 
 /// A new login of the client with this number.
 pub(crate) fn login(alloc: Global, number: u32) -> Result<Login, AllocError>
-    ensures hearing { IfOk result (λ l. l.hearing ≡ Hears (AtFirst false false)) }
+    ensures awaiting { IfOk result (λ l. l.awaiting ≡ AwaitsPacket (AtFirst false false)) }
     ensures held { IfOk result (λ l. l.held ≡ []) }
     ensures word { IfOk result (λ l. l.word ≡ key_word number) }
     ensures settings { IfOk result (λ l. AreWithinBounds l.settings) }
@@ -123,7 +123,7 @@ pub(crate) fn serve_by<
     number: u32,
     gate: T,
 ) -> (C, Pass<A, G, B, L, W, O>)
-    requires hearing { login.hearing ≡ Hears (AtFirst false false) }
+    requires awaiting { login.awaiting ≡ AwaitsPacket (AtFirst false false) }
     requires held { login.held ≡ [] }
     requires word { login.word ≡ key_word number }
     requires settings { AreWithinBounds login.settings }

@@ -1,0 +1,7 @@
+//! Tests of a client's whole service over a link of its own.
+#![tactic(auto)]
+
+#[cfg(test)]
+mod parts;
+#[cfg(test)]
+mod services;

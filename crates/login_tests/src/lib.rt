@@ -1,0 +1,5 @@
+//! Tests of `login_core`.
+#![tactic(auto)]
+
+#[cfg(test)]
+mod logins;
