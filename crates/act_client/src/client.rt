@@ -11,7 +11,6 @@ use std::alloc::{AllocError, Global};
 use std::marker::Model;
 
 /// A client in memory: it hands out what its script says that it has sent by now, and keeps what it was given.
-#[derive(Drop)]
 pub struct ActClient<'a> {
     script: &'a Script,
     /// So many bytes of the input were taken.
@@ -21,6 +20,21 @@ pub struct ActClient<'a> {
     hung_up: bool,
     faults: u64,
     waits: u64,
+}
+
+/// A drop of its own is proved here once, and not in each crate above.
+impl<'a> Drop for ActClient<'a> {
+    fn drop(self) {
+        let ActClient {
+            script: _,
+            at: _,
+            given: _,
+            cut: _,
+            hung_up: _,
+            faults: _,
+            waits: _,
+        } = self;
+    }
 }
 
 impl<'a> Model for ActClient<'a> {

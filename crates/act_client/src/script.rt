@@ -23,7 +23,6 @@ pub enum Act<'a> {
 }
 
 /// One client of a play: its number, all that it sends, and how far the play has come with it.
-#[derive(Drop)]
 pub struct Script {
     number: u32,
     input: BytesMut,
@@ -31,6 +30,19 @@ pub struct Script {
     has_gone: Cell<bool>,
     /// So many bytes were sent by now.
     sent: Cell<usize>,
+}
+
+/// A drop of its own is proved here once, and not in each crate above.
+impl Drop for Script {
+    fn drop(self) {
+        let Script {
+            number: _,
+            input: _,
+            has_come: _,
+            has_gone: _,
+            sent: _,
+        } = self;
+    }
 }
 
 impl Model for Script {

@@ -12,10 +12,16 @@ pub const MOST_CLIENTS: u32 = 10_000;
 pub const MOST_LINKS: u32 = 10_000;
 
 /// How many links a pool of this database row may have (PgBouncer's `pool_size`).
-#[derive(Drop)]
 pub struct RowSize {
     pub row: Text,
     pub size: u32,
+}
+
+/// A drop of its own is proved here once, and not in each crate above.
+impl Drop for RowSize {
+    fn drop(self) {
+        let RowSize { row: _, size: _ } = self;
+    }
 }
 
 impl Model for RowSize {
@@ -27,7 +33,6 @@ impl Model for RowSize {
 }
 
 /// The settings that the lease book decides by, with PgBouncer's names. Times are in seconds.
-#[derive(Drop)]
 pub struct Limits {
     /// The most clients that may be there at once, at most 10,000.
     pub max_client_conn: u32,
@@ -43,6 +48,21 @@ pub struct Limits {
     pub server_idle_timeout: u32,
     /// The most links of the pools of these database rows; the first of a name counts.
     pub row_sizes: Vec<RowSize>,
+}
+
+/// A drop of its own is proved here once, and not in each crate above.
+impl Drop for Limits {
+    fn drop(self) {
+        let Limits {
+            max_client_conn: _,
+            max_links: _,
+            default_pool_size: _,
+            query_wait_timeout: _,
+            server_lifetime: _,
+            server_idle_timeout: _,
+            row_sizes: _,
+        } = self;
+    }
 }
 
 impl Model for Limits {

@@ -24,7 +24,6 @@ use std::marker::Model;
 use std::sync::Arc;
 
 /// The lists of the book.
-#[derive(Drop)]
 pub struct Board {
     pub clients: Clients,
     pub tickets: Tickets,
@@ -42,6 +41,30 @@ pub struct Board {
     pub reuses: u64,
     pub evictions: u64,
     pub losses: u64,
+}
+
+/// A drop of its own is proved here once, and not in each crate above.
+impl Drop for Board {
+    fn drop(self) {
+        let Board {
+            clients: _,
+            tickets: _,
+            lent: _,
+            idle: _,
+            last_client: _,
+            last_link: _,
+            clock: _,
+            limits: _,
+            is_paused: _,
+            is_shut: _,
+            decisions: _,
+            counts: _,
+            starts: _,
+            reuses: _,
+            evictions: _,
+            losses: _,
+        } = self;
+    }
 }
 
 impl Model for Board {

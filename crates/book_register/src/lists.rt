@@ -22,9 +22,15 @@ use std::marker::Model;
 use std::sync::Arc;
 
 /// The lists of the lease book, with room for all that they may hold.
-#[derive(Drop)]
 pub struct Lists {
     board: Board,
+}
+
+/// A drop of its own is proved here once, and not in each crate above.
+impl Drop for Lists {
+    fn drop(self) {
+        let Lists { board: _ } = self;
+    }
 }
 
 impl Model for Lists {

@@ -13,7 +13,6 @@ use std::marker::Model;
 use std::sync::Arc;
 
 /// A book at one moment, in rows of the holder's own. Keys and limits are shared with the book.
-#[derive(Drop)]
 pub struct BookView {
     /// Who is there, in the order in which they came.
     pub clients: Vec<Client>,
@@ -41,6 +40,28 @@ pub struct BookView {
     pub evictions: u64,
     /// How many links were lost, or failed to start.
     pub losses: u64,
+}
+
+/// A drop of its own is proved here once, and not in each crate above.
+impl Drop for BookView {
+    fn drop(self) {
+        let BookView {
+            clients: _,
+            tickets: _,
+            lent: _,
+            idle: _,
+            clock: _,
+            limits: _,
+            is_paused: _,
+            is_shut: _,
+            decisions: _,
+            counts: _,
+            starts: _,
+            reuses: _,
+            evictions: _,
+            losses: _,
+        } = self;
+    }
 }
 
 impl Model for BookView {

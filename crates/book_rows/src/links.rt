@@ -61,9 +61,15 @@ impl Link {
 }
 
 /// Links in the order in which they were lent, or came back, with room for the most that there can be.
-#[derive(Drop)]
 pub struct Links {
     rows: Vec<Link>,
+}
+
+/// A drop of its own is proved here once, and not in each crate above.
+impl Drop for Links {
+    fn drop(self) {
+        let Links { rows: _ } = self;
+    }
 }
 
 impl Model for Links {

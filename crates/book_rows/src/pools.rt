@@ -28,10 +28,17 @@ fn is_same_pool(left: &StartKey, right: &StartKey) -> bool
 }
 
 /// A start key with its pool's number, which tells most pools apart before their names are compared.
-#[derive(Clone, Drop)]
+#[derive(Clone)]
 pub struct PoolKey {
     key: Arc<StartKey>,
     mark: u64,
+}
+
+/// A drop of its own is proved here once, and not in each crate above.
+impl Drop for PoolKey {
+    fn drop(self) {
+        let PoolKey { key: _, mark: _ } = self;
+    }
 }
 
 impl Model for PoolKey {

@@ -44,9 +44,15 @@ impl Ticket {
 }
 
 /// The tickets in the order of the Asks, with room for one of each client.
-#[derive(Drop)]
 pub struct Tickets {
     rows: VecDeque<Ticket>,
+}
+
+/// A drop of its own is proved here once, and not in each crate above.
+impl Drop for Tickets {
+    fn drop(self) {
+        let Tickets { rows: _ } = self;
+    }
 }
 
 impl Model for Tickets {

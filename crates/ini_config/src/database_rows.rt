@@ -7,7 +7,6 @@ use std::alloc::{AllocError, Global};
 use text_lines::Text;
 
 /// A row of the section `[databases]`: where the server of a database is.
-#[derive(Drop)]
 pub struct DbRow {
     /// The name that clients ask for.
     pub name: Text,
@@ -19,6 +18,19 @@ pub struct DbRow {
     pub dbname: Text,
     /// How many links a pool of this row may have, from 1 to 10,000; none: as many as `default_pool_size` says.
     pub pool_size: Option<u32>,
+}
+
+/// A drop of its own is proved here once, and not in each crate above.
+impl Drop for DbRow {
+    fn drop(self) {
+        let DbRow {
+            name: _,
+            host: _,
+            port: _,
+            dbname: _,
+            pool_size: _,
+        } = self;
+    }
 }
 
 impl RowText<'_> {

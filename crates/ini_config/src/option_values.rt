@@ -23,7 +23,6 @@ pub enum AuthType {
 }
 
 /// Everything that a settings file says, defaults included.
-#[derive(Drop)]
 pub struct Settings {
     pub rows: Rows,
     pub listen_addr: [u8; 4],
@@ -39,6 +38,28 @@ pub struct Settings {
     pub max_packet_size: u32,
     pub ignore_startup_parameters: Names,
     pub track_extra_parameters: Names,
+}
+
+/// A drop of its own is proved here once, and not in each crate above.
+impl Drop for Settings {
+    fn drop(self) {
+        let Settings {
+            rows: _,
+            listen_addr: _,
+            listen_port: _,
+            auth_type: _,
+            admin_users: _,
+            max_client_conn: _,
+            default_pool_size: _,
+            max_links: _,
+            query_wait_timeout: _,
+            server_lifetime: _,
+            server_idle_timeout: _,
+            max_packet_size: _,
+            ignore_startup_parameters: _,
+            track_extra_parameters: _,
+        } = self;
+    }
 }
 
 impl Settings {

@@ -8,9 +8,15 @@ use std::alloc::{AllocError, Global};
 use std::marker::Model;
 
 /// Database rows in the order of the file, found by name.
-#[derive(Drop)]
 pub struct Rows {
     by_name: IndexMap<Vec<u8>, DbRow>,
+}
+
+/// A drop of its own is proved here once, and not in each crate above.
+impl Drop for Rows {
+    fn drop(self) {
+        let Rows { by_name: _ } = self;
+    }
 }
 
 impl Model for Rows {

@@ -104,10 +104,19 @@ fn by_number<E: ServerEnd>(event: &Event<E>) -> lists::Event
 }
 
 /// The lease book: the lists with their history, and the idle links.
-#[derive(Drop)]
 pub struct Book<E: ServerEnd> {
     register: Register,
     idle: IdleLinks<E>,
+}
+
+/// A drop of its own is proved here once, and not in each crate above.
+impl<E: ServerEnd> Drop for Book<E> {
+    fn drop(self) {
+        let Book {
+            register: _,
+            idle: _,
+        } = self;
+    }
 }
 
 impl<E: ServerEnd> Model for Book<E> {

@@ -40,10 +40,16 @@ impl Model for Decision {
 }
 
 /// The last decisions, and the lists that they begin from.
-#[derive(Drop)]
 pub struct History {
     base: Lists,
     kept: HeapCircularBuffer<Decision>,
+}
+
+/// A drop of its own is proved here once, and not in each crate above.
+impl Drop for History {
+    fn drop(self) {
+        let History { base: _, kept: _ } = self;
+    }
 }
 
 impl Model for History {
@@ -77,10 +83,19 @@ impl History {
 }
 
 /// The lists of the lease book, with their history.
-#[derive(Drop)]
 pub struct Register {
     lists: Lists,
     history: History,
+}
+
+/// A drop of its own is proved here once, and not in each crate above.
+impl Drop for Register {
+    fn drop(self) {
+        let Register {
+            lists: _,
+            history: _,
+        } = self;
+    }
 }
 
 impl Model for Register {

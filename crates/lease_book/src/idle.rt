@@ -10,9 +10,15 @@ use std::alloc::{AllocError, Global};
 use std::marker::Model;
 
 /// The idle links, with room for the most that a book can hold.
-#[derive(Drop)]
 pub struct IdleLinks<E: ServerEnd> {
     links: Vec<CleanLink<E>>,
+}
+
+/// A drop of its own is proved here once, and not in each crate above.
+impl<E: ServerEnd> Drop for IdleLinks<E> {
+    fn drop(self) {
+        let IdleLinks { links: _ } = self;
+    }
 }
 
 impl<E: ServerEnd> Model for IdleLinks<E> {

@@ -34,9 +34,15 @@ pub struct Lent<E: ServerEnd> {
 
 /// A link that nobody has used since its start or its reset: where its end follows, it stands in the fresh session of its key,
 /// with nothing under way.
-#[derive(Drop)]
 pub struct CleanLink<E: ServerEnd> {
     link: Lent<E>,
+}
+
+/// A drop of its own is proved here once, and not in each crate above.
+impl<E: ServerEnd> Drop for CleanLink<E> {
+    fn drop(self) {
+        let CleanLink { link: _ } = self;
+    }
 }
 
 impl<E: ServerEnd> Model for CleanLink<E> {
@@ -52,9 +58,15 @@ impl<E: ServerEnd> Model for CleanLink<E> {
 
 /// A link that was used and is settled: where its end follows and lives, it stands at rest in a session of its key, with nothing
 /// under way. A reset makes it clean.
-#[derive(Drop)]
 pub struct UsedLink<E: ServerEnd> {
     link: Lent<E>,
+}
+
+/// A drop of its own is proved here once, and not in each crate above.
+impl<E: ServerEnd> Drop for UsedLink<E> {
+    fn drop(self) {
+        let UsedLink { link: _ } = self;
+    }
 }
 
 impl<E: ServerEnd> Model for UsedLink<E> {

@@ -43,11 +43,21 @@ pub struct Disposed<E: ServerEnd> {
 }
 
 /// A link that is being reset: how much of the Query was sent, and all that was answered.
-#[derive(Drop)]
 struct Reset<E: ServerEnd> {
     link: Lent<E>,
     sent: usize,
     reply: BytesMut,
+}
+
+/// A drop of its own is proved here once, and not in each crate above.
+impl<E: ServerEnd> Drop for Reset<E> {
+    fn drop(self) {
+        let Reset {
+            link: _,
+            sent: _,
+            reply: _,
+        } = self;
+    }
 }
 
 impl<E: ServerEnd> Model for Reset<E> {

@@ -30,9 +30,15 @@ use user_file::Secret;
 const CHUNK: usize = 256;
 
 /// The ErrorResponse by which a server refused a start.
-#[derive(Drop)]
 pub struct StartError {
     reply: BytesMut,
+}
+
+/// A drop of its own is proved here once, and not in each crate above.
+impl Drop for StartError {
+    fn drop(self) {
+        let StartError { reply: _ } = self;
+    }
 }
 
 impl Model for StartError {
@@ -91,7 +97,6 @@ pub struct StartLinkFault<E: ServerEnd> {
 }
 
 /// A link that is being started: what is to be sent, and how much of it was; and all that was answered.
-#[derive(Drop)]
 struct Start<E: ServerEnd> {
     end: E,
     key: Arc<StartKey>,
@@ -101,6 +106,22 @@ struct Start<E: ServerEnd> {
     messages: BytesMut,
     sent: usize,
     reply: BytesMut,
+}
+
+/// A drop of its own is proved here once, and not in each crate above.
+impl<E: ServerEnd> Drop for Start<E> {
+    fn drop(self) {
+        let Start {
+            end: _,
+            key: _,
+            number: _,
+            born: _,
+            answered: _,
+            messages: _,
+            sent: _,
+            reply: _,
+        } = self;
+    }
 }
 
 impl<E: ServerEnd> Model for Start<E> {

@@ -25,11 +25,21 @@ use user_file::Users;
 pub(crate) const LONGEST_MESSAGE: u32 = 10_000;
 
 /// What decides about a client.
-#[derive(Drop)]
 pub(crate) struct Rules {
     pub settings: Arc<Settings>,
     pub users: Arc<Users>,
     pub word: KeyWord,
+}
+
+/// A drop of its own is proved here once, and not in each crate above.
+impl Drop for Rules {
+    fn drop(self) {
+        let Rules {
+            settings: _,
+            users: _,
+            word: _,
+        } = self;
+    }
 }
 
 /// Where a login stands.

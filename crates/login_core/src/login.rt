@@ -24,11 +24,21 @@ const LONGEST_PACKET: usize = LONGEST_MESSAGE as usize + 1;
 /// A client's login. It takes the client's bytes in any cuts, never past the packet that it waits for.
 ///
 /// Contracts see the settings and users that it was made with, what it waits for, and the bytes that it holds of that packet.
-#[derive(Drop)]
 pub struct Login {
     rules: Rules,
     place: Place,
     held: BytesMut,
+}
+
+/// A drop of its own is proved here once, and not in each crate above.
+impl Drop for Login {
+    fn drop(self) {
+        let Login {
+            rules: _,
+            place: _,
+            held: _,
+        } = self;
+    }
 }
 
 impl Model for Login {

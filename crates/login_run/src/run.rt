@@ -61,13 +61,25 @@ pub enum LoginTurn {
 ///
 /// Contracts see the end's facts, the login, what it comes to next, and how much of what was said the client was given. That this
 /// is of the login's definition (`IsRun`) is the type's invariant: [`LoginRun::is_of_its_login`] tells it.
-#[derive(Drop)]
 pub struct LoginRun<C: ClientEnd> {
     client: C,
     login: Login,
     phase: Phase,
     said: Said,
     sent: usize,
+}
+
+/// A drop of its own is proved here once, and not in each crate above.
+impl<C: ClientEnd> Drop for LoginRun<C> {
+    fn drop(self) {
+        let LoginRun {
+            client: _,
+            login: _,
+            phase: _,
+            said: _,
+            sent: _,
+        } = self;
+    }
 }
 
 impl<C: ClientEnd> Model for LoginRun<C> {

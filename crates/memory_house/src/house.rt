@@ -47,7 +47,6 @@ const PASS: u64 = 0;
 /// What clients are served over. Each link leads to a server in memory of its own, which asks for no password.
 ///
 /// Contracts see the settings, the users and the catalogue. Each idle link's server is of that catalogue.
-#[derive(Drop)]
 pub struct House {
     alloc: Global,
     settings: Arc<Settings>,
@@ -56,6 +55,21 @@ pub struct House {
     cut: usize,
     dies_after: Option<u64>,
     book: Book<MemoryServer>,
+}
+
+/// A drop of its own is proved here once, and not in each crate above.
+impl Drop for House {
+    fn drop(self) {
+        let House {
+            alloc: _,
+            settings: _,
+            users: _,
+            catalogue: _,
+            cut: _,
+            dies_after: _,
+            book: _,
+        } = self;
+    }
 }
 
 impl Model for House {

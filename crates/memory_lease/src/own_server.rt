@@ -11,11 +11,20 @@ use server_end::{Moved, ServerEnd};
 use std::marker::Model;
 
 /// A stand-in server in memory, and whether it has nothing to give.
-#[derive(Drop)]
 pub(crate) struct OwnServer {
     server: MemoryServer,
     /// The last call was a read that came to nothing.
     rests: bool,
+}
+
+/// A drop of its own is proved here once, and not in each crate above.
+impl Drop for OwnServer {
+    fn drop(self) {
+        let OwnServer {
+            server: _,
+            rests: _,
+        } = self;
+    }
 }
 
 impl Model for OwnServer {

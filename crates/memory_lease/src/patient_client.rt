@@ -11,7 +11,6 @@ use std::marker::Model;
 
 /// A client that sends one frame after the other, and the next one only after a turn in which it was given nothing; what stands
 /// behind its last whole frame comes last, as one. Then it hangs up.
-#[derive(Drop)]
 pub(crate) struct PatientClient<'a> {
     input: &'a [u8],
     /// So many bytes of the input were taken.
@@ -25,6 +24,23 @@ pub(crate) struct PatientClient<'a> {
     hung_up: bool,
     faults: u64,
     waits: u64,
+}
+
+/// A drop of its own is proved here once, and not in each crate above.
+impl<'a> Drop for PatientClient<'a> {
+    fn drop(self) {
+        let PatientClient {
+            input: _,
+            at: _,
+            border: _,
+            given: _,
+            cut: _,
+            rests: _,
+            hung_up: _,
+            faults: _,
+            waits: _,
+        } = self;
+    }
 }
 
 impl<'a> Model for PatientClient<'a> {

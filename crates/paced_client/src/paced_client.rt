@@ -18,7 +18,6 @@ use std::marker::Model;
 ///
 /// A server drops closing messages unanswered between an error of an extended message and the next Sync; a client that sends
 /// a Query or FunctionCall there waits for ever.
-#[derive(Drop)]
 pub struct PacedClient {
     input: BytesMut,
     /// So many bytes of the input were taken.
@@ -30,6 +29,22 @@ pub struct PacedClient {
     cut: usize,
     faults: u64,
     waits: u64,
+}
+
+/// A drop of its own is proved here once, and not in each crate above.
+impl Drop for PacedClient {
+    fn drop(self) {
+        let PacedClient {
+            input: _,
+            at: _,
+            pauses: _,
+            given: _,
+            heard: _,
+            cut: _,
+            faults: _,
+            waits: _,
+        } = self;
+    }
 }
 
 impl Model for PacedClient {

@@ -32,11 +32,21 @@ impl From<AllocError> for ReportFault {
 
 /// A parameter that the start reported: its name, the value at the start, and whether the value last told is
 /// another.
-#[derive(Drop)]
 pub struct StartReport {
     name: Text,
     value: Text,
     differs: bool,
+}
+
+/// A drop of its own is proved here once, and not in each crate above.
+impl Drop for StartReport {
+    fn drop(self) {
+        let StartReport {
+            name: _,
+            value: _,
+            differs: _,
+        } = self;
+    }
 }
 
 impl Model for StartReport {
@@ -97,9 +107,15 @@ impl StartReport {
 
 /// The parameters that a link's start reported, each name once, in the order in which they came; and which of
 /// them the server has told another value of since then.
-#[derive(Drop)]
 pub struct Reported {
     reports: Vec<StartReport>,
+}
+
+/// A drop of its own is proved here once, and not in each crate above.
+impl Drop for Reported {
+    fn drop(self) {
+        let Reported { reports: _ } = self;
+    }
 }
 
 impl Model for Reported {

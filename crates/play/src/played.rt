@@ -2,14 +2,26 @@
 use bytes::BytesMut;
 
 /// What one client was given, and the numbers of the links that it had, in turn.
-#[derive(Drop)]
 pub struct Given {
     pub bytes: BytesMut,
     pub links: Vec<u64>,
 }
 
+/// A drop of its own is proved here once, and not in each crate above.
+impl Drop for Given {
+    fn drop(self) {
+        let Given { bytes: _, links: _ } = self;
+    }
+}
+
 /// The clients of a play, in the order in which they came.
-#[derive(Drop)]
 pub struct Played {
     pub clients: Vec<Given>,
+}
+
+/// A drop of its own is proved here once, and not in each crate above.
+impl Drop for Played {
+    fn drop(self) {
+        let Played { clients: _ } = self;
+    }
 }

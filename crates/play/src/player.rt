@@ -14,11 +14,21 @@ use std::alloc::{AllocError, Global};
 use std::mem;
 
 /// A client: the words of its BackendKeyData, the numbers of the links that it had, and how far it is.
-#[derive(Drop)]
 pub(crate) struct Player<'a> {
     word: KeyWord,
     links: Vec<u64>,
     stage: Stage<'a>,
+}
+
+/// A drop of its own is proved here once, and not in each crate above.
+impl<'a> Drop for Player<'a> {
+    fn drop(self) {
+        let Player {
+            word: _,
+            links: _,
+            stage: _,
+        } = self;
+    }
 }
 
 impl<'a> Player<'a> {

@@ -13,12 +13,23 @@ use std::marker::Model;
 const MOST_TURNS: u32 = 100_000;
 
 /// The clients of a play, in the order of their scripts, and what they are served over.
-#[derive(Drop)]
 pub(crate) struct Table<'a> {
     alloc: Global,
     house: House,
     scripts: &'a [Script],
     players: Vec<Player<'a>>,
+}
+
+/// A drop of its own is proved here once, and not in each crate above.
+impl<'a> Drop for Table<'a> {
+    fn drop(self) {
+        let Table {
+            alloc: _,
+            house: _,
+            scripts: _,
+            players: _,
+        } = self;
+    }
 }
 
 impl<'a> Model for Table<'a> {

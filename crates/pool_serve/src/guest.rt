@@ -7,10 +7,21 @@ use std::sync::Arc;
 
 /// A client that is through its login: its number in the book, its start key, its key word, and the login, whose settings and
 /// users it keeps.
-#[derive(Drop)]
 pub(crate) struct Guest {
     pub number: u64,
     pub key: Arc<StartKey>,
     pub word: KeyWord,
     pub login: Login,
+}
+
+/// A drop of its own is proved here once, and not in each crate above.
+impl Drop for Guest {
+    fn drop(self) {
+        let Guest {
+            number: _,
+            key: _,
+            word: _,
+            login: _,
+        } = self;
+    }
 }

@@ -43,7 +43,6 @@ pub enum Returned<E: ServerEnd> {
 /// The client is given the welcome first, and then the server's frames; the link is given the client's frames, in their order
 /// and unchanged. Client's Terminate stays here. Contracts see the ends' facts, the two buffers, the counts and the flags;
 /// that some lease is under way (`IsLease`) is the type's invariant, and the laws of `relay_laws` say what follows from it.
-#[derive(Drop)]
 pub struct Relay<C: ClientEnd, E: ServerEnd> {
     pub(crate) client: C,
     pub(crate) link: Lent<E>,
@@ -55,6 +54,24 @@ pub struct Relay<C: ClientEnd, E: ServerEnd> {
     pub(crate) traffic: Traffic,
     pub(crate) flags: Flags,
     pub(crate) phase: Phase,
+}
+
+/// A drop of its own is proved here once, and not in each crate above.
+impl<C: ClientEnd, E: ServerEnd> Drop for Relay<C, E> {
+    fn drop(self) {
+        let Relay {
+            client: _,
+            link: _,
+            word: _,
+            welcome: _,
+            greeted: _,
+            to_link: _,
+            to_client: _,
+            traffic: _,
+            flags: _,
+            phase: _,
+        } = self;
+    }
 }
 
 impl<C: ClientEnd, E: ServerEnd> Model for Relay<C, E> {

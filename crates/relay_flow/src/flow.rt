@@ -39,7 +39,6 @@ pub enum Ends {
 
 /// The buffer of one direction. Contracts see of it the bytes that are held and may go on, the part behind them that may
 /// not yet, the free room, and the cursor.
-#[derive(Drop)]
 pub struct Flow {
     bytes: Vec<u8>,
     start: usize,
@@ -50,6 +49,23 @@ pub struct Flow {
     side: Side,
     limit: u32,
     ends: Ends,
+}
+
+/// A drop of its own is proved here once, and not in each crate above.
+impl Drop for Flow {
+    fn drop(self) {
+        let Flow {
+            bytes: _,
+            start: _,
+            pass: _,
+            fill: _,
+            kind: _,
+            rest: _,
+            side: _,
+            limit: _,
+            ends: _,
+        } = self;
+    }
 }
 
 impl Model for Flow {

@@ -16,11 +16,21 @@ use std::marker::Model;
 use std::sync::Arc;
 
 /// What the lines of a file spell together.
-#[derive(Drop)]
 pub(crate) struct Whole {
     version: Text,
     databases: Shared<Text>,
     tables: Shared<Table>,
+}
+
+/// A drop of its own is proved here once, and not in each crate above.
+impl Drop for Whole {
+    fn drop(self) {
+        let Whole {
+            version: _,
+            databases: _,
+            tables: _,
+        } = self;
+    }
 }
 
 impl Model for Whole {
@@ -71,9 +81,15 @@ fn read_whole(alloc: Global, text: &[u8]) -> Result<Whole, CatalogueFault>
 /// What the stand-in server serves: its version, the names of its databases, and tables, which all
 /// databases have. Its texts have no zero byte where a message holds them, and its tables at most 64 columns: whatever it
 /// serves can be sent.
-#[derive(Drop)]
 pub struct Catalogue {
     whole: Whole,
+}
+
+/// A drop of its own is proved here once, and not in each crate above.
+impl Drop for Catalogue {
+    fn drop(self) {
+        let Catalogue { whole: _ } = self;
+    }
 }
 
 impl Model for Catalogue {

@@ -42,7 +42,6 @@ pub(crate) enum Progress {
 }
 
 /// What a server keeps from its beginning to its end.
-#[derive(Drop)]
 pub(crate) struct Host {
     pub(crate) alloc: Global,
     pub(crate) catalogue: Arc<Catalogue>,
@@ -50,6 +49,19 @@ pub(crate) struct Host {
     pub(crate) question: Question,
     /// The right answer to the question.
     pub(crate) answer: Text,
+}
+
+/// A drop of its own is proved here once, and not in each crate above.
+impl Drop for Host {
+    fn drop(self) {
+        let Host {
+            alloc: _,
+            catalogue: _,
+            own: _,
+            question: _,
+            answer: _,
+        } = self;
+    }
 }
 
 /// The session that a StartupMessage asks for, by the bytes after its code.
@@ -193,12 +205,23 @@ impl Host {
 }
 
 /// A server in its dialogue with one client: what it has still to take and to give, and how far the client has come.
-#[derive(Drop)]
 pub(crate) struct Dialogue {
     pub(crate) host: Host,
     pub(crate) progress: Progress,
     pub(crate) inbox: BytesMut,
     pub(crate) outbox: BytesMut,
+}
+
+/// A drop of its own is proved here once, and not in each crate above.
+impl Drop for Dialogue {
+    fn drop(self) {
+        let Dialogue {
+            host: _,
+            progress: _,
+            inbox: _,
+            outbox: _,
+        } = self;
+    }
 }
 
 /// Goes on to what comes next, if anything does.

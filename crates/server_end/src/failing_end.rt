@@ -16,10 +16,16 @@ enum Calls {
 
 /// An end that is the one inside up to one of its reads and writes, and answers [`Moved::Fault`] to that one and to every later
 /// one. At the last count that a number of eight bytes has it answers [`Moved::Ended`].
-#[derive(Drop)]
 pub struct FailingEnd<E: Drop> {
     inner: E,
     calls: Calls,
+}
+
+/// A drop of its own is proved here once, and not in each crate above.
+impl<E: Drop> Drop for FailingEnd<E> {
+    fn drop(self) {
+        let FailingEnd { inner: _, calls: _ } = self;
+    }
 }
 
 impl Calls {

@@ -9,7 +9,6 @@ use std::alloc::{AllocError, Global};
 use std::marker::Model;
 
 /// A client in memory: it hands out its input, and keeps what it was given.
-#[derive(Drop)]
 pub struct MemoryClient {
     input: BytesMut,
     /// So many bytes of the input were taken.
@@ -19,6 +18,21 @@ pub struct MemoryClient {
     hung_up: bool,
     faults: u64,
     waits: u64,
+}
+
+/// A drop of its own is proved here once, and not in each crate above.
+impl Drop for MemoryClient {
+    fn drop(self) {
+        let MemoryClient {
+            input: _,
+            at: _,
+            given: _,
+            cut: _,
+            hung_up: _,
+            faults: _,
+            waits: _,
+        } = self;
+    }
 }
 
 impl Model for MemoryClient {

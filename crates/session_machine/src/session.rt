@@ -25,9 +25,15 @@ use std::marker::Model;
 pub type StartError = Cause;
 
 /// A session of the stand-in server. Its copies share what they hold.
-#[derive(Drop)]
 pub struct Session {
     state: SessionState,
+}
+
+/// A drop of its own is proved here once, and not in each crate above.
+impl Drop for Session {
+    fn drop(self) {
+        let Session { state: _ } = self;
+    }
 }
 
 impl Model for Session {

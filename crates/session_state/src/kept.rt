@@ -79,12 +79,22 @@ fn all_at_progress(
 }
 
 /// The prepared statements and portals of a session. What copies hold is shared.
-#[derive(Drop)]
 pub(crate) struct Kept {
     pub statements: Shared<Prepared>,
     /// Where this is false, a Query has no unnamed statement to look for.
     pub may_have_unnamed: bool,
     pub portals: Shared<Portal>,
+}
+
+/// A drop of its own is proved here once, and not in each crate above.
+impl Drop for Kept {
+    fn drop(self) {
+        let Kept {
+            statements: _,
+            may_have_unnamed: _,
+            portals: _,
+        } = self;
+    }
 }
 
 impl Kept {

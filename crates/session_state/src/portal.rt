@@ -14,11 +14,21 @@ use std::marker::Model;
 use std::sync::Arc;
 
 /// A prepared statement.
-#[derive(Drop)]
 pub struct Prepared {
     name: Text,
     query: Text,
     oids: Vec<u32>,
+}
+
+/// A drop of its own is proved here once, and not in each crate above.
+impl Drop for Prepared {
+    fn drop(self) {
+        let Prepared {
+            name: _,
+            query: _,
+            oids: _,
+        } = self;
+    }
 }
 
 impl Model for Prepared {
@@ -70,10 +80,16 @@ impl Prepared {
 }
 
 /// The rows of a portal that are left.
-#[derive(Drop)]
 pub struct Rows {
     list: Shared<Row>,
     from: usize,
+}
+
+/// A drop of its own is proved here once, and not in each crate above.
+impl Drop for Rows {
+    fn drop(self) {
+        let Rows { list: _, from: _ } = self;
+    }
 }
 
 impl Model for Rows {
@@ -130,13 +146,23 @@ impl Rows {
 }
 
 /// How far a portal has come.
-#[derive(Drop)]
 pub enum Progress {
     NotRun,
     /// The rows that are left.
     Remaining(Rows),
     /// Run, and it gives no rows.
     Finished,
+}
+
+/// A drop of its own is proved here once, and not in each crate above.
+impl Drop for Progress {
+    fn drop(self) {
+        match self {
+            Progress::NotRun => {}
+            Progress::Remaining(_first) => {}
+            Progress::Finished => {}
+        }
+    }
 }
 
 impl Progress {
@@ -153,7 +179,6 @@ impl Progress {
 }
 
 /// What a Bind fixed.
-#[derive(Drop)]
 pub struct BoundStatement {
     pub portal: Text,
     pub statement: Text,
@@ -162,13 +187,36 @@ pub struct BoundStatement {
     pub formats: Vec<u16>,
 }
 
+/// A drop of its own is proved here once, and not in each crate above.
+impl Drop for BoundStatement {
+    fn drop(self) {
+        let BoundStatement {
+            portal: _,
+            statement: _,
+            query: _,
+            given: _,
+            formats: _,
+        } = self;
+    }
+}
+
 /// A portal: a statement with its values. Its copies share them.
-#[derive(Drop)]
 pub struct Portal {
     bound: Arc<BoundStatement>,
     /// Its statement was replaced or dropped without a Close.
     is_orphan: bool,
     progress: Progress,
+}
+
+/// A drop of its own is proved here once, and not in each crate above.
+impl Drop for Portal {
+    fn drop(self) {
+        let Portal {
+            bound: _,
+            is_orphan: _,
+            progress: _,
+        } = self;
+    }
 }
 
 impl Model for Portal {

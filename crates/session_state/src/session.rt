@@ -16,7 +16,6 @@ use std::marker::Model;
 use std::mem;
 
 /// A session of the stand-in server. Its copies share what they hold.
-#[derive(Drop)]
 pub struct SessionState {
     pub(crate) defaults: Values,
     pub(crate) reported: Shared<Text>,
@@ -28,6 +27,23 @@ pub struct SessionState {
     pub(crate) is_skipping: bool,
     pub(crate) has_ended: bool,
     pub(crate) kept: Kept,
+}
+
+/// A drop of its own is proved here once, and not in each crate above.
+impl Drop for SessionState {
+    fn drop(self) {
+        let SessionState {
+            defaults: _,
+            reported: _,
+            is_reported: _,
+            work: _,
+            saved: _,
+            block: _,
+            is_skipping: _,
+            has_ended: _,
+            kept: _,
+        } = self;
+    }
 }
 
 impl Model for SessionState {

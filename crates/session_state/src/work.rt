@@ -8,10 +8,19 @@ use std::alloc::{AllocError, Global};
 use std::marker::Model;
 
 /// What a transaction may change and a roll back gives back: values and temporary tables.
-#[derive(Drop)]
 pub struct Work {
     pub values: Values,
     pub tables: Shared<Table>,
+}
+
+/// A drop of its own is proved here once, and not in each crate above.
+impl Drop for Work {
+    fn drop(self) {
+        let Work {
+            values: _,
+            tables: _,
+        } = self;
+    }
 }
 
 impl Model for Work {

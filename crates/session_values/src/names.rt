@@ -10,9 +10,15 @@ use std::marker::Model;
 use std::sync::Arc;
 
 /// The names of at most 64 columns. Contracts see a list.
-#[derive(Drop)]
 pub struct Names {
     list: Vec<Text>,
+}
+
+/// A drop of its own is proved here once, and not in each crate above.
+impl Drop for Names {
+    fn drop(self) {
+        let Names { list: _ } = self;
+    }
 }
 
 impl Model for Names {

@@ -10,11 +10,17 @@ use std::sync::Arc;
 const CHUNK: usize = 64;
 
 /// A list that grows at its end, and whose copies share their items. Contracts see it as the list.
-#[derive(Drop)]
 pub struct AppendList<T> {
     /// Lists of `CHUNK` items each.
     full: Shared<Shared<T>>,
     tail: Shared<T>,
+}
+
+/// A drop of its own is proved here once, and not in each crate above.
+impl<T: Drop> Drop for AppendList<T> {
+    fn drop(self) {
+        let AppendList { full: _, tail: _ } = self;
+    }
 }
 
 impl<T> Model for AppendList<T> {

@@ -7,9 +7,15 @@ use std::marker::Model;
 use std::sync::Arc;
 
 /// A list whose copies share their items. Contracts see it as the list.
-#[derive(Drop)]
 pub struct Shared<T> {
     list: Arc<Vec<Arc<T>>>,
+}
+
+/// A drop of its own is proved here once, and not in each crate above.
+impl<T: Drop> Drop for Shared<T> {
+    fn drop(self) {
+        let Shared { list: _ } = self;
+    }
 }
 
 impl<T> Model for Shared<T> {

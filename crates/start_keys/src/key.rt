@@ -16,7 +16,6 @@ pub type StartParameter = (Text, Text);
 ///
 /// Parameters stand by name, each once. Where the settings have no such database row, `host` is
 /// none, `port` 0 and `dbname` empty.
-#[derive(Drop)]
 pub struct StartKey {
     pub row: Text,
     pub host: Option<[u8; 4]>,
@@ -24,6 +23,20 @@ pub struct StartKey {
     pub dbname: Text,
     pub user: Text,
     pub parameters: Vec<StartParameter>,
+}
+
+/// A drop of its own is proved here once, and not in each crate above.
+impl Drop for StartKey {
+    fn drop(self) {
+        let StartKey {
+            row: _,
+            host: _,
+            port: _,
+            dbname: _,
+            user: _,
+            parameters: _,
+        } = self;
+    }
 }
 
 impl Model for StartKey {

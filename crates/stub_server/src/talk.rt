@@ -52,20 +52,41 @@ pub enum Took {
 }
 
 /// What a server keeps from the beginning of a talk to its end.
-#[derive(Drop)]
 pub struct Host {
     alloc: Global,
     catalogue: Arc<Catalogue>,
     own: KeyWord,
 }
 
+/// A drop of its own is proved here once, and not in each crate above.
+impl Drop for Host {
+    fn drop(self) {
+        let Host {
+            alloc: _,
+            catalogue: _,
+            own: _,
+        } = self;
+    }
+}
+
 /// A server in its talk with one client: what it has still to take and to give. After an error it is of no use.
-#[derive(Drop)]
 pub struct Talk {
     host: Host,
     stage: Stage,
     inbox: BytesMut,
     outbox: BytesMut,
+}
+
+/// A drop of its own is proved here once, and not in each crate above.
+impl Drop for Talk {
+    fn drop(self) {
+        let Talk {
+            host: _,
+            stage: _,
+            inbox: _,
+            outbox: _,
+        } = self;
+    }
 }
 
 impl Model for Talk {

@@ -18,12 +18,23 @@ const LISTENER: Token = Token(0);
 const LONGEST_WAIT: u64 = 100;
 
 /// A listener, and where it waits for the next connection.
-#[derive(Drop)]
 pub struct Acceptor {
     alloc: Global,
     listener: TcpListener,
     poll: Poll,
     events: Events<Global>,
+}
+
+/// A drop of its own is proved here once, and not in each crate above.
+impl Drop for Acceptor {
+    fn drop(self) {
+        let Acceptor {
+            alloc: _,
+            listener: _,
+            poll: _,
+            events: _,
+        } = self;
+    }
 }
 
 impl Acceptor {

@@ -24,12 +24,23 @@ const LONGEST_WAIT: u64 = 100;
 
 /// Where a worker waits for the bytes of its client, and of its link while that is watched. A turn waits for at most 100 ms, and
 /// not at all where the last read of an end since the turn before came to something; it names both sides.
-#[derive(Drop)]
 pub struct TcpGate {
     poll: Poll,
     events: Events<Global>,
     client: Arc<AtomicBool>,
     link: Option<Arc<AtomicBool>>,
+}
+
+/// A drop of its own is proved here once, and not in each crate above.
+impl Drop for TcpGate {
+    fn drop(self) {
+        let TcpGate {
+            poll: _,
+            events: _,
+            client: _,
+            link: _,
+        } = self;
+    }
 }
 
 /// Whether there may be more, by what was noted since this was last asked.

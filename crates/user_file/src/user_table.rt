@@ -12,10 +12,16 @@ use std::marker::Model;
 use text_lines::Text;
 
 /// A user: a name that isn't empty, and a secret. It shows without name and secret.
-#[derive(Drop)]
 pub struct UserRow {
     pub name: Text,
     pub secret: Secret,
+}
+
+/// A drop of its own is proved here once, and not in each crate above.
+impl Drop for UserRow {
+    fn drop(self) {
+        let UserRow { name: _, secret: _ } = self;
+    }
 }
 
 impl fmt::Debug for UserRow {
@@ -25,9 +31,15 @@ impl fmt::Debug for UserRow {
 }
 
 /// Users in the order of the file, found by name.
-#[derive(Drop)]
 pub struct Users {
     by_name: IndexMap<Vec<u8>, UserRow>,
+}
+
+/// A drop of its own is proved here once, and not in each crate above.
+impl Drop for Users {
+    fn drop(self) {
+        let Users { by_name: _ } = self;
+    }
 }
 
 impl Model for Users {
