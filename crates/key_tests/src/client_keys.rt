@@ -1,4 +1,5 @@
 //! Clients' StartupMessages under settings.
+use crate::parts::{has_parameters, is_at, is_of};
 use ini_config::read_settings;
 use message_view::StartupView;
 use param_track::{StartFault, start_key};
@@ -9,6 +10,9 @@ use std::test::Fail;
 const SETTINGS: &[u8] =
     b"[databases]\nshop = host=127.0.0.1 port=5432 dbname=shop\nnews = host=10.1.2.3 port=6000 dbname=press\n\
 [pgbouncer]\ntrack_extra_parameters = IntervalStyle, Search_Path, USER\nignore_startup_parameters = Extra_Float_Digits, Database, intervalstyle\n";
+
+/// A client that wants to replicate.
+const REPLICATION: &[u8] = b"user\0ann\0Replication\0database\0\0";
 
 fn key(alloc: Global, text: &[u8], body: &[u8]) -> Result<Result<StartKey, StartFault>, Fail> {
     let settings = read_settings(alloc, text)?;
@@ -23,27 +27,17 @@ fn fault(alloc: Global, text: &[u8], body: &[u8]) -> Result<Option<StartFault>, 
 #[test]
 fn of_a_row(rt: HostRuntime) -> Result<(), Fail> {
     let key = key(rt.alloc(), SETTINGS, b"user\0ann\0database\0news\0\0")??;
-    assert_eq!(rt; key.host, Some([10, 1, 2, 3]));
-    assert_eq!(rt; key.port, 6000);
-    assert_eq!(rt; key.parameters.len(), 0);
-    let texts: [(&[u8], &[u8]); 3] = [
-        (key.row.as_slice(), b"news"),
-        (key.dbname.as_slice(), b"press"),
-        (key.user.as_slice(), b"ann"),
-    ];
-    for (text, wanted) in texts {
-        assert_eq!(rt; text, wanted);
-    }
+    assert!(rt; is_of(&key, b"news", b"press", b"ann"));
+    assert!(rt; is_at(&key, Some([10, 1, 2, 3]), 6000));
+    assert!(rt; has_parameters(&key, &[]));
     Ok(())
 }
 
 #[test]
 fn of_no_row(rt: HostRuntime) -> Result<(), Fail> {
     let key = key(rt.alloc(), SETTINGS, b"user\0ann\0database\0\0\0")??;
-    assert_eq!(rt; key.row.as_slice(), b"ann".as_slice());
-    assert_eq!(rt; key.host, None);
-    assert_eq!(rt; key.port, 0);
-    assert_eq!(rt; key.dbname.as_slice(), b"".as_slice());
+    assert!(rt; is_of(&key, b"ann", b"", b"ann"));
+    assert!(rt; is_at(&key, None, 0));
     Ok(())
 }
 
@@ -58,12 +52,8 @@ fn parameters_by_name(rt: HostRuntime) -> Result<(), Fail> {
         (b"search_path", b"x"),
         (b"timezone", b"UTC"),
     ];
-    assert_eq!(rt; key.user.as_slice(), b"ann".as_slice());
-    assert_eq!(rt; key.parameters.len(), wanted.len());
-    for (parameter, (name, value)) in key.parameters.iter().zip(wanted) {
-        assert_eq!(rt; parameter.0.as_slice(), name);
-        assert_eq!(rt; parameter.1.as_slice(), value);
-    }
+    assert!(rt; key.user.is(b"ann"));
+    assert!(rt; has_parameters(&key, &wanted));
     Ok(())
 }
 
@@ -96,31 +86,36 @@ fn faults(rt: HostRuntime) -> Result<(), Fail> {
 }
 
 #[test]
-fn replication(rt: HostRuntime) -> Result<(), Fail> {
-    let body = b"user\0ann\0Replication\0database\0\0";
+fn replication_that_is_tracked(rt: HostRuntime) -> Result<(), Fail> {
     let tracked = b"[pgbouncer]\ntrack_extra_parameters = replication\n";
-    let ignored = b"[pgbouncer]\nignore_startup_parameters = replication\n";
-    let both =
-        b"[pgbouncer]\ntrack_extra_parameters = replication\nignore_startup_parameters = replication\n";
     assert_eq!(rt;
-        fault(rt.alloc(), tracked, body)?,
+        fault(rt.alloc(), tracked, REPLICATION)?,
         Some(StartFault::Replication)
     );
-    let dropped = key(rt.alloc(), ignored, body)??;
-    assert_eq!(rt; dropped.parameters.len(), 0);
-    let followed = key(rt.alloc(), both, body)??;
-    assert_eq!(rt; followed.parameters.len(), 1);
-    assert_eq!(rt;
-        followed.parameters[0].0.as_slice(),
-        b"replication".as_slice()
-    );
+    Ok(())
+}
+
+#[test]
+fn replication_that_is_ignored(rt: HostRuntime) -> Result<(), Fail> {
+    let ignored = b"[pgbouncer]\nignore_startup_parameters = replication\n";
+    let key = key(rt.alloc(), ignored, REPLICATION)??;
+    assert!(rt; has_parameters(&key, &[]));
+    Ok(())
+}
+
+#[test]
+fn replication_that_is_both(rt: HostRuntime) -> Result<(), Fail> {
+    let both =
+        b"[pgbouncer]\ntrack_extra_parameters = replication\nignore_startup_parameters = replication\n";
+    let key = key(rt.alloc(), both, REPLICATION)??;
+    assert!(rt; has_parameters(&key, &[(b"replication", b"database")]));
     Ok(())
 }
 
 #[test]
 fn folded_to_identity_is_dropped(rt: HostRuntime) -> Result<(), Fail> {
     let key = key(rt.alloc(), SETTINGS, b"user\0ann\0DataBase\0news\0\0")??;
-    assert_eq!(rt; key.row.as_slice(), b"ann".as_slice());
-    assert_eq!(rt; key.parameters.len(), 0);
+    assert!(rt; key.row.is(b"ann"));
+    assert!(rt; has_parameters(&key, &[]));
     Ok(())
 }

@@ -4,4 +4,6 @@
 #[cfg(test)]
 mod client_keys;
 #[cfg(test)]
+mod parts;
+#[cfg(test)]
 mod stub_keys;

@@ -1,4 +1,5 @@
 //! The keys by which stand-in servers start their own sessions, and keys that are compared.
+use crate::parts::{has_parameters, is_at, is_of};
 use message_view::StartupView;
 use session_values::cause::Cause;
 use session_values::stop::Stop;
@@ -28,23 +29,16 @@ fn of_a_message(rt: HostRuntime) -> Result<(), Fail> {
         (b"options", b"-c x=y"),
         (b"timezone", b"UTC"),
     ];
-    assert_eq!(rt; key.row.as_slice(), b"shop".as_slice());
-    assert_eq!(rt; key.user.as_slice(), b"ann".as_slice());
-    assert_eq!(rt; key.parameters.len(), wanted.len());
-    for (parameter, (name, value)) in key.parameters.iter().zip(wanted) {
-        assert_eq!(rt; parameter.0.as_slice(), name);
-        assert_eq!(rt; parameter.1.as_slice(), value);
-    }
+    assert!(rt; is_of(&key, b"shop", b"shop", b"ann"));
+    assert!(rt; has_parameters(&key, &wanted));
     Ok(())
 }
 
 #[test]
 fn where_the_server_is(rt: HostRuntime) -> Result<(), Fail> {
     let key = key(rt.alloc(), b"user\0ann\0\0")??;
-    assert_eq!(rt; key.row.as_slice(), b"ann".as_slice());
-    assert_eq!(rt; key.dbname.as_slice(), b"ann".as_slice());
-    assert_eq!(rt; key.host, Some([127, 0, 0, 1]));
-    assert_eq!(rt; key.port, 0);
+    assert!(rt; is_of(&key, b"ann", b"ann", b"ann"));
+    assert!(rt; is_at(&key, Some([127, 0, 0, 1]), 0));
     Ok(())
 }
 
