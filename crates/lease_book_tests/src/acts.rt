@@ -4,6 +4,7 @@ ghost use Rattle.lease_book.specs.Links.{IsTwice};
 use crate::parts::{Gone, Settings, Whose, key_of, limits, link};
 use book_lists::events::ClientState;
 use book_register::view::Waiting;
+use book_rows::clients::Client;
 use lease_book::book::Book;
 use lease_book::events::{Event, Reply};
 use link_run::links::CleanLink;
@@ -81,6 +82,16 @@ fn by_numbers(reply: Reply<Gone>) -> Told {
 pub(crate) struct Story {
     alloc: Global,
     book: Book<Gone>,
+}
+
+/// The state of the client of this number, if it is one of these.
+fn state_in(clients: &[Client], number: u64) -> Option<ClientState> {
+    for client in clients {
+        if client.number == number {
+            return Some(client.state);
+        }
+    }
+    None
 }
 
 impl Story {
@@ -164,12 +175,7 @@ impl Story {
     /// The state that the view shows of a client.
     pub(crate) fn state_of(&self, client: u64) -> Result<Option<ClientState>, AllocError> {
         let view = self.book.view(self.alloc)?;
-        for shown in &view.clients {
-            if shown.number == client {
-                return Ok(Some(shown.state));
-            }
-        }
-        Ok(None)
+        Ok(state_in(&view.clients, client))
     }
 
     /// The client and the second of the view's first ticket.
