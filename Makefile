@@ -11,8 +11,6 @@ DESTDIR ?=
 
 program := crates/pgsess/out/pgsess
 trials := crates/trials/out/trials
-relay_bench := crates/relay_bench/out/relay_bench
-book_bench := crates/book_bench/out/book_bench
 sources := crates.txt $(shell find crates -name out -prune -o -name must-fail -prune -o \( -name '*.rt' -o -name '*.antt' \) -print)
 
 # the program, as `rt ci` or an earlier build left it; else proved and built now
@@ -22,7 +20,7 @@ $(program): $(sources)
 	@touch $(program)
 	@echo "built $(program) ($$(date +%T))"
 
-# the tool of the tests, likewise; it isn't installed
+# the tool of the tests and measurements, likewise; it isn't installed
 $(trials): $(sources)
 	@scripts/prove.py trials solo "$(CURDIR)/tests/rows/catalogue.tsv" ann
 	@touch $(trials)
@@ -64,21 +62,9 @@ install: build/pgsess
 	install -d "$(DESTDIR)$(PREFIX)/bin"
 	install -m 755 build/pgsess "$(DESTDIR)$(PREFIX)/bin/pgsess"
 
-# the relay between ends in memory; it isn't installed
-$(relay_bench): $(sources)
-	@scripts/prove.py relay_bench 12 1000000
-	@touch $(relay_bench)
-	@echo "built $(relay_bench) ($$(date +%T))"
-
-# events of a lease book; it isn't installed
-$(book_bench): $(sources)
-	@scripts/prove.py book_bench 10 100
-	@touch $(book_bench)
-	@echo "built $(book_bench) ($$(date +%T))"
-
 # all run; the status says whether a bound was missed
-bench: build/pgsess $(relay_bench) $(book_bench)
-	@status=0; bench/replay.sh build/pgsess || status=$$?; bench/tables.sh build/pgsess || status=$$?; bench/relay.sh $(relay_bench) || status=$$?; bench/book.sh $(book_bench) || status=$$?; bench/pool.sh build/pgsess || status=$$?; exit $$status
+bench: build/pgsess $(trials)
+	@status=0; bench/replay.sh build/pgsess || status=$$?; bench/tables.sh build/pgsess || status=$$?; bench/relay.sh $(trials) || status=$$?; bench/book.sh $(trials) || status=$$?; bench/pool.sh build/pgsess || status=$$?; exit $$status
 
 clean:
 	rm -rf build crates/*/out

@@ -1,5 +1,5 @@
 #!/usr/bin/env bash
-# book.sh BOOK_BENCH [EVENTS]: what an event of the lease book costs with 100 clients and with 10,000, in processor time. The bound: with
+# book.sh TRIALS [EVENTS]: what an event of the lease book costs with 100 clients and with 10,000, in processor time. The bound: with
 # 10,000 at most 3 times as much.
 set -euo pipefail
 cd "$(dirname "$0")/.."
@@ -14,7 +14,7 @@ program, events = sys.argv[1], int(sys.argv[2])
 def seconds(clients, events):
     """The processor time of one run."""
     before = resource.getrusage(resource.RUSAGE_CHILDREN).ru_utime
-    subprocess.run([program, str(clients), str(events)], check=True, stdout=subprocess.DEVNULL)
+    subprocess.run([program, "book", str(clients), str(events)], check=True, stdout=subprocess.DEVNULL)
     return resource.getrusage(resource.RUSAGE_CHILDREN).ru_utime - before
 
 

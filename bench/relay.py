@@ -3,13 +3,13 @@ import sys
 
 from timing import judged, seconds
 
-RELAY, COPY = sys.argv[1:3]
+RELAY, COPY = [sys.argv[1], "relay"], [sys.argv[2]]
 SIZES = [10_000_000, 100_000_000, 1_000_000_000]
 
 
 def taken(program, row, total, *more):
     """Seconds of processor time for a gigabyte."""
-    return seconds([program, str(row), str(total), *more], b"", 3) * 1e9 / total
+    return seconds([*program, str(row), str(total), *more], b"", 3) * 1e9 / total
 
 
 def main():

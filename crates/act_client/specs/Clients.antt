@@ -1,7 +1,7 @@
 -- A client in memory that sends by its script, as its callers see it.
-use Rattle.std.specs.Prelude.{◌≡◌, ℕ, Bool, true, false, ◌||◌, List, [], ◌∷◌, ◌++◌, length, take}
+use Rattle.std.specs.Prelude.{◌≡◌, ℕ, Bool, true, false, ◌||◌, List, [], ◌++◌, take}
 use Rattle.link_laws.specs.Standing.{ClientFacts}
-use Rattle.server_end.specs.Clients.{is_broken}
+use Rattle.memory_ends.specs.Clients.{given_with, is_broken}
 
 pub record ActClientOf : Type 0 where
   -- all that it sends, and how much of it was taken
@@ -23,10 +23,6 @@ given_more c bytes = record c { given = c.given ++ bytes }
 
 abbrev pub has_ended : ActClientOf → Bool
 has_ended c = is_broken c.faults c.waits || c.hung_up
-
--- The facts count as given, before all that it was, the client's whole input with its length: so they tell whose client it is.
-abbrev pub given_with : List ℕ → List ℕ → List ℕ
-given_with input given = length input ∷ (input ++ given)
 
 abbrev pub facts_of : ActClientOf → ClientFacts
 facts_of c = record {

@@ -1,7 +1,7 @@
 //! A client in memory that sends by its script.
 ghost use Rattle.std.specs.Prelude.{◌≡◌, ◌<◌, ◌≤◌, ◌+◌, ◌++◌, false, length, OnOk, OnErr};
 ghost use Rattle.server_end.specs.Moves.{ClientReads, ClientWrites, IsWithin, moved};
-ghost use Rattle.server_end.specs.Clients.{is_broken};
+ghost use Rattle.memory_ends.specs.Clients.{is_broken};
 ghost use Rattle.act_client.specs.Clients.{SameGiven, SameTaken, facts_of, given_more, has_ended, new_client, taken};
 
 use crate::script::Script;

@@ -9,8 +9,8 @@ use std::test::Fail;
 fn check<A: Abort>(rt: &A, alloc: Global, rows: &[(AppFault<'_>, &str, u8)]) -> Result<(), Fail> {
     for (fault, text, want) in rows {
         let line = fault_line(alloc, fault)?;
-        assert_eq!(rt; line.as_str(), *text);
-        assert_eq!(rt; status(fault), *want);
+        assert!(rt; line.as_str() == *text);
+        assert!(rt; status(fault) == *want);
     }
     Ok(())
 }
@@ -82,7 +82,7 @@ fn seeds_and_whole_reads(rt: HostRuntime) -> Result<(), Fail> {
     assert!(rt; seed_of("k", &[7; 33]) == Err(AppFault::File("k")));
     let bytes = b"abcd";
     match read_all(rt.alloc(), bytes.as_slice(), 4) {
-        Ok(all) => assert_eq!(rt; all.as_slice(), bytes.as_slice()),
+        Ok(all) => assert!(rt; all.as_slice() == bytes.as_slice()),
         Err(_) => assert!(rt; false),
     }
     assert!(rt; read_all(rt.alloc(), bytes.as_slice(), 3).is_err());

@@ -63,6 +63,6 @@ fn statuses_of_the_line(rt: HostRuntime) -> Result<(), Fail> {
             Err(fault) => assert_eq!(rt; fault.status(), want, "{text}"),
         }
     }
-    assert_eq!(rt; LineFault::NoJob.status(), 2);
+    assert!(rt; LineFault::NoJob.status() == 2);
     Ok(())
 }

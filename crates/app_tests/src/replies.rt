@@ -14,7 +14,7 @@ const WELCOME: &[u8] =
 fn replays_one_client(rt: HostRuntime) -> Result<(), Fail> {
     let mut output = Vec::new(rt.alloc());
     assert!(rt; replay(rt.alloc(), START, &mut output).is_ok());
-    assert_eq!(rt; output.as_slice(), WELCOME);
+    assert!(rt; output.as_slice() == WELCOME);
     Ok(())
 }
 
@@ -30,7 +30,7 @@ fn first_packets(rt: HostRuntime) -> Result<(), Fail> {
         (b"\0\0\0", b""),
     ];
     for (input, wanted) in rows {
-        assert_eq!(rt; replies(rt.alloc(), 8_192, None, input)?.as_slice(), wanted);
+        assert!(rt; replies(rt.alloc(), 8_192, None, input)?.as_slice() == wanted);
     }
     Ok(())
 }
@@ -55,9 +55,8 @@ fn nothing_follows_a_refused_start(rt: HostRuntime) -> Result<(), Fail> {
     let rows: [&[u8]; 4] = [b"", b"Q\0\0\0\x05\0", b"?\0\0\0\x04", b"Q\xff\xff\xff\xff"];
     for behind in rows {
         let input = joined(rt.alloc(), BAD_START, behind)?;
-        assert_eq!(rt;
-            replies(rt.alloc(), 8_192, None, input.as_slice())?.as_slice(),
-            REFUSED_START
+        assert!(rt;
+            replies(rt.alloc(), 8_192, None, input.as_slice())?.as_slice() == REFUSED_START
         );
     }
     Ok(())

@@ -203,7 +203,7 @@ fn a_second_client_gets_the_first_ones_link(rt: HostRuntime) -> Result<(), Fail>
         (Act::Leave(2), Says::Done),
     ];
     let (first, totals) = told_otherwise(&rt, rt.alloc(), 100, &acts)?;
-    assert_eq!(rt; first, None);
+    assert!(rt; first.is_none());
     let made = Totals {
         arrived: 2,
         granted: 2,
@@ -212,7 +212,7 @@ fn a_second_client_gets_the_first_ones_link(rt: HostRuntime) -> Result<(), Fail>
         left: 2,
         others: 2,
     };
-    assert_eq!(rt; totals, made);
+    assert!(rt; totals == made);
     Ok(())
 }
 
@@ -226,9 +226,9 @@ fn one_client_too_many_is_refused(rt: HostRuntime) -> Result<(), Fail> {
         (Act::Come, Says::Client(2)),
     ];
     let (first, totals) = told_otherwise(&rt, rt.alloc(), 1, &acts)?;
-    assert_eq!(rt; first, None);
-    assert_eq!(rt; totals.arrived, 2);
-    assert_eq!(rt; totals.others, 2);
+    assert!(rt; first.is_none());
+    assert!(rt; totals.arrived == 2);
+    assert!(rt; totals.others == 2);
     Ok(())
 }
 
@@ -243,8 +243,8 @@ fn who_is_strange_is_told_so(rt: HostRuntime) -> Result<(), Fail> {
         (Act::Leave(1), Says::Stranger),
     ];
     let (first, totals) = told_otherwise(&rt, rt.alloc(), 1, &acts)?;
-    assert_eq!(rt; first, None);
-    assert_eq!(rt; totals.others, 0);
+    assert!(rt; first.is_none());
+    assert!(rt; totals.others == 0);
     Ok(())
 }
 
@@ -268,8 +268,8 @@ fn a_desk_is_paused_and_shut(rt: HostRuntime) -> Result<(), Fail> {
         (Act::Come, refused),
     ];
     let (first, totals) = told_otherwise(&rt, rt.alloc(), 100, &acts)?;
-    assert_eq!(rt; first, None);
-    assert_eq!(rt; totals.lost, 1);
-    assert_eq!(rt; totals.others, 8);
+    assert!(rt; first.is_none());
+    assert!(rt; totals.lost == 1);
+    assert!(rt; totals.others == 8);
     Ok(())
 }

@@ -32,7 +32,7 @@ const ROWS: &[u8] =
 #[test]
 fn rows_in_their_order(rt: HostRuntime) -> Result<(), Fail> {
     let settings = read_settings(rt.alloc(), ROWS)?;
-    assert_eq!(rt; settings.rows.len(), 2);
+    assert!(rt; settings.rows.len() == 2);
     let names: [&[u8]; 2] = [b"shop", b"b"];
     for (place, name) in names.iter().enumerate() {
         assert!(rt; is_at(&settings, place, name));
@@ -58,7 +58,7 @@ fn pool_sizes(rt: HostRuntime) -> Result<(), Fail> {
     let settings = read_settings(rt.alloc(), ROWS)?;
     let sizes: [(&[u8], u32); 3] = [(b"shop", 2), (b"b", 7), (b"Shop", 0)];
     for (name, size) in sizes {
-        assert_eq!(rt; pool_size(&settings, name), size);
+        assert!(rt; pool_size(&settings, name) == size);
     }
     Ok(())
 }
@@ -88,7 +88,7 @@ fn settings_of_numbers(rt: HostRuntime) -> Result<(), Fail> {
     ];
     for (text, expected) in files {
         let settings = read_settings(rt.alloc(), text)?;
-        assert_eq!(rt; numbers(&settings), expected);
+        assert!(rt; numbers(&settings) == expected);
     }
     Ok(())
 }
@@ -127,7 +127,7 @@ fn lengths(settings: &Settings) -> [usize; 3] {
 fn settings_of_names(rt: HostRuntime) -> Result<(), Fail> {
     for (text, expected) in [(b"".as_slice(), [0, 0, 1]), (EVERY_KEY, [2, 2, 1])] {
         let settings = read_settings(rt.alloc(), text)?;
-        assert_eq!(rt; lengths(&settings), expected);
+        assert!(rt; lengths(&settings) == expected);
     }
     Ok(())
 }
@@ -152,7 +152,7 @@ fn names_are_found(rt: HostRuntime) -> Result<(), Fail> {
         (b"IntervalStyle", [false, false, false]),
     ];
     for (name, expected) in rows {
-        assert_eq!(rt; roles(&settings, name), expected);
+        assert!(rt; roles(&settings, name) == expected);
     }
     Ok(())
 }

@@ -23,7 +23,7 @@ fn passwords(rt: HostRuntime) -> Result<(), Fail> {
     ];
     for (secret, user, password, accepted) in rows {
         let secret = Secret::read(rt.alloc(), secret)?;
-        assert_eq!(rt; secret.accepts_plain(user, password), accepted);
+        assert!(rt; secret.accepts_plain(user, password) == accepted);
     }
     Ok(())
 }
@@ -35,7 +35,7 @@ const ANSWER: &[u8] = b"md596838e208aad1ff8fc396693d03e488d";
 fn answers(rt: HostRuntime) -> Result<(), Fail> {
     for text in [b"a".as_slice(), ABC] {
         let secret = Secret::read(rt.alloc(), text)?;
-        assert_eq!(rt; secret.answer(b"bc", [1, 2, 3, 4]).as_slice(), ANSWER);
+        assert!(rt; secret.answer(b"bc", [1, 2, 3, 4]).as_slice() == ANSWER);
         assert!(rt; secret.accepts_md5(b"bc", [1, 2, 3, 4], ANSWER));
         assert!(rt; !secret.accepts_md5(b"bc", [1, 2, 3, 5], ANSWER));
     }

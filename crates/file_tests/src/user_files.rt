@@ -28,7 +28,7 @@ fn faults_and_their_lines(rt: HostRuntime) -> Result<(), Fail> {
         (b"\"a\" \"x\"\n\"a\" \"y", Cause::BadQuoting, 2),
     ];
     for (text, cause, line) in rows {
-        assert_eq!(rt; fault(rt.alloc(), text), Some((cause, line)));
+        assert!(rt; fault(rt.alloc(), text) == Some((cause, line)));
     }
     Ok(())
 }
@@ -53,7 +53,7 @@ fn has_user(users: &Users, name: &[u8], password: &[u8]) -> bool {
 fn users_of_a_file(rt: HostRuntime) -> Result<(), Fail> {
     let text = b"# users\r\n\"a\"\"b\" \"c d\" rest\r\n \"e\"\t\"\"x\n\"Ann\" \"\"\"\"\n";
     let users = read_users(rt.alloc(), text)?;
-    assert_eq!(rt; users.len(), 3);
+    assert!(rt; users.len() == 3);
     let rows: [(&[u8], &[u8], bool); 4] = [
         (b"a\"b", b"c d", true),
         (b"e", b"", true),
@@ -61,7 +61,7 @@ fn users_of_a_file(rt: HostRuntime) -> Result<(), Fail> {
         (b"ann", b"\"", false),
     ];
     for (name, password, expected) in rows {
-        assert_eq!(rt; has_user(&users, name, password), expected);
+        assert!(rt; has_user(&users, name, password) == expected);
     }
     Ok(())
 }
@@ -103,7 +103,7 @@ fn a_fault_shows_as_code_and_line(rt: HostRuntime) -> Result<(), Fail> {
     for (cause, text) in rows {
         let fault = UserFault { cause, line: 7 };
         let line = format!(in rt.alloc(); "{fault}")?;
-        assert_eq!(rt; line.as_str(), text);
+        assert!(rt; line.as_str() == text);
     }
     Ok(())
 }

@@ -47,7 +47,7 @@ fn without_a_user(rt: HostRuntime) -> Result<(), Fail> {
     let bodies: [&[u8]; 3] = [b"\0", b"database\0shop\0\0", b"user\0ann\0user\0\0\0"];
     for body in bodies {
         let fault = key(rt.alloc(), body)?.err();
-        assert_eq!(rt; fault, Some(Stop::Refused(Cause::MalformedMessage)));
+        assert!(rt; fault == Some(Stop::Refused(Cause::MalformedMessage)));
     }
     Ok(())
 }
@@ -60,7 +60,7 @@ fn keys_that_are_equal(rt: HostRuntime) -> Result<(), Fail> {
         b"options\0b\0TIMEZONE\0UTC\0OPTIONS\0a\0user\0ann\0\0",
     )??;
     assert!(rt; left == right);
-    assert_eq!(rt; hash_of(&left), hash_of(&right));
+    assert!(rt; hash_of(&left) == hash_of(&right));
     Ok(())
 }
 

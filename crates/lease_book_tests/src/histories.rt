@@ -10,10 +10,10 @@ use std::test::Fail;
 fn the_last_decisions_are_kept(rt: HostRuntime) -> Result<(), Fail> {
     let mut story = Story::new(rt.alloc(), Settings::Default)?;
     for now in 1..301u64 {
-        assert_eq!(rt; story.play(Act::Tick(now))?, Told::Done);
+        assert!(rt; story.play(Act::Tick(now))? == Told::Done);
     }
-    assert_eq!(rt; story.kept(), (44, 256));
-    assert_eq!(rt; story.ticks()?, [300, 300, 300]);
+    assert!(rt; story.kept() == (44, 256));
+    assert!(rt; story.ticks()? == [300, 300, 300]);
     Ok(())
 }
 
@@ -27,9 +27,9 @@ fn after_the_last_decision_nothing_changes(rt: HostRuntime) -> Result<(), Fail> 
         (Act::Pause, Told::Refuse(last, None)),
     ];
     let mut story = Story::after(rt.alloc(), u64::MAX)?;
-    assert_eq!(rt; surprise(&mut story, &acts)?, None);
-    assert_eq!(rt; story.ticks()?, [0, u64::MAX, u64::MAX]);
-    assert_eq!(rt; story.sizes()?, [0, 0, 0, 0]);
+    assert!(rt; surprise(&mut story, &acts)?.is_none());
+    assert!(rt; story.ticks()? == [0, u64::MAX, u64::MAX]);
+    assert!(rt; story.sizes()? == [0, 0, 0, 0]);
     Ok(())
 }
 
@@ -45,9 +45,9 @@ fn the_last_decision_is_an_end(rt: HostRuntime) -> Result<(), Fail> {
         ),
     ];
     let mut story = Story::after(rt.alloc(), u64::MAX - 3)?;
-    assert_eq!(rt; surprise(&mut story, &acts)?, None);
-    assert_eq!(rt; story.kept(), (u64::MAX - 3, 3));
-    assert_eq!(rt; story.sizes()?, [1, 0, 1, 0]);
+    assert!(rt; surprise(&mut story, &acts)?.is_none());
+    assert!(rt; story.kept() == (u64::MAX - 3, 3));
+    assert!(rt; story.sizes()? == [1, 0, 1, 0]);
     Ok(())
 }
 
@@ -72,11 +72,11 @@ fn the_view_shows_who_is_there(rt: HostRuntime) -> Result<(), Fail> {
     for act in three_clients() {
         let _ = story.play(act)?;
     }
-    assert_eq!(rt; story.state_of(1)?, Some(ClientState::Active));
-    assert_eq!(rt; story.state_of(2)?, Some(ClientState::Waiting));
-    assert_eq!(rt; story.state_of(3)?, Some(ClientState::LoggingIn));
-    assert_eq!(rt; story.first_ticket()?, Some((2, 5)));
-    assert_eq!(rt; story.first_lent()?, Some((1, 4)));
+    assert!(rt; story.state_of(1)? == Some(ClientState::Active));
+    assert!(rt; story.state_of(2)? == Some(ClientState::Waiting));
+    assert!(rt; story.state_of(3)? == Some(ClientState::LoggingIn));
+    assert!(rt; story.first_ticket()? == Some((2, 5)));
+    assert!(rt; story.first_lent()? == Some((1, 4)));
     Ok(())
 }
 
@@ -101,9 +101,9 @@ fn the_view_shows_what_was_counted(rt: HostRuntime) -> Result<(), Fail> {
     for act in two_links() {
         let _ = story.play(act)?;
     }
-    assert_eq!(rt; story.totals()?, [14, 2, 1, 0, 1]);
-    assert_eq!(rt; story.counts(), [3, 3, 3, 2, 1, 2]);
-    assert_eq!(rt; story.sizes()?, [3, 0, 0, 1]);
+    assert!(rt; story.totals()? == [14, 2, 1, 0, 1]);
+    assert!(rt; story.counts() == [3, 3, 3, 2, 1, 2]);
+    assert!(rt; story.sizes()? == [3, 0, 0, 1]);
     Ok(())
 }
 
@@ -127,7 +127,7 @@ fn the_first_of_each_pool_may_have_a_link(rt: HostRuntime) -> Result<(), Fail> {
             client,
             first_of_pool,
         };
-        assert_eq!(rt; story.ticket(at), Some(waiting));
+        assert!(rt; story.ticket(at) == Some(waiting));
     }
     assert!(rt; story.ticket(3).is_none());
     Ok(())

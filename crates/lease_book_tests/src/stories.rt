@@ -189,13 +189,13 @@ fn each_story_goes_as_told(rt: HostRuntime) -> Result<(), Fail> {
             break;
         };
         let mut story = Story::new(rt.alloc(), settings)?;
-        assert_eq!(rt; (at, surprise(&mut story, acts)?), (at, None));
+        assert!(rt; (at, surprise(&mut story, acts)?) == (at, None));
     }
     Ok(())
 }
 
 #[test]
 fn a_client_too_many_is_told_so(rt: HostRuntime) -> Result<(), Fail> {
-    assert_eq!(rt; refusal_bytes(Refusal::TooManyClients).len(), 56);
+    assert!(rt; refusal_bytes(Refusal::TooManyClients).len() == 56);
     Ok(())
 }

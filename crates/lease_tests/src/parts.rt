@@ -5,10 +5,10 @@ ghost use Rattle.frame_view.specs.declared.frames.TheConstants.{LONGEST_FRAME};
 ghost use Rattle.link_start.specs.Starts.{IsLinkKey};
 
 use bytes::BytesMut;
+use memory_ends::memory_server::{MemoryServer, ServerAuth};
 use memory_lease::alone::serve_alone;
 use message_view::KeyWord;
 use server_catalogue::Catalogue;
-use server_end::memory_server::{MemoryServer, ServerAuth};
 use session_values::text::Text;
 use start_keys::StartKey;
 use std::alloc::{AllocError, Global};

@@ -5,5 +5,6 @@ pub mod laws;
 pub mod links;
 pub mod reply;
 pub mod reset;
+pub mod welcome;
 
-pub use server_end::{Moved, ServerEnd, gate, memory_server};
+pub use server_end::{Moved, ServerEnd, gate};

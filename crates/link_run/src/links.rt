@@ -1,19 +1,13 @@
 //! Links to servers, as they are kept and handed on.
-ghost use Rattle.std.specs.Prelude.{◌≡◌, IfOk};
-ghost use Rattle.std.specs.List.{flat_map};
+ghost use Rattle.std.specs.Prelude.{◌≡◌};
 ghost use Rattle.std.specs.Arc.{arc_value};
-ghost use Rattle.frame_view.specs.Frames.{spelling};
-ghost use Rattle.link_run.specs.Links.{IsClean, IsUsed, welcome_by};
+ghost use Rattle.link_run.specs.Links.{IsClean, IsUsed};
 
-use bytes::BytesMut;
-use message_view::{
-    KeyView, KeyWord, Status, put_backend_key_data, put_parameter_status, put_ready_for_query,
-};
-use param_track::Reported;
+use message_view::KeyView;
+use param_track::{Reported, StartReport};
 use server_end::ServerEnd;
 use server_end::gate::Gate;
 use start_keys::StartKey;
-use std::alloc::{AllocError, Global};
 use std::marker::Model;
 use std::sync::Arc;
 
@@ -124,20 +118,11 @@ impl<E: ServerEnd> CleanLink<E> {
         gate.unwatch(&mut self.link.end);
     }
 
-    /// What the link's next client is given first: the parameters that the link's start reported, in that order and with the values
-    /// of then, BackendKeyData of the client's own key word, and ReadyForQuery `I` (PostgreSQL manual, "Message Flow", "Start-up").
-    ///
-    /// `AllocError` where memory is refused, or a report has no frame of the greatest length.
-    pub fn welcome(&self, alloc: Global, word: KeyWord) -> Result<BytesMut, AllocError>
-        ensures { IfOk result (λ out. out.items ≡ flat_map spelling (welcome_by self.now.reports word.pid word.secret)) }
+    /// The parameters that its start reported, in that order and with the values of then.
+    pub fn reports(&self) -> &[StartReport]
+        ensures { result.now ≡ self.now.reports }
     {
-        let mut out = BytesMut::new(alloc);
-        for report in self.link.reported.reports() {
-            put_parameter_status(&mut out, report.name(), report.value())?;
-        }
-        put_backend_key_data(&mut out, word.pid, word.secret)?;
-        put_ready_for_query(&mut out, Status::Idle)?;
-        Ok(out)
+        self.link.reported.reports()
     }
 
     /// Takes it apart, for a lease.

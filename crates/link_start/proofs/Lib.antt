@@ -1,5 +1,4 @@
 mod Closing
-mod Servers
 mod Reading
 mod Hearing
 mod Reporting

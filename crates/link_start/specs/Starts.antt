@@ -8,7 +8,7 @@ use Rattle.frame_view.specs.declared.server.TheConstants.{ERROR_RESPONSE}
 use Rattle.message_view.specs.declared.views.KeyView.{KeyView}
 use Rattle.message_view.specs.Bodies.{Text}
 use Rattle.message_view.specs.Messages.{authentication}
-use Rattle.session_values.specs.Lawful.{IsClientKey, IsLawfulCatalogue}
+use Rattle.session_values.specs.Lawful.{IsClientKey}
 use Rattle.session_values.specs.State.{StartKeyOf, fresh}
 use Rattle.user_file.specs.declared.secrets.Secret.{Secret}
 use Rattle.user_file.specs.declared.secrets.Secret.TheVariants as secrets
@@ -16,9 +16,6 @@ use Rattle.user_file.specs.Secrets.{answer}
 use Rattle.link_laws.specs.Stages.{Server as TheServer, Auth, NoAuth, Asks}
 use Rattle.link_laws.specs.Standing.{Standing, Moves}
 use Rattle.link_laws.specs.Dialogues.{IsNew, AsksInFrame, IsStarting, auth_of, start_error, start_refusal}
-use Rattle.link_run.specs.declared.memory_server.ServerAuth.{ServerAuth}
-use Rattle.link_run.specs.declared.memory_server.ServerAuth.TheVariants as memory
-use Rattle.link_run.specs.Servers.{auth_of as memory_auth, new_server}
 use Rattle.link_run.specs.Links.{LinkView}
 use Rattle.link_run.specs.declared.reply.TheConstants.{LONGEST_REPLY}
 use Rattle.link_start.specs.declared.heard.Heard.{Heard}
@@ -48,16 +45,6 @@ pub record IsStartable (at : Standing) : Type 0 where
 
 abbrev pub CanStart : Standing → Type 0
 CanStart at = at.follows ≡ true → IsStartable at
-
--- an MD5 question has a salt of four bytes
-abbrev pub HasSalt : ServerAuth → Type 0
-HasSalt memory.Trust = Unit {0}
-HasSalt (memory.Plain password) = Unit {0}
-HasSalt (memory.Md5 salt digest) = length salt ≡ 4
-
--- A stand-in server in memory can be started.
-abbrev pub MemoryServersCanStart : Type 0
-MemoryServersCanStart = (v : TheServer) (auth : ServerAuth) (cut : ℕ) (left : Option ℕ) → IsLawfulCatalogue v.catalogue → HasSalt auth → CanStart (new_server v (memory_auth auth) cut left).standing
 
 -- the key of a client, with a database
 abbrev pub IsLinkKey : StartKeyOf → Type 0

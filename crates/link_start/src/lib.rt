@@ -4,7 +4,6 @@
 
 pub mod close;
 pub mod heard;
-pub mod laws;
 mod messages;
 pub mod start;
 

@@ -6,11 +6,11 @@ use crate::making::server;
 use crate::resets::{link, reports};
 use crate::verdicts::lease;
 use link_run::reset::reset_link;
+use memory_ends::memory_client::MemoryClient;
+use memory_ends::memory_server::ServerAuth;
 use relay_core::relay::Returned;
 use server_end::ServerEnd;
 use server_end::gate::OpenGate;
-use server_end::memory_client::MemoryClient;
-use server_end::memory_server::ServerAuth;
 use std::alloc::Global;
 use std::test::Fail;
 

@@ -4,17 +4,18 @@
 ghost use Rattle.std.specs.Prelude.{◌≡◌, ◌<◌, IfOk};
 ghost use Rattle.std.specs.Arc.{arc_value};
 ghost use Rattle.session_values.specs.Lawful.{IsLawfulCatalogue};
-ghost use Rattle.link_start.specs.Starts.{CanStart, HasSalt, IsLinkKey};
+ghost use Rattle.link_start.specs.Starts.{CanStart, IsLinkKey};
+ghost use Rattle.memory_start_laws.specs.Starts.{HasSalt};
 ghost use Rattle.link_tests.specs.Keys.{ann_on};
 
 use link_run::links::CleanLink;
-use link_start::laws::memory_servers_can_start;
 use link_start::start::{StartCause, start_link};
+use memory_ends::memory_server::{MemoryServer, ServerAuth};
+use memory_start_laws::memory_servers_can_start;
 use message_view::KeyWord;
 use server_catalogue::Catalogue;
 use server_end::ServerEnd;
 use server_end::gate::OpenGate;
-use server_end::memory_server::{MemoryServer, ServerAuth};
 use session_values::text::Text;
 use start_keys::StartKey;
 use std::alloc::{AllocError, Global};

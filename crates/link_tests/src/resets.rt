@@ -5,14 +5,14 @@ ghost use Rattle.link_start.specs.Starts.{CanStart};
 use crate::making::{SHOP, begin, server};
 use link_run::links::{CleanLink, UsedLink};
 use link_run::reset::{ResetFault, reset_link};
+use memory_ends::failing_end::FailingEnd;
+use memory_ends::memory_server::ServerAuth;
 use message_view::KeyWord;
 use paced_client::PacedClient;
 use relay_core::relay::{Relay, Returned};
 use relay_steps::Next;
 use server_end::ServerEnd;
-use server_end::failing_end::FailingEnd;
 use server_end::gate::{OpenGate, Ready};
-use server_end::memory_server::ServerAuth;
 use std::alloc::Global;
 use std::test::Fail;
 

@@ -1,13 +1,15 @@
 //! Starts over servers in memory (PostgreSQL manual, "Message Flow", "Start-up").
 ghost use Rattle.std.specs.Prelude.{◌<◌};
-ghost use Rattle.link_start.specs.Starts.{CanStart, HasSalt};
+ghost use Rattle.link_start.specs.Starts.{CanStart};
+ghost use Rattle.memory_start_laws.specs.Starts.{HasSalt};
 
 use crate::making::{SHOP, Start, begin, server};
+use link_run::welcome::welcome_over;
 use link_start::start::{StartCause, StartError};
+use memory_ends::failing_end::FailingEnd;
+use memory_ends::memory_server::ServerAuth;
 use message_view::{KeyView, KeyWord};
 use server_end::ServerEnd;
-use server_end::failing_end::FailingEnd;
-use server_end::memory_server::ServerAuth;
 use std::alloc::Global;
 use std::test::Fail;
 
@@ -52,7 +54,7 @@ fn told<E: ServerEnd>(alloc: Global, end: E, how: Start) -> Result<Result<Begun,
     };
     match begin(alloc, end, how)? {
         Ok(link) => {
-            let welcome = link.welcome(alloc, word)?;
+            let welcome = welcome_over(alloc, &link, word)?;
             Ok(Ok(Begun {
                 number: link.number(),
                 born: link.born(),

@@ -6,13 +6,13 @@ use crate::making::server;
 use crate::resets::link;
 use disposal::Verdict;
 use link_run::links::CleanLink;
+use memory_ends::memory_client::MemoryClient;
+use memory_ends::memory_server::ServerAuth;
 use message_view::KeyWord;
 use relay_core::relay::{Cause, Relay, Returned};
 use relay_steps::Next;
 use server_end::ServerEnd;
 use server_end::gate::Ready;
-use server_end::memory_client::MemoryClient;
-use server_end::memory_server::ServerAuth;
 use std::alloc::Global;
 use std::test::Fail;
 

@@ -9,9 +9,9 @@ fn five_thousand_items(rt: HostRuntime) -> Result<(), Fail> {
         log = log.pushed(rt.alloc(), item)?;
     }
     let items = log.to_vec(rt.alloc())?;
-    assert_eq!(rt; items.len(), 5_000);
+    assert!(rt; items.len() == 5_000);
     for (place, item) in items.iter().enumerate() {
-        assert_eq!(rt; **item as usize, place);
+        assert!(rt; **item as usize == place);
     }
     Ok(())
 }
@@ -24,8 +24,8 @@ fn a_copy_stays_as_it_was(rt: HostRuntime) -> Result<(), Fail> {
     }
     let copy = log.copied()?;
     log = log.pushed(rt.alloc(), 64)?;
-    assert_eq!(rt; copy.to_vec(rt.alloc())?.len(), 64);
-    assert_eq!(rt; log.to_vec(rt.alloc())?.len(), 65);
+    assert!(rt; copy.to_vec(rt.alloc())?.len() == 64);
+    assert!(rt; log.to_vec(rt.alloc())?.len() == 65);
     Ok(())
 }
 
@@ -39,6 +39,6 @@ fn copies_of_a_long_list(rt: HostRuntime) -> Result<(), Fail> {
     for _ in 0..100_000 {
         log = log.copied()?;
     }
-    assert_eq!(rt; log.to_vec(rt.alloc())?.len(), 100_000);
+    assert!(rt; log.to_vec(rt.alloc())?.len() == 100_000);
     Ok(())
 }

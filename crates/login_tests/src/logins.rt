@@ -190,10 +190,10 @@ fn a_start_is_let_in(rt: HostRuntime) -> Result<(), Fail> {
     assert!(rt; is_login(alloc, SHOP, ANN, &[ARRIVES, OK], End::Passed, 0)?);
     let seen = cut_at(alloc, SHOP, ANN, 0)?;
     let key = seen.key.ok_or("no key")?;
-    assert_eq!(rt; key.row.as_slice(), b"shop".as_slice());
-    assert_eq!(rt; key.user.as_slice(), b"ann".as_slice());
-    assert_eq!(rt; key.port, 5432);
-    assert_eq!(rt; key.parameters.len(), 0);
+    assert!(rt; key.row.as_slice() == b"shop".as_slice());
+    assert!(rt; key.user.as_slice() == b"ann".as_slice());
+    assert!(rt; key.port == 5432);
+    assert!(rt; key.parameters.len() == 0);
     Ok(())
 }
 
@@ -231,8 +231,8 @@ fn what_follows_is_left(rt: HostRuntime) -> Result<(), Fail> {
     );
     let seen = cut_at(alloc, SHOP, input.as_slice(), 7)?;
     let key = seen.key.ok_or("no key")?;
-    assert_eq!(rt; key.parameters.len(), 1);
-    assert_eq!(rt; key.parameters[0].1.as_slice(), b"b".as_slice());
+    assert!(rt; key.parameters.len() == 1);
+    assert!(rt; key.parameters[0].1.as_slice() == b"b".as_slice());
     Ok(())
 }
 
@@ -244,12 +244,9 @@ fn the_last_of_equal_names_counts(rt: HostRuntime) -> Result<(), Fail> {
     let seen = cut_at(alloc, SHOP, start, 40)?;
     assert!(rt; seen.end == End::Passed);
     let key = seen.key.ok_or("no key")?;
-    assert_eq!(rt; key.parameters.len(), 1);
-    assert_eq!(rt;
-        key.parameters[0].0.as_slice(),
-        b"application_name".as_slice()
-    );
-    assert_eq!(rt; key.parameters[0].1.as_slice(), b"b".as_slice());
+    assert!(rt; key.parameters.len() == 1);
+    assert!(rt; key.parameters[0].0.as_slice() == b"application_name".as_slice());
+    assert!(rt; key.parameters[0].1.as_slice() == b"b".as_slice());
     Ok(())
 }
 
@@ -414,15 +411,15 @@ fn the_longest_first_packet(rt: HostRuntime) -> Result<(), Fail> {
     let alloc = rt.alloc();
     let longest = long_start(alloc, 9_950)?;
     let wanted = joined(alloc, &[ARRIVES, OK])?;
-    assert_eq!(rt; longest.len(), 10_000);
+    assert!(rt; longest.len() == 10_000);
     for cut in [1, 4, 9, 5_000, 9_999] {
         let seen = cut_at(alloc, SHOP, longest.as_slice(), cut)?;
-        assert_eq!(rt; seen.out.as_slice(), wanted.as_slice());
-        assert_eq!(rt; seen.taken, 10_000);
+        assert!(rt; seen.out.as_slice() == wanted.as_slice());
+        assert!(rt; seen.taken == 10_000);
     }
     let longer = long_start(alloc, 9_951)?;
     let seen = cut_at(alloc, SHOP, longer.as_slice(), 3)?;
-    assert_eq!(rt; seen.out.as_slice(), MALFORMED);
+    assert!(rt; seen.out.as_slice() == MALFORMED);
     Ok(())
 }
 
@@ -430,11 +427,11 @@ fn the_longest_first_packet(rt: HostRuntime) -> Result<(), Fail> {
 fn a_login_tells_what_it_wants(rt: HostRuntime) -> Result<(), Fail> {
     let alloc = rt.alloc();
     let mut login = login(alloc, SHOP_PLAIN)?;
-    assert_eq!(rt; login.wants(), 8);
+    assert!(rt; login.wants() == 8);
     let (used, _) = login.on_bytes(alloc, &ANN[..8]);
-    assert_eq!(rt; used, 8);
-    assert_eq!(rt; login.wants(), 24);
-    assert_eq!(rt; login.users().len(), 3);
-    assert_eq!(rt; login.settings().listen_port(), 6432);
+    assert!(rt; used == 8);
+    assert!(rt; login.wants() == 24);
+    assert!(rt; login.users().len() == 3);
+    assert!(rt; login.settings().listen_port() == 6432);
     Ok(())
 }

@@ -7,11 +7,11 @@ ghost use Rattle.link_desk.specs.Homes.{IsDialled};
 ghost use Rattle.memory_dial.specs.Homes.{IsEverywhere};
 
 use ini_config::DbRow;
-use link_start::laws::memory_servers_can_start;
+use memory_ends::memory_server::{MemoryServer, ServerAuth};
+use memory_start_laws::memory_servers_can_start;
 use message_view::KeyWord;
 use pool_desk::dial::Dial;
 use server_catalogue::Catalogue;
-use server_end::memory_server::{MemoryServer, ServerAuth};
 use std::alloc::Global;
 use std::marker::{Brand, Model, PhantomData};
 use std::sync::Arc;

@@ -1,8 +1,8 @@
 //! What a client that waits for its link comes to.
 use link_run::links::CleanLink;
 use link_start::start::StartError;
+use memory_ends::memory_server::MemoryServer;
 use message_view::Refusal;
-use server_end::memory_server::MemoryServer;
 
 /// What a client is answered that comes, or that asks for a link.
 #[derive(Clone, Copy, Debug, PartialEq, Eq, Drop)]

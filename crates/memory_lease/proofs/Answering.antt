@@ -33,15 +33,17 @@ use Rattle.relay_core.specs.Answers.{AtBorder, EndsByClient, RefusedBy}
 use Rattle.relay_core.specs.Steps.{IsStuck}
 use Rattle.relay_core.specs.Returns.{is_clear}
 use Rattle.link_laws.specs.Futures.{future}
-use Rattle.server_end.specs.Servers.{has_some}
+use Rattle.memory_ends.specs.Servers.{has_some}
 use Rattle.memory_lease.specs.Answers.{IsAnswer, IsGiven as IsGivenOf, IsRefusedAt, MayDie, own_pieces}
 use Rattle.memory_lease.specs.declared.alone.Ending.{Ending}
 use Rattle.memory_lease.specs.declared.alone.Ending.TheVariants.{Done, Refused, Cut}
 use Rattle.memory_lease.specs.Held.{IsAtEnd, IsEnding, IsPut, TellsCause, TellsEnding}
 use Rattle.memory_lease.specs.Own.{IsMarked, OwnOf, mark, marked, own_server}
-use Rattle.memory_lease.specs.Patient.{PatientOf, IsGiven, given_with, new_patient}
-use Rattle.memory_lease.proofs.Pieces.{Apart, pieces_join, pieces_of_both, whose}
-use Rattle.memory_lease.proofs.Service.{begins_both, service_on}
+use Rattle.memory_ends.specs.Clients.{given_with}
+use Rattle.memory_lease.specs.Patient.{PatientOf, IsGiven, new_patient}
+use Rattle.memory_ends.proofs.Whose.{Apart, whose}
+use Rattle.run_laws.proofs.Pieces.{pieces_join, pieces_of_both}
+use Rattle.run_laws.proofs.Service.{begins_both, service_on}
 use Rattle.memory_lease.proofs.Causes.{caused_by}
 use Rattle.memory_lease.proofs.Whole.{IsOver, all_given, clear_is}
 

@@ -13,7 +13,7 @@ use Rattle.link_start.specs.Links.{LinkView}
 use Rattle.link_start.specs.Starts.{IsStarted}
 use Rattle.relay_core.specs.Leases.{RelayView, Place, place, IsLease, IsAllowed, Keeps}
 use Rattle.relay_core.proofs.Exact.{lease_allowed}
-use Rattle.server_end.specs.Servers.{ServerOf}
+use Rattle.memory_ends.specs.Servers.{ServerOf}
 use Rattle.memory_lease.specs.Own.{OwnOf, mark, own_server}
 use Rattle.memory_lease.specs.Patient.{PatientOf, new_patient}
 use Rattle.memory_lease.specs.Unended.{StillWaits, IsUnended}

@@ -8,7 +8,7 @@ use Rattle.link_start.specs.declared.start.StartCause.TheVariants as cause
 use Rattle.relay_core.specs.Leases.{RelayView, Place, IsLease}
 use Rattle.relay_core.specs.Answers.{AtBorder, EndsByClient, RefusedBy}
 use Rattle.relay_core.specs.Steps.{IsStuck}
-use Rattle.server_end.specs.Servers.{has_some}
+use Rattle.memory_ends.specs.Servers.{has_some}
 use Rattle.memory_lease.specs.Own.{IsMarked, OwnOf}
 use Rattle.memory_lease.specs.declared.alone.Ending.{Ending}
 use Rattle.memory_lease.specs.declared.alone.Ending.TheVariants.{Done, Refused, Cut}

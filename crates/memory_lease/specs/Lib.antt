@@ -3,4 +3,3 @@ pub mod Held
 pub mod Own
 pub mod Patient
 pub mod Unended
-pub use Rattle.relay_core.specs.Returns

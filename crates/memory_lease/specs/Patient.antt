@@ -1,16 +1,13 @@
 -- A client in memory that waits for its answers, as its callers see it.
-use Rattle.std.specs.Prelude.{◌≡◌, ℕ, Bool, true, false, ◌||◌, nat_lt, List, [], ◌∷◌, ◌++◌, length, take}
+use Rattle.std.specs.Prelude.{◌≡◌, ℕ, Bool, true, false, ◌||◌, nat_lt, List, [], length, take}
 use Rattle.link_laws.specs.Standing.{ClientFacts}
+use Rattle.memory_ends.specs.Clients.{given_with}
 
 pub record PatientOf : Type 0 where
   pub facts : ClientFacts
   pub input : List ℕ
   pub at : ℕ
   pub border : ℕ
-
--- The facts count as given, before all that it was, the client's whole input with its length: so they tell whose client it is.
-abbrev pub given_with : List ℕ → List ℕ → List ℕ
-given_with input given = length input ∷ (input ++ given)
 
 abbrev pub patient_view : List ℕ → ℕ → ℕ → List ℕ → Bool → ℕ → ℕ → PatientOf
 patient_view input at border given hung_up faults waits = record {

@@ -6,7 +6,7 @@ use Rattle.session_values.specs.State.{StartKeyOf}
 use Rattle.link_laws.specs.Stages.{packets_bytes}
 use Rattle.link_laws.specs.Standing.{Standing}
 use Rattle.link_laws.specs.Dialogues.{start_packets}
-use Rattle.server_end.specs.Servers.{LAST_COUNT}
+use Rattle.memory_ends.specs.Servers.{LAST_COUNT}
 use Rattle.memory_lease.specs.declared.alone.Unserved.{Unserved}
 use Rattle.memory_lease.specs.declared.alone.Unserved.TheVariants.{Memory, Unended}
 

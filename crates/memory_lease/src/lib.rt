@@ -4,5 +4,3 @@
 pub mod alone;
 mod own_server;
 mod patient_client;
-
-pub use relay_core::relay;

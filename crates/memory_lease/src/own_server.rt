@@ -3,10 +3,10 @@ ghost use Rattle.std.specs.Prelude.{◌≡◌, ◌<◌, [], length, true, false}
 ghost use Rattle.link_laws.specs.Futures.{future};
 ghost use Rattle.link_laws.specs.Standing.{Moves};
 ghost use Rattle.server_end.specs.Moves.{CountsRead, CountsWrite, IsWithin, moved};
-ghost use Rattle.server_end.specs.Servers.{LAST_COUNT, has_some};
+ghost use Rattle.memory_ends.specs.Servers.{LAST_COUNT, has_some};
 ghost use Rattle.memory_lease.specs.Own.{IsMarked, own_server};
 
-use server_end::memory_server::MemoryServer;
+use memory_ends::memory_server::MemoryServer;
 use server_end::{Moved, ServerEnd};
 use std::marker::Model;
 

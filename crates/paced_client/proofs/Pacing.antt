@@ -9,7 +9,7 @@ use Rattle.frame_view.proofs.Splitting.{frames-stopped}
 use Rattle.run_laws.specs.Settling.{count, is_ready}
 use Rattle.server_end.specs.declared.Moved.TheVariants.{Count}
 use Rattle.server_end.specs.Moves.{ClientReads, ClientWrites}
-use Rattle.server_end.specs.Clients.{is_broken}
+use Rattle.memory_ends.specs.Clients.{is_broken}
 use Rattle.paced_client.specs.declared.pauses.Heard.{Heard}
 use Rattle.paced_client.specs.Pauses.{pauses, readies, allowed_to_hand_out, all_answered}
 use Rattle.paced_client.specs.Hearing.{IsHearing, HasHeard}

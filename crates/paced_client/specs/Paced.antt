@@ -3,7 +3,7 @@ use Rattle.std.specs.Prelude.{◌≡◌, ℕ, ◌+◌, ◌≤◌, Bool, true, fa
 use Rattle.link_laws.specs.Standing.{ClientFacts}
 use Rattle.server_end.specs.declared.Moved.{Moved}
 use Rattle.server_end.specs.declared.Moved.TheVariants.{Count, NotNow, Ended, Fault}
-use Rattle.server_end.specs.Clients.{is_broken}
+use Rattle.memory_ends.specs.Clients.{is_broken}
 use Rattle.paced_client.specs.Pauses.{allowed_to_hand_out, all_answered}
 
 pub record PacedOf : Type 0 where

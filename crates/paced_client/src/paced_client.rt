@@ -1,6 +1,6 @@
 //! A client in memory that waits for its answers.
 ghost use Rattle.std.specs.Prelude.{◌≡◌, ◌<◌, ◌≤◌, ◌++◌, length, IfOk, OnOk, OnErr, take};
-ghost use Rattle.server_end.specs.Clients.{is_broken};
+ghost use Rattle.memory_ends.specs.Clients.{is_broken};
 ghost use Rattle.server_end.specs.Moves.{ClientReads, ClientWrites, IsWithin, moved};
 ghost use Rattle.paced_client.specs.Pauses.{allowed_to_hand_out};
 ghost use Rattle.paced_client.specs.Paced.{ReadsPaced, WritesPaced, facts_of, has_ended, new_client};

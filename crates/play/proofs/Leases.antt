@@ -24,12 +24,14 @@ use Rattle.login_core.specs.Talk.End.{Passed}
 use Rattle.login_core.specs.Dialogue.{ToLink, login_among}
 use Rattle.login_core.specs.Solo.{service_pieces}
 use Rattle.login_core.proofs.Telling.{service_is}
-use Rattle.memory_lease.proofs.Pieces.{Apart, pieces_of_both, whose}
-use Rattle.memory_lease.proofs.Service.{begins_both, service_on}
+use Rattle.memory_ends.proofs.Whose.{Apart, whose}
+use Rattle.run_laws.proofs.Pieces.{pieces_of_both}
+use Rattle.run_laws.proofs.Service.{begins_both, service_on}
 use Rattle.relay_laws.specs.Leases.{IsAllowed, IsLease, Keeps, Place, RelayView, place}
 use Rattle.relay_laws.proofs.Exact.{lease_allowed}
 use Rattle.relay_steps.specs.Answers.{AtBorder}
-use Rattle.act_client.specs.Clients.{ActClientOf, facts_of, given_more, given_with}
+use Rattle.act_client.specs.Clients.{ActClientOf, facts_of, given_more}
+use Rattle.memory_ends.specs.Clients.{given_with}
 use Rattle.memory_house.specs.Houses.{HouseOf, IsAtHome, IsServerOf, IsStartError}
 use Rattle.play.specs.Players.{IsAtPiece, IsDone, IsServed, StopsAt, Waits, rows_of}
 use Rattle.play.proofs.Pieces.{joined_both, joined_one, own_is, service_piece}

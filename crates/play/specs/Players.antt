@@ -14,7 +14,8 @@ use Rattle.login_core.specs.Solo.{solo}
 use Rattle.relay_laws.specs.Leases.{IsLease, Place, RelayView}
 use Rattle.relay_steps.specs.Answers.{AtBorder}
 use Rattle.act_client.specs.Acts.{Sender}
-use Rattle.act_client.specs.Clients.{ActClientOf, given_with, taken}
+use Rattle.act_client.specs.Clients.{ActClientOf, taken}
+use Rattle.memory_ends.specs.Clients.{given_with}
 use Rattle.memory_house.specs.Houses.{HouseOf, IsServerOf}
 use Rattle.play.specs.declared.stage.Stage.{Stage}
 use Rattle.play.specs.declared.stage.Stage.TheVariants.{LoggingIn, Waiting, Served, Closed, Absent}

@@ -6,12 +6,12 @@ ghost use Rattle.play.specs.Players.{IsAt, IsDone, IsServed};
 use crate::stage::{Stage, leave, refuse};
 use act_client::{ActClient, Script};
 use frame_view::laws::are_bytes;
+use memory_ends::memory_server::MemoryServer;
 use memory_house::House;
-use memory_lease::relay::{Relay, Returned};
 use message_view::KeyWord;
+use relay_core::relay::{Relay, Returned};
 use relay_steps::Next;
 use server_end::gate::Ready;
-use server_end::memory_server::MemoryServer;
 use server_end::{ClientEnd, ServerEnd};
 use std::alloc::AllocError;
 

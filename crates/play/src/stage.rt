@@ -6,10 +6,10 @@ ghost use Rattle.memory_house.specs.Houses.{HouseOf};
 
 use act_client::ActClient;
 use login_core::Login;
+use memory_ends::memory_server::MemoryServer;
 use memory_house::House;
-use memory_lease::relay::Relay;
 use message_view::{KeyWord, Refusal, refusal_bytes};
-use server_end::memory_server::MemoryServer;
+use relay_core::relay::Relay;
 use start_keys::StartKey;
 use std::alloc::AllocError;
 use std::sync::Arc;

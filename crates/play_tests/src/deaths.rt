@@ -30,7 +30,7 @@ fn a_client_is_refused_at_a_border_only(rt: HostRuntime) -> Result<(), Fail> {
                 Act::Send(1, CITIES),
             ];
             let played = played(rt.alloc(), b"", cut.max(1), &acts)?;
-            assert_eq!(rt; given(&played, 1), wanted.as_slice());
+            assert!(rt; given(&played, 1) == wanted.as_slice());
         }
     }
     Ok(())
@@ -43,6 +43,6 @@ fn a_client_whose_link_cannot_be_started(rt: HostRuntime) -> Result<(), Fail> {
     refused.extend_from_slice(refusal_bytes(Refusal::ServerNotReached))?;
     let acts = [Act::ServersDieAfter(100), Act::Come, Act::Send(1, START)];
     let played = played(rt.alloc(), b"", 7, &acts)?;
-    assert_eq!(rt; given(&played, 1), refused.as_slice());
+    assert!(rt; given(&played, 1) == refused.as_slice());
     Ok(())
 }

@@ -14,8 +14,8 @@ fn a_client_too_many(rt: HostRuntime) -> Result<(), Fail> {
         Act::Send(2, START),
     ];
     let played = played(rt.alloc(), b"max_client_conn = 1\n", 7, &acts)?;
-    assert_eq!(rt; given(&played, 2), refusal_bytes(Refusal::TooManyClients));
-    assert_eq!(rt; links(&played, 2).len(), 0);
+    assert!(rt; given(&played, 2) == refusal_bytes(Refusal::TooManyClients));
+    assert!(rt; links(&played, 2).len() == 0);
     Ok(())
 }
 
@@ -35,7 +35,7 @@ fn who_is_not_there_sends_nothing(rt: HostRuntime) -> Result<(), Fail> {
     ];
     let played = played(rt.alloc(), b"", 7, &acts)?;
     let first = greeted(rt.alloc(), b"", 1, b"")?;
-    assert_eq!(rt; played.clients.len(), 1);
-    assert_eq!(rt; given(&played, 1), first.as_slice());
+    assert!(rt; played.clients.len() == 1);
+    assert!(rt; given(&played, 1) == first.as_slice());
     Ok(())
 }

@@ -18,11 +18,11 @@ fn clients_wait_in_turn(rt: HostRuntime) -> Result<(), Fail> {
     ];
     let played = played(rt.alloc(), b"default_pool_size = 1\n", 7, &acts)?;
     let second = greeted(rt.alloc(), b"", 2, b"")?;
-    assert_eq!(rt; links(&played, 1), [1].as_slice());
-    assert_eq!(rt; links(&played, 2), [1].as_slice());
-    assert_eq!(rt; given(&played, 2), second.as_slice());
-    assert_eq!(rt; links(&played, 3).len(), 0);
-    assert_eq!(rt; given(&played, 3), LET_IN);
+    assert!(rt; links(&played, 1) == [1].as_slice());
+    assert!(rt; links(&played, 2) == [1].as_slice());
+    assert!(rt; given(&played, 2) == second.as_slice());
+    assert!(rt; links(&played, 3).len() == 0);
+    assert!(rt; given(&played, 3) == LET_IN);
     Ok(())
 }
 
@@ -42,7 +42,7 @@ fn a_client_waits_too_long(rt: HostRuntime) -> Result<(), Fail> {
         ];
         let options = b"default_pool_size = 1\nquery_wait_timeout = 5\n";
         let played = played(rt.alloc(), options, 7, &acts)?;
-        assert_eq!(rt; given(&played, 2), wanted);
+        assert!(rt; given(&played, 2) == wanted);
     }
     Ok(())
 }

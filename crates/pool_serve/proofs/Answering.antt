@@ -24,7 +24,7 @@ use Rattle.link_run.specs.Links.{IsFreshLink, LinkView}
 use Rattle.login_core.specs.Laws.{ServiceIsItsPieces}
 use Rattle.login_core.specs.Solo.{service_pieces}
 use Rattle.login_run.specs.Laws.{IsAtPiece}
-use Rattle.memory_lease.proofs.Pieces.{pieces_join, pieces_of_both}
+use Rattle.run_laws.proofs.Pieces.{pieces_join, pieces_of_both}
 use Rattle.relay_flow.proofs.Parting.{opens_stops}
 use Rattle.relay_steps.specs.Laws.{LeasesAreAllowed}
 use Rattle.relay_steps.specs.Leases.{IsAllowed, IsLease, Keeps, Place, RelayView, place}

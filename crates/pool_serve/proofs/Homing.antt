@@ -14,9 +14,9 @@ use Rattle.login_keys.specs.Laws.{IsOfRow, IsAtRow}
 use Rattle.user_file.specs.declared.secrets.Secret.{Secret}
 use Rattle.message_view.specs.declared.KeyWord.{KeyWord}
 use Rattle.relay_steps.specs.Leases.{RelayView, IsLease, place}
-use Rattle.memory_lease.specs.declared.relay.Returned.{Returned}
-use Rattle.memory_lease.specs.declared.relay.Returned.TheVariants.{Unused, Used, Gone}
-use Rattle.memory_lease.specs.Returns.{IsReturned, IsThatLink}
+use Rattle.relay_core.specs.declared.relay.Returned.{Returned}
+use Rattle.relay_core.specs.declared.relay.Returned.TheVariants.{Unused, Used, Gone}
+use Rattle.relay_core.specs.Returns.{IsReturned, IsThatLink}
 use Rattle.pool_serve.specs.Backs.{IsBackHome}
 
 -- a link of the same key, whose end has the same server still

@@ -8,7 +8,7 @@ use link_desk::desk::LinkDesk;
 use link_run::links::CleanLink;
 use link_run::reset::reset_link;
 use link_start::close::close_link;
-use memory_lease::relay::Returned;
+use relay_core::relay::Returned;
 use server_end::gate::Gate;
 use std::alloc::Global;
 

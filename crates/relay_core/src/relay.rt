@@ -10,6 +10,7 @@ use disposal::laws::settled_exactly;
 use disposal::{Traffic, Verdict};
 use frame_view::Side;
 use link_run::links::{CleanLink, Lent, UsedLink};
+use link_run::welcome::welcome_over;
 use message_view::KeyWord;
 use relay_flow::flow::Flow;
 use relay_steps::{Flags, Next, Phase};
@@ -98,7 +99,7 @@ impl<C: ClientEnd, E: ServerEnd> Relay<C, E> {
     ghost use Rattle.message_view.specs.declared.refusal.Refusal.{Refusal};
 
     /// The lease of a link to a client begins. The client is to be given the link's welcome first, with the client's own key
-    /// word ([`CleanLink::welcome`]). `limit` is the greatest length of a frame, both ways (at least 4).
+    /// word ([`welcome_over`]). `limit` is the greatest length of a frame, both ways (at least 4).
     ///
     /// Memory for the welcome and both buffers is taken here, and none later. Where there is none, or the link has no welcome,
     /// both ends are handed back as they were.
@@ -117,7 +118,7 @@ impl<C: ClientEnd, E: ServerEnd> Relay<C, E> {
         ensures phase { IfOk result (λ r. r.phase ≡ Running) }
         ensures back { IfErr result (λ p. (p.0 ≡ client) × (p.1 ≡ link)) }
     {
-        let Ok(welcome) = link.welcome(alloc, word) else {
+        let Ok(welcome) = welcome_over(alloc, &link, word) else {
             return Err((client, link));
         };
         let link = link.lend();

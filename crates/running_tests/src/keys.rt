@@ -20,7 +20,7 @@ fn words_of_a_seed_of_zeros(rt: HostRuntime) -> Result<(), Fail> {
         (5, 0x0665_eeb2, 0xbee7_079f, [0x7a, 0x38, 0x51, 0x55]),
     ];
     for (place, pid, secret, salt) in words {
-        assert_eq!(rt; word_at([0; 32], place), KeyWord { pid, secret, salt });
+        assert!(rt; word_at([0; 32], place) == (KeyWord { pid, secret, salt }));
     }
     Ok(())
 }
@@ -36,7 +36,7 @@ fn words_of_a_seed_of_counted_bytes(rt: HostRuntime) -> Result<(), Fail> {
         (5, 0x0c41_5b48, 0x3142_b818, [0xd1, 0xa6, 0xe6, 0xad]),
     ];
     for (place, pid, secret, salt) in words {
-        assert_eq!(rt; word_at(seed, place), KeyWord { pid, secret, salt });
+        assert!(rt; word_at(seed, place) == (KeyWord { pid, secret, salt }));
     }
     Ok(())
 }

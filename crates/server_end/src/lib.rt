@@ -1,11 +1,7 @@
-//! The two ends of a lease, as traits whose ghost member says where an end stands; and ends in memory.
+//! The two ends of a lease, as traits whose ghost member says where an end stands.
 #![tactic(auto)]
 
-mod dialogue;
-pub mod failing_end;
 pub mod gate;
-pub mod memory_client;
-pub mod memory_server;
 
 ghost use Rattle.std.specs.Prelude.{◌≡◌, ◌<◌, [], length};
 ghost use Rattle.link_laws.specs.Standing.{Standing, Moves, ClientFacts};

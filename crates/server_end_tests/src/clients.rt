@@ -1,8 +1,8 @@
 //! A client in memory.
 use crate::client_talk::{give, hands_out};
 use crate::packets::{ann, ready, sync};
-use server_end::failing_end::FailingEnd;
-use server_end::memory_client::MemoryClient;
+use memory_ends::failing_end::FailingEnd;
+use memory_ends::memory_client::MemoryClient;
 use server_end::{ClientEnd, Moved};
 use std::test::Fail;
 
@@ -13,8 +13,8 @@ fn it_is_fed(rt: HostRuntime) -> Result<(), Fail> {
     assert!(rt; hands_out(alloc, &mut client, ann(), Moved::NotNow)?);
     client.feed(sync())?;
     assert!(rt; hands_out(alloc, &mut client, sync(), Moved::NotNow)?);
-    assert_eq!(rt; (client.waits(), client.faults()), ((2, 0), 0));
-    assert_eq!(rt; client.taken().len(), 37);
+    assert!(rt; (client.waits(), client.faults()) == ((2, 0), 0));
+    assert!(rt; client.taken().len() == 37);
     Ok(())
 }
 
@@ -33,9 +33,9 @@ fn it_hangs_up(rt: HostRuntime) -> Result<(), Fail> {
 #[test]
 fn it_keeps_what_it_is_given(rt: HostRuntime) -> Result<(), Fail> {
     let mut client = MemoryClient::new(rt.alloc(), ann(), 2)?;
-    assert_eq!(rt; give(&mut client, b"abc"), None);
+    assert!(rt; give(&mut client, b"abc").is_none());
     client.hang_up();
-    assert_eq!(rt; give(&mut client, ready()), None);
+    assert!(rt; give(&mut client, ready()).is_none());
     assert!(rt; client.given() == b"abcZ\0\0\0\x05I".as_slice());
     Ok(())
 }
@@ -46,7 +46,7 @@ fn its_end_fails(rt: HostRuntime) -> Result<(), Fail> {
     let mut end = FailingEnd::new(MemoryClient::new(alloc, ann(), 100)?, 3);
     assert!(rt; hands_out(alloc, &mut end, ann(), Moved::NotNow)?);
     assert!(rt; hands_out(alloc, &mut end, b"", Moved::Fault)?);
-    assert_eq!(rt; give(&mut end, ready()), Some(Moved::Fault));
-    assert_eq!(rt; (end.faults(), end.waits()), (2, (1, 0)));
+    assert!(rt; give(&mut end, ready()) == Some(Moved::Fault));
+    assert!(rt; (end.faults(), end.waits()) == (2, (1, 0)));
     Ok(())
 }

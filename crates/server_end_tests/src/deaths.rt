@@ -3,9 +3,9 @@ ghost use Rattle.std.specs.Prelude.{◌<◌};
 
 use crate::packets::{ann, sync, welcome};
 use crate::server_talk::{hear, say, server};
-use server_end::failing_end::FailingEnd;
+use memory_ends::failing_end::FailingEnd;
+use memory_ends::memory_server::{MemoryServer, ServerAuth};
 use server_end::gate::{Gate, OpenGate, Ready};
-use server_end::memory_server::{MemoryServer, ServerAuth};
 use server_end::{Moved, ServerEnd};
 use std::alloc::Global;
 use std::mem::ManuallyDrop;
@@ -25,11 +25,11 @@ fn death(alloc: Global, after: u64) -> Result<(usize, Moved, Option<Moved>), Fai
 #[test]
 fn a_server_dies(rt: HostRuntime) -> Result<(), Fail> {
     let ended = Some(Moved::Ended);
-    assert_eq!(rt; death(rt.alloc(), 0)?, (0, Moved::Ended, ended));
-    assert_eq!(rt; death(rt.alloc(), 1)?, (1, Moved::Ended, ended));
-    assert_eq!(rt; death(rt.alloc(), 100)?, (100, Moved::Ended, ended));
-    assert_eq!(rt; death(rt.alloc(), 260)?, (260, Moved::Ended, ended));
-    assert_eq!(rt; death(rt.alloc(), 261)?, (260, Moved::NotNow, None));
+    assert!(rt; death(rt.alloc(), 0)? == (0, Moved::Ended, ended));
+    assert!(rt; death(rt.alloc(), 1)? == (1, Moved::Ended, ended));
+    assert!(rt; death(rt.alloc(), 100)? == (100, Moved::Ended, ended));
+    assert!(rt; death(rt.alloc(), 260)? == (260, Moved::Ended, ended));
+    assert!(rt; death(rt.alloc(), 261)? == (260, Moved::NotNow, None));
     Ok(())
 }
 
@@ -50,11 +50,11 @@ fn failure(alloc: Global, nth: u64) -> Result<(usize, Moved, u64), Fail>
 
 #[test]
 fn a_server_fails(rt: HostRuntime) -> Result<(), Fail> {
-    assert_eq!(rt; failure(rt.alloc(), 1)?, (0, Moved::Fault, 4));
-    assert_eq!(rt; failure(rt.alloc(), 2)?, (0, Moved::Fault, 3));
-    assert_eq!(rt; failure(rt.alloc(), 4)?, (200, Moved::Fault, 3));
-    assert_eq!(rt; failure(rt.alloc(), 7)?, (260, Moved::NotNow, 1));
-    assert_eq!(rt; failure(rt.alloc(), 8)?, (260, Moved::NotNow, 0));
+    assert!(rt; failure(rt.alloc(), 1)? == (0, Moved::Fault, 4));
+    assert!(rt; failure(rt.alloc(), 2)? == (0, Moved::Fault, 3));
+    assert!(rt; failure(rt.alloc(), 4)? == (200, Moved::Fault, 3));
+    assert!(rt; failure(rt.alloc(), 7)? == (260, Moved::NotNow, 1));
+    assert!(rt; failure(rt.alloc(), 8)? == (260, Moved::NotNow, 0));
     Ok(())
 }
 
@@ -65,6 +65,6 @@ fn an_open_gate(rt: HostRuntime) -> Result<(), Fail> {
         client: true,
         server: true,
     };
-    assert_eq!(rt; ready, both);
+    assert!(rt; ready == both);
     Ok(())
 }

@@ -1,9 +1,9 @@
 //! Talking to the end of a server.
 ghost use Rattle.std.specs.Prelude.{◌<◌};
 
+use memory_ends::memory_server::{MemoryServer, ServerAuth};
 use message_view::KeyWord;
 use server_catalogue::Catalogue;
-use server_end::memory_server::{MemoryServer, ServerAuth};
 use server_end::{Moved, ServerEnd};
 use std::alloc::Global;
 use std::mem::{ManuallyDrop, forget};

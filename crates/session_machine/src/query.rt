@@ -15,6 +15,7 @@ use message_view::QueryView;
 use mini_sql::Stmt;
 use server_catalogue::Catalogue;
 use session_values::cause::Cause;
+use session_values::error_responses::put_error;
 use session_values::names::Names;
 use session_values::row::Row;
 use session_values::stop::Stop;
@@ -92,7 +93,7 @@ pub(crate) fn fail_query(
 ) -> Result<(), AllocError>
     ensures { OnOk result (Gave session.new out.old.items out.new.items (end_query session.old (Err cause))) }
 {
-    cause.put_error(out)?;
+    put_error(out, cause)?;
     session.fail(alloc)?;
     session.ready(alloc, out)
 }

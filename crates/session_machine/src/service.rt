@@ -11,6 +11,7 @@ use bytes::BytesMut;
 use frame_view::{LONGEST_FRAME, Side, Step, next_frame};
 use message_view::{KeyWord, Status, put_backend_key_data, put_ready_for_query};
 use server_catalogue::Catalogue;
+use session_values::error_responses::put_fatal;
 use session_values::stop::Stop;
 use start_keys::key::StartKey;
 use statement_runs::session::SessionState;
@@ -82,7 +83,7 @@ fn put_service(
 {
     match SessionState::start(alloc, catalogue, key) {
         Ok(session) => serve(alloc, catalogue, session, word, bytes, out),
-        Err(Stop::Refused(cause)) => cause.put_fatal(out),
+        Err(Stop::Refused(cause)) => put_fatal(out, cause),
         Err(Stop::OutOfMemory) => Err(AllocError),
     }
 }

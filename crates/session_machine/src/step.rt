@@ -16,6 +16,7 @@ use frame_view::{Frame, client};
 use message_view::{BindView, CloseView, DescribeView, ExecuteView, ParseView};
 use server_catalogue::Catalogue;
 use session_values::cause::Cause;
+use session_values::error_responses::put_error;
 use session_values::stop::Stop;
 use statement_runs::session::SessionState;
 use std::alloc::{AllocError, Global};
@@ -29,7 +30,7 @@ fn refuse(
 ) -> Result<(), AllocError>
     ensures { OnOk result (Gave session.new out.old.items out.new.items (refused session.old cause)) }
 {
-    cause.put_error(out)?;
+    put_error(out, cause)?;
     session.fail(alloc)?;
     session.put_skipping(true);
     Ok(())

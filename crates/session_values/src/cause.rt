@@ -1,10 +1,5 @@
 //! The errors by which a session answers (PostgreSQL manual, "PostgreSQL Error Codes").
-ghost use Rattle.std.specs.Prelude.{◌≡◌, ◌++◌, OnErr, OnOk};
-ghost use Rattle.frame_view.specs.Frames.{spelling};
-
-use bytes::BytesMut;
-use message_view::{Severity, put_error_response};
-use std::alloc::AllocError;
+ghost use Rattle.std.specs.Prelude.{◌≡◌};
 
 /// Why a client's message is answered by an error.
 #[derive(Clone, Copy, Debug, PartialEq, Eq, Drop)]
@@ -50,7 +45,7 @@ pub enum Cause {
 }
 
 impl Cause {
-    ghost use Rattle.session_values.specs.Errors.{error, fatal, told};
+    ghost use Rattle.session_values.specs.Errors.{told};
 
     /// Its SQLSTATE.
     pub fn code(self) -> &'static [u8]
@@ -104,20 +99,5 @@ impl Cause {
             Cause::PortalIsDone => b"portal cannot be run",
             Cause::FixedParameter => b"parameter cannot be changed",
         }
-    }
-
-    /// Writes the ErrorResponse of a message.
-    pub fn put_error(self, out: &mut BytesMut) -> Result<(), AllocError>
-        ensures { OnOk result (out.new.items ≡ out.old.items ++ spelling (error self)) }
-    {
-        put_error_response(out, Severity::Error, self.code(), self.text())
-    }
-
-    /// Writes the ErrorResponse of a start.
-    pub fn put_fatal(self, out: &mut BytesMut) -> Result<(), AllocError>
-        ensures ok { OnOk result (out.new.items ≡ out.old.items ++ spelling (fatal self)) }
-        ensures err { OnErr result (out.new.items ≡ out.old.items) }
-    {
-        put_error_response(out, Severity::Fatal, self.code(), self.text())
     }
 }

@@ -3,6 +3,7 @@
 
 pub mod block;
 pub mod cause;
+pub mod error_responses;
 pub mod names;
 pub mod naming;
 pub mod parameter;

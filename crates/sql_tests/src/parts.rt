@@ -11,7 +11,7 @@ fn words(rt: HostRuntime) -> Result<(), Fail> {
         (b"", b"", true),
     ];
     for (word, other, expected) in table {
-        assert_eq!(rt; is_same_word(word, other), *expected);
+        assert!(rt; is_same_word(word, other) == *expected);
     }
     Ok(())
 }
@@ -28,7 +28,7 @@ fn parameters(rt: HostRuntime) -> Result<(), Fail> {
     ];
     for (text, expected) in table {
         let stmt = read_statement(text).map_err(|_| "a statement was refused")?;
-        assert_eq!(rt; stmt.parameters(), *expected);
+        assert!(rt; stmt.parameters() == *expected);
     }
     Ok(())
 }
@@ -59,7 +59,7 @@ fn lengths(rt: HostRuntime) -> Result<(), Fail> {
         (b"set x to ''", 0),
     ];
     for (text, expected) in table {
-        assert_eq!(rt; count(text), Some(*expected));
+        assert!(rt; count(text) == Some(*expected));
     }
     Ok(())
 }

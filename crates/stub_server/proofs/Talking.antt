@@ -30,8 +30,8 @@ use Rattle.link_laws.specs.Futures.{replies_open, replies_in, FuturesStay}
 use Rattle.link_laws.specs.Stages.{Server, Open, Turn, packet_bytes, let_in, opened, opens, started_by, serve}
 use Rattle.link_laws.specs.Stages as stages
 use Rattle.link_laws.specs.Standing.{Standing, Moves}
-use Rattle.server_end.specs.Dialogues as server
-use Rattle.server_end.proofs.Serving.{takes_frame, waits_frame, turn_refused}
+use Rattle.memory_ends.specs.Dialogues as server
+use Rattle.memory_ends.proofs.Serving.{takes_frame, waits_frame, turn_refused}
 use Rattle.stub_server.specs.declared.talk.Host.{Host}
 use Rattle.stub_server.specs.declared.talk.Stage.{Stage}
 use Rattle.stub_server.specs.declared.talk.Stage.TheVariants.{Waits, Serves}

@@ -17,6 +17,7 @@ use link_laws::futures_stay;
 use message_view::{KeyWord, StartupView, put_authentication_ok};
 use server_catalogue::Catalogue;
 use session_machine::Session;
+use session_values::error_responses::put_fatal;
 use session_values::stop::Stop;
 use start_keys::stub_key;
 use std::alloc::{AllocError, Global};
@@ -119,7 +120,7 @@ impl Host {
                 Ok(Stage::Serves(session))
             }
             Err(Stop::Refused(cause)) => {
-                cause.put_fatal(out)?;
+                put_fatal(out, cause)?;
                 Ok(Stage::Waits(0))
             }
             Err(Stop::OutOfMemory) => Err(AllocError),

@@ -31,11 +31,11 @@ fn sent<T: Send>(value: T) -> T {
 #[test]
 fn bytes_go_both_ways(rt: HostRuntime) -> Result<(), Fail> {
     let (mut near, mut far) = sent(pair(&rt)?);
-    assert_eq!(rt; read(&mut near), (Moved::NotNow, [0; 4]));
-    assert_eq!(rt; ClientEnd::write_some(&mut far, b"Z(49)"), Moved::Count(5));
-    assert_eq!(rt; read_after(&mut near, Moved::NotNow), Moved::Count(4));
-    assert_eq!(rt; read(&mut near), (Moved::Count(1), [b')', 0, 0, 0]));
-    assert_eq!(rt; ServerEnd::waits(&near).1, 0);
+    assert!(rt; read(&mut near) == (Moved::NotNow, [0; 4]));
+    assert!(rt; ClientEnd::write_some(&mut far, b"Z(49)") == Moved::Count(5));
+    assert!(rt; read_after(&mut near, Moved::NotNow) == Moved::Count(4));
+    assert!(rt; read(&mut near) == (Moved::Count(1), [b')', 0, 0, 0]));
+    assert!(rt; ServerEnd::waits(&near).1 == 0);
     Ok(())
 }
 
@@ -43,17 +43,17 @@ fn bytes_go_both_ways(rt: HostRuntime) -> Result<(), Fail> {
 fn waits_are_counted(rt: HostRuntime) -> Result<(), Fail> {
     let (mut near, _far) = pair(&rt)?;
     for _ in 0..3 {
-        assert_eq!(rt; read(&mut near).0, Moved::NotNow);
+        assert!(rt; read(&mut near).0 == Moved::NotNow);
     }
-    assert_eq!(rt; ServerEnd::waits(&near), (3, 0));
+    assert!(rt; ServerEnd::waits(&near) == (3, 0));
     let block = [7u8; 65_536];
     for _ in 0..10_000u32 {
         if ServerEnd::write_some(&mut near, &block) == Moved::NotNow {
             break;
         }
     }
-    assert_eq!(rt; ClientEnd::waits(&near), (3, 1));
-    assert_eq!(rt; ClientEnd::faults(&near), 0);
+    assert!(rt; ClientEnd::waits(&near) == (3, 1));
+    assert!(rt; ClientEnd::faults(&near) == 0);
     Ok(())
 }
 
@@ -61,10 +61,10 @@ fn waits_are_counted(rt: HostRuntime) -> Result<(), Fail> {
 fn an_end_of_input_is_final(rt: HostRuntime) -> Result<(), Fail> {
     let (mut near, far) = pair(&rt)?;
     drop(far);
-    assert_eq!(rt; read_after(&mut near, Moved::NotNow), Moved::Ended);
-    assert_eq!(rt; ServerEnd::read_some(&mut near, &mut [0; 4]), Moved::Ended);
-    assert_eq!(rt; ServerEnd::write_some(&mut near, b"Q"), Moved::Ended);
-    assert_eq!(rt; ServerEnd::faults(&near), 0);
+    assert!(rt; read_after(&mut near, Moved::NotNow) == Moved::Ended);
+    assert!(rt; ServerEnd::read_some(&mut near, &mut [0; 4]) == Moved::Ended);
+    assert!(rt; ServerEnd::write_some(&mut near, b"Q") == Moved::Ended);
+    assert!(rt; ServerEnd::faults(&near) == 0);
     Ok(())
 }
 
@@ -83,11 +83,11 @@ fn write_after(end: &mut TcpEnd) -> Moved {
 fn a_fault_is_final(rt: HostRuntime) -> Result<(), Fail> {
     let (mut near, far) = pair(&rt)?;
     drop(far);
-    assert_eq!(rt; read_after(&mut near, Moved::NotNow), Moved::Ended);
-    assert_eq!(rt; write_after(&mut near), Moved::Fault);
-    assert_eq!(rt; ClientEnd::faults(&near), 1);
-    assert_eq!(rt; ClientEnd::write_some(&mut near, b"Q"), Moved::Ended);
-    assert_eq!(rt; ClientEnd::read_some(&mut near, &mut [0; 4]), Moved::Ended);
+    assert!(rt; read_after(&mut near, Moved::NotNow) == Moved::Ended);
+    assert!(rt; write_after(&mut near) == Moved::Fault);
+    assert!(rt; ClientEnd::faults(&near) == 1);
+    assert!(rt; ClientEnd::write_some(&mut near, b"Q") == Moved::Ended);
+    assert!(rt; ClientEnd::read_some(&mut near, &mut [0; 4]) == Moved::Ended);
     Ok(())
 }
 

@@ -57,7 +57,7 @@ fn bytes_end_a_wait(rt: HostRuntime) -> Result<(), Fail> {
     gate.watch(&mut link);
     let start = Instant::now(&rt)?;
     for _ in 0..200 {
-        assert_eq!(rt; ServerEnd::write_some(&mut far, b"Z"), Moved::Count(1));
+        assert!(rt; ServerEnd::write_some(&mut far, b"Z") == Moved::Count(1));
         read_by_turns(&mut gate, &mut link);
     }
     assert!(rt; start.elapsed(&rt)?.as_secs() < 10);
@@ -71,10 +71,7 @@ fn bytes_that_are_there_need_no_wait(rt: HostRuntime) -> Result<(), Fail> {
     let (mut link, mut far) = pair(&rt)?;
     let mut gate = TcpGate::new(&rt, rt.alloc(), &mut client)?;
     gate.watch(&mut link);
-    assert_eq!(rt;
-        ServerEnd::write_some(&mut far, &[7; 10_000]),
-        Moved::Count(10_000)
-    );
+    assert!(rt; ServerEnd::write_some(&mut far, &[7; 10_000]) == Moved::Count(10_000));
     let mut turns = 0u32;
     for _ in 0..10_000 {
         turns = turns.saturating_add(read_by_turns(&mut gate, &mut link));

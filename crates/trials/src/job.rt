@@ -2,10 +2,10 @@
 
 /// The line that a wrong command line is answered by.
 pub const USAGE: &str =
-    "usage: trials login INI USERS CUT | trials solo CATALOGUE USER | trials lease CUT [DIES_AFTER] (a client's bytes on standard input)";
+    "usage: trials login INI USERS CUT | trials solo CATALOGUE USER | trials lease CUT [DIES_AFTER] (a client's bytes on standard input) | trials relay SIZE TOTAL | trials book CLIENTS EVENTS";
 
 /// What a command line asks for.
-#[derive(Clone, Copy, Debug, PartialEq, Eq, Drop)]
+#[derive(Clone, Copy, Drop)]
 pub enum Job<'a> {
     /// The login under these settings and users, fed in pieces of at most so many bytes.
     Login {
@@ -23,6 +23,16 @@ pub enum Job<'a> {
     Lease {
         cut: usize,
         dies_after: Option<u64>,
+    },
+    /// How many bytes a client is given over a relay, of at least so many in DataRows of this size each, 11 or more.
+    Relay {
+        size: u32,
+        total: u64,
+    },
+    /// How many events there were at a lease book to which so many clients come, and then come and go until there were so many more.
+    Book {
+        clients: u64,
+        events: u64,
     },
 }
 
@@ -54,6 +64,14 @@ pub fn job_of<'a>(words: &'a [String]) -> Option<Job<'a>> {
         "lease" if words.len() == 4 => Some(Job::Lease {
             cut: cut_of(words[2].as_str())?,
             dies_after: Some(words[3].parse::<u64>().ok()?),
+        }),
+        "relay" if words.len() == 4 => Some(Job::Relay {
+            size: words[2].parse::<u32>().ok()?,
+            total: words[3].parse::<u64>().ok()?,
+        }),
+        "book" if words.len() == 4 => Some(Job::Book {
+            clients: words[2].parse::<u64>().ok()?,
+            events: words[3].parse::<u64>().ok()?,
         }),
         _ => None,
     }

@@ -19,3 +19,12 @@ pub fn put_number(number: usize, out: &mut Vec<u8>) -> Result<(), AllocError> {
     let mut digits = Buffer::new();
     out.extend_from_slice(digits.format(number).as_bytes())
 }
+
+/// A number in decimal digits, in a line of its own.
+pub fn number_line(alloc: Global, number: u64) -> Result<Vec<u8>, AllocError> {
+    let mut line = Vec::new(alloc);
+    let mut digits = Buffer::new();
+    line.extend_from_slice(digits.format(number).as_bytes())?;
+    line.extend_from_slice(b"\n")?;
+    Ok(line)
+}

@@ -1,18 +1,24 @@
-//! A tool for this repository's tests: a login fed with its bytes in pieces, what a session alone answers, and what a lease gives.
+//! A tool for this repository's tests and measurements: a login fed with its bytes in pieces, what a session alone answers, what a lease
+//! gives; rows through a relay, and events of a lease book.
 #![tactic(auto)]
 
+mod book;
 mod fault;
+mod gone;
 mod input;
 mod job;
 mod lease;
 mod lines;
 mod login;
+mod relay;
+mod rows;
 mod solo;
 
 use job::Job;
+use lines::number_line;
 use message_view::KeyWord;
 use pool_app::fault::AppFault;
-use std::alloc::Global;
+use std::alloc::{AllocError, Global};
 use std::io::Write;
 use std::process::ExitCode;
 use std::rt::Files;
@@ -25,6 +31,17 @@ const KEY_WORD: KeyWord = KeyWord {
     salt: [1, 2, 3, 4],
 };
 
+/// A count, as a line.
+fn line_of<'a>(alloc: Global, count: Result<u64, AllocError>) -> Result<Vec<u8>, AppFault<'a>> {
+    let Ok(count) = count else {
+        return Err(AppFault::Memory);
+    };
+    match number_line(alloc, count) {
+        Ok(line) => Ok(line),
+        Err(_) => Err(AppFault::Memory),
+    }
+}
+
 fn answer<'a, R: Files + Input>(
     rt: &R,
     alloc: Global,
@@ -34,6 +51,8 @@ fn answer<'a, R: Files + Input>(
         Job::Login { ini, users, cut } => login::answer(rt, alloc, ini, users, cut),
         Job::Solo { catalogue, user } => solo::answer(rt, alloc, catalogue, user),
         Job::Lease { cut, dies_after } => lease::answer(rt, alloc, cut, dies_after),
+        Job::Relay { size, total } => line_of(alloc, relay::relayed(alloc, size.max(11), total)),
+        Job::Book { clients, events } => line_of(alloc, book::events(alloc, clients, events)),
     }
 }
 

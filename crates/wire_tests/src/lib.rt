@@ -1,4 +1,4 @@
-//! Tests of frames and of messages: of `frame_view` and `message_view`.
+//! Tests of frames, of messages, and of the verdict on what went over a link: of `frame_view`, `message_view` and `disposal`.
 #![tactic(auto)]
 
 #[cfg(test)]
@@ -9,5 +9,7 @@ mod parts;
 mod readers;
 #[cfg(test)]
 mod refusals;
+#[cfg(test)]
+mod verdicts;
 #[cfg(test)]
 mod writers;

@@ -27,5 +27,5 @@ fn refusals_are_errors(rt: HostRuntime) {
     ] {
         assert!(rt; fields.next() == Some((code, text)));
     }
-    assert!(rt; fields.next() == None);
+    assert!(rt; fields.next().is_none());
 }

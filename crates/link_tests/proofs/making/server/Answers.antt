@@ -1,6 +1,6 @@
 use Rattle.std.proofs.Common.{sym, subst}
 use Rattle.std.specs.Arc.{arc_value}
-use Rattle.server_end.specs.Servers.{ServerOf}
+use Rattle.memory_ends.specs.Servers.{ServerOf}
 use Rattle.link_start.specs.Starts.{CanStart}
 use Rattle.link_tests.proofs.making.server.Goals as goal
 

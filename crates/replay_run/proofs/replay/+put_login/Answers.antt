@@ -1,6 +1,6 @@
 use Rattle.std.proofs.Common.{sym, subst, ap, arith, length, length-drop, List, ℕ}
 use Rattle.std.specs.Arc.{arc_value}
-use Rattle.server_end.proofs.Ends.{all_of}
+use Rattle.memory_ends.proofs.Ends.{all_of}
 use Rattle.replay_run.specs.Told.{Adds, IsKeyed, silence}
 use Rattle.login_core.specs.Logins.{after, goes_on}
 use Rattle.replay_run.proofs.Replaying.{given_last, given_on, key_of_step, keyed_on, missing_on, nothing_given, on_ok}

@@ -1,6 +1,6 @@
 use Rattle.std.proofs.Common.{◌∙◌, ap, take, drop, arith, length-drop, take-add, sym, false, [], ◌++◌, length}
-use Rattle.server_end.specs.Clients.{ClientOf}
-use Rattle.server_end.proofs.Ends.{handed_out, copied, all_of}
+use Rattle.memory_ends.specs.Clients.{ClientOf}
+use Rattle.memory_ends.proofs.Ends.{handed_out, copied, all_of}
 use Rattle.act_client.specs.Clients.{facts_of, taken}
 use Rattle.act_client.proofs.client.ActClient.hand_out.Goals as goal
 

@@ -1,6 +1,6 @@
 use Rattle.std.proofs.Common.{◌∙◌, ap, take, drop, arith, length-drop, false, []}
-use Rattle.server_end.specs.Clients.{ClientOf}
-use Rattle.server_end.proofs.Ends.{handed_out, copied, all_of}
+use Rattle.memory_ends.specs.Clients.{ClientOf}
+use Rattle.memory_ends.proofs.Ends.{handed_out, copied, all_of}
 use Rattle.memory_lease.specs.Patient.{PatientOf}
 use Rattle.memory_lease.proofs.patient_client.PatientClient.hand_out.Goals as goal
 

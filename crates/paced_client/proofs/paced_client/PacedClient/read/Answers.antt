@@ -1,5 +1,5 @@
 use Rattle.std.proofs.Common.{◌∙◌, sym, ap, length, take, drop, arith, length-drop}
-use Rattle.server_end.proofs.Ends.{copied, all_of}
+use Rattle.memory_ends.proofs.Ends.{copied, all_of}
 use Rattle.paced_client.specs.Paced.{PacedOf}
 use Rattle.paced_client.proofs.Pacing.{handed_out}
 use Rattle.paced_client.proofs.paced_client.PacedClient.read.Goals as goal

@@ -1,5 +1,0 @@
-//! Tests of `server_catalogue`: catalogue files and their faults.
-#![tactic(auto)]
-
-#[cfg(test)]
-mod files;

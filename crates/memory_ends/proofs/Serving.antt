@@ -1,0 +1,139 @@
+-- One packet of a client is taken, and then all of them.
+use Rattle.std.proofs.Common.{◌≡◌, ℕ, zero, suc, ◌+◌, Bool, true, false, List, [], ◌∷◌, ◌++◌, length, drop, Result, Err, refl, sym, ap, ap₂, ◌∙◌, append_assoc, append-nil, arith, subst}
+use Rattle.std.proofs.lemmas.Bool.{true≢false}
+use Rattle.std.specs.Borrow.{Bor}
+use Rattle.std.specs.List.{flat_map, AllByRecursion}
+use Rattle.std.proofs.Math.Seq.{drop-append_seam}
+use Rattle.frame_view.specs.declared.Frame.{Frame}
+use Rattle.frame_view.specs.declared.Step.{Step}
+use Rattle.frame_view.specs.declared.Step.TheVariants.{Whole}
+use Rattle.frame_view.specs.declared.FirstStep.TheVariants.{Startup}
+use Rattle.frame_view.specs.declared.Side.TheVariants.{Client}
+use Rattle.frame_view.specs.declared.frames.TheConstants.{LONGEST_FRAME}
+use Rattle.frame_view.specs.Answers.{Tells, TellsFirst}
+use Rattle.frame_view.specs.Frames.{AreBytes, FrameOf, Front, AFrame, Lacks, Faulty, Stops, Start, Cut, first_front, first_spelling, front, spelling}
+use Rattle.frame_view.proofs.FirstPackets.{first-spelled}
+use Rattle.frame_view.proofs.FirstTaken.{started}
+use Rattle.frame_view.proofs.Cuts.{front-spelled}
+use Rattle.frame_view.proofs.Taking.{not_whole}
+use Rattle.frame_view.proofs.Splitting.{frames-stopped}
+use Rattle.message_view.specs.Bodies.{Text}
+use Rattle.session_values.specs.declared.cause.Cause.{Cause}
+use Rattle.session_values.specs.Answers.{Gave, frame_of}
+use Rattle.session_values.specs.Errors.{fatal}
+use Rattle.session_values.specs.State.{State, CatalogueOf}
+use Rattle.session_values.specs.Step.{step, run_frames}
+use Rattle.link_laws.specs.Laws.{IsSent}
+use Rattle.message_laws.proofs.Trips.{bytes_after}
+use Rattle.link_laws.specs.Futures.{replies_in}
+use Rattle.link_laws.specs.Stages.{Server, Auth, Stage, Before, Asked, Open, Closed, Starts, Sends, packet_bytes, begins, hears, let_in, opened, serve}
+use Rattle.link_laws.proofs.Both.{served_both}
+use Rattle.memory_ends.specs.declared.dialogue.Host.{Host}
+use Rattle.memory_ends.specs.declared.dialogue.Dialogue.{Dialogue}
+use Rattle.memory_ends.specs.Dialogues.{server_of, stage_of, Takes, Waits, HasTaken, alone, Serves}
+
+-- ---- the turns
+
+-- AuthenticationOk and the error of a start
+pub turn_refused : (v : Server) (r : Result State Cause) (c : Cause) (before mid after : List ℕ) → r ≡ Err c → mid ≡ before ++ spelling let_in → after ≡ mid ++ spelling (fatal c)
+    → (Closed ≡ (opened v r).next) × (after ≡ before ++ flat_map spelling (opened v r).replies)
+turn_refused v r c before mid after e m a = rw e (refl, a ∙ ap (λ (x : List ℕ). x ++ spelling (fatal c)) m ∙ append_assoc before (spelling let_in) (spelling (fatal c)) ∙ ap (λ (x : List ℕ). before ++ (spelling let_in ++ x)) (sym (append-nil (spelling (fatal c)))))
+
+-- ---- the StartupMessage
+
+pub takes_start : (v : Server) (auth : Auth) (part : Bor (List ℕ)) (bytes items rest out replied : List ℕ) (next : Stage) → AreBytes bytes → bytes ≡ items → TellsFirst (Startup part) (first_front bytes)
+    → (next ≡ (begins v auth part.now).next) × (replied ≡ out ++ flat_map spelling (begins v auth part.now).replies) → rest ≡ drop (8 + length part.now) items → Takes v (Before auth) next items rest out replied
+takes_start v auth part bytes items rest out replied next fit same t turn left =
+    let s = started part bytes fit t in
+    let p = first-spelled bytes (Start part.now) (drop (8 + length part.now) bytes) fit s.first in
+    record {
+      packet = Starts part.now;
+      lawful = p.1;
+      front = sym same ∙ p.0 ∙ ap (λ (x : List ℕ). first_spelling (Start part.now) ++ x) (ap (drop (8 + length part.now)) same ∙ sym left);
+      stage = turn.0;
+      replies = turn.1;
+    }
+
+-- ---- frames
+
+bytes_before : (front rest : List ℕ) → AreBytes (front ++ rest) → AreBytes front
+bytes_before [] rest h i = omega arith
+bytes_before (b ∷ front) rest h zero = h 0
+bytes_before (b ∷ front) rest h (suc i) = bytes_before front rest (λ j. h (suc j)) i
+
+-- what was cut out is a frame that a client may send, and what follows it is left
+record Cuts (frame : Frame) (bytes : List ℕ) : Type 0 where
+  sent : IsSent (frame_of frame)
+  whole : bytes ≡ spelling (frame_of frame) ++ drop (length frame.whole.now) bytes
+
+abbrev a_frame : ℕ → List ℕ → FrameOf
+a_frame k b = record { kind = k; body = b }
+
+cut_out-at : (frame : Frame) (bytes : List ℕ) (f : Front) → AreBytes bytes → front Client LONGEST_FRAME bytes ≡ f → Tells (Whole frame) bytes f → Cuts frame bytes
+cut_out-at frame bytes (AFrame k body rest) fit e t =
+    let s = front-spelled Client LONGEST_FRAME bytes k body rest fit e in
+    let same : a_frame k body ≡ frame_of frame = ap₂ a_frame (sym t.kind_is) (sym t.body_is) in
+    let back : drop (length frame.whole.now) bytes ≡ rest = ap (drop (length frame.whole.now)) (sym t.whole_is) ∙ drop-append_seam frame.whole.now rest in
+    let head : List ℕ = k ∷ Rattle.std.specs.Int.to_be_bytes Rattle.std.specs.Int.w32 (4 + length body) in
+    let b : AreBytes body = bytes_after head body (bytes_before (head ++ body) rest (subst AreBytes s.0 fit)) in
+    record {
+      sent = subst IsSent same (record { whole = s.1; bytes = b });
+      whole = s.0 ∙ ap (λ (x : FrameOf). spelling x ++ rest) same ∙ ap (λ (x : List ℕ). spelling (frame_of frame) ++ x) (sym back);
+    }
+cut_out-at frame bytes (Lacks n) fit e t = absurd t
+cut_out-at frame bytes (Faulty x) fit e t = absurd t
+
+cut_out : (frame : Frame) (bytes items : List ℕ) → AreBytes bytes → bytes ≡ items → Tells (Whole frame) bytes (front Client LONGEST_FRAME bytes) → Cuts frame items
+cut_out frame bytes items fit same t = subst (Cuts frame) same (cut_out-at frame bytes (front Client LONGEST_FRAME bytes) fit refl t)
+
+pub takes_answer : (v : Server) (start : List ℕ) (answer : Text) (frame : Frame) (bytes items rest out replied : List ℕ) (next : Stage) → AreBytes bytes → bytes ≡ items → Tells (Whole frame) bytes (front Client LONGEST_FRAME bytes)
+    → (next ≡ (hears v start answer (frame_of frame)).next) × (replied ≡ out ++ flat_map spelling (hears v start answer (frame_of frame)).replies) → rest ≡ drop (length frame.whole.now) items → Takes v (Asked start answer) next items rest out replied
+takes_answer v start answer frame bytes items rest out replied next fit same t turn left =
+    let k = cut_out frame bytes items fit same t in
+    record {
+      packet = Sends (frame_of frame);
+      lawful = k.sent;
+      front = k.whole ∙ ap (λ (x : List ℕ). spelling (frame_of frame) ++ x) (sym left);
+      stage = turn.0;
+      replies = turn.1;
+    }
+
+-- a frame of the session
+no_frame : (v : Server) (s : State) (bytes : List ℕ) → Stops (front Client LONGEST_FRAME bytes) → replies_in v (Open s) bytes ≡ []
+unfolding run_frames
+no_frame v s bytes h = ap (λ (c : Cut). flat_map spelling (run_frames v.catalogue s c.frames).replies) (frames-stopped Client LONGEST_FRAME bytes h)
+
+pub waits_frame : (v : Server) (s : State) (x : Step) (bytes items out : List ℕ) → bytes ≡ items → ((frame : Frame) → x ≡ Whole frame → ⊥) → Tells x bytes (front Client LONGEST_FRAME bytes) → Waits v (Open s) items items out out
+waits_frame v s x bytes items out same n t = record {
+  left = refl;
+  silent = refl;
+  answered = ap (replies_in v (Open s)) (sym same) ∙ no_frame v s bytes (not_whole x bytes (front Client LONGEST_FRAME bytes) n t);
+}
+
+pub takes_frame : (v : Server) (cat : CatalogueOf) (s next : State) (frame : Frame) (bytes items rest out replied : List ℕ) → cat ≡ v.catalogue → AreBytes bytes → bytes ≡ items → Tells (Whole frame) bytes (front Client LONGEST_FRAME bytes)
+    → Gave next out replied (step cat s (frame_of frame)) → rest ≡ drop (length frame.whole.now) items → Takes v (Open s) (Open next) items rest out replied
+takes_frame v cat s next frame bytes items rest out replied d fit same t gave left =
+    let k = cut_out frame bytes items fit same t in
+    let g : Gave next out replied (step v.catalogue s (frame_of frame)) = subst (λ (x : CatalogueOf). Gave next out replied (step x s (frame_of frame))) d gave in
+    record {
+      packet = Sends (frame_of frame);
+      lawful = k.sent;
+      front = k.whole ∙ ap (λ (x : List ℕ). spelling (frame_of frame) ++ x) (sym left);
+      stage = ap Open g.next;
+      replies = g.written;
+    }
+
+-- ---- all packets
+
+takes_served : (a b : Dialogue) → b.host ≡ a.host → Takes (server_of a.host) (stage_of a.host a.progress) (stage_of a.host b.progress) a.inbox.items b.inbox.items a.outbox.items b.outbox.items → Serves a b
+takes_served a b e t = record {
+  taken = t.packet ∷ [];
+  lawful = (t.lawful, tt);
+  inbox = append-nil a.inbox.items ∙ t.front ∙ ap (λ (x : List ℕ). x ++ b.inbox.items) (sym (append-nil (packet_bytes t.packet)));
+  stage = ap (λ (x : Host). stage_of x b.progress) e ∙ t.stage;
+  outbox = ap (λ (rs : List FrameOf). a.outbox.items ++ flat_map spelling rs) (append-nil (serve (server_of a.host) (stage_of a.host a.progress) t.packet).replies) ∙ sym t.replies;
+}
+
+pub serves_one : (went : Bool) (a b c : Dialogue) → went ≡ true → b.host ≡ a.host → c.host ≡ b.host → Serves a b → HasTaken went (server_of b.host) (stage_of b.host b.progress) (stage_of b.host c.progress) b.inbox.items c.inbox.items b.outbox.items c.outbox.items → Serves a c
+serves_one true a b c w e f x t = served_both (alone a) (alone b) (alone c) [] [] [] [] (ap server_of e) x (takes_served b c f t)
+serves_one false a b c w e f x t = absurd (true≢false (sym w))

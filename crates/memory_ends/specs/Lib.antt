@@ -1,0 +1,4 @@
+pub mod Clients
+pub mod Dialogues
+pub mod Servers
+pub mod Failing

@@ -1,0 +1,7 @@
+//! Ends of a lease in memory: a stand-in server, a client that hands out its input, and an end that fails.
+#![tactic(auto)]
+
+mod dialogue;
+pub mod failing_end;
+pub mod memory_client;
+pub mod memory_server;

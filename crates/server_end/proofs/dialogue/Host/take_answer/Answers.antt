@@ -1,5 +1,0 @@
-use Rattle.server_end.proofs.Serving.{takes_answer}
-use Rattle.server_end.proofs.dialogue.Host.take_answer.Goals as goal
-
-pub returns : goal.returns
-returns c = takes_answer _ _ _ c.in-Whole.frame c.as_slice-held.result.now _ _ _ _ _ c.are_bytes.ensures c.as_slice-held.ensures c.in-Whole.ensures.tells c.in_ok-next.ensures c.advance.ensures.items

@@ -1,0 +1,232 @@
+//! `trials book`: clients that come to a lease book of 1,000 links and 500 start keys of 100 pools, and go.
+ghost use Rattle.std.specs.Prelude.{◌<◌};
+ghost use Rattle.lease_book.specs.Links.{IsTwice};
+
+use crate::gone::{Gone, key};
+use book_lists::limits::Limits;
+use lease_book::book::Book;
+use lease_book::events::{Event, Reply};
+use link_run::links::{CleanLink, Lent};
+use param_track::Reported;
+use start_keys::StartKey;
+use std::alloc::{AllocError, Global};
+use std::collections::VecDeque;
+use std::sync::Arc;
+
+/// How many pools there are, of 10 links each, and how many keys of them.
+const POOLS: u64 = 100;
+
+const KEYS: u64 = 500;
+
+/// A client, its key and its pool.
+#[derive(Clone, Copy, Drop)]
+struct Client {
+    number: u64,
+    key: u64,
+    pool: u64,
+}
+
+/// A lent link, and whose it is.
+#[derive(Drop)]
+struct Lease {
+    link: CleanLink<Gone>,
+    client: Client,
+}
+
+/// The book, the clients that wait in each pool, and the lent links.
+#[derive(Drop)]
+struct Bench {
+    alloc: Global,
+    book: Book<Gone>,
+    keys: Vec<Arc<StartKey>>,
+    waiting: Vec<VecDeque<Client>>,
+    leases: Vec<Lease>,
+    /// How many events there were.
+    events: u64,
+    random: u64,
+}
+
+/// 10,000 clients and 1,000 links, 10 to a pool.
+fn limits(alloc: Global) -> Result<Arc<Limits>, AllocError> {
+    let limits = Limits {
+        max_client_conn: 10_000,
+        max_links: 1_000,
+        default_pool_size: 10,
+        query_wait_timeout: 0,
+        server_lifetime: 3_600,
+        server_idle_timeout: 0,
+        row_sizes: Vec::new(alloc),
+    };
+    Ok(Arc::new(alloc, limits)?)
+}
+
+/// The keys.
+fn keys(alloc: Global) -> Result<Vec<Arc<StartKey>>, AllocError> {
+    let mut keys = Vec::new(alloc);
+    for number in 0..KEYS {
+        keys.push(key(alloc, number, number % POOLS)?)?;
+    }
+    Ok(keys)
+}
+
+/// No clients yet, in each pool.
+fn nobody(alloc: Global) -> Result<Vec<VecDeque<Client>>, AllocError> {
+    let mut waiting = Vec::new(alloc);
+    for _ in 0..POOLS {
+        waiting.push(VecDeque::new(alloc))?;
+    }
+    Ok(waiting)
+}
+
+impl Bench {
+    /// An empty book.
+    fn new(alloc: Global) -> Result<Bench, AllocError> {
+        Ok(Bench {
+            alloc,
+            book: Book::new(alloc, limits(alloc)?)?,
+            keys: keys(alloc)?,
+            waiting: nobody(alloc)?,
+            leases: Vec::new(alloc),
+            events: 0,
+            random: 1,
+        })
+    }
+
+    /// The next number, by a linear congruence.
+    fn draw(&mut self) -> u64 {
+        let next = self.random.wrapping_mul(6_364_136_223_846_793_005);
+        self.random = next.wrapping_add(1_442_695_040_888_963_407);
+        self.random >> 33
+    }
+
+    /// What the book answers.
+    fn happens(&mut self, event: Event<Gone>) -> Reply<Gone>
+        requires { IsTwice event }
+    {
+        self.events = self.events.saturating_add(1);
+        self.book.apply(0, event)
+    }
+
+    /// The key of this number.
+    fn key_of(&self, number: u64) -> Result<Arc<StartKey>, AllocError> {
+        match self.keys.get(number as usize) {
+            Some(key) => Arc::try_clone(key),
+            None => Err(AllocError),
+        }
+    }
+
+    /// The first client that waits in this pool.
+    fn first(&self, pool: u64) -> Option<Client> {
+        let client = self.waiting.get(pool as usize)?.front()?;
+        Some(*client)
+    }
+
+    /// A client waits in its pool.
+    fn waits(&mut self, client: Client) -> Result<(), AllocError> {
+        match self.waiting.get_mut(client.pool as usize) {
+            Some(queue) => Ok(queue.push_back(client)?),
+            None => Err(AllocError),
+        }
+    }
+
+    /// The first client of the pool waits no more.
+    fn waits_no_more(&mut self, pool: u64) {
+        if let Some(queue) = self.waiting.get_mut(pool as usize) {
+            let _ = queue.pop_front();
+        }
+    }
+
+    /// The client has this link.
+    fn has(&mut self, client: Client, link: CleanLink<Gone>) -> Result<(), AllocError> {
+        self.waits_no_more(client.pool);
+        Ok(self.leases.push(Lease { link, client })?)
+    }
+
+    /// A link of this number is started for the client.
+    fn starts(&mut self, client: Client, number: u64, born: u64) -> Result<(), AllocError> {
+        let lent = Lent {
+            end: Gone,
+            key: self.key_of(client.key)?,
+            number,
+            born,
+            server_key: None,
+            reported: Reported::new(self.alloc),
+        };
+        self.has(client, lent.clean())
+    }
+
+    /// The first client of a pool takes its link, if it may have one.
+    fn takes(&mut self, pool: u64) -> Result<(), AllocError> {
+        let Some(client) = self.first(pool) else {
+            return Ok(());
+        };
+        let take = Event::Take {
+            client: client.number,
+        };
+        match self.happens(take) {
+            Reply::Lend(link) => self.has(client, link),
+            Reply::Start { number, born, .. } => self.starts(client, number, born),
+            _ => Ok(()),
+        }
+    }
+
+    /// A client comes and asks.
+    fn comes(&mut self) -> Result<(), AllocError> {
+        let Reply::Client(number) = self.happens(Event::Arrive) else {
+            return Err(AllocError);
+        };
+        let key = self.draw() % KEYS;
+        let pool = key % POOLS;
+        self.waits(Client { number, key, pool })?;
+        let key = self.key_of(key)?;
+        let again = Arc::try_clone(&key)?;
+        let ask = Event::Ask {
+            client: number,
+            key,
+            again,
+        };
+        drop(self.happens(ask));
+        self.takes(pool)
+    }
+
+    /// A lease, by chance.
+    fn any_lease(&mut self) -> Option<Lease> {
+        let drawn = self.draw() as usize;
+        let count = self.leases.len();
+        if count == 0 {
+            return None;
+        }
+        Some(self.leases.swap_remove(drawn % count))
+    }
+
+    /// A client gives its link back and leaves, the next of its pool takes one, and another client comes.
+    fn turns(&mut self) -> Result<(), AllocError> {
+        let Some(lease) = self.any_lease() else {
+            return Err(AllocError);
+        };
+        let Lease { link, client } = lease;
+        drop(self.happens(Event::GiveBack(link)));
+        self.takes(client.pool)?;
+        let leave = Event::Leave {
+            client: client.number,
+        };
+        drop(self.happens(leave));
+        self.comes()
+    }
+}
+
+/// The clients come, and go and come; how many events there were.
+pub fn events(alloc: Global, clients: u64, events: u64) -> Result<u64, AllocError> {
+    let mut bench = Bench::new(alloc)?;
+    for _ in 0..clients {
+        bench.comes()?;
+    }
+    let end = bench.events.saturating_add(events);
+    for _ in 0..events {
+        if bench.events >= end {
+            break;
+        }
+        bench.turns()?;
+    }
+    Ok(bench.events)
+}
