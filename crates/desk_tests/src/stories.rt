@@ -17,7 +17,7 @@ use std::sync::ledger::Ledger;
 use std::test::Fail;
 
 /// What happens at the desk.
-#[derive(Clone, Copy, Debug, Drop)]
+#[derive(Clone, Copy, Drop)]
 enum Act {
     Come,
     Ask(u64),
@@ -36,7 +36,7 @@ enum Act {
 }
 
 /// What it answers.
-#[derive(Clone, Copy, Debug, PartialEq, Eq, Drop)]
+#[derive(Clone, Copy, PartialEq, Eq, Drop)]
 pub(crate) enum Says {
     Client(u64),
     Queued(u64),

@@ -13,7 +13,7 @@ use std::alloc::{AllocError, Global};
 use std::sync::Arc;
 
 /// An event.
-#[derive(Clone, Copy, Debug, Drop)]
+#[derive(Clone, Copy, Drop)]
 pub(crate) enum Act {
     Come,
     Ask(u64, Whose),
@@ -33,7 +33,7 @@ pub(crate) enum Act {
 }
 
 /// A reply.
-#[derive(Clone, Copy, Debug, PartialEq, Eq, Drop)]
+#[derive(Clone, Copy, PartialEq, Eq, Drop)]
 pub(crate) enum Told {
     Client(u64),
     Queued(u64),

@@ -51,7 +51,7 @@ fn key(alloc: Global, user: &[u8], name: &[u8]) -> Result<Arc<StartKey>, AllocEr
 }
 
 /// Whose key it is: of ann's two keys, which are of one pool, or of bc's, which is of another.
-#[derive(Clone, Copy, Debug, PartialEq, Eq, Drop)]
+#[derive(Clone, Copy, PartialEq, Eq, Drop)]
 pub(crate) enum Whose {
     Ann,
     AnnAsB,
@@ -68,7 +68,7 @@ pub(crate) fn key_of(alloc: Global, whose: Whose) -> Result<Arc<StartKey>, Alloc
 }
 
 /// What a test's settings are, apart from the default ones: 100 clients and links, pools of 20, no timeouts.
-#[derive(Clone, Copy, Debug, Drop)]
+#[derive(Clone, Copy, Drop)]
 pub(crate) enum Settings {
     Default,
     PoolsOf(u32),

@@ -28,7 +28,7 @@ const SYNC: &[u8] = b"S\0\0\0\x04";
 const ERROR: &[u8] = b"E\0\0\0\x28SERROR\0VERROR\0C42601\0Msyntax error\0\0";
 
 /// What becomes of a link.
-#[derive(Clone, Copy, Debug, PartialEq, Eq)]
+#[derive(Clone, Copy, PartialEq, Eq)]
 enum Fate {
     Unused,
     Used,
