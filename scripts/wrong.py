@@ -14,10 +14,14 @@ There is one line an edit. It ends in how the contract is missed: `goal false` (
 (it can't be shown), or `old proof only` (nothing but a proof written by hand no longer fits, which says little of the contract).
 The last line is `N refused, M not refused`; the status is 1 unless M is 0.
 
+The libraries are those that `rt ci` left, where they are newer than their sources; others are built.
+
 RT_JOBS says how many checks run side by side; else scripts/jobs.sh does.
 """
 import collections
 import concurrent.futures
+import importlib.machinery
+import importlib.util
 import os
 import pathlib
 import re
@@ -333,6 +337,46 @@ class Crate:
             self.tell(edit, True, f"{reason(said, None)} (alone)")
 
 
+# ---- the libraries below
+
+def inside_of_rt():
+    """The module of `rt` that knows crates and their stamps."""
+    path = os.path.join(os.path.dirname(os.path.realpath(shutil.which("rt"))), "rtlib.py")
+    loader = importlib.machinery.SourceFileLoader("rtlib", path)
+    rtlib = importlib.util.module_from_spec(importlib.util.spec_from_loader("rtlib", loader))
+    sys.modules["rtlib"] = rtlib
+    sys.dont_write_bytecode = True
+    loader.exec_module(rtlib)
+    return rtlib
+
+
+def made_at(crate):
+    """When a library was made, if it was."""
+    made = pathlib.Path(crate.rlib) / "format"
+    return made.stat().st_mtime if made.exists() else 0
+
+
+def take_over():
+    """Lets `rt check` take the libraries that `rt ci` left. These have no stamp, without which it would build them anew; each gets one
+    that is newer than its sources and than the libraries below it."""
+    rtlib = inside_of_rt()
+    stamps, stamp = {}, rtlib.Crate.stamp
+
+    def stamp_once(crate):
+        if crate.name not in stamps:
+            stamps[crate.name] = stamp(crate)
+        return stamps[crate.name]
+
+    rtlib.Crate.stamp = stamp_once
+    taken = set()
+    for crate in sorted(rtlib.crates_below(str(ROOT)), key=lambda it: len(it.below())):
+        newest = max([os.stat(it).st_mtime for it in rtlib.files_of(crate.folder)] + [made_at(it) for it in crate.deps])
+        if made_at(crate) > newest and all(it.name in taken for it in crate.deps):
+            taken.add(crate.name)
+            pathlib.Path(crate.folder, "out/rlib/stamp").write_text(crate.stamp(), encoding="utf-8")
+    return taken
+
+
 def main(names):
     crates = listed()
     unknown = [it for it in names if it not in crates]
@@ -341,7 +385,8 @@ def main(names):
     jobs = int(subprocess.run([ROOT / "scripts" / "jobs.sh"], stdout=subprocess.PIPE, text=True, check=True).stdout)
     tried = [Crate(it, crates) for it in names or crates]
     tried = [it for it in tried if it.edits]
-    lower = {deep for it in tried for deep in below(it.name, crates)}
+    taken = take_over()
+    lower = {deep for it in tried for deep in below(it.name, crates)} - taken
     for name in crates:
         if name in lower and not any(name in below(it, crates) for it in lower):
             print(f"building {name} and what is below it, unless it is built ({time.strftime('%T')})", flush=True)

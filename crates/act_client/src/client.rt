@@ -22,7 +22,7 @@ pub struct ActClient<'a> {
     waits: u64,
 }
 
-/// A drop of its own is proved here once, and not in each crate above.
+/// A drop of its own is proved here once, and not wherever one is held.
 impl<'a> Drop for ActClient<'a> {
     fn drop(self) {
         let ActClient {

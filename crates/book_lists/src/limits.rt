@@ -17,7 +17,7 @@ pub struct RowSize {
     pub size: u32,
 }
 
-/// A drop of its own is proved here once, and not in each crate above.
+/// A drop of its own is proved here once, and not wherever one is held.
 impl Drop for RowSize {
     fn drop(self) {
         let RowSize { row: _, size: _ } = self;
@@ -50,7 +50,7 @@ pub struct Limits {
     pub row_sizes: Vec<RowSize>,
 }
 
-/// A drop of its own is proved here once, and not in each crate above.
+/// A drop of its own is proved here once, and not wherever one is held.
 impl Drop for Limits {
     fn drop(self) {
         let Limits {

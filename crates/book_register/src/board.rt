@@ -43,7 +43,7 @@ pub struct Board {
     pub losses: u64,
 }
 
-/// A drop of its own is proved here once, and not in each crate above.
+/// A drop of its own is proved here once, and not wherever one is held.
 impl Drop for Board {
     fn drop(self) {
         let Board {

@@ -26,7 +26,7 @@ pub struct Lists {
     board: Board,
 }
 
-/// A drop of its own is proved here once, and not in each crate above.
+/// A drop of its own is proved here once, and not wherever one is held.
 impl Drop for Lists {
     fn drop(self) {
         let Lists { board: _ } = self;

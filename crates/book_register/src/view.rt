@@ -42,7 +42,7 @@ pub struct BookView {
     pub losses: u64,
 }
 
-/// A drop of its own is proved here once, and not in each crate above.
+/// A drop of its own is proved here once, and not wherever one is held.
 impl Drop for BookView {
     fn drop(self) {
         let BookView {

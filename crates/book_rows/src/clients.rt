@@ -41,7 +41,7 @@ pub struct Clients {
     rows: VecDeque<Client>,
 }
 
-/// A drop of its own is proved here once, and not in each crate above.
+/// A drop of its own is proved here once, and not wherever one is held.
 impl Drop for Clients {
     fn drop(self) {
         let Clients { rows: _ } = self;

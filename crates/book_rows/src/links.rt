@@ -65,7 +65,7 @@ pub struct Links {
     rows: Vec<Link>,
 }
 
-/// A drop of its own is proved here once, and not in each crate above.
+/// A drop of its own is proved here once, and not wherever one is held.
 impl Drop for Links {
     fn drop(self) {
         let Links { rows: _ } = self;

@@ -34,7 +34,7 @@ pub struct PoolKey {
     mark: u64,
 }
 
-/// A drop of its own is proved here once, and not in each crate above.
+/// A drop of its own is proved here once, and not wherever one is held.
 impl Drop for PoolKey {
     fn drop(self) {
         let PoolKey { key: _, mark: _ } = self;

@@ -48,7 +48,7 @@ pub struct Tickets {
     rows: VecDeque<Ticket>,
 }
 
-/// A drop of its own is proved here once, and not in each crate above.
+/// A drop of its own is proved here once, and not wherever one is held.
 impl Drop for Tickets {
     fn drop(self) {
         let Tickets { rows: _ } = self;

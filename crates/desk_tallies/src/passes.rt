@@ -27,7 +27,6 @@ pub struct Totals {
 }
 
 /// A share of each ledger.
-#[derive(Drop)]
 pub struct Shares<A: Ledger, G: Ledger, B: Ledger, L: Ledger, W: Ledger, O: Ledger> {
     pub(crate) arrived: Share<A>,
     pub(crate) granted: Share<G>,
@@ -35,6 +34,21 @@ pub struct Shares<A: Ledger, G: Ledger, B: Ledger, L: Ledger, W: Ledger, O: Ledg
     pub(crate) lost: Share<L>,
     pub(crate) left: Share<W>,
     pub(crate) others: Share<O>,
+}
+
+/// A drop of its own is proved here once, and not wherever one is held.
+impl<A: Ledger, G: Ledger, B: Ledger, L: Ledger, W: Ledger, O: Ledger> Drop
+    for Shares<A, G, B, L, W, O> {
+    fn drop(self) {
+        let Shares {
+            arrived: _,
+            granted: _,
+            given_back: _,
+            lost: _,
+            left: _,
+            others: _,
+        } = self;
+    }
 }
 
 impl<A: Ledger, G: Ledger, B: Ledger, L: Ledger, W: Ledger, O: Ledger> Model
@@ -53,12 +67,23 @@ impl<A: Ledger, G: Ledger, B: Ledger, L: Ledger, W: Ledger, O: Ledger> Model
 ///
 /// `A` to `O` are the ledgers of the classes of decisions: clients let in, links granted, given back, lost or not started, clients
 /// gone, and all others.
-#[derive(Drop)]
 pub struct Pass<A: Ledger, G: Ledger, B: Ledger, L: Ledger, W: Ledger, O: Ledger> {
     number: u64,
     /// Whether a call through it was answered as strange, or by the last decision.
     pub(crate) is_broken: bool,
     pub(crate) shares: Shares<A, G, B, L, W, O>,
+}
+
+/// A drop of its own is proved here once, and not wherever one is held.
+impl<A: Ledger, G: Ledger, B: Ledger, L: Ledger, W: Ledger, O: Ledger> Drop
+    for Pass<A, G, B, L, W, O> {
+    fn drop(self) {
+        let Pass {
+            number: _,
+            is_broken: _,
+            shares: _,
+        } = self;
+    }
 }
 
 impl<A: Ledger, G: Ledger, B: Ledger, L: Ledger, W: Ledger, O: Ledger> Model
@@ -79,6 +104,19 @@ impl<A: Ledger, G: Ledger, B: Ledger, L: Ledger, W: Ledger, O: Ledger> Pass<A, G
         ensures { result ≡ self.now.number }
     {
         self.number
+    }
+
+    /// Its shares: a part of each ledger, and what was made through it.
+    fn into_shares(self) -> Shares<A, G, B, L, W, O>
+        ensures parts { result.parts ≡ of_each 1 }
+        ensures amounts { result.amounts ≡ self.told.made }
+    {
+        let Pass {
+            number: _,
+            is_broken: _,
+            shares,
+        } = self;
+        shares
     }
 }
 
@@ -132,7 +170,7 @@ impl<A: Ledger, G: Ledger, B: Ledger, L: Ledger, W: Ledger, O: Ledger> Shares<A,
         ensures amounts { self.new.amounts ≡ sum_of self.old.amounts (sum_over passes.items) }
     {
         while let Some(pass) = passes.pop() {
-            self.merge(pass.shares);
+            self.merge(pass.into_shares());
         }
     }
 }

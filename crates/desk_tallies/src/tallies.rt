@@ -54,7 +54,6 @@ impl<L: Ledger> Tally<L> {
 }
 
 /// The counters of all classes.
-#[derive(Drop)]
 pub struct Tallies<A: Ledger, G: Ledger, B: Ledger, L: Ledger, W: Ledger, O: Ledger> {
     arrived: Tally<A>,
     granted: Tally<G>,
@@ -62,6 +61,21 @@ pub struct Tallies<A: Ledger, G: Ledger, B: Ledger, L: Ledger, W: Ledger, O: Led
     lost: Tally<L>,
     left: Tally<W>,
     others: Tally<O>,
+}
+
+/// A drop of its own is proved here once, and not wherever one is held.
+impl<A: Ledger, G: Ledger, B: Ledger, L: Ledger, W: Ledger, O: Ledger> Drop
+    for Tallies<A, G, B, L, W, O> {
+    fn drop(self) {
+        let Tallies {
+            arrived: _,
+            granted: _,
+            given_back: _,
+            lost: _,
+            left: _,
+            others: _,
+        } = self;
+    }
 }
 
 impl<A: Ledger, G: Ledger, B: Ledger, L: Ledger, W: Ledger, O: Ledger> Model

@@ -109,7 +109,7 @@ pub struct Book<E: ServerEnd> {
     idle: IdleLinks<E>,
 }
 
-/// A drop of its own is proved here once, and not in each crate above.
+/// A drop of its own is proved here once, and not wherever one is held.
 impl<E: ServerEnd> Drop for Book<E> {
     fn drop(self) {
         let Book {

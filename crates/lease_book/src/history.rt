@@ -45,7 +45,7 @@ pub struct History {
     kept: HeapCircularBuffer<Decision>,
 }
 
-/// A drop of its own is proved here once, and not in each crate above.
+/// A drop of its own is proved here once, and not wherever one is held.
 impl Drop for History {
     fn drop(self) {
         let History { base: _, kept: _ } = self;
@@ -88,7 +88,7 @@ pub struct Register {
     history: History,
 }
 
-/// A drop of its own is proved here once, and not in each crate above.
+/// A drop of its own is proved here once, and not wherever one is held.
 impl Drop for Register {
     fn drop(self) {
         let Register {

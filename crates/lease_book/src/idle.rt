@@ -14,7 +14,7 @@ pub struct IdleLinks<E: ServerEnd> {
     links: Vec<CleanLink<E>>,
 }
 
-/// A drop of its own is proved here once, and not in each crate above.
+/// A drop of its own is proved here once, and not wherever one is held.
 impl<E: ServerEnd> Drop for IdleLinks<E> {
     fn drop(self) {
         let IdleLinks { links: _ } = self;

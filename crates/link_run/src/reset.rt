@@ -49,7 +49,7 @@ struct Reset<E: ServerEnd> {
     reply: BytesMut,
 }
 
-/// A drop of its own is proved here once, and not in each crate above.
+/// A drop of its own is proved here once, and not wherever one is held.
 impl<E: ServerEnd> Drop for Reset<E> {
     fn drop(self) {
         let Reset {

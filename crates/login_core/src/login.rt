@@ -30,7 +30,7 @@ pub struct Login {
     held: BytesMut,
 }
 
-/// A drop of its own is proved here once, and not in each crate above.
+/// A drop of its own is proved here once, and not wherever one is held.
 impl Drop for Login {
     fn drop(self) {
         let Login {

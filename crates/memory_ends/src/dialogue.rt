@@ -52,7 +52,7 @@ pub(crate) struct Host {
     pub(crate) answer: Text,
 }
 
-/// A drop of its own is proved here once, and not in each crate above.
+/// A drop of its own is proved here once, and not wherever one is held.
 impl Drop for Host {
     fn drop(self) {
         let Host {
@@ -213,7 +213,7 @@ pub(crate) struct Dialogue {
     pub(crate) outbox: BytesMut,
 }
 
-/// A drop of its own is proved here once, and not in each crate above.
+/// A drop of its own is proved here once, and not wherever one is held.
 impl Drop for Dialogue {
     fn drop(self) {
         let Dialogue {

@@ -57,7 +57,7 @@ pub struct House {
     book: Book<MemoryServer>,
 }
 
-/// A drop of its own is proved here once, and not in each crate above.
+/// A drop of its own is proved here once, and not wherever one is held.
 impl Drop for House {
     fn drop(self) {
         let House {

@@ -17,7 +17,7 @@ pub(crate) struct OwnServer {
     rests: bool,
 }
 
-/// A drop of its own is proved here once, and not in each crate above.
+/// A drop of its own is proved here once, and not wherever one is held.
 impl Drop for OwnServer {
     fn drop(self) {
         let OwnServer {

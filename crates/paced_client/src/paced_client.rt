@@ -31,7 +31,7 @@ pub struct PacedClient {
     waits: u64,
 }
 
-/// A drop of its own is proved here once, and not in each crate above.
+/// A drop of its own is proved here once, and not wherever one is held.
 impl Drop for PacedClient {
     fn drop(self) {
         let PacedClient {

@@ -57,7 +57,7 @@ pub struct Relay<C: ClientEnd, E: ServerEnd> {
     pub(crate) phase: Phase,
 }
 
-/// A drop of its own is proved here once, and not in each crate above.
+/// A drop of its own is proved here once, and not wherever one is held.
 impl<C: ClientEnd, E: ServerEnd> Drop for Relay<C, E> {
     fn drop(self) {
         let Relay {

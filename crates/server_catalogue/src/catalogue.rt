@@ -22,7 +22,7 @@ pub(crate) struct Whole {
     tables: Shared<Table>,
 }
 
-/// A drop of its own is proved here once, and not in each crate above.
+/// A drop of its own is proved here once, and not wherever one is held.
 impl Drop for Whole {
     fn drop(self) {
         let Whole {
@@ -85,7 +85,7 @@ pub struct Catalogue {
     whole: Whole,
 }
 
-/// A drop of its own is proved here once, and not in each crate above.
+/// A drop of its own is proved here once, and not wherever one is held.
 impl Drop for Catalogue {
     fn drop(self) {
         let Catalogue { whole: _ } = self;

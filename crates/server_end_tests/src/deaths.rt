@@ -1,6 +1,4 @@
 //! Ends that die or fail, and a gate that never waits.
-ghost use Rattle.std.specs.Prelude.{◌<◌};
-
 use crate::packets::{ann, sync, welcome};
 use crate::server_talk::{hear, say, server};
 use memory_ends::failing_end::FailingEnd;
@@ -25,21 +23,24 @@ fn death(alloc: Global, after: u64) -> Result<(usize, Moved, Option<Moved>), Fai
 #[test]
 fn a_server_dies(rt: HostRuntime) -> Result<(), Fail> {
     let ended = Some(Moved::Ended);
-    assert!(rt; death(rt.alloc(), 0)? == (0, Moved::Ended, ended));
-    assert!(rt; death(rt.alloc(), 1)? == (1, Moved::Ended, ended));
-    assert!(rt; death(rt.alloc(), 100)? == (100, Moved::Ended, ended));
-    assert!(rt; death(rt.alloc(), 260)? == (260, Moved::Ended, ended));
-    assert!(rt; death(rt.alloc(), 261)? == (260, Moved::NotNow, None));
+    let deaths = [
+        (0, (0, Moved::Ended, ended)),
+        (1, (1, Moved::Ended, ended)),
+        (100, (100, Moved::Ended, ended)),
+        (260, (260, Moved::Ended, ended)),
+        (261, (260, Moved::NotNow, None)),
+    ];
+    for (after, wanted) in deaths {
+        assert!(rt; death(rt.alloc(), after)? == wanted);
+    }
     Ok(())
 }
 
-/// How many bytes a server gives whose end fails at this call, and the faults of three calls more.
-fn failure(alloc: Global, nth: u64) -> Result<(usize, Moved, u64), Fail>
-    requires { 0 < nth }
-{
+/// How many bytes a server gives whose end fails after so many good calls, and the faults of three calls more.
+fn failure(alloc: Global, good: u32) -> Result<(usize, Moved, u64), Fail> {
     let mut end = ManuallyDrop::new(FailingEnd::new(
         ManuallyDrop::into_inner(server(alloc, ServerAuth::Trust, 100, None)?),
-        nth,
+        u64::from(good) + 1,
     ));
     let _ = say(&mut *end, ann());
     let (heard, moved) = hear(alloc, &mut *end)?;
@@ -50,11 +51,16 @@ fn failure(alloc: Global, nth: u64) -> Result<(usize, Moved, u64), Fail>
 
 #[test]
 fn a_server_fails(rt: HostRuntime) -> Result<(), Fail> {
-    assert!(rt; failure(rt.alloc(), 1)? == (0, Moved::Fault, 4));
-    assert!(rt; failure(rt.alloc(), 2)? == (0, Moved::Fault, 3));
-    assert!(rt; failure(rt.alloc(), 4)? == (200, Moved::Fault, 3));
-    assert!(rt; failure(rt.alloc(), 7)? == (260, Moved::NotNow, 1));
-    assert!(rt; failure(rt.alloc(), 8)? == (260, Moved::NotNow, 0));
+    let failures = [
+        (0, (0, Moved::Fault, 4)),
+        (1, (0, Moved::Fault, 3)),
+        (3, (200, Moved::Fault, 3)),
+        (6, (260, Moved::NotNow, 1)),
+        (7, (260, Moved::NotNow, 0)),
+    ];
+    for (good, wanted) in failures {
+        assert!(rt; failure(rt.alloc(), good)? == wanted);
+    }
     Ok(())
 }
 

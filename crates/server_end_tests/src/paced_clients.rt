@@ -2,7 +2,7 @@
 ghost use Rattle.std.specs.Prelude.{◌<◌};
 
 use crate::client_talk::{give, hands_out, joined, take};
-use crate::packets::{ann, empty_answer, empty_query, parse, ready, sync, welcome};
+use crate::packets::{ann, empty_answer, empty_query, parse_and_sync, ready, sync, welcome};
 use crate::server_talk::{ask, server};
 use memory_ends::memory_server::{MemoryServer, ServerAuth};
 use paced_client::PacedClient;
@@ -19,19 +19,48 @@ fn client(alloc: Global, packets: &[&[u8]], cut: usize) -> Result<PacedClient, F
     Ok(PacedClient::new(alloc, input.as_slice(), cut)?)
 }
 
+/// What a client does, or what is done to it.
+#[derive(Clone, Copy, Drop)]
+enum Turn<'a> {
+    /// It hands out these bytes, and then answers so.
+    HandsOut(&'a [u8], Moved),
+    /// It is given these bytes, and counts them all.
+    IsGiven(&'a [u8]),
+}
+
+/// The place of the first turn that goes otherwise.
+fn first_surprise(
+    alloc: Global,
+    client: &mut PacedClient,
+    turns: &[Turn<'_>],
+) -> Result<Option<usize>, Fail> {
+    for (at, turn) in turns.iter().enumerate() {
+        let goes_so = match turn {
+            Turn::HandsOut(bytes, end) => hands_out(alloc, client, bytes, *end)?,
+            Turn::IsGiven(bytes) => give(client, bytes).is_none(),
+        };
+        if !goes_so {
+            return Ok(Some(at));
+        }
+    }
+    Ok(None)
+}
+
 /// One closing message at a time, with what stands before it.
 #[test]
 fn it_waits_for_its_answers(rt: HostRuntime) -> Result<(), Fail> {
     let alloc = rt.alloc();
-    let mut client = client(alloc, &[parse(), sync(), empty_query()], 1)?;
-    assert!(rt; hands_out(alloc, &mut client, ann(), Moved::NotNow)?);
-    assert!(rt; give(&mut client, welcome()).is_none());
-    let extended = joined(alloc, &[parse(), sync()])?;
-    assert!(rt; hands_out(alloc, &mut client, extended.as_slice(), Moved::NotNow)?);
-    assert!(rt; give(&mut client, ready()).is_none());
-    assert!(rt; hands_out(alloc, &mut client, empty_query(), Moved::NotNow)?);
-    assert!(rt; give(&mut client, empty_answer()).is_none());
-    assert!(rt; hands_out(alloc, &mut client, b"", Moved::Ended)?);
+    let mut client = client(alloc, &[parse_and_sync(), empty_query()], 1)?;
+    let turns = [
+        Turn::HandsOut(ann(), Moved::NotNow),
+        Turn::IsGiven(welcome()),
+        Turn::HandsOut(parse_and_sync(), Moved::NotNow),
+        Turn::IsGiven(ready()),
+        Turn::HandsOut(empty_query(), Moved::NotNow),
+        Turn::IsGiven(empty_answer()),
+        Turn::HandsOut(b"", Moved::Ended),
+    ];
+    assert!(rt; first_surprise(alloc, &mut client, &turns)?.is_none());
     Ok(())
 }
 
@@ -40,11 +69,14 @@ fn it_waits_for_its_answers(rt: HostRuntime) -> Result<(), Fail> {
 fn it_waits_for_whole_answers(rt: HostRuntime) -> Result<(), Fail> {
     let alloc = rt.alloc();
     let mut client = client(alloc, &[sync()], 100)?;
-    assert!(rt; hands_out(alloc, &mut client, ann(), Moved::NotNow)?);
-    assert!(rt; give(&mut client, b"Z\0\0\0\x05").is_none());
-    assert!(rt; hands_out(alloc, &mut client, b"", Moved::NotNow)?);
-    assert!(rt; give(&mut client, b"I").is_none());
-    assert!(rt; hands_out(alloc, &mut client, sync(), Moved::NotNow)?);
+    let turns = [
+        Turn::HandsOut(ann(), Moved::NotNow),
+        Turn::IsGiven(b"Z\0\0\0\x05"),
+        Turn::HandsOut(b"", Moved::NotNow),
+        Turn::IsGiven(b"I"),
+        Turn::HandsOut(sync(), Moved::NotNow),
+    ];
+    assert!(rt; first_surprise(alloc, &mut client, &turns)?.is_none());
     assert!(rt; client.waits() == (3, 0));
     Ok(())
 }
@@ -54,11 +86,14 @@ fn it_waits_for_whole_answers(rt: HostRuntime) -> Result<(), Fail> {
 fn it_ends_in_part_of_a_frame(rt: HostRuntime) -> Result<(), Fail> {
     let alloc = rt.alloc();
     let mut client = client(alloc, &[sync(), b"Q\0"], 100)?;
-    assert!(rt; hands_out(alloc, &mut client, ann(), Moved::NotNow)?);
-    assert!(rt; give(&mut client, ready()).is_none());
-    assert!(rt; hands_out(alloc, &mut client, sync(), Moved::NotNow)?);
-    assert!(rt; give(&mut client, ready()).is_none());
-    assert!(rt; hands_out(alloc, &mut client, b"Q\0", Moved::Ended)?);
+    let turns = [
+        Turn::HandsOut(ann(), Moved::NotNow),
+        Turn::IsGiven(ready()),
+        Turn::HandsOut(sync(), Moved::NotNow),
+        Turn::IsGiven(ready()),
+        Turn::HandsOut(b"Q\0", Moved::Ended),
+    ];
+    assert!(rt; first_surprise(alloc, &mut client, &turns)?.is_none());
     assert!(rt; client.taken().len() == 39);
     Ok(())
 }

@@ -24,8 +24,9 @@ pub fn empty_answer() -> &'static [u8] {
     b"I\0\0\0\x04Z\0\0\0\x05I"
 }
 
-pub fn parse() -> &'static [u8] {
-    b"P\0\0\0\x08\0\0\0\0"
+/// A Parse, and the Sync that closes it.
+pub fn parse_and_sync() -> &'static [u8] {
+    b"P\0\0\0\x08\0\0\0\0S\0\0\0\x04"
 }
 
 pub fn sync() -> &'static [u8] {

@@ -90,3 +90,17 @@ pub fn ask<E: ServerEnd>(alloc: Global, server: &mut E, bytes: &[u8]) -> Result<
         _ => Err("the server has ended")?,
     }
 }
+
+/// The place of the first of these messages that the server answers otherwise.
+pub fn first_surprise<E: ServerEnd>(
+    alloc: Global,
+    server: &mut E,
+    talk: &[(&[u8], &[u8])],
+) -> Result<Option<usize>, Fail> {
+    for (at, (message, answer)) in talk.iter().enumerate() {
+        if ask(alloc, server, message)?.as_slice() != *answer {
+            return Ok(Some(at));
+        }
+    }
+    Ok(None)
+}

@@ -29,7 +29,7 @@ pub struct Session {
     state: SessionState,
 }
 
-/// A drop of its own is proved here once, and not in each crate above.
+/// A drop of its own is proved here once, and not wherever one is held.
 impl Drop for Session {
     fn drop(self) {
         let Session { state: _ } = self;

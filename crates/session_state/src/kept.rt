@@ -86,7 +86,7 @@ pub(crate) struct Kept {
     pub portals: Shared<Portal>,
 }
 
-/// A drop of its own is proved here once, and not in each crate above.
+/// A drop of its own is proved here once, and not wherever one is held.
 impl Drop for Kept {
     fn drop(self) {
         let Kept {

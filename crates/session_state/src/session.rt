@@ -29,7 +29,7 @@ pub struct SessionState {
     pub(crate) kept: Kept,
 }
 
-/// A drop of its own is proved here once, and not in each crate above.
+/// A drop of its own is proved here once, and not wherever one is held.
 impl Drop for SessionState {
     fn drop(self) {
         let SessionState {

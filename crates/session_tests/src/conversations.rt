@@ -5,7 +5,6 @@ use message_view::KeyWord;
 use session_machine::{Catalogue, Cause, Parameter, Session, StartKey, Text, solo_bytes};
 use session_values::error_responses::put_fatal;
 use std::alloc::Global;
-use std::process::Abort;
 use std::test::Fail;
 
 const WORD: KeyWord = KeyWord {
@@ -45,63 +44,49 @@ fn answer(alloc: Global, session: &mut Session, bytes: &[u8]) -> Result<BytesMut
     Ok(out)
 }
 
-fn is_answered<A: Abort>(
-    rt: &A,
-    alloc: Global,
-    session: &mut Session,
-    bytes: &[u8],
-    expected: &[u8],
-) -> Result<(), Fail> {
-    let out = answer(alloc, session, bytes)?;
-    assert!(rt; out.as_slice() == expected);
-    Ok(())
+/// The place of the first of these frames that is answered otherwise.
+fn first_surprise(alloc: Global, talk: &[(&[u8], &[u8])]) -> Result<Option<usize>, Fail> {
+    let mut session = session(alloc)?;
+    for (at, (frame, wanted)) in talk.iter().enumerate() {
+        if answer(alloc, &mut session, frame)?.as_slice() != *wanted {
+            return Ok(Some(at));
+        }
+    }
+    Ok(None)
 }
 
 #[test]
 fn answers_frames(rt: HostRuntime) -> Result<(), Fail> {
-    let alloc = rt.alloc();
-    let mut session = session(alloc)?;
-    is_answered(
-        &rt,
-        alloc,
-        &mut session,
-        b"Q\0\0\0\x05\0",
-        b"I\0\0\0\x04Z\0\0\0\x05I",
-    )?;
-    is_answered(
-        &rt,
-        alloc,
-        &mut session,
-        b"Q\0\0\0\x0aBEGIN\0",
-        b"C\0\0\0\x0aBEGIN\0Z\0\0\0\x05T",
-    )?;
-    is_answered(
-        &rt,
-        alloc,
-        &mut session,
-        b"Q\0\0\0\x0bCOMMIT\0",
-        b"C\0\0\0\x0bCOMMIT\0Z\0\0\0\x05I",
-    )?;
-    is_answered(&rt, alloc, &mut session, b"S\0\0\0\x04", b"Z\0\0\0\x05I")?;
-    is_answered(&rt, alloc, &mut session, b"X\0\0\0\x04", b"")
+    let talk: [(&[u8], &[u8]); 5] = [
+        (b"Q\0\0\0\x05\0", b"I\0\0\0\x04Z\0\0\0\x05I"),
+        (b"Q\0\0\0\x0aBEGIN\0", b"C\0\0\0\x0aBEGIN\0Z\0\0\0\x05T"),
+        (b"Q\0\0\0\x0bCOMMIT\0", b"C\0\0\0\x0bCOMMIT\0Z\0\0\0\x05I"),
+        (b"S\0\0\0\x04", b"Z\0\0\0\x05I"),
+        (b"X\0\0\0\x04", b""),
+    ];
+    assert!(rt; first_surprise(rt.alloc(), &talk)?.is_none());
+    Ok(())
+}
+
+fn welcome(alloc: Global) -> Result<BytesMut, Fail> {
+    let mut out = BytesMut::new(alloc);
+    session(alloc)?.put_welcome(alloc, WORD, &mut out)?;
+    Ok(out)
+}
+
+/// What a client is answered alone that sends a Sync.
+fn alone(alloc: Global) -> Result<BytesMut, Fail> {
+    let (catalogue, key) = (catalogue(alloc)?, key(alloc, b"shop")?);
+    let mut out = BytesMut::new(alloc);
+    solo_bytes(alloc, &catalogue, &key, WORD, b"S\0\0\0\x04", &mut out)?;
+    Ok(out)
 }
 
 #[test]
 fn answers_one_client_alone(rt: HostRuntime) -> Result<(), Fail> {
-    let alloc = rt.alloc();
-    let mut welcome = BytesMut::new(alloc);
-    session(alloc)?.put_welcome(alloc, WORD, &mut welcome)?;
-    assert!(rt; welcome.len() == 251);
-    let mut whole = BytesMut::new(alloc);
-    solo_bytes(
-        alloc,
-        &catalogue(alloc)?,
-        &key(alloc, b"shop")?,
-        WORD,
-        b"S\0\0\0\x04",
-        &mut whole,
-    )?;
-    assert!(rt; whole.len() == 257);
+    let welcome = welcome(rt.alloc())?;
+    let whole = alone(rt.alloc())?;
+    assert!(rt; (welcome.len(), whole.len()) == (251, 257));
     assert!(rt; whole.as_slice().starts_with(welcome.as_slice()));
     Ok(())
 }

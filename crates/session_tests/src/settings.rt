@@ -3,7 +3,6 @@ use bytes::{BufMut, BytesMut};
 use frame_view::{Side, Step, next_frame};
 use session_machine::{Catalogue, Session, StartKey, Text};
 use std::alloc::Global;
-use std::process::Abort;
 use std::test::Fail;
 
 fn catalogue(alloc: Global) -> Result<Catalogue, Fail> {
@@ -57,43 +56,44 @@ fn contains(bytes: &[u8], wanted: &[u8]) -> bool {
 /// One Query of SET, one of SHOW, and the value that stands in the answer's DataRow.
 type Row = (&'static [u8], &'static [u8], &'static [u8]);
 
-fn are_set<A: Abort>(
-    rt: &A,
+/// Whether each SET is answered as one.
+fn are_set(
     alloc: Global,
     catalogue: &Catalogue,
     session: &mut Session,
     rows: &[Row],
-) -> Result<(), Fail> {
+) -> Result<bool, Fail> {
     for (set, _, _) in rows {
         let done = answer(alloc, catalogue, session, set)?;
-        assert!(rt;
-            done.as_slice().starts_with(b"C\0\0\0\x08SET\0"),
-            "a SET is refused"
-        );
+        if !done.as_slice().starts_with(b"C\0\0\0\x08SET\0") {
+            return Ok(false);
+        }
     }
-    Ok(())
+    Ok(true)
 }
 
-fn are_shown<A: Abort>(
-    rt: &A,
+/// Whether each SHOW shows its value.
+fn are_shown(
     alloc: Global,
     catalogue: &Catalogue,
     session: &mut Session,
     rows: &[Row],
-) -> Result<(), Fail> {
+) -> Result<bool, Fail> {
     for (_, show, row) in rows {
         let shown = answer(alloc, catalogue, session, show)?;
-        assert!(rt; contains(shown.as_slice(), row), "another value is shown");
+        if !contains(shown.as_slice(), row) {
+            return Ok(false);
+        }
     }
-    Ok(())
+    Ok(true)
 }
 
 /// Sets all of them, and then looks at each.
-fn check<A: Abort>(rt: &A, alloc: Global, rows: &[Row]) -> Result<(), Fail> {
+fn are_set_and_shown(alloc: Global, rows: &[Row]) -> Result<bool, Fail> {
     let catalogue = catalogue(alloc)?;
     let mut session = session(alloc, &catalogue)?;
-    are_set(rt, alloc, &catalogue, &mut session, rows)?;
-    are_shown(rt, alloc, &catalogue, &mut session, rows)
+    let is_set = are_set(alloc, &catalogue, &mut session, rows)?;
+    Ok(is_set && are_shown(alloc, &catalogue, &mut session, rows)?)
 }
 
 #[test]
@@ -130,7 +130,8 @@ fn reported_ones_are_set_and_shown(rt: HostRuntime) -> Result<(), Fail> {
             b"D\0\0\0\x15\0\x01\0\0\0\x0bEurope/Oslo",
         ),
     ];
-    check(&rt, rt.alloc(), rows)
+    assert!(rt; are_set_and_shown(rt.alloc(), rows)?);
+    Ok(())
 }
 
 #[test]
@@ -152,5 +153,6 @@ fn unreported_ones_are_set_and_shown(rt: HostRuntime) -> Result<(), Fail> {
             b"D\0\0\0\x0b\0\x01\0\0\0\x015",
         ),
     ];
-    check(&rt, rt.alloc(), rows)
+    assert!(rt; are_set_and_shown(rt.alloc(), rows)?);
+    Ok(())
 }

@@ -15,7 +15,7 @@ pub struct Table {
     rows: AppendList<Row>,
 }
 
-/// A drop of its own is proved here once, and not in each crate above.
+/// A drop of its own is proved here once, and not wherever one is held.
 impl Drop for Table {
     fn drop(self) {
         let Table {

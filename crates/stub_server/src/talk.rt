@@ -59,7 +59,7 @@ pub struct Host {
     own: KeyWord,
 }
 
-/// A drop of its own is proved here once, and not in each crate above.
+/// A drop of its own is proved here once, and not wherever one is held.
 impl Drop for Host {
     fn drop(self) {
         let Host {
@@ -78,7 +78,7 @@ pub struct Talk {
     outbox: BytesMut,
 }
 
-/// A drop of its own is proved here once, and not in each crate above.
+/// A drop of its own is proved here once, and not wherever one is held.
 impl Drop for Talk {
     fn drop(self) {
         let Talk {

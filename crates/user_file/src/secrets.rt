@@ -16,7 +16,7 @@ pub enum Secret {
     Md5([u8; 32]),
 }
 
-/// A drop of its own is proved here once, and not in each crate above.
+/// A drop of its own is proved here once, and not wherever one is held.
 impl Drop for Secret {
     fn drop(self) {
         match self {
