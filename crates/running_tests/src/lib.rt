@@ -1,11 +1,18 @@
-//! Tests of the running program's parts over the loopback network: the pool, the stand-in server, their key words and threads.
+//! Tests over the loopback network: of `tcp_end`, and of the running program's parts: the pool, the stand-in server, their key words
+//! and threads.
 #![tactic(auto)]
 
+#[cfg(test)]
+mod gates;
 #[cfg(test)]
 mod keys;
 #[cfg(test)]
 mod loopback;
 #[cfg(test)]
+mod pairs;
+#[cfg(test)]
 mod stubs;
+#[cfg(test)]
+mod tcp_ends;
 #[cfg(test)]
 mod workers;

@@ -1,9 +1,20 @@
-//! Tests of a session, from `session_values` up to `session_machine`, and of the files that name its catalogue.
+//! Tests of a session, from `session_values` up to `session_machine`, and of the files that name its catalogue; of start keys and what
+//! servers report of their parameters (`start_keys`, `param_track`); and of the login (`login_core`).
 #![tactic(auto)]
 
 #[cfg(test)]
 mod catalogues;
 #[cfg(test)]
+mod client_keys;
+#[cfg(test)]
 mod conversations;
 #[cfg(test)]
+mod key_parts;
+#[cfg(test)]
+mod logins;
+#[cfg(test)]
+mod reports;
+#[cfg(test)]
 mod settings;
+#[cfg(test)]
+mod stub_keys;

@@ -1,0 +1,254 @@
+//! What happens to a book in a test, and what it answers, with links by their numbers.
+ghost use Rattle.lease_book.specs.Links.{IsTwice};
+
+use crate::book_parts::{Settings, Whose, key_of, limits, link};
+use crate::gone::Gone;
+use book_lists::events::ClientState;
+use book_register::view::Waiting;
+use book_rows::clients::Client;
+use lease_book::book::Book;
+use lease_book::events::{Event, Reply};
+use link_run::links::CleanLink;
+use message_view::Refusal;
+use std::alloc::{AllocError, Global};
+use std::sync::Arc;
+
+/// An event.
+#[derive(Clone, Copy, Drop)]
+pub(crate) enum Act {
+    Come,
+    Ask(u64, Whose),
+    Take(u64),
+    /// This link of this key comes back, which was begun in second 0.
+    Back(u64, Whose),
+    /// And this one, begun in another second.
+    BackFrom(u64, Whose, u64),
+    Lost(u64),
+    StartFailed(u64),
+    Leave(u64),
+    Tick(u64),
+    Limits(Settings),
+    Pause,
+    Resume,
+    Shutdown,
+}
+
+/// A reply.
+#[derive(Clone, Copy, PartialEq, Eq, Drop)]
+pub(crate) enum Told {
+    Client(u64),
+    Queued(u64),
+    Lend(u64),
+    /// The number, the second of birth, and the evicted link.
+    Start(u64, u64, Option<u64>),
+    Close(u64),
+    Refuse(Refusal, Option<u64>),
+    Done,
+    Stranger(Option<u64>),
+}
+
+/// The number of a link, which is closed.
+fn number(link: CleanLink<Gone>) -> u64 {
+    link.number()
+}
+
+/// The number of a link that may be there.
+fn number_of(link: Option<CleanLink<Gone>>) -> Option<u64> {
+    match link {
+        Some(link) => Some(number(link)),
+        None => None,
+    }
+}
+
+/// The reply, without its links.
+fn by_numbers(reply: Reply<Gone>) -> Told {
+    match reply {
+        Reply::Client(client) => Told::Client(client),
+        Reply::Queued(before) => Told::Queued(before),
+        Reply::Lend(link) => Told::Lend(number(link)),
+        Reply::Start {
+            number,
+            born,
+            evicted,
+        } => Told::Start(number, born, number_of(evicted)),
+        Reply::Close(link) => Told::Close(number(link)),
+        Reply::Refuse(refusal, back) => Told::Refuse(refusal, number_of(back)),
+        Reply::Done => Told::Done,
+        Reply::Stranger(back) => Told::Stranger(number_of(back)),
+    }
+}
+
+/// A book, of which a test knows nothing but what it answers.
+#[derive(Drop)]
+pub(crate) struct Story {
+    alloc: Global,
+    book: Book<Gone>,
+}
+
+/// The state of the client of this number, if it is one of these.
+fn state_in(clients: &[Client], number: u64) -> Option<ClientState> {
+    for client in clients {
+        if client.number == number {
+            return Some(client.state);
+        }
+    }
+    None
+}
+
+impl Story {
+    /// An empty book.
+    pub(crate) fn new(alloc: Global, settings: Settings) -> Result<Story, AllocError> {
+        let book = Book::new(alloc, limits(alloc, settings)?)?;
+        Ok(Story { alloc, book })
+    }
+
+    /// The same, after so many decisions.
+    pub(crate) fn after(alloc: Global, decisions: u64) -> Result<Story, AllocError> {
+        let limits = limits(alloc, Settings::Default)?;
+        let book = Book::from_count(alloc, limits, decisions)?;
+        Ok(Story { alloc, book })
+    }
+
+    /// What the book answers, of which a proof knows nothing: so none of a test carries the book's definition along.
+    fn reply(&mut self, event: Event<Gone>) -> Reply<Gone>
+        requires { IsTwice event }
+    {
+        self.book.apply(7, event)
+    }
+
+    /// The same, with links by their numbers.
+    fn happens(&mut self, event: Event<Gone>) -> Told
+        requires { IsTwice event }
+    {
+        by_numbers(self.reply(event))
+    }
+
+    /// A client asks.
+    fn asks(&mut self, client: u64, whose: Whose) -> Result<Told, AllocError> {
+        let key = key_of(self.alloc, whose)?;
+        let again = Arc::try_clone(&key)?;
+        Ok(self.happens(Event::Ask { client, key, again }))
+    }
+
+    /// A link comes back.
+    fn takes_back(&mut self, number: u64, whose: Whose, born: u64) -> Result<Told, AllocError> {
+        let key = key_of(self.alloc, whose)?;
+        Ok(self.happens(Event::GiveBack(link(self.alloc, key, number, born))))
+    }
+
+    /// Other settings hold.
+    fn keeps_to(&mut self, settings: Settings) -> Result<Told, AllocError> {
+        let limits = limits(self.alloc, settings)?;
+        let again = Arc::try_clone(&limits)?;
+        Ok(self.happens(Event::Limits(limits, again)))
+    }
+
+    /// What the book answers.
+    pub(crate) fn play(&mut self, act: Act) -> Result<Told, AllocError> {
+        match act {
+            Act::Come => Ok(self.happens(Event::Arrive)),
+            Act::Ask(client, whose) => self.asks(client, whose),
+            Act::Take(client) => Ok(self.happens(Event::Take { client })),
+            Act::Back(number, whose) => self.takes_back(number, whose, 0),
+            Act::BackFrom(number, whose, born) => self.takes_back(number, whose, born),
+            Act::Lost(number) => Ok(self.happens(Event::Lost { number })),
+            Act::StartFailed(number) => Ok(self.happens(Event::StartFailed { number })),
+            Act::Leave(client) => Ok(self.happens(Event::Leave { client })),
+            Act::Tick(now) => Ok(self.happens(Event::Tick { now })),
+            Act::Limits(settings) => self.keeps_to(settings),
+            Act::Pause => Ok(self.happens(Event::Pause)),
+            Act::Resume => Ok(self.happens(Event::Resume)),
+            Act::Shutdown => Ok(self.happens(Event::Shutdown)),
+        }
+    }
+
+    /// How many clients, tickets, lent and idle links there are.
+    pub(crate) fn sizes(&self) -> Result<[usize; 4], AllocError> {
+        let view = self.book.view(self.alloc)?;
+        Ok([
+            view.clients.len(),
+            view.tickets.len(),
+            view.lent.len(),
+            view.idle.len(),
+        ])
+    }
+
+    /// The state that the view shows of a client.
+    pub(crate) fn state_of(&self, client: u64) -> Result<Option<ClientState>, AllocError> {
+        let view = self.book.view(self.alloc)?;
+        Ok(state_in(&view.clients, client))
+    }
+
+    /// The client and the second of the view's first ticket.
+    pub(crate) fn first_ticket(&self) -> Result<Option<(u64, u64)>, AllocError> {
+        let view = self.book.view(self.alloc)?;
+        match view.tickets.first() {
+            Some(ticket) => Ok(Some((ticket.client, ticket.since))),
+            None => Ok(None),
+        }
+    }
+
+    /// The number and the second of birth of the view's first lent link.
+    pub(crate) fn first_lent(&self) -> Result<Option<(u64, u64)>, AllocError> {
+        let view = self.book.view(self.alloc)?;
+        match view.lent.first() {
+            Some(link) => Ok(Some((link.number, link.born))),
+            None => Ok(None),
+        }
+    }
+
+    /// Decisions, starts, reuses, evictions and losses, as the view shows them.
+    pub(crate) fn totals(&self) -> Result<[u64; 5], AllocError> {
+        let view = self.book.view(self.alloc)?;
+        Ok([
+            view.decisions,
+            view.starts,
+            view.reuses,
+            view.evictions,
+            view.losses,
+        ])
+    }
+
+    /// The clock, the decisions and how many of them are Ticks, as the view shows them.
+    pub(crate) fn ticks(&self) -> Result<[u64; 3], AllocError> {
+        let view = self.book.view(self.alloc)?;
+        Ok([view.clock, view.decisions, view.counts.ticked])
+    }
+
+    /// How many decisions stand in the base, and how many are kept.
+    pub(crate) fn kept(&self) -> (u64, usize) {
+        self.book.kept()
+    }
+
+    /// Who waits with the ticket at this place.
+    pub(crate) fn ticket(&self, at: usize) -> Option<Waiting> {
+        self.book.ticket(at)
+    }
+
+    /// Arrivals, Asks, grants, returns, losses and Ticks.
+    pub(crate) fn counts(&self) -> [u64; 6] {
+        let counts = self.book.counts();
+        [
+            counts.arrived,
+            counts.asked,
+            counts.granted,
+            counts.given_back,
+            counts.lost,
+            counts.ticked,
+        ]
+    }
+}
+
+/// The first act that the book answers otherwise than told: its place, and the answer.
+pub(crate) fn surprise(
+    story: &mut Story,
+    acts: &[(Act, Told)],
+) -> Result<Option<(usize, Told)>, AllocError> {
+    for (at, (act, told)) in acts.iter().enumerate() {
+        let answer = story.play(*act)?;
+        if answer != *told {
+            return Ok(Some((at, answer)));
+        }
+    }
+    Ok(None)
+}

@@ -1,5 +1,0 @@
-//! Tests of `login_core`.
-#![tactic(auto)]
-
-#[cfg(test)]
-mod logins;

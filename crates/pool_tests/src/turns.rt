@@ -1,0 +1,138 @@
+//! Two clients one after the other, over one link.
+ghost use Rattle.std.specs.Prelude.{◌≡◌};
+ghost use Rattle.std.specs.Arc.{arc_value};
+ghost use Rattle.desk_tallies.specs.declared.passes.TheConstants.{ALL_PARTS};
+ghost use Rattle.desk_tallies.specs.Shares.{by_class, names_of, of_each, parts_of};
+ghost use Rattle.memory_dial.specs.Homes.{IsEverywhere};
+
+use crate::files::catalogue;
+use crate::worker_parts::{CUT, limits, login, serve_by, word};
+use bytes::{BufMut, BytesMut};
+use desk_tallies::passes::{Pass, Totals};
+use desk_tallies::tallies::Blanks;
+use memory_dial::{MemoryDial, Naming};
+use paced_client::PacedClient;
+use pool_desk::desk::Desk;
+use server_catalogue::Catalogue;
+use server_end::gate::OpenGate;
+use std::alloc::{AllocError, Global};
+use std::marker::Brand;
+use std::sync::ledger::Ledger;
+use std::sync::{Arc, Wait};
+use std::test::Fail;
+
+/// Ann's StartupMessage for the database shop, `SET DateStyle TO 'SQL, DMY'`, `CREATE TEMP TABLE t (a text)`, Parse of `s`, Sync.
+const FIRST: &[u8] =
+    b"\0\0\0\x20\0\x03\0\0user\0ann\0database\0shop\0\0Q\0\0\0\x20SET DateStyle TO 'SQL, DMY'\0Q\0\0\0\x21CREATE TEMP TABLE t (a text)\0P\0\0\0\x16s\0SHOW TimeZone\0\0\0S\0\0\0\x04";
+
+/// The same StartupMessage, `SHOW application_name`, `SELECT * FROM t`, Bind of `s`, Sync.
+const SECOND: &[u8] =
+    b"\0\0\0\x20\0\x03\0\0user\0ann\0database\0shop\0\0Q\0\0\0\x1aSHOW application_name\0Q\0\0\0\x14SELECT * FROM t\0B\0\0\0\x0d\0s\0\0\0\0\0\0\0S\0\0\0\x04";
+
+/// AuthenticationOk and nine reports.
+const REPORTS: &[u8] =
+    b"R\0\0\0\x08\0\0\0\0S\0\0\0\x16application_name\0\0S\0\0\0\x19client_encoding\0UTF8\0S\0\0\0\x17DateStyle\0ISO, MDY\0S\0\0\0\x19integer_datetimes\0on\0S\0\0\0\x1bIntervalStyle\0postgres\0S\0\0\0\x19server_encoding\0UTF8\0S\0\0\0\x18server_version\x0016.0\0S\0\0\0\x23standard_conforming_strings\0on\0S\0\0\0\x11TimeZone\0UTC\0";
+
+/// `SET` with the report of DateStyle, `CREATE TABLE`, ParseComplete.
+const FIRST_ANSWERS: &[u8] =
+    b"C\0\0\0\x08SET\0S\0\0\0\x17DateStyle\0SQL, DMY\0Z\0\0\0\x05IC\0\0\0\x11CREATE TABLE\0Z\0\0\0\x05I1\0\0\0\x04Z\0\0\0\x05I";
+
+/// The name is empty as at the beginning, and neither the table nor the statement is there.
+const SECOND_ANSWERS: &[u8] =
+    b"T\0\0\0\x29\0\x01application_name\0\0\0\0\0\0\0\0\0\0\x19\xff\xff\xff\xff\xff\xff\0\0D\0\0\0\x0a\0\x01\0\0\0\0C\0\0\0\x09SHOW\0Z\0\0\0\x05IE\0\0\0\x33SERROR\0VERROR\0C42P01\0Mrelation does not exist\0\0Z\0\0\0\x05IE\0\0\0\x3dSERROR\0VERROR\0C26000\0Mprepared statement does not exist\0\0Z\0\0\0\x05I";
+
+/// All that the client with this number is to be given: its welcome, and these answers.
+fn wanted(alloc: Global, number: u32, answers: &[u8]) -> Result<BytesMut, AllocError> {
+    let own = word(number);
+    let mut out = BytesMut::new(alloc);
+    out.extend_from_slice(REPORTS)?;
+    out.extend_from_slice(b"K\0\0\0\x0c")?;
+    out.put_u32(own.pid)?;
+    out.put_u32(own.secret)?;
+    out.extend_from_slice(b"Z\0\0\0\x05I")?;
+    out.extend_from_slice(answers)?;
+    Ok(out)
+}
+
+/// Serves a client that sends these bytes and leaves: all that it was given.
+fn served<N: Naming, A: Ledger, G: Ledger, B: Ledger, L: Ledger, W: Ledger, O: Ledger, R: Wait>(
+    rt: &R,
+    alloc: Global,
+    desk: &Desk<MemoryDial<N>, A, G, B, L, W, O>,
+    dialer: &MemoryDial<N>,
+    pass: Pass<A, G, B, L, W, O>,
+    number: u32,
+    input: &[u8],
+) -> Result<(PacedClient, Pass<A, G, B, L, W, O>), AllocError> {
+    let client = PacedClient::new(alloc, input, CUT)?;
+    let login = login(alloc, number)?;
+    Ok(serve_by(
+        rt, alloc, desk, dialer, pass, client, login, number, OpenGate,
+    ))
+}
+
+/// What became of both clients and of their links.
+#[derive(Drop)]
+struct Story {
+    first: PacedClient,
+    second: PacedClient,
+    starts: u64,
+    reuses: u64,
+    totals: Totals,
+}
+
+/// Both clients, one after the other.
+fn both<N: Naming, A: Ledger, G: Ledger, B: Ledger, L: Ledger, W: Ledger, O: Ledger, R: Wait>(
+    rt: &R,
+    alloc: Global,
+    catalogue: Arc<Catalogue>,
+    blanks: Blanks,
+) -> Result<Story, Fail>
+    requires everywhere { IsEverywhere N.catalogue (arc_value catalogue) }
+    requires names { names_of blanks ≡ by_class A.name G.name B.name L.name W.name O.name }
+    requires parts { by_class A.parts G.parts B.parts L.parts W.parts O.parts ≡ parts_of blanks }
+    requires all { parts_of blanks ≡ of_each ALL_PARTS }
+{
+    let dialer = MemoryDial::<N>::new(alloc, catalogue, word(7), CUT);
+    let desk = Desk::<MemoryDial<N>, A, G, B, L, W, O>::new(alloc, limits(alloc, 100)?, blanks)?;
+    let pass = desk.pass(rt).ok_or("no pass")?;
+    let (first, pass) = served(rt, alloc, &desk, &dialer, pass, 1, FIRST)?;
+    let (second, pass) = served(rt, alloc, &desk, &dialer, pass, 2, SECOND)?;
+    let mut pass = pass;
+    let view = desk.view(rt, alloc, &mut pass)?;
+    let mut passes = Vec::new(alloc);
+    passes.push(pass).ok().ok_or("no memory")?;
+    let totals = desk.gather(passes).ok().ok_or("other passes")?;
+    Ok(Story {
+        first,
+        second,
+        starts: view.starts,
+        reuses: view.reuses,
+        totals,
+    })
+}
+
+#[test]
+fn a_link_comes_back_as_it_was(rt: HostRuntime) -> Result<(), Fail> {
+    let story = both::<Brand, Brand, Brand, Brand, Brand, Brand, Brand, HostRuntime>(
+        &rt,
+        rt.alloc(),
+        catalogue(rt.alloc())?,
+        Blanks::new(),
+    )?;
+    let first = wanted(rt.alloc(), 1, FIRST_ANSWERS)?;
+    let second = wanted(rt.alloc(), 2, SECOND_ANSWERS)?;
+    let made = Totals {
+        arrived: 2,
+        granted: 2,
+        given_back: 2,
+        lost: 0,
+        left: 2,
+        others: 2,
+    };
+    assert!(rt; story.first.given() == first.as_slice());
+    assert!(rt; story.second.given() == second.as_slice());
+    assert!(rt; (story.starts, story.reuses) == (1, 1));
+    assert!(rt; story.totals == made);
+    Ok(())
+}
