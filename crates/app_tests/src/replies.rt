@@ -1,6 +1,6 @@
 //! What `replay` answers.
 use message_view::{Refusal, refusal_bytes};
-use replay_run::replay::{replay, replies};
+use replay_run::replay::{Unended, replay, replies};
 use std::alloc::Global;
 use std::test::Fail;
 
@@ -30,7 +30,7 @@ fn first_packets(rt: HostRuntime) -> Result<(), Fail> {
         (b"\0\0\0", b""),
     ];
     for (input, wanted) in rows {
-        assert!(rt; replies(rt.alloc(), 8_192, None, input)?.as_slice() == wanted);
+        assert!(rt; replies(rt.alloc(), 8_192, None, Unended::Failed, input)?.as_slice() == wanted);
     }
     Ok(())
 }
@@ -56,7 +56,8 @@ fn nothing_follows_a_refused_start(rt: HostRuntime) -> Result<(), Fail> {
     for behind in rows {
         let input = joined(rt.alloc(), BAD_START, behind)?;
         assert!(rt;
-            replies(rt.alloc(), 8_192, None, input.as_slice())?.as_slice() == REFUSED_START
+            replies(rt.alloc(), 8_192, None, Unended::Failed, input.as_slice())?.as_slice()
+                == REFUSED_START
         );
     }
     Ok(())

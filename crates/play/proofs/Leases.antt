@@ -25,7 +25,7 @@ use Rattle.login_core.specs.Dialogue.{ToLink, login_among}
 use Rattle.login_core.specs.Solo.{service_pieces}
 use Rattle.login_core.proofs.Telling.{service_is}
 use Rattle.memory_ends.proofs.Whose.{Apart, whose}
-use Rattle.run_laws.proofs.Pieces.{pieces_of_both}
+use Rattle.run_laws.proofs.Pieces.{pieces_join, pieces_of_both}
 use Rattle.run_laws.proofs.Service.{begins_both, service_on}
 use Rattle.relay_laws.specs.Leases.{IsAllowed, IsLease, Keeps, Place, RelayView, place}
 use Rattle.relay_laws.proofs.Exact.{lease_allowed}
@@ -148,10 +148,6 @@ served_fresh cat key word left s e = ap (λ (r : Result State Cause). map spelli
 service_fresh : (cat : CatalogueOf) (key : StartKeyOf) (word : KeyWord) (left : List ℕ) (s : State) → fresh cat key ≡ Ok s → service cat key word.pid word.secret left ≡ flat_map spelling (welcome s word.pid word.secret) ++ flat_map spelling (run_frames cat s (client_frames left)).replies
 unfolding service
 service_fresh cat key word left s e = ap (λ (r : Result State Cause). flat_map spelling (served cat r word.pid word.secret (client_frames left))) e ∙ flat_map-append spelling (welcome s word.pid word.secret) (run_frames cat s (client_frames left)).replies
-
-pieces_join : (fs : List FrameOf) → joined_pieces (map spelling fs) ≡ flat_map spelling fs
-pieces_join [] = refl
-pieces_join (f ∷ fs) = ap (λ (l : List ℕ). spelling f ++ l) (pieces_join fs)
 
 -- whole frames before some bytes are the first of the replies
 first_replies : (cat : CatalogueOf) (key : StartKeyOf) (s : State) (ws arrived : List FrameOf) (since held left more : List ℕ) → Reaches cat key s → AreBytes left → AllByRecursion (IsFrame Server LONGEST_FRAME) arrived

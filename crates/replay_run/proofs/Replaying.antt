@@ -8,7 +8,7 @@ use Rattle.message_view.specs.declared.refusal.Refusal.TheVariants as refused
 use Rattle.std.proofs.lemmas.Bool.{eqb-true}
 use Rattle.std.specs.Prelude.{◌==◌, ◌≢◌, OnOk, Option, Some, None}
 use Rattle.std.specs.Io.KnownBytes.{Appends}
-use Rattle.session_values.specs.State.{CatalogueOf, StartKeyOf}
+use Rattle.session_values.specs.State.{CatalogueOf, StartKeyOf, fresh}
 use Rattle.login_core.specs.Talk.{Cut, End, on_cut, says, talk}
 use Rattle.login_core.specs.Talk.Cut.{Whole, Need, Bad}
 use Rattle.login_core.specs.declared.steps.LoginStep.{LoginStep}
@@ -21,7 +21,9 @@ use Rattle.login_core.specs.Solo.{after_login, service_pieces}
 use Rattle.login_keys.specs.Laws.{AreLawfulRows, PassedKeysAreLinkKeys, SettingsRowsAreLawful}
 use Rattle.frame_view.specs.declared.frames.TheConstants.{LONGEST_FRAME}
 use Rattle.memory_lease.specs.Answers.{IsAllowed, IsAnswer, IsGiven}
+use Rattle.session_values.specs.Service.{client_frames, served, service}
 use Rattle.memory_lease.proofs.Causes.{was_allowed}
+use Rattle.run_laws.proofs.Pieces.{pieces_join}
 use Rattle.replay_run.specs.Replay.{Follows, IsAnswered, IsReply, WritesReply, standing_catalogue, standing_row, standing_rows, standing_settings, standing_users, standing_word}
 use Rattle.replay_run.specs.Told.{Adds, HasLinkKey, IsKeyed, IsPastArrival, Says, WantsMemory, silence, is_end}
 
@@ -264,3 +266,13 @@ all_given law dies cat v bytes start out n c l x =
 -- an answer that was added to the output
 pub writes_reply : (before after_it : Option (List ℕ)) (bytes out : List ℕ) → IsReply None bytes out → Appends before after_it out → WritesReply before after_it bytes
 writes_reply before after_it bytes out r a = record { out = out; reply = r; adds = a }
+
+-- ---- a session alone
+
+given_whole : (dies : Option ℕ) (out : List ℕ) (pieces : List (List ℕ)) → out ≡ joined_pieces pieces → IsGiven dies out pieces
+given_whole None out pieces e = e
+given_whole (Some n) out pieces e = record { more = []; both = append-nil out ∙ e }
+
+pub by_session : (dies : Option ℕ) (limit : ℕ) (cat : CatalogueOf) (key : StartKeyOf) (word : KeyWord) (bytes out : List ℕ) → out ≡ service cat key word.pid word.secret bytes → IsAnswer dies limit bytes out (service_pieces cat key word bytes)
+unfolding service
+by_session dies limit cat key word bytes out e = inl (given_whole dies out _ (e ∙ sym (pieces_join (served cat (fresh cat key) word.pid word.secret (client_frames bytes)))))

@@ -26,6 +26,7 @@ use message_view::{KeyWord, Refusal, put_authentication_ok, refusal_bytes};
 use pool_app::fault::AppFault;
 use pool_app::files::{MOST_BYTES, ReadFault, read_all};
 use server_catalogue::Catalogue;
+use session_machine::solo_bytes;
 use start_keys::StartKey;
 use std::alloc::{AllocError, Global};
 use std::io::{ErrorKind, Read, Write};
@@ -42,14 +43,25 @@ const SERVER_WORD: KeyWord = KeyWord {
 /// The bytes that a call of an end moves at most in `replay`.
 const CUT: usize = 8_192;
 
+/// What a client is answered whose lease comes to no end ([`Unserved::Unended`]). No test has met one, and that there is none isn't
+/// proved.
+#[derive(Clone, Copy, Drop)]
+pub enum Unended {
+    /// All that a session of its own answers, without a link: it is owed nothing else.
+    BySession,
+    /// Nothing, as where an allocation failed: so a test sees it.
+    Failed,
+}
+
 /// What clients are served over: the catalogue of their servers, the greatest length of a frame, the most bytes that a call of an
-/// end moves, and how many are read from a server before it dies, if it does.
+/// end moves, and how many are read from a server before it dies, if it does; and what they are answered where that comes to no end.
 #[derive(Drop)]
 struct Service {
     catalogue: Arc<Catalogue>,
     limit: u32,
     cut: usize,
     dies_after: Option<u64>,
+    unended: Unended,
     ghost some: { 0 < cut },
     ghost all: { limit ≡ LONGEST_FRAME },
 }
@@ -65,8 +77,22 @@ fn put_refusal(out: &mut BytesMut, cause: Refusal) -> Result<(), AllocError>
     out.extend_from_slice(refusal_bytes(cause))
 }
 
-/// What a client is answered behind its login over a link of its own. A lease that comes to no end is told as an allocation that failed: the
-/// program has no fault of its own for it.
+/// What a client is answered behind its login by a session of its own, without a link.
+#[tactic(auto, using(crate::proofs::Replaying::by_session))]
+fn answered_by_session(
+    alloc: Global,
+    service: &Service,
+    key: &StartKey,
+    rest: &[u8],
+) -> Result<BytesMut, AllocError>
+    ensures { IfOk result (λ out. IsAnswer service.now.dies_after LONGEST_FRAME rest.now out.items (service_pieces (arc_value service.now.catalogue) key.now standing_word rest.now)) }
+{
+    let mut out = BytesMut::new(alloc);
+    solo_bytes(alloc, &service.catalogue, key, KEY_WORD, rest, &mut out)?;
+    Ok(out)
+}
+
+/// What a client is answered behind its login over a link of its own.
 fn served(
     alloc: Global,
     service: &Service,
@@ -88,11 +114,10 @@ fn served(
         service.cut,
         service.dies_after,
     )?;
-    let key = Arc::try_clone(key)?;
     match serve_alone(
         alloc,
         server,
-        key,
+        Arc::try_clone(key)?,
         &unasked,
         KEY_WORD,
         service.limit,
@@ -100,7 +125,11 @@ fn served(
         rest,
     ) {
         Ok(answer) => Ok(answer),
-        Err(Unserved::Memory | Unserved::Unended(_)) => Err(AllocError),
+        Err(Unserved::Memory) => Err(AllocError),
+        Err(Unserved::Unended(_)) => match service.unended {
+            Unended::BySession => answered_by_session(alloc, service, key, rest),
+            Unended::Failed => Err(AllocError),
+        },
     }
 }
 
@@ -209,6 +238,7 @@ fn standing_service(
     alloc: Global,
     cut: usize,
     dies_after: Option<u64>,
+    unended: Unended,
 ) -> Result<Service, AllocError>
     requires { 0 < cut }
     ensures catalogue { IfOk result (λ s. arc_value s.catalogue ≡ standing_catalogue) }
@@ -220,16 +250,18 @@ fn standing_service(
         limit: settings.max_packet_size(),
         cut,
         dies_after,
+        unended,
     })
 }
 
 /// What a client of the standing settings is answered: its bytes in, its replies out. A call of an end of its lease moves at most
-/// `cut` bytes, and its server dies once `dies_after` bytes were read from it; over one that doesn't, all is answered. The only
-/// error is that an allocation failed, or a lease that comes to no end ([`Unserved::Unended`]), which is told as an allocation that failed too.
+/// `cut` bytes, and its server dies once `dies_after` bytes were read from it; over one that doesn't, all is answered. `unended` says
+/// what is answered where the lease comes to no end. The only error is that an allocation failed, or [`Unended::Failed`].
 pub fn replies(
     alloc: Global,
     cut: usize,
     dies_after: Option<u64>,
+    unended: Unended,
     bytes: &[u8],
 ) -> Result<BytesMut, AllocError>
     requires { 0 < cut }
@@ -238,7 +270,7 @@ pub fn replies(
     login_is_of_its_row();
     settings_rows_are_lawful();
     passed_keys_are_link_keys();
-    let service = standing_service(alloc, cut, dies_after)?;
+    let service = standing_service(alloc, cut, dies_after, unended)?;
     let mut login = standing_login(alloc)?;
     let mut out = BytesMut::new(alloc);
     put_login(alloc, &service, &mut login, bytes, &mut out)?;
@@ -272,7 +304,7 @@ pub fn replay<'a, R: Read + Drop, W: Write>(
         Ok(bytes) => bytes,
         Err(fault) => return Err(unread(fault)),
     };
-    let Ok(answer) = replies(alloc, CUT, None, bytes.as_slice()) else {
+    let Ok(answer) = replies(alloc, CUT, None, Unended::BySession, bytes.as_slice()) else {
         return Err(AppFault::Memory);
     };
     if output.write_all(answer.as_slice()).is_err() || output.flush().is_err() {

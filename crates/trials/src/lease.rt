@@ -1,7 +1,7 @@
 //! `trials lease`: what a client is given by its login and its lease, over ends that move few bytes a call and a server that dies.
 use crate::input::read_input;
 use pool_app::fault::AppFault;
-use replay_run::replay::replies;
+use replay_run::replay::{Unended, replies};
 use std::alloc::Global;
 
 /// The answer of the subcommand.
@@ -12,7 +12,13 @@ pub fn answer<'a, R: Input>(
     dies_after: Option<u64>,
 ) -> Result<Vec<u8>, AppFault<'a>> {
     let bytes = read_input(rt, alloc)?;
-    let Ok(answer) = replies(alloc, cut.max(1), dies_after, bytes.as_slice()) else {
+    let Ok(answer) = replies(
+        alloc,
+        cut.max(1),
+        dies_after,
+        Unended::Failed,
+        bytes.as_slice(),
+    ) else {
         return Err(AppFault::Memory);
     };
     match Vec::from_slice(alloc, answer.as_slice()) {
