@@ -1,6 +1,8 @@
 -- What a login gives, step by step.
 use Rattle.std.proofs.Common.{◌≡◌, ◌⊎◌, inl, inr, ◌<◌, ℕ, suc, Result, Ok, Err, List, [], ◌∷◌, ◌++◌, true, false, refl, sym, ap, arith, ◌∙◌, append_assoc, append-nil, length, subst}
+use Rattle.std.specs.List.{flat_map}
 use Rattle.std.proofs.lemmas.Grind.{flat_map-append}
+use Rattle.frame_view.specs.Frames.{spelling}
 use Rattle.message_view.specs.declared.KeyWord.{KeyWord}
 use Rattle.message_view.specs.Refusals.{joined_pieces, refusal}
 use Rattle.message_view.specs.declared.refusal.Refusal.{Refusal}
@@ -273,6 +275,10 @@ given_whole : (dies : Option ℕ) (out : List ℕ) (pieces : List (List ℕ)) �
 given_whole None out pieces e = e
 given_whole (Some n) out pieces e = record { more = []; both = append-nil out ∙ e }
 
-pub by_session : (dies : Option ℕ) (limit : ℕ) (cat : CatalogueOf) (key : StartKeyOf) (word : KeyWord) (bytes out : List ℕ) → out ≡ service cat key word.pid word.secret bytes → IsAnswer dies limit bytes out (service_pieces cat key word bytes)
+pub by_session : (dies : Option ℕ) (limit : ℕ) (cat used : CatalogueOf) (key : StartKeyOf) (word : KeyWord) (bytes before out : List ℕ) → used ≡ cat → before ≡ [] → out ≡ before ++ service used key word.pid word.secret bytes → IsAnswer dies limit bytes out (service_pieces cat key word bytes)
 unfolding service
-by_session dies limit cat key word bytes out e = inl (given_whole dies out _ (e ∙ sym (pieces_join (served cat (fresh cat key) word.pid word.secret (client_frames bytes)))))
+by_session dies limit cat used key word bytes before out u b e =
+    let whole : out ≡ flat_map spelling (served cat (fresh cat key) word.pid word.secret (client_frames bytes)) =
+    e ∙ (ap (λ (l : List ℕ). l ++ flat_map spelling (served used (fresh used key) word.pid word.secret (client_frames bytes))) b
+    ∙ ap (λ (c : CatalogueOf). flat_map spelling (served c (fresh c key) word.pid word.secret (client_frames bytes))) u) in
+    inl (given_whole dies out _ (whole ∙ sym (pieces_join (served cat (fresh cat key) word.pid word.secret (client_frames bytes)))))

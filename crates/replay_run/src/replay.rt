@@ -78,7 +78,6 @@ fn put_refusal(out: &mut BytesMut, cause: Refusal) -> Result<(), AllocError>
 }
 
 /// What a client is answered behind its login by a session of its own, without a link.
-#[tactic(auto, using(crate::proofs::Replaying::by_session))]
 fn answered_by_session(
     alloc: Global,
     service: &Service,
