@@ -20,25 +20,6 @@ SLOWEST = 5.0
 SEED = 20261123
 
 
-def processors():
-    """The processors' time until now: in which they worked for this machine, and which the host gave to others while this one wanted it."""
-    with open("/proc/stat", encoding="ascii") as file:
-        user, nice, system, _, _, interrupts, soft_interrupts, stolen = map(int, file.readline().split()[1:9])
-    return user + nice + system + interrupts + soft_interrupts, stolen
-
-
-class Watch:
-    """Seconds since it was made, without the share that the host took away: a bound holds on a machine that is shared, too."""
-
-    def __init__(self):
-        self.begin, (self.worked, self.stolen) = time.monotonic(), processors()
-
-    def seconds(self):
-        passed, (worked, stolen) = time.monotonic() - self.begin, processors()
-        own, taken = worked - self.worked, stolen - self.stolen
-        return passed * own / (own + taken) if own and taken else passed
-
-
 class Abuse:
     def __init__(self, program, counts):
         self.passes, self.place, self.program = Passes("abuse"), Place(), program
@@ -53,11 +34,11 @@ class Abuse:
         slowest = 0.0
         try:
             for number in range(times):
-                watch = Watch()
+                begin = time.monotonic()
                 client = self.client()
                 rows = client.ask(f"SELECT {number}")
                 client.leave()
-                slowest = max(slowest, watch.seconds())
+                slowest = max(slowest, time.monotonic() - begin)
                 if rows != [[str(number)]]:
                     self.passes.tell(f"{name}: others are served", f"{rows} for {number}")
                     return
