@@ -4,7 +4,7 @@ SHELL := /bin/bash
 .DELETE_ON_ERROR:
 .DEFAULT_GOAL := build
 .NOTPARALLEL:
-.PHONY: build run test wrong install bench clean
+.PHONY: build run test gate wrong install bench clean
 
 PREFIX ?= /usr/local
 DESTDIR ?=
@@ -38,9 +38,13 @@ build: build/pgsess
 run: build/pgsess
 	@scripts/show.sh build/pgsess
 
-# the whole gate; rt ci leaves the programs that it proved and built. Its own guess of a check's memory is four times what the
-# largest crate's takes, and would let that crate wait until nothing else runs; so it is told how many checks run side by side
+# the whole gate, and what it took: by the clock, and of processor time in user and system
 test:
+	@TIMEFORMAT='make test took %lR by the clock, and %lU + %lS of processor time'; time $(MAKE) --no-print-directory gate
+
+# its steps; rt ci leaves the programs that it proved and built. Its own guess of a check's memory is four times what the largest
+# crate's takes, and would let that crate wait until nothing else runs; so it is told how many checks run side by side
+gate:
 	RT_JOBS=$$(scripts/jobs.sh) rt ci
 	@$(MAKE) --no-print-directory $(program) $(trials)
 	scripts/rows.sh $(program) $(trials)

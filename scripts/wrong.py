@@ -164,7 +164,7 @@ def linked(source, target):
 class Copy:
     """A copy of a crate in a small repository of its own, over the built libraries below it."""
 
-    def __init__(self, room, name, crates):
+    def __init__(self, room, name, crates, rtlib):
         self.name, self.folder = name, room / "crates" / name
         for it in below(name, crates):
             for part in (*PARTS, "out/rlib"):
@@ -177,6 +177,9 @@ class Copy:
         files = (it for part in PARTS for it in (self.folder / part).rglob("*") if it.is_file())
         self.texts = {str(it.relative_to(self.folder)): it.read_text(encoding="utf-8") for it in files}
         self.functions = [it for file, text in self.texts.items() if file.startswith("src/") for it in functions_of(name, file, text)]
+        # the words of `rt check`, which would first sum up all that is below, by each way down to it, before each check
+        crate = next(it for it in rtlib.crates_below(str(room)) if it.name == name)
+        self.words = [rtlib.RATTLE, "check", *crate.words(["--jobs", "1"]), *rtlib.KEPT]
 
     @staticmethod
     def take(name, room, part, copy):
@@ -189,7 +192,7 @@ class Copy:
         try:
             for file in changed:
                 (self.folder / file).write_text(texts[file], encoding="utf-8")
-            ran = subprocess.run(["rt", "check", "--jobs", "1"], cwd=self.folder, stdin=subprocess.DEVNULL, stdout=subprocess.PIPE, stderr=subprocess.STDOUT, errors="replace", text=True)
+            ran = subprocess.run(self.words, cwd=self.folder, stdin=subprocess.DEVNULL, stdout=subprocess.PIPE, stderr=subprocess.STDOUT, errors="replace", text=True)
         finally:
             for file in changed:
                 (self.folder / file).write_text(self.texts[file], encoding="utf-8")
@@ -245,8 +248,8 @@ def lines_of(function, crate, texts):
 class Crate:
     """The edits of one crate, and how they end."""
 
-    def __init__(self, name, crates):
-        self.name, self.crates = name, crates
+    def __init__(self, name, crates, rtlib):
+        self.name, self.crates, self.rtlib = name, crates, rtlib
         paths = sorted((ROOT / "crates" / name / "wrong").glob("*.edit"))
         self.edits = [read_edit(name, it) for it in paths]
         self.refused = self.others = self.checks = 0
@@ -258,7 +261,7 @@ class Crate:
 
     def run(self):
         with tempfile.TemporaryDirectory(prefix="wrong-") as room:
-            self.copy = Copy(pathlib.Path(room), self.name, self.crates)
+            self.copy = Copy(pathlib.Path(room), self.name, self.crates, self.rtlib)
             self.run_in_copy()
 
     def run_in_copy(self):
@@ -356,10 +359,9 @@ def made_at(crate):
     return made.stat().st_mtime if made.exists() else 0
 
 
-def take_over():
-    """Lets `rt check` take the libraries that `rt ci` left. These have no stamp, without which it would build them anew; each gets one
+def take_over(rtlib):
+    """Lets `rt lib` take the libraries that `rt ci` left. These have no stamp, without which it would build them anew; each gets one
     that is newer than its sources and than the libraries below it."""
-    rtlib = inside_of_rt()
     stamps, stamp = {}, rtlib.Crate.stamp
 
     def stamp_once(crate):
@@ -383,9 +385,10 @@ def main(names):
     if unknown:
         sys.exit(f"wrong: crates.txt names no crate {unknown[0]}")
     jobs = int(subprocess.run([ROOT / "scripts" / "jobs.sh"], stdout=subprocess.PIPE, text=True, check=True).stdout)
-    tried = [Crate(it, crates) for it in names or crates]
+    rtlib = inside_of_rt()
+    tried = [Crate(it, crates, rtlib) for it in names or crates]
     tried = [it for it in tried if it.edits]
-    taken = take_over()
+    taken = take_over(rtlib)
     lower = {deep for it in tried for deep in below(it.name, crates)} - taken
     for name in crates:
         if name in lower and not any(name in below(it, crates) for it in lower):

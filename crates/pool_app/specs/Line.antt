@@ -1,5 +1,5 @@
 -- The command line of the program, and what its words ask for.
-use Rattle.std.specs.Prelude.{◌≡◌, ◌≢◌, ◌⊎◌, ◌<◌, pos, ℕ, List, Option, Some, None, true, codes, option_map, option_and_then}
+use Rattle.std.specs.Prelude.{◌≡◌, ◌≢◌, ◌⊎◌, ◌<◌, ⊤, pos, ℕ, List, Option, Some, None, true, codes}
 use Rattle.std.specs.Str.Parse.{IsNumeral, digits_value, without_leading_plus}
 use Rattle.clap.specs.Takes.{takes}
 use Rattle.clap.specs.Values.{kind_of}
@@ -41,44 +41,41 @@ pgsess = with_subcommand (with_subcommand (with_subcommand program replay.top) s
 abbrev pub Named : Type 0
 Named = Option (Text × List Row)
 
-abbrev pub name_of : Named → Option Text
-name_of sub = option_map (λ p. p.0) sub
+-- the job is the one that this subcommand names with these options
+abbrev pub IsJobBy : Text → List Row → Job → Type 0
+IsJobBy name options Replay = name ≡ codes "replay"
+IsJobBy name options (Serve ini users key_seed) =
+    (name ≡ codes "serve")
+    × (first_of (codes "ini") options ≡ Some ini.now) × (first_of (codes "users") options ≡ Some users.now)
+    × (first_of (codes "key-seed") options ≡ Some key_seed.now)
+IsJobBy name options (Stub port catalogue) =
+    (name ≡ codes "stub")
+    × ((text : List ℕ) × (one_of (codes "port") options ≡ Some text) × (port ≡ digits_value 10 (without_leading_plus text)))
+    × (first_of (codes "catalogue") options ≡ Some catalogue.now)
 
--- the value of an option
-abbrev pub option_of : Text → Named → Option Text
-option_of id sub = option_and_then (λ p. first_of id p.1) sub
-
--- the text of an option whose value is a number
-abbrev pub number_of : Text → Named → Option Text
-number_of id sub = option_and_then (λ p. one_of id p.1) sub
-
--- the job is the one that the subcommand and its options name
 abbrev pub IsJobOf : Named → Job → Type 0
-IsJobOf sub Replay = name_of sub ≡ Some (codes "replay")
-IsJobOf sub (Serve ini users key_seed) =
-    (name_of sub ≡ Some (codes "serve"))
-    × (option_of (codes "ini") sub ≡ Some ini.now) × (option_of (codes "users") sub ≡ Some users.now)
-    × (option_of (codes "key-seed") sub ≡ Some key_seed.now)
-IsJobOf sub (Stub port catalogue) =
-    (name_of sub ≡ Some (codes "stub"))
-    × ((text : List ℕ) × (number_of (codes "port") sub ≡ Some text) × (port ≡ digits_value 10 (without_leading_plus text)))
-    × (option_of (codes "catalogue") sub ≡ Some catalogue.now)
+IsJobOf None job = ⊥
+IsJobOf (Some sub) job = IsJobBy sub.0 sub.1 job
 
 -- ---- what asks for none
 
-abbrev pub Lacks : Text → Named → Type 0
-Lacks id sub = option_of id sub ≡ None
+abbrev pub Lacks : Text → List Row → Type 0
+Lacks id options = first_of id options ≡ None
 
 -- the text is no number below 65,536
 abbrev pub IsNoPort : Text → Type 0
 IsNoPort text = IsNumeral 10 (without_leading_plus text) × (digits_value 10 (without_leading_plus text) < 65536) → ⊥
 
--- no subcommand that is a job is named with all of its options and a port that can be read
+-- the subcommand is no job, or one of its options isn't there or can't be read
+abbrev pub IsNoJob : Text → List Row → Type 0
+IsNoJob name options =
+    (name ≢ codes "replay")
+    × (name ≡ codes "serve" → Lacks (codes "ini") options ⊎ (Lacks (codes "users") options ⊎ Lacks (codes "key-seed") options))
+    × (name ≡ codes "stub" → Lacks (codes "catalogue") options ⊎ ((text : Text) → one_of (codes "port") options ≡ Some text → IsNoPort text))
+
 abbrev pub NamesNone : Named → Type 0
-NamesNone sub =
-    (name_of sub ≢ Some (codes "replay"))
-    × (name_of sub ≡ Some (codes "serve") → Lacks (codes "ini") sub ⊎ (Lacks (codes "users") sub ⊎ Lacks (codes "key-seed") sub))
-    × (name_of sub ≡ Some (codes "stub") → Lacks (codes "catalogue") sub ⊎ ((text : Text) → number_of (codes "port") sub ≡ Some text → IsNoPort text))
+NamesNone None = ⊤
+NamesNone (Some sub) = IsNoJob sub.0 sub.1
 
 -- A line is refused where clap doesn't take its words, or memory is refused; or it names no job.
 abbrev pub IsFaultOf : List Text → LineFault → Type 0

@@ -1,9 +1,9 @@
 //! The command line.
-ghost use Rattle.std.specs.Prelude.{◌≡◌, IfErr, IfOk, IfSome, None, map, true, false, string_bytes};
+ghost use Rattle.std.specs.Prelude.{◌≡◌, IfErr, IfOk, IfSome, None, codes, map, true, false, string_bytes};
 ghost use Rattle.clap.specs.Takes.{takes};
 ghost use Rattle.clap.specs.Values.{kind_of};
 ghost use Rattle.clap.specs.declared.error.kind.ErrorKind.TheVariants as kinds;
-ghost use Rattle.clap.specs.Words.{app_of, rule_of, subcommand_of, subcommand_rows_of};
+ghost use Rattle.clap.specs.Words.{app_of, found_of, rows_of, rule_of, subcommand_of, subcommand_rows_of, with_rule, with_subcommand};
 ghost use Rattle.clap.specs.declared.builder.command.Command.TheViews.{out-Command as fields_of};
 ghost use Rattle.pool_app.specs.Line as spec;
 
@@ -95,6 +95,14 @@ fn port_option<'a>(alloc: Global) -> Arg<'a>
         .value_parser(clap::value_parser!(u16).range(1..))
 }
 
+/// The command with the option that names a port.
+fn with_port<'a>(alloc: Global, command: Command<'a>) -> Result<Command<'a>, AllocError>
+    ensures app { IfOk result (λ c. app_of c ≡ with_rule (app_of command.entry) spec.port_option) }
+    ensures local { (fields_of command.entry).has_globals ≡ false → IfOk result (λ c. (fields_of c).has_globals ≡ false) }
+{
+    command.arg(port_option(alloc))
+}
+
 /// The subcommand `replay`.
 fn replay_command<'a>(alloc: Global) -> Command<'a>
     ensures app { app_of result ≡ spec.replay }
@@ -105,25 +113,33 @@ fn replay_command<'a>(alloc: Global) -> Command<'a>
         .after_help(help::REPLAY)
 }
 
+/// The command with one more option that names a file.
+fn with_file<'a>(
+    alloc: Global,
+    command: Command<'a>,
+    name: &'a str,
+    help: &'a str,
+) -> Result<Command<'a>, AllocError>
+    ensures app { IfOk result (λ c. app_of c ≡ with_rule (app_of command.entry) (spec.needed name.entry.now)) }
+    ensures local { (fields_of command.entry).has_globals ≡ false → IfOk result (λ c. (fields_of c).has_globals ≡ false) }
+{
+    command.arg(file_option(alloc, name, help))
+}
+
 /// The subcommand `serve`.
 fn serve_command<'a>(alloc: Global) -> Result<Command<'a>, AllocError>
     ensures app { IfOk result (λ c. app_of c ≡ spec.serve) }
     ensures local { IfOk result (λ c. (fields_of c).has_globals ≡ false) }
 {
-    Command::new(alloc, "serve")
+    let command = Command::new(alloc, "serve")
         .about("Pool the sessions of PostgreSQL servers")
-        .after_help(help::SERVE)
-        .arg(file_option(alloc, "ini", "The settings, in the format of pgbouncer.ini"))?
-        .arg(file_option(
-            alloc,
-            "users",
-            "The users and their secrets, in the format of userlist.txt",
-        ))?
-        .arg(file_option(
-            alloc,
-            "key-seed",
-            "32 random bytes, from which the clients' cancel keys and salts are made",
-        ))
+        .after_help(help::SERVE);
+    let ini = "The settings, in the format of pgbouncer.ini";
+    let command = with_file(alloc, command, "ini", ini)?;
+    let users = "The users and their secrets, in the format of userlist.txt";
+    let command = with_file(alloc, command, "users", users)?;
+    let seed = "32 random bytes, from which the clients' cancel keys and salts are made";
+    with_file(alloc, command, "key-seed", seed)
 }
 
 /// The subcommand `stub`.
@@ -131,15 +147,12 @@ fn stub_command<'a>(alloc: Global) -> Result<Command<'a>, AllocError>
     ensures app { IfOk result (λ c. app_of c ≡ spec.stub) }
     ensures local { IfOk result (λ c. (fields_of c).has_globals ≡ false) }
 {
-    Command::new(alloc, "stub")
+    let command = Command::new(alloc, "stub")
         .about("Stand in for a PostgreSQL server, for tests: any user is let in")
-        .after_help(help::STUB)
-        .arg(port_option(alloc))?
-        .arg(file_option(
-            alloc,
-            "catalogue",
-            "The version, databases, tables and rows that the server has",
-        ))
+        .after_help(help::STUB);
+    let command = with_port(alloc, command)?;
+    let catalogue = "The version, databases, tables and rows that the server has";
+    with_file(alloc, command, "catalogue", catalogue)
 }
 
 /// The program without its subcommands, of which a line must name one.
@@ -153,14 +166,27 @@ fn program<'a>(alloc: Global) -> Command<'a>
         .subcommand_required(true)
 }
 
+/// The program with the subcommand `serve`.
+fn with_serve<'a>(alloc: Global, program: Command<'a>) -> Result<Command<'a>, AllocError>
+    ensures { IfOk result (λ c. app_of c ≡ with_subcommand (app_of program.entry) spec.serve.top) }
+{
+    program.subcommand(serve_command(alloc)?)
+}
+
+/// The program with the subcommand `stub`.
+fn with_stub<'a>(alloc: Global, program: Command<'a>) -> Result<Command<'a>, AllocError>
+    ensures { IfOk result (λ c. app_of c ≡ with_subcommand (app_of program.entry) spec.stub.top) }
+{
+    program.subcommand(stub_command(alloc)?)
+}
+
 /// The whole command line.
 fn command<'a>(alloc: Global) -> Result<Command<'a>, AllocError>
     ensures { IfOk result (λ c. app_of c ≡ spec.pgsess) }
 {
-    program(alloc)
-        .subcommand(replay_command(alloc))?
-        .subcommand(serve_command(alloc)?)?
-        .subcommand(stub_command(alloc)?)
+    let program = program(alloc).subcommand(replay_command(alloc))?;
+    let program = with_serve(alloc, program)?;
+    with_stub(alloc, program)
 }
 
 /// The matches of the words, of which the subcommand's are a function of the words.
@@ -172,29 +198,45 @@ fn matches_of_line<'a>(alloc: Global, words: &'a [String]) -> Result<ArgMatches<
     command.try_get_matches_from(words)
 }
 
+/// The pooler's job, of the options of `serve`.
+fn serve_job<'a>(options: &ArgMatches<'a>) -> Option<Job<'a>>
+    ensures job { IfSome result (λ job. spec.IsJobBy (codes "serve") (rows_of (found_of options.now)) job) }
+    ensures none { result ≡ None → spec.IsNoJob (codes "serve") (rows_of (found_of options.now)) }
+{
+    let ini = options.get_str("ini")?;
+    let users = options.get_str("users")?;
+    let key_seed = options.get_str("key-seed")?;
+    Some(Job::Serve {
+        ini,
+        users,
+        key_seed,
+    })
+}
+
+/// The stand-in server's job, of the options of `stub`.
+fn stub_job<'a>(options: &ArgMatches<'a>) -> Option<Job<'a>>
+    ensures job { IfSome result (λ job. spec.IsJobBy (codes "stub") (rows_of (found_of options.now)) job) }
+    ensures none { result ≡ None → spec.IsNoJob (codes "stub") (rows_of (found_of options.now)) }
+{
+    let port = options.get_one::<u16>("port")?;
+    let catalogue = options.get_str("catalogue")?;
+    Some(Job::Stub { port, catalogue })
+}
+
 /// The job of the matches.
 fn job_of<'a>(matches: &ArgMatches<'a>) -> Option<Job<'a>>
     ensures job { IfSome result (λ job. spec.IsJobOf (subcommand_rows_of matches.now) job) }
     ensures none { result ≡ None → spec.NamesNone (subcommand_rows_of matches.now) }
 {
-    let (name, sub) = matches.subcommand()?;
+    let (name, options) = matches.subcommand()?;
     if name == "replay" {
         return Some(Job::Replay);
     }
     if name == "serve" {
-        let ini = sub.get_str("ini")?;
-        let users = sub.get_str("users")?;
-        let key_seed = sub.get_str("key-seed")?;
-        return Some(Job::Serve {
-            ini,
-            users,
-            key_seed,
-        });
+        return serve_job(options);
     }
     if name == "stub" {
-        let port = sub.get_one::<u16>("port")?;
-        let catalogue = sub.get_str("catalogue")?;
-        return Some(Job::Stub { port, catalogue });
+        return stub_job(options);
     }
     None
 }
