@@ -166,7 +166,8 @@ fn program<'a>(alloc: Global) -> Command<'a>
         .subcommand_required(true)
 }
 
-/// The program with the subcommand `serve`.
+/// The program with the subcommand `serve`. This step and the next stand apart from [`command`] for the prover's sake: each way out
+/// of a function that holds a command is shown with the drop of all its parts.
 fn with_serve<'a>(alloc: Global, program: Command<'a>) -> Result<Command<'a>, AllocError>
     ensures { IfOk result (λ c. app_of c ≡ with_subcommand (app_of program.entry) spec.serve.top) }
 {
