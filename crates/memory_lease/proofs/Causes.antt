@@ -6,7 +6,7 @@ use Rattle.std.proofs.lemmas.Bool.{false≢true, ltb-true, ltb-false}
 use Rattle.frame_view.specs.declared.FrameFault.{FrameFault}
 use Rattle.frame_view.specs.declared.FrameFault.TheVariants.{TooShort, TooLong, UnknownType, UnknownCode}
 use Rattle.frame_view.specs.declared.Side.{Side}
-use Rattle.frame_view.specs.declared.Side.TheVariants.{Client, Server}
+use Rattle.frame_view.specs.declared.Side.TheVariants.{Server}
 use Rattle.frame_view.specs.declared.frames.TheConstants.{LONGEST_FRAME}
 use Rattle.frame_view.specs.Frames.{Front, AFrame, FrameOf, IsFrame, front, spelling}
 use Rattle.frame_view.specs.Frames as frames
@@ -17,28 +17,17 @@ use Rattle.message_view.specs.Refusals.{Begins}
 use Rattle.relay_flow.specs.declared.flow.Ends.{Ends}
 use Rattle.relay_flow.specs.declared.flow.Ends.TheVariants.{Open, Last, Faulty}
 use Rattle.relay_flow.specs.Flows.{IsEndedBy, is_faulty}
-use Rattle.relay_core.specs.Leases.{RelayView, Place, IsForwarded, IsLease, IsLinkOver}
+use Rattle.relay_core.specs.Leases.{RelayView, Place, IsLease, IsLinkOver}
 use Rattle.relay_core.specs.Answers.{RefusedBy, refusal_by, refusal_of}
-use Rattle.memory_lease.specs.Answers.{HasCause, IsAllowed, IsAnswer, IsAtFault, IsTooLong, MayDie}
+use Rattle.relay_core.specs.Faults.{IsAtFault}
+use Rattle.relay_core.proofs.Faults.{StopsAt, client_fault}
+use Rattle.memory_lease.specs.Answers.{HasCause, IsAllowed, IsAnswer, IsTooLong, MayDie}
 
 pub was_allowed : (dies : Option ℕ) (limit : ℕ) (bytes out : List ℕ) (pieces : List (List ℕ)) → IsAnswer dies limit bytes out pieces → IsAllowed dies out pieces
 was_allowed dies limit bytes out pieces (inl x) = inl x
 was_allowed dies limit bytes out pieces (inr x) = inr x.at
 
 -- ---- a faulty message at a border
-
-record StopsAt (side : Side) (limit : ℕ) (part : List ℕ) (rest : ℕ) : Type 0 where
-  pub fault : FrameFault
-  pub border : rest ≡ 0
-  pub stops : front side limit part ≡ frames.Faulty fault
-
-same_refusal : (a b : Refusal) → Some a ≡ Some b → b ≡ a
-same_refusal a b e = cc
-
-client_stops : (e : Ends) (side : Side) (limit : ℕ) (part : List ℕ) (rest : ℕ) (r : Refusal) → refusal_of e ≡ Some r → IsEndedBy e side limit part rest → (x : StopsAt side limit part rest) × (r ≡ refusal_by x.fault)
-client_stops Open side limit part rest r e x = absurd cc
-client_stops Last side limit part rest r e x = absurd cc
-client_stops (Faulty fault) side limit part rest r e x = (record { fault = fault; border = x.0; stops = x.1 }, same_refusal (refusal_by fault) r e)
 
 server_stops : (e : Ends) (side : Side) (limit : ℕ) (part : List ℕ) (rest : ℕ) → is_faulty e ≡ true → IsEndedBy e side limit part rest → StopsAt side limit part rest
 server_stops Open side limit part rest e x = absurd (false≢true e)
@@ -56,21 +45,9 @@ cause_of_fault dies limit bytes given kept UnknownCode x = x
 by_client : (p : Place) (v : RelayView) (bytes : List ℕ) (r : Refusal) → IsLease p v → v.client.tells ≡ true → p.taken ≡ [] → ((some : List ℕ) → v.client.taken ≡ some → Begins some bytes) → refusal_of v.to_link.ends ≡ Some r
     → (fault : FrameFault) × (r ≡ refusal_by fault) × IsAtFault p.limit bytes (refusal_by fault)
 by_client p v bytes r x t n b e =
-    let s = client_stops v.to_link.ends v.to_link.side v.to_link.limit v.to_link.part v.to_link.rest r e x.goes.flow.ended in
-    let f : List ℕ = flat_map spelling x.forwarded in
-    let g : Begins (f ++ v.to_link.part) bytes = b (f ++ v.to_link.part) (x.goes.taken t ∙ ap₂ (λ (a c : List ℕ). a ++ (f ++ (c ++ v.to_link.part))) n (x.goes.opens.border s.0.border)) in (
-      s.0.fault,
-      s.1,
-      record {
-        before = x.forwarded;
-        rest = v.to_link.part ++ g.more;
-        fault = s.0.fault;
-        went = subst (λ (l : ℕ). AllByRecursion (IsForwarded l) x.forwarded) x.same.4 x.goes.went;
-        whole = sym g.both ∙ append_assoc f v.to_link.part g.more;
-        stops = (front-grows Client p.limit v.to_link.part g.more).fault s.0.fault (sym (ap₂ (λ (d : Side) (l : ℕ). front d l v.to_link.part) x.goes.flow.side_is x.same.4) ∙ s.0.stops);
-        told = refl;
-      },
-    )
+    let g : Begins v.client.taken bytes = b v.client.taken refl in
+    let c = client_fault p v v.client.taken g.more r x t (ap (λ (l : List ℕ). l ++ v.client.taken) (sym n)) e in
+    (c.0, c.1, subst (λ (l : List ℕ). IsAtFault p.limit l (refusal_by c.0)) g.both c.2)
 
 -- ---- of the server
 

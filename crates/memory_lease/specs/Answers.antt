@@ -1,17 +1,13 @@
 -- What one client may be answered by a server that is started for it alone.
 use Rattle.std.specs.Prelude.{◌≡◌, ◌⊎◌, ℕ, ◌+◌, ◌<◌, List, [], ◌∷◌, ◌++◌, length, map, Option, Some, None}
-use Rattle.std.specs.List.{flat_map, AllByRecursion}
-use Rattle.frame_view.specs.declared.FrameFault.{FrameFault}
-use Rattle.frame_view.specs.declared.Side.TheVariants.{Client}
-use Rattle.frame_view.specs.Frames.{FrameOf, Faulty, front, spelling}
+use Rattle.frame_view.specs.Frames.{FrameOf, spelling}
 use Rattle.message_view.specs.declared.KeyWord.{KeyWord}
 use Rattle.message_view.specs.declared.refusal.Refusal.{Refusal}
 use Rattle.message_view.specs.declared.refusal.Refusal.TheVariants.{ClientMessageTooLong, MalformedClientMessage, MalformedServerMessage, ServerFailed, ServerNotReached}
 use Rattle.message_view.specs.Refusals.{Begins, joined_pieces, refusal}
 use Rattle.session_values.specs.State.{CatalogueOf, StartKeyOf, fresh}
 use Rattle.session_values.specs.Service.{client_frames, served}
-use Rattle.relay_core.specs.Leases.{IsForwarded}
-use Rattle.relay_core.specs.Answers.{refusal_by}
+use Rattle.relay_core.specs.Faults.{IsAtFault}
 
 -- some first whole pieces, and then one refusal of the pooler's table
 pub record IsRefusedAt (out : List ℕ) (pieces : List (List ℕ)) : Type 0 where
@@ -41,17 +37,6 @@ abbrev pub own_pieces : CatalogueOf → StartKeyOf → KeyWord → List ℕ → 
 own_pieces cat key word bytes = map spelling (served cat (fresh cat key) word.pid word.secret (client_frames bytes))
 
 -- ---- why a client is refused
-
--- Behind lawful messages of the client, none of them a Terminate, comes what is none under this limit, whatever follows it; it is
--- refused for that fault.
-pub record IsAtFault (limit : ℕ) (bytes : List ℕ) (r : Refusal) : Type 0 where
-  pub before : List FrameOf
-  pub rest : List ℕ
-  pub fault : FrameFault
-  pub went : AllByRecursion (IsForwarded limit) before
-  pub whole : bytes ≡ flat_map spelling before ++ rest
-  pub stops : front Client limit rest ≡ Faulty fault
-  pub told : r ≡ refusal_by fault
 
 -- the next of the server's messages is longer than the limit
 pub record IsTooLong (limit : ℕ) (kept : List (List ℕ)) : Type 0 where

@@ -1,3 +1,4 @@
+pub mod Faults
 pub mod Judging
 pub mod Stepping
 pub use Rattle.relay_laws.proofs.Beginning

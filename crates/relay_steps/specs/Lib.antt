@@ -1,4 +1,5 @@
 pub mod Answers
+pub mod Faults
 pub mod Steps
 pub use Rattle.relay_laws.specs.Leases
 pub use Rattle.relay_laws.specs.Verdicts
