@@ -2,6 +2,7 @@
 ghost use Rattle.std.specs.Prelude.{◌≡◌, IfSome, IsSome};
 ghost use Rattle.link_desk.specs.Homes.{IsAtHome, IsDialled, IsGrantAtHome};
 ghost use Rattle.link_desk.specs.Passes.{after_arrival, after_asking, after_back, after_grant, after_leaving, after_loss, keeps};
+ghost use Rattle.link_desk.specs.Refusing.{MayArrive, MayAsk, MayTake};
 
 use crate::answers::{Arrival, Asked, Back, Gone, Grant};
 use ini_config::DbRow;
@@ -27,15 +28,18 @@ pub trait LinkDesk {
 
     /// A client has come.
     fn arrive(&self, pass: &mut Self::Pass) -> Arrival
-        ensures { told pass.new ≡ after_arrival (told pass.old) result };
+        ensures told { told pass.new ≡ after_arrival (told pass.old) result }
+        ensures refused { MayArrive result };
 
     /// A client that is through its login asks for a link of this key.
     fn ask(&self, pass: &mut Self::Pass, client: u64, key: &Arc<StartKey>) -> Asked
-        ensures { told pass.new ≡ after_asking (told pass.old) result };
+        ensures told { told pass.new ≡ after_asking (told pass.old) result }
+        ensures refused { MayAsk result };
 
     /// Waits until the client needn't wait any longer for its link.
     fn take(&self, pass: &mut Self::Pass, client: u64) -> Grant<Self::End>
         ensures told { told pass.new ≡ after_grant (told pass.old) result }
+        ensures refused { MayTake result }
         ensures home { IsGrantAtHome home result };
 
     /// Takes a clean link back, or leaves it there to be closed.

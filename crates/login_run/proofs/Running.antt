@@ -20,7 +20,7 @@ use Rattle.login_core.specs.Logins.{Awaiting, AwaitsPacket, Arriving, LoginView,
 use Rattle.login_core.specs.Laws.{waits, arrived, asks, NewTells, StepsTell, StepsSay}
 use Rattle.login_run.specs.declared.said.Said.{Said}
 use Rattle.login_run.specs.declared.said.Said.TheVariants as said
-use Rattle.login_run.specs.Runs.{PhaseOf, Talking, Arrived, Passed, Console, Stopped, Refused, Gone, RunView, run_view, said_bytes, said_pieces, IsPiece, phase_after, said_after, IsBegun, HasEnded, IsStopped, StandsAt, Runs, Awaits, IsArriving, IsAllGiven, IsRun}
+use Rattle.login_run.specs.Runs.{PhaseOf, Talking, Arrived, Passed, Console, Stopped, Gone, RunView, run_view, said_bytes, said_pieces, IsPiece, phase_after, said_after, IsBegun, HasEnded, IsStopped, IsCutOff, StandsAt, Runs, Awaits, IsArriving, IsAllGiven, IsRun}
 
 -- ---- the login's first pieces
 
@@ -41,6 +41,27 @@ module _ (rows : Rows) (word : KeyWord) where
   stopped_begun taken pieces (said.Refusal r) (inl h) = ended_begun taken pieces _ h
   stopped_begun taken pieces (said.Refusal r) (inr h) = h.1
 
+  cut_begun : (taken : List ℕ) (pieces : List (List ℕ)) (s : Said) → IsCutOff rows word taken pieces s → IsBegun rows word taken pieces
+  cut_begun taken pieces said.Nothing h = h
+  cut_begun taken pieces (said.Question q) h = h
+  cut_begun taken pieces said.LetIn h = h
+  cut_begun taken pieces (said.Failure f) h = h
+  cut_begun taken pieces (said.Refusal r) h = stopped_begun taken pieces (said.Refusal r) h
+
+  begun_cut : (taken : List ℕ) (pieces : List (List ℕ)) (s : Said) → IsPiece s → IsBegun rows word taken pieces → IsCutOff rows word taken pieces s
+  begun_cut taken pieces said.Nothing p h = h
+  begun_cut taken pieces (said.Question q) p h = h
+  begun_cut taken pieces said.LetIn p h = h
+  begun_cut taken pieces (said.Failure f) p h = h
+  begun_cut taken pieces (said.Refusal r) p h = absurd p
+
+  stopped_cut : (taken : List ℕ) (pieces : List (List ℕ)) (s : Said) → IsStopped rows word taken pieces s → IsCutOff rows word taken pieces s
+  stopped_cut taken pieces said.Nothing h = stopped_begun taken pieces said.Nothing h
+  stopped_cut taken pieces (said.Question q) h = absurd h
+  stopped_cut taken pieces said.LetIn h = absurd h
+  stopped_cut taken pieces (said.Failure f) h = stopped_begun taken pieces (said.Failure f) h
+  stopped_cut taken pieces (said.Refusal r) h = h
+
 tells_begun : (v : LoginView) (taken : List ℕ) (pieces : List (List ℕ)) → Tells v taken pieces → IsBegun (rows_of v) v.word taken pieces
 tells_begun v taken pieces t = λ more. ((goes_on v more).pieces, sym (ap (λ (d : Dialogue). d.pieces) (t more)))
 
@@ -50,8 +71,16 @@ stands_begun Arrived s v taken pieces h = tells_begun v taken pieces h
 stands_begun (Passed key) s v taken pieces h = ended_begun (rows_of v) v.word taken pieces _ h
 stands_begun Console s v taken pieces h = ended_begun (rows_of v) v.word taken pieces _ h
 stands_begun Stopped s v taken pieces h = stopped_begun (rows_of v) v.word taken pieces s h
-stands_begun Refused s v taken pieces h = h
-stands_begun Gone s v taken pieces h = h
+stands_begun Gone s v taken pieces h = cut_begun (rows_of v) v.word taken pieces s h
+
+-- wherever it stands, a refusal that was said keeps its cause
+pub stands_cut : (p : PhaseOf) (s : Said) (v : LoginView) (taken : List ℕ) (pieces : List (List ℕ)) → Awaits p s v → StandsAt p s v taken pieces → IsCutOff (rows_of v) v.word taken pieces s
+stands_cut Talking s v taken pieces a h = begun_cut (rows_of v) v.word taken pieces s a.0 (stands_begun Talking s v taken pieces h)
+stands_cut Arrived s v taken pieces a h = begun_cut (rows_of v) v.word taken pieces s a.0 (stands_begun Arrived s v taken pieces h)
+stands_cut (Passed key) s v taken pieces a h = begun_cut (rows_of v) v.word taken pieces s a (stands_begun (Passed key) s v taken pieces h)
+stands_cut Console s v taken pieces a h = begun_cut (rows_of v) v.word taken pieces s a (stands_begun Console s v taken pieces h)
+stands_cut Stopped s v taken pieces a h = stopped_cut (rows_of v) v.word taken pieces s h
+stands_cut Gone s v taken pieces a h = h
 
 -- ---- a step of the login
 
@@ -165,7 +194,7 @@ pub wrote_none : (c d : ClientFacts) (v : LoginView) (p : PhaseOf) (s : Said) (s
 wrote_none c d v p s sent m k x = (x.0, x.1, idle_runs c d v p s sent k.tells k.taken (λ tells. k.given tells ∙ append-nil c.given) x.2)
 
 pub gone_run : (c : ClientFacts) (v : LoginView) (p : PhaseOf) (s : Said) (sent : ℕ) → IsRun (run_view c v p s sent) → IsRun (run_view c v Gone s sent)
-gone_run c v p s sent x = (x.0, tt, record { heard = x.2.heard; done = x.2.done; stands = stands_begun p s v x.2.heard (x.2.done ++ said_pieces s) x.2.stands; taken = x.2.taken; given = x.2.given })
+gone_run c v p s sent x = (x.0, tt, record { heard = x.2.heard; done = x.2.done; stands = stands_cut p s v x.2.heard (x.2.done ++ said_pieces s) x.1 x.2.stands; taken = x.2.taken; given = x.2.given })
 
 none_moved : (m : Moved) (bytes : List ℕ) → (m ≡ Ended) ⊎ (m ≡ Fault) → moved m bytes ≡ []
 none_moved m bytes (inl e) = ap (λ (n : Moved). moved n bytes) e
@@ -269,19 +298,3 @@ pub went_on : StepsTell → StepsSay → (c : ClientFacts) (v w : LoginView) (p 
     → IsRun (run_view c v p s sent) → IsRun (run_view c w q r 0)
 went_on tell say c v w p s sent used u step q r e t n eq er h x =
     after_step c w step q r eq er (go_on tell say c v w s sent step (all_given c v p s sent u e n) (subst (λ (l : List ℕ). StepMeans v l step w) (nothing_of used) h) (arrives c v p s sent u e t x))
-
-refused_on : (c : ClientFacts) (v : LoginView) (s : Said) (sent : ℕ) (r : Refusal) → sent ≡ length (said_bytes s) → IsRun (run_view c v Arrived s sent) → IsRun (run_view c v Refused (said.Refusal r) 0)
-refused_on c v s sent r n x = (
-  omega arith,
-  tt,
-  record {
-    heard = x.2.heard;
-    done = x.2.done ++ said_pieces s;
-    stands = subst (λ (ps : List (List ℕ)). IsBegun (rows_of v) v.word x.2.heard ps) (sym (append-nil (x.2.done ++ said_pieces s))) (stands_begun Arrived s v x.2.heard (x.2.done ++ said_pieces s) x.2.stands);
-    taken = x.2.taken;
-    given = λ tells. settled c.given x.2.done s sent x.1.0 n (x.2.given tells) ∙ sym (append-nil (joined_pieces (x.2.done ++ said_pieces s)));
-  },
-)
-
-pub refused_run : (c : ClientFacts) (v : LoginView) (p : PhaseOf) (s : Said) (sent : ℕ) (u : RunView) (r : Refusal) → run_view c v p s sent ≡ u → u.phase ≡ Arrived → IsAllGiven u → IsRun (run_view c v p s sent) → IsRun (run_view c v Refused (said.Refusal r) 0)
-refused_run c v p s sent u r e t n x = refused_on c v s sent r (all_given c v p s sent u e n) (arrives c v p s sent u e t x)

@@ -27,7 +27,6 @@ pub data PhaseOf : Type 0 where
   Passed : StartKeyOf → PhaseOf
   Console : PhaseOf
   Stopped : PhaseOf
-  Refused : PhaseOf
   Gone : PhaseOf
 
 pub record RunView : Type 0 where
@@ -47,7 +46,6 @@ phase_of phase.Arrived = Arrived
 phase_of (phase.Passed key) = Passed (arc_value key)
 phase_of phase.Console = Console
 phase_of phase.Stopped = Stopped
-phase_of phase.Refused = Refused
 phase_of phase.Gone = Gone
 
 abbrev pub has_gone : PhaseOf → Bool
@@ -115,6 +113,11 @@ IsStopped rows word taken pieces (said.Failure f) = HasEnded rows word taken pie
 IsStopped rows word taken pieces (said.Refusal r) =
     HasEnded rows word taken pieces (λ more. StoppedFor (RefusedBy r)) ⊎ ((r ≡ OutOfMemory) × IsBegun rows word taken pieces)
 
+-- a login whose client's end is over: a refusal that was said keeps its cause
+abbrev pub IsCutOff : Rows → KeyWord → List ℕ → List (List ℕ) → Said → Type 0
+IsCutOff rows word taken pieces (said.Refusal r) = IsStopped rows word taken pieces (said.Refusal r)
+IsCutOff rows word taken pieces _ = IsBegun rows word taken pieces
+
 -- where the login stands that has taken these bytes and said these pieces
 abbrev pub StandsAt : PhaseOf → Said → LoginView → List ℕ → List (List ℕ) → Type 0
 StandsAt Talking s v taken pieces = Tells v taken pieces
@@ -122,8 +125,7 @@ StandsAt Arrived s v taken pieces = Tells v taken pieces
 StandsAt (Passed key) s v taken pieces = HasEnded (rows_of v) v.word taken pieces (λ more. PassedWith (ToLink key) more)
 StandsAt Console s v taken pieces = HasEnded (rows_of v) v.word taken pieces (λ more. PassedWith ToConsole more)
 StandsAt Stopped s v taken pieces = IsStopped (rows_of v) v.word taken pieces s
-StandsAt Refused s v taken pieces = IsBegun (rows_of v) v.word taken pieces
-StandsAt Gone s v taken pieces = IsBegun (rows_of v) v.word taken pieces
+StandsAt Gone s v taken pieces = IsCutOff (rows_of v) v.word taken pieces s
 
 -- The login heard these bytes: those that were taken from the client, where it tells. The client was given some whole pieces, and so
 -- many bytes of what was said last.
@@ -186,11 +188,6 @@ abbrev pub HasPassed : PhaseOf → Type 0
 HasPassed (Passed key) = Unit {0}
 HasPassed _ = ⊥
 
-abbrev pub IsLast : PhaseOf → Type 0
-IsLast Stopped = Unit {0}
-IsLast Refused = Unit {0}
-IsLast _ = ⊥
-
 -- What a turn came to. The login is over only where all was given that was said last, or the client's end ended or faulted.
 abbrev pub HasTurned : RunView → RunView → LoginTurn → Type 0
 HasTurned old new turn.Again = old.client.tells ≡ true → bytes_moved old.client < bytes_moved new.client
@@ -198,7 +195,7 @@ HasTurned old new turn.Wait = (new.client.read_waits + new.client.write_waits �
 HasTurned old new turn.Arrived = (new.phase ≡ Arrived) × IsAllGiven new
 HasTurned old new turn.Passed = HasPassed new.phase × IsAllGiven new
 HasTurned old new turn.Console = (new.phase ≡ Console) × IsAllGiven new
-HasTurned old new turn.Over = (IsLast new.phase × IsAllGiven new) ⊎ ((new.phase ≡ Gone) × ((old.phase ≡ Gone) ⊎ IsClientOver old.client new.client))
+HasTurned old new turn.Over = ((new.phase ≡ Stopped) × IsAllGiven new) ⊎ ((new.phase ≡ Gone) × ((old.phase ≡ Gone) ⊎ IsClientOver old.client new.client))
 
 -- the key of a client that was let in
 abbrev pub IsKeyOf : {Z : Type 0} → PhaseOf → Option (Arc StartKeyOf Z) → Type 0

@@ -3,7 +3,7 @@ ghost use Rattle.login_run.specs.Laws.{PassedRunsAreLetIn, PassedRunsHavePassed,
 
 use login_core::laws::login_is_of_its_row;
 
-/// What a client was given in its login is allowed, at every point.
+/// What a client was given in its login is allowed, at every point, and a refusal is the login's own or of memory.
 pub fn runs_are_allowed()
     ensures { RunsAreAllowed }
 {
@@ -17,7 +17,7 @@ pub fn runs_stand_at_pieces()
     login_is_of_its_row();
 }
 
-/// A client that was let in is owed the service of what comes.
+/// The login of a client that was let in has passed, whatever comes, and the client is owed the service of what comes.
 pub fn passed_runs_are_let_in()
     ensures { PassedRunsAreLetIn }
 {

@@ -4,14 +4,12 @@ ghost use Rattle.std.specs.Arc.{arc_value};
 ghost use Rattle.server_end.specs.Moves.{ClientReads, IsWithin, moved};
 ghost use Rattle.login_core.specs.Dialogue.{AtFirst};
 ghost use Rattle.login_core.specs.Logins.{AwaitsPacket};
-ghost use Rattle.login_run.specs.declared.said.Said.TheVariants as said;
 ghost use Rattle.login_run.specs.Runs as spec;
 ghost use Rattle.login_run.specs.Runs.{IsRun, IsSameLogin, IsAllGiven, HasTurned, HasRead, HasWritten, said_bytes};
 
 use crate::said::Said;
 use login_core::laws::{new_tells, steps_say, steps_tell};
 use login_core::{Login, LoginStep};
-use message_view::Refusal;
 use server_end::{ClientEnd, Moved};
 use start_keys::StartKey;
 use std::alloc::Global;
@@ -34,8 +32,6 @@ pub enum Phase {
     Console,
     /// The login said its last word.
     Stopped,
-    /// The caller refused the client.
-    Refused,
     /// The client's end ended or faulted.
     Gone,
 }
@@ -47,7 +43,7 @@ pub enum LoginTurn {
     Again,
     /// None was: wait until the client's end is ready.
     Wait,
-    /// The client has arrived: call [`LoginRun::go_on`] or [`LoginRun::refuse`].
+    /// The client has arrived: it is for the caller to let it go on, by [`LoginRun::go_on`], or to refuse it.
     Arrived,
     /// The client is let in, and was given AuthenticationOk.
     Passed,
@@ -164,7 +160,7 @@ impl<C: ClientEnd> LoginRun<C> {
             Phase::Arrived => LoginTurn::Arrived,
             Phase::Passed(_) => LoginTurn::Passed,
             Phase::Console => LoginTurn::Console,
-            Phase::Stopped | Phase::Refused | Phase::Gone => LoginTurn::Over,
+            Phase::Stopped | Phase::Gone => LoginTurn::Over,
         }
     }
 
@@ -234,21 +230,6 @@ impl<C: ClientEnd> LoginRun<C> {
         steps_say();
         let (_, step) = self.login.on_bytes(alloc, b"");
         (self.phase, self.said) = after(step);
-        self.sent = 0;
-    }
-
-    /// The client that has arrived is refused: it is given this refusal, and its login is over.
-    pub fn refuse(&mut self, refusal: Refusal)
-        requires arrived { self.old.phase ≡ spec.Arrived }
-        requires given { IsAllGiven self.old }
-        ensures client { self.new.client ≡ self.old.client }
-        ensures login { self.new.login ≡ self.old.login }
-        ensures phase { self.new.phase ≡ spec.Refused }
-        ensures said { self.new.said ≡ said.Refusal refusal }
-        ensures sent { self.new.sent ≡ 0 }
-    {
-        self.phase = Phase::Refused;
-        self.said = Said::Refusal(refusal);
         self.sent = 0;
     }
 

@@ -133,8 +133,8 @@ fits_grants b c t None =
 
 fits_takes : (b : Book) (c : ℕ) (t : Ticket) → Fits b (Take c) (takes b (Some t))
 fits_takes b c t =
-    both (Fits b (Take c)) b.is_shut _ _ (record { counts = refl; tells = λ p. refl })
-    (both (Fits b (Take c)) (has_waited b t) _ _ (record { counts = refl; tells = λ p. refl })
+    both (Fits b (Take c)) b.is_shut _ _ (record { counts = refl; tells = λ p. (refl, tt) })
+    (both (Fits b (Take c)) (has_waited b t) _ _ (record { counts = refl; tells = λ p. (refl, tt) })
     (both (Fits b (Take c)) (b.is_paused || not (waiting_before t.key t.client b.tickets == 0)) _ _ (record { counts = refl; tells = λ p. refl })
     (fits_grants b c t (latest_of t.key b.idle))))
 
@@ -161,9 +161,9 @@ fits_closes b now (Some link) = record { counts = refl; tells = λ p. refl }
 
 fits : (b : Book) (e : Event) → is_strange b e ≡ false → Fits b e (outcome b e)
 fits b Arrive known =
-    both (Fits b Arrive) b.is_shut _ _ (record { counts = refl; tells = λ p. refl })
-    (both (Fits b Arrive) (nat_lt (length b.clients) b.limits.max_clients) _ _ (record { counts = refl; tells = λ p. refl }) (record { counts = refl; tells = λ p. refl }))
-fits b (Ask c key) known = both (Fits b (Ask c key)) b.is_shut _ _ (record { counts = refl; tells = λ p. refl }) (record { counts = refl; tells = λ p. refl })
+    both (Fits b Arrive) b.is_shut _ _ (record { counts = refl; tells = λ p. (refl, tt) })
+    (both (Fits b Arrive) (nat_lt (length b.clients) b.limits.max_clients) _ _ (record { counts = refl; tells = λ p. refl }) (record { counts = refl; tells = λ p. (refl, tt) }))
+fits b (Ask c key) known = both (Fits b (Ask c key)) b.is_shut _ _ (record { counts = refl; tells = λ p. (refl, tt) }) (record { counts = refl; tells = λ p. refl })
 fits b (Take c) known = fits_taken b c (find (is_of c) b.tickets) refl known
 fits b (GiveBack n) known = fits_given b n (find (is_link n) b.lent) refl known
 fits b (Lost n) known = record { counts = refl; tells = λ p. refl }
@@ -186,9 +186,9 @@ counted_last : (b : Book) (e : Event) → Counted b e (record { book = b; reply 
 counted_last b e = record { kind = None; counts = refl; tells = last e }
   where
     last : (e : Event) (p : PassOf) → Tells e (Refuse LastDecision) p (passed None (Refuse LastDecision) p)
-    last Arrive p = refl
-    last (Ask c key) p = refl
-    last (Take c) p = refl
+    last Arrive p = (refl, tt)
+    last (Ask c key) p = (refl, tt)
+    last (Take c) p = (refl, tt)
     last (GiveBack n) p = refl
     last (Lost n) p = refl
     last (StartFailed n) p = refl

@@ -6,6 +6,7 @@ use Rattle.book_lists.specs.Outcomes.Event.{Arrive, Ask, Take, GiveBack, Lost, S
 use Rattle.book_lists.specs.declared.events.Reply.{Reply}
 use Rattle.book_lists.specs.declared.events.Reply.TheVariants.{Arrived, Queued, Lend, Start, Close, Refuse, Done, Stranger}
 use Rattle.desk_tallies.specs.Passes.{PassOf, after_refusal, broken, one_arrived, one_given_back, one_granted, one_left, one_lost, one_other}
+use Rattle.desk_tallies.specs.Refusing.{RefusesArrival, RefusesAsking, RefusesGrant}
 
 -- nothing more is promised of a pass after these replies
 abbrev pub breaks : Reply → Bool
@@ -14,17 +15,18 @@ breaks (Refuse refusal) = false
 breaks Stranger = true
 breaks _ = false
 
--- by the event and its reply; a tick that is done may be a decision or none, and to no event are other replies given
+-- by the event and its reply; a refusal is one of the call's, a tick that is done may be a decision or none, and to no event are other
+-- replies given
 abbrev pub Tells : Event → Reply → PassOf → PassOf → Type 0
 Tells Arrive (Arrived n) p q = q ≡ one_arrived p
-Tells Arrive (Refuse refusal) p q = q ≡ after_refusal p refusal
+Tells Arrive (Refuse refusal) p q = (q ≡ after_refusal p refusal) × RefusesArrival refusal
 Tells (Ask client key) (Queued n) p q = q ≡ one_other p
-Tells (Ask client key) (Refuse refusal) p q = q ≡ after_refusal p refusal
+Tells (Ask client key) (Refuse refusal) p q = (q ≡ after_refusal p refusal) × RefusesAsking refusal
 Tells (Ask client key) Stranger p q = q ≡ broken p
 Tells (Take client) (Queued n) p q = q ≡ p
 Tells (Take client) (Lend link) p q = q ≡ one_granted p
 Tells (Take client) (Start link born evicted) p q = q ≡ one_granted p
-Tells (Take client) (Refuse refusal) p q = q ≡ after_refusal p refusal
+Tells (Take client) (Refuse refusal) p q = (q ≡ after_refusal p refusal) × RefusesGrant refusal
 Tells (Take client) Stranger p q = q ≡ broken p
 Tells (GiveBack link) Done p q = q ≡ one_given_back p
 Tells (GiveBack link) (Close n) p q = q ≡ one_given_back p

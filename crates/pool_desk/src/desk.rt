@@ -4,6 +4,7 @@ ghost use Rattle.std.specs.Arc.{arc_value};
 ghost use Rattle.lease_book.specs.Links.{IsTwice, handed, handed_back, plain, reply_of};
 ghost use Rattle.desk_tallies.specs.Homes.{IsAtHome, IsGrantAtHome};
 ghost use Rattle.desk_tallies.specs.Passes.{after_arrival, after_asking, after_back, after_grant, after_leaving, after_loss, keeps, new_pass};
+ghost use Rattle.desk_tallies.specs.Refusing.{MayArrive, MayAsk, MayTake};
 ghost use Rattle.desk_tallies.specs.declared.passes.TheConstants.{ALL_PARTS};
 ghost use Rattle.desk_tallies.specs.Shares.{AtMost, by_class, made_of, names_of, of_each, parts_of, sum_over};
 ghost use Rattle.pool_desk.specs.Changes.{AfterTick, IsTickAtHome, after_change, is_change};
@@ -152,7 +153,8 @@ impl<S: Dial, A: Ledger, G: Ledger, B: Ledger, L: Ledger, W: Ledger, O: Ledger> 
 
     /// A client has come.
     pub fn arrive<R: Wait>(&self, rt: &R, pass: &mut Pass<A, G, B, L, W, O>) -> Arrival
-        ensures { pass.new.told ≡ after_arrival pass.old.told result }
+        ensures told { pass.new.told ≡ after_arrival pass.old.told result }
+        ensures refused { MayArrive result }
     {
         match self.hold(rt, pass, Event::Arrive) {
             Reply::Client(client) => Arrival::Client(client),
@@ -169,7 +171,8 @@ impl<S: Dial, A: Ledger, G: Ledger, B: Ledger, L: Ledger, W: Ledger, O: Ledger> 
         client: u64,
         key: &Arc<StartKey>,
     ) -> Asked
-        ensures { pass.new.told ≡ after_asking pass.old.told result }
+        ensures told { pass.new.told ≡ after_asking pass.old.told result }
+        ensures refused { MayAsk result }
     {
         let (Ok(first), Ok(again)) = (Arc::try_clone(key), Arc::try_clone(key)) else {
             return Asked::Memory;
@@ -195,6 +198,7 @@ impl<S: Dial, A: Ledger, G: Ledger, B: Ledger, L: Ledger, W: Ledger, O: Ledger> 
         client: u64,
     ) -> Grant<S::End>
         ensures told { pass.new.told ≡ after_grant pass.old.told result }
+        ensures refused { MayTake result }
         ensures home { IsGrantAtHome S.home result }
     {
         let mut core = self.core.lock(rt);

@@ -1,5 +1,5 @@
 -- What a client was given by its lease.
-use Rattle.std.proofs.Common.{◌≡◌, inl, ℕ, true, List, [], ◌∷◌, ◌++◌, refl, sym, ap, ap₂, ◌∙◌, subst, arith, append_assoc, append-nil, Result, Ok, Err, Option, Some}
+use Rattle.std.proofs.Common.{◌≡◌, ℕ, true, List, [], ◌∷◌, ◌++◌, refl, sym, ap, ap₂, ◌∙◌, subst, arith, append_assoc, append-nil, Result, Ok, Err, Option, Some}
 use Rattle.std.specs.Prelude.{map, None, IfSome}
 use Rattle.std.specs.List.{flat_map, AllByRecursion}
 use Rattle.std.proofs.lemmas.Grind.{flat_map-append}
@@ -32,6 +32,7 @@ use Rattle.relay_steps.proofs.Exact.{all-sent}
 use Rattle.relay_steps.specs.Answers.{AtBorder, RefusedBy}
 use Rattle.pool_serve.specs.Words.{or_nothing}
 use Rattle.pool_serve.specs.Serving.{Serves}
+use Rattle.pool_serve.proofs.Causing.{relay_fault}
 use Rattle.pool_serve.specs.declared.word.LastWord.TheVariants as last
 
 -- ---- the service of more bytes
@@ -92,7 +93,7 @@ front_given own p v x a =
       both = sym (append_assoc a.since held a.more) ∙ (a.front ∙ (same_service p v (flat_map spelling a.forwarded ++ a.tail) x.same.0 x.same.3 ∙ sym (own p.stands.server.catalogue p.key p.word (flat_map spelling a.forwarded ++ a.tail))));
     }
 
-unrefused : LeasesAreAllowed → ServiceIsItsPieces → (p : Place) (v : RelayView) → IsLease p v → v.client.tells ≡ true → p.stands.follows ≡ true → (c : ClientFacts) → c.taken ≡ p.taken → c.given ≡ p.given → Serves c v.client (owed_at p) last.Nothing
+unrefused : LeasesAreAllowed → ServiceIsItsPieces → (p : Place) (v : RelayView) → IsLease p v → v.client.tells ≡ true → p.stands.follows ≡ true → (c : ClientFacts) → c.taken ≡ p.taken → c.given ≡ p.given → Serves p.limit c v.client (owed_at p) last.Nothing
 unrefused law own p v x t f c ct cg =
     let a : IsAllowed p v = law p v x t (x.moves.follows ∙ f) in
     let went : List ℕ = flat_map spelling a.forwarded ++ a.tail in
@@ -101,7 +102,8 @@ unrefused law own p v x t f c ct cg =
       gave = a.since;
       taken = a.taken ∙ ap₂ (λ (b d : List ℕ). b ++ d) (sym ct) (sym (append_assoc (flat_map spelling a.forwarded) a.tail v.to_link.part));
       given = a.given ∙ ap (λ (b : List ℕ). b ++ a.since) (sym cg);
-      ends = inl (begins_on a.since (owed_at p went) (owed_at p (went ++ v.to_link.part)) (pieces_on p.stands.server.catalogue p.key p.word went v.to_link.part) (front_given own p v x a));
+      ends = begins_on a.since (owed_at p went) (owed_at p (went ++ v.to_link.part)) (pieces_on p.stands.server.catalogue p.key p.word went v.to_link.part) (front_given own p v x a);
+      fault = tt;
     }
 
 -- ---- at a border of the server's frames
@@ -157,8 +159,8 @@ at_border law own p v x t f b =
       (a.taken ∙ ap (λ (d : List ℕ). p.taken ++ d) (sym (append_assoc (flat_map spelling a.forwarded) a.tail v.to_link.part)), whole_pieces ws b.arrived rs b.since g.more (owed_at p went) whole b.came out_is all pieces),
     )
 
-refused : LeasesAreAllowed → ServiceIsItsPieces → (p : Place) (v : RelayView) (r : Refusal) → IsLease p v → v.client.tells ≡ true → p.stands.follows ≡ true → AtBorder p v → (c : ClientFacts) → c.taken ≡ p.taken → c.given ≡ p.given → Serves c v.client (owed_at p) (last.Refusal r)
-refused law own p v r x t f b c ct cg =
+refused : LeasesAreAllowed → ServiceIsItsPieces → (p : Place) (v : RelayView) (r : Refusal) → IsLease p v → v.client.tells ≡ true → p.stands.follows ≡ true → AtBorder p v → RefusedBy p v r → (c : ClientFacts) → c.taken ≡ p.taken → c.given ≡ p.given → Serves p.limit c v.client (owed_at p) (last.Refusal r)
+refused law own p v r x t f b w c ct cg =
     let k = at_border law own p v x t f b in
     record {
       took = k.0 ++ v.to_link.part;
@@ -166,16 +168,17 @@ refused law own p v r x t f b c ct cg =
       taken = k.1.0 ∙ ap (λ (d : List ℕ). d ++ (k.0 ++ v.to_link.part)) (sym ct);
       given = b.given t ∙ ap (λ (d : List ℕ). d ++ b.since) (sym cg);
       ends = at_piece_on b.since (owed_at p k.0) (owed_at p (k.0 ++ v.to_link.part)) (pieces_on p.stands.server.catalogue p.key p.word k.0 v.to_link.part) k.1.1;
+      fault = relay_fault p v (k.0 ++ v.to_link.part) r x t k.1.0 w;
     }
 
 answered : LeasesAreAllowed → ServiceIsItsPieces → (p : Place) (old v : RelayView) (r : Option Refusal) → IsLease p old → Keeps old v → v.client.tells ≡ true → p.stands.follows ≡ true → IfSome r (λ s. (q : Place) → IsLease q old → AtBorder q v × RefusedBy q v s) → (c : ClientFacts) → c.taken ≡ p.taken → c.given ≡ p.given
-    → Serves c v.client (owed_at p) (or_nothing r)
+    → Serves p.limit c v.client (owed_at p) (or_nothing r)
 answered law own p old v None i k t f b c ct cg = unrefused law own p v (k p i) t f c ct cg
-answered law own p old v (Some r) i k t f b c ct cg = refused law own p v r (k p i) t f (b p i).0 c ct cg
+answered law own p old v (Some r) i k t f b c ct cg = refused law own p v r (k p i) t f (b p i).0 (b p i).1 c ct cg
 
 -- a client whose lease began here and has ended
 pub relay_serves : LeasesAreAllowed → ServiceIsItsPieces → (client after : ClientFacts) (link : LinkView) (word : KeyWord) (limit : ℕ) (old v : RelayView) (r : Option Refusal) → IsLease (place client link word limit) old → Keeps old v → after ≡ v.client
-    → IfSome r (λ s. (q : Place) → IsLease q old → AtBorder q v × RefusedBy q v s) → client.tells ≡ true → link.stands.follows ≡ true → Serves client after (service_pieces link.stands.server.catalogue link.key word) (or_nothing r)
+    → IfSome r (λ s. (q : Place) → IsLease q old → AtBorder q v × RefusedBy q v s) → client.tells ≡ true → link.stands.follows ≡ true → Serves limit client after (service_pieces link.stands.server.catalogue link.key word) (or_nothing r)
 relay_serves law own client after link word limit old v r i k e b t f =
     let p : Place = place client link word limit in
-    subst (λ (d : ClientFacts). Serves client d (service_pieces link.stands.server.catalogue link.key word) (or_nothing r)) (sym e) (answered law own p old v r i k ((k p i).told ∙ t) f b client refl refl)
+    subst (λ (d : ClientFacts). Serves limit client d (service_pieces link.stands.server.catalogue link.key word) (or_nothing r)) (sym e) (answered law own p old v r i k ((k p i).told ∙ t) f b client refl refl)

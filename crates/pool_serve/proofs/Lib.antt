@@ -1,4 +1,5 @@
 pub mod Telling
+pub mod Causing
 pub mod Answering
 pub mod Homing
 pub mod Owing

@@ -1,27 +1,31 @@
 -- A client's login, and what it leads to.
-use Rattle.std.proofs.Common.{◌≡◌, ℕ, true, List, [], sym, ap, ap₂, ◌∙◌, subst, Option, Some}
+use Rattle.std.proofs.Common.{◌≡◌, ◌⊎◌, ℕ, true, List, [], sym, ap, ap₂, ◌∙◌, subst, Option, Some}
 use Rattle.std.specs.declared.sync.Arc.{Arc}
 use Rattle.std.specs.Arc.{arc_value}
 use Rattle.message_view.specs.declared.KeyWord.{KeyWord}
 use Rattle.message_view.specs.declared.refusal.Refusal.{Refusal}
-use Rattle.message_view.specs.Refusals.{Allowed}
+use Rattle.message_view.specs.declared.refusal.Refusal.TheVariants.{OutOfMemory}
 use Rattle.ini_config.specs.Bounds.{AreWithinBounds}
 use Rattle.ini_config.specs.Tables.{row_named}
 use Rattle.ini_config.specs.declared.option_values.Settings.{Settings}
 use Rattle.user_file.specs.declared.user_table.UserRow.{UserRow}
 use Rattle.session_values.specs.State.{Address, CatalogueOf, StartKeyOf}
 use Rattle.link_laws.specs.Standing.{ClientFacts}
-use Rattle.login_core.specs.Dialogue.{Rows, row_in}
+use Rattle.login_core.specs.Talk.End.{Stopped as StoppedFor}
+use Rattle.login_core.specs.Dialogue.{Refused as RefusedBy, Rows, login_among, row_in}
 use Rattle.login_core.specs.Logins.{LoginView, rows_of}
 use Rattle.login_core.specs.Laws.{names_in, row_for}
 use Rattle.login_core.specs.Solo.{solo_in}
 use Rattle.login_keys.specs.Laws.{BoundedRowsAreLawful, IsOfRow, PassedKeysAreLinkKeys, PassedKeysAreOfTheirRows}
-use Rattle.login_run.specs.Runs.{Arrived, Awaits, Console, Gone, IsAllGiven, IsKeyOf, IsPiece, IsRun, IsSameLogin, Passed, PhaseOf, Refused, RunView, Stopped, Talking}
-use Rattle.login_run.specs.Laws.{PassedRunsAreLetIn, PassedRunsHavePassed, RunsAreAllowed, RunsStandAtPieces, own}
+use Rattle.login_run.specs.Runs.{Arrived, Awaits, Console, Gone, IsAllGiven, IsKeyOf, IsPiece, IsRun, IsSameLogin, Passed, PhaseOf, RunView, Stopped, Talking}
+use Rattle.login_run.specs.Laws.{AllowedBy, IsAtPiece, PassedRunsAreLetIn, PassedRunsHavePassed, RunsAreAllowed, RunsStandAtPieces, own}
+use Rattle.link_desk.specs.Refusing.{RefusesArrival}
 use Rattle.pool_serve.specs.declared.guest.Guest.{Guest}
 use Rattle.pool_serve.specs.declared.word.LastWord.{LastWord}
 use Rattle.pool_serve.specs.declared.word.LastWord.TheVariants as last
-use Rattle.pool_serve.specs.Serving.{IsGuest, MayEnd, Serves, owed}
+use Rattle.pool_serve.specs.Causes.{HasFault}
+use Rattle.pool_serve.specs.Serving.{IsGuest, IsServed, MayEnd, Serves, limit_of, owed}
+use Rattle.pool_serve.proofs.Causing.{arrival_fault}
 use Rattle.pool_serve.proofs.Owing.{behind_login}
 
 -- ---- the same login
@@ -36,22 +40,40 @@ same_owed : (catalogue : Address → CatalogueOf) (v w : LoginView) (bytes : Lis
 same_owed catalogue v w bytes s u k =
     ap₂ (λ (r : Rows) (x : KeyWord). solo_in catalogue (row_for r (names_in bytes)) x bytes) (ap₂ (λ (a : Settings) (b : List UserRow). row_in a b) s u) k
 
-pub same_end : (catalogue : Address → CatalogueOf) (old new : RunView) (out bytes : List ℕ) (word : LastWord) → IsSameLogin old new → MayEnd out (own catalogue new.login bytes) word → MayEnd out (own catalogue old.login bytes) word
-same_end catalogue old new out bytes word s m = subst (λ (ps : List (List ℕ)). MayEnd out ps word) (same_owed catalogue old.login new.login bytes s.settings s.users s.word) m
+same_rows : (old new : RunView) → IsSameLogin old new → rows_of new.login ≡ rows_of old.login
+same_rows old new s = ap₂ row_in s.settings s.users
+
+abbrev AtLogin : (Address → CatalogueOf) → Rows → KeyWord → ClientFacts → Type 0
+AtLogin catalogue rows word c = AllowedBy (λ (r : Refusal). ((login_among rows word c.taken).ended ≡ StoppedFor (RefusedBy r)) ⊎ (r ≡ OutOfMemory)) c.given (owes catalogue rows word c.taken)
+
+same_fault : (old new : RunView) (taken : List ℕ) (r : Refusal) → IsSameLogin old new → HasFault (rows_of new.login) new.login.word new.login.settings.max_packet_size taken r → HasFault (rows_of old.login) old.login.word old.login.settings.max_packet_size taken r
+same_fault old new taken r s h =
+    subst (λ (x : Settings). HasFault (rows_of old.login) old.login.word x.max_packet_size taken r) s.settings
+    (subst (λ (k : KeyWord). HasFault (rows_of old.login) k new.login.settings.max_packet_size taken r) s.word (subst (λ (rows : Rows). HasFault rows new.login.word new.login.settings.max_packet_size taken r) (same_rows old new s) h))
+
+pub same_served : (catalogue : Address → CatalogueOf) (old new : RunView) (c : ClientFacts) (word : LastWord) → IsSameLogin old new → IsServed catalogue new.login c word → IsServed catalogue old.login c word
+unfolding row_in owes
+same_served catalogue old new c last.Nothing s h = subst (λ (k : KeyWord). AtLogin catalogue (rows_of old.login) k c) s.word (subst (λ (rows : Rows). AtLogin catalogue rows new.login.word c) (same_rows old new s) h)
+same_served catalogue old new c (last.Refusal r) s h = (
+  subst (λ (ps : List (List ℕ)). IsAtPiece c.given ps) (same_owed catalogue old.login new.login c.taken s.settings s.users s.word) h.0,
+  same_fault old new c.taken r s h.1,
+)
+same_served catalogue old new c (last.Error error) s h =
+    subst (λ (ps : List (List ℕ)). MayEnd c.given ps (last.Error error)) (same_owed catalogue old.login new.login c.taken s.settings s.users s.word) h
 
 -- ---- a login that leads nowhere
 
-pub run_ends : RunsAreAllowed → (catalogue : Address → CatalogueOf) (old new : RunView) (c : ClientFacts) → IsSameLogin old new → IsRun new → c ≡ new.client → old.client.tells ≡ true → MayEnd c.given (own catalogue old.login c.taken) last.Nothing
+pub run_ends : RunsAreAllowed → (catalogue : Address → CatalogueOf) (old new : RunView) (c : ClientFacts) → IsSameLogin old new → IsRun new → c ≡ new.client → old.client.tells ≡ true → IsServed catalogue old.login c last.Nothing
 run_ends law catalogue old new c s x e t =
-    same_end catalogue old new c.given c.taken last.Nothing s
-    (subst (λ (d : ClientFacts). Allowed d.given (own catalogue new.login d.taken)) (sym e) (law new catalogue x (s.tells ∙ t)))
+    same_served catalogue old new c last.Nothing s
+    (subst (λ (d : ClientFacts). IsServed catalogue new.login d last.Nothing) (sym e) (law new catalogue x (s.tells ∙ t)))
 
 arrived_piece : (v : RunView) → v.phase ≡ Arrived → IsRun v → IsPiece v.said
 arrived_piece v e x = (subst (λ (p : PhaseOf). Awaits p v.said v.login) e x.1).0
 
-pub arrival_ends : RunsStandAtPieces → (catalogue : Address → CatalogueOf) (v : RunView) (c : ClientFacts) (r : Refusal) → v.phase ≡ Arrived → IsAllGiven v → IsRun v → c ≡ v.client → v.client.tells ≡ true → MayEnd c.given (own catalogue v.login c.taken) (last.Refusal r)
-arrival_ends law catalogue v c r p n x e t =
-    subst (λ (d : ClientFacts). MayEnd d.given (own catalogue v.login d.taken) (last.Refusal r)) (sym e) (law v catalogue x t (arrived_piece v p x) n)
+pub arrival_ends : RunsStandAtPieces → (catalogue : Address → CatalogueOf) (v : RunView) (c : ClientFacts) (r : Refusal) → RefusesArrival r → v.phase ≡ Arrived → IsAllGiven v → IsRun v → c ≡ v.client → v.client.tells ≡ true → IsServed catalogue v.login c (last.Refusal r)
+arrival_ends law catalogue v c r h p n x e t =
+    subst (λ (d : ClientFacts). IsServed catalogue v.login d (last.Refusal r)) (sym e) (law v catalogue x t (arrived_piece v p x) n, arrival_fault (rows_of v.login) v.login.word v.login.settings.max_packet_size v.client.taken r h)
 
 -- ---- a client that was let in
 
@@ -64,7 +86,6 @@ key_is p o k e h = key_of p k (subst (IsKeyOf p) e h)
     key_of Arrived l i = absurd cc
     key_of Console l i = absurd cc
     key_of Stopped l i = absurd cc
-    key_of Refused l i = absurd cc
     key_of Gone l i = absurd cc
 
 pub is_guest : BoundedRowsAreLawful → PassedKeysAreLinkKeys → PassedKeysAreOfTheirRows → PassedRunsHavePassed → (v : RunView) (g : Guest) → IsRun v → v.phase ≡ Passed (arc_value g.key) → g.login ≡ v.login → AreWithinBounds v.login.settings → IsGuest g
@@ -79,7 +100,7 @@ is_guest bounded keys rows passed v g x e l b =
       settings = subst (λ (w : LoginView). AreWithinBounds w.settings) (sym l) b;
     }
 
-pub guest_ends : PassedRunsAreLetIn → (catalogue : Address → CatalogueOf) (old new : RunView) (g : Guest) (before after : ClientFacts) (word : LastWord) → IsSameLogin old new → IsRun new → new.phase ≡ Passed (arc_value g.key) → IsAllGiven new → before ≡ new.client → g.word ≡ new.login.word → old.client.tells ≡ true
-    → Serves before after (owed catalogue g) word → MayEnd after.given (own catalogue old.login after.taken) word
-guest_ends law catalogue old new g before after word s x p n e w t m =
-    same_end catalogue old new after.given after.taken word s (behind_login catalogue new g before after word e w (law new catalogue (arc_value g.key) x (s.tells ∙ t) p n) m)
+pub guest_ends : PassedRunsAreLetIn → (catalogue : Address → CatalogueOf) (old new : RunView) (g : Guest) (before after : ClientFacts) (word : LastWord) → IsSameLogin old new → IsRun new → new.phase ≡ Passed (arc_value g.key) → IsAllGiven new → before ≡ new.client → g.word ≡ new.login.word → g.login ≡ new.login → old.client.tells ≡ true
+    → Serves (limit_of g) before after (owed catalogue g) word → IsServed catalogue old.login after word
+guest_ends law catalogue old new g before after word s x p n e w l t m =
+    same_served catalogue old new after word s (behind_login catalogue new g before after word e w l (law new catalogue (arc_value g.key) x (s.tells ∙ t) p n) m)

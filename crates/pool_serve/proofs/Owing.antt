@@ -1,10 +1,11 @@
 -- What a client is owed, by its link and by its login.
-use Rattle.std.proofs.Common.{◌≡◌, ℕ, true, List, [], ◌∷◌, ◌++◌, sym, ap, ◌∙◌, subst, append-nil, Result, Ok, Err, Some}
+use Rattle.std.proofs.Common.{◌≡◌, inl, ℕ, true, List, [], ◌∷◌, ◌++◌, sym, ap, ◌∙◌, subst, append-nil, Result, Ok, Err, Some}
 use Rattle.std.specs.Prelude.{map}
 use Rattle.std.specs.Arc.{arc_value}
 use Rattle.frame_view.specs.Frames.{FrameOf, spelling}
 use Rattle.message_view.specs.declared.KeyWord.{KeyWord}
-use Rattle.message_view.specs.declared.refusal.Refusal.TheVariants.{OutOfMemory, ServerNotReached}
+use Rattle.message_view.specs.declared.refusal.Refusal.{Refusal}
+use Rattle.message_view.specs.declared.refusal.Refusal.TheVariants.{TooManyClients, UnsupportedProtocol, MalformedClientMessage, UnsupportedParameter, WaitedTooLong, ServerFailed, ServerNotReached, ShuttingDown, OutOfMemory, ClientMessageTooLong, MalformedServerMessage, LastDecision}
 use Rattle.message_view.specs.Refusals.{Begins, joined_pieces}
 use Rattle.session_values.specs.declared.cause.Cause.{Cause}
 use Rattle.session_values.specs.State.{Address, CatalogueOf, State, StartKeyOf, address_of, fresh}
@@ -17,22 +18,27 @@ use Rattle.link_desk.specs.Homes.{HomeOf, IsAtHome}
 use Rattle.link_start.specs.Starts.{IsCause, IsLetIn, IsRefusalOf}
 use Rattle.link_start.specs.declared.start.StartCause.{StartCause}
 use Rattle.link_start.specs.declared.start.StartCause.TheVariants as cause
+use Rattle.login_core.specs.Talk.End.{Passed}
+use Rattle.login_core.specs.Dialogue.{ToLink, login_among}
+use Rattle.login_core.specs.Logins.{LoginView, rows_of}
 use Rattle.login_core.specs.Solo.{service_pieces}
 use Rattle.login_run.specs.Runs.{RunView}
 use Rattle.login_run.specs.Laws as runs
 use Rattle.pool_serve.specs.declared.guest.Guest.{Guest}
 use Rattle.pool_serve.specs.declared.word.LastWord.{LastWord}
+use Rattle.pool_serve.specs.declared.word.LastWord.TheVariants as last
 use Rattle.pool_serve.specs.Words.{last_of}
-use Rattle.pool_serve.specs.Serving.{MayEnd, Serves, owed}
+use Rattle.pool_serve.specs.Causes.{HasFault, IsFaulty, IsFaultyWord}
+use Rattle.pool_serve.specs.Serving.{IsServed, MayEnd, Serves, limit_of, owed}
 use Rattle.pool_serve.proofs.Telling.{behind, refusal_ends}
 
 -- ---- over a link of its key, with the catalogue of its address
 
-pub over_link : (home : HomeOf) (before after : ClientFacts) (g : Guest) (link : LinkView) (word : LastWord) → IsAtHome home link → link.stands.follows ≡ true → link.key ≡ arc_value g.key → Serves before after (service_pieces link.stands.server.catalogue link.key g.word) word → Serves before after (owed home.catalogue g) word
-over_link home before after g link word h f k s =
+pub over_link : (home : HomeOf) (limit : ℕ) (before after : ClientFacts) (g : Guest) (link : LinkView) (word : LastWord) → IsAtHome home link → link.stands.follows ≡ true → link.key ≡ arc_value g.key → Serves limit before after (service_pieces link.stands.server.catalogue link.key g.word) word → Serves limit before after (owed home.catalogue g) word
+over_link home limit before after g link word h f k s =
     let same : link.stands.server.catalogue ≡ home.catalogue (address_of (arc_value g.key)) = h.catalogue f ∙ ap (λ (x : StartKeyOf). home.catalogue (address_of x)) k in
-    subst (λ (c : CatalogueOf). Serves before after (service_pieces c (arc_value g.key) g.word) word) same
-    (subst (λ (x : StartKeyOf). Serves before after (service_pieces link.stands.server.catalogue x g.word) word) k s)
+    subst (λ (c : CatalogueOf). Serves limit before after (service_pieces c (arc_value g.key) g.word) word) same
+    (subst (λ (x : StartKeyOf). Serves limit before after (service_pieces link.stands.server.catalogue x g.word) word) k s)
 
 -- ---- a link that wasn't started
 
@@ -59,10 +65,34 @@ unstarted cat began now secret key word c last e h f l x =
 
 -- ---- behind a login that let it in
 
-pub behind_login : (catalogue : Address → CatalogueOf) (v : RunView) (g : Guest) (before after : ClientFacts) (word : LastWord) → before ≡ v.client → g.word ≡ v.login.word → runs.IsLetIn catalogue v (arc_value g.key) → Serves before after (owed catalogue g) word → MayEnd after.given (runs.own catalogue v.login after.taken) word
-behind_login catalogue v g before after word e w x s =
+fault_behind : (v : LoginView) (key : StartKeyOf) (limit : ℕ) (taken took : List ℕ) (r : Refusal) → (login_among (rows_of v) v.word taken).ended ≡ Passed (ToLink key) took → IsFaulty limit took r → HasFault (rows_of v) v.word limit taken r
+fault_behind v key limit taken took MalformedClientMessage e x = record { key = key; rest = took; passed = e; fault = x }
+fault_behind v key limit taken took ClientMessageTooLong e x = record { key = key; rest = took; passed = e; fault = x }
+fault_behind v key limit taken took TooManyClients e x = tt
+fault_behind v key limit taken took UnsupportedProtocol e x = tt
+fault_behind v key limit taken took UnsupportedParameter e x = tt
+fault_behind v key limit taken took WaitedTooLong e x = tt
+fault_behind v key limit taken took ServerFailed e x = tt
+fault_behind v key limit taken took ServerNotReached e x = tt
+fault_behind v key limit taken took ShuttingDown e x = tt
+fault_behind v key limit taken took OutOfMemory e x = tt
+fault_behind v key limit taken took MalformedServerMessage e x = tt
+fault_behind v key limit taken took LastDecision e x = tt
+
+ends_served : (catalogue : Address → CatalogueOf) (v : LoginView) (key : StartKeyOf) (c : ClientFacts) (took : List ℕ) (word : LastWord) → (login_among (rows_of v) v.word c.taken).ended ≡ Passed (ToLink key) took → IsFaultyWord v.settings.max_packet_size took word
+    → MayEnd c.given (runs.own catalogue v c.taken) word → IsServed catalogue v c word
+ends_served catalogue v key c took last.Nothing e x m = inl m
+ends_served catalogue v key c took (last.Refusal r) e x m = (m, fault_behind v key v.settings.max_packet_size c.taken took r e x)
+ends_served catalogue v key c took (last.Error error) e x m = m
+
+pub behind_login : (catalogue : Address → CatalogueOf) (v : RunView) (g : Guest) (before after : ClientFacts) (word : LastWord) → before ≡ v.client → g.word ≡ v.login.word → g.login ≡ v.login → runs.IsLetIn catalogue v (arc_value g.key) → Serves (limit_of g) before after (owed catalogue g) word
+    → IsServed catalogue v.login after word
+behind_login catalogue v g before after word e w l x s =
     let taken : after.taken ≡ v.client.taken ++ s.took = s.taken ∙ ap (λ (c : ClientFacts). c.taken ++ s.took) e in
     let given : after.given ≡ joined_pieces x.pieces ++ s.gave = s.given ∙ (ap (λ (c : ClientFacts). c.given ++ s.gave) e ∙ ap (λ (l : List ℕ). l ++ s.gave) x.given) in
     let owes : runs.own catalogue v.login after.taken ≡ x.pieces ++ owed catalogue g s.took =
     ap (runs.own catalogue v.login) taken ∙ (x.owed s.took ∙ ap (λ (k : KeyWord). x.pieces ++ service_pieces (catalogue (address_of (arc_value g.key))) (arc_value g.key) k s.took) (sym w)) in
-    subst (λ (ps : List (List ℕ)). MayEnd after.given ps word) (sym owes) (behind x.pieces (owed catalogue g s.took) after.given s.gave word given s.ends)
+    ends_served catalogue v.login (arc_value g.key) after s.took word
+    (ap (λ (bytes : List ℕ). (login_among (rows_of v.login) v.login.word bytes).ended) taken ∙ x.passed s.took)
+    (subst (λ (u : LoginView). IsFaultyWord u.settings.max_packet_size s.took word) l s.fault)
+    (subst (λ (ps : List (List ℕ)). MayEnd after.given ps word) (sym owes) (behind x.pieces (owed catalogue g s.took) after.given s.gave word given s.ends))

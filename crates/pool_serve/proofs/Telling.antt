@@ -1,60 +1,68 @@
 -- What was given, once the last word was told.
 use Rattle.std.proofs.Common.{◌≡◌, inl, inr, ℕ, true, List, [], ◌++◌, take, drop, refl, sym, ap, ◌∙◌, subst, arith, append_assoc, append-nil, take_all, take-append-drop}
 use Rattle.std.proofs.lemmas.Grind.{flat_map-append}
-use Rattle.message_view.specs.Refusals.{Allowed, joined_pieces, refusal}
+use Rattle.message_view.specs.Refusals.{joined_pieces, refusal}
+use Rattle.session_values.specs.State.{Address, CatalogueOf}
 use Rattle.link_laws.specs.Standing.{ClientFacts}
+use Rattle.link_desk.specs.Passes.{PassOf}
+use Rattle.login_core.specs.Logins.{LoginView}
+use Rattle.login_run.specs.Laws.{AllowedBy, IsRefusedByLogin, own}
 use Rattle.pool_serve.specs.Words.{HasGiven, last_bytes}
-use Rattle.pool_serve.specs.Serving.{MayEnd, Serves}
+use Rattle.pool_serve.specs.Causes.{HasCause, IsFaultyWord, TellsWhy}
+use Rattle.pool_serve.specs.Serving.{IsServed, MayEnd, Serves}
 use Rattle.pool_serve.specs.declared.word.LastWord.{LastWord}
 use Rattle.pool_serve.specs.declared.word.LastWord.TheVariants as last
 
+by_login : (v : LoginView) (p q : PassOf) (taken out : List ℕ) (pieces : List (List ℕ)) → AllowedBy (IsRefusedByLogin v taken) out pieces → AllowedBy (HasCause v taken p q) out pieces
+by_login v p q taken out pieces (inl b) = inl b
+by_login v p q taken out pieces (inr x) = inr (x.0, inl x.1)
+
+-- a client that was told nothing more
+pub untold_client : (catalogue : Address → CatalogueOf) (v : LoginView) (c : ClientFacts) (p q : PassOf) → IsServed catalogue v c last.Nothing → AllowedBy (HasCause v c.taken p q) c.given (own catalogue v c.taken)
+untold_client catalogue v c p q a = by_login v p q c.taken c.given (own catalogue v c.taken) a
+
 -- a beginning of the last word behind what was given
-pub told_allowed : (out : List ℕ) (pieces : List (List ℕ)) (word : LastWord) (n : ℕ) → MayEnd out pieces word → Allowed (out ++ take n (last_bytes word)) pieces
-told_allowed out pieces last.Nothing n a = subst (λ (l : List ℕ). Allowed l pieces) (sym (ap (λ (l : List ℕ). out ++ l) (take_all n [] (omega arith)) ∙ append-nil out)) a
-told_allowed out pieces (last.Refusal r) n a = inr (record {
-  given = a.given;
-  kept = a.kept;
-  pieces_are = a.pieces_are;
-  cause = r;
-  last = take n (refusal r);
-  begins = record { more = drop n (refusal r); both = take-append-drop n (refusal r) };
-  out_is = ap (λ (l : List ℕ). l ++ take n (refusal r)) a.out_is;
-})
-told_allowed out pieces (last.Error error) n a = inl (record {
+told_allowed : (catalogue : Address → CatalogueOf) (v : LoginView) (c : ClientFacts) (p q : PassOf) (word : LastWord) (n : ℕ) → TellsWhy 1 p q word → IsServed catalogue v c word
+    → AllowedBy (HasCause v c.taken p q) (c.given ++ take n (last_bytes word)) (own catalogue v c.taken)
+told_allowed catalogue v c p q last.Nothing n w a =
+    subst (λ (l : List ℕ). AllowedBy (HasCause v c.taken p q) l (own catalogue v c.taken)) (sym (ap (λ (l : List ℕ). c.given ++ l) (take_all n [] (omega arith)) ∙ append-nil c.given)) (untold_client catalogue v c p q a)
+told_allowed catalogue v c p q (last.Refusal r) n w a = inr (
+  record {
+    given = a.0.given;
+    kept = a.0.kept;
+    pieces_are = a.0.pieces_are;
+    cause = r;
+    last = take n (refusal r);
+    begins = record { more = drop n (refusal r); both = take-append-drop n (refusal r) };
+    out_is = ap (λ (l : List ℕ). l ++ take n (refusal r)) a.0.out_is;
+  },
+  inr (w, a.1),
+)
+told_allowed catalogue v c p q (last.Error error) n w a = inl (record {
   more = drop n error ++ a.more;
   both =
-      append_assoc out (take n error) (drop n error ++ a.more)
-      ∙ (ap (λ (l : List ℕ). out ++ l) (sym (append_assoc (take n error) (drop n error) a.more) ∙ ap (λ (l : List ℕ). l ++ a.more) (take-append-drop n error))
-      ∙ (sym (append_assoc out error a.more) ∙ a.both));
+      append_assoc c.given (take n error) (drop n error ++ a.more)
+      ∙ (ap (λ (l : List ℕ). c.given ++ l) (sym (append_assoc (take n error) (drop n error) a.more) ∙ ap (λ (l : List ℕ). l ++ a.more) (take-append-drop n error))
+      ∙ (sym (append_assoc c.given error a.more) ∙ a.both));
 })
 
 -- a client that was told its last word
-pub told_client : (before after : ClientFacts) (owed : List ℕ → List (List ℕ)) (word : LastWord) → HasGiven before after (last_bytes word) → before.tells ≡ true → MayEnd before.given (owed before.taken) word → Allowed after.given (owed after.taken)
-told_client before after owed word h t m =
-    subst (λ (l : List ℕ). Allowed l (owed after.taken)) (sym (h.given t)) (subst (λ (l : List ℕ). Allowed (before.given ++ take h.count (last_bytes word)) (owed l)) (sym (h.taken t)) (told_allowed before.given (owed before.taken) word h.count m))
+pub told_client : (catalogue : Address → CatalogueOf) (v : LoginView) (before after : ClientFacts) (p q : PassOf) (word : LastWord) → HasGiven before after (last_bytes word) → before.tells ≡ true → TellsWhy 1 p q word → IsServed catalogue v before word
+    → AllowedBy (HasCause v after.taken p q) after.given (own catalogue v after.taken)
+told_client catalogue v before after p q word h t w a =
+    subst (λ (l : List ℕ). AllowedBy (HasCause v after.taken p q) l (own catalogue v after.taken)) (sym (h.given t))
+    (subst (λ (l : List ℕ). AllowedBy (HasCause v l p q) (before.given ++ take h.count (last_bytes word)) (own catalogue v l)) (sym (h.taken t)) (told_allowed catalogue v before p q word h.count w a))
 
 -- ---- a login's pieces, and then what is owed behind them
 
 joined_both : (ps qs : List (List ℕ)) → joined_pieces (ps ++ qs) ≡ joined_pieces ps ++ joined_pieces qs
 joined_both ps qs = flat_map-append (λ (p : List ℕ). p) ps qs
 
-behind_allowed : (ps qs : List (List ℕ)) (out more : List ℕ) → out ≡ joined_pieces ps ++ more → Allowed more qs → Allowed out (ps ++ qs)
-behind_allowed ps qs out more e (inl b) = inl (record {
-  more = b.more;
-  both = ap (λ (o : List ℕ). o ++ b.more) e ∙ (append_assoc (joined_pieces ps) more b.more ∙ (ap (λ (l : List ℕ). joined_pieces ps ++ l) b.both ∙ sym (joined_both ps qs)));
-})
-behind_allowed ps qs out more e (inr r) = inr (record {
-  given = ps ++ r.given;
-  kept = r.kept;
-  pieces_are = append_assoc ps r.given r.kept ∙ ap (λ (l : List (List ℕ)). ps ++ l) r.pieces_are;
-  cause = r.cause;
-  last = r.last;
-  begins = r.begins;
-  out_is = e ∙ (ap (λ (l : List ℕ). joined_pieces ps ++ l) r.out_is ∙ (sym (append_assoc (joined_pieces ps) (joined_pieces r.given) r.last) ∙ ap (λ (l : List ℕ). l ++ r.last) (sym (joined_both ps r.given))));
-})
-
 pub behind : (ps qs : List (List ℕ)) (out more : List ℕ) (word : LastWord) → out ≡ joined_pieces ps ++ more → MayEnd more qs word → MayEnd out (ps ++ qs) word
-behind ps qs out more last.Nothing e m = behind_allowed ps qs out more e m
+behind ps qs out more last.Nothing e m = record {
+  more = m.more;
+  both = ap (λ (o : List ℕ). o ++ m.more) e ∙ (append_assoc (joined_pieces ps) more m.more ∙ (ap (λ (l : List ℕ). joined_pieces ps ++ l) m.both ∙ sym (joined_both ps qs)));
+}
 behind ps qs out more (last.Refusal r) e m = record {
   given = ps ++ m.given;
   kept = m.kept;
@@ -71,11 +79,11 @@ behind ps qs out more (last.Error error) e m = record {
 
 -- ---- where nothing was taken or given since
 
-pub nothing_more : (c : ClientFacts) (owed : List ℕ → List (List ℕ)) (word : LastWord) → MayEnd [] (owed []) word → Serves c c owed word
-nothing_more c owed word m = record { took = []; gave = []; taken = sym (append-nil c.taken); given = sym (append-nil c.given); ends = m }
+pub nothing_more : (limit : ℕ) (c : ClientFacts) (owed : List ℕ → List (List ℕ)) (word : LastWord) → IsFaultyWord limit [] word → MayEnd [] (owed []) word → Serves limit c c owed word
+nothing_more limit c owed word f m = record { took = []; gave = []; taken = sym (append-nil c.taken); given = sym (append-nil c.given); ends = m; fault = f }
 
 pub none_ends : (pieces : List (List ℕ)) → MayEnd [] pieces last.Nothing
-none_ends pieces = inl (record { more = joined_pieces pieces; both = refl })
+none_ends pieces = record { more = joined_pieces pieces; both = refl }
 
 pub refusal_ends : (pieces : List (List ℕ)) (r : _) → MayEnd [] pieces (last.Refusal r)
 refusal_ends pieces r = record { given = []; kept = pieces; pieces_are = refl; out_is = refl }

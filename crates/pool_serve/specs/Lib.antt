@@ -1,4 +1,5 @@
 pub mod Words
 pub mod Shares
 pub mod Backs
+pub mod Causes
 pub mod Serving

@@ -3,7 +3,8 @@ ghost use Rattle.std.specs.Prelude.{◌≡◌, true};
 ghost use Rattle.std.specs.Arc.{arc_value};
 ghost use Rattle.start_keys.specs.Keys.{same_key};
 ghost use Rattle.link_desk.specs.Homes.{IsAtHome};
-ghost use Rattle.pool_serve.specs.Serving.{IsGuest, LetsIn, Serves, owed};
+ghost use Rattle.pool_serve.specs.Causes.{EndsFor, TellsWhy};
+ghost use Rattle.pool_serve.specs.Serving.{IsGuest, LetsIn, Serves, limit_of, owed};
 ghost use Rattle.pool_serve.specs.Shares.{Ends, Evens};
 
 use crate::guest::Guest;
@@ -49,7 +50,8 @@ fn over_lent<C: ClientEnd, D: LinkDesk, G: Gate<D::End>>(
     requires guest { IsGuest guest.now }
     ensures tells { (C.facts result.0).tells ≡ (C.facts client).tells }
     ensures share { Ends (D.told pass.old) (D.told pass.new) }
-    ensures serves { (C.facts client).tells ≡ true → LetsIn D.home guest.now.login.users → Serves (C.facts client) (C.facts result.0) (owed D.home.catalogue guest.now) result.1 }
+    ensures why { EndsFor (D.told pass.old) (D.told pass.new) result.1 }
+    ensures serves { (C.facts client).tells ≡ true → LetsIn D.home guest.now.login.users → Serves (limit_of guest.now) (C.facts client) (C.facts result.0) (owed D.home.catalogue guest.now) result.1 }
 {
     if !is_for(&link, guest) {
         let number = link.number();
@@ -75,7 +77,8 @@ fn over_new<C: ClientEnd, D: LinkDesk, G: Gate<D::End>>(
     requires guest { IsGuest guest.now }
     ensures tells { (C.facts result.0).tells ≡ (C.facts client).tells }
     ensures share { Ends (D.told pass.old) (D.told pass.new) }
-    ensures serves { (C.facts client).tells ≡ true → LetsIn D.home guest.now.login.users → Serves (C.facts client) (C.facts result.0) (owed D.home.catalogue guest.now) result.1 }
+    ensures why { EndsFor (D.told pass.old) (D.told pass.new) result.1 }
+    ensures serves { (C.facts client).tells ≡ true → LetsIn D.home guest.now.login.users → Serves (limit_of guest.now) (C.facts client) (C.facts result.0) (owed D.home.catalogue guest.now) result.1 }
 {
     match open_link(alloc, desk, guest, number, born, gate) {
         Ok(link) => relayed(alloc, desk, pass, client, guest, link, gate),
@@ -98,7 +101,8 @@ fn granted<C: ClientEnd, D: LinkDesk, G: Gate<D::End>>(
     requires guest { IsGuest guest.now }
     ensures tells { (C.facts result.0).tells ≡ (C.facts client).tells }
     ensures share { Evens (D.told pass.old) (D.told pass.new) }
-    ensures serves { (C.facts client).tells ≡ true → LetsIn D.home guest.now.login.users → Serves (C.facts client) (C.facts result.0) (owed D.home.catalogue guest.now) result.1 }
+    ensures why { TellsWhy 0 (D.told pass.old) (D.told pass.new) result.1 }
+    ensures serves { (C.facts client).tells ≡ true → LetsIn D.home guest.now.login.users → Serves (limit_of guest.now) (C.facts client) (C.facts result.0) (owed D.home.catalogue guest.now) result.1 }
 {
     match desk.take(pass, guest.number) {
         Grant::Lend(link) => over_lent(alloc, desk, pass, client, guest, link, gate),
@@ -129,7 +133,8 @@ pub(crate) fn lease<C: ClientEnd, D: LinkDesk, G: Gate<D::End>>(
     requires guest { IsGuest guest.now }
     ensures tells { (C.facts result.0).tells ≡ (C.facts client).tells }
     ensures share { Evens (D.told pass.old) (D.told pass.new) }
-    ensures serves { (C.facts client).tells ≡ true → LetsIn D.home guest.now.login.users → Serves (C.facts client) (C.facts result.0) (owed D.home.catalogue guest.now) result.1 }
+    ensures why { TellsWhy 1 (D.told pass.old) (D.told pass.new) result.1 }
+    ensures serves { (C.facts client).tells ≡ true → LetsIn D.home guest.now.login.users → Serves (limit_of guest.now) (C.facts client) (C.facts result.0) (owed D.home.catalogue guest.now) result.1 }
 {
     match desk.ask(pass, guest.number, &guest.key) {
         Asked::Queued(_) => granted(alloc, desk, pass, client, guest, gate),

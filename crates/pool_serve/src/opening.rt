@@ -4,6 +4,7 @@ ghost use Rattle.ini_config.specs.Tables.{row_named};
 ghost use Rattle.user_file.specs.Users.{user_named};
 ghost use Rattle.std.specs.Arc.{arc_value};
 ghost use Rattle.link_desk.specs.Homes.{IsAtHome};
+ghost use Rattle.pool_serve.specs.Causes.{IsUnstarted};
 ghost use Rattle.pool_serve.specs.Serving.{IsGuest, LetsIn, MayEnd, owed};
 
 use crate::TURNS;
@@ -47,6 +48,7 @@ pub(crate) fn open_link<D: LinkDesk, G: Gate<D::End>>(
     ensures number { IfOk result (λ l. l.number ≡ number) }
     ensures born { IfOk result (λ l. l.born ≡ born) }
     ensures home { IfOk result (λ l. IsAtHome D.home l) }
+    ensures why { IfErr result IsUnstarted }
     ensures told { LetsIn D.home guest.now.login.users → IfErr result (λ last. MayEnd [] (owed D.home.catalogue guest.now []) last) }
 {
     let Some(row) = row_of(guest) else {

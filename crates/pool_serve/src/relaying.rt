@@ -5,7 +5,8 @@ ghost use Rattle.login_core.specs.Solo.{service_pieces};
 ghost use Rattle.link_desk.specs.Homes.{IsAtHome};
 ghost use Rattle.relay_steps.specs.Leases.{IsLease, Keeps, Place};
 ghost use Rattle.relay_steps.specs.Answers.{AtBorder, RefusedBy};
-ghost use Rattle.pool_serve.specs.Serving.{Serves};
+ghost use Rattle.pool_serve.specs.Causes.{EndsLease};
+ghost use Rattle.pool_serve.specs.Serving.{Serves, limit_of};
 ghost use Rattle.pool_serve.specs.Shares.{Ends};
 
 use crate::ending::{give_back, hand_back};
@@ -59,7 +60,8 @@ pub(crate) fn relayed<C: ClientEnd, D: LinkDesk, G: Gate<D::End>>(
     requires settings { AreWithinBounds guest.now.login.settings }
     ensures tells { (C.facts result.0).tells ≡ (C.facts client).tells }
     ensures share { Ends (D.told pass.old) (D.told pass.new) }
-    ensures serves { (C.facts client).tells ≡ true → link.stands.follows ≡ true → Serves (C.facts client) (C.facts result.0) (service_pieces link.stands.server.catalogue link.key guest.now.word) result.1 }
+    ensures why { EndsLease result.1 }
+    ensures serves { (C.facts client).tells ≡ true → link.stands.follows ≡ true → Serves (limit_of guest.now) (C.facts client) (C.facts result.0) (service_pieces link.stands.server.catalogue link.key guest.now.word) result.1 }
 {
     leases_are_allowed();
     service_is_its_pieces();

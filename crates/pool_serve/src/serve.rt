@@ -1,12 +1,12 @@
 //! One client, from its first byte to its end.
 ghost use Rattle.std.specs.Prelude.{◌≡◌, [], false, true};
 ghost use Rattle.ini_config.specs.Bounds.{AreWithinBounds};
-ghost use Rattle.message_view.specs.Refusals.{Allowed};
 ghost use Rattle.login_core.specs.Dialogue.{AtFirst};
 ghost use Rattle.login_core.specs.Logins.{AwaitsPacket};
-ghost use Rattle.login_run.specs.Laws.{own};
+ghost use Rattle.login_run.specs.Laws.{AllowedBy, own};
 ghost use Rattle.login_run.specs.Runs.{Arrived, IsAllGiven, IsSameLogin};
-ghost use Rattle.pool_serve.specs.Serving.{HasStopped, LetsIn, MayEnd};
+ghost use Rattle.pool_serve.specs.Causes.{HasCause, TellsWhy};
+ghost use Rattle.pool_serve.specs.Serving.{HasStopped, IsServed, LetsIn};
 ghost use Rattle.pool_serve.specs.Shares.{Evens, Settles};
 
 use crate::guest::Guest;
@@ -62,7 +62,8 @@ fn attend<C: ClientEnd, D: LinkDesk, G: Gate<D::End>>(
     requires word { run.login.word ≡ word }
     ensures tells { (C.facts result.0).tells ≡ run.client.tells }
     ensures share { Evens (D.told pass.old) (D.told pass.new) }
-    ensures serves { run.client.tells ≡ true → LetsIn D.home run.login.users → MayEnd (C.facts result.0).given (own D.home.catalogue run.login (C.facts result.0).taken) result.1 }
+    ensures why { TellsWhy 1 (D.told pass.old) (D.told pass.new) result.1 }
+    ensures serves { run.client.tells ≡ true → LetsIn D.home run.login.users → IsServed D.home.catalogue run.login (C.facts result.0) result.1 }
 {
     bounded_rows_are_lawful();
     passed_keys_are_link_keys();
@@ -108,7 +109,8 @@ fn admit<C: ClientEnd, D: LinkDesk, G: Gate<D::End>>(
     requires word { run.login.word ≡ word }
     ensures tells { (C.facts result.0).tells ≡ run.client.tells }
     ensures share { Settles (D.told pass.old) (D.told pass.new) }
-    ensures serves { run.client.tells ≡ true → LetsIn D.home run.login.users → MayEnd (C.facts result.0).given (own D.home.catalogue run.login (C.facts result.0).taken) result.1 }
+    ensures why { TellsWhy 1 (D.told pass.old) (D.told pass.new) result.1 }
+    ensures serves { run.client.tells ≡ true → LetsIn D.home run.login.users → IsServed D.home.catalogue run.login (C.facts result.0) result.1 }
 {
     runs_stand_at_pieces();
     match desk.arrive(pass) {
@@ -133,8 +135,10 @@ fn admit<C: ClientEnd, D: LinkDesk, G: Gate<D::End>>(
 /// none was taken from it or given to it. Only the desk and the gate wait: a turn of the gate is taken where nothing moved.
 ///
 /// Where the client tells, and the desk's home follows and lets its user in, what it was given is allowed for what a server
-/// started for it alone answers, over the catalogue of its row. Unless a call of the desk was answered by the last decision or as
-/// strange, as many links were granted as given back or lost, and as many clients arrived as left.
+/// started for it alone answers, over the catalogue of its row; and a refusal in it has its cause: the login's own; a message of the
+/// client's that is none under the limit; or what the pass tells (a refusal by the desk, a link that was lent, one that was lost),
+/// unless it is for memory. Unless a call of the desk was answered by the last decision or as strange, as many links were granted as
+/// given back or lost, and as many clients arrived as left.
 pub fn serve<C: ClientEnd, D: LinkDesk, G: Gate<D::End> + Drop>(
     alloc: Global,
     desk: &D,
@@ -151,7 +155,7 @@ pub fn serve<C: ClientEnd, D: LinkDesk, G: Gate<D::End> + Drop>(
     requires taken { (C.facts client).tells ≡ true → (C.facts client).taken ≡ [] }
     requires given { (C.facts client).tells ≡ true → (C.facts client).given ≡ [] }
     ensures tells { (C.facts result.0).tells ≡ (C.facts client).tells }
-    ensures allowed { (C.facts client).tells ≡ true → LetsIn D.home login.users → Allowed (C.facts result.0).given (own D.home.catalogue login (C.facts result.0).taken) }
+    ensures allowed { (C.facts client).tells ≡ true → LetsIn D.home login.users → AllowedBy (HasCause login (C.facts result.0).taken (D.told pass) (D.told result.1)) (C.facts result.0).given (own D.home.catalogue login (C.facts result.0).taken) }
     ensures share { Settles (D.told pass) (D.told result.1) }
 {
     runs_are_allowed();

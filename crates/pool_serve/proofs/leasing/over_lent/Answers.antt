@@ -1,8 +1,9 @@
-use Rattle.std.proofs.Common.{◌≡◌, true, sym, ap, ◌∙◌, subst}
+use Rattle.std.proofs.Common.{inl, sym, ap, ◌∙◌, subst}
 use Rattle.std.specs.Arc.{arc_value}
 use Rattle.start_keys.specs.SameKeys.{same_keys-one}
 use Rattle.link_run.specs.Links.{LinkView}
 use Rattle.link_desk.specs.Homes.{IsAtHome}
+use Rattle.pool_serve.specs.Serving.{limit_of}
 use Rattle.pool_serve.proofs.Owing.{over_link}
 use Rattle.pool_serve.proofs.leasing.over_lent.Goals as goal
 
@@ -12,8 +13,11 @@ returns-clause-serves g c = λ t l.
     let same = c.watched-link.ensures in
     let home = subst (λ (x : LinkView). IsAtHome g.D.LinkDesk.home x) (sym same) c.requires.home in
     let follows = home.follows l.follow in
-    over_link g.D.LinkDesk.home (g.C.ClientEnd.facts c.args.client) (g.C.ClientEnd.facts c.relayed.result.0) c.args.guest.now link c.relayed.result.1
+    over_link g.D.LinkDesk.home (limit_of c.args.guest.now) (g.C.ClientEnd.facts c.args.client) (g.C.ClientEnd.facts c.relayed.result.0) c.args.guest.now link c.relayed.result.1
     home
     follows
     (ap (λ (x : LinkView). x.key) same ∙ (same_keys-one c.args.link.key (arc_value c.args.guest.now.key)).0 (sym c.is_for.ensures ∙ c.if-not-is_for.false))
     (c.relayed.ensures.serves t follows)
+
+pub returns-clause-why : goal.returns-clause-why
+returns-clause-why g c = inl c.relayed.ensures.why

@@ -21,6 +21,7 @@ returns-in-Some-clause-serves g c = λ t l.
     (key_is c.converse.new.run.phase c.finish-client-2.result.2 c.in-Some.key c.in-Some.is c.finish-client-2.ensures.key)
     c.in-Passed.ensures.stopped c.finish-client-2.ensures.client
     (sym (c.converse.ensures.login.word ∙ c.requires.word))
+    c.finish-client-2.ensures.login
     t
     (c.lease.ensures.serves (ap (λ (x : ClientFacts). x.tells) c.finish-client-2.ensures.client ∙ (c.converse.ensures.login.tells ∙ t))
     (subst (λ (u : List UserRow). LetsIn g.D.LinkDesk.home u) (sym (ap (λ (x : LoginView). x.users) c.finish-client-2.ensures.login ∙ c.converse.ensures.login.users)) l))
@@ -32,5 +33,6 @@ pub returns-in_default : goal.returns-in_default
 returns-in_default g c = record {
   tells = ap (λ (x : ClientFacts). x.tells) c.finish-client.ensures.client ∙ c.converse.ensures.login.tells;
   share = λ e. (e, record { arrived = refl; leases = refl; left = refl });
+  why = tt;
   serves = λ t l. run_ends c.runs_are_allowed.ensures g.D.LinkDesk.home.catalogue c.args.run c.converse.new.run (g.C.ClientEnd.facts c.finish-client.result.0) c.converse.ensures.login c.finish-client.ensures.run c.finish-client.ensures.client t;
 }
