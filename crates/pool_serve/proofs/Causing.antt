@@ -20,7 +20,7 @@ use Rattle.pool_serve.specs.declared.word.LastWord.{LastWord}
 use Rattle.pool_serve.specs.declared.word.LastWord.TheVariants as last
 use Rattle.pool_serve.specs.Words.{or_nothing}
 use Rattle.pool_serve.specs.Shares as shares
-use Rattle.pool_serve.specs.Causes.{EndsFor, EndsLease, HadLink, HasFault, HasLost, HasLostLink, IsFaulty, IsFaultyWord, IsTurnedAway, IsUnstarted, Tells, TellsWhy}
+use Rattle.pool_serve.specs.Causes.{EndsFor, EndsLease, HadLink, HasFault, HasLost, HasLostLink, IsFaulty, IsFaultyWord, IsTurnedAway, IsUnstarted, Since, AtArrival, AtAsking, AtWait, of_wait, HasTrace, WordHasTrace}
 
 -- ---- the desk's refusals
 
@@ -69,14 +69,14 @@ by_grant Q late shut end MalformedServerMessage h = absurd h
 turned : (p : PassOf) → IsTurnedAway 1 p (one_other p)
 turned p = λ e. record { granted = refl; others = omega arith }
 
-pub arrival_why : (p q : PassOf) (r : Refusal) → q ≡ after_refusal p r → RefusesArrival r → TellsWhy 1 p q (last.Refusal r)
-arrival_why p q r e h = subst (λ (x : PassOf). Tells 1 p x r) (sym e) (by_arrival (λ (s : Refusal). Tells 1 p (after_refusal p s) s) (turned p) (turned p) refl r h)
+pub arrival_why : (p q : PassOf) (r : Refusal) → q ≡ after_refusal p r → RefusesArrival r → WordHasTrace AtArrival p q (last.Refusal r)
+arrival_why p q r e h = subst (λ (x : PassOf). HasTrace AtArrival p x r) (sym e) (by_arrival (λ (s : Refusal). HasTrace AtArrival p (after_refusal p s) s) (turned p, λ b. refl) (turned p) refl r h)
 
-pub asking_why : (p q : PassOf) (r : Refusal) → q ≡ after_refusal p r → RefusesAsking r → TellsWhy 1 p q (last.Refusal r)
-asking_why p q r e h = subst (λ (x : PassOf). Tells 1 p x r) (sym e) (by_asking (λ (s : Refusal). Tells 1 p (after_refusal p s) s) (turned p) refl r h)
+pub asking_why : (p q : PassOf) (r : Refusal) → q ≡ after_refusal p r → RefusesAsking r → WordHasTrace AtAsking p q (last.Refusal r)
+asking_why p q r e h = subst (λ (x : PassOf). HasTrace AtAsking p x r) (sym e) (by_asking (λ (s : Refusal). HasTrace AtAsking p (after_refusal p s) s) (turned p) refl r h)
 
-pub grant_why : (p q : PassOf) (r : Refusal) → q ≡ after_refusal p r → RefusesGrant r → TellsWhy 0 p q (last.Refusal r)
-grant_why p q r e h = subst (λ (x : PassOf). Tells 0 p x r) (sym e) (by_grant (λ (s : Refusal). Tells 0 p (after_refusal p s) s) (turned p) (turned p) refl r h)
+pub grant_why : (p q : PassOf) (r : Refusal) → q ≡ after_refusal p r → RefusesGrant r → WordHasTrace AtWait p q (last.Refusal r)
+grant_why p q r e h = subst (λ (x : PassOf). HasTrace AtWait p x r) (sym e) (by_grant (λ (s : Refusal). HasTrace AtWait p (after_refusal p s) s) (turned p) (turned p) refl r h)
 
 -- none of them is for a message of the client's
 pub arrival_fault : (rows : _) (word : _) (limit : ℕ) (taken : List ℕ) (r : Refusal) → RefusesArrival r → HasFault rows word limit taken r
@@ -90,29 +90,30 @@ grant_fault limit bytes r h = by_grant (IsFaulty limit bytes) tt tt tt r h
 
 -- ---- the same over more decisions
 
--- these moved no link, and make up for the askings that are counted
-record Within (m n : ℕ) (p q before after : Made) : Type 0 where
+-- these moved no link, and make up for the asking that counts
+record Within (a b : Since) (p q before after : Made) : Type 0 where
   granted_before : before.granted ≡ p.granted
   granted_after : after.granted ≡ q.granted
   lost_before : before.lost ≡ p.lost
   lost_after : after.lost ≡ q.lost
-  fewer : before.others + n ≤ p.others + m
+  fewer : before.others + of_wait b ≤ p.others + of_wait a
   no_more : before.others ≤ p.others
   no_fewer : q.others ≤ after.others
 
-record Spans (m n : ℕ) (p q before after : PassOf) : Type 0 where
+record Spans (a b : Since) (p q before after : PassOf) : Type 0 where
   stays : q.is_broken ≡ true → after.is_broken ≡ true
   was : after.is_broken ≡ false → q.is_broken ≡ false
-  made : after.is_broken ≡ false → Within m n p.made q.made before.made after.made
+  none : HasTrace a p q TooManyClients → ⊥
+  made : after.is_broken ≡ false → Within a b p.made q.made before.made after.made
 
-module _ (m n : ℕ) (p q before after : PassOf) (s : Spans m n p q before after) where
+module _ (a b : Since) (p q before after : PassOf) (s : Spans a b p q before after) where
   wider_refused : IsTurnedAway 1 p q → IsTurnedAway 1 before after
   wider_refused h = λ e.
       let w = s.made e in
       let t = h (s.was e) in
       record { granted = w.granted_after ∙ (t.granted ∙ sym w.granted_before); others = omega (arith, w.no_more, t.others, w.no_fewer) }
 
-  wider_waited : IsTurnedAway (m + 1) p q → IsTurnedAway (n + 1) before after
+  wider_waited : IsTurnedAway (of_wait a) p q → IsTurnedAway (of_wait b) before after
   wider_waited h = λ e.
       let w = s.made e in
       let t = h (s.was e) in
@@ -129,8 +130,8 @@ module _ (m n : ℕ) (p q before after : PassOf) (s : Spans m n p q before after
       let l = h (s.was e) in
       record { granted = w.granted_after ∙ (l.granted ∙ ap (λ (k : ℕ). k + 1) (sym w.granted_before)); lost = w.lost_after ∙ (l.lost ∙ ap (λ (k : ℕ). k + 1) (sym w.lost_before)) }
 
-  wider : (r : Refusal) → Tells m p q r → Tells n before after r
-  wider TooManyClients h = wider_refused h
+  wider : (r : Refusal) → HasTrace a p q r → HasTrace b before after r
+  wider TooManyClients h = absurd (s.none h)
   wider ShuttingDown h = wider_refused h
   wider WaitedTooLong h = wider_waited h
   wider LastDecision h = s.stays h
@@ -143,35 +144,37 @@ module _ (m n : ℕ) (p q before after : PassOf) (s : Spans m n p q before after
   wider UnsupportedProtocol h = absurd h
   wider UnsupportedParameter h = absurd h
 
-  wider_word : (word : LastWord) → TellsWhy m p q word → TellsWhy n before after word
+  wider_word : (word : LastWord) → WordHasTrace a p q word → WordHasTrace b before after word
   wider_word last.Nothing h = tt
   wider_word (last.Refusal r) h = wider r h
   wider_word (last.Error error) h = wider_lost h
 
-spans_queue : (p q : PassOf) → Spans 0 1 (one_other p) q p q
+spans_queue : (p q : PassOf) → Spans AtWait AtAsking (one_other p) q p q
 spans_queue p q = record {
   stays = λ e. e;
   was = λ e. e;
+  none = λ h. h;
   made = λ e. record { granted_before = refl; granted_after = refl; lost_before = refl; lost_after = refl; fewer = omega arith; no_more = omega arith; no_fewer = omega arith };
 }
 
 -- behind an asking that was queued
-pub queued_why : (p mid q : PassOf) (word : LastWord) → mid ≡ one_other p → TellsWhy 0 mid q word → TellsWhy 1 p q word
-queued_why p mid q word e h = wider_word 0 1 (one_other p) q p q (spans_queue p q) word (subst (λ (x : PassOf). TellsWhy 0 x q word) e h)
+pub queued_why : (p mid q : PassOf) (word : LastWord) → mid ≡ one_other p → WordHasTrace AtWait mid q word → WordHasTrace AtAsking p q word
+queued_why p mid q word e h = wider_word AtWait AtAsking (one_other p) q p q (spans_queue p q) word (subst (λ (x : PassOf). WordHasTrace AtWait x q word) e h)
 
-spans_stay : (p q : PassOf) (g : Gone) → Spans 1 1 (one_arrived p) q p (after_leaving q g)
+spans_stay : (p q : PassOf) (g : Gone) → Spans AtAsking AtArrival (one_arrived p) q p (after_leaving q g)
 spans_stay p q gone.Done = record {
   stays = λ e. e;
   was = λ e. e;
+  none = λ h. h;
   made = λ e. record { granted_before = refl; granted_after = refl; lost_before = refl; lost_after = refl; fewer = omega arith; no_more = omega arith; no_fewer = omega arith };
 }
-spans_stay p q gone.Last = record { stays = λ e. refl; was = λ e. absurd (true≢false e); made = λ e. absurd (true≢false e) }
-spans_stay p q gone.Stranger = record { stays = λ e. refl; was = λ e. absurd (true≢false e); made = λ e. absurd (true≢false e) }
+spans_stay p q gone.Last = record { stays = λ e. refl; was = λ e. absurd (true≢false e); none = λ h. h; made = λ e. absurd (true≢false e) }
+spans_stay p q gone.Stranger = record { stays = λ e. refl; was = λ e. absurd (true≢false e); none = λ h. h; made = λ e. absurd (true≢false e) }
 
 -- between a client's arrival and its leaving
-pub stay_why : (p mid q after : PassOf) (g : Gone) (word : LastWord) → mid ≡ one_arrived p → after ≡ after_leaving q g → TellsWhy 1 mid q word → TellsWhy 1 p after word
+pub stay_why : (p mid q after : PassOf) (g : Gone) (word : LastWord) → mid ≡ one_arrived p → after ≡ after_leaving q g → WordHasTrace AtAsking mid q word → WordHasTrace AtArrival p after word
 stay_why p mid q after g word e l h =
-    subst (λ (x : PassOf). TellsWhy 1 p x word) (sym l) (wider_word 1 1 (one_arrived p) q p (after_leaving q g) (spans_stay p q g) word (subst (λ (x : PassOf). TellsWhy 1 x q word) e h))
+    subst (λ (x : PassOf). WordHasTrace AtArrival p x word) (sym l) (wider_word AtAsking AtArrival (one_arrived p) q p (after_leaving q g) (spans_stay p q g) word (subst (λ (x : PassOf). WordHasTrace AtAsking x q word) e h))
 
 -- ---- of a link that was granted
 
@@ -182,7 +185,7 @@ module _ (p q : PassOf) (s : shares.Ends (one_granted p) q) where
   granted_lost : HasLost (one_granted p) q → HasLostLink p q
   granted_lost h = λ e. record { granted = omega (arith, (s e).1.granted); lost = h e }
 
-  lease_ends : (word : LastWord) → EndsLease word → TellsWhy 0 p q word
+  lease_ends : (word : LastWord) → EndsLease word → WordHasTrace AtWait p q word
   lease_ends last.Nothing h = tt
   lease_ends (last.Refusal MalformedClientMessage) h = granted_had
   lease_ends (last.Refusal ClientMessageTooLong) h = granted_had
@@ -198,7 +201,7 @@ module _ (p q : PassOf) (s : shares.Ends (one_granted p) q) where
   lease_ends (last.Refusal LastDecision) h = absurd h
   lease_ends (last.Error error) h = absurd h
 
-  start_fails : (word : LastWord) → IsUnstarted word → HasLost (one_granted p) q → TellsWhy 0 p q word
+  start_fails : (word : LastWord) → IsUnstarted word → HasLost (one_granted p) q → WordHasTrace AtWait p q word
   start_fails (last.Refusal ServerNotReached) h l = granted_lost l
   start_fails (last.Refusal OutOfMemory) h l = tt
   start_fails (last.Error error) h l = granted_lost l
@@ -214,11 +217,11 @@ module _ (p q : PassOf) (s : shares.Ends (one_granted p) q) where
   start_fails (last.Refusal MalformedServerMessage) h l = absurd h
   start_fails (last.Refusal LastDecision) h l = absurd h
 
-  ends_why : (word : LastWord) → EndsFor (one_granted p) q word → TellsWhy 0 p q word
+  ends_why : (word : LastWord) → EndsFor (one_granted p) q word → WordHasTrace AtWait p q word
   ends_why word (inl h) = lease_ends word h
   ends_why word (inr h) = start_fails word h.0 h.1
 
-pub granted_why : (p mid q : PassOf) (word : LastWord) → mid ≡ one_granted p → shares.Ends mid q → EndsFor mid q word → TellsWhy 0 p q word
+pub granted_why : (p mid q : PassOf) (word : LastWord) → mid ≡ one_granted p → shares.Ends mid q → EndsFor mid q word → WordHasTrace AtWait p q word
 granted_why p mid q word e s h = ends_why p q (subst (λ (x : PassOf). shares.Ends x q) e s) word (subst (λ (x : PassOf). EndsFor x q word) e h)
 
 lost_by : (p : PassOf) (g : Gone) → HasLost p (after_loss p g)

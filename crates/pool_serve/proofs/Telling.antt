@@ -8,7 +8,7 @@ use Rattle.link_desk.specs.Passes.{PassOf}
 use Rattle.login_core.specs.Logins.{LoginView}
 use Rattle.login_run.specs.Laws.{AllowedBy, IsRefusedByLogin, own}
 use Rattle.pool_serve.specs.Words.{HasGiven, last_bytes}
-use Rattle.pool_serve.specs.Causes.{HasCause, IsFaultyWord, TellsWhy}
+use Rattle.pool_serve.specs.Causes.{AtArrival, HasCause, IsFaultyWord, WordHasTrace}
 use Rattle.pool_serve.specs.Serving.{IsServed, MayEnd, Serves}
 use Rattle.pool_serve.specs.declared.word.LastWord.{LastWord}
 use Rattle.pool_serve.specs.declared.word.LastWord.TheVariants as last
@@ -22,7 +22,7 @@ pub untold_client : (catalogue : Address → CatalogueOf) (v : LoginView) (c : C
 untold_client catalogue v c p q a = by_login v p q c.taken c.given (own catalogue v c.taken) a
 
 -- a beginning of the last word behind what was given
-told_allowed : (catalogue : Address → CatalogueOf) (v : LoginView) (c : ClientFacts) (p q : PassOf) (word : LastWord) (n : ℕ) → TellsWhy 1 p q word → IsServed catalogue v c word
+told_allowed : (catalogue : Address → CatalogueOf) (v : LoginView) (c : ClientFacts) (p q : PassOf) (word : LastWord) (n : ℕ) → WordHasTrace AtArrival p q word → IsServed catalogue v c word
     → AllowedBy (HasCause v c.taken p q) (c.given ++ take n (last_bytes word)) (own catalogue v c.taken)
 told_allowed catalogue v c p q last.Nothing n w a =
     subst (λ (l : List ℕ). AllowedBy (HasCause v c.taken p q) l (own catalogue v c.taken)) (sym (ap (λ (l : List ℕ). c.given ++ l) (take_all n [] (omega arith)) ∙ append-nil c.given)) (untold_client catalogue v c p q a)
@@ -47,7 +47,7 @@ told_allowed catalogue v c p q (last.Error error) n w a = inl (record {
 })
 
 -- a client that was told its last word
-pub told_client : (catalogue : Address → CatalogueOf) (v : LoginView) (before after : ClientFacts) (p q : PassOf) (word : LastWord) → HasGiven before after (last_bytes word) → before.tells ≡ true → TellsWhy 1 p q word → IsServed catalogue v before word
+pub told_client : (catalogue : Address → CatalogueOf) (v : LoginView) (before after : ClientFacts) (p q : PassOf) (word : LastWord) → HasGiven before after (last_bytes word) → before.tells ≡ true → WordHasTrace AtArrival p q word → IsServed catalogue v before word
     → AllowedBy (HasCause v after.taken p q) after.given (own catalogue v after.taken)
 told_client catalogue v before after p q word h t w a =
     subst (λ (l : List ℕ). AllowedBy (HasCause v after.taken p q) l (own catalogue v after.taken)) (sym (h.given t))

@@ -15,7 +15,7 @@ use Rattle.pool_serve.specs.declared.word.LastWord.TheVariants as last
 
 -- ---- what the desk decided, as the pass tells it; of a broken pass nothing is promised
 
--- no link was granted, and at least so many decisions were others: askings that were queued, and the refusal
+-- no link was granted, and at least so many decisions moved none: an asking that was queued, and the refusal
 pub record TurnsAway (times : ℕ) (before after : Made) : Type 0 where
   pub granted : after.granted ≡ before.granted
   pub others : before.others + times ≤ after.others
@@ -34,26 +34,43 @@ HasLostLink p q = q.is_broken ≡ false → LosesLink p.made q.made
 abbrev pub HadLink : PassOf → PassOf → Type 0
 HadLink p q = q.is_broken ≡ false → q.made.granted ≡ p.made.granted + 1
 
--- What a refusal says of the decisions between, so many of them askings that were queued if the client asked. That memory was refused
--- no pass tells, and the others are a login's alone.
-abbrev pub Tells : ℕ → PassOf → PassOf → Refusal → Type 0
-Tells asked p q TooManyClients = IsTurnedAway 1 p q
-Tells asked p q ShuttingDown = IsTurnedAway 1 p q
-Tells asked p q WaitedTooLong = IsTurnedAway (asked + 1) p q
-Tells asked p q LastDecision = q.is_broken ≡ true
-Tells asked p q ServerNotReached = HasLostLink p q
-Tells asked p q MalformedClientMessage = HadLink p q
-Tells asked p q ClientMessageTooLong = HadLink p q
-Tells asked p q MalformedServerMessage = HadLink p q
-Tells asked p q ServerFailed = HadLink p q
-Tells asked p q OutOfMemory = Unit {0}
-Tells asked p q other = ⊥
+-- from where on: the client's arrival, its asking for a link, or its wait for that
+pub data Since : Type 0 where
+  AtArrival : Since
+  AtAsking : Since
+  AtWait : Since
 
--- and what a last word does; a server's own error comes of a start that failed
-abbrev pub TellsWhy : ℕ → PassOf → PassOf → LastWord → Type 0
-TellsWhy asked p q last.Nothing = Unit {0}
-TellsWhy asked p q (last.Refusal r) = Tells asked p q r
-TellsWhy asked p q (last.Error error) = HasLostLink p q
+-- so many decisions a wait that was too long takes: the refusal, and the asking before it
+abbrev pub of_wait : Since → ℕ
+of_wait AtArrival = 2
+of_wait AtAsking = 2
+of_wait AtWait = 1
+
+-- the client was not let in
+abbrev pub IsShutOut : Since → PassOf → PassOf → Type 0
+IsShutOut AtArrival p q = IsTurnedAway 1 p q × (q.is_broken ≡ false → q.made.arrived ≡ p.made.arrived)
+IsShutOut AtAsking p q = ⊥
+IsShutOut AtWait p q = ⊥
+
+-- The trace of each refusal. That memory was refused no pass tells, and the others are a login's alone.
+abbrev pub HasTrace : Since → PassOf → PassOf → Refusal → Type 0
+HasTrace since p q TooManyClients = IsShutOut since p q
+HasTrace since p q ShuttingDown = IsTurnedAway 1 p q
+HasTrace since p q WaitedTooLong = IsTurnedAway (of_wait since) p q
+HasTrace since p q LastDecision = q.is_broken ≡ true
+HasTrace since p q ServerNotReached = HasLostLink p q
+HasTrace since p q MalformedClientMessage = HadLink p q
+HasTrace since p q ClientMessageTooLong = HadLink p q
+HasTrace since p q MalformedServerMessage = HadLink p q
+HasTrace since p q ServerFailed = HadLink p q
+HasTrace since p q OutOfMemory = Unit {0}
+HasTrace since p q other = ⊥
+
+-- and of each last word; a server's own error comes of a start that failed
+abbrev pub WordHasTrace : Since → PassOf → PassOf → LastWord → Type 0
+WordHasTrace since p q last.Nothing = Unit {0}
+WordHasTrace since p q (last.Refusal r) = HasTrace since p q r
+WordHasTrace since p q (last.Error error) = HasLostLink p q
 
 -- ---- of a link that was granted
 
@@ -108,4 +125,4 @@ HasFault rows word limit taken other = Unit {0}
 
 -- A refusal is the login's own; or the pass tells its cause, and where it refuses a client's message, that message is faulty.
 abbrev pub HasCause : LoginView → List ℕ → PassOf → PassOf → Refusal → Type 0
-HasCause v taken p q r = IsRefusedByLogin v taken r ⊎ (Tells 1 p q r × HasFault (rows_of v) v.word v.settings.max_packet_size taken r)
+HasCause v taken p q r = IsRefusedByLogin v taken r ⊎ (HasTrace AtArrival p q r × HasFault (rows_of v) v.word v.settings.max_packet_size taken r)

@@ -3,7 +3,7 @@ ghost use Rattle.std.specs.Prelude.{◌≡◌, true};
 ghost use Rattle.std.specs.Arc.{arc_value};
 ghost use Rattle.start_keys.specs.Keys.{same_key};
 ghost use Rattle.link_desk.specs.Homes.{IsAtHome};
-ghost use Rattle.pool_serve.specs.Causes.{EndsFor, TellsWhy};
+ghost use Rattle.pool_serve.specs.Causes.{AtAsking, AtWait, EndsFor, WordHasTrace};
 ghost use Rattle.pool_serve.specs.Serving.{IsGuest, LetsIn, Serves, limit_of, owed};
 ghost use Rattle.pool_serve.specs.Shares.{Ends, Evens};
 
@@ -101,7 +101,7 @@ fn granted<C: ClientEnd, D: LinkDesk, G: Gate<D::End>>(
     requires guest { IsGuest guest.now }
     ensures tells { (C.facts result.0).tells ≡ (C.facts client).tells }
     ensures share { Evens (D.told pass.old) (D.told pass.new) }
-    ensures why { TellsWhy 0 (D.told pass.old) (D.told pass.new) result.1 }
+    ensures why { WordHasTrace AtWait (D.told pass.old) (D.told pass.new) result.1 }
     ensures serves { (C.facts client).tells ≡ true → LetsIn D.home guest.now.login.users → Serves (limit_of guest.now) (C.facts client) (C.facts result.0) (owed D.home.catalogue guest.now) result.1 }
 {
     match desk.take(pass, guest.number) {
@@ -133,7 +133,7 @@ pub(crate) fn lease<C: ClientEnd, D: LinkDesk, G: Gate<D::End>>(
     requires guest { IsGuest guest.now }
     ensures tells { (C.facts result.0).tells ≡ (C.facts client).tells }
     ensures share { Evens (D.told pass.old) (D.told pass.new) }
-    ensures why { TellsWhy 1 (D.told pass.old) (D.told pass.new) result.1 }
+    ensures why { WordHasTrace AtAsking (D.told pass.old) (D.told pass.new) result.1 }
     ensures serves { (C.facts client).tells ≡ true → LetsIn D.home guest.now.login.users → Serves (limit_of guest.now) (C.facts client) (C.facts result.0) (owed D.home.catalogue guest.now) result.1 }
 {
     match desk.ask(pass, guest.number, &guest.key) {

@@ -5,7 +5,7 @@ ghost use Rattle.login_core.specs.Dialogue.{AtFirst};
 ghost use Rattle.login_core.specs.Logins.{AwaitsPacket};
 ghost use Rattle.login_run.specs.Laws.{AllowedBy, own};
 ghost use Rattle.login_run.specs.Runs.{Arrived, IsAllGiven, IsSameLogin};
-ghost use Rattle.pool_serve.specs.Causes.{HasCause, TellsWhy};
+ghost use Rattle.pool_serve.specs.Causes.{AtArrival, AtAsking, HasCause, WordHasTrace};
 ghost use Rattle.pool_serve.specs.Serving.{HasStopped, IsServed, LetsIn};
 ghost use Rattle.pool_serve.specs.Shares.{Evens, Settles};
 
@@ -62,7 +62,7 @@ fn attend<C: ClientEnd, D: LinkDesk, G: Gate<D::End>>(
     requires word { run.login.word ≡ word }
     ensures tells { (C.facts result.0).tells ≡ run.client.tells }
     ensures share { Evens (D.told pass.old) (D.told pass.new) }
-    ensures why { TellsWhy 1 (D.told pass.old) (D.told pass.new) result.1 }
+    ensures why { WordHasTrace AtAsking (D.told pass.old) (D.told pass.new) result.1 }
     ensures serves { run.client.tells ≡ true → LetsIn D.home run.login.users → IsServed D.home.catalogue run.login (C.facts result.0) result.1 }
 {
     bounded_rows_are_lawful();
@@ -109,7 +109,7 @@ fn admit<C: ClientEnd, D: LinkDesk, G: Gate<D::End>>(
     requires word { run.login.word ≡ word }
     ensures tells { (C.facts result.0).tells ≡ run.client.tells }
     ensures share { Settles (D.told pass.old) (D.told pass.new) }
-    ensures why { TellsWhy 1 (D.told pass.old) (D.told pass.new) result.1 }
+    ensures why { WordHasTrace AtArrival (D.told pass.old) (D.told pass.new) result.1 }
     ensures serves { run.client.tells ≡ true → LetsIn D.home run.login.users → IsServed D.home.catalogue run.login (C.facts result.0) result.1 }
 {
     runs_stand_at_pieces();
