@@ -1,5 +1,5 @@
 -- What a pass tells: the decisions that were made through it, by class.
-use Rattle.std.specs.Prelude.{ℕ, suc, Bool, true, false, Option, None}
+use Rattle.std.specs.Prelude.{ℕ, suc, Bool, true, false, Option, Some, None}
 use Rattle.message_view.specs.declared.refusal.Refusal.{Refusal}
 use Rattle.message_view.specs.declared.refusal.Refusal.TheVariants.{LastDecision}
 use Rattle.link_start.specs.Links.{LinkView}
@@ -94,6 +94,11 @@ abbrev pub after_leaving : PassOf → Gone → PassOf
 after_leaving p gone.Done = one_left p
 after_leaving p gone.Last = broken p
 after_leaving p gone.Stranger = broken p
+
+-- the client that has come through a pass and has not gone, after one more has come
+abbrev pub client_after : Option ℕ → Arrival → Option ℕ
+client_after client (arrival.Client n) = Some n
+client_after client (arrival.Refused refusal) = client
 
 -- the desk keeps the link where it is done, and else leaves it there
 abbrev pub keeps : Back → Option LinkView → Option LinkView

@@ -14,6 +14,15 @@ use start_keys::StartKey;
 use std::sync::ledger::Ledger;
 use std::sync::{Arc, Wait};
 
+/// A pass as a worker has it, which knows whose it is.
+///
+/// `A` to `O` are the ledgers of the classes of decisions, as those of a [`Desk`].
+pub struct WorkerPass<A: Ledger, G: Ledger, B: Ledger, L: Ledger, W: Ledger, O: Ledger> {
+    pub pass: Pass<A, G, B, L, W, O>,
+    /// The client that has come through it, and has not gone.
+    pub client: Option<u64>,
+}
+
 /// The desk as a worker has it, which may wait and dial.
 pub struct DeskAt<
     'a,
@@ -44,42 +53,54 @@ impl<
 > LinkDesk for DeskAt<'a, R, S, A, G, B, L, W, O> {
     type End = S::End;
 
-    type Pass = Pass<A, G, B, L, W, O>;
+    type Pass = WorkerPass<A, G, B, L, W, O>;
 
     ghost home = { S.home };
 
-    ghost told = { λ p. p.told };
+    ghost told = { λ p. p.pass.told };
 
-    fn arrive(&self, pass: &mut Pass<A, G, B, L, W, O>) -> Arrival {
-        self.desk.arrive(self.rt, pass)
+    ghost whose = { λ p. p.client };
+
+    fn arrive(&self, pass: &mut WorkerPass<A, G, B, L, W, O>) -> Arrival {
+        let arrival = self.desk.arrive(self.rt, &mut pass.pass);
+        if let Arrival::Client(client) = arrival {
+            pass.client = Some(client);
+        }
+        arrival
     }
 
-    fn ask(&self, pass: &mut Pass<A, G, B, L, W, O>, client: u64, key: &Arc<StartKey>) -> Asked {
-        self.desk.ask(self.rt, pass, client, key)
+    fn ask(
+        &self,
+        pass: &mut WorkerPass<A, G, B, L, W, O>,
+        client: u64,
+        key: &Arc<StartKey>,
+    ) -> Asked {
+        self.desk.ask(self.rt, &mut pass.pass, client, key)
     }
 
-    fn take(&self, pass: &mut Pass<A, G, B, L, W, O>, client: u64) -> Grant<S::End> {
-        self.desk.take(self.rt, pass, client)
+    fn take(&self, pass: &mut WorkerPass<A, G, B, L, W, O>, client: u64) -> Grant<S::End> {
+        self.desk.take(self.rt, &mut pass.pass, client)
     }
 
     fn give_back(
         &self,
-        pass: &mut Pass<A, G, B, L, W, O>,
+        pass: &mut WorkerPass<A, G, B, L, W, O>,
         link: &mut Option<CleanLink<S::End>>,
     ) -> Back {
-        self.desk.give_back(self.rt, pass, link)
+        self.desk.give_back(self.rt, &mut pass.pass, link)
     }
 
-    fn lost(&self, pass: &mut Pass<A, G, B, L, W, O>, number: u64) -> Gone {
-        self.desk.lost(self.rt, pass, number)
+    fn lost(&self, pass: &mut WorkerPass<A, G, B, L, W, O>, number: u64) -> Gone {
+        self.desk.lost(self.rt, &mut pass.pass, number)
     }
 
-    fn start_failed(&self, pass: &mut Pass<A, G, B, L, W, O>, number: u64) -> Gone {
-        self.desk.start_failed(self.rt, pass, number)
+    fn start_failed(&self, pass: &mut WorkerPass<A, G, B, L, W, O>, number: u64) -> Gone {
+        self.desk.start_failed(self.rt, &mut pass.pass, number)
     }
 
-    fn leave(&self, pass: &mut Pass<A, G, B, L, W, O>, client: u64) -> Gone {
-        self.desk.leave(self.rt, pass, client)
+    fn leave(&self, pass: &mut WorkerPass<A, G, B, L, W, O>, client: u64) -> Gone {
+        pass.client = None;
+        self.desk.leave(self.rt, &mut pass.pass, client)
     }
 
     fn dial(&self, row: &DbRow) -> Option<S::End> {

@@ -18,7 +18,7 @@ use message_view::KeyWord;
 use mio::net::TcpListener;
 use pool_desk::answers::Ticked;
 use pool_desk::desk::Desk;
-use pool_desk::handle::DeskAt;
+use pool_desk::handle::{DeskAt, WorkerPass};
 use pool_serve::serve::serve;
 use settings_limits::limits_of;
 use std::alloc::{AllocError, Global};
@@ -195,7 +195,9 @@ impl<R: Net, A: Ledger, G: Ledger, B: Ledger, L: Ledger, W: Ledger, O: Ledger> P
             desk: &self.desk,
             dialer: &self.dialer,
         };
-        let (_, pass) = serve(self.alloc, &desk, pass, client, login, word, gate);
+        let pass = WorkerPass { pass, client: None };
+        let (_, back) = serve(self.alloc, &desk, pass, client, login, word, gate);
+        let WorkerPass { pass, client: _ } = back;
         let DeskAt {
             rt,
             desk: _,

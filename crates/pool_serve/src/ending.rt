@@ -1,4 +1,5 @@
 //! How a link goes back to its desk.
+ghost use Rattle.std.specs.Prelude.{◌≡◌};
 ghost use Rattle.link_desk.specs.Homes.{IsAtHome};
 ghost use Rattle.pool_serve.specs.Shares.{Ends};
 ghost use Rattle.pool_serve.specs.Backs.{IsBackHome};
@@ -20,7 +21,8 @@ pub(crate) fn give_back<D: LinkDesk, G: Gate<D::End>>(
     gate: &mut G,
 )
     requires home { IsAtHome D.home link }
-    ensures { Ends (D.told pass.old) (D.told pass.new) }
+    ensures share { Ends (D.told pass.old) (D.told pass.new) }
+    ensures whose { D.whose pass.new ≡ D.whose pass.old }
 {
     let mut link = link;
     link.unwatch(gate);
@@ -41,7 +43,8 @@ pub(crate) fn hand_back<D: LinkDesk, G: Gate<D::End>>(
     gate: &mut G,
 )
     requires home { IsBackHome D.home link }
-    ensures { Ends (D.told pass.old) (D.told pass.new) }
+    ensures share { Ends (D.told pass.old) (D.told pass.new) }
+    ensures whose { D.whose pass.new ≡ D.whose pass.old }
 {
     match link {
         Returned::Unused(link) => give_back(desk, pass, link, gate),

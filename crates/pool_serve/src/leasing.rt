@@ -1,5 +1,5 @@
 //! A link for a client, and its lease.
-ghost use Rattle.std.specs.Prelude.{◌≡◌, true};
+ghost use Rattle.std.specs.Prelude.{◌≡◌, Some, true};
 ghost use Rattle.std.specs.Arc.{arc_value};
 ghost use Rattle.start_keys.specs.Keys.{same_key};
 ghost use Rattle.link_desk.specs.Homes.{IsAtHome};
@@ -50,6 +50,7 @@ fn over_lent<C: ClientEnd, D: LinkDesk, G: Gate<D::End>>(
     requires guest { IsGuest guest.now }
     ensures tells { (C.facts result.0).tells ≡ (C.facts client).tells }
     ensures share { Ends (D.told pass.old) (D.told pass.new) }
+    ensures whose { D.whose pass.new ≡ D.whose pass.old }
     ensures why { EndsFor (D.told pass.old) (D.told pass.new) result.1 }
     ensures serves { (C.facts client).tells ≡ true → LetsIn D.home guest.now.login.users → Serves (limit_of guest.now) (C.facts client) (C.facts result.0) (owed D.home.catalogue guest.now) result.1 }
 {
@@ -77,6 +78,7 @@ fn over_new<C: ClientEnd, D: LinkDesk, G: Gate<D::End>>(
     requires guest { IsGuest guest.now }
     ensures tells { (C.facts result.0).tells ≡ (C.facts client).tells }
     ensures share { Ends (D.told pass.old) (D.told pass.new) }
+    ensures whose { D.whose pass.new ≡ D.whose pass.old }
     ensures why { EndsFor (D.told pass.old) (D.told pass.new) result.1 }
     ensures serves { (C.facts client).tells ≡ true → LetsIn D.home guest.now.login.users → Serves (limit_of guest.now) (C.facts client) (C.facts result.0) (owed D.home.catalogue guest.now) result.1 }
 {
@@ -99,8 +101,10 @@ fn granted<C: ClientEnd, D: LinkDesk, G: Gate<D::End>>(
     gate: &mut G,
 ) -> (C, LastWord)
     requires guest { IsGuest guest.now }
+    requires own { D.whose pass.old ≡ Some guest.now.number }
     ensures tells { (C.facts result.0).tells ≡ (C.facts client).tells }
     ensures share { Evens (D.told pass.old) (D.told pass.new) }
+    ensures whose { D.whose pass.new ≡ D.whose pass.old }
     ensures why { WordHasTrace AtWait (D.told pass.old) (D.told pass.new) result.1 }
     ensures serves { (C.facts client).tells ≡ true → LetsIn D.home guest.now.login.users → Serves (limit_of guest.now) (C.facts client) (C.facts result.0) (owed D.home.catalogue guest.now) result.1 }
 {
@@ -131,8 +135,10 @@ pub(crate) fn lease<C: ClientEnd, D: LinkDesk, G: Gate<D::End>>(
     gate: &mut G,
 ) -> (C, LastWord)
     requires guest { IsGuest guest.now }
+    requires own { D.whose pass.old ≡ Some guest.now.number }
     ensures tells { (C.facts result.0).tells ≡ (C.facts client).tells }
     ensures share { Evens (D.told pass.old) (D.told pass.new) }
+    ensures whose { D.whose pass.new ≡ D.whose pass.old }
     ensures why { WordHasTrace AtAsking (D.told pass.old) (D.told pass.new) result.1 }
     ensures serves { (C.facts client).tells ≡ true → LetsIn D.home guest.now.login.users → Serves (limit_of guest.now) (C.facts client) (C.facts result.0) (owed D.home.catalogue guest.now) result.1 }
 {

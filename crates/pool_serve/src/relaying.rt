@@ -60,6 +60,7 @@ pub(crate) fn relayed<C: ClientEnd, D: LinkDesk, G: Gate<D::End>>(
     requires settings { AreWithinBounds guest.now.login.settings }
     ensures tells { (C.facts result.0).tells ≡ (C.facts client).tells }
     ensures share { Ends (D.told pass.old) (D.told pass.new) }
+    ensures whose { D.whose pass.new ≡ D.whose pass.old }
     ensures why { EndsLease result.1 }
     ensures serves { (C.facts client).tells ≡ true → link.stands.follows ≡ true → Serves (limit_of guest.now) (C.facts client) (C.facts result.0) (service_pieces link.stands.server.catalogue link.key guest.now.word) result.1 }
 {

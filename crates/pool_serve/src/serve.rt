@@ -1,5 +1,5 @@
 //! One client, from its first byte to its end.
-ghost use Rattle.std.specs.Prelude.{◌≡◌, [], false, true};
+ghost use Rattle.std.specs.Prelude.{◌≡◌, [], None, Some, false, true};
 ghost use Rattle.ini_config.specs.Bounds.{AreWithinBounds};
 ghost use Rattle.login_core.specs.Dialogue.{AtFirst};
 ghost use Rattle.login_core.specs.Logins.{AwaitsPacket};
@@ -60,8 +60,10 @@ fn attend<C: ClientEnd, D: LinkDesk, G: Gate<D::End>>(
 ) -> (C, LastWord)
     requires settings { AreWithinBounds run.login.settings }
     requires word { run.login.word ≡ word }
+    requires own { D.whose pass.old ≡ Some number }
     ensures tells { (C.facts result.0).tells ≡ run.client.tells }
     ensures share { Evens (D.told pass.old) (D.told pass.new) }
+    ensures whose { D.whose pass.new ≡ D.whose pass.old }
     ensures why { WordHasTrace AtAsking (D.told pass.old) (D.told pass.new) result.1 }
     ensures serves { run.client.tells ≡ true → LetsIn D.home run.login.users → IsServed D.home.catalogue run.login (C.facts result.0) result.1 }
 {
@@ -109,6 +111,7 @@ fn admit<C: ClientEnd, D: LinkDesk, G: Gate<D::End>>(
     requires word { run.login.word ≡ word }
     ensures tells { (C.facts result.0).tells ≡ run.client.tells }
     ensures share { Settles (D.told pass.old) (D.told pass.new) }
+    ensures gone { D.whose pass.old ≡ None → D.whose pass.new ≡ None }
     ensures why { WordHasTrace AtArrival (D.told pass.old) (D.told pass.new) result.1 }
     ensures serves { run.client.tells ≡ true → LetsIn D.home run.login.users → IsServed D.home.catalogue run.login (C.facts result.0) result.1 }
 {
@@ -138,7 +141,7 @@ fn admit<C: ClientEnd, D: LinkDesk, G: Gate<D::End>>(
 /// started for it alone answers, over the catalogue of its row; and a refusal in it has its cause: the login's own; a message of the
 /// client's that is none under the limit; or what the pass tells (a refusal by the desk, a link that was lent, one that was lost),
 /// unless it is for memory. Unless a call of the desk was answered by the last decision or as strange, as many links were granted as
-/// given back or lost, and as many clients arrived as left.
+/// given back or lost, and as many clients arrived as left. Where no client was in the pass, none is in it afterwards.
 pub fn serve<C: ClientEnd, D: LinkDesk, G: Gate<D::End> + Drop>(
     alloc: Global,
     desk: &D,
@@ -157,6 +160,7 @@ pub fn serve<C: ClientEnd, D: LinkDesk, G: Gate<D::End> + Drop>(
     ensures tells { (C.facts result.0).tells ≡ (C.facts client).tells }
     ensures allowed { (C.facts client).tells ≡ true → LetsIn D.home login.users → AllowedBy (HasCause login (C.facts result.0).taken (D.told pass) (D.told result.1)) (C.facts result.0).given (own D.home.catalogue login (C.facts result.0).taken) }
     ensures share { Settles (D.told pass) (D.told result.1) }
+    ensures gone { D.whose pass ≡ None → D.whose result.1 ≡ None }
 {
     runs_are_allowed();
     let mut pass = pass;

@@ -14,7 +14,7 @@ use memory_dial::{MemoryDial, Naming};
 use memory_ends::memory_server::MemoryServer;
 use message_view::KeyWord;
 use pool_desk::desk::Desk;
-use pool_desk::handle::DeskAt;
+use pool_desk::handle::{DeskAt, WorkerPass};
 use pool_serve::serve::serve;
 use server_end::ClientEnd;
 use server_end::gate::Gate;
@@ -96,11 +96,13 @@ pub(crate) fn serve_by<
     requires given { (C.facts client).tells ≡ true → (C.facts client).given ≡ [] }
 {
     let at = DeskAt { rt, desk, dialer };
-    let served = serve(alloc, &at, pass, client, login, word(number), gate);
+    let pass = WorkerPass { pass, client: None };
+    let (client, back) = serve(alloc, &at, pass, client, login, word(number), gate);
+    let WorkerPass { pass, client: _ } = back;
     let DeskAt {
         rt: _,
         desk: _,
         dialer: _,
     } = at;
-    served
+    (client, pass)
 }

@@ -18,4 +18,4 @@ pub returns-in-Ok-clause-why : goal.returns-in-Ok-clause-why
 returns-in-Ok-clause-why g c = inl c.relayed.ensures.why
 
 pub returns-in-Err-clause-why : goal.returns-in-Err-clause-why
-returns-in-Err-clause-why g c = inr (c.in-Err.ensures.why, has_lost _ _ c.start_failed.result c.start_failed.ensures)
+returns-in-Err-clause-why g c = inr (c.in-Err.ensures.why, has_lost _ _ c.start_failed.result c.start_failed.ensures.told)

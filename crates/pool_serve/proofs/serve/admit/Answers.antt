@@ -15,7 +15,7 @@ pub returns-in-Refused-clause-serves : goal.returns-in-Refused-clause-serves
 returns-in-Refused-clause-serves g c = λ t l. arrival_ends c.runs_stand_at_pieces.ensures g.D.LinkDesk.home.catalogue c.args.run (g.C.ClientEnd.facts c.finish-client.result.0) c.in-Refused.refusal c.in-Refused.ensures.refused c.requires.arrived c.requires.given c.finish-client.ensures.run c.finish-client.ensures.client t
 
 pub returns-in-Client-clause-why : goal.returns-in-Client-clause-why
-returns-in-Client-clause-why g c = stay_why _ _ _ _ c.leave.result c.attend-served.result.1 c.in-Client.ensures.told c.leave.ensures c.attend-served.ensures.why
+returns-in-Client-clause-why g c = stay_why _ _ _ _ c.leave.result c.attend-served.result.1 c.in-Client.ensures.told c.leave.ensures.told c.attend-served.ensures.why
 
 pub returns-in-Refused-clause-why : goal.returns-in-Refused-clause-why
 returns-in-Refused-clause-why g c = arrival_why _ _ c.in-Refused.refusal c.in-Refused.ensures.told c.in-Refused.ensures.refused

@@ -12,6 +12,7 @@ use Rattle.pool_serve.proofs.serve.attend.Goals as goal
 pub lease-requires : goal.lease-requires
 lease-requires g c = record {
   guest = is_guest c.bounded_rows_are_lawful.ensures c.passed_keys_are_link_keys.ensures c.passed_keys_are_of_their_rows.ensures c.passed_runs_have_passed.ensures c.converse.new.run _ c.finish-client-2.ensures.run (key_is c.converse.new.run.phase c.finish-client-2.result.2 c.in-Some.key c.in-Some.is c.finish-client-2.ensures.key) c.finish-client-2.ensures.login (subst (λ (s : Settings). AreWithinBounds s) (sym c.converse.ensures.login.settings) c.requires.settings);
+  own = c.requires.own;
 }
 
 pub returns-in-Some-clause-serves : goal.returns-in-Some-clause-serves
@@ -33,6 +34,7 @@ pub returns-in_default : goal.returns-in_default
 returns-in_default g c = record {
   tells = ap (λ (x : ClientFacts). x.tells) c.finish-client.ensures.client ∙ c.converse.ensures.login.tells;
   share = λ e. (e, record { arrived = refl; leases = refl; left = refl });
+  whose = refl;
   why = tt;
   serves = λ t l. run_ends c.runs_are_allowed.ensures g.D.LinkDesk.home.catalogue c.args.run c.converse.new.run (g.C.ClientEnd.facts c.finish-client.result.0) c.converse.ensures.login c.finish-client.ensures.run c.finish-client.ensures.client t;
 }

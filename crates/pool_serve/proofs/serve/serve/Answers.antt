@@ -16,6 +16,7 @@ returns-in_default g c = record {
       subst (λ (v : LoginView). AllowedBy (HasCause v (g.C.ClientEnd.facts c.finish-client.result.0).taken (g.D.LinkDesk.told c.args.pass) (g.D.LinkDesk.told c.args.pass)) (g.C.ClientEnd.facts c.finish-client.result.0).given (own g.D.LinkDesk.home.catalogue v (g.C.ClientEnd.facts c.finish-client.result.0).taken)) c.new-run.ensures.login
       (untold_client g.D.LinkDesk.home.catalogue c.new-run.result.login (g.C.ClientEnd.facts c.finish-client.result.0) (g.D.LinkDesk.told c.args.pass) (g.D.LinkDesk.told c.args.pass) (run_ends c.runs_are_allowed.ensures g.D.LinkDesk.home.catalogue c.new-run.result c.converse.new.run (g.C.ClientEnd.facts c.finish-client.result.0) c.converse.ensures.login c.finish-client.ensures.run c.finish-client.ensures.client (ap (λ (x : ClientFacts). x.tells) c.new-run.ensures.client ∙ t)));
   share = λ e. record { leases = refl; clients = refl };
+  gone = λ e. e;
 }
 
 pub returns-clause-allowed : goal.returns-clause-allowed
