@@ -8,7 +8,7 @@ use std::cell::Cell;
 use std::marker::Model;
 
 /// What happens in a play. Its clients count from 1, in the order in which they come.
-#[derive(Clone, Copy, Debug, PartialEq, Eq, Drop)]
+#[derive(Clone, Copy, Drop)]
 pub enum Act<'a> {
     /// The next client comes.
     Come,

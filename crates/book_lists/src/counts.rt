@@ -2,7 +2,7 @@
 ghost use Rattle.std.specs.Prelude.{◌≡◌};
 
 /// The kinds of decisions: of events that changed the book.
-#[derive(Clone, Copy, Debug, PartialEq, Eq, Drop)]
+#[derive(Clone, Copy, Drop)]
 pub enum Kind {
     Arrival,
     ArrivalRefused,
@@ -22,7 +22,7 @@ pub enum Kind {
 }
 
 /// How many decisions there were of each kind.
-#[derive(Clone, Copy, Debug, PartialEq, Eq, Drop)]
+#[derive(Clone, Copy, Drop)]
 pub struct Counts {
     pub arrived: u64,
     pub arrivals_refused: u64,

@@ -34,7 +34,7 @@ pub enum Event {
 }
 
 /// What the book answers.
-#[derive(Clone, Copy, Debug, PartialEq, Eq, Drop)]
+#[derive(Clone, Copy, Drop)]
 pub enum Reply {
     /// The client that has come has this number.
     Arrived(u64),
@@ -59,7 +59,7 @@ pub enum Reply {
 }
 
 /// A client's state.
-#[derive(Clone, Copy, Debug, PartialEq, Eq, Drop)]
+#[derive(Clone, Copy, PartialEq, Eq, Drop)]
 pub enum ClientState {
     /// It has not asked for a link yet.
     LoggingIn,

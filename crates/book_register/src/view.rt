@@ -89,7 +89,7 @@ impl Model for BookView {
 }
 
 /// A client that waits, and whether no other of its pool has waited longer.
-#[derive(Clone, Copy, Debug, PartialEq, Eq, Drop)]
+#[derive(Clone, Copy, PartialEq, Eq, Drop)]
 pub struct Waiting {
     pub client: u64,
     pub first_of_pool: bool,

@@ -25,7 +25,7 @@ fn key(alloc: Global, user: &[u8], name: &[u8]) -> Result<Arc<StartKey>, AllocEr
 }
 
 /// Whose key it is: of ann's two keys, which are of one pool, or of bc's, which is of another.
-#[derive(Clone, Copy, PartialEq, Eq, Drop)]
+#[derive(Clone, Copy, Drop)]
 pub(crate) enum Whose {
     Ann,
     AnnAsB,

@@ -10,7 +10,7 @@ use std::sync::ledger::{Ledger, Share};
 pub const ALL_PARTS: u64 = 1 << 32;
 
 /// Decisions by class.
-#[derive(Clone, Copy, Debug, PartialEq, Eq, Drop)]
+#[derive(Clone, Copy, PartialEq, Eq, Drop)]
 pub struct Totals {
     /// Clients let in.
     pub arrived: u64,

@@ -24,7 +24,7 @@ use std::marker::Model;
 pub const FULL: u64 = u64::MAX;
 
 /// What is to become of a link: the first that holds, in this order.
-#[derive(Clone, Copy, Debug, PartialEq, Eq, Drop)]
+#[derive(Clone, Copy, PartialEq, Eq, Drop)]
 pub enum Verdict {
     /// Something came that no session sends ([`Traffic::broken`] was called, or a status is none of the
     /// three), more ReadyForQuery came than closing messages were sent, or a count is at [`FULL`].

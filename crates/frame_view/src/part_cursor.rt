@@ -8,7 +8,7 @@ use crate::{FrameFault, Head, HeadStep, Side};
 use std::marker::Model;
 
 /// A part of a stream of frames.
-#[derive(Clone, Copy, Debug, PartialEq, Eq, Drop)]
+#[derive(Clone, Copy, PartialEq, Eq, Drop)]
 pub enum Part<'a> {
     /// A frame's head without fault: its type byte, and its length, which counts its own four bytes and
     /// the body.

@@ -6,7 +6,7 @@ use crate::values::{address, number, port, split_at_first};
 use bstr::ByteSlice;
 
 /// What the items of a row's value say.
-#[derive(Clone, Copy, Debug)]
+#[derive(Clone, Copy)]
 pub(crate) struct Items<'a> {
     host: Option<[u8; 4]>,
     port: Option<u16>,
@@ -15,7 +15,7 @@ pub(crate) struct Items<'a> {
 }
 
 /// A row whose texts are still those of the file.
-#[derive(Clone, Copy, Debug)]
+#[derive(Clone, Copy)]
 pub(crate) struct RowText<'a> {
     pub(crate) name: &'a [u8],
     pub(crate) host: [u8; 4],

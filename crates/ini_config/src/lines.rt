@@ -6,7 +6,7 @@ use crate::values::split_at_first;
 use text_lines::{is_ignored, trimmed};
 
 /// The section that a line stands in.
-#[derive(Clone, Copy, Debug, PartialEq, Eq)]
+#[derive(Clone, Copy)]
 pub(crate) enum Section {
     /// Before the first header.
     Preamble,
@@ -17,7 +17,7 @@ pub(crate) enum Section {
 }
 
 /// A trimmed line.
-#[derive(Clone, Copy, Debug)]
+#[derive(Clone, Copy)]
 pub(crate) enum Line<'a> {
     /// An empty line or a comment.
     Ignored,

@@ -8,7 +8,7 @@ use crate::option_values::AuthType;
 use crate::values::{listen_address, number, port};
 
 /// A key that the file may have.
-#[derive(Clone, Copy, Debug, PartialEq, Eq)]
+#[derive(Clone, Copy)]
 pub(crate) enum Key {
     ListenAddr,
     ListenPort,
@@ -30,7 +30,7 @@ pub(crate) enum Key {
 }
 
 /// What a value changes.
-#[derive(Clone, Copy, Debug)]
+#[derive(Clone, Copy)]
 pub(crate) enum Setting<'a> {
     ListenAddr([u8; 4]),
     ListenPort(u16),

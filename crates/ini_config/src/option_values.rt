@@ -12,7 +12,7 @@ use crate::row_table::Rows;
 use std::alloc::{AllocError, Global};
 
 /// How clients prove who they are.
-#[derive(Clone, Copy, Debug, PartialEq, Eq)]
+#[derive(Clone, Copy, PartialEq, Eq)]
 pub enum AuthType {
     /// They don't: the user file's users are let in.
     Trust,

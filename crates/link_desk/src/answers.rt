@@ -5,7 +5,7 @@ use message_view::Refusal;
 use server_end::ServerEnd;
 
 /// To a client that has come.
-#[derive(Clone, Copy, Debug, PartialEq, Eq, Drop)]
+#[derive(Clone, Copy, Drop)]
 pub enum Arrival {
     /// It has this number.
     Client(u64),
@@ -14,7 +14,7 @@ pub enum Arrival {
 }
 
 /// To a client that asks for a link.
-#[derive(Clone, Copy, Debug, PartialEq, Eq, Drop)]
+#[derive(Clone, Copy, Drop)]
 pub enum Asked {
     /// It waits behind so many of its pool.
     Queued(u64),
@@ -44,7 +44,7 @@ pub enum Grant<E: ServerEnd> {
 }
 
 /// To a link that is given back.
-#[derive(Clone, Copy, Debug, PartialEq, Eq, Drop)]
+#[derive(Clone, Copy, Drop)]
 pub enum Back {
     /// The desk keeps it.
     Done,
@@ -57,7 +57,7 @@ pub enum Back {
 }
 
 /// To a client that goes, and to a link that is lost or could not be started.
-#[derive(Clone, Copy, Debug, PartialEq, Eq, Drop)]
+#[derive(Clone, Copy, Drop)]
 pub enum Gone {
     Done,
     /// The book has made its last decision.

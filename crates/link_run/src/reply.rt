@@ -17,7 +17,7 @@ use param_track::Reported;
 pub const LONGEST_REPLY: u32 = 65_536;
 
 /// How far a reset's answer has come.
-#[derive(Clone, Copy, Debug, PartialEq, Eq, Drop)]
+#[derive(Clone, Copy, Drop)]
 pub enum Answered {
     /// CommandComplete is waited for.
     Nothing,

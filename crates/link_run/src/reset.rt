@@ -20,7 +20,7 @@ const CHUNK: usize = 256;
 static DISCARD_ALL: [u8; 17] = *b"Q\0\0\0\x10DISCARD ALL\0";
 
 /// Why a link wasn't reset.
-#[derive(Clone, Copy, Debug, PartialEq, Eq, Drop)]
+#[derive(Clone, Copy, PartialEq, Eq, Drop)]
 pub enum ResetFault {
     /// L2: the end faulted or ended.
     Lost,

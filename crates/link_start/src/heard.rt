@@ -20,7 +20,7 @@ use param_track::{ReportFault, Reported};
 use std::alloc::Global;
 
 /// What a server asks of the user that starts a link.
-#[derive(Clone, Copy, Debug, PartialEq, Eq, Drop)]
+#[derive(Clone, Copy, Drop)]
 pub enum Question {
     /// The password, as it is.
     Cleartext,
@@ -31,7 +31,7 @@ pub enum Question {
 }
 
 /// How far a start's answer has come.
-#[derive(Clone, Copy, Debug, PartialEq, Eq, Drop)]
+#[derive(Clone, Copy, Drop)]
 pub enum Heard {
     /// Nothing of it.
     Nothing,
@@ -193,7 +193,7 @@ pub(crate) fn error_in(reply: &[u8]) -> &[u8]
 }
 
 /// Why a start's reports weren't taken.
-#[derive(Clone, Copy, Debug, PartialEq, Eq, Drop)]
+#[derive(Clone, Copy, Drop)]
 pub(crate) enum Untaken {
     /// One can't be read, or there are more than [`param_track::MOST_NAMES`] names.
     Unexpected,

@@ -54,7 +54,7 @@ pub(crate) enum Place {
 }
 
 /// What a client is to whom nothing is left to ask.
-#[derive(Clone, Copy, Debug, PartialEq, Eq, Drop)]
+#[derive(Clone, Copy, Drop)]
 enum Verdict {
     ToLink,
     ToConsole,

@@ -7,7 +7,7 @@ use start_keys::StartKey;
 use std::sync::Arc;
 
 /// What a client is asked, or told of its request for encryption.
-#[derive(Clone, Copy, Debug, PartialEq, Eq, Drop)]
+#[derive(Clone, Copy, Drop)]
 pub enum Question {
     /// The byte `N`: there is no encryption, so the client goes on without it or leaves.
     Encryption,
@@ -31,7 +31,7 @@ impl Question {
 }
 
 /// Why a client isn't admitted, as a server of its own would say.
-#[derive(Clone, Copy, Debug, PartialEq, Eq, Drop)]
+#[derive(Clone, Copy, Drop)]
 pub enum Failure {
     /// 28P01: an unknown user, or not its password.
     WrongPassword,

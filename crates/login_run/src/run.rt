@@ -37,7 +37,7 @@ pub enum Phase {
 }
 
 /// What a turn came to.
-#[derive(Clone, Copy, Debug, PartialEq, Eq, Drop)]
+#[derive(Clone, Copy, Drop)]
 pub enum LoginTurn {
     /// A byte was read or written: turn again.
     Again,

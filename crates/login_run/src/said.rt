@@ -6,7 +6,7 @@ use login_core::{Failure, Question};
 use message_view::{Refusal, refusal_bytes};
 
 /// What a client is given at a step of its login.
-#[derive(Clone, Copy, Debug, PartialEq, Eq, Drop)]
+#[derive(Clone, Copy, Drop)]
 pub enum Said {
     Nothing,
     Question(Question),

@@ -5,7 +5,7 @@ use memory_ends::memory_server::MemoryServer;
 use message_view::Refusal;
 
 /// What a client is answered that comes, or that asks for a link.
-#[derive(Clone, Copy, Debug, PartialEq, Eq, Drop)]
+#[derive(Clone, Copy, Drop)]
 pub enum Answer {
     /// Its number in the book; or how many of its pool wait before it.
     Number(u64),

@@ -4,7 +4,7 @@ ghost use Rattle.std.specs.Prelude.{◌≡◌};
 ghost use Rattle.message_view.specs.Refusals.{refusal as refused, telling};
 
 /// Why the pooler refuses a client.
-#[derive(Clone, Copy, Debug, PartialEq, Eq, Drop)]
+#[derive(Clone, Copy, PartialEq, Eq, Drop)]
 pub enum Refusal {
     /// P1, 53300 `too many client connections`: as many clients as the settings allow are there.
     TooManyClients,

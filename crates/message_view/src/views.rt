@@ -55,7 +55,7 @@ pub struct AuthView<'a> {
 }
 
 /// A server's BackendKeyData.
-#[derive(Clone, Copy, Debug, PartialEq, Eq, Drop)]
+#[derive(Clone, Copy, PartialEq, Eq, Drop)]
 pub struct KeyView {
     pub pid: u32,
     pub secret: u32,
@@ -69,7 +69,7 @@ pub struct StatusView<'a> {
 }
 
 /// A server's ReadyForQuery.
-#[derive(Clone, Copy, Debug, PartialEq, Eq, Drop)]
+#[derive(Clone, Copy, PartialEq, Eq, Drop)]
 pub struct ReadyView {
     pub status: Status,
 }

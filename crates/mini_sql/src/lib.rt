@@ -17,7 +17,7 @@ pub use reader::read_statement;
 pub use stmt::{Filter, Operand, Setting, Stmt};
 
 /// Why a text is no statement.
-#[derive(Clone, Copy, Debug, PartialEq, Eq, Drop)]
+#[derive(Clone, Copy, Drop)]
 pub enum SqlFault {
     Syntax,
 }

@@ -20,7 +20,7 @@ static ALWAYS_FOLLOWED: [&str; 5] = [
 ];
 
 /// What a pair's name makes of it.
-#[derive(Clone, Copy, Debug, PartialEq, Eq)]
+#[derive(Clone, Copy, PartialEq, Eq)]
 pub(crate) enum Use {
     /// `user` or `database`, which are no parameters.
     Identity,

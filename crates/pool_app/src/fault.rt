@@ -8,7 +8,7 @@ use std::alloc::{AllocError, Global};
 use std::io;
 
 /// A fault that ends the program. Its texts are those of the command line.
-#[derive(Debug, Drop, PartialEq, Eq)]
+#[derive(Drop, PartialEq, Eq)]
 pub enum AppFault<'a> {
     /// The file can't be read, is too long, or is a key seed that isn't 32 bytes long.
     File(&'a str),

@@ -18,7 +18,7 @@ use user_file::{Users, read_users};
 pub const MOST_BYTES: u64 = 16_777_216;
 
 /// What a whole read came to: more bytes than allowed, or a fault of the reader.
-#[derive(Debug, Drop)]
+#[derive(Drop)]
 pub enum ReadFault {
     TooLong,
     Io(io::Error),

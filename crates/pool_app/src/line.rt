@@ -17,7 +17,7 @@ use std::io;
 const VERSION: &str = "1";
 
 /// What a command line asks for. Its texts are those of the words.
-#[derive(Debug, Drop, PartialEq, Eq)]
+#[derive(Drop, PartialEq, Eq)]
 pub enum Job<'a> {
     /// One client's bytes on standard input, its replies on standard output.
     Replay,
@@ -35,7 +35,7 @@ pub enum Job<'a> {
 }
 
 /// A command line that asks for no job: for help or the version, or a faulty one.
-#[derive(Debug, Drop)]
+#[derive(Drop)]
 pub enum LineFault {
     /// What clap says: help, the version, a fault of the words, or that an allocation failed.
     Refused(Error),

@@ -15,7 +15,7 @@ pub enum Ticked<E: ServerEnd> {
 }
 
 /// To new limits, Pause, Resume and Shutdown.
-#[derive(Clone, Copy, Debug, PartialEq, Eq, Drop)]
+#[derive(Clone, Copy, Drop)]
 pub enum Changed {
     Done,
     /// The book has made its last decision.

@@ -27,7 +27,7 @@ use std::marker::Model;
 pub const ROOM: usize = 8192;
 
 /// What stands behind the bytes that may go on.
-#[derive(Clone, Copy, Debug, PartialEq, Eq, Drop)]
+#[derive(Clone, Copy, Drop)]
 pub enum Ends {
     /// Bytes that may go on when more of them are there.
     Open,
@@ -83,7 +83,7 @@ impl Model for Flow {
 }
 
 /// Bytes of one frame that go on now.
-#[derive(Clone, Copy, Debug, PartialEq, Eq, Drop)]
+#[derive(Clone, Copy, Drop)]
 pub struct Passed {
     /// The frame's type.
     pub kind: u8,
@@ -98,7 +98,7 @@ pub struct Passed {
 }
 
 /// What stands behind the bytes that may go on, seen afresh.
-#[derive(Clone, Copy, Debug, PartialEq, Eq, Drop)]
+#[derive(Clone, Copy, Drop)]
 enum Ahead {
     Goes(Advance),
     Waits,

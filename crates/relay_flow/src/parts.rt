@@ -12,7 +12,7 @@ use frame_view::server::{PARAMETER_STATUS, READY_FOR_QUERY};
 use frame_view::{Frame, FrameFault, Side, Step, next_frame};
 
 /// How far a cursor goes: over `count` bytes of one frame.
-#[derive(Clone, Copy, Debug, PartialEq, Eq, Drop)]
+#[derive(Clone, Copy, Drop)]
 pub struct Advance {
     /// How many bytes, at least 1.
     pub count: usize,

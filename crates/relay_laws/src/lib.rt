@@ -9,7 +9,7 @@ ghost use Rattle.relay_laws.specs.Laws.{LeasesAreAllowed, LeasesAreExact, Settle
 use disposal::laws::settled_exactly;
 
 /// What the ends have answered so far.
-#[derive(Clone, Copy, Debug, PartialEq, Eq, Drop)]
+#[derive(Clone, Copy, Drop)]
 pub struct Flags {
     /// A byte went over the link, either way.
     pub touched: bool,
@@ -22,7 +22,7 @@ pub struct Flags {
 }
 
 /// Whether a relay has ended.
-#[derive(Clone, Copy, Debug, PartialEq, Eq, Drop)]
+#[derive(Clone, Copy, Drop)]
 pub enum Phase {
     /// Bytes move.
     Running,

@@ -7,7 +7,7 @@ use message_view::Refusal;
 pub use relay_laws::{Flags, Phase, leases_are_allowed};
 
 /// What a pump came to.
-#[derive(Clone, Copy, Debug, PartialEq, Eq, Drop)]
+#[derive(Clone, Copy, PartialEq, Eq, Drop)]
 pub enum Next {
     /// A byte was read or written: pump again.
     Again,

@@ -4,7 +4,7 @@ ghost use Rattle.std.specs.Prelude.{◌≡◌, true};
 use crate::ServerEnd;
 
 /// Which sides of a lease may be tried.
-#[derive(Clone, Copy, Debug, PartialEq, Eq, Drop)]
+#[derive(Clone, Copy, PartialEq, Eq, Drop)]
 pub struct Ready {
     pub client: bool,
     pub server: bool,
@@ -31,7 +31,7 @@ pub trait Gate<E: ServerEnd> {
 }
 
 /// A gate that never waits: both sides may be tried at each turn.
-#[derive(Clone, Copy, Debug, PartialEq, Eq, Drop)]
+#[derive(Clone, Copy, Drop)]
 pub struct OpenGate;
 
 impl<E: ServerEnd> Gate<E> for OpenGate {

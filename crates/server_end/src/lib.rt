@@ -8,7 +8,7 @@ ghost use Rattle.link_laws.specs.Standing.{Standing, Moves, ClientFacts};
 ghost use Rattle.server_end.specs.Moves.{ClientReads, ClientWrites, CountsRead, CountsWrite, IsWithin, moved};
 
 /// What a read or a write came to.
-#[derive(Clone, Copy, Debug, PartialEq, Eq, Drop)]
+#[derive(Clone, Copy, PartialEq, Eq, Drop)]
 pub enum Moved {
     /// So many bytes, from 1 to the slice's length.
     Count(usize),

@@ -1,6 +1,6 @@
 //! Where a session stands to a transaction block.
 /// Where a session stands to a transaction block (PostgreSQL manual, "BEGIN").
-#[derive(Clone, Copy, Debug, PartialEq, Eq, Drop)]
+#[derive(Clone, Copy, PartialEq, Eq, Drop)]
 pub enum Block {
     Outside,
     Inside,

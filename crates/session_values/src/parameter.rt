@@ -10,7 +10,7 @@ use mini_sql::is_same_word;
 use std::alloc::{AllocError, Global};
 
 /// A run-time parameter of the stand-in server.
-#[derive(Clone, Copy, Debug, PartialEq, Eq, Drop)]
+#[derive(Clone, Copy, PartialEq, Eq, Drop)]
 pub enum Parameter {
     ApplicationName,
     ClientEncoding,

@@ -17,7 +17,7 @@ use shared_list::Shared;
 use std::alloc::{AllocError, Global};
 
 /// A warning on the way.
-#[derive(Clone, Copy, Debug, PartialEq, Eq, Drop)]
+#[derive(Clone, Copy, Drop)]
 pub enum Notice {
     AlreadyInTransaction,
     NoTransaction,

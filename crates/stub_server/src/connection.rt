@@ -15,7 +15,7 @@ use std::sync::Arc;
 const ROOM: usize = 8192;
 
 /// Why a connection is closed.
-#[derive(Clone, Copy, Debug, PartialEq, Eq, Drop)]
+#[derive(Clone, Copy, Drop)]
 pub enum Ending {
     /// The server has answered all, and would answer nothing more.
     Closed,
