@@ -31,15 +31,8 @@ const SERVER: KeyWord = KeyWord {
 };
 
 /// What ann is told first on the database shop: nine parameters, her own key word, and ReadyForQuery.
-const WELCOME: &[u8] =
+pub(crate) const WELCOME: &[u8] =
     b"S\0\0\0\x16application_name\0\0S\0\0\0\x19client_encoding\0UTF8\0S\0\0\0\x17DateStyle\0ISO, MDY\0S\0\0\0\x19integer_datetimes\0on\0S\0\0\0\x1bIntervalStyle\0postgres\0S\0\0\0\x19server_encoding\0UTF8\0S\0\0\0\x18server_version\016.0\0S\0\0\0\x23standard_conforming_strings\0on\0S\0\0\0\x11TimeZone\0UTC\0K\0\0\0\x0c\0\0\0\x01\0\0\0\x02Z\0\0\0\x05I";
-
-/// The welcome, and then these bytes.
-pub(crate) fn welcome_and(alloc: Global, last: &[u8]) -> Result<Vec<u8>, AllocError> {
-    let mut all = Vec::from_slice(alloc, WELCOME)?;
-    all.extend_from_slice(last)?;
-    Ok(all)
-}
 
 fn catalogue(alloc: Global) -> Result<Arc<Catalogue>, AllocError> {
     match Catalogue::read(alloc, CATALOGUE) {

@@ -19,6 +19,14 @@ pub(crate) const START_B: &[u8] =
 /// What a client is given in its login.
 pub(crate) const LET_IN: &[u8] = b"R\0\0\0\x08\0\0\0\0";
 
+/// The parts of a welcome: the name of its first report, what follows the value, and its ReadyForQuery.
+const NAME: &[u8] = b"application_name\0";
+
+const REPORTS: &[u8] =
+    b"\0S\0\0\0\x19client_encoding\0UTF8\0S\0\0\0\x17DateStyle\0ISO, MDY\0S\0\0\0\x19integer_datetimes\0on\0S\0\0\0\x1bIntervalStyle\0postgres\0S\0\0\0\x19server_encoding\0UTF8\0S\0\0\0\x18server_version\016.0\0S\0\0\0\x23standard_conforming_strings\0on\0S\0\0\0\x11TimeZone\0UTC\0";
+
+const READY: &[u8] = b"Z\0\0\0\x05I";
+
 /// A play under these options.
 pub(crate) fn played(
     alloc: Global,
@@ -60,20 +68,16 @@ pub(crate) fn greeted(
     client: u8,
     last: &[u8],
 ) -> Result<Vec<u8>, AllocError> {
-    let mut all = Vec::from_slice(alloc, LET_IN)?;
-    all.extend_from_slice(if name.is_empty() {
+    let head: &[u8] = if name.is_empty() {
         b"S\0\0\0\x16"
     } else {
         b"S\0\0\0\x17"
-    })?;
-    all.extend_from_slice(b"application_name\0")?;
-    all.extend_from_slice(name)?;
-    all.extend_from_slice(
-        b"\0S\0\0\0\x19client_encoding\0UTF8\0S\0\0\0\x17DateStyle\0ISO, MDY\0S\0\0\0\x19integer_datetimes\0on\0S\0\0\0\x1bIntervalStyle\0postgres\0S\0\0\0\x19server_encoding\0UTF8\0S\0\0\0\x18server_version\016.0\0S\0\0\0\x23standard_conforming_strings\0on\0S\0\0\0\x11TimeZone\0UTC\0",
-    )?;
-    all.extend_from_slice(&[b'K', 0, 0, 0, 12, 0, 0, 0, client, 0, 0, 0, client])?;
-    all.extend_from_slice(b"Z\0\0\0\x05I")?;
-    all.extend_from_slice(last)?;
+    };
+    let word = [b'K', 0, 0, 0, 12, 0, 0, 0, client, 0, 0, 0, client];
+    let mut all = Vec::new(alloc);
+    for part in [LET_IN, head, NAME, name, REPORTS, &word, READY, last] {
+        all.extend_from_slice(part)?;
+    }
     Ok(all)
 }
 

@@ -38,12 +38,13 @@ fn one_too_many<
     requires parts { by_class A.parts G.parts B.parts L.parts W.parts O.parts ≡ parts_of blanks }
     requires all { parts_of blanks ≡ of_each ALL_PARTS }
 {
-    let dialer = MemoryDial::<N>::new(alloc, catalogue, word(7), CUT);
-    let desk = Desk::<MemoryDial<N>, A, G, B, L, W, O>::new(alloc, limits(alloc, 1)?, blanks)?;
-    let mut pass = desk.pass(rt).ok_or("no pass")?;
-    desk.arrive(rt, &mut pass);
+    let limits = limits(alloc, 1)?;
     let client = PacedClient::new(alloc, START, CUT)?;
     let login = login(alloc, 2)?;
+    let dialer = MemoryDial::<N>::new(alloc, catalogue, word(7), CUT);
+    let desk = Desk::<MemoryDial<N>, A, G, B, L, W, O>::new(alloc, limits, blanks)?;
+    let mut pass = desk.pass(rt).ok_or("no pass")?;
+    desk.arrive(rt, &mut pass);
     let (client, _pass) = serve_by(rt, alloc, &desk, &dialer, pass, client, login, 2, OpenGate);
     Ok(client)
 }

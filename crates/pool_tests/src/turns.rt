@@ -7,8 +7,7 @@ ghost use Rattle.memory_dial.specs.Homes.{IsEverywhere};
 
 use crate::files::catalogue;
 use crate::worker_parts::{CUT, limits, login, serve_by, word};
-use bytes::{BufMut, BytesMut};
-use desk_tallies::passes::{Pass, Totals};
+use desk_tallies::passes::Totals;
 use desk_tallies::tallies::Blanks;
 use memory_dial::{MemoryDial, Naming};
 use paced_client::PacedClient;
@@ -33,6 +32,11 @@ const SECOND: &[u8] =
 const REPORTS: &[u8] =
     b"R\0\0\0\x08\0\0\0\0S\0\0\0\x16application_name\0\0S\0\0\0\x19client_encoding\0UTF8\0S\0\0\0\x17DateStyle\0ISO, MDY\0S\0\0\0\x19integer_datetimes\0on\0S\0\0\0\x1bIntervalStyle\0postgres\0S\0\0\0\x19server_encoding\0UTF8\0S\0\0\0\x18server_version\x0016.0\0S\0\0\0\x23standard_conforming_strings\0on\0S\0\0\0\x11TimeZone\0UTC\0";
 
+/// The head of a BackendKeyData, and ReadyForQuery outside a block.
+const KEY: &[u8] = b"K\0\0\0\x0c";
+
+const READY: &[u8] = b"Z\0\0\0\x05I";
+
 /// `SET` with the report of DateStyle, `CREATE TABLE`, ParseComplete.
 const FIRST_ANSWERS: &[u8] =
     b"C\0\0\0\x08SET\0S\0\0\0\x17DateStyle\0SQL, DMY\0Z\0\0\0\x05IC\0\0\0\x11CREATE TABLE\0Z\0\0\0\x05I1\0\0\0\x04Z\0\0\0\x05I";
@@ -42,33 +46,14 @@ const SECOND_ANSWERS: &[u8] =
     b"T\0\0\0\x29\0\x01application_name\0\0\0\0\0\0\0\0\0\0\x19\xff\xff\xff\xff\xff\xff\0\0D\0\0\0\x0a\0\x01\0\0\0\0C\0\0\0\x09SHOW\0Z\0\0\0\x05IE\0\0\0\x33SERROR\0VERROR\0C42P01\0Mrelation does not exist\0\0Z\0\0\0\x05IE\0\0\0\x3dSERROR\0VERROR\0C26000\0Mprepared statement does not exist\0\0Z\0\0\0\x05I";
 
 /// All that the client with this number is to be given: its welcome, and these answers.
-fn wanted(alloc: Global, number: u32, answers: &[u8]) -> Result<BytesMut, AllocError> {
+fn wanted(alloc: Global, number: u32, answers: &[u8]) -> Result<Vec<u8>, AllocError> {
     let own = word(number);
-    let mut out = BytesMut::new(alloc);
-    out.extend_from_slice(REPORTS)?;
-    out.extend_from_slice(b"K\0\0\0\x0c")?;
-    out.put_u32(own.pid)?;
-    out.put_u32(own.secret)?;
-    out.extend_from_slice(b"Z\0\0\0\x05I")?;
-    out.extend_from_slice(answers)?;
+    let (pid, secret) = (own.pid.to_be_bytes(), own.secret.to_be_bytes());
+    let mut out = Vec::new(alloc);
+    for part in [REPORTS, KEY, &pid, &secret, READY, answers] {
+        out.extend_from_slice(part)?;
+    }
     Ok(out)
-}
-
-/// Serves a client that sends these bytes and leaves: all that it was given.
-fn served<N: Naming, A: Ledger, G: Ledger, B: Ledger, L: Ledger, W: Ledger, O: Ledger, R: Wait>(
-    rt: &R,
-    alloc: Global,
-    desk: &Desk<MemoryDial<N>, A, G, B, L, W, O>,
-    dialer: &MemoryDial<N>,
-    pass: Pass<A, G, B, L, W, O>,
-    number: u32,
-    input: &[u8],
-) -> Result<(PacedClient, Pass<A, G, B, L, W, O>), AllocError> {
-    let client = PacedClient::new(alloc, input, CUT)?;
-    let login = login(alloc, number)?;
-    Ok(serve_by(
-        rt, alloc, desk, dialer, pass, client, login, number, OpenGate,
-    ))
 }
 
 /// What became of both clients and of their links.
@@ -93,12 +78,15 @@ fn both<N: Naming, A: Ledger, G: Ledger, B: Ledger, L: Ledger, W: Ledger, O: Led
     requires parts { by_class A.parts G.parts B.parts L.parts W.parts O.parts ≡ parts_of blanks }
     requires all { parts_of blanks ≡ of_each ALL_PARTS }
 {
+    let limits = limits(alloc, 100)?;
+    let first = PacedClient::new(alloc, FIRST, CUT)?;
+    let second = PacedClient::new(alloc, SECOND, CUT)?;
+    let (one, two) = (login(alloc, 1)?, login(alloc, 2)?);
     let dialer = MemoryDial::<N>::new(alloc, catalogue, word(7), CUT);
-    let desk = Desk::<MemoryDial<N>, A, G, B, L, W, O>::new(alloc, limits(alloc, 100)?, blanks)?;
+    let desk = Desk::<MemoryDial<N>, A, G, B, L, W, O>::new(alloc, limits, blanks)?;
     let pass = desk.pass(rt).ok_or("no pass")?;
-    let (first, pass) = served(rt, alloc, &desk, &dialer, pass, 1, FIRST)?;
-    let (second, pass) = served(rt, alloc, &desk, &dialer, pass, 2, SECOND)?;
-    let mut pass = pass;
+    let (first, pass) = serve_by(rt, alloc, &desk, &dialer, pass, first, one, 1, OpenGate);
+    let (second, mut pass) = serve_by(rt, alloc, &desk, &dialer, pass, second, two, 2, OpenGate);
     let view = desk.view(rt, alloc, &mut pass)?;
     let mut passes = Vec::new(alloc);
     passes.push(pass).ok().ok_or("no memory")?;
