@@ -1,5 +1,5 @@
 -- What the files of the pooler come to.
-use Rattle.std.specs.Prelude.{◌≡◌, ◌≢◌, ◌<◌, ℕ, List, length, Option, IfSome, Result, Ok, Err}
+use Rattle.std.specs.Prelude.{◌≡◌, ◌≢◌, ◌⊎◌, ◌<◌, ℕ, List, length, Option, IfSome, Result, Ok, Err}
 use Rattle.std.specs.Borrow.{Bor}
 use Rattle.ini_config.specs.Reading as ini
 use Rattle.ini_config.specs.declared.option_values.Settings.{Settings}
@@ -10,7 +10,7 @@ use Rattle.user_file.specs.declared.user_table.UserRow.{UserRow}
 use Rattle.pool_app.specs.declared.files.ReadFault.{ReadFault}
 use Rattle.pool_app.specs.declared.files.ReadFault.TheVariants.{TooLong, Io}
 use Rattle.pool_app.specs.declared.fault.AppFault.{AppFault}
-use Rattle.pool_app.specs.declared.fault.AppFault.TheVariants.{Catalogue, File, Ini, Users}
+use Rattle.pool_app.specs.declared.fault.AppFault.TheVariants.{Catalogue, File, Ini, Memory, Users}
 
 -- the settings that the lines spell, or their fault
 abbrev pub IsSettingsOf : List (List ℕ) → Result Settings AppFault → Type 0
@@ -39,3 +39,23 @@ IsCatalogueOf lines (Err other) = ⊥
 abbrev pub IsReadFaultOf : Option (List ℕ) → ℕ → ReadFault → Type 0
 IsReadFaultOf remaining most TooLong = IfSome remaining (λ xs. most < length xs)
 IsReadFaultOf remaining most (Io error) = Unit {0}
+
+-- ---- whose fault it is that a file isn't read: it is named, unless memory was refused, or the fault is of one of its lines
+
+abbrev pub IsUnread : Bor (List ℕ) → AppFault → Type 0
+IsUnread path fault = (fault ≡ File path) ⊎ (fault ≡ Memory)
+
+abbrev pub IsSettingsFault : Bor (List ℕ) → AppFault → Type 0
+IsSettingsFault path (Ini fault) = Unit {0}
+IsSettingsFault path other = IsUnread path other
+
+abbrev pub IsUsersFault : Bor (List ℕ) → AppFault → Type 0
+IsUsersFault path (Users fault) = Unit {0}
+IsUsersFault path other = IsUnread path other
+
+abbrev pub IsCatalogueFault : Bor (List ℕ) → AppFault → Type 0
+IsCatalogueFault path (Catalogue fault) = Unit {0}
+IsCatalogueFault path other = IsUnread path other
+
+abbrev pub IsInputsFault : Bor (List ℕ) → Bor (List ℕ) → Bor (List ℕ) → AppFault → Type 0
+IsInputsFault ini users key_seed fault = IsSettingsFault ini fault ⊎ (IsUsersFault users fault ⊎ IsUnread key_seed fault)

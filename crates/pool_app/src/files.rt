@@ -52,24 +52,31 @@ pub fn read_all<R: Read + Drop>(alloc: Global, input: R, most: u64) -> Result<Ve
 }
 
 /// The fault of a file that wasn't read.
-fn unread<'a>(path: &'a str, fault: ReadFault) -> AppFault<'a> {
+fn unread<'a>(path: &'a str, fault: ReadFault) -> AppFault<'a>
+    ensures { spec.IsUnread path.entry result }
+{
     match fault {
         ReadFault::Io(error) if error.kind() == ErrorKind::OutOfMemory => AppFault::Memory,
         _ => AppFault::File(path),
     }
 }
 
-/// The bytes of a file.
+/// The bytes of a file. One that can't be read is named, unless memory was refused.
 pub fn read_file<'a, R: Files>(
     rt: &R,
     alloc: Global,
     path: &'a str,
-) -> Result<Vec<u8>, AppFault<'a>> {
+) -> Result<Vec<u8>, AppFault<'a>>
+    ensures { IfErr result (spec.IsUnread path.entry) }
+{
     let file = match fs::open(rt, path) {
         Ok(file) => file,
         Err(error) => return Err(unread(path, ReadFault::Io(error))),
     };
-    read_all(alloc, file, MOST_BYTES).map_err(|fault| unread(path, fault))
+    match read_all(alloc, file, MOST_BYTES) {
+        Ok(bytes) => Ok(bytes),
+        Err(fault) => Err(unread(path, fault)),
+    }
 }
 
 /// The key seed of a file's bytes.
@@ -106,7 +113,8 @@ pub fn users_of<'a>(alloc: Global, text: &[u8]) -> Result<Users, AppFault<'a>>
 
 /// The settings in the file at this path. They are within their bounds.
 fn settings_at<'a, R: Files>(rt: &R, alloc: Global, path: &'a str) -> Result<Settings, AppFault<'a>>
-    ensures { IfOk result (λ settings. AreWithinBounds settings) }
+    ensures bounds { IfOk result (λ settings. AreWithinBounds settings) }
+    ensures fault { IfErr result (spec.IsSettingsFault path.entry) }
 {
     read_settings_are_within_bounds();
     let text = read_file(rt, alloc, path)?;
@@ -116,19 +124,23 @@ fn settings_at<'a, R: Files>(rt: &R, alloc: Global, path: &'a str) -> Result<Set
 }
 
 /// The users in the file at this path.
-fn users_at<'a, R: Files>(rt: &R, alloc: Global, path: &'a str) -> Result<Users, AppFault<'a>> {
+fn users_at<'a, R: Files>(rt: &R, alloc: Global, path: &'a str) -> Result<Users, AppFault<'a>>
+    ensures { IfErr result (spec.IsUsersFault path.entry) }
+{
     let text = read_file(rt, alloc, path)?;
     users_of(alloc, text.as_slice())
 }
 
 /// The key seed in the file at this path.
-fn seed_at<'a, R: Files>(rt: &R, alloc: Global, path: &'a str) -> Result<[u8; 32], AppFault<'a>> {
+fn seed_at<'a, R: Files>(rt: &R, alloc: Global, path: &'a str) -> Result<[u8; 32], AppFault<'a>>
+    ensures { IfErr result (spec.IsUnread path.entry) }
+{
     let bytes = read_file(rt, alloc, path)?;
     seed_of(path, bytes.as_slice())
 }
 
 /// The files of the pooler. Each is read and checked before the next: settings, users, key seed. The settings are within their
-/// bounds.
+/// bounds. A fault is one of a file's lines, or names the file; or memory was refused.
 pub fn read_inputs<'a, R: Files>(
     rt: &R,
     alloc: Global,
@@ -137,6 +149,7 @@ pub fn read_inputs<'a, R: Files>(
     key_seed: &'a str,
 ) -> Result<Inputs, AppFault<'a>>
     ensures bounds { IfOk result (λ inputs. AreWithinBounds inputs.settings) }
+    ensures fault { IfErr result (spec.IsInputsFault ini.entry users.entry key_seed.entry) }
 {
     Ok(Inputs {
         settings: settings_at(rt, alloc, ini)?,
@@ -155,12 +168,14 @@ pub fn catalogue_of<'a>(alloc: Global, text: &[u8]) -> Result<Catalogue, AppFaul
     }
 }
 
-/// The stand-in server's catalogue.
+/// The stand-in server's catalogue. A fault is one of its lines, or names the file; or memory was refused.
 pub fn read_catalogue<'a, R: Files>(
     rt: &R,
     alloc: Global,
     path: &'a str,
-) -> Result<Catalogue, AppFault<'a>> {
+) -> Result<Catalogue, AppFault<'a>>
+    ensures { IfErr result (spec.IsCatalogueFault path.entry) }
+{
     let text = read_file(rt, alloc, path)?;
     catalogue_of(alloc, text.as_slice())
 }

@@ -5,7 +5,7 @@ use Rattle.pool_app.specs.Files as spec
 use Rattle.pool_app.specs.declared.fault.AppFault.{AppFault}
 use Rattle.pool_app.proofs.files.settings_at.Goals as goal
 
-pub returns : goal.returns
-returns g c =
+pub returns-clause-bounds : goal.returns-clause-bounds
+returns-clause-bounds g c =
     let said : spec.IsSettingsOf (lines c.as_slice.result.now) (Ok c.in_ok-settings.settings) = subst (λ (r : Result Settings AppFault). spec.IsSettingsOf (lines c.as_slice.result.now) r) c.in_ok-settings.was c.settings_of.ensures in
     c.read_settings_are_within_bounds.ensures (lines c.as_slice.result.now) c.in_ok-settings.settings said
