@@ -81,6 +81,10 @@ fn put_stmt(line: &mut Vec<u8>, stmt: &Stmt<'_>) -> Result<(), Fail> {
             put_named(line, b"set", name)?;
             put_setting(line, to)
         }
+        Stmt::SetLocal { name, to } => {
+            put_named(line, b"set local", name)?;
+            put_setting(line, to)
+        }
         Stmt::Reset { name } => put_named(line, b"reset", name),
         Stmt::ResetAll => put(line, b"reset all"),
         Stmt::Show { name } => put_named(line, b"show", name),
@@ -106,6 +110,25 @@ fn put_stmt(line: &mut Vec<u8>, stmt: &Stmt<'_>) -> Result<(), Fail> {
             put_columns(line, *columns)?;
             put_filter(line, filter)
         }
+        Stmt::Declare {
+            cursor,
+            columns,
+            table,
+            filter,
+        } => {
+            put_named(line, b"declare", cursor)?;
+            put_named(line, b" select", table)?;
+            put_columns(line, *columns)?;
+            put_filter(line, filter)
+        }
+        Stmt::Fetch { count, cursor } => {
+            put_named(line, b"fetch", cursor)?;
+            if count.is_none() {
+                put(line, b" all")?;
+            }
+            Ok(())
+        }
+        Stmt::CloseCursor { cursor } => put_named(line, b"close", cursor),
     }
 }
 

@@ -1,11 +1,11 @@
 -- What is derived is read.
 use Rattle.std.proofs.Common.{◌≡◌, ℕ, ◌≤◌, List, [], ◌∷◌, ◌++◌, length, Option, Some, None, refl, sym, ap, ◌∙◌, Bool, true, false, eqb-true}
-use Rattle.std.specs.Prelude.{if◌then◌else◌, nat_le, codes, ◌||◌}
+use Rattle.std.specs.Prelude.{if◌then◌else◌, nat_le, codes, ◌||◌, ◌==◌}
 use Rattle.std.proofs.lemmas.Bool.{le-leb}
 use Rattle.std.proofs.lemmas.Slice.Eq.{bytes_eq-Decides}
 use Rattle.mini_sql.specs.Words.{Text, folded}
 use Rattle.mini_sql.specs.Tokens.{Token, Name, Literal, Digits, Parameter, Sign, closing, star, comma, equal}
-use Rattle.mini_sql.specs.Statements.{Form, Statement, Begin, Commit, Rollback, Set, Select, Equals, Operand, read, ends, pass, take_value, either, or_else, items, definitions, columns_at, at_most_64, with_item, take_columns, take_operands, name_of, column_of, operand_of, is_word, is_sign, block, assignment, set, reset, show, discard, create, definition_list, drop_table, insert, value_list, where_of, end_of, from_of, select, of_tokens, phrase, statement, less_semicolon}
+use Rattle.mini_sql.specs.Statements.{Form, Statement, Begin, Commit, Rollback, Set, SetLocal, Select, Declare, Fetch, Equals, Operand, read, ends, pass, take_value, either, or_else, items, definitions, columns_at, at_most_64, with_item, take_columns, take_operands, name_of, column_of, operand_of, is_word, is_sign, block, assignment, set_name, set, reset, show, discard, create, definition_list, drop_table, insert, value_list, where_of, end_of, from_of, select, declared_over, rows_of, declare, fetch, close, parameters_of, of_tokens, phrase, statement, less_semicolon}
 use Rattle.mini_sql.specs.Grammar.{Says, Marks, IsBlock, Columns, Definitions, Operands, Assignment, Filter, Chosen, IsTemporary, Derives}
 use Rattle.mini_sql.specs.Grammar as g
 use Rattle.mini_sql.specs.Laws.{DerivedIsStatement, DerivesOne}
@@ -108,10 +108,10 @@ block-read r g.bare = first_is _ _ [] r (end_is r)
 block-read r (g.work {w} says) = second_is _ _ (w ∷ []) _ (no_end r w []) (pass_is _ _ w [] (left_holds _ _ says) ∙ end_is r)
 block-read r (g.transaction {w} says) = second_is _ _ (w ∷ []) _ (no_end r w []) (pass_is _ _ w [] (right_holds _ _ says) ∙ end_is r)
 
-assignment-read : {ts : List Token} {n : Text} {v : Option Text} (d : Assignment ts n v) → assignment ts ≡ Some (Set n v)
+assignment-read : (made : Text → Option Text → Statement) {ts : List Token} {n : Text} {v : Option Text} (d : Assignment ts n v) → assignment made ts ≡ Some (made n v)
 unfolding assignment
-assignment-read (g.to {n} {a} {v} {name} {value} spells says sets) = value_is _ _ n _ name spells ∙ pass_is _ _ a _ (left_holds _ _ says) ∙ value_is _ _ v _ value sets ∙ end_is _
-assignment-read (g.equals {n} {a} {v} {name} {value} spells marks sets) = value_is _ _ n _ name spells ∙ pass_is _ _ a _ (right_holds _ _ marks) ∙ value_is _ _ v _ value sets ∙ end_is _
+assignment-read made (g.to {n} {a} {v} {name} {value} spells says sets) = value_is _ _ n _ name spells ∙ pass_is _ _ a _ (left_holds _ _ says) ∙ value_is _ _ v _ value sets ∙ end_is _
+assignment-read made (g.equals {n} {a} {v} {name} {value} spells marks sets) = value_is _ _ n _ name spells ∙ pass_is _ _ a _ (right_holds _ _ marks) ∙ value_is _ _ v _ value sets ∙ end_is _
 
 abbrev nothing : Option Statement
 nothing = None
@@ -126,14 +126,34 @@ unfolding read
 short_value None b = refl
 short_value (Some n) b = if_none b
 
-short : (a v : Token) → assignment (a ∷ v ∷ []) ≡ None
+short : (made : Text → Option Text → Statement) (a v : Token) → assignment made (a ∷ v ∷ []) ≡ None
 unfolding assignment take_value pass
-short a v = short_value (name_of a) (is_word (codes "to") v || is_sign equal v)
+short made a v = short_value (name_of a) (is_word (codes "to") v || is_sign equal v)
 
-not_session : {ts : List Token} {n : Text} {v : Option Text} (d : Assignment ts n v) → pass (is_word (codes "session")) assignment ts ≡ None
+not_behind : (w : Text) (made : Text → Option Text → Statement) {ts : List Token} {n : Text} {v : Option Text} (d : Assignment ts n v) → pass (is_word w) (assignment made) ts ≡ None
 unfolding pass
-not_session (g.to {n} {a} {v} spells says sets) = rw (short a v) (if_none _)
-not_session (g.equals {n} {a} {v} spells marks sets) = rw (short a v) (if_none _)
+not_behind w made (g.to {n} {a} {v} spells says sets) = rw (short made a v) (if_none _)
+not_behind w made (g.equals {n} {a} {v} spells marks sets) = rw (short made a v) (if_none _)
+
+set_name-read : {ts : List Token} {n : Text} {v : Option Text} (d : Assignment ts n v) → set_name ts ≡ Some (Set n v)
+unfolding set_name
+set_name-read {ts} a = second_is _ _ ts _ (not_behind (codes "local") SetLocal a) (assignment-read Set a)
+
+-- LOCAL isn't SESSION
+local_no_session : (t : Token) → is_word (codes "local") t ≡ true → is_word (codes "session") t ≡ false
+local_no_session (Name n) e = let same : folded n ≡ folded (codes "local") = (bytes_eq-Decides (folded n) (folded (codes "local"))).0 e in rw same refl
+local_no_session (Literal n) e = absurd (cc)
+local_no_session (Digits n) e = absurd (cc)
+local_no_session (Parameter n) e = absurd (cc)
+local_no_session (Sign n) e = absurd (cc)
+
+set_local-read : (u : Token) {ts : List Token} {n : Text} {v : Option Text} → Says u (codes "local") → Assignment ts n v → set (u ∷ ts) ≡ Some (SetLocal n v)
+unfolding set set_name
+set_local-read u {ts} says a = second_is _ _ (u ∷ ts) _ (pass_no _ _ u ts (local_no_session u says)) (first_is _ _ (u ∷ ts) _ (pass_is _ _ u ts says ∙ assignment-read SetLocal a))
+
+-- a SELECT without parameters, for a cursor
+over-read : (c : Text) (o : Option Statement) (cs : List Text) (t : Text) (w : Option Equals) → o ≡ Some (Select cs t w) → parameters_of (Select cs t w) ≡ 0 → declared_over c o ≡ Some (Declare c cs t w)
+over-read c o cs t w e none = ap (declared_over c) e ∙ ap (λ (n : ℕ). if n == 0 then Some (Declare c cs t w) else None) none
 
 filter-read : (cs : List Text) (t : Text) {ts : List Token} {o : Option Equals} (d : Filter ts o) → end_of cs t ts ≡ Some (Select cs t o)
 unfolding end_of where_of
@@ -162,13 +182,14 @@ temporary-read (g.temp says) = left_holds _ _ says
 temporary-read (g.temporary says) = right_holds _ _ says
 
 derived-read : {ts : List Token} {s : Statement} (d : Derives ts s) → of_tokens ts ≡ Some s
-unfolding of_tokens set reset show discard create definition_list drop_table insert value_list columns_at
+unfolding of_tokens set reset show discard create definition_list drop_table insert value_list columns_at rows_of declare fetch close
 derived-read g.empty = refl
 derived-read (g.begin {w} {ts} says b) = by_word (codes "begin") w ts says ∙ block-read Begin b
 derived-read (g.commit {w} {ts} says b) = by_word (codes "commit") w ts says ∙ block-read Commit b
 derived-read (g.rollback {w} {ts} says b) = by_word (codes "rollback") w ts says ∙ block-read Rollback b
-derived-read (g.set {w} {ts} says a) = by_word (codes "set") w ts says ∙ second_is _ _ ts _ (not_session a) (assignment-read a)
-derived-read (g.set_session {w} {u} {ts} says session a) = by_word (codes "set") w (u ∷ ts) says ∙ first_is _ _ (u ∷ ts) _ (pass_is _ _ u ts session ∙ assignment-read a)
+derived-read (g.set {w} {ts} says a) = by_word (codes "set") w ts says ∙ second_is _ _ ts _ (not_behind (codes "session") Set a) (set_name-read a)
+derived-read (g.set_session {w} {u} {ts} says session a) = by_word (codes "set") w (u ∷ ts) says ∙ first_is _ _ (u ∷ ts) _ (pass_is _ _ u ts session ∙ assignment-read Set a)
+derived-read (g.set_local {w} {u} {ts} says local a) = by_word (codes "set") w (u ∷ ts) says ∙ set_local-read u local a
 derived-read (g.reset_all {w} {a} says all) = by_word (codes "reset") w (a ∷ []) says ∙ first_is _ _ (a ∷ []) _ (pass_is _ _ a [] all ∙ end_is _)
 derived-read (g.reset {w} {n} {name} says other spells) = by_word (codes "reset") w (n ∷ []) says ∙ second_is _ _ (n ∷ []) _ (pass_no _ _ n [] other) (value_is _ _ n [] name spells ∙ end_is _)
 derived-read (g.show {w} {n} {name} says spells) = by_word (codes "show") w (n ∷ []) says ∙ value_is _ _ n [] name spells ∙ end_is _
@@ -181,6 +202,12 @@ derived-read (g.insert {w} {i} {n} {u} {o} ts e {t} {vs} says into names vals op
     by_word (codes "insert") w _ says ∙ pass_is _ _ i _ into ∙ value_is _ _ n _ t names ∙ pass_is _ _ u _ vals ∙ pass_is _ _ o _ opens
     ∙ operands_is _ _ vs _ (operands-read list e [] (closing_no_comma e close)) ∙ pass_is _ _ e [] close ∙ end_is _
 derived-read (g.select {w} ts f n us {t} {cs} {filter} says chosen from names rest) = by_word (codes "select") w _ says ∙ select-read chosen f n us t filter from names rest
+derived-read (g.declare {w} {n} {c} {v} {h} {f} {u} ts {cursor} {t} {cs} {filter} says names is_cursor is_with holds is_for selects d none) =
+    by_word (codes "declare") w _ says ∙ value_is _ _ n _ cursor names ∙ pass_is _ _ c _ is_cursor ∙ pass_is _ _ v _ is_with ∙ pass_is _ _ h _ holds ∙ pass_is _ _ f _ is_for
+    ∙ pass_is _ _ u ts selects ∙ over-read cursor (select ts) cs t filter (sym (by_word (codes "select") u ts selects) ∙ derived-read d) none
+derived-read (g.fetch {w} {n} {f} {c} {count} {cursor} says counts from names) =
+    by_word (codes "fetch") w _ says ∙ value_is _ _ n _ count counts ∙ pass_is _ _ f _ from ∙ value_is _ _ c [] cursor names ∙ end_is _
+derived-read (g.close {w} {c} {cursor} says names) = by_word (codes "close") w _ says ∙ value_is _ _ c [] cursor names ∙ end_is _
 
 pub derived-statement : DerivedIsStatement
 unfolding statement phrase read less_semicolon

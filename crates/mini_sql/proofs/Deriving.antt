@@ -1,10 +1,10 @@
 -- What a form reads is derived.
-use Rattle.std.proofs.Common.{◌≡◌, ℕ, ◌≤◌, List, [], ◌∷◌, ◌++◌, length, Option, Some, None, refl, sym, ap, ◌∙◌, arith, Bool, true, false, subst, append_assoc}
+use Rattle.std.proofs.Common.{◌≡◌, ℕ, ◌≤◌, List, [], ◌∷◌, ◌++◌, length, Option, Some, None, refl, sym, ap, ◌∙◌, arith, Bool, true, false, eqb-true, subst, append_assoc}
 use Rattle.std.proofs.lemmas.Bool.Decides.{nat_tests}
-use Rattle.std.specs.Prelude.{if◌then◌else◌, nat_le, codes, ◌||◌}
+use Rattle.std.specs.Prelude.{if◌then◌else◌, nat_le, codes, ◌||◌, ◌==◌}
 use Rattle.mini_sql.specs.Words.{Text}
 use Rattle.mini_sql.specs.Tokens.{tokens, Token, closing, comma}
-use Rattle.mini_sql.specs.Statements.{Form, Statement, Empty, Begin, Commit, Rollback, Set, Reset, ResetAll, Show, DiscardAll, Create, Drop, Insert, Select, Equals, Operand, read, ends, pass, take_value, either, or_else, items, definitions, columns_at, at_most_64, with_item, take_columns, take_operands, name_of, column_of, setting_of, operand_of, is_word, is_sign, block, assignment, set, reset, show, discard, create, definition_list, drop_table, insert, value_list, where_of, end_of, from_of, select, of_word, of_other, of_tokens, phrase, statement, less_semicolon, without_semicolon}
+use Rattle.mini_sql.specs.Statements.{Form, Statement, Empty, Begin, Commit, Rollback, Set, SetLocal, Reset, ResetAll, Show, DiscardAll, Create, Drop, Insert, Select, Declare, Fetch, CloseCursor, Equals, Operand, read, ends, pass, take_value, either, or_else, items, definitions, columns_at, at_most_64, with_item, take_columns, take_operands, name_of, column_of, setting_of, operand_of, is_word, is_sign, block, assignment, set_name, set, reset, show, discard, create, definition_list, drop_table, insert, value_list, where_of, end_of, from_of, select, count_of, declared_over, rows_of, declare, fetch, close, parameters_of, of_word, of_other, of_cursor, of_tokens, phrase, statement, less_semicolon, without_semicolon}
 use Rattle.mini_sql.specs.Laws.{StatementIsDerived}
 use Rattle.mini_sql.specs.Grammar.{Says, Marks, Spells, Names, Sets, Gives, IsBlock, Columns, Definitions, Operands, Assignment, Filter, Chosen, IsTemporary, Derives}
 use Rattle.mini_sql.specs.Grammar as g
@@ -128,21 +128,28 @@ block-derives r ts s e =
     either-elim (IsBlock ts × (r ≡ s)) _ _ ts s (ends-elim (λ vs q. IsBlock vs × (r ≡ q)) r ts s (g.bare, refl))
     (λ n. pass-elim (λ vs. IsBlock vs × (r ≡ s)) _ _ ts s (λ t us h f. or_true _ _ h (IsBlock (t ∷ us) × (r ≡ s)) (λ w. one t us (g.work w) f) (λ w. one t us (g.transaction w) f))) e
 
-assignment-derives : (P : Statement → Type 0) (ts : List Token) (s : Statement) → ((n : Text) (v : Option Text) → Assignment ts n v → P (Set n v)) → assignment ts ≡ Some s → P s
+assignment-derives : (made : Text → Option Text → Statement) (P : Statement → Type 0) (ts : List Token) (s : Statement) → ((n : Text) (v : Option Text) → Assignment ts n v → P (made n v)) → assignment made ts ≡ Some s → P s
 unfolding assignment
-assignment-derives P ts s k e =
-    value-elim (λ us. ((n : Text) (v : Option Text) → Assignment us n v → P (Set n v)) → P s) name_of _ ts s (λ t us n h f.
-    pass-elim (λ ws. ((m : Text) (v : Option Text) → Assignment (t ∷ ws) m v → P (Set m v)) → P s) _ _ us s (λ a ws b i.
-    value-elim (λ xs. ((m : Text) (v : Option Text) → Assignment (t ∷ a ∷ xs) m v → P (Set m v)) → P s) setting_of _ ws s (λ x xs v j l.
-    ends-elim (λ ys q. ((m : Text) (v : Option Text) → Assignment (t ∷ a ∷ x ∷ ys) m v → P (Set m v)) → P q) (Set n v) xs s
-    (λ kk. or_true _ _ b (P (Set n v)) (λ y. kk n v (g.to h y j)) (λ y. kk n v (g.equals h y j))) l) i) f) e k
+assignment-derives made P ts s k e =
+    value-elim (λ us. ((n : Text) (v : Option Text) → Assignment us n v → P (made n v)) → P s) name_of _ ts s (λ t us n h f.
+    pass-elim (λ ws. ((m : Text) (v : Option Text) → Assignment (t ∷ ws) m v → P (made m v)) → P s) _ _ us s (λ a ws b i.
+    value-elim (λ xs. ((m : Text) (v : Option Text) → Assignment (t ∷ a ∷ xs) m v → P (made m v)) → P s) setting_of _ ws s (λ x xs v j l.
+    ends-elim (λ ys q. ((m : Text) (v : Option Text) → Assignment (t ∷ a ∷ x ∷ ys) m v → P (made m v)) → P q) (made n v) xs s
+    (λ kk. or_true _ _ b (P (made n v)) (λ y. kk n v (g.to h y j)) (λ y. kk n v (g.equals h y j))) l) i) f) e k
+
+set_name-derives : (w : Token) (ts : List Token) (s : Statement) → Says w (codes "set") → set_name ts ≡ Some s → Derives (w ∷ ts) s
+unfolding set_name
+set_name-derives w ts s h e =
+    either-elim (Derives (w ∷ ts) s) _ _ ts s
+    (pass-elim (λ us. Derives (w ∷ us) s) _ _ ts s (λ t us i f. assignment-derives SetLocal (λ q. Derives (w ∷ t ∷ us) q) us s (λ n v a. g.set_local h i a) f))
+    (λ n. assignment-derives Set (λ q. Derives (w ∷ ts) q) ts s (λ m v a. g.set h a)) e
 
 set-derives : (w : Token) (ts : List Token) (s : Statement) → Says w (codes "set") → set ts ≡ Some s → Derives (w ∷ ts) s
 unfolding set
 set-derives w ts s h e =
     either-elim (Derives (w ∷ ts) s) _ _ ts s
-    (pass-elim (λ us. Derives (w ∷ us) s) _ _ ts s (λ t us i f. assignment-derives (λ q. Derives (w ∷ t ∷ us) q) us s (λ n v a. g.set_session h i a) f))
-    (λ n. assignment-derives (λ q. Derives (w ∷ ts) q) ts s (λ m v a. g.set h a)) e
+    (pass-elim (λ us. Derives (w ∷ us) s) _ _ ts s (λ t us i f. assignment-derives Set (λ q. Derives (w ∷ t ∷ us) q) us s (λ n v a. g.set_session h i a) f))
+    (λ n. set_name-derives w ts s h) e
 
 show-derives : (w : Token) (ts : List Token) (s : Statement) → Says w (codes "show") → show ts ≡ Some s → Derives (w ∷ ts) s
 unfolding show
@@ -253,6 +260,54 @@ select-derives w ts s h e =
     subst (λ us. Derives (w ∷ us) s) (sym parts.is)
     (from-derives (λ vs u. Derives (w ∷ (parts.front ++ vs)) u) found.0.0 found.0.1 s (λ f n xs t o j m r. g.select parts.front f n xs h (g.some parts.list found.2) j m r) found.3)) e
 
+-- a cursor's SELECT has no parameters
+over-elim : (P : Type 0) (c : Text) (o : Option Statement) (s : Statement)
+    → ((cs : List Text) (t : Text) (w : Option Equals) → o ≡ Some (Select cs t w) → parameters_of (Select cs t w) ≡ 0 → Declare c cs t w ≡ s → P) → declared_over c o ≡ Some s → P
+over-elim P c None s k e = absurd (cc)
+over-elim P c (Some (Select cs t w)) s k e =
+    let both = if_some (parameters_of (Select cs t w) == 0) (Some (Declare c cs t w)) s e in
+    k cs t w refl (eqb-true (parameters_of (Select cs t w)) 0 both.0) (inside (Declare c cs t w) s both.1)
+over-elim P c (Some Empty) s k e = absurd (cc)
+over-elim P c (Some Begin) s k e = absurd (cc)
+over-elim P c (Some Commit) s k e = absurd (cc)
+over-elim P c (Some Rollback) s k e = absurd (cc)
+over-elim P c (Some (Set n v)) s k e = absurd (cc)
+over-elim P c (Some (SetLocal n v)) s k e = absurd (cc)
+over-elim P c (Some (Reset n)) s k e = absurd (cc)
+over-elim P c (Some ResetAll) s k e = absurd (cc)
+over-elim P c (Some (Show n)) s k e = absurd (cc)
+over-elim P c (Some DiscardAll) s k e = absurd (cc)
+over-elim P c (Some (Create t cs)) s k e = absurd (cc)
+over-elim P c (Some (Drop t)) s k e = absurd (cc)
+over-elim P c (Some (Insert t vs)) s k e = absurd (cc)
+over-elim P c (Some (Declare d cs t w)) s k e = absurd (cc)
+over-elim P c (Some (Fetch n d)) s k e = absurd (cc)
+over-elim P c (Some (CloseCursor d)) s k e = absurd (cc)
+
+declare-derives : (w : Token) (ts : List Token) (s : Statement) → Says w (codes "declare") → declare ts ≡ Some s → Derives (w ∷ ts) s
+unfolding declare rows_of
+declare-derives w ts s says e =
+    value-elim (λ us. Derives (w ∷ us) s) column_of _ ts s (λ n us cursor names e1.
+    pass-elim (λ vs. Derives (w ∷ n ∷ vs) s) _ _ us s (λ c vs is_cursor e2.
+    pass-elim (λ xs. Derives (w ∷ n ∷ c ∷ xs) s) _ _ vs s (λ v xs is_with e3.
+    pass-elim (λ ys. Derives (w ∷ n ∷ c ∷ v ∷ ys) s) _ _ xs s (λ h ys holds e4.
+    pass-elim (λ zs. Derives (w ∷ n ∷ c ∷ v ∷ h ∷ zs) s) _ _ ys s (λ f zs is_for e5.
+    pass-elim (λ qs. Derives (w ∷ n ∷ c ∷ v ∷ h ∷ f ∷ qs) s) _ _ zs s (λ u qs selects e6.
+    over-elim (Derives (w ∷ n ∷ c ∷ v ∷ h ∷ f ∷ u ∷ qs) s) cursor (select qs) s (λ cs t filter is none same.
+    subst (Derives (w ∷ n ∷ c ∷ v ∷ h ∷ f ∷ u ∷ qs)) same (g.declare qs says names is_cursor is_with holds is_for selects (select-derives u qs (Select cs t filter) selects is) none)) e6) e5) e4) e3) e2) e1) e
+
+fetch-derives : (w : Token) (ts : List Token) (s : Statement) → Says w (codes "fetch") → fetch ts ≡ Some s → Derives (w ∷ ts) s
+unfolding fetch
+fetch-derives w ts s h e =
+    value-elim (λ us. Derives (w ∷ us) s) count_of _ ts s (λ n us count i f.
+    pass-elim (λ vs. Derives (w ∷ n ∷ vs) s) _ _ us s (λ t vs j l.
+    value-elim (λ xs. Derives (w ∷ n ∷ t ∷ xs) s) column_of _ vs s (λ c xs cursor m o.
+    ends-elim (λ ys q. Derives (w ∷ n ∷ t ∷ c ∷ ys) q) (Fetch count cursor) xs s (g.fetch h i j m) o) l) f) e
+
+close-derives : (w : Token) (ts : List Token) (s : Statement) → Says w (codes "close") → close ts ≡ Some s → Derives (w ∷ ts) s
+unfolding close
+close-derives w ts s h e = value-elim (λ us. Derives (w ∷ us) s) column_of _ ts s (λ t us n i f. ends-elim (λ vs q. Derives (w ∷ t ∷ vs) q) (CloseCursor n) us s (g.close h i) f) e
+
 -- by the first word
 if_form : (b : Bool) (f h : Form) (ts : List Token) (s : Statement) (P : Type 0) → (b ≡ true → f ts ≡ Some s → P) → (h ts ≡ Some s → P) → (if b then f else h) ts ≡ Some s → P
 if_form true f h ts s P k l e = k refl e
@@ -261,13 +316,19 @@ if_form false f h ts s P k l e = l e
 block_of : (w : Token) (r : Statement) (ts : List Token) (s : Statement) → (IsBlock ts → Derives (w ∷ ts) r) → block r ts ≡ Some s → Derives (w ∷ ts) s
 block_of w r ts s k e = let both = block-derives r ts s e in subst (Derives (w ∷ ts)) both.1 (k both.0)
 
+cursor-derives : (w : Token) (ts : List Token) (s : Statement) → of_cursor w ts ≡ Some s → Derives (w ∷ ts) s
+cursor-derives w ts s e =
+    if_form (is_word (codes "declare") w) _ _ ts s (Derives (w ∷ ts) s) (λ h. declare-derives w ts s h)
+    (if_form (is_word (codes "fetch") w) _ _ ts s (Derives (w ∷ ts) s) (λ h. fetch-derives w ts s h)
+    (if_form (is_word (codes "close") w) _ _ ts s (Derives (w ∷ ts) s) (λ h. close-derives w ts s h) (λ none. absurd (cc)))) e
+
 other-derives : (w : Token) (ts : List Token) (s : Statement) → of_other w ts ≡ Some s → Derives (w ∷ ts) s
 other-derives w ts s e =
     if_form (is_word (codes "discard") w) _ _ ts s (Derives (w ∷ ts) s) (λ h. discard-derives w ts s h)
     (if_form (is_word (codes "create") w) _ _ ts s (Derives (w ∷ ts) s) (λ h. create-derives w ts s h)
     (if_form (is_word (codes "drop") w) _ _ ts s (Derives (w ∷ ts) s) (λ h. drop-derives w ts s h)
     (if_form (is_word (codes "insert") w) _ _ ts s (Derives (w ∷ ts) s) (λ h. insert-derives w ts s h)
-    (if_form (is_word (codes "select") w) _ _ ts s (Derives (w ∷ ts) s) (λ h. select-derives w ts s h) (λ none. absurd (cc)))))) e
+    (if_form (is_word (codes "select") w) _ _ ts s (Derives (w ∷ ts) s) (λ h. select-derives w ts s h) (cursor-derives w ts s))))) e
 
 word-derives : (w : Token) (ts : List Token) (s : Statement) → of_word w ts ≡ Some s → Derives (w ∷ ts) s
 word-derives w ts s e =

@@ -7,3 +7,4 @@ pub mod Skipping
 pub mod Deriving
 pub mod Derived
 pub mod Short
+pub mod Decimals

@@ -7,7 +7,7 @@ use Rattle.mini_sql.specs.declared.stmt.Stmt.{Stmt}
 use Rattle.mini_sql.specs.declared.stmt.Filter.{Filter}
 use Rattle.mini_sql.specs.Words.{Text}
 use Rattle.mini_sql.specs.Tokens.{Token, Sign, after_token}
-use Rattle.mini_sql.specs.Statements.{Form, Statement, Operand, read, ends, pass, take_value, either, or_else, items, columns_at, at_most_64, take_columns, take_operands, operand_of, is_sign, end_of, from_of, fails, of_tokens, of_word, Empty}
+use Rattle.mini_sql.specs.Statements.{Form, Statement, Operand, read, ends, pass, take_value, either, or_else, items, columns_at, at_most_64, take_columns, take_operands, operand_of, is_sign, end_of, from_of, fails, of_tokens, of_word, Empty, select, declared_over}
 use Rattle.mini_sql.specs.Reading.{is_end, passed, taken, with_value, with_tokens}
 use Rattle.mini_sql.specs.Lists.{Listing, items_of, rest_of}
 use Rattle.mini_sql.specs.Meanings.{Reads, IsFilter, IsSource}
@@ -82,6 +82,11 @@ unfolding take_value read taken
 value-no value_of f None e = refl
 value-no value_of f (Some []) e = refl
 value-no value_of f (Some (t ∷ ts)) e = no_value f (value_of t) ts e
+
+pub over-to : (c : Text) (o : Option (List Token)) (r : Option Statement) → read select o ≡ r → read (λ ts. declared_over c (select ts)) o ≡ declared_over c r
+unfolding read
+over-to c None r e = ap (declared_over c) e
+over-to c (Some ts) r e = ap (declared_over c) e
 
 pub end-to : (s : Statement) (o : Option (List Token)) → is_end o ≡ true → read (ends s) o ≡ Some s
 unfolding ends read

@@ -1,5 +1,5 @@
 //! The forms of statements, each after its first word.
-ghost use Rattle.std.specs.Prelude.{[], codes, true, false};
+ghost use Rattle.std.specs.Prelude.{[], Some, codes, true, false};
 ghost use Rattle.mini_sql.specs.Words.{folded};
 ghost use Rattle.mini_sql.specs.Tokens.{star};
 ghost use Rattle.mini_sql.specs.Statements as spec;
@@ -9,8 +9,8 @@ ghost use Rattle.mini_sql.specs.Meanings.{IsFilter, IsSource, Reads, meaning};
 use crate::SqlFault;
 use crate::lists::{Columns, Operands, after_columns, after_operands};
 use crate::parts::{
-    expect_assignment, expect_either, expect_sign, expect_word, is_end, take_name, take_operand,
-    take_setting,
+    expect_assignment, expect_either, expect_sign, expect_word, is_end, take_count, take_name,
+    take_operand, take_setting,
 };
 use crate::stmt::{Filter, Stmt};
 
@@ -38,7 +38,7 @@ pub(crate) fn block<'a>(text: &'a [u8], stmt: Stmt<'a>) -> Result<Stmt<'a>, SqlF
 
 /// `name TO v` or `name = v`.
 fn assignment(text: &[u8]) -> Result<Stmt<'_>, SqlFault>
-    ensures { Reads result (read spec.assignment (phrase text.now)) }
+    ensures { Reads result (read (spec.assignment spec.Set) (phrase text.now)) }
 {
     let (name, after_name) = take_name(text)?;
     let after_sign = expect_assignment(after_name)?;
@@ -48,10 +48,31 @@ fn assignment(text: &[u8]) -> Result<Stmt<'_>, SqlFault>
 
 /// `name TO v` after the word SESSION.
 fn session_assignment(text: &[u8]) -> Result<Stmt<'_>, SqlFault>
-    ensures { Reads result (read (spec.pass (spec.is_word (codes "session")) spec.assignment) (phrase text.now)) }
+    ensures { Reads result (read (spec.pass (spec.is_word (codes "session")) (spec.assignment spec.Set)) (phrase text.now)) }
 {
     let rest = expect_word(text, b"session")?;
     assignment(rest)
+}
+
+/// `name TO v` after the word LOCAL.
+fn local_assignment(text: &[u8]) -> Result<Stmt<'_>, SqlFault>
+    ensures { Reads result (read (spec.pass (spec.is_word (codes "local")) (spec.assignment spec.SetLocal)) (phrase text.now)) }
+{
+    let after_word = expect_word(text, b"local")?;
+    let (name, after_name) = take_name(after_word)?;
+    let after_sign = expect_assignment(after_name)?;
+    let (to, rest) = take_setting(after_sign)?;
+    finish(rest, Stmt::SetLocal { name, to })
+}
+
+/// SET of a parameter, with LOCAL before it or not.
+fn set_name(text: &[u8]) -> Result<Stmt<'_>, SqlFault>
+    ensures { Reads result (read spec.set_name (phrase text.now)) }
+{
+    match local_assignment(text) {
+        Ok(stmt) => Ok(stmt),
+        Err(_) => assignment(text),
+    }
 }
 
 /// SET, after that word.
@@ -60,7 +81,7 @@ pub(crate) fn set(text: &[u8]) -> Result<Stmt<'_>, SqlFault>
 {
     match session_assignment(text) {
         Ok(stmt) => Ok(stmt),
-        Err(_) => assignment(text),
+        Err(_) => set_name(text),
     }
 }
 
@@ -227,4 +248,65 @@ pub(crate) fn select(text: &[u8]) -> Result<Stmt<'_>, SqlFault>
         Ok(stmt) => Ok(stmt),
         Err(_) => select_columns(text),
     }
+}
+
+/// A cursor over what a SELECT without parameters gives.
+fn declared_over<'a>(cursor: &'a [u8], select: Stmt<'a>) -> Result<Stmt<'a>, SqlFault>
+    ensures { Reads result (spec.declared_over (folded cursor.now) (Some (meaning select.entry))) }
+{
+    if select.parameters() != 0 {
+        return Err(SqlFault::Syntax);
+    }
+    match select {
+        Stmt::Select {
+            columns,
+            table,
+            filter,
+        } => Ok(Stmt::Declare {
+            cursor,
+            columns,
+            table,
+            filter,
+        }),
+        _ => Err(SqlFault::Syntax),
+    }
+}
+
+/// SELECT, for a cursor.
+fn rows<'a>(text: &'a [u8], cursor: &'a [u8]) -> Result<Stmt<'a>, SqlFault>
+    ensures { Reads result (read (spec.rows_of (folded cursor.now)) (phrase text.now)) }
+{
+    let rest = expect_word(text, b"select")?;
+    let stmt = select(rest)?;
+    declared_over(cursor, stmt)
+}
+
+/// DECLARE, after that word.
+pub(crate) fn declare(text: &[u8]) -> Result<Stmt<'_>, SqlFault>
+    ensures { Reads result (read spec.declare (phrase text.now)) }
+{
+    let (cursor, after_name) = take_name(text)?;
+    let after_cursor = expect_word(after_name, b"cursor")?;
+    let after_with = expect_word(after_cursor, b"with")?;
+    let after_hold = expect_word(after_with, b"hold")?;
+    let rest = expect_word(after_hold, b"for")?;
+    rows(rest, cursor)
+}
+
+/// FETCH, after that word.
+pub(crate) fn fetch(text: &[u8]) -> Result<Stmt<'_>, SqlFault>
+    ensures { Reads result (read spec.fetch (phrase text.now)) }
+{
+    let (count, after_count) = take_count(text)?;
+    let after_word = expect_word(after_count, b"from")?;
+    let (cursor, rest) = take_name(after_word)?;
+    finish(rest, Stmt::Fetch { count, cursor })
+}
+
+/// CLOSE, after that word.
+pub(crate) fn close(text: &[u8]) -> Result<Stmt<'_>, SqlFault>
+    ensures { Reads result (read spec.close (phrase text.now)) }
+{
+    let (cursor, rest) = take_name(text)?;
+    finish(rest, Stmt::CloseCursor { cursor })
 }

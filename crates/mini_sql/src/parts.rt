@@ -2,11 +2,11 @@
 ghost use Rattle.std.specs.Prelude.{◌≡◌, ◌<◌, ◌||◌, length, option_map, MatchResult, IfOk, IfSome, Some, None, true, false, codes};
 ghost use Rattle.mini_sql.specs.Words.{folded, same_word};
 ghost use Rattle.mini_sql.specs.Tokens.{Sign, after_token, comma, equal};
-ghost use Rattle.mini_sql.specs.Statements.{column_of, columns_at, is_sign, is_word, items, name_of, operand_of, phrase, setting_of};
+ghost use Rattle.mini_sql.specs.Statements.{column_of, columns_at, count_of, decimal_from, row_count, is_sign, is_word, items, name_of, operand_of, phrase, setting_of};
 ghost use Rattle.mini_sql.specs.Lexing.{token_of};
 ghost use Rattle.mini_sql.specs.Reading.{Follows, Takes, has_token, is_end, passed, taken};
 ghost use Rattle.mini_sql.specs.Lists.{GoesOn, IsItem};
-ghost use Rattle.mini_sql.specs.Meanings.{operand_value, setting_value};
+ghost use Rattle.mini_sql.specs.Meanings.{IsNumber, operand_value, setting_value};
 
 use crate::SqlFault;
 use crate::stmt::{Operand, Setting};
@@ -203,6 +203,64 @@ pub(crate) fn take_operand(text: &[u8]) -> Result<(Operand<'_>, &[u8]), SqlFault
     let (token, rest) = some_token(text)?;
     match operand_at(token) {
         Some(operand) => Ok((operand, rest)),
+        None => Err(SqlFault::Syntax),
+    }
+}
+
+/// The most rows that a FETCH may ask for.
+const MOST_ROWS: u64 = 2_147_483_647;
+
+/// The number that decimal digits spell behind a number; none above [`MOST_ROWS`].
+fn number_at(digits: &[u8]) -> Option<u32>
+    ensures { IsNumber result (decimal_from 0 digits.now) }
+{
+    let mut number: u32 = 0;
+    for digit in digits {
+        let more = 10 * u64::from(number) + u64::from(digit.saturating_sub(b'0'));
+        if more > MOST_ROWS {
+            return None;
+        }
+        number = more as u32;
+    }
+    Some(number)
+}
+
+/// A number of rows.
+fn rows_at(digits: &[u8]) -> Option<u32>
+    ensures { option_map Some result ≡ row_count digits.now }
+{
+    let first = *digits.first()?;
+    if first == b'-' {
+        return None;
+    }
+    match number_at(digits) {
+        Some(0) => None,
+        number => number,
+    }
+}
+
+fn count_at(token: Token<'_>) -> Option<Option<u32>>
+    ensures { result ≡ count_of (token_of token.entry) }
+{
+    match token {
+        Token::Digits(digits) => Some(Some(rows_at(digits)?)),
+        Token::Name(name) => {
+            if is_same_word(name, b"all") {
+                return Some(None);
+            }
+            None
+        }
+        _ => None,
+    }
+}
+
+/// How many rows are asked for, and what follows it.
+pub(crate) fn take_count(text: &[u8]) -> Result<(Option<u32>, &[u8]), SqlFault>
+    ensures { Takes (λ n. n) result (taken count_of (phrase text.now)) }
+{
+    let (token, rest) = some_token(text)?;
+    match count_at(token) {
+        Some(count) => Ok((count, rest)),
         None => Err(SqlFault::Syntax),
     }
 }

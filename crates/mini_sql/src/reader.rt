@@ -1,11 +1,13 @@
 //! The statement that a text spells.
 ghost use Rattle.std.specs.Prelude.{◌≡◌, MatchResult, None, Some};
 ghost use Rattle.mini_sql.specs.Lexing.{token_of};
-ghost use Rattle.mini_sql.specs.Statements.{of_other, of_word, phrase, read, statement};
+ghost use Rattle.mini_sql.specs.Statements.{of_cursor, of_other, of_word, phrase, read, statement};
 ghost use Rattle.mini_sql.specs.Meanings.{Reads, meaning};
 
 use crate::SqlFault;
-use crate::forms::{block, create, discard, drop_table, insert, reset, select, set, show};
+use crate::forms::{
+    block, close, create, declare, discard, drop_table, fetch, insert, reset, select, set, show,
+};
 use crate::parts::is_word;
 use crate::stmt::Stmt;
 use crate::token::{Token, next_token};
@@ -14,7 +16,7 @@ use crate::token::{Token, next_token};
 ///
 /// Words are matched without regard to ASCII case, and none is reserved. White space is space, tab, LF, CR and FF, and one semicolon may
 /// end the text. The forms are BEGIN, COMMIT and ROLLBACK with WORK or TRANSACTION after them or not, SET, RESET, SHOW, DISCARD ALL,
-/// CREATE TEMP TABLE, DROP TABLE, INSERT and SELECT; every other text is `SqlFault::Syntax`.
+/// CREATE TEMP TABLE, DROP TABLE, INSERT, SELECT, and DECLARE, FETCH and CLOSE of a cursor; every other text is `SqlFault::Syntax`.
 pub fn read_statement<'a>(text: &'a [u8]) -> Result<Stmt<'a>, SqlFault>
     ensures { MatchResult result (λ s. statement text.now ≡ Some (meaning s)) (λ e. statement text.now ≡ None) }
 {
@@ -68,6 +70,22 @@ fn other_statement<'a>(word: Token<'a>, rest: &'a [u8]) -> Result<Stmt<'a>, SqlF
     }
     if is_word(&word, b"select") {
         return select(rest);
+    }
+    cursor_statement(word, rest)
+}
+
+/// The statement of a cursor that begins with a word.
+fn cursor_statement<'a>(word: Token<'a>, rest: &'a [u8]) -> Result<Stmt<'a>, SqlFault>
+    ensures { Reads result (read (of_cursor (token_of word.entry)) (phrase rest.now)) }
+{
+    if is_word(&word, b"declare") {
+        return declare(rest);
+    }
+    if is_word(&word, b"fetch") {
+        return fetch(rest);
+    }
+    if is_word(&word, b"close") {
+        return close(rest);
     }
     Err(SqlFault::Syntax)
 }

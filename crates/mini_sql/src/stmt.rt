@@ -47,6 +47,11 @@ pub enum Stmt<'a> {
         name: &'a [u8],
         to: Setting<'a>,
     },
+    /// Until the transaction ends.
+    SetLocal {
+        name: &'a [u8],
+        to: Setting<'a>,
+    },
     Reset {
         name: &'a [u8],
     },
@@ -73,6 +78,21 @@ pub enum Stmt<'a> {
         columns: Columns<'a>,
         table: &'a [u8],
         filter: Option<Filter<'a>>,
+    },
+    /// A cursor over what a SELECT without parameters gives.
+    Declare {
+        cursor: &'a [u8],
+        columns: Columns<'a>,
+        table: &'a [u8],
+        filter: Option<Filter<'a>>,
+    },
+    /// So many rows of a cursor, 1 to 2147483647, or all that are left.
+    Fetch {
+        count: Option<u32>,
+        cursor: &'a [u8],
+    },
+    CloseCursor {
+        cursor: &'a [u8],
     },
 }
 

@@ -6,7 +6,7 @@ use Rattle.std.specs.Fmt.{digits}
 use Rattle.frame_view.specs.Frames.{cut_after}
 use Rattle.message_view.specs.Reading.{text_at, int16_at, int32_at, value_at, list_at, query_of, parse_of, bind_of, target_of, execute_of}
 use Rattle.mini_sql.specs.Tokens.{literal_length, unquoted, tokens_after}
-use Rattle.mini_sql.specs.Statements.{read, ends, pass, take_value, either, with_item, items, definitions, columns_at, at_most_64, take_columns, take_operands, block, assignment, set, reset, show, discard, definition_list, create, drop_table, value_list, insert, where_of, end_of, from_of, select, of_tokens, less_semicolon, phrase, statement}
+use Rattle.mini_sql.specs.Statements.{read, ends, pass, take_value, either, with_item, items, definitions, columns_at, at_most_64, take_columns, take_operands, block, assignment, set_name, set, reset, show, discard, definition_list, create, drop_table, value_list, insert, where_of, end_of, from_of, select, rows_of, declare, fetch, close, of_tokens, less_semicolon, phrase, statement}
 use Rattle.session_values.specs.Parameters.{accepted_of, date_styles}
 use Rattle.session_values.specs.State.{CatalogueOf, StartKeyOf, started_over, fresh}
 use Rattle.session_values.specs.Step.{step, run_frames}
@@ -19,73 +19,89 @@ abbrev key : StartKeyOf
 key = record { row = codes "shop"; host = Some (127 ∷ 0 ∷ 0 ∷ 1 ∷ []); port = 5432; dbname = codes "shop"; user = codes "ann"; parameters = [] }
 
 pub start : service catalogue key 1 2 ([]) ≡ (83 ∷ 0 ∷ 0 ∷ 0 ∷ 22 ∷ 97 ∷ 112 ∷ 112 ∷ 108 ∷ 105 ∷ 99 ∷ 97 ∷ 116 ∷ 105 ∷ 111 ∷ 110 ∷ 95 ∷ 110 ∷ 97 ∷ 109 ∷ 101 ∷ 0 ∷ 0 ∷ 83 ∷ 0 ∷ 0 ∷ 0 ∷ 25 ∷ 99 ∷ 108 ∷ 105 ∷ 101 ∷ 110 ∷ 116 ∷ 95 ∷ 101 ∷ 110 ∷ 99 ∷ 111 ∷ 100 ∷ 105 ∷ 110 ∷ 103 ∷ 0 ∷ 85 ∷ 84 ∷ 70 ∷ 56 ∷ 0 ∷ 83 ∷ 0 ∷ 0 ∷ 0 ∷ 23 ∷ 68 ∷ 97 ∷ 116 ∷ 101 ∷ 83 ∷ 116 ∷ 121 ∷ 108 ∷ 101 ∷ 0 ∷ 73 ∷ 83 ∷ 79 ∷ 44 ∷ 32 ∷ 77 ∷ 68 ∷ 89 ∷ 0 ∷ 83 ∷ 0 ∷ 0 ∷ 0 ∷ 25 ∷ 105 ∷ 110 ∷ 116 ∷ 101 ∷ 103 ∷ 101 ∷ 114 ∷ 95 ∷ 100 ∷ 97 ∷ 116 ∷ 101 ∷ 116 ∷ 105 ∷ 109 ∷ 101 ∷ 115 ∷ 0 ∷ 111 ∷ 110 ∷ 0 ∷ 83 ∷ 0 ∷ 0 ∷ 0 ∷ 27 ∷ 73 ∷ 110 ∷ 116 ∷ 101 ∷ 114 ∷ 118 ∷ 97 ∷ 108 ∷ 83 ∷ 116 ∷ 121 ∷ 108 ∷ 101 ∷ 0 ∷ 112 ∷ 111 ∷ 115 ∷ 116 ∷ 103 ∷ 114 ∷ 101 ∷ 115 ∷ 0 ∷ 83 ∷ 0 ∷ 0 ∷ 0 ∷ 25 ∷ 115 ∷ 101 ∷ 114 ∷ 118 ∷ 101 ∷ 114 ∷ 95 ∷ 101 ∷ 110 ∷ 99 ∷ 111 ∷ 100 ∷ 105 ∷ 110 ∷ 103 ∷ 0 ∷ 85 ∷ 84 ∷ 70 ∷ 56 ∷ 0 ∷ 83 ∷ 0 ∷ 0 ∷ 0 ∷ 24 ∷ 115 ∷ 101 ∷ 114 ∷ 118 ∷ 101 ∷ 114 ∷ 95 ∷ 118 ∷ 101 ∷ 114 ∷ 115 ∷ 105 ∷ 111 ∷ 110 ∷ 0 ∷ 49 ∷ 54 ∷ 46 ∷ 48 ∷ 0 ∷ 83 ∷ 0 ∷ 0 ∷ 0 ∷ 35 ∷ 115 ∷ 116 ∷ 97 ∷ 110 ∷ 100 ∷ 97 ∷ 114 ∷ 100 ∷ 95 ∷ 99 ∷ 111 ∷ 110 ∷ 102 ∷ 111 ∷ 114 ∷ 109 ∷ 105 ∷ 110 ∷ 103 ∷ 95 ∷ 115 ∷ 116 ∷ 114 ∷ 105 ∷ 110 ∷ 103 ∷ 115 ∷ 0 ∷ 111 ∷ 110 ∷ 0 ∷ 83 ∷ 0 ∷ 0 ∷ 0 ∷ 17 ∷ 84 ∷ 105 ∷ 109 ∷ 101 ∷ 90 ∷ 111 ∷ 110 ∷ 101 ∷ 0 ∷ 85 ∷ 84 ∷ 67 ∷ 0 ∷ 75 ∷ 0 ∷ 0 ∷ 0 ∷ 12 ∷ 0 ∷ 0 ∷ 0 ∷ 1 ∷ 0 ∷ 0 ∷ 0 ∷ 2 ∷ 90 ∷ 0 ∷ 0 ∷ 0 ∷ 5 ∷ 73 ∷ [])
-unfolding digits cut_after text_at int16_at int32_at value_at list_at query_of parse_of bind_of target_of execute_of literal_length unquoted tokens_after read ends pass take_value either with_item items definitions columns_at at_most_64 take_columns take_operands block assignment set reset show discard definition_list create drop_table value_list insert where_of end_of from_of select of_tokens less_semicolon phrase statement accepted_of date_styles started_over fresh step run_frames service
+unfolding digits cut_after text_at int16_at int32_at value_at list_at query_of parse_of bind_of target_of execute_of literal_length unquoted tokens_after read ends pass take_value either with_item items definitions columns_at at_most_64 take_columns take_operands block assignment set_name set reset show discard definition_list create drop_table value_list insert where_of end_of from_of select of_tokens less_semicolon phrase statement accepted_of date_styles started_over fresh step run_frames service
 start = refl
 
 pub show_parameter : service catalogue key 1 2 (81 ∷ 0 ∷ 0 ∷ 0 ∷ 26 ∷ 83 ∷ 72 ∷ 79 ∷ 87 ∷ 32 ∷ 97 ∷ 112 ∷ 112 ∷ 108 ∷ 105 ∷ 99 ∷ 97 ∷ 116 ∷ 105 ∷ 111 ∷ 110 ∷ 95 ∷ 110 ∷ 97 ∷ 109 ∷ 101 ∷ 0 ∷ []) ≡ (83 ∷ 0 ∷ 0 ∷ 0 ∷ 22 ∷ 97 ∷ 112 ∷ 112 ∷ 108 ∷ 105 ∷ 99 ∷ 97 ∷ 116 ∷ 105 ∷ 111 ∷ 110 ∷ 95 ∷ 110 ∷ 97 ∷ 109 ∷ 101 ∷ 0 ∷ 0 ∷ 83 ∷ 0 ∷ 0 ∷ 0 ∷ 25 ∷ 99 ∷ 108 ∷ 105 ∷ 101 ∷ 110 ∷ 116 ∷ 95 ∷ 101 ∷ 110 ∷ 99 ∷ 111 ∷ 100 ∷ 105 ∷ 110 ∷ 103 ∷ 0 ∷ 85 ∷ 84 ∷ 70 ∷ 56 ∷ 0 ∷ 83 ∷ 0 ∷ 0 ∷ 0 ∷ 23 ∷ 68 ∷ 97 ∷ 116 ∷ 101 ∷ 83 ∷ 116 ∷ 121 ∷ 108 ∷ 101 ∷ 0 ∷ 73 ∷ 83 ∷ 79 ∷ 44 ∷ 32 ∷ 77 ∷ 68 ∷ 89 ∷ 0 ∷ 83 ∷ 0 ∷ 0 ∷ 0 ∷ 25 ∷ 105 ∷ 110 ∷ 116 ∷ 101 ∷ 103 ∷ 101 ∷ 114 ∷ 95 ∷ 100 ∷ 97 ∷ 116 ∷ 101 ∷ 116 ∷ 105 ∷ 109 ∷ 101 ∷ 115 ∷ 0 ∷ 111 ∷ 110 ∷ 0 ∷ 83 ∷ 0 ∷ 0 ∷ 0 ∷ 27 ∷ 73 ∷ 110 ∷ 116 ∷ 101 ∷ 114 ∷ 118 ∷ 97 ∷ 108 ∷ 83 ∷ 116 ∷ 121 ∷ 108 ∷ 101 ∷ 0 ∷ 112 ∷ 111 ∷ 115 ∷ 116 ∷ 103 ∷ 114 ∷ 101 ∷ 115 ∷ 0 ∷ 83 ∷ 0 ∷ 0 ∷ 0 ∷ 25 ∷ 115 ∷ 101 ∷ 114 ∷ 118 ∷ 101 ∷ 114 ∷ 95 ∷ 101 ∷ 110 ∷ 99 ∷ 111 ∷ 100 ∷ 105 ∷ 110 ∷ 103 ∷ 0 ∷ 85 ∷ 84 ∷ 70 ∷ 56 ∷ 0 ∷ 83 ∷ 0 ∷ 0 ∷ 0 ∷ 24 ∷ 115 ∷ 101 ∷ 114 ∷ 118 ∷ 101 ∷ 114 ∷ 95 ∷ 118 ∷ 101 ∷ 114 ∷ 115 ∷ 105 ∷ 111 ∷ 110 ∷ 0 ∷ 49 ∷ 54 ∷ 46 ∷ 48 ∷ 0 ∷ 83 ∷ 0 ∷ 0 ∷ 0 ∷ 35 ∷ 115 ∷ 116 ∷ 97 ∷ 110 ∷ 100 ∷ 97 ∷ 114 ∷ 100 ∷ 95 ∷ 99 ∷ 111 ∷ 110 ∷ 102 ∷ 111 ∷ 114 ∷ 109 ∷ 105 ∷ 110 ∷ 103 ∷ 95 ∷ 115 ∷ 116 ∷ 114 ∷ 105 ∷ 110 ∷ 103 ∷ 115 ∷ 0 ∷ 111 ∷ 110 ∷ 0 ∷ 83 ∷ 0 ∷ 0 ∷ 0 ∷ 17 ∷ 84 ∷ 105 ∷ 109 ∷ 101 ∷ 90 ∷ 111 ∷ 110 ∷ 101 ∷ 0 ∷ 85 ∷ 84 ∷ 67 ∷ 0 ∷ 75 ∷ 0 ∷ 0 ∷ 0 ∷ 12 ∷ 0 ∷ 0 ∷ 0 ∷ 1 ∷ 0 ∷ 0 ∷ 0 ∷ 2 ∷ 90 ∷ 0 ∷ 0 ∷ 0 ∷ 5 ∷ 73 ∷ 84 ∷ 0 ∷ 0 ∷ 0 ∷ 41 ∷ 0 ∷ 1 ∷ 97 ∷ 112 ∷ 112 ∷ 108 ∷ 105 ∷ 99 ∷ 97 ∷ 116 ∷ 105 ∷ 111 ∷ 110 ∷ 95 ∷ 110 ∷ 97 ∷ 109 ∷ 101 ∷ 0 ∷ 0 ∷ 0 ∷ 0 ∷ 0 ∷ 0 ∷ 0 ∷ 0 ∷ 0 ∷ 0 ∷ 25 ∷ 255 ∷ 255 ∷ 255 ∷ 255 ∷ 255 ∷ 255 ∷ 0 ∷ 0 ∷ 68 ∷ 0 ∷ 0 ∷ 0 ∷ 10 ∷ 0 ∷ 1 ∷ 0 ∷ 0 ∷ 0 ∷ 0 ∷ 67 ∷ 0 ∷ 0 ∷ 0 ∷ 9 ∷ 83 ∷ 72 ∷ 79 ∷ 87 ∷ 0 ∷ 90 ∷ 0 ∷ 0 ∷ 0 ∷ 5 ∷ 73 ∷ [])
-unfolding digits cut_after text_at int16_at int32_at value_at list_at query_of parse_of bind_of target_of execute_of literal_length unquoted tokens_after read ends pass take_value either with_item items definitions columns_at at_most_64 take_columns take_operands block assignment set reset show discard definition_list create drop_table value_list insert where_of end_of from_of select of_tokens less_semicolon phrase statement accepted_of date_styles started_over fresh step run_frames service
+unfolding digits cut_after text_at int16_at int32_at value_at list_at query_of parse_of bind_of target_of execute_of literal_length unquoted tokens_after read ends pass take_value either with_item items definitions columns_at at_most_64 take_columns take_operands block assignment set_name set reset show discard definition_list create drop_table value_list insert where_of end_of from_of select of_tokens less_semicolon phrase statement accepted_of date_styles started_over fresh step run_frames service
 show_parameter = refl
 
 pub empty_query : service catalogue key 1 2 (81 ∷ 0 ∷ 0 ∷ 0 ∷ 5 ∷ 0 ∷ []) ≡ (83 ∷ 0 ∷ 0 ∷ 0 ∷ 22 ∷ 97 ∷ 112 ∷ 112 ∷ 108 ∷ 105 ∷ 99 ∷ 97 ∷ 116 ∷ 105 ∷ 111 ∷ 110 ∷ 95 ∷ 110 ∷ 97 ∷ 109 ∷ 101 ∷ 0 ∷ 0 ∷ 83 ∷ 0 ∷ 0 ∷ 0 ∷ 25 ∷ 99 ∷ 108 ∷ 105 ∷ 101 ∷ 110 ∷ 116 ∷ 95 ∷ 101 ∷ 110 ∷ 99 ∷ 111 ∷ 100 ∷ 105 ∷ 110 ∷ 103 ∷ 0 ∷ 85 ∷ 84 ∷ 70 ∷ 56 ∷ 0 ∷ 83 ∷ 0 ∷ 0 ∷ 0 ∷ 23 ∷ 68 ∷ 97 ∷ 116 ∷ 101 ∷ 83 ∷ 116 ∷ 121 ∷ 108 ∷ 101 ∷ 0 ∷ 73 ∷ 83 ∷ 79 ∷ 44 ∷ 32 ∷ 77 ∷ 68 ∷ 89 ∷ 0 ∷ 83 ∷ 0 ∷ 0 ∷ 0 ∷ 25 ∷ 105 ∷ 110 ∷ 116 ∷ 101 ∷ 103 ∷ 101 ∷ 114 ∷ 95 ∷ 100 ∷ 97 ∷ 116 ∷ 101 ∷ 116 ∷ 105 ∷ 109 ∷ 101 ∷ 115 ∷ 0 ∷ 111 ∷ 110 ∷ 0 ∷ 83 ∷ 0 ∷ 0 ∷ 0 ∷ 27 ∷ 73 ∷ 110 ∷ 116 ∷ 101 ∷ 114 ∷ 118 ∷ 97 ∷ 108 ∷ 83 ∷ 116 ∷ 121 ∷ 108 ∷ 101 ∷ 0 ∷ 112 ∷ 111 ∷ 115 ∷ 116 ∷ 103 ∷ 114 ∷ 101 ∷ 115 ∷ 0 ∷ 83 ∷ 0 ∷ 0 ∷ 0 ∷ 25 ∷ 115 ∷ 101 ∷ 114 ∷ 118 ∷ 101 ∷ 114 ∷ 95 ∷ 101 ∷ 110 ∷ 99 ∷ 111 ∷ 100 ∷ 105 ∷ 110 ∷ 103 ∷ 0 ∷ 85 ∷ 84 ∷ 70 ∷ 56 ∷ 0 ∷ 83 ∷ 0 ∷ 0 ∷ 0 ∷ 24 ∷ 115 ∷ 101 ∷ 114 ∷ 118 ∷ 101 ∷ 114 ∷ 95 ∷ 118 ∷ 101 ∷ 114 ∷ 115 ∷ 105 ∷ 111 ∷ 110 ∷ 0 ∷ 49 ∷ 54 ∷ 46 ∷ 48 ∷ 0 ∷ 83 ∷ 0 ∷ 0 ∷ 0 ∷ 35 ∷ 115 ∷ 116 ∷ 97 ∷ 110 ∷ 100 ∷ 97 ∷ 114 ∷ 100 ∷ 95 ∷ 99 ∷ 111 ∷ 110 ∷ 102 ∷ 111 ∷ 114 ∷ 109 ∷ 105 ∷ 110 ∷ 103 ∷ 95 ∷ 115 ∷ 116 ∷ 114 ∷ 105 ∷ 110 ∷ 103 ∷ 115 ∷ 0 ∷ 111 ∷ 110 ∷ 0 ∷ 83 ∷ 0 ∷ 0 ∷ 0 ∷ 17 ∷ 84 ∷ 105 ∷ 109 ∷ 101 ∷ 90 ∷ 111 ∷ 110 ∷ 101 ∷ 0 ∷ 85 ∷ 84 ∷ 67 ∷ 0 ∷ 75 ∷ 0 ∷ 0 ∷ 0 ∷ 12 ∷ 0 ∷ 0 ∷ 0 ∷ 1 ∷ 0 ∷ 0 ∷ 0 ∷ 2 ∷ 90 ∷ 0 ∷ 0 ∷ 0 ∷ 5 ∷ 73 ∷ 73 ∷ 0 ∷ 0 ∷ 0 ∷ 4 ∷ 90 ∷ 0 ∷ 0 ∷ 0 ∷ 5 ∷ 73 ∷ [])
-unfolding digits cut_after text_at int16_at int32_at value_at list_at query_of parse_of bind_of target_of execute_of literal_length unquoted tokens_after read ends pass take_value either with_item items definitions columns_at at_most_64 take_columns take_operands block assignment set reset show discard definition_list create drop_table value_list insert where_of end_of from_of select of_tokens less_semicolon phrase statement accepted_of date_styles started_over fresh step run_frames service
+unfolding digits cut_after text_at int16_at int32_at value_at list_at query_of parse_of bind_of target_of execute_of literal_length unquoted tokens_after read ends pass take_value either with_item items definitions columns_at at_most_64 take_columns take_operands block assignment set_name set reset show discard definition_list create drop_table value_list insert where_of end_of from_of select of_tokens less_semicolon phrase statement accepted_of date_styles started_over fresh step run_frames service
 empty_query = refl
 
 pub discard_all : service catalogue key 1 2 (81 ∷ 0 ∷ 0 ∷ 0 ∷ 16 ∷ 68 ∷ 73 ∷ 83 ∷ 67 ∷ 65 ∷ 82 ∷ 68 ∷ 32 ∷ 65 ∷ 76 ∷ 76 ∷ 0 ∷ []) ≡ (83 ∷ 0 ∷ 0 ∷ 0 ∷ 22 ∷ 97 ∷ 112 ∷ 112 ∷ 108 ∷ 105 ∷ 99 ∷ 97 ∷ 116 ∷ 105 ∷ 111 ∷ 110 ∷ 95 ∷ 110 ∷ 97 ∷ 109 ∷ 101 ∷ 0 ∷ 0 ∷ 83 ∷ 0 ∷ 0 ∷ 0 ∷ 25 ∷ 99 ∷ 108 ∷ 105 ∷ 101 ∷ 110 ∷ 116 ∷ 95 ∷ 101 ∷ 110 ∷ 99 ∷ 111 ∷ 100 ∷ 105 ∷ 110 ∷ 103 ∷ 0 ∷ 85 ∷ 84 ∷ 70 ∷ 56 ∷ 0 ∷ 83 ∷ 0 ∷ 0 ∷ 0 ∷ 23 ∷ 68 ∷ 97 ∷ 116 ∷ 101 ∷ 83 ∷ 116 ∷ 121 ∷ 108 ∷ 101 ∷ 0 ∷ 73 ∷ 83 ∷ 79 ∷ 44 ∷ 32 ∷ 77 ∷ 68 ∷ 89 ∷ 0 ∷ 83 ∷ 0 ∷ 0 ∷ 0 ∷ 25 ∷ 105 ∷ 110 ∷ 116 ∷ 101 ∷ 103 ∷ 101 ∷ 114 ∷ 95 ∷ 100 ∷ 97 ∷ 116 ∷ 101 ∷ 116 ∷ 105 ∷ 109 ∷ 101 ∷ 115 ∷ 0 ∷ 111 ∷ 110 ∷ 0 ∷ 83 ∷ 0 ∷ 0 ∷ 0 ∷ 27 ∷ 73 ∷ 110 ∷ 116 ∷ 101 ∷ 114 ∷ 118 ∷ 97 ∷ 108 ∷ 83 ∷ 116 ∷ 121 ∷ 108 ∷ 101 ∷ 0 ∷ 112 ∷ 111 ∷ 115 ∷ 116 ∷ 103 ∷ 114 ∷ 101 ∷ 115 ∷ 0 ∷ 83 ∷ 0 ∷ 0 ∷ 0 ∷ 25 ∷ 115 ∷ 101 ∷ 114 ∷ 118 ∷ 101 ∷ 114 ∷ 95 ∷ 101 ∷ 110 ∷ 99 ∷ 111 ∷ 100 ∷ 105 ∷ 110 ∷ 103 ∷ 0 ∷ 85 ∷ 84 ∷ 70 ∷ 56 ∷ 0 ∷ 83 ∷ 0 ∷ 0 ∷ 0 ∷ 24 ∷ 115 ∷ 101 ∷ 114 ∷ 118 ∷ 101 ∷ 114 ∷ 95 ∷ 118 ∷ 101 ∷ 114 ∷ 115 ∷ 105 ∷ 111 ∷ 110 ∷ 0 ∷ 49 ∷ 54 ∷ 46 ∷ 48 ∷ 0 ∷ 83 ∷ 0 ∷ 0 ∷ 0 ∷ 35 ∷ 115 ∷ 116 ∷ 97 ∷ 110 ∷ 100 ∷ 97 ∷ 114 ∷ 100 ∷ 95 ∷ 99 ∷ 111 ∷ 110 ∷ 102 ∷ 111 ∷ 114 ∷ 109 ∷ 105 ∷ 110 ∷ 103 ∷ 95 ∷ 115 ∷ 116 ∷ 114 ∷ 105 ∷ 110 ∷ 103 ∷ 115 ∷ 0 ∷ 111 ∷ 110 ∷ 0 ∷ 83 ∷ 0 ∷ 0 ∷ 0 ∷ 17 ∷ 84 ∷ 105 ∷ 109 ∷ 101 ∷ 90 ∷ 111 ∷ 110 ∷ 101 ∷ 0 ∷ 85 ∷ 84 ∷ 67 ∷ 0 ∷ 75 ∷ 0 ∷ 0 ∷ 0 ∷ 12 ∷ 0 ∷ 0 ∷ 0 ∷ 1 ∷ 0 ∷ 0 ∷ 0 ∷ 2 ∷ 90 ∷ 0 ∷ 0 ∷ 0 ∷ 5 ∷ 73 ∷ 67 ∷ 0 ∷ 0 ∷ 0 ∷ 16 ∷ 68 ∷ 73 ∷ 83 ∷ 67 ∷ 65 ∷ 82 ∷ 68 ∷ 32 ∷ 65 ∷ 76 ∷ 76 ∷ 0 ∷ 90 ∷ 0 ∷ 0 ∷ 0 ∷ 5 ∷ 73 ∷ [])
-unfolding digits cut_after text_at int16_at int32_at value_at list_at query_of parse_of bind_of target_of execute_of literal_length unquoted tokens_after read ends pass take_value either with_item items definitions columns_at at_most_64 take_columns take_operands block assignment set reset show discard definition_list create drop_table value_list insert where_of end_of from_of select of_tokens less_semicolon phrase statement accepted_of date_styles started_over fresh step run_frames service
+unfolding digits cut_after text_at int16_at int32_at value_at list_at query_of parse_of bind_of target_of execute_of literal_length unquoted tokens_after read ends pass take_value either with_item items definitions columns_at at_most_64 take_columns take_operands block assignment set_name set reset show discard definition_list create drop_table value_list insert where_of end_of from_of select of_tokens less_semicolon phrase statement accepted_of date_styles started_over fresh step run_frames service
 discard_all = refl
 
 pub failed_block : service catalogue key 1 2 (81 ∷ 0 ∷ 0 ∷ 0 ∷ 10 ∷ 66 ∷ 69 ∷ 71 ∷ 73 ∷ 78 ∷ 0 ∷ 81 ∷ 0 ∷ 0 ∷ 0 ∷ 16 ∷ 68 ∷ 73 ∷ 83 ∷ 67 ∷ 65 ∷ 82 ∷ 68 ∷ 32 ∷ 65 ∷ 76 ∷ 76 ∷ 0 ∷ 81 ∷ 0 ∷ 0 ∷ 0 ∷ 11 ∷ 67 ∷ 79 ∷ 77 ∷ 77 ∷ 73 ∷ 84 ∷ 0 ∷ []) ≡ (83 ∷ 0 ∷ 0 ∷ 0 ∷ 22 ∷ 97 ∷ 112 ∷ 112 ∷ 108 ∷ 105 ∷ 99 ∷ 97 ∷ 116 ∷ 105 ∷ 111 ∷ 110 ∷ 95 ∷ 110 ∷ 97 ∷ 109 ∷ 101 ∷ 0 ∷ 0 ∷ 83 ∷ 0 ∷ 0 ∷ 0 ∷ 25 ∷ 99 ∷ 108 ∷ 105 ∷ 101 ∷ 110 ∷ 116 ∷ 95 ∷ 101 ∷ 110 ∷ 99 ∷ 111 ∷ 100 ∷ 105 ∷ 110 ∷ 103 ∷ 0 ∷ 85 ∷ 84 ∷ 70 ∷ 56 ∷ 0 ∷ 83 ∷ 0 ∷ 0 ∷ 0 ∷ 23 ∷ 68 ∷ 97 ∷ 116 ∷ 101 ∷ 83 ∷ 116 ∷ 121 ∷ 108 ∷ 101 ∷ 0 ∷ 73 ∷ 83 ∷ 79 ∷ 44 ∷ 32 ∷ 77 ∷ 68 ∷ 89 ∷ 0 ∷ 83 ∷ 0 ∷ 0 ∷ 0 ∷ 25 ∷ 105 ∷ 110 ∷ 116 ∷ 101 ∷ 103 ∷ 101 ∷ 114 ∷ 95 ∷ 100 ∷ 97 ∷ 116 ∷ 101 ∷ 116 ∷ 105 ∷ 109 ∷ 101 ∷ 115 ∷ 0 ∷ 111 ∷ 110 ∷ 0 ∷ 83 ∷ 0 ∷ 0 ∷ 0 ∷ 27 ∷ 73 ∷ 110 ∷ 116 ∷ 101 ∷ 114 ∷ 118 ∷ 97 ∷ 108 ∷ 83 ∷ 116 ∷ 121 ∷ 108 ∷ 101 ∷ 0 ∷ 112 ∷ 111 ∷ 115 ∷ 116 ∷ 103 ∷ 114 ∷ 101 ∷ 115 ∷ 0 ∷ 83 ∷ 0 ∷ 0 ∷ 0 ∷ 25 ∷ 115 ∷ 101 ∷ 114 ∷ 118 ∷ 101 ∷ 114 ∷ 95 ∷ 101 ∷ 110 ∷ 99 ∷ 111 ∷ 100 ∷ 105 ∷ 110 ∷ 103 ∷ 0 ∷ 85 ∷ 84 ∷ 70 ∷ 56 ∷ 0 ∷ 83 ∷ 0 ∷ 0 ∷ 0 ∷ 24 ∷ 115 ∷ 101 ∷ 114 ∷ 118 ∷ 101 ∷ 114 ∷ 95 ∷ 118 ∷ 101 ∷ 114 ∷ 115 ∷ 105 ∷ 111 ∷ 110 ∷ 0 ∷ 49 ∷ 54 ∷ 46 ∷ 48 ∷ 0 ∷ 83 ∷ 0 ∷ 0 ∷ 0 ∷ 35 ∷ 115 ∷ 116 ∷ 97 ∷ 110 ∷ 100 ∷ 97 ∷ 114 ∷ 100 ∷ 95 ∷ 99 ∷ 111 ∷ 110 ∷ 102 ∷ 111 ∷ 114 ∷ 109 ∷ 105 ∷ 110 ∷ 103 ∷ 95 ∷ 115 ∷ 116 ∷ 114 ∷ 105 ∷ 110 ∷ 103 ∷ 115 ∷ 0 ∷ 111 ∷ 110 ∷ 0 ∷ 83 ∷ 0 ∷ 0 ∷ 0 ∷ 17 ∷ 84 ∷ 105 ∷ 109 ∷ 101 ∷ 90 ∷ 111 ∷ 110 ∷ 101 ∷ 0 ∷ 85 ∷ 84 ∷ 67 ∷ 0 ∷ 75 ∷ 0 ∷ 0 ∷ 0 ∷ 12 ∷ 0 ∷ 0 ∷ 0 ∷ 1 ∷ 0 ∷ 0 ∷ 0 ∷ 2 ∷ 90 ∷ 0 ∷ 0 ∷ 0 ∷ 5 ∷ 73 ∷ 67 ∷ 0 ∷ 0 ∷ 0 ∷ 10 ∷ 66 ∷ 69 ∷ 71 ∷ 73 ∷ 78 ∷ 0 ∷ 90 ∷ 0 ∷ 0 ∷ 0 ∷ 5 ∷ 84 ∷ 69 ∷ 0 ∷ 0 ∷ 0 ∷ 77 ∷ 83 ∷ 69 ∷ 82 ∷ 82 ∷ 79 ∷ 82 ∷ 0 ∷ 86 ∷ 69 ∷ 82 ∷ 82 ∷ 79 ∷ 82 ∷ 0 ∷ 67 ∷ 50 ∷ 53 ∷ 48 ∷ 48 ∷ 49 ∷ 0 ∷ 77 ∷ 68 ∷ 73 ∷ 83 ∷ 67 ∷ 65 ∷ 82 ∷ 68 ∷ 32 ∷ 65 ∷ 76 ∷ 76 ∷ 32 ∷ 99 ∷ 97 ∷ 110 ∷ 110 ∷ 111 ∷ 116 ∷ 32 ∷ 114 ∷ 117 ∷ 110 ∷ 32 ∷ 105 ∷ 110 ∷ 115 ∷ 105 ∷ 100 ∷ 101 ∷ 32 ∷ 97 ∷ 32 ∷ 116 ∷ 114 ∷ 97 ∷ 110 ∷ 115 ∷ 97 ∷ 99 ∷ 116 ∷ 105 ∷ 111 ∷ 110 ∷ 32 ∷ 98 ∷ 108 ∷ 111 ∷ 99 ∷ 107 ∷ 0 ∷ 0 ∷ 90 ∷ 0 ∷ 0 ∷ 0 ∷ 5 ∷ 69 ∷ 67 ∷ 0 ∷ 0 ∷ 0 ∷ 13 ∷ 82 ∷ 79 ∷ 76 ∷ 76 ∷ 66 ∷ 65 ∷ 67 ∷ 75 ∷ 0 ∷ 90 ∷ 0 ∷ 0 ∷ 0 ∷ 5 ∷ 73 ∷ [])
-unfolding digits cut_after text_at int16_at int32_at value_at list_at query_of parse_of bind_of target_of execute_of literal_length unquoted tokens_after read ends pass take_value either with_item items definitions columns_at at_most_64 take_columns take_operands block assignment set reset show discard definition_list create drop_table value_list insert where_of end_of from_of select of_tokens less_semicolon phrase statement accepted_of date_styles started_over fresh step run_frames service
+unfolding digits cut_after text_at int16_at int32_at value_at list_at query_of parse_of bind_of target_of execute_of literal_length unquoted tokens_after read ends pass take_value either with_item items definitions columns_at at_most_64 take_columns take_operands block assignment set_name set reset show discard definition_list create drop_table value_list insert where_of end_of from_of select of_tokens less_semicolon phrase statement accepted_of date_styles started_over fresh step run_frames service
 failed_block = refl
 
 pub settings_table_and_statement : service catalogue key 1 2 (81 ∷ 0 ∷ 0 ∷ 0 ∷ 32 ∷ 83 ∷ 69 ∷ 84 ∷ 32 ∷ 68 ∷ 97 ∷ 116 ∷ 101 ∷ 83 ∷ 116 ∷ 121 ∷ 108 ∷ 101 ∷ 32 ∷ 84 ∷ 79 ∷ 32 ∷ 39 ∷ 83 ∷ 81 ∷ 76 ∷ 44 ∷ 32 ∷ 68 ∷ 77 ∷ 89 ∷ 39 ∷ 0 ∷ 81 ∷ 0 ∷ 0 ∷ 0 ∷ 33 ∷ 67 ∷ 82 ∷ 69 ∷ 65 ∷ 84 ∷ 69 ∷ 32 ∷ 84 ∷ 69 ∷ 77 ∷ 80 ∷ 32 ∷ 84 ∷ 65 ∷ 66 ∷ 76 ∷ 69 ∷ 32 ∷ 116 ∷ 32 ∷ 40 ∷ 97 ∷ 32 ∷ 116 ∷ 101 ∷ 120 ∷ 116 ∷ 41 ∷ 0 ∷ 80 ∷ 0 ∷ 0 ∷ 0 ∷ 22 ∷ 115 ∷ 0 ∷ 83 ∷ 72 ∷ 79 ∷ 87 ∷ 32 ∷ 84 ∷ 105 ∷ 109 ∷ 101 ∷ 90 ∷ 111 ∷ 110 ∷ 101 ∷ 0 ∷ 0 ∷ 0 ∷ 83 ∷ 0 ∷ 0 ∷ 0 ∷ 4 ∷ []) ≡ (83 ∷ 0 ∷ 0 ∷ 0 ∷ 22 ∷ 97 ∷ 112 ∷ 112 ∷ 108 ∷ 105 ∷ 99 ∷ 97 ∷ 116 ∷ 105 ∷ 111 ∷ 110 ∷ 95 ∷ 110 ∷ 97 ∷ 109 ∷ 101 ∷ 0 ∷ 0 ∷ 83 ∷ 0 ∷ 0 ∷ 0 ∷ 25 ∷ 99 ∷ 108 ∷ 105 ∷ 101 ∷ 110 ∷ 116 ∷ 95 ∷ 101 ∷ 110 ∷ 99 ∷ 111 ∷ 100 ∷ 105 ∷ 110 ∷ 103 ∷ 0 ∷ 85 ∷ 84 ∷ 70 ∷ 56 ∷ 0 ∷ 83 ∷ 0 ∷ 0 ∷ 0 ∷ 23 ∷ 68 ∷ 97 ∷ 116 ∷ 101 ∷ 83 ∷ 116 ∷ 121 ∷ 108 ∷ 101 ∷ 0 ∷ 73 ∷ 83 ∷ 79 ∷ 44 ∷ 32 ∷ 77 ∷ 68 ∷ 89 ∷ 0 ∷ 83 ∷ 0 ∷ 0 ∷ 0 ∷ 25 ∷ 105 ∷ 110 ∷ 116 ∷ 101 ∷ 103 ∷ 101 ∷ 114 ∷ 95 ∷ 100 ∷ 97 ∷ 116 ∷ 101 ∷ 116 ∷ 105 ∷ 109 ∷ 101 ∷ 115 ∷ 0 ∷ 111 ∷ 110 ∷ 0 ∷ 83 ∷ 0 ∷ 0 ∷ 0 ∷ 27 ∷ 73 ∷ 110 ∷ 116 ∷ 101 ∷ 114 ∷ 118 ∷ 97 ∷ 108 ∷ 83 ∷ 116 ∷ 121 ∷ 108 ∷ 101 ∷ 0 ∷ 112 ∷ 111 ∷ 115 ∷ 116 ∷ 103 ∷ 114 ∷ 101 ∷ 115 ∷ 0 ∷ 83 ∷ 0 ∷ 0 ∷ 0 ∷ 25 ∷ 115 ∷ 101 ∷ 114 ∷ 118 ∷ 101 ∷ 114 ∷ 95 ∷ 101 ∷ 110 ∷ 99 ∷ 111 ∷ 100 ∷ 105 ∷ 110 ∷ 103 ∷ 0 ∷ 85 ∷ 84 ∷ 70 ∷ 56 ∷ 0 ∷ 83 ∷ 0 ∷ 0 ∷ 0 ∷ 24 ∷ 115 ∷ 101 ∷ 114 ∷ 118 ∷ 101 ∷ 114 ∷ 95 ∷ 118 ∷ 101 ∷ 114 ∷ 115 ∷ 105 ∷ 111 ∷ 110 ∷ 0 ∷ 49 ∷ 54 ∷ 46 ∷ 48 ∷ 0 ∷ 83 ∷ 0 ∷ 0 ∷ 0 ∷ 35 ∷ 115 ∷ 116 ∷ 97 ∷ 110 ∷ 100 ∷ 97 ∷ 114 ∷ 100 ∷ 95 ∷ 99 ∷ 111 ∷ 110 ∷ 102 ∷ 111 ∷ 114 ∷ 109 ∷ 105 ∷ 110 ∷ 103 ∷ 95 ∷ 115 ∷ 116 ∷ 114 ∷ 105 ∷ 110 ∷ 103 ∷ 115 ∷ 0 ∷ 111 ∷ 110 ∷ 0 ∷ 83 ∷ 0 ∷ 0 ∷ 0 ∷ 17 ∷ 84 ∷ 105 ∷ 109 ∷ 101 ∷ 90 ∷ 111 ∷ 110 ∷ 101 ∷ 0 ∷ 85 ∷ 84 ∷ 67 ∷ 0 ∷ 75 ∷ 0 ∷ 0 ∷ 0 ∷ 12 ∷ 0 ∷ 0 ∷ 0 ∷ 1 ∷ 0 ∷ 0 ∷ 0 ∷ 2 ∷ 90 ∷ 0 ∷ 0 ∷ 0 ∷ 5 ∷ 73 ∷ 67 ∷ 0 ∷ 0 ∷ 0 ∷ 8 ∷ 83 ∷ 69 ∷ 84 ∷ 0 ∷ 83 ∷ 0 ∷ 0 ∷ 0 ∷ 23 ∷ 68 ∷ 97 ∷ 116 ∷ 101 ∷ 83 ∷ 116 ∷ 121 ∷ 108 ∷ 101 ∷ 0 ∷ 83 ∷ 81 ∷ 76 ∷ 44 ∷ 32 ∷ 68 ∷ 77 ∷ 89 ∷ 0 ∷ 90 ∷ 0 ∷ 0 ∷ 0 ∷ 5 ∷ 73 ∷ 67 ∷ 0 ∷ 0 ∷ 0 ∷ 17 ∷ 67 ∷ 82 ∷ 69 ∷ 65 ∷ 84 ∷ 69 ∷ 32 ∷ 84 ∷ 65 ∷ 66 ∷ 76 ∷ 69 ∷ 0 ∷ 90 ∷ 0 ∷ 0 ∷ 0 ∷ 5 ∷ 73 ∷ 49 ∷ 0 ∷ 0 ∷ 0 ∷ 4 ∷ 90 ∷ 0 ∷ 0 ∷ 0 ∷ 5 ∷ 73 ∷ [])
-unfolding digits cut_after text_at int16_at int32_at value_at list_at query_of parse_of bind_of target_of execute_of literal_length unquoted tokens_after read ends pass take_value either with_item items definitions columns_at at_most_64 take_columns take_operands block assignment set reset show discard definition_list create drop_table value_list insert where_of end_of from_of select of_tokens less_semicolon phrase statement accepted_of date_styles started_over fresh step run_frames service
+unfolding digits cut_after text_at int16_at int32_at value_at list_at query_of parse_of bind_of target_of execute_of literal_length unquoted tokens_after read ends pass take_value either with_item items definitions columns_at at_most_64 take_columns take_operands block assignment set_name set reset show discard definition_list create drop_table value_list insert where_of end_of from_of select of_tokens less_semicolon phrase statement accepted_of date_styles started_over fresh step run_frames service
 settings_table_and_statement = refl
 
 pub nothing_left : service catalogue key 1 2 (81 ∷ 0 ∷ 0 ∷ 0 ∷ 26 ∷ 83 ∷ 72 ∷ 79 ∷ 87 ∷ 32 ∷ 97 ∷ 112 ∷ 112 ∷ 108 ∷ 105 ∷ 99 ∷ 97 ∷ 116 ∷ 105 ∷ 111 ∷ 110 ∷ 95 ∷ 110 ∷ 97 ∷ 109 ∷ 101 ∷ 0 ∷ 81 ∷ 0 ∷ 0 ∷ 0 ∷ 20 ∷ 83 ∷ 69 ∷ 76 ∷ 69 ∷ 67 ∷ 84 ∷ 32 ∷ 42 ∷ 32 ∷ 70 ∷ 82 ∷ 79 ∷ 77 ∷ 32 ∷ 116 ∷ 0 ∷ 66 ∷ 0 ∷ 0 ∷ 0 ∷ 13 ∷ 0 ∷ 115 ∷ 0 ∷ 0 ∷ 0 ∷ 0 ∷ 0 ∷ 0 ∷ 0 ∷ 83 ∷ 0 ∷ 0 ∷ 0 ∷ 4 ∷ []) ≡ (83 ∷ 0 ∷ 0 ∷ 0 ∷ 22 ∷ 97 ∷ 112 ∷ 112 ∷ 108 ∷ 105 ∷ 99 ∷ 97 ∷ 116 ∷ 105 ∷ 111 ∷ 110 ∷ 95 ∷ 110 ∷ 97 ∷ 109 ∷ 101 ∷ 0 ∷ 0 ∷ 83 ∷ 0 ∷ 0 ∷ 0 ∷ 25 ∷ 99 ∷ 108 ∷ 105 ∷ 101 ∷ 110 ∷ 116 ∷ 95 ∷ 101 ∷ 110 ∷ 99 ∷ 111 ∷ 100 ∷ 105 ∷ 110 ∷ 103 ∷ 0 ∷ 85 ∷ 84 ∷ 70 ∷ 56 ∷ 0 ∷ 83 ∷ 0 ∷ 0 ∷ 0 ∷ 23 ∷ 68 ∷ 97 ∷ 116 ∷ 101 ∷ 83 ∷ 116 ∷ 121 ∷ 108 ∷ 101 ∷ 0 ∷ 73 ∷ 83 ∷ 79 ∷ 44 ∷ 32 ∷ 77 ∷ 68 ∷ 89 ∷ 0 ∷ 83 ∷ 0 ∷ 0 ∷ 0 ∷ 25 ∷ 105 ∷ 110 ∷ 116 ∷ 101 ∷ 103 ∷ 101 ∷ 114 ∷ 95 ∷ 100 ∷ 97 ∷ 116 ∷ 101 ∷ 116 ∷ 105 ∷ 109 ∷ 101 ∷ 115 ∷ 0 ∷ 111 ∷ 110 ∷ 0 ∷ 83 ∷ 0 ∷ 0 ∷ 0 ∷ 27 ∷ 73 ∷ 110 ∷ 116 ∷ 101 ∷ 114 ∷ 118 ∷ 97 ∷ 108 ∷ 83 ∷ 116 ∷ 121 ∷ 108 ∷ 101 ∷ 0 ∷ 112 ∷ 111 ∷ 115 ∷ 116 ∷ 103 ∷ 114 ∷ 101 ∷ 115 ∷ 0 ∷ 83 ∷ 0 ∷ 0 ∷ 0 ∷ 25 ∷ 115 ∷ 101 ∷ 114 ∷ 118 ∷ 101 ∷ 114 ∷ 95 ∷ 101 ∷ 110 ∷ 99 ∷ 111 ∷ 100 ∷ 105 ∷ 110 ∷ 103 ∷ 0 ∷ 85 ∷ 84 ∷ 70 ∷ 56 ∷ 0 ∷ 83 ∷ 0 ∷ 0 ∷ 0 ∷ 24 ∷ 115 ∷ 101 ∷ 114 ∷ 118 ∷ 101 ∷ 114 ∷ 95 ∷ 118 ∷ 101 ∷ 114 ∷ 115 ∷ 105 ∷ 111 ∷ 110 ∷ 0 ∷ 49 ∷ 54 ∷ 46 ∷ 48 ∷ 0 ∷ 83 ∷ 0 ∷ 0 ∷ 0 ∷ 35 ∷ 115 ∷ 116 ∷ 97 ∷ 110 ∷ 100 ∷ 97 ∷ 114 ∷ 100 ∷ 95 ∷ 99 ∷ 111 ∷ 110 ∷ 102 ∷ 111 ∷ 114 ∷ 109 ∷ 105 ∷ 110 ∷ 103 ∷ 95 ∷ 115 ∷ 116 ∷ 114 ∷ 105 ∷ 110 ∷ 103 ∷ 115 ∷ 0 ∷ 111 ∷ 110 ∷ 0 ∷ 83 ∷ 0 ∷ 0 ∷ 0 ∷ 17 ∷ 84 ∷ 105 ∷ 109 ∷ 101 ∷ 90 ∷ 111 ∷ 110 ∷ 101 ∷ 0 ∷ 85 ∷ 84 ∷ 67 ∷ 0 ∷ 75 ∷ 0 ∷ 0 ∷ 0 ∷ 12 ∷ 0 ∷ 0 ∷ 0 ∷ 1 ∷ 0 ∷ 0 ∷ 0 ∷ 2 ∷ 90 ∷ 0 ∷ 0 ∷ 0 ∷ 5 ∷ 73 ∷ 84 ∷ 0 ∷ 0 ∷ 0 ∷ 41 ∷ 0 ∷ 1 ∷ 97 ∷ 112 ∷ 112 ∷ 108 ∷ 105 ∷ 99 ∷ 97 ∷ 116 ∷ 105 ∷ 111 ∷ 110 ∷ 95 ∷ 110 ∷ 97 ∷ 109 ∷ 101 ∷ 0 ∷ 0 ∷ 0 ∷ 0 ∷ 0 ∷ 0 ∷ 0 ∷ 0 ∷ 0 ∷ 0 ∷ 25 ∷ 255 ∷ 255 ∷ 255 ∷ 255 ∷ 255 ∷ 255 ∷ 0 ∷ 0 ∷ 68 ∷ 0 ∷ 0 ∷ 0 ∷ 10 ∷ 0 ∷ 1 ∷ 0 ∷ 0 ∷ 0 ∷ 0 ∷ 67 ∷ 0 ∷ 0 ∷ 0 ∷ 9 ∷ 83 ∷ 72 ∷ 79 ∷ 87 ∷ 0 ∷ 90 ∷ 0 ∷ 0 ∷ 0 ∷ 5 ∷ 73 ∷ 69 ∷ 0 ∷ 0 ∷ 0 ∷ 51 ∷ 83 ∷ 69 ∷ 82 ∷ 82 ∷ 79 ∷ 82 ∷ 0 ∷ 86 ∷ 69 ∷ 82 ∷ 82 ∷ 79 ∷ 82 ∷ 0 ∷ 67 ∷ 52 ∷ 50 ∷ 80 ∷ 48 ∷ 49 ∷ 0 ∷ 77 ∷ 114 ∷ 101 ∷ 108 ∷ 97 ∷ 116 ∷ 105 ∷ 111 ∷ 110 ∷ 32 ∷ 100 ∷ 111 ∷ 101 ∷ 115 ∷ 32 ∷ 110 ∷ 111 ∷ 116 ∷ 32 ∷ 101 ∷ 120 ∷ 105 ∷ 115 ∷ 116 ∷ 0 ∷ 0 ∷ 90 ∷ 0 ∷ 0 ∷ 0 ∷ 5 ∷ 73 ∷ 69 ∷ 0 ∷ 0 ∷ 0 ∷ 61 ∷ 83 ∷ 69 ∷ 82 ∷ 82 ∷ 79 ∷ 82 ∷ 0 ∷ 86 ∷ 69 ∷ 82 ∷ 82 ∷ 79 ∷ 82 ∷ 0 ∷ 67 ∷ 50 ∷ 54 ∷ 48 ∷ 48 ∷ 48 ∷ 0 ∷ 77 ∷ 112 ∷ 114 ∷ 101 ∷ 112 ∷ 97 ∷ 114 ∷ 101 ∷ 100 ∷ 32 ∷ 115 ∷ 116 ∷ 97 ∷ 116 ∷ 101 ∷ 109 ∷ 101 ∷ 110 ∷ 116 ∷ 32 ∷ 100 ∷ 111 ∷ 101 ∷ 115 ∷ 32 ∷ 110 ∷ 111 ∷ 116 ∷ 32 ∷ 101 ∷ 120 ∷ 105 ∷ 115 ∷ 116 ∷ 0 ∷ 0 ∷ 90 ∷ 0 ∷ 0 ∷ 0 ∷ 5 ∷ 73 ∷ [])
-unfolding digits cut_after text_at int16_at int32_at value_at list_at query_of parse_of bind_of target_of execute_of literal_length unquoted tokens_after read ends pass take_value either with_item items definitions columns_at at_most_64 take_columns take_operands block assignment set reset show discard definition_list create drop_table value_list insert where_of end_of from_of select of_tokens less_semicolon phrase statement accepted_of date_styles started_over fresh step run_frames service
+unfolding digits cut_after text_at int16_at int32_at value_at list_at query_of parse_of bind_of target_of execute_of literal_length unquoted tokens_after read ends pass take_value either with_item items definitions columns_at at_most_64 take_columns take_operands block assignment set_name set reset show discard definition_list create drop_table value_list insert where_of end_of from_of select of_tokens less_semicolon phrase statement accepted_of date_styles started_over fresh step run_frames service
 nothing_left = refl
 
 pub open_block : service catalogue key 1 2 (81 ∷ 0 ∷ 0 ∷ 0 ∷ 10 ∷ 66 ∷ 69 ∷ 71 ∷ 73 ∷ 78 ∷ 0 ∷ []) ≡ (83 ∷ 0 ∷ 0 ∷ 0 ∷ 22 ∷ 97 ∷ 112 ∷ 112 ∷ 108 ∷ 105 ∷ 99 ∷ 97 ∷ 116 ∷ 105 ∷ 111 ∷ 110 ∷ 95 ∷ 110 ∷ 97 ∷ 109 ∷ 101 ∷ 0 ∷ 0 ∷ 83 ∷ 0 ∷ 0 ∷ 0 ∷ 25 ∷ 99 ∷ 108 ∷ 105 ∷ 101 ∷ 110 ∷ 116 ∷ 95 ∷ 101 ∷ 110 ∷ 99 ∷ 111 ∷ 100 ∷ 105 ∷ 110 ∷ 103 ∷ 0 ∷ 85 ∷ 84 ∷ 70 ∷ 56 ∷ 0 ∷ 83 ∷ 0 ∷ 0 ∷ 0 ∷ 23 ∷ 68 ∷ 97 ∷ 116 ∷ 101 ∷ 83 ∷ 116 ∷ 121 ∷ 108 ∷ 101 ∷ 0 ∷ 73 ∷ 83 ∷ 79 ∷ 44 ∷ 32 ∷ 77 ∷ 68 ∷ 89 ∷ 0 ∷ 83 ∷ 0 ∷ 0 ∷ 0 ∷ 25 ∷ 105 ∷ 110 ∷ 116 ∷ 101 ∷ 103 ∷ 101 ∷ 114 ∷ 95 ∷ 100 ∷ 97 ∷ 116 ∷ 101 ∷ 116 ∷ 105 ∷ 109 ∷ 101 ∷ 115 ∷ 0 ∷ 111 ∷ 110 ∷ 0 ∷ 83 ∷ 0 ∷ 0 ∷ 0 ∷ 27 ∷ 73 ∷ 110 ∷ 116 ∷ 101 ∷ 114 ∷ 118 ∷ 97 ∷ 108 ∷ 83 ∷ 116 ∷ 121 ∷ 108 ∷ 101 ∷ 0 ∷ 112 ∷ 111 ∷ 115 ∷ 116 ∷ 103 ∷ 114 ∷ 101 ∷ 115 ∷ 0 ∷ 83 ∷ 0 ∷ 0 ∷ 0 ∷ 25 ∷ 115 ∷ 101 ∷ 114 ∷ 118 ∷ 101 ∷ 114 ∷ 95 ∷ 101 ∷ 110 ∷ 99 ∷ 111 ∷ 100 ∷ 105 ∷ 110 ∷ 103 ∷ 0 ∷ 85 ∷ 84 ∷ 70 ∷ 56 ∷ 0 ∷ 83 ∷ 0 ∷ 0 ∷ 0 ∷ 24 ∷ 115 ∷ 101 ∷ 114 ∷ 118 ∷ 101 ∷ 114 ∷ 95 ∷ 118 ∷ 101 ∷ 114 ∷ 115 ∷ 105 ∷ 111 ∷ 110 ∷ 0 ∷ 49 ∷ 54 ∷ 46 ∷ 48 ∷ 0 ∷ 83 ∷ 0 ∷ 0 ∷ 0 ∷ 35 ∷ 115 ∷ 116 ∷ 97 ∷ 110 ∷ 100 ∷ 97 ∷ 114 ∷ 100 ∷ 95 ∷ 99 ∷ 111 ∷ 110 ∷ 102 ∷ 111 ∷ 114 ∷ 109 ∷ 105 ∷ 110 ∷ 103 ∷ 95 ∷ 115 ∷ 116 ∷ 114 ∷ 105 ∷ 110 ∷ 103 ∷ 115 ∷ 0 ∷ 111 ∷ 110 ∷ 0 ∷ 83 ∷ 0 ∷ 0 ∷ 0 ∷ 17 ∷ 84 ∷ 105 ∷ 109 ∷ 101 ∷ 90 ∷ 111 ∷ 110 ∷ 101 ∷ 0 ∷ 85 ∷ 84 ∷ 67 ∷ 0 ∷ 75 ∷ 0 ∷ 0 ∷ 0 ∷ 12 ∷ 0 ∷ 0 ∷ 0 ∷ 1 ∷ 0 ∷ 0 ∷ 0 ∷ 2 ∷ 90 ∷ 0 ∷ 0 ∷ 0 ∷ 5 ∷ 73 ∷ 67 ∷ 0 ∷ 0 ∷ 0 ∷ 10 ∷ 66 ∷ 69 ∷ 71 ∷ 73 ∷ 78 ∷ 0 ∷ 90 ∷ 0 ∷ 0 ∷ 0 ∷ 5 ∷ 84 ∷ [])
-unfolding digits cut_after text_at int16_at int32_at value_at list_at query_of parse_of bind_of target_of execute_of literal_length unquoted tokens_after read ends pass take_value either with_item items definitions columns_at at_most_64 take_columns take_operands block assignment set reset show discard definition_list create drop_table value_list insert where_of end_of from_of select of_tokens less_semicolon phrase statement accepted_of date_styles started_over fresh step run_frames service
+unfolding digits cut_after text_at int16_at int32_at value_at list_at query_of parse_of bind_of target_of execute_of literal_length unquoted tokens_after read ends pass take_value either with_item items definitions columns_at at_most_64 take_columns take_operands block assignment set_name set reset show discard definition_list create drop_table value_list insert where_of end_of from_of select of_tokens less_semicolon phrase statement accepted_of date_styles started_over fresh step run_frames service
 open_block = refl
 
 pub skipped : service catalogue key 1 2 (80 ∷ 0 ∷ 0 ∷ 0 ∷ 13 ∷ 0 ∷ 83 ∷ 69 ∷ 76 ∷ 69 ∷ 67 ∷ 0 ∷ 0 ∷ 0 ∷ 81 ∷ 0 ∷ 0 ∷ 0 ∷ 18 ∷ 83 ∷ 72 ∷ 79 ∷ 87 ∷ 32 ∷ 84 ∷ 105 ∷ 109 ∷ 101 ∷ 90 ∷ 111 ∷ 110 ∷ 101 ∷ 0 ∷ []) ≡ (83 ∷ 0 ∷ 0 ∷ 0 ∷ 22 ∷ 97 ∷ 112 ∷ 112 ∷ 108 ∷ 105 ∷ 99 ∷ 97 ∷ 116 ∷ 105 ∷ 111 ∷ 110 ∷ 95 ∷ 110 ∷ 97 ∷ 109 ∷ 101 ∷ 0 ∷ 0 ∷ 83 ∷ 0 ∷ 0 ∷ 0 ∷ 25 ∷ 99 ∷ 108 ∷ 105 ∷ 101 ∷ 110 ∷ 116 ∷ 95 ∷ 101 ∷ 110 ∷ 99 ∷ 111 ∷ 100 ∷ 105 ∷ 110 ∷ 103 ∷ 0 ∷ 85 ∷ 84 ∷ 70 ∷ 56 ∷ 0 ∷ 83 ∷ 0 ∷ 0 ∷ 0 ∷ 23 ∷ 68 ∷ 97 ∷ 116 ∷ 101 ∷ 83 ∷ 116 ∷ 121 ∷ 108 ∷ 101 ∷ 0 ∷ 73 ∷ 83 ∷ 79 ∷ 44 ∷ 32 ∷ 77 ∷ 68 ∷ 89 ∷ 0 ∷ 83 ∷ 0 ∷ 0 ∷ 0 ∷ 25 ∷ 105 ∷ 110 ∷ 116 ∷ 101 ∷ 103 ∷ 101 ∷ 114 ∷ 95 ∷ 100 ∷ 97 ∷ 116 ∷ 101 ∷ 116 ∷ 105 ∷ 109 ∷ 101 ∷ 115 ∷ 0 ∷ 111 ∷ 110 ∷ 0 ∷ 83 ∷ 0 ∷ 0 ∷ 0 ∷ 27 ∷ 73 ∷ 110 ∷ 116 ∷ 101 ∷ 114 ∷ 118 ∷ 97 ∷ 108 ∷ 83 ∷ 116 ∷ 121 ∷ 108 ∷ 101 ∷ 0 ∷ 112 ∷ 111 ∷ 115 ∷ 116 ∷ 103 ∷ 114 ∷ 101 ∷ 115 ∷ 0 ∷ 83 ∷ 0 ∷ 0 ∷ 0 ∷ 25 ∷ 115 ∷ 101 ∷ 114 ∷ 118 ∷ 101 ∷ 114 ∷ 95 ∷ 101 ∷ 110 ∷ 99 ∷ 111 ∷ 100 ∷ 105 ∷ 110 ∷ 103 ∷ 0 ∷ 85 ∷ 84 ∷ 70 ∷ 56 ∷ 0 ∷ 83 ∷ 0 ∷ 0 ∷ 0 ∷ 24 ∷ 115 ∷ 101 ∷ 114 ∷ 118 ∷ 101 ∷ 114 ∷ 95 ∷ 118 ∷ 101 ∷ 114 ∷ 115 ∷ 105 ∷ 111 ∷ 110 ∷ 0 ∷ 49 ∷ 54 ∷ 46 ∷ 48 ∷ 0 ∷ 83 ∷ 0 ∷ 0 ∷ 0 ∷ 35 ∷ 115 ∷ 116 ∷ 97 ∷ 110 ∷ 100 ∷ 97 ∷ 114 ∷ 100 ∷ 95 ∷ 99 ∷ 111 ∷ 110 ∷ 102 ∷ 111 ∷ 114 ∷ 109 ∷ 105 ∷ 110 ∷ 103 ∷ 95 ∷ 115 ∷ 116 ∷ 114 ∷ 105 ∷ 110 ∷ 103 ∷ 115 ∷ 0 ∷ 111 ∷ 110 ∷ 0 ∷ 83 ∷ 0 ∷ 0 ∷ 0 ∷ 17 ∷ 84 ∷ 105 ∷ 109 ∷ 101 ∷ 90 ∷ 111 ∷ 110 ∷ 101 ∷ 0 ∷ 85 ∷ 84 ∷ 67 ∷ 0 ∷ 75 ∷ 0 ∷ 0 ∷ 0 ∷ 12 ∷ 0 ∷ 0 ∷ 0 ∷ 1 ∷ 0 ∷ 0 ∷ 0 ∷ 2 ∷ 90 ∷ 0 ∷ 0 ∷ 0 ∷ 5 ∷ 73 ∷ 69 ∷ 0 ∷ 0 ∷ 0 ∷ 40 ∷ 83 ∷ 69 ∷ 82 ∷ 82 ∷ 79 ∷ 82 ∷ 0 ∷ 86 ∷ 69 ∷ 82 ∷ 82 ∷ 79 ∷ 82 ∷ 0 ∷ 67 ∷ 52 ∷ 50 ∷ 54 ∷ 48 ∷ 49 ∷ 0 ∷ 77 ∷ 115 ∷ 121 ∷ 110 ∷ 116 ∷ 97 ∷ 120 ∷ 32 ∷ 101 ∷ 114 ∷ 114 ∷ 111 ∷ 114 ∷ 0 ∷ 0 ∷ [])
-unfolding digits cut_after text_at int16_at int32_at value_at list_at query_of parse_of bind_of target_of execute_of literal_length unquoted tokens_after read ends pass take_value either with_item items definitions columns_at at_most_64 take_columns take_operands block assignment set reset show discard definition_list create drop_table value_list insert where_of end_of from_of select of_tokens less_semicolon phrase statement accepted_of date_styles started_over fresh step run_frames service
+unfolding digits cut_after text_at int16_at int32_at value_at list_at query_of parse_of bind_of target_of execute_of literal_length unquoted tokens_after read ends pass take_value either with_item items definitions columns_at at_most_64 take_columns take_operands block assignment set_name set reset show discard definition_list create drop_table value_list insert where_of end_of from_of select of_tokens less_semicolon phrase statement accepted_of date_styles started_over fresh step run_frames service
 skipped = refl
 
 pub select_all : service catalogue key 1 2 (81 ∷ 0 ∷ 0 ∷ 0 ∷ 23 ∷ 83 ∷ 69 ∷ 76 ∷ 69 ∷ 67 ∷ 84 ∷ 32 ∷ 42 ∷ 32 ∷ 70 ∷ 82 ∷ 79 ∷ 77 ∷ 32 ∷ 99 ∷ 105 ∷ 116 ∷ 121 ∷ 0 ∷ []) ≡ (83 ∷ 0 ∷ 0 ∷ 0 ∷ 22 ∷ 97 ∷ 112 ∷ 112 ∷ 108 ∷ 105 ∷ 99 ∷ 97 ∷ 116 ∷ 105 ∷ 111 ∷ 110 ∷ 95 ∷ 110 ∷ 97 ∷ 109 ∷ 101 ∷ 0 ∷ 0 ∷ 83 ∷ 0 ∷ 0 ∷ 0 ∷ 25 ∷ 99 ∷ 108 ∷ 105 ∷ 101 ∷ 110 ∷ 116 ∷ 95 ∷ 101 ∷ 110 ∷ 99 ∷ 111 ∷ 100 ∷ 105 ∷ 110 ∷ 103 ∷ 0 ∷ 85 ∷ 84 ∷ 70 ∷ 56 ∷ 0 ∷ 83 ∷ 0 ∷ 0 ∷ 0 ∷ 23 ∷ 68 ∷ 97 ∷ 116 ∷ 101 ∷ 83 ∷ 116 ∷ 121 ∷ 108 ∷ 101 ∷ 0 ∷ 73 ∷ 83 ∷ 79 ∷ 44 ∷ 32 ∷ 77 ∷ 68 ∷ 89 ∷ 0 ∷ 83 ∷ 0 ∷ 0 ∷ 0 ∷ 25 ∷ 105 ∷ 110 ∷ 116 ∷ 101 ∷ 103 ∷ 101 ∷ 114 ∷ 95 ∷ 100 ∷ 97 ∷ 116 ∷ 101 ∷ 116 ∷ 105 ∷ 109 ∷ 101 ∷ 115 ∷ 0 ∷ 111 ∷ 110 ∷ 0 ∷ 83 ∷ 0 ∷ 0 ∷ 0 ∷ 27 ∷ 73 ∷ 110 ∷ 116 ∷ 101 ∷ 114 ∷ 118 ∷ 97 ∷ 108 ∷ 83 ∷ 116 ∷ 121 ∷ 108 ∷ 101 ∷ 0 ∷ 112 ∷ 111 ∷ 115 ∷ 116 ∷ 103 ∷ 114 ∷ 101 ∷ 115 ∷ 0 ∷ 83 ∷ 0 ∷ 0 ∷ 0 ∷ 25 ∷ 115 ∷ 101 ∷ 114 ∷ 118 ∷ 101 ∷ 114 ∷ 95 ∷ 101 ∷ 110 ∷ 99 ∷ 111 ∷ 100 ∷ 105 ∷ 110 ∷ 103 ∷ 0 ∷ 85 ∷ 84 ∷ 70 ∷ 56 ∷ 0 ∷ 83 ∷ 0 ∷ 0 ∷ 0 ∷ 24 ∷ 115 ∷ 101 ∷ 114 ∷ 118 ∷ 101 ∷ 114 ∷ 95 ∷ 118 ∷ 101 ∷ 114 ∷ 115 ∷ 105 ∷ 111 ∷ 110 ∷ 0 ∷ 49 ∷ 54 ∷ 46 ∷ 48 ∷ 0 ∷ 83 ∷ 0 ∷ 0 ∷ 0 ∷ 35 ∷ 115 ∷ 116 ∷ 97 ∷ 110 ∷ 100 ∷ 97 ∷ 114 ∷ 100 ∷ 95 ∷ 99 ∷ 111 ∷ 110 ∷ 102 ∷ 111 ∷ 114 ∷ 109 ∷ 105 ∷ 110 ∷ 103 ∷ 95 ∷ 115 ∷ 116 ∷ 114 ∷ 105 ∷ 110 ∷ 103 ∷ 115 ∷ 0 ∷ 111 ∷ 110 ∷ 0 ∷ 83 ∷ 0 ∷ 0 ∷ 0 ∷ 17 ∷ 84 ∷ 105 ∷ 109 ∷ 101 ∷ 90 ∷ 111 ∷ 110 ∷ 101 ∷ 0 ∷ 85 ∷ 84 ∷ 67 ∷ 0 ∷ 75 ∷ 0 ∷ 0 ∷ 0 ∷ 12 ∷ 0 ∷ 0 ∷ 0 ∷ 1 ∷ 0 ∷ 0 ∷ 0 ∷ 2 ∷ 90 ∷ 0 ∷ 0 ∷ 0 ∷ 5 ∷ 73 ∷ 84 ∷ 0 ∷ 0 ∷ 0 ∷ 55 ∷ 0 ∷ 2 ∷ 110 ∷ 97 ∷ 109 ∷ 101 ∷ 0 ∷ 0 ∷ 0 ∷ 0 ∷ 0 ∷ 0 ∷ 0 ∷ 0 ∷ 0 ∷ 0 ∷ 25 ∷ 255 ∷ 255 ∷ 255 ∷ 255 ∷ 255 ∷ 255 ∷ 0 ∷ 0 ∷ 99 ∷ 111 ∷ 117 ∷ 110 ∷ 116 ∷ 114 ∷ 121 ∷ 0 ∷ 0 ∷ 0 ∷ 0 ∷ 0 ∷ 0 ∷ 0 ∷ 0 ∷ 0 ∷ 0 ∷ 25 ∷ 255 ∷ 255 ∷ 255 ∷ 255 ∷ 255 ∷ 255 ∷ 0 ∷ 0 ∷ 68 ∷ 0 ∷ 0 ∷ 0 ∷ 20 ∷ 0 ∷ 2 ∷ 0 ∷ 0 ∷ 0 ∷ 4 ∷ 66 ∷ 101 ∷ 114 ∷ 110 ∷ 0 ∷ 0 ∷ 0 ∷ 2 ∷ 67 ∷ 72 ∷ 68 ∷ 0 ∷ 0 ∷ 0 ∷ 20 ∷ 0 ∷ 2 ∷ 0 ∷ 0 ∷ 0 ∷ 4 ∷ 79 ∷ 115 ∷ 108 ∷ 111 ∷ 0 ∷ 0 ∷ 0 ∷ 2 ∷ 78 ∷ 79 ∷ 68 ∷ 0 ∷ 0 ∷ 0 ∷ 18 ∷ 0 ∷ 2 ∷ 0 ∷ 0 ∷ 0 ∷ 4 ∷ 78 ∷ 117 ∷ 117 ∷ 107 ∷ 255 ∷ 255 ∷ 255 ∷ 255 ∷ 67 ∷ 0 ∷ 0 ∷ 0 ∷ 13 ∷ 83 ∷ 69 ∷ 76 ∷ 69 ∷ 67 ∷ 84 ∷ 32 ∷ 51 ∷ 0 ∷ 90 ∷ 0 ∷ 0 ∷ 0 ∷ 5 ∷ 73 ∷ [])
-unfolding digits cut_after text_at int16_at int32_at value_at list_at query_of parse_of bind_of target_of execute_of literal_length unquoted tokens_after read ends pass take_value either with_item items definitions columns_at at_most_64 take_columns take_operands block assignment set reset show discard definition_list create drop_table value_list insert where_of end_of from_of select of_tokens less_semicolon phrase statement accepted_of date_styles started_over fresh step run_frames service
+unfolding digits cut_after text_at int16_at int32_at value_at list_at query_of parse_of bind_of target_of execute_of literal_length unquoted tokens_after read ends pass take_value either with_item items definitions columns_at at_most_64 take_columns take_operands block assignment set_name set reset show discard definition_list create drop_table value_list insert where_of end_of from_of select of_tokens less_semicolon phrase statement accepted_of date_styles started_over fresh step run_frames service
 select_all = refl
 
 pub bind_values : service catalogue key 1 2 (81 ∷ 0 ∷ 0 ∷ 0 ∷ 49 ∷ 67 ∷ 82 ∷ 69 ∷ 65 ∷ 84 ∷ 69 ∷ 32 ∷ 84 ∷ 69 ∷ 77 ∷ 80 ∷ 32 ∷ 84 ∷ 65 ∷ 66 ∷ 76 ∷ 69 ∷ 32 ∷ 116 ∷ 32 ∷ 40 ∷ 97 ∷ 32 ∷ 116 ∷ 101 ∷ 120 ∷ 116 ∷ 44 ∷ 32 ∷ 98 ∷ 32 ∷ 116 ∷ 101 ∷ 120 ∷ 116 ∷ 44 ∷ 32 ∷ 99 ∷ 32 ∷ 116 ∷ 101 ∷ 120 ∷ 116 ∷ 41 ∷ 0 ∷ 80 ∷ 0 ∷ 0 ∷ 0 ∷ 42 ∷ 115 ∷ 0 ∷ 73 ∷ 78 ∷ 83 ∷ 69 ∷ 82 ∷ 84 ∷ 32 ∷ 73 ∷ 78 ∷ 84 ∷ 79 ∷ 32 ∷ 116 ∷ 32 ∷ 86 ∷ 65 ∷ 76 ∷ 85 ∷ 69 ∷ 83 ∷ 32 ∷ 40 ∷ 36 ∷ 49 ∷ 44 ∷ 32 ∷ 36 ∷ 50 ∷ 44 ∷ 32 ∷ 36 ∷ 51 ∷ 41 ∷ 0 ∷ 0 ∷ 0 ∷ 66 ∷ 0 ∷ 0 ∷ 0 ∷ 29 ∷ 0 ∷ 115 ∷ 0 ∷ 0 ∷ 0 ∷ 0 ∷ 3 ∷ 0 ∷ 0 ∷ 0 ∷ 0 ∷ 255 ∷ 255 ∷ 255 ∷ 255 ∷ 0 ∷ 0 ∷ 0 ∷ 4 ∷ 66 ∷ 101 ∷ 114 ∷ 110 ∷ 0 ∷ 0 ∷ []) ≡ (83 ∷ 0 ∷ 0 ∷ 0 ∷ 22 ∷ 97 ∷ 112 ∷ 112 ∷ 108 ∷ 105 ∷ 99 ∷ 97 ∷ 116 ∷ 105 ∷ 111 ∷ 110 ∷ 95 ∷ 110 ∷ 97 ∷ 109 ∷ 101 ∷ 0 ∷ 0 ∷ 83 ∷ 0 ∷ 0 ∷ 0 ∷ 25 ∷ 99 ∷ 108 ∷ 105 ∷ 101 ∷ 110 ∷ 116 ∷ 95 ∷ 101 ∷ 110 ∷ 99 ∷ 111 ∷ 100 ∷ 105 ∷ 110 ∷ 103 ∷ 0 ∷ 85 ∷ 84 ∷ 70 ∷ 56 ∷ 0 ∷ 83 ∷ 0 ∷ 0 ∷ 0 ∷ 23 ∷ 68 ∷ 97 ∷ 116 ∷ 101 ∷ 83 ∷ 116 ∷ 121 ∷ 108 ∷ 101 ∷ 0 ∷ 73 ∷ 83 ∷ 79 ∷ 44 ∷ 32 ∷ 77 ∷ 68 ∷ 89 ∷ 0 ∷ 83 ∷ 0 ∷ 0 ∷ 0 ∷ 25 ∷ 105 ∷ 110 ∷ 116 ∷ 101 ∷ 103 ∷ 101 ∷ 114 ∷ 95 ∷ 100 ∷ 97 ∷ 116 ∷ 101 ∷ 116 ∷ 105 ∷ 109 ∷ 101 ∷ 115 ∷ 0 ∷ 111 ∷ 110 ∷ 0 ∷ 83 ∷ 0 ∷ 0 ∷ 0 ∷ 27 ∷ 73 ∷ 110 ∷ 116 ∷ 101 ∷ 114 ∷ 118 ∷ 97 ∷ 108 ∷ 83 ∷ 116 ∷ 121 ∷ 108 ∷ 101 ∷ 0 ∷ 112 ∷ 111 ∷ 115 ∷ 116 ∷ 103 ∷ 114 ∷ 101 ∷ 115 ∷ 0 ∷ 83 ∷ 0 ∷ 0 ∷ 0 ∷ 25 ∷ 115 ∷ 101 ∷ 114 ∷ 118 ∷ 101 ∷ 114 ∷ 95 ∷ 101 ∷ 110 ∷ 99 ∷ 111 ∷ 100 ∷ 105 ∷ 110 ∷ 103 ∷ 0 ∷ 85 ∷ 84 ∷ 70 ∷ 56 ∷ 0 ∷ 83 ∷ 0 ∷ 0 ∷ 0 ∷ 24 ∷ 115 ∷ 101 ∷ 114 ∷ 118 ∷ 101 ∷ 114 ∷ 95 ∷ 118 ∷ 101 ∷ 114 ∷ 115 ∷ 105 ∷ 111 ∷ 110 ∷ 0 ∷ 49 ∷ 54 ∷ 46 ∷ 48 ∷ 0 ∷ 83 ∷ 0 ∷ 0 ∷ 0 ∷ 35 ∷ 115 ∷ 116 ∷ 97 ∷ 110 ∷ 100 ∷ 97 ∷ 114 ∷ 100 ∷ 95 ∷ 99 ∷ 111 ∷ 110 ∷ 102 ∷ 111 ∷ 114 ∷ 109 ∷ 105 ∷ 110 ∷ 103 ∷ 95 ∷ 115 ∷ 116 ∷ 114 ∷ 105 ∷ 110 ∷ 103 ∷ 115 ∷ 0 ∷ 111 ∷ 110 ∷ 0 ∷ 83 ∷ 0 ∷ 0 ∷ 0 ∷ 17 ∷ 84 ∷ 105 ∷ 109 ∷ 101 ∷ 90 ∷ 111 ∷ 110 ∷ 101 ∷ 0 ∷ 85 ∷ 84 ∷ 67 ∷ 0 ∷ 75 ∷ 0 ∷ 0 ∷ 0 ∷ 12 ∷ 0 ∷ 0 ∷ 0 ∷ 1 ∷ 0 ∷ 0 ∷ 0 ∷ 2 ∷ 90 ∷ 0 ∷ 0 ∷ 0 ∷ 5 ∷ 73 ∷ 67 ∷ 0 ∷ 0 ∷ 0 ∷ 17 ∷ 67 ∷ 82 ∷ 69 ∷ 65 ∷ 84 ∷ 69 ∷ 32 ∷ 84 ∷ 65 ∷ 66 ∷ 76 ∷ 69 ∷ 0 ∷ 90 ∷ 0 ∷ 0 ∷ 0 ∷ 5 ∷ 73 ∷ 49 ∷ 0 ∷ 0 ∷ 0 ∷ 4 ∷ 50 ∷ 0 ∷ 0 ∷ 0 ∷ 4 ∷ [])
-unfolding digits cut_after text_at int16_at int32_at value_at list_at query_of parse_of bind_of target_of execute_of literal_length unquoted tokens_after read ends pass take_value either with_item items definitions columns_at at_most_64 take_columns take_operands block assignment set reset show discard definition_list create drop_table value_list insert where_of end_of from_of select of_tokens less_semicolon phrase statement accepted_of date_styles started_over fresh step run_frames service
+unfolding digits cut_after text_at int16_at int32_at value_at list_at query_of parse_of bind_of target_of execute_of literal_length unquoted tokens_after read ends pass take_value either with_item items definitions columns_at at_most_64 take_columns take_operands block assignment set_name set reset show discard definition_list create drop_table value_list insert where_of end_of from_of select of_tokens less_semicolon phrase statement accepted_of date_styles started_over fresh step run_frames service
 bind_values = refl
 
 pub bind_left_over : service catalogue key 1 2 (81 ∷ 0 ∷ 0 ∷ 0 ∷ 49 ∷ 67 ∷ 82 ∷ 69 ∷ 65 ∷ 84 ∷ 69 ∷ 32 ∷ 84 ∷ 69 ∷ 77 ∷ 80 ∷ 32 ∷ 84 ∷ 65 ∷ 66 ∷ 76 ∷ 69 ∷ 32 ∷ 116 ∷ 32 ∷ 40 ∷ 97 ∷ 32 ∷ 116 ∷ 101 ∷ 120 ∷ 116 ∷ 44 ∷ 32 ∷ 98 ∷ 32 ∷ 116 ∷ 101 ∷ 120 ∷ 116 ∷ 44 ∷ 32 ∷ 99 ∷ 32 ∷ 116 ∷ 101 ∷ 120 ∷ 116 ∷ 41 ∷ 0 ∷ 80 ∷ 0 ∷ 0 ∷ 0 ∷ 42 ∷ 115 ∷ 0 ∷ 73 ∷ 78 ∷ 83 ∷ 69 ∷ 82 ∷ 84 ∷ 32 ∷ 73 ∷ 78 ∷ 84 ∷ 79 ∷ 32 ∷ 116 ∷ 32 ∷ 86 ∷ 65 ∷ 76 ∷ 85 ∷ 69 ∷ 83 ∷ 32 ∷ 40 ∷ 36 ∷ 49 ∷ 44 ∷ 32 ∷ 36 ∷ 50 ∷ 44 ∷ 32 ∷ 36 ∷ 51 ∷ 41 ∷ 0 ∷ 0 ∷ 0 ∷ 66 ∷ 0 ∷ 0 ∷ 0 ∷ 30 ∷ 0 ∷ 115 ∷ 0 ∷ 0 ∷ 0 ∷ 0 ∷ 3 ∷ 0 ∷ 0 ∷ 0 ∷ 0 ∷ 255 ∷ 255 ∷ 255 ∷ 255 ∷ 0 ∷ 0 ∷ 0 ∷ 4 ∷ 66 ∷ 101 ∷ 114 ∷ 110 ∷ 0 ∷ 0 ∷ 0 ∷ 81 ∷ 0 ∷ 0 ∷ 0 ∷ 26 ∷ 83 ∷ 72 ∷ 79 ∷ 87 ∷ 32 ∷ 97 ∷ 112 ∷ 112 ∷ 108 ∷ 105 ∷ 99 ∷ 97 ∷ 116 ∷ 105 ∷ 111 ∷ 110 ∷ 95 ∷ 110 ∷ 97 ∷ 109 ∷ 101 ∷ 0 ∷ 69 ∷ 0 ∷ 0 ∷ 0 ∷ 9 ∷ 0 ∷ 0 ∷ 0 ∷ 0 ∷ 0 ∷ 83 ∷ 0 ∷ 0 ∷ 0 ∷ 4 ∷ []) ≡ (83 ∷ 0 ∷ 0 ∷ 0 ∷ 22 ∷ 97 ∷ 112 ∷ 112 ∷ 108 ∷ 105 ∷ 99 ∷ 97 ∷ 116 ∷ 105 ∷ 111 ∷ 110 ∷ 95 ∷ 110 ∷ 97 ∷ 109 ∷ 101 ∷ 0 ∷ 0 ∷ 83 ∷ 0 ∷ 0 ∷ 0 ∷ 25 ∷ 99 ∷ 108 ∷ 105 ∷ 101 ∷ 110 ∷ 116 ∷ 95 ∷ 101 ∷ 110 ∷ 99 ∷ 111 ∷ 100 ∷ 105 ∷ 110 ∷ 103 ∷ 0 ∷ 85 ∷ 84 ∷ 70 ∷ 56 ∷ 0 ∷ 83 ∷ 0 ∷ 0 ∷ 0 ∷ 23 ∷ 68 ∷ 97 ∷ 116 ∷ 101 ∷ 83 ∷ 116 ∷ 121 ∷ 108 ∷ 101 ∷ 0 ∷ 73 ∷ 83 ∷ 79 ∷ 44 ∷ 32 ∷ 77 ∷ 68 ∷ 89 ∷ 0 ∷ 83 ∷ 0 ∷ 0 ∷ 0 ∷ 25 ∷ 105 ∷ 110 ∷ 116 ∷ 101 ∷ 103 ∷ 101 ∷ 114 ∷ 95 ∷ 100 ∷ 97 ∷ 116 ∷ 101 ∷ 116 ∷ 105 ∷ 109 ∷ 101 ∷ 115 ∷ 0 ∷ 111 ∷ 110 ∷ 0 ∷ 83 ∷ 0 ∷ 0 ∷ 0 ∷ 27 ∷ 73 ∷ 110 ∷ 116 ∷ 101 ∷ 114 ∷ 118 ∷ 97 ∷ 108 ∷ 83 ∷ 116 ∷ 121 ∷ 108 ∷ 101 ∷ 0 ∷ 112 ∷ 111 ∷ 115 ∷ 116 ∷ 103 ∷ 114 ∷ 101 ∷ 115 ∷ 0 ∷ 83 ∷ 0 ∷ 0 ∷ 0 ∷ 25 ∷ 115 ∷ 101 ∷ 114 ∷ 118 ∷ 101 ∷ 114 ∷ 95 ∷ 101 ∷ 110 ∷ 99 ∷ 111 ∷ 100 ∷ 105 ∷ 110 ∷ 103 ∷ 0 ∷ 85 ∷ 84 ∷ 70 ∷ 56 ∷ 0 ∷ 83 ∷ 0 ∷ 0 ∷ 0 ∷ 24 ∷ 115 ∷ 101 ∷ 114 ∷ 118 ∷ 101 ∷ 114 ∷ 95 ∷ 118 ∷ 101 ∷ 114 ∷ 115 ∷ 105 ∷ 111 ∷ 110 ∷ 0 ∷ 49 ∷ 54 ∷ 46 ∷ 48 ∷ 0 ∷ 83 ∷ 0 ∷ 0 ∷ 0 ∷ 35 ∷ 115 ∷ 116 ∷ 97 ∷ 110 ∷ 100 ∷ 97 ∷ 114 ∷ 100 ∷ 95 ∷ 99 ∷ 111 ∷ 110 ∷ 102 ∷ 111 ∷ 114 ∷ 109 ∷ 105 ∷ 110 ∷ 103 ∷ 95 ∷ 115 ∷ 116 ∷ 114 ∷ 105 ∷ 110 ∷ 103 ∷ 115 ∷ 0 ∷ 111 ∷ 110 ∷ 0 ∷ 83 ∷ 0 ∷ 0 ∷ 0 ∷ 17 ∷ 84 ∷ 105 ∷ 109 ∷ 101 ∷ 90 ∷ 111 ∷ 110 ∷ 101 ∷ 0 ∷ 85 ∷ 84 ∷ 67 ∷ 0 ∷ 75 ∷ 0 ∷ 0 ∷ 0 ∷ 12 ∷ 0 ∷ 0 ∷ 0 ∷ 1 ∷ 0 ∷ 0 ∷ 0 ∷ 2 ∷ 90 ∷ 0 ∷ 0 ∷ 0 ∷ 5 ∷ 73 ∷ 67 ∷ 0 ∷ 0 ∷ 0 ∷ 17 ∷ 67 ∷ 82 ∷ 69 ∷ 65 ∷ 84 ∷ 69 ∷ 32 ∷ 84 ∷ 65 ∷ 66 ∷ 76 ∷ 69 ∷ 0 ∷ 90 ∷ 0 ∷ 0 ∷ 0 ∷ 5 ∷ 73 ∷ 49 ∷ 0 ∷ 0 ∷ 0 ∷ 4 ∷ 69 ∷ 0 ∷ 0 ∷ 0 ∷ 50 ∷ 83 ∷ 69 ∷ 82 ∷ 82 ∷ 79 ∷ 82 ∷ 0 ∷ 86 ∷ 69 ∷ 82 ∷ 82 ∷ 79 ∷ 82 ∷ 0 ∷ 67 ∷ 48 ∷ 56 ∷ 80 ∷ 48 ∷ 49 ∷ 0 ∷ 77 ∷ 105 ∷ 110 ∷ 118 ∷ 97 ∷ 108 ∷ 105 ∷ 100 ∷ 32 ∷ 109 ∷ 101 ∷ 115 ∷ 115 ∷ 97 ∷ 103 ∷ 101 ∷ 32 ∷ 102 ∷ 111 ∷ 114 ∷ 109 ∷ 97 ∷ 116 ∷ 0 ∷ 0 ∷ 90 ∷ 0 ∷ 0 ∷ 0 ∷ 5 ∷ 73 ∷ [])
-unfolding digits cut_after text_at int16_at int32_at value_at list_at query_of parse_of bind_of target_of execute_of literal_length unquoted tokens_after read ends pass take_value either with_item items definitions columns_at at_most_64 take_columns take_operands block assignment set reset show discard definition_list create drop_table value_list insert where_of end_of from_of select of_tokens less_semicolon phrase statement accepted_of date_styles started_over fresh step run_frames service
+unfolding digits cut_after text_at int16_at int32_at value_at list_at query_of parse_of bind_of target_of execute_of literal_length unquoted tokens_after read ends pass take_value either with_item items definitions columns_at at_most_64 take_columns take_operands block assignment set_name set reset show discard definition_list create drop_table value_list insert where_of end_of from_of select of_tokens less_semicolon phrase statement accepted_of date_styles started_over fresh step run_frames service
 bind_left_over = refl
 
 pub after_terminate : service catalogue key 1 2 (88 ∷ 0 ∷ 0 ∷ 0 ∷ 4 ∷ 81 ∷ 0 ∷ 0 ∷ 0 ∷ 26 ∷ 83 ∷ 72 ∷ 79 ∷ 87 ∷ 32 ∷ 97 ∷ 112 ∷ 112 ∷ 108 ∷ 105 ∷ 99 ∷ 97 ∷ 116 ∷ 105 ∷ 111 ∷ 110 ∷ 95 ∷ 110 ∷ 97 ∷ 109 ∷ 101 ∷ 0 ∷ 81 ∷ 0 ∷ 0 ∷ 0 ∷ 3 ∷ []) ≡ (83 ∷ 0 ∷ 0 ∷ 0 ∷ 22 ∷ 97 ∷ 112 ∷ 112 ∷ 108 ∷ 105 ∷ 99 ∷ 97 ∷ 116 ∷ 105 ∷ 111 ∷ 110 ∷ 95 ∷ 110 ∷ 97 ∷ 109 ∷ 101 ∷ 0 ∷ 0 ∷ 83 ∷ 0 ∷ 0 ∷ 0 ∷ 25 ∷ 99 ∷ 108 ∷ 105 ∷ 101 ∷ 110 ∷ 116 ∷ 95 ∷ 101 ∷ 110 ∷ 99 ∷ 111 ∷ 100 ∷ 105 ∷ 110 ∷ 103 ∷ 0 ∷ 85 ∷ 84 ∷ 70 ∷ 56 ∷ 0 ∷ 83 ∷ 0 ∷ 0 ∷ 0 ∷ 23 ∷ 68 ∷ 97 ∷ 116 ∷ 101 ∷ 83 ∷ 116 ∷ 121 ∷ 108 ∷ 101 ∷ 0 ∷ 73 ∷ 83 ∷ 79 ∷ 44 ∷ 32 ∷ 77 ∷ 68 ∷ 89 ∷ 0 ∷ 83 ∷ 0 ∷ 0 ∷ 0 ∷ 25 ∷ 105 ∷ 110 ∷ 116 ∷ 101 ∷ 103 ∷ 101 ∷ 114 ∷ 95 ∷ 100 ∷ 97 ∷ 116 ∷ 101 ∷ 116 ∷ 105 ∷ 109 ∷ 101 ∷ 115 ∷ 0 ∷ 111 ∷ 110 ∷ 0 ∷ 83 ∷ 0 ∷ 0 ∷ 0 ∷ 27 ∷ 73 ∷ 110 ∷ 116 ∷ 101 ∷ 114 ∷ 118 ∷ 97 ∷ 108 ∷ 83 ∷ 116 ∷ 121 ∷ 108 ∷ 101 ∷ 0 ∷ 112 ∷ 111 ∷ 115 ∷ 116 ∷ 103 ∷ 114 ∷ 101 ∷ 115 ∷ 0 ∷ 83 ∷ 0 ∷ 0 ∷ 0 ∷ 25 ∷ 115 ∷ 101 ∷ 114 ∷ 118 ∷ 101 ∷ 114 ∷ 95 ∷ 101 ∷ 110 ∷ 99 ∷ 111 ∷ 100 ∷ 105 ∷ 110 ∷ 103 ∷ 0 ∷ 85 ∷ 84 ∷ 70 ∷ 56 ∷ 0 ∷ 83 ∷ 0 ∷ 0 ∷ 0 ∷ 24 ∷ 115 ∷ 101 ∷ 114 ∷ 118 ∷ 101 ∷ 114 ∷ 95 ∷ 118 ∷ 101 ∷ 114 ∷ 115 ∷ 105 ∷ 111 ∷ 110 ∷ 0 ∷ 49 ∷ 54 ∷ 46 ∷ 48 ∷ 0 ∷ 83 ∷ 0 ∷ 0 ∷ 0 ∷ 35 ∷ 115 ∷ 116 ∷ 97 ∷ 110 ∷ 100 ∷ 97 ∷ 114 ∷ 100 ∷ 95 ∷ 99 ∷ 111 ∷ 110 ∷ 102 ∷ 111 ∷ 114 ∷ 109 ∷ 105 ∷ 110 ∷ 103 ∷ 95 ∷ 115 ∷ 116 ∷ 114 ∷ 105 ∷ 110 ∷ 103 ∷ 115 ∷ 0 ∷ 111 ∷ 110 ∷ 0 ∷ 83 ∷ 0 ∷ 0 ∷ 0 ∷ 17 ∷ 84 ∷ 105 ∷ 109 ∷ 101 ∷ 90 ∷ 111 ∷ 110 ∷ 101 ∷ 0 ∷ 85 ∷ 84 ∷ 67 ∷ 0 ∷ 75 ∷ 0 ∷ 0 ∷ 0 ∷ 12 ∷ 0 ∷ 0 ∷ 0 ∷ 1 ∷ 0 ∷ 0 ∷ 0 ∷ 2 ∷ 90 ∷ 0 ∷ 0 ∷ 0 ∷ 5 ∷ 73 ∷ [])
-unfolding digits cut_after text_at int16_at int32_at value_at list_at query_of parse_of bind_of target_of execute_of literal_length unquoted tokens_after read ends pass take_value either with_item items definitions columns_at at_most_64 take_columns take_operands block assignment set reset show discard definition_list create drop_table value_list insert where_of end_of from_of select of_tokens less_semicolon phrase statement accepted_of date_styles started_over fresh step run_frames service
+unfolding digits cut_after text_at int16_at int32_at value_at list_at query_of parse_of bind_of target_of execute_of literal_length unquoted tokens_after read ends pass take_value either with_item items definitions columns_at at_most_64 take_columns take_operands block assignment set_name set reset show discard definition_list create drop_table value_list insert where_of end_of from_of select of_tokens less_semicolon phrase statement accepted_of date_styles started_over fresh step run_frames service
 after_terminate = refl
 
 pub set_show_discard : service catalogue key 1 2 (81 ∷ 0 ∷ 0 ∷ 0 ∷ 32 ∷ 83 ∷ 69 ∷ 84 ∷ 32 ∷ 97 ∷ 112 ∷ 112 ∷ 108 ∷ 105 ∷ 99 ∷ 97 ∷ 116 ∷ 105 ∷ 111 ∷ 110 ∷ 95 ∷ 110 ∷ 97 ∷ 109 ∷ 101 ∷ 32 ∷ 84 ∷ 79 ∷ 32 ∷ 39 ∷ 120 ∷ 39 ∷ 0 ∷ 81 ∷ 0 ∷ 0 ∷ 0 ∷ 26 ∷ 83 ∷ 72 ∷ 79 ∷ 87 ∷ 32 ∷ 97 ∷ 112 ∷ 112 ∷ 108 ∷ 105 ∷ 99 ∷ 97 ∷ 116 ∷ 105 ∷ 111 ∷ 110 ∷ 95 ∷ 110 ∷ 97 ∷ 109 ∷ 101 ∷ 0 ∷ 81 ∷ 0 ∷ 0 ∷ 0 ∷ 16 ∷ 68 ∷ 73 ∷ 83 ∷ 67 ∷ 65 ∷ 82 ∷ 68 ∷ 32 ∷ 65 ∷ 76 ∷ 76 ∷ 0 ∷ 88 ∷ 0 ∷ 0 ∷ 0 ∷ 4 ∷ []) ≡ (83 ∷ 0 ∷ 0 ∷ 0 ∷ 22 ∷ 97 ∷ 112 ∷ 112 ∷ 108 ∷ 105 ∷ 99 ∷ 97 ∷ 116 ∷ 105 ∷ 111 ∷ 110 ∷ 95 ∷ 110 ∷ 97 ∷ 109 ∷ 101 ∷ 0 ∷ 0 ∷ 83 ∷ 0 ∷ 0 ∷ 0 ∷ 25 ∷ 99 ∷ 108 ∷ 105 ∷ 101 ∷ 110 ∷ 116 ∷ 95 ∷ 101 ∷ 110 ∷ 99 ∷ 111 ∷ 100 ∷ 105 ∷ 110 ∷ 103 ∷ 0 ∷ 85 ∷ 84 ∷ 70 ∷ 56 ∷ 0 ∷ 83 ∷ 0 ∷ 0 ∷ 0 ∷ 23 ∷ 68 ∷ 97 ∷ 116 ∷ 101 ∷ 83 ∷ 116 ∷ 121 ∷ 108 ∷ 101 ∷ 0 ∷ 73 ∷ 83 ∷ 79 ∷ 44 ∷ 32 ∷ 77 ∷ 68 ∷ 89 ∷ 0 ∷ 83 ∷ 0 ∷ 0 ∷ 0 ∷ 25 ∷ 105 ∷ 110 ∷ 116 ∷ 101 ∷ 103 ∷ 101 ∷ 114 ∷ 95 ∷ 100 ∷ 97 ∷ 116 ∷ 101 ∷ 116 ∷ 105 ∷ 109 ∷ 101 ∷ 115 ∷ 0 ∷ 111 ∷ 110 ∷ 0 ∷ 83 ∷ 0 ∷ 0 ∷ 0 ∷ 27 ∷ 73 ∷ 110 ∷ 116 ∷ 101 ∷ 114 ∷ 118 ∷ 97 ∷ 108 ∷ 83 ∷ 116 ∷ 121 ∷ 108 ∷ 101 ∷ 0 ∷ 112 ∷ 111 ∷ 115 ∷ 116 ∷ 103 ∷ 114 ∷ 101 ∷ 115 ∷ 0 ∷ 83 ∷ 0 ∷ 0 ∷ 0 ∷ 25 ∷ 115 ∷ 101 ∷ 114 ∷ 118 ∷ 101 ∷ 114 ∷ 95 ∷ 101 ∷ 110 ∷ 99 ∷ 111 ∷ 100 ∷ 105 ∷ 110 ∷ 103 ∷ 0 ∷ 85 ∷ 84 ∷ 70 ∷ 56 ∷ 0 ∷ 83 ∷ 0 ∷ 0 ∷ 0 ∷ 24 ∷ 115 ∷ 101 ∷ 114 ∷ 118 ∷ 101 ∷ 114 ∷ 95 ∷ 118 ∷ 101 ∷ 114 ∷ 115 ∷ 105 ∷ 111 ∷ 110 ∷ 0 ∷ 49 ∷ 54 ∷ 46 ∷ 48 ∷ 0 ∷ 83 ∷ 0 ∷ 0 ∷ 0 ∷ 35 ∷ 115 ∷ 116 ∷ 97 ∷ 110 ∷ 100 ∷ 97 ∷ 114 ∷ 100 ∷ 95 ∷ 99 ∷ 111 ∷ 110 ∷ 102 ∷ 111 ∷ 114 ∷ 109 ∷ 105 ∷ 110 ∷ 103 ∷ 95 ∷ 115 ∷ 116 ∷ 114 ∷ 105 ∷ 110 ∷ 103 ∷ 115 ∷ 0 ∷ 111 ∷ 110 ∷ 0 ∷ 83 ∷ 0 ∷ 0 ∷ 0 ∷ 17 ∷ 84 ∷ 105 ∷ 109 ∷ 101 ∷ 90 ∷ 111 ∷ 110 ∷ 101 ∷ 0 ∷ 85 ∷ 84 ∷ 67 ∷ 0 ∷ 75 ∷ 0 ∷ 0 ∷ 0 ∷ 12 ∷ 0 ∷ 0 ∷ 0 ∷ 1 ∷ 0 ∷ 0 ∷ 0 ∷ 2 ∷ 90 ∷ 0 ∷ 0 ∷ 0 ∷ 5 ∷ 73 ∷ 67 ∷ 0 ∷ 0 ∷ 0 ∷ 8 ∷ 83 ∷ 69 ∷ 84 ∷ 0 ∷ 83 ∷ 0 ∷ 0 ∷ 0 ∷ 23 ∷ 97 ∷ 112 ∷ 112 ∷ 108 ∷ 105 ∷ 99 ∷ 97 ∷ 116 ∷ 105 ∷ 111 ∷ 110 ∷ 95 ∷ 110 ∷ 97 ∷ 109 ∷ 101 ∷ 0 ∷ 120 ∷ 0 ∷ 90 ∷ 0 ∷ 0 ∷ 0 ∷ 5 ∷ 73 ∷ 84 ∷ 0 ∷ 0 ∷ 0 ∷ 41 ∷ 0 ∷ 1 ∷ 97 ∷ 112 ∷ 112 ∷ 108 ∷ 105 ∷ 99 ∷ 97 ∷ 116 ∷ 105 ∷ 111 ∷ 110 ∷ 95 ∷ 110 ∷ 97 ∷ 109 ∷ 101 ∷ 0 ∷ 0 ∷ 0 ∷ 0 ∷ 0 ∷ 0 ∷ 0 ∷ 0 ∷ 0 ∷ 0 ∷ 25 ∷ 255 ∷ 255 ∷ 255 ∷ 255 ∷ 255 ∷ 255 ∷ 0 ∷ 0 ∷ 68 ∷ 0 ∷ 0 ∷ 0 ∷ 11 ∷ 0 ∷ 1 ∷ 0 ∷ 0 ∷ 0 ∷ 1 ∷ 120 ∷ 67 ∷ 0 ∷ 0 ∷ 0 ∷ 9 ∷ 83 ∷ 72 ∷ 79 ∷ 87 ∷ 0 ∷ 90 ∷ 0 ∷ 0 ∷ 0 ∷ 5 ∷ 73 ∷ 67 ∷ 0 ∷ 0 ∷ 0 ∷ 16 ∷ 68 ∷ 73 ∷ 83 ∷ 67 ∷ 65 ∷ 82 ∷ 68 ∷ 32 ∷ 65 ∷ 76 ∷ 76 ∷ 0 ∷ 83 ∷ 0 ∷ 0 ∷ 0 ∷ 22 ∷ 97 ∷ 112 ∷ 112 ∷ 108 ∷ 105 ∷ 99 ∷ 97 ∷ 116 ∷ 105 ∷ 111 ∷ 110 ∷ 95 ∷ 110 ∷ 97 ∷ 109 ∷ 101 ∷ 0 ∷ 0 ∷ 90 ∷ 0 ∷ 0 ∷ 0 ∷ 5 ∷ 73 ∷ [])
-unfolding digits cut_after text_at int16_at int32_at value_at list_at query_of parse_of bind_of target_of execute_of literal_length unquoted tokens_after read ends pass take_value either with_item items definitions columns_at at_most_64 take_columns take_operands block assignment set reset show discard definition_list create drop_table value_list insert where_of end_of from_of select of_tokens less_semicolon phrase statement accepted_of date_styles started_over fresh step run_frames service
+unfolding digits cut_after text_at int16_at int32_at value_at list_at query_of parse_of bind_of target_of execute_of literal_length unquoted tokens_after read ends pass take_value either with_item items definitions columns_at at_most_64 take_columns take_operands block assignment set_name set reset show discard definition_list create drop_table value_list insert where_of end_of from_of select of_tokens less_semicolon phrase statement accepted_of date_styles started_over fresh step run_frames service
 set_show_discard = refl
 
 pub syntax_error : service catalogue key 1 2 (81 ∷ 0 ∷ 0 ∷ 0 ∷ 10 ∷ 83 ∷ 69 ∷ 76 ∷ 69 ∷ 67 ∷ 0 ∷ []) ≡ (83 ∷ 0 ∷ 0 ∷ 0 ∷ 22 ∷ 97 ∷ 112 ∷ 112 ∷ 108 ∷ 105 ∷ 99 ∷ 97 ∷ 116 ∷ 105 ∷ 111 ∷ 110 ∷ 95 ∷ 110 ∷ 97 ∷ 109 ∷ 101 ∷ 0 ∷ 0 ∷ 83 ∷ 0 ∷ 0 ∷ 0 ∷ 25 ∷ 99 ∷ 108 ∷ 105 ∷ 101 ∷ 110 ∷ 116 ∷ 95 ∷ 101 ∷ 110 ∷ 99 ∷ 111 ∷ 100 ∷ 105 ∷ 110 ∷ 103 ∷ 0 ∷ 85 ∷ 84 ∷ 70 ∷ 56 ∷ 0 ∷ 83 ∷ 0 ∷ 0 ∷ 0 ∷ 23 ∷ 68 ∷ 97 ∷ 116 ∷ 101 ∷ 83 ∷ 116 ∷ 121 ∷ 108 ∷ 101 ∷ 0 ∷ 73 ∷ 83 ∷ 79 ∷ 44 ∷ 32 ∷ 77 ∷ 68 ∷ 89 ∷ 0 ∷ 83 ∷ 0 ∷ 0 ∷ 0 ∷ 25 ∷ 105 ∷ 110 ∷ 116 ∷ 101 ∷ 103 ∷ 101 ∷ 114 ∷ 95 ∷ 100 ∷ 97 ∷ 116 ∷ 101 ∷ 116 ∷ 105 ∷ 109 ∷ 101 ∷ 115 ∷ 0 ∷ 111 ∷ 110 ∷ 0 ∷ 83 ∷ 0 ∷ 0 ∷ 0 ∷ 27 ∷ 73 ∷ 110 ∷ 116 ∷ 101 ∷ 114 ∷ 118 ∷ 97 ∷ 108 ∷ 83 ∷ 116 ∷ 121 ∷ 108 ∷ 101 ∷ 0 ∷ 112 ∷ 111 ∷ 115 ∷ 116 ∷ 103 ∷ 114 ∷ 101 ∷ 115 ∷ 0 ∷ 83 ∷ 0 ∷ 0 ∷ 0 ∷ 25 ∷ 115 ∷ 101 ∷ 114 ∷ 118 ∷ 101 ∷ 114 ∷ 95 ∷ 101 ∷ 110 ∷ 99 ∷ 111 ∷ 100 ∷ 105 ∷ 110 ∷ 103 ∷ 0 ∷ 85 ∷ 84 ∷ 70 ∷ 56 ∷ 0 ∷ 83 ∷ 0 ∷ 0 ∷ 0 ∷ 24 ∷ 115 ∷ 101 ∷ 114 ∷ 118 ∷ 101 ∷ 114 ∷ 95 ∷ 118 ∷ 101 ∷ 114 ∷ 115 ∷ 105 ∷ 111 ∷ 110 ∷ 0 ∷ 49 ∷ 54 ∷ 46 ∷ 48 ∷ 0 ∷ 83 ∷ 0 ∷ 0 ∷ 0 ∷ 35 ∷ 115 ∷ 116 ∷ 97 ∷ 110 ∷ 100 ∷ 97 ∷ 114 ∷ 100 ∷ 95 ∷ 99 ∷ 111 ∷ 110 ∷ 102 ∷ 111 ∷ 114 ∷ 109 ∷ 105 ∷ 110 ∷ 103 ∷ 95 ∷ 115 ∷ 116 ∷ 114 ∷ 105 ∷ 110 ∷ 103 ∷ 115 ∷ 0 ∷ 111 ∷ 110 ∷ 0 ∷ 83 ∷ 0 ∷ 0 ∷ 0 ∷ 17 ∷ 84 ∷ 105 ∷ 109 ∷ 101 ∷ 90 ∷ 111 ∷ 110 ∷ 101 ∷ 0 ∷ 85 ∷ 84 ∷ 67 ∷ 0 ∷ 75 ∷ 0 ∷ 0 ∷ 0 ∷ 12 ∷ 0 ∷ 0 ∷ 0 ∷ 1 ∷ 0 ∷ 0 ∷ 0 ∷ 2 ∷ 90 ∷ 0 ∷ 0 ∷ 0 ∷ 5 ∷ 73 ∷ 69 ∷ 0 ∷ 0 ∷ 0 ∷ 40 ∷ 83 ∷ 69 ∷ 82 ∷ 82 ∷ 79 ∷ 82 ∷ 0 ∷ 86 ∷ 69 ∷ 82 ∷ 82 ∷ 79 ∷ 82 ∷ 0 ∷ 67 ∷ 52 ∷ 50 ∷ 54 ∷ 48 ∷ 49 ∷ 0 ∷ 77 ∷ 115 ∷ 121 ∷ 110 ∷ 116 ∷ 97 ∷ 120 ∷ 32 ∷ 101 ∷ 114 ∷ 114 ∷ 111 ∷ 114 ∷ 0 ∷ 0 ∷ 90 ∷ 0 ∷ 0 ∷ 0 ∷ 5 ∷ 73 ∷ [])
-unfolding digits cut_after text_at int16_at int32_at value_at list_at query_of parse_of bind_of target_of execute_of literal_length unquoted tokens_after read ends pass take_value either with_item items definitions columns_at at_most_64 take_columns take_operands block assignment set reset show discard definition_list create drop_table value_list insert where_of end_of from_of select of_tokens less_semicolon phrase statement accepted_of date_styles started_over fresh step run_frames service
+unfolding digits cut_after text_at int16_at int32_at value_at list_at query_of parse_of bind_of target_of execute_of literal_length unquoted tokens_after read ends pass take_value either with_item items definitions columns_at at_most_64 take_columns take_operands block assignment set_name set reset show discard definition_list create drop_table value_list insert where_of end_of from_of select of_tokens less_semicolon phrase statement accepted_of date_styles started_over fresh step run_frames service
 syntax_error = refl
 
 pub rolled_back_set : service catalogue key 1 2 (81 ∷ 0 ∷ 0 ∷ 0 ∷ 10 ∷ 66 ∷ 69 ∷ 71 ∷ 73 ∷ 78 ∷ 0 ∷ 81 ∷ 0 ∷ 0 ∷ 0 ∷ 32 ∷ 83 ∷ 69 ∷ 84 ∷ 32 ∷ 97 ∷ 112 ∷ 112 ∷ 108 ∷ 105 ∷ 99 ∷ 97 ∷ 116 ∷ 105 ∷ 111 ∷ 110 ∷ 95 ∷ 110 ∷ 97 ∷ 109 ∷ 101 ∷ 32 ∷ 84 ∷ 79 ∷ 32 ∷ 39 ∷ 120 ∷ 39 ∷ 0 ∷ 81 ∷ 0 ∷ 0 ∷ 0 ∷ 13 ∷ 82 ∷ 79 ∷ 76 ∷ 76 ∷ 66 ∷ 65 ∷ 67 ∷ 75 ∷ 0 ∷ []) ≡ (83 ∷ 0 ∷ 0 ∷ 0 ∷ 22 ∷ 97 ∷ 112 ∷ 112 ∷ 108 ∷ 105 ∷ 99 ∷ 97 ∷ 116 ∷ 105 ∷ 111 ∷ 110 ∷ 95 ∷ 110 ∷ 97 ∷ 109 ∷ 101 ∷ 0 ∷ 0 ∷ 83 ∷ 0 ∷ 0 ∷ 0 ∷ 25 ∷ 99 ∷ 108 ∷ 105 ∷ 101 ∷ 110 ∷ 116 ∷ 95 ∷ 101 ∷ 110 ∷ 99 ∷ 111 ∷ 100 ∷ 105 ∷ 110 ∷ 103 ∷ 0 ∷ 85 ∷ 84 ∷ 70 ∷ 56 ∷ 0 ∷ 83 ∷ 0 ∷ 0 ∷ 0 ∷ 23 ∷ 68 ∷ 97 ∷ 116 ∷ 101 ∷ 83 ∷ 116 ∷ 121 ∷ 108 ∷ 101 ∷ 0 ∷ 73 ∷ 83 ∷ 79 ∷ 44 ∷ 32 ∷ 77 ∷ 68 ∷ 89 ∷ 0 ∷ 83 ∷ 0 ∷ 0 ∷ 0 ∷ 25 ∷ 105 ∷ 110 ∷ 116 ∷ 101 ∷ 103 ∷ 101 ∷ 114 ∷ 95 ∷ 100 ∷ 97 ∷ 116 ∷ 101 ∷ 116 ∷ 105 ∷ 109 ∷ 101 ∷ 115 ∷ 0 ∷ 111 ∷ 110 ∷ 0 ∷ 83 ∷ 0 ∷ 0 ∷ 0 ∷ 27 ∷ 73 ∷ 110 ∷ 116 ∷ 101 ∷ 114 ∷ 118 ∷ 97 ∷ 108 ∷ 83 ∷ 116 ∷ 121 ∷ 108 ∷ 101 ∷ 0 ∷ 112 ∷ 111 ∷ 115 ∷ 116 ∷ 103 ∷ 114 ∷ 101 ∷ 115 ∷ 0 ∷ 83 ∷ 0 ∷ 0 ∷ 0 ∷ 25 ∷ 115 ∷ 101 ∷ 114 ∷ 118 ∷ 101 ∷ 114 ∷ 95 ∷ 101 ∷ 110 ∷ 99 ∷ 111 ∷ 100 ∷ 105 ∷ 110 ∷ 103 ∷ 0 ∷ 85 ∷ 84 ∷ 70 ∷ 56 ∷ 0 ∷ 83 ∷ 0 ∷ 0 ∷ 0 ∷ 24 ∷ 115 ∷ 101 ∷ 114 ∷ 118 ∷ 101 ∷ 114 ∷ 95 ∷ 118 ∷ 101 ∷ 114 ∷ 115 ∷ 105 ∷ 111 ∷ 110 ∷ 0 ∷ 49 ∷ 54 ∷ 46 ∷ 48 ∷ 0 ∷ 83 ∷ 0 ∷ 0 ∷ 0 ∷ 35 ∷ 115 ∷ 116 ∷ 97 ∷ 110 ∷ 100 ∷ 97 ∷ 114 ∷ 100 ∷ 95 ∷ 99 ∷ 111 ∷ 110 ∷ 102 ∷ 111 ∷ 114 ∷ 109 ∷ 105 ∷ 110 ∷ 103 ∷ 95 ∷ 115 ∷ 116 ∷ 114 ∷ 105 ∷ 110 ∷ 103 ∷ 115 ∷ 0 ∷ 111 ∷ 110 ∷ 0 ∷ 83 ∷ 0 ∷ 0 ∷ 0 ∷ 17 ∷ 84 ∷ 105 ∷ 109 ∷ 101 ∷ 90 ∷ 111 ∷ 110 ∷ 101 ∷ 0 ∷ 85 ∷ 84 ∷ 67 ∷ 0 ∷ 75 ∷ 0 ∷ 0 ∷ 0 ∷ 12 ∷ 0 ∷ 0 ∷ 0 ∷ 1 ∷ 0 ∷ 0 ∷ 0 ∷ 2 ∷ 90 ∷ 0 ∷ 0 ∷ 0 ∷ 5 ∷ 73 ∷ 67 ∷ 0 ∷ 0 ∷ 0 ∷ 10 ∷ 66 ∷ 69 ∷ 71 ∷ 73 ∷ 78 ∷ 0 ∷ 90 ∷ 0 ∷ 0 ∷ 0 ∷ 5 ∷ 84 ∷ 67 ∷ 0 ∷ 0 ∷ 0 ∷ 8 ∷ 83 ∷ 69 ∷ 84 ∷ 0 ∷ 83 ∷ 0 ∷ 0 ∷ 0 ∷ 23 ∷ 97 ∷ 112 ∷ 112 ∷ 108 ∷ 105 ∷ 99 ∷ 97 ∷ 116 ∷ 105 ∷ 111 ∷ 110 ∷ 95 ∷ 110 ∷ 97 ∷ 109 ∷ 101 ∷ 0 ∷ 120 ∷ 0 ∷ 90 ∷ 0 ∷ 0 ∷ 0 ∷ 5 ∷ 84 ∷ 67 ∷ 0 ∷ 0 ∷ 0 ∷ 13 ∷ 82 ∷ 79 ∷ 76 ∷ 76 ∷ 66 ∷ 65 ∷ 67 ∷ 75 ∷ 0 ∷ 83 ∷ 0 ∷ 0 ∷ 0 ∷ 22 ∷ 97 ∷ 112 ∷ 112 ∷ 108 ∷ 105 ∷ 99 ∷ 97 ∷ 116 ∷ 105 ∷ 111 ∷ 110 ∷ 95 ∷ 110 ∷ 97 ∷ 109 ∷ 101 ∷ 0 ∷ 0 ∷ 90 ∷ 0 ∷ 0 ∷ 0 ∷ 5 ∷ 73 ∷ [])
-unfolding digits cut_after text_at int16_at int32_at value_at list_at query_of parse_of bind_of target_of execute_of literal_length unquoted tokens_after read ends pass take_value either with_item items definitions columns_at at_most_64 take_columns take_operands block assignment set reset show discard definition_list create drop_table value_list insert where_of end_of from_of select of_tokens less_semicolon phrase statement accepted_of date_styles started_over fresh step run_frames service
+unfolding digits cut_after text_at int16_at int32_at value_at list_at query_of parse_of bind_of target_of execute_of literal_length unquoted tokens_after read ends pass take_value either with_item items definitions columns_at at_most_64 take_columns take_operands block assignment set_name set reset show discard definition_list create drop_table value_list insert where_of end_of from_of select of_tokens less_semicolon phrase statement accepted_of date_styles started_over fresh step run_frames service
 rolled_back_set = refl
 
 pub suspended_portal : service catalogue key 1 2 (80 ∷ 0 ∷ 0 ∷ 0 ∷ 29 ∷ 0 ∷ 83 ∷ 69 ∷ 76 ∷ 69 ∷ 67 ∷ 84 ∷ 32 ∷ 110 ∷ 97 ∷ 109 ∷ 101 ∷ 32 ∷ 70 ∷ 82 ∷ 79 ∷ 77 ∷ 32 ∷ 99 ∷ 105 ∷ 116 ∷ 121 ∷ 0 ∷ 0 ∷ 0 ∷ 66 ∷ 0 ∷ 0 ∷ 0 ∷ 12 ∷ 0 ∷ 0 ∷ 0 ∷ 0 ∷ 0 ∷ 0 ∷ 0 ∷ 0 ∷ 69 ∷ 0 ∷ 0 ∷ 0 ∷ 9 ∷ 0 ∷ 0 ∷ 0 ∷ 0 ∷ 2 ∷ 69 ∷ 0 ∷ 0 ∷ 0 ∷ 9 ∷ 0 ∷ 0 ∷ 0 ∷ 0 ∷ 0 ∷ 83 ∷ 0 ∷ 0 ∷ 0 ∷ 4 ∷ []) ≡ (83 ∷ 0 ∷ 0 ∷ 0 ∷ 22 ∷ 97 ∷ 112 ∷ 112 ∷ 108 ∷ 105 ∷ 99 ∷ 97 ∷ 116 ∷ 105 ∷ 111 ∷ 110 ∷ 95 ∷ 110 ∷ 97 ∷ 109 ∷ 101 ∷ 0 ∷ 0 ∷ 83 ∷ 0 ∷ 0 ∷ 0 ∷ 25 ∷ 99 ∷ 108 ∷ 105 ∷ 101 ∷ 110 ∷ 116 ∷ 95 ∷ 101 ∷ 110 ∷ 99 ∷ 111 ∷ 100 ∷ 105 ∷ 110 ∷ 103 ∷ 0 ∷ 85 ∷ 84 ∷ 70 ∷ 56 ∷ 0 ∷ 83 ∷ 0 ∷ 0 ∷ 0 ∷ 23 ∷ 68 ∷ 97 ∷ 116 ∷ 101 ∷ 83 ∷ 116 ∷ 121 ∷ 108 ∷ 101 ∷ 0 ∷ 73 ∷ 83 ∷ 79 ∷ 44 ∷ 32 ∷ 77 ∷ 68 ∷ 89 ∷ 0 ∷ 83 ∷ 0 ∷ 0 ∷ 0 ∷ 25 ∷ 105 ∷ 110 ∷ 116 ∷ 101 ∷ 103 ∷ 101 ∷ 114 ∷ 95 ∷ 100 ∷ 97 ∷ 116 ∷ 101 ∷ 116 ∷ 105 ∷ 109 ∷ 101 ∷ 115 ∷ 0 ∷ 111 ∷ 110 ∷ 0 ∷ 83 ∷ 0 ∷ 0 ∷ 0 ∷ 27 ∷ 73 ∷ 110 ∷ 116 ∷ 101 ∷ 114 ∷ 118 ∷ 97 ∷ 108 ∷ 83 ∷ 116 ∷ 121 ∷ 108 ∷ 101 ∷ 0 ∷ 112 ∷ 111 ∷ 115 ∷ 116 ∷ 103 ∷ 114 ∷ 101 ∷ 115 ∷ 0 ∷ 83 ∷ 0 ∷ 0 ∷ 0 ∷ 25 ∷ 115 ∷ 101 ∷ 114 ∷ 118 ∷ 101 ∷ 114 ∷ 95 ∷ 101 ∷ 110 ∷ 99 ∷ 111 ∷ 100 ∷ 105 ∷ 110 ∷ 103 ∷ 0 ∷ 85 ∷ 84 ∷ 70 ∷ 56 ∷ 0 ∷ 83 ∷ 0 ∷ 0 ∷ 0 ∷ 24 ∷ 115 ∷ 101 ∷ 114 ∷ 118 ∷ 101 ∷ 114 ∷ 95 ∷ 118 ∷ 101 ∷ 114 ∷ 115 ∷ 105 ∷ 111 ∷ 110 ∷ 0 ∷ 49 ∷ 54 ∷ 46 ∷ 48 ∷ 0 ∷ 83 ∷ 0 ∷ 0 ∷ 0 ∷ 35 ∷ 115 ∷ 116 ∷ 97 ∷ 110 ∷ 100 ∷ 97 ∷ 114 ∷ 100 ∷ 95 ∷ 99 ∷ 111 ∷ 110 ∷ 102 ∷ 111 ∷ 114 ∷ 109 ∷ 105 ∷ 110 ∷ 103 ∷ 95 ∷ 115 ∷ 116 ∷ 114 ∷ 105 ∷ 110 ∷ 103 ∷ 115 ∷ 0 ∷ 111 ∷ 110 ∷ 0 ∷ 83 ∷ 0 ∷ 0 ∷ 0 ∷ 17 ∷ 84 ∷ 105 ∷ 109 ∷ 101 ∷ 90 ∷ 111 ∷ 110 ∷ 101 ∷ 0 ∷ 85 ∷ 84 ∷ 67 ∷ 0 ∷ 75 ∷ 0 ∷ 0 ∷ 0 ∷ 12 ∷ 0 ∷ 0 ∷ 0 ∷ 1 ∷ 0 ∷ 0 ∷ 0 ∷ 2 ∷ 90 ∷ 0 ∷ 0 ∷ 0 ∷ 5 ∷ 73 ∷ 49 ∷ 0 ∷ 0 ∷ 0 ∷ 4 ∷ 50 ∷ 0 ∷ 0 ∷ 0 ∷ 4 ∷ 68 ∷ 0 ∷ 0 ∷ 0 ∷ 14 ∷ 0 ∷ 1 ∷ 0 ∷ 0 ∷ 0 ∷ 4 ∷ 66 ∷ 101 ∷ 114 ∷ 110 ∷ 68 ∷ 0 ∷ 0 ∷ 0 ∷ 14 ∷ 0 ∷ 1 ∷ 0 ∷ 0 ∷ 0 ∷ 4 ∷ 79 ∷ 115 ∷ 108 ∷ 111 ∷ 115 ∷ 0 ∷ 0 ∷ 0 ∷ 4 ∷ 68 ∷ 0 ∷ 0 ∷ 0 ∷ 14 ∷ 0 ∷ 1 ∷ 0 ∷ 0 ∷ 0 ∷ 4 ∷ 78 ∷ 117 ∷ 117 ∷ 107 ∷ 67 ∷ 0 ∷ 0 ∷ 0 ∷ 13 ∷ 83 ∷ 69 ∷ 76 ∷ 69 ∷ 67 ∷ 84 ∷ 32 ∷ 49 ∷ 0 ∷ 90 ∷ 0 ∷ 0 ∷ 0 ∷ 5 ∷ 73 ∷ [])
-unfolding digits cut_after text_at int16_at int32_at value_at list_at query_of parse_of bind_of target_of execute_of literal_length unquoted tokens_after read ends pass take_value either with_item items definitions columns_at at_most_64 take_columns take_operands block assignment set reset show discard definition_list create drop_table value_list insert where_of end_of from_of select of_tokens less_semicolon phrase statement accepted_of date_styles started_over fresh step run_frames service
+unfolding digits cut_after text_at int16_at int32_at value_at list_at query_of parse_of bind_of target_of execute_of literal_length unquoted tokens_after read ends pass take_value either with_item items definitions columns_at at_most_64 take_columns take_operands block assignment set_name set reset show discard definition_list create drop_table value_list insert where_of end_of from_of select of_tokens less_semicolon phrase statement accepted_of date_styles started_over fresh step run_frames service
 suspended_portal = refl
 
 pub skipped_until_sync : service catalogue key 1 2 (80 ∷ 0 ∷ 0 ∷ 0 ∷ 13 ∷ 0 ∷ 83 ∷ 69 ∷ 76 ∷ 69 ∷ 67 ∷ 0 ∷ 0 ∷ 0 ∷ 81 ∷ 0 ∷ 0 ∷ 0 ∷ 18 ∷ 83 ∷ 72 ∷ 79 ∷ 87 ∷ 32 ∷ 84 ∷ 105 ∷ 109 ∷ 101 ∷ 90 ∷ 111 ∷ 110 ∷ 101 ∷ 0 ∷ 83 ∷ 0 ∷ 0 ∷ 0 ∷ 4 ∷ []) ≡ (83 ∷ 0 ∷ 0 ∷ 0 ∷ 22 ∷ 97 ∷ 112 ∷ 112 ∷ 108 ∷ 105 ∷ 99 ∷ 97 ∷ 116 ∷ 105 ∷ 111 ∷ 110 ∷ 95 ∷ 110 ∷ 97 ∷ 109 ∷ 101 ∷ 0 ∷ 0 ∷ 83 ∷ 0 ∷ 0 ∷ 0 ∷ 25 ∷ 99 ∷ 108 ∷ 105 ∷ 101 ∷ 110 ∷ 116 ∷ 95 ∷ 101 ∷ 110 ∷ 99 ∷ 111 ∷ 100 ∷ 105 ∷ 110 ∷ 103 ∷ 0 ∷ 85 ∷ 84 ∷ 70 ∷ 56 ∷ 0 ∷ 83 ∷ 0 ∷ 0 ∷ 0 ∷ 23 ∷ 68 ∷ 97 ∷ 116 ∷ 101 ∷ 83 ∷ 116 ∷ 121 ∷ 108 ∷ 101 ∷ 0 ∷ 73 ∷ 83 ∷ 79 ∷ 44 ∷ 32 ∷ 77 ∷ 68 ∷ 89 ∷ 0 ∷ 83 ∷ 0 ∷ 0 ∷ 0 ∷ 25 ∷ 105 ∷ 110 ∷ 116 ∷ 101 ∷ 103 ∷ 101 ∷ 114 ∷ 95 ∷ 100 ∷ 97 ∷ 116 ∷ 101 ∷ 116 ∷ 105 ∷ 109 ∷ 101 ∷ 115 ∷ 0 ∷ 111 ∷ 110 ∷ 0 ∷ 83 ∷ 0 ∷ 0 ∷ 0 ∷ 27 ∷ 73 ∷ 110 ∷ 116 ∷ 101 ∷ 114 ∷ 118 ∷ 97 ∷ 108 ∷ 83 ∷ 116 ∷ 121 ∷ 108 ∷ 101 ∷ 0 ∷ 112 ∷ 111 ∷ 115 ∷ 116 ∷ 103 ∷ 114 ∷ 101 ∷ 115 ∷ 0 ∷ 83 ∷ 0 ∷ 0 ∷ 0 ∷ 25 ∷ 115 ∷ 101 ∷ 114 ∷ 118 ∷ 101 ∷ 114 ∷ 95 ∷ 101 ∷ 110 ∷ 99 ∷ 111 ∷ 100 ∷ 105 ∷ 110 ∷ 103 ∷ 0 ∷ 85 ∷ 84 ∷ 70 ∷ 56 ∷ 0 ∷ 83 ∷ 0 ∷ 0 ∷ 0 ∷ 24 ∷ 115 ∷ 101 ∷ 114 ∷ 118 ∷ 101 ∷ 114 ∷ 95 ∷ 118 ∷ 101 ∷ 114 ∷ 115 ∷ 105 ∷ 111 ∷ 110 ∷ 0 ∷ 49 ∷ 54 ∷ 46 ∷ 48 ∷ 0 ∷ 83 ∷ 0 ∷ 0 ∷ 0 ∷ 35 ∷ 115 ∷ 116 ∷ 97 ∷ 110 ∷ 100 ∷ 97 ∷ 114 ∷ 100 ∷ 95 ∷ 99 ∷ 111 ∷ 110 ∷ 102 ∷ 111 ∷ 114 ∷ 109 ∷ 105 ∷ 110 ∷ 103 ∷ 95 ∷ 115 ∷ 116 ∷ 114 ∷ 105 ∷ 110 ∷ 103 ∷ 115 ∷ 0 ∷ 111 ∷ 110 ∷ 0 ∷ 83 ∷ 0 ∷ 0 ∷ 0 ∷ 17 ∷ 84 ∷ 105 ∷ 109 ∷ 101 ∷ 90 ∷ 111 ∷ 110 ∷ 101 ∷ 0 ∷ 85 ∷ 84 ∷ 67 ∷ 0 ∷ 75 ∷ 0 ∷ 0 ∷ 0 ∷ 12 ∷ 0 ∷ 0 ∷ 0 ∷ 1 ∷ 0 ∷ 0 ∷ 0 ∷ 2 ∷ 90 ∷ 0 ∷ 0 ∷ 0 ∷ 5 ∷ 73 ∷ 69 ∷ 0 ∷ 0 ∷ 0 ∷ 40 ∷ 83 ∷ 69 ∷ 82 ∷ 82 ∷ 79 ∷ 82 ∷ 0 ∷ 86 ∷ 69 ∷ 82 ∷ 82 ∷ 79 ∷ 82 ∷ 0 ∷ 67 ∷ 52 ∷ 50 ∷ 54 ∷ 48 ∷ 49 ∷ 0 ∷ 77 ∷ 115 ∷ 121 ∷ 110 ∷ 116 ∷ 97 ∷ 120 ∷ 32 ∷ 101 ∷ 114 ∷ 114 ∷ 111 ∷ 114 ∷ 0 ∷ 0 ∷ 90 ∷ 0 ∷ 0 ∷ 0 ∷ 5 ∷ 73 ∷ [])
-unfolding digits cut_after text_at int16_at int32_at value_at list_at query_of parse_of bind_of target_of execute_of literal_length unquoted tokens_after read ends pass take_value either with_item items definitions columns_at at_most_64 take_columns take_operands block assignment set reset show discard definition_list create drop_table value_list insert where_of end_of from_of select of_tokens less_semicolon phrase statement accepted_of date_styles started_over fresh step run_frames service
+unfolding digits cut_after text_at int16_at int32_at value_at list_at query_of parse_of bind_of target_of execute_of literal_length unquoted tokens_after read ends pass take_value either with_item items definitions columns_at at_most_64 take_columns take_operands block assignment set_name set reset show discard definition_list create drop_table value_list insert where_of end_of from_of select of_tokens less_semicolon phrase statement accepted_of date_styles started_over fresh step run_frames service
 skipped_until_sync = refl
+
+pub setting_of_a_transaction : service catalogue key 1 2 (81 ∷ 0 ∷ 0 ∷ 0 ∷ 10 ∷ 66 ∷ 69 ∷ 71 ∷ 73 ∷ 78 ∷ 0 ∷ 81 ∷ 0 ∷ 0 ∷ 0 ∷ 30 ∷ 83 ∷ 69 ∷ 84 ∷ 32 ∷ 76 ∷ 79 ∷ 67 ∷ 65 ∷ 76 ∷ 32 ∷ 84 ∷ 105 ∷ 109 ∷ 101 ∷ 90 ∷ 111 ∷ 110 ∷ 101 ∷ 32 ∷ 84 ∷ 79 ∷ 32 ∷ 39 ∷ 65 ∷ 39 ∷ 0 ∷ 81 ∷ 0 ∷ 0 ∷ 0 ∷ 11 ∷ 67 ∷ 79 ∷ 77 ∷ 77 ∷ 73 ∷ 84 ∷ 0 ∷ []) ≡ (83 ∷ 0 ∷ 0 ∷ 0 ∷ 22 ∷ 97 ∷ 112 ∷ 112 ∷ 108 ∷ 105 ∷ 99 ∷ 97 ∷ 116 ∷ 105 ∷ 111 ∷ 110 ∷ 95 ∷ 110 ∷ 97 ∷ 109 ∷ 101 ∷ 0 ∷ 0 ∷ 83 ∷ 0 ∷ 0 ∷ 0 ∷ 25 ∷ 99 ∷ 108 ∷ 105 ∷ 101 ∷ 110 ∷ 116 ∷ 95 ∷ 101 ∷ 110 ∷ 99 ∷ 111 ∷ 100 ∷ 105 ∷ 110 ∷ 103 ∷ 0 ∷ 85 ∷ 84 ∷ 70 ∷ 56 ∷ 0 ∷ 83 ∷ 0 ∷ 0 ∷ 0 ∷ 23 ∷ 68 ∷ 97 ∷ 116 ∷ 101 ∷ 83 ∷ 116 ∷ 121 ∷ 108 ∷ 101 ∷ 0 ∷ 73 ∷ 83 ∷ 79 ∷ 44 ∷ 32 ∷ 77 ∷ 68 ∷ 89 ∷ 0 ∷ 83 ∷ 0 ∷ 0 ∷ 0 ∷ 25 ∷ 105 ∷ 110 ∷ 116 ∷ 101 ∷ 103 ∷ 101 ∷ 114 ∷ 95 ∷ 100 ∷ 97 ∷ 116 ∷ 101 ∷ 116 ∷ 105 ∷ 109 ∷ 101 ∷ 115 ∷ 0 ∷ 111 ∷ 110 ∷ 0 ∷ 83 ∷ 0 ∷ 0 ∷ 0 ∷ 27 ∷ 73 ∷ 110 ∷ 116 ∷ 101 ∷ 114 ∷ 118 ∷ 97 ∷ 108 ∷ 83 ∷ 116 ∷ 121 ∷ 108 ∷ 101 ∷ 0 ∷ 112 ∷ 111 ∷ 115 ∷ 116 ∷ 103 ∷ 114 ∷ 101 ∷ 115 ∷ 0 ∷ 83 ∷ 0 ∷ 0 ∷ 0 ∷ 25 ∷ 115 ∷ 101 ∷ 114 ∷ 118 ∷ 101 ∷ 114 ∷ 95 ∷ 101 ∷ 110 ∷ 99 ∷ 111 ∷ 100 ∷ 105 ∷ 110 ∷ 103 ∷ 0 ∷ 85 ∷ 84 ∷ 70 ∷ 56 ∷ 0 ∷ 83 ∷ 0 ∷ 0 ∷ 0 ∷ 24 ∷ 115 ∷ 101 ∷ 114 ∷ 118 ∷ 101 ∷ 114 ∷ 95 ∷ 118 ∷ 101 ∷ 114 ∷ 115 ∷ 105 ∷ 111 ∷ 110 ∷ 0 ∷ 49 ∷ 54 ∷ 46 ∷ 48 ∷ 0 ∷ 83 ∷ 0 ∷ 0 ∷ 0 ∷ 35 ∷ 115 ∷ 116 ∷ 97 ∷ 110 ∷ 100 ∷ 97 ∷ 114 ∷ 100 ∷ 95 ∷ 99 ∷ 111 ∷ 110 ∷ 102 ∷ 111 ∷ 114 ∷ 109 ∷ 105 ∷ 110 ∷ 103 ∷ 95 ∷ 115 ∷ 116 ∷ 114 ∷ 105 ∷ 110 ∷ 103 ∷ 115 ∷ 0 ∷ 111 ∷ 110 ∷ 0 ∷ 83 ∷ 0 ∷ 0 ∷ 0 ∷ 17 ∷ 84 ∷ 105 ∷ 109 ∷ 101 ∷ 90 ∷ 111 ∷ 110 ∷ 101 ∷ 0 ∷ 85 ∷ 84 ∷ 67 ∷ 0 ∷ 75 ∷ 0 ∷ 0 ∷ 0 ∷ 12 ∷ 0 ∷ 0 ∷ 0 ∷ 1 ∷ 0 ∷ 0 ∷ 0 ∷ 2 ∷ 90 ∷ 0 ∷ 0 ∷ 0 ∷ 5 ∷ 73 ∷ 67 ∷ 0 ∷ 0 ∷ 0 ∷ 10 ∷ 66 ∷ 69 ∷ 71 ∷ 73 ∷ 78 ∷ 0 ∷ 90 ∷ 0 ∷ 0 ∷ 0 ∷ 5 ∷ 84 ∷ 67 ∷ 0 ∷ 0 ∷ 0 ∷ 8 ∷ 83 ∷ 69 ∷ 84 ∷ 0 ∷ 83 ∷ 0 ∷ 0 ∷ 0 ∷ 15 ∷ 84 ∷ 105 ∷ 109 ∷ 101 ∷ 90 ∷ 111 ∷ 110 ∷ 101 ∷ 0 ∷ 65 ∷ 0 ∷ 90 ∷ 0 ∷ 0 ∷ 0 ∷ 5 ∷ 84 ∷ 67 ∷ 0 ∷ 0 ∷ 0 ∷ 11 ∷ 67 ∷ 79 ∷ 77 ∷ 77 ∷ 73 ∷ 84 ∷ 0 ∷ 83 ∷ 0 ∷ 0 ∷ 0 ∷ 17 ∷ 84 ∷ 105 ∷ 109 ∷ 101 ∷ 90 ∷ 111 ∷ 110 ∷ 101 ∷ 0 ∷ 85 ∷ 84 ∷ 67 ∷ 0 ∷ 90 ∷ 0 ∷ 0 ∷ 0 ∷ 5 ∷ 73 ∷ [])
+unfolding digits cut_after text_at int16_at int32_at value_at list_at query_of parse_of bind_of target_of execute_of literal_length unquoted tokens_after read ends pass take_value either with_item items definitions columns_at at_most_64 take_columns take_operands block assignment set_name set reset show discard definition_list create drop_table value_list insert where_of end_of from_of select of_tokens less_semicolon phrase statement accepted_of date_styles started_over fresh step run_frames service rows_of declare fetch close
+setting_of_a_transaction = refl
+
+pub local_setting_outside : service catalogue key 1 2 (81 ∷ 0 ∷ 0 ∷ 0 ∷ 30 ∷ 83 ∷ 69 ∷ 84 ∷ 32 ∷ 76 ∷ 79 ∷ 67 ∷ 65 ∷ 76 ∷ 32 ∷ 84 ∷ 105 ∷ 109 ∷ 101 ∷ 90 ∷ 111 ∷ 110 ∷ 101 ∷ 32 ∷ 84 ∷ 79 ∷ 32 ∷ 39 ∷ 65 ∷ 39 ∷ 0 ∷ []) ≡ (83 ∷ 0 ∷ 0 ∷ 0 ∷ 22 ∷ 97 ∷ 112 ∷ 112 ∷ 108 ∷ 105 ∷ 99 ∷ 97 ∷ 116 ∷ 105 ∷ 111 ∷ 110 ∷ 95 ∷ 110 ∷ 97 ∷ 109 ∷ 101 ∷ 0 ∷ 0 ∷ 83 ∷ 0 ∷ 0 ∷ 0 ∷ 25 ∷ 99 ∷ 108 ∷ 105 ∷ 101 ∷ 110 ∷ 116 ∷ 95 ∷ 101 ∷ 110 ∷ 99 ∷ 111 ∷ 100 ∷ 105 ∷ 110 ∷ 103 ∷ 0 ∷ 85 ∷ 84 ∷ 70 ∷ 56 ∷ 0 ∷ 83 ∷ 0 ∷ 0 ∷ 0 ∷ 23 ∷ 68 ∷ 97 ∷ 116 ∷ 101 ∷ 83 ∷ 116 ∷ 121 ∷ 108 ∷ 101 ∷ 0 ∷ 73 ∷ 83 ∷ 79 ∷ 44 ∷ 32 ∷ 77 ∷ 68 ∷ 89 ∷ 0 ∷ 83 ∷ 0 ∷ 0 ∷ 0 ∷ 25 ∷ 105 ∷ 110 ∷ 116 ∷ 101 ∷ 103 ∷ 101 ∷ 114 ∷ 95 ∷ 100 ∷ 97 ∷ 116 ∷ 101 ∷ 116 ∷ 105 ∷ 109 ∷ 101 ∷ 115 ∷ 0 ∷ 111 ∷ 110 ∷ 0 ∷ 83 ∷ 0 ∷ 0 ∷ 0 ∷ 27 ∷ 73 ∷ 110 ∷ 116 ∷ 101 ∷ 114 ∷ 118 ∷ 97 ∷ 108 ∷ 83 ∷ 116 ∷ 121 ∷ 108 ∷ 101 ∷ 0 ∷ 112 ∷ 111 ∷ 115 ∷ 116 ∷ 103 ∷ 114 ∷ 101 ∷ 115 ∷ 0 ∷ 83 ∷ 0 ∷ 0 ∷ 0 ∷ 25 ∷ 115 ∷ 101 ∷ 114 ∷ 118 ∷ 101 ∷ 114 ∷ 95 ∷ 101 ∷ 110 ∷ 99 ∷ 111 ∷ 100 ∷ 105 ∷ 110 ∷ 103 ∷ 0 ∷ 85 ∷ 84 ∷ 70 ∷ 56 ∷ 0 ∷ 83 ∷ 0 ∷ 0 ∷ 0 ∷ 24 ∷ 115 ∷ 101 ∷ 114 ∷ 118 ∷ 101 ∷ 114 ∷ 95 ∷ 118 ∷ 101 ∷ 114 ∷ 115 ∷ 105 ∷ 111 ∷ 110 ∷ 0 ∷ 49 ∷ 54 ∷ 46 ∷ 48 ∷ 0 ∷ 83 ∷ 0 ∷ 0 ∷ 0 ∷ 35 ∷ 115 ∷ 116 ∷ 97 ∷ 110 ∷ 100 ∷ 97 ∷ 114 ∷ 100 ∷ 95 ∷ 99 ∷ 111 ∷ 110 ∷ 102 ∷ 111 ∷ 114 ∷ 109 ∷ 105 ∷ 110 ∷ 103 ∷ 95 ∷ 115 ∷ 116 ∷ 114 ∷ 105 ∷ 110 ∷ 103 ∷ 115 ∷ 0 ∷ 111 ∷ 110 ∷ 0 ∷ 83 ∷ 0 ∷ 0 ∷ 0 ∷ 17 ∷ 84 ∷ 105 ∷ 109 ∷ 101 ∷ 90 ∷ 111 ∷ 110 ∷ 101 ∷ 0 ∷ 85 ∷ 84 ∷ 67 ∷ 0 ∷ 75 ∷ 0 ∷ 0 ∷ 0 ∷ 12 ∷ 0 ∷ 0 ∷ 0 ∷ 1 ∷ 0 ∷ 0 ∷ 0 ∷ 2 ∷ 90 ∷ 0 ∷ 0 ∷ 0 ∷ 5 ∷ 73 ∷ 78 ∷ 0 ∷ 0 ∷ 0 ∷ 67 ∷ 83 ∷ 87 ∷ 65 ∷ 82 ∷ 78 ∷ 73 ∷ 78 ∷ 71 ∷ 0 ∷ 86 ∷ 87 ∷ 65 ∷ 82 ∷ 78 ∷ 73 ∷ 78 ∷ 71 ∷ 0 ∷ 67 ∷ 50 ∷ 53 ∷ 80 ∷ 48 ∷ 49 ∷ 0 ∷ 77 ∷ 116 ∷ 104 ∷ 101 ∷ 114 ∷ 101 ∷ 32 ∷ 105 ∷ 115 ∷ 32 ∷ 110 ∷ 111 ∷ 32 ∷ 116 ∷ 114 ∷ 97 ∷ 110 ∷ 115 ∷ 97 ∷ 99 ∷ 116 ∷ 105 ∷ 111 ∷ 110 ∷ 32 ∷ 105 ∷ 110 ∷ 32 ∷ 112 ∷ 114 ∷ 111 ∷ 103 ∷ 114 ∷ 101 ∷ 115 ∷ 115 ∷ 0 ∷ 0 ∷ 67 ∷ 0 ∷ 0 ∷ 0 ∷ 8 ∷ 83 ∷ 69 ∷ 84 ∷ 0 ∷ 90 ∷ 0 ∷ 0 ∷ 0 ∷ 5 ∷ 73 ∷ [])
+unfolding digits cut_after text_at int16_at int32_at value_at list_at query_of parse_of bind_of target_of execute_of literal_length unquoted tokens_after read ends pass take_value either with_item items definitions columns_at at_most_64 take_columns take_operands block assignment set_name set reset show discard definition_list create drop_table value_list insert where_of end_of from_of select of_tokens less_semicolon phrase statement accepted_of date_styles started_over fresh step run_frames service rows_of declare fetch close
+local_setting_outside = refl
+
+pub cursor_with_hold : service catalogue key 1 2 (81 ∷ 0 ∷ 0 ∷ 0 ∷ 57 ∷ 68 ∷ 69 ∷ 67 ∷ 76 ∷ 65 ∷ 82 ∷ 69 ∷ 32 ∷ 107 ∷ 32 ∷ 67 ∷ 85 ∷ 82 ∷ 83 ∷ 79 ∷ 82 ∷ 32 ∷ 87 ∷ 73 ∷ 84 ∷ 72 ∷ 32 ∷ 72 ∷ 79 ∷ 76 ∷ 68 ∷ 32 ∷ 70 ∷ 79 ∷ 82 ∷ 32 ∷ 83 ∷ 69 ∷ 76 ∷ 69 ∷ 67 ∷ 84 ∷ 32 ∷ 110 ∷ 97 ∷ 109 ∷ 101 ∷ 32 ∷ 70 ∷ 82 ∷ 79 ∷ 77 ∷ 32 ∷ 99 ∷ 105 ∷ 116 ∷ 121 ∷ 0 ∷ 81 ∷ 0 ∷ 0 ∷ 0 ∷ 19 ∷ 70 ∷ 69 ∷ 84 ∷ 67 ∷ 72 ∷ 32 ∷ 50 ∷ 32 ∷ 70 ∷ 82 ∷ 79 ∷ 77 ∷ 32 ∷ 107 ∷ 0 ∷ []) ≡ (83 ∷ 0 ∷ 0 ∷ 0 ∷ 22 ∷ 97 ∷ 112 ∷ 112 ∷ 108 ∷ 105 ∷ 99 ∷ 97 ∷ 116 ∷ 105 ∷ 111 ∷ 110 ∷ 95 ∷ 110 ∷ 97 ∷ 109 ∷ 101 ∷ 0 ∷ 0 ∷ 83 ∷ 0 ∷ 0 ∷ 0 ∷ 25 ∷ 99 ∷ 108 ∷ 105 ∷ 101 ∷ 110 ∷ 116 ∷ 95 ∷ 101 ∷ 110 ∷ 99 ∷ 111 ∷ 100 ∷ 105 ∷ 110 ∷ 103 ∷ 0 ∷ 85 ∷ 84 ∷ 70 ∷ 56 ∷ 0 ∷ 83 ∷ 0 ∷ 0 ∷ 0 ∷ 23 ∷ 68 ∷ 97 ∷ 116 ∷ 101 ∷ 83 ∷ 116 ∷ 121 ∷ 108 ∷ 101 ∷ 0 ∷ 73 ∷ 83 ∷ 79 ∷ 44 ∷ 32 ∷ 77 ∷ 68 ∷ 89 ∷ 0 ∷ 83 ∷ 0 ∷ 0 ∷ 0 ∷ 25 ∷ 105 ∷ 110 ∷ 116 ∷ 101 ∷ 103 ∷ 101 ∷ 114 ∷ 95 ∷ 100 ∷ 97 ∷ 116 ∷ 101 ∷ 116 ∷ 105 ∷ 109 ∷ 101 ∷ 115 ∷ 0 ∷ 111 ∷ 110 ∷ 0 ∷ 83 ∷ 0 ∷ 0 ∷ 0 ∷ 27 ∷ 73 ∷ 110 ∷ 116 ∷ 101 ∷ 114 ∷ 118 ∷ 97 ∷ 108 ∷ 83 ∷ 116 ∷ 121 ∷ 108 ∷ 101 ∷ 0 ∷ 112 ∷ 111 ∷ 115 ∷ 116 ∷ 103 ∷ 114 ∷ 101 ∷ 115 ∷ 0 ∷ 83 ∷ 0 ∷ 0 ∷ 0 ∷ 25 ∷ 115 ∷ 101 ∷ 114 ∷ 118 ∷ 101 ∷ 114 ∷ 95 ∷ 101 ∷ 110 ∷ 99 ∷ 111 ∷ 100 ∷ 105 ∷ 110 ∷ 103 ∷ 0 ∷ 85 ∷ 84 ∷ 70 ∷ 56 ∷ 0 ∷ 83 ∷ 0 ∷ 0 ∷ 0 ∷ 24 ∷ 115 ∷ 101 ∷ 114 ∷ 118 ∷ 101 ∷ 114 ∷ 95 ∷ 118 ∷ 101 ∷ 114 ∷ 115 ∷ 105 ∷ 111 ∷ 110 ∷ 0 ∷ 49 ∷ 54 ∷ 46 ∷ 48 ∷ 0 ∷ 83 ∷ 0 ∷ 0 ∷ 0 ∷ 35 ∷ 115 ∷ 116 ∷ 97 ∷ 110 ∷ 100 ∷ 97 ∷ 114 ∷ 100 ∷ 95 ∷ 99 ∷ 111 ∷ 110 ∷ 102 ∷ 111 ∷ 114 ∷ 109 ∷ 105 ∷ 110 ∷ 103 ∷ 95 ∷ 115 ∷ 116 ∷ 114 ∷ 105 ∷ 110 ∷ 103 ∷ 115 ∷ 0 ∷ 111 ∷ 110 ∷ 0 ∷ 83 ∷ 0 ∷ 0 ∷ 0 ∷ 17 ∷ 84 ∷ 105 ∷ 109 ∷ 101 ∷ 90 ∷ 111 ∷ 110 ∷ 101 ∷ 0 ∷ 85 ∷ 84 ∷ 67 ∷ 0 ∷ 75 ∷ 0 ∷ 0 ∷ 0 ∷ 12 ∷ 0 ∷ 0 ∷ 0 ∷ 1 ∷ 0 ∷ 0 ∷ 0 ∷ 2 ∷ 90 ∷ 0 ∷ 0 ∷ 0 ∷ 5 ∷ 73 ∷ 67 ∷ 0 ∷ 0 ∷ 0 ∷ 19 ∷ 68 ∷ 69 ∷ 67 ∷ 76 ∷ 65 ∷ 82 ∷ 69 ∷ 32 ∷ 67 ∷ 85 ∷ 82 ∷ 83 ∷ 79 ∷ 82 ∷ 0 ∷ 90 ∷ 0 ∷ 0 ∷ 0 ∷ 5 ∷ 73 ∷ 84 ∷ 0 ∷ 0 ∷ 0 ∷ 29 ∷ 0 ∷ 1 ∷ 110 ∷ 97 ∷ 109 ∷ 101 ∷ 0 ∷ 0 ∷ 0 ∷ 0 ∷ 0 ∷ 0 ∷ 0 ∷ 0 ∷ 0 ∷ 0 ∷ 25 ∷ 255 ∷ 255 ∷ 255 ∷ 255 ∷ 255 ∷ 255 ∷ 0 ∷ 0 ∷ 68 ∷ 0 ∷ 0 ∷ 0 ∷ 14 ∷ 0 ∷ 1 ∷ 0 ∷ 0 ∷ 0 ∷ 4 ∷ 66 ∷ 101 ∷ 114 ∷ 110 ∷ 68 ∷ 0 ∷ 0 ∷ 0 ∷ 14 ∷ 0 ∷ 1 ∷ 0 ∷ 0 ∷ 0 ∷ 4 ∷ 79 ∷ 115 ∷ 108 ∷ 111 ∷ 67 ∷ 0 ∷ 0 ∷ 0 ∷ 12 ∷ 70 ∷ 69 ∷ 84 ∷ 67 ∷ 72 ∷ 32 ∷ 50 ∷ 0 ∷ 90 ∷ 0 ∷ 0 ∷ 0 ∷ 5 ∷ 73 ∷ [])
+unfolding digits cut_after text_at int16_at int32_at value_at list_at query_of parse_of bind_of target_of execute_of literal_length unquoted tokens_after read ends pass take_value either with_item items definitions columns_at at_most_64 take_columns take_operands block assignment set_name set reset show discard definition_list create drop_table value_list insert where_of end_of from_of select of_tokens less_semicolon phrase statement accepted_of date_styles started_over fresh step run_frames service rows_of declare fetch close
+cursor_with_hold = refl
+
+pub no_cursor : service catalogue key 1 2 (81 ∷ 0 ∷ 0 ∷ 0 ∷ 21 ∷ 70 ∷ 69 ∷ 84 ∷ 67 ∷ 72 ∷ 32 ∷ 65 ∷ 76 ∷ 76 ∷ 32 ∷ 70 ∷ 82 ∷ 79 ∷ 77 ∷ 32 ∷ 107 ∷ 0 ∷ []) ≡ (83 ∷ 0 ∷ 0 ∷ 0 ∷ 22 ∷ 97 ∷ 112 ∷ 112 ∷ 108 ∷ 105 ∷ 99 ∷ 97 ∷ 116 ∷ 105 ∷ 111 ∷ 110 ∷ 95 ∷ 110 ∷ 97 ∷ 109 ∷ 101 ∷ 0 ∷ 0 ∷ 83 ∷ 0 ∷ 0 ∷ 0 ∷ 25 ∷ 99 ∷ 108 ∷ 105 ∷ 101 ∷ 110 ∷ 116 ∷ 95 ∷ 101 ∷ 110 ∷ 99 ∷ 111 ∷ 100 ∷ 105 ∷ 110 ∷ 103 ∷ 0 ∷ 85 ∷ 84 ∷ 70 ∷ 56 ∷ 0 ∷ 83 ∷ 0 ∷ 0 ∷ 0 ∷ 23 ∷ 68 ∷ 97 ∷ 116 ∷ 101 ∷ 83 ∷ 116 ∷ 121 ∷ 108 ∷ 101 ∷ 0 ∷ 73 ∷ 83 ∷ 79 ∷ 44 ∷ 32 ∷ 77 ∷ 68 ∷ 89 ∷ 0 ∷ 83 ∷ 0 ∷ 0 ∷ 0 ∷ 25 ∷ 105 ∷ 110 ∷ 116 ∷ 101 ∷ 103 ∷ 101 ∷ 114 ∷ 95 ∷ 100 ∷ 97 ∷ 116 ∷ 101 ∷ 116 ∷ 105 ∷ 109 ∷ 101 ∷ 115 ∷ 0 ∷ 111 ∷ 110 ∷ 0 ∷ 83 ∷ 0 ∷ 0 ∷ 0 ∷ 27 ∷ 73 ∷ 110 ∷ 116 ∷ 101 ∷ 114 ∷ 118 ∷ 97 ∷ 108 ∷ 83 ∷ 116 ∷ 121 ∷ 108 ∷ 101 ∷ 0 ∷ 112 ∷ 111 ∷ 115 ∷ 116 ∷ 103 ∷ 114 ∷ 101 ∷ 115 ∷ 0 ∷ 83 ∷ 0 ∷ 0 ∷ 0 ∷ 25 ∷ 115 ∷ 101 ∷ 114 ∷ 118 ∷ 101 ∷ 114 ∷ 95 ∷ 101 ∷ 110 ∷ 99 ∷ 111 ∷ 100 ∷ 105 ∷ 110 ∷ 103 ∷ 0 ∷ 85 ∷ 84 ∷ 70 ∷ 56 ∷ 0 ∷ 83 ∷ 0 ∷ 0 ∷ 0 ∷ 24 ∷ 115 ∷ 101 ∷ 114 ∷ 118 ∷ 101 ∷ 114 ∷ 95 ∷ 118 ∷ 101 ∷ 114 ∷ 115 ∷ 105 ∷ 111 ∷ 110 ∷ 0 ∷ 49 ∷ 54 ∷ 46 ∷ 48 ∷ 0 ∷ 83 ∷ 0 ∷ 0 ∷ 0 ∷ 35 ∷ 115 ∷ 116 ∷ 97 ∷ 110 ∷ 100 ∷ 97 ∷ 114 ∷ 100 ∷ 95 ∷ 99 ∷ 111 ∷ 110 ∷ 102 ∷ 111 ∷ 114 ∷ 109 ∷ 105 ∷ 110 ∷ 103 ∷ 95 ∷ 115 ∷ 116 ∷ 114 ∷ 105 ∷ 110 ∷ 103 ∷ 115 ∷ 0 ∷ 111 ∷ 110 ∷ 0 ∷ 83 ∷ 0 ∷ 0 ∷ 0 ∷ 17 ∷ 84 ∷ 105 ∷ 109 ∷ 101 ∷ 90 ∷ 111 ∷ 110 ∷ 101 ∷ 0 ∷ 85 ∷ 84 ∷ 67 ∷ 0 ∷ 75 ∷ 0 ∷ 0 ∷ 0 ∷ 12 ∷ 0 ∷ 0 ∷ 0 ∷ 1 ∷ 0 ∷ 0 ∷ 0 ∷ 2 ∷ 90 ∷ 0 ∷ 0 ∷ 0 ∷ 5 ∷ 73 ∷ 69 ∷ 0 ∷ 0 ∷ 0 ∷ 49 ∷ 83 ∷ 69 ∷ 82 ∷ 82 ∷ 79 ∷ 82 ∷ 0 ∷ 86 ∷ 69 ∷ 82 ∷ 82 ∷ 79 ∷ 82 ∷ 0 ∷ 67 ∷ 51 ∷ 52 ∷ 48 ∷ 48 ∷ 48 ∷ 0 ∷ 77 ∷ 112 ∷ 111 ∷ 114 ∷ 116 ∷ 97 ∷ 108 ∷ 32 ∷ 100 ∷ 111 ∷ 101 ∷ 115 ∷ 32 ∷ 110 ∷ 111 ∷ 116 ∷ 32 ∷ 101 ∷ 120 ∷ 105 ∷ 115 ∷ 116 ∷ 0 ∷ 0 ∷ 90 ∷ 0 ∷ 0 ∷ 0 ∷ 5 ∷ 73 ∷ [])
+unfolding digits cut_after text_at int16_at int32_at value_at list_at query_of parse_of bind_of target_of execute_of literal_length unquoted tokens_after read ends pass take_value either with_item items definitions columns_at at_most_64 take_columns take_operands block assignment set_name set reset show discard definition_list create drop_table value_list insert where_of end_of from_of select of_tokens less_semicolon phrase statement accepted_of date_styles started_over fresh step run_frames service rows_of declare fetch close
+no_cursor = refl

@@ -1,7 +1,8 @@
 -- A session keeps its defaults, and DISCARD ALL makes it fresh again.
-use Rattle.session_values.specs.State.{started_over}
+use Rattle.session_values.specs.State.{is_held, started_over}
 use Rattle.std.proofs.Common.{◌≡◌, ℕ, List, [], ◌∷◌, ◌++◌, Result, Ok, Err, refl, sym, ap, ◌∙◌, Bool, true, false}
 use Rattle.std.specs.Prelude.{if◌then◌else◌, codes}
+use Rattle.std.specs.List.{list_all}
 use Rattle.message_view.specs.declared.kinds.TheConstants.{IDLE}
 use Rattle.frame_view.specs.Frames.{FrameOf}
 use Rattle.message_view.specs.declared.ViewFault.{ViewFault}
@@ -106,7 +107,7 @@ fresh-begun cat key s e = by_test (has_text cat.databases key.dbname) e
     by_test false h = absurd cc
 
 begun-at_rest : (s : State) (d : Values) → s ≡ begun d → IsAtRest s
-begun-at_rest s d e = record { not_ended = ap (λ (t : State). t.ended) e; not_skipping = ap (λ (t : State). t.skipping) e; outside = ap (λ (t : State). t.block) e; not_saved = ap (λ (t : State). t.saved) e }
+begun-at_rest s d e = record { not_ended = ap (λ (t : State). t.ended) e; not_skipping = ap (λ (t : State). t.skipping) e; outside = ap (λ (t : State). t.block) e; not_saved = ap (λ (t : State). t.saved) e; lasts = ap (λ (t : State). t.lasting) e ∙ sym (ap (λ (t : State). t.current) e); holds = ap (λ (t : State). list_all is_held t.cursors) e }
 
 pub fresh-at_rest : (cat : CatalogueOf) (key : StartKeyOf) (s : State) → fresh cat key ≡ Ok s → IsAtRest s
 fresh-at_rest cat key s e = begun-at_rest s s.defaults (fresh-begun cat key s e)

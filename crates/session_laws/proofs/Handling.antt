@@ -16,8 +16,8 @@ use Rattle.session_values.specs.declared.cause.Cause.{Cause}
 use Rattle.session_values.specs.declared.cause.Cause.TheVariants.{NoTable, NoColumn, Syntax, Aborted}
 use Rattle.session_values.specs.Parameters.{Values, name, parameter_named, value_of}
 use Rattle.session_values.specs.Named.{named, is_named}
-use Rattle.session_values.specs.State.{State, CatalogueOf, TableOf, table_name, Row, Answer, bound}
-use Rattle.session_values.specs.Lookups.{Columns, look_up, found, or_else, readable, to_read, shown, selected, has_all, has_filter, look_up_select, look_up_insert, to_change}
+use Rattle.session_values.specs.State.{State, CatalogueOf, TableOf, table_name, CursorOf, cursor_name, Row, Answer, bound}
+use Rattle.session_values.specs.Lookups.{Columns, look_up, found, or_else, readable, to_read, shown, selected, has_all, has_filter, look_up_select, look_up_cursor, look_up_insert, to_change}
 use Rattle.session_values.specs.Runs as runs
 use Rattle.session_values.specs.Runs.{Ran, Outcome, rows_from, picked, column_of, cell, cell_at, meets, row_tag, given_frames, or_null, condition_of, places_of}
 use Rattle.session_values.specs.Extended.{usable, reading, let_through, may_end_block, formats_of}
@@ -27,7 +27,7 @@ use Rattle.session_values.proofs.Alls.{OfSome, all-each, all-append, all-map, al
 use Rattle.session_laws.proofs.GoodValues.{AreSettings, AreReported, OfOk, longest, value-setting}
 use Rattle.statement_laws.specs.Statements.{IsSpelled}
 use Rattle.statement_laws.proofs.Spelled.{spelled, longer-some}
-use Rattle.session_laws.proofs.Lawful.{IsPlain, IsSendable, row-plain, IsRow, IsTable, IsSource, IsPrepared, IsPortal, IsSaved, Lawful, row-sendable, one-sendable, AreColumns, columns-plain, tag-plain, decimal-length}
+use Rattle.session_laws.proofs.Lawful.{IsPlain, IsSendable, row-plain, IsRow, IsTable, IsSource, IsPrepared, IsPortal, IsCursor, IsSaved, Lawful, row-sendable, one-sendable, AreColumns, columns-plain, tag-plain, decimal-length}
 
 pub record Kept (s : State) (after : State) (sent : List FrameOf) : Type 0 where
   pub lawful : Lawful after
@@ -54,8 +54,8 @@ RanKept s r = OfOk (IsRan s) r
 pub kept : (s after : State) (sent : List FrameOf) → Lawful after → after.reported ≡ s.reported → AllByRecursion IsPlain sent → Kept s after sent
 kept s after sent l r p = record { lawful = l; reported = r; plain = p }
 
-pub made : (s : State) → AreSettings s.defaults → AreSettings s.current → AreReported s.reported → IsSaved s.saved → AllByRecursion IsPrepared s.statements → AllByRecursion IsPortal s.portals → AllByRecursion IsTable s.tables → Lawful s
-made s d c r v p o t = record { defaults = d; current = c; reported = r; saved = v; statements = p; portals = o; tables = t }
+pub made : (s : State) → AreSettings s.defaults → AreSettings s.current → AreReported s.reported → IsSaved s.saved → AllByRecursion IsPrepared s.statements → AllByRecursion IsPortal s.portals → AllByRecursion IsTable s.tables → AreSettings s.lasting → AllByRecursion IsCursor s.cursors → Lawful s
+made s d c r v p o t l k = record { defaults = d; current = c; reported = r; saved = v; statements = p; portals = o; tables = t; lasting = l; cursors = k }
 
 pub bound-kept : {A : Type 0} (P : A → Type 0) (s : State) (r : Result A Cause) (f : A → Result Answer Cause) → OfOk P r → ((x : A) → P x → AllKept s (f x)) → AllKept s (bound r f)
 bound-kept P s (Ok x) f h g = g x h
@@ -121,7 +121,7 @@ shown-columns : (o : Option Parameter) → OfOk AreColumns (shown o)
 shown-columns None = tt
 shown-columns (Some p) = (omega arith, (name-short p, tt))
 
-selected-columns : (columns cs : List Text) → AreColumns (Some columns) → AreColumns (Some cs) → AreColumns (Some (selected columns cs))
+pub selected-columns : (columns cs : List Text) → AreColumns (Some columns) → AreColumns (Some cs) → AreColumns (Some (selected columns cs))
 selected-columns columns [] h k = h
 selected-columns columns (c ∷ cs) h k = k
 
@@ -133,6 +133,10 @@ bound-columns : {A : Type 0} (P : A → Type 0) (r : Result A Cause) (f : A → 
 bound-columns P (Ok x) f h g = g x h
 bound-columns P (Err c) f h g = tt
 
+cursor-columns : (o : Option CursorOf) → OfSome IsCursor o → OfOk AreColumns (look_up_cursor o)
+cursor-columns None h = tt
+cursor-columns (Some c) h = h.columns
+
 module _ (cat : CatalogueOf) (lawful_tables : AllByRecursion IsTable cat.tables) where
   pub read-table : (s : State) (t : Text) → Lawful s → OfOk IsTable (to_read cat s t)
   read-table s t h = found-ok IsTable NoTable (readable cat s t) (or_else-some IsTable (named table_name s.tables t) (named table_name cat.tables t) (all-find IsTable (is_named table_name t) s.tables h.tables) (all-find IsTable (is_named table_name t) cat.tables lawful_tables))
@@ -143,6 +147,10 @@ module _ (cat : CatalogueOf) (lawful_tables : AllByRecursion IsTable cat.tables)
   look_up-columns s st.Commit h k = tt
   look_up-columns s st.Rollback h k = tt
   look_up-columns s (st.Set n v) h k = tt
+  look_up-columns s (st.SetLocal n v) h k = tt
+  look_up-columns s (st.Declare c cs t w) h k = bound-columns IsTable (to_read cat s t) _ (read-table s t h) (λ x g. bound-columns Any (look_up_select x.columns cs w) _ (any (look_up_select x.columns cs w)) (λ y i. tt))
+  look_up-columns s (st.Fetch n c) h k = cursor-columns (named cursor_name s.cursors c) (all-find IsCursor (is_named cursor_name c) s.cursors h.cursors)
+  look_up-columns s (st.CloseCursor c) h k = tt
   look_up-columns s (st.Reset n) h k = tt
   look_up-columns s st.ResetAll h k = tt
   look_up-columns s (st.Show n) h k = shown-columns (parameter_named n)
@@ -211,8 +219,15 @@ row_tag-plain x n = tag-plain (row_tag x n) (row_tag-short x)
     counted : length (codes "SELECT " ++ decimal n) ≤ 100
     counted = omega (arith, decimal-length n)
 
+    fetched : length (codes "FETCH " ++ decimal n) ≤ 100
+    fetched = omega (arith, decimal-length n)
+
     row_tag-short : (y : Statement) → length (row_tag y n) ≤ 100
     row_tag-short (st.Show m) = omega arith
+    row_tag-short (st.Fetch m c) = fetched
+    row_tag-short (st.SetLocal m v) = counted
+    row_tag-short (st.Declare c cs t w) = counted
+    row_tag-short (st.CloseCursor c) = counted
     row_tag-short st.Empty = counted
     row_tag-short st.Begin = counted
     row_tag-short st.Commit = counted

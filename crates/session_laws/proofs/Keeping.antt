@@ -18,18 +18,18 @@ use Rattle.session_values.specs.declared.parameter.Parameter.{Parameter}
 use Rattle.session_values.specs.Parameters.{Values, parameters, parameter_named}
 use Rattle.session_values.specs.Errors.{already_in_transaction, no_transaction}
 use Rattle.session_values.specs.Named.{named, without, is_named, is_other, set_at}
-use Rattle.session_values.specs.State.{State, CatalogueOf, TableOf, table_name, Row, SavedOf, PreparedOf, prepared_name, portal_name, PortalOf, ProgressOf, NotRun, Remaining, Finished, Answer, answers, bound, set_parameter, roll_back, restored, commit}
+use Rattle.session_values.specs.State.{State, CatalogueOf, TableOf, table_name, Row, SavedOf, PreparedOf, prepared_name, portal_name, PortalOf, ProgressOf, NotRun, Remaining, Finished, CursorOf, cursor_name, held, is_held, Answer, answers, bound, set_parameter, roll_back, restored, commit}
 use Rattle.session_values.specs.Lookups.{Columns, look_up, found, to_read}
 use Rattle.session_values.specs.Runs as runs
-use Rattle.session_values.specs.Runs.{Ran, Outcome, ran, run, begin_run, commit_run, rollback_run, discard_run, create_run, insert_run, set_run, show_run, select_run, reset_from, row_tag, given_frames, are_distinct, fits, all_fit, padded, with_row, operand_value, with_table, insert_into}
+use Rattle.session_values.specs.Runs.{Ran, Outcome, ran, run, begin_run, commit_run, rollback_run, discard_run, create_run, insert_run, set_run, set_current, set_local_run, show_run, select_run, opened, declare_run, fetched, unfetched, fetch_run, close_run, reset_from, row_tag, given_frames, are_distinct, fits, all_fit, padded, with_row, operand_value, with_table, insert_into}
 use Rattle.session_values.specs.Extended.{values_fault, unless_some, parse, bind, bindable, prepared_of, with_statement, without_statement, portal_to, with_portal, orphaned, describe, described, is_describable, is_result_count, parameter_count, oid_at, oids_of, Described, close, is_of_other, execute, execute_on, execute_rows, execute_outcome, execute_ran, sent_rows, progressed, at_progress, description, formats_of, is_limit, usable, reading, unless, is_taken, is_there}
 use Rattle.session_values.specs.Lawful.{IsShort, IsValue}
 use Rattle.session_values.proofs.Alls.{OfSome, all-append, all-map, all-filter, all-find, all-set, all-take, all-drop, and-first, and-second}
 use Rattle.session_laws.proofs.GoodValues.{AreSettings, IsGiven, OfOk, set-settings, reset-settings}
 use Rattle.statement_laws.proofs.Spelled.{few-parameters}
 use Rattle.session_values.specs.Step.{query, query_ran, heading, without_unnamed}
-use Rattle.session_laws.proofs.Handling.{Kept, AllKept, IsOutcome, IsRan, RanKept, kept, made, bound-kept, Any, any, found-ok, IsRead, reading-read, usable-read, look_up-columns, read-table, rows-sent, shown-sent, rows-plain, row_tag-plain, given-plain, heading-plain}
-use Rattle.session_laws.proofs.Lawful.{IsPlain, IsSendable, IsRow, IsTable, IsSource, AreLeft, IsPrepared, IsPortal, IsSaved, Lawful, AreColumns, columns-plain, oids-plain}
+use Rattle.session_laws.proofs.Handling.{Kept, AllKept, IsOutcome, IsRan, RanKept, kept, made, bound-kept, Any, any, found-ok, IsRead, reading-read, usable-read, look_up-columns, read-table, selected-columns, rows-sent, shown-sent, rows-plain, row_tag-plain, given-plain, heading-plain}
+use Rattle.session_laws.proofs.Lawful.{IsPlain, IsSendable, IsRow, IsTable, IsSource, AreLeft, IsPrepared, IsPortal, IsCursor, IsSaved, Lawful, AreColumns, columns-plain, oids-plain}
 
 -- ---- runs
 
@@ -48,17 +48,20 @@ unwarned-plain : IsPlain no_transaction
 unwarned-plain = (omega arith, refl)
 
 pub block-lawful : (s : State) (b : Block) → Lawful s → Lawful (record s { block = b })
-block-lawful s b h = made _ h.defaults h.current h.reported h.saved h.statements h.portals h.tables
+block-lawful s b h = made _ h.defaults h.current h.reported h.saved h.statements h.portals h.tables h.lasting h.cursors
+
+held-cursor : (c : CursorOf) → IsCursor c → IsCursor (held c)
+held-cursor c h = record { columns = h.columns; left = h.left }
 
 pub commit-lawful : (s : State) → Lawful s → Lawful (commit s)
-commit-lawful s h = made _ h.defaults h.current h.reported tt h.statements tt h.tables
+commit-lawful s h = made _ h.defaults h.lasting h.reported tt h.statements tt h.tables h.lasting (all-map IsCursor IsCursor held held-cursor s.cursors h.cursors)
 
 restored-lawful : (s : State) (c : Option SavedOf) → Lawful s → IsSaved c → Lawful (restored s c)
 restored-lawful s None h k = h
-restored-lawful s (Some c) h k = made _ h.defaults k.0 h.reported h.saved h.statements h.portals k.1
+restored-lawful s (Some c) h k = made _ h.defaults k.0 h.reported h.saved h.statements h.portals k.1 h.lasting h.cursors
 
 pub roll_back-lawful : (s : State) → Lawful s → Lawful (roll_back s)
-roll_back-lawful s h = let g = restored-lawful s s.saved h h.saved in made _ g.defaults g.current g.reported tt g.statements tt g.tables
+roll_back-lawful s h = let g = restored-lawful s s.saved h h.saved in made _ g.defaults g.current g.reported tt g.statements tt g.tables g.current (all-filter IsCursor is_held s.cursors h.cursors)
 
 pub roll_back-reported : (s : State) (c : Option SavedOf) → (restored s c).reported ≡ s.reported
 roll_back-reported s None = refl
@@ -80,19 +83,35 @@ rollback-kept s Inside h = ran-kept s _ (codes "ROLLBACK") (block-lawful (roll_b
 rollback-kept s Failed h = ran-kept s _ (codes "ROLLBACK") (block-lawful (roll_back s) Outside (roll_back-lawful s h)) (roll_back-reported s s.saved) (omega arith)
 
 with_current-lawful : (s : State) (vs : Values) → Lawful s → AreSettings vs → Lawful (record s { current = vs })
-with_current-lawful s vs h k = made _ h.defaults k h.reported h.saved h.statements h.portals h.tables
+with_current-lawful s vs h k = made _ h.defaults k h.reported h.saved h.statements h.portals h.tables h.lasting h.cursors
 
-set-kept : (s : State) (tag : Text) (r : Result Values Cause) → Lawful s → length tag ≤ 100 → OfOk AreSettings r → RanKept s (set_run s tag r)
-set-kept s tag (Ok vs) h l k = ran-kept s (record s { current = vs }) tag (with_current-lawful s vs h k) refl l
-set-kept s tag (Err c) h l k = tt
+with_values-lawful : (s : State) (vs ls : Values) → Lawful s → AreSettings vs → AreSettings ls → Lawful (record s { current = vs; lasting = ls })
+with_values-lawful s vs ls h k l = made _ h.defaults k h.reported h.saved h.statements h.portals h.tables l h.cursors
+
+set-kept : (s : State) (tag : Text) (r q : Result Values Cause) → Lawful s → length tag ≤ 100 → OfOk AreSettings r → OfOk AreSettings q → RanKept s (set_run s tag r q)
+set-kept s tag (Ok vs) (Ok ls) h l k i = ran-kept s (record s { current = vs; lasting = ls }) tag (with_values-lawful s vs ls h k i) refl l
+set-kept s tag (Ok vs) (Err c) h l k i = tt
+set-kept s tag (Err c) q h l k i = tt
+
+current-kept : (s : State) (r : Result Values Cause) → Lawful s → OfOk AreSettings r → RanKept s (set_current s r)
+current-kept s (Ok vs) h k = ran-kept s (record s { current = vs }) (codes "SET") (with_current-lawful s vs h k) refl (omega arith)
+current-kept s (Err c) h k = tt
+
+local-kept : (s : State) (b : Block) (r : Result Values Cause) → Lawful s → OfOk AreSettings r → RanKept s (set_local_run s b r)
+local-kept s Outside r h k = (kept s s _ h refl (unwarned-plain, tt), omega arith)
+local-kept s Inside r h k = current-kept s r h k
+local-kept s Failed r h k = current-kept s r h k
 
 discard-kept : (s : State) (b : Block) → Lawful s → RanKept s (discard_run s b)
-discard-kept s Outside h = ran-kept s _ (codes "DISCARD ALL") (made _ h.defaults h.defaults h.reported tt tt tt tt) refl (omega arith)
+discard-kept s Outside h = ran-kept s _ (codes "DISCARD ALL") (made _ h.defaults h.defaults h.reported tt tt tt tt h.defaults tt) refl (omega arith)
 discard-kept s Inside h = tt
 discard-kept s Failed h = tt
 
 with_tables-lawful : (s : State) (ts : List TableOf) → Lawful s → AllByRecursion IsTable ts → Lawful (record s { tables = ts })
-with_tables-lawful s ts h k = made _ h.defaults h.current h.reported h.saved h.statements h.portals k
+with_tables-lawful s ts h k = made _ h.defaults h.current h.reported h.saved h.statements h.portals k h.lasting h.cursors
+
+with_cursors-lawful : (s : State) (cs : List CursorOf) → Lawful s → AllByRecursion IsCursor cs → Lawful (record s { cursors = cs })
+with_cursors-lawful s cs h k = made _ h.defaults h.current h.reported h.saved h.statements h.portals h.tables h.lasting k
 
 create-kept : (s : State) (t : Text) (cs : List Text) (o : Option TableOf) → Lawful s → length cs ≤ 64 × AllByRecursion (IsShort 63) cs → RanKept s (create_run s t cs o)
 create-kept s t cs (Some there) h k = tt
@@ -142,21 +161,57 @@ select-kept : (s : State) (given : Row) (w : Option Equals) (cs : List Text) (r 
 select-kept s given w cs (Ok t) h g k = (kept s s [] h refl tt, rows-sent given w cs t g k)
 select-kept s given w cs (Err c) h g k = tt
 
+local-given : (n : Text) (v : Option Text) → IsRead (st.SetLocal n v) → OfSome IsGiven v
+local-given n None h = tt
+local-given n (Some t) h = (h.0, omega (arith, h.1))
+
+opened-kept : (s : State) (c : Text) (cs : List Text) (w : Option Equals) (r : Result TableOf Cause) → Lawful s → OfOk IsTable r → length cs ≤ 64 × AllByRecursion (IsShort 63) cs → RanKept s (opened s c cs w r)
+opened-kept s c cs w (Ok t) h g k =
+    ran-kept s _ (codes "DECLARE CURSOR") (with_cursors-lawful s _ h (all-append IsCursor s.cursors _ h.cursors (record { columns = selected-columns t.columns cs (g.width, g.names) k; left = rows-sent [] w cs t g k }, tt))) refl (omega arith)
+opened-kept s c cs w (Err e) h g k = tt
+
+declare-kept : (s : State) (c : Text) (cs : List Text) (w : Option Equals) (r : Result TableOf Cause) (o : Option CursorOf) → Lawful s → OfOk IsTable r → length cs ≤ 64 × AllByRecursion (IsShort 63) cs → RanKept s (declare_run s c cs w r o)
+declare-kept s c cs w r (Some there) h g k = tt
+declare-kept s c cs w r None h g k = opened-kept s c cs w r h g k
+
+fetched-sent : (n : Option ℕ) (rows : List Row) → AllByRecursion IsSendable rows → AllByRecursion IsSendable (fetched n rows) × AllByRecursion IsSendable (unfetched n rows)
+fetched-sent None rows h = (h, tt)
+fetched-sent (Some n) rows h = (all-take IsSendable n rows h, all-drop IsSendable n rows h)
+
+set_at-cursors : (o : Option ℕ) (cs : List CursorOf) (c : CursorOf) → AllByRecursion IsCursor cs → IsCursor c → AllByRecursion IsCursor (set_at o cs c)
+set_at-cursors None cs c h k = h
+set_at-cursors (Some p) cs c h k = all-set IsCursor cs p c h k
+
+fetch-kept : (s : State) (n : Option ℕ) (o : Option CursorOf) → Lawful s → OfSome IsCursor o → RanKept s (fetch_run s n o)
+fetch-kept s n None h k = tt
+fetch-kept s n (Some c) h k =
+    let parts = fetched-sent n c.rows k.left in
+    let moved : CursorOf = record c { rows = unfetched n c.rows } in
+    (kept s _ [] (with_cursors-lawful s _ h (set_at-cursors (position_from (is_named cursor_name (cursor_name moved)) 0 s.cursors) s.cursors moved h.cursors (record { columns = k.columns; left = parts.1 }))) refl tt, parts.0)
+
+close_run-kept : (s : State) (c : Text) (o : Option CursorOf) → Lawful s → RanKept s (close_run s c o)
+close_run-kept s c None h = tt
+close_run-kept s c (Some there) h = ran-kept s _ (codes "CLOSE CURSOR") (with_cursors-lawful s _ h (all-filter IsCursor (is_other cursor_name c) s.cursors h.cursors)) refl (omega arith)
+
 module _ (cat : CatalogueOf) (lawful_tables : AllByRecursion IsTable cat.tables) where
   pub run-kept : (s : State) (given : Row) (x : Statement) → Lawful s → IsRead x → RanKept s (run cat s given x)
   run-kept s given st.Empty h k = (kept s s [] h refl tt, tt)
   run-kept s given st.Begin h k = begin-kept s s.block h
   run-kept s given st.Commit h k = commit-kept s s.block h
   run-kept s given st.Rollback h k = rollback-kept s s.block h
-  run-kept s given (st.Set n v) h k = set-kept s (codes "SET") (set_parameter s.defaults s.current n v) h (omega arith) (set-settings s.defaults s.current n v h.defaults h.current (set-given n v k))
-  run-kept s given (st.Reset n) h k = set-kept s (codes "RESET") (set_parameter s.defaults s.current n None) h (omega arith) (set-settings s.defaults s.current n None h.defaults h.current tt)
-  run-kept s given st.ResetAll h k = set-kept s (codes "RESET") (Ok (reset_from parameters s.current s.defaults)) h (omega arith) (reset-settings s.current s.defaults h.current h.defaults)
+  run-kept s given (st.Set n v) h k = set-kept s (codes "SET") (set_parameter s.defaults s.current n v) (set_parameter s.defaults s.lasting n v) h (omega arith) (set-settings s.defaults s.current n v h.defaults h.current (set-given n v k)) (set-settings s.defaults s.lasting n v h.defaults h.lasting (set-given n v k))
+  run-kept s given (st.SetLocal n v) h k = local-kept s s.block (set_parameter s.defaults s.current n v) h (set-settings s.defaults s.current n v h.defaults h.current (local-given n v k))
+  run-kept s given (st.Reset n) h k = set-kept s (codes "RESET") (set_parameter s.defaults s.current n None) (set_parameter s.defaults s.lasting n None) h (omega arith) (set-settings s.defaults s.current n None h.defaults h.current tt) (set-settings s.defaults s.lasting n None h.defaults h.lasting tt)
+  run-kept s given st.ResetAll h k = set-kept s (codes "RESET") (Ok (reset_from parameters s.current s.defaults)) (Ok (reset_from parameters s.lasting s.defaults)) h (omega arith) (reset-settings s.current s.defaults h.current h.defaults) (reset-settings s.lasting s.defaults h.lasting h.defaults)
   run-kept s given (st.Show n) h k = show-kept s (parameter_named n) h
   run-kept s given st.DiscardAll h k = discard-kept s s.block h
   run-kept s given (st.Create t cs) h k = create-kept s t cs (named table_name s.tables t) h k
   run-kept s given (st.Drop t) h k = ran-kept s _ (codes "DROP TABLE") (with_tables-lawful s _ h (all-filter IsTable (is_other table_name t) s.tables h.tables)) refl (omega arith)
   run-kept s given (st.Insert t vs) h k = insert-kept s t (map (operand_value given) vs) h
   run-kept s given (st.Select cs t w) h k = select-kept s given w cs (to_read cat s t) h (read-table cat lawful_tables s t h) (k.0, k.1)
+  run-kept s given (st.Declare c cs t w) h k = declare-kept s c cs w (to_read cat s t) (named cursor_name s.cursors c) h (read-table cat lawful_tables s t h) k
+  run-kept s given (st.Fetch n c) h k = fetch-kept s n (named cursor_name s.cursors c) h (all-find IsCursor (is_named cursor_name c) s.cursors h.cursors)
+  run-kept s given (st.CloseCursor c) h k = close_run-kept s c (named cursor_name s.cursors c) h
 
 -- ---- queries
 
@@ -169,10 +224,10 @@ orphaned-portal : (n : Text) (p : PortalOf) → IsPortal p → IsPortal (orphane
 orphaned-portal n p h = record { source = h.source; left = h.left }
 
 pub without_statement-lawful : (s : State) (n : Text) → Lawful s → Lawful (without_statement s n)
-without_statement-lawful s n h = made _ h.defaults h.current h.reported h.saved (all-filter IsPrepared (is_other prepared_name n) s.statements h.statements) (all-map IsPortal IsPortal (orphaned n) (orphaned-portal n) s.portals h.portals) h.tables
+without_statement-lawful s n h = made _ h.defaults h.current h.reported h.saved (all-filter IsPrepared (is_other prepared_name n) s.statements h.statements) (all-map IsPortal IsPortal (orphaned n) (orphaned-portal n) s.portals h.portals) h.tables h.lasting h.cursors
 
 with_portals-lawful : (s : State) (ps : List PortalOf) → Lawful s → AllByRecursion IsPortal ps → Lawful (record s { portals = ps })
-with_portals-lawful s ps h k = made _ h.defaults h.current h.reported h.saved h.statements k h.tables
+with_portals-lawful s ps h k = made _ h.defaults h.current h.reported h.saved h.statements k h.tables h.lasting h.cursors
 
 pub without_unnamed-lawful : (s : State) → Lawful s → Lawful (without_unnamed s)
 without_unnamed-lawful s h =
@@ -182,7 +237,7 @@ without_unnamed-lawful s h =
 prepared-lawful : (s : State) (p : Parse) → Lawful s → IsSource p.query → length p.oids ≤ 65535 → Lawful (with_statement (without_statement s p.name) (prepared_of p))
 prepared-lawful s p h k o =
     let g = without_statement-lawful s p.name h in
-    made _ g.defaults g.current g.reported g.saved (all-append IsPrepared (without_statement s p.name).statements (prepared_of p ∷ []) g.statements (record { source = k; few = o }, tt)) g.portals g.tables
+    made _ g.defaults g.current g.reported g.saved (all-append IsPrepared (without_statement s p.name).statements (prepared_of p ∷ []) g.statements (record { source = k; few = o }, tt)) g.portals g.tables g.lasting g.cursors
 
 portal-lawful : (s : State) (b : Bind) (p : PreparedOf) → Lawful s → IsPrepared p → Lawful (with_portal s (portal_to b p))
 portal-lawful s b p h k = with_portals-lawful s _ h (all-append IsPortal (without portal_name s.portals b.portal) (portal_to b p ∷ []) (all-filter IsPortal (is_other portal_name b.portal) s.portals h.portals) (record { source = k.source; left = tt }, tt))
@@ -228,7 +283,7 @@ choose-kept s true a c h = h
 choose-kept s false a c h = tt
 
 pub close-kept : (s : State) (t : Target) → Lawful s → Kept s (close s t).next (close s t).replies
-close-kept s (OfStatement n) h = kept s _ _ (made _ h.defaults h.current h.reported h.saved (all-filter IsPrepared (is_other prepared_name n) s.statements h.statements) (all-filter IsPortal (is_of_other n) s.portals h.portals) h.tables) refl ((omega arith, refl), tt)
+close-kept s (OfStatement n) h = kept s _ _ (made _ h.defaults h.current h.reported h.saved (all-filter IsPrepared (is_other prepared_name n) s.statements h.statements) (all-filter IsPortal (is_of_other n) s.portals h.portals) h.tables h.lasting h.cursors) refl ((omega arith, refl), tt)
 close-kept s (OfPortal n) h = kept s _ _ (with_portals-lawful s _ h (all-filter IsPortal (is_other portal_name n) s.portals h.portals)) refl ((omega arith, refl), tt)
 
 -- ---- Execute

@@ -10,7 +10,7 @@ use Rattle.frame_view.specs.Frames.{FrameOf}
 use Rattle.message_view.specs.Bodies.{HasNoZero, value, values, int32, text_columns, text_column, column}
 use Rattle.message_view.specs.Messages.{data_row, row_description, parameter_description, command_complete}
 use Rattle.mini_sql.specs.Words.{Text}
-use Rattle.session_values.specs.State.{State, TableOf, Row, SavedOf, PreparedOf, PortalOf, ProgressOf, NotRun, Remaining, Finished}
+use Rattle.session_values.specs.State.{State, TableOf, Row, SavedOf, PreparedOf, PortalOf, ProgressOf, NotRun, Remaining, Finished, CursorOf}
 use Rattle.session_values.specs.Lawful.{IsShort, IsValue, IsLawfulTable}
 use Rattle.session_values.proofs.Alls.{all-as}
 use Rattle.session_laws.proofs.GoodValues.{AreSettings, AreReported}
@@ -59,6 +59,14 @@ abbrev pub IsSaved : Option SavedOf → Type 0
 IsSaved None = Unit {0}
 IsSaved (Some c) = AreSettings c.values × AllByRecursion IsTable c.tables
 
+abbrev pub AreColumns : Option (List Text) → Type 0
+AreColumns None = Unit {0}
+AreColumns (Some cs) = length cs ≤ 64 × AllByRecursion (IsShort 63) cs
+
+pub record IsCursor (c : CursorOf) : Type 0 where
+  pub columns : AreColumns (Some c.columns)
+  pub left : AllByRecursion IsSendable c.rows
+
 pub record Lawful (s : State) : Type 0 where
   pub defaults : AreSettings s.defaults
   pub current : AreSettings s.current
@@ -66,6 +74,8 @@ pub record Lawful (s : State) : Type 0 where
   pub saved : IsSaved s.saved
   pub statements : AllByRecursion IsPrepared s.statements
   pub portals : AllByRecursion IsPortal s.portals
+  pub lasting : AreSettings s.lasting
+  pub cursors : AllByRecursion IsCursor s.cursors
   pub tables : AllByRecursion IsTable s.tables
 
 pub lawful-table : (t : TableOf) → IsLawfulTable t → IsTable t
@@ -88,10 +98,6 @@ row-sendable r h = let l = cells-length r h.1 in let w : length r ≤ 64 = h.0 i
 -- one value, as SHOW gives it
 pub one-sendable : (t : Text) → length t ≤ 2147483637 → IsSendable (Some t ∷ [])
 one-sendable t h = let e = length-append (int32 (length t) ++ t) [] in omega arith
-
-abbrev pub AreColumns : Option (List Text) → Type 0
-AreColumns None = Unit {0}
-AreColumns (Some cs) = length cs ≤ 64 × AllByRecursion (IsShort 63) cs
 
 column-length : (c : Text) (f : ℕ) → length (column (text_column c f)) ≡ length c + 19
 column-length c f = omega (arith, length-append {A = ℕ})

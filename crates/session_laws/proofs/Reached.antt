@@ -101,7 +101,7 @@ closing-stepped s t sent h e p =
     let rs = reports-are t.current t.reported h.current in
     let last : List FrameOf = ready_for_query (status t.block) ∷ [] in
     record {
-      lawful = made _ h.defaults h.current (reported-settings t.current h.current) h.saved h.statements h.portals h.tables;
+      lawful = made _ h.defaults h.current (reported-settings t.current h.current) h.saved h.statements h.portals h.tables h.lasting h.cursors;
       frames = all-append (IsFrame Server LONGEST_FRAME) sent _ (all-as IsPlain (IsFrame Server LONGEST_FRAME) plain-frame sent p) (all-append (IsFrame Server LONGEST_FRAME) (reports t) last (all-as IsReport (IsFrame Server LONGEST_FRAME) report-frame (reports t) rs) (plain-frame _ (ready-plain (status t.block)), tt));
       reports = all-append IsReportIf sent _ (all-as IsPlain IsReportIf plain-report sent p) (all-append IsReportIf (reports t) last (all-as IsReport IsReportIf (λ (f : FrameOf) (k : IsReport f) (z : f.kind ≡ 83). k) (reports t) rs) (plain-report _ (ready-plain (status t.block)), tt));
       told = closing-told s t sent h e p;
@@ -118,7 +118,7 @@ commit_outside-reported t Inside = refl
 commit_outside-reported t Failed = refl
 
 failed-lawful : (s : State) → Lawful s → Lawful (failed s)
-failed-lawful s h = let g = roll_back-lawful s h in made _ g.defaults g.current g.reported g.saved g.statements g.portals g.tables
+failed-lawful s h = let g = roll_back-lawful s h in made _ g.defaults g.current g.reported g.saved g.statements g.portals g.tables g.lasting g.cursors
 
 end_query-stepped : (s : State) (r : Result Answer Cause) → Lawful s → AllKept s r → Stepped s (end_query s r)
 end_query-stepped s (Ok a) h k =
@@ -129,12 +129,12 @@ settle-stepped : (s : State) (r : Result Answer Cause) → Lawful s → AllKept 
 settle-stepped s (Ok a) h k = kept-stepped s a k
 settle-stepped s (Err c) h k =
     let g = failed-lawful s h in
-    kept-stepped s _ (kept s _ _ (made _ g.defaults g.current g.reported g.saved g.statements g.portals g.tables) (roll_back-reported s s.saved) (error-plain c, tt))
+    kept-stepped s _ (kept s _ _ (made _ g.defaults g.current g.reported g.saved g.statements g.portals g.tables g.lasting g.cursors) (roll_back-reported s s.saved) (error-plain c, tt))
 
 -- ---- each message
 
 save_unless-lawful : (s : State) (c : Option SavedOf) → Lawful s → Lawful (save_unless s c)
-save_unless-lawful s None h = made _ h.defaults h.current h.reported (h.current, h.tables) h.statements h.portals h.tables
+save_unless-lawful s None h = made _ h.defaults h.current h.reported (h.current, h.tables) h.statements h.portals h.tables h.lasting h.cursors
 save_unless-lawful s (Some c) h = h
 
 save_unless-reported : (s : State) (c : Option SavedOf) → (save_unless s c).reported ≡ s.reported
@@ -164,10 +164,10 @@ silent-stepped s h = kept-stepped s (silent s) (kept s s [] h refl tt)
 sync-stepped : (s : State) → Lawful s → Stepped s (sync s)
 sync-stepped s h =
     let t : State = record s { skipping = false } in
-    closing-stepped s (commit_outside t s.block) [] (commit_outside-lawful t s.block (made _ h.defaults h.current h.reported h.saved h.statements h.portals h.tables)) (commit_outside-reported t s.block) tt
+    closing-stepped s (commit_outside t s.block) [] (commit_outside-lawful t s.block (made _ h.defaults h.current h.reported h.saved h.statements h.portals h.tables h.lasting h.cursors)) (commit_outside-reported t s.block) tt
 
 terminated-stepped : (s : State) → Lawful s → Stepped s (silent (record s { ended = true }))
-terminated-stepped s h = kept-stepped s _ (kept s _ [] (made _ h.defaults h.current h.reported h.saved h.statements h.portals h.tables) refl tt)
+terminated-stepped s h = kept-stepped s _ (kept s _ [] (made _ h.defaults h.current h.reported h.saved h.statements h.portals h.tables h.lasting h.cursors) refl tt)
 
 abbrev IsParse : Parse → Type 0
 IsParse p = IsSource p.query × length p.oids ≤ 65535
@@ -227,7 +227,7 @@ module _ (cat : CatalogueOf) (lawful_tables : AllByRecursion IsTable cat.tables)
 -- ---- reached states
 
 begun-lawful : (d : Values) → AreSettings d → Lawful (begun d)
-begun-lawful d h = made _ h h (reported-settings d h) tt tt tt tt
+begun-lawful d h = made _ h h (reported-settings d h) tt tt tt tt h tt
 
 catalogue-tables : (cat : CatalogueOf) → IsLawfulCatalogue cat → AllByRecursion IsTable cat.tables
 catalogue-tables cat h = all-as _ IsTable lawful-table cat.tables h.tables

@@ -1,7 +1,8 @@
 -- What every handler leaves: no ReadyForQuery among its replies, and the same defaults, skipping and end.
 -- So a ReadyForQuery comes last and once, after a closing message.
-use Rattle.std.proofs.Common.{◌≡◌, ℕ, List, [], ◌∷◌, ◌++◌, length, take, drop, map, Option, Some, None, Result, Ok, Err, refl, subst, ◌∙◌, append_assoc, Bool, true, false}
-use Rattle.std.specs.Prelude.{◌==◌, ◌||◌, ◌&&◌, nat_le, if◌then◌else◌, codes}
+use Rattle.std.proofs.Common.{◌≡◌, ℕ, List, [], ◌∷◌, ◌++◌, length, take, drop, map, filter, Option, Some, None, Result, Ok, Err, refl, subst, ◌∙◌, append_assoc, Bool, true, false}
+use Rattle.std.specs.Prelude.{◌==◌, ◌||◌, ◌&&◌, nat_le, if◌then◌else◌, codes, cond}
+use Rattle.std.specs.List.{list_all}
 use Rattle.frame_view.specs.declared.client.TheConstants as client
 use Rattle.frame_view.specs.declared.server.TheConstants.{READY_FOR_QUERY}
 use Rattle.frame_view.specs.Frames.{FrameOf, is_closing}
@@ -20,10 +21,10 @@ use Rattle.session_values.specs.declared.cause.Cause.TheVariants.{NoStatement, N
 use Rattle.session_values.specs.Parameters.{Values, reported_parameters, name, parameter_named}
 use Rattle.session_values.specs.Errors.{error}
 use Rattle.session_values.specs.Named.{named}
-use Rattle.session_values.specs.State.{State, CatalogueOf, TableOf, table_name, Row, SavedOf, prepared_name, portal_name, PortalOf, ProgressOf, NotRun, Remaining, Finished, Answer, answers, bound, set_parameter, restored, failed, commit_outside, save, save_unless, ready, reports, report_of, reports_from, status}
+use Rattle.session_values.specs.State.{State, CatalogueOf, TableOf, table_name, Row, SavedOf, prepared_name, portal_name, PortalOf, ProgressOf, NotRun, Remaining, Finished, CursorOf, cursor_name, held, is_held, Answer, answers, bound, set_parameter, restored, failed, commit_outside, save, save_unless, ready, reports, report_of, reports_from, status}
 use Rattle.session_values.specs.Lookups.{Columns, look_up, found, to_read}
 use Rattle.session_values.specs.Runs as runs
-use Rattle.session_values.specs.Runs.{Ran, Outcome, ran, run, begin_run, commit_run, rollback_run, discard_run, create_run, insert_run, set_run, show_run, select_run, row_tag, given_frames, are_distinct, all_fit, operand_value, with_table, insert_into}
+use Rattle.session_values.specs.Runs.{Ran, Outcome, ran, run, begin_run, commit_run, rollback_run, discard_run, create_run, insert_run, set_run, set_current, set_local_run, show_run, select_run, opened, declare_run, fetch_run, close_run, row_tag, given_frames, are_distinct, all_fit, operand_value, with_table, insert_into}
 use Rattle.session_values.specs.Extended.{parse, bind, bindable, describe, described, describe_portal, is_result_count, close, execute, execute_on, execute_rows, execute_outcome, execute_ran, sent_rows, description, is_limit, usable, settle, Described}
 use Rattle.session_values.specs.Step.{Asked, Terminate, Sync, Query, FunctionCall, ParseMessage, BindMessage, Describe, Close, Execute, Password, Nothing, asked, answer_to, answer_skipping, end_query, step, step_query, without_unnamed, sync, saved, reading_body, heading, query_ran, query}
 use Rattle.session_laws.specs.Laws.{has_ready, Ends, without_ready, with_ready}
@@ -69,9 +70,19 @@ has_ready-rows (r ∷ rows) last h = has_ready-rows rows last h
 
 -- ---- runs
 
-set-fine : (s : State) (tag : Text) (x : Result Values Cause) → RanFine s (set_run s tag x)
-set-fine s tag (Ok vs) = plainly _ _ _ refl refl refl refl
-set-fine s tag (Err c) = tt
+set-fine : (s : State) (tag : Text) (x y : Result Values Cause) → RanFine s (set_run s tag x y)
+set-fine s tag (Ok vs) (Ok ls) = plainly _ _ _ refl refl refl refl
+set-fine s tag (Ok vs) (Err c) = tt
+set-fine s tag (Err c) y = tt
+
+current-fine : (s : State) (x : Result Values Cause) → RanFine s (set_current s x)
+current-fine s (Ok vs) = plainly _ _ _ refl refl refl refl
+current-fine s (Err c) = tt
+
+local-fine : (s : State) (b : Block) (x : Result Values Cause) → RanFine s (set_local_run s b x)
+local-fine s Outside x = plainly _ _ _ refl refl refl refl
+local-fine s Inside x = current-fine s x
+local-fine s Failed x = current-fine s x
 
 begin-fine : (s : State) (b : Block) → RanFine s (begin_run s b)
 begin-fine s Outside = plainly _ _ _ refl refl refl refl
@@ -120,13 +131,30 @@ select-fine : (s : State) (given : Row) (w : Option Equals) (cs : List Text) (r 
 select-fine s given w cs (Ok t) = plainly _ _ _ refl refl refl refl
 select-fine s given w cs (Err c) = tt
 
+opened-fine : (s : State) (c : Text) (cs : List Text) (w : Option Equals) (r : Result TableOf Cause) → RanFine s (opened s c cs w r)
+opened-fine s c cs w (Ok t) = plainly _ _ _ refl refl refl refl
+opened-fine s c cs w (Err e) = tt
+
+declare-fine : (s : State) (c : Text) (cs : List Text) (w : Option Equals) (r : Result TableOf Cause) (o : Option CursorOf) → RanFine s (declare_run s c cs w r o)
+declare-fine s c cs w r (Some there) = tt
+declare-fine s c cs w r None = opened-fine s c cs w r
+
+fetch-fine : (s : State) (n : Option ℕ) (o : Option CursorOf) → RanFine s (fetch_run s n o)
+fetch-fine s n None = tt
+fetch-fine s n (Some c) = plainly _ _ _ refl refl refl refl
+
+close_run-fine : (s : State) (c : Text) (o : Option CursorOf) → RanFine s (close_run s c o)
+close_run-fine s c None = tt
+close_run-fine s c (Some there) = plainly _ _ _ refl refl refl refl
+
 run-fine : (cat : CatalogueOf) (s : State) (given : Row) (x : Statement) → RanFine s (run cat s given x)
 run-fine cat s given st.Empty = plainly _ _ _ refl refl refl refl
 run-fine cat s given st.Begin = begin-fine s s.block
 run-fine cat s given st.Commit = commit-fine s s.block
 run-fine cat s given st.Rollback = rollback-fine s s.block
-run-fine cat s given (st.Set n v) = set-fine s (codes "SET") (set_parameter s.defaults s.current n v)
-run-fine cat s given (st.Reset n) = set-fine s (codes "RESET") (set_parameter s.defaults s.current n None)
+run-fine cat s given (st.Set n v) = set-fine s (codes "SET") (set_parameter s.defaults s.current n v) (set_parameter s.defaults s.lasting n v)
+run-fine cat s given (st.SetLocal n v) = local-fine s s.block (set_parameter s.defaults s.current n v)
+run-fine cat s given (st.Reset n) = set-fine s (codes "RESET") (set_parameter s.defaults s.current n None) (set_parameter s.defaults s.lasting n None)
 run-fine cat s given st.ResetAll = plainly _ _ _ refl refl refl refl
 run-fine cat s given (st.Show n) = show-fine s (parameter_named n)
 run-fine cat s given st.DiscardAll = discard-fine s s.block
@@ -134,6 +162,9 @@ run-fine cat s given (st.Create t cs) = create-fine s t cs (named table_name s.t
 run-fine cat s given (st.Drop t) = plainly _ _ _ refl refl refl refl
 run-fine cat s given (st.Insert t vs) = insert-fine s t (map (operand_value given) vs)
 run-fine cat s given (st.Select cs t w) = select-fine s given w cs (to_read cat s t)
+run-fine cat s given (st.Declare c cs t w) = declare-fine s c cs w (to_read cat s t) (named cursor_name s.cursors c)
+run-fine cat s given (st.Fetch n c) = fetch-fine s n (named cursor_name s.cursors c)
+run-fine cat s given (st.CloseCursor c) = close_run-fine s c (named cursor_name s.cursors c)
 
 -- ---- queries
 
@@ -223,14 +254,32 @@ reports-fine (p ∷ ps) (v ∷ vs) (r ∷ rs) = has_ready-append (report_of p v 
     by_test true = refl
     by_test false = refl
 
+all-held : (cs : List CursorOf) → list_all is_held (map held cs) ≡ true
+all-held [] = refl
+all-held (c ∷ cs) = all-held cs
+
+left-held : (cs : List CursorOf) → list_all is_held (filter is_held cs) ≡ true
+left-held [] = refl
+left-held (c ∷ cs) = by_test (is_held c) refl (left-held cs)
+  where
+    by_test : (b : Bool) → is_held c ≡ b → list_all is_held (filter is_held cs) ≡ true → list_all is_held (cond b (c ∷ filter is_held cs) (filter is_held cs)) ≡ true
+    by_test true e h = rw e h
+    by_test false e h = h
+
+-- nothing is kept for the end of a transaction
+pub record IsSettled (t : State) : Type 0 where
+  pub not_saved : t.saved ≡ None
+  pub lasts : t.lasting ≡ t.current
+  pub holds : list_all is_held t.cursors ≡ true
+
 -- reports and ReadyForQuery after these replies
-readied : (kind : ℕ) (t : State) (sent : List FrameOf) → is_closing kind ≡ true → has_ready sent ≡ false → t.ended ≡ false → t.skipping ≡ false → (t.block ≡ Outside → t.saved ≡ None) → Ends kind (ready t).next (sent ++ (ready t).replies)
+readied : (kind : ℕ) (t : State) (sent : List FrameOf) → is_closing kind ≡ true → has_ready sent ≡ false → t.ended ≡ false → t.skipping ≡ false → (t.block ≡ Outside → IsSettled t) → Ends kind (ready t).next (sent ++ (ready t).replies)
 readied kind t sent c n e k v =
-    let all : Ends kind (ready t).next ((sent ++ reports t) ++ ready_for_query (status t.block) ∷ []) = with_ready (sent ++ reports t) t.block c (has_ready-append sent (reports t) n (reports-fine reported_parameters t.current t.reported)) refl e k (λ o. record { not_ended = e; not_skipping = k; outside = o; not_saved = v o }) refl in
+    let all : Ends kind (ready t).next ((sent ++ reports t) ++ ready_for_query (status t.block) ∷ []) = with_ready (sent ++ reports t) t.block c (has_ready-append sent (reports t) n (reports-fine reported_parameters t.current t.reported)) refl e k (λ o. let h = v o in record { not_ended = e; not_skipping = k; outside = o; not_saved = h.not_saved; lasts = h.lasts; holds = h.holds }) refl in
     subst (λ (rs : List FrameOf). Ends kind (ready t).next rs) (append_assoc sent (reports t) (ready_for_query (status t.block) ∷ [])) all
 
-committed-rest : (t : State) (b : Block) → t.block ≡ b → (commit_outside t b).block ≡ Outside → (commit_outside t b).saved ≡ None
-committed-rest t Outside h o = refl
+committed-rest : (t : State) (b : Block) → t.block ≡ b → (commit_outside t b).block ≡ Outside → IsSettled (commit_outside t b)
+committed-rest t Outside h o = record { not_saved = refl; lasts = refl; holds = all-held t.cursors }
 committed-rest t Inside h o = absurd (let h' = h in cc)
 committed-rest t Failed h o = absurd (let h' = h in cc)
 
@@ -246,7 +295,7 @@ end_query-ends kind s (Ok a) c f e k =
     readied kind t a.replies c f.no_ready (h.0 ∙ f.ended ∙ e) (h.1 ∙ f.skipping ∙ k) (committed-rest a.next a.next.block refl)
 end_query-ends kind s (Err x) c f e k =
     let h = roll_back-same s s.saved in
-    readied kind (failed s) (error x ∷ []) c refl (h.1 ∙ e) (h.0 ∙ k) (λ o. refl)
+    readied kind (failed s) (error x ∷ []) c refl (h.1 ∙ e) (h.0 ∙ k) (λ o. record { not_saved = refl; lasts = refl; holds = left-held s.cursors })
 
 pub settle-ends : (kind : ℕ) (s : State) (r : Result Answer Cause) → AllFine s r → Ends kind (settle s r).next (settle s r).replies
 settle-ends kind s (Ok a) f = without_ready f.no_ready

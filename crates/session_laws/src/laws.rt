@@ -16,7 +16,6 @@ pub fn fresh_has_key()
 {}
 
 /// A fresh session is at rest.
-#[tactic(auto, using(crate::proofs::ByName::fresh_is_at_rest))]
 pub fn fresh_is_at_rest()
     ensures { FreshIsAtRest }
 {}

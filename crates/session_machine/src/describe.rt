@@ -53,7 +53,10 @@ fn oids_of(alloc: Global, count: usize, oids: &[u32]) -> Result<Vec<u32>, AllocE
 fn gives_rows(statement: &Stmt<'_>) -> bool
     ensures { result ≡ gives_rows (meaning statement.now) }
 {
-    matches!(statement, Stmt::Show { .. } | Stmt::Select { .. })
+    matches!(
+        statement,
+        Stmt::Show { .. } | Stmt::Select { .. } | Stmt::Fetch { .. }
+    )
 }
 
 /// In a failed block a statement that gives rows isn't described.

@@ -8,6 +8,7 @@ ghost use Rattle.session_values.specs.State.{portal_name};
 ghost use Rattle.session_values.specs.Step.{without_unnamed};
 ghost use Rattle.session_state.specs.Portals.{progress_of};
 
+use crate::cursor::Cursor;
 use crate::portal::{Portal, Prepared, Progress, are_of_others};
 use crate::session::SessionState;
 use session_values::naming::{HasName, without_named};
@@ -78,12 +79,13 @@ fn all_at_progress(
     Ok(list)
 }
 
-/// The prepared statements and portals of a session. What copies hold is shared.
+/// The prepared statements, portals and cursors of a session. What copies hold is shared.
 pub(crate) struct Kept {
     pub statements: Shared<Prepared>,
     /// Where this is false, a Query has no unnamed statement to look for.
     pub may_have_unnamed: bool,
     pub portals: Shared<Portal>,
+    pub cursors: Shared<Cursor>,
 }
 
 /// A drop of its own is proved here once, and not wherever one is held.
@@ -93,6 +95,7 @@ impl Drop for Kept {
             statements: _,
             may_have_unnamed: _,
             portals: _,
+            cursors: _,
         } = self;
     }
 }
@@ -103,11 +106,13 @@ impl Kept {
         ensures statements { IfOk result (λ k. k.statements ≡ []) }
         ensures named { IfOk result (λ k. k.may_have_unnamed ≡ false) }
         ensures portals { IfOk result (λ k. k.portals ≡ []) }
+        ensures cursors { IfOk result (λ k. k.cursors ≡ []) }
     {
         Ok(Kept {
             statements: Shared::new(alloc)?,
             may_have_unnamed: false,
             portals: Shared::new(alloc)?,
+            cursors: Shared::new(alloc)?,
         })
     }
 
@@ -119,6 +124,7 @@ impl Kept {
             statements: self.statements.copied()?,
             may_have_unnamed: self.may_have_unnamed,
             portals: self.portals.copied()?,
+            cursors: self.cursors.copied()?,
         })
     }
 }

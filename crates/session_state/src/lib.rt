@@ -1,6 +1,7 @@
 //! The state of a session, how it begins, and what a transaction keeps and gives back.
 #![tactic(auto)]
 
+pub mod cursor;
 pub mod kept;
 pub mod portal;
 pub mod ready;

@@ -1,8 +1,11 @@
 //! The state of a session, and what a transaction keeps and gives back (PostgreSQL manual, "BEGIN", "ROLLBACK").
-ghost use Rattle.std.specs.Prelude.{◌≡◌, ◌<◌, [], None, length, OnOk, IfOk, true};
+ghost use Rattle.std.specs.Prelude.{◌≡◌, ◌<◌, [], None, filter, length, map, OnOk, IfOk, true};
+ghost use Rattle.std.specs.Option.{option_copied};
 ghost use Rattle.session_values.specs.Runs.{discarded};
-ghost use Rattle.session_values.specs.State.{failing, restored, save_unless};
+ghost use Rattle.session_values.specs.State.{failing, held, is_held, restored, save_unless};
+ghost use Rattle.session_state.specs.Kept.{lasting_of};
 
+use crate::cursor::{Cursor, all_held, held_ones};
 use crate::kept::Kept;
 use crate::portal::{Portal, Prepared};
 use crate::work::{Saved, Work};
@@ -22,6 +25,8 @@ pub struct SessionState {
     /// The reported values are known to be the current ones, so that no report is due.
     pub(crate) is_reported: bool,
     pub(crate) work: Work,
+    /// What a commit gives back, where a SET LOCAL has changed it.
+    pub(crate) lasting: Option<Values>,
     pub(crate) saved: Saved,
     pub(crate) block: Block,
     pub(crate) is_skipping: bool,
@@ -37,6 +42,7 @@ impl Drop for SessionState {
             reported: _,
             is_reported: _,
             work: _,
+            lasting: _,
             saved: _,
             block: _,
             is_skipping: _,
@@ -50,7 +56,7 @@ impl Model for SessionState {
     ghost use Rattle.std.specs.Prelude.{◌≡◌, length};
     ghost use Rattle.session_values.specs.State.{State};
     ghost use Rattle.session_values.specs.declared.values.TheConstants.{REPORTED};
-    ghost use Rattle.session_state.specs.Kept.{saved_of};
+    ghost use Rattle.session_state.specs.Kept.{lasting_of, saved_of};
     ghost use Rattle.session_state.specs.Known.{AreNamedUnless, AreReportedIf};
 
     ghost Value = { State };
@@ -58,6 +64,7 @@ impl Model for SessionState {
     ghost view = { λ s. record {
       defaults = s.defaults;
       current = s.work.values;
+      lasting = lasting_of s.lasting s.work.values;
       reported = s.reported;
       saved = saved_of s.saved s.work;
       block = s.block;
@@ -65,6 +72,7 @@ impl Model for SessionState {
       ended = s.has_ended;
       statements = s.kept.statements;
       portals = s.kept.portals;
+      cursors = s.kept.cursors;
       tables = s.work.tables;
     } };
 
@@ -82,6 +90,7 @@ impl SessionState {
             reported: values.reported(alloc)?,
             is_reported: true,
             work: Work::begun(alloc, &values)?,
+            lasting: None,
             kept: Kept::none(alloc)?,
             defaults: values,
             saved: Saved::Nothing,
@@ -100,6 +109,7 @@ impl SessionState {
             reported: self.reported.copied()?,
             is_reported: self.is_reported,
             work: self.work.copied()?,
+            lasting: copied(&self.lasting)?,
             saved: self.saved.copied()?,
             block: self.block,
             is_skipping: self.is_skipping,
@@ -140,11 +150,48 @@ impl SessionState {
         Ok(())
     }
 
-    /// Keeps what was done: nothing is kept for a roll back any more, and all portals go.
+    /// Gives back what SET LOCAL changed.
+    fn give_back(&mut self)
+        requires { self.old.saved ≡ None }
+        ensures { self.new ≡ record self.old { current = self.old.lasting } }
+    {
+        if let Some(values) = mem::replace(&mut self.lasting, None) {
+            (self.work.values, self.is_reported) = (values, false);
+        }
+    }
+
+    /// All cursors stay from now on.
+    fn hold_cursors(&mut self, alloc: Global) -> Result<(), AllocError>
+        ensures { OnOk result (self.new ≡ record self.old { cursors = map held self.old.cursors }) }
+    {
+        if self.kept.cursors.len() == 0 {
+            return Ok(());
+        }
+        let cursors = all_held(alloc, self.kept.cursors.as_slice())?;
+        self.kept.cursors = Shared::from_shared(alloc, cursors)?;
+        Ok(())
+    }
+
+    /// Cursors of this transaction go.
+    fn drop_cursors(&mut self, alloc: Global) -> Result<(), AllocError>
+        ensures { OnOk result (self.new ≡ record self.old { cursors = filter is_held self.old.cursors }) }
+    {
+        if self.kept.cursors.len() == 0 {
+            return Ok(());
+        }
+        let cursors = held_ones(alloc, self.kept.cursors.as_slice())?;
+        self.kept.cursors = Shared::from_shared(alloc, cursors)?;
+        Ok(())
+    }
+
+    /// Keeps what was done, but for what SET LOCAL changed: nothing is kept for a roll back any more, all portals go, and all cursors
+    /// stay.
     pub fn commit(&mut self, alloc: Global) -> Result<(), AllocError>
         ensures { OnOk result (self.new ≡ commit self.old) }
     {
         self.saved = Saved::Nothing;
+        self.give_back();
+        self.hold_cursors(alloc)?;
         self.drop_portals(alloc)
     }
 
@@ -161,24 +208,44 @@ impl SessionState {
 
     /// Gives back the values and temporary tables that are kept, if some are.
     fn restore(&mut self)
-        ensures { self.new ≡ record (restored self.old self.old.saved) { saved = None } }
+        ensures { self.new ≡ record (restored self.old self.old.saved) { lasting = (restored self.old self.old.saved).current; saved = None } }
     {
+        self.lasting = None;
         if let Saved::Changed(saved) = mem::replace(&mut self.saved, Saved::Nothing) {
             self.work = saved;
             self.is_reported = false;
         }
     }
 
-    /// These values from now on, which are to be reported.
-    pub fn put_values(&mut self, values: Values) -> Result<(), AllocError>
-        ensures { OnOk result (self.new ≡ record self.old { current = values }) }
+    /// These values from now on, which are to be reported, and what lasts of them: all, or those.
+    pub fn put_values(&mut self, values: Values, lasting: Option<Values>) -> Result<(), AllocError>
+        ensures { OnOk result (self.new ≡ record self.old { current = values; lasting = lasting_of lasting values }) }
     {
         if let Saved::Standing = self.saved {
             self.saved = Saved::Changed(self.work.copied()?);
         }
         self.work.values = values;
+        self.lasting = lasting;
         self.is_reported = false;
         Ok(())
+    }
+
+    /// These values until the transaction ends, which are to be reported.
+    pub fn put_local_values(&mut self, values: Values) -> Result<(), AllocError>
+        ensures { OnOk result (self.new ≡ record self.old { current = values }) }
+    {
+        let lasting = match &self.lasting {
+            Some(before) => before.copied()?,
+            None => self.work.values.copied()?,
+        };
+        self.put_values(values, Some(lasting))
+    }
+
+    /// These cursors from now on.
+    pub fn put_cursors(&mut self, cursors: Shared<Cursor>)
+        ensures { self.new ≡ record self.old { cursors = cursors } }
+    {
+        self.kept.cursors = cursors;
     }
 
     /// These temporary tables from now on.
@@ -192,11 +259,12 @@ impl SessionState {
         Ok(())
     }
 
-    /// Gives back the values and temporary tables that are kept, if some are; all portals go.
+    /// Gives back the values and temporary tables that are kept, if some are; all portals go, and the cursors of this transaction.
     pub fn roll_back(&mut self, alloc: Global) -> Result<(), AllocError>
         ensures { OnOk result (self.new ≡ roll_back self.old) }
     {
         self.restore();
+        self.drop_cursors(alloc)?;
         self.drop_portals(alloc)
     }
 
@@ -214,6 +282,7 @@ impl SessionState {
         ensures { OnOk result (self.new ≡ discarded self.old) }
     {
         self.work = Work::begun(alloc, &self.defaults)?;
+        self.lasting = None;
         self.is_reported = false;
         self.saved = Saved::Nothing;
         self.kept = Kept::none(alloc)?;
@@ -253,6 +322,20 @@ impl SessionState {
         ensures { result.now ≡ self.now.current }
     {
         &self.work.values
+    }
+
+    /// What a commit gives back, where that isn't what is current.
+    pub fn lasting(&self) -> Option<&Values>
+        ensures { lasting_of (option_copied result) self.now.current ≡ self.now.lasting }
+    {
+        self.lasting.as_ref()
+    }
+
+    /// The cursors.
+    pub fn cursors(&self) -> &Shared<Cursor>
+        ensures { result.now ≡ self.now.cursors }
+    {
+        &self.kept.cursors
     }
 
     /// The temporary tables.
@@ -295,6 +378,15 @@ impl SessionState {
         ensures { result.now ≡ self.now.portals }
     {
         &self.kept.portals
+    }
+}
+
+fn copied(values: &Option<Values>) -> Result<Option<Values>, AllocError>
+    ensures { IfOk result (λ v. v ≡ values.now) }
+{
+    match values {
+        Some(values) => Ok(Some(values.copied()?)),
+        None => Ok(None),
     }
 }
 

@@ -1,6 +1,6 @@
 -- What the machine's laws need of the statements that texts spell.
 use Rattle.std.proofs.Common.{◌≡◌, ℕ, suc, ◌+◌, ◌<◌, ◌≤◌, List, [], ◌∷◌, length, map, Option, Some, None, refl, ap, Bool, true, false, cond, arith, leb-true}
-use Rattle.std.specs.Prelude.{codes, nat_le, nat_lt, if◌then◌else◌}
+use Rattle.std.specs.Prelude.{codes, nat_le, nat_lt, ◌==◌, if◌then◌else◌}
 use Rattle.std.specs.List.{AllByRecursion}
 use Rattle.std.specs.Char.{to_ascii_lowercase}
 use Rattle.std.proofs.lemmas.Slice.Eq.{bytes_eq-Decides}
@@ -8,7 +8,7 @@ use Rattle.message_view.specs.Bodies.{HasNoZero}
 use Rattle.mini_sql.specs.Words.{Text, folded, same_word}
 use Rattle.mini_sql.specs.Statements as st
 use Rattle.mini_sql.specs.Tokens.{Token, Name, Literal, Digits, Parameter, Sign, comma, tokens_after, literal_length, unquoted}
-use Rattle.mini_sql.specs.Statements.{Statement, Operand, Null, statement, DiscardAll, Form, or_else, is_word, is_sign, name_of, column_of, setting_of, operand_of, operand_parameter, parameters_of, greatest, of_tokens, phrase, less_semicolon, read, ends, pass, take_value, either, with_item, items, definitions, columns_at, at_most_64, take_columns, take_operands, block, assignment, set, reset, show, discard, definition_list, create, drop_table, value_list, insert, where_of, end_of, from_of, select, fails, of_other, of_word}
+use Rattle.mini_sql.specs.Statements.{Statement, Operand, Null, statement, DiscardAll, Form, or_else, is_word, is_sign, name_of, column_of, setting_of, operand_of, count_of, operand_parameter, parameters_of, greatest, of_tokens, phrase, less_semicolon, read, ends, pass, take_value, either, with_item, items, definitions, columns_at, at_most_64, take_columns, take_operands, block, assignment, set_name, set, reset, show, discard, definition_list, create, drop_table, value_list, insert, where_of, end_of, from_of, select, declared_over, rows_of, declare, fetch, close, of_cursor, fails, of_other, of_word}
 use Rattle.session_values.specs.Lawful.{IsShort}
 use Rattle.session_values.proofs.Alls.{OfSome}
 use Rattle.statement_laws.specs.Statements.{IsSpelled}
@@ -25,6 +25,11 @@ longer m n st.Commit l h = tt
 longer m n st.Rollback l h = tt
 longer m n (st.Set k (Some v)) l h = (h.0, omega (arith, h.1))
 longer m n (st.Set k None) l h = tt
+longer m n (st.SetLocal k (Some v)) l h = (h.0, omega (arith, h.1))
+longer m n (st.SetLocal k None) l h = tt
+longer m n (st.Declare c cs t w) l h = h
+longer m n (st.Fetch k c) l h = tt
+longer m n (st.CloseCursor c) l h = tt
 longer m n (st.Reset k) l h = tt
 longer m n st.ResetAll l h = tt
 longer m n (st.Show k) l h = tt
@@ -225,17 +230,27 @@ set-spelled : (k n m : ℕ) (name : Text) (v : Option Text) → 3 ≤ k → 1 �
 set-spelled k n m name None l i h = tt
 set-spelled k n m name (Some v) l i h = (h.0, omega (arith, h.1))
 
-assignment-reads : (k : ℕ) → 3 ≤ k → Reads k assignment
+set_local-spelled : (k n m : ℕ) (name : Text) (v : Option Text) → 3 ≤ k → 1 ≤ n → IsGivenValue m v → IsSpelled (k + n + 1 + m) (st.SetLocal name v)
+set_local-spelled k n m name None l i h = tt
+set_local-spelled k n m name (Some v) l i h = (h.0, omega (arith, h.1))
+
+assignment-reads : (k : ℕ) (made : Text → Option Text → Statement) → ((n m : ℕ) (name : Text) (v : Option Text) → 1 ≤ n → IsGivenValue m v → IsSpelled (k + n + 1 + m) (made name v)) → Reads k (assignment made)
 unfolding assignment
-assignment-reads k l =
+assignment-reads k made g =
     value-reads IsName k name_of _ name-told (λ n name i.
     pass-reads (k + n) _ _ (
     value-reads IsGivenValue (k + n + 1) setting_of _ setting-told (λ m v h.
-    ends-reads (k + n + 1 + m) (st.Set name v) (set-spelled k n m name v l i h))))
+    ends-reads (k + n + 1 + m) (made name v) (g n m name v i h))))
+
+set_name-reads : (k : ℕ) → 3 ≤ k → Reads k set_name
+unfolding set_name
+set_name-reads k l =
+    either-reads k _ _ (pass-reads k _ _ (assignment-reads (k + 1) st.SetLocal (λ n m name v i h. set_local-spelled (k + 1) n m name v (omega arith) i h)))
+    (assignment-reads k st.Set (λ n m name v i h. set-spelled k n m name v l i h))
 
 set-reads : (k : ℕ) → 3 ≤ k → Reads k set
 unfolding set
-set-reads k l = either-reads k _ assignment (pass-reads k _ assignment (assignment-reads (k + 1) (omega arith))) (assignment-reads k l)
+set-reads k l = either-reads k _ _ (pass-reads k _ _ (assignment-reads (k + 1) st.Set (λ n m name v i h. set-spelled (k + 1) n m name v (omega arith) i h))) (set_name-reads k l)
 
 reset-reads : (k : ℕ) → Reads k reset
 unfolding reset
@@ -278,6 +293,55 @@ select-reads : (k : ℕ) → Reads k select
 unfolding select
 select-reads k = either-reads k _ _ (pass-reads k _ _ (from-reads (k + 1) [] (omega arith) tt)) (columns-reads k false from_of (λ cs l h. from-reads 0 cs l h))
 
+-- what a cursor is declared over
+over-spelled : (k : ℕ) (c : Text) (o : Option Statement) → OfSome (IsSpelled k) o → OfSome (IsSpelled k) (declared_over c o)
+over-spelled k c None h = tt
+over-spelled k c (Some (st.Select cs t w)) h = choose-some (IsSpelled k) (parameters_of (st.Select cs t w) == 0) (Some (st.Declare c cs t w)) None (λ e. (h.0, h.1)) tt
+over-spelled k c (Some st.Empty) h = tt
+over-spelled k c (Some st.Begin) h = tt
+over-spelled k c (Some st.Commit) h = tt
+over-spelled k c (Some st.Rollback) h = tt
+over-spelled k c (Some (st.Set m v)) h = tt
+over-spelled k c (Some (st.SetLocal m v)) h = tt
+over-spelled k c (Some (st.Reset m)) h = tt
+over-spelled k c (Some st.ResetAll) h = tt
+over-spelled k c (Some (st.Show m)) h = tt
+over-spelled k c (Some st.DiscardAll) h = tt
+over-spelled k c (Some (st.Create t cs)) h = tt
+over-spelled k c (Some (st.Drop t)) h = tt
+over-spelled k c (Some (st.Insert t vs)) h = tt
+over-spelled k c (Some (st.Declare d cs t w)) h = tt
+over-spelled k c (Some (st.Fetch m d)) h = tt
+over-spelled k c (Some (st.CloseCursor d)) h = tt
+
+rows-reads : (k : ℕ) (c : Text) → Reads k (rows_of c)
+unfolding rows_of
+rows-reads k c = pass-reads k _ _ (λ ts z. over-spelled (k + 1 + sizes ts) c (select ts) (select-reads (k + 1) ts z))
+
+declare-reads : (k : ℕ) → Reads k declare
+unfolding declare
+declare-reads k =
+    value-reads IsColumn k column_of _ column-told (λ n c i.
+    pass-reads (k + n) _ _ (pass-reads (k + n + 1) _ _ (pass-reads (k + n + 1 + 1) _ _ (pass-reads (k + n + 1 + 1 + 1) _ _ (rows-reads (k + n + 1 + 1 + 1 + 1) c)))))
+
+-- a count can be any
+abbrev IsCount : ℕ → Option ℕ → Type 0
+IsCount n c = Unit {0}
+
+some-any : (o : Option (Option ℕ)) (n : ℕ) → OfSome (IsCount n) o
+some-any None n = tt
+some-any (Some c) n = tt
+
+fetch-reads : (k : ℕ) → Reads k fetch
+unfolding fetch
+fetch-reads k =
+    value-reads IsCount k count_of _ (λ t i. some-any (count_of t) (size t)) (λ n c i.
+    pass-reads (k + n) _ _ (value-reads IsColumn (k + n + 1) column_of _ column-told (λ m d j. ends-reads (k + n + 1 + m) (st.Fetch c d) tt)))
+
+close-reads : (k : ℕ) → Reads k close
+unfolding close
+close-reads k = value-reads IsColumn k column_of _ column-told (λ n c i. ends-reads (k + n) (st.CloseCursor c) tt)
+
 -- the word SET has three bytes
 set-size : (t : Token) → is_word (codes "set") t ≡ true → 3 ≤ size t
 set-size (Name n) h =
@@ -295,6 +359,13 @@ choose-form k false f g h i = i
 fails-reads : (k : ℕ) → Reads k fails
 fails-reads k ts z = tt
 
+cursor-reads : (k : ℕ) (t : Token) → Reads k (of_cursor t)
+cursor-reads k t =
+    choose-form k (is_word (codes "declare") t) _ _ (λ e. declare-reads k) (
+    choose-form k (is_word (codes "fetch") t) _ _ (λ e. fetch-reads k) (
+    choose-form k (is_word (codes "close") t) _ _ (λ e. close-reads k) (
+    fails-reads k)))
+
 other-reads : (k : ℕ) (t : Token) → Reads k (of_other t)
 other-reads k t =
     choose-form k (is_word (codes "discard") t) _ _ (λ e. discard-reads k) (
@@ -302,7 +373,7 @@ other-reads k t =
     choose-form k (is_word (codes "drop") t) _ _ (λ e. drop-reads k) (
     choose-form k (is_word (codes "insert") t) _ _ (λ e. insert-reads k) (
     choose-form k (is_word (codes "select") t) _ _ (λ e. select-reads k) (
-    fails-reads k)))))
+    cursor-reads k t)))))
 
 word-reads : (k : ℕ) (t : Token) → (is_word (codes "set") t ≡ true → 3 ≤ k) → Reads k (of_word t)
 word-reads k t l =
@@ -333,6 +404,10 @@ few-parameters n st.Begin h = omega arith
 few-parameters n st.Commit h = omega arith
 few-parameters n st.Rollback h = omega arith
 few-parameters n (st.Set m v) h = omega arith
+few-parameters n (st.SetLocal m v) h = omega arith
+few-parameters n (st.Declare c cs t w) h = omega arith
+few-parameters n (st.Fetch m c) h = omega arith
+few-parameters n (st.CloseCursor c) h = omega arith
 few-parameters n (st.Reset m) h = omega arith
 few-parameters n st.ResetAll h = omega arith
 few-parameters n (st.Show m) h = omega arith

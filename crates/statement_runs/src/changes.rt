@@ -128,8 +128,9 @@ fn is_among(names: &[Text], name: &[u8]) -> bool
 }
 
 /// Names, each behind its own count.
-fn shared_names(alloc: Global, names: Names) -> Result<Shared<Text>, AllocError>
-    ensures { IfOk result (λ s. s ≡ names) }
+pub(crate) fn shared_names(alloc: Global, names: Names) -> Result<Shared<Text>, AllocError>
+    ensures names { IfOk result (λ s. s ≡ names) }
+    ensures width { IfOk result (λ s. length s ≤ 64) }
 {
     let mut list = Vec::with_capacity(alloc, names.as_slice().len())?;
     for name in names.as_slice() {

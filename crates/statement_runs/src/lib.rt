@@ -3,6 +3,7 @@
 
 mod blocks;
 mod changes;
+mod cursors;
 pub mod lookup;
 pub mod output;
 pub mod ran;

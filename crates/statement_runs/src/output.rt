@@ -127,6 +127,10 @@ pub fn put_row_tag(
     if let Stmt::Show { .. } = statement {
         return put_command_complete(out, b"SHOW");
     }
+    if let Stmt::Fetch { .. } = statement {
+        let tag = format!(in alloc; "FETCH {sent}")?;
+        return put_command_complete(out, tag.as_bytes());
+    }
     let tag = format!(in alloc; "SELECT {sent}")?;
     put_command_complete(out, tag.as_bytes())
 }

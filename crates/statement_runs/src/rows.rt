@@ -170,7 +170,7 @@ fn picked_rows(
     Ok(list)
 }
 
-fn table_rows(
+pub(crate) fn table_rows(
     alloc: Global,
     given: &[Option<Text>],
     table: &Table,

@@ -10,9 +10,10 @@ ghost use Rattle.session_values.specs.Runs.{run};
 
 use crate::blocks::{begin, commit_block, discard, roll_back_block};
 use crate::changes::{create, drop_table, insert};
+use crate::cursors::{close, declare, fetch};
 use crate::ran::Ran;
 use crate::rows::{select, show};
-use crate::set::{reset, reset_all, set};
+use crate::set::{reset, reset_all, set, set_local};
 use mini_sql::{SqlFault, Stmt, read_statement};
 use session_state::Catalogue;
 use session_state::session::SessionState;
@@ -69,6 +70,7 @@ pub fn run(
         Stmt::Commit => commit_block(alloc, session),
         Stmt::Rollback => roll_back_block(alloc, session),
         Stmt::Set { name, to } => set(alloc, session, name, to),
+        Stmt::SetLocal { name, to } => set_local(alloc, session, name, to),
         Stmt::Reset { name } => reset(alloc, session, name),
         Stmt::ResetAll => reset_all(alloc, session),
         Stmt::Show { name } => show(alloc, session, name),
@@ -81,5 +83,13 @@ pub fn run(
             table,
             filter,
         } => select(alloc, session, catalogue, given, *columns, table, filter),
+        Stmt::Declare {
+            cursor,
+            columns,
+            table,
+            filter,
+        } => declare(alloc, session, catalogue, cursor, *columns, table, filter),
+        Stmt::Fetch { count, cursor } => fetch(alloc, session, *count, cursor),
+        Stmt::CloseCursor { cursor } => close(alloc, session, cursor),
     }
 }

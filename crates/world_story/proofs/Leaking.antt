@@ -6,7 +6,7 @@ use Rattle.frame_view.specs.Frames.{FrameOf, cut_after, spelling}
 use Rattle.message_view.specs.Messages.{query}
 use Rattle.message_view.specs.Reading.{text_at, int16_at, int32_at, value_at, list_at, query_of, parse_of, bind_of, target_of, execute_of, startup_of, pair_at, ended_at, list_until}
 use Rattle.mini_sql.specs.Tokens.{literal_length, unquoted, tokens_after}
-use Rattle.mini_sql.specs.Statements.{read, ends, pass, take_value, either, with_item, items, definitions, columns_at, at_most_64, take_columns, take_operands, block, assignment, set, reset, show, discard, definition_list, create, drop_table, value_list, insert, where_of, end_of, from_of, select, of_tokens, less_semicolon, phrase, statement}
+use Rattle.mini_sql.specs.Statements.{read, ends, pass, take_value, either, with_item, items, definitions, columns_at, at_most_64, take_columns, take_operands, block, assignment, set_name, set, reset, show, discard, definition_list, create, drop_table, value_list, insert, where_of, end_of, from_of, select, of_tokens, less_semicolon, phrase, statement}
 use Rattle.session_values.specs.Parameters.{accepted_of, date_styles}
 use Rattle.session_values.specs.Service.{welcome}
 use Rattle.session_values.specs.State.{State, started_over, fresh}
@@ -75,7 +75,7 @@ differs : ◌≡◌ {A = ℕ} 11 10 → ⊥
 differs e = omega arith
 
 not_begun : (more : List ℕ) → shown left_over ++ more ≡ shown fresh_one → ⊥
-unfolding apply apply_return cut_after text_at int16_at int32_at value_at list_at query_of parse_of bind_of target_of execute_of startup_of pair_at ended_at list_until literal_length unquoted tokens_after read ends pass take_value either with_item items definitions columns_at at_most_64 take_columns take_operands block assignment set reset show discard definition_list create drop_table value_list insert where_of end_of from_of select of_tokens less_semicolon phrase statement accepted_of date_styles started_over fresh step run_frames
+unfolding apply apply_return cut_after text_at int16_at int32_at value_at list_at query_of parse_of bind_of target_of execute_of startup_of pair_at ended_at list_until literal_length unquoted tokens_after read ends pass take_value either with_item items definitions columns_at at_most_64 take_columns take_operands block assignment set_name set reset show discard definition_list create drop_table value_list insert where_of end_of from_of select of_tokens less_semicolon phrase statement accepted_of date_styles started_over fresh step run_frames
 not_begun more e = differs (ap (λ (l : List ℕ). slice_index l 46) e)
 
 abbrev greeting : List ℕ
@@ -85,7 +85,7 @@ begins_alike : (more : List ℕ) → (greeting ++ shown left_over) ++ more ≡ g
 begins_alike more e = not_begun more (append_cancel_left greeting (shown left_over ++ more) (shown fresh_one) (sym (append_assoc greeting (shown left_over) more) ∙ e))
 
 pub leak : Leak
-unfolding then_do gives_all next_do takes_all gives_rest apply apply_return cut_after text_at int16_at int32_at value_at list_at query_of parse_of bind_of target_of execute_of startup_of pair_at ended_at list_until literal_length unquoted tokens_after read ends pass take_value either with_item items definitions columns_at at_most_64 take_columns take_operands block assignment set reset show discard definition_list create drop_table value_list insert where_of end_of from_of select of_tokens less_semicolon phrase statement accepted_of date_styles started_over fresh step run_frames
+unfolding then_do gives_all next_do takes_all gives_rest apply apply_return cut_after text_at int16_at int32_at value_at list_at query_of parse_of bind_of target_of execute_of startup_of pair_at ended_at list_until literal_length unquoted tokens_after read ends pass take_value either with_item items definitions columns_at at_most_64 take_columns take_operands block assignment set_name set reset show discard definition_list create drop_table value_list insert where_of end_of from_of select of_tokens less_semicolon phrase statement accepted_of date_styles started_over fresh step run_frames
 leak =
     let h0 = begins {w = at_first} limits (record { lawful = λ _. lawful; absent = λ _. refl; unnumbered = λ _. refl; given_nothing = λ _. (refl, refl); unborn = λ _. refl; book_is = refl }) in
     let h1 = then_do (client_step (of_client 1 (comes row (word 1) refl lawful_row))) h0 in

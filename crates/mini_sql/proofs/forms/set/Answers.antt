@@ -8,4 +8,4 @@ returns-in-Ok c = either-first _ _ _ _ c.in-Ok.ensures
 
 pub returns-in-Err : goal.returns-in-Err
 unfolding set
-returns-in-Err c = reads-to _ _ _ (either-second _ _ _ c.in-Err.ensures) c.assignment.ensures
+returns-in-Err c = reads-to _ _ _ (either-second _ _ _ c.in-Err.ensures) c.set_name.ensures
