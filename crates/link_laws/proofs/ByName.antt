@@ -1,16 +1,19 @@
 -- Each law by its name. A proof in another crate imports it so:
 --     use Rattle.link_laws.proofs.ByName.{moves_join}
-use Rattle.link_laws.specs.Standing.{MovesJoin}
+use Rattle.link_laws.specs.Standing.{MovesJoin, SparedAreUnstruck}
 use Rattle.link_laws.specs.Leases.{LeasesAreExact, LeasesAreFronts, SettledLinksRest}
 use Rattle.link_laws.specs.Starts.{StartsAreOfTheirKeys}
 use Rattle.link_laws.specs.Dialogues.{StartRepliesAreFrames, StartPacketsSplit, StartsAreTold, StartedIsFresh}
-use Rattle.link_laws.proofs.Both.{moves_both}
+use Rattle.link_laws.proofs.Both.{moves_both, spared-unstruck}
 use Rattle.link_laws.proofs.Leasing.{leases-exact, leases-front, settled-rest}
 use Rattle.link_laws.proofs.Starting.{started-of}
 use Rattle.link_laws.proofs.Dialogues.{start_replies-frames, start_packets-split, starts-told, started-fresh}
 
 pub moves_join : MovesJoin
 moves_join = moves_both
+
+pub spared_are_unstruck : SparedAreUnstruck
+spared_are_unstruck = spared-unstruck
 
 pub leases_are_exact : LeasesAreExact
 leases_are_exact = leases-exact

@@ -1,6 +1,6 @@
 -- What a server answers to a start, and what is known once some of it came.
 use Rattle.std.proofs.Common.{◌≡◌, ⊎_elim, ℕ, ◌+◌, ◌<◌, ◌^◌, Bool, true, false, List, [], ◌∷◌, ◌++◌, length, drop, refl, sym, ap, ap₂, ◌∙◌, append_assoc, append-nil, subst, arith, Option, Some, None, Result, Ok, Err}
-use Rattle.std.specs.Prelude.{◌==◌, ◌||◌, if◌then◌else◌}
+use Rattle.std.specs.Prelude.{◌==◌, ◌||◌, ◌&&◌, not, if◌then◌else◌}
 use Rattle.std.specs.List.{flat_map, AllByRecursion}
 use Rattle.std.specs.Int.{w32, to_be_bytes}
 use Rattle.std.proofs.lemmas.Bool.{cases_Bool, true≢false}
@@ -20,10 +20,11 @@ use Rattle.run_laws.specs.Lawful.{IsLawfulCatalogue, IsClientKey}
 use Rattle.run_laws.specs.Parameters.{reported_parameters}
 use Rattle.run_laws.specs.State.{State, StartKeyOf, fresh, all_reports, all_reports_from}
 use Rattle.run_laws.specs.Laws.{has_ready}
+use Rattle.run_laws.specs.Step.{asked, is_statement}
 use Rattle.run_laws.specs.Starts.{Welcomes}
 use Rattle.run_laws.proofs.SessionsByName.{fresh_is_reached, welcome_is_read, start_error_is_short}
-use Rattle.link_laws.specs.Stages.{Server, Auth, NoAuth, Asks, Stage, Before, Asked, Open, Closed, Packet, Starts, Sends, Turn, packet_bytes, packets_bytes, let_in, wrong_password, opened, started_by, opens, begins, is_answer, serve, after, answers, MayTake, MayTakeAll}
-use Rattle.link_laws.specs.Standing.{Standing, Served, Passed}
+use Rattle.link_laws.specs.Stages.{Server, Auth, NoAuth, Asks, Stage, Before, Asked, Open, Closed, Packet, Starts, Sends, Turn, can_strike, packet_bytes, packets_bytes, let_in, wrong_password, opened, started_by, opens, begins, is_answer, serve, after, answers, MayTake, MayTakeAll}
+use Rattle.link_laws.specs.Standing.{Standing, Served, Passed, marks_since}
 use Rattle.link_laws.specs.Starts.{start_body}
 use Rattle.link_laws.specs.Links.{IsIdle}
 use Rattle.link_laws.specs.Dialogues.{start_packets, start_replies, IsToQuestion, auth_of, IsNew, FitsPacket, IsShortReply, SplitsPackets, IsTold, StartRepliesAreFrames, StartPacketsSplit, StartsAreTold, StartedIsFresh}
@@ -77,64 +78,86 @@ same_start x y a b h k e =
     let s : SameFrame (as_frame x) (as_frame y) a b = same_frame (as_frame x) (as_frame y) a b (omega (arith, h)) (omega (arith, k)) (as_start x a ∙ ap (λ (bs : List ℕ). 0 ∷ bs) e ∙ sym (as_start y b)) in
     (ap (λ (bs : List ℕ). drop 4 bs) s.body, s.rest)
 
-same_sent : (f g : FrameOf) (a b : List ℕ) → 4 + length f.body < 2 ^ 32 → 4 + length g.body < 2 ^ 32 → spelling f ++ a ≡ spelling g ++ b → (Sends f ≡ Sends g) × (a ≡ b)
+same_sent : (f g : FrameOf) (a b : List ℕ) → 4 + length f.body < 2 ^ 32 → 4 + length g.body < 2 ^ 32 → spelling f ++ a ≡ spelling g ++ b → (f ≡ g) × (a ≡ b)
 same_sent f g a b h k e =
     let s : SameFrame f g a b = same_frame f g a b h k e in
-    (ap₂ (λ (n : ℕ) (bs : List ℕ). Sends (record { kind = n; body = bs })) s.kind s.body, s.rest)
+    (ap₂ (λ (n : ℕ) (bs : List ℕ). record { kind = n; body = bs }) s.kind s.body, s.rest)
+
+abbrev sends : Bool → FrameOf → Packet
+sends m f = Sends m f
+
+-- neither is struck
+both_unstruck : (m n : Bool) (f g : FrameOf) → m ≡ false → n ≡ false → f ≡ g → Sends m f ≡ Sends n g
+both_unstruck m n f g d e h = ap₂ sends (d ∙ sym e) h
+
+-- a frame that no cancel strikes
+none_of : (a b c d : Bool) → d ≡ false → (a && (b && (c && d))) ≡ false
+none_of true true true d e = e
+none_of true true false d e = refl
+none_of true false c d e = refl
+none_of false b c d e = refl
+
+unstruck_by : (n : Bool) (v : Server) (s : State) (f g : FrameOf) → is_statement (asked f.kind) ≡ false → f ≡ g → (n ≡ true → can_strike v s g ≡ true) → n ≡ false
+unstruck_by true v s f g e h k = absurd (true≢false (sym (k refl) ∙ ap (λ (x : FrameOf). can_strike v s x) (sym h) ∙ none_of v.strikable (not s.ended) (not s.skipping) (is_statement (asked f.kind)) e))
+unstruck_by false v s f g e h k = refl
+
+-- a frame whose length fits its field, and that no cancel strikes
+abbrev IsUnstruck : Bool → FrameOf → Type 0
+IsUnstruck m f = (m ≡ false) × (is_statement (asked f.kind) ≡ false) × (4 + length f.body < 2 ^ 32)
 
 -- a StartupMessage first, and frames after it, whose lengths fit their fields
 abbrev IsInTurn : Stage → Packet → Type 0
 IsInTurn (Before auth) (Starts start) = 8 + length start < 2 ^ 32
-IsInTurn (Before auth) (Sends f) = ⊥
+IsInTurn (Before auth) (Sends m f) = ⊥
 IsInTurn (Asked start answer) (Starts x) = ⊥
-IsInTurn (Asked start answer) (Sends f) = 4 + length f.body < 2 ^ 32
+IsInTurn (Asked start answer) (Sends m f) = IsUnstruck m f
 IsInTurn (Open s) (Starts x) = ⊥
-IsInTurn (Open s) (Sends f) = 4 + length f.body < 2 ^ 32
+IsInTurn (Open s) (Sends m f) = IsUnstruck m f
 IsInTurn Closed (Starts x) = ⊥
-IsInTurn Closed (Sends f) = 4 + length f.body < 2 ^ 32
+IsInTurn Closed (Sends m f) = IsUnstruck m f
 
 abbrev AreInTurn : Server → Stage → List Packet → Type 0
 AreInTurn v s [] = Unit {0}
 AreInTurn v s (p ∷ ps) = IsInTurn s p × AreInTurn v (serve v s p).next ps
 
-same_packet : (s : Stage) (p t : Packet) (a b : List ℕ) → IsInTurn s p → MayTake s t → packet_bytes p ++ a ≡ packet_bytes t ++ b → (p ≡ t) × (a ≡ b)
-same_packet (Before auth) (Starts x) (Starts y) a b h k e = let s = same_start x y a b h (omega (arith, k)) e in (ap Starts s.0, s.1)
-same_packet (Before auth) (Starts x) (Sends g) a b h k e = absurd k
-same_packet (Before auth) (Sends f) t a b h k e = absurd h
-same_packet (Asked x y) (Starts z) t a b h k e = absurd h
-same_packet (Asked x y) (Sends f) (Starts z) a b h k e = absurd k
-same_packet (Asked x y) (Sends f) (Sends g) a b h k e = same_sent f g a b h (let z = k.whole.size in omega (arith, z)) e
-same_packet (Open s) (Starts z) t a b h k e = absurd h
-same_packet (Open s) (Sends f) (Starts z) a b h k e = absurd k
-same_packet (Open s) (Sends f) (Sends g) a b h k e = same_sent f g a b h (let z = k.whole.size in omega (arith, z)) e
-same_packet Closed (Starts z) t a b h k e = absurd h
-same_packet Closed (Sends f) t a b h k e = absurd k
+same_packet : (v : Server) (s : Stage) (p t : Packet) (a b : List ℕ) → IsInTurn s p → MayTake v s t → packet_bytes p ++ a ≡ packet_bytes t ++ b → (p ≡ t) × (a ≡ b)
+same_packet v (Before auth) (Starts x) (Starts y) a b h k e = let s = same_start x y a b h (omega (arith, k)) e in (ap Starts s.0, s.1)
+same_packet v (Before auth) (Starts x) (Sends n g) a b h k e = absurd k
+same_packet v (Before auth) (Sends m f) t a b h k e = absurd h
+same_packet v (Asked x y) (Starts z) t a b h k e = absurd h
+same_packet v (Asked x y) (Sends m f) (Starts z) a b h k e = absurd k
+same_packet v (Asked x y) (Sends m f) (Sends n g) a b h k e = let s = same_sent f g a b h.2 (let z = k.0.whole.size in omega (arith, z)) e in (both_unstruck m n f g h.0 k.1 s.0, s.1)
+same_packet v (Open s) (Starts z) t a b h k e = absurd h
+same_packet v (Open s) (Sends m f) (Starts z) a b h k e = absurd k
+same_packet v (Open s) (Sends m f) (Sends n g) a b h k e = let q = same_sent f g a b h.2 (let z = k.0.whole.size in omega (arith, z)) e in (both_unstruck m n f g h.0 (unstruck_by n v s f g h.1 q.0 k.1) q.0, q.1)
+same_packet v Closed (Starts z) t a b h k e = absurd h
+same_packet v Closed (Sends m f) t a b h k e = absurd k
 
 no_packet : {A : Type 0} (t : Packet) (bs : List ℕ) → [] ≡ packet_bytes t ++ bs → A
 no_packet (Starts x) bs e = absurd cc
-no_packet (Sends f) bs e = absurd cc
+no_packet (Sends m f) bs e = absurd cc
 
 pub split_packets : (v : Server) (s : Stage) (ps ts : List Packet) (rest : List ℕ) → AreInTurn v s ps → MayTakeAll v s ts → packets_bytes ps ≡ packets_bytes ts ++ rest → SplitsPackets ps ts rest
 split_packets v s ps [] rest h k e = record { more = ps; all = refl; bytes = sym e }
 split_packets v s [] (t ∷ ts) rest h k e = no_packet t (packets_bytes ts ++ rest) (e ∙ append_assoc (packet_bytes t) (packets_bytes ts) rest)
 split_packets v s (p ∷ ps) (t ∷ ts) rest h k e =
-    let q = same_packet s p t (packets_bytes ps) (packets_bytes ts ++ rest) h.0 k.0 (e ∙ append_assoc (packet_bytes t) (packets_bytes ts) rest) in
+    let q = same_packet v s p t (packets_bytes ps) (packets_bytes ts ++ rest) h.0 k.0 (e ∙ append_assoc (packet_bytes t) (packets_bytes ts) rest) in
     let r : SplitsPackets ps ts rest = split_packets v (serve v s p).next ps ts rest h.1 (subst (λ (x : Packet). MayTakeAll v (serve v s x).next ts) (sym q.0) k.1) q.1 in
     record { more = r.more; all = ap₂ (λ (x : Packet) (xs : List Packet). x ∷ xs) q.0 r.all; bytes = r.bytes }
 
 -- ---- a start's packets are in turn
 
-opened_turn : (v : Server) (r : Result State Cause) (f : FrameOf) → 4 + length f.body < 2 ^ 32 → IsInTurn (opened v r).next (Sends f)
+opened_turn : (v : Server) (r : Result State Cause) (f : FrameOf) → IsUnstruck false f → IsInTurn (opened v r).next (Sends false f)
 opened_turn v (Ok s) f h = h
 opened_turn v (Err c) f h = h
 
-answer_turn : (v : Server) (auth : Auth) (start : List ℕ) (f : FrameOf) → 4 + length f.body < 2 ^ 32 → IsInTurn (begins v auth start).next (Sends f)
+answer_turn : (v : Server) (auth : Auth) (start : List ℕ) (f : FrameOf) → IsUnstruck false f → IsInTurn (begins v auth start).next (Sends false f)
 answer_turn v NoAuth start f h = opened_turn v (started_by v.catalogue start) f h
 answer_turn v (Asks kind more right) start f h = h
 
 start_turn : (v : Server) (auth : Auth) (key : StartKeyOf) (answer : Option Text) → AllByRecursion FitsPacket (start_packets key answer) → AreInTurn v (Before auth) (start_packets key answer)
 start_turn v auth key None h = (h.0, tt)
-start_turn v auth key (Some answer) h = (h.0, (answer_turn v auth (start_body key) (password_message answer) h.1.0, tt))
+start_turn v auth key (Some answer) h = (h.0, (answer_turn v auth (start_body key) (password_message answer) (refl, refl, h.1.0), tt))
 
 pub start_packets-split : StartPacketsSplit
 start_packets-split v auth key answer taken rest h k e = split_packets v (Before auth) (start_packets key answer) taken rest (start_turn v auth key answer h) k e
@@ -194,7 +217,7 @@ pub starts-told : StartsAreTold
 starts-told limit began now key answer unsent received tail got low f n x short each r =
     ⊎_elim
     (λ (t : began.lives ≡ true).
-    let p : Passed began x.sent received = x.moves.passed f t in
+    let p : Passed began x.sent (marks_since began now) received = x.moves.passed f t in
     told_of began.server (auth_of began.stage) key answer got tail p.lost (p.left ++ unsent) p.taken
     (took limit began key answer x.sent unsent received tail p.left p.lost got p.taken low n x.all x.fits short each r p.lawful p.inbox p.outbox))
     (λ (d : began.lives ≡ false). nothing_told (start_replies began.server (auth_of began.stage) key answer) got received tail (x.moves.silent d).1 r)
@@ -355,15 +378,15 @@ opened_some : (v : Server) (auth : Auth) (key : StartKeyOf) (answer : Text) (tak
     → answers v (Before auth) taken ≡ got ++ more → has_ready got ≡ true → Opened v auth key taken untaken more
 opened_some v auth key answer [] untaken got more to s e h = no_ready got more [] refl (sym e) h
 opened_some v auth key answer (p ∷ []) untaken got more to s e h =
-    let same : Starts (start_body key) ≡ p = packet_is _ p (Sends (password_message answer) ∷ []) untaken s in
+    let same : Starts (start_body key) ≡ p = packet_is _ p (Sends false (password_message answer) ∷ []) untaken s in
     asked_one v auth key answer got more (sym e ∙ ap (λ (x : Packet). answers v (Before auth) (x ∷ [])) (sym same)) to h
 opened_some v auth key answer (p ∷ q ∷ t ∷ ts) untaken got more to s e h =
-    let tail : Sends (password_message answer) ∷ [] ≡ (q ∷ t ∷ ts) ++ untaken = packets_are _ p (Sends (password_message answer) ∷ []) ((q ∷ t ∷ ts) ++ untaken) s in
+    let tail : Sends false (password_message answer) ∷ [] ≡ (q ∷ t ∷ ts) ++ untaken = packets_are _ p (Sends false (password_message answer) ∷ []) ((q ∷ t ∷ ts) ++ untaken) s in
     no_packets t ts untaken (packets_are _ q [] ((t ∷ ts) ++ untaken) tail)
 opened_some v auth key answer (p ∷ q ∷ []) untaken got more to s e h =
-    let tail : Sends (password_message answer) ∷ [] ≡ q ∷ untaken = packets_are _ p (Sends (password_message answer) ∷ []) (q ∷ untaken) s in
+    let tail : Sends false (password_message answer) ∷ [] ≡ q ∷ untaken = packets_are _ p (Sends false (password_message answer) ∷ []) (q ∷ untaken) s in
     let left : [] ≡ untaken = packets_are _ q [] untaken tail in
-    let both : start_packets key (Some answer) ≡ p ∷ q ∷ [] = ap₂ (λ (x y : Packet). x ∷ y ∷ []) (packet_is _ p (Sends (password_message answer) ∷ []) (q ∷ untaken) s) (packet_is _ q [] untaken tail) in
+    let both : start_packets key (Some answer) ≡ p ∷ q ∷ [] = ap₂ (λ (x y : Packet). x ∷ y ∷ []) (packet_is _ p (Sends false (password_message answer) ∷ []) (q ∷ untaken) s) (packet_is _ q [] untaken tail) in
     subst (λ (us : List Packet). Opened v auth key (p ∷ q ∷ []) us more) left
     (subst (λ (ts : List Packet). Opened v auth key ts [] more) both
     (asked_two v auth key answer got more (sym e ∙ ap (λ (ts : List Packet). answers v (Before auth) ts) (sym both)) to h))
@@ -384,8 +407,8 @@ some_bytes (f ∷ fs) e h = absurd cc
 idle_now : (limit : ℕ) (began now : Standing) (key : StartKeyOf) (answer : Option Text) (sent : List ℕ) (got : List FrameOf) → limit < 2 ^ 32 → IsNew began
     → sent ++ [] ≡ packets_bytes (start_packets key answer) → AllByRecursion FitsPacket (start_packets key answer) → IsToQuestion answer (auth_of began.stage)
     → AllByRecursion (IsFrame FromServer limit) (start_replies began.server (auth_of began.stage) key answer) → AllByRecursion (IsFrame FromServer limit) got
-    → has_ready got ≡ true → (s : State) → started_by began.server.catalogue (start_body key) ≡ Ok s → Served began sent now (flat_map spelling got) → IsIdle now s
-idle_now limit began now key answer sent got low n al fits to short each h s is z =
+    → has_ready got ≡ true → (s : State) → started_by began.server.catalogue (start_body key) ≡ Ok s → (marks : List Bool) → Served began sent marks now (flat_map spelling got) → IsIdle now s
+idle_now limit began now key answer sent got low n al fits to short each h s is marks z =
     let v : Server = began.server in
     let auth : Auth = auth_of began.stage in
     let whole : flat_map spelling got ≡ flat_map spelling got ++ [] = sym (append-nil (flat_map spelling got)) in
@@ -404,7 +427,7 @@ started-fresh limit began now key answer got low f n k d x short each h =
     let same : started_by v.catalogue (start_body key) ≡ fresh v.catalogue key = started-of v.catalogue key k d in
     let lived : began.lives ≡ true = ⊎_elim (λ t. t) (λ (dead : began.lives ≡ false). some_bytes got (x.moves.silent dead).1 h) (cases_Bool began.lives) in
     let whole : flat_map spelling got ≡ flat_map spelling got ++ [] = sym (append-nil (flat_map spelling got)) in
-    let p : Passed began x.sent (flat_map spelling got) = x.moves.passed f lived in
+    let p : Passed began x.sent (marks_since began now) (flat_map spelling got) = x.moves.passed f lived in
     let a : Took v auth key answer got [] p.lost (p.left ++ []) p.taken = took limit began key answer x.sent [] (flat_map spelling got) [] p.left p.lost got p.taken low n x.all x.fits short each whole p.lawful p.inbox p.outbox in
     let o : Opened v auth key p.taken a.untaken a.more = opened_by v auth key answer p.taken a.untaken got a.more (x.to_question f) a.all a.frames h in
     record {
@@ -412,5 +435,5 @@ started-fresh limit began now key answer got low f n k d x short each h =
       is_fresh = ap (λ (w : Server). fresh w.catalogue key) x.moves.server ∙ sym same ∙ o.is;
       lawful = subst (λ (w : Server). IsLawfulCatalogue w.catalogue) (sym x.moves.server) n.lawful;
       lawful_key = k.lawful;
-      idle = λ lives. idle_now limit began now key answer x.sent got low n x.all x.fits (x.to_question f) short each h o.session o.is (x.moves.served f lives);
+      idle = λ lives. idle_now limit began now key answer x.sent got low n x.all x.fits (x.to_question f) short each h o.session o.is (marks_since began now) (x.moves.served f lives);
     }

@@ -5,7 +5,7 @@
 ghost use Rattle.link_laws.specs.Dialogues.{StartPacketsSplit, StartRepliesAreFrames, StartedIsFresh, StartsAreTold};
 ghost use Rattle.link_laws.specs.Futures.{DeathsCut, FuturesStay};
 ghost use Rattle.link_laws.specs.Leases.{LeasesAreExact, LeasesAreFronts, SettledLinksRest};
-ghost use Rattle.link_laws.specs.Standing.{MovesJoin};
+ghost use Rattle.link_laws.specs.Standing.{MovesJoin, SparedAreUnstruck};
 ghost use Rattle.link_laws.specs.Starts.{StartsAreOfTheirKeys};
 
 use frame_view::laws::{first_spelled_is_read, spelled_is_first, spelled_is_front};
@@ -13,6 +13,12 @@ use frame_view::laws::{first_spelled_is_read, spelled_is_first, spelled_is_front
 /// Two moves, one after the other, are one.
 pub fn moves_join()
     ensures { MovesJoin }
+{}
+
+/// A server that no cancel reaches is never struck.
+#[tactic(auto, using(crate::proofs::ByName::spared_are_unstruck))]
+pub fn spared_are_unstruck()
+    ensures { SparedAreUnstruck }
 {}
 
 /// A server that is started by a link's StartupMessage opens the fresh session of the link's key, or refuses it as that key is

@@ -17,15 +17,15 @@ use Rattle.start_keys.specs.StartPairs.{Text}
 use Rattle.session_values.specs.Parameters.{reported_parameters}
 use Rattle.session_values.specs.declared.cause.Cause.{Cause}
 use Rattle.session_values.specs.Lawful.{IsLawfulCatalogue, IsLawfulKey}
-use Rattle.session_values.specs.State.{State, CatalogueOf, StartKeyOf, Answer, fresh}
-use Rattle.session_values.specs.Step.{step, run_frames}
-use Rattle.run_laws.specs.Laws.{IsSent, HasKey, IsReportIf, Reaches, begins, steps, discard_all, after_replies}
-use Rattle.run_laws.proofs.SessionsByName.{discard_all_gives_fresh, reached_has_key, statuses_are_reports, welcome_is_read}
+use Rattle.session_values.specs.State.{State, CatalogueOf, StartKeyOf, Answer, failed, fresh, ready}
+use Rattle.session_values.specs.Step.{saved, step, first_mark, run_frames}
+use Rattle.run_laws.specs.Laws.{IsSent, IsAtRest, HasKey, IsReportIf, Reaches, begins, steps, discard_all, after_replies}
+use Rattle.run_laws.proofs.SessionsByName.{discard_all_gives_fresh, struck_discard_all_is_refused, reached_has_key, statuses_are_reports, welcome_is_read}
 use Rattle.run_laws.specs.Settling.{IsQuiet}
 use Rattle.run_laws.proofs.ByName.{run_replies_are_frames, run_reports_tell_values, settled_is_quiet}
 use Rattle.param_track.specs.Kept.{Kept, is_at_start}
-use Rattle.server_end.specs.Stages.{Server as TheServer, Stage, Open, Packet, packets_bytes, MayTakeAll, answers, after}
-use Rattle.server_end.specs.Standing.{Standing, Served, Passed, Moves}
+use Rattle.server_end.specs.Stages.{Server as TheServer, Stage, Open, Packet, packets_bytes, packets_marks, MayTakeAll, answers, after}
+use Rattle.server_end.specs.Standing.{Standing, Served, Passed, Moves, marks_since}
 use Rattle.server_end.specs.Links.{IsIdle, IsFresh, IsResting}
 use Rattle.server_end.proofs.Both.{moves_none, moves_got, moves_put}
 use Rattle.server_end.proofs.InSession.{InSession, in_session}
@@ -40,7 +40,7 @@ use Rattle.link_run.specs.declared.reply.Answered.TheVariants.{Nothing, All}
 use Rattle.link_run.specs.declared.reply.TheConstants.{LONGEST_REPLY}
 use Rattle.link_run.specs.Links.{kept_by, after_frames, IsFreshLink, IsClean, IsRestingLink, IsUsed}
 use Rattle.link_run.specs.Resets.{answered_by_all, IsResetAnswer, are_known, at_rest, ResetView, reset_view, IsResetFrom, IsReset, IsAnsweredReset, IsResetDialogue, IsEndOver, FailsBy, MoveFailsBy, is_over, reads}
-use Rattle.link_run.proofs.Answering.{asked, is_answered, some_answer}
+use Rattle.link_run.proofs.Answering.{asked, is_answered, not_other, some_answer}
 use Rattle.link_run.proofs.Knowing.{at_start_again, known_frames}
 use Rattle.link_run.proofs.Reporting.{told-frames}
 
@@ -92,7 +92,7 @@ fails_by start old now turns Memory l f = tt
 fails_by start old now turns Turns l f = absurd f
 
 pub answer_fails_by : (start now : Standing) (turns : ℕ) (cause : ResetFault) → (cause ≡ Unexpected) ⊎ (cause ≡ Changed) → start.follows ≢ true → FailsBy start now turns cause
-answer_fails_by start now turns cause c n = ⊎_elim (λ e. subst (FailsBy start now turns) (sym e) n) (λ e. subst (FailsBy start now turns) (sym e) n) c
+answer_fails_by start now turns cause c n = ⊎_elim (λ e. subst (FailsBy start now turns) (sym e) (λ f. absurd (n f))) (λ e. subst (FailsBy start now turns) (sym e) n) c
 
 -- ---- the session behind it
 
@@ -104,13 +104,18 @@ all_longer : (fs : List FrameOf) → AllByRecursion (IsFrame Server LONGEST_REPL
 all_longer [] h = tt
 all_longer (f ∷ fs) h = (record { of_type = h.0.of_type; size = (let s : 4 + length f.body ≤ LONGEST_REPLY = h.0.size in omega (arith, s)) }, all_longer fs h.1)
 
-discard_run : (cat : CatalogueOf) (s : State) → (run_frames cat s asked).next ≡ (step cat s discard_all).next
+discard_run : (cat : CatalogueOf) (s : State) (marks : List Bool) → (run_frames cat s marks asked).next ≡ (step cat s (first_mark marks) discard_all).next
 unfolding run_frames
-discard_run cat s = refl
+discard_run cat s marks = refl
 
-discard_replied : (cat : CatalogueOf) (s : State) → (run_frames cat s asked).replies ≡ (step cat s discard_all).replies
+discard_replied : (cat : CatalogueOf) (s : State) (marks : List Bool) → (run_frames cat s marks asked).replies ≡ (step cat s (first_mark marks) discard_all).replies
 unfolding run_frames
-discard_replied cat s = append-nil (step cat s discard_all).replies
+discard_replied cat s marks = append-nil (step cat s (first_mark marks) discard_all).replies
+
+-- what answers a reset is no answer to one that a cancel struck
+answer_unstruck : (cat : CatalogueOf) (s : State) (b : Bool) (got : List FrameOf) → IsAtRest s → got ≡ (step cat s b discard_all).replies → IsResetAnswer got → b ≡ false
+answer_unstruck cat s true got r e d = not_other (ready (failed (saved s))).replies (subst IsResetAnswer (e ∙ struck_discard_all_is_refused cat s r) d)
+answer_unstruck cat s false got r e d = refl
 
 -- the fresh session of a link at rest
 pub fresh_of : (key : StartKeyOf) (start : Standing) (r : IsResting start key) → HasKey start.server.catalogue key r.session
@@ -130,29 +135,33 @@ has_answered : (key : StartKeyOf) (start : Standing) (r : IsResting start key) (
 has_answered key start r got taken left lost each d lawful ti to =
     let v : TheServer = start.server in
     let s : State = r.session in
+    let ms : List Bool = packets_marks taken in
+    let m : Bool = first_mark ms in
     let h = fresh_of key start r in
     let i : InSession v s taken = in_session v s taken (subst (λ (t : Stage). MayTakeAll v t taken) r.idle.is_open lawful) in
     let cat : CatalogueOf = v.catalogue in
     let ei : flat_map spelling asked ≡ flat_map spelling i.frames ++ left = append-nil (spelling discard_all) ∙ ap (λ (q : List ℕ). q ++ spelling discard_all) (sym r.idle.inbox) ∙ ti ∙ ap (λ (q : List ℕ). q ++ left) i.bytes in
-    let er : flat_map spelling (answers v start.stage taken) ≡ flat_map spelling (run_frames cat s i.frames).replies =
+    let er : flat_map spelling (answers v start.stage taken) ≡ flat_map spelling (run_frames cat s ms i.frames).replies =
     ap (λ (t : Stage). flat_map spelling (answers v t taken)) r.idle.is_open ∙ ap (flat_map spelling) i.replies in
-    let eo : flat_map spelling (run_frames cat s i.frames).replies ≡ flat_map spelling got ++ lost = sym er ∙ ap (λ (q : List ℕ). q ++ flat_map spelling (answers v start.stage taken)) (sym r.idle.outbox) ∙ to in
+    let eo : flat_map spelling (run_frames cat s ms i.frames).replies ≡ flat_map spelling got ++ lost = sym er ∙ ap (λ (q : List ℕ). q ++ flat_map spelling (answers v start.stage taken)) (sym r.idle.outbox) ∙ to in
     let a : SplitsOff asked i.frames [] left = split_whole Client LONGEST_FRAME asked i.frames left (omega arith) (record { of_type = refl; size = omega arith }, tt) (all_client i.frames i.sent) ei in
-    let b : SplitsOff (run_frames cat s i.frames).replies got [] lost = split_whole Server LONGEST_FRAME (run_frames cat s i.frames).replies got lost (omega arith) (run_replies_are_frames cat key s i.frames r.reached i.sent) (all_longer got each) eo in
-    let q : IsQuiet cat s asked got i.frames a.more b.more = settled_is_quiet cat s asked got i.frames a.more b.more (is_answered got d) a.all b.all in
-    let next : (run_frames cat s asked).next ≡ h.origin = discard_run cat s ∙ ap (λ (t : Answer). t.next) (discard_all_gives_fresh cat key s h.origin h h.is_fresh r.rests) in
+    let b : SplitsOff (run_frames cat s ms i.frames).replies got [] lost = split_whole Server LONGEST_FRAME (run_frames cat s ms i.frames).replies got lost (omega arith) (run_replies_are_frames cat key s ms i.frames r.reached i.sent) (all_longer got each) eo in
+    let q : IsQuiet cat s ms asked got i.frames a.more b.more = settled_is_quiet cat s ms asked got i.frames a.more b.more (is_answered got d) a.all b.all in
+    let sent : AllByRecursion IsSent asked = subst (AllByRecursion IsSent) q.all i.sent in
+    let unstruck : m ≡ false = answer_unstruck cat s m got r.rests (q.answers ∙ discard_replied cat s ms) d in
+    let next : (run_frames cat s ms asked).next ≡ h.origin = discard_run cat s ms ∙ ap (λ (b : Bool). (step cat s b discard_all).next) unstruck ∙ ap (λ (t : Answer). t.next) (discard_all_gives_fresh cat key s h.origin h h.is_fresh r.rests) in
     record {
-      stage = ap (λ (t : Stage). after v t taken) r.idle.is_open ∙ i.stage ∙ ap (λ (t : List FrameOf). Open (run_frames cat s t).next) q.all ∙ ap Open next;
+      stage = ap (λ (t : Stage). after v t taken) r.idle.is_open ∙ i.stage ∙ ap (λ (t : List FrameOf). Open (run_frames cat s ms t).next) q.all ∙ ap Open next;
       none_left = a.bytes ∙ ap (λ (t : List FrameOf). flat_map spelling t ++ []) q.none_left;
       none_lost = b.bytes ∙ ap (λ (t : List FrameOf). flat_map spelling t ++ []) q.none_more;
-      statuses = subst (AllByRecursion IsReportIf) (sym (q.answers ∙ discard_replied cat s)) (statuses_are_reports cat key s discard_all r.reached (subst (AllByRecursion IsSent) q.all i.sent).0);
-      reported = ap (after_replies s.reported) q.answers ∙ sym (run_reports_tell_values cat key s asked r.reached (subst (AllByRecursion IsSent) q.all i.sent)) ∙ ap (λ (t : State). t.reported) next;
+      statuses = subst (AllByRecursion IsReportIf) (sym (q.answers ∙ discard_replied cat s ms)) (statuses_are_reports cat key s m discard_all r.reached sent.0);
+      reported = ap (after_replies s.reported) q.answers ∙ sym (run_reports_tell_values cat key s ms asked r.reached sent) ∙ ap (λ (t : State). t.reported) next;
     }
 
 -- what a session that is reached began with
 reached_lawful : (cat : CatalogueOf) (key : StartKeyOf) (s : State) → Reaches cat key s → IsLawfulCatalogue cat × IsLawfulKey key
 reached_lawful cat key _ (begins c k e) = (c, k)
-reached_lawful cat key _ (steps {s = t} f r h) = reached_lawful cat key t r
+reached_lawful cat key _ (steps {s = t} struck f r h) = reached_lawful cat key t r
 
 renewed : (key : StartKeyOf) (start now : Standing) (r : IsResting start key) → now.server ≡ start.server → (now.lives ≡ true → IsIdle now (fresh_of key start r).origin) → IsFresh now key
 renewed key start now r same idle =
@@ -213,10 +222,10 @@ module _ (start : Standing) (v : ResetView) (x : IsResetFrom start v) (d : IsAns
   answered_as taken left lost lawful ti to =
       has_answered v.key start rested.stands got taken left lost each d.answer lawful (ap (λ (q : List ℕ). start.inbox ++ q) (sym (all_sent start v x d)) ∙ ti) (to ∙ ap (λ (q : List ℕ). q ++ lost) (received_as v d))
 
-  by_passing : (y : Passed start x.sent v.received) → HasAnswered v.key start rested.stands got y.taken y.left y.lost
+  by_passing : (y : Passed start x.sent (marks_since start v.link) v.received) → HasAnswered v.key start rested.stands got y.taken y.left y.lost
   by_passing y = answered_as y.taken y.left y.lost y.lawful y.inbox y.outbox
 
-  by_serving : (y : Served start x.sent v.link v.received) → HasAnswered v.key start rested.stands got y.taken v.link.inbox v.link.outbox
+  by_serving : (y : Served start x.sent (marks_since start v.link) v.link v.received) → HasAnswered v.key start rested.stands got y.taken v.link.inbox v.link.outbox
   by_serving y = answered_as y.taken v.link.inbox v.link.outbox y.lawful y.inbox y.outbox
 
   idle_now : v.link.lives ≡ true → IsIdle v.link (fresh_of v.key start rested.stands).origin

@@ -1,8 +1,8 @@
 -- What a server at rest answers to DISCARD ALL, as a reset reads it.
-use Rattle.std.proofs.Common.{◌≡◌, ◌⊎◌, inl, inr, ⊎_elim, ℕ, Bool, true, false, List, [], ◌∷◌, ◌++◌, ◌<◌, length, drop, length-drop, refl, sym, ap, ◌∙◌, append_assoc, append-nil, subst, arith}
-use Rattle.std.specs.Prelude.{if◌then◌else◌, bytes_eq, codes}
+use Rattle.std.proofs.Common.{◌≡◌, ◌⊎◌, inl, inr, ⊎_elim, ℕ, Bool, true, false, List, [], ◌∷◌, ◌++◌, ◌<◌, length, drop, length-drop, refl, sym, ap, ap₂, ◌∙◌, append_assoc, append-nil, subst, arith}
+use Rattle.std.specs.Prelude.{◌||◌, if◌then◌else◌, bytes_eq, codes}
 use Rattle.std.specs.List.{flat_map, AllByRecursion}
-use Rattle.std.proofs.lemmas.Bool.{cases_Bool}
+use Rattle.std.proofs.lemmas.Bool.{cases_Bool, true≢false}
 use Rattle.frame_view.specs.declared.FrameFault.{FrameFault}
 use Rattle.frame_view.specs.declared.Side.TheVariants.{Client, Server}
 use Rattle.frame_view.specs.declared.frames.TheConstants.{LONGEST_FRAME}
@@ -16,19 +16,19 @@ use Rattle.session_values.specs.declared.block.Block.TheVariants.{Outside}
 use Rattle.session_values.specs.declared.parameter.Parameter.{Parameter}
 use Rattle.session_values.specs.Parameters.{reported_parameters, name}
 use Rattle.session_values.specs.State.{State, CatalogueOf, Answer, answers, report_of, reports_from, status}
-use Rattle.session_values.specs.Step.{step, run_frames}
+use Rattle.session_values.specs.Step.{step, first_mark, has_mark, run_frames}
 use Rattle.run_laws.specs.Laws.{discard_all, discard_replies}
 use Rattle.run_laws.specs.Starts.{Resets}
 use Rattle.run_laws.proofs.SessionsByName.{discard_all_gives_fresh, resets_are_read}
-use Rattle.server_end.specs.Stages.{Server as TheServer, Stage, MayTakeAll, answers as answers_to}
-use Rattle.server_end.specs.Standing.{Standing, Passed}
+use Rattle.server_end.specs.Stages.{Server as TheServer, Stage, packets_marks, MayTakeAll, answers as answers_to}
+use Rattle.server_end.specs.Standing.{Standing, Passed, marks_since, was_struck}
 use Rattle.server_end.specs.Links.{IsResting}
 use Rattle.server_end.proofs.InSession.{InSession, in_session}
 use Rattle.server_end.proofs.Splits.{SplitsOff, split_whole}
 use Rattle.link_run.specs.declared.reply.Answered.{Answered}
 use Rattle.link_run.specs.declared.reply.Answered.TheVariants.{Nothing, Tag, All, Other}
 use Rattle.link_run.specs.declared.reply.TheConstants.{LONGEST_REPLY}
-use Rattle.link_run.specs.Resets.{answered_by, answered_by_all, IsResetAnswer, ResetsAreAnswered, at_rest, reads, ResetView, IsResetFrom, IsReset}
+use Rattle.link_run.specs.Resets.{answered_by, answered_by_all, IsResetAnswer, ResetsAreAnswered, at_rest, reads, ResetView, IsResetFrom, IsDisturbed}
 use Rattle.link_run.proofs.Answering.{asked, all_ends, not_other, some_answer}
 use Rattle.link_run.proofs.Resetting.{all_client, fresh_of}
 
@@ -77,15 +77,16 @@ nothing_came v e = record {
 }
 
 -- by the frames that the server took
-by_taken : (v : ResetView) (cat : CatalogueOf) (s origin : State) (fs more : List FrameOf) (left lost : List ℕ) → step cat s discard_all ≡ answers origin (discard_replies origin s) → Resets s origin
-    → asked ≡ fs ++ more → left ++ v.unsent ≡ flat_map spelling more ++ [] → flat_map spelling (run_frames cat s fs).replies ≡ v.received ++ lost → IsAnswering v
+by_taken : (v : ResetView) (cat : CatalogueOf) (s origin : State) (marks : List Bool) (fs more : List FrameOf) (left lost : List ℕ) → first_mark marks ≡ false → step cat s false discard_all ≡ answers origin (discard_replies origin s)
+    → Resets s origin → asked ≡ fs ++ more → left ++ v.unsent ≡ flat_map spelling more ++ [] → flat_map spelling (run_frames cat s marks fs).replies ≡ v.received ++ lost → IsAnswering v
 unfolding run_frames
-by_taken v cat s origin [] more left lost d r e b o = nothing_came v (no_bytes v.received lost (sym o)).0
-by_taken v cat s origin (f ∷ g ∷ fs) more left lost d r e b o = absurd cc
-by_taken v cat s origin (f ∷ []) more left lost d r e b o =
+by_taken v cat s origin marks [] more left lost u d r e b o = nothing_came v (no_bytes v.received lost (sym o)).0
+by_taken v cat s origin marks (f ∷ g ∷ fs) more left lost u d r e b o = absurd cc
+by_taken v cat s origin marks (f ∷ []) more left lost u d r e b o =
     let same : discard_all ≡ f = cc in
     let none : [] ≡ more = cc in
-    let replies : (step cat s f).replies ++ [] ≡ discard_replies origin s = append-nil (step cat s f).replies ∙ ap (λ (g : FrameOf). (step cat s g).replies) (sym same) ∙ ap (λ (a : Answer). a.replies) d in
+    let replies : (step cat s (first_mark marks) f).replies ++ [] ≡ discard_replies origin s =
+    append-nil (step cat s (first_mark marks) f).replies ∙ ap₂ (λ (m : Bool) (g : FrameOf). (step cat s m g).replies) u (sym same) ∙ ap (λ (a : Answer). a.replies) d in
     record {
       replies = discard_replies origin s;
       lost = lost;
@@ -95,9 +96,19 @@ by_taken v cat s origin (f ∷ []) more left lost d r e b o =
       asked = inr (no_bytes left v.unsent (b ∙ ap (λ (gs : List FrameOf). flat_map spelling gs ++ []) (sym none))).1;
     }
 
--- of a server that stood at rest
-pub answering : (start : Standing) (v : ResetView) (x : IsResetFrom start v) (r : IsResting start v.key) → Passed start x.sent v.received → IsAnswering v
-answering start v x r y =
+or_false : (a b : Bool) → (a || b) ≡ false → a ≡ false
+or_false true b e = absurd (true≢false e)
+or_false false b e = refl
+
+first_unmarked : (marks : List Bool) → has_mark marks ≡ false → first_mark marks ≡ false
+first_unmarked [] e = refl
+first_unmarked (m ∷ ms) e = or_false m (has_mark ms) e
+
+-- of a server that stood at rest, where no cancel struck the reset
+pub answering : (start : Standing) (v : ResetView) (x : IsResetFrom start v) (r : IsResting start v.key) → was_struck start v.link ≡ false → Passed start x.sent (marks_since start v.link) v.received → IsAnswering v
+answering start v x r none y =
+    let ms : List Bool = packets_marks y.taken in
+    let unmarked : has_mark ms ≡ false = ap has_mark y.marks_are ∙ none in
     let w : TheServer = start.server in
     let cat : CatalogueOf = w.catalogue in
     let s : State = r.session in
@@ -106,8 +117,8 @@ answering start v x r y =
     let sent : x.sent ≡ flat_map spelling i.frames ++ y.left = ap (λ (q : List ℕ). q ++ x.sent) (sym r.idle.inbox) ∙ y.inbox ∙ ap (λ (q : List ℕ). q ++ y.left) i.bytes in
     let all : flat_map spelling asked ≡ flat_map spelling i.frames ++ (y.left ++ v.unsent) = append-nil (spelling discard_all) ∙ sym x.all ∙ ap (λ (q : List ℕ). q ++ v.unsent) sent ∙ append_assoc (flat_map spelling i.frames) y.left v.unsent in
     let a : SplitsOff asked i.frames [] (y.left ++ v.unsent) = split_whole Client LONGEST_FRAME asked i.frames (y.left ++ v.unsent) (omega arith) (record { of_type = refl; size = omega arith }, tt) (all_client i.frames i.sent) all in
-    let replied : flat_map spelling (answers_to w start.stage y.taken) ≡ flat_map spelling (run_frames cat s i.frames).replies = ap (λ (t : Stage). flat_map spelling (answers_to w t y.taken)) r.idle.is_open ∙ ap (flat_map spelling) i.replies in
-    by_taken v cat s h.origin i.frames a.more y.left y.lost (discard_all_gives_fresh cat v.key s h.origin h h.is_fresh r.rests) (resets_are_read cat v.key s h.origin r.reached h.is_fresh r.rests)
+    let replied : flat_map spelling (answers_to w start.stage y.taken) ≡ flat_map spelling (run_frames cat s ms i.frames).replies = ap (λ (t : Stage). flat_map spelling (answers_to w t y.taken)) r.idle.is_open ∙ ap (flat_map spelling) i.replies in
+    by_taken v cat s h.origin ms i.frames a.more y.left y.lost (first_unmarked ms unmarked) (discard_all_gives_fresh cat v.key s h.origin h h.is_fresh r.rests) (resets_are_read cat v.key s h.origin r.reached h.is_fresh r.rests)
     a.all a.bytes (sym replied ∙ ap (λ (q : List ℕ). q ++ flat_map spelling (answers_to w start.stage y.taken)) (sym r.idle.outbox) ∙ y.outbox)
 
 -- ---- so it is never something else
@@ -176,24 +187,32 @@ module _ (v : ResetView) (x : IsAnswering v) (bytes : AreBytes v.received) where
 
 -- ---- a reset of an end that follows
 
-pub reset_answering : (v : ResetView) → IsReset v → v.link.follows ≡ true → IsAnswering v
-reset_answering v (start, x) f = by (cases_Bool start.lives)
+pub reset_answering : (v : ResetView) (start : Standing) (x : IsResetFrom start v) → v.link.follows ≡ true → was_struck start v.link ≡ false → IsAnswering v
+reset_answering v start x f none = by (cases_Bool start.lives)
   where
     began : start.follows ≡ true
     began = sym x.moves.follows ∙ f
 
     by : (start.lives ≡ true) ⊎ (start.lives ≡ false) → IsAnswering v
-    by (inl lives) = answering start v x (x.used began lives).stands (x.moves.passed began lives)
+    by (inl lives) = answering start v x (x.used began lives).stands none (x.moves.passed began lives)
     by (inr dead) = nothing_came v (x.moves.silent dead).1
 
-pub no_other : (v : ResetView) (bs : List ℕ) (a : Answered) → bs ≡ v.received → AreBytes bs → a ≡ reads (frames Server LONGEST_REPLY bs) → IsReset v → a ≡ Other → v.link.follows ≡ true → ⊥
-no_other v bs a same b e x d f = never_other v (reset_answering v x f) (subst AreBytes same b) (ap (λ (q : List ℕ). reads (frames Server LONGEST_REPLY q)) (sym same) ∙ sym e ∙ d)
+pub no_other : (v : ResetView) (bs : List ℕ) (a : Answered) → bs ≡ v.received → AreBytes bs → a ≡ reads (frames Server LONGEST_REPLY bs) → (start : Standing) (x : IsResetFrom start v) → a ≡ Other → v.link.follows ≡ true → was_struck start v.link ≡ false → ⊥
+no_other v bs a same b e start x d f none = never_other v (reset_answering v start x f none) (subst AreBytes same b) (ap (λ (q : List ℕ). reads (frames Server LONGEST_REPLY q)) (sym same) ∙ sym e ∙ d)
 
 -- once the answer is whole, all was sent and nothing stands behind it
-pub none_early : (v : ResetView) (bs : List ℕ) (a : Answered) → bs ≡ v.received → AreBytes bs → a ≡ reads (frames Server LONGEST_REPLY bs) → IsReset v → a ≡ All → v.link.follows ≡ true → ((frames Server LONGEST_REPLY bs).rest ≡ []) × (v.unsent ≡ [])
-none_early v bs a same b e x d f =
-    let c = all_came v (reset_answering v x f) (subst AreBytes same b) (ap (λ (q : List ℕ). reads (frames Server LONGEST_REPLY q)) (sym same) ∙ sym e ∙ d) in
+pub none_early : (v : ResetView) (bs : List ℕ) (a : Answered) → bs ≡ v.received → AreBytes bs → a ≡ reads (frames Server LONGEST_REPLY bs) → (start : Standing) (x : IsResetFrom start v) → a ≡ All → v.link.follows ≡ true → was_struck start v.link ≡ false → ((frames Server LONGEST_REPLY bs).rest ≡ []) × (v.unsent ≡ [])
+none_early v bs a same b e start x d f none =
+    let c = all_came v (reset_answering v start x f none) (subst AreBytes same b) (ap (λ (q : List ℕ). reads (frames Server LONGEST_REPLY q)) (sym same) ∙ sym e ∙ d) in
     (ap (λ (q : List ℕ). (frames Server LONGEST_REPLY q).rest) same ∙ c.0, c.1)
 
 pub some_unsent : (n : ℕ) → n < 17 → drop n (spelling discard_all) ≡ [] → ⊥
 some_unsent n h e = omega (arith, h, ap length e, length-drop n (spelling discard_all))
+
+-- what can't be where no cancel struck it
+pub struck_unless : (v : ResetView) (start : Standing) → IsResetFrom start v → (v.link.follows ≡ true → was_struck start v.link ≡ false → ⊥) → IsDisturbed start v.link
+struck_unless v start x h f = by (was_struck start v.link) (h (x.moves.follows ∙ f))
+  where
+    by : (b : Bool) → (b ≡ false → ⊥) → b ≡ true
+    by true n = refl
+    by false n = absurd (n refl)

@@ -1,7 +1,7 @@
 //! The reset of a used link by `DISCARD ALL`.
 ghost use Rattle.std.specs.Prelude.{◌≡◌, ◌≢◌, ◌<◌, ◌⊎◌, false, true, IfErr, IfOk};
 ghost use Rattle.param_track.specs.Kept.{is_at_start};
-ghost use Rattle.link_run.specs.Resets.{EndsDialogue, IsAnsweredReset, IsResetDialogue, IsResetFrom, FailsBy, KeepsReset, MoveFailsBy, is_over, read_so_far};
+ghost use Rattle.link_run.specs.Resets.{EndsDialogue, IsAnsweredReset, IsDisturbedReset, IsResetDialogue, IsResetFrom, FailsBy, KeepsReset, MoveFailsBy, is_over, read_so_far};
 ghost use Rattle.link_run.specs.declared.reset.ResetFault.TheVariants.{Changed, Lost, Unexpected};
 ghost use Rattle.link_run.specs.declared.reply.Answered.TheVariants.{All, Other};
 
@@ -146,7 +146,7 @@ impl<E: ServerEnd> Reset<E> {
     /// How far the answer has come. It is whole only once all was sent and nothing stands behind it.
     fn read(&self) -> Answered
         ensures all { result ≡ All → IsAnsweredReset self.now }
-        ensures other { result ≡ Other → self.now.link.follows ≢ true }
+        ensures other { result ≡ Other → IsDisturbedReset self.now }
     {
         let (answered, is_all) = read_reply(self.reply.as_slice());
         if !is_all || self.sent < DISCARD_ALL.len() {
@@ -212,8 +212,8 @@ fn dispose<E: ServerEnd>(link: Lent<E>, cause: ResetFault) -> Disposed<E>
 /// `I`, each with notices and reports in any number before it, and nothing behind it (PostgreSQL manual, "DISCARD"). Each turn of
 /// the gate allows at most one write and then one read; nothing is read after the ReadyForQuery.
 ///
-/// Where it fails the end comes back with the cause. An end that follows the stand-in server never gives Unexpected or Changed;
-/// it is Turns only after so many reads.
+/// Where it fails the end comes back with the cause. An end that follows the stand-in server gives Unexpected only where a cancel
+/// struck the reset, and never Changed; it is Turns only after so many reads.
 pub fn reset_link<E: ServerEnd, G: Gate<E>>(
     alloc: Global,
     used: UsedLink<E>,

@@ -46,4 +46,4 @@ pieces_join (f ∷ fs) = ap (λ (l : List ℕ). spelling f ++ l) (pieces_join fs
 
 pub service_is : ServiceIsItsPieces
 unfolding service
-service_is cat key word bytes = pieces_join (served cat (fresh cat key) word.pid word.secret (client_frames bytes))
+service_is cat key word marks bytes = pieces_join (served cat (fresh cat key) word.pid word.secret marks (client_frames bytes))

@@ -1,5 +1,5 @@
 -- What a client was given in its login is allowed.
-use Rattle.std.proofs.Common.{◌≡◌, inl, inr, ℕ, true, List, [], ◌++◌, take, drop, sym, ap, ◌∙◌, subst, append_assoc, append-nil, take-append-drop}
+use Rattle.std.proofs.Common.{◌≡◌, inl, inr, ℕ, Bool, true, List, [], ◌++◌, take, drop, sym, ap, ◌∙◌, subst, append_assoc, append-nil, take-append-drop}
 use Rattle.std.proofs.lemmas.Grind.{flat_map-append}
 use Rattle.message_view.specs.declared.refusal.Refusal.{Refusal}
 use Rattle.message_view.specs.Refusals.{Begins, joined_pieces, refusal}
@@ -19,23 +19,23 @@ joined_both : (ps qs : List (List ℕ)) → joined_pieces (ps ++ qs) ≡ joined_
 joined_both ps qs = flat_map-append (λ (p : List ℕ). p) ps qs
 
 -- the pieces, as the login under all rows says them, and what follows them
-own_by : LoginIsOfItsRow → (catalogue : Address → CatalogueOf) (v : LoginView) (bytes : List ℕ) → own catalogue v bytes ≡ (login_among (rows_of v) v.word bytes).pieces ++ after_in catalogue v.word (login_among (rows_of v) v.word bytes).ended
-own_by law catalogue v bytes = ap (λ (d : Dialogue). d.pieces ++ after_in catalogue v.word d.ended) (sym (law (rows_of v) v.word bytes))
+own_by : LoginIsOfItsRow → (catalogue : Address → CatalogueOf) (v : LoginView) (marks : List Bool) (bytes : List ℕ) → own catalogue v marks bytes ≡ (login_among (rows_of v) v.word bytes).pieces ++ after_in catalogue v.word marks (login_among (rows_of v) v.word bytes).ended
+own_by law catalogue v marks bytes = ap (λ (d : Dialogue). d.pieces ++ after_in catalogue v.word marks d.ended) (sym (law (rows_of v) v.word bytes))
 
 -- these are the first pieces
 record Continues (pieces all : List (List ℕ)) : Type 0 where
   more : List (List ℕ)
   all_is : all ≡ pieces ++ more
 
-begun_own : LoginIsOfItsRow → (catalogue : Address → CatalogueOf) (v : LoginView) (bytes : List ℕ) (pieces : List (List ℕ)) → IsBegun (rows_of v) v.word bytes pieces → Continues pieces (own catalogue v bytes)
-begun_own law catalogue v bytes pieces b =
+begun_own : LoginIsOfItsRow → (catalogue : Address → CatalogueOf) (v : LoginView) (marks : List Bool) (bytes : List ℕ) (pieces : List (List ℕ)) → IsBegun (rows_of v) v.word bytes pieces → Continues pieces (own catalogue v marks bytes)
+begun_own law catalogue v marks bytes pieces b =
     let x = b [] in
     let d : Dialogue = login_among (rows_of v) v.word bytes in
     record {
-      more = x.0 ++ after_in catalogue v.word d.ended;
-      all_is = own_by law catalogue v bytes
-          ∙ (ap (λ (ps : List (List ℕ)). ps ++ after_in catalogue v.word d.ended) (ap (λ (l : List ℕ). (login_among (rows_of v) v.word l).pieces) (sym (append-nil bytes)) ∙ sym x.1)
-          ∙ append_assoc pieces x.0 (after_in catalogue v.word d.ended));
+      more = x.0 ++ after_in catalogue v.word marks d.ended;
+      all_is = own_by law catalogue v marks bytes
+          ∙ (ap (λ (ps : List (List ℕ)). ps ++ after_in catalogue v.word marks d.ended) (ap (λ (l : List ℕ). (login_among (rows_of v) v.word l).pieces) (sym (append-nil bytes)) ∙ sym x.1)
+          ∙ append_assoc pieces x.0 (after_in catalogue v.word marks d.ended));
     }
 
 -- a part of the last piece
@@ -79,10 +79,10 @@ said_allowed v taken given done said.LetIn sent all g c h = inl (part_allowed gi
 said_allowed v taken given done (said.Failure f) sent all g c h = inl (part_allowed given done (said.Failure f) sent all tt g c)
 said_allowed v taken given done (said.Refusal r) sent all g c h = refusal_allowed (IsRefusedByLogin v taken) given done r sent all g c (refused_by v taken (done ++ []) r h)
 
-continues : LoginIsOfItsRow → (v : RunView) (catalogue : Address → CatalogueOf) (x : Runs v) → v.client.tells ≡ true → Continues (x.done ++ said_pieces v.said) (own catalogue v.login v.client.taken)
-continues law v catalogue x t =
-    subst (λ (l : List ℕ). Continues (x.done ++ said_pieces v.said) (own catalogue v.login l)) (sym (x.taken t))
-    (begun_own law catalogue v.login x.heard (x.done ++ said_pieces v.said) (stands_begun v.phase v.said v.login x.heard (x.done ++ said_pieces v.said) x.stands))
+continues : LoginIsOfItsRow → (v : RunView) (catalogue : Address → CatalogueOf) (marks : List Bool) (x : Runs v) → v.client.tells ≡ true → Continues (x.done ++ said_pieces v.said) (own catalogue v.login marks v.client.taken)
+continues law v catalogue marks x t =
+    subst (λ (l : List ℕ). Continues (x.done ++ said_pieces v.said) (own catalogue v.login marks l)) (sym (x.taken t))
+    (begun_own law catalogue v.login marks x.heard (x.done ++ said_pieces v.said) (stands_begun v.phase v.said v.login x.heard (x.done ++ said_pieces v.said) x.stands))
 
 cut_off : (v : RunView) (x : Runs v) → Awaits v.phase v.said v.login → v.client.tells ≡ true → IsCutOff (rows_of v.login) v.login.word v.client.taken (x.done ++ said_pieces v.said) v.said
 cut_off v x a t =
@@ -90,11 +90,11 @@ cut_off v x a t =
     (stands_cut v.phase v.said v.login x.heard (x.done ++ said_pieces v.said) a x.stands)
 
 pub runs_allowed : LoginIsOfItsRow → RunsAreAllowed
-runs_allowed law v catalogue x t = said_allowed v.login v.client.taken v.client.given x.2.done v.said v.sent (own catalogue v.login v.client.taken) (x.2.given t) (continues law v catalogue x.2 t) (cut_off v x.2 x.1 t)
+runs_allowed law v catalogue marks x t = said_allowed v.login v.client.taken v.client.given x.2.done v.said v.sent (own catalogue v.login marks v.client.taken) (x.2.given t) (continues law v catalogue marks x.2 t) (cut_off v x.2 x.1 t)
 
 pub runs_at_pieces : LoginIsOfItsRow → RunsStandAtPieces
-runs_at_pieces law v catalogue x t p n =
-    let c = continues law v catalogue x.2 t in
+runs_at_pieces law v catalogue marks x t p n =
+    let c = continues law v catalogue marks x.2 t in
     record { given = x.2.done ++ said_pieces v.said; kept = c.more; pieces_are = sym c.all_is; out_is = settled v.client.given x.2.done v.said v.sent p n (x.2.given t) }
 
 -- ---- a client that was let in
@@ -108,9 +108,9 @@ taken_ended v key x e t =
     subst (λ (l : List ℕ). HasEnded (rows_of v.login) v.login.word l (x.done ++ said_pieces v.said) (λ more. PassedWith (ToLink key) more)) (sym (x.taken t))
     (ended_of v key x.heard (x.done ++ said_pieces v.said) e x.stands)
 
-own_passed : LoginIsOfItsRow → (catalogue : Address → CatalogueOf) (v : LoginView) (key : StartKeyOf) (bytes : List ℕ) (pieces : List (List ℕ)) (left : List ℕ) → login_among (rows_of v) v.word bytes ≡ record { pieces = pieces; ended = PassedWith (ToLink key) left }
-    → own catalogue v bytes ≡ pieces ++ service_pieces (catalogue (address_of key)) key v.word left
-own_passed law catalogue v key bytes pieces left e = own_by law catalogue v bytes ∙ ap (λ (d : Dialogue). d.pieces ++ after_in catalogue v.word d.ended) e
+own_passed : LoginIsOfItsRow → (catalogue : Address → CatalogueOf) (v : LoginView) (key : StartKeyOf) (marks : List Bool) (bytes : List ℕ) (pieces : List (List ℕ)) (left : List ℕ) → login_among (rows_of v) v.word bytes ≡ record { pieces = pieces; ended = PassedWith (ToLink key) left }
+    → own catalogue v marks bytes ≡ pieces ++ service_pieces (catalogue (address_of key)) key v.word marks left
+own_passed law catalogue v key marks bytes pieces left e = own_by law catalogue v marks bytes ∙ ap (λ (d : Dialogue). d.pieces ++ after_in catalogue v.word marks d.ended) e
 
 pub passed_let_in : LoginIsOfItsRow → PassedRunsAreLetIn
 passed_let_in law v catalogue key x t e n =
@@ -120,7 +120,7 @@ passed_let_in law v catalogue key x t e n =
       pieces = x.2.done ++ said_pieces v.said;
       given = settled v.client.given x.2.done v.said v.sent p n (x.2.given t);
       passed = λ more. ap (λ (d : Dialogue). d.ended) (h more);
-      owed = λ more. own_passed law catalogue v.login key (v.client.taken ++ more) (x.2.done ++ said_pieces v.said) more (h more);
+      owed = λ marks more. own_passed law catalogue v.login key marks (v.client.taken ++ more) (x.2.done ++ said_pieces v.said) more (h more);
     }
 
 pub passed_passed : PassedRunsHavePassed

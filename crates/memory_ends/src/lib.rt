@@ -5,3 +5,4 @@ mod dialogue;
 pub mod failing_end;
 pub mod memory_client;
 pub mod memory_server;
+pub mod striker;

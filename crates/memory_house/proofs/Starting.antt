@@ -20,6 +20,7 @@ pub started_home : (cat : CatalogueOf) (began : Standing) (secret : Secret) (l :
 started_home cat began secret l n x = record {
   follows = x.under_way.starting.moves.follows ∙ n.home.follows;
   catalogue = ap (λ (s : Server). s.catalogue) x.under_way.starting.moves.server ∙ n.home.catalogue;
+  spared = ap (λ (s : Server). s.strikable) x.under_way.starting.moves.server ∙ n.home.spared;
 }
 
 -- it refuses a start as it refuses the key's session

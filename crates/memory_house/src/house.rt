@@ -244,7 +244,7 @@ impl House {
         self.catalogue.is_lawful();
         memory_servers_can_start();
         let catalogue = Arc::try_clone(&self.catalogue)?;
-        MemoryServer::new(
+        MemoryServer::spared(
             self.alloc,
             catalogue,
             ServerAuth::Trust,

@@ -1,5 +1,5 @@
 -- What a client was given, by its lease.
-use Rattle.std.proofs.Common.{◌≡◌, inl, inr, ℕ, Bool, true, List, [], ◌∷◌, ◌++◌, refl, sym, ap, ap₂, ◌∙◌, arith, append_assoc, append-nil, subst, take, drop, take-append-drop, Result, Ok, Err, Option, Some}
+use Rattle.std.proofs.Common.{◌≡◌, inl, inr, ℕ, Bool, true, false, List, [], ◌∷◌, ◌++◌, refl, sym, ap, ap₂, ◌∙◌, arith, append_assoc, append-nil, subst, take, drop, take-append-drop, Result, Ok, Err, Option, Some}
 use Rattle.std.specs.Prelude.{map, None}
 use Rattle.std.proofs.lemmas.Bool.{true≢false}
 use Rattle.std.specs.List.{flat_map, AllByRecursion}
@@ -28,7 +28,8 @@ use Rattle.link_start.specs.declared.start.StartCause.{StartCause}
 use Rattle.link_start.specs.declared.start.StartCause.TheVariants as cause
 use Rattle.message_view.specs.declared.refusal.Refusal.TheVariants.{ServerNotReached}
 use Rattle.relay_core.specs.Leases.{RelayView, Place, place, IsLease, IsAllowed, IsLinkOver, Keeps}
-use Rattle.relay_core.proofs.Exact.{lease_allowed}
+use Rattle.relay_core.proofs.Exact.{lease_allowed, spared_service}
+use Rattle.link_laws.specs.Standing.{marks_since}
 use Rattle.relay_core.specs.Answers.{AtBorder, EndsByClient, RefusedBy}
 use Rattle.relay_core.specs.Steps.{IsStuck}
 use Rattle.relay_core.specs.Returns.{is_clear}
@@ -55,6 +56,7 @@ pub record IsServed (began : Standing) (key : StartKeyOf) (word : KeyWord) (byte
   pub bytes_are : AreBytes bytes
   pub stands : at.stands.follows ≡ began.follows
   pub server : at.stands.server ≡ began.server
+  pub spared : began.server.strikable ≡ false
   pub key_is : v.key ≡ key
   pub word_is : v.word ≡ word
   pub tells : v.client.tells ≡ true
@@ -73,9 +75,9 @@ fresh_link : (began : Standing) (key : StartKeyOf) (word : KeyWord) (bytes out :
 fresh_link began key word bytes out v at x = x.lease.clean (x.stands ∙ x.follows)
 
 -- the bytes of a server's own answer
-own_joined : (cat : CatalogueOf) (key : StartKeyOf) (word : KeyWord) (bytes : List ℕ) → joined_pieces (own_pieces cat key word bytes) ≡ service cat key word.pid word.secret bytes
+own_joined : (cat : CatalogueOf) (key : StartKeyOf) (word : KeyWord) (bytes : List ℕ) → joined_pieces (own_pieces cat key word bytes) ≡ service cat key word.pid word.secret [] bytes
 unfolding service
-own_joined cat key word bytes = pieces_join (served cat (fresh cat key) word.pid word.secret (client_frames bytes))
+own_joined cat key word bytes = pieces_join (served cat (fresh cat key) word.pid word.secret [] (client_frames bytes))
 
 front_begins : (a b c : List ℕ) → (x : List ℕ) → (a ++ b) ++ x ≡ c → Begins a c
 front_begins a b c x e = record { more = b ++ x; both = sym (append_assoc a b x) ∙ e }
@@ -83,26 +85,28 @@ front_begins a b c x e = record { more = b ++ x; both = sym (append_assoc a b x)
 drop_part : (a t p bytes : List ℕ) → Begins (a ++ (t ++ p)) bytes → Begins (a ++ t) bytes
 drop_part a t p bytes x = record { more = p ++ x.more; both = sym (append_assoc (a ++ t) p x.more) ∙ (ap (λ (l : List ℕ). l ++ x.more) (append_assoc a t p) ∙ x.both) }
 
-service_begins : (cat : CatalogueOf) (key : StartKeyOf) (pid secret : ℕ) (a bytes : List ℕ) → Begins a bytes → Begins (service cat key pid secret a) (service cat key pid secret bytes)
-service_begins cat key pid secret a bytes x = subst (λ (l : List ℕ). Begins (service cat key pid secret a) (service cat key pid secret l)) x.both (service_on cat key pid secret a x.more)
+service_begins : (cat : CatalogueOf) (key : StartKeyOf) (pid secret : ℕ) (a bytes : List ℕ) → Begins a bytes → Begins (service cat key pid secret [] a) (service cat key pid secret [] bytes)
+service_begins cat key pid secret a bytes x = subst (λ (l : List ℕ). Begins (service cat key pid secret [] a) (service cat key pid secret [] l)) x.both (service_on cat key pid secret [] a x.more)
 
 -- what it was given, and what is there for it, begin what a server of its own answers
-there_begins : (began : Standing) (key : StartKeyOf) (word : KeyWord) (bytes out : List ℕ) (v : RelayView) (at : Place) → (x : IsServed began key word bytes out v at) → Begins ((lease_allowed at v x.lease x.tells (follows_now began key word bytes out v at x)).since ++ (v.greeting ++ (v.to_client.held ++ v.to_client.part))) (service began.server.catalogue key word.pid word.secret bytes)
+there_begins : (began : Standing) (key : StartKeyOf) (word : KeyWord) (bytes out : List ℕ) (v : RelayView) (at : Place) → (x : IsServed began key word bytes out v at) → Begins ((lease_allowed at v x.lease x.tells (follows_now began key word bytes out v at x)).since ++ (v.greeting ++ (v.to_client.held ++ v.to_client.part))) (service began.server.catalogue key word.pid word.secret [] bytes)
 there_begins began key word bytes out v at x =
     let a : IsAllowed at v = lease_allowed at v x.lease x.tells (follows_now began key word bytes out v at x) in
     let front : List ℕ = flat_map spelling a.forwarded ++ a.tail in
-    let own : service at.stands.server.catalogue v.key v.word.pid v.word.secret front ≡ service began.server.catalogue key word.pid word.secret front =
-    ap (λ (s : stages.Server). service s.catalogue v.key v.word.pid v.word.secret front) x.server
-    ∙ ap₂ (λ (k : StartKeyOf) (w : KeyWord). service began.server.catalogue k w.pid w.secret front) x.key_is x.word_is in
+    let own : service at.stands.server.catalogue v.key v.word.pid v.word.secret [] front ≡ service began.server.catalogue key word.pid word.secret [] front =
+    ap (λ (s : stages.Server). service s.catalogue v.key v.word.pid v.word.secret [] front) x.server
+    ∙ ap₂ (λ (k : StartKeyOf) (w : KeyWord). service began.server.catalogue k w.pid w.secret [] front) x.key_is x.word_is in
+    let spared : service at.stands.server.catalogue v.key v.word.pid v.word.secret (marks_since at.stands v.link) front ≡ service at.stands.server.catalogue v.key v.word.pid v.word.secret [] front =
+    spared_service at v x.lease (x.stands ∙ x.follows) (ap (λ (s : stages.Server). s.strikable) x.server ∙ x.spared) at.stands.server.catalogue v.key v.word.pid v.word.secret front in
     let some : Begins front bytes = drop_part (flat_map spelling a.forwarded) a.tail v.to_link.part bytes (x.taken _ (a.taken ∙ ap (λ (l : List ℕ). l ++ (flat_map spelling a.forwarded ++ (a.tail ++ v.to_link.part))) x.none_taken)) in
-    begins_both (a.since ++ (v.greeting ++ (v.to_client.held ++ v.to_client.part))) (service began.server.catalogue key word.pid word.secret front) _ (record { more = a.more; both = a.front ∙ own }) (service_begins began.server.catalogue key word.pid word.secret front bytes some)
+    begins_both (a.since ++ (v.greeting ++ (v.to_client.held ++ v.to_client.part))) (service began.server.catalogue key word.pid word.secret [] front) _ (record { more = a.more; both = a.front ∙ (spared ∙ own) }) (service_begins began.server.catalogue key word.pid word.secret front bytes some)
 
 -- what it was given begins it
-given_begins : (began : Standing) (key : StartKeyOf) (word : KeyWord) (bytes out : List ℕ) (v : RelayView) (at : Place) → IsServed began key word bytes out v at → Begins out (service began.server.catalogue key word.pid word.secret bytes)
+given_begins : (began : Standing) (key : StartKeyOf) (word : KeyWord) (bytes out : List ℕ) (v : RelayView) (at : Place) → IsServed began key word bytes out v at → Begins out (service began.server.catalogue key word.pid word.secret [] bytes)
 given_begins began key word bytes out v at x =
     let a : IsAllowed at v = lease_allowed at v x.lease x.tells (follows_now began key word bytes out v at x) in
-    let t : Begins (a.since ++ (v.greeting ++ (v.to_client.held ++ v.to_client.part))) (service began.server.catalogue key word.pid word.secret bytes) = there_begins began key word bytes out v at x in
-    subst (λ (l : List ℕ). Begins l (service began.server.catalogue key word.pid word.secret bytes)) (sym (x.given a.since a.given)) (front_begins a.since (v.greeting ++ (v.to_client.held ++ v.to_client.part)) (service began.server.catalogue key word.pid word.secret bytes) t.more t.both)
+    let t : Begins (a.since ++ (v.greeting ++ (v.to_client.held ++ v.to_client.part))) (service began.server.catalogue key word.pid word.secret [] bytes) = there_begins began key word bytes out v at x in
+    subst (λ (l : List ℕ). Begins l (service began.server.catalogue key word.pid word.secret [] bytes)) (sym (x.given a.since a.given)) (front_begins a.since (v.greeting ++ (v.to_client.held ++ v.to_client.part)) (service began.server.catalogue key word.pid word.secret [] bytes) t.more t.both)
 
 -- what it was given is what may be given, or more
 given_all : (dies : Option ℕ) (out : List ℕ) (pieces : List (List ℕ)) → out ≡ joined_pieces pieces → IsGivenOf dies out pieces
@@ -113,10 +117,10 @@ given_some : (dies : Option ℕ) (out : List ℕ) (pieces : List (List ℕ)) →
 given_some None out pieces b e = e refl
 given_some (Some n) out pieces b e = b
 
-unrefused : (dies : Option ℕ) (began : Standing) (key : StartKeyOf) (word : KeyWord) (bytes out : List ℕ) (v : RelayView) (at : Place) → IsServed began key word bytes out v at → (dies ≡ None → out ≡ service began.server.catalogue key word.pid word.secret bytes)
+unrefused : (dies : Option ℕ) (began : Standing) (key : StartKeyOf) (word : KeyWord) (bytes out : List ℕ) (v : RelayView) (at : Place) → IsServed began key word bytes out v at → (dies ≡ None → out ≡ service began.server.catalogue key word.pid word.secret [] bytes)
     → IsAnswer dies at.limit bytes out (own_pieces began.server.catalogue key word bytes)
 unrefused dies began key word bytes out v at x e =
-    let joined : joined_pieces (own_pieces began.server.catalogue key word bytes) ≡ service began.server.catalogue key word.pid word.secret bytes = own_joined began.server.catalogue key word bytes in
+    let joined : joined_pieces (own_pieces began.server.catalogue key word bytes) ≡ service began.server.catalogue key word.pid word.secret [] bytes = own_joined began.server.catalogue key word bytes in
     inl (given_some dies out (own_pieces began.server.catalogue key word bytes) (subst (Begins out) (sym joined) (given_begins began key word bytes out v at x)) (λ n. e n ∙ sym joined))
 
 -- ---- given all
@@ -127,11 +131,11 @@ over began key word bytes out v at x (inl (inr f)) = absurd (omega (arith, f, x.
 over began key word bytes out v at x (inr e) = record { taken = x.taken; all = inr e.0 }
 
 whole : (began : Standing) (key : StartKeyOf) (word : KeyWord) (bytes out : List ℕ) (v : RelayView) (at : Place) → IsServed began key word bytes out v at → v.link.lives ≡ true → is_clear v ≡ true → future v.link [] ≡ [] → IsStuck v.to_link → EndsByClient at v
-    → out ≡ service began.server.catalogue key word.pid word.secret bytes
+    → out ≡ service began.server.catalogue key word.pid word.secret [] bytes
 whole began key word bytes out v at x l c silent stuck e =
-    let g = all_given at v bytes x.lease x.tells (follows_now began key word bytes out v at x) l x.none_taken x.bytes_are (clear_is v c) stuck silent (over began key word bytes out v at x e) in
-    x.given g.0.since g.0.given ∙ (g.1 ∙ (ap (λ (s : stages.Server). service s.catalogue v.key v.word.pid v.word.secret bytes) x.server
-    ∙ ap₂ (λ (k : StartKeyOf) (w : KeyWord). service began.server.catalogue k w.pid w.secret bytes) x.key_is x.word_is))
+    let g = all_given at v bytes x.lease x.tells (follows_now began key word bytes out v at x) l (ap (λ (s : stages.Server). s.strikable) x.server ∙ x.spared) x.none_taken x.bytes_are (clear_is v c) stuck silent (over began key word bytes out v at x e) in
+    x.given g.0.since g.0.given ∙ (g.1 ∙ (ap (λ (s : stages.Server). service s.catalogue v.key v.word.pid v.word.secret [] bytes) x.server
+    ∙ ap₂ (λ (k : StartKeyOf) (w : KeyWord). service began.server.catalogue k w.pid w.secret [] bytes) x.key_is x.word_is))
 
 -- ---- refused at a border
 
@@ -149,19 +153,19 @@ all_back : (fs gs : List FrameOf) → AllByRecursion (IsFrame Server LONGEST_FRA
 all_back [] gs a = a
 all_back (f ∷ fs) gs a = all_back fs gs a.1
 
-served_fresh : (cat : CatalogueOf) (key : StartKeyOf) (word : KeyWord) (bytes : List ℕ) (s : State) → fresh cat key ≡ Ok s → own_pieces cat key word bytes ≡ map spelling (welcome s word.pid word.secret ++ (run_frames cat s (client_frames bytes)).replies)
-served_fresh cat key word bytes s e = ap (λ (r : Result State Cause). map spelling (served cat r word.pid word.secret (client_frames bytes))) e
+served_fresh : (cat : CatalogueOf) (key : StartKeyOf) (word : KeyWord) (bytes : List ℕ) (s : State) → fresh cat key ≡ Ok s → own_pieces cat key word bytes ≡ map spelling (welcome s word.pid word.secret ++ (run_frames cat s [] (client_frames bytes)).replies)
+served_fresh cat key word bytes s e = ap (λ (r : Result State Cause). map spelling (served cat r word.pid word.secret [] (client_frames bytes))) e
 
-service_fresh : (cat : CatalogueOf) (key : StartKeyOf) (word : KeyWord) (bytes : List ℕ) (s : State) → fresh cat key ≡ Ok s → service cat key word.pid word.secret bytes ≡ flat_map spelling (welcome s word.pid word.secret) ++ flat_map spelling (run_frames cat s (client_frames bytes)).replies
+service_fresh : (cat : CatalogueOf) (key : StartKeyOf) (word : KeyWord) (bytes : List ℕ) (s : State) → fresh cat key ≡ Ok s → service cat key word.pid word.secret [] bytes ≡ flat_map spelling (welcome s word.pid word.secret) ++ flat_map spelling (run_frames cat s [] (client_frames bytes)).replies
 unfolding service
-service_fresh cat key word bytes s e = ap (λ (r : Result State Cause). flat_map spelling (served cat r word.pid word.secret (client_frames bytes))) e ∙ flat_map-append spelling (welcome s word.pid word.secret) (run_frames cat s (client_frames bytes)).replies
+service_fresh cat key word bytes s e = ap (λ (r : Result State Cause). flat_map spelling (served cat r word.pid word.secret [] (client_frames bytes))) e ∙ flat_map-append spelling (welcome s word.pid word.secret) (run_frames cat s [] (client_frames bytes)).replies
 
 -- what was given and the part behind it begin what a server of its own answers
-part_begins : (began : Standing) (key : StartKeyOf) (word : KeyWord) (bytes out : List ℕ) (v : RelayView) (at : Place) → IsServed began key word bytes out v at → v.greeting ≡ [] → v.to_client.held ≡ [] → Begins (out ++ v.to_client.part) (service began.server.catalogue key word.pid word.secret bytes)
+part_begins : (began : Standing) (key : StartKeyOf) (word : KeyWord) (bytes out : List ℕ) (v : RelayView) (at : Place) → IsServed began key word bytes out v at → v.greeting ≡ [] → v.to_client.held ≡ [] → Begins (out ++ v.to_client.part) (service began.server.catalogue key word.pid word.secret [] bytes)
 part_begins began key word bytes out v at x g h =
     let a : IsAllowed at v = lease_allowed at v x.lease x.tells (follows_now began key word bytes out v at x) in
-    let s : Begins (a.since ++ (v.greeting ++ (v.to_client.held ++ v.to_client.part))) (service began.server.catalogue key word.pid word.secret bytes) = there_begins began key word bytes out v at x in
-    subst (λ (l : List ℕ). Begins l (service began.server.catalogue key word.pid word.secret bytes)) (ap₂ (λ (c d : List ℕ). a.since ++ (c ++ (d ++ v.to_client.part))) g h ∙ ap (λ (o : List ℕ). o ++ v.to_client.part) (sym (x.given a.since a.given))) s
+    let s : Begins (a.since ++ (v.greeting ++ (v.to_client.held ++ v.to_client.part))) (service began.server.catalogue key word.pid word.secret [] bytes) = there_begins began key word bytes out v at x in
+    subst (λ (l : List ℕ). Begins l (service began.server.catalogue key word.pid word.secret [] bytes)) (ap₂ (λ (c d : List ℕ). a.since ++ (c ++ (d ++ v.to_client.part))) g h ∙ ap (λ (o : List ℕ). o ++ v.to_client.part) (sym (x.given a.since a.given))) s
 
 refused : (dies : Option ℕ) (began : Standing) (key : StartKeyOf) (word : KeyWord) (bytes out last : List ℕ) (v : RelayView) (at : Place) (r : Refusal) → (x : IsServed began key word bytes out v at) → AtBorder at v → RefusedBy at v r → (IsLinkOver at.stands.faults v.link → MayDie dies)
     → last ≡ out ++ refusal r → IsAnswer dies at.limit bytes last (own_pieces began.server.catalogue key word bytes)
@@ -173,15 +177,15 @@ refused dies began key word bytes out last v at r x b why died l =
     let same : at.stands.server.catalogue ≡ cat = ap (λ (t : stages.Server). t.catalogue) x.server in
     let opened : fresh cat key ≡ Ok s = sym (ap₂ fresh same x.key_is) ∙ c.stands.is_fresh in
     let ws : List FrameOf = welcome s word.pid word.secret in
-    let rs : List FrameOf = (run_frames cat s (client_frames bytes)).replies in
+    let rs : List FrameOf = (run_frames cat s [] (client_frames bytes)).replies in
     let out_is : out ≡ flat_map spelling ws ++ flat_map spelling b.arrived =
     x.given b.since (b.given x.tells) ∙ (b.whole ∙ ap (λ (g : List ℕ). g ++ flat_map spelling b.arrived) (x.lease.greets (x.stands ∙ x.follows) s c.stands.is_fresh ∙ ap (λ (w : KeyWord). flat_map spelling (welcome s w.pid w.secret)) x.word_is)) in
-    let held : Begins (out ++ v.to_client.part) (service cat key word.pid word.secret bytes) = part_begins began key word bytes out v at x b.greeting b.held in
-    let g : Begins out (service cat key word.pid word.secret bytes) = record { more = v.to_client.part ++ held.more; both = sym (append_assoc out v.to_client.part held.more) ∙ held.both } in
+    let held : Begins (out ++ v.to_client.part) (service cat key word.pid word.secret [] bytes) = part_begins began key word bytes out v at x b.greeting b.held in
+    let g : Begins out (service cat key word.pid word.secret [] bytes) = record { more = v.to_client.part ++ held.more; both = sym (append_assoc out v.to_client.part held.more) ∙ held.both } in
     let all : flat_map spelling ws ++ flat_map spelling rs ≡ flat_map spelling ws ++ (flat_map spelling b.arrived ++ g.more) =
     sym (service_fresh cat key word bytes s opened) ∙ (sym g.both ∙ (ap (λ (o : List ℕ). o ++ g.more) out_is ∙ append_assoc (flat_map spelling ws) (flat_map spelling b.arrived) g.more)) in
     let reached : Reaches cat key s = subst (λ (k : StartKeyOf). Reaches cat k s) x.key_is (subst (λ (t : CatalogueOf). Reaches t v.key s) same (fresh_is_reached at.stands.server.catalogue v.key s c.stands.lawful c.stands.lawful_key c.stands.is_fresh)) in
-    let whole : AllByRecursion (IsFrame Server LONGEST_FRAME) rs = run_replies_are_frames cat key s (client_frames bytes) reached (client_frames_are_sent bytes x.bytes_are) in
+    let whole : AllByRecursion (IsFrame Server LONGEST_FRAME) rs = run_replies_are_frames cat key s [] (client_frames bytes) reached (client_frames_are_sent bytes x.bytes_are) in
     let o : SplitsOff rs b.arrived [] g.more = split_whole Server LONGEST_FRAME rs b.arrived g.more (omega arith) whole b.came (same_back (flat_map spelling ws) (flat_map spelling rs) (flat_map spelling b.arrived ++ g.more) all) in
     let later : AllByRecursion (IsFrame Server LONGEST_FRAME) o.more = all_back b.arrived o.more (subst (λ (fs : List FrameOf). AllByRecursion (IsFrame Server LONGEST_FRAME) fs) o.all whole) in
     inr (record {
@@ -214,9 +218,9 @@ pub record IsClient (c : PatientOf) (v : RelayView) (out : List ℕ) : Type 0 wh
   pub faults : c.facts.faults ≡ 0
   pub all : c.facts.ended ≡ true → c.facts.taken ≡ c.input
 
-pub served_by : (began : Standing) (secret : Secret) (key : StartKeyOf) (word : KeyWord) (bytes out : List ℕ) (link : LinkView) (limit : ℕ) (old v : RelayView) (c : PatientOf) → began.follows ≡ true → IsStarted began secret link → link.key ≡ key
+pub served_by : (began : Standing) (secret : Secret) (key : StartKeyOf) (word : KeyWord) (bytes out : List ℕ) (link : LinkView) (limit : ℕ) (old v : RelayView) (c : PatientOf) → began.follows ≡ true → began.server.strikable ≡ false → IsStarted began secret link → link.key ≡ key
     → AreBytes bytes → IsLease (place (new_patient bytes).facts link word limit) old → Keeps old v → IsClient c v out → IsServed began key word bytes out v (place (new_patient bytes).facts link word limit)
-served_by began secret key word bytes out link limit old v c f st k ab l kp g =
+served_by began secret key word bytes out link limit old v c f sp st k ab l kp g =
     let at : Place = place (new_patient bytes).facts link word limit in
     let lease : IsLease at v = kp at l in
     let stands : link.stands.follows ≡ began.follows = st.under_way.starting.moves.follows in
@@ -228,6 +232,7 @@ served_by began secret key word bytes out link limit old v c f st k ab l kp g =
       bytes_are = ab;
       stands = stands;
       server = st.under_way.starting.moves.server;
+      spared = sp;
       key_is = lease.same.0 ∙ k;
       word_is = lease.same.3;
       tells = lease.told;
@@ -278,7 +283,7 @@ died None server v faults x (inr h) = absurd (omega (arith, h, ap (λ (t : Stand
 -- ---- its answer
 
 ended_whole : (dies : Option ℕ) (began : Standing) (key : StartKeyOf) (word : KeyWord) (bytes out : List ℕ) (v : RelayView) (at : Place) (clear : Bool) (server : OwnOf) → IsServed began key word bytes out v at → IsServer dies server v → clear ≡ is_clear v → IsStuck v.to_link → EndsByClient at v
-    → IsAtEnd clear server → dies ≡ None → out ≡ service began.server.catalogue key word.pid word.secret bytes
+    → IsAtEnd clear server → dies ≡ None → out ≡ service began.server.catalogue key word.pid word.secret [] bytes
 ended_whole dies began key word bytes out v at clear server x s c stuck e (inl y) n =
     whole began key word bytes out v at x (sym (ap (λ (t : Standing). t.lives) s.stands) ∙ s.lives n) (sym c ∙ y.0) (sym (ap (λ (t : Standing). future t []) s.stands) ∙ y.1) stuck e
 ended_whole dies began key word bytes out v at clear server x s c stuck e (inr d) n = absurd (true≢false (sym (s.lives n) ∙ d))
@@ -292,19 +297,19 @@ answered dies began key word bytes out last at old v Cut clear server x i s c e 
     unrefused dies began key word bytes last v at (same_out began key word bytes out last v at put.0 x) (λ n. absurd (true≢false (sym (s.lives n) ∙ put.1)))
 
 pub given_answered : (dies : Option ℕ) (start : Standing) (first_own : OwnOf) (secret : Secret) (key : StartKeyOf) (word : KeyWord) (bytes out last : List ℕ) (ending : Ending) (clear : Bool) (link : LinkView) (limit : ℕ) (old v : RelayView) (first c : PatientOf) (server : OwnOf)
-    → first_own ≡ own_server dies start → start.follows ≡ true → IsStarted first_own.standing secret link → link.key ≡ key → AreBytes bytes → first ≡ new_patient bytes → IsLease (place first.facts link word limit) old → Keeps old v → IsClient c v out → server.standing ≡ v.link
+    → first_own ≡ own_server dies start → start.follows ≡ true → start.server.strikable ≡ false → IsStarted first_own.standing secret link → link.key ≡ key → AreBytes bytes → first ≡ new_patient bytes → IsLease (place first.facts link word limit) old → Keeps old v → IsClient c v out → server.standing ≡ v.link
     → clear ≡ is_clear v → IsEnding old v ending → TellsEnding ending clear server out last → IsAnswer dies limit bytes last (own_pieces start.server.catalogue key word bytes)
-given_answered dies start first_own secret key word bytes out last ending clear link limit old v first c server o f st k ab n b kp g s cl e t =
+given_answered dies start first_own secret key word bytes out last ending clear link limit old v first c server o f sp st k ab n b kp g s cl e t =
     let at : Place = place (new_patient bytes).facts link word limit in
     let began : Standing = marked dies start in
     let started : IsStarted began secret link = subst (λ (x : OwnOf). IsStarted x.standing secret link) o st in
     let lease : IsLease at old = begun_as bytes first link word limit old n b in
-    answered dies began key word bytes out last at old v ending clear server (served_by began secret key word bytes out link limit old v c f started k ab lease kp g) lease
+    answered dies began key word bytes out last at old v ending clear server (served_by began secret key word bytes out link limit old v c f sp started k ab lease kp g) lease
     (server_by dies began secret link at v server start.accepted refl started refl (kp at lease) s t.marked t.faults t.lives) cl e t.put
 
 -- ---- a start that the server refuses
 
-fresh_error : (r : Result State Cause) (f : FrameOf) (cat : CatalogueOf) (word : KeyWord) (fs : List FrameOf) → start_error r ≡ Some f → map spelling (served cat r word.pid word.secret fs) ≡ spelling f ∷ []
+fresh_error : (r : Result State Cause) (f : FrameOf) (cat : CatalogueOf) (word : KeyWord) (fs : List FrameOf) → start_error r ≡ Some f → map spelling (served cat r word.pid word.secret [] fs) ≡ spelling f ∷ []
 fresh_error (Ok s) f cat word fs e = absurd cc
 fresh_error (Err c) f cat word fs e = cc
 

@@ -1,5 +1,5 @@
 -- What the server of a lease tells that came to no end.
-use Rattle.std.proofs.Common.{◌≡◌, ℕ, true, List, ◌∷◌, ◌++◌, sym, ap, ◌∙◌, append_assoc, append-nil, subst, Option}
+use Rattle.std.proofs.Common.{◌≡◌, ℕ, true, false, List, ◌∷◌, ◌++◌, sym, ap, ◌∙◌, append_assoc, append-nil, subst, Option}
 use Rattle.std.specs.List.{flat_map}
 use Rattle.frame_view.specs.Frames.{AreBytes, spelling}
 use Rattle.message_view.specs.declared.KeyWord.{KeyWord}
@@ -33,13 +33,13 @@ started_with began secret link key st k =
     (st.under_way.answer, s.moves.accepted ∙ ap (λ (l : List ℕ). began.accepted ++ l) (sym (append-nil s.sent) ∙ (s.all ∙ ap (λ (x : StartKeyOf). packets_bytes (start_packets x st.under_way.answer)) k)))
 
 pub unended : (dies : Option ℕ) (start : Standing) (first_own : OwnOf) (secret : Secret) (key : StartKeyOf) (word : KeyWord) (bytes out : List ℕ) (link : LinkView) (limit : ℕ) (old v : RelayView) (first c : PatientOf) (server : OwnOf) (last : ServerOf)
-    → first_own ≡ own_server dies start → start.follows ≡ true → IsStarted first_own.standing secret link → link.key ≡ key → AreBytes bytes → first ≡ new_patient bytes → IsLease (place first.facts link word limit) old → Keeps old v → IsClient c v out → server.standing ≡ v.link
+    → first_own ≡ own_server dies start → start.follows ≡ true → start.server.strikable ≡ false → IsStarted first_own.standing secret link → link.key ≡ key → AreBytes bytes → first ≡ new_patient bytes → IsLease (place first.facts link word limit) old → Keeps old v → IsClient c v out → server.standing ≡ v.link
     → own_server last.left last.standing ≡ server → StillWaits server.standing → IsUnended start key bytes last.standing
-unended dies start first_own secret key word bytes out link limit old v first c server last o f st k ab n b kp g s t w =
+unended dies start first_own secret key word bytes out link limit old v first c server last o f sp st k ab n b kp g s t w =
     let at : Place = place (new_patient bytes).facts link word limit in
     let began : Standing = (own_server dies start).standing in
     let started : IsStarted began secret link = subst (λ (x : OwnOf). IsStarted x.standing secret link) o st in
-    let x : IsServed began key word bytes out v at = served_by began secret key word bytes out link limit old v c f started k ab (begun_as bytes first link word limit old n b) kp g in
+    let x : IsServed began key word bytes out v at = served_by began secret key word bytes out link limit old v c f sp started k ab (begun_as bytes first link word limit old n b) kp g in
     let a : IsAllowed at v = lease_allowed at v x.lease x.tells (x.lease.moves.follows ∙ (x.stands ∙ f)) in
     let y = started_with began secret link key started k in
     let all : mark last.left ∷ last.standing.accepted ≡ mark dies ∷ ((start.accepted ++ packets_bytes (start_packets key y.0)) ++ a.sent) =

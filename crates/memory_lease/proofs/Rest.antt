@@ -13,7 +13,7 @@ use Rattle.frame_view.proofs.Splitting.{frames-spellings, frames-stopped}
 use Rattle.frame_view.proofs.Taking.{frames-front}
 use Rattle.session_values.specs.declared.cause.Cause.{Cause}
 use Rattle.session_values.specs.State.{State, CatalogueOf, StartKeyOf, Answer, and_then, fresh}
-use Rattle.session_values.specs.Step.{answer_skipping, answer_to, asked, run_frames, silent, step, step_open}
+use Rattle.session_values.specs.Step.{answer_skipping, answer_to, asked, first_mark, later_marks, marks_after, run_frames, silent, step, step_open}
 use Rattle.session_values.specs.Service.{client_frames, served, service, welcome}
 use Rattle.run_laws.proofs.ByName.{runs_go_on}
 use Rattle.relay_flow.specs.Parts.{Begins, Spells, is_stuck}
@@ -21,16 +21,16 @@ use Rattle.relay_flow.specs.Flows.{AtTerminate}
 
 -- no session answers to these bytes
 abbrev pub AddsNothing : List ℕ → Type 0
-AddsNothing bytes = (cat : CatalogueOf) (s : State) → (run_frames cat s (client_frames bytes)).replies ≡ []
+AddsNothing bytes = (cat : CatalogueOf) (s : State) (marks : List Bool) → (run_frames cat s marks (client_frames bytes)).replies ≡ []
 
 -- ---- bytes at whose front no frame stands
 
-none_run : (cat : CatalogueOf) (s : State) → (run_frames cat s []).replies ≡ []
+none_run : (cat : CatalogueOf) (s : State) (marks : List Bool) → (run_frames cat s marks []).replies ≡ []
 unfolding run_frames
-none_run cat s = refl
+none_run cat s marks = refl
 
 pub stopped_adds : (bytes : List ℕ) → Stops (front Client LONGEST_FRAME bytes) → AddsNothing bytes
-stopped_adds bytes h cat s = ap (λ (c : Cut). (run_frames cat s c.frames).replies) (frames-stopped Client LONGEST_FRAME bytes h) ∙ none_run cat s
+stopped_adds bytes h cat s marks = ap (λ (c : Cut). (run_frames cat s marks c.frames).replies) (frames-stopped Client LONGEST_FRAME bytes h) ∙ none_run cat s marks
 
 unstuck : (f : Front) (k a b c d : ℕ) (rest : List ℕ) → is_stuck Client f (k ∷ a ∷ b ∷ c ∷ d ∷ rest) ≡ true → ⊥
 unstuck (Lacks n) k a b c d rest e = false≢true e
@@ -52,39 +52,40 @@ short_stops limit (k ∷ a ∷ b ∷ c ∷ d ∷ rest) e = absurd (unstuck (fron
 abbrev Ends : Answer → Type 0
 Ends a = (a.replies ≡ []) × (a.next.ended ≡ true)
 
-after_end : (cat : CatalogueOf) (s : State) (fs : List FrameOf) → s.ended ≡ true → (run_frames cat s fs).replies ≡ []
+after_end : (cat : CatalogueOf) (s : State) (marks : List Bool) (fs : List FrameOf) → s.ended ≡ true → (run_frames cat s marks fs).replies ≡ []
 unfolding run_frames step
-after_end cat s [] e = refl
-after_end cat s (f ∷ fs) e =
-    let none : step cat s f ≡ silent s = ap (λ (b : Bool). if b then silent s else step_open cat s f) e in
-    ap (λ (a : Answer). (and_then a (λ t. run_frames cat t fs)).replies) none ∙ after_end cat s fs e
+after_end cat s marks [] e = refl
+after_end cat s marks (f ∷ fs) e =
+    let none : step cat s (first_mark marks) f ≡ silent s = ap (λ (b : Bool). if b then silent s else step_open cat s (first_mark marks) f) e in
+    ap (λ (a : Answer). (and_then a (λ t. run_frames cat t (later_marks marks) fs)).replies) none ∙ after_end cat s (later_marks marks) fs e
 
-ends_by : (cat : CatalogueOf) (s : State) (f : FrameOf) (e k : Bool) → s.ended ≡ e → s.skipping ≡ k → f.kind ≡ TERMINATE → Ends (step cat s f)
+ends_by : (cat : CatalogueOf) (s : State) (m : Bool) (f : FrameOf) (e k : Bool) → s.ended ≡ e → s.skipping ≡ k → f.kind ≡ TERMINATE → Ends (step cat s m f)
 unfolding step
-ends_by cat s f true k e h t = subst (λ (b : Bool). Ends (if b then silent s else step_open cat s f)) (sym e) (refl, e)
-ends_by cat s f false true e h t =
-    subst (λ (b : Bool). Ends (if b then silent s else step_open cat s f)) (sym e)
-    (subst (λ (b : Bool). Ends (if b then answer_skipping s (asked f.kind) else answer_to cat s (asked f.kind) f.body)) (sym h)
+ends_by cat s m f true k e h t = subst (λ (b : Bool). Ends (if b then silent s else step_open cat s m f)) (sym e) (refl, e)
+ends_by cat s m f false true e h t =
+    subst (λ (b : Bool). Ends (if b then silent s else step_open cat s m f)) (sym e)
+    (subst (λ (b : Bool). Ends (if b then answer_skipping s (asked f.kind) else answer_to cat s m (asked f.kind) f.body)) (sym h)
     (subst (λ (n : ℕ). Ends (answer_skipping s (asked n))) (sym t) (refl, refl)))
-ends_by cat s f false false e h t =
-    subst (λ (b : Bool). Ends (if b then silent s else step_open cat s f)) (sym e)
-    (subst (λ (b : Bool). Ends (if b then answer_skipping s (asked f.kind) else answer_to cat s (asked f.kind) f.body)) (sym h)
-    (subst (λ (n : ℕ). Ends (answer_to cat s (asked n) f.body)) (sym t) (refl, refl)))
+ends_by cat s m f false false e h t =
+    subst (λ (b : Bool). Ends (if b then silent s else step_open cat s m f)) (sym e)
+    (subst (λ (b : Bool). Ends (if b then answer_skipping s (asked f.kind) else answer_to cat s m (asked f.kind) f.body)) (sym h)
+    (subst (λ (n : ℕ). Ends (answer_to cat s m (asked n) f.body)) (sym t) (refl, refl)))
 
-ends_run : (cat : CatalogueOf) (s : State) (f : FrameOf) (fs : List FrameOf) → f.kind ≡ TERMINATE → (run_frames cat s (f ∷ fs)).replies ≡ []
+ends_run : (cat : CatalogueOf) (s : State) (marks : List Bool) (f : FrameOf) (fs : List FrameOf) → f.kind ≡ TERMINATE → (run_frames cat s marks (f ∷ fs)).replies ≡ []
 unfolding run_frames
-ends_run cat s f fs t =
-    let e : Ends (step cat s f) = ends_by cat s f s.ended s.skipping refl refl t in
-    ap (λ (rs : List FrameOf). rs ++ (run_frames cat (step cat s f).next fs).replies) e.0 ∙ after_end cat (step cat s f).next fs e.1
+ends_run cat s marks f fs t =
+    let a : Answer = step cat s (first_mark marks) f in
+    let e : Ends a = ends_by cat s (first_mark marks) f s.ended s.skipping refl refl t in
+    ap (λ (rs : List FrameOf). rs ++ (run_frames cat a.next (later_marks marks) fs).replies) e.0 ∙ after_end cat a.next (later_marks marks) fs e.1
 
 terminate_by : (bytes more : List ℕ) (f : Front) → AreBytes bytes → bytes ≡ TERMINATE ∷ more → front Client LONGEST_FRAME bytes ≡ f → AddsNothing bytes
-terminate_by bytes more (AFrame kind body rest) fit e h cat s =
+terminate_by bytes more (AFrame kind body rest) fit e h cat s marks =
     let is : bytes ≡ kind ∷ (to_be_bytes w32 (4 + length body) ++ body) ++ rest = (front-spelled Client LONGEST_FRAME bytes kind body rest fit h).0 in
     let same : kind ≡ TERMINATE = cc in
-    ap (λ (c : Cut). (run_frames cat s c.frames).replies) (frames-front Client LONGEST_FRAME bytes kind body rest h)
-    ∙ ends_run cat s (record { kind = kind; body = body }) (client_frames (drop (5 + length body) bytes)) same
-terminate_by bytes more (Lacks n) fit e h cat s = stopped_adds bytes (subst Stops (sym h) tt) cat s
-terminate_by bytes more (Faulty fault) fit e h cat s = stopped_adds bytes (subst Stops (sym h) tt) cat s
+    ap (λ (c : Cut). (run_frames cat s marks c.frames).replies) (frames-front Client LONGEST_FRAME bytes kind body rest h)
+    ∙ ends_run cat s marks (record { kind = kind; body = body }) (client_frames (drop (5 + length body) bytes)) same
+terminate_by bytes more (Lacks n) fit e h cat s marks = stopped_adds bytes (subst Stops (sym h) tt) cat s marks
+terminate_by bytes more (Faulty fault) fit e h cat s marks = stopped_adds bytes (subst Stops (sym h) tt) cat s marks
 
 pub terminate_adds : (bytes more : List ℕ) → AreBytes bytes → bytes ≡ TERMINATE ∷ more → AddsNothing bytes
 terminate_adds bytes more fit e = terminate_by bytes more (front Client LONGEST_FRAME bytes) fit e refl
@@ -118,11 +119,13 @@ at_terminate_adds limit part more fit x =
 
 -- ---- so a service stays as it was
 
-served_same : (cat : CatalogueOf) (r : Result State Cause) (pid secret : ℕ) (fs gs : List FrameOf) → ((s : State) → (run_frames cat s gs).replies ≡ []) → flat_map spelling (served cat r pid secret (fs ++ gs)) ≡ flat_map spelling (served cat r pid secret fs)
-served_same cat (Err c) pid secret fs gs h = refl
-served_same cat (Ok s) pid secret fs gs h =
-    let t : State = (run_frames cat s fs).next in
-    let none : (run_frames cat s (fs ++ gs)).replies ≡ (run_frames cat s fs).replies = ap (λ (a : Answer). a.replies) (runs_go_on cat s fs gs) ∙ (ap (λ (rs : List FrameOf). (run_frames cat s fs).replies ++ rs) (h t) ∙ append-nil (run_frames cat s fs).replies) in
+served_same : (cat : CatalogueOf) (r : Result State Cause) (pid secret : ℕ) (marks : List Bool) (fs gs : List FrameOf) → ((s : State) (ms : List Bool) → (run_frames cat s ms gs).replies ≡ [])
+    → flat_map spelling (served cat r pid secret marks (fs ++ gs)) ≡ flat_map spelling (served cat r pid secret marks fs)
+served_same cat (Err c) pid secret marks fs gs h = refl
+served_same cat (Ok s) pid secret marks fs gs h =
+    let t : State = (run_frames cat s marks fs).next in
+    let none : (run_frames cat s marks (fs ++ gs)).replies ≡ (run_frames cat s marks fs).replies =
+    ap (λ (a : Answer). a.replies) (runs_go_on cat s marks fs gs) ∙ (ap (λ (rs : List FrameOf). (run_frames cat s marks fs).replies ++ rs) (h t (marks_after fs marks)) ∙ append-nil (run_frames cat s marks fs).replies) in
     ap (λ (rs : List FrameOf). flat_map spelling (welcome s pid secret ++ rs)) none
 
 frames_with : (fs : List FrameOf) (bytes : List ℕ) → AllByRecursion (IsFrame Client LONGEST_FRAME) fs → client_frames (flat_map spelling fs ++ bytes) ≡ fs ++ client_frames bytes
@@ -132,10 +135,10 @@ frames_of : (fs : List FrameOf) → AllByRecursion (IsFrame Client LONGEST_FRAME
 unfolding cut_after
 frames_of fs each = ap client_frames (sym (append-nil (flat_map spelling fs))) ∙ (frames_with fs [] each ∙ append-nil fs)
 
-pub service_same : (cat : CatalogueOf) (key : StartKeyOf) (pid secret : ℕ) (fs : List FrameOf) (bytes : List ℕ) → AllByRecursion (IsFrame Client LONGEST_FRAME) fs → AddsNothing bytes
-    → service cat key pid secret (flat_map spelling fs ++ bytes) ≡ service cat key pid secret (flat_map spelling fs)
+pub service_same : (cat : CatalogueOf) (key : StartKeyOf) (pid secret : ℕ) (marks : List Bool) (fs : List FrameOf) (bytes : List ℕ) → AllByRecursion (IsFrame Client LONGEST_FRAME) fs → AddsNothing bytes
+    → service cat key pid secret marks (flat_map spelling fs ++ bytes) ≡ service cat key pid secret marks (flat_map spelling fs)
 unfolding service
-service_same cat key pid secret fs bytes each h =
-    ap (λ (gs : List FrameOf). flat_map spelling (served cat (fresh cat key) pid secret gs)) (frames_with fs bytes each)
-    ∙ (served_same cat (fresh cat key) pid secret fs (client_frames bytes) (h cat)
-    ∙ ap (λ (gs : List FrameOf). flat_map spelling (served cat (fresh cat key) pid secret gs)) (sym (frames_of fs each)))
+service_same cat key pid secret marks fs bytes each h =
+    ap (λ (gs : List FrameOf). flat_map spelling (served cat (fresh cat key) pid secret marks gs)) (frames_with fs bytes each)
+    ∙ (served_same cat (fresh cat key) pid secret marks fs (client_frames bytes) (h cat)
+    ∙ ap (λ (gs : List FrameOf). flat_map spelling (served cat (fresh cat key) pid secret marks gs)) (sym (frames_of fs each)))

@@ -16,7 +16,7 @@ use Rattle.relay_flow.specs.declared.flow.Ends.{Ends}
 use Rattle.relay_flow.specs.declared.flow.Ends.TheVariants.{Open, Last, Faulty}
 use Rattle.relay_flow.specs.Flows.{AtTerminate, IsEndedBy, is_empty, is_faulty, is_open}
 use Rattle.relay_core.specs.Leases.{RelayView, Place, IsExact, IsForwarded, IsLease}
-use Rattle.relay_core.proofs.Exact.{lease_exact}
+use Rattle.relay_core.proofs.Exact.{spared_service, lease_exact}
 use Rattle.relay_core.proofs.Flowing.{empty_is}
 use Rattle.relay_core.specs.Answers.{is_quiet}
 use Rattle.relay_core.specs.Steps.{IsStuck}
@@ -100,15 +100,15 @@ longer limit [] l h = tt
 longer limit (f ∷ fs) l h = (h.0.sent.whole, longer limit fs l h.1)
 
 same_service : (cat : CatalogueOf) (key : StartKeyOf) (pid secret : ℕ) (fs : List FrameOf) (tail bytes : List ℕ) → AllByRecursion (IsFrame Client LONGEST_FRAME) fs → Left (flat_map spelling fs) tail bytes
-    → service cat key pid secret (flat_map spelling fs ++ tail) ≡ service cat key pid secret bytes
+    → service cat key pid secret [] (flat_map spelling fs ++ tail) ≡ service cat key pid secret [] bytes
 same_service cat key pid secret fs tail bytes each x = by x.nothing
   where
-    by : (x.rest ≡ []) ⊎ ((tail ≡ []) × AddsNothing x.rest) → service cat key pid secret (flat_map spelling fs ++ tail) ≡ service cat key pid secret bytes
-    by (inl e) = ap (service cat key pid secret) (sym (append-nil (flat_map spelling fs ++ tail)) ∙ (ap (λ (r : List ℕ). (flat_map spelling fs ++ tail) ++ r) (sym e) ∙ sym x.whole))
+    by : (x.rest ≡ []) ⊎ ((tail ≡ []) × AddsNothing x.rest) → service cat key pid secret [] (flat_map spelling fs ++ tail) ≡ service cat key pid secret [] bytes
+    by (inl e) = ap (service cat key pid secret []) (sym (append-nil (flat_map spelling fs ++ tail)) ∙ (ap (λ (r : List ℕ). (flat_map spelling fs ++ tail) ++ r) (sym e) ∙ sym x.whole))
     by (inr y) =
         let front : flat_map spelling fs ++ tail ≡ flat_map spelling fs = ap (λ (t : List ℕ). flat_map spelling fs ++ t) y.0 ∙ append-nil (flat_map spelling fs) in
-        ap (service cat key pid secret) front
-        ∙ (sym (service_same cat key pid secret fs x.rest each y.1) ∙ (ap (λ (f : List ℕ). service cat key pid secret (f ++ x.rest)) (sym front) ∙ ap (service cat key pid secret) (sym x.whole)))
+        ap (service cat key pid secret []) front
+        ∙ (sym (service_same cat key pid secret [] fs x.rest each y.1) ∙ (ap (λ (f : List ℕ). service cat key pid secret [] (f ++ x.rest)) (sym front) ∙ ap (service cat key pid secret []) (sym x.whole)))
 
 -- at its end the client was done: what it gave is all of its bytes, or a Terminate stands next
 pub record IsOver (bytes : List ℕ) (v : RelayView) : Type 0 where
@@ -119,9 +119,9 @@ all_or_last : {A : Type 0} {P : List ℕ → Type 0} (bytes some : List ℕ) →
 all_or_last bytes some p (inl f) = inl (sym (f some p))
 all_or_last bytes some p (inr a) = inr a
 
-pub all_given : (p : Place) (v : RelayView) (bytes : List ℕ) → IsLease p v → v.client.tells ≡ true → v.link.follows ≡ true → v.link.lives ≡ true → p.taken ≡ [] → AreBytes bytes → Clear v → IsStuck v.to_link → future v.link [] ≡ [] → IsOver bytes v
-    → (e : IsExact p v) × (e.since ≡ service p.stands.server.catalogue v.key v.word.pid v.word.secret bytes)
-all_given p v bytes x t f l n fit c stuck silent over =
+pub all_given : (p : Place) (v : RelayView) (bytes : List ℕ) → IsLease p v → v.client.tells ≡ true → v.link.follows ≡ true → v.link.lives ≡ true → p.stands.server.strikable ≡ false → p.taken ≡ [] → AreBytes bytes → Clear v → IsStuck v.to_link → future v.link [] ≡ [] → IsOver bytes v
+    → (e : IsExact p v) × (e.since ≡ service p.stands.server.catalogue v.key v.word.pid v.word.secret [] bytes)
+all_given p v bytes x t f l sp n fit c stuck silent over =
     let e : IsExact p v = lease_exact p v x t f l in
     let fs : List ℕ = flat_map spelling e.forwarded in
     let side : v.to_link.side ≡ Client = x.goes.flow.side_is in
@@ -133,5 +133,5 @@ all_given p v bytes x t f l n fit c stuck silent over =
     let none : future v.link v.to_link.held ≡ [] = ap (future v.link) c.held ∙ silent in
     let given : (e.since ++ (v.greeting ++ (v.to_client.held ++ v.to_client.part))) ++ future v.link v.to_link.held ≡ e.since = ap₂ (λ (a b : List ℕ). (e.since ++ a) ++ b) c.there none ∙ (append-nil (e.since ++ []) ∙ append-nil e.since) in (
       e,
-      sym given ∙ (e.equation ∙ same_service p.stands.server.catalogue v.key v.word.pid v.word.secret e.forwarded e.tail bytes (longer v.to_link.limit e.forwarded x.goes.flow.high e.went) left),
+      sym given ∙ (e.equation ∙ (spared_service p v x (sym x.moves.follows ∙ f) sp p.stands.server.catalogue v.key v.word.pid v.word.secret (flat_map spelling e.forwarded ++ e.tail) ∙ same_service p.stands.server.catalogue v.key v.word.pid v.word.secret e.forwarded e.tail bytes (longer v.to_link.limit e.forwarded x.goes.flow.high e.went) left)),
     )

@@ -184,6 +184,7 @@ pub fn serve_alone(
 ) -> Result<BytesMut, Unserved>
     requires startable { IsStartable server.standing }
     requires follows { server.standing.follows ≡ true }
+    requires spared { server.standing.server.strikable ≡ false }
     requires let_in { IsLetIn server.standing (arc_value key) secret.now }
     requires key { IsLinkKey (arc_value key) }
     requires cut { 0 < cut }

@@ -16,7 +16,7 @@ use Rattle.session_values.specs.Service.{client_frames, served, service, welcome
 use Rattle.session_laws.specs.Laws.{Reaches}
 use Rattle.session_laws.proofs.ByName.{fresh_is_reached}
 use Rattle.run_laws.proofs.ByName.{client_frames_are_sent, run_replies_are_frames}
-use Rattle.link_laws.specs.Standing.{ClientFacts}
+use Rattle.link_laws.specs.Standing.{ClientFacts, marks_since}
 use Rattle.link_laws.specs.Dialogues.{start_error}
 use Rattle.link_laws.proofs.Splits.{SplitsOff, same_back, split_whole}
 use Rattle.link_run.specs.Links.{IsFreshLink, LinkView}
@@ -28,7 +28,7 @@ use Rattle.memory_ends.proofs.Whose.{Apart, whose}
 use Rattle.run_laws.proofs.Pieces.{pieces_join, pieces_of_both}
 use Rattle.run_laws.proofs.Service.{begins_both, service_on}
 use Rattle.relay_laws.specs.Leases.{IsAllowed, IsLease, Keeps, Place, RelayView, place}
-use Rattle.relay_laws.proofs.Exact.{lease_allowed}
+use Rattle.relay_laws.proofs.Exact.{lease_allowed, spared_service}
 use Rattle.relay_steps.specs.Answers.{AtBorder}
 use Rattle.act_client.specs.Clients.{ActClientOf, facts_of, given_more}
 use Rattle.memory_ends.specs.Clients.{given_with}
@@ -72,6 +72,7 @@ pub lease_home : (h : HouseOf) (word : KeyWord) (bytes : List ℕ) (v : RelayVie
 lease_home h word bytes v x = record {
   follows = x.lease.moves.follows ∙ x.server.follows;
   catalogue = ap (λ s. s.catalogue) x.lease.moves.server ∙ x.server.catalogue;
+  spared = ap (λ s. s.strikable) x.lease.moves.server ∙ x.server.spared;
 }
 
 -- ---- it ends
@@ -85,7 +86,7 @@ pub record Ends (h : HouseOf) (word : KeyWord) (bytes : List ℕ) (c : ActClient
   pub left : List ℕ
   pub passed : login_among (rows_of h) word c.input ≡ record { pieces = x.pieces; ended = Passed (ToLink x.at.key) left }
   pub behind : (before : List ℕ) × (before ++ left ≡ c.input)
-  pub there : Begins (since ++ (v.greeting ++ (v.to_client.held ++ v.to_client.part))) (service h.catalogue x.at.key word.pid word.secret left)
+  pub there : Begins (since ++ (v.greeting ++ (v.to_client.held ++ v.to_client.part))) (service h.catalogue x.at.key word.pid word.secret [] left)
 
 shifted : (bytes first since : List ℕ) → given_with bytes first ++ since ≡ given_with bytes [] ++ (first ++ since)
 shifted bytes first since = ap (λ (l : List ℕ). length bytes ∷ l) (append_assoc bytes first since ∙ ap (λ (l : List ℕ). l ++ (first ++ since)) (sym (append-nil bytes)))
@@ -93,8 +94,8 @@ shifted bytes first since = ap (λ (l : List ℕ). length bytes ∷ l) (append_a
 front_of : (f t p d : List ℕ) → (f ++ t) ++ (p ++ d) ≡ (f ++ (t ++ p)) ++ d
 front_of f t p d = append_assoc f t (p ++ d) ∙ (ap (λ (l : List ℕ). f ++ l) (sym (append_assoc t p d)) ∙ sym (append_assoc f (t ++ p) d))
 
-service_begins : (cat : CatalogueOf) (key : StartKeyOf) (pid secret : ℕ) (a bytes : List ℕ) → Begins a bytes → Begins (service cat key pid secret a) (service cat key pid secret bytes)
-service_begins cat key pid secret a bytes x = subst (λ (l : List ℕ). Begins (service cat key pid secret a) (service cat key pid secret l)) x.both (service_on cat key pid secret a x.more)
+service_begins : (cat : CatalogueOf) (key : StartKeyOf) (pid secret : ℕ) (a bytes : List ℕ) → Begins a bytes → Begins (service cat key pid secret [] a) (service cat key pid secret [] bytes)
+service_begins cat key pid secret a bytes x = subst (λ (l : List ℕ). Begins (service cat key pid secret [] a) (service cat key pid secret [] l)) x.both (service_on cat key pid secret [] a x.more)
 
 pub lease_ends : (h : HouseOf) (word : KeyWord) (bytes : List ℕ) (c : ActClientOf) (v : RelayView) (x : IsServed h word bytes v) → facts_of c ≡ v.client → Ends h word bytes c v x
 lease_ends h word bytes c v x e =
@@ -107,9 +108,10 @@ lease_ends h word bytes c v x e =
     let w : Apart c.input bytes c.given (joined_pieces x.pieces ++ a.since) = whose c.input c.given bytes (joined_pieces x.pieces ++ a.since)
     (ap (λ (t : ClientFacts). t.given) e ∙ (a.given ∙ (ap (λ (l : List ℕ). l ++ a.since) x.given ∙ shifted bytes (joined_pieces x.pieces) a.since))) in
     let whole : x.at.taken ++ (some ++ rest) ≡ c.input = sym (append_assoc x.at.taken some rest) ∙ (ap (λ (l : List ℕ). l ++ rest) (sym a.taken ∙ sym (ap (λ (t : ClientFacts). t.taken) e)) ∙ take-append-drop c.at c.input) in
-    let own : service x.at.stands.server.catalogue v.key v.word.pid v.word.secret (f ++ a.tail) ≡ service h.catalogue x.at.key word.pid word.secret (f ++ a.tail) =
-    ap (λ (k : CatalogueOf). service k v.key v.word.pid v.word.secret (f ++ a.tail)) x.server.catalogue
-    ∙ ap₂ (λ (k : StartKeyOf) (d : KeyWord). service h.catalogue k d.pid d.secret (f ++ a.tail)) x.lease.same.0 (x.lease.same.3 ∙ x.word_is) in
+    let own : service x.at.stands.server.catalogue v.key v.word.pid v.word.secret (marks_since x.at.stands v.link) (f ++ a.tail) ≡ service h.catalogue x.at.key word.pid word.secret [] (f ++ a.tail) =
+    spared_service x.at v x.lease x.server.follows x.server.spared x.at.stands.server.catalogue v.key v.word.pid v.word.secret (f ++ a.tail)
+    ∙ (ap (λ (k : CatalogueOf). service k v.key v.word.pid v.word.secret [] (f ++ a.tail)) x.server.catalogue
+    ∙ ap₂ (λ (k : StartKeyOf) (d : KeyWord). service h.catalogue k d.pid d.secret [] (f ++ a.tail)) x.lease.same.0 (x.lease.same.3 ∙ x.word_is)) in
     record {
       input = w.front;
       since = a.since;
@@ -123,13 +125,13 @@ lease_ends h word bytes c v x e =
 
 -- what it was given begins what its own server answers
 begun : (h : HouseOf) (word : KeyWord) (c : ActClientOf) (pieces : List (List ℕ)) (key : StartKeyOf) (left since held : List ℕ) → login_among (rows_of h) word c.input ≡ record { pieces = pieces; ended = Passed (ToLink key) left } → c.given ≡ joined_pieces pieces ++ since
-    → Begins (since ++ held) (service h.catalogue key word.pid word.secret left) → IsDone h word c
+    → Begins (since ++ held) (service h.catalogue key word.pid word.secret [] left) → IsDone h word c
 begun h word c pieces key left since held e g b = inl (record {
   more = held ++ b.more;
   both = ap (λ (l : List ℕ). l ++ (held ++ b.more)) g
       ∙ (append_assoc (joined_pieces pieces) since (held ++ b.more)
-      ∙ (ap (λ (l : List ℕ). joined_pieces pieces ++ l) (sym (append_assoc since held b.more) ∙ (b.both ∙ sym (service_is h.catalogue key word left)))
-      ∙ (sym (joined_both pieces (service_pieces h.catalogue key word left)) ∙ ap joined_pieces (sym (own_is h word c.input _ e)))));
+      ∙ (ap (λ (l : List ℕ). joined_pieces pieces ++ l) (sym (append_assoc since held b.more) ∙ (b.both ∙ sym (service_is h.catalogue key word [] left)))
+      ∙ (sym (joined_both pieces (service_pieces h.catalogue key word [] left)) ∙ ap joined_pieces (sym (own_is h word c.input _ e)))));
 })
 
 pub lease_done : (h : HouseOf) (word : KeyWord) (bytes : List ℕ) (c : ActClientOf) (v : RelayView) → IsServed h word bytes v → facts_of c ≡ v.client → IsDone h word c
@@ -142,19 +144,19 @@ lease_input h word bytes c v x e = (lease_ends h word bytes c v x e).input
 
 -- ---- it is refused at a border
 
-served_fresh : (cat : CatalogueOf) (key : StartKeyOf) (word : KeyWord) (left : List ℕ) (s : State) → fresh cat key ≡ Ok s → service_pieces cat key word left ≡ map spelling (welcome s word.pid word.secret ++ (run_frames cat s (client_frames left)).replies)
-served_fresh cat key word left s e = ap (λ (r : Result State Cause). map spelling (served cat r word.pid word.secret (client_frames left))) e
+served_fresh : (cat : CatalogueOf) (key : StartKeyOf) (word : KeyWord) (left : List ℕ) (s : State) → fresh cat key ≡ Ok s → service_pieces cat key word [] left ≡ map spelling (welcome s word.pid word.secret ++ (run_frames cat s [] (client_frames left)).replies)
+served_fresh cat key word left s e = ap (λ (r : Result State Cause). map spelling (served cat r word.pid word.secret [] (client_frames left))) e
 
-service_fresh : (cat : CatalogueOf) (key : StartKeyOf) (word : KeyWord) (left : List ℕ) (s : State) → fresh cat key ≡ Ok s → service cat key word.pid word.secret left ≡ flat_map spelling (welcome s word.pid word.secret) ++ flat_map spelling (run_frames cat s (client_frames left)).replies
+service_fresh : (cat : CatalogueOf) (key : StartKeyOf) (word : KeyWord) (left : List ℕ) (s : State) → fresh cat key ≡ Ok s → service cat key word.pid word.secret [] left ≡ flat_map spelling (welcome s word.pid word.secret) ++ flat_map spelling (run_frames cat s [] (client_frames left)).replies
 unfolding service
-service_fresh cat key word left s e = ap (λ (r : Result State Cause). flat_map spelling (served cat r word.pid word.secret (client_frames left))) e ∙ flat_map-append spelling (welcome s word.pid word.secret) (run_frames cat s (client_frames left)).replies
+service_fresh cat key word left s e = ap (λ (r : Result State Cause). flat_map spelling (served cat r word.pid word.secret [] (client_frames left))) e ∙ flat_map-append spelling (welcome s word.pid word.secret) (run_frames cat s [] (client_frames left)).replies
 
 -- whole frames before some bytes are the first of the replies
 first_replies : (cat : CatalogueOf) (key : StartKeyOf) (s : State) (ws arrived : List FrameOf) (since held left more : List ℕ) → Reaches cat key s → AreBytes left → AllByRecursion (IsFrame Server LONGEST_FRAME) arrived
-    → since ≡ flat_map spelling ws ++ flat_map spelling arrived → (since ++ held) ++ more ≡ flat_map spelling ws ++ flat_map spelling (run_frames cat s (client_frames left)).replies
-    → SplitsOff (run_frames cat s (client_frames left)).replies arrived [] (held ++ more)
+    → since ≡ flat_map spelling ws ++ flat_map spelling arrived → (since ++ held) ++ more ≡ flat_map spelling ws ++ flat_map spelling (run_frames cat s [] (client_frames left)).replies
+    → SplitsOff (run_frames cat s [] (client_frames left)).replies arrived [] (held ++ more)
 first_replies cat key s ws arrived since held left more r ab came i b =
-    split_whole Server LONGEST_FRAME _ arrived (held ++ more) (omega arith) (run_replies_are_frames cat key s (client_frames left) r (client_frames_are_sent left ab)) came
+    split_whole Server LONGEST_FRAME _ arrived (held ++ more) (omega arith) (run_replies_are_frames cat key s [] (client_frames left) r (client_frames_are_sent left ab)) came
     (same_back (flat_map spelling ws) _ (flat_map spelling arrived ++ (held ++ more))
     (sym b ∙ (append_assoc since held more ∙ (ap (λ (l : List ℕ). l ++ (held ++ more)) i ∙ append_assoc (flat_map spelling ws) (flat_map spelling arrived) (held ++ more)))))
 
@@ -173,7 +175,7 @@ lease_piece h word bytes c v x e ab =
     let greets : y.at.greeting ≡ flat_map spelling ws = y.lease.greets y.server.follows s l.stands.is_fresh ∙ ap (λ (d : KeyWord). flat_map spelling (welcome s d.pid d.secret)) (y.lease.same.3 ∙ y.word_is) in
     let since_is : k.since ≡ flat_map spelling ws ++ flat_map spelling x.border.arrived = sym same ∙ (x.border.whole ∙ ap (λ (g : List ℕ). g ++ flat_map spelling x.border.arrived) greets) in
     let held : List ℕ = v.greeting ++ (v.to_client.held ++ v.to_client.part) in
-    let o : SplitsOff (run_frames h.catalogue s (client_frames k.left)).replies x.border.arrived [] (held ++ k.there.more) =
+    let o : SplitsOff (run_frames h.catalogue s [] (client_frames k.left)).replies x.border.arrived [] (held ++ k.there.more) =
     first_replies h.catalogue y.at.key s ws x.border.arrived k.since held k.left k.there.more reached (bytes_after k.behind.0 k.left (subst AreBytes (sym (k.behind.1 ∙ k.input)) ab)) x.border.came since_is (k.there.both ∙ service_fresh h.catalogue y.at.key word k.left s opened) in
     service_piece h word c y.at.key y.pieces (map spelling (ws ++ x.border.arrived)) (map spelling o.more) k.left k.passed
     (pieces_of_both (ws ++ x.border.arrived) o.more ∙ (ap (map spelling) (append_assoc ws x.border.arrived o.more ∙ ap (λ (fs : List FrameOf). ws ++ fs) (sym o.all)) ∙ sym (served_fresh h.catalogue y.at.key word k.left s opened)))
@@ -181,7 +183,7 @@ lease_piece h word bytes c v x e ab =
 
 -- ---- a start that the server refuses
 
-error_piece : (cat : CatalogueOf) (r : Result State Cause) (f : FrameOf) (word : KeyWord) (fs : List FrameOf) → start_error r ≡ Some f → map spelling (served cat r word.pid word.secret fs) ≡ spelling f ∷ []
+error_piece : (cat : CatalogueOf) (r : Result State Cause) (f : FrameOf) (word : KeyWord) (fs : List FrameOf) → start_error r ≡ Some f → map spelling (served cat r word.pid word.secret [] fs) ≡ spelling f ∷ []
 error_piece cat (Ok s) f word fs e = absurd cc
 error_piece cat (Err c) f word fs e = cc
 

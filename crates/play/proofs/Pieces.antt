@@ -22,21 +22,21 @@ pub joined_one : (ps : List (List ℕ)) (p : List ℕ) → joined_pieces ps ++ p
 joined_one ps p = sym (joined_both ps (p ∷ []) ∙ ap (λ (l : List ℕ). joined_pieces ps ++ l) (append-nil p))
 
 -- what its own server answers, by what the login says
-pub own_is : (h : HouseOf) (word : KeyWord) (bytes : List ℕ) (d : Dialogue) → login_among (rows_of h) word bytes ≡ d → own h word bytes ≡ d.pieces ++ after_login h.catalogue word d.ended
-own_is h word bytes d e = ap (λ (x : Dialogue). x.pieces ++ after_login h.catalogue word x.ended) (sym (its_row (rows_of h) word bytes) ∙ e)
+pub own_is : (h : HouseOf) (word : KeyWord) (bytes : List ℕ) (d : Dialogue) → login_among (rows_of h) word bytes ≡ d → own h word bytes ≡ d.pieces ++ after_login h.catalogue word [] d.ended
+own_is h word bytes d e = ap (λ (x : Dialogue). x.pieces ++ after_login h.catalogue word [] x.ended) (sym (its_row (rows_of h) word bytes) ∙ e)
 
 -- some first pieces of the login
 pub login_piece : (h : HouseOf) (word : KeyWord) (c : ActClientOf) (d : Dialogue) (pieces rest : List (List ℕ)) → login_among (rows_of h) word c.input ≡ d → pieces ++ rest ≡ d.pieces → c.given ≡ joined_pieces pieces → IsAtPiece h word c
 login_piece h word c d pieces rest e p g = record {
   pieces = pieces;
-  kept = rest ++ after_login h.catalogue word d.ended;
-  pieces_are = sym (append_assoc pieces rest (after_login h.catalogue word d.ended)) ∙ (ap (λ (l : List (List ℕ)). l ++ after_login h.catalogue word d.ended) p ∙ sym (own_is h word c.input d e));
+  kept = rest ++ after_login h.catalogue word [] d.ended;
+  pieces_are = sym (append_assoc pieces rest (after_login h.catalogue word [] d.ended)) ∙ (ap (λ (l : List (List ℕ)). l ++ after_login h.catalogue word [] d.ended) p ∙ sym (own_is h word c.input d e));
   given = g;
 }
 
 -- all of the login's, and some first of the service's
 pub service_piece : (h : HouseOf) (word : KeyWord) (c : ActClientOf) (key : StartKeyOf) (pieces some kept : List (List ℕ)) (left : List ℕ) → login_among (rows_of h) word c.input ≡ record { pieces = pieces; ended = Passed (ToLink key) left }
-    → some ++ kept ≡ service_pieces h.catalogue key word left → c.given ≡ joined_pieces (pieces ++ some) → IsAtPiece h word c
+    → some ++ kept ≡ service_pieces h.catalogue key word [] left → c.given ≡ joined_pieces (pieces ++ some) → IsAtPiece h word c
 service_piece h word c key pieces some kept left e p g = record {
   pieces = pieces ++ some;
   kept = kept;

@@ -1,5 +1,5 @@
 -- A client's login, and what it leads to.
-use Rattle.std.proofs.Common.{◌≡◌, ◌⊎◌, ℕ, true, List, [], sym, ap, ap₂, ◌∙◌, subst, Option, Some}
+use Rattle.std.proofs.Common.{◌≡◌, ◌⊎◌, ℕ, Bool, true, List, [], sym, ap, ap₂, ◌∙◌, subst, Option, Some}
 use Rattle.std.specs.declared.sync.Arc.{Arc}
 use Rattle.std.specs.Arc.{arc_value}
 use Rattle.message_view.specs.declared.KeyWord.{KeyWord}
@@ -24,7 +24,7 @@ use Rattle.pool_serve.specs.declared.guest.Guest.{Guest}
 use Rattle.pool_serve.specs.declared.word.LastWord.{LastWord}
 use Rattle.pool_serve.specs.declared.word.LastWord.TheVariants as last
 use Rattle.pool_serve.specs.Causes.{HasFault}
-use Rattle.pool_serve.specs.Serving.{IsGuest, IsServed, MayEnd, Serves, limit_of, owed}
+use Rattle.pool_serve.specs.Serving.{IsGuest, IsServed, IsServedUnder, MayEnd, Serves, limit_of, owed}
 use Rattle.pool_serve.proofs.Causing.{arrival_fault}
 use Rattle.pool_serve.proofs.Owing.{behind_login}
 
@@ -33,47 +33,50 @@ use Rattle.pool_serve.proofs.Owing.{behind_login}
 pub same_both : (a b c : RunView) → IsSameLogin a b → IsSameLogin b c → IsSameLogin a c
 same_both a b c x y = record { settings = y.settings ∙ x.settings; users = y.users ∙ x.users; word = y.word ∙ x.word; tells = y.tells ∙ x.tells }
 
-owes : (Address → CatalogueOf) → Rows → KeyWord → List ℕ → List (List ℕ)
-owes catalogue rows word bytes = solo_in catalogue (row_for rows (names_in bytes)) word bytes
+owes : (Address → CatalogueOf) → Rows → KeyWord → List Bool → List ℕ → List (List ℕ)
+owes catalogue rows word marks bytes = solo_in catalogue (row_for rows (names_in bytes)) word marks bytes
 
-same_owed : (catalogue : Address → CatalogueOf) (v w : LoginView) (bytes : List ℕ) → w.settings ≡ v.settings → w.users ≡ v.users → w.word ≡ v.word → own catalogue w bytes ≡ own catalogue v bytes
-same_owed catalogue v w bytes s u k =
-    ap₂ (λ (r : Rows) (x : KeyWord). solo_in catalogue (row_for r (names_in bytes)) x bytes) (ap₂ (λ (a : Settings) (b : List UserRow). row_in a b) s u) k
+same_owed : (catalogue : Address → CatalogueOf) (v w : LoginView) (marks : List Bool) (bytes : List ℕ) → w.settings ≡ v.settings → w.users ≡ v.users → w.word ≡ v.word → own catalogue w marks bytes ≡ own catalogue v marks bytes
+same_owed catalogue v w marks bytes s u k =
+    ap₂ (λ (r : Rows) (x : KeyWord). solo_in catalogue (row_for r (names_in bytes)) x marks bytes) (ap₂ (λ (a : Settings) (b : List UserRow). row_in a b) s u) k
 
 same_rows : (old new : RunView) → IsSameLogin old new → rows_of new.login ≡ rows_of old.login
 same_rows old new s = ap₂ row_in s.settings s.users
 
-abbrev AtLogin : (Address → CatalogueOf) → Rows → KeyWord → ClientFacts → Type 0
-AtLogin catalogue rows word c = AllowedBy (λ (r : Refusal). ((login_among rows word c.taken).ended ≡ StoppedFor (RefusedBy r)) ⊎ (r ≡ OutOfMemory)) c.given (owes catalogue rows word c.taken)
+abbrev AtLogin : List Bool → (Address → CatalogueOf) → Rows → KeyWord → ClientFacts → Type 0
+AtLogin marks catalogue rows word c = AllowedBy (λ (r : Refusal). ((login_among rows word c.taken).ended ≡ StoppedFor (RefusedBy r)) ⊎ (r ≡ OutOfMemory)) c.given (owes catalogue rows word marks c.taken)
 
 same_fault : (old new : RunView) (taken : List ℕ) (r : Refusal) → IsSameLogin old new → HasFault (rows_of new.login) new.login.word new.login.settings.max_packet_size taken r → HasFault (rows_of old.login) old.login.word old.login.settings.max_packet_size taken r
 same_fault old new taken r s h =
     subst (λ (x : Settings). HasFault (rows_of old.login) old.login.word x.max_packet_size taken r) s.settings
     (subst (λ (k : KeyWord). HasFault (rows_of old.login) k new.login.settings.max_packet_size taken r) s.word (subst (λ (rows : Rows). HasFault rows new.login.word new.login.settings.max_packet_size taken r) (same_rows old new s) h))
 
-pub same_served : (catalogue : Address → CatalogueOf) (old new : RunView) (c : ClientFacts) (word : LastWord) → IsSameLogin old new → IsServed catalogue new.login c word → IsServed catalogue old.login c word
+same_under : (marks : List Bool) (catalogue : Address → CatalogueOf) (old new : RunView) (c : ClientFacts) (word : LastWord) → IsSameLogin old new → IsServedUnder marks catalogue new.login c word → IsServedUnder marks catalogue old.login c word
 unfolding row_in owes
-same_served catalogue old new c last.Nothing s h = subst (λ (k : KeyWord). AtLogin catalogue (rows_of old.login) k c) s.word (subst (λ (rows : Rows). AtLogin catalogue rows new.login.word c) (same_rows old new s) h)
-same_served catalogue old new c (last.Refusal r) s h = (
-  subst (λ (ps : List (List ℕ)). IsAtPiece c.given ps) (same_owed catalogue old.login new.login c.taken s.settings s.users s.word) h.0,
+same_under marks catalogue old new c last.Nothing s h = subst (λ (k : KeyWord). AtLogin marks catalogue (rows_of old.login) k c) s.word (subst (λ (rows : Rows). AtLogin marks catalogue rows new.login.word c) (same_rows old new s) h)
+same_under marks catalogue old new c (last.Refusal r) s h = (
+  subst (λ (ps : List (List ℕ)). IsAtPiece c.given ps) (same_owed catalogue old.login new.login marks c.taken s.settings s.users s.word) h.0,
   same_fault old new c.taken r s h.1,
 )
-same_served catalogue old new c (last.Error error) s h =
-    subst (λ (ps : List (List ℕ)). MayEnd c.given ps (last.Error error)) (same_owed catalogue old.login new.login c.taken s.settings s.users s.word) h
+same_under marks catalogue old new c (last.Error error) s h =
+    subst (λ (ps : List (List ℕ)). MayEnd c.given ps (last.Error error)) (same_owed catalogue old.login new.login marks c.taken s.settings s.users s.word) h
+
+pub same_served : (catalogue : Address → CatalogueOf) (old new : RunView) (c : ClientFacts) (word : LastWord) → IsSameLogin old new → IsServed catalogue new.login c word → IsServed catalogue old.login c word
+same_served catalogue old new c word s h = (h.0, same_under h.0 catalogue old new c word s h.1)
 
 -- ---- a login that leads nowhere
 
 pub run_ends : RunsAreAllowed → (catalogue : Address → CatalogueOf) (old new : RunView) (c : ClientFacts) → IsSameLogin old new → IsRun new → c ≡ new.client → old.client.tells ≡ true → IsServed catalogue old.login c last.Nothing
 run_ends law catalogue old new c s x e t =
     same_served catalogue old new c last.Nothing s
-    (subst (λ (d : ClientFacts). IsServed catalogue new.login d last.Nothing) (sym e) (law new catalogue x (s.tells ∙ t)))
+    (subst (λ (d : ClientFacts). IsServed catalogue new.login d last.Nothing) (sym e) ([], law new catalogue [] x (s.tells ∙ t)))
 
 arrived_piece : (v : RunView) → v.phase ≡ Arrived → IsRun v → IsPiece v.said
 arrived_piece v e x = (subst (λ (p : PhaseOf). Awaits p v.said v.login) e x.1).0
 
 pub arrival_ends : RunsStandAtPieces → (catalogue : Address → CatalogueOf) (v : RunView) (c : ClientFacts) (r : Refusal) → RefusesArrival r → v.phase ≡ Arrived → IsAllGiven v → IsRun v → c ≡ v.client → v.client.tells ≡ true → IsServed catalogue v.login c (last.Refusal r)
 arrival_ends law catalogue v c r h p n x e t =
-    subst (λ (d : ClientFacts). IsServed catalogue v.login d (last.Refusal r)) (sym e) (law v catalogue x t (arrived_piece v p x) n, arrival_fault (rows_of v.login) v.login.word v.login.settings.max_packet_size v.client.taken r h)
+    subst (λ (d : ClientFacts). IsServed catalogue v.login d (last.Refusal r)) (sym e) ([], (law v catalogue [] x t (arrived_piece v p x) n, arrival_fault (rows_of v.login) v.login.word v.login.settings.max_packet_size v.client.taken r h))
 
 -- ---- a client that was let in
 

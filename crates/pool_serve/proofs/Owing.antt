@@ -1,5 +1,5 @@
 -- What a client is owed, by its link and by its login.
-use Rattle.std.proofs.Common.{◌≡◌, inl, ℕ, true, List, [], ◌∷◌, ◌++◌, sym, ap, ◌∙◌, subst, append-nil, Result, Ok, Err, Some}
+use Rattle.std.proofs.Common.{◌≡◌, inl, ℕ, Bool, true, List, [], ◌∷◌, ◌++◌, sym, ap, ◌∙◌, subst, append-nil, Result, Ok, Err, Some}
 use Rattle.std.specs.Prelude.{map}
 use Rattle.std.specs.Arc.{arc_value}
 use Rattle.frame_view.specs.Frames.{FrameOf, spelling}
@@ -29,7 +29,7 @@ use Rattle.pool_serve.specs.declared.word.LastWord.{LastWord}
 use Rattle.pool_serve.specs.declared.word.LastWord.TheVariants as last
 use Rattle.pool_serve.specs.Words.{last_of}
 use Rattle.pool_serve.specs.Causes.{HasFault, IsFaulty, IsFaultyWord}
-use Rattle.pool_serve.specs.Serving.{IsServed, MayEnd, Serves, limit_of, owed}
+use Rattle.pool_serve.specs.Serving.{IsServed, IsServedUnder, MayEnd, Serves, limit_of, owed}
 use Rattle.pool_serve.proofs.Telling.{behind, refusal_ends}
 
 -- ---- over a link of its key, with the catalogue of its address
@@ -42,26 +42,26 @@ over_link home limit before after g link word h f k s =
 
 -- ---- a link that wasn't started
 
-fresh_error : (r : Result State Cause) (f : FrameOf) (cat : CatalogueOf) (word : KeyWord) (fs : List FrameOf) → start_error r ≡ Some f → map spelling (served cat r word.pid word.secret fs) ≡ spelling f ∷ []
+fresh_error : (r : Result State Cause) (f : FrameOf) (cat : CatalogueOf) (word : KeyWord) (fs : List FrameOf) → start_error r ≡ Some f → map spelling (served cat r word.pid word.secret [] fs) ≡ spelling f ∷ []
 fresh_error (Ok s) f cat word fs e = absurd cc
 fresh_error (Err c) f cat word fs e = cc
 
-refused_start : (began : Standing) (secret : Secret) (key : StartKeyOf) (word : KeyWord) (error : List ℕ) → IsLetIn began key secret → IsRefusalOf began secret key error → Begins ([] ++ error) (joined_pieces (service_pieces began.server.catalogue key word []))
+refused_start : (began : Standing) (secret : Secret) (key : StartKeyOf) (word : KeyWord) (error : List ℕ) → IsLetIn began key secret → IsRefusalOf began secret key error → Begins ([] ++ error) (joined_pieces (service_pieces began.server.catalogue key word [] []))
 refused_start began secret key word error l x =
-    let one : service_pieces began.server.catalogue key word [] ≡ spelling x.frame ∷ [] = fresh_error (fresh began.server.catalogue key) x.frame began.server.catalogue word (client_frames []) (sym l ∙ x.refusal) in
+    let one : service_pieces began.server.catalogue key word [] [] ≡ spelling x.frame ∷ [] = fresh_error (fresh began.server.catalogue key) x.frame began.server.catalogue word (client_frames []) (sym l ∙ x.refusal) in
     record { more = []; both = append-nil error ∙ (x.whole ∙ (sym (append-nil (spelling x.frame)) ∙ ap joined_pieces (sym one))) }
 
-unstarted_at : (began now : Standing) (secret : Secret) (key : StartKeyOf) (word : KeyWord) (c : StartCause) → began.follows ≡ true → IsLetIn began key secret → IsCause began now secret key c → MayEnd [] (service_pieces began.server.catalogue key word []) (last_of c)
+unstarted_at : (began now : Standing) (secret : Secret) (key : StartKeyOf) (word : KeyWord) (c : StartCause) → began.follows ≡ true → IsLetIn began key secret → IsCause began now secret key c → MayEnd [] (service_pieces began.server.catalogue key word [] []) (last_of c)
 unstarted_at began now secret key word (cause.Refused error) f l x = refused_start began secret key word error l (x.1 f)
-unstarted_at began now secret key word cause.Memory f l x = refusal_ends (service_pieces began.server.catalogue key word []) OutOfMemory
-unstarted_at began now secret key word cause.Lost f l x = refusal_ends (service_pieces began.server.catalogue key word []) ServerNotReached
-unstarted_at began now secret key word cause.Unanswerable f l x = refusal_ends (service_pieces began.server.catalogue key word []) ServerNotReached
-unstarted_at began now secret key word cause.Unexpected f l x = refusal_ends (service_pieces began.server.catalogue key word []) ServerNotReached
-unstarted_at began now secret key word cause.Turns f l x = refusal_ends (service_pieces began.server.catalogue key word []) ServerNotReached
+unstarted_at began now secret key word cause.Memory f l x = refusal_ends (service_pieces began.server.catalogue key word [] []) OutOfMemory
+unstarted_at began now secret key word cause.Lost f l x = refusal_ends (service_pieces began.server.catalogue key word [] []) ServerNotReached
+unstarted_at began now secret key word cause.Unanswerable f l x = refusal_ends (service_pieces began.server.catalogue key word [] []) ServerNotReached
+unstarted_at began now secret key word cause.Unexpected f l x = refusal_ends (service_pieces began.server.catalogue key word [] []) ServerNotReached
+unstarted_at began now secret key word cause.Turns f l x = refusal_ends (service_pieces began.server.catalogue key word [] []) ServerNotReached
 
-pub unstarted : (cat : CatalogueOf) (began now : Standing) (secret : Secret) (key : StartKeyOf) (word : KeyWord) (c : StartCause) (last : LastWord) → last ≡ last_of c → began.server.catalogue ≡ cat → began.follows ≡ true → IsLetIn began key secret → IsCause began now secret key c → MayEnd [] (service_pieces cat key word []) last
+pub unstarted : (cat : CatalogueOf) (began now : Standing) (secret : Secret) (key : StartKeyOf) (word : KeyWord) (c : StartCause) (last : LastWord) → last ≡ last_of c → began.server.catalogue ≡ cat → began.follows ≡ true → IsLetIn began key secret → IsCause began now secret key c → MayEnd [] (service_pieces cat key word [] []) last
 unstarted cat began now secret key word c last e h f l x =
-    subst (λ (w : LastWord). MayEnd [] (service_pieces cat key word []) w) (sym e) (subst (λ (d : CatalogueOf). MayEnd [] (service_pieces d key word []) (last_of c)) h (unstarted_at began now secret key word c f l x))
+    subst (λ (w : LastWord). MayEnd [] (service_pieces cat key word [] []) w) (sym e) (subst (λ (d : CatalogueOf). MayEnd [] (service_pieces d key word [] []) (last_of c)) h (unstarted_at began now secret key word c f l x))
 
 -- ---- behind a login that let it in
 
@@ -79,20 +79,23 @@ fault_behind v key limit taken took OutOfMemory e x = tt
 fault_behind v key limit taken took MalformedServerMessage e x = tt
 fault_behind v key limit taken took LastDecision e x = tt
 
-ends_served : (catalogue : Address → CatalogueOf) (v : LoginView) (key : StartKeyOf) (c : ClientFacts) (took : List ℕ) (word : LastWord) → (login_among (rows_of v) v.word c.taken).ended ≡ Passed (ToLink key) took → IsFaultyWord v.settings.max_packet_size took word
-    → MayEnd c.given (runs.own catalogue v c.taken) word → IsServed catalogue v c word
-ends_served catalogue v key c took last.Nothing e x m = inl m
-ends_served catalogue v key c took (last.Refusal r) e x m = (m, fault_behind v key v.settings.max_packet_size c.taken took r e x)
-ends_served catalogue v key c took (last.Error error) e x m = m
+ends_served : (catalogue : Address → CatalogueOf) (v : LoginView) (key : StartKeyOf) (c : ClientFacts) (marks : List Bool) (took : List ℕ) (word : LastWord) → (login_among (rows_of v) v.word c.taken).ended ≡ Passed (ToLink key) took → IsFaultyWord v.settings.max_packet_size took word
+    → MayEnd c.given (runs.own catalogue v marks c.taken) word → IsServedUnder marks catalogue v c word
+ends_served catalogue v key c marks took last.Nothing e x m = inl m
+ends_served catalogue v key c marks took (last.Refusal r) e x m = (m, fault_behind v key v.settings.max_packet_size c.taken took r e x)
+ends_served catalogue v key c marks took (last.Error error) e x m = m
 
 pub behind_login : (catalogue : Address → CatalogueOf) (v : RunView) (g : Guest) (before after : ClientFacts) (word : LastWord) → before ≡ v.client → g.word ≡ v.login.word → g.login ≡ v.login → runs.IsLetIn catalogue v (arc_value g.key) → Serves (limit_of g) before after (owed catalogue g) word
     → IsServed catalogue v.login after word
 behind_login catalogue v g before after word e w l x s =
     let taken : after.taken ≡ v.client.taken ++ s.took = s.taken ∙ ap (λ (c : ClientFacts). c.taken ++ s.took) e in
     let given : after.given ≡ joined_pieces x.pieces ++ s.gave = s.given ∙ (ap (λ (c : ClientFacts). c.given ++ s.gave) e ∙ ap (λ (l : List ℕ). l ++ s.gave) x.given) in
-    let owes : runs.own catalogue v.login after.taken ≡ x.pieces ++ owed catalogue g s.took =
-    ap (runs.own catalogue v.login) taken ∙ (x.owed s.took ∙ ap (λ (k : KeyWord). x.pieces ++ service_pieces (catalogue (address_of (arc_value g.key))) (arc_value g.key) k s.took) (sym w)) in
-    ends_served catalogue v.login (arc_value g.key) after s.took word
+    let owes : runs.own catalogue v.login s.marks after.taken ≡ x.pieces ++ owed catalogue g s.marks s.took =
+    ap (runs.own catalogue v.login s.marks) taken ∙ (x.owed s.marks s.took ∙ ap (λ (k : KeyWord). x.pieces ++ service_pieces (catalogue (address_of (arc_value g.key))) (arc_value g.key) k s.marks s.took) (sym w)) in
+    (
+      s.marks,
+      ends_served catalogue v.login (arc_value g.key) after s.marks s.took word
     (ap (λ (bytes : List ℕ). (login_among (rows_of v.login) v.login.word bytes).ended) taken ∙ x.passed s.took)
     (subst (λ (u : LoginView). IsFaultyWord u.settings.max_packet_size s.took word) l s.fault)
-    (subst (λ (ps : List (List ℕ)). MayEnd after.given ps word) (sym owes) (behind x.pieces (owed catalogue g s.took) after.given s.gave word given s.ends))
+    (subst (λ (ps : List (List ℕ)). MayEnd after.given ps word) (sym owes) (behind x.pieces (owed catalogue g s.marks s.took) after.given s.gave word given s.ends)),
+    )

@@ -1,5 +1,5 @@
 -- What was given, once the last word was told.
-use Rattle.std.proofs.Common.{◌≡◌, inl, inr, ℕ, true, List, [], ◌++◌, take, drop, refl, sym, ap, ◌∙◌, subst, arith, append_assoc, append-nil, take_all, take-append-drop}
+use Rattle.std.proofs.Common.{◌≡◌, inl, inr, ℕ, Bool, true, List, [], ◌++◌, take, drop, refl, sym, ap, ◌∙◌, subst, arith, append_assoc, append-nil, take_all, take-append-drop}
 use Rattle.std.proofs.lemmas.Grind.{flat_map-append}
 use Rattle.message_view.specs.Refusals.{joined_pieces, refusal}
 use Rattle.session_values.specs.State.{Address, CatalogueOf}
@@ -9,7 +9,7 @@ use Rattle.login_core.specs.Logins.{LoginView}
 use Rattle.login_run.specs.Laws.{AllowedBy, IsRefusedByLogin, own}
 use Rattle.pool_serve.specs.Words.{HasGiven, last_bytes}
 use Rattle.pool_serve.specs.Causes.{AtArrival, HasCause, IsFaultyWord, WordHasTrace}
-use Rattle.pool_serve.specs.Serving.{IsServed, MayEnd, Serves}
+use Rattle.pool_serve.specs.Serving.{IsServed, IsServedUnder, MayEnd, Serves}
 use Rattle.pool_serve.specs.declared.word.LastWord.{LastWord}
 use Rattle.pool_serve.specs.declared.word.LastWord.TheVariants as last
 
@@ -18,15 +18,15 @@ by_login v p q taken out pieces (inl b) = inl b
 by_login v p q taken out pieces (inr x) = inr (x.0, inl x.1)
 
 -- a client that was told nothing more
-pub untold_client : (catalogue : Address → CatalogueOf) (v : LoginView) (c : ClientFacts) (p q : PassOf) → IsServed catalogue v c last.Nothing → AllowedBy (HasCause v c.taken p q) c.given (own catalogue v c.taken)
-untold_client catalogue v c p q a = by_login v p q c.taken c.given (own catalogue v c.taken) a
+pub untold_client : (catalogue : Address → CatalogueOf) (v : LoginView) (c : ClientFacts) (p q : PassOf) → IsServed catalogue v c last.Nothing → (marks : List Bool) × AllowedBy (HasCause v c.taken p q) c.given (own catalogue v marks c.taken)
+untold_client catalogue v c p q a = (a.0, by_login v p q c.taken c.given (own catalogue v a.0 c.taken) a.1)
 
 -- a beginning of the last word behind what was given
-told_allowed : (catalogue : Address → CatalogueOf) (v : LoginView) (c : ClientFacts) (p q : PassOf) (word : LastWord) (n : ℕ) → WordHasTrace AtArrival p q word → IsServed catalogue v c word
-    → AllowedBy (HasCause v c.taken p q) (c.given ++ take n (last_bytes word)) (own catalogue v c.taken)
-told_allowed catalogue v c p q last.Nothing n w a =
-    subst (λ (l : List ℕ). AllowedBy (HasCause v c.taken p q) l (own catalogue v c.taken)) (sym (ap (λ (l : List ℕ). c.given ++ l) (take_all n [] (omega arith)) ∙ append-nil c.given)) (untold_client catalogue v c p q a)
-told_allowed catalogue v c p q (last.Refusal r) n w a = inr (
+told_allowed : (catalogue : Address → CatalogueOf) (v : LoginView) (c : ClientFacts) (p q : PassOf) (marks : List Bool) (word : LastWord) (n : ℕ) → WordHasTrace AtArrival p q word → IsServedUnder marks catalogue v c word
+    → AllowedBy (HasCause v c.taken p q) (c.given ++ take n (last_bytes word)) (own catalogue v marks c.taken)
+told_allowed catalogue v c p q marks last.Nothing n w a =
+    subst (λ (l : List ℕ). AllowedBy (HasCause v c.taken p q) l (own catalogue v marks c.taken)) (sym (ap (λ (l : List ℕ). c.given ++ l) (take_all n [] (omega arith)) ∙ append-nil c.given)) (by_login v p q c.taken c.given (own catalogue v marks c.taken) a)
+told_allowed catalogue v c p q marks (last.Refusal r) n w a = inr (
   record {
     given = a.0.given;
     kept = a.0.kept;
@@ -38,7 +38,7 @@ told_allowed catalogue v c p q (last.Refusal r) n w a = inr (
   },
   inr (w, a.1),
 )
-told_allowed catalogue v c p q (last.Error error) n w a = inl (record {
+told_allowed catalogue v c p q marks (last.Error error) n w a = inl (record {
   more = drop n error ++ a.more;
   both =
       append_assoc c.given (take n error) (drop n error ++ a.more)
@@ -48,10 +48,12 @@ told_allowed catalogue v c p q (last.Error error) n w a = inl (record {
 
 -- a client that was told its last word
 pub told_client : (catalogue : Address → CatalogueOf) (v : LoginView) (before after : ClientFacts) (p q : PassOf) (word : LastWord) → HasGiven before after (last_bytes word) → before.tells ≡ true → WordHasTrace AtArrival p q word → IsServed catalogue v before word
-    → AllowedBy (HasCause v after.taken p q) after.given (own catalogue v after.taken)
-told_client catalogue v before after p q word h t w a =
-    subst (λ (l : List ℕ). AllowedBy (HasCause v after.taken p q) l (own catalogue v after.taken)) (sym (h.given t))
-    (subst (λ (l : List ℕ). AllowedBy (HasCause v l p q) (before.given ++ take h.count (last_bytes word)) (own catalogue v l)) (sym (h.taken t)) (told_allowed catalogue v before p q word h.count w a))
+    → (marks : List Bool) × AllowedBy (HasCause v after.taken p q) after.given (own catalogue v marks after.taken)
+told_client catalogue v before after p q word h t w a = (
+  a.0,
+  subst (λ (l : List ℕ). AllowedBy (HasCause v after.taken p q) l (own catalogue v a.0 after.taken)) (sym (h.given t))
+  (subst (λ (l : List ℕ). AllowedBy (HasCause v l p q) (before.given ++ take h.count (last_bytes word)) (own catalogue v a.0 l)) (sym (h.taken t)) (told_allowed catalogue v before p q a.0 word h.count w a.1)),
+)
 
 -- ---- a login's pieces, and then what is owed behind them
 
@@ -79,8 +81,8 @@ behind ps qs out more (last.Error error) e m = record {
 
 -- ---- where nothing was taken or given since
 
-pub nothing_more : (limit : ℕ) (c : ClientFacts) (owed : List ℕ → List (List ℕ)) (word : LastWord) → IsFaultyWord limit [] word → MayEnd [] (owed []) word → Serves limit c c owed word
-nothing_more limit c owed word f m = record { took = []; gave = []; taken = sym (append-nil c.taken); given = sym (append-nil c.given); ends = m; fault = f }
+pub nothing_more : (limit : ℕ) (c : ClientFacts) (owed : List Bool → List ℕ → List (List ℕ)) (word : LastWord) → IsFaultyWord limit [] word → MayEnd [] (owed [] []) word → Serves limit c c owed word
+nothing_more limit c owed word f m = record { marks = []; took = []; gave = []; taken = sym (append-nil c.taken); given = sym (append-nil c.given); ends = m; fault = f }
 
 pub none_ends : (pieces : List (List ℕ)) → MayEnd [] pieces last.Nothing
 none_ends pieces = record { more = joined_pieces pieces; both = refl }

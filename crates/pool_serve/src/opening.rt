@@ -49,7 +49,7 @@ pub(crate) fn open_link<D: LinkDesk, G: Gate<D::End>>(
     ensures born { IfOk result (λ l. l.born ≡ born) }
     ensures home { IfOk result (λ l. IsAtHome D.home l) }
     ensures why { IfErr result IsUnstarted }
-    ensures told { LetsIn D.home guest.now.login.users → IfErr result (λ last. MayEnd [] (owed D.home.catalogue guest.now []) last) }
+    ensures told { LetsIn D.home guest.now.login.users → IfErr result (λ last. MayEnd [] (owed D.home.catalogue guest.now [] []) last) }
 {
     let Some(row) = row_of(guest) else {
         return Err(LastWord::Refusal(Refusal::ServerNotReached));

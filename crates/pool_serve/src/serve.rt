@@ -1,5 +1,5 @@
 //! One client, from its first byte to its end.
-ghost use Rattle.std.specs.Prelude.{◌≡◌, [], None, Some, false, true};
+ghost use Rattle.std.specs.Prelude.{◌≡◌, Bool, List, [], None, Some, false, true};
 ghost use Rattle.ini_config.specs.Bounds.{AreWithinBounds};
 ghost use Rattle.login_core.specs.Dialogue.{AtFirst};
 ghost use Rattle.login_core.specs.Logins.{AwaitsPacket};
@@ -159,7 +159,7 @@ pub fn serve<C: ClientEnd, D: LinkDesk, G: Gate<D::End> + Drop>(
     requires taken { (C.facts client).tells ≡ true → (C.facts client).taken ≡ [] }
     requires given { (C.facts client).tells ≡ true → (C.facts client).given ≡ [] }
     ensures tells { (C.facts result.0).tells ≡ (C.facts client).tells }
-    ensures allowed { (C.facts client).tells ≡ true → LetsIn D.home login.users → AllowedBy (HasCause login (C.facts result.0).taken (D.told pass) (D.told result.1)) (C.facts result.0).given (own D.home.catalogue login (C.facts result.0).taken) }
+    ensures allowed { (C.facts client).tells ≡ true → LetsIn D.home login.users → (marks : List Bool) × AllowedBy (HasCause login (C.facts result.0).taken (D.told pass) (D.told result.1)) (C.facts result.0).given (own D.home.catalogue login marks (C.facts result.0).taken) }
     ensures share { Settles (D.told pass) (D.told result.1) }
     ensures gone { D.whose pass ≡ None → D.whose result.1 ≡ None }
 {

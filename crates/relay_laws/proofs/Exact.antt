@@ -1,5 +1,5 @@
 -- A lease's equation, from what it keeps.
-use Rattle.std.proofs.Common.{◌≡◌, ℕ, true, List, [], ◌∷◌, ◌++◌, sym, ap, ◌∙◌, arith, subst}
+use Rattle.std.proofs.Common.{◌≡◌, ℕ, true, false, List, [], ◌∷◌, ◌++◌, sym, ap, ◌∙◌, arith, subst}
 use Rattle.std.specs.List.{AllByRecursion}
 use Rattle.frame_view.specs.declared.Side.{Side}
 use Rattle.frame_view.specs.Frames.{FrameOf, Stops, front}
@@ -7,7 +7,11 @@ use Rattle.frame_view.specs.declared.frames.TheConstants.{LONGEST_FRAME}
 use Rattle.session_laws.specs.Laws.{IsSent}
 use Rattle.link_laws.specs.Leases as lease
 use Rattle.link_laws.specs.Leases.{Lease, IsUnderWay, IsFront}
-use Rattle.link_laws.proofs.ByName.{leases_are_exact, leases_are_fronts}
+use Rattle.link_laws.specs.Standing.{marks_since}
+use Rattle.link_laws.proofs.ByName.{leases_are_exact, leases_are_fronts, spared_are_unstruck}
+use Rattle.run_laws.proofs.Service.{service_unmarked}
+use Rattle.session_values.specs.State.{CatalogueOf, StartKeyOf}
+use Rattle.session_values.specs.Service.{service}
 use Rattle.relay_flow.proofs.Parting.{opens_stops}
 use Rattle.relay_laws.specs.Leases.{RelayView, Place, IsLease, IsForwarded, IsExact, IsAllowed}
 
@@ -82,6 +86,11 @@ lease_allowed p v x t f =
       accepted = x.moves.accepted;
       forwards = x.goes.on_way;
     }
+
+-- over a link that no cancel reaches it is the service that nobody cancels
+pub spared_service : (p : Place) (v : RelayView) → IsLease p v → p.stands.follows ≡ true → p.stands.server.strikable ≡ false
+    → (cat : CatalogueOf) (key : StartKeyOf) (pid secret : ℕ) (bytes : List ℕ) → service cat key pid secret (marks_since p.stands v.link) bytes ≡ service cat key pid secret [] bytes
+spared_service p v x f e cat key pid secret bytes = service_unmarked cat key pid secret (marks_since p.stands v.link) bytes (spared_are_unstruck p.stands v.link x.sent x.received x.moves f e)
 
 -- with what held when it began
 pub lease_turn : (p : Place) (v : RelayView) → IsLease p v → p.told ≡ true → p.stands.follows ≡ true → (v.client.tells ≡ true → v.link.follows ≡ true → v.link.lives ≡ true → IsExact p v) → v.link.lives ≡ true → IsExact p v

@@ -13,8 +13,8 @@ use Rattle.session_values.specs.Lawful.{IsLawfulCatalogue}
 use Rattle.session_values.specs.Step.{run_frames}
 use Rattle.session_laws.proofs.ByName.{fresh_is_reached, fresh_is_at_rest}
 use Rattle.link_laws.specs.Stages as stages
-use Rattle.link_laws.specs.Stages.{Stage, Before, Asked, Open, Closed, Packet, packets_bytes, after, answers, MayTakeAll}
-use Rattle.link_laws.specs.Standing.{Served}
+use Rattle.link_laws.specs.Stages.{Stage, Before, Asked, Open, Closed, Packet, packets_bytes, packets_marks, after, answers, MayTakeAll}
+use Rattle.link_laws.specs.Standing.{Served, marks_since}
 use Rattle.link_laws.proofs.Both.{lives_before}
 use Rattle.link_laws.proofs.InSession.{InSession, in_session}
 use Rattle.link_laws.specs.Links.{IsFresh, IsIdle, IsResting}
@@ -41,30 +41,31 @@ nothing : (fs : List FrameOf) (left : List ℕ) → [] ≡ flat_map spelling fs 
 nothing [] left e = (refl, sym e)
 nothing (f ∷ fs) left e = absurd (cc)
 
-run-none : (cat : CatalogueOf) (s : State) → (run_frames cat s []).next ≡ s
+run-none : (cat : CatalogueOf) (s : State) (marks : List Bool) → (run_frames cat s marks []).next ≡ s
 unfolding run_frames
-run-none cat s = refl
+run-none cat s marks = refl
 
-replies-none : (cat : CatalogueOf) (s : State) → (run_frames cat s []).replies ≡ []
+replies-none : (cat : CatalogueOf) (s : State) (marks : List Bool) → (run_frames cat s marks []).replies ≡ []
 unfolding run_frames
-replies-none cat s = refl
+replies-none cat s marks = refl
 
 none_both : (a b : List ℕ) → [] ≡ a ++ b → b ≡ []
 none_both [] b e = sym e
 none_both (x ∷ a) b e = absurd (cc)
 
-idle_still : (p : Place) (v : RelayView) (x : IsLease p v) (s : State) → Served p.stands x.sent v.link x.received → IsIdle p.stands s → x.sent ≡ [] → IsIdle v.link s
+idle_still : (p : Place) (v : RelayView) (x : IsLease p v) (s : State) → Served p.stands x.sent (marks_since p.stands v.link) v.link x.received → IsIdle p.stands s → x.sent ≡ [] → IsIdle v.link s
 idle_still p v x s m d e =
     let cat : CatalogueOf = p.stands.server.catalogue in
+    let ms : List Bool = packets_marks m.taken in
     let i : InSession p.stands.server s m.taken = in_session p.stands.server s m.taken (subst (λ (t : Stage). MayTakeAll p.stands.server t m.taken) d.is_open m.lawful) in
     let w : [] ≡ flat_map spelling i.frames ++ v.link.inbox = ap₂ (λ (a b : List ℕ). a ++ b) (sym d.inbox) (sym e) ∙ m.inbox ∙ ap (λ (b : List ℕ). b ++ v.link.inbox) i.bytes in
     let z : (i.frames ≡ []) × (v.link.inbox ≡ []) = nothing i.frames v.link.inbox w in
     let o : [] ≡ x.received ++ v.link.outbox =
-    sym (ap (flat_map spelling) (replies-none cat s)) ∙ ap (λ (fs : List FrameOf). flat_map spelling (run_frames cat s fs).replies) (sym z.0)
+    sym (ap (flat_map spelling) (replies-none cat s ms)) ∙ ap (λ (fs : List FrameOf). flat_map spelling (run_frames cat s ms fs).replies) (sym z.0)
     ∙ ap (flat_map spelling) (sym i.replies) ∙ ap (λ (t : Stage). flat_map spelling (answers p.stands.server t m.taken)) (sym d.is_open)
     ∙ ap (λ (b : List ℕ). b ++ flat_map spelling (answers p.stands.server p.stands.stage m.taken)) (sym d.outbox) ∙ m.outbox in
     record {
-      is_open = m.stage ∙ ap (λ (t : Stage). after p.stands.server t m.taken) d.is_open ∙ i.stage ∙ ap (λ (fs : List FrameOf). Open (run_frames cat s fs).next) z.0 ∙ ap Open (run-none cat s);
+      is_open = m.stage ∙ ap (λ (t : Stage). after p.stands.server t m.taken) d.is_open ∙ i.stage ∙ ap (λ (fs : List FrameOf). Open (run_frames cat s ms fs).next) z.0 ∙ ap Open (run-none cat s ms);
       inbox = z.1;
       outbox = none_both x.received v.link.outbox o;
     }
@@ -151,18 +152,19 @@ reported_now p v x f n w r =
     let c : IsFresh p.stands v.key = (x.clean f).stands in
     let cat : CatalogueOf = p.stands.server.catalogue in
     let s : State = c.session in
-    let m : Served p.stands x.sent v.link x.received = x.moves.served f n in
+    let m : Served p.stands x.sent (marks_since p.stands v.link) v.link x.received = x.moves.served f n in
+    let ms : List Bool = packets_marks m.taken in
     let d : IsIdle p.stands s = c.idle (lives_before p.stands v.link x.moves.dead n) in
     let reached : Reaches cat v.key s = fresh_is_reached cat v.key s c.lawful c.lawful_key c.is_fresh in
     let i : InSession p.stands.server s m.taken = in_session p.stands.server s m.taken (subst (λ (t : Stage). MayTakeAll p.stands.server t m.taken) d.is_open m.lawful) in
-    let o : flat_map spelling (run_frames cat s i.frames).replies ≡ x.received ++ v.link.outbox =
+    let o : flat_map spelling (run_frames cat s ms i.frames).replies ≡ x.received ++ v.link.outbox =
     sym (ap (λ (t : Stage). flat_map spelling (answers p.stands.server t m.taken)) d.is_open ∙ ap (flat_map spelling) i.replies)
     ∙ ap (λ (b : List ℕ). b ++ flat_map spelling (answers p.stands.server p.stands.stage m.taken)) (sym d.outbox) ∙ m.outbox in
-    let q : SplitsOff (run_frames cat s i.frames).replies x.arrived [] v.link.outbox = split_whole Server LONGEST_FRAME (run_frames cat s i.frames).replies x.arrived v.link.outbox (omega arith) (run_replies_are_frames cat v.key s i.frames reached i.sent) x.comes.came (o ∙ ap (λ (b : List ℕ). b ++ v.link.outbox) w) in
+    let q : SplitsOff (run_frames cat s ms i.frames).replies x.arrived [] v.link.outbox = split_whole Server LONGEST_FRAME (run_frames cat s ms i.frames).replies x.arrived v.link.outbox (omega arith) (run_replies_are_frames cat v.key s ms i.frames reached i.sent) x.comes.came (o ∙ ap (λ (b : List ℕ). b ++ v.link.outbox) w) in
     let none : q.more ≡ [] = (nothing q.more [] (sym r.idle.outbox ∙ q.bytes)).0 in
-    let all : (run_frames cat s i.frames).replies ≡ x.arrived = q.all ∙ ap (λ (fs : List FrameOf). x.arrived ++ fs) none ∙ append-nil x.arrived in
-    let now : r.session ≡ (run_frames cat s i.frames).next = same_state r.session (run_frames cat s i.frames).next (sym r.idle.is_open ∙ m.stage ∙ ap (λ (t : Stage). after p.stands.server t m.taken) d.is_open ∙ i.stage) in
-    ap (λ (t : State). t.reported) now ∙ run_reports_tell_values cat v.key s i.frames reached i.sent ∙ ap (after_replies s.reported) all
+    let all : (run_frames cat s ms i.frames).replies ≡ x.arrived = q.all ∙ ap (λ (fs : List FrameOf). x.arrived ++ fs) none ∙ append-nil x.arrived in
+    let now : r.session ≡ (run_frames cat s ms i.frames).next = same_state r.session (run_frames cat s ms i.frames).next (sym r.idle.is_open ∙ m.stage ∙ ap (λ (t : Stage). after p.stands.server t m.taken) d.is_open ∙ i.stage) in
+    ap (λ (t : State). t.reported) now ∙ run_reports_tell_values cat v.key s ms i.frames reached i.sent ∙ ap (after_replies s.reported) all
 
 kept_now : (p : Place) (v : RelayView) (x : IsLease p v) (f : p.stands.follows ≡ true) → v.link.lives ≡ true → x.received ≡ flat_map spelling x.arrived → v.told.reports ≡ after_frames p.reports x.arrived → IsResting v.link v.key → IsRestingLink v.link v.key v.told.reports
 kept_now p v x f n w k r =

@@ -197,7 +197,7 @@ standing_limit = refl
 
 -- ---- a login that has passed
 
-pub passed_given : (dies : Option ℕ) (cat : CatalogueOf) (key : StartKeyOf) (rest old greeted new answer : List ℕ) → greeted ≡ old ++ ok → IsAnswer dies LONGEST_FRAME rest answer (service_pieces cat key standing_word rest) → new ≡ greeted ++ answer
+pub passed_given : (dies : Option ℕ) (cat : CatalogueOf) (key : StartKeyOf) (rest old greeted new answer : List ℕ) → greeted ≡ old ++ ok → IsAnswer dies LONGEST_FRAME rest answer (service_pieces cat key standing_word [] rest) → new ≡ greeted ++ answer
     → Adds dies cat (record { pieces = ok ∷ []; ended = Passed (ToLink key) rest }) old new
 passed_given dies cat key rest old greeted new answer g a n = record {
   given = ok ++ answer;
@@ -231,9 +231,9 @@ none_given None more e = e
 none_allowed : (dies : Option ℕ) (more : List ℕ) → more ≡ [] → IsAllowed dies more []
 none_allowed dies more e = inl (none_given dies more e)
 
-follows_allowed : (dies : Option ℕ) (cat : CatalogueOf) (e : End Way Reason) (more : List ℕ) → Follows dies cat e more → IsAllowed dies more (after_login cat standing_word e)
+follows_allowed : (dies : Option ℕ) (cat : CatalogueOf) (e : End Way Reason) (more : List ℕ) → Follows dies cat e more → IsAllowed dies more (after_login cat standing_word [] e)
 follows_allowed dies cat Unfinished more f = none_allowed dies more f
-follows_allowed dies cat (Passed (ToLink key) left) more f = was_allowed dies LONGEST_FRAME left more (service_pieces cat key standing_word left) f
+follows_allowed dies cat (Passed (ToLink key) left) more f = was_allowed dies LONGEST_FRAME left more (service_pieces cat key standing_word [] left) f
 follows_allowed dies cat (Passed ToConsole left) more f = none_allowed dies more f
 follows_allowed dies cat (Stopped (Refused cause)) more f = inr (record { given = []; kept = []; pieces_are = refl; cause = cause; out_is = f })
 follows_allowed dies cat (Stopped Failed) more f = none_allowed dies more f
@@ -275,10 +275,10 @@ given_whole : (dies : Option ℕ) (out : List ℕ) (pieces : List (List ℕ)) �
 given_whole None out pieces e = e
 given_whole (Some n) out pieces e = record { more = []; both = append-nil out ∙ e }
 
-pub by_session : (dies : Option ℕ) (limit : ℕ) (cat used : CatalogueOf) (key : StartKeyOf) (word : KeyWord) (bytes before out : List ℕ) → used ≡ cat → before ≡ [] → out ≡ before ++ service used key word.pid word.secret bytes → IsAnswer dies limit bytes out (service_pieces cat key word bytes)
+pub by_session : (dies : Option ℕ) (limit : ℕ) (cat used : CatalogueOf) (key : StartKeyOf) (word : KeyWord) (bytes before out : List ℕ) → used ≡ cat → before ≡ [] → out ≡ before ++ service used key word.pid word.secret [] bytes → IsAnswer dies limit bytes out (service_pieces cat key word [] bytes)
 unfolding service
 by_session dies limit cat used key word bytes before out u b e =
-    let whole : out ≡ flat_map spelling (served cat (fresh cat key) word.pid word.secret (client_frames bytes)) =
-    e ∙ (ap (λ (l : List ℕ). l ++ flat_map spelling (served used (fresh used key) word.pid word.secret (client_frames bytes))) b
-    ∙ ap (λ (c : CatalogueOf). flat_map spelling (served c (fresh c key) word.pid word.secret (client_frames bytes))) u) in
-    inl (given_whole dies out _ (whole ∙ sym (pieces_join (served cat (fresh cat key) word.pid word.secret (client_frames bytes)))))
+    let whole : out ≡ flat_map spelling (served cat (fresh cat key) word.pid word.secret [] (client_frames bytes)) =
+    e ∙ (ap (λ (l : List ℕ). l ++ flat_map spelling (served used (fresh used key) word.pid word.secret [] (client_frames bytes))) b
+    ∙ ap (λ (c : CatalogueOf). flat_map spelling (served c (fresh c key) word.pid word.secret [] (client_frames bytes))) u) in
+    inl (given_whole dies out _ (whole ∙ sym (pieces_join (served cat (fresh cat key) word.pid word.secret [] (client_frames bytes)))))

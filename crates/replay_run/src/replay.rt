@@ -84,7 +84,7 @@ fn answered_by_session(
     key: &StartKey,
     rest: &[u8],
 ) -> Result<BytesMut, AllocError>
-    ensures { IfOk result (λ out. IsAnswer service.now.dies_after LONGEST_FRAME rest.now out.items (service_pieces (arc_value service.now.catalogue) key.now standing_word rest.now)) }
+    ensures { IfOk result (λ out. IsAnswer service.now.dies_after LONGEST_FRAME rest.now out.items (service_pieces (arc_value service.now.catalogue) key.now standing_word [] rest.now)) }
 {
     let mut out = BytesMut::new(alloc);
     solo_bytes(alloc, &service.catalogue, key, KEY_WORD, rest, &mut out)?;
@@ -99,13 +99,13 @@ fn served(
     rest: &[u8],
 ) -> Result<BytesMut, AllocError>
     requires key { IsLinkKey (arc_value key.now) }
-    ensures { IfOk result (λ out. IsAnswer service.now.dies_after LONGEST_FRAME rest.now out.items (service_pieces (arc_value service.now.catalogue) (arc_value key.now) standing_word rest.now)) }
+    ensures { IfOk result (λ out. IsAnswer service.now.dies_after LONGEST_FRAME rest.now out.items (service_pieces (arc_value service.now.catalogue) (arc_value key.now) standing_word [] rest.now)) }
 {
     service.catalogue.is_lawful();
     let catalogue = Arc::try_clone(&service.catalogue)?;
     // the server asks for nothing
     let unasked = Secret::Md5([0; 32]);
-    let server = MemoryServer::new(
+    let server = MemoryServer::spared(
         alloc,
         catalogue,
         ServerAuth::Trust,

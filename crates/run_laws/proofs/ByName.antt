@@ -1,13 +1,19 @@
 -- Each law by its name. A proof in another crate imports it so:
 --     use Rattle.run_laws.proofs.ByName.{runs_stay_reached}
-use Rattle.run_laws.specs.Runs.{RunsGoOn, RunsStayReached, ClientFramesAreSent, RunRepliesAreFrames, RunReportsTellValues}
+use Rattle.run_laws.specs.Runs.{RunsGoOn, RunsEnd, RunsByMarks, RunsStayReached, ClientFramesAreSent, RunRepliesAreFrames, RunReportsTellValues}
 use Rattle.run_laws.specs.Settling.{SettledIsQuiet}
-use Rattle.run_laws.proofs.GoesOn.{runs-go_on}
+use Rattle.run_laws.proofs.GoesOn.{runs-go_on, runs-end, runs-by_marks}
 use Rattle.run_laws.proofs.Running.{runs-reached, client_frames-sent, run-are_frames, run-told}
 use Rattle.run_laws.proofs.Settling.{settled-quiet}
 
 pub runs_go_on : RunsGoOn
 runs_go_on = runs-go_on
+
+pub runs_end : RunsEnd
+runs_end = runs-end
+
+pub runs_by_marks : RunsByMarks
+runs_by_marks = runs-by_marks
 
 pub runs_stay_reached : RunsStayReached
 runs_stay_reached = runs-reached

@@ -65,5 +65,5 @@ key-lawful = record {
   ordered = (tt, tt);
 }
 
-pub reached : Reaches catalogue key (run_frames catalogue origin sent).next
-reached = runs_stay_reached catalogue key origin sent (begins catalogue-lawful key-lawful is_fresh) all-sent
+pub reached : Reaches catalogue key (run_frames catalogue origin [] sent).next
+reached = runs_stay_reached catalogue key origin [] sent (begins catalogue-lawful key-lawful is_fresh) all-sent

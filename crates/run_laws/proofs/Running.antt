@@ -1,5 +1,5 @@
 -- Runs: what is reached stays so, and what is told of one step holds of a run.
-use Rattle.std.proofs.Common.{ℕ, zero, suc, ◌+◌, List, [], ◌∷◌, ◌++◌, length, append_assoc, refl, sym, ap, subst, ◌∙◌, arith}
+use Rattle.std.proofs.Common.{ℕ, zero, suc, ◌+◌, Bool, List, [], ◌∷◌, ◌++◌, length, append_assoc, refl, sym, ap, subst, ◌∙◌, arith}
 use Rattle.std.specs.List.{AllByRecursion, flat_map}
 use Rattle.std.specs.Int.{w32, to_be_bytes}
 use Rattle.frame_view.specs.declared.frames.TheConstants.{LONGEST_FRAME}
@@ -7,7 +7,8 @@ use Rattle.frame_view.specs.Frames.{AreBytes, FrameOf, IsFrame, spelling}
 use Rattle.frame_view.specs.declared.Side.TheVariants.{Client, Server}
 use Rattle.frame_view.proofs.Splitting.{frames-split}
 use Rattle.mini_sql.specs.Words.{Text}
-use Rattle.session_values.specs.Step.{step, run_frames}
+use Rattle.session_values.specs.State.{State}
+use Rattle.session_values.specs.Step.{step, first_mark, later_marks, run_frames}
 use Rattle.session_values.specs.Service.{client_frames}
 use Rattle.session_laws.specs.Laws.{IsSent, steps, after_replies}
 use Rattle.run_laws.specs.Runs.{RunsStayReached, ClientFramesAreSent, RunRepliesAreFrames, RunReportsTellValues}
@@ -20,8 +21,8 @@ use Rattle.session_laws.proofs.Telling.{after-append}
 
 pub runs-reached : RunsStayReached
 unfolding run_frames
-runs-reached cat key s [] r h = r
-runs-reached cat key s (f ∷ fs) r h = runs-reached cat key (step cat s f).next fs (steps f r h.0) h.1
+runs-reached cat key s marks [] r h = r
+runs-reached cat key s marks (f ∷ fs) r h = runs-reached cat key (step cat s (first_mark marks) f).next (later_marks marks) fs (steps (first_mark marks) f r h.0) h.1
 
 bytes_before : (front rest : List ℕ) → AreBytes (front ++ rest) → AreBytes front
 bytes_before [] rest k i = omega arith
@@ -44,14 +45,19 @@ client_frames-sent bytes h =
 
 pub run-are_frames : RunRepliesAreFrames
 unfolding run_frames
-run-are_frames cat key s [] r h = tt
-run-are_frames cat key s (f ∷ fs) r h =
-    all-append (IsFrame Server LONGEST_FRAME) (step cat s f).replies (run_frames cat (step cat s f).next fs).replies (replies_are_frames cat key s f r h.0) (run-are_frames cat key (step cat s f).next fs (steps f r h.0) h.1)
+run-are_frames cat key s marks [] r h = tt
+run-are_frames cat key s marks (f ∷ fs) r h =
+    let m : Bool = first_mark marks in
+    let t : State = (step cat s m f).next in
+    all-append (IsFrame Server LONGEST_FRAME) (step cat s m f).replies (run_frames cat t (later_marks marks) fs).replies (replies_are_frames cat key s m f r h.0) (run-are_frames cat key t (later_marks marks) fs (steps m f r h.0) h.1)
 
 pub run-told : RunReportsTellValues
 unfolding run_frames
-run-told cat key s [] r h = refl
-run-told cat key s (f ∷ fs) r h =
-    run-told cat key (step cat s f).next fs (steps f r h.0) h.1
-    ∙ ap (λ (vs : List Text). after_replies vs (run_frames cat (step cat s f).next fs).replies) (reports_tell_values cat key s f r h.0)
-    ∙ sym (after-append s.reported (step cat s f).replies (run_frames cat (step cat s f).next fs).replies)
+run-told cat key s marks [] r h = refl
+run-told cat key s marks (f ∷ fs) r h =
+    let m : Bool = first_mark marks in
+    let t : State = (step cat s m f).next in
+    let more : List FrameOf = (run_frames cat t (later_marks marks) fs).replies in
+    run-told cat key t (later_marks marks) fs (steps m f r h.0) h.1
+    ∙ ap (λ (vs : List Text). after_replies vs more) (reports_tell_values cat key s m f r h.0)
+    ∙ sym (after-append s.reported (step cat s m f).replies more)

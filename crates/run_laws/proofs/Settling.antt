@@ -9,7 +9,7 @@ use Rattle.message_view.specs.Messages.{ready_for_query}
 use Rattle.session_values.specs.declared.block.Block.{Block}
 use Rattle.session_values.specs.declared.block.Block.TheVariants.{Outside, Inside, Failed}
 use Rattle.session_values.specs.State.{State, CatalogueOf, Answer, status}
-use Rattle.session_values.specs.Step.{step, run_frames}
+use Rattle.session_values.specs.Step.{step, first_mark, later_marks, marks_after, run_frames}
 use Rattle.session_laws.specs.Laws.{has_ready, IsAtRest, Ends, without_ready, with_ready}
 use Rattle.run_laws.specs.Settling.{count, closes, is_ready, last_status, SettledIsQuiet}
 use Rattle.run_laws.proofs.GoesOn.{runs-go_on}
@@ -43,17 +43,18 @@ ends-count kind s _ (with_ready rs b c h e n k o r) =
     let w : closing_of kind ≡ 1 = ap (λ (t : Bool). if t then 1 else 0) c in
     omega (arith, a, z, w)
 
-step-count : (cat : CatalogueOf) (s : State) (f : FrameOf) → count is_ready (step cat s f).replies ≤ count closes (f ∷ [])
-step-count cat s f = let h = ends-count f.kind (step cat s f).next (step cat s f).replies (each_step_ends cat s f) in omega (arith, h)
+step-count : (cat : CatalogueOf) (s : State) (struck : Bool) (f : FrameOf) → count is_ready (step cat s struck f).replies ≤ count closes (f ∷ [])
+step-count cat s struck f = let h = ends-count f.kind (step cat s struck f).next (step cat s struck f).replies (each_step_ends cat s struck f) in omega (arith, h)
 
 -- no more answers than were asked for
-run-count : (cat : CatalogueOf) (s : State) (fs : List FrameOf) → count is_ready (run_frames cat s fs).replies ≤ count closes fs
+run-count : (cat : CatalogueOf) (s : State) (marks : List Bool) (fs : List FrameOf) → count is_ready (run_frames cat s marks fs).replies ≤ count closes fs
 unfolding run_frames
-run-count cat s [] = omega arith
-run-count cat s (f ∷ fs) =
-    let a = count-append is_ready (step cat s f).replies (run_frames cat (step cat s f).next fs).replies in
-    let b = step-count cat s f in
-    let c = run-count cat (step cat s f).next fs in
+run-count cat s marks [] = omega arith
+run-count cat s marks (f ∷ fs) =
+    let t : Answer = step cat s (first_mark marks) f in
+    let a = count-append is_ready t.replies (run_frames cat t.next (later_marks marks) fs).replies in
+    let b = step-count cat s (first_mark marks) f in
+    let c = run-count cat t.next (later_marks marks) fs in
     omega (arith, a, b, c)
 
 abbrev last_of : List FrameOf → FrameOf → FrameOf
@@ -108,48 +109,52 @@ answered : (kind : ℕ) (s : State) (rs : List FrameOf) → Ends kind s rs → c
 answered kind s rs (without_ready h) n = absurd (let z = none-counted rs h in omega (arith, z, n))
 answered kind s _ (with_ready rs b c h e d k o r) n = record { front = rs; block = b; is = refl; rest = o }
 
-module _ (cat : CatalogueOf) (s : State) where
-  last-run : (before : List FrameOf) (final : FrameOf) → (run_frames cat s (before ++ final ∷ [])).replies ≡ (run_frames cat s before).replies ++ (step cat (run_frames cat s before).next final).replies
+-- the last step of a run
+abbrev last_step : CatalogueOf → State → List Bool → List FrameOf → FrameOf → Answer
+last_step cat s marks before final = step cat (run_frames cat s marks before).next (first_mark (marks_after before marks)) final
+
+module _ (cat : CatalogueOf) (s : State) (marks : List Bool) where
+  last-run : (before : List FrameOf) (final : FrameOf) → (run_frames cat s marks (before ++ final ∷ [])).replies ≡ (run_frames cat s marks before).replies ++ (last_step cat s marks before final).replies
   unfolding run_frames
   last-run before final =
-      ap (λ (a : Answer). a.replies) (runs-go_on cat s before (final ∷ []))
-      ∙ ap (λ (l : List FrameOf). (run_frames cat s before).replies ++ l) (append-nil (step cat (run_frames cat s before).next final).replies)
+      ap (λ (a : Answer). a.replies) (runs-go_on cat s marks before (final ∷ []))
+      ∙ ap (λ (l : List FrameOf). (run_frames cat s marks before).replies ++ l) (append-nil (last_step cat s marks before final).replies)
 
-  last-next : (before : List FrameOf) (final : FrameOf) → (run_frames cat s (before ++ final ∷ [])).next ≡ (step cat (run_frames cat s before).next final).next
+  last-next : (before : List FrameOf) (final : FrameOf) → (run_frames cat s marks (before ++ final ∷ [])).next ≡ (last_step cat s marks before final).next
   unfolding run_frames
-  last-next before final = ap (λ (a : Answer). a.next) (runs-go_on cat s before (final ∷ []))
+  last-next before final = ap (λ (a : Answer). a.next) (runs-go_on cat s marks before (final ∷ []))
 
 pub settled-quiet : SettledIsQuiet
-settled-quiet cat s sent received taken left more a e r =
-    let t : State = (run_frames cat s a.before).next in
+settled-quiet cat s marks sent received taken left more a e r =
+    let z : Answer = last_step cat s marks a.before a.final in
     let cs = ap (count closes) e ∙ count-append closes taken left in
     let cr = ap (count is_ready) r ∙ count-append is_ready received more in
     let q : count closes sent ≡ count is_ready received = a.equal in
-    let u = run-count cat s taken in
+    let u = run-count cat s marks taken in
     let nl : count closes left ≡ 0 = omega (arith, cs, cr, q, u) in
     let nm : count is_ready more ≡ 0 = omega (arith, cs, cr, q, u) in
     let el : left ≡ [] = nothing_more closes taken left a.before a.final (sym e ∙ a.last) a.closing nl in
     let ts : taken ≡ sent = sym (e ∙ (ap (λ (xs : List FrameOf). taken ++ xs) el ∙ append-nil taken)) in
     let tb : taken ≡ a.before ++ a.final ∷ [] = ts ∙ a.last in
-    let lr : (run_frames cat s taken).replies ≡ (run_frames cat s a.before).replies ++ (step cat t a.final).replies = ap (λ (xs : List FrameOf). (run_frames cat s xs).replies) tb ∙ last-run cat s a.before a.final in
-    let c1 = ap (count is_ready) lr ∙ count-append is_ready (run_frames cat s a.before).replies (step cat t a.final).replies in
+    let lr : (run_frames cat s marks taken).replies ≡ (run_frames cat s marks a.before).replies ++ z.replies = ap (λ (xs : List FrameOf). (run_frames cat s marks xs).replies) tb ∙ last-run cat s marks a.before a.final in
+    let c1 = ap (count is_ready) lr ∙ count-append is_ready (run_frames cat s marks a.before).replies z.replies in
     let c2 = ap (count closes) tb ∙ count-append closes a.before (a.final ∷ []) in
-    let b1 = run-count cat s a.before in
-    let b2 = step-count cat t a.final in
+    let b1 = run-count cat s marks a.before in
+    let b2 = step-count cat (run_frames cat s marks a.before).next (first_mark (marks_after a.before marks)) a.final in
     let one_final : count closes (a.final ∷ []) ≡ 1 = ap (λ (b : Bool). (if b then 1 else 0) + 0) a.closing in
-    let one : count is_ready (step cat t a.final).replies ≡ 1 = omega (arith, c1, c2, b1, b2, one_final, cs, cr, q, nl, nm) in
-    let w : Answered (step cat t a.final).next (step cat t a.final).replies = answered a.final.kind (step cat t a.final).next (step cat t a.final).replies (each_step_ends cat t a.final) one in
-    let whole : received ++ more ≡ ((run_frames cat s a.before).replies ++ w.front) ++ ready_for_query (status w.block) ∷ [] =
-    sym r ∙ lr ∙ ap (λ (l : List FrameOf). (run_frames cat s a.before).replies ++ l) w.is ∙ sym (append_assoc (run_frames cat s a.before).replies w.front (ready_for_query (status w.block) ∷ [])) in
-    let em : more ≡ [] = nothing_more is_ready received more ((run_frames cat s a.before).replies ++ w.front) (ready_for_query (status w.block)) whole refl nm in
-    let rr : received ≡ (run_frames cat s taken).replies = sym (r ∙ (ap (λ (xs : List FrameOf). received ++ xs) em ∙ append-nil received)) in
-    let rf : received ≡ ((run_frames cat s a.before).replies ++ w.front) ++ ready_for_query (status w.block) ∷ [] = sym (append-nil received) ∙ (ap (λ (xs : List FrameOf). received ++ xs) (sym em) ∙ whole) in
-    let st : status w.block ∷ [] ≡ IDLE ∷ [] = sym (last_status-snoc ((run_frames cat s a.before).replies ++ w.front) (status w.block) []) ∙ (sym (ap (λ (xs : List FrameOf). last_status xs []) rf) ∙ a.idle) in
-    let same : (run_frames cat s sent).next ≡ (step cat t a.final).next = ap (λ (xs : List FrameOf). (run_frames cat s xs).next) (a.last) ∙ last-next cat s a.before a.final in
+    let one : count is_ready z.replies ≡ 1 = omega (arith, c1, c2, b1, b2, one_final, cs, cr, q, nl, nm) in
+    let w : Answered z.next z.replies = answered a.final.kind z.next z.replies (each_step_ends cat (run_frames cat s marks a.before).next (first_mark (marks_after a.before marks)) a.final) one in
+    let whole : received ++ more ≡ ((run_frames cat s marks a.before).replies ++ w.front) ++ ready_for_query (status w.block) ∷ [] =
+    sym r ∙ lr ∙ ap (λ (l : List FrameOf). (run_frames cat s marks a.before).replies ++ l) w.is ∙ sym (append_assoc (run_frames cat s marks a.before).replies w.front (ready_for_query (status w.block) ∷ [])) in
+    let em : more ≡ [] = nothing_more is_ready received more ((run_frames cat s marks a.before).replies ++ w.front) (ready_for_query (status w.block)) whole refl nm in
+    let rr : received ≡ (run_frames cat s marks taken).replies = sym (r ∙ (ap (λ (xs : List FrameOf). received ++ xs) em ∙ append-nil received)) in
+    let rf : received ≡ ((run_frames cat s marks a.before).replies ++ w.front) ++ ready_for_query (status w.block) ∷ [] = sym (append-nil received) ∙ (ap (λ (xs : List FrameOf). received ++ xs) (sym em) ∙ whole) in
+    let st : status w.block ∷ [] ≡ IDLE ∷ [] = sym (last_status-snoc ((run_frames cat s marks a.before).replies ++ w.front) (status w.block) []) ∙ (sym (ap (λ (xs : List FrameOf). last_status xs []) rf) ∙ a.idle) in
+    let same : (run_frames cat s marks sent).next ≡ z.next = ap (λ (xs : List FrameOf). (run_frames cat s marks xs).next) (a.last) ∙ last-next cat s marks a.before a.final in
     record {
       all = ts;
       none_left = el;
       none_more = em;
-      answers = rr ∙ ap (λ (xs : List FrameOf). (run_frames cat s xs).replies) ts;
+      answers = rr ∙ ap (λ (xs : List FrameOf). (run_frames cat s marks xs).replies) ts;
       rest = subst IsAtRest (sym same) (w.rest (outside w.block st));
     }

@@ -1,13 +1,25 @@
 //! What a pooler knows of a session's runs, proved over the definitions alone. Each is the contract of a function that does
 //! nothing.
 
-ghost use Rattle.run_laws.specs.Runs.{ClientFramesAreSent, RunRepliesAreFrames, RunReportsTellValues, RunsGoOn, RunsStayReached};
+ghost use Rattle.run_laws.specs.Runs.{ClientFramesAreSent, RunRepliesAreFrames, RunReportsTellValues, RunsByMarks, RunsEnd, RunsGoOn, RunsStayReached};
 ghost use Rattle.run_laws.specs.Settling.{SettledIsQuiet};
 
 /// A list of frames is answered frame by frame: the replies to a front are a front of the replies.
 #[tactic(auto, using(crate::proofs::ByName::runs_go_on))]
 pub fn runs_go_on()
     ensures { RunsGoOn }
+{}
+
+/// One frame more is one step more.
+#[tactic(auto, using(crate::proofs::ByName::runs_end))]
+pub fn runs_end()
+    ensures { RunsEnd }
+{}
+
+/// Which frames cancels struck is all that a run has of its marks.
+#[tactic(auto, using(crate::proofs::ByName::runs_by_marks))]
+pub fn runs_by_marks()
+    ensures { RunsByMarks }
 {}
 
 /// What a session reached leads, by frames of its client, to what it reaches.

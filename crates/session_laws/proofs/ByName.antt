@@ -4,10 +4,10 @@ use Rattle.std.proofs.Common.{refl, arith}
 use Rattle.frame_view.specs.Frames.{IsFrame}
 use Rattle.frame_view.specs.declared.Side.TheVariants.{Server}
 use Rattle.session_values.specs.Errors.{fatal}
-use Rattle.session_laws.specs.Laws.{begins, EachStepEnds, FreshIsAtRest, FreshHasKey, StepKeepsKey, DiscardAllGivesFresh, RepliesAreFrames, StatusesAreReports, ReportsTellValues}
+use Rattle.session_laws.specs.Laws.{begins, EachStepEnds, FreshIsAtRest, FreshHasKey, StepKeepsKey, DiscardAllGivesFresh, StruckDiscardAllIsRefused, OnlyStatementsAreStruck, RepliesAreFrames, StatusesAreReports, ReportsTellValues}
 use Rattle.session_laws.specs.Starts.{FreshIsReached, ReachedHasKey, FreshByNames, WelcomeIsFrames, StartErrorIsFrame, DiscardAllIsFrame, ReportsAreRead, WelcomeIsRead, StartErrorIsShort, ResetsAreRead, longest_start_frame}
 use Rattle.session_laws.proofs.ReadyLast.{step-ends}
-use Rattle.session_laws.proofs.Freshness.{fresh-at_rest, step-has_key, discard-fresh}
+use Rattle.session_laws.proofs.Freshness.{fresh-at_rest, step-has_key, discard-fresh, discard-struck, only-statements}
 use Rattle.session_laws.proofs.Reached.{reached-frames, reached-reports, reached-told, reached-key}
 use Rattle.session_laws.proofs.Starting.{fresh-by_names, welcome-frames, report-read, welcome-read, start_error-short, resets-read}
 
@@ -27,6 +27,12 @@ step_keeps_key = step-has_key
 
 pub discard_all_gives_fresh : DiscardAllGivesFresh
 discard_all_gives_fresh = discard-fresh
+
+pub struck_discard_all_is_refused : StruckDiscardAllIsRefused
+struck_discard_all_is_refused = discard-struck
+
+pub only_statements_are_struck : OnlyStatementsAreStruck
+only_statements_are_struck = only-statements
 
 pub replies_are_frames : RepliesAreFrames
 replies_are_frames = reached-frames

@@ -15,12 +15,12 @@ use Rattle.mini_sql.specs.Words.{Text}
 use Rattle.session_values.specs.declared.block.Block.{Block}
 use Rattle.session_values.specs.declared.block.Block.TheVariants.{Outside, Inside, Failed}
 use Rattle.session_values.specs.declared.cause.Cause.{Cause}
-use Rattle.session_values.specs.declared.cause.Cause.TheVariants.{MalformedMessage, NotSupported, InvalidValue, InTransaction, Aborted, NoStatement, NoPortal, NoDatabase, Syntax, ColumnTwice, NoColumn, NoParameter, NoTable, NoPlaceholder, PortalExists, StatementExists, TableExists, PortalIsDone, FixedParameter}
+use Rattle.session_values.specs.declared.cause.Cause.TheVariants.{MalformedMessage, NotSupported, InvalidValue, InTransaction, Aborted, NoStatement, NoPortal, NoDatabase, Syntax, ColumnTwice, NoColumn, NoParameter, NoTable, NoPlaceholder, PortalExists, StatementExists, TableExists, PortalIsDone, FixedParameter, Cancelled}
 use Rattle.session_values.specs.Parameters.{Values}
 use Rattle.session_values.specs.Errors.{error}
 use Rattle.session_values.specs.State.{State, CatalogueOf, StartKeyOf, SavedOf, Answer, answers, bound, begun, fresh, failed, commit_outside, save, save_unless, reports, reported_of, reported_now, status}
 use Rattle.session_values.specs.Extended.{settle}
-use Rattle.session_values.specs.Step.{Asked, Terminate, Sync, Query, FunctionCall, ParseMessage, BindMessage, Describe, Close, Execute, Password, Nothing, asked, answer_to, answer_skipping, step, step_query, end_query, silent, sync, saved, reading_body, query, without_unnamed}
+use Rattle.session_values.specs.Step.{Asked, Terminate, Sync, Query, FunctionCall, ParseMessage, BindMessage, Describe, Close, Execute, Password, Nothing, asked, answer_to, answer_skipping, executed, step, step_query, end_query, silent, sync, saved, reading_body, query, without_unnamed}
 use Rattle.session_values.specs.Lawful.{IsLawfulCatalogue, IsLawfulKey, IsLawfulParameter}
 use Rattle.session_laws.specs.Laws.{HasKey, IsSent, Reaches, begins, steps, IsReport, IsReportIf, after_replies}
 use Rattle.session_values.proofs.Alls.{all-as, all-append}
@@ -81,6 +81,7 @@ error-plain StatementExists = (omega arith, refl)
 error-plain TableExists = (omega arith, refl)
 error-plain PortalIsDone = (omega arith, refl)
 error-plain FixedParameter = (omega arith, refl)
+error-plain Cancelled = (omega arith, refl)
 
 -- ---- reports and ReadyForQuery
 
@@ -177,9 +178,10 @@ read-parse body (Ok p) l h = ((h.0, omega (arith, h.1)), h.2)
 read-parse body (Err v) l h = tt
 
 module _ (cat : CatalogueOf) (lawful_tables : AllByRecursion IsTable cat.tables) where
-  query-stepped : (s : State) (body : List ℕ) (r : Result Text ViewFault) → 4 + length body ≤ LONGEST_FRAME → Lawful s → QueryTold body r → Stepped s (step_query cat s r)
-  query-stepped s body (Err v) l h k = end_query-stepped s (Err MalformedMessage) h tt
-  query-stepped s body (Ok t) l h k =
+  query-stepped : (s : State) (struck : Bool) (body : List ℕ) (r : Result Text ViewFault) → 4 + length body ≤ LONGEST_FRAME → Lawful s → QueryTold body r → Stepped s (step_query cat s struck r)
+  query-stepped s struck body (Err v) l h k = end_query-stepped s (Err MalformedMessage) h tt
+  query-stepped s true body (Ok t) l h k = end_query-stepped s (Err Cancelled) h tt
+  query-stepped s false body (Ok t) l h k =
       let g = without_unnamed-lawful s h in
       let source : IsSource t = (k.0, omega (arith, k.1)) in
       stepped-from s (without_unnamed s) (end_query (without_unnamed s) (query cat (without_unnamed s) t)) refl (end_query-stepped (without_unnamed s) (query cat (without_unnamed s) t) g (query-kept cat lawful_tables (without_unnamed s) t g source))
@@ -187,18 +189,22 @@ module _ (cat : CatalogueOf) (lawful_tables : AllByRecursion IsTable cat.tables)
   body-stepped : {A : Type 0} (P : A → Type 0) (s : State) (o : Result A ViewFault) (f : A → Result Answer Cause) → Lawful s → OfOk P (reading_body o) → ((x : A) → P x → AllKept s (f x)) → Stepped s (settle s (bound (reading_body o) f))
   body-stepped P s o f h k g = settle-stepped s (bound (reading_body o) f) h (bound-kept P s (reading_body o) f k g)
 
-  answer-stepped : (s : State) (a : Asked) (body : List ℕ) → 4 + length body ≤ LONGEST_FRAME → AreBytes body → Lawful s → Stepped s (answer_to cat s a body)
-  answer-stepped s Terminate body l b h = terminated-stepped s h
-  answer-stepped s Sync body l b h = sync-stepped s h
-  answer-stepped s Query body l b h = saved-stepped s _ (query-stepped (saved s) body (query_of body) l (save-lawful s s.block h) (query-told body b))
-  answer-stepped s FunctionCall body l b h = saved-stepped s _ (end_query-stepped (saved s) (Err NotSupported) (save-lawful s s.block h) tt)
-  answer-stepped s ParseMessage body l b h = let g = save-lawful s s.block h in saved-stepped s _ (body-stepped IsParse (saved s) (parse_of body) _ g (read-parse body (parse_of body) l (parse-told body b)) (λ p k. parse-kept cat lawful_tables (saved s) p g k.0 k.1))
-  answer-stepped s BindMessage body l b h = let g = save-lawful s s.block h in saved-stepped s _ (body-stepped Any (saved s) (bind_of body) _ g (any (reading_body (bind_of body))) (λ x k. bind-kept cat lawful_tables (saved s) x g))
-  answer-stepped s Describe body l b h = let g = save-lawful s s.block h in saved-stepped s _ (body-stepped Any (saved s) (target_of body) _ g (any (reading_body (target_of body))) (λ x k. describe-kept cat lawful_tables (saved s) x g))
-  answer-stepped s Close body l b h = let g = save-lawful s s.block h in saved-stepped s _ (body-stepped Any (saved s) (target_of body) _ g (any (reading_body (target_of body))) (λ x k. close-kept (saved s) x g))
-  answer-stepped s Execute body l b h = let g = save-lawful s s.block h in saved-stepped s _ (body-stepped Any (saved s) (execute_of body) _ g (any (reading_body (execute_of body))) (λ x k. execute-kept cat lawful_tables (saved s) x.0 x.1 g))
-  answer-stepped s Password body l b h = settle-stepped s (Err MalformedMessage) h tt
-  answer-stepped s Nothing body l b h = silent-stepped s h
+  executed-kept : (s : State) (struck : Bool) (e : Text × ℕ) → Lawful s → AllKept s (executed cat s struck e)
+  executed-kept s true e h = tt
+  executed-kept s false e h = execute-kept cat lawful_tables s e.0 e.1 h
+
+  answer-stepped : (s : State) (struck : Bool) (a : Asked) (body : List ℕ) → 4 + length body ≤ LONGEST_FRAME → AreBytes body → Lawful s → Stepped s (answer_to cat s struck a body)
+  answer-stepped s struck Terminate body l b h = terminated-stepped s h
+  answer-stepped s struck Sync body l b h = sync-stepped s h
+  answer-stepped s struck Query body l b h = saved-stepped s _ (query-stepped (saved s) struck body (query_of body) l (save-lawful s s.block h) (query-told body b))
+  answer-stepped s struck FunctionCall body l b h = saved-stepped s _ (end_query-stepped (saved s) (Err NotSupported) (save-lawful s s.block h) tt)
+  answer-stepped s struck ParseMessage body l b h = let g = save-lawful s s.block h in saved-stepped s _ (body-stepped IsParse (saved s) (parse_of body) _ g (read-parse body (parse_of body) l (parse-told body b)) (λ p k. parse-kept cat lawful_tables (saved s) p g k.0 k.1))
+  answer-stepped s struck BindMessage body l b h = let g = save-lawful s s.block h in saved-stepped s _ (body-stepped Any (saved s) (bind_of body) _ g (any (reading_body (bind_of body))) (λ x k. bind-kept cat lawful_tables (saved s) x g))
+  answer-stepped s struck Describe body l b h = let g = save-lawful s s.block h in saved-stepped s _ (body-stepped Any (saved s) (target_of body) _ g (any (reading_body (target_of body))) (λ x k. describe-kept cat lawful_tables (saved s) x g))
+  answer-stepped s struck Close body l b h = let g = save-lawful s s.block h in saved-stepped s _ (body-stepped Any (saved s) (target_of body) _ g (any (reading_body (target_of body))) (λ x k. close-kept (saved s) x g))
+  answer-stepped s struck Execute body l b h = let g = save-lawful s s.block h in saved-stepped s _ (body-stepped Any (saved s) (execute_of body) _ g (any (reading_body (execute_of body))) (λ x k. executed-kept (saved s) struck x g))
+  answer-stepped s struck Password body l b h = settle-stepped s (Err MalformedMessage) h tt
+  answer-stepped s struck Nothing body l b h = silent-stepped s h
 
   skipping-stepped : (s : State) (a : Asked) → Lawful s → Stepped s (answer_skipping s a)
   skipping-stepped s Terminate h = terminated-stepped s h
@@ -217,12 +223,12 @@ module _ (cat : CatalogueOf) (lawful_tables : AllByRecursion IsTable cat.tables)
   choose s true x y h k = h
   choose s false x y h k = k
 
-  pub step-stepped : (s : State) (f : FrameOf) → IsSent f → Lawful s → Stepped s (step cat s f)
+  pub step-stepped : (s : State) (struck : Bool) (f : FrameOf) → IsSent f → Lawful s → Stepped s (step cat s struck f)
   unfolding step
-  step-stepped s f k h =
+  step-stepped s struck f k h =
       choose s s.ended _ _ (silent-stepped s h) (
       choose s s.skipping _ _ (skipping-stepped s (asked f.kind) h) (
-      answer-stepped s (asked f.kind) f.body k.whole.size k.bytes h))
+      answer-stepped s struck (asked f.kind) f.body k.whole.size k.bytes h))
 
 -- ---- reached states
 
@@ -234,11 +240,11 @@ catalogue-tables cat h = all-as _ IsTable lawful-table cat.tables h.tables
 
 pub reached-catalogue : (cat : CatalogueOf) (key : StartKeyOf) (s : State) → Reaches cat key s → IsLawfulCatalogue cat
 reached-catalogue cat key s (begins l k e) = l
-reached-catalogue cat key _ (steps {s} f r h) = reached-catalogue cat key s r
+reached-catalogue cat key _ (steps {s} struck f r h) = reached-catalogue cat key s r
 
 pub reached-key : (cat : CatalogueOf) (key : StartKeyOf) (s : State) → Reaches cat key s → HasKey cat key s
 reached-key cat key s (begins l k e) = record { origin = s; is_fresh = e; defaults = refl }
-reached-key cat key _ (steps {s} f r h) = step-has_key cat key s f (reached-key cat key s r)
+reached-key cat key _ (steps {s} struck f r h) = step-has_key cat key s struck f (reached-key cat key s r)
 
 parameter-pair : (p : Text × Text) → IsLawfulParameter p → IsPair p
 parameter-pair p h = (h.0.value, h.1)
@@ -248,16 +254,16 @@ origin-settings cat key s l k e = fresh-settings cat key s l.version (all-as IsL
 
 pub reached-lawful : (cat : CatalogueOf) (key : StartKeyOf) (s : State) → Reaches cat key s → Lawful s
 reached-lawful cat key s (begins l k e) = subst (λ (t : State). Lawful t) (sym (fresh-begun cat key s e)) (begun-lawful s.defaults (origin-settings cat key s l k e))
-reached-lawful cat key _ (steps {s} f r h) = (step-stepped cat (catalogue-tables cat (reached-catalogue cat key s r)) s f h (reached-lawful cat key s r)).lawful
+reached-lawful cat key _ (steps {s} struck f r h) = (step-stepped cat (catalogue-tables cat (reached-catalogue cat key s r)) s struck f h (reached-lawful cat key s r)).lawful
 
-reached-stepped : (cat : CatalogueOf) (key : StartKeyOf) (s : State) (f : FrameOf) → Reaches cat key s → IsSent f → Stepped s (step cat s f)
-reached-stepped cat key s f r k = step-stepped cat (catalogue-tables cat (reached-catalogue cat key s r)) s f k (reached-lawful cat key s r)
+reached-stepped : (cat : CatalogueOf) (key : StartKeyOf) (s : State) (struck : Bool) (f : FrameOf) → Reaches cat key s → IsSent f → Stepped s (step cat s struck f)
+reached-stepped cat key s struck f r k = step-stepped cat (catalogue-tables cat (reached-catalogue cat key s r)) s struck f k (reached-lawful cat key s r)
 
-pub reached-frames : (cat : CatalogueOf) (key : StartKeyOf) (s : State) (f : FrameOf) → Reaches cat key s → IsSent f → AllByRecursion (IsFrame Server LONGEST_FRAME) (step cat s f).replies
-reached-frames cat key s f r k = (reached-stepped cat key s f r k).frames
+pub reached-frames : (cat : CatalogueOf) (key : StartKeyOf) (s : State) (struck : Bool) (f : FrameOf) → Reaches cat key s → IsSent f → AllByRecursion (IsFrame Server LONGEST_FRAME) (step cat s struck f).replies
+reached-frames cat key s struck f r k = (reached-stepped cat key s struck f r k).frames
 
-pub reached-reports : (cat : CatalogueOf) (key : StartKeyOf) (s : State) (f : FrameOf) → Reaches cat key s → IsSent f → AllByRecursion IsReportIf (step cat s f).replies
-reached-reports cat key s f r k = (reached-stepped cat key s f r k).reports
+pub reached-reports : (cat : CatalogueOf) (key : StartKeyOf) (s : State) (struck : Bool) (f : FrameOf) → Reaches cat key s → IsSent f → AllByRecursion IsReportIf (step cat s struck f).replies
+reached-reports cat key s struck f r k = (reached-stepped cat key s struck f r k).reports
 
-pub reached-told : (cat : CatalogueOf) (key : StartKeyOf) (s : State) (f : FrameOf) → Reaches cat key s → IsSent f → (step cat s f).next.reported ≡ after_replies s.reported (step cat s f).replies
-reached-told cat key s f r k = (reached-stepped cat key s f r k).told
+pub reached-told : (cat : CatalogueOf) (key : StartKeyOf) (s : State) (struck : Bool) (f : FrameOf) → Reaches cat key s → IsSent f → (step cat s struck f).next.reported ≡ after_replies s.reported (step cat s struck f).replies
+reached-told cat key s struck f r k = (reached-stepped cat key s struck f r k).told

@@ -17,7 +17,7 @@ use Rattle.session_values.specs.declared.block.Block.{Block}
 use Rattle.session_values.specs.declared.block.Block.TheVariants.{Outside, Inside, Failed}
 use Rattle.session_values.specs.declared.parameter.Parameter.{Parameter}
 use Rattle.session_values.specs.declared.cause.Cause.{Cause}
-use Rattle.session_values.specs.declared.cause.Cause.TheVariants.{NoStatement, NoPortal, MalformedMessage, NotSupported, ColumnTwice, InvalidValue}
+use Rattle.session_values.specs.declared.cause.Cause.TheVariants.{NoStatement, NoPortal, MalformedMessage, NotSupported, ColumnTwice, InvalidValue, Cancelled}
 use Rattle.session_values.specs.Parameters.{Values, reported_parameters, name, parameter_named}
 use Rattle.session_values.specs.Errors.{error}
 use Rattle.session_values.specs.Named.{named}
@@ -26,7 +26,7 @@ use Rattle.session_values.specs.Lookups.{Columns, look_up, found, to_read}
 use Rattle.session_values.specs.Runs as runs
 use Rattle.session_values.specs.Runs.{Ran, Outcome, ran, run, begin_run, commit_run, rollback_run, discard_run, create_run, insert_run, set_run, set_current, set_local_run, show_run, select_run, opened, declare_run, fetch_run, close_run, row_tag, given_frames, are_distinct, all_fit, operand_value, with_table, insert_into}
 use Rattle.session_values.specs.Extended.{parse, bind, bindable, describe, described, describe_portal, is_result_count, close, execute, execute_on, execute_rows, execute_outcome, execute_ran, sent_rows, description, is_limit, usable, settle, Described}
-use Rattle.session_values.specs.Step.{Asked, Terminate, Sync, Query, FunctionCall, ParseMessage, BindMessage, Describe, Close, Execute, Password, Nothing, asked, answer_to, answer_skipping, end_query, step, step_query, without_unnamed, sync, saved, reading_body, heading, query_ran, query}
+use Rattle.session_values.specs.Step.{Asked, Terminate, Sync, Query, FunctionCall, ParseMessage, BindMessage, Describe, Close, Execute, Password, Nothing, asked, answer_to, answer_skipping, end_query, executed, step, step_query, without_unnamed, sync, saved, reading_body, heading, query_ran, query}
 use Rattle.session_laws.specs.Laws.{has_ready, Ends, without_ready, with_ready}
 
 pub record Fine (s : State) (after : State) (sent : List FrameOf) : Type 0 where
@@ -242,6 +242,10 @@ pub execute-fine : (cat : CatalogueOf) (s : State) (n : Text) (limit : ℕ) → 
 execute-fine cat s n limit =
     bound-fine s (found NoPortal (named portal_name s.portals n)) _ (λ p. bound-fine s (usable s p.query) _ (λ x. bound-fine s (look_up cat s x) _ (λ cs. on-fine cat s p limit x p.progress)))
 
+pub executed-fine : (cat : CatalogueOf) (s : State) (struck : Bool) (e : Text × ℕ) → AllFine s (executed cat s struck e)
+executed-fine cat s true e = tt
+executed-fine cat s false e = execute-fine cat s e.0 e.1
+
 -- ---- a step
 
 reports-fine : (ps : List Parameter) (vs rs : List Text) → has_ready (reports_from ps vs rs) ≡ false
@@ -350,25 +354,26 @@ sync-ends kind s c e =
     readied kind (commit_outside t s.block) [] c refl (h.0 ∙ e) h.1 (committed-rest t s.block refl)
 
 module _ (cat : CatalogueOf) (kind : ℕ) (s : State) (e : s.ended ≡ false) (k : s.skipping ≡ false) where
-  query-ends : (t : Result Text ViewFault) → is_closing kind ≡ true → Ends kind (step_query cat s t).next (step_query cat s t).replies
-  query-ends (Err v) c = end_query-ends kind s (Err MalformedMessage) c tt e k
-  query-ends (Ok t) c = end_query-ends kind (without_unnamed s) (query cat (without_unnamed s) t) c (query-fine cat (without_unnamed s) t) e k
+  query-ends : (struck : Bool) (t : Result Text ViewFault) → is_closing kind ≡ true → Ends kind (step_query cat s struck t).next (step_query cat s struck t).replies
+  query-ends struck (Err v) c = end_query-ends kind s (Err MalformedMessage) c tt e k
+  query-ends true (Ok t) c = end_query-ends kind s (Err Cancelled) c tt e k
+  query-ends false (Ok t) c = end_query-ends kind (without_unnamed s) (query cat (without_unnamed s) t) c (query-fine cat (without_unnamed s) t) e k
 
   body-ends : {A : Type 0} (o : Result A ViewFault) (f : A → Result Answer Cause) → ((x : A) → AllFine s (f x)) → Ends kind (settle s (bound (reading_body o) f)).next (settle s (bound (reading_body o) f)).replies
   body-ends o f h = settle-ends kind s (bound (reading_body o) f) (bound-fine s (reading_body o) f h)
 
-answer-ends : (cat : CatalogueOf) (kind : ℕ) (s : State) (a : Asked) (body : List ℕ) → (closes a ≡ true → is_closing kind ≡ true) → s.ended ≡ false → s.skipping ≡ false → Ends kind (answer_to cat s a body).next (answer_to cat s a body).replies
-answer-ends cat kind s Terminate body c e k = without_ready refl
-answer-ends cat kind s Sync body c e k = sync-ends kind s (c refl) e
-answer-ends cat kind s Query body c e k = let g = save-same s s.block in query-ends cat kind (saved s) (g.0 ∙ e) (g.1 ∙ k) (query_of body) (c refl)
-answer-ends cat kind s FunctionCall body c e k = let g = save-same s s.block in end_query-ends kind (saved s) (Err NotSupported) (c refl) tt (g.0 ∙ e) (g.1 ∙ k)
-answer-ends cat kind s ParseMessage body c e k = let g = save-same s s.block in body-ends cat kind (saved s) (g.0 ∙ e) (g.1 ∙ k) (parse_of body) _ (parse-fine cat (saved s))
-answer-ends cat kind s BindMessage body c e k = let g = save-same s s.block in body-ends cat kind (saved s) (g.0 ∙ e) (g.1 ∙ k) (bind_of body) _ (bind-fine cat (saved s))
-answer-ends cat kind s Describe body c e k = let g = save-same s s.block in body-ends cat kind (saved s) (g.0 ∙ e) (g.1 ∙ k) (target_of body) _ (describe-fine cat (saved s))
-answer-ends cat kind s Close body c e k = let g = save-same s s.block in body-ends cat kind (saved s) (g.0 ∙ e) (g.1 ∙ k) (target_of body) _ (close-fine (saved s))
-answer-ends cat kind s Execute body c e k = let g = save-same s s.block in body-ends cat kind (saved s) (g.0 ∙ e) (g.1 ∙ k) (execute_of body) _ (λ x. execute-fine cat (saved s) x.0 x.1)
-answer-ends cat kind s Password body c e k = settle-ends kind s (Err MalformedMessage) tt
-answer-ends cat kind s Nothing body c e k = without_ready refl
+answer-ends : (cat : CatalogueOf) (kind : ℕ) (s : State) (struck : Bool) (a : Asked) (body : List ℕ) → (closes a ≡ true → is_closing kind ≡ true) → s.ended ≡ false → s.skipping ≡ false → Ends kind (answer_to cat s struck a body).next (answer_to cat s struck a body).replies
+answer-ends cat kind s struck Terminate body c e k = without_ready refl
+answer-ends cat kind s struck Sync body c e k = sync-ends kind s (c refl) e
+answer-ends cat kind s struck Query body c e k = let g = save-same s s.block in query-ends cat kind (saved s) (g.0 ∙ e) (g.1 ∙ k) struck (query_of body) (c refl)
+answer-ends cat kind s struck FunctionCall body c e k = let g = save-same s s.block in end_query-ends kind (saved s) (Err NotSupported) (c refl) tt (g.0 ∙ e) (g.1 ∙ k)
+answer-ends cat kind s struck ParseMessage body c e k = let g = save-same s s.block in body-ends cat kind (saved s) (g.0 ∙ e) (g.1 ∙ k) (parse_of body) _ (parse-fine cat (saved s))
+answer-ends cat kind s struck BindMessage body c e k = let g = save-same s s.block in body-ends cat kind (saved s) (g.0 ∙ e) (g.1 ∙ k) (bind_of body) _ (bind-fine cat (saved s))
+answer-ends cat kind s struck Describe body c e k = let g = save-same s s.block in body-ends cat kind (saved s) (g.0 ∙ e) (g.1 ∙ k) (target_of body) _ (describe-fine cat (saved s))
+answer-ends cat kind s struck Close body c e k = let g = save-same s s.block in body-ends cat kind (saved s) (g.0 ∙ e) (g.1 ∙ k) (target_of body) _ (close-fine (saved s))
+answer-ends cat kind s struck Execute body c e k = let g = save-same s s.block in body-ends cat kind (saved s) (g.0 ∙ e) (g.1 ∙ k) (execute_of body) _ (executed-fine cat (saved s) struck)
+answer-ends cat kind s struck Password body c e k = settle-ends kind s (Err MalformedMessage) tt
+answer-ends cat kind s struck Nothing body c e k = without_ready refl
 
 skipping-ends : (kind : ℕ) (s : State) (a : Asked) → (closes a ≡ true → is_closing kind ≡ true) → s.ended ≡ false → Ends kind (answer_skipping s a).next (answer_skipping s a).replies
 skipping-ends kind s Terminate c e = without_ready refl
@@ -387,9 +392,9 @@ choose : (kind : ℕ) (b : Bool) (x y : Answer) → (b ≡ true → Ends kind x.
 choose kind true x y f g = f refl
 choose kind false x y f g = g refl
 
-pub step-ends : (cat : CatalogueOf) (s : State) (f : FrameOf) → Ends f.kind (step cat s f).next (step cat s f).replies
+pub step-ends : (cat : CatalogueOf) (s : State) (struck : Bool) (f : FrameOf) → Ends f.kind (step cat s struck f).next (step cat s struck f).replies
 unfolding step
-step-ends cat s f =
+step-ends cat s struck f =
     choose f.kind s.ended _ _ (λ h. without_ready refl) (λ e.
     choose f.kind s.skipping _ _ (λ h. skipping-ends f.kind s (asked f.kind) (asked-closes f.kind) e) (λ k.
-    answer-ends cat f.kind s (asked f.kind) f.body (asked-closes f.kind) e k))
+    answer-ends cat f.kind s struck (asked f.kind) f.body (asked-closes f.kind) e k))

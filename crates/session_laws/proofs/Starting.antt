@@ -1,6 +1,6 @@
 -- What a session begins with, and what its welcome, its refusal and a reset are read as.
 use Rattle.session_values.specs.State.{started_over}
-use Rattle.std.proofs.Common.{◌≡◌, ℕ, suc, ◌≤◌, List, [], ◌∷◌, length, length-append, Ok, Err, refl, sym, ap, ap₂, ◌∙◌, arith}
+use Rattle.std.proofs.Common.{◌≡◌, ℕ, suc, ◌≤◌, false, List, [], ◌∷◌, length, length-append, Ok, Err, refl, sym, ap, ap₂, ◌∙◌, arith}
 use Rattle.std.specs.Prelude.{if◌then◌else◌}
 use Rattle.std.specs.List.{AllZip}
 use Rattle.message_view.specs.declared.kinds.TheConstants.{IDLE}
@@ -13,7 +13,7 @@ use Rattle.message_view.specs.Reading.{status_of}
 use Rattle.mini_sql.specs.Words.{Text}
 use Rattle.session_values.specs.declared.parameter.Parameter.{Parameter}
 use Rattle.session_values.specs.declared.parameter.Parameter.TheVariants.{ApplicationName, ClientEncoding, DateStyle, IntegerDatetimes, IntervalStyle, ServerEncoding, ServerVersion, StandardConformingStrings, TimeZone, ExtraFloatDigits, SearchPath, StatementTimeout}
-use Rattle.session_values.specs.declared.cause.Cause.TheVariants.{MalformedMessage, NotSupported, InvalidValue, InTransaction, Aborted, NoStatement, NoPortal, NoDatabase, Syntax, ColumnTwice, NoColumn, NoParameter, NoTable, NoPlaceholder, PortalExists, StatementExists, TableExists, PortalIsDone, FixedParameter}
+use Rattle.session_values.specs.declared.cause.Cause.TheVariants.{MalformedMessage, NotSupported, InvalidValue, InTransaction, Aborted, NoStatement, NoPortal, NoDatabase, Syntax, ColumnTwice, NoColumn, NoParameter, NoTable, NoPlaceholder, PortalExists, StatementExists, TableExists, PortalIsDone, FixedParameter, Cancelled}
 use Rattle.session_values.specs.Parameters.{reported_parameters, name, defaults}
 use Rattle.session_values.specs.State.{State, CatalogueOf, StartKeyOf, Answer, fresh, all_reports, reports_from, set_all, started, has_text}
 use Rattle.session_laws.specs.Laws.{IsSent, Reaches, begins, steps, IsReport, after_replies, discard_all}
@@ -110,6 +110,7 @@ start_error-short StatementExists = record { of_type = refl; size = omega arith 
 start_error-short TableExists = record { of_type = refl; size = omega arith }
 start_error-short PortalIsDone = record { of_type = refl; size = omega arith }
 start_error-short FixedParameter = record { of_type = refl; size = omega arith }
+start_error-short Cancelled = record { of_type = refl; size = omega arith }
 
 -- ---- resets
 
@@ -118,7 +119,7 @@ discard-sent = record { whole = record { of_type = refl; size = omega arith }; b
 
 origin-of : (cat : CatalogueOf) (key : StartKeyOf) (s origin : State) → Reaches cat key s → fresh cat key ≡ Ok origin → AreSettings origin.defaults
 origin-of cat key s origin (begins l k e) o = origin-settings cat key origin l k o
-origin-of cat key _ origin (steps {s} f r h) o = origin-of cat key s origin r o
+origin-of cat key _ origin (steps {s} struck f r h) o = origin-of cat key s origin r o
 
 pub resets-read : ResetsAreRead
 resets-read cat key s origin r e rest =
@@ -126,7 +127,7 @@ resets-read cat key s origin r e rest =
     let d = discard-fresh cat key s origin k e rest in
     let settings = origin-of cat key s origin r e in
     let rs = reports-are origin.defaults s.reported settings in
-    let t = reached-told cat key s discard_all r discard-sent in
+    let t = reached-told cat key s false discard_all r discard-sent in
     record {
       short = (record { of_type = refl; size = omega arith }, all-append (IsFrame Server longest_start_frame) (reports_from reported_parameters origin.defaults s.reported) (ready_for_query IDLE ∷ []) (all-as IsReport (IsFrame Server longest_start_frame) report-small (reports_from reported_parameters origin.defaults s.reported) rs) (record { of_type = refl; size = omega arith }, tt));
       told = sym (sym (ap (λ (a : Answer). a.next.reported) d) ∙ t ∙ ap (λ (a : Answer). after_replies s.reported a.replies) d);

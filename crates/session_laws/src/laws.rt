@@ -1,6 +1,6 @@
 //! What a pooler knows of one step of a session, proved over the definitions alone. Each is the contract of a function that does nothing.
 
-ghost use Rattle.session_laws.specs.Laws.{DiscardAllGivesFresh, EachStepEnds, FreshHasKey, FreshIsAtRest, RepliesAreFrames, ReportsTellValues, StatusesAreReports, StepKeepsKey};
+ghost use Rattle.session_laws.specs.Laws.{DiscardAllGivesFresh, EachStepEnds, FreshHasKey, FreshIsAtRest, OnlyStatementsAreStruck, RepliesAreFrames, ReportsTellValues, StatusesAreReports, StepKeepsKey, StruckDiscardAllIsRefused};
 
 /// At most one reply is a ReadyForQuery, the last one, only after a closing message; with status `I`
 /// the session is at rest, and the reported values are the current ones.
@@ -26,9 +26,21 @@ pub fn step_keeps_key()
     ensures { StepKeepsKey }
 {}
 
-/// From a session at rest, DISCARD ALL gives the fresh session of its key.
+/// From a session at rest, DISCARD ALL that no cancel struck gives the fresh session of its key.
 pub fn discard_all_gives_fresh()
     ensures { DiscardAllGivesFresh }
+{}
+
+/// One that a cancel struck is answered by an error first.
+#[tactic(auto, using(crate::proofs::ByName::struck_discard_all_is_refused))]
+pub fn struck_discard_all_is_refused()
+    ensures { StruckDiscardAllIsRefused }
+{}
+
+/// A cancel changes the answer to a Query or an Execute that isn't skipped, and to nothing else.
+#[tactic(auto, using(crate::proofs::ByName::only_statements_are_struck))]
+pub fn only_statements_are_struck()
+    ensures { OnlyStatementsAreStruck }
 {}
 
 /// What a session that began fresh replies is whole frames.

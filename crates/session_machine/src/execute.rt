@@ -8,6 +8,7 @@ ghost use Rattle.session_values.specs.Answers.{Gave, Performs};
 ghost use Rattle.session_values.specs.Extended.{execute, execute_on, execute_outcome, execute_rows, is_suspended, sent_rows};
 ghost use Rattle.session_values.specs.Picks.{HasAtMost64Columns};
 ghost use Rattle.session_values.specs.State.{NotRun};
+ghost use Rattle.session_values.specs.Step.{executed};
 ghost use Rattle.statement_runs.specs.Rans.{outcome_of};
 
 use bytes::BytesMut;
@@ -170,7 +171,7 @@ fn execute_on(
 }
 
 /// Execute of a portal.
-pub(crate) fn execute(
+fn execute(
     alloc: Global,
     session: &mut SessionState,
     catalogue: &Catalogue,
@@ -187,4 +188,22 @@ pub(crate) fn execute(
     let statement = usable(session, portal.query().as_slice())?;
     let _ = look_up(alloc, session, catalogue, &statement)?;
     execute_on(alloc, session, catalogue, &portal, limit, &statement, out)
+}
+
+/// Execute of a portal, unless a cancel struck it.
+pub(crate) fn executed(
+    alloc: Global,
+    session: &mut SessionState,
+    catalogue: &Catalogue,
+    struck: bool,
+    name: &[u8],
+    limit: i32,
+    out: &mut BytesMut,
+) -> Result<(), Stop>
+    ensures { Performs result session.old session.new out.old.items out.new.items (executed catalogue.now session.old struck (name.now, cast_unsigned w32 limit)) }
+{
+    if struck {
+        return Err(Stop::Refused(Cause::Cancelled));
+    }
+    execute(alloc, session, catalogue, name, limit, out)
 }

@@ -1,5 +1,5 @@
 //! Query and FunctionCall (PostgreSQL manual, "Simple Query").
-ghost use Rattle.std.specs.Prelude.{◌≡◌, ◌++◌, Err, OnOk};
+ghost use Rattle.std.specs.Prelude.{◌≡◌, ◌++◌, Ok, Err, OnOk};
 ghost use Rattle.std.specs.List.{flat_map};
 ghost use Rattle.frame_view.specs.Frames.{spelling};
 ghost use Rattle.mini_sql.specs.Meanings.{meaning};
@@ -114,21 +114,37 @@ fn query_text(
     }
 }
 
+/// Answers a Query of this text, unless a cancel struck it.
+fn answer_read(
+    alloc: Global,
+    session: &mut SessionState,
+    catalogue: &Catalogue,
+    struck: bool,
+    text: &[u8],
+    out: &mut BytesMut,
+) -> Result<(), AllocError>
+    ensures { OnOk result (Gave session.new out.old.items out.new.items (step_query catalogue.now session.old struck (Ok text.now))) }
+{
+    if struck {
+        return fail_query(alloc, session, Cause::Cancelled, out);
+    }
+    session.drop_unnamed(alloc)?;
+    query_text(alloc, session, catalogue, text, out)
+}
+
 /// Answers a Query.
 pub(crate) fn answer_query(
     alloc: Global,
     session: &mut SessionState,
     catalogue: &Catalogue,
+    struck: bool,
     body: &[u8],
     out: &mut BytesMut,
 ) -> Result<(), AllocError>
-    ensures { OnOk result (Gave session.new out.old.items out.new.items (step_query catalogue.now session.old (query_of body.now))) }
+    ensures { OnOk result (Gave session.new out.old.items out.new.items (step_query catalogue.now session.old struck (query_of body.now))) }
 {
     match QueryView::read(body) {
-        Ok(view) => {
-            session.drop_unnamed(alloc)?;
-            query_text(alloc, session, catalogue, view.text, out)
-        }
+        Ok(view) => answer_read(alloc, session, catalogue, struck, view.text, out),
         Err(_) => fail_query(alloc, session, Cause::MalformedMessage, out),
     }
 }

@@ -1,5 +1,5 @@
 //! What a server started for one client alone answers.
-ghost use Rattle.std.specs.Prelude.{◌≡◌, ◌++◌, length, OnOk, OnErr, Ok};
+ghost use Rattle.std.specs.Prelude.{◌≡◌, ◌++◌, [], length, OnOk, OnErr, Ok};
 ghost use Rattle.std.specs.List.{flat_map};
 ghost use Rattle.frame_view.specs.Frames.{spelling};
 ghost use Rattle.session_values.specs.Service.{client_frames, served, service, welcome};
@@ -40,17 +40,17 @@ fn answer_all(
     bytes: &[u8],
     out: &mut BytesMut,
 ) -> Result<(), AllocError>
-    ensures { OnOk result (out.new.items ≡ out.old.items ++ flat_map spelling (run_frames catalogue.now session.old (client_frames bytes.now)).replies) }
+    ensures { OnOk result (out.new.items ≡ out.old.items ++ flat_map spelling (run_frames catalogue.now session.old [] (client_frames bytes.now)).replies) }
 {
     let mut at = 0;
     while let Step::Whole(frame) = next_frame(bytes, at, LONGEST_FRAME, Side::Client) {
-        answer(alloc, session, catalogue, frame, out)?;
+        answer(alloc, session, catalogue, false, frame, out)?;
         at += frame.whole.len();
     }
     Ok(())
 }
 
-/// Appends what a server started for this client alone answers to the bytes after its login: the
+/// Appends what a server started for this client alone, which nobody cancels, answers to the bytes after its login: the
 /// welcome and the replies to all whole frames, or the start's error. It takes the whole input. The
 /// only error is that an allocation failed, which leaves `out` as it was.
 #[tactic(auto, unfolding(session_values::specs::Service::service))]
@@ -62,7 +62,7 @@ pub fn solo_bytes(
     bytes: &[u8],
     out: &mut BytesMut,
 ) -> Result<(), AllocError>
-    ensures ok { OnOk result (out.new.items ≡ out.old.items ++ service catalogue.now key.now word.pid word.secret bytes.now) }
+    ensures ok { OnOk result (out.new.items ≡ out.old.items ++ service catalogue.now key.now word.pid word.secret [] bytes.now) }
     ensures err { OnErr result (out.new.items ≡ out.old.items) }
 {
     let mut all = BytesMut::copy_from_slice(alloc, out.as_slice())?;
@@ -79,7 +79,7 @@ fn put_service(
     bytes: &[u8],
     out: &mut BytesMut,
 ) -> Result<(), AllocError>
-    ensures { OnOk result (out.new.items ≡ out.old.items ++ flat_map spelling (served catalogue.now (fresh catalogue.now key.now) word.pid word.secret (client_frames bytes.now))) }
+    ensures { OnOk result (out.new.items ≡ out.old.items ++ flat_map spelling (served catalogue.now (fresh catalogue.now key.now) word.pid word.secret [] (client_frames bytes.now))) }
 {
     match SessionState::start(alloc, catalogue, key) {
         Ok(session) => serve(alloc, catalogue, session, word, bytes, out),
@@ -96,7 +96,7 @@ fn serve(
     bytes: &[u8],
     out: &mut BytesMut,
 ) -> Result<(), AllocError>
-    ensures { OnOk result (out.new.items ≡ out.old.items ++ flat_map spelling (served catalogue.now (Ok session) word.pid word.secret (client_frames bytes.now))) }
+    ensures { OnOk result (out.new.items ≡ out.old.items ++ flat_map spelling (served catalogue.now (Ok session) word.pid word.secret [] (client_frames bytes.now))) }
 {
     let mut session = session;
     put_welcome(&session, word, out)?;

@@ -1,14 +1,14 @@
 //! One frame of the client: the next state and the replies (PostgreSQL manual, "Message Flow").
-ghost use Rattle.std.specs.Prelude.{OnOk, Ok, Err};
+ghost use Rattle.std.specs.Prelude.{◌≡◌, OnOk, Ok, Err};
 ghost use Rattle.message_view.specs.Reading.{query_of};
 ghost use Rattle.session_values.specs.Answers.{Gave, Performs, frame_of};
 ghost use Rattle.session_values.specs.Extended.{refused, settle};
-ghost use Rattle.session_values.specs.Step.{answer_skipping, answer_to, asked, end_query, performed, saved, step, step_query, sync};
+ghost use Rattle.session_values.specs.Step.{answer_skipping, answer_to, asked, end_query, may_be_struck, performed, saved, step, step_query, sync};
 
 use crate::bind::bind;
 use crate::close::close;
 use crate::describe::describe;
-use crate::execute::execute;
+use crate::execute::executed;
 use crate::parse::parse;
 use crate::query::{answer_query, fail_query};
 use bytes::BytesMut;
@@ -36,15 +36,16 @@ fn refuse(
     Ok(())
 }
 
-/// Carries out a message of the extended query.
+/// Carries out a message of the extended query, unless a cancel struck it.
 fn perform(
     alloc: Global,
     session: &mut SessionState,
     catalogue: &Catalogue,
+    struck: bool,
     frame: Frame<'_>,
     out: &mut BytesMut,
 ) -> Result<(), Stop>
-    ensures { Performs result session.old session.new out.old.items out.new.items (performed catalogue.now session.old (asked frame.entry.kind) frame.entry.body.now) }
+    ensures { Performs result session.old session.new out.old.items out.new.items (performed catalogue.now session.old struck (asked frame.entry.kind) frame.entry.body.now) }
 {
     match frame.kind {
         client::PARSE => {
@@ -66,7 +67,15 @@ fn perform(
         }
         client::EXECUTE => {
             let view = ExecuteView::read(frame.body)?;
-            execute(alloc, session, catalogue, view.portal, view.limit, out)
+            executed(
+                alloc,
+                session,
+                catalogue,
+                struck,
+                view.portal,
+                view.limit,
+                out,
+            )
         }
         _ => Ok(()),
     }
@@ -86,13 +95,14 @@ fn answer_extended(
     alloc: Global,
     session: &mut SessionState,
     catalogue: &Catalogue,
+    struck: bool,
     frame: Frame<'_>,
     out: &mut BytesMut,
 ) -> Result<(), AllocError>
-    ensures { OnOk result (Gave session.new out.old.items out.new.items (settle (saved session.old) (performed catalogue.now (saved session.old) (asked frame.entry.kind) frame.entry.body.now))) }
+    ensures { OnOk result (Gave session.new out.old.items out.new.items (settle (saved session.old) (performed catalogue.now (saved session.old) struck (asked frame.entry.kind) frame.entry.body.now))) }
 {
     session.save();
-    match perform(alloc, session, catalogue, frame, out) {
+    match perform(alloc, session, catalogue, struck, frame, out) {
         Ok(()) => Ok(()),
         Err(Stop::Refused(cause)) => refuse(alloc, session, cause, out),
         Err(Stop::OutOfMemory) => Err(AllocError),
@@ -114,13 +124,14 @@ fn answer_text(
     alloc: Global,
     session: &mut SessionState,
     catalogue: &Catalogue,
+    struck: bool,
     body: &[u8],
     out: &mut BytesMut,
 ) -> Result<(), AllocError>
-    ensures { OnOk result (Gave session.new out.old.items out.new.items (step_query catalogue.now (saved session.old) (query_of body.now))) }
+    ensures { OnOk result (Gave session.new out.old.items out.new.items (step_query catalogue.now (saved session.old) struck (query_of body.now))) }
 {
     session.save();
-    answer_query(alloc, session, catalogue, body, out)
+    answer_query(alloc, session, catalogue, struck, body, out)
 }
 
 /// Answers a message that isn't skipped.
@@ -128,10 +139,11 @@ fn answer_to(
     alloc: Global,
     session: &mut SessionState,
     catalogue: &Catalogue,
+    struck: bool,
     frame: Frame<'_>,
     out: &mut BytesMut,
 ) -> Result<(), AllocError>
-    ensures { OnOk result (Gave session.new out.old.items out.new.items (answer_to catalogue.now session.old (asked frame.entry.kind) frame.entry.body.now)) }
+    ensures { OnOk result (Gave session.new out.old.items out.new.items (answer_to catalogue.now session.old struck (asked frame.entry.kind) frame.entry.body.now)) }
 {
     match frame.kind {
         client::TERMINATE => {
@@ -139,10 +151,10 @@ fn answer_to(
             Ok(())
         }
         client::SYNC => sync(alloc, session, out),
-        client::QUERY => answer_text(alloc, session, catalogue, frame.body, out),
+        client::QUERY => answer_text(alloc, session, catalogue, struck, frame.body, out),
         client::FUNCTION_CALL => answer_call(alloc, session, out),
         client::PARSE | client::BIND | client::DESCRIBE | client::CLOSE | client::EXECUTE =>
-            answer_extended(alloc, session, catalogue, frame, out),
+            answer_extended(alloc, session, catalogue, struck, frame, out),
         client::PASSWORD_MESSAGE => refuse(alloc, session, Cause::MalformedMessage, out),
         _ => Ok(()),
     }
@@ -167,16 +179,30 @@ fn answer_skipping(
     }
 }
 
-/// Answers a frame. After an `Err` session and buffer are of no use.
+/// Whether the frame is a Query or an Execute that isn't skipped.
+pub(crate) fn may_be_struck(session: &SessionState, frame: Frame<'_>) -> bool
+    ensures { result ≡ may_be_struck session.now (frame_of frame.entry) }
+{
+    if session.has_ended() || session.is_skipping() {
+        return false;
+    }
+    match frame.kind {
+        client::QUERY | client::EXECUTE => true,
+        _ => false,
+    }
+}
+
+/// Answers a frame, which a cancel struck or not. After an `Err` session and buffer are of no use.
 #[tactic(auto, unfolding(session_values::specs::Step::step))]
 pub(crate) fn answer(
     alloc: Global,
     session: &mut SessionState,
     catalogue: &Catalogue,
+    struck: bool,
     frame: Frame<'_>,
     out: &mut BytesMut,
 ) -> Result<(), AllocError>
-    ensures { OnOk result (Gave session.new out.old.items out.new.items (step catalogue.now session.old (frame_of frame.entry))) }
+    ensures { OnOk result (Gave session.new out.old.items out.new.items (step catalogue.now session.old struck (frame_of frame.entry))) }
 {
     if session.has_ended() {
         return Ok(());
@@ -184,5 +210,5 @@ pub(crate) fn answer(
     if session.is_skipping() {
         return answer_skipping(alloc, session, frame, out);
     }
-    answer_to(alloc, session, catalogue, frame, out)
+    answer_to(alloc, session, catalogue, struck, frame, out)
 }

@@ -68,6 +68,22 @@ fn answers_frames(rt: HostRuntime) -> Result<(), Fail> {
     Ok(())
 }
 
+/// A cancel is spent by the next Query that isn't skipped, and by no Sync.
+#[test]
+fn answers_a_cancel(rt: HostRuntime) -> Result<(), Fail> {
+    let alloc = rt.alloc();
+    let mut session = session(alloc)?;
+    session.strike();
+    let synced = answer(alloc, &mut session, b"S\0\0\0\x04")?;
+    assert!(rt; synced.as_slice() == b"Z\0\0\0\x05I".as_slice());
+    let cancelled = answer(alloc, &mut session, b"Q\0\0\0\x05\0")?;
+    assert!(rt; cancelled.len() == 58);
+    assert!(rt; cancelled.as_slice().starts_with(b"E\0\0\0\x33SERROR\0VERROR\0C57014\0"));
+    let next = answer(alloc, &mut session, b"Q\0\0\0\x05\0")?;
+    assert!(rt; next.as_slice() == b"I\0\0\0\x04Z\0\0\0\x05I".as_slice());
+    Ok(())
+}
+
 fn welcome(alloc: Global) -> Result<BytesMut, Fail> {
     let mut out = BytesMut::new(alloc);
     session(alloc)?.put_welcome(alloc, WORD, &mut out)?;

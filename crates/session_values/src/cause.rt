@@ -42,6 +42,8 @@ pub enum Cause {
     PortalIsDone,
     /// 55P02
     FixedParameter,
+    /// 57014
+    Cancelled,
 }
 
 impl Cause {
@@ -71,6 +73,7 @@ impl Cause {
             Cause::TableExists => b"42P07",
             Cause::PortalIsDone => b"55000",
             Cause::FixedParameter => b"55P02",
+            Cause::Cancelled => b"57014",
         }
     }
 
@@ -98,6 +101,7 @@ impl Cause {
             Cause::TableExists => b"relation already exists",
             Cause::PortalIsDone => b"portal cannot be run",
             Cause::FixedParameter => b"parameter cannot be changed",
+            Cause::Cancelled => b"statement was cancelled",
         }
     }
 }

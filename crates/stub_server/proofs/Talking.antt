@@ -19,6 +19,8 @@ use Rattle.frame_view.specs.Laws.{FirstGrows, FirstReadIsSpelled, FrontGrows}
 use Rattle.frame_view.proofs.FirstTaken.{started}
 use Rattle.frame_view.proofs.Splitting.{frames-stopped}
 use Rattle.frame_view.proofs.Taking.{taken}
+use Rattle.run_laws.proofs.GoesOn.{unmarked_run}
+use Rattle.session_machine.specs.Sessions.{SessionOf}
 use Rattle.session_values.specs.declared.cause.Cause.{Cause}
 use Rattle.session_values.specs.Answers.{Gave, frame_of}
 use Rattle.session_values.specs.State.{State, CatalogueOf, Answer, and_then}
@@ -26,8 +28,8 @@ use Rattle.session_values.specs.Step.{silent}
 use Rattle.session_values.specs.Errors.{fatal}
 use Rattle.session_values.specs.Step.{step, run_frames}
 use Rattle.session_values.specs.Service.{client_frames}
-use Rattle.link_laws.specs.Futures.{replies_open, replies_in, FuturesStay}
-use Rattle.link_laws.specs.Stages.{Server, Open, Turn, packet_bytes, let_in, opened, opens, started_by, serve}
+use Rattle.link_laws.specs.Futures.{replies_open, FuturesStay}
+use Rattle.link_laws.specs.Stages.{Server, Open, Turn, packet_bytes, packet_marks, let_in, opened, opens, started_by, serve}
 use Rattle.link_laws.specs.Stages as stages
 use Rattle.link_laws.specs.Standing.{Standing, Moves}
 use Rattle.memory_ends.specs.Dialogues as server
@@ -42,7 +44,7 @@ use Rattle.stub_server.specs.Talks.{TalkOf, Hears, IsTurn, Takes, after_frame, r
 
 -- ---- the stage of a server that was started
 
-stage_replies : (v : Server) (r : Result State Cause) (bytes : List ℕ) → replies_from v (stage_of (opened v r).next) bytes ≡ replies_open v (opened v r).next bytes
+stage_replies : (v : Server) (r : Result State Cause) (bytes : List ℕ) → replies_from v (stage_of (opened v r).next) bytes ≡ replies_open v (opened v r).next [] bytes
 stage_replies v (Ok s) bytes = refl
 stage_replies v (Err c) bytes = refl
 
@@ -83,15 +85,15 @@ starts-at grows h left part items rest out replied next some fit t turn cut =
     let v : Server = server_of h in
     let s = started part items fit t in
     let f : List ℕ = flat_map spelling (opens v part.now).replies in
-    let here : (more : List ℕ) → replies_to_first v left (items ++ more) ≡ f ++ replies_open v (opens v part.now).next (rest ++ more) = λ more.
+    let here : (more : List ℕ) → replies_to_first v left (items ++ more) ≡ f ++ replies_open v (opens v part.now).next [] (rest ++ more) = λ more.
     one_left v left (items ++ more) some ∙ ap (λ (x : FirstFront). first_reply v (replies_to_first v (left - 1)) x) ((grows items more).whole (Start part.now) (drop (8 + length part.now) items) s.first)
-    ∙ ap (λ (x : List ℕ). f ++ replies_open v (opens v part.now).next (x ++ more)) (sym cut) in (
+    ∙ ap (λ (x : List ℕ). f ++ replies_open v (opens v part.now).next [] (x ++ more)) (sym cut) in (
       record {
         server = refl;
         same = λ more.
             ap₂ (λ (x : List ℕ) (y : Stage). x ++ replies_from v y (rest ++ more)) turn.1 turn.0
             ∙ ap (λ (x : List ℕ). (out ++ f) ++ x) (stage_replies v (started_by v.catalogue part.now) (rest ++ more))
-            ∙ append_assoc out f (replies_open v (opens v part.now).next (rest ++ more)) ∙ ap (λ (x : List ℕ). out ++ x) (sym (here more));
+            ∙ append_assoc out f (replies_open v (opens v part.now).next [] (rest ++ more)) ∙ ap (λ (x : List ℕ). out ++ x) (sym (here more));
       },
       omega (arith, ap length cut, length-drop (8 + length part.now) items, s.within),
     )
@@ -182,48 +184,54 @@ fault_ends grows h left fault bytes items out some same t = (
 
 -- ---- frames
 
-abbrev standing : Server → stages.Stage → List ℕ → Standing
-standing v s inbox = record { follows = true; lives = true; server = v; stage = s; inbox = inbox; outbox = []; accepted = []; faults = 0; read_waits = 0; write_waits = 0 }
+abbrev standing : Server → stages.Stage → List ℕ → List Bool → Standing
+standing v s inbox marks = record { follows = true; lives = true; server = v; stage = s; inbox = inbox; outbox = []; accepted = []; struck = marks; faults = 0; read_waits = 0; write_waits = 0 }
 
--- a packet that was taken leaves the future as it was
-hears_packet : FuturesStay → (v : Server) (s next : stages.Stage) (items rest out replied more : List ℕ) → server.Takes v s next items rest out replied → replied ++ replies_in v next (rest ++ more) ≡ out ++ replies_in v s (items ++ more)
-hears_packet stay v s next items rest out replied more x =
-    let f : List ℕ = flat_map spelling (serve v s x.packet).replies in
+-- a frame that was taken, and that no cancel struck, leaves the future as it was
+unmarked : (v : Server) (s : State) (bytes : List ℕ) → replies_open v (Open s) (false ∷ []) bytes ≡ replies_open v (Open s) [] bytes
+unmarked v s bytes = ap (λ (a : Answer). flat_map spelling a.replies) (unmarked_run v.catalogue s (false ∷ []) (client_frames bytes) refl)
+
+hears_frame : FuturesStay → (v : Server) (s next : State) (items rest out replied more : List ℕ) → server.Takes v (Open s) (Open next) items rest out replied [] (false ∷ []) → replied ++ replies_open v (Open next) [] (rest ++ more) ≡ out ++ replies_open v (Open s) [] (items ++ more)
+hears_frame stay v s next items rest out replied more x =
+    let f : List ℕ = flat_map spelling (serve v (Open s) x.packet).replies in
+    let marks : packet_marks x.packet ++ [] ≡ false ∷ [] = append-nil (packet_marks x.packet) ∙ sym x.marks in
     let inbox : items ++ [] ≡ (packet_bytes x.packet ++ []) ++ rest = append-nil items ∙ x.front ∙ ap (λ (b : List ℕ). b ++ rest) (sym (append-nil (packet_bytes x.packet))) in
-    let outbox : flat_map spelling ((serve v s x.packet).replies ++ []) ≡ f ++ [] = ap (flat_map spelling) (append-nil (serve v s x.packet).replies) ∙ sym (append-nil f) in
-    let moves : Moves (standing v s items) [] (standing v next rest) f = record {
+    let outbox : flat_map spelling ((serve v (Open s) x.packet).replies ++ []) ≡ f ++ [] = ap (flat_map spelling) (append-nil (serve v (Open s) x.packet).replies) ∙ sym (append-nil f) in
+    let moves : Moves (standing v (Open s) items []) [] (standing v (Open next) rest (false ∷ [])) f = record {
       follows = refl;
       server = refl;
       dead = λ d. absurd (true≢false d);
       silent = λ d. absurd (true≢false d);
       accepted = refl;
-      served = λ w l. record { taken = x.packet ∷ []; lawful = (x.lawful, tt); inbox = inbox; stage = x.stage; outbox = outbox };
-      passed = λ w l. record { taken = x.packet ∷ []; lawful = (x.lawful, tt); left = rest; lost = []; inbox = inbox; outbox = outbox };
+      noted = refl;
+      unstruck = λ d. absurd (true≢false d);
+      served = λ w l. record { taken = x.packet ∷ []; lawful = (x.lawful, tt); marks_are = marks; inbox = inbox; stage = x.stage; outbox = outbox };
+      passed = λ w l. record { taken = x.packet ∷ []; lawful = (x.lawful, tt); marks_are = marks; left = rest; lost = []; inbox = inbox; outbox = outbox };
     } in
-    ap (λ (b : List ℕ). b ++ replies_in v next (rest ++ more)) x.replies ∙ append_assoc out f (replies_in v next (rest ++ more))
-    ∙ ap (λ (b : List ℕ). out ++ b) (sym (stay (standing v s items) (standing v next rest) [] f more moves refl refl))
+    ap (λ (b : List ℕ). b ++ replies_open v (Open next) [] (rest ++ more)) x.replies ∙ append_assoc out f (replies_open v (Open next) [] (rest ++ more))
+    ∙ ap (λ (b : List ℕ). out ++ b) (sym (stay (standing v (Open s) items []) (standing v (Open next) rest (false ∷ [])) [] f more [] moves refl refl) ∙ unmarked v s (items ++ more))
 
 -- a session that has ended answers nothing
-step_ended : (cat : CatalogueOf) (s : State) (f : FrameOf) → s.ended ≡ true → step cat s f ≡ silent s
+step_ended : (cat : CatalogueOf) (s : State) (f : FrameOf) → s.ended ≡ true → step cat s false f ≡ silent s
 unfolding step
 step_ended cat s f e = rw e refl
 
-run_ended : (cat : CatalogueOf) (fs : List FrameOf) (s : State) → s.ended ≡ true → (run_frames cat s fs).replies ≡ []
+run_ended : (cat : CatalogueOf) (fs : List FrameOf) (s : State) → s.ended ≡ true → (run_frames cat s [] fs).replies ≡ []
 unfolding run_frames
 run_ended cat [] s e = refl
-run_ended cat (f ∷ fs) s e = ap (λ (a : Answer). (and_then a (λ (t : State). run_frames cat t fs)).replies) (step_ended cat s f e) ∙ run_ended cat fs s e
+run_ended cat (f ∷ fs) s e = ap (λ (a : Answer). (and_then a (λ (t : State). run_frames cat t [] fs)).replies) (step_ended cat s f e) ∙ run_ended cat fs s e
 
-terminated : (cat : CatalogueOf) (s : State) (body : List ℕ) → (step cat s (record { kind = TERMINATE; body = body })).next.ended ≡ true
+terminated : (cat : CatalogueOf) (s : State) (body : List ℕ) → (step cat s false (record { kind = TERMINATE; body = body })).next.ended ≡ true
 unfolding step
 terminated cat s body = by s.ended s.skipping refl refl
   where
-    by : (b c : Bool) → s.ended ≡ b → s.skipping ≡ c → (step cat s (record { kind = TERMINATE; body = body })).next.ended ≡ true
+    by : (b c : Bool) → s.ended ≡ b → s.skipping ≡ c → (step cat s false (record { kind = TERMINATE; body = body })).next.ended ≡ true
     by true c e k = rw e refl
     by false true e k = rw (e, k) refl
     by false false e k = rw (e, k) refl
 
-pub takes_frame_here : FuturesStay → (h : Host) (cat : CatalogueOf) (s next : State) (frame : Frame) (took : Took) (bytes items rest out replied : List ℕ) → took ≡ after_frame frame.kind → cat ≡ (server_of h).catalogue → AreBytes bytes → bytes ≡ items
-    → Tells (found.Whole frame) bytes (front Client LONGEST_FRAME bytes) → Gave next out replied (step cat s (frame_of frame)) → rest ≡ drop (length frame.whole.now) items
+pub takes_frame_here : FuturesStay → (h : Host) (cat : CatalogueOf) (s next : SessionOf) (frame : Frame) (took : Took) (bytes items rest out replied : List ℕ) → took ≡ after_frame frame.kind → cat ≡ (server_of h).catalogue → AreBytes bytes → bytes ≡ items
+    → Tells (found.Whole frame) bytes (front Client LONGEST_FRAME bytes) → Gave next.state out replied (step cat s.state false (frame_of frame)) → rest ≡ drop (length frame.whole.now) items
     → Takes took (talk_of h (Serves s) items out) (talk_of h (Serves next) rest replied)
 takes_frame_here stay h cat s next frame took bytes items rest out replied w d fit same t gave left =
     subst (λ (x : Took). Takes x (talk_of h (Serves s) items out) (talk_of h (Serves next) rest replied)) (sym w) (by (frame.kind == TERMINATE) refl)
@@ -231,36 +239,36 @@ takes_frame_here stay h cat s next frame took bytes items rest out replied w d f
     v : Server
     v = server_of h
 
-    x : server.Takes v (Open s) (Open next) items rest out replied
-    x = takes_frame v cat s next frame bytes items rest out replied d fit same t gave left
+    x : server.Takes v (Open s.state) (Open next.state) items rest out replied [] (false ∷ [])
+    x = takes_frame v cat s.state next.state false frame bytes items rest out replied [] (false ∷ []) d fit same t (λ e. absurd (true≢false (sym e))) refl gave left
 
     heard : Hears (talk_of h (Serves s) items out) (talk_of h (Serves next) rest replied) []
-    heard = record { server = refl; same = λ more. hears_packet stay v (Open s) (Open next) items rest out replied more x }
+    heard = record { server = refl; same = λ more. hears_frame stay v s.state next.state items rest out replied more x }
 
     by : (b : Bool) → (frame.kind == TERMINATE) ≡ b → Takes (after_frame frame.kind) (talk_of h (Serves s) items out) (talk_of h (Serves next) rest replied)
     by true e =
-        let ended : next.ended ≡ true = ap (λ (u : State). u.ended) gave.next ∙ ap (λ (k : ℕ). (step cat s (record { kind = k; body = frame.body.now })).next.ended) (eqb-true frame.kind TERMINATE e) ∙ terminated cat s frame.body.now in
-        rw e (heard, record { silent = λ more. ap (flat_map spelling) (run_ended v.catalogue (client_frames (rest ++ more)) next ended) })
+        let ended : next.state.ended ≡ true = ap (λ (u : State). u.ended) gave.next ∙ ap (λ (k : ℕ). (step cat s false (record { kind = k; body = frame.body.now })).next.ended) (eqb-true frame.kind TERMINATE e) ∙ terminated cat s.state frame.body.now in
+        rw e (heard, record { silent = λ more. ap (flat_map spelling) (run_ended v.catalogue (client_frames (rest ++ more)) next.state ended) })
     by false e =
         let k = taken Client LONGEST_FRAME frame items (subst (λ (b : List ℕ). Tells (found.Whole frame) b (front Client LONGEST_FRAME b)) same t) in
         rw e (heard, omega (arith, ap length left, length-drop (length frame.whole.now) items, k.within, k.some))
 
-pub frame_waits : (h : Host) (s : State) (n : ℕ) (bytes items out : List ℕ) → bytes ≡ items → Tells (found.Need n) bytes (front Client LONGEST_FRAME bytes) → Takes Nothing (talk_of h (Serves s) items out) (talk_of h (Serves s) items out)
-frame_waits h s n bytes items out same t = (unchanged (talk_of h (Serves s) items out), (waits_frame (server_of h) s (found.Need n) bytes items out same (λ f e. absurd cc) t).answered)
+pub frame_waits : (h : Host) (s : SessionOf) (n : ℕ) (bytes items out : List ℕ) → bytes ≡ items → Tells (found.Need n) bytes (front Client LONGEST_FRAME bytes) → Takes Nothing (talk_of h (Serves s) items out) (talk_of h (Serves s) items out)
+frame_waits h s n bytes items out same t = (unchanged (talk_of h (Serves s) items out), (waits_frame (server_of h) s.state (found.Need n) bytes items out [] same (λ f e. absurd cc) t).answered)
 
 faulty_of : (fault : FrameFault) (bytes : List ℕ) (f : Front) → Tells (found.Bad fault) bytes f → f ≡ Faulty fault
 faulty_of fault bytes (Faulty other) t = ap Faulty (sym t)
 faulty_of fault bytes (AFrame kind body rest) t = absurd t
 faulty_of fault bytes (Lacks n) t = absurd t
 
-pub frame_ends : FrontGrows → (h : Host) (s : State) (fault : FrameFault) (bytes items out : List ℕ) → bytes ≡ items → Tells (found.Bad fault) bytes (front Client LONGEST_FRAME bytes) → Takes End (talk_of h (Serves s) items out) (talk_of h (Serves s) items out)
+pub frame_ends : FrontGrows → (h : Host) (s : SessionOf) (fault : FrameFault) (bytes items out : List ℕ) → bytes ≡ items → Tells (found.Bad fault) bytes (front Client LONGEST_FRAME bytes) → Takes End (talk_of h (Serves s) items out) (talk_of h (Serves s) items out)
 unfolding run_frames
 frame_ends grows h s fault bytes items out same t = (
   unchanged (talk_of h (Serves s) items out),
   record {
     silent = λ more.
         let e : front Client LONGEST_FRAME (items ++ more) ≡ Faulty fault = ap (λ (b : List ℕ). front Client LONGEST_FRAME (b ++ more)) (sym same) ∙ (grows Client LONGEST_FRAME bytes more).fault fault (faulty_of fault bytes (front Client LONGEST_FRAME bytes) t) in
-        ap (λ (c : Cut). flat_map spelling (run_frames (server_of h).catalogue s c.frames).replies) (frames-stopped Client LONGEST_FRAME (items ++ more) (subst Stops (sym e) tt));
+        ap (λ (c : Cut). flat_map spelling (run_frames (server_of h).catalogue s.state [] c.frames).replies) (frames-stopped Client LONGEST_FRAME (items ++ more) (subst Stops (sym e) tt));
   },
 )
 

@@ -1,5 +1,5 @@
 //! The stand-in server over one client's end.
-ghost use Rattle.std.specs.Prelude.{◌≡◌, ◌<◌, [], length, true};
+ghost use Rattle.std.specs.Prelude.{◌≡◌, ◌<◌, [], length, false, true};
 ghost use Rattle.std.specs.Arc.{arc_value};
 ghost use Rattle.stub_server.specs.Talks.{HasEnded, IsNew, Turns};
 
@@ -92,7 +92,7 @@ pub fn serve_client<C: ClientEnd, E: ServerEnd, G: Gate<E>>(
     gate: &mut G,
 ) -> (C, Ending)
     requires { IsNew (C.facts client) }
-    ensures { HasEnded (record { catalogue = arc_value catalogue; pid = own.pid; secret = own.secret }) (C.facts result.0) result.1 }
+    ensures { HasEnded (record { catalogue = arc_value catalogue; pid = own.pid; secret = own.secret; strikable = false }) (C.facts result.0) result.1 }
 {
     let mut client = client;
     let mut talk = Talk::new(alloc, catalogue, own);

@@ -1,6 +1,7 @@
 //! What the stand-in server says to one client, packet by packet.
 ghost use Rattle.std.specs.Prelude.{◌≡◌, ◌<◌, ◌≤◌, false, true, length, IfOk, OnOk};
 ghost use Rattle.std.specs.Arc.{arc_value};
+ghost use Rattle.session_machine.specs.Sessions.{unstruck_if};
 ghost use Rattle.session_values.specs.Answers.{Finds};
 ghost use Rattle.link_laws.specs.Stages.{opens, started_by};
 ghost use Rattle.stub_server.specs.Talks.{Gives, Hears, IsAnswered, IsSilent, IsTurn, Takes, TakesOne, is_over, new_talk, server_of, talk_of};
@@ -100,7 +101,7 @@ impl Model for Talk {
 
 /// The session that a StartupMessage asks for, by the bytes after its code.
 fn started(alloc: Global, catalogue: &Catalogue, start: &[u8]) -> Result<Session, Stop>
-    ensures { Finds result (started_by catalogue.now start.now) }
+    ensures { Finds result (unstruck_if (started_by catalogue.now start.now)) }
 {
     let view = StartupView::read(start)?;
     let key = stub_key(alloc, &view)?;
@@ -180,7 +181,7 @@ impl Host {
             Step::Whole(frame) => {
                 let used = frame.whole.len();
                 let took = after_frame(frame.kind);
-                session.step(self.alloc, &self.catalogue, frame, outbox)?;
+                session.answer(self.alloc, &self.catalogue, false, frame, outbox)?;
                 inbox.advance(used);
                 Ok(took)
             }
@@ -202,7 +203,7 @@ fn after_frame(kind: u8) -> Took
 
 impl Talk {
     pub(crate) fn new(alloc: Global, catalogue: Arc<Catalogue>, own: KeyWord) -> Talk
-        ensures { result ≡ new_talk (record { catalogue = arc_value catalogue; pid = own.pid; secret = own.secret }) }
+        ensures { result ≡ new_talk (record { catalogue = arc_value catalogue; pid = own.pid; secret = own.secret; strikable = false }) }
     {
         Talk {
             host: Host {

@@ -2,7 +2,7 @@ use Rattle.std.proofs.Common.{sym, subst, ◌∙◌}
 use Rattle.std.proofs.lemmas.Result.{IfErr-weaker}
 use Rattle.server_end.specs.Standing.{Standing}
 use Rattle.link_run.specs.declared.reset.ResetFault.{ResetFault}
-use Rattle.link_run.specs.Resets.{FailsBy}
+use Rattle.link_run.specs.Resets.{FailsBy, IsDisturbed}
 use Rattle.link_run.proofs.Resetting.{fails_by, answer_fails_by}
 use Rattle.link_run.proofs.reset.reset_link.Goals as goal
 
@@ -22,4 +22,4 @@ returns-in-All-clause-faults g c =
 pub returns-in-Other-clause-faults : goal.returns-in-Other-clause-faults
 returns-in-Other-clause-faults g c =
     let now = c.receive.ensures.keeps c.args.used.stands (c.send.ensures.keeps c.args.used.stands c.loop.invariant.from) in
-    subst (λ (cause : ResetFault). FailsBy c.args.used.stands (g.E.ServerEnd.standing c.fail-in-Other.result.end) c.args.turns cause) (sym c.fail-in-Other.ensures.cause) (λ f. c.read.ensures.other c.in-Other.is (now.moves.follows ∙ f))
+    subst (λ (cause : ResetFault). FailsBy c.args.used.stands (g.E.ServerEnd.standing c.fail-in-Other.result.end) c.args.turns cause) (sym c.fail-in-Other.ensures.cause) (subst (λ (end : Standing). IsDisturbed c.args.used.stands end) (sym c.fail-in-Other.ensures.stands) (c.read.ensures.other c.in-Other.is c.args.used.stands now))

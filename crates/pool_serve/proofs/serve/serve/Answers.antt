@@ -1,4 +1,4 @@
-use Rattle.std.proofs.Common.{List, refl, sym, ap, ◌∙◌, subst}
+use Rattle.std.proofs.Common.{Bool, List, refl, sym, ap, ◌∙◌, subst}
 use Rattle.user_file.specs.declared.user_table.UserRow.{UserRow}
 use Rattle.link_laws.specs.Standing.{ClientFacts}
 use Rattle.login_core.specs.Logins.{LoginView}
@@ -13,7 +13,7 @@ pub returns-in_default : goal.returns-in_default
 returns-in_default g c = record {
   tells = ap (λ (x : ClientFacts). x.tells) c.finish-client.ensures.client ∙ (c.converse.ensures.login.tells ∙ ap (λ (x : ClientFacts). x.tells) c.new-run.ensures.client);
   allowed = λ t l.
-      subst (λ (v : LoginView). AllowedBy (HasCause v (g.C.ClientEnd.facts c.finish-client.result.0).taken (g.D.LinkDesk.told c.args.pass) (g.D.LinkDesk.told c.args.pass)) (g.C.ClientEnd.facts c.finish-client.result.0).given (own g.D.LinkDesk.home.catalogue v (g.C.ClientEnd.facts c.finish-client.result.0).taken)) c.new-run.ensures.login
+      subst (λ (v : LoginView). (marks : List Bool) × AllowedBy (HasCause v (g.C.ClientEnd.facts c.finish-client.result.0).taken (g.D.LinkDesk.told c.args.pass) (g.D.LinkDesk.told c.args.pass)) (g.C.ClientEnd.facts c.finish-client.result.0).given (own g.D.LinkDesk.home.catalogue v marks (g.C.ClientEnd.facts c.finish-client.result.0).taken)) c.new-run.ensures.login
       (untold_client g.D.LinkDesk.home.catalogue c.new-run.result.login (g.C.ClientEnd.facts c.finish-client.result.0) (g.D.LinkDesk.told c.args.pass) (g.D.LinkDesk.told c.args.pass) (run_ends c.runs_are_allowed.ensures g.D.LinkDesk.home.catalogue c.new-run.result c.converse.new.run (g.C.ClientEnd.facts c.finish-client.result.0) c.converse.ensures.login c.finish-client.ensures.run c.finish-client.ensures.client (ap (λ (x : ClientFacts). x.tells) c.new-run.ensures.client ∙ t)));
   share = λ e. record { leases = refl; clients = refl };
   gone = λ e. e;
