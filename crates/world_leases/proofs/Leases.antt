@@ -339,9 +339,9 @@ step_starts w c l key s r e f =
 
 -- the service of a client whose server refuses its start
 after_refused : (catalogue : Address → CatalogueOf) (word : KeyWord) (o : End Way Reason) (key : StartKeyOf) (left : List ℕ) (cause : Cause) → o ≡ Passed (ToLink key) left → fresh (catalogue (address_of key)) key ≡ Err cause →
-    after_in catalogue word o ≡ spelling (fatal cause) ∷ []
+    after_in catalogue word [] o ≡ spelling (fatal cause) ∷ []
 after_refused catalogue word o key left cause e f =
-    ap (after_in catalogue word) e ∙ ap (λ (r : Result State Cause). map spelling (served (catalogue (address_of key)) r word.pid word.secret (client_frames left))) f
+    ap (after_in catalogue word []) e ∙ ap (λ (r : Result State Cause). map spelling (served (catalogue (address_of key)) r word.pid word.secret [] (client_frames left))) f
 
 pub step_start_fails : StartErrorIsFrame → (w : World) (c l : ℕ) (key : StartKeyOf) (cause : Cause) → Related w → (w.clients c).phase ≡ Starting key l → fresh (w.catalogue (address_of key)) key ≡ Err cause →
     Related (with_pair w c (gets_start_error (w.clients c) (spelling (fatal cause))) l (in_role (w.links l) Gone))
@@ -429,11 +429,11 @@ step_returns_used w c l r e h settled =
     let k = role_at l (Lent c) r e in
     let reached : Reaches cat y.key k.base = fresh_is_reached cat y.key k.base (r.lawful (address_of y.key)) k.lawful_key k.is_fresh in
     let u = settled_rests cat y.key k.base y k.runs reached (fresh_is_at_rest cat y.key k.base k.is_fresh) settled in
-    let now : State = (run_frames cat k.base u.frames).next in
+    let now : State = (run_frames cat k.base [] u.frames).next in
     leaves_client w c l (at_clean_point y InReset) r e h (record {
       base = now;
       lawful_key = k.lawful_key;
-      reached = runs_stay_reached cat y.key k.base u.frames reached u.are_sent;
+      reached = runs_stay_reached cat y.key k.base [] u.frames reached u.are_sent;
       rests = u.rests;
       runs = record { taken = []; are_sent = tt; sent_is = sym u.done.inbox; session_is = u.done.session; told = front_of u.done.outbox; all_told = λ _. u.done.outbox };
     })

@@ -1,5 +1,5 @@
 -- What a link's server is in where its traffic is settled, and at the end of a reset.
-use Rattle.std.proofs.Common.{◌≡◌, ℕ, List, [], ◌∷◌, ◌++◌, ◌⊎◌, inl, inr, refl, sym, ap, ◌∙◌, subst, append_assoc, append-nil, arith, Result, Ok}
+use Rattle.std.proofs.Common.{◌≡◌, ℕ, false, List, [], ◌∷◌, ◌++◌, ◌⊎◌, inl, inr, refl, sym, ap, ◌∙◌, subst, append_assoc, append-nil, arith, Result, Ok}
 use Rattle.std.specs.List.{flat_map, AllByRecursion}
 use Rattle.frame_view.specs.declared.Side.TheVariants.{Client, Server}
 use Rattle.frame_view.specs.Frames.{FrameOf, IsFrame, spelling}
@@ -38,9 +38,9 @@ module _ (cat : CatalogueOf) (key : StartKeyOf) (base : State) (y : Link) (r : R
   pub unsent : y.sent ≡ [] → IsDone y base
   unfolding run_frames
   unsent none = record {
-    session = r.session_is ∙ ap (λ (fs : List FrameOf). (run_frames cat base fs).next) empty;
+    session = r.session_is ∙ ap (λ (fs : List FrameOf). (run_frames cat base [] fs).next) empty;
     inbox = right_nil (flat_map spelling r.taken) y.inbox (sym r.sent_is ∙ none);
-    outbox = right_nil y.received y.outbox (nil_left (y.received ++ y.outbox) r.told.rest (r.told.is ∙ ap (λ (fs : List FrameOf). flat_map spelling (run_frames cat base fs).replies) empty));
+    outbox = right_nil y.received y.outbox (nil_left (y.received ++ y.outbox) r.told.rest (r.told.is ∙ ap (λ (fs : List FrameOf). flat_map spelling (run_frames cat base [] fs).replies) empty));
   }
     where
       no_frames : (fs : List FrameOf) → flat_map spelling fs ≡ [] → fs ≡ []
@@ -55,22 +55,22 @@ module _ (cat : CatalogueOf) (key : StartKeyOf) (base : State) (y : Link) (r : R
 
   -- all was answered
   record AllAnswered (went : List FrameOf) : Type 0 where
-    done : IsDone y (run_frames cat base went).next
-    rests : IsAtRest (run_frames cat base went).next
+    done : IsDone y (run_frames cat base [] went).next
+    rests : IsAtRest (run_frames cat base [] went).next
     are_sent : AllByRecursion IsSent went
 
   all_answered : (went came : List FrameOf) → Reaches cat key base → AllByRecursion (IsFrame Client LONGEST_FRAME) went → y.sent ≡ flat_map spelling went →
       AllByRecursion (IsFrame Server LONGEST_FRAME) came → y.received ≡ flat_map spelling came → IsAnswered went came → AllAnswered went
   all_answered went came reached wents sent cames received answered =
-      let said : List FrameOf = (run_frames cat base r.taken).replies in
+      let said : List FrameOf = (run_frames cat base [] r.taken).replies in
       let a : SplitsOff went r.taken [] y.inbox = split_whole Client LONGEST_FRAME went r.taken y.inbox (omega arith) wents (all_client r.taken r.are_sent) (sym sent ∙ r.sent_is) in
       let told : flat_map spelling said ≡ flat_map spelling came ++ (y.outbox ++ r.told.rest) = sym r.told.is ∙ append_assoc y.received y.outbox r.told.rest ∙ ap (λ (l : List ℕ). l ++ (y.outbox ++ r.told.rest)) received in
-      let b : SplitsOff said came [] (y.outbox ++ r.told.rest) = split_whole Server LONGEST_FRAME said came (y.outbox ++ r.told.rest) (omega arith) (run_replies_are_frames cat key base r.taken reached r.are_sent) cames told in
-      let q : IsQuiet cat base went came r.taken a.more b.more = settled_is_quiet cat base went came r.taken a.more b.more answered a.all b.all in
+      let b : SplitsOff said came [] (y.outbox ++ r.told.rest) = split_whole Server LONGEST_FRAME said came (y.outbox ++ r.told.rest) (omega arith) (run_replies_are_frames cat key base [] r.taken reached r.are_sent) cames told in
+      let q : IsQuiet cat base [] went came r.taken a.more b.more = settled_is_quiet cat base [] went came r.taken a.more b.more answered a.all b.all in
       let all : r.taken ≡ went = q.all in
       record {
         done = record {
-          session = r.session_is ∙ ap (λ (fs : List FrameOf). (run_frames cat base fs).next) all;
+          session = r.session_is ∙ ap (λ (fs : List FrameOf). (run_frames cat base [] fs).next) all;
           inbox = a.bytes ∙ ap (λ (fs : List FrameOf). flat_map spelling fs ++ []) q.none_left;
           outbox = nil_left y.outbox r.told.rest (b.bytes ∙ ap (λ (fs : List FrameOf). flat_map spelling fs ++ []) q.none_more);
         };
@@ -82,8 +82,8 @@ module _ (cat : CatalogueOf) (key : StartKeyOf) (base : State) (y : Link) (r : R
   pub record Rests : Type 0 where
     pub frames : List FrameOf
     pub are_sent : AllByRecursion IsSent frames
-    pub done : IsDone y (run_frames cat base frames).next
-    pub rests : IsAtRest (run_frames cat base frames).next
+    pub done : IsDone y (run_frames cat base [] frames).next
+    pub rests : IsAtRest (run_frames cat base [] frames).next
 
   settled_by : Reaches cat key base → IsAtRest base → (h : IsSettled y.sent y.received) → (h.went ≡ []) ⊎ IsAnswered h.went h.came → Rests
   unfolding run_frames
@@ -101,7 +101,7 @@ module _ (cat : CatalogueOf) (key : StartKeyOf) (base : State) (y : Link) (r : R
     pub inbox : y.inbox ≡ []
     pub outbox : y.outbox ≡ []
 
-  discard_run : (run_frames cat base (discard_all ∷ [])).next ≡ (step cat base discard_all).next
+  discard_run : (run_frames cat base [] (discard_all ∷ [])).next ≡ (step cat base false discard_all).next
   unfolding run_frames
   discard_run = refl
 

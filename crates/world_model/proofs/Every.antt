@@ -96,8 +96,8 @@ either xs ys (inl f) = inl (record { more = f.rest; both = f.is })
 either xs ys (inr f) = inr (record { more = f.rest; both = f.is })
 
 -- only the catalogue of the row that the login leads to counts
-same_after : (c d : Address → CatalogueOf) (word : KeyWord) (o : End Way Reason) → ((key : StartKeyOf) (left : List ℕ) → o ≡ Passed (ToLink key) left → c (address_of key) ≡ d (address_of key)) → after_in c word o ≡ after_in d word o
-same_after c d word (Passed (ToLink key) left) h = ap (λ (cat : CatalogueOf). service_pieces cat key word left) (h key left refl)
+same_after : (c d : Address → CatalogueOf) (word : KeyWord) (o : End Way Reason) → ((key : StartKeyOf) (left : List ℕ) → o ≡ Passed (ToLink key) left → c (address_of key) ≡ d (address_of key)) → after_in c word [] o ≡ after_in d word [] o
+same_after c d word (Passed (ToLink key) left) h = ap (λ (cat : CatalogueOf). service_pieces cat key word [] left) (h key left refl)
 same_after c d word (Passed ToConsole left) h = refl
 same_after c d word Unfinished h = refl
 same_after c d word (Stopped reason) h = refl
@@ -105,35 +105,35 @@ same_after c d word (Stopped reason) h = refl
 same_own : (w v : World) (x y : Client) → Agree w v x y → own w x ≡ own v y
 same_own w v x y a =
     ap (λ (ps : List (List ℕ)). (login x.row x.word x.sent).pieces ++ ps) (same_after w.catalogue v.catalogue x.word (login x.row x.word x.sent).ended a.catalogue)
-    ∙ ap (λ (row : LoginRow). solo_in v.catalogue row x.word x.sent) a.row
-    ∙ ap₂ (λ (word : KeyWord) (bytes : List ℕ). solo_in v.catalogue y.row word bytes) a.word a.sent
+    ∙ ap (λ (row : LoginRow). solo_in v.catalogue row x.word [] x.sent) a.row
+    ∙ ap₂ (λ (word : KeyWord) (bytes : List ℕ). solo_in v.catalogue y.row word [] bytes) a.word a.sent
 
 -- a client with its living link: all is told, held, or still to come
 exact_service : (catalogue : Address → CatalogueOf) (x : Client) (y : Link) → y.alive ≡ true → InService (catalogue (address_of y.key)) x y → IsLent (catalogue (address_of y.key)) y →
-    (x.out ++ x.for_client) ++ future (catalogue (address_of y.key)) y (x.for_link ++ x.unread) ≡ joined_pieces (solo_in catalogue x.row x.word x.sent)
+    (x.out ++ x.for_client) ++ future (catalogue (address_of y.key)) y (x.for_link ++ x.unread) ≡ joined_pieces (solo_in catalogue x.row x.word [] x.sent)
 exact_service catalogue x y live h k =
     let cat : CatalogueOf = catalogue (address_of y.key) in
     let r = k.runs in
     let same : k.base ≡ h.base = fresh_one (sym k.is_fresh ∙ h.is_fresh) in
     let more : List ℕ = x.for_link ++ x.unread in
-    let now : State = (run_frames cat k.base r.taken).next in
+    let now : State = (run_frames cat k.base [] r.taken).next in
     let rest : List FrameOf = client_frames (y.inbox ++ more) in
-    let said : List FrameOf = (run_frames cat k.base r.taken).replies in
-    let last : List FrameOf = (run_frames cat now rest).replies in
+    let said : List FrameOf = (run_frames cat k.base [] r.taken).replies in
+    let last : List FrameOf = (run_frames cat now [] rest).replies in
     let pieces : List ℕ = joined_pieces (login x.row x.word x.sent).pieces in
     let hello : List FrameOf = welcome k.base x.word.pid x.word.secret in
     let left : List ℕ = y.sent ++ more in
     let taken_all : client_frames left ≡ r.taken ++ rest =
     ap client_frames (ap (λ (b : List ℕ). b ++ more) r.sent_is ∙ append_assoc (flat_map spelling r.taken) y.inbox more) ∙ frames_after r.taken (y.inbox ++ more) r.are_sent in
-    let after : after_in catalogue x.word (login x.row x.word x.sent).ended ≡ map spelling (hello ++ (said ++ last)) =
+    let after : after_in catalogue x.word [] (login x.row x.word x.sent).ended ≡ map spelling (hello ++ (said ++ last)) =
     after_passed catalogue x.word (login x.row x.word x.sent).ended y.key left k.base h.passed k.is_fresh
-    ∙ ap (λ (fs : List FrameOf). map spelling (hello ++ (run_frames cat k.base fs).replies)) taken_all ∙ ap (λ (fs : List FrameOf). map spelling (hello ++ fs)) (replies-append cat k.base r.taken rest) in
+    ∙ ap (λ (fs : List FrameOf). map spelling (hello ++ (run_frames cat k.base [] fs).replies)) taken_all ∙ ap (λ (fs : List FrameOf). map spelling (hello ++ fs)) (replies-append cat k.base r.taken rest) in
     let told : x.out ++ x.for_client ≡ pieces ++ (flat_map spelling hello ++ y.received) =
     h.told ∙ ap (λ (s : State). pieces ++ (flat_map spelling (welcome s x.word.pid x.word.secret) ++ y.received)) (sym same) in
-    let whole : joined_pieces (solo_in catalogue x.row x.word x.sent) ≡ pieces ++ (flat_map spelling hello ++ (flat_map spelling said ++ flat_map spelling last)) =
-    joined-append (login x.row x.word x.sent).pieces (after_in catalogue x.word (login x.row x.word x.sent).ended)
+    let whole : joined_pieces (solo_in catalogue x.row x.word [] x.sent) ≡ pieces ++ (flat_map spelling hello ++ (flat_map spelling said ++ flat_map spelling last)) =
+    joined-append (login x.row x.word x.sent).pieces (after_in catalogue x.word [] (login x.row x.word x.sent).ended)
     ∙ ap (λ (b : List ℕ). pieces ++ b) (ap joined_pieces after ∙ joined-frames (hello ++ (said ++ last)) ∙ spelled-append hello (said ++ last) ∙ ap (λ (b : List ℕ). flat_map spelling hello ++ b) (spelled-append said last)) in
-    ap₂ (λ (b : List ℕ) (s : State). b ++ (y.outbox ++ flat_map spelling (run_frames cat s rest).replies)) told r.session_is
+    ap₂ (λ (b : List ℕ) (s : State). b ++ (y.outbox ++ flat_map spelling (run_frames cat s [] rest).replies)) told r.session_is
     ∙ regroup pieces (flat_map spelling hello) y.received y.outbox (flat_map spelling last)
     ∙ ap (λ (b : List ℕ). pieces ++ (flat_map spelling hello ++ (b ++ flat_map spelling last))) (r.all_told live)
     ∙ sym whole
@@ -144,12 +144,12 @@ exact_service catalogue x y live h k =
 no_frames : client_frames [] ≡ []
 no_frames = ap (λ (c : Cut). c.frames) (frames-stopped OfClient LONGEST_FRAME [] tt)
 
-silent : (cat : CatalogueOf) (s : State) (b : List ℕ) → b ≡ [] → flat_map spelling (run_frames cat s (client_frames b)).replies ≡ []
+silent : (cat : CatalogueOf) (s : State) (b : List ℕ) → b ≡ [] → flat_map spelling (run_frames cat s [] (client_frames b)).replies ≡ []
 unfolding run_frames
-silent cat s b e = ap (λ (l : List ℕ). flat_map spelling (run_frames cat s (client_frames l)).replies) e ∙ ap (λ (fs : List FrameOf). flat_map spelling (run_frames cat s fs).replies) no_frames
+silent cat s b e = ap (λ (l : List ℕ). flat_map spelling (run_frames cat s [] (client_frames l)).replies) e ∙ ap (λ (fs : List FrameOf). flat_map spelling (run_frames cat s [] fs).replies) no_frames
 
 -- where nothing is under way, all was given
-quiet_service : (catalogue : Address → CatalogueOf) (x : Client) (y : Link) → IsQuiet x y → InService (catalogue (address_of y.key)) x y → IsLent (catalogue (address_of y.key)) y → given x ≡ joined_pieces (solo_in catalogue x.row x.word x.sent)
+quiet_service : (catalogue : Address → CatalogueOf) (x : Client) (y : Link) → IsQuiet x y → InService (catalogue (address_of y.key)) x y → IsLent (catalogue (address_of y.key)) y → given x ≡ joined_pieces (solo_in catalogue x.row x.word [] x.sent)
 quiet_service catalogue x y q h k =
     let cat : CatalogueOf = catalogue (address_of y.key) in
     let more : List ℕ = x.for_link ++ x.unread in

@@ -56,7 +56,7 @@ IdleLinksAreFresh = (w : World) → Reached w → (l : ℕ) → (w.links l).role
 
 -- what a link's server has still to say when these bytes follow those under way
 abbrev pub future : CatalogueOf → Link → List ℕ → List ℕ
-future cat y more = y.outbox ++ flat_map spelling (run_frames cat y.session (client_frames (y.inbox ++ more))).replies
+future cat y more = y.outbox ++ flat_map spelling (run_frames cat y.session [] (client_frames (y.inbox ++ more))).replies
 
 -- What a client with a living link was given, what is held for it and what is still to come are together all that a server of
 -- its own answers.

@@ -58,7 +58,7 @@ abbrev pub at_clean_point : Link → Role → Link
 at_clean_point y role = record y { role = role; sent = []; received = [] }
 
 abbrev pub answers : CatalogueOf → Link → FrameOf → List ℕ → Link
-answers cat y f rest = record y { session = (step cat y.session f).next; inbox = rest; outbox = y.outbox ++ flat_map spelling (step cat y.session f).replies }
+answers cat y f rest = record y { session = (step cat y.session false f).next; inbox = rest; outbox = y.outbox ++ flat_map spelling (step cat y.session false f).replies }
 
 abbrev pub dies : Link → List ℕ → Link
 dies y kept = record y { alive = false; outbox = kept }

@@ -40,9 +40,9 @@ fresh_one e = cc
 module _ (catalogue : Address → CatalogueOf) where
   -- the service of a client that has passed
   pub after_passed : (word : KeyWord) (o : End Way Reason) (key : StartKeyOf) (left : List ℕ) (s : State) → o ≡ Passed (ToLink key) left → fresh (catalogue (address_of key)) key ≡ Ok s →
-      after_in catalogue word o ≡ map spelling (welcome s word.pid word.secret ++ (run_frames (catalogue (address_of key)) s (client_frames left)).replies)
+      after_in catalogue word [] o ≡ map spelling (welcome s word.pid word.secret ++ (run_frames (catalogue (address_of key)) s [] (client_frames left)).replies)
   after_passed word o key left s e f =
-      ap (after_in catalogue word) e ∙ ap (λ (r : Result State Cause). map spelling (served (catalogue (address_of key)) r word.pid word.secret (client_frames left))) f
+      ap (after_in catalogue word []) e ∙ ap (λ (r : Result State Cause). map spelling (served (catalogue (address_of key)) r word.pid word.secret [] (client_frames left))) f
 
   -- what it was given is told by the login alone
   pub told_login : (x : Client) → IsFront (x.out ++ x.for_client) (joined_pieces (login x.row x.word x.sent).pieces) → x.refusal ≡ [] → IsTold catalogue x
@@ -56,14 +56,14 @@ module _ (catalogue : Address → CatalogueOf) where
       let r = k.runs in
       let more : List ℕ = x.for_link ++ x.unread in
       let hello : List FrameOf = welcome k.base x.word.pid x.word.secret in
-      let said : List FrameOf = (run_frames cat k.base r.taken).replies in
+      let said : List FrameOf = (run_frames cat k.base [] r.taken).replies in
       let left : y.sent ++ more ≡ flat_map spelling r.taken ++ (y.inbox ++ more) = ap (λ (l : List ℕ). l ++ more) r.sent_is ∙ append_assoc (flat_map spelling r.taken) y.inbox more in
       let fronts : IsFront r.taken (client_frames (y.sent ++ more)) =
       record { rest = client_frames (y.inbox ++ more); is = sym (frames_after r.taken (y.inbox ++ more) r.are_sent) ∙ ap client_frames (sym left) } in
       let reached : Reaches cat y.key k.base = fresh_is_reached cat y.key k.base (lawful (address_of y.key)) k.lawful_key k.is_fresh in
       record {
         frames = hello ++ said;
-        are_frames = all-append (IsFrame Server LONGEST_FRAME) hello said (welcome_is_frames cat y.key k.base x.word.pid x.word.secret reached) (run_replies_are_frames cat y.key k.base r.taken reached r.are_sent);
+        are_frames = all-append (IsFrame Server LONGEST_FRAME) hello said (welcome_is_frames cat y.key k.base x.word.pid x.word.secret reached) (run_replies_are_frames cat y.key k.base [] r.taken reached r.are_sent);
         first = front_trans (front_frames (front_under hello (replies_front cat k.base fronts))) (front_of (sym (after_passed x.word (login x.row x.word x.sent).ended y.key (y.sent ++ more) k.base h.passed k.is_fresh)));
         told = front_is (h.told ∙ ap (λ (s : State). joined_pieces (login x.row x.word x.sent).pieces ++ (flat_map spelling (welcome s x.word.pid x.word.secret) ++ y.received)) (sym same))
             (front_under (joined_pieces (login x.row x.word x.sent).pieces) (front_trans (front_under (flat_map spelling hello) (front_cut y.received y.outbox r.told)) (front_of (sym (spelled-append hello said)))));
@@ -71,15 +71,15 @@ module _ (catalogue : Address → CatalogueOf) where
       }
 
   -- all that is told is a front of the whole
-  told_front : (x : Client) → IsTold catalogue x → IsFront x.out (joined_pieces (solo_in catalogue x.row x.word x.sent))
+  told_front : (x : Client) → IsTold catalogue x → IsFront x.out (joined_pieces (solo_in catalogue x.row x.word [] x.sent))
   told_front x h =
       let said : List (List ℕ) = (login x.row x.word x.sent).pieces in
-      front_cut x.out x.for_client (front_trans h.told (front_trans (front_under (joined_pieces said) (front_is (sym (joined-frames h.frames)) (front_joined h.first))) (front_of (sym (joined-append said (after_in catalogue x.word (login x.row x.word x.sent).ended))))))
+      front_cut x.out x.for_client (front_trans h.told (front_trans (front_under (joined_pieces said) (front_is (sym (joined-frames h.frames)) (front_joined h.first))) (front_of (sym (joined-append said (after_in catalogue x.word [] (login x.row x.word x.sent).ended))))))
 
   told_over : (x : Client) → IsTold catalogue x → IsOver catalogue x
   told_over x h =
       let f = told_front x h in
-      let g : IsFront (x.out ++ x.refusal) (joined_pieces (solo_in catalogue x.row x.word x.sent)) = front_is (ap (λ (l : List ℕ). x.out ++ l) h.quiet ∙ append-nil x.out) f in
+      let g : IsFront (x.out ++ x.refusal) (joined_pieces (solo_in catalogue x.row x.word [] x.sent)) = front_is (ap (λ (l : List ℕ). x.out ++ l) h.quiet ∙ append-nil x.out) f in
       record { out_front = f; allowed = inl (record { more = g.rest; both = g.is }) }
 
   login_told : (read : List ℕ) (x : Client) → InLogin read x → IsTold catalogue x
@@ -102,7 +102,7 @@ module _ (catalogue : Address → CatalogueOf) where
 
     pub phase_over : (phase : Phase) (x : Client) → PhaseFits catalogue links c phase x → IsOver catalogue x
     phase_over Absent x h =
-        let f : IsFront (x.out ++ x.refusal) (joined_pieces (solo_in catalogue x.row x.word x.sent)) = front_is (ap (λ (l : List ℕ). l ++ x.refusal) h.0 ∙ h.1) (front_nil _) in
+        let f : IsFront (x.out ++ x.refusal) (joined_pieces (solo_in catalogue x.row x.word [] x.sent)) = front_is (ap (λ (l : List ℕ). l ++ x.refusal) h.0 ∙ h.1) (front_nil _) in
         record { out_front = front_is h.0 (front_nil _); allowed = inl (record { more = f.rest; both = f.is }) }
     phase_over (LoggingIn read) x h = told_over x (phase_told (LoggingIn read) x logging_in h)
     phase_over (Waiting key) x h = told_over x (phase_told (Waiting key) x waiting h)
@@ -125,7 +125,7 @@ module _ (catalogue : Address → CatalogueOf) where
 
   pub record Pieces (x : Client) : Type 0 where
     pub pieces : List (List ℕ)
-    pub first : IsFront pieces (solo_in catalogue x.row x.word x.sent)
+    pub first : IsFront pieces (solo_in catalogue x.row x.word [] x.sent)
     pub out_is : x.out ≡ joined_pieces pieces
 
   pub border_pieces : (x : Client) → IsTold catalogue x → AtBorder x → Pieces x

@@ -1,12 +1,12 @@
 -- Fronts of lists, joined pieces, and the replies to lists of frames in a row.
-use Rattle.std.proofs.Common.{◌≡◌, ℕ, List, [], ◌∷◌, ◌++◌, refl, sym, ap, ◌∙◌, append_assoc, append-nil}
+use Rattle.std.proofs.Common.{◌≡◌, ℕ, Bool, List, [], ◌∷◌, ◌++◌, refl, sym, ap, ◌∙◌, append_assoc, append-nil}
 use Rattle.std.specs.Prelude.{map}
 use Rattle.std.specs.List.{flat_map}
 use Rattle.std.proofs.lemmas.Grind.{flat_map-append}
 use Rattle.frame_view.specs.Frames.{FrameOf, spelling}
 use Rattle.message_view.specs.Refusals.{joined_pieces}
-use Rattle.session_values.specs.State.{Answer, CatalogueOf, State}
-use Rattle.session_values.specs.Step.{run_frames}
+use Rattle.session_values.specs.State.{Answer, CatalogueOf, State, and_then}
+use Rattle.session_values.specs.Step.{marks_after, run_frames}
 use Rattle.run_laws.proofs.ByName.{runs_go_on}
 use Rattle.world_steps.specs.Relation.{IsFront}
 
@@ -59,8 +59,16 @@ spelled-append fs gs = flat_map-append spelling fs gs
 pub front_spelled : {fs gs : List FrameOf} → IsFront fs gs → IsFront (flat_map spelling fs) (flat_map spelling gs)
 front_spelled {fs} {gs} f = record { rest = flat_map spelling f.rest; is = sym (spelled-append fs f.rest) ∙ ap (flat_map spelling) f.is }
 
-pub next-append : (cat : CatalogueOf) (s : State) (fs gs : List FrameOf) → (run_frames cat s (fs ++ gs)).next ≡ (run_frames cat (run_frames cat s fs).next gs).next
-next-append cat s fs gs = ap (λ (a : Answer). a.next) (runs_go_on cat s fs gs)
+-- where no frame is struck, none of those behind is
+none_behind : (fs : List FrameOf) → marks_after fs [] ≡ []
+none_behind [] = refl
+none_behind (f ∷ fs) = none_behind fs
 
-pub replies-append : (cat : CatalogueOf) (s : State) (fs gs : List FrameOf) → (run_frames cat s (fs ++ gs)).replies ≡ (run_frames cat s fs).replies ++ (run_frames cat (run_frames cat s fs).next gs).replies
-replies-append cat s fs gs = ap (λ (a : Answer). a.replies) (runs_go_on cat s fs gs)
+in_a_row : (cat : CatalogueOf) (s : State) (fs gs : List FrameOf) → run_frames cat s [] (fs ++ gs) ≡ and_then (run_frames cat s [] fs) (λ t. run_frames cat t [] gs)
+in_a_row cat s fs gs = runs_go_on cat s [] fs gs ∙ ap (λ (marks : List Bool). and_then (run_frames cat s [] fs) (λ t. run_frames cat t marks gs)) (none_behind fs)
+
+pub next-append : (cat : CatalogueOf) (s : State) (fs gs : List FrameOf) → (run_frames cat s [] (fs ++ gs)).next ≡ (run_frames cat (run_frames cat s [] fs).next [] gs).next
+next-append cat s fs gs = ap (λ (a : Answer). a.next) (in_a_row cat s fs gs)
+
+pub replies-append : (cat : CatalogueOf) (s : State) (fs gs : List FrameOf) → (run_frames cat s [] (fs ++ gs)).replies ≡ (run_frames cat s [] fs).replies ++ (run_frames cat (run_frames cat s [] fs).next [] gs).replies
+replies-append cat s fs gs = ap (λ (a : Answer). a.replies) (in_a_row cat s fs gs)

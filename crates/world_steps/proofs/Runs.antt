@@ -51,35 +51,35 @@ module _ {cat : CatalogueOf} {base : State} {y : Link} where
   }
 
 -- one frame more
-run_last : (cat : CatalogueOf) (s : State) (f : FrameOf) → ((run_frames cat s (f ∷ [])).next ≡ (step cat s f).next) × ((run_frames cat s (f ∷ [])).replies ≡ (step cat s f).replies)
+run_last : (cat : CatalogueOf) (s : State) (f : FrameOf) → ((run_frames cat s [] (f ∷ [])).next ≡ (step cat s false f).next) × ((run_frames cat s [] (f ∷ [])).replies ≡ (step cat s false f).replies)
 unfolding run_frames
-run_last cat s f = (refl, append-nil (step cat s f).replies)
+run_last cat s f = (refl, append-nil (step cat s false f).replies)
 
-next_last : (cat : CatalogueOf) (s : State) (fs : List FrameOf) (f : FrameOf) → (run_frames cat s (fs ++ f ∷ [])).next ≡ (step cat (run_frames cat s fs).next f).next
-next_last cat s fs f = next-append cat s fs (f ∷ []) ∙ (run_last cat (run_frames cat s fs).next f).0
+next_last : (cat : CatalogueOf) (s : State) (fs : List FrameOf) (f : FrameOf) → (run_frames cat s [] (fs ++ f ∷ [])).next ≡ (step cat (run_frames cat s [] fs).next false f).next
+next_last cat s fs f = next-append cat s fs (f ∷ []) ∙ (run_last cat (run_frames cat s [] fs).next f).0
 
 replies_last : (cat : CatalogueOf) (s : State) (fs : List FrameOf) (f : FrameOf) →
-    flat_map spelling (run_frames cat s (fs ++ f ∷ [])).replies ≡ flat_map spelling (run_frames cat s fs).replies ++ flat_map spelling (step cat (run_frames cat s fs).next f).replies
+    flat_map spelling (run_frames cat s [] (fs ++ f ∷ [])).replies ≡ flat_map spelling (run_frames cat s [] fs).replies ++ flat_map spelling (step cat (run_frames cat s [] fs).next false f).replies
 replies_last cat s fs f =
-    ap (flat_map spelling) (replies-append cat s fs (f ∷ []) ∙ ap (λ (l : List FrameOf). (run_frames cat s fs).replies ++ l) (run_last cat (run_frames cat s fs).next f).1)
-    ∙ spelled-append (run_frames cat s fs).replies (step cat (run_frames cat s fs).next f).replies
+    ap (flat_map spelling) (replies-append cat s fs (f ∷ []) ∙ ap (λ (l : List FrameOf). (run_frames cat s [] fs).replies ++ l) (run_last cat (run_frames cat s [] fs).next f).1)
+    ∙ spelled-append (run_frames cat s [] fs).replies (step cat (run_frames cat s [] fs).next false f).replies
 
 spelled_last : (fs : List FrameOf) (f : FrameOf) → flat_map spelling (fs ++ f ∷ []) ≡ flat_map spelling fs ++ spelling f
 spelled_last fs f = spelled-append fs (f ∷ []) ∙ ap (λ (l : List ℕ). flat_map spelling fs ++ l) (append-nil (spelling f))
 
 pub runs_answers : {cat : CatalogueOf} {base : State} {y : Link} (f : FrameOf) (rest : List ℕ) → y.alive ≡ true → IsSent f → y.inbox ≡ spelling f ++ rest → Runs cat base y → Runs cat base (answers cat y f rest)
 runs_answers {cat} {base} {y} f rest live is e r =
-    let now : State = (run_frames cat base r.taken).next in
-    let said : y.received ++ (y.outbox ++ flat_map spelling (step cat y.session f).replies) ≡ flat_map spelling (run_frames cat base (r.taken ++ f ∷ [])).replies =
-    sym (append_assoc y.received y.outbox (flat_map spelling (step cat y.session f).replies))
-    ∙ ap (λ (l : List ℕ). l ++ flat_map spelling (step cat y.session f).replies) (r.all_told live)
-    ∙ ap (λ (s : State). flat_map spelling (run_frames cat base r.taken).replies ++ flat_map spelling (step cat s f).replies) r.session_is
+    let now : State = (run_frames cat base [] r.taken).next in
+    let said : y.received ++ (y.outbox ++ flat_map spelling (step cat y.session false f).replies) ≡ flat_map spelling (run_frames cat base [] (r.taken ++ f ∷ [])).replies =
+    sym (append_assoc y.received y.outbox (flat_map spelling (step cat y.session false f).replies))
+    ∙ ap (λ (l : List ℕ). l ++ flat_map spelling (step cat y.session false f).replies) (r.all_told live)
+    ∙ ap (λ (s : State). flat_map spelling (run_frames cat base [] r.taken).replies ++ flat_map spelling (step cat s false f).replies) r.session_is
     ∙ sym (replies_last cat base r.taken f) in
     record {
       taken = r.taken ++ f ∷ [];
       are_sent = all-append IsSent r.taken (f ∷ []) r.are_sent (is, tt);
       sent_is = r.sent_is ∙ ap (λ (l : List ℕ). flat_map spelling r.taken ++ l) e ∙ sym (append_assoc (flat_map spelling r.taken) (spelling f) rest) ∙ ap (λ (l : List ℕ). l ++ rest) (sym (spelled_last r.taken f));
-      session_is = ap (λ (s : State). (step cat s f).next) r.session_is ∙ sym (next_last cat base r.taken f);
+      session_is = ap (λ (s : State). (step cat s false f).next) r.session_is ∙ sym (next_last cat base r.taken f);
       told = front_of said;
       all_told = λ _. said;
     }

@@ -34,9 +34,9 @@ pub record Runs (cat : CatalogueOf) (base : State) (y : Link) : Type 0 where
   pub taken : List FrameOf
   pub are_sent : AllByRecursion IsSent taken
   pub sent_is : y.sent ≡ flat_map spelling taken ++ y.inbox
-  pub session_is : y.session ≡ (run_frames cat base taken).next
-  pub told : IsFront (y.received ++ y.outbox) (flat_map spelling (run_frames cat base taken).replies)
-  pub all_told : y.alive ≡ true → y.received ++ y.outbox ≡ flat_map spelling (run_frames cat base taken).replies
+  pub session_is : y.session ≡ (run_frames cat base [] taken).next
+  pub told : IsFront (y.received ++ y.outbox) (flat_map spelling (run_frames cat base [] taken).replies)
+  pub all_told : y.alive ≡ true → y.received ++ y.outbox ≡ flat_map spelling (run_frames cat base [] taken).replies
 
 -- its server began fresh
 pub record IsLent (cat : CatalogueOf) (y : Link) : Type 0 where
@@ -98,20 +98,20 @@ pub record InService (cat : CatalogueOf) (x : Client) (y : Link) : Type 0 where
 pub record IsTold (catalogue : Address → CatalogueOf) (x : Client) : Type 0 where
   pub frames : List FrameOf
   pub are_frames : AllByRecursion (IsFrame Server LONGEST_FRAME) frames
-  pub first : IsFront (map spelling frames) (after_in catalogue x.word (login x.row x.word x.sent).ended)
+  pub first : IsFront (map spelling frames) (after_in catalogue x.word [] (login x.row x.word x.sent).ended)
   pub told : IsFront (x.out ++ x.for_client) (joined_pieces (login x.row x.word x.sent).pieces ++ flat_map spelling frames)
   pub quiet : x.refusal ≡ []
 
 pub record InRefusal (catalogue : Address → CatalogueOf) (left : List ℕ) (x : Client) : Type 0 where
   pub pieces : List (List ℕ)
-  pub first : IsFront pieces (solo_in catalogue x.row x.word x.sent)
+  pub first : IsFront pieces (solo_in catalogue x.row x.word [] x.sent)
   pub out_is : x.out ≡ joined_pieces pieces
   pub cause : Refusal
   pub text_is : x.refusal ++ left ≡ refusal cause
 
 pub record IsOver (catalogue : Address → CatalogueOf) (x : Client) : Type 0 where
-  pub out_front : IsFront x.out (joined_pieces (solo_in catalogue x.row x.word x.sent))
-  pub allowed : Allowed (x.out ++ x.refusal) (solo_in catalogue x.row x.word x.sent)
+  pub out_front : IsFront x.out (joined_pieces (solo_in catalogue x.row x.word [] x.sent))
+  pub allowed : Allowed (x.out ++ x.refusal) (solo_in catalogue x.row x.word [] x.sent)
 
 -- the client's phase, and the role of its link, which names it
 abbrev pub PhaseFits : (Address → CatalogueOf) → (ℕ → Link) → ℕ → Phase → Client → Type 0

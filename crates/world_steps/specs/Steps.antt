@@ -115,7 +115,7 @@ pub data LinkBytes (cat : CatalogueOf) (y : Link) : Link → Type 0 where
   from_reset : (bytes rest : List ℕ) → y.role ≡ InReset → y.outbox ≡ bytes ++ rest →
       LinkBytes cat y (record y { outbox = rest; received = y.received ++ bytes })
   server_answers : (f : FrameOf) (rest : List ℕ) → y.alive ≡ true → IsSent f → y.inbox ≡ spelling f ++ rest →
-      LinkBytes cat y (record y { session = (step cat y.session f).next; inbox = rest; outbox = y.outbox ++ flat_map spelling (step cat y.session f).replies })
+      LinkBytes cat y (record y { session = (step cat y.session false f).next; inbox = rest; outbox = y.outbox ++ flat_map spelling (step cat y.session false f).replies })
   server_dies : (kept lost : List ℕ) → y.outbox ≡ kept ++ lost →
       LinkBytes cat y (record y { alive = false; outbox = kept })
 

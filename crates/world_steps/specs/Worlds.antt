@@ -32,4 +32,4 @@ with_book w b = record w { book = b }
 -- ---- alone with a server
 
 abbrev pub own : World → Client → List (List ℕ)
-own w x = solo_in w.catalogue x.row x.word x.sent
+own w x = solo_in w.catalogue x.row x.word [] x.sent

@@ -1,5 +1,5 @@
 -- A return that skips the reset, and what it leads to, step by step.
-use Rattle.std.proofs.Common.{◌≡◌, ℕ, List, [], ◌∷◌, ◌++◌, refl, sym, append-nil, inr, ap, ◌∙◌, append_assoc, arith}
+use Rattle.std.proofs.Common.{◌≡◌, ℕ, false, List, [], ◌∷◌, ◌++◌, refl, sym, append-nil, inr, ap, ◌∙◌, append_assoc, arith}
 use Rattle.std.specs.Prelude.{codes}
 use Rattle.std.specs.List.{flat_map}
 use Rattle.frame_view.specs.Frames.{FrameOf, cut_after, spelling}
@@ -65,10 +65,10 @@ abbrev fresh_one : State
 fresh_one = state_of (fresh the_catalogue key)
 
 abbrev left_over : State
-left_over = (step the_catalogue fresh_one change).next
+left_over = (step the_catalogue fresh_one false change).next
 
 abbrev shown : State → List ℕ
-shown s = flat_map spelling (step the_catalogue s asked).replies
+shown s = flat_map spelling (step the_catalogue s false asked).replies
 
 -- the byte at 46 tells the length of the answer's row: with the value `x`, or with none
 differs : ◌≡◌ {A = ℕ} 11 10 → ⊥
