@@ -138,11 +138,11 @@ fn admit<C: ClientEnd, D: LinkDesk, G: Gate<D::End>>(
 /// none was taken from it or given to it. Only the desk and the gate wait: a turn of the gate is taken where nothing moved.
 ///
 /// Where the client tells, and the desk's home follows and lets its user in, what it was given is allowed for what a server
-/// started for it alone answers, over the catalogue of its row; and a refusal in it has its cause: it is the login's own, or for
-/// memory, or the pass tells its trace (a refusal by the desk, a link that was lent, one that was lost), and a message of the
-/// client's that is refused is none under the limit. The traces hold unless a call of the desk was answered by the last decision or
-/// as strange. With the same exception, as many links were granted as given back or lost, and as many clients arrived as left.
-/// Where no client was in the pass, none is in it afterwards.
+/// started for it alone answers, over the catalogue of its row, where cancels struck some of its frames or none (only the link's
+/// end tells which); and a refusal in it has its cause: it is the login's own, or for memory, or the pass tells its trace (a refusal
+/// by the desk, a link that was lent, one that was lost), and a message of the client's that is refused is none under the limit. The
+/// traces hold unless a call of the desk was answered by the last decision or as strange. With the same exception, as many links were
+/// granted as given back or lost, and as many clients arrived as left. Where no client was in the pass, none is in it afterwards.
 pub fn serve<C: ClientEnd, D: LinkDesk, G: Gate<D::End> + Drop>(
     alloc: Global,
     desk: &D,

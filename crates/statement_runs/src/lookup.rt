@@ -174,7 +174,7 @@ fn look_up_table(
     }
 }
 
-/// A cursor gives no rows where it is declared.
+/// The names of DECLARE, which are those of its SELECT. It gives no rows itself.
 fn look_up_declare(
     alloc: Global,
     session: &SessionState,
@@ -191,6 +191,7 @@ fn look_up_declare(
     Ok(None)
 }
 
+/// The names of the columns of a cursor's rows.
 fn look_up_cursor(alloc: Global, session: &SessionState, name: &[u8]) -> Result<Option<Names>, Stop>
     ensures { Finds result (look_up_cursor (named cursor_name session.now.cursors (folded name.now))) }
 {
