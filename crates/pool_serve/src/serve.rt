@@ -6,7 +6,7 @@ ghost use Rattle.login_core.specs.Logins.{AwaitsPacket};
 ghost use Rattle.login_run.specs.Laws.{AllowedBy, own};
 ghost use Rattle.login_run.specs.Runs.{Arrived, IsAllGiven, IsSameLogin};
 ghost use Rattle.pool_serve.specs.Causes.{AtArrival, AtAsking, HasCause, WordHasTrace};
-ghost use Rattle.pool_serve.specs.Serving.{HasStopped, IsServed, LetsIn};
+ghost use Rattle.pool_serve.specs.Serving.{AreMarksOf, HasStopped, IsServed, LetsIn};
 ghost use Rattle.pool_serve.specs.Shares.{Evens, Settles};
 
 use crate::guest::Guest;
@@ -65,7 +65,7 @@ fn attend<C: ClientEnd, D: LinkDesk, G: Gate<D::End>>(
     ensures share { Evens (D.told pass.old) (D.told pass.new) }
     ensures whose { D.whose pass.new ≡ D.whose pass.old }
     ensures why { WordHasTrace AtAsking (D.told pass.old) (D.told pass.new) result.1 }
-    ensures serves { run.client.tells ≡ true → LetsIn D.home run.login.users → IsServed D.home.catalogue run.login (C.facts result.0) result.1 }
+    ensures serves { run.client.tells ≡ true → LetsIn D.home run.login.users → IsServed D.home run.login (C.facts result.0) result.1 }
 {
     bounded_rows_are_lawful();
     passed_keys_are_link_keys();
@@ -113,7 +113,7 @@ fn admit<C: ClientEnd, D: LinkDesk, G: Gate<D::End>>(
     ensures share { Settles (D.told pass.old) (D.told pass.new) }
     ensures gone { D.whose pass.old ≡ None → D.whose pass.new ≡ None }
     ensures why { WordHasTrace AtArrival (D.told pass.old) (D.told pass.new) result.1 }
-    ensures serves { run.client.tells ≡ true → LetsIn D.home run.login.users → IsServed D.home.catalogue run.login (C.facts result.0) result.1 }
+    ensures serves { run.client.tells ≡ true → LetsIn D.home run.login.users → IsServed D.home run.login (C.facts result.0) result.1 }
 {
     runs_stand_at_pieces();
     match desk.arrive(pass) {
@@ -159,7 +159,7 @@ pub fn serve<C: ClientEnd, D: LinkDesk, G: Gate<D::End> + Drop>(
     requires taken { (C.facts client).tells ≡ true → (C.facts client).taken ≡ [] }
     requires given { (C.facts client).tells ≡ true → (C.facts client).given ≡ [] }
     ensures tells { (C.facts result.0).tells ≡ (C.facts client).tells }
-    ensures allowed { (C.facts client).tells ≡ true → LetsIn D.home login.users → (marks : List Bool) × AllowedBy (HasCause login (C.facts result.0).taken (D.told pass) (D.told result.1)) (C.facts result.0).given (own D.home.catalogue login marks (C.facts result.0).taken) }
+    ensures allowed { (C.facts client).tells ≡ true → LetsIn D.home login.users → (marks : List Bool) × (AreMarksOf D.home.strikable marks × AllowedBy (HasCause login (C.facts result.0).taken (D.told pass) (D.told result.1)) (C.facts result.0).given (own D.home.catalogue login marks (C.facts result.0).taken)) }
     ensures share { Settles (D.told pass) (D.told result.1) }
     ensures gone { D.whose pass ≡ None → D.whose result.1 ≡ None }
 {

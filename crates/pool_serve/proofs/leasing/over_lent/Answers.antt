@@ -1,10 +1,11 @@
-use Rattle.std.proofs.Common.{inl, sym, ap, ◌∙◌, subst}
+use Rattle.std.proofs.Common.{[], inl, sym, ap, ◌∙◌, subst}
 use Rattle.std.specs.Arc.{arc_value}
 use Rattle.start_keys.specs.SameKeys.{same_keys-one}
 use Rattle.link_run.specs.Links.{LinkView}
 use Rattle.link_desk.specs.Homes.{IsAtHome}
-use Rattle.pool_serve.specs.Serving.{limit_of}
+use Rattle.pool_serve.specs.Serving.{limit_of, owed}
 use Rattle.pool_serve.proofs.Owing.{over_link}
+use Rattle.pool_serve.proofs.Telling.{nothing_more, none_ends}
 use Rattle.pool_serve.proofs.leasing.over_lent.Goals as goal
 
 pub returns-clause-serves : goal.returns-clause-serves
@@ -21,3 +22,6 @@ returns-clause-serves g c = λ t l.
 
 pub returns-clause-why : goal.returns-clause-why
 returns-clause-why g c = inl c.relayed.ensures.why
+
+pub returns-then-not-is_for-clause-serves : goal.returns-then-not-is_for-clause-serves
+returns-then-not-is_for-clause-serves g c = λ t l. nothing_more _ _ _ _ _ tt (none_ends (owed g.D.LinkDesk.home.catalogue c.args.guest.now [] []))
