@@ -9,6 +9,7 @@ ghost use Rattle.pool_serve.specs.Causes.{AtArrival, AtAsking, HasCause, WordHas
 ghost use Rattle.pool_serve.specs.Serving.{AreMarksOf, HasStopped, IsServed, LetsIn};
 ghost use Rattle.pool_serve.specs.Shares.{Evens, Settles};
 
+use crate::TURNS;
 use crate::guest::Guest;
 use crate::leasing::lease;
 use crate::word::LastWord;
@@ -27,20 +28,27 @@ use server_end::gate::Gate;
 use server_end::{ClientEnd, ServerEnd};
 use std::alloc::Global;
 
-/// Goes on with a login until it has arrived, is let in or is over. A turn of the gate is taken only where nothing moved.
+/// Goes on with a login until it has arrived, is let in or is over; or until nothing has moved for so many turns of the gate, if
+/// `most` says how many. A turn is taken only where nothing moved.
 fn converse<C: ClientEnd, E: ServerEnd, G: Gate<E>>(
     alloc: Global,
     run: &mut LoginRun<C>,
     gate: &mut G,
+    most: Option<u32>,
 ) -> LoginTurn
     ensures login { IsSameLogin run.old run.new }
     ensures stopped { HasStopped run.new result }
 {
+    let mut waited: u32 = 0;
     for _ in 0..u64::MAX {
         match run.turn(alloc) {
-            LoginTurn::Again => {}
+            LoginTurn::Again => waited = 0,
             LoginTurn::Wait => {
+                if most == Some(waited) {
+                    return LoginTurn::Over;
+                }
                 gate.turn();
+                waited = waited.saturating_add(1);
             }
             turn => return turn,
         }
@@ -48,7 +56,7 @@ fn converse<C: ClientEnd, E: ServerEnd, G: Gate<E>>(
     LoginTurn::Over
 }
 
-/// Serves a client that has arrived, with this number.
+/// Serves a client that has arrived, with this number. One whose dialogue doesn't go on for [`TURNS`] turns is closed.
 fn attend<C: ClientEnd, D: LinkDesk, G: Gate<D::End>>(
     alloc: Global,
     desk: &D,
@@ -74,7 +82,7 @@ fn attend<C: ClientEnd, D: LinkDesk, G: Gate<D::End>>(
     passed_runs_are_let_in();
     passed_runs_have_passed();
     let mut run = run;
-    match converse(alloc, &mut run, gate) {
+    match converse(alloc, &mut run, gate, Some(TURNS)) {
         LoginTurn::Passed => {}
         _ => {
             let (client, _, _) = run.finish();
@@ -167,7 +175,8 @@ pub fn serve<C: ClientEnd, D: LinkDesk, G: Gate<D::End> + Drop>(
     let mut pass = pass;
     let mut gate = gate;
     let mut run = LoginRun::new(client, login);
-    match converse(alloc, &mut run, &mut gate) {
+    // a client that hasn't come yet takes no place in the book
+    match converse(alloc, &mut run, &mut gate, None) {
         LoginTurn::Arrived => {}
         _ => {
             let (client, _, _) = run.finish();
