@@ -148,6 +148,10 @@ class Cluster:
         """The processes of this user's sessions."""
         return [int(pid) for pid, in self.tell(f"SELECT pid FROM pg_stat_activity WHERE usename = '{user}'")]
 
+    def complaints(self):
+        """How many sessions ended without a Terminate."""
+        return self.log.read_text(errors="replace").count("unexpected EOF on client connection")
+
     def logins(self, user="ann"):
         """How many sessions of this user were ever opened."""
         return self.log.read_text(errors="replace").count(f"connection authorized: user={user} ")

@@ -143,6 +143,7 @@ class Show:
         pooler.stop()
 
     def after(self, pooler, name, deed, wanted):
+        complaints = self.cluster.complaints()
         first = self.client(pooler)
         for step in deed:
             if isinstance(step, bytes):
@@ -162,6 +163,8 @@ class Show:
         second.leave()
         wrong = {probe: (found[probe], wanted[probe]) for probe in PROBES if found[probe] != wanted[probe]}
         self.passes.same(f"after {name} the next client sees nothing of it", wrong, {})
+        if KIND == "pgsess" and not isinstance(deed[-1], bytes):
+            self.passes.same(f"after {name} the server doesn't complain of its end", self.cluster.complaints() - complaints, 0)
 
     # ---- c. few links
 

@@ -10,16 +10,17 @@ use Rattle.link_start.specs.Starts.{CanStart, IsLetIn}
 use Rattle.link_desk.specs.declared.answers.Grant.{Grant}
 use Rattle.link_desk.specs.declared.answers.Grant.TheVariants as grant
 
--- The catalogue that stands behind each address; whether the ends that are dialled follow their servers; and whether those let a
--- user of this name and secret in.
+-- The catalogue that stands behind each address; whether the ends that are dialled follow their servers, and whether cancels reach
+-- those; and whether they let a user of this name and secret in.
 pub record HomeOf : Type 0 where
   pub catalogue : Address → CatalogueOf
   pub follows : Bool
+  pub strikable : Bool
   pub lets_in : Text → Secret → Bool
 
 -- nothing is claimed of what is dialled
 abbrev pub unknown_home : HomeOf
-unknown_home = record { catalogue = λ address. record { version = []; databases = []; tables = [] }; follows = false; lets_in = λ name secret. false }
+unknown_home = record { catalogue = λ address. record { version = []; databases = []; tables = [] }; follows = false; strikable = true; lets_in = λ name secret. false }
 
 -- the address of the servers of a row, under the name by which clients ask for it
 abbrev pub address_in : DbRow → Address
@@ -30,12 +31,14 @@ pub record IsDialled (home : HomeOf) (row : DbRow) (at : Standing) : Type 0 wher
   pub start : CanStart at
   pub follows : home.follows ≡ true → at.follows ≡ true
   pub catalogue : at.follows ≡ true → at.server.catalogue ≡ home.catalogue (address_in row)
+  pub strikable : at.follows ≡ true → at.server.strikable ≡ home.strikable
   pub lets_in : (key : StartKeyOf) (secret : Secret) → home.lets_in key.user secret ≡ true → IsLetIn at key secret
 
 -- A link to the servers of its key's address.
 pub record IsAtHome (home : HomeOf) (link : LinkView) : Type 0 where
   pub follows : home.follows ≡ true → link.stands.follows ≡ true
   pub catalogue : link.stands.follows ≡ true → link.stands.server.catalogue ≡ home.catalogue (address_of link.key)
+  pub strikable : link.stands.follows ≡ true → link.stands.server.strikable ≡ home.strikable
 
 module _ {E : Type 0} where
   -- a link that is lent is

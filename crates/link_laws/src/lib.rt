@@ -47,7 +47,7 @@ pub fn started_is_fresh()
     ensures { StartedIsFresh }
 {}
 
-/// What a server takes and gives leaves its future as it was.
+/// What a server takes and gives leaves its future as it was, under the marks of the frames that it took.
 pub fn futures_stay()
     ensures { FuturesStay }
 {
@@ -66,7 +66,7 @@ pub fn deaths_cut()
 }
 
 /// Over a link that follows and lives, what the client was given, what is held and what is still to come are what a server of
-/// the client's own answers to the frames that went on.
+/// the client's own answers to the frames that went on, where cancels struck those that the link's end has marked.
 #[tactic(auto, using(crate::proofs::ByName::leases_are_exact))]
 pub fn leases_are_exact()
     ensures { LeasesAreExact }

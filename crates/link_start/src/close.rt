@@ -7,9 +7,9 @@ use link_run::links::CleanLink;
 /// The message Terminate (PostgreSQL manual, "Message Flow", "Termination").
 static TERMINATE: [u8; 5] = *b"X\0\0\0\x04";
 
-/// Writes a Terminate once, as much of it as goes.
+/// Writes a Terminate once, as much of it as goes: a server that is told so closes its session without a complaint.
 #[tactic(auto, using(crate::proofs::Closing::offered))]
-fn offer_terminate<E: ServerEnd>(end: &mut E)
+pub fn offer_terminate<E: ServerEnd>(end: &mut E)
     ensures { IsOffered (E.standing end.old) (E.standing end.new) }
 {
     let _ = end.write_some(&TERMINATE);

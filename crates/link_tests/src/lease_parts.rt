@@ -70,7 +70,14 @@ pub(crate) fn served(
 {
     let catalogue = catalogue(alloc)?;
     catalogue.is_lawful();
-    let server = MemoryServer::spared(alloc, catalogue, ServerAuth::Trust, SERVER, cut, dies_after)?;
+    let server = MemoryServer::spared(
+        alloc,
+        catalogue,
+        ServerAuth::Trust,
+        SERVER,
+        cut,
+        dies_after,
+    )?;
     // the server asks for nothing
     let unasked = Secret::Md5([0; 32]);
     match serve_alone(

@@ -3,6 +3,8 @@
 #![tactic(auto)]
 
 #[cfg(test)]
+mod cancels;
+#[cfg(test)]
 mod client_talk;
 #[cfg(test)]
 mod clients;

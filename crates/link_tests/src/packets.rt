@@ -24,6 +24,11 @@ pub fn empty_answer() -> &'static [u8] {
     b"I\0\0\0\x04Z\0\0\0\x05I"
 }
 
+/// What a Query is answered by that a cancel struck.
+pub fn cancelled() -> &'static [u8] {
+    b"E\0\0\0\x33SERROR\0VERROR\0C57014\0Mstatement was cancelled\0\0Z\0\0\0\x05I"
+}
+
 /// A Parse, and the Sync that closes it.
 pub fn parse_and_sync() -> &'static [u8] {
     b"P\0\0\0\x08\0\0\0\0S\0\0\0\x04"

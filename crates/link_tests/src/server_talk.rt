@@ -2,6 +2,7 @@
 ghost use Rattle.std.specs.Prelude.{◌<◌};
 
 use memory_ends::memory_server::{MemoryServer, ServerAuth};
+use memory_ends::striker::Striker;
 use message_view::KeyWord;
 use server_catalogue::Catalogue;
 use server_end::{Moved, ServerEnd};
@@ -48,6 +49,21 @@ pub fn server(
     let catalogue = catalogue(alloc)?;
     match MemoryServer::new(alloc, catalogue, auth, OWN, cut, dies_after) {
         Ok(server) => Ok(ManuallyDrop::new(server)),
+        Err(_) => Err("no memory")?,
+    }
+}
+
+/// A server that asks for nothing, and what cancels its statements.
+pub fn server_and_striker(alloc: Global) -> Result<(ManuallyDrop<MemoryServer>, Striker), Fail> {
+    let catalogue = catalogue(alloc)?;
+    match MemoryServer::new(alloc, catalogue, ServerAuth::Trust, OWN, 100, None) {
+        Ok(server) => {
+            let server = ManuallyDrop::new(server);
+            match server.striker() {
+                Ok(striker) => Ok((server, striker)),
+                Err(_) => Err("no memory")?,
+            }
+        }
         Err(_) => Err("no memory")?,
     }
 }

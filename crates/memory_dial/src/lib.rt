@@ -29,7 +29,7 @@ impl Naming for Brand {
     ghost catalogue = { unknown_home.catalogue };
 }
 
-/// Reaches new servers of one catalogue and key word, whatever the row, which let everybody in.
+/// Reaches new servers of one catalogue and key word, whatever the row, which let everybody in, and which no cancel reaches.
 #[derive(Drop)]
 pub struct MemoryDial<N: Naming> {
     alloc: Global,
@@ -81,7 +81,7 @@ impl<N: Naming> Dial for MemoryDial<N> {
         memory_servers_can_start();
         self.catalogue.is_lawful();
         let catalogue = Arc::try_clone(&self.catalogue).ok()?;
-        MemoryServer::new(
+        MemoryServer::spared(
             self.alloc,
             catalogue,
             ServerAuth::Trust,

@@ -1,4 +1,5 @@
-//! Ends of a lease in memory: a stand-in server, a client that hands out its input, and an end that fails.
+//! Ends of a lease in memory: a stand-in server, what cancels its statements, a client that hands out its input, and an end that
+//! fails.
 #![tactic(auto)]
 
 mod dialogue;

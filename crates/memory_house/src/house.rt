@@ -44,7 +44,8 @@ const TURNS: u32 = 65_536;
 /// The pass of all events.
 const PASS: u64 = 0;
 
-/// What clients are served over. Each link leads to a server in memory of its own, which asks for no password.
+/// What clients are served over. Each link leads to a server in memory of its own, which asks for no password and which no cancel
+/// reaches.
 ///
 /// Contracts see the settings, the users and the catalogue. Each idle link's server is of that catalogue.
 pub struct House {
@@ -237,7 +238,7 @@ impl House {
         Taken::Strange
     }
 
-    /// A new server, which waits for a StartupMessage and asks for no password.
+    /// A new server, which waits for a StartupMessage, asks for no password, and is reached by no cancel.
     fn server(&self) -> Result<MemoryServer, AllocError>
         ensures { IfOk result (λ s. IsNewServer self.now.catalogue s.standing) }
     {

@@ -161,8 +161,8 @@ fn put_ending(
     Ok(true)
 }
 
-/// Serves one client from the first byte after its login (`bytes`) to its end, over a new link to this server, and answers what the
-/// client was given.
+/// Serves one client from the first byte after its login (`bytes`) to its end, over a new link to this server, which no cancel
+/// reaches, and answers what the client was given.
 ///
 /// The client sends a frame only once it was given the answers to those before, and hangs up behind its last byte. A start that the
 /// server refuses is answered by the server's error alone; any other fault of a start by the refusal P7. Over its link the client is

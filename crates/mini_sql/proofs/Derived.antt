@@ -5,7 +5,7 @@ use Rattle.std.proofs.lemmas.Bool.{le-leb}
 use Rattle.std.proofs.lemmas.Slice.Eq.{bytes_eq-Decides}
 use Rattle.mini_sql.specs.Words.{Text, folded}
 use Rattle.mini_sql.specs.Tokens.{Token, Name, Literal, Digits, Parameter, Sign, closing, star, comma, equal}
-use Rattle.mini_sql.specs.Statements.{Form, Statement, Begin, Commit, Rollback, Set, SetLocal, Select, Declare, Fetch, Equals, Operand, read, ends, pass, take_value, either, or_else, items, definitions, columns_at, at_most_64, with_item, take_columns, take_operands, name_of, column_of, operand_of, is_word, is_sign, block, assignment, set_name, set, reset, show, discard, create, definition_list, drop_table, insert, value_list, where_of, end_of, from_of, select, declared_over, rows_of, declare, fetch, close, parameters_of, of_tokens, phrase, statement, less_semicolon}
+use Rattle.mini_sql.specs.Statements.{Form, Statement, Begin, Commit, Rollback, Set, SetLocal, Select, Declare, Equals, Operand, read, ends, pass, take_value, either, or_else, items, definitions, columns_at, at_most_64, with_item, take_columns, take_operands, name_of, column_of, operand_of, is_word, is_sign, block, assignment, set_name, set, reset, show, discard, create, definition_list, drop_table, insert, value_list, where_of, end_of, from_of, select, declared_over, rows_of, declare, fetch, close, parameters_of, of_tokens, phrase, statement, less_semicolon}
 use Rattle.mini_sql.specs.Grammar.{Says, Marks, IsBlock, Columns, Definitions, Operands, Assignment, Filter, Chosen, IsTemporary, Derives}
 use Rattle.mini_sql.specs.Grammar as g
 use Rattle.mini_sql.specs.Laws.{DerivedIsStatement, DerivesOne}

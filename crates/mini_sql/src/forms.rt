@@ -65,7 +65,7 @@ fn local_assignment(text: &[u8]) -> Result<Stmt<'_>, SqlFault>
     finish(rest, Stmt::SetLocal { name, to })
 }
 
-/// SET of a parameter, with LOCAL before it or not.
+/// SET of a parameter, with LOCAL before its name or not.
 fn set_name(text: &[u8]) -> Result<Stmt<'_>, SqlFault>
     ensures { Reads result (read spec.set_name (phrase text.now)) }
 {
@@ -272,7 +272,7 @@ fn declared_over<'a>(cursor: &'a [u8], select: Stmt<'a>) -> Result<Stmt<'a>, Sql
     }
 }
 
-/// SELECT, for a cursor.
+/// The SELECT of a cursor.
 fn rows<'a>(text: &'a [u8], cursor: &'a [u8]) -> Result<Stmt<'a>, SqlFault>
     ensures { Reads result (read (spec.rows_of (folded cursor.now)) (phrase text.now)) }
 {

@@ -210,7 +210,7 @@ pub(crate) fn take_operand(text: &[u8]) -> Result<(Operand<'_>, &[u8]), SqlFault
 /// The most rows that a FETCH may ask for.
 const MOST_ROWS: u64 = 2_147_483_647;
 
-/// The number that decimal digits spell behind a number; none above [`MOST_ROWS`].
+/// The number that decimal digits spell; none above [`MOST_ROWS`].
 fn number_at(digits: &[u8]) -> Option<u32>
     ensures { IsNumber result (decimal_from 0 digits.now) }
 {
@@ -225,7 +225,7 @@ fn number_at(digits: &[u8]) -> Option<u32>
     Some(number)
 }
 
-/// A number of rows.
+/// The number of rows that digits ask for: 1 to [`MOST_ROWS`], without a minus.
 fn rows_at(digits: &[u8]) -> Option<u32>
     ensures { option_map Some result ≡ row_count digits.now }
 {
@@ -239,6 +239,7 @@ fn rows_at(digits: &[u8]) -> Option<u32>
     }
 }
 
+/// How many rows a token asks for; the inner `None` is ALL.
 fn count_at(token: Token<'_>) -> Option<Option<u32>>
     ensures { result ≡ count_of (token_of token.entry) }
 {
@@ -254,7 +255,7 @@ fn count_at(token: Token<'_>) -> Option<Option<u32>>
     }
 }
 
-/// How many rows are asked for, and what follows it.
+/// How many rows are asked for (`None`: all), and what follows it.
 pub(crate) fn take_count(text: &[u8]) -> Result<(Option<u32>, &[u8]), SqlFault>
     ensures { Takes (λ n. n) result (taken count_of (phrase text.now)) }
 {

@@ -15,8 +15,9 @@ use crate::token::{Token, next_token};
 /// The statement that a text spells, by slices of the text. It takes no memory.
 ///
 /// Words are matched without regard to ASCII case, and none is reserved. White space is space, tab, LF, CR and FF, and one semicolon may
-/// end the text. The forms are BEGIN, COMMIT and ROLLBACK with WORK or TRANSACTION after them or not, SET, RESET, SHOW, DISCARD ALL,
-/// CREATE TEMP TABLE, DROP TABLE, INSERT, SELECT, and DECLARE, FETCH and CLOSE of a cursor; every other text is `SqlFault::Syntax`.
+/// end the text. The forms are BEGIN, COMMIT and ROLLBACK with WORK or TRANSACTION after them or not, SET with SESSION or LOCAL
+/// after it or not, RESET, SHOW, DISCARD ALL, CREATE TEMP TABLE, DROP TABLE, INSERT, SELECT, and of a cursor DECLARE, FETCH and
+/// CLOSE; every other text is `SqlFault::Syntax`.
 pub fn read_statement<'a>(text: &'a [u8]) -> Result<Stmt<'a>, SqlFault>
     ensures { MatchResult result (λ s. statement text.now ≡ Some (meaning s)) (λ e. statement text.now ≡ None) }
 {

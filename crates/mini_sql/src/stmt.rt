@@ -47,7 +47,7 @@ pub enum Stmt<'a> {
         name: &'a [u8],
         to: Setting<'a>,
     },
-    /// Until the transaction ends.
+    /// SET, until the transaction ends.
     SetLocal {
         name: &'a [u8],
         to: Setting<'a>,

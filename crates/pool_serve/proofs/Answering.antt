@@ -19,6 +19,7 @@ use Rattle.session_laws.specs.Laws.{IsSent, Reaches}
 use Rattle.session_laws.proofs.ByName.{fresh_is_reached}
 use Rattle.run_laws.proofs.ByName.{run_replies_are_frames, runs_go_on}
 use Rattle.link_laws.specs.Standing.{ClientFacts, marks_since}
+use Rattle.link_laws.proofs.ByName.{spared_are_unstruck}
 use Rattle.link_laws.proofs.Splits.{SplitsOff, same_back, split_whole}
 use Rattle.link_run.specs.Links.{IsFreshLink, LinkView}
 use Rattle.login_core.specs.Laws.{ServiceIsItsPieces}
@@ -31,7 +32,7 @@ use Rattle.relay_steps.specs.Leases.{IsAllowed, IsLease, Keeps, Place, RelayView
 use Rattle.relay_steps.proofs.Exact.{all-sent}
 use Rattle.relay_steps.specs.Answers.{AtBorder, RefusedBy}
 use Rattle.pool_serve.specs.Words.{or_nothing}
-use Rattle.pool_serve.specs.Serving.{Serves}
+use Rattle.pool_serve.specs.Serving.{AreMarksOf, Serves}
 use Rattle.pool_serve.proofs.Causing.{relay_fault}
 use Rattle.pool_serve.specs.declared.word.LastWord.TheVariants as last
 
@@ -93,13 +94,18 @@ front_given own p v x a =
       both = sym (append_assoc a.since held a.more) ∙ (a.front ∙ (same_service p v (marks_since p.stands v.link) (flat_map spelling a.forwarded ++ a.tail) x.same.0 x.same.3 ∙ sym (own p.stands.server.catalogue p.key p.word (marks_since p.stands v.link) (flat_map spelling a.forwarded ++ a.tail))));
     }
 
-unrefused : LeasesAreAllowed → ServiceIsItsPieces → (p : Place) (v : RelayView) → IsLease p v → v.client.tells ≡ true → p.stands.follows ≡ true → (c : ClientFacts) → c.taken ≡ p.taken → c.given ≡ p.given → Serves p.limit c v.client (owed_at p) last.Nothing
+-- no statement is struck at a server that no cancel reaches
+unmarked : (p : Place) (v : RelayView) → IsLease p v → p.stands.follows ≡ true → AreMarksOf p.stands.server.strikable (marks_since p.stands v.link)
+unmarked p v x f e = spared_are_unstruck p.stands v.link x.sent x.received x.moves f e
+
+unrefused : LeasesAreAllowed → ServiceIsItsPieces → (p : Place) (v : RelayView) → IsLease p v → v.client.tells ≡ true → p.stands.follows ≡ true → (c : ClientFacts) → c.taken ≡ p.taken → c.given ≡ p.given → Serves p.limit p.stands.server.strikable c v.client (owed_at p) last.Nothing
 unrefused law own p v x t f c ct cg =
     let a : IsAllowed p v = law p v x t (x.moves.follows ∙ f) in
     let went : List ℕ = flat_map spelling a.forwarded ++ a.tail in
     let marks : List Bool = marks_since p.stands v.link in
     record {
       marks = marks;
+      are_marks = unmarked p v x f;
       took = went ++ v.to_link.part;
       gave = a.since;
       taken = a.taken ∙ ap₂ (λ (b d : List ℕ). b ++ d) (sym ct) (sym (append_assoc (flat_map spelling a.forwarded) a.tail v.to_link.part));
@@ -162,12 +168,13 @@ at_border law own p v x t f b =
       (a.taken ∙ ap (λ (d : List ℕ). p.taken ++ d) (sym (append_assoc (flat_map spelling a.forwarded) a.tail v.to_link.part)), whole_pieces ws b.arrived rs b.since g.more (owed_at p marks went) whole b.came out_is all pieces),
     )
 
-refused : LeasesAreAllowed → ServiceIsItsPieces → (p : Place) (v : RelayView) (r : Refusal) → IsLease p v → v.client.tells ≡ true → p.stands.follows ≡ true → AtBorder p v → RefusedBy p v r → (c : ClientFacts) → c.taken ≡ p.taken → c.given ≡ p.given → Serves p.limit c v.client (owed_at p) (last.Refusal r)
+refused : LeasesAreAllowed → ServiceIsItsPieces → (p : Place) (v : RelayView) (r : Refusal) → IsLease p v → v.client.tells ≡ true → p.stands.follows ≡ true → AtBorder p v → RefusedBy p v r → (c : ClientFacts) → c.taken ≡ p.taken → c.given ≡ p.given → Serves p.limit p.stands.server.strikable c v.client (owed_at p) (last.Refusal r)
 refused law own p v r x t f b w c ct cg =
     let k = at_border law own p v x t f b in
     let marks : List Bool = marks_since p.stands v.link in
     record {
       marks = marks;
+      are_marks = unmarked p v x f;
       took = k.0 ++ v.to_link.part;
       gave = b.since;
       taken = k.1.0 ∙ ap (λ (d : List ℕ). d ++ (k.0 ++ v.to_link.part)) (sym ct);
@@ -177,13 +184,13 @@ refused law own p v r x t f b w c ct cg =
     }
 
 answered : LeasesAreAllowed → ServiceIsItsPieces → (p : Place) (old v : RelayView) (r : Option Refusal) → IsLease p old → Keeps old v → v.client.tells ≡ true → p.stands.follows ≡ true → IfSome r (λ s. (q : Place) → IsLease q old → AtBorder q v × RefusedBy q v s) → (c : ClientFacts) → c.taken ≡ p.taken → c.given ≡ p.given
-    → Serves p.limit c v.client (owed_at p) (or_nothing r)
+    → Serves p.limit p.stands.server.strikable c v.client (owed_at p) (or_nothing r)
 answered law own p old v None i k t f b c ct cg = unrefused law own p v (k p i) t f c ct cg
 answered law own p old v (Some r) i k t f b c ct cg = refused law own p v r (k p i) t f (b p i).0 (b p i).1 c ct cg
 
 -- a client whose lease began here and has ended
 pub relay_serves : LeasesAreAllowed → ServiceIsItsPieces → (client after : ClientFacts) (link : LinkView) (word : KeyWord) (limit : ℕ) (old v : RelayView) (r : Option Refusal) → IsLease (place client link word limit) old → Keeps old v → after ≡ v.client
-    → IfSome r (λ s. (q : Place) → IsLease q old → AtBorder q v × RefusedBy q v s) → client.tells ≡ true → link.stands.follows ≡ true → Serves limit client after (service_pieces link.stands.server.catalogue link.key word) (or_nothing r)
+    → IfSome r (λ s. (q : Place) → IsLease q old → AtBorder q v × RefusedBy q v s) → client.tells ≡ true → link.stands.follows ≡ true → Serves limit link.stands.server.strikable client after (service_pieces link.stands.server.catalogue link.key word) (or_nothing r)
 relay_serves law own client after link word limit old v r i k e b t f =
     let p : Place = place client link word limit in
-    subst (λ (d : ClientFacts). Serves limit client d (service_pieces link.stands.server.catalogue link.key word) (or_nothing r)) (sym e) (answered law own p old v r i k ((k p i).told ∙ t) f b client refl refl)
+    subst (λ (d : ClientFacts). Serves limit link.stands.server.strikable client d (service_pieces link.stands.server.catalogue link.key word) (or_nothing r)) (sym e) (answered law own p old v r i k ((k p i).told ∙ t) f b client refl refl)

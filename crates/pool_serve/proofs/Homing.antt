@@ -24,6 +24,7 @@ pub home_still : (home : HomeOf) (old new : LinkView) → new.stands.follows ≡
 home_still home old new f s k h = record {
   follows = λ t. f ∙ h.follows t;
   catalogue = λ t. ap (λ (x : stages.Server). x.catalogue) s ∙ (h.catalogue (sym f ∙ t) ∙ ap (λ (x : StartKeyOf). home.catalogue (address_of x)) (sym k));
+  strikable = λ t. ap (λ (x : stages.Server). x.strikable) s ∙ h.strikable (sym f ∙ t);
 }
 
 module _ (home : HomeOf) (client : ClientFacts) (link : LinkView) (word : KeyWord) (limit : ℕ) (v : RelayView) (x : IsLease (place client link word limit) v) where
@@ -65,4 +66,5 @@ started_home home began secret row key l d a st k =
     record {
       follows = λ t. m.follows ∙ d.follows t;
       catalogue = λ t. ap (λ (x : stages.Server). x.catalogue) m.server ∙ (d.catalogue (sym m.follows ∙ t) ∙ (ap home.catalogue a ∙ ap (λ (x : StartKeyOf). home.catalogue (address_of x)) (sym k)));
+      strikable = λ t. ap (λ (x : stages.Server). x.strikable) m.server ∙ d.strikable (sym m.follows ∙ t);
     }

@@ -1,5 +1,5 @@
 -- A client's login, and what it leads to.
-use Rattle.std.proofs.Common.{◌≡◌, ◌⊎◌, ℕ, Bool, true, List, [], sym, ap, ap₂, ◌∙◌, subst, Option, Some}
+use Rattle.std.proofs.Common.{◌≡◌, ◌⊎◌, ℕ, Bool, true, List, [], refl, sym, ap, ap₂, ◌∙◌, subst, Option, Some}
 use Rattle.std.specs.declared.sync.Arc.{Arc}
 use Rattle.std.specs.Arc.{arc_value}
 use Rattle.message_view.specs.declared.KeyWord.{KeyWord}
@@ -19,6 +19,7 @@ use Rattle.login_core.specs.Solo.{solo_in}
 use Rattle.login_keys.specs.Laws.{BoundedRowsAreLawful, IsOfRow, PassedKeysAreLinkKeys, PassedKeysAreOfTheirRows}
 use Rattle.login_run.specs.Runs.{Arrived, Awaits, Console, Gone, IsAllGiven, IsKeyOf, IsPiece, IsRun, IsSameLogin, Passed, PhaseOf, RunView, Stopped, Talking}
 use Rattle.login_run.specs.Laws.{AllowedBy, IsAtPiece, PassedRunsAreLetIn, PassedRunsHavePassed, RunsAreAllowed, RunsStandAtPieces, own}
+use Rattle.link_desk.specs.Homes.{HomeOf}
 use Rattle.link_desk.specs.Refusing.{RefusesArrival}
 use Rattle.pool_serve.specs.declared.guest.Guest.{Guest}
 use Rattle.pool_serve.specs.declared.word.LastWord.{LastWord}
@@ -61,22 +62,22 @@ same_under marks catalogue old new c (last.Refusal r) s h = (
 same_under marks catalogue old new c (last.Error error) s h =
     subst (λ (ps : List (List ℕ)). MayEnd c.given ps (last.Error error)) (same_owed catalogue old.login new.login marks c.taken s.settings s.users s.word) h
 
-pub same_served : (catalogue : Address → CatalogueOf) (old new : RunView) (c : ClientFacts) (word : LastWord) → IsSameLogin old new → IsServed catalogue new.login c word → IsServed catalogue old.login c word
-same_served catalogue old new c word s h = (h.0, same_under h.0 catalogue old new c word s h.1)
+pub same_served : (home : HomeOf) (old new : RunView) (c : ClientFacts) (word : LastWord) → IsSameLogin old new → IsServed home new.login c word → IsServed home old.login c word
+same_served home old new c word s h = (h.0, (h.1.0, same_under h.0 home.catalogue old new c word s h.1.1))
 
 -- ---- a login that leads nowhere
 
-pub run_ends : RunsAreAllowed → (catalogue : Address → CatalogueOf) (old new : RunView) (c : ClientFacts) → IsSameLogin old new → IsRun new → c ≡ new.client → old.client.tells ≡ true → IsServed catalogue old.login c last.Nothing
-run_ends law catalogue old new c s x e t =
-    same_served catalogue old new c last.Nothing s
-    (subst (λ (d : ClientFacts). IsServed catalogue new.login d last.Nothing) (sym e) ([], law new catalogue [] x (s.tells ∙ t)))
+pub run_ends : RunsAreAllowed → (home : HomeOf) (old new : RunView) (c : ClientFacts) → IsSameLogin old new → IsRun new → c ≡ new.client → old.client.tells ≡ true → IsServed home old.login c last.Nothing
+run_ends law home old new c s x e t =
+    same_served home old new c last.Nothing s
+    (subst (λ (d : ClientFacts). IsServed home new.login d last.Nothing) (sym e) ([], (λ e. refl, law new home.catalogue [] x (s.tells ∙ t))))
 
 arrived_piece : (v : RunView) → v.phase ≡ Arrived → IsRun v → IsPiece v.said
 arrived_piece v e x = (subst (λ (p : PhaseOf). Awaits p v.said v.login) e x.1).0
 
-pub arrival_ends : RunsStandAtPieces → (catalogue : Address → CatalogueOf) (v : RunView) (c : ClientFacts) (r : Refusal) → RefusesArrival r → v.phase ≡ Arrived → IsAllGiven v → IsRun v → c ≡ v.client → v.client.tells ≡ true → IsServed catalogue v.login c (last.Refusal r)
-arrival_ends law catalogue v c r h p n x e t =
-    subst (λ (d : ClientFacts). IsServed catalogue v.login d (last.Refusal r)) (sym e) ([], (law v catalogue [] x t (arrived_piece v p x) n, arrival_fault (rows_of v.login) v.login.word v.login.settings.max_packet_size v.client.taken r h))
+pub arrival_ends : RunsStandAtPieces → (home : HomeOf) (v : RunView) (c : ClientFacts) (r : Refusal) → RefusesArrival r → v.phase ≡ Arrived → IsAllGiven v → IsRun v → c ≡ v.client → v.client.tells ≡ true → IsServed home v.login c (last.Refusal r)
+arrival_ends law home v c r h p n x e t =
+    subst (λ (d : ClientFacts). IsServed home v.login d (last.Refusal r)) (sym e) ([], (λ e. refl, (law v home.catalogue [] x t (arrived_piece v p x) n, arrival_fault (rows_of v.login) v.login.word v.login.settings.max_packet_size v.client.taken r h)))
 
 -- ---- a client that was let in
 
@@ -103,7 +104,7 @@ is_guest bounded keys rows passed v g x e l b =
       settings = subst (λ (w : LoginView). AreWithinBounds w.settings) (sym l) b;
     }
 
-pub guest_ends : PassedRunsAreLetIn → (catalogue : Address → CatalogueOf) (old new : RunView) (g : Guest) (before after : ClientFacts) (word : LastWord) → IsSameLogin old new → IsRun new → new.phase ≡ Passed (arc_value g.key) → IsAllGiven new → before ≡ new.client → g.word ≡ new.login.word → g.login ≡ new.login → old.client.tells ≡ true
-    → Serves (limit_of g) before after (owed catalogue g) word → IsServed catalogue old.login after word
-guest_ends law catalogue old new g before after word s x p n e w l t m =
-    same_served catalogue old new after word s (behind_login catalogue new g before after word e w l (law new catalogue (arc_value g.key) x (s.tells ∙ t) p n) m)
+pub guest_ends : PassedRunsAreLetIn → (home : HomeOf) (old new : RunView) (g : Guest) (before after : ClientFacts) (word : LastWord) → IsSameLogin old new → IsRun new → new.phase ≡ Passed (arc_value g.key) → IsAllGiven new → before ≡ new.client → g.word ≡ new.login.word → g.login ≡ new.login → old.client.tells ≡ true
+    → Serves (limit_of g) home.strikable before after (owed home.catalogue g) word → IsServed home old.login after word
+guest_ends law home old new g before after word s x p n e w l t m =
+    same_served home old new after word s (behind_login home new g before after word e w l (law new home.catalogue (arc_value g.key) x (s.tells ∙ t) p n) m)

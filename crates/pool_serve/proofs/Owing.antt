@@ -34,11 +34,13 @@ use Rattle.pool_serve.proofs.Telling.{behind, refusal_ends}
 
 -- ---- over a link of its key, with the catalogue of its address
 
-pub over_link : (home : HomeOf) (limit : ℕ) (before after : ClientFacts) (g : Guest) (link : LinkView) (word : LastWord) → IsAtHome home link → link.stands.follows ≡ true → link.key ≡ arc_value g.key → Serves limit before after (service_pieces link.stands.server.catalogue link.key g.word) word → Serves limit before after (owed home.catalogue g) word
+pub over_link : (home : HomeOf) (limit : ℕ) (before after : ClientFacts) (g : Guest) (link : LinkView) (word : LastWord) → IsAtHome home link → link.stands.follows ≡ true → link.key ≡ arc_value g.key
+    → Serves limit link.stands.server.strikable before after (service_pieces link.stands.server.catalogue link.key g.word) word → Serves limit home.strikable before after (owed home.catalogue g) word
 over_link home limit before after g link word h f k s =
     let same : link.stands.server.catalogue ≡ home.catalogue (address_of (arc_value g.key)) = h.catalogue f ∙ ap (λ (x : StartKeyOf). home.catalogue (address_of x)) k in
-    subst (λ (c : CatalogueOf). Serves limit before after (service_pieces c (arc_value g.key) g.word) word) same
-    (subst (λ (x : StartKeyOf). Serves limit before after (service_pieces link.stands.server.catalogue x g.word) word) k s)
+    subst (λ (b : Bool). Serves limit b before after (owed home.catalogue g) word) (h.strikable f)
+    (subst (λ (c : CatalogueOf). Serves limit link.stands.server.strikable before after (service_pieces c (arc_value g.key) g.word) word) same
+    (subst (λ (x : StartKeyOf). Serves limit link.stands.server.strikable before after (service_pieces link.stands.server.catalogue x g.word) word) k s))
 
 -- ---- a link that wasn't started
 
@@ -85,17 +87,19 @@ ends_served catalogue v key c marks took last.Nothing e x m = inl m
 ends_served catalogue v key c marks took (last.Refusal r) e x m = (m, fault_behind v key v.settings.max_packet_size c.taken took r e x)
 ends_served catalogue v key c marks took (last.Error error) e x m = m
 
-pub behind_login : (catalogue : Address → CatalogueOf) (v : RunView) (g : Guest) (before after : ClientFacts) (word : LastWord) → before ≡ v.client → g.word ≡ v.login.word → g.login ≡ v.login → runs.IsLetIn catalogue v (arc_value g.key) → Serves (limit_of g) before after (owed catalogue g) word
-    → IsServed catalogue v.login after word
-behind_login catalogue v g before after word e w l x s =
+pub behind_login : (home : HomeOf) (v : RunView) (g : Guest) (before after : ClientFacts) (word : LastWord) → before ≡ v.client → g.word ≡ v.login.word → g.login ≡ v.login → runs.IsLetIn home.catalogue v (arc_value g.key) → Serves (limit_of g) home.strikable before after (owed home.catalogue g) word
+    → IsServed home v.login after word
+behind_login home v g before after word e w l x s =
     let taken : after.taken ≡ v.client.taken ++ s.took = s.taken ∙ ap (λ (c : ClientFacts). c.taken ++ s.took) e in
     let given : after.given ≡ joined_pieces x.pieces ++ s.gave = s.given ∙ (ap (λ (c : ClientFacts). c.given ++ s.gave) e ∙ ap (λ (l : List ℕ). l ++ s.gave) x.given) in
-    let owes : runs.own catalogue v.login s.marks after.taken ≡ x.pieces ++ owed catalogue g s.marks s.took =
-    ap (runs.own catalogue v.login s.marks) taken ∙ (x.owed s.marks s.took ∙ ap (λ (k : KeyWord). x.pieces ++ service_pieces (catalogue (address_of (arc_value g.key))) (arc_value g.key) k s.marks s.took) (sym w)) in
-    (
+    let owes : runs.own home.catalogue v.login s.marks after.taken ≡ x.pieces ++ owed home.catalogue g s.marks s.took =
+    ap (runs.own home.catalogue v.login s.marks) taken ∙ (x.owed s.marks s.took ∙ ap (λ (k : KeyWord). x.pieces ++ service_pieces (home.catalogue (address_of (arc_value g.key))) (arc_value g.key) k s.marks s.took) (sym w)) in (
       s.marks,
-      ends_served catalogue v.login (arc_value g.key) after s.marks s.took word
-    (ap (λ (bytes : List ℕ). (login_among (rows_of v.login) v.login.word bytes).ended) taken ∙ x.passed s.took)
-    (subst (λ (u : LoginView). IsFaultyWord u.settings.max_packet_size s.took word) l s.fault)
-    (subst (λ (ps : List (List ℕ)). MayEnd after.given ps word) (sym owes) (behind x.pieces (owed catalogue g s.marks s.took) after.given s.gave word given s.ends)),
+      (
+        s.are_marks,
+        ends_served home.catalogue v.login (arc_value g.key) after s.marks s.took word
+            (ap (λ (bytes : List ℕ). (login_among (rows_of v.login) v.login.word bytes).ended) taken ∙ x.passed s.took)
+            (subst (λ (u : LoginView). IsFaultyWord u.settings.max_packet_size s.took word) l s.fault)
+            (subst (λ (ps : List (List ℕ)). MayEnd after.given ps word) (sym owes) (behind x.pieces (owed home.catalogue g s.marks s.took) after.given s.gave word given s.ends)),
+      ),
     )

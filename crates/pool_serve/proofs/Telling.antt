@@ -9,7 +9,8 @@ use Rattle.login_core.specs.Logins.{LoginView}
 use Rattle.login_run.specs.Laws.{AllowedBy, IsRefusedByLogin, own}
 use Rattle.pool_serve.specs.Words.{HasGiven, last_bytes}
 use Rattle.pool_serve.specs.Causes.{AtArrival, HasCause, IsFaultyWord, WordHasTrace}
-use Rattle.pool_serve.specs.Serving.{IsServed, IsServedUnder, MayEnd, Serves}
+use Rattle.link_desk.specs.Homes.{HomeOf}
+use Rattle.pool_serve.specs.Serving.{AreMarksOf, IsServed, IsServedUnder, MayEnd, Serves}
 use Rattle.pool_serve.specs.declared.word.LastWord.{LastWord}
 use Rattle.pool_serve.specs.declared.word.LastWord.TheVariants as last
 
@@ -18,8 +19,8 @@ by_login v p q taken out pieces (inl b) = inl b
 by_login v p q taken out pieces (inr x) = inr (x.0, inl x.1)
 
 -- a client that was told nothing more
-pub untold_client : (catalogue : Address → CatalogueOf) (v : LoginView) (c : ClientFacts) (p q : PassOf) → IsServed catalogue v c last.Nothing → (marks : List Bool) × AllowedBy (HasCause v c.taken p q) c.given (own catalogue v marks c.taken)
-untold_client catalogue v c p q a = (a.0, by_login v p q c.taken c.given (own catalogue v a.0 c.taken) a.1)
+pub untold_client : (home : HomeOf) (v : LoginView) (c : ClientFacts) (p q : PassOf) → IsServed home v c last.Nothing → (marks : List Bool) × (AreMarksOf home.strikable marks × AllowedBy (HasCause v c.taken p q) c.given (own home.catalogue v marks c.taken))
+untold_client home v c p q a = (a.0, (a.1.0, by_login v p q c.taken c.given (own home.catalogue v a.0 c.taken) a.1.1))
 
 -- a beginning of the last word behind what was given
 told_allowed : (catalogue : Address → CatalogueOf) (v : LoginView) (c : ClientFacts) (p q : PassOf) (marks : List Bool) (word : LastWord) (n : ℕ) → WordHasTrace AtArrival p q word → IsServedUnder marks catalogue v c word
@@ -47,12 +48,15 @@ told_allowed catalogue v c p q marks (last.Error error) n w a = inl (record {
 })
 
 -- a client that was told its last word
-pub told_client : (catalogue : Address → CatalogueOf) (v : LoginView) (before after : ClientFacts) (p q : PassOf) (word : LastWord) → HasGiven before after (last_bytes word) → before.tells ≡ true → WordHasTrace AtArrival p q word → IsServed catalogue v before word
-    → (marks : List Bool) × AllowedBy (HasCause v after.taken p q) after.given (own catalogue v marks after.taken)
-told_client catalogue v before after p q word h t w a = (
+pub told_client : (home : HomeOf) (v : LoginView) (before after : ClientFacts) (p q : PassOf) (word : LastWord) → HasGiven before after (last_bytes word) → before.tells ≡ true → WordHasTrace AtArrival p q word → IsServed home v before word
+    → (marks : List Bool) × (AreMarksOf home.strikable marks × AllowedBy (HasCause v after.taken p q) after.given (own home.catalogue v marks after.taken))
+told_client home v before after p q word h t w a = (
   a.0,
-  subst (λ (l : List ℕ). AllowedBy (HasCause v after.taken p q) l (own catalogue v a.0 after.taken)) (sym (h.given t))
-  (subst (λ (l : List ℕ). AllowedBy (HasCause v l p q) (before.given ++ take h.count (last_bytes word)) (own catalogue v a.0 l)) (sym (h.taken t)) (told_allowed catalogue v before p q a.0 word h.count w a.1)),
+  (
+    a.1.0,
+    subst (λ (l : List ℕ). AllowedBy (HasCause v after.taken p q) l (own home.catalogue v a.0 after.taken)) (sym (h.given t))
+        (subst (λ (l : List ℕ). AllowedBy (HasCause v l p q) (before.given ++ take h.count (last_bytes word)) (own home.catalogue v a.0 l)) (sym (h.taken t)) (told_allowed home.catalogue v before p q a.0 word h.count w a.1.1)),
+  ),
 )
 
 -- ---- a login's pieces, and then what is owed behind them
@@ -81,8 +85,8 @@ behind ps qs out more (last.Error error) e m = record {
 
 -- ---- where nothing was taken or given since
 
-pub nothing_more : (limit : ℕ) (c : ClientFacts) (owed : List Bool → List ℕ → List (List ℕ)) (word : LastWord) → IsFaultyWord limit [] word → MayEnd [] (owed [] []) word → Serves limit c c owed word
-nothing_more limit c owed word f m = record { marks = []; took = []; gave = []; taken = sym (append-nil c.taken); given = sym (append-nil c.given); ends = m; fault = f }
+pub nothing_more : (limit : ℕ) (strikable : Bool) (c : ClientFacts) (owed : List Bool → List ℕ → List (List ℕ)) (word : LastWord) → IsFaultyWord limit [] word → MayEnd [] (owed [] []) word → Serves limit strikable c c owed word
+nothing_more limit strikable c owed word f m = record { marks = []; are_marks = λ e. refl; took = []; gave = []; taken = sym (append-nil c.taken); given = sym (append-nil c.given); ends = m; fault = f }
 
 pub none_ends : (pieces : List (List ℕ)) → MayEnd [] pieces last.Nothing
 none_ends pieces = record { more = joined_pieces pieces; both = refl }

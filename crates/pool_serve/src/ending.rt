@@ -5,11 +5,12 @@ ghost use Rattle.pool_serve.specs.Shares.{Ends};
 ghost use Rattle.pool_serve.specs.Backs.{IsBackHome};
 
 use crate::TURNS;
+use disposal::Verdict;
 use link_desk::desk::LinkDesk;
 use link_run::links::CleanLink;
 use link_run::reset::reset_link;
-use link_start::close::close_link;
-use relay_core::relay::Returned;
+use link_start::close::{close_link, offer_terminate};
+use relay_core::relay::{Cause, Returned};
 use server_end::gate::Gate;
 use std::alloc::Global;
 
@@ -33,7 +34,15 @@ pub(crate) fn give_back<D: LinkDesk, G: Gate<D::End>>(
     }
 }
 
-/// Gives back the link of a lease that has ended: clean as it was, or reset; or reports it lost.
+/// Whether whole messages went over the link, so that its server reads a Terminate as one.
+fn is_at_border(cause: Cause) -> bool {
+    matches!(
+        cause,
+        Cause::Left(Verdict::Unanswered) | Cause::Left(Verdict::InBlock)
+    )
+}
+
+/// Gives back the link of a lease that has ended: clean as it was, or reset; or offers its server a Terminate and reports it lost.
 pub(crate) fn hand_back<D: LinkDesk, G: Gate<D::End>>(
     alloc: Global,
     desk: &D,
@@ -54,7 +63,11 @@ pub(crate) fn hand_back<D: LinkDesk, G: Gate<D::End>>(
                 desk.lost(pass, number);
             }
         },
-        Returned::Gone(_, _) => {
+        Returned::Gone(link, cause) => {
+            let mut link = link;
+            if is_at_border(cause) {
+                offer_terminate(&mut link.end);
+            }
             desk.lost(pass, number);
         }
     }

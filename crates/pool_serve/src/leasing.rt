@@ -52,7 +52,7 @@ fn over_lent<C: ClientEnd, D: LinkDesk, G: Gate<D::End>>(
     ensures share { Ends (D.told pass.old) (D.told pass.new) }
     ensures whose { D.whose pass.new ≡ D.whose pass.old }
     ensures why { EndsFor (D.told pass.old) (D.told pass.new) result.1 }
-    ensures serves { (C.facts client).tells ≡ true → LetsIn D.home guest.now.login.users → Serves (limit_of guest.now) (C.facts client) (C.facts result.0) (owed D.home.catalogue guest.now) result.1 }
+    ensures serves { (C.facts client).tells ≡ true → LetsIn D.home guest.now.login.users → Serves (limit_of guest.now) D.home.strikable (C.facts client) (C.facts result.0) (owed D.home.catalogue guest.now) result.1 }
 {
     if !is_for(&link, guest) {
         let number = link.number();
@@ -80,7 +80,7 @@ fn over_new<C: ClientEnd, D: LinkDesk, G: Gate<D::End>>(
     ensures share { Ends (D.told pass.old) (D.told pass.new) }
     ensures whose { D.whose pass.new ≡ D.whose pass.old }
     ensures why { EndsFor (D.told pass.old) (D.told pass.new) result.1 }
-    ensures serves { (C.facts client).tells ≡ true → LetsIn D.home guest.now.login.users → Serves (limit_of guest.now) (C.facts client) (C.facts result.0) (owed D.home.catalogue guest.now) result.1 }
+    ensures serves { (C.facts client).tells ≡ true → LetsIn D.home guest.now.login.users → Serves (limit_of guest.now) D.home.strikable (C.facts client) (C.facts result.0) (owed D.home.catalogue guest.now) result.1 }
 {
     match open_link(alloc, desk, guest, number, born, gate) {
         Ok(link) => relayed(alloc, desk, pass, client, guest, link, gate),
@@ -106,7 +106,7 @@ fn granted<C: ClientEnd, D: LinkDesk, G: Gate<D::End>>(
     ensures share { Evens (D.told pass.old) (D.told pass.new) }
     ensures whose { D.whose pass.new ≡ D.whose pass.old }
     ensures why { WordHasTrace AtWait (D.told pass.old) (D.told pass.new) result.1 }
-    ensures serves { (C.facts client).tells ≡ true → LetsIn D.home guest.now.login.users → Serves (limit_of guest.now) (C.facts client) (C.facts result.0) (owed D.home.catalogue guest.now) result.1 }
+    ensures serves { (C.facts client).tells ≡ true → LetsIn D.home guest.now.login.users → Serves (limit_of guest.now) D.home.strikable (C.facts client) (C.facts result.0) (owed D.home.catalogue guest.now) result.1 }
 {
     match desk.take(pass, guest.number) {
         Grant::Lend(link) => over_lent(alloc, desk, pass, client, guest, link, gate),
@@ -140,7 +140,7 @@ pub(crate) fn lease<C: ClientEnd, D: LinkDesk, G: Gate<D::End>>(
     ensures share { Evens (D.told pass.old) (D.told pass.new) }
     ensures whose { D.whose pass.new ≡ D.whose pass.old }
     ensures why { WordHasTrace AtAsking (D.told pass.old) (D.told pass.new) result.1 }
-    ensures serves { (C.facts client).tells ≡ true → LetsIn D.home guest.now.login.users → Serves (limit_of guest.now) (C.facts client) (C.facts result.0) (owed D.home.catalogue guest.now) result.1 }
+    ensures serves { (C.facts client).tells ≡ true → LetsIn D.home guest.now.login.users → Serves (limit_of guest.now) D.home.strikable (C.facts client) (C.facts result.0) (owed D.home.catalogue guest.now) result.1 }
 {
     match desk.ask(pass, guest.number, &guest.key) {
         Asked::Queued(_) => granted(alloc, desk, pass, client, guest, gate),

@@ -9,5 +9,6 @@ mod relaying;
 pub mod serve;
 mod word;
 
-/// The turns that a start, a reset and a last word may each take: a minute of waits, where a gate's turn waits for 100 ms.
+/// The turns that a start, a reset, a last word and a pause in a client's dialogue may each take: a minute of waits, where a gate's turn
+/// waits for 100 ms.
 const TURNS: u32 = 600;

@@ -62,7 +62,7 @@ pub(crate) fn relayed<C: ClientEnd, D: LinkDesk, G: Gate<D::End>>(
     ensures share { Ends (D.told pass.old) (D.told pass.new) }
     ensures whose { D.whose pass.new ≡ D.whose pass.old }
     ensures why { EndsLease result.1 }
-    ensures serves { (C.facts client).tells ≡ true → link.stands.follows ≡ true → Serves (limit_of guest.now) (C.facts client) (C.facts result.0) (service_pieces link.stands.server.catalogue link.key guest.now.word) result.1 }
+    ensures serves { (C.facts client).tells ≡ true → link.stands.follows ≡ true → Serves (limit_of guest.now) link.stands.server.strikable (C.facts client) (C.facts result.0) (service_pieces link.stands.server.catalogue link.key guest.now.word) result.1 }
 {
     leases_are_allowed();
     service_is_its_pieces();

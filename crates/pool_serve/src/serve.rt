@@ -6,9 +6,10 @@ ghost use Rattle.login_core.specs.Logins.{AwaitsPacket};
 ghost use Rattle.login_run.specs.Laws.{AllowedBy, own};
 ghost use Rattle.login_run.specs.Runs.{Arrived, IsAllGiven, IsSameLogin};
 ghost use Rattle.pool_serve.specs.Causes.{AtArrival, AtAsking, HasCause, WordHasTrace};
-ghost use Rattle.pool_serve.specs.Serving.{HasStopped, IsServed, LetsIn};
+ghost use Rattle.pool_serve.specs.Serving.{AreMarksOf, HasStopped, IsServed, LetsIn};
 ghost use Rattle.pool_serve.specs.Shares.{Evens, Settles};
 
+use crate::TURNS;
 use crate::guest::Guest;
 use crate::leasing::lease;
 use crate::word::LastWord;
@@ -27,20 +28,27 @@ use server_end::gate::Gate;
 use server_end::{ClientEnd, ServerEnd};
 use std::alloc::Global;
 
-/// Goes on with a login until it has arrived, is let in or is over. A turn of the gate is taken only where nothing moved.
+/// Goes on with a login until it has arrived, is let in or is over; or until nothing has moved for so many turns of the gate, if
+/// `most` says how many. A turn is taken only where nothing moved.
 fn converse<C: ClientEnd, E: ServerEnd, G: Gate<E>>(
     alloc: Global,
     run: &mut LoginRun<C>,
     gate: &mut G,
+    most: Option<u32>,
 ) -> LoginTurn
     ensures login { IsSameLogin run.old run.new }
     ensures stopped { HasStopped run.new result }
 {
+    let mut waited: u32 = 0;
     for _ in 0..u64::MAX {
         match run.turn(alloc) {
-            LoginTurn::Again => {}
+            LoginTurn::Again => waited = 0,
             LoginTurn::Wait => {
+                if most == Some(waited) {
+                    return LoginTurn::Over;
+                }
                 gate.turn();
+                waited = waited.saturating_add(1);
             }
             turn => return turn,
         }
@@ -48,7 +56,7 @@ fn converse<C: ClientEnd, E: ServerEnd, G: Gate<E>>(
     LoginTurn::Over
 }
 
-/// Serves a client that has arrived, with this number.
+/// Serves a client that has arrived, with this number. One whose dialogue doesn't go on for [`TURNS`] turns is closed.
 fn attend<C: ClientEnd, D: LinkDesk, G: Gate<D::End>>(
     alloc: Global,
     desk: &D,
@@ -65,7 +73,7 @@ fn attend<C: ClientEnd, D: LinkDesk, G: Gate<D::End>>(
     ensures share { Evens (D.told pass.old) (D.told pass.new) }
     ensures whose { D.whose pass.new ≡ D.whose pass.old }
     ensures why { WordHasTrace AtAsking (D.told pass.old) (D.told pass.new) result.1 }
-    ensures serves { run.client.tells ≡ true → LetsIn D.home run.login.users → IsServed D.home.catalogue run.login (C.facts result.0) result.1 }
+    ensures serves { run.client.tells ≡ true → LetsIn D.home run.login.users → IsServed D.home run.login (C.facts result.0) result.1 }
 {
     bounded_rows_are_lawful();
     passed_keys_are_link_keys();
@@ -74,7 +82,7 @@ fn attend<C: ClientEnd, D: LinkDesk, G: Gate<D::End>>(
     passed_runs_are_let_in();
     passed_runs_have_passed();
     let mut run = run;
-    match converse(alloc, &mut run, gate) {
+    match converse(alloc, &mut run, gate, Some(TURNS)) {
         LoginTurn::Passed => {}
         _ => {
             let (client, _, _) = run.finish();
@@ -113,7 +121,7 @@ fn admit<C: ClientEnd, D: LinkDesk, G: Gate<D::End>>(
     ensures share { Settles (D.told pass.old) (D.told pass.new) }
     ensures gone { D.whose pass.old ≡ None → D.whose pass.new ≡ None }
     ensures why { WordHasTrace AtArrival (D.told pass.old) (D.told pass.new) result.1 }
-    ensures serves { run.client.tells ≡ true → LetsIn D.home run.login.users → IsServed D.home.catalogue run.login (C.facts result.0) result.1 }
+    ensures serves { run.client.tells ≡ true → LetsIn D.home run.login.users → IsServed D.home run.login (C.facts result.0) result.1 }
 {
     runs_stand_at_pieces();
     match desk.arrive(pass) {
@@ -138,11 +146,11 @@ fn admit<C: ClientEnd, D: LinkDesk, G: Gate<D::End>>(
 /// none was taken from it or given to it. Only the desk and the gate wait: a turn of the gate is taken where nothing moved.
 ///
 /// Where the client tells, and the desk's home follows and lets its user in, what it was given is allowed for what a server
-/// started for it alone answers, over the catalogue of its row; and a refusal in it has its cause: it is the login's own, or for
-/// memory, or the pass tells its trace (a refusal by the desk, a link that was lent, one that was lost), and a message of the
-/// client's that is refused is none under the limit. The traces hold unless a call of the desk was answered by the last decision or
-/// as strange. With the same exception, as many links were granted as given back or lost, and as many clients arrived as left.
-/// Where no client was in the pass, none is in it afterwards.
+/// started for it alone answers, over the catalogue of its row, where cancels struck some of its frames or none (only the link's
+/// end tells which); and a refusal in it has its cause: it is the login's own, or for memory, or the pass tells its trace (a refusal
+/// by the desk, a link that was lent, one that was lost), and a message of the client's that is refused is none under the limit. The
+/// traces hold unless a call of the desk was answered by the last decision or as strange. With the same exception, as many links were
+/// granted as given back or lost, and as many clients arrived as left. Where no client was in the pass, none is in it afterwards.
 pub fn serve<C: ClientEnd, D: LinkDesk, G: Gate<D::End> + Drop>(
     alloc: Global,
     desk: &D,
@@ -159,7 +167,7 @@ pub fn serve<C: ClientEnd, D: LinkDesk, G: Gate<D::End> + Drop>(
     requires taken { (C.facts client).tells ≡ true → (C.facts client).taken ≡ [] }
     requires given { (C.facts client).tells ≡ true → (C.facts client).given ≡ [] }
     ensures tells { (C.facts result.0).tells ≡ (C.facts client).tells }
-    ensures allowed { (C.facts client).tells ≡ true → LetsIn D.home login.users → (marks : List Bool) × AllowedBy (HasCause login (C.facts result.0).taken (D.told pass) (D.told result.1)) (C.facts result.0).given (own D.home.catalogue login marks (C.facts result.0).taken) }
+    ensures allowed { (C.facts client).tells ≡ true → LetsIn D.home login.users → (marks : List Bool) × (AreMarksOf D.home.strikable marks × AllowedBy (HasCause login (C.facts result.0).taken (D.told pass) (D.told result.1)) (C.facts result.0).given (own D.home.catalogue login marks (C.facts result.0).taken)) }
     ensures share { Settles (D.told pass) (D.told result.1) }
     ensures gone { D.whose pass ≡ None → D.whose result.1 ≡ None }
 {
@@ -167,7 +175,8 @@ pub fn serve<C: ClientEnd, D: LinkDesk, G: Gate<D::End> + Drop>(
     let mut pass = pass;
     let mut gate = gate;
     let mut run = LoginRun::new(client, login);
-    match converse(alloc, &mut run, &mut gate) {
+    // a client that hasn't come yet takes no place in the book
+    match converse(alloc, &mut run, &mut gate, None) {
         LoginTurn::Arrived => {}
         _ => {
             let (client, _, _) = run.finish();

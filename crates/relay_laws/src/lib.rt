@@ -33,7 +33,7 @@ pub enum Phase {
 }
 
 /// Over a link that follows and lives, what the client was given and is still to be given is what a server started for it
-/// alone answers to its frames.
+/// alone answers to its frames, where cancels struck those that the link's end has marked.
 pub fn leases_are_exact()
     ensures { LeasesAreExact }
 {}

@@ -4,13 +4,14 @@
 ghost use Rattle.run_laws.specs.Runs.{ClientFramesAreSent, RunRepliesAreFrames, RunReportsTellValues, RunsByMarks, RunsEnd, RunsGoOn, RunsStayReached};
 ghost use Rattle.run_laws.specs.Settling.{SettledIsQuiet};
 
-/// A list of frames is answered frame by frame: the replies to a front are a front of the replies.
+/// A list of frames is answered frame by frame: the replies to a front are a front of the replies, and the rest is answered by the
+/// marks that are left.
 #[tactic(auto, using(crate::proofs::ByName::runs_go_on))]
 pub fn runs_go_on()
     ensures { RunsGoOn }
 {}
 
-/// One frame more is one step more.
+/// One frame more, with its mark, is one step more.
 #[tactic(auto, using(crate::proofs::ByName::runs_end))]
 pub fn runs_end()
     ensures { RunsEnd }

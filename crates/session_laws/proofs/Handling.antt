@@ -17,7 +17,7 @@ use Rattle.session_values.specs.declared.cause.Cause.TheVariants.{NoTable, NoCol
 use Rattle.session_values.specs.Parameters.{Values, name, parameter_named, value_of}
 use Rattle.session_values.specs.Named.{named, is_named}
 use Rattle.session_values.specs.State.{State, CatalogueOf, TableOf, table_name, CursorOf, cursor_name, Row, Answer, bound}
-use Rattle.session_values.specs.Lookups.{Columns, look_up, found, or_else, readable, to_read, shown, selected, has_all, has_filter, look_up_select, look_up_cursor, look_up_insert, to_change}
+use Rattle.session_values.specs.Lookups.{Columns, look_up, look_up_rows, found, or_else, readable, to_read, shown, selected, has_all, has_filter, look_up_select, look_up_cursor, look_up_insert, to_change}
 use Rattle.session_values.specs.Runs as runs
 use Rattle.session_values.specs.Runs.{Ran, Outcome, rows_from, picked, column_of, cell, cell_at, meets, row_tag, given_frames, or_null, condition_of, places_of}
 use Rattle.session_values.specs.Extended.{usable, reading, let_through, may_end_block, formats_of}
@@ -148,7 +148,7 @@ module _ (cat : CatalogueOf) (lawful_tables : AllByRecursion IsTable cat.tables)
   look_up-columns s st.Rollback h k = tt
   look_up-columns s (st.Set n v) h k = tt
   look_up-columns s (st.SetLocal n v) h k = tt
-  look_up-columns s (st.Declare c cs t w) h k = bound-columns IsTable (to_read cat s t) _ (read-table s t h) (λ x g. bound-columns Any (look_up_select x.columns cs w) _ (any (look_up_select x.columns cs w)) (λ y i. tt))
+  look_up-columns s (st.Declare c cs t w) h k = bound-columns Any (look_up_rows cat s cs t w) _ (any (look_up_rows cat s cs t w)) (λ x g. tt)
   look_up-columns s (st.Fetch n c) h k = cursor-columns (named cursor_name s.cursors c) (all-find IsCursor (is_named cursor_name c) s.cursors h.cursors)
   look_up-columns s (st.CloseCursor c) h k = tt
   look_up-columns s (st.Reset n) h k = tt

@@ -31,7 +31,7 @@ pub fn discard_all_gives_fresh()
     ensures { DiscardAllGivesFresh }
 {}
 
-/// One that a cancel struck is answered by an error first.
+/// From a session at rest, DISCARD ALL that a cancel struck is answered by an error, and then as any Query that fails.
 #[tactic(auto, using(crate::proofs::ByName::struck_discard_all_is_refused))]
 pub fn struck_discard_all_is_refused()
     ensures { StruckDiscardAllIsRefused }

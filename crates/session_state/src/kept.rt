@@ -1,4 +1,4 @@
-//! The prepared statements and portals of a session (PostgreSQL manual, "Extended Query").
+//! The prepared statements, portals and cursors of a session (PostgreSQL manual, "Extended Query", "DECLARE").
 ghost use Rattle.std.specs.Prelude.{◌≡◌, [], false, filter, map, OnOk, IfOk};
 ghost use Rattle.std.specs.Arc.{arc_value};
 ghost use Rattle.message_view.specs.Bodies.{OfPortal, OfStatement};

@@ -25,7 +25,7 @@ pub struct SessionState {
     /// The reported values are known to be the current ones, so that no report is due.
     pub(crate) is_reported: bool,
     pub(crate) work: Work,
-    /// What a commit gives back, where a SET LOCAL has changed it.
+    /// The values that a commit leaves, where a SET LOCAL has changed those of now.
     pub(crate) lasting: Option<Values>,
     pub(crate) saved: Saved,
     pub(crate) block: Block,
@@ -150,7 +150,7 @@ impl SessionState {
         Ok(())
     }
 
-    /// Gives back what SET LOCAL changed.
+    /// Gives back what SET LOCAL changed, which is to be reported.
     fn give_back(&mut self)
         requires { self.old.saved ≡ None }
         ensures { self.new ≡ record self.old { current = self.old.lasting } }
@@ -206,7 +206,7 @@ impl SessionState {
         }
     }
 
-    /// Gives back the values and temporary tables that are kept, if some are.
+    /// Gives back the values and temporary tables that are kept, if some are; what SET LOCAL changed is changed no more.
     fn restore(&mut self)
         ensures { self.new ≡ record (restored self.old self.old.saved) { lasting = (restored self.old self.old.saved).current; saved = None } }
     {
@@ -217,7 +217,7 @@ impl SessionState {
         }
     }
 
-    /// These values from now on, which are to be reported, and what lasts of them: all, or those.
+    /// These values from now on, which are to be reported, and the values that a commit leaves: `lasting`, or without it the same.
     pub fn put_values(&mut self, values: Values, lasting: Option<Values>) -> Result<(), AllocError>
         ensures { OnOk result (self.new ≡ record self.old { current = values; lasting = lasting_of lasting values }) }
     {
@@ -324,7 +324,7 @@ impl SessionState {
         &self.work.values
     }
 
-    /// What a commit gives back, where that isn't what is current.
+    /// The values that a commit leaves; without any, those of now.
     pub fn lasting(&self) -> Option<&Values>
         ensures { lasting_of (option_copied result) self.now.current ≡ self.now.lasting }
     {

@@ -1,17 +1,17 @@
 //! What a statement's names stand for, before it runs.
-ghost use Rattle.std.specs.Prelude.{◌≡◌, ◌≤◌, map, length, nat_le, IfOk};
+ghost use Rattle.std.specs.Prelude.{◌≡◌, ◌≤◌, None, Ok, map, length, nat_le, IfOk};
 ghost use Rattle.std.specs.Option.{option_copied};
 ghost use Rattle.std.specs.Arc.{arc_value};
 ghost use Rattle.mini_sql.specs.Meanings.{columns_left, filter_of, meaning, operands_left};
-ghost use Rattle.mini_sql.specs.Statements.{Declare, Drop, Insert, Select};
+ghost use Rattle.mini_sql.specs.Statements.{Drop, Insert, Select};
 ghost use Rattle.mini_sql.specs.Words.{folded};
 ghost use Rattle.session_values.specs.Parameters.{parameter_named};
 ghost use Rattle.session_values.specs.Named.{named};
-ghost use Rattle.session_values.specs.State.{cursor_name, has_text};
+ghost use Rattle.session_values.specs.State.{bound, cursor_name, has_text};
 ghost use Rattle.session_values.specs.Answers.{Finds};
 ghost use Rattle.statement_runs.specs.Found.{found_table};
 ghost use Rattle.session_values.specs.Picks.{HasAtMost64Columns};
-ghost use Rattle.session_values.specs.Lookups.{has_all, has_filter, look_up, look_up_cursor, look_up_select, readable, selected, shown, to_change};
+ghost use Rattle.session_values.specs.Lookups.{has_all, has_filter, look_up, look_up_cursor, look_up_rows, look_up_select, readable, selected, shown, to_change};
 
 use mini_sql::{Columns, Filter, Operands, Stmt};
 use session_state::Catalogue;
@@ -132,11 +132,11 @@ pub fn look_up(
             filter,
         } => look_up_table(alloc, session, catalogue, table, *columns, filter),
         Stmt::Declare {
-            cursor,
             columns,
             table,
             filter,
-        } => look_up_declare(alloc, session, catalogue, cursor, table, *columns, filter),
+            ..
+        } => look_up_declare(alloc, session, catalogue, table, *columns, filter),
         Stmt::Fetch { cursor, .. } => look_up_cursor(alloc, session, cursor),
         Stmt::Insert { table, operands } => look_up_insert(
             alloc, session, catalogue, table, *operands,
@@ -174,23 +174,23 @@ fn look_up_table(
     }
 }
 
-/// A cursor gives no rows where it is declared.
+/// The names of DECLARE, which are those of its SELECT. It gives no rows itself.
 fn look_up_declare(
     alloc: Global,
     session: &SessionState,
     catalogue: &Catalogue,
-    _cursor: &[u8],
     name: &[u8],
     columns: Columns<'_>,
     filter: &Option<Filter<'_>>,
 ) -> Result<Option<Names>, Stop>
     requires { length (columns_left columns) ≤ 64 }
-    ensures { Finds result (look_up catalogue.now session.now (Declare (folded _cursor.now) (columns_left columns.entry) (folded name.now) (filter_of filter.now))) }
+    ensures { Finds result (bound (look_up_rows catalogue.now session.now (columns_left columns.entry) (folded name.now) (filter_of filter.now)) (λ found. Ok None)) }
 {
     let _ = look_up_table(alloc, session, catalogue, name, columns, filter)?;
     Ok(None)
 }
 
+/// The names of the columns of a cursor's rows.
 fn look_up_cursor(alloc: Global, session: &SessionState, name: &[u8]) -> Result<Option<Names>, Stop>
     ensures { Finds result (look_up_cursor (named cursor_name session.now.cursors (folded name.now))) }
 {

@@ -1,4 +1,4 @@
-//! SET and RESET (PostgreSQL manual, "SQL Commands").
+//! SET, SET LOCAL and RESET (PostgreSQL manual, "SQL Commands").
 ghost use Rattle.std.specs.Prelude.{Ok, None, codes};
 ghost use Rattle.mini_sql.specs.Meanings.{setting_value};
 ghost use Rattle.session_values.specs.State.{set_parameter};
@@ -48,7 +48,7 @@ fn set_current(
     Ok(Ran::done(b"SET"))
 }
 
-/// SET LOCAL, which is warned of outside a block.
+/// SET LOCAL of a parameter. Outside a block it is warned of, and nothing is looked at.
 pub fn set_local(
     alloc: Global,
     session: &mut SessionState,

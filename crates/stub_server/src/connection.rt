@@ -81,7 +81,7 @@ fn turn<C: ClientEnd>(talk: &mut Talk, client: &mut C, room: &mut [u8]) -> Progr
 
 /// Serves one client from its first byte to its end, as the stand-in server of this catalogue whose BackendKeyData has the words of
 /// `own`: what the client is given, and why it ended. Requests for encryption are answered by `N`, and everybody is let in. A
-/// CancelRequest is answered by nothing.
+/// CancelRequest is answered by nothing, and strikes nothing.
 ///
 /// What is held for the client is written before more of it is read. The gate is waited at where nothing could be moved.
 pub fn serve_client<C: ClientEnd, E: ServerEnd, G: Gate<E>>(

@@ -163,7 +163,7 @@ impl Host {
         }
     }
 
-    /// Answers the frame that stands first, if a whole one does.
+    /// Answers the frame that stands first, if a whole one does. No cancel strikes it.
     fn take_frame(
         &self,
         session: &mut Session,

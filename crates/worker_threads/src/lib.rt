@@ -45,19 +45,20 @@ impl Workers {
                 if let Some(worker) = self.at_work[place].take() {
                     worker.join(rt);
                 }
-                // a place that isn't kept is never used again
+                // there is room: it was reserved with the place
                 let _ = self.free.push(place);
             }
         }
     }
 
-    /// A place where none is at work, with room among those that are done.
+    /// A place where none is at work, with room for it among those that are done and those that are free.
     fn free_place<R: Wait>(&mut self, rt: &R) -> Result<usize, AllocError> {
         if let Some(place) = self.free.pop() {
             return Ok(place);
         }
         let place = self.at_work.len();
         self.done.lock(rt).places.reserve(place + 1)?;
+        self.free.reserve(place + 1)?;
         self.at_work.push(None)?;
         Ok(place)
     }
@@ -73,16 +74,11 @@ impl Workers {
     {
         self.join_done(&rt);
         let place = self.free_place(&rt)?;
-        let done = Arc::try_clone(&self.done)?;
-        let worker = thread::spawn(
-            &rt,
-            move || -> ()
-                requires { J.pre job }
-            {
-                job();
-                let _ = done.lock(&rt).places.push(place);
-            },
-        )?;
+        let Ok(worker) = spawned(rt, &self.done, place, job) else {
+            // there is room: it was reserved with the place
+            let _ = self.free.push(place);
+            return Err(AllocError);
+        };
         if place < self.at_work.len() {
             self.at_work[place] = Some(worker);
         }
@@ -97,4 +93,26 @@ impl Workers {
             }
         }
     }
+}
+
+/// A thread that does the job, and then tells its place as done.
+fn spawned<R: Threads + Wait + Copy + Send + 'static, J: FnOnce() + Send + Drop + 'static>(
+    rt: R,
+    done: &Arc<Mutex<Done>>,
+    place: usize,
+    job: J,
+) -> Result<JoinHandle<()>, AllocError>
+    requires { J.pre job }
+{
+    let done = Arc::try_clone(done)?;
+    let worker = thread::spawn(
+        &rt,
+        move || -> ()
+            requires { J.pre job }
+        {
+            job();
+            let _ = done.lock(&rt).places.push(place);
+        },
+    )?;
+    Ok(worker)
 }

@@ -24,4 +24,4 @@ pub returns-clause-why : goal.returns-clause-why
 returns-clause-why g c = inl c.relayed.ensures.why
 
 pub returns-then-not-is_for-clause-serves : goal.returns-then-not-is_for-clause-serves
-returns-then-not-is_for-clause-serves g c = λ t l. nothing_more _ _ _ _ tt (none_ends (owed g.D.LinkDesk.home.catalogue c.args.guest.now [] []))
+returns-then-not-is_for-clause-serves g c = λ t l. nothing_more _ _ _ _ _ tt (none_ends (owed g.D.LinkDesk.home.catalogue c.args.guest.now [] []))

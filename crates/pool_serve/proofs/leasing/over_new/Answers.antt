@@ -12,7 +12,7 @@ returns-in-Ok-clause-serves g c = λ t l.
     over_link g.D.LinkDesk.home (limit_of c.args.guest.now) (g.C.ClientEnd.facts c.args.client) (g.C.ClientEnd.facts c.relayed.result.0) c.args.guest.now c.in-Ok.link c.relayed.result.1 home follows c.in-Ok.ensures.key (c.relayed.ensures.serves t follows)
 
 pub returns-in-Err-clause-serves : goal.returns-in-Err-clause-serves
-returns-in-Err-clause-serves g c = λ t l. nothing_more _ _ _ c.in-Err.last (unstarted_fault _ _ c.in-Err.last c.in-Err.ensures.why) (c.in-Err.ensures.told l)
+returns-in-Err-clause-serves g c = λ t l. nothing_more _ _ _ _ c.in-Err.last (unstarted_fault _ _ c.in-Err.last c.in-Err.ensures.why) (c.in-Err.ensures.told l)
 
 pub returns-in-Ok-clause-why : goal.returns-in-Ok-clause-why
 returns-in-Ok-clause-why g c = inl c.relayed.ensures.why

@@ -8,11 +8,11 @@ use Rattle.pool_serve.proofs.serve.admit.Goals as goal
 
 pub returns-in-Client-clause-serves : goal.returns-in-Client-clause-serves
 returns-in-Client-clause-serves g c = λ t l.
-    same_served g.D.LinkDesk.home.catalogue c.args.run c.go_on.new.self (g.C.ClientEnd.facts c.attend-served.result.0) c.attend-served.result.1 c.go_on.ensures.login
+    same_served g.D.LinkDesk.home c.args.run c.go_on.new.self (g.C.ClientEnd.facts c.attend-served.result.0) c.attend-served.result.1 c.go_on.ensures.login
     (c.attend-served.ensures.serves (ap (λ (x : ClientFacts). x.tells) c.go_on.ensures.client ∙ t) (subst (λ (u : List UserRow). LetsIn g.D.LinkDesk.home u) (sym c.go_on.ensures.login.users) l))
 
 pub returns-in-Refused-clause-serves : goal.returns-in-Refused-clause-serves
-returns-in-Refused-clause-serves g c = λ t l. arrival_ends c.runs_stand_at_pieces.ensures g.D.LinkDesk.home.catalogue c.args.run (g.C.ClientEnd.facts c.finish-client.result.0) c.in-Refused.refusal c.in-Refused.ensures.refused c.requires.arrived c.requires.given c.finish-client.ensures.run c.finish-client.ensures.client t
+returns-in-Refused-clause-serves g c = λ t l. arrival_ends c.runs_stand_at_pieces.ensures g.D.LinkDesk.home c.args.run (g.C.ClientEnd.facts c.finish-client.result.0) c.in-Refused.refusal c.in-Refused.ensures.refused c.requires.arrived c.requires.given c.finish-client.ensures.run c.finish-client.ensures.client t
 
 pub returns-in-Client-clause-why : goal.returns-in-Client-clause-why
 returns-in-Client-clause-why g c = stay_why _ _ _ _ c.leave.result c.attend-served.result.1 c.in-Client.ensures.told c.leave.ensures.told c.attend-served.ensures.why

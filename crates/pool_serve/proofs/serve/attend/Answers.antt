@@ -18,7 +18,7 @@ lease-requires g c = record {
 pub returns-in-Some-clause-serves : goal.returns-in-Some-clause-serves
 returns-in-Some-clause-serves g c = λ t l.
     let guest : Guest = record { number = c.args.number; key = c.in-Some.key; word = c.args.word; login = c.finish-client-2.result.1 } in
-    guest_ends c.passed_runs_are_let_in.ensures g.D.LinkDesk.home.catalogue c.args.run c.converse.new.run guest (g.C.ClientEnd.facts c.finish-client-2.result.0) (g.C.ClientEnd.facts c.lease.result.0) c.lease.result.1 c.converse.ensures.login c.finish-client-2.ensures.run
+    guest_ends c.passed_runs_are_let_in.ensures g.D.LinkDesk.home c.args.run c.converse.new.run guest (g.C.ClientEnd.facts c.finish-client-2.result.0) (g.C.ClientEnd.facts c.lease.result.0) c.lease.result.1 c.converse.ensures.login c.finish-client-2.ensures.run
     (key_is c.converse.new.run.phase c.finish-client-2.result.2 c.in-Some.key c.in-Some.is c.finish-client-2.ensures.key)
     c.in-Passed.ensures.stopped c.finish-client-2.ensures.client
     (sym (c.converse.ensures.login.word ∙ c.requires.word))
@@ -28,7 +28,7 @@ returns-in-Some-clause-serves g c = λ t l.
     (subst (λ (u : List UserRow). LetsIn g.D.LinkDesk.home u) (sym (ap (λ (x : LoginView). x.users) c.finish-client-2.ensures.login ∙ c.converse.ensures.login.users)) l))
 
 pub returns-in-None-clause-serves : goal.returns-in-None-clause-serves
-returns-in-None-clause-serves g c = λ t l. run_ends c.runs_are_allowed.ensures g.D.LinkDesk.home.catalogue c.args.run c.converse.new.run (g.C.ClientEnd.facts c.finish-client-2.result.0) c.converse.ensures.login c.finish-client-2.ensures.run c.finish-client-2.ensures.client t
+returns-in-None-clause-serves g c = λ t l. run_ends c.runs_are_allowed.ensures g.D.LinkDesk.home c.args.run c.converse.new.run (g.C.ClientEnd.facts c.finish-client-2.result.0) c.converse.ensures.login c.finish-client-2.ensures.run c.finish-client-2.ensures.client t
 
 pub returns-in_default : goal.returns-in_default
 returns-in_default g c = record {
@@ -36,5 +36,5 @@ returns-in_default g c = record {
   share = λ e. (e, record { arrived = refl; leases = refl; left = refl });
   whose = refl;
   why = tt;
-  serves = λ t l. run_ends c.runs_are_allowed.ensures g.D.LinkDesk.home.catalogue c.args.run c.converse.new.run (g.C.ClientEnd.facts c.finish-client.result.0) c.converse.ensures.login c.finish-client.ensures.run c.finish-client.ensures.client t;
+  serves = λ t l. run_ends c.runs_are_allowed.ensures g.D.LinkDesk.home c.args.run c.converse.new.run (g.C.ClientEnd.facts c.finish-client.result.0) c.converse.ensures.login c.finish-client.ensures.run c.finish-client.ensures.client t;
 }
