@@ -6,7 +6,7 @@ use Rattle.std.specs.Fmt.{digits}
 use Rattle.frame_view.specs.Frames.{cut_after}
 use Rattle.message_view.specs.Reading.{text_at, int16_at, int32_at, value_at, list_at, query_of, parse_of, bind_of, target_of, execute_of}
 use Rattle.mini_sql.specs.Tokens.{literal_length, unquoted, tokens_after}
-use Rattle.mini_sql.specs.Statements.{read, ends, pass, take_value, either, with_item, items, definitions, columns_at, at_most_64, take_columns, take_operands, block, assignment, set_name, set, reset, show, discard, definition_list, create, drop_table, value_list, insert, where_of, end_of, from_of, select, of_tokens, less_semicolon, phrase, statement}
+use Rattle.mini_sql.specs.Statements.{read, ends, pass, take_value, either, with_item, items, definitions, columns_at, at_most_64, take_columns, take_operands, block, assignment, set_name, set, reset, show, discard, definition_list, create, drop_table, value_list, insert, where_of, end_of, from_of, select, rows_of, declare, fetch, close, of_tokens, less_semicolon, phrase, statement}
 use Rattle.session_values.specs.Parameters.{accepted_of, date_styles}
 use Rattle.session_values.specs.State.{CatalogueOf, StartKeyOf, started_over, fresh}
 use Rattle.session_values.specs.Step.{step, run_frames}

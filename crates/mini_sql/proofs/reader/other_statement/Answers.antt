@@ -1,5 +1,0 @@
-use Rattle.mini_sql.proofs.Steps.{read-fails}
-use Rattle.mini_sql.proofs.reader.other_statement.Goals as goal
-
-pub returns : goal.returns
-returns c = rw (← c.if-is_word.ensures, ← c.if-is_word-2.ensures, ← c.if-is_word-3.ensures, ← c.if-is_word-4.ensures, ← c.if-is_word-5.ensures) (read-fails _)
