@@ -1,5 +1,5 @@
 -- The relation holds in every world that is reached; so does the theorem.
-use Rattle.std.proofs.Common.{◌≡◌, ℕ, List, [], ◌∷◌, ◌++◌, ◌⊎◌, inl, inr, refl, sym, ap, ap₂, ◌∙◌, subst, append_assoc, append-nil, Option, Some, None, true}
+use Rattle.std.proofs.Common.{⊎_elim, ◌≡◌, ℕ, List, [], ◌∷◌, ◌++◌, ◌⊎◌, inl, inr, refl, sym, ap, ap₂, ◌∙◌, subst, append_assoc, append-nil, Option, Some, None, true}
 use Rattle.std.specs.Prelude.{map}
 use Rattle.std.specs.List.{flat_map}
 use Rattle.frame_view.specs.declared.Side.TheVariants.{Client as OfClient}
@@ -14,8 +14,8 @@ use Rattle.login_core.specs.Talk.{End}
 use Rattle.login_core.specs.Talk.End.{Unfinished, Passed, Stopped}
 use Rattle.login_core.specs.Dialogue.{LoginRow, Way, ToLink, ToConsole, Reason, login}
 use Rattle.login_core.specs.Solo.{service_pieces, after_in, solo_in}
-use Rattle.world_steps.specs.Clients.Phase.{Served}
-use Rattle.world_steps.specs.Links.Role.{Lent, Idle}
+use Rattle.world_steps.specs.Clients.Phase.{Starting, Served}
+use Rattle.world_steps.specs.Links.Role.{Promised, Lent, Idle}
 use Rattle.book_lists.specs.Book.{Book, Limits}
 use Rattle.book_lists.specs.Laws.{HasLink, HasTicket}
 use Rattle.world_steps.specs.Clients.{Phase}
@@ -29,7 +29,8 @@ use Rattle.world_steps.proofs.Clients.{phase_over, fresh_one, after_passed}
 use Rattle.world_steps.proofs.Sole.{frames_after}
 use Rattle.world_steps.proofs.Steps.{fits_at, role_at}
 use Rattle.frame_view.specs.declared.frames.TheConstants.{LONGEST_FRAME}
-use Rattle.world_model.specs.Headline.{Agree, IsQuiet, IsFreshLink, future, OutsBegin, TwoWorlds}
+use Rattle.world_model.specs.Headline.{Agree, HasIt, IsQuiet, IsFreshLink, IdleLinksAreFresh, LinksServeOne, RefusalsStandApart, future, OutsBegin, TwoWorlds}
+use Rattle.world_model.specs.Headline.HasIt.{is_served, awaits}
 use Rattle.world_steps.specs.Clients.{Client, given}
 use Rattle.world_steps.specs.Laws.{BookStepsKeep, ClientStepsKeep, ByteStepsKeep, LinkStepsKeep, EndStepsKeep}
 use Rattle.world_steps.specs.Links.{Link}
@@ -90,6 +91,33 @@ fronts_of_one (x ∷ xs) (y ∷ ys) zs f g =
 
 same_lent : (c d : ℕ) → Lent c ≡ Lent d → c ≡ d
 same_lent c d p = cc
+
+same_promised : (c d : ℕ) → Promised c ≡ Promised d → c ≡ d
+same_promised c d p = cc
+
+-- a link's role names the client that has it
+abbrev Names : Role → ℕ → Type 0
+Names role c = (role ≡ Lent c) ⊎ (role ≡ Promised c)
+
+names_one : (role : Role) (c d : ℕ) → Names role c → Names role d → c ≡ d
+names_one role c d (inl e) (inl f) = same_lent c d (sym e ∙ f)
+names_one role c d (inr e) (inr f) = same_promised c d (sym e ∙ f)
+names_one role c d (inl e) (inr f) = absurd (go (sym e ∙ f))
+  where
+    go : Lent c ≡ Promised d → ⊥
+    go p = cc
+names_one role c d (inr e) (inl f) = absurd (go (sym e ∙ f))
+  where
+    go : Promised c ≡ Lent d → ⊥
+    go p = cc
+
+named_by : {w : World} (c l : ℕ) → Related w → HasIt (w.clients c).phase l → Names (w.links l).role c
+named_by c l r (is_served e) = inl (fits_at c (Served l) r e).1
+named_by c l r (awaits key e) = inr (fits_at c (Starting key l) r e).1
+
+also_named : {w : World} (d l : ℕ) → Related w → HasIt (w.clients d).phase l ⊎ Names (w.links l).role d → Names (w.links l).role d
+also_named d l r (inl h) = named_by d l r h
+also_named d l r (inr n) = n
 
 either : (xs ys : List ℕ) → IsFront xs ys ⊎ IsFront ys xs → Begins xs ys ⊎ Begins ys xs
 either xs ys (inl f) = inl (record { more = f.rest; both = f.is })
@@ -173,15 +201,20 @@ module _ (keep : Keep) where
   pub outs : OutsBegin
   outs w h c = let f = (over h c).out_front in record { more = f.rest; both = f.is }
 
-  pub one_client : (w : World) → Reached w → (c d l : ℕ) → (w.clients c).phase ≡ Served l → (w.clients d).phase ≡ Served l → c ≡ d
+  pub apart : RefusalsStandApart
+  apart w h c = ⊎_elim (λ q. inl q) (λ k. inr (record { pieces = k.pieces; kept = k.first.rest; pieces_are = k.first.is; out_is = k.out_is; cause = k.cause; begins = record { more = k.text.rest; both = k.text.is } })) (over h c).apart
+
+  pub one_client : LinksServeOne
   one_client w h c d l e f =
       let r = related h in
-      same_lent c d (sym (fits_at c (Served l) r e).1 ∙ (fits_at d (Served l) r f).1)
+      names_one (w.links l).role c d (named_by c l r e) (also_named d l r f)
 
-  pub idle_fresh : (w : World) → Reached w → (l : ℕ) → (w.links l).role ≡ Idle → (w.links l).alive ≡ true → IsFreshLink w (w.links l)
-  idle_fresh w h l e lives =
-      let k = role_at l Idle (related h) e in
-      record { is_fresh = k.is_fresh; inbox = k.inbox; outbox = k.outbox }
+  pub idle_fresh : IdleLinksAreFresh
+  idle_fresh w h l key i =
+      let r = related h in
+      let e = r.idle l key i in
+      let k = role_at l Idle r e.0 in
+      (e.1, λ lives. record { is_fresh = k.is_fresh; inbox = k.inbox; outbox = k.outbox })
 
   pub all_served : (w : World) → Reached w → (c l : ℕ) → (w.clients c).phase ≡ Served l → IsQuiet (w.clients c) (w.links l) → given (w.clients c) ≡ joined_pieces (own w (w.clients c))
   all_served w h c l e q =

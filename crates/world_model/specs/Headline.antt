@@ -2,16 +2,18 @@
 use Rattle.std.specs.Prelude.{◌≡◌, ◌⊎◌, ℕ, List, [], ◌++◌, true, Ok}
 use Rattle.std.specs.List.{flat_map}
 use Rattle.frame_view.specs.Frames.{spelling}
-use Rattle.message_view.specs.Refusals.{Allowed, Begins, joined_pieces}
+use Rattle.message_view.specs.declared.refusal.Refusal.{Refusal}
+use Rattle.message_view.specs.Refusals.{Allowed, Begins, joined_pieces, refusal}
 use Rattle.session_values.specs.State.{StartKeyOf, CatalogueOf, fresh, address_of}
 use Rattle.session_values.specs.Step.{run_frames}
 use Rattle.session_values.specs.Service.{client_frames}
 use Rattle.login_core.specs.Talk.End.{Passed}
 use Rattle.login_core.specs.Dialogue.{ToLink, login}
-use Rattle.world_steps.specs.Clients.{Client, given}
-use Rattle.world_steps.specs.Clients.Phase.{Served}
+use Rattle.book_lists.specs.Laws.{HasLink}
+use Rattle.world_steps.specs.Clients.{Client, Phase, given}
+use Rattle.world_steps.specs.Clients.Phase.{Starting, Served}
 use Rattle.world_steps.specs.Links.{Link}
-use Rattle.world_steps.specs.Links.Role.{Idle}
+use Rattle.world_steps.specs.Links.Role.{Promised, Lent}
 use Rattle.world_steps.specs.Worlds.{World, own}
 use Rattle.world_steps.specs.Steps.{Reached}
 
@@ -40,9 +42,27 @@ TwoWorlds = (w v : World) → Reached w → Reached v → (c d : ℕ) → Agree 
 abbrev pub OutsBegin : Type 0
 OutsBegin = (w : World) → Reached w → (c : ℕ) → Begins (w.clients c).out (joined_pieces (own w (w.clients c)))
 
--- No link serves two clients.
+-- what was given of a refusal begins a named one, behind some first whole pieces
+pub record IsNamed (w : World) (x : Client) : Type 0 where
+  pub pieces : List (List ℕ)
+  pub kept : List (List ℕ)
+  pub pieces_are : pieces ++ kept ≡ own w x
+  pub out_is : x.out ≡ joined_pieces pieces
+  pub cause : Refusal
+  pub begins : Begins x.refusal (refusal cause)
+
+-- What is told apart as a refusal is one.
+abbrev pub RefusalsStandApart : Type 0
+RefusalsStandApart = (w : World) → Reached w → (c : ℕ) → ((w.clients c).refusal ≡ []) ⊎ IsNamed w (w.clients c)
+
+-- the client is served over the link, or the link is to be started for it
+pub data HasIt (phase : Phase) (l : ℕ) : Type 0 where
+  is_served : phase ≡ Served l → HasIt phase l
+  awaits : (key : StartKeyOf) → phase ≡ Starting key l → HasIt phase l
+
+-- No two clients have a link, and it is lent, or promised, to no other.
 abbrev pub LinksServeOne : Type 0
-LinksServeOne = (w : World) → Reached w → (c d l : ℕ) → (w.clients c).phase ≡ Served l → (w.clients d).phase ≡ Served l → c ≡ d
+LinksServeOne = (w : World) → Reached w → (c d l : ℕ) → HasIt (w.clients c).phase l → HasIt (w.clients d).phase l ⊎ (((w.links l).role ≡ Lent d) ⊎ ((w.links l).role ≡ Promised d)) → c ≡ d
 
 -- in the fresh session of its key, with nothing under way
 pub record IsFreshLink (w : World) (y : Link) : Type 0 where
@@ -50,9 +70,9 @@ pub record IsFreshLink (w : World) (y : Link) : Type 0 where
   pub inbox : y.inbox ≡ []
   pub outbox : y.outbox ≡ []
 
--- Idle links that live are fresh.
+-- The book's idle links are of the keys by which it lends them, and fresh, where they live.
 abbrev pub IdleLinksAreFresh : Type 0
-IdleLinksAreFresh = (w : World) → Reached w → (l : ℕ) → (w.links l).role ≡ Idle → (w.links l).alive ≡ true → IsFreshLink w (w.links l)
+IdleLinksAreFresh = (w : World) → Reached w → (l : ℕ) (key : StartKeyOf) → HasLink l key w.book.idle → ((w.links l).key ≡ key) × ((w.links l).alive ≡ true → IsFreshLink w (w.links l))
 
 -- what a link's server has still to say when these bytes follow those under way
 abbrev pub future : CatalogueOf → Link → List ℕ → List ℕ

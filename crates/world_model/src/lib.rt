@@ -1,19 +1,20 @@
 //! What holds in every world of clients, links and the book, whatever happens in it: the sentence that a pool is there for.
 #![tactic(auto)]
 
-ghost use Rattle.world_model.specs.Headline.{EveryWorld, IdleLinksAreFresh, LeasesAreExact, LinksServeOne, OutsBegin, QuietLeasesAreWhole, TwoWorlds};
+ghost use Rattle.world_model.specs.Headline.{EveryWorld, IdleLinksAreFresh, LeasesAreExact, LinksServeOne, OutsBegin, QuietLeasesAreWhole, RefusalsStandApart, TwoWorlds};
 
 use world_leases::{book_steps_keep, link_steps_keep};
 use world_steps::{byte_steps_keep, client_steps_keep, end_steps_keep};
 
 /// Over every list of steps, what a client is given is allowed by what a server of its own answers.
 ///
-/// Beside it: what it was given before a refusal begins that answer; no link serves two clients; idle links that live are fresh;
+/// Beside it: what it was given before a refusal begins that answer; no link serves two clients, or waits for one while it serves another; the book's idle links that live are fresh;
 /// what was given, what is held and what is still to come over a living link are the whole answer; and where nothing is under
 /// way, all of it was given.
 pub fn every_world()
     ensures allowed { EveryWorld }
     ensures outs { OutsBegin }
+    ensures apart { RefusalsStandApart }
     ensures one_client { LinksServeOne }
     ensures idle_fresh { IdleLinksAreFresh }
     ensures exact { LeasesAreExact }

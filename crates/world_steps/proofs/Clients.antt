@@ -1,5 +1,5 @@
 -- What is known of a client says that what it was given is allowed, also where a refusal follows; and its sends keep it.
-use Rattle.std.proofs.Common.{◌≡◌, ℕ, List, [], ◌∷◌, ◌++◌, inl, inr, refl, sym, ap, ◌∙◌, subst, append_assoc, append-nil, arith, Result, Ok}
+use Rattle.std.proofs.Common.{◌≡◌, ◌⊎◌, ℕ, List, [], ◌∷◌, ◌++◌, inl, inr, refl, sym, ap, ◌∙◌, subst, append_assoc, append-nil, arith, Result, Ok}
 use Rattle.std.specs.Prelude.{map}
 use Rattle.std.specs.List.{flat_map, AllByRecursion}
 use Rattle.std.proofs.lemmas.List.{append_cancel_left}
@@ -32,7 +32,7 @@ use Rattle.frame_view.specs.declared.frames.TheConstants.{LONGEST_FRAME}
 use Rattle.world_steps.proofs.Changes.{sends_bytes}
 use Rattle.world_steps.specs.Clients.{Client, Phase, MayWrite, AtBorder}
 use Rattle.world_steps.specs.Links.{Link, Role}
-use Rattle.world_steps.specs.Relation.{IsFront, IsLent, RoleFits, InLogin, InQueue, InService, IsTold, IsOver, PhaseFits}
+use Rattle.world_steps.specs.Relation.{IsFront, IsLent, RoleFits, InLogin, InQueue, InService, IsTold, IsNamed, IsOver, PhaseFits}
 
 pub fresh_one : {a b : State} → ◌≡◌ {A = Result State Cause} (Ok a) (Ok b) → a ≡ b
 fresh_one e = cc
@@ -80,7 +80,7 @@ module _ (catalogue : Address → CatalogueOf) where
   told_over x h =
       let f = told_front x h in
       let g : IsFront (x.out ++ x.refusal) (joined_pieces (solo_in catalogue x.row x.word [] x.sent)) = front_is (ap (λ (l : List ℕ). x.out ++ l) h.quiet ∙ append-nil x.out) f in
-      record { out_front = f; allowed = inl (record { more = g.rest; both = g.is }) }
+      record { apart = inl h.quiet; out_front = f; allowed = inl (record { more = g.rest; both = g.is }) }
 
   login_told : (read : List ℕ) (x : Client) → InLogin read x → IsTold catalogue x
   login_told read x h =
@@ -103,13 +103,14 @@ module _ (catalogue : Address → CatalogueOf) where
     pub phase_over : (phase : Phase) (x : Client) → PhaseFits catalogue links c phase x → IsOver catalogue x
     phase_over Absent x h =
         let f : IsFront (x.out ++ x.refusal) (joined_pieces (solo_in catalogue x.row x.word [] x.sent)) = front_is (ap (λ (l : List ℕ). l ++ x.refusal) h.0 ∙ h.1) (front_nil _) in
-        record { out_front = front_is h.0 (front_nil _); allowed = inl (record { more = f.rest; both = f.is }) }
+        record { apart = inl h.1; out_front = front_is h.0 (front_nil _); allowed = inl (record { more = f.rest; both = f.is }) }
     phase_over (LoggingIn read) x h = told_over x (phase_told (LoggingIn read) x logging_in h)
     phase_over (Waiting key) x h = told_over x (phase_told (Waiting key) x waiting h)
     phase_over (Starting key l) x h = told_over x (phase_told (Starting key l) x starting h)
     phase_over (Served l) x h = told_over x (phase_told (Served l) x may_served h)
     phase_over Finishing x h = told_over x h
     phase_over (Refusing left) x h = record {
+      apart = inr (record { pieces = h.pieces; first = h.first; out_is = h.out_is; cause = h.cause; text = record { rest = left; is = h.text_is } });
       out_front = front_is h.out_is (front_joined h.first);
       allowed = inr (record { given = h.pieces; kept = h.first.rest; pieces_are = h.first.is; cause = h.cause; last = x.refusal; begins = record { more = left; both = h.text_is }; out_is = ap (λ (l : List ℕ). l ++ x.refusal) h.out_is });
     }
@@ -166,6 +167,10 @@ module _ (catalogue : Address → CatalogueOf) where
     quiet = h.quiet;
   }
 
+  apart_sends : (x : Client) (bytes : List ℕ) → (x.refusal ≡ []) ⊎ IsNamed catalogue x → ((sends_bytes x bytes).refusal ≡ []) ⊎ IsNamed catalogue (sends_bytes x bytes)
+  apart_sends x bytes (inl q) = inl q
+  apart_sends x bytes (inr k) = inr (record { pieces = k.pieces; first = front_trans k.first (solo_front catalogue x.row x.word x.sent bytes); out_is = k.out_is; cause = k.cause; text = k.text })
+
   pub phase_sends : (links : ℕ → Link) (c : ℕ) (phase : Phase) (x : Client) (bytes : List ℕ) → PhaseFits catalogue links c phase x → PhaseFits catalogue links c phase (sends_bytes x bytes)
   phase_sends links c Absent x bytes h = h
   phase_sends links c (LoggingIn read) x bytes h = record { lawful_row = h.lawful_row; sent_is = ap (λ (l : List ℕ). l ++ bytes) h.sent_is ∙ append_assoc read x.unread bytes; told = h.told; quiet = h.quiet }
@@ -174,4 +179,4 @@ module _ (catalogue : Address → CatalogueOf) where
   phase_sends links c (Served l) x bytes h = (service_sends bytes h.0, h.1)
   phase_sends links c Finishing x bytes h = told_grows x bytes h (grows catalogue x.row x.word x.sent bytes)
   phase_sends links c (Refusing left) x bytes h = record { pieces = h.pieces; first = front_trans h.first (solo_front catalogue x.row x.word x.sent bytes); out_is = h.out_is; cause = h.cause; text_is = h.text_is }
-  phase_sends links c Closed x bytes h = record { out_front = front_trans h.out_front (front_joined (solo_front catalogue x.row x.word x.sent bytes)); allowed = allowed_more (solo_front catalogue x.row x.word x.sent bytes) h.allowed }
+  phase_sends links c Closed x bytes h = record { apart = apart_sends x bytes h.apart; out_front = front_trans h.out_front (front_joined (solo_front catalogue x.row x.word x.sent bytes)); allowed = allowed_more (solo_front catalogue x.row x.word x.sent bytes) h.allowed }

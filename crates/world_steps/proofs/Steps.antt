@@ -1,5 +1,5 @@
 -- Each step of a client, its worker and a server keeps the relation, step by step.
-use Rattle.std.proofs.Common.{◌≡◌, ℕ, true, List, ◌++◌, refl, sym, ap, ◌∙◌, subst, append_assoc, Option, Some, None}
+use Rattle.std.proofs.Common.{◌≡◌, ◌⊎◌, inl, inr, ℕ, true, List, [], ◌++◌, refl, sym, ap, ◌∙◌, subst, append_assoc, Option, Some, None}
 use Rattle.frame_view.specs.Frames.{FrameOf, spelling}
 use Rattle.message_view.specs.declared.KeyWord.{KeyWord}
 use Rattle.message_view.specs.declared.refusal.Refusal.{Refusal}
@@ -23,7 +23,7 @@ use Rattle.world_steps.proofs.Keeps.{SameNumber, kept_number, change_client, cha
 use Rattle.world_steps.proofs.Changes.{sends_bytes, has_read, has_passed, in_phase, took_in, took_out, forwarded, link_gets, link_gives, holds_more, begins_refusal, refused_more, answers, dies}
 use Rattle.world_steps.specs.Clients.{Client, Phase, newcomer, MayWrite, AtBorder}
 use Rattle.world_steps.specs.Links.{Link, Role}
-use Rattle.world_steps.specs.Relation.{RoleFits, PhaseFits, TicketFits, Related, IsTold}
+use Rattle.world_steps.specs.Relation.{RoleFits, PhaseFits, TicketFits, Related, IsNamed, IsTold}
 use Rattle.world_steps.specs.Worlds.{World, put, with_client, with_link, with_pair}
 use Rattle.world_steps.specs.Laws.{ByteStepsKeep, ClientStepsKeep, EndStepsKeep}
 use Rattle.world_steps.specs.Steps.{IsInHand}
@@ -187,10 +187,14 @@ step_finishes w c read r e =
     (kept_number _ _ refl)
     (λ key k. tt)
 
+pub closed_apart : (catalogue : Address → CatalogueOf) (x : Client) → (x.refusal ≡ []) ⊎ IsNamed catalogue x → (x.refusal ≡ []) ⊎ IsNamed catalogue (in_phase x Closed)
+closed_apart catalogue x (inl e) = inl e
+closed_apart catalogue x (inr n) = inr (record { pieces = n.pieces; first = n.first; out_is = n.out_is; cause = n.cause; text = n.text })
+
 pub step_closes : (w : World) (c : ℕ) → Related w → Related (with_client w c (in_phase (w.clients c) Closed))
 step_closes w c r =
     let o = phase_over w.catalogue w.links r.lawful r.links c (w.clients c).phase (w.clients c) (r.clients c) in
-    change_client w c (in_phase (w.clients c) Closed) r (record { out_front = o.out_front; allowed = o.allowed }) (kept_number _ _ refl) (λ key k. tt)
+    change_client w c (in_phase (w.clients c) Closed) r (record { apart = closed_apart w.catalogue (w.clients c) o.apart; out_front = o.out_front; allowed = o.allowed }) (kept_number _ _ refl) (λ key k. tt)
 
 -- ---- a server
 

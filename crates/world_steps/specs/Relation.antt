@@ -1,5 +1,5 @@
 -- What every step keeps: one fact for each client with its link, one for each link, and one for each of the book's lists.
-use Rattle.std.specs.Prelude.{◌≡◌, ℕ, ◌≤◌, ◌<◌, true, Some, List, [], ◌++◌, map, Ok}
+use Rattle.std.specs.Prelude.{◌≡◌, ◌⊎◌, ℕ, ◌≤◌, ◌<◌, true, Some, List, [], ◌++◌, map, Ok}
 use Rattle.std.specs.List.{flat_map, AllByRecursion}
 use Rattle.frame_view.specs.declared.Side.TheVariants.{Server}
 use Rattle.frame_view.specs.declared.frames.TheConstants.{LONGEST_FRAME}
@@ -109,7 +109,16 @@ pub record InRefusal (catalogue : Address → CatalogueOf) (left : List ℕ) (x 
   pub cause : Refusal
   pub text_is : x.refusal ++ left ≡ refusal cause
 
+-- what was given of a refusal begins a named one, behind some first whole pieces
+pub record IsNamed (catalogue : Address → CatalogueOf) (x : Client) : Type 0 where
+  pub pieces : List (List ℕ)
+  pub first : IsFront pieces (solo_in catalogue x.row x.word [] x.sent)
+  pub out_is : x.out ≡ joined_pieces pieces
+  pub cause : Refusal
+  pub text : IsFront x.refusal (refusal cause)
+
 pub record IsOver (catalogue : Address → CatalogueOf) (x : Client) : Type 0 where
+  pub apart : (x.refusal ≡ []) ⊎ IsNamed catalogue x
   pub out_front : IsFront x.out (joined_pieces (solo_in catalogue x.row x.word [] x.sent))
   pub allowed : Allowed (x.out ++ x.refusal) (solo_in catalogue x.row x.word [] x.sent)
 

@@ -1,6 +1,9 @@
 //! A list of steps that the pooler's world can take, computed: what is said of every world is said of this one.
 #![tactic(auto)]
 
+ghost use Rattle.world_story.specs.Abrupt.{Abruptness};
+ghost use Rattle.world_story.specs.Hasty.{Haste};
+ghost use Rattle.world_story.specs.Others.{Others};
 ghost use Rattle.world_story.specs.Skipped.{Leak};
 ghost use Rattle.world_story.specs.Story.{Story};
 
@@ -16,4 +19,19 @@ pub fn two_clients_one_link()
 /// Were a settled link given back without a reset, a second client would be given what no server of its own answers.
 pub fn no_reset_leaks()
     ensures { Leak }
+{}
+
+/// The steps that the story doesn't take can be taken too.
+pub fn other_steps_are_taken()
+    ensures { Others }
+{}
+
+/// Were a link reset before it is settled, a second client would be given the answer to the reset.
+pub fn haste_leaks()
+    ensures { Haste }
+{}
+
+/// Were a client refused inside a message, it would be given what no answer of a server of its own allows.
+pub fn abruptness_shows()
+    ensures { Abruptness }
 {}
