@@ -54,6 +54,7 @@ gate:
 	scripts/refuse-growth.sh $(program) $(trials)
 	PGSESS=$(program) scripts/cli.sh
 	scripts/welcomes.sh $(program)
+	scripts/cursors.sh $(program)
 	scripts/postgres.sh $(program)
 	scripts/abuse.sh $(program)
 

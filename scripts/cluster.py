@@ -1,4 +1,4 @@
-"""A PostgreSQL server in a folder of its own, and a pooler in front of it: pgsess, or PgBouncer with equal settings."""
+"""A PostgreSQL server in a folder of its own, or the stand-in server; and a pooler in front of it: pgsess, or PgBouncer with equal settings."""
 import glob
 import hashlib
 import os
@@ -30,6 +30,15 @@ def free_port():
     with socket.socket() as probe:
         probe.bind((HERE, 0))
         return probe.getsockname()[1]
+
+
+def is_open(port):
+    """Whether connections are taken at this port."""
+    try:
+        socket.create_connection((HERE, port), 1).close()
+    except OSError:
+        return False
+    return True
 
 
 def server_folders():
@@ -157,6 +166,16 @@ class Cluster:
         return self.log.read_text(errors="replace").count(f"connection authorized: user={user} ")
 
 
+class Stub:
+    """The stand-in server over a catalogue."""
+
+    def __init__(self, place, program, catalogue):
+        self.port = free_port()
+        self.process = place.start(program, "stub", "--port", self.port, "--catalogue", place.write("catalogue.tsv", catalogue))
+        if not until(lambda: is_open(self.port)):
+            sys.exit(f"{program} stub doesn't answer")
+
+
 PGBOUNCER = """[databases]
 shop = host=127.0.0.1 port={port} dbname=shop
 closed = host=127.0.0.1 port={closed} dbname=shop
@@ -196,7 +215,7 @@ class Pooler:
             ini = place.write("pgbouncer.ini", PGBOUNCER.format(port=cluster.port, closed=closed, listen=self.port, auth=auth, users=users,
                                                                   clients=clients, size=size, wait=wait))
             self.process = place.start("pgbouncer", ini, stdout=self.errors, stderr=self.errors)
-            if not until(self.answers, 5):
+            if not until(lambda: is_open(self.port), 5):
                 sys.exit(f"pgbouncer doesn't answer: {(place.folder / 'pgbouncer.err').read_text()!r}")
             return
         changes = {
@@ -215,13 +234,6 @@ class Pooler:
         if line != f"listening {HERE} {self.port}":
             self.process.wait(SECONDS)
             sys.exit(f"{program} serve said {line!r}, and ended with {self.process.returncode}: {(place.folder / 'pgsess.err').read_text()!r}")
-
-    def answers(self):
-        try:
-            socket.create_connection((HERE, self.port), 1).close()
-        except OSError:
-            return False
-        return True
 
     def runs(self):
         return self.process.poll() is None

@@ -12,15 +12,14 @@ import sys
 from concurrent.futures import ThreadPoolExecutor
 
 from logins import GIVEN, fatal
+from rows import ROWS, START, differs, is_struck
 
-ROWS = pathlib.Path("tests/rows")
 CUTS = (1, 7, 8192)
 SECONDS = 60
 WORKERS = 4
 HEAD = 5
 # what is read of a server's messages goes on to the client only whole
 WHOLE_ONLY = b"SZ"
-START = (ROWS / "start.in").read_bytes()
 # the server's own AuthenticationOk is as long as the client's, so byte n of the server is byte n of the answer
 WELCOME = len((ROWS / "start.out").read_bytes())
 UNREACHED = fatal("08001", "server could not be reached")
@@ -73,11 +72,6 @@ def dying(whole, dies_after):
     if dies_after < last + HEAD or whole[last] in WHOLE_ONLY:
         return whole[:last] + FAILED
     return whole[:dies_after]
-
-
-def differs(given, wanted):
-    same = next((i for i, (a, b) in enumerate(zip(given, wanted)) if a != b), min(len(given), len(wanted)))
-    return f"{len(given)} bytes for {len(wanted)}, which differ from byte {same} on"
 
 
 class Plays:
@@ -134,7 +128,8 @@ def main():
         sys.exit(__doc__)
     plays = Plays(str(pathlib.Path(sys.argv[1]).resolve()))
     for file in sorted(ROWS.glob("*.in")):
-        plays.play(file)
+        if not is_struck(file):
+            plays.play(file)
     plays.leaves("query_of_spaces", 10_005)
     for cut in CUTS:
         plays.kill("set_show_discard", cut)

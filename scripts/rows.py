@@ -1,6 +1,8 @@
 #!/usr/bin/env python3
 """Plays the conversations of tests/rows through PROGRAM, and beside them what a session alone answers, by TRIALS.
 
+Those that a cancel strikes, before the frame behind the login that NAME.struck tells, are played by TRIALS alone.
+
 Usage: rows.py PROGRAM TRIALS, at the top of the repository.
 """
 import pathlib
@@ -11,6 +13,7 @@ from frames import CLIENT
 from logins import GIVEN, fatal
 
 ROWS = pathlib.Path("tests/rows")
+CATALOGUE = str(ROWS / "catalogue.tsv")
 LONGEST_CUT = 200
 LONGEST_FRAME = 2_147_483_647
 SECONDS = 60
@@ -18,6 +21,11 @@ TERMINATE = ord("X")
 START = (ROWS / "start.in").read_bytes()
 MALFORMED = GIVEN["P3"]
 TOO_LONG = fatal("54000", "client message is too long")
+
+
+def is_struck(file):
+    """Whether a cancel strikes the conversation of this file. `replay` can't play such a one."""
+    return file.with_suffix(".struck").exists()
 
 
 def run(words, data):
@@ -31,15 +39,23 @@ def fault_of(run):
     return f"standard error {run.stderr!r}" if run.stderr else ""
 
 
+def differs(given, wanted):
+    """What is wrong with an answer, if it is another one than that."""
+    if given == wanted:
+        return ""
+    same = next((i for i, (a, b) in enumerate(zip(given, wanted)) if a != b), min(len(given), len(wanted)))
+    return f"{len(given)} bytes for {len(wanted)}, which differ from byte {same} on"
+
+
 def whole(program, given, wanted):
     answer = run([program, "replay"], given)
-    if fault := fault_of(answer):
-        return fault
-    if answer.stdout == wanted:
-        return ""
-    pairs = enumerate(zip(answer.stdout, wanted))
-    same = next((i for i, (a, b) in pairs if a != b), min(len(answer.stdout), len(wanted)))
-    return f"{len(answer.stdout)} bytes for {len(wanted)}, which differ from byte {same} on"
+    return fault_of(answer) or differs(answer.stdout, wanted)
+
+
+def struck(trials, given, wanted, number):
+    """What is wrong with what a session alone answers that a cancel strikes before the frame of this number."""
+    answer = run([trials, "solo", CATALOGUE, "ann", number], given[len(START):])
+    return fault_of(answer) or differs(GIVEN["ok"] + bytes.fromhex(answer.stdout.decode()), wanted)
 
 
 def cut(program, given, wanted):
@@ -79,7 +95,7 @@ def refusal(data):
 def beside_solo(trials, given, answers):
     """The answers to the fronts that have ann's login beside those of a session alone: AuthenticationOk, these, and a refusal."""
     rest = given[len(START):]
-    solo = run([trials, "solo", str(ROWS / "catalogue.tsv"), "ann"], rest)
+    solo = run([trials, "solo", CATALOGUE, "ann"], rest)
     if fault := fault_of(solo):
         return f"trials: {fault}"
     lines = solo.stdout.decode().splitlines()
@@ -95,7 +111,12 @@ class Counts:
     """What was played."""
 
     def __init__(self):
-        self.passed = self.failed = self.fronts = self.alone = 0
+        self.passed = self.failed = self.fronts = self.alone = self.struck = 0
+
+    def tell(self, file, given, wanted, fault):
+        self.passed += not fault
+        self.failed += bool(fault)
+        print(f"{'FAILED' if fault else 'ok    '} {file.stem}: {len(given)} bytes in, {len(wanted)} out{': ' if fault else ''}{fault}")
 
     def play(self, programs, file):
         """The conversation of a file: the whole of it, and where it is short its fronts."""
@@ -108,9 +129,13 @@ class Counts:
             if not fault and given.startswith(START):
                 fault = beside_solo(trials, given, answers)
                 self.alone += len(given) - len(START) + 1
-        self.passed += not fault
-        self.failed += bool(fault)
-        print(f"{'FAILED' if fault else 'ok    '} {file.stem}: {len(given)} bytes in, {len(wanted)} out{': ' if fault else ''}{fault}")
+        self.tell(file, given, wanted, fault)
+
+    def strike(self, trials, file):
+        """The conversation of a file, which a cancel strikes where its NAME.struck tells."""
+        given, wanted = file.read_bytes(), file.with_suffix(".out").read_bytes()
+        self.struck += 1
+        self.tell(file, given, wanted, struck(trials, given, wanted, file.with_suffix(".struck").read_text().strip()))
 
 
 def main():
@@ -119,9 +144,13 @@ def main():
     programs = [str(pathlib.Path(word).resolve()) for word in sys.argv[1:]]
     counts = Counts()
     for file in sorted(ROWS.glob("*.in")):
-        counts.play(programs, file)
-    print(f"rows: {counts.passed} passed, {counts.failed} failed ({counts.fronts} fronts of inputs, {counts.alone} of them beside a session alone)")
-    sys.exit(counts.failed > 0 or counts.passed == 0 or counts.alone == 0)
+        if is_struck(file):
+            counts.strike(programs[1], file)
+        else:
+            counts.play(programs, file)
+    print(f"rows: {counts.passed} passed, {counts.failed} failed ({counts.struck} that a cancel strikes; "
+          f"{counts.fronts} fronts of inputs, {counts.alone} of them beside a session alone)")
+    sys.exit(counts.failed > 0 or 0 in (counts.passed, counts.alone, counts.struck))
 
 
 if __name__ == "__main__":

@@ -12,7 +12,7 @@ import socket
 import subprocess
 import sys
 
-from cluster import HERE, Passes, Place, free_port, until
+from cluster import HERE, Passes, Place, Stub, free_port, until
 from logins import GIVEN, fatal, logins_of, message
 
 SECONDS = 20
@@ -83,27 +83,16 @@ class Welcomes:
     def __init__(self, program, folder):
         self.program, self.folder = program, folder
         self.passes, self.place = Passes("welcomes"), Place("nobody")
-        self.stub_port = free_port()
-
-    def started(self, *words):
-        return self.place.start(self.program, *words, stdout=subprocess.PIPE)
-
-    def stub_answers(self):
-        try:
-            socket.create_connection((HERE, self.stub_port), 1).close()
-        except OSError:
-            return False
-        return True
 
     def pooler(self, settings):
         """`pgsess serve` under these settings of the folder, with the stub behind it; and its port."""
         port = free_port()
         text = (self.folder / f"{settings}.ini").read_text()
-        text = text.replace(f"host={HERE}", f"host={HERE} port={self.stub_port}").replace("[pgbouncer]", f"[pgbouncer]\nlisten_port = {port}")
+        text = text.replace(f"host={HERE}", f"host={HERE} port={self.stub.port}").replace("[pgbouncer]", f"[pgbouncer]\nlisten_port = {port}")
         ini = self.place.write(f"{settings}.ini", text)
         users = self.place.write("users.txt", (self.folder / "users.txt").read_text())
         seed = self.place.write("seed", os.urandom(32))
-        process = self.started("serve", "--ini", ini, "--users", users, "--key-seed", seed)
+        process = self.place.start(self.program, "serve", "--ini", ini, "--users", users, "--key-seed", seed, stdout=subprocess.PIPE)
         line = process.stdout.readline().decode().strip()
         if line != f"listening {HERE} {port}":
             sys.exit(f"{self.program} serve said {line!r}")
@@ -120,10 +109,7 @@ class Welcomes:
         process.wait(SECONDS)
 
     def all(self):
-        catalogue = self.place.write("catalogue.tsv", f"version\t{VERSION}\ndatabase\t{DATABASE}\n")
-        self.started("stub", "--port", self.stub_port, "--catalogue", catalogue)
-        if not until(self.stub_answers):
-            sys.exit(f"{self.program} stub doesn't answer")
+        self.stub = Stub(self.place, self.program, f"version\t{VERSION}\ndatabase\t{DATABASE}\n")
         logins = logins_of(self.folder)
         for settings in dict.fromkeys(login.settings for login in logins):
             self.play(settings, [login for login in logins if login.settings == settings])

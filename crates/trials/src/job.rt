@@ -2,7 +2,7 @@
 
 /// The line that a wrong command line is answered by.
 pub const USAGE: &str =
-    "usage: trials login INI USERS CUT | trials solo CATALOGUE USER | trials lease CUT [DIES_AFTER] (a client's bytes on standard input) | trials relay SIZE TOTAL | trials book CLIENTS EVENTS";
+    "usage: trials login INI USERS CUT | trials solo CATALOGUE USER [CANCELLED] | trials lease CUT [DIES_AFTER] (a client's bytes on standard input) | trials relay SIZE TOTAL | trials book CLIENTS EVENTS";
 
 /// What a command line asks for.
 #[derive(Clone, Copy, Drop)]
@@ -13,10 +13,12 @@ pub enum Job<'a> {
         users: &'a str,
         cut: usize,
     },
-    /// The answers of this user's session over this catalogue to every front of the bytes.
+    /// The answers of this user's session over this catalogue to every front of the bytes; or to each frame, where a cancel comes
+    /// before the frame of this number, counted from 0.
     Solo {
         catalogue: &'a str,
         user: &'a str,
+        cancelled: Option<u64>,
     },
     /// What `pgsess replay` answers, where a call of an end of the lease moves at most so many bytes, over a server that dies once
     /// so many were read from it.
@@ -56,6 +58,12 @@ pub fn job_of<'a>(words: &'a [String]) -> Option<Job<'a>> {
         "solo" if words.len() == 4 => Some(Job::Solo {
             catalogue: words[2].as_str(),
             user: words[3].as_str(),
+            cancelled: None,
+        }),
+        "solo" if words.len() == 5 => Some(Job::Solo {
+            catalogue: words[2].as_str(),
+            user: words[3].as_str(),
+            cancelled: Some(words[4].parse::<u64>().ok()?),
         }),
         "lease" if words.len() == 3 => Some(Job::Lease {
             cut: cut_of(words[2].as_str())?,

@@ -49,7 +49,11 @@ fn answer<'a, R: Files + Input>(
 ) -> Result<Vec<u8>, AppFault<'a>> {
     match job {
         Job::Login { ini, users, cut } => login::answer(rt, alloc, ini, users, cut),
-        Job::Solo { catalogue, user } => solo::answer(rt, alloc, catalogue, user),
+        Job::Solo {
+            catalogue,
+            user,
+            cancelled,
+        } => solo::answer(rt, alloc, catalogue, user, cancelled),
         Job::Lease { cut, dies_after } => lease::answer(rt, alloc, cut, dies_after),
         Job::Relay { size, total } => line_of(alloc, relay::relayed(alloc, size.max(11), total)),
         Job::Book { clients, events } => line_of(alloc, book::events(alloc, clients, events)),

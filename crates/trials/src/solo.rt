@@ -1,11 +1,12 @@
-//! `trials solo`: what a session alone answers to each front of a client's bytes.
+//! `trials solo`: what a session alone answers to each front of a client's bytes, or to each frame of a client that a cancel strikes.
 use crate::KEY_WORD;
 use crate::input::read_input;
 use crate::lines::put_hex_line;
 use bytes::BytesMut;
+use frame_view::{LONGEST_FRAME, Side, Step, next_frame};
 use pool_app::fault::AppFault;
 use pool_app::files::read_catalogue;
-use session_machine::{Catalogue, StartKey, Text, solo_bytes};
+use session_machine::{Catalogue, Session, StartKey, Text, solo_bytes};
 use std::alloc::{AllocError, Global};
 use std::rt::Files;
 
@@ -48,16 +49,66 @@ fn lines_of(
     Ok(lines)
 }
 
+/// Appends a line for each whole frame that the bytes begin with. A cancel strikes the session before the frame of this number.
+fn put_frame_lines(
+    alloc: Global,
+    catalogue: &Catalogue,
+    session: &mut Session,
+    cancelled: u64,
+    bytes: &[u8],
+    lines: &mut Vec<u8>,
+) -> Result<(), AllocError> {
+    let mut rest = bytes;
+    for number in 0..u64::MAX {
+        let Step::Whole(frame) = next_frame(rest, 0, LONGEST_FRAME, Side::Client) else {
+            break;
+        };
+        if number == cancelled {
+            session.strike();
+        }
+        let mut replies = BytesMut::new(alloc);
+        session.step(alloc, catalogue, frame, &mut replies)?;
+        put_hex_line(alloc, replies.as_slice(), lines)?;
+        rest = &rest[frame.whole.len().min(rest.len())..];
+    }
+    Ok(())
+}
+
+/// A line for the welcome and one for each frame; none where the session doesn't start.
+fn cancelled_lines(
+    alloc: Global,
+    catalogue: &Catalogue,
+    user: &[u8],
+    cancelled: u64,
+    bytes: &[u8],
+) -> Result<Vec<u8>, AllocError> {
+    let key = key_of(alloc, user)?;
+    let mut lines = Vec::new(alloc);
+    if let Ok(mut session) = Session::start(alloc, catalogue, &key)? {
+        let mut welcome = BytesMut::new(alloc);
+        session.put_welcome(alloc, KEY_WORD, &mut welcome)?;
+        put_hex_line(alloc, welcome.as_slice(), &mut lines)?;
+        put_frame_lines(alloc, catalogue, &mut session, cancelled, bytes, &mut lines)?;
+    }
+    Ok(lines)
+}
+
 /// The answer of the subcommand.
 pub fn answer<'a, R: Files + Input>(
     rt: &R,
     alloc: Global,
     catalogue: &'a str,
     user: &str,
+    cancelled: Option<u64>,
 ) -> Result<Vec<u8>, AppFault<'a>> {
     let catalogue = read_catalogue(rt, alloc, catalogue)?;
     let bytes = read_input(rt, alloc)?;
-    match lines_of(alloc, &catalogue, user.as_bytes(), bytes.as_slice()) {
+    let (user, bytes) = (user.as_bytes(), bytes.as_slice());
+    let lines = match cancelled {
+        Some(number) => cancelled_lines(alloc, &catalogue, user, number, bytes),
+        None => lines_of(alloc, &catalogue, user, bytes),
+    };
+    match lines {
         Ok(lines) => Ok(lines),
         Err(_) => Err(AppFault::Memory),
     }
