@@ -22,7 +22,6 @@ pub struct ActClient<'a> {
     waits: u64,
 }
 
-/// A drop of its own is proved here once, and not wherever one is held.
 impl<'a> Drop for ActClient<'a> {
     fn drop(self) {
         let ActClient {

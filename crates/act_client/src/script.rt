@@ -32,7 +32,6 @@ pub struct Script {
     sent: Cell<usize>,
 }
 
-/// A drop of its own is proved here once, and not wherever one is held.
 impl Drop for Script {
     fn drop(self) {
         let Script {

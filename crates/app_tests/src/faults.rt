@@ -1,7 +1,7 @@
 //! The lines of faults, and key seeds.
 use pool_app::fault::{AppFault, fault_line, status};
 use pool_app::files::{read_all, seed_of, settings_of, users_of};
-use server_catalogue::{CatalogueCause, CatalogueFault};
+use session_catalogue::{CatalogueCause, CatalogueFault};
 use std::alloc::Global;
 use std::process::Abort;
 use std::test::Fail;

@@ -1,12 +1,12 @@
 -- What a register begins with, and that it stays in order.
 use Rattle.std.proofs.Common.{ℕ, sym, subst, arith, refl}
-use Rattle.book_lists.specs.Book.{Book, Limits}
-use Rattle.book_lists.specs.Outcomes.{Event, apply}
-use Rattle.book_lists.specs.declared.events.Reply.{Reply}
+use Rattle.book_model.specs.Book.{Book, Limits}
+use Rattle.book_model.specs.Outcomes.{Event, apply}
+use Rattle.book_model.specs.declared.events.Reply.{Reply}
 use Rattle.book_register.specs.Choices.{Gives}
 use Rattle.book_register.specs.Counted.{counted_book}
-use Rattle.book_order.specs.Kept.{FitsLimits, Kept, KeptLimits}
-use Rattle.book_order.proofs.Keeping.{applied_keeps}
+use Rattle.book_model.specs.Kept.{FitsLimits, Kept, KeptLimits}
+use Rattle.book_model.proofs.Keeping.{applied_keeps}
 
 pub counted_keeps : (limits : Limits) (n : ℕ) → KeptLimits limits → Kept (counted_book limits n)
 counted_keeps limits n l = record {

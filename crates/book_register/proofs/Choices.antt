@@ -3,8 +3,8 @@ use Rattle.std.proofs.Common.{◌≡◌, ℕ, Bool, true, false, Option, None, S
 use Rattle.std.specs.Prelude.{position, find, nat_lt}
 use Rattle.std.proofs.Math.Dec.{ltb}
 use Rattle.start_keys.specs.Keys.{same_key}
-use Rattle.book_lists.specs.Book.{Book, Link, Ticket, in_pool, latest_of, link_count, pool_count, pool_size}
-use Rattle.book_lists.specs.Outcomes.{Answer, evicts, grants, starts}
+use Rattle.book_model.specs.Book.{Book, Link, Ticket, in_pool, latest_of, link_count, pool_count, pool_size}
+use Rattle.book_model.specs.Outcomes.{Answer, evicts, grants, starts}
 use Rattle.book_register.specs.Choices.{Chooses, eviction_of}
 use Rattle.book_rows.specs.Places.{IsLast}
 use Rattle.book_rows.proofs.Places.{found, not_found}

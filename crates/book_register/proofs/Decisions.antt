@@ -2,18 +2,18 @@
 use Rattle.std.proofs.Common.{◌≡◌, ℕ, ◌<◌, Bool, true, false, not, cond, ◌||◌, ◌==◌, Option, None, Some, List, length, refl, sym, ap, ◌∙◌, subst, eq-eqb, eqb-true}
 use Rattle.std.specs.Prelude.{find, nat_lt}
 use Rattle.std.specs.List.{list_any}
-use Rattle.book_lists.specs.Book.{Book, Client, Link, Ticket, in_pool, is_client, is_link, is_of, latest_of, link_count, pool_count, pool_size, waiting_before}
-use Rattle.book_lists.specs.Outcomes.{Answer, Event, apply, at_clock, closes, counted, decided, evicts, gives_back, grants, has_waited, is_crowded, is_old, is_stale, is_strange, kind_of, last_decision, outcome, takes}
-use Rattle.book_lists.specs.Outcomes.Event.{Arrive, Ask, Take, GiveBack, Lost, StartFailed, Leave, Tick, NewLimits, Pause, Resume, Shutdown}
-use Rattle.book_lists.specs.declared.counts.Kind.{Kind}
-use Rattle.book_lists.specs.declared.events.Reply.{Reply}
-use Rattle.book_lists.specs.declared.events.Reply.TheVariants.{Refuse, Done, Stranger}
+use Rattle.book_model.specs.Book.{Book, Client, Link, Ticket, in_pool, is_client, is_link, is_of, latest_of, link_count, pool_count, pool_size, waiting_before}
+use Rattle.book_model.specs.Outcomes.{Answer, Event, apply, at_clock, closes, counted, decided, evicts, gives_back, grants, has_waited, is_crowded, is_old, is_stale, is_strange, kind_of, last_decision, outcome, takes}
+use Rattle.book_model.specs.Outcomes.Event.{Arrive, Ask, Take, GiveBack, Lost, StartFailed, Leave, Tick, NewLimits, Pause, Resume, Shutdown}
+use Rattle.book_model.specs.declared.counts.Kind.{Kind}
+use Rattle.book_model.specs.declared.events.Reply.{Reply}
+use Rattle.book_model.specs.declared.events.Reply.TheVariants.{Refuse, Done, Stranger}
 use Rattle.message_view.specs.declared.refusal.Refusal.TheVariants.{LastDecision}
 use Rattle.book_register.specs.Choices.{Gives}
 use Rattle.book_register.specs.Kinds.{kind_in, kinds_of}
 use Rattle.book_register.specs.declared.deciding.Kinds.{Kinds}
-use Rattle.book_order.specs.Kept.{KeptClients, KeptCounts, total}
-use Rattle.book_order.proofs.KeepingLists.{any_counts, longer, none_counts}
+use Rattle.book_model.specs.Kept.{KeptClients, KeptCounts, total}
+use Rattle.book_model.proofs.KeepingLists.{any_counts, longer, none_counts}
 
 pub kind_is : (b : Book) (e : Event) (r : Reply) → kind_in (kinds_of b e) r ≡ kind_of b e r
 kind_is b Arrive r = elim r as (λ x. kind_in (kinds_of b Arrive) x ≡ kind_of b Arrive x) [ Done ↦ refl | _ ↦ refl ]

@@ -1,10 +1,10 @@
 -- What a GiveBack and a Tick give, case by case; `before` is the book as its fields stand.
 use Rattle.std.proofs.Common.{◌≡◌, ℕ, Bool, true, false, List, [], ◌∷◌, ◌++◌, Option, None, Some, cond, sym, ap, ◌∙◌, subst, get_or}
 use Rattle.std.specs.Prelude.{position, find, slice_get, nat_lt, ◌||◌}
-use Rattle.book_lists.specs.Book.{Book, Link, is_link, without}
-use Rattle.book_lists.specs.Outcomes.{Answer, at_clock, closes, gives_back, is_crowded, is_old, is_stale, loses}
-use Rattle.book_lists.specs.declared.events.Reply.{Reply}
-use Rattle.book_lists.specs.declared.events.Reply.TheVariants.{Close, Done, Stranger}
+use Rattle.book_model.specs.Book.{Book, Link, is_link, without}
+use Rattle.book_model.specs.Outcomes.{Answer, at_clock, closes, gives_back, is_crowded, is_old, is_stale, loses}
+use Rattle.book_model.specs.declared.events.Reply.{Reply}
+use Rattle.book_model.specs.declared.events.Reply.TheVariants.{Close, Done, Stranger}
 use Rattle.book_register.specs.Choices.{Gives}
 use Rattle.book_rows.proofs.Places.{at_place, found, not_found}
 

@@ -5,13 +5,13 @@ use Rattle.std.proofs.lemmas.Bool.{eqb-true}
 use Rattle.std.proofs.lemmas.List.Quantifiers.{position-Some}
 use Rattle.message_view.specs.declared.refusal.Refusal.{Refusal}
 use Rattle.message_view.specs.declared.refusal.Refusal.TheVariants.{ShuttingDown, WaitedTooLong}
-use Rattle.book_lists.specs.Book.{Book, Client, Link, Ticket, is_link, is_of, latest_of, waiting_before, without, without_ticket}
-use Rattle.book_lists.specs.Outcomes.{Answer, grants, has_waited, lends, loses_ticket, starts, takes, waits}
-use Rattle.book_lists.specs.declared.events.Reply.{Reply}
-use Rattle.book_lists.specs.declared.events.Reply.TheVariants.{Queued, Refuse, Stranger}
+use Rattle.book_model.specs.Book.{Book, Client, Link, Ticket, is_link, is_of, latest_of, waiting_before, without, without_ticket}
+use Rattle.book_model.specs.Outcomes.{Answer, grants, has_waited, lends, loses_ticket, starts, takes, waits}
+use Rattle.book_model.specs.declared.events.Reply.{Reply}
+use Rattle.book_model.specs.declared.events.Reply.TheVariants.{Queued, Refuse, Stranger}
 use Rattle.book_register.specs.Choices.{Chooses, Gives}
 use Rattle.book_register.specs.declared.board.Choice.TheVariants.{Lend, Start, Evict, Wait}
-use Rattle.book_order.specs.Kept.{KeptClients, KeptLinks}
+use Rattle.book_model.specs.Kept.{KeptClients, KeptLinks}
 use Rattle.book_rows.proofs.Places.{at_place, found, get_is, not_found}
 
 pub one_ticket : (clients : List Client) (tickets : List Ticket) (next : ℕ) → KeptClients clients tickets next → (n : ℕ) → count_by (is_of n) tickets ≤ 1

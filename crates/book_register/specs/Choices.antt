@@ -1,8 +1,8 @@
 -- What the first ticket of a pool is answered, links by their places among the idle ones.
 use Rattle.std.specs.Prelude.{◌≡◌, ◌<◌, ℕ, suc, Option, Some, None, length, slice_get}
-use Rattle.book_lists.specs.Book.{Book, Link, Ticket, latest_of, without}
-use Rattle.book_lists.specs.Outcomes.{Answer, grants, lends, starts, waits}
-use Rattle.book_lists.specs.declared.events.Reply.{Reply}
+use Rattle.book_model.specs.Book.{Book, Link, Ticket, latest_of, without}
+use Rattle.book_model.specs.Outcomes.{Answer, grants, lends, starts, waits}
+use Rattle.book_model.specs.declared.events.Reply.{Reply}
 use Rattle.book_register.specs.declared.board.Choice.{Choice}
 use Rattle.book_register.specs.declared.board.Choice.TheVariants.{Lend, Start, Evict, Wait}
 

@@ -1,6 +1,6 @@
 -- The book that a register begins with.
 use Rattle.std.specs.Prelude.{ℕ}
-use Rattle.book_lists.specs.Book.{Book, Limits, empty_book, no_counts}
+use Rattle.book_model.specs.Book.{Book, Limits, empty_book, no_counts}
 
 -- an empty book after so many decisions, which are told as Ticks
 abbrev pub counted_book : Limits → ℕ → Book

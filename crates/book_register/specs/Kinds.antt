@@ -1,11 +1,11 @@
 -- The kinds that an event may be of, by its replies.
 use Rattle.std.specs.Prelude.{Option}
 use Rattle.message_view.specs.declared.refusal.Refusal.TheVariants.{ShuttingDown}
-use Rattle.book_lists.specs.Book.{Book}
-use Rattle.book_lists.specs.Outcomes.{Event, kind_of}
-use Rattle.book_lists.specs.declared.counts.Kind.{Kind}
-use Rattle.book_lists.specs.declared.events.Reply.{Reply}
-use Rattle.book_lists.specs.declared.events.Reply.TheVariants.{Queued, Refuse, Done, Stranger}
+use Rattle.book_model.specs.Book.{Book}
+use Rattle.book_model.specs.Outcomes.{Event, kind_of}
+use Rattle.book_model.specs.declared.counts.Kind.{Kind}
+use Rattle.book_model.specs.declared.events.Reply.{Reply}
+use Rattle.book_model.specs.declared.events.Reply.TheVariants.{Queued, Refuse, Done, Stranger}
 use Rattle.book_register.specs.declared.deciding.Kinds.{Kinds}
 
 -- any refusal, any number in the queue, and any other reply give one kind each

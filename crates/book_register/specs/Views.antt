@@ -1,8 +1,8 @@
 -- What a book shows of itself.
 use Rattle.std.specs.Prelude.{ℕ, Bool, List, Option, None, Some, not, take, slice_get}
 use Rattle.std.specs.List.{list_any}
-use Rattle.book_lists.specs.Book.{Book, Client, Limits, Link, Ticket, same_pool}
-use Rattle.book_lists.specs.declared.counts.Counts.{Counts}
+use Rattle.book_model.specs.Book.{Book, Client, Limits, Link, Ticket, same_pool}
+use Rattle.book_model.specs.declared.counts.Counts.{Counts}
 use Rattle.book_register.specs.declared.view.Waiting.{Waiting}
 
 -- all but the numbers that come next

@@ -3,17 +3,17 @@ ghost use Rattle.std.specs.Prelude.{◌≡◌, ◌<◌, ◌≤◌, suc, ◌+◌,
 ghost use Rattle.std.specs.Arc.{arc_value};
 ghost use Rattle.std.specs.List.{list_any};
 ghost use Rattle.start_keys.specs.Keys.{same_key};
-ghost use Rattle.book_lists.specs.Book as book;
-ghost use Rattle.book_lists.specs.Book.{Ticket as TicketRow};
-ghost use Rattle.book_lists.specs.Outcomes as outcome;
-ghost use Rattle.book_lists.specs.declared.events.Reply.TheVariants.{Done, Refuse};
-ghost use Rattle.book_lists.specs.declared.limits.TheConstants.{MOST_LINKS};
+ghost use Rattle.book_model.specs.Book as book;
+ghost use Rattle.book_model.specs.Book.{Ticket as TicketRow};
+ghost use Rattle.book_model.specs.Outcomes as outcome;
+ghost use Rattle.book_model.specs.declared.events.Reply.TheVariants.{Done, Refuse};
+ghost use Rattle.book_model.specs.declared.limits.TheConstants.{MOST_LINKS};
 ghost use Rattle.book_register.specs.Choices.{Chooses, Gives, eviction_of};
-ghost use Rattle.book_order.specs.Kept.{Kept};
+ghost use Rattle.book_model.specs.Kept.{Kept};
 
-use book_lists::counts::Counts;
-use book_lists::events::{ClientState, Event, Reply};
-use book_lists::limits::Limits;
+use book_model::counts::Counts;
+use book_model::events::{ClientState, Event, Reply};
+use book_model::limits::Limits;
 use book_rows::clients::{Client, Clients};
 use book_rows::links::{Link, Links};
 use book_rows::pools::PoolKey;
@@ -43,7 +43,6 @@ pub struct Board {
     pub losses: u64,
 }
 
-/// A drop of its own is proved here once, and not wherever one is held.
 impl Drop for Board {
     fn drop(self) {
         let Board {
@@ -70,7 +69,7 @@ impl Drop for Board {
 impl Model for Board {
     ghost use Rattle.std.specs.Prelude.{suc};
     ghost use Rattle.std.specs.Arc.{arc_value};
-    ghost use Rattle.book_lists.specs.Book.{Book};
+    ghost use Rattle.book_model.specs.Book.{Book};
 
     ghost Value = { Book };
 

@@ -1,15 +1,15 @@
 //! What an event makes of the lists, its reply, and how it is counted.
 ghost use Rattle.std.specs.Prelude.{◌≡◌, ◌<◌, Some, None, cond, false};
-ghost use Rattle.book_lists.specs.Events.{event_of};
-ghost use Rattle.book_lists.specs.Outcomes as outcome;
+ghost use Rattle.book_model.specs.Events.{event_of};
+ghost use Rattle.book_model.specs.Outcomes as outcome;
 ghost use Rattle.book_register.specs.Choices.{Gives};
-ghost use Rattle.book_lists.specs.declared.counts.Kind.TheVariants.{Ticking};
+ghost use Rattle.book_model.specs.declared.counts.Kind.TheVariants.{Ticking};
 ghost use Rattle.book_register.specs.Kinds.{kind_in, kinds_of};
-ghost use Rattle.book_order.specs.Kept.{Kept, total};
+ghost use Rattle.book_model.specs.Kept.{Kept, total};
 
 use crate::board::Board;
-use book_lists::counts::{Counts, Kind};
-use book_lists::events::{Event, Reply};
+use book_model::counts::{Counts, Kind};
+use book_model::events::{Event, Reply};
 use message_view::Refusal;
 
 /// The kinds that an event may be of, by its replies; none, where it changed nothing.

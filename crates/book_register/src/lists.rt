@@ -1,18 +1,18 @@
 //! The lists of the lease book, in order from their making on.
 ghost use Rattle.std.specs.Prelude.{◌≡◌, IfOk, find};
 ghost use Rattle.std.specs.Arc.{arc_value};
-ghost use Rattle.book_lists.specs.Book.{empty_book, is_link, no_counts};
-ghost use Rattle.book_lists.specs.Events.{event_of};
-ghost use Rattle.book_lists.specs.Outcomes.{apply, is_started_as};
+ghost use Rattle.book_model.specs.Book.{empty_book, is_link, no_counts};
+ghost use Rattle.book_model.specs.Events.{event_of};
+ghost use Rattle.book_model.specs.Outcomes.{apply, is_started_as};
 ghost use Rattle.book_register.specs.Counted.{counted_book};
 ghost use Rattle.book_register.specs.Views.{view_of, waiting_at};
-ghost use Rattle.book_order.specs.Kept.{FitsLimits, Kept, KeptLimits};
+ghost use Rattle.book_model.specs.Kept.{FitsLimits, Kept, KeptLimits};
 
 use crate::board::Board;
 use crate::view::{BookView, Waiting};
-use book_lists::counts::Counts;
-use book_lists::events::{Event, Reply};
-use book_lists::limits::Limits;
+use book_model::counts::Counts;
+use book_model::events::{Event, Reply};
+use book_model::limits::Limits;
 use book_rows::clients::Clients;
 use book_rows::links::Links;
 use book_rows::tickets::Tickets;
@@ -26,7 +26,6 @@ pub struct Lists {
     board: Board,
 }
 
-/// A drop of its own is proved here once, and not wherever one is held.
 impl Drop for Lists {
     fn drop(self) {
         let Lists { board: _ } = self;
@@ -34,8 +33,8 @@ impl Drop for Lists {
 }
 
 impl Model for Lists {
-    ghost use Rattle.book_lists.specs.Book.{Book};
-    ghost use Rattle.book_order.specs.Kept.{Kept};
+    ghost use Rattle.book_model.specs.Book.{Book};
+    ghost use Rattle.book_model.specs.Kept.{Kept};
 
     ghost Value = { Book };
 

@@ -3,8 +3,8 @@ ghost use Rattle.std.specs.Prelude.{◌≡◌, IfOk};
 ghost use Rattle.book_register.specs.Views.{view_of, waiting_at};
 
 use crate::board::Board;
-use book_lists::counts::Counts;
-use book_lists::limits::Limits;
+use book_model::counts::Counts;
+use book_model::limits::Limits;
 use book_rows::clients::Client;
 use book_rows::links::Link;
 use book_rows::tickets::Ticket;
@@ -42,7 +42,6 @@ pub struct BookView {
     pub losses: u64,
 }
 
-/// A drop of its own is proved here once, and not wherever one is held.
 impl Drop for BookView {
     fn drop(self) {
         let BookView {

@@ -2,19 +2,17 @@
 use Rattle.std.proofs.Common.{◌≡◌, ℕ, List, Bool, true, false, ◌&&◌, ◌==◌, refl, sym, ap, ◌∙◌, eq-eqb}
 use Rattle.std.specs.Prelude.{bytes_eq}
 use Rattle.std.proofs.lemmas.Slice.Eq.{bytes_eq-Decides}
+use Rattle.std.proofs.lemmas.Bool.{true≢false}
 use Rattle.session_values.specs.State.{StartKeyOf}
-use Rattle.book_lists.specs.Book.{same_pool}
+use Rattle.book_model.specs.Book.{same_pool}
 use Rattle.book_rows.specs.Marks.{mark, mark_of}
 
 pub unlike : (a b : StartKeyOf) → (mark_of a == mark_of b) ≡ false → false ≡ same_pool a b
 unlike a b e = go (bytes_eq a.row b.row) (bytes_eq a.user b.user) refl refl
   where
-    clash : true ≡ false → ⊥
-    clash f = cc
-
     go : (r u : Bool) → bytes_eq a.row b.row ≡ r → bytes_eq a.user b.user ≡ u → false ≡ (r && u)
     go true true p q =
         let same : mark_of a ≡ mark_of b = ap (λ (row : List ℕ). mark row a.user) ((bytes_eq-Decides a.row b.row).0 p) ∙ ap (λ (user : List ℕ). mark b.row user) ((bytes_eq-Decides a.user b.user).0 q) in
-        absurd (clash (sym (eq-eqb (mark_of a) (mark_of b) same) ∙ e))
+        absurd (true≢false (sym (eq-eqb (mark_of a) (mark_of b) same) ∙ e))
     go true false p q = refl
     go false u p q = refl

@@ -10,8 +10,9 @@ use Rattle.std.proofs.lemmas.Bool.Decides.{nat_tests}
 use Rattle.std.proofs.lemmas.Grind.{common_steps}
 use Rattle.session_values.specs.State.{StartKeyOf}
 use Rattle.std.proofs.lemmas.List.Folds.{find_at}
-use Rattle.book_lists.specs.Outcomes.{is_started_as}
-use Rattle.book_lists.specs.Book.{Link, Ticket, find_last, is_link, is_of, or_else, same_pool, waiting_before}
+use Rattle.std.proofs.lemmas.Bool.{false≢true}
+use Rattle.book_model.specs.Outcomes.{is_started_as}
+use Rattle.book_model.specs.Book.{Link, Ticket, find_last, is_link, is_of, or_else, same_pool, waiting_before}
 use Rattle.book_rows.specs.Places.{IsLast, passes}
 
 -- ---- counts
@@ -153,10 +154,7 @@ last_goes_on p xs i d h e = subst (λ ys. IsLast p ys (Some i)) (sym (more_taken
 -- ---- one row that passes
 
 counts : {A : Type 0} (p : A → Bool) (xs : List A) (i : ℕ) → passes p (slice_get xs i) ≡ true → 1 ≤ count_by p xs
-counts p [] i e = absurd (none e)
-  where
-    none : false ≡ true → ⊥
-    none f = cc
+counts p [] i e = absurd (false≢true e)
 counts p (x ∷ xs) zero e = omega (arith, count-cons p x xs, subst (λ (b : Bool). count_by p (x ∷ xs) ≡ one b + count_by p xs) e (count-cons p x xs))
 counts p (x ∷ xs) (suc i) e = omega (arith, count-cons p x xs, counts p xs i e)
 
@@ -167,10 +165,7 @@ prefix_none p (x ∷ xs) h =
     ap (λ (b : Bool). cond (not b) (1 + position_or_len p xs) 0) at.0 ∙ (ap (λ (n : ℕ). 1 + n) (prefix_none p xs at.1) ∙ (omega arith))
 
 prefix_one : {A : Type 0} (p : A → Bool) (xs : List A) (i : ℕ) → passes p (slice_get xs i) ≡ true → count_by p xs ≤ 1 → (i < length xs) × (position_or_len p xs ≡ i)
-prefix_one p [] i e o = absurd (go e)
-  where
-    go : false ≡ true → ⊥
-    go f = cc
+prefix_one p [] i e o = absurd (false≢true e)
 prefix_one p (x ∷ xs) zero e o = (omega arith, ap (λ (b : Bool). cond (not b) (1 + position_or_len p xs) 0) e)
 prefix_one p (x ∷ xs) (suc i) e o =
     let there : 1 ≤ count_by p xs = counts p xs i e in

@@ -1,6 +1,6 @@
 -- Places in a list.
 use Rattle.std.specs.Prelude.{◌≡◌, ◌<◌, ◌≤◌, ℕ, Bool, false, List, Option, Some, None, count_by, length, slice_get}
-use Rattle.book_lists.specs.Book.{find_last}
+use Rattle.book_model.specs.Book.{find_last}
 
 -- something is there, and passes
 abbrev pub passes : {A : Type 0} → (A → Bool) → Option A → Bool

@@ -1,13 +1,13 @@
 //! The clients that are there.
 ghost use Rattle.std.specs.Prelude.{◌≡◌, ◌<◌, ◌≤◌, ◌++◌, ◌∷◌, [], ℕ, IfOk, count_by, length, position, slice_get};
 ghost use Rattle.std.specs.List.{list_any};
-ghost use Rattle.book_lists.specs.Book as book;
-ghost use Rattle.book_lists.specs.Outcomes.{in_state};
-ghost use Rattle.book_lists.specs.declared.limits.TheConstants.{MOST_CLIENTS};
+ghost use Rattle.book_model.specs.Book as book;
+ghost use Rattle.book_model.specs.Outcomes.{in_state};
+ghost use Rattle.book_model.specs.declared.limits.TheConstants.{MOST_CLIENTS};
 ghost use Rattle.book_rows.specs.Places.{passes};
 
-use book_lists::events::ClientState;
-use book_lists::limits::MOST_CLIENTS;
+use book_model::events::ClientState;
+use book_model::limits::MOST_CLIENTS;
 use std::alloc::{AllocError, Global};
 use std::collections::VecDeque;
 use std::marker::Model;
@@ -20,7 +20,7 @@ pub struct Client {
 }
 
 impl Model for Client {
-    ghost use Rattle.book_lists.specs.Book.{Client as ClientRow};
+    ghost use Rattle.book_model.specs.Book.{Client as ClientRow};
 
     ghost Value = { ClientRow };
 
@@ -41,7 +41,6 @@ pub struct Clients {
     rows: VecDeque<Client>,
 }
 
-/// A drop of its own is proved here once, and not wherever one is held.
 impl Drop for Clients {
     fn drop(self) {
         let Clients { rows: _ } = self;
@@ -51,8 +50,8 @@ impl Drop for Clients {
 impl Model for Clients {
     ghost use Rattle.std.specs.Prelude.{◌≤◌, List};
     ghost use Rattle.std.specs.VecDeque.{deque_capacity};
-    ghost use Rattle.book_lists.specs.Book.{Client as ClientRow};
-    ghost use Rattle.book_lists.specs.declared.limits.TheConstants.{MOST_CLIENTS};
+    ghost use Rattle.book_model.specs.Book.{Client as ClientRow};
+    ghost use Rattle.book_model.specs.declared.limits.TheConstants.{MOST_CLIENTS};
 
     ghost Value = { List ClientRow };
 

@@ -2,13 +2,13 @@
 ghost use Rattle.std.specs.Prelude.{◌≡◌, ◌<◌, ◌≤◌, ◌^◌, ◌++◌, ◌∷◌, [], ℕ, true, Some, IfOk, count_by, find, length, position, slice_get, slice_index_or};
 ghost use Rattle.std.specs.List.{list_any};
 ghost use Rattle.start_keys.specs.Keys.{same_key};
-ghost use Rattle.book_lists.specs.Book as book;
-ghost use Rattle.book_lists.specs.Outcomes.{is_started_as};
-ghost use Rattle.book_lists.specs.declared.limits.TheConstants.{MOST_LINKS};
+ghost use Rattle.book_model.specs.Book as book;
+ghost use Rattle.book_model.specs.Outcomes.{is_started_as};
+ghost use Rattle.book_model.specs.declared.limits.TheConstants.{MOST_LINKS};
 ghost use Rattle.book_rows.specs.Places.{IsLast};
 
 use crate::pools::PoolKey;
-use book_lists::limits::MOST_LINKS;
+use book_model::limits::MOST_LINKS;
 use start_keys::StartKey;
 use std::alloc::{AllocError, Global};
 use std::marker::Model;
@@ -23,7 +23,7 @@ pub struct Link {
 }
 
 impl Model for Link {
-    ghost use Rattle.book_lists.specs.Book.{Link as LinkRow};
+    ghost use Rattle.book_model.specs.Book.{Link as LinkRow};
 
     ghost Value = { LinkRow };
 
@@ -65,7 +65,6 @@ pub struct Links {
     rows: Vec<Link>,
 }
 
-/// A drop of its own is proved here once, and not wherever one is held.
 impl Drop for Links {
     fn drop(self) {
         let Links { rows: _ } = self;
@@ -74,8 +73,8 @@ impl Drop for Links {
 
 impl Model for Links {
     ghost use Rattle.std.specs.Prelude.{◌≤◌, List, vec_capacity};
-    ghost use Rattle.book_lists.specs.Book.{Link as LinkRow};
-    ghost use Rattle.book_lists.specs.declared.limits.TheConstants.{MOST_LINKS};
+    ghost use Rattle.book_model.specs.Book.{Link as LinkRow};
+    ghost use Rattle.book_model.specs.declared.limits.TheConstants.{MOST_LINKS};
 
     ghost Value = { List LinkRow };
 

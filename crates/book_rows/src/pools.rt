@@ -2,7 +2,7 @@
 ghost use Rattle.std.specs.Prelude.{◌≡◌};
 ghost use Rattle.std.specs.Arc.{arc_value};
 ghost use Rattle.start_keys.specs.Keys.{same_key};
-ghost use Rattle.book_lists.specs.Book as book;
+ghost use Rattle.book_model.specs.Book as book;
 ghost use Rattle.book_rows.specs.Marks.{mark_of};
 
 use start_keys::StartKey;
@@ -34,7 +34,6 @@ pub struct PoolKey {
     mark: u64,
 }
 
-/// A drop of its own is proved here once, and not wherever one is held.
 impl Drop for PoolKey {
     fn drop(self) {
         let PoolKey { key: _, mark: _ } = self;

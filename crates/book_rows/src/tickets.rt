@@ -1,12 +1,12 @@
 //! The tickets of the clients that wait.
 ghost use Rattle.std.specs.Prelude.{◌≡◌, ◌<◌, ◌≤◌, ◌++◌, ◌∷◌, [], ℕ, None, Some, IfOk, MatchOption, count_by, length, position, slice_get, slice_index_or, take};
 ghost use Rattle.std.specs.List.{list_any};
-ghost use Rattle.book_lists.specs.Book as book;
-ghost use Rattle.book_lists.specs.declared.limits.TheConstants.{MOST_CLIENTS};
+ghost use Rattle.book_model.specs.Book as book;
+ghost use Rattle.book_model.specs.declared.limits.TheConstants.{MOST_CLIENTS};
 ghost use Rattle.book_rows.specs.Places.{passes};
 
 use crate::pools::PoolKey;
-use book_lists::limits::MOST_CLIENTS;
+use book_model::limits::MOST_CLIENTS;
 use std::alloc::{AllocError, Global};
 use std::collections::VecDeque;
 use std::marker::Model;
@@ -20,7 +20,7 @@ pub struct Ticket {
 }
 
 impl Model for Ticket {
-    ghost use Rattle.book_lists.specs.Book.{Ticket as TicketRow};
+    ghost use Rattle.book_model.specs.Book.{Ticket as TicketRow};
 
     ghost Value = { TicketRow };
 
@@ -48,7 +48,6 @@ pub struct Tickets {
     rows: VecDeque<Ticket>,
 }
 
-/// A drop of its own is proved here once, and not wherever one is held.
 impl Drop for Tickets {
     fn drop(self) {
         let Tickets { rows: _ } = self;
@@ -58,8 +57,8 @@ impl Drop for Tickets {
 impl Model for Tickets {
     ghost use Rattle.std.specs.Prelude.{◌≤◌, List};
     ghost use Rattle.std.specs.VecDeque.{deque_capacity};
-    ghost use Rattle.book_lists.specs.Book.{Ticket as TicketRow};
-    ghost use Rattle.book_lists.specs.declared.limits.TheConstants.{MOST_CLIENTS};
+    ghost use Rattle.book_model.specs.Book.{Ticket as TicketRow};
+    ghost use Rattle.book_model.specs.declared.limits.TheConstants.{MOST_CLIENTS};
 
     ghost Value = { List TicketRow };
 

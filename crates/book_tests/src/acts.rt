@@ -3,7 +3,7 @@ ghost use Rattle.lease_book.specs.Links.{IsTwice};
 
 use crate::book_parts::{Settings, Whose, key_of, limits, link};
 use crate::gone::Gone;
-use book_lists::events::ClientState;
+use book_model::events::ClientState;
 use book_register::view::Waiting;
 use book_rows::clients::Client;
 use lease_book::book::Book;

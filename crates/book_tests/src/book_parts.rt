@@ -1,6 +1,6 @@
 //! Keys, limits and links of the tests.
 use crate::gone::Gone;
-use book_lists::limits::Limits;
+use book_model::limits::Limits;
 use link_run::links::{CleanLink, Lent};
 use param_track::Reported;
 use session_values::text::Text;

@@ -2,7 +2,7 @@
 ghost use Rattle.std.specs.Prelude.{◌≡◌, IfOk, false};
 
 use crate::gone::Gone;
-use book_lists::limits::{Limits, MOST_CLIENTS};
+use book_model::limits::{Limits, MOST_CLIENTS};
 use ini_config::DbRow;
 use link_run::links::{CleanLink, Lent};
 use param_track::Reported;

@@ -1,7 +1,7 @@
 //! What a book keeps and shows of itself.
 use crate::acts::{Act, Story, Told, surprise};
 use crate::book_parts::{Settings, Whose};
-use book_lists::events::ClientState;
+use book_model::events::ClientState;
 use book_register::view::Waiting;
 use message_view::Refusal;
 use std::test::Fail;

@@ -36,7 +36,6 @@ pub struct Shares<A: Ledger, G: Ledger, B: Ledger, L: Ledger, W: Ledger, O: Ledg
     pub(crate) others: Share<O>,
 }
 
-/// A drop of its own is proved here once, and not wherever one is held.
 impl<A: Ledger, G: Ledger, B: Ledger, L: Ledger, W: Ledger, O: Ledger> Drop
     for Shares<A, G, B, L, W, O> {
     fn drop(self) {
@@ -74,7 +73,6 @@ pub struct Pass<A: Ledger, G: Ledger, B: Ledger, L: Ledger, W: Ledger, O: Ledger
     pub(crate) shares: Shares<A, G, B, L, W, O>,
 }
 
-/// A drop of its own is proved here once, and not wherever one is held.
 impl<A: Ledger, G: Ledger, B: Ledger, L: Ledger, W: Ledger, O: Ledger> Drop
     for Pass<A, G, B, L, W, O> {
     fn drop(self) {

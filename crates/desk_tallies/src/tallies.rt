@@ -63,7 +63,6 @@ pub struct Tallies<A: Ledger, G: Ledger, B: Ledger, L: Ledger, W: Ledger, O: Led
     others: Tally<O>,
 }
 
-/// A drop of its own is proved here once, and not wherever one is held.
 impl<A: Ledger, G: Ledger, B: Ledger, L: Ledger, W: Ledger, O: Ledger> Drop
     for Tallies<A, G, B, L, W, O> {
     fn drop(self) {

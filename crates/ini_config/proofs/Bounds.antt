@@ -4,6 +4,7 @@ use Rattle.std.specs.Prelude.{not, ◌&&◌, ◌||◌, ◌==◌, nat_le, length,
 use Rattle.std.specs.List.{AllByRecursion, list_any, list_all}
 use Rattle.std.specs.Char.{is_ascii_digit}
 use Rattle.std.proofs.lemmas.Bool.{false≢true, leb-true}
+use Rattle.std.proofs.lemmas.Option.{none-some, same_Some}
 use Rattle.ini_config.specs.Bounds.{IsWithin, IsCount, IsTime, IsSize, IsServedRow, AreWithinBounds, ReadSettingsAreWithinBounds}
 use Rattle.ini_config.specs.Values.{within, number_between, digits_value, address, split_at_first, parts}
 use Rattle.ini_config.specs.DatabaseValues.{RowValues, with_item, with_text, with_texts, nothing_said, values_in, is_refused, is_database, row_with, row_of}
@@ -19,15 +20,6 @@ use Rattle.ini_config.specs.declared.option_values.Settings.{Settings}
 use Rattle.ini_config.specs.declared.reading.Reading.{Reading}
 use Rattle.text_lines.specs.Files.{said_by}
 
-some_one : {A : Type 0} {a b : A} → ◌≡◌ {A = Option A} (Some a) (Some b) → a ≡ b
-some_one e = cc
-
-none_some : {A B : Type 0} {b : B} → ◌≡◌ {A = Option B} None (Some b) → A
-none_some {A} {B} {b} e = absurd (go e)
-  where
-    go : ◌≡◌ {A = Option B} None (Some b) → ⊥
-    go e = cc
-
 -- ---- numbers
 
 both : (a b : Bool) → (a && b) ≡ true → (a ≡ true) × (b ≡ true)
@@ -38,8 +30,8 @@ within-is : (low high n m : ℕ) → within low high n ≡ Some m → IsWithin l
 within-is low high n m e = go (nat_le low n && nat_le n high) refl e
   where
     go : (b : Bool) → (nat_le low n && nat_le n high) ≡ b → cond b (Some n) None ≡ Some m → IsWithin low high m
-    go true h k = let p = both (nat_le low n) (nat_le n high) h in subst (IsWithin low high) (some_one k) (leb-true low n p.0, leb-true n high p.1)
-    go false h k = none_some k
+    go true h k = let p = both (nat_le low n) (nat_le n high) h in subst (IsWithin low high) (same_Some _ _ k) (leb-true low n p.0, leb-true n high p.1)
+    go false h k = absurd (none-some _ k)
 
 number-within : (low high : ℕ) (text : List ℕ) (m : ℕ) → number_between low high text ≡ Some m → IsWithin low high m
 unfolding number_between
@@ -47,7 +39,7 @@ number-within low high text m e = go (not (length text == 0) && list_all is_asci
   where
     go : (b : Bool) → cond b (within low high (digits_value text)) None ≡ Some m → IsWithin low high m
     go true k = within-is low high (digits_value text) m k
-    go false k = none_some k
+    go false k = absurd (none-some _ k)
 
 -- ---- rows of [databases]
 
@@ -60,7 +52,7 @@ OrNone None = Unit {0}
 OrNone (Some r) = AreValues r
 
 none-said : AreValues nothing_said
-none-said = record { port = λ n e. none_some e; size = λ n e. none_some e }
+none-said = record { port = λ n e. absurd (none-some _ e); size = λ n e. absurd (none-some _ e) }
 
 item-values : (r : RowValues) (name value : List ℕ) → AreValues r → OrNone (with_item r name value)
 item-values r name value h =
@@ -79,11 +71,11 @@ item-values r name value h =
 
     port : (o : Option ℕ) → ((m : ℕ) → o ≡ Some m → IsWithin 1 65535 m) → OrNone (option_map (λ n. record r { port = Some n }) o)
     port None k = tt
-    port (Some p) k = record { port = λ n e. subst (IsWithin 1 65535) (some_one e) (k p refl); size = h.size }
+    port (Some p) k = record { port = λ n e. subst (IsWithin 1 65535) (same_Some _ _ e) (k p refl); size = h.size }
 
     size : (o : Option ℕ) → ((m : ℕ) → o ≡ Some m → IsCount m) → OrNone (option_map (λ n. record r { pool_size = Some n }) o)
     size None k = tt
-    size (Some p) k = record { port = h.port; size = λ n e. subst IsCount (some_one e) (k p refl) }
+    size (Some p) k = record { port = h.port; size = λ n e. subst IsCount (same_Some _ _ e) (k p refl) }
 
 text-values : (r : RowValues) (item : List ℕ) → AreValues r → OrNone (with_text r item)
 text-values r item h = go (length item == 0) (split_at_first 61 item)

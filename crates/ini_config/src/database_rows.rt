@@ -20,7 +20,6 @@ pub struct DbRow {
     pub pool_size: Option<u32>,
 }
 
-/// A drop of its own is proved here once, and not wherever one is held.
 impl Drop for DbRow {
     fn drop(self) {
         let DbRow {

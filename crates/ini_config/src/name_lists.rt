@@ -14,7 +14,6 @@ pub struct Names {
     list: Vec<Text>,
 }
 
-/// A drop of its own is proved here once, and not wherever one is held.
 impl Drop for Names {
     fn drop(self) {
         let Names { list: _ } = self;

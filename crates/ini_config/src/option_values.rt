@@ -40,7 +40,6 @@ pub struct Settings {
     pub track_extra_parameters: Names,
 }
 
-/// A drop of its own is proved here once, and not wherever one is held.
 impl Drop for Settings {
     fn drop(self) {
         let Settings {

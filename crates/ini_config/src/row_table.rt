@@ -12,7 +12,6 @@ pub struct Rows {
     by_name: IndexMap<Vec<u8>, DbRow>,
 }
 
-/// A drop of its own is proved here once, and not wherever one is held.
 impl Drop for Rows {
     fn drop(self) {
         let Rows { by_name: _ } = self;

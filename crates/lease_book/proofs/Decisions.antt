@@ -4,14 +4,14 @@ use Rattle.std.specs.Prelude.{find, not, ◌==◌, ◌&&◌, ◌||◌, nat_lt}
 use Rattle.std.proofs.lemmas.Bool.{le-ltb, lt-ltb}
 use Rattle.message_view.specs.declared.refusal.Refusal.{Refusal}
 use Rattle.message_view.specs.declared.refusal.Refusal.TheVariants.{TooManyClients, WaitedTooLong, ShuttingDown, LastDecision}
-use Rattle.book_lists.specs.Book.{Book, Link, Ticket, in_pool, latest_of, link_count, pool_count, pool_size, is_of, is_link, waiting_before}
-use Rattle.book_lists.specs.Outcomes.{Answer, Event, apply, outcome, decided, counted, is_strange, kind_of, last_decision, loses_ticket, evicts, grants, has_waited, takes, is_old, is_crowded, gives_back, closes, at_clock, is_stale}
-use Rattle.book_lists.specs.Outcomes.Event.{Arrive, Ask, Take, GiveBack, Lost, StartFailed, Leave, Tick, NewLimits, Pause, Resume, Shutdown}
-use Rattle.book_lists.specs.declared.counts.Kind.{Kind}
-use Rattle.book_lists.specs.declared.counts.Kind.TheVariants.{Ticking}
-use Rattle.book_lists.specs.declared.events.Reply.{Reply}
-use Rattle.book_lists.specs.declared.events.Reply.TheVariants.{Queued, Refuse, Stranger}
-use Rattle.book_lists.specs.Replay.{is_decision, is_a_kind}
+use Rattle.book_model.specs.Book.{Book, Link, Ticket, in_pool, latest_of, link_count, pool_count, pool_size, is_of, is_link, waiting_before}
+use Rattle.book_model.specs.Outcomes.{Answer, Event, apply, outcome, decided, counted, is_strange, kind_of, last_decision, loses_ticket, evicts, grants, has_waited, takes, is_old, is_crowded, gives_back, closes, at_clock, is_stale}
+use Rattle.book_model.specs.Outcomes.Event.{Arrive, Ask, Take, GiveBack, Lost, StartFailed, Leave, Tick, NewLimits, Pause, Resume, Shutdown}
+use Rattle.book_model.specs.declared.counts.Kind.{Kind}
+use Rattle.book_model.specs.declared.counts.Kind.TheVariants.{Ticking}
+use Rattle.book_model.specs.declared.events.Reply.{Reply}
+use Rattle.book_model.specs.declared.events.Reply.TheVariants.{Queued, Refuse, Stranger}
+use Rattle.book_model.specs.Replay.{is_decision, is_a_kind}
 
 both : (Q : Answer → Type 0) (b : Bool) (x y : Answer) → Q x → Q y → Q (cond b x y)
 both Q true x y p q = p

@@ -6,13 +6,13 @@ use Rattle.std.proofs.lemmas.Bool.{eq-eqb}
 use Rattle.message_view.specs.declared.refusal.Refusal.{Refusal}
 use Rattle.message_view.specs.declared.refusal.Refusal.TheVariants.{TooManyClients, WaitedTooLong, ShuttingDown, LastDecision}
 use Rattle.start_keys.specs.Keys.{same_key}
-use Rattle.book_lists.specs.Book.{Book, Link, Ticket, find_last, in_pool, latest_of, link_count, or_else, pool_count, pool_size, is_of, is_link, same_pool, waiting_before, without}
-use Rattle.book_lists.specs.Outcomes.{Answer, Event, apply, in_state, outcome, decided, counted, is_strange, kind_of, last_decision, loses_ticket, starts, evicts, grants, has_waited, takes, closes, at_clock, is_stale}
-use Rattle.book_lists.specs.Outcomes.Event.{Arrive, Ask, Take, GiveBack, Lost, StartFailed, Leave, Tick, NewLimits, Pause, Resume, Shutdown}
-use Rattle.book_lists.specs.declared.counts.Kind.{Kind}
-use Rattle.book_lists.specs.declared.events.Reply.{Reply}
-use Rattle.book_lists.specs.declared.events.Reply.TheVariants.{Arrived, Queued, Refuse, Stranger}
-use Rattle.book_lists.specs.declared.events.ClientState.TheVariants.{LoggingIn, Waiting}
+use Rattle.book_model.specs.Book.{Book, Link, Ticket, find_last, in_pool, latest_of, link_count, or_else, pool_count, pool_size, is_of, is_link, same_pool, waiting_before, without}
+use Rattle.book_model.specs.Outcomes.{Answer, Event, apply, in_state, outcome, decided, counted, is_strange, kind_of, last_decision, loses_ticket, starts, evicts, grants, has_waited, takes, closes, at_clock, is_stale}
+use Rattle.book_model.specs.Outcomes.Event.{Arrive, Ask, Take, GiveBack, Lost, StartFailed, Leave, Tick, NewLimits, Pause, Resume, Shutdown}
+use Rattle.book_model.specs.declared.counts.Kind.{Kind}
+use Rattle.book_model.specs.declared.events.Reply.{Reply}
+use Rattle.book_model.specs.declared.events.Reply.TheVariants.{Arrived, Queued, Refuse, Stranger}
+use Rattle.book_model.specs.declared.events.ClientState.TheVariants.{LoggingIn, Waiting}
 use Rattle.lease_book.specs.Links.{goes_out, is_return}
 
 both : (Q : Answer → Type 0) (b : Bool) (x y : Answer) → Q x → Q y → Q (cond b x y)

@@ -4,10 +4,10 @@ use Rattle.std.specs.Prelude.{find, filter, not, ◌==◌, ◌||◌, count_by}
 use Rattle.std.specs.List.{list_any}
 use Rattle.std.proofs.lemmas.Bool.{eqb-true}
 use Rattle.link_run.specs.Links.{LinkView}
-use Rattle.book_lists.specs.Book.{Book, is_link}
-use Rattle.book_lists.specs.Outcomes.{Event, apply}
-use Rattle.book_lists.specs.declared.events.Reply.{Reply}
-use Rattle.book_order.specs.Kept.{Kept}
+use Rattle.book_model.specs.Book.{Book, is_link}
+use Rattle.book_model.specs.Outcomes.{Event, apply}
+use Rattle.book_model.specs.declared.events.Reply.{Reply}
+use Rattle.book_model.specs.Kept.{Kept}
 use Rattle.lease_book.specs.Links.{HoldsLinks, Started, found, goes_out, is_numbered, is_return, left, listed, number_of, started}
 use Rattle.lease_book.proofs.Going.{goes_apply, rest, there}
 use Rattle.lease_book.proofs.Links.{count-cons}

@@ -2,10 +2,10 @@
 use Rattle.std.proofs.Common.{◌≡◌, ℕ, suc, ◌+◌, ◌≤◌, ◌<◌, List, [], ◌∷◌, ◌++◌, Bool, true, false, cond, length, map, refl, sym, ap, ◌∙◌, subst, arith, length-append}
 use Rattle.std.proofs.lemmas.Bool.{le-ltb, lt-ltb, ltb-true}
 use Rattle.std.specs.Prelude.{◌&&◌, nat_lt, drop}
-use Rattle.book_lists.specs.Book.{Book}
-use Rattle.book_lists.specs.Outcomes.{Event, apply}
-use Rattle.book_lists.specs.declared.events.Reply.{Reply}
-use Rattle.book_lists.specs.Replay.{Decision, History, Replays, folded, is_decision, most_kept, noted, noted_of, replayed, replies}
+use Rattle.book_model.specs.Book.{Book}
+use Rattle.book_model.specs.Outcomes.{Event, apply}
+use Rattle.book_model.specs.declared.events.Reply.{Reply}
+use Rattle.book_model.specs.Replay.{Decision, History, Replays, folded, is_decision, most_kept, noted, noted_of, replayed, replies}
 use Rattle.lease_book.specs.Histories.{LeadsTo, are_decisions}
 use Rattle.lease_book.proofs.Decisions.{apply_raises, apply_stays, rises}
 

@@ -8,15 +8,15 @@ use Rattle.session_values.specs.State.{StartKeyOf}
 use Rattle.start_keys.specs.Keys.{same_key}
 use Rattle.start_keys.specs.SameKeys.{same_keys-one}
 use Rattle.link_run.specs.Links.{LinkView}
-use Rattle.book_lists.specs.Book.{Book, Link, is_link}
-use Rattle.book_lists.specs.declared.limits.TheConstants.{MOST_LINKS}
-use Rattle.book_lists.specs.Outcomes.{Answer, Event, apply, apply_return, outcome, decided, counted, gives_back, is_crowded, is_old, is_started_as, is_strange, kind_of, last_decision, loses}
-use Rattle.book_lists.specs.Outcomes.Event.{GiveBack}
-use Rattle.book_lists.specs.Replay.{History, is_a_kind, is_decision, noted, noted_of}
-use Rattle.book_lists.specs.declared.counts.Kind.{Kind}
-use Rattle.book_lists.specs.declared.events.Reply.{Reply}
-use Rattle.book_lists.specs.declared.events.Reply.TheVariants.{Close, Done, Refuse, Stranger}
-use Rattle.book_order.specs.Kept.{Kept}
+use Rattle.book_model.specs.Book.{Book, Link, is_link}
+use Rattle.book_model.specs.declared.limits.TheConstants.{MOST_LINKS}
+use Rattle.book_model.specs.Outcomes.{Answer, Event, apply, apply_return, outcome, decided, counted, gives_back, is_crowded, is_old, is_started_as, is_strange, kind_of, last_decision, loses}
+use Rattle.book_model.specs.Outcomes.Event.{GiveBack}
+use Rattle.book_model.specs.Replay.{History, is_a_kind, is_decision, noted, noted_of}
+use Rattle.book_model.specs.declared.counts.Kind.{Kind}
+use Rattle.book_model.specs.declared.events.Reply.{Reply}
+use Rattle.book_model.specs.declared.events.Reply.TheVariants.{Close, Done, Refuse, Stranger}
+use Rattle.book_model.specs.Kept.{Kept}
 use Rattle.lease_book.specs.Links.{HoldsLinks, Started, idle_with, handed_back, is_done, listed, may_hand_back, started}
 
 -- ---- the three ways

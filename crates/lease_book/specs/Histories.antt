@@ -1,8 +1,8 @@
 -- The lists with the decisions that led to them.
 use Rattle.std.specs.Prelude.{◌≡◌, ◌≤◌, Bool, true, List, [], ◌∷◌, ◌&&◌, length}
-use Rattle.book_lists.specs.Book.{Book}
-use Rattle.book_lists.specs.Outcomes.{apply}
-use Rattle.book_lists.specs.Replay.{Decision, History, Replays, is_decision, most_kept}
+use Rattle.book_model.specs.Book.{Book}
+use Rattle.book_model.specs.Outcomes.{apply}
+use Rattle.book_model.specs.Replay.{Decision, History, Replays, is_decision, most_kept}
 
 -- the lists, and what is kept of their history
 pub record RegisterView : Type 0 where

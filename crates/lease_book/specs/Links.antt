@@ -3,14 +3,14 @@ use Rattle.std.specs.Prelude.{◌≡◌, ℕ, Bool, true, false, List, [], ◌�
 use Rattle.std.specs.Arc.{arc_value}
 use Rattle.session_values.specs.State.{StartKeyOf}
 use Rattle.link_run.specs.Links.{LinkView}
-use Rattle.book_lists.specs.Book.{Book, Link, is_link}
-use Rattle.book_lists.specs.Outcomes.{Answer, apply, apply_return, is_started_as}
-use Rattle.book_lists.specs.Outcomes.{Event as ListsEvent}
-use Rattle.book_lists.specs.Outcomes.Event.{Arrive, Ask, Take, GiveBack, Lost, StartFailed, Leave, Tick, NewLimits, Pause, Resume, Shutdown}
-use Rattle.book_lists.specs.Replay.{History, noted_of}
-use Rattle.book_lists.specs.declared.events.Reply.{Reply as ListsReply}
-use Rattle.book_lists.specs.declared.events.Reply.TheVariants as told
-use Rattle.book_order.specs.Kept.{Kept}
+use Rattle.book_model.specs.Book.{Book, Link, is_link}
+use Rattle.book_model.specs.Outcomes.{Answer, apply, apply_return, is_started_as}
+use Rattle.book_model.specs.Outcomes.{Event as ListsEvent}
+use Rattle.book_model.specs.Outcomes.Event.{Arrive, Ask, Take, GiveBack, Lost, StartFailed, Leave, Tick, NewLimits, Pause, Resume, Shutdown}
+use Rattle.book_model.specs.Replay.{History, noted_of}
+use Rattle.book_model.specs.declared.events.Reply.{Reply as ListsReply}
+use Rattle.book_model.specs.declared.events.Reply.TheVariants as told
+use Rattle.book_model.specs.Kept.{Kept}
 use Rattle.lease_book.specs.declared.events.Event.{Event}
 use Rattle.lease_book.specs.declared.events.Event.TheVariants as event
 use Rattle.lease_book.specs.declared.events.Reply.{Reply}

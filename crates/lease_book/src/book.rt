@@ -1,22 +1,22 @@
 //! The lease book, with its idle links.
 ghost use Rattle.std.specs.Prelude.{find, ◌≡◌, ◌+◌, [], ◌∷◌, ◌++◌, IfOk, Some, cond, false, true, length};
 ghost use Rattle.std.specs.Arc.{arc_value};
-ghost use Rattle.book_lists.specs.Book.{empty_book, is_link};
-ghost use Rattle.book_lists.specs.Events.{event_of};
-ghost use Rattle.book_lists.specs.Outcomes.{apply, apply_return, is_started_as};
-ghost use Rattle.book_lists.specs.Outcomes.Event.{GiveBack};
-ghost use Rattle.book_order.specs.Kept.{total};
+ghost use Rattle.book_model.specs.Book.{empty_book, is_link};
+ghost use Rattle.book_model.specs.Events.{event_of};
+ghost use Rattle.book_model.specs.Outcomes.{apply, apply_return, is_started_as};
+ghost use Rattle.book_model.specs.Outcomes.Event.{GiveBack};
+ghost use Rattle.book_model.specs.Kept.{total};
 ghost use Rattle.book_register.specs.Counted.{counted_book};
 ghost use Rattle.book_register.specs.Views.{view_of, waiting_at};
-ghost use Rattle.book_lists.specs.Replay.{noted_of};
+ghost use Rattle.book_model.specs.Replay.{noted_of};
 ghost use Rattle.lease_book.specs.Links.{answered, brings_nothing, found, goes_out, handed, handed_after, handed_back, history_after, idle_after, idle_with, is_done, is_return, IsTwice, left, may_hand_back, number_of, plain, reply_of};
 
 use crate::events::{Event, Reply};
 use crate::history::Register;
 use crate::idle::IdleLinks;
-use book_lists::counts::Counts;
-use book_lists::events as lists;
-use book_lists::limits::Limits;
+use book_model::counts::Counts;
+use book_model::events as lists;
+use book_model::limits::Limits;
 use book_register::view::{BookView, Waiting};
 use link_run::links::CleanLink;
 use server_end::ServerEnd;
@@ -109,7 +109,6 @@ pub struct Book<E: ServerEnd> {
     idle: IdleLinks<E>,
 }
 
-/// A drop of its own is proved here once, and not wherever one is held.
 impl<E: ServerEnd> Drop for Book<E> {
     fn drop(self) {
         let Book {

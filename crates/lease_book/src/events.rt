@@ -1,5 +1,5 @@
 //! What can happen to the lease book, and what it answers, with the links themselves.
-use book_lists::limits::Limits;
+use book_model::limits::Limits;
 use link_run::links::CleanLink;
 use message_view::Refusal;
 use server_end::ServerEnd;

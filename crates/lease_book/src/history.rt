@@ -1,16 +1,16 @@
 //! The lists of the lease book with the decisions that led to them: the last 256 are kept, and the older ones are in the base.
 ghost use Rattle.std.specs.Prelude.{find, ◌≡◌, ◌+◌, [], IfOk, cond, length};
 ghost use Rattle.std.specs.Arc.{arc_value};
-ghost use Rattle.book_lists.specs.Book.{empty_book, is_link};
-ghost use Rattle.book_lists.specs.Events.{event_of};
-ghost use Rattle.book_lists.specs.Outcomes.{apply, apply_return, is_started_as};
-ghost use Rattle.book_lists.specs.Outcomes.Event.{GiveBack};
-ghost use Rattle.book_order.specs.Kept.{Kept};
+ghost use Rattle.book_model.specs.Book.{empty_book, is_link};
+ghost use Rattle.book_model.specs.Events.{event_of};
+ghost use Rattle.book_model.specs.Outcomes.{apply, apply_return, is_started_as};
+ghost use Rattle.book_model.specs.Outcomes.Event.{GiveBack};
+ghost use Rattle.book_model.specs.Kept.{Kept};
 ghost use Rattle.book_register.specs.Counted.{counted_book};
-ghost use Rattle.book_lists.specs.Replay.{noted, noted_of};
+ghost use Rattle.book_model.specs.Replay.{noted, noted_of};
 
-use book_lists::events::{Event, Reply};
-use book_lists::limits::Limits;
+use book_model::events::{Event, Reply};
+use book_model::limits::Limits;
 use book_register::lists::Lists;
 use circular_buffer::HeapCircularBuffer;
 use message_view::Refusal;
@@ -31,8 +31,8 @@ pub struct Decision {
 }
 
 impl Model for Decision {
-    ghost use Rattle.book_lists.specs.Events.{event_of};
-    ghost use Rattle.book_lists.specs.Replay.{Decision as DecisionOf};
+    ghost use Rattle.book_model.specs.Events.{event_of};
+    ghost use Rattle.book_model.specs.Replay.{Decision as DecisionOf};
 
     ghost Value = { DecisionOf };
 
@@ -45,7 +45,6 @@ pub struct History {
     kept: HeapCircularBuffer<Decision>,
 }
 
-/// A drop of its own is proved here once, and not wherever one is held.
 impl Drop for History {
     fn drop(self) {
         let History { base: _, kept: _ } = self;
@@ -54,7 +53,7 @@ impl Drop for History {
 
 impl Model for History {
     ghost use Rattle.std.specs.Prelude.{◌≡◌, ◌≤◌, length};
-    ghost use Rattle.book_lists.specs.Replay.{History as HistoryOf, most_kept};
+    ghost use Rattle.book_model.specs.Replay.{History as HistoryOf, most_kept};
 
     ghost Value = { HistoryOf };
 
@@ -88,7 +87,6 @@ pub struct Register {
     history: History,
 }
 
-/// A drop of its own is proved here once, and not wherever one is held.
 impl Drop for Register {
     fn drop(self) {
         let Register {

@@ -1,9 +1,9 @@
 //! The links that are idle, in the order of their return.
 ghost use Rattle.std.specs.Prelude.{◌≡◌, ℕ, ◌≤◌, ◌<◌, ◌++◌, ◌∷◌, [], IfOk, count_by, length, position};
-ghost use Rattle.book_lists.specs.declared.limits.TheConstants.{MOST_LINKS};
+ghost use Rattle.book_model.specs.declared.limits.TheConstants.{MOST_LINKS};
 ghost use Rattle.lease_book.specs.Links.{found, is_numbered, left};
 
-use book_lists::limits::MOST_LINKS;
+use book_model::limits::MOST_LINKS;
 use link_run::links::CleanLink;
 use server_end::ServerEnd;
 use std::alloc::{AllocError, Global};
@@ -14,7 +14,6 @@ pub struct IdleLinks<E: ServerEnd> {
     links: Vec<CleanLink<E>>,
 }
 
-/// A drop of its own is proved here once, and not wherever one is held.
 impl<E: ServerEnd> Drop for IdleLinks<E> {
     fn drop(self) {
         let IdleLinks { links: _ } = self;
@@ -23,7 +22,7 @@ impl<E: ServerEnd> Drop for IdleLinks<E> {
 
 impl<E: ServerEnd> Model for IdleLinks<E> {
     ghost use Rattle.std.specs.Prelude.{◌≤◌, List, vec_capacity};
-    ghost use Rattle.book_lists.specs.declared.limits.TheConstants.{MOST_LINKS};
+    ghost use Rattle.book_model.specs.declared.limits.TheConstants.{MOST_LINKS};
     ghost use Rattle.link_run.specs.Links.{LinkView};
 
     ghost Value = { List LinkView };

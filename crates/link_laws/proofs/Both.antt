@@ -6,7 +6,7 @@ use Rattle.std.proofs.Math.Seq.{drop-append_seam}
 use Rattle.std.specs.List.{flat_map}
 use Rattle.std.proofs.lemmas.Grind.{flat_map-append}
 use Rattle.frame_view.specs.Frames.{FrameOf, spelling}
-use Rattle.run_laws.specs.Step.{has_mark, may_be_struck}
+use Rattle.session_run_laws.specs.Step.{has_mark, may_be_struck}
 use Rattle.link_laws.specs.Stages.{Server, Stage, Before, Asked, Open, Closed, Packet, Starts, Sends, packet_bytes, packets_bytes, packet_marks, packets_marks, serve, after, answers, MayTake, MayTakeAll}
 use Rattle.link_laws.specs.Standing.{Standing, Served, Passed, Moves, marks_since, SparedAreUnstruck}
 

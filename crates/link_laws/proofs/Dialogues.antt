@@ -13,16 +13,16 @@ use Rattle.frame_view.proofs.Cuts.{front-spelling}
 use Rattle.message_view.specs.Bodies.{Text}
 use Rattle.message_view.specs.Messages.{authentication, password_message, backend_key_data, ready_for_query}
 use Rattle.message_view.specs.declared.kinds.TheConstants.{IDLE}
-use Rattle.run_laws.specs.declared.cause.Cause.{Cause}
-use Rattle.run_laws.specs.declared.parameter.Parameter.{Parameter}
-use Rattle.run_laws.specs.Errors.{fatal}
-use Rattle.run_laws.specs.Lawful.{IsLawfulCatalogue, IsClientKey}
-use Rattle.run_laws.specs.Parameters.{reported_parameters}
-use Rattle.run_laws.specs.State.{State, StartKeyOf, fresh, all_reports, all_reports_from}
-use Rattle.run_laws.specs.Laws.{has_ready}
-use Rattle.run_laws.specs.Step.{asked, is_statement}
-use Rattle.run_laws.specs.Starts.{Welcomes}
-use Rattle.run_laws.proofs.SessionsByName.{fresh_is_reached, welcome_is_read, start_error_is_short}
+use Rattle.session_run_laws.specs.declared.cause.Cause.{Cause}
+use Rattle.session_run_laws.specs.declared.parameter.Parameter.{Parameter}
+use Rattle.session_run_laws.specs.Errors.{fatal}
+use Rattle.session_run_laws.specs.Lawful.{IsLawfulCatalogue, IsClientKey}
+use Rattle.session_run_laws.specs.Parameters.{reported_parameters}
+use Rattle.session_run_laws.specs.State.{State, StartKeyOf, fresh, all_reports, all_reports_from}
+use Rattle.session_run_laws.specs.Laws.{has_ready}
+use Rattle.session_run_laws.specs.Step.{asked, is_statement}
+use Rattle.session_run_laws.specs.Starts.{Welcomes}
+use Rattle.session_run_laws.proofs.SessionsByName.{fresh_is_reached, welcome_is_read, start_error_is_short}
 use Rattle.link_laws.specs.Stages.{Server, Auth, NoAuth, Asks, Stage, Before, Asked, Open, Closed, Packet, Starts, Sends, Turn, can_strike, packet_bytes, packets_bytes, let_in, wrong_password, opened, started_by, opens, begins, is_answer, serve, after, answers, MayTake, MayTakeAll}
 use Rattle.link_laws.specs.Standing.{Standing, Served, Passed, marks_since}
 use Rattle.link_laws.specs.Starts.{start_body}

@@ -6,10 +6,10 @@ use Rattle.frame_view.specs.declared.Side.TheVariants.{Client}
 use Rattle.frame_view.specs.declared.frames.TheConstants.{LONGEST_FRAME}
 use Rattle.frame_view.specs.Frames.{FrameOf, Front, FirstFront, Start, Cut, spelling}
 use Rattle.frame_view.specs.Laws.{SpelledIsFront, SpelledIsFirst, FirstSpelledIsRead}
-use Rattle.run_laws.specs.declared.cause.Cause.{Cause}
-use Rattle.run_laws.specs.State.{State}
-use Rattle.run_laws.specs.Step.{step, run_frames}
-use Rattle.run_laws.specs.Service.{client_frames}
+use Rattle.session_run_laws.specs.declared.cause.Cause.{Cause}
+use Rattle.session_run_laws.specs.State.{State}
+use Rattle.session_run_laws.specs.Step.{step, run_frames}
+use Rattle.session_run_laws.specs.Service.{client_frames}
 use Rattle.link_laws.specs.Stages.{Server, Auth, NoAuth, Asks, Stage, Before, Asked, Open, Closed, Packet, Starts, Sends, packet_bytes, packets_bytes, packet_marks, packets_marks, Turn, begins, hears, opened, started_by, is_answer, serve, MayTake, MayTakeAll, after, answers}
 use Rattle.link_laws.specs.Standing.{Standing, Served, Passed, marks_since}
 use Rattle.link_laws.specs.Futures.{replies_open, replies_asked, replies_started, replies_before, replies_in, future_with, FuturesStay, DeathsCut}

@@ -2,9 +2,9 @@
 use Rattle.std.proofs.Common.{◌≡◌, ℕ, List, [], ◌∷◌, ◌++◌, refl, ap}
 use Rattle.std.specs.List.{flat_map, AllByRecursion}
 use Rattle.frame_view.specs.Frames.{FrameOf, spelling}
-use Rattle.run_laws.specs.State.{State}
-use Rattle.run_laws.specs.Step.{marks_after, step, run_frames}
-use Rattle.run_laws.specs.Laws.{IsSent}
+use Rattle.session_run_laws.specs.State.{State}
+use Rattle.session_run_laws.specs.Step.{marks_after, step, run_frames}
+use Rattle.session_run_laws.specs.Laws.{IsSent}
 use Rattle.link_laws.specs.Stages.{Server, Open, Packet, Starts, Sends, packets_bytes, packets_marks, after, answers, MayTakeAll}
 
 pub record InSession (v : Server) (s : State) (ps : List Packet) : Type 0 where

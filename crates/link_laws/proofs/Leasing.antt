@@ -7,20 +7,20 @@ use Rattle.frame_view.specs.declared.Side.TheVariants.{Client, Server}
 use Rattle.frame_view.specs.declared.frames.TheConstants.{LONGEST_FRAME}
 use Rattle.frame_view.specs.Frames.{FrameOf, IsFrame, Stops, Cut, front, spelling}
 use Rattle.frame_view.proofs.Splitting.{splits-one_way}
-use Rattle.run_laws.specs.declared.cause.Cause.{Cause}
-use Rattle.run_laws.specs.State.{State, CatalogueOf, StartKeyOf, Answer, fresh}
-use Rattle.run_laws.specs.Step.{marks_after, run_frames}
-use Rattle.run_laws.specs.Service.{service, served, welcome, client_frames}
-use Rattle.run_laws.specs.Laws.{IsSent, Reaches}
+use Rattle.session_run_laws.specs.declared.cause.Cause.{Cause}
+use Rattle.session_run_laws.specs.State.{State, CatalogueOf, StartKeyOf, Answer, fresh}
+use Rattle.session_run_laws.specs.Step.{marks_after, run_frames}
+use Rattle.session_run_laws.specs.Service.{service, served, welcome, client_frames}
+use Rattle.session_run_laws.specs.Laws.{IsSent, Reaches}
 use Rattle.link_laws.specs.Stages as stages
 use Rattle.link_laws.specs.Stages.{Stage, Open, Packet, packets_bytes, packets_marks, after, answers, MayTakeAll}
 use Rattle.link_laws.specs.Standing.{Served, Passed, marks_since}
 use Rattle.link_laws.proofs.Both.{lives_before}
 use Rattle.link_laws.proofs.InSession.{InSession, in_session}
 use Rattle.link_laws.specs.Links.{IsIdle, IsResting}
-use Rattle.run_laws.specs.Settling.{IsAnswered, IsQuiet}
-use Rattle.run_laws.proofs.ByName.{runs_go_on, runs_stay_reached, run_replies_are_frames, settled_is_quiet}
-use Rattle.run_laws.proofs.SessionsByName.{fresh_is_reached}
+use Rattle.session_run_laws.specs.Settling.{IsAnswered, IsQuiet}
+use Rattle.session_run_laws.proofs.ByName.{runs_go_on, runs_stay_reached, run_replies_are_frames, settled_is_quiet}
+use Rattle.session_run_laws.proofs.SessionsByName.{fresh_is_reached}
 use Rattle.link_laws.proofs.Splits.{SplitsOff, split_off, split_whole}
 use Rattle.link_laws.specs.Futures.{replies_in}
 use Rattle.link_laws.specs.Leases.{Lease, IsUnderWay, own, IsExact, IsFront}

@@ -3,10 +3,10 @@ use Rattle.std.proofs.Common.{◌≡◌, ℕ, List, [], Result, Ok, refl, sym, a
 use Rattle.message_view.specs.declared.ViewFault.{ViewFault}
 use Rattle.message_view.specs.Reading.{Part, alone, ended_at, pair_at, startup_of}
 use Rattle.message_laws.proofs.EndTrips.{pairs_read}
-use Rattle.run_laws.specs.declared.cause.Cause.{Cause}
-use Rattle.run_laws.specs.Lawful.{IsLawfulKey}
-use Rattle.run_laws.specs.State.{StartKeyOf, fresh, bound}
-use Rattle.run_laws.proofs.SessionsByName.{fresh_by_names}
+use Rattle.session_run_laws.specs.declared.cause.Cause.{Cause}
+use Rattle.session_run_laws.specs.Lawful.{IsLawfulKey}
+use Rattle.session_run_laws.specs.State.{StartKeyOf, fresh, bound}
+use Rattle.session_run_laws.proofs.SessionsByName.{fresh_by_names}
 use Rattle.key_laws.specs.StartPairs.{Pair}
 use Rattle.key_laws.specs.StubKeys.{stub}
 use Rattle.key_laws.specs.Keys.{key_pairs}

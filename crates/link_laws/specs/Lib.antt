@@ -5,4 +5,4 @@ pub mod Starts
 pub mod Futures
 pub mod Leases
 pub mod Dialogues
-pub use Rattle.run_laws.specs.Laws
+pub use Rattle.session_run_laws.specs.Laws

@@ -1,8 +1,8 @@
 -- What is known of the end of a link that nobody uses, and of one that was used and is settled.
 use Rattle.std.specs.Prelude.{◌≡◌, true, [], Ok}
-use Rattle.run_laws.specs.Lawful.{IsLawfulCatalogue, IsLawfulKey}
-use Rattle.run_laws.specs.State.{State, StartKeyOf, fresh}
-use Rattle.run_laws.specs.Laws.{IsAtRest, Reaches}
+use Rattle.session_run_laws.specs.Lawful.{IsLawfulCatalogue, IsLawfulKey}
+use Rattle.session_run_laws.specs.State.{State, StartKeyOf, fresh}
+use Rattle.session_run_laws.specs.Laws.{IsAtRest, Reaches}
 use Rattle.link_laws.specs.Stages.{Open}
 use Rattle.link_laws.specs.Standing.{Standing}
 

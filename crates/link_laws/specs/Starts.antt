@@ -1,8 +1,8 @@
 -- What starts a link, and the session that the server behind it opens.
 use Rattle.std.specs.Prelude.{◌≡◌, ℕ, ◌<◌, List, length}
 use Rattle.message_view.specs.Bodies.{startup_body}
-use Rattle.run_laws.specs.Lawful.{IsClientKey}
-use Rattle.run_laws.specs.State.{StartKeyOf, CatalogueOf, fresh}
+use Rattle.session_run_laws.specs.Lawful.{IsClientKey}
+use Rattle.session_run_laws.specs.State.{StartKeyOf, CatalogueOf, fresh}
 use Rattle.key_laws.specs.Keys.{key_pairs}
 use Rattle.link_laws.specs.Stages.{started_by}
 

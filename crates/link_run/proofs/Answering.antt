@@ -6,8 +6,8 @@ use Rattle.std.proofs.lemmas.Slice.Eq.{bytes_eq-Decides}
 use Rattle.frame_view.specs.Frames.{FrameOf}
 use Rattle.frame_view.specs.declared.server.TheConstants.{COMMAND_COMPLETE, NOTICE_RESPONSE, PARAMETER_STATUS, READY_FOR_QUERY}
 use Rattle.message_view.specs.declared.kinds.TheConstants.{IDLE}
-use Rattle.run_laws.specs.Laws.{discard_all}
-use Rattle.run_laws.specs.Settling.{count, is_ready, last_status, IsAnswered}
+use Rattle.session_run_laws.specs.Laws.{discard_all}
+use Rattle.session_run_laws.specs.Settling.{count, is_ready, last_status, IsAnswered}
 use Rattle.link_run.specs.declared.reply.Answered.TheVariants.{Nothing, Tag, All, Other}
 use Rattle.link_run.specs.Resets.{is_aside, is_tag, is_idle, answered_by_all, IsResetAnswer}
 

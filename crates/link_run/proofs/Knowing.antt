@@ -11,8 +11,8 @@ use Rattle.message_view.specs.Reading.{status_of}
 use Rattle.start_keys.specs.StartPairs.{Text}
 use Rattle.session_values.specs.declared.parameter.Parameter.{Parameter}
 use Rattle.session_values.specs.Parameters.{reported_parameters, name}
-use Rattle.run_laws.specs.Laws.{IsReport, IsReportIf, with_report, reported_by, after_reply}
-use Rattle.run_laws.proofs.SessionsByName.{reports_are_read}
+use Rattle.session_run_laws.specs.Laws.{IsReport, IsReportIf, with_report, reported_by, after_reply}
+use Rattle.session_run_laws.proofs.SessionsByName.{reports_are_read}
 use Rattle.param_track.specs.Kept.{Kept, has_name, is_at_start, is_one_other, kept_of}
 use Rattle.link_run.specs.Links.{reports_with, kept_by}
 use Rattle.link_run.specs.Resets.{names_kept, is_known, are_known}

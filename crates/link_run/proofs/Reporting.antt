@@ -11,7 +11,7 @@ use Rattle.start_keys.specs.StartPairs.{Text}
 use Rattle.session_values.specs.declared.parameter.Parameter.{Parameter}
 use Rattle.session_values.specs.Parameters.{reported_parameters, name}
 use Rattle.session_values.specs.State.{all_reports_from}
-use Rattle.run_laws.specs.Laws.{with_report, reported_by, after_reply, after_replies}
+use Rattle.session_run_laws.specs.Laws.{with_report, reported_by, after_reply, after_replies}
 use Rattle.param_track.specs.Kept.{Kept, first_told, told, kept_of, with_told}
 use Rattle.link_run.specs.Links.{reports_with, kept_by, told_by, after_frame, after_frames, start_report, WelcomesAreTheSessions}
 

@@ -19,10 +19,10 @@ use Rattle.session_values.specs.declared.cause.Cause.{Cause}
 use Rattle.session_values.specs.Lawful.{IsLawfulCatalogue, IsLawfulKey}
 use Rattle.session_values.specs.State.{State, CatalogueOf, StartKeyOf, Answer, failed, fresh, ready}
 use Rattle.session_values.specs.Step.{saved, step, first_mark, run_frames}
-use Rattle.run_laws.specs.Laws.{IsSent, IsAtRest, HasKey, IsReportIf, Reaches, begins, steps, discard_all, after_replies}
-use Rattle.run_laws.proofs.SessionsByName.{discard_all_gives_fresh, struck_discard_all_is_refused, reached_has_key, statuses_are_reports, welcome_is_read}
-use Rattle.run_laws.specs.Settling.{IsQuiet}
-use Rattle.run_laws.proofs.ByName.{run_replies_are_frames, run_reports_tell_values, settled_is_quiet}
+use Rattle.session_run_laws.specs.Laws.{IsSent, IsAtRest, HasKey, IsReportIf, Reaches, begins, steps, discard_all, after_replies}
+use Rattle.session_run_laws.proofs.SessionsByName.{discard_all_gives_fresh, struck_discard_all_is_refused, reached_has_key, statuses_are_reports, welcome_is_read}
+use Rattle.session_run_laws.specs.Settling.{IsQuiet}
+use Rattle.session_run_laws.proofs.ByName.{run_replies_are_frames, run_reports_tell_values, settled_is_quiet}
 use Rattle.param_track.specs.Kept.{Kept, is_at_start}
 use Rattle.server_end.specs.Stages.{Server as TheServer, Stage, Open, Packet, packets_bytes, packets_marks, MayTakeAll, answers, after}
 use Rattle.server_end.specs.Standing.{Standing, Served, Passed, Moves, marks_since}

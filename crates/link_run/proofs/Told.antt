@@ -17,9 +17,9 @@ use Rattle.session_values.specs.declared.parameter.Parameter.{Parameter}
 use Rattle.session_values.specs.Parameters.{reported_parameters, name}
 use Rattle.session_values.specs.State.{State, CatalogueOf, Answer, answers, report_of, reports_from, status}
 use Rattle.session_values.specs.Step.{step, first_mark, has_mark, run_frames}
-use Rattle.run_laws.specs.Laws.{discard_all, discard_replies}
-use Rattle.run_laws.specs.Starts.{Resets}
-use Rattle.run_laws.proofs.SessionsByName.{discard_all_gives_fresh, resets_are_read}
+use Rattle.session_run_laws.specs.Laws.{discard_all, discard_replies}
+use Rattle.session_run_laws.specs.Starts.{Resets}
+use Rattle.session_run_laws.proofs.SessionsByName.{discard_all_gives_fresh, resets_are_read}
 use Rattle.server_end.specs.Stages.{Server as TheServer, Stage, packets_marks, MayTakeAll, answers as answers_to}
 use Rattle.server_end.specs.Standing.{Standing, Passed, marks_since, was_struck}
 use Rattle.server_end.specs.Links.{IsResting}

@@ -32,7 +32,6 @@ pub struct CleanLink<E: ServerEnd> {
     link: Lent<E>,
 }
 
-/// A drop of its own is proved here once, and not wherever one is held.
 impl<E: ServerEnd> Drop for CleanLink<E> {
     fn drop(self) {
         let CleanLink { link: _ } = self;
@@ -56,7 +55,6 @@ pub struct UsedLink<E: ServerEnd> {
     link: Lent<E>,
 }
 
-/// A drop of its own is proved here once, and not wherever one is held.
 impl<E: ServerEnd> Drop for UsedLink<E> {
     fn drop(self) {
         let UsedLink { link: _ } = self;

@@ -49,7 +49,6 @@ struct Reset<E: ServerEnd> {
     reply: BytesMut,
 }
 
-/// A drop of its own is proved here once, and not wherever one is held.
 impl<E: ServerEnd> Drop for Reset<E> {
     fn drop(self) {
         let Reset {
@@ -64,7 +63,7 @@ impl<E: ServerEnd> Model for Reset<E> {
     ghost use Rattle.std.specs.Prelude.{◌≤◌, drop};
     ghost use Rattle.std.specs.Arc.{arc_value};
     ghost use Rattle.frame_view.specs.Frames.{spelling};
-    ghost use Rattle.run_laws.specs.Laws.{discard_all};
+    ghost use Rattle.session_run_laws.specs.Laws.{discard_all};
     ghost use Rattle.link_run.specs.Resets.{ResetView, reset_view, IsReset};
 
     ghost Value = { ResetView };

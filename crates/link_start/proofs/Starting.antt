@@ -5,6 +5,7 @@ use Rattle.std.specs.Borrow.{Bor}
 use Rattle.std.specs.Result.{IsErrAnd}
 use Rattle.std.specs.List.{flat_map, AllByRecursion}
 use Rattle.std.proofs.lemmas.Bool.{true≢false}
+use Rattle.std.proofs.lemmas.Option.{same_Some}
 use Rattle.frame_view.specs.declared.Side.TheVariants.{Server as FromServer}
 use Rattle.frame_view.specs.Frames.{AreBytes, FrameOf, Front, AFrame, Lacks, Faulty, Start, Splits, first_spelling, front, frames, spelling}
 use Rattle.frame_view.proofs.Splitting.{frames-split}
@@ -328,15 +329,12 @@ module _ (began : Standing) (secret : Secret) (v : StartView) (c : CanStart bega
     unfolding got
     key_is = subst (TellsOwnKey began.server) all_came opens_reported.keyed
 
-some_kept : (ks ls : List Kept) → Some ks ≡ Some ls → ks ≡ ls
-some_kept ks ls e = cc
-
 pub started_clean : (v : StartView) (d : IsDone v) (kept : List Kept) → AreBytes v.received → reported_all [] (frames FromServer 65536 v.received).frames ≡ Some kept → IsClean v.end v.key kept
 started_clean v d kept bytes e f =
     let began : d.began.follows ≡ true = sym d.under_way.starting.moves.follows ∙ f in
     record {
       stands = fresh_now d.began d.secret v d.can_start d.key d.under_way began bytes d.welcomed;
-      kept = some_kept kept _ (sym e ∙ reports_are d.began d.secret v d.can_start d.key d.under_way began bytes d.welcomed);
+      kept = same_Some kept _ (sym e ∙ reports_are d.began d.secret v d.can_start d.key d.under_way began bytes d.welcomed);
     }
 
 pub never_unreported : (began : Standing) (secret : Secret) (v : StartView) → CanStart began → IsLinkKey v.key → IsUnderWay began secret v → began.follows ≡ true → AreBytes v.received → IsWelcomed v

@@ -34,7 +34,6 @@ pub struct StartError {
     reply: BytesMut,
 }
 
-/// A drop of its own is proved here once, and not wherever one is held.
 impl Drop for StartError {
     fn drop(self) {
         let StartError { reply: _ } = self;
@@ -108,7 +107,6 @@ struct Start<E: ServerEnd> {
     reply: BytesMut,
 }
 
-/// A drop of its own is proved here once, and not wherever one is held.
 impl<E: ServerEnd> Drop for Start<E> {
     fn drop(self) {
         let Start {

@@ -8,7 +8,7 @@ use bytes::BytesMut;
 use memory_ends::memory_server::{MemoryServer, ServerAuth};
 use memory_lease::alone::serve_alone;
 use message_view::KeyWord;
-use server_catalogue::Catalogue;
+use session_catalogue::Catalogue;
 use session_values::text::Text;
 use start_keys::StartKey;
 use std::alloc::{AllocError, Global};

@@ -10,7 +10,7 @@ use memory_ends::memory_client::MemoryClient;
 use memory_ends::memory_server::ServerAuth;
 use message_view::KeyWord;
 use relay_core::relay::{Cause, Relay, Returned};
-use relay_steps::Next;
+use relay_laws::Next;
 use server_end::ServerEnd;
 use server_end::gate::Ready;
 use std::alloc::Global;

@@ -31,7 +31,6 @@ pub(crate) struct Rules {
     pub word: KeyWord,
 }
 
-/// A drop of its own is proved here once, and not wherever one is held.
 impl Drop for Rules {
     fn drop(self) {
         let Rules {

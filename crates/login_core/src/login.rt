@@ -30,7 +30,6 @@ pub struct Login {
     held: BytesMut,
 }
 
-/// A drop of its own is proved here once, and not wherever one is held.
 impl Drop for Login {
     fn drop(self) {
         let Login {

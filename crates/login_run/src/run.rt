@@ -65,7 +65,6 @@ pub struct LoginRun<C: ClientEnd> {
     sent: usize,
 }
 
-/// A drop of its own is proved here once, and not wherever one is held.
 impl<C: ClientEnd> Drop for LoginRun<C> {
     fn drop(self) {
         let LoginRun {

@@ -11,7 +11,7 @@ use memory_ends::memory_server::{MemoryServer, ServerAuth};
 use memory_start_laws::memory_servers_can_start;
 use message_view::KeyWord;
 use pool_desk::dial::Dial;
-use server_catalogue::Catalogue;
+use session_catalogue::Catalogue;
 use std::alloc::Global;
 use std::marker::{Brand, Model, PhantomData};
 use std::sync::Arc;

@@ -157,14 +157,18 @@ starts_so h old new next went inbox rest outbox replied ms e t m = moved_so h ol
 
 takes_served : (a b : Dialogue) (ms ns : List Bool) → b.host ≡ a.host → Takes (server_of a.host) (stage_of a.host a.progress) (stage_of a.host b.progress) a.inbox.items b.inbox.items a.outbox.items b.outbox.items ms ns
     → (t : List Bool) × (ns ≡ ms ++ t) × Serves a t b
-takes_served a b ms ns e t = (packet_marks t.packet, t.marks, record {
-  taken = t.packet ∷ [];
-  lawful = (t.lawful, tt);
-  marks_are = append-nil (packet_marks t.packet);
-  inbox = append-nil a.inbox.items ∙ t.front ∙ ap (λ (x : List ℕ). x ++ b.inbox.items) (sym (append-nil (packet_bytes t.packet)));
-  stage = ap (λ (x : Host). stage_of x b.progress) e ∙ t.stage;
-  outbox = ap (λ (rs : List FrameOf). a.outbox.items ++ flat_map spelling rs) (append-nil (serve (server_of a.host) (stage_of a.host a.progress) t.packet).replies) ∙ sym t.replies;
-})
+takes_served a b ms ns e t = (
+  packet_marks t.packet,
+  t.marks,
+  record {
+    taken = t.packet ∷ [];
+    lawful = (t.lawful, tt);
+    marks_are = append-nil (packet_marks t.packet);
+    inbox = append-nil a.inbox.items ∙ t.front ∙ ap (λ (x : List ℕ). x ++ b.inbox.items) (sym (append-nil (packet_bytes t.packet)));
+    stage = ap (λ (x : Host). stage_of x b.progress) e ∙ t.stage;
+    outbox = ap (λ (rs : List FrameOf). a.outbox.items ++ flat_map spelling rs) (append-nil (serve (server_of a.host) (stage_of a.host a.progress) t.packet).replies) ∙ sym t.replies;
+  },
+)
 
 pub serves_one : (went : Bool) (a b c : Dialogue) (ms ns : List Bool) → went ≡ true → b.host ≡ a.host → c.host ≡ b.host → Serves a ms b → HasTaken went (server_of b.host) (stage_of b.host b.progress) (stage_of b.host c.progress) b.inbox.items c.inbox.items b.outbox.items c.outbox.items ms ns → Serves a ns c
 serves_one true a b c ms ns w e f x t =

@@ -21,7 +21,6 @@ pub struct FailingEnd<E: Drop> {
     calls: Calls,
 }
 
-/// A drop of its own is proved here once, and not wherever one is held.
 impl<E: Drop> Drop for FailingEnd<E> {
     fn drop(self) {
         let FailingEnd { inner: _, calls: _ } = self;

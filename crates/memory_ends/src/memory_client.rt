@@ -20,7 +20,6 @@ pub struct MemoryClient {
     waits: u64,
 }
 
-/// A drop of its own is proved here once, and not wherever one is held.
 impl Drop for MemoryClient {
     fn drop(self) {
         let MemoryClient {

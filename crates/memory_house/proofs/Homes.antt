@@ -6,7 +6,7 @@ use Rattle.session_values.specs.State.{CatalogueOf, StartKeyOf}
 use Rattle.start_keys.specs.Keys.{same_key}
 use Rattle.start_keys.specs.SameKeys.{same_keys-one}
 use Rattle.link_run.specs.Links.{LinkView}
-use Rattle.book_lists.specs.declared.events.Reply.{Reply as ListsReply}
+use Rattle.book_model.specs.declared.events.Reply.{Reply as ListsReply}
 use Rattle.lease_book.specs.declared.events.Event.{Event}
 use Rattle.lease_book.specs.declared.events.Event.TheVariants as event
 use Rattle.lease_book.specs.Links.{found, goes_out, handed_after, idle_after, is_done, is_numbered, left}

@@ -10,6 +10,7 @@ ghost use Rattle.login_core.specs.Logins.{AwaitsPacket, login_view};
 ghost use Rattle.memory_house.specs.Houses.{IsAtHome, IsBroughtHome, IsNewServer, IsServerOf, IsTaken, IsUnstarted, IsUntaken, house_of};
 
 use crate::answers::{Answer, Taken};
+use book_model::settings::limits_of;
 use ini_config::Settings;
 use lease_book::book::Book;
 use lease_book::events::{Event, Reply};
@@ -21,10 +22,9 @@ use login_core::Login;
 use memory_ends::memory_server::{MemoryServer, ServerAuth};
 use memory_start_laws::memory_servers_can_start;
 use message_view::{KeyWord, Refusal};
-use server_catalogue::Catalogue;
 use server_end::ServerEnd;
 use server_end::gate::OpenGate;
-use settings_limits::limits_of;
+use session_catalogue::Catalogue;
 use start_keys::StartKey;
 use std::alloc::{AllocError, Global};
 use std::marker::Model;
@@ -58,7 +58,6 @@ pub struct House {
     book: Book<MemoryServer>,
 }
 
-/// A drop of its own is proved here once, and not wherever one is held.
 impl Drop for House {
     fn drop(self) {
         let House {

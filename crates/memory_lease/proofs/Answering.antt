@@ -16,7 +16,7 @@ use Rattle.session_values.specs.Step.{run_frames}
 use Rattle.session_values.specs.Service.{client_frames, served, service, welcome}
 use Rattle.session_laws.specs.Laws.{Reaches}
 use Rattle.session_laws.proofs.ByName.{fresh_is_reached}
-use Rattle.run_laws.proofs.ByName.{client_frames_are_sent, run_replies_are_frames}
+use Rattle.session_run_laws.proofs.ByName.{client_frames_are_sent, run_replies_are_frames}
 use Rattle.user_file.specs.declared.secrets.Secret.{Secret}
 use Rattle.link_laws.specs.Standing.{ClientFacts, Standing}
 use Rattle.link_laws.specs.Stages as stages
@@ -43,8 +43,8 @@ use Rattle.memory_lease.specs.Own.{IsMarked, OwnOf, mark, marked, own_server}
 use Rattle.memory_ends.specs.Clients.{given_with}
 use Rattle.memory_lease.specs.Patient.{PatientOf, IsGiven, new_patient}
 use Rattle.memory_ends.proofs.Whose.{Apart, whose}
-use Rattle.run_laws.proofs.Pieces.{pieces_join, pieces_of_both}
-use Rattle.run_laws.proofs.Service.{begins_both, service_on}
+use Rattle.session_run_laws.proofs.Pieces.{pieces_join, pieces_of_both}
+use Rattle.session_run_laws.proofs.Service.{begins_both, service_on}
 use Rattle.memory_lease.proofs.Causes.{caused_by}
 use Rattle.memory_lease.proofs.Whole.{IsOver, all_given, clear_is}
 

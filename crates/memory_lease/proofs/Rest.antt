@@ -15,7 +15,7 @@ use Rattle.session_values.specs.declared.cause.Cause.{Cause}
 use Rattle.session_values.specs.State.{State, CatalogueOf, StartKeyOf, Answer, and_then, fresh}
 use Rattle.session_values.specs.Step.{answer_skipping, answer_to, asked, first_mark, later_marks, marks_after, run_frames, silent, step, step_open}
 use Rattle.session_values.specs.Service.{client_frames, served, service, welcome}
-use Rattle.run_laws.proofs.ByName.{runs_go_on}
+use Rattle.session_run_laws.proofs.ByName.{runs_go_on}
 use Rattle.relay_flow.specs.Parts.{Begins, Spells, is_stuck}
 use Rattle.relay_flow.specs.Flows.{AtTerminate}
 

@@ -17,7 +17,6 @@ pub(crate) struct OwnServer {
     rests: bool,
 }
 
-/// A drop of its own is proved here once, and not wherever one is held.
 impl Drop for OwnServer {
     fn drop(self) {
         let OwnServer {

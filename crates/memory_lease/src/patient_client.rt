@@ -26,7 +26,6 @@ pub(crate) struct PatientClient<'a> {
     waits: u64,
 }
 
-/// A drop of its own is proved here once, and not wherever one is held.
 impl<'a> Drop for PatientClient<'a> {
     fn drop(self) {
         let PatientClient {

@@ -2,6 +2,7 @@
 use Rattle.std.proofs.Common.{◌≡◌, ℕ, ◌≤◌, List, [], ◌∷◌, ◌++◌, length, Option, Some, None, refl, sym, ap, ◌∙◌, arith, Bool, true, false, eqb-true, subst, append_assoc}
 use Rattle.std.proofs.lemmas.Bool.Decides.{nat_tests}
 use Rattle.std.specs.Prelude.{if◌then◌else◌, nat_le, codes, ◌||◌, ◌==◌}
+use Rattle.std.proofs.lemmas.Option.{same_Some}
 use Rattle.mini_sql.specs.Words.{Text}
 use Rattle.mini_sql.specs.Tokens.{tokens, Token, closing, comma}
 use Rattle.mini_sql.specs.Statements.{Form, Statement, Empty, Begin, Commit, Rollback, Set, SetLocal, Reset, ResetAll, Show, DiscardAll, Create, Drop, Insert, Select, Declare, Fetch, CloseCursor, Equals, Operand, read, ends, pass, take_value, either, or_else, items, definitions, columns_at, at_most_64, with_item, take_columns, take_operands, name_of, column_of, setting_of, operand_of, is_word, is_sign, block, assignment, set_name, set, reset, show, discard, create, definition_list, drop_table, insert, value_list, where_of, end_of, from_of, select, count_of, declared_over, rows_of, declare, fetch, close, parameters_of, of_word, of_other, of_cursor, of_tokens, phrase, statement, less_semicolon, without_semicolon}
@@ -13,9 +14,6 @@ use Rattle.mini_sql.specs.Lists.{Listing}
 if_some : {A : Type 0} (b : Bool) (x : Option A) (s : A) → (if b then x else None) ≡ Some s → (b ≡ true) × (x ≡ Some s)
 if_some true x s e = (refl, e)
 if_some false x s e = absurd (cc)
-
-inside : {A : Type 0} (a b : A) → Some a ≡ Some b → a ≡ b
-inside a b e = cc
 
 -- what each step of a form has read
 pass-elim : (P : List Token → Type 0) (test : Token → Bool) (f : Form) (ts : List Token) (s : Statement)
@@ -37,7 +35,7 @@ value-elim P value_of f (t ∷ us) s k e = let found = value_some f (value_of t)
 
 ends-elim : (P : List Token → Statement → Type 0) (r : Statement) (ts : List Token) (s : Statement) → P [] r → ends r ts ≡ Some s → P ts s
 unfolding ends
-ends-elim P r [] s k e = subst (P []) (inside r s e) k
+ends-elim P r [] s k e = subst (P []) (same_Some r s e) k
 ends-elim P r (t ∷ ts) s k e = absurd (cc)
 
 or_some : {A : Type 0} (P : Type 0) (x y : Option A) (s : A) → (x ≡ Some s → P) → (x ≡ None → y ≡ Some s → P) → or_else x y ≡ Some s → P
@@ -63,7 +61,7 @@ one_item : {A : Type 0} (Rel : List Token → List A → Type 0) (t : Token) (re
 unfolding with_item
 one_item Rel t rest None p one e = absurd (cc)
 one_item Rel t rest (Some a) p one e =
-    subst (λ q. Parted Rel (t ∷ rest) q.0 q.1) (inside (a ∷ [], rest) p e) (record { front = t ∷ []; is = refl; list = one a refl })
+    subst (λ q. Parted Rel (t ∷ rest) q.0 q.1) (same_Some (a ∷ [], rest) p e) (record { front = t ∷ []; is = refl; list = one a refl })
 
 more_items : {A : Type 0} (Rel : List Token → List A → Type 0) (before ts : List Token) (v : Option A) (m : Listing A) (p : List A × List Token)
     → ((a : A) (xs : List A) (us : List Token) → v ≡ Some a → Rel us xs → Rel (before ++ us) (a ∷ xs)) → ((q : List A × List Token) → m ≡ Some q → Parted Rel ts q.0 q.1)
@@ -74,7 +72,7 @@ more_items Rel before ts None (Some q) p more rec e = absurd (cc)
 more_items Rel before ts (Some a) None p more rec e = absurd (cc)
 more_items Rel before ts (Some a) (Some q) p more rec e =
     let rest = rec q refl in
-    subst (λ r. Parted Rel (before ++ ts) r.0 r.1) (inside (a ∷ q.0, q.1) p e)
+    subst (λ r. Parted Rel (before ++ ts) r.0 r.1) (same_Some (a ∷ q.0, q.1) p e)
     (record { front = before ++ rest.front; is = ap (λ us. before ++ us) rest.is ∙ sym (append_assoc before rest.front q.1); list = more a q.0 rest.front refl rest.list })
 
 two_ways : {A : Type 0} (Rel : List Token → List A → Type 0) (t s : Token) (ts : List Token) (b : Bool) (v : Option A) (m : Listing A) (p : List A × List Token)
@@ -102,7 +100,7 @@ one_definition : (t k : Token) (rest : List Token) (v : Option Text) (p : List T
 unfolding with_item
 one_definition t k rest None p says names e = absurd (cc)
 one_definition t k rest (Some a) p says names e =
-    subst (λ q. Parted Definitions (t ∷ k ∷ rest) q.0 q.1) (inside (a ∷ [], rest) p e) (record { front = t ∷ k ∷ []; is = refl; list = g.definition names says })
+    subst (λ q. Parted Definitions (t ∷ k ∷ rest) q.0 q.1) (same_Some (a ∷ [], rest) p e) (record { front = t ∷ k ∷ []; is = refl; list = g.definition names says })
 
 definition_ways : (t k s : Token) (ts : List Token) (w b : Bool) (m : Listing Text) (p : List Text × List Token) → is_word (codes "text") k ≡ w → is_sign comma s ≡ b
     → ((q : List Text × List Token) → m ≡ Some q → Parted Definitions ts q.0 q.1) → (if w then with_item (column_of t) (if b then m else Some ([], s ∷ ts)) else None) ≡ Some p
@@ -191,7 +189,7 @@ unfolding at_most_64
 limit_some None p e = absurd (cc)
 limit_some (Some q) p e =
     let both = if_some (nat_le (length q.0) 64) (Some q) p e in
-    let same : q ≡ p = inside q p both.1 in
+    let same : q ≡ p = same_Some q p both.1 in
     (both.1, subst (λ (r : List Text × List Token). length r.0 ≤ 64) same (fits_from (length q.0) both.0))
 
 read_listing : {A : Type 0} (f : List A → Form) (x : Listing A) (s : Statement) → read (λ p. f p.0 p.1) x ≡ Some s → (p : List A × List Token) × (x ≡ Some p) × (f p.0 p.1 ≡ Some s)
@@ -266,7 +264,7 @@ over-elim : (P : Type 0) (c : Text) (o : Option Statement) (s : Statement)
 over-elim P c None s k e = absurd (cc)
 over-elim P c (Some (Select cs t w)) s k e =
     let both = if_some (parameters_of (Select cs t w) == 0) (Some (Declare c cs t w)) s e in
-    k cs t w refl (eqb-true (parameters_of (Select cs t w)) 0 both.0) (inside (Declare c cs t w) s both.1)
+    k cs t w refl (eqb-true (parameters_of (Select cs t w)) 0 both.0) (same_Some (Declare c cs t w) s both.1)
 over-elim P c (Some Empty) s k e = absurd (cc)
 over-elim P c (Some Begin) s k e = absurd (cc)
 over-elim P c (Some Commit) s k e = absurd (cc)
@@ -341,7 +339,7 @@ word-derives w ts s e =
 
 tokens-derive : (ts : List Token) (s : Statement) → of_tokens ts ≡ Some s → Derives ts s
 unfolding of_tokens
-tokens-derive [] s e = subst (Derives []) (inside Empty s e) g.empty
+tokens-derive [] s e = subst (Derives []) (same_Some Empty s e) g.empty
 tokens-derive (w ∷ ts) s e = word-derives w ts s e
 
 phrase_derives : (o : Option (List Token)) (s : Statement) → read of_tokens (less_semicolon o) ≡ Some s → (ts : List Token) × (o ≡ Some ts) × Derives (without_semicolon ts) s

@@ -7,7 +7,7 @@ use Rattle.frame_view.specs.declared.frames.TheConstants.{LONGEST_FRAME}
 use Rattle.frame_view.specs.Frames.{AreBytes, FrameOf, FirstFront, AFirst, LacksFirst, FaultyFirst, Start, Cancels, AsksTls, AsksGss, Cut, first_front, frames, spelling}
 use Rattle.frame_view.proofs.FirstPackets.{first-fits}
 use Rattle.frame_view.proofs.Splitting.{frames-split, frames-go_on}
-use Rattle.run_laws.specs.Settling.{count, closes, is_ready}
+use Rattle.session_run_laws.specs.Settling.{count, closes, is_ready}
 use Rattle.paced_client.specs.declared.pauses.Heard.{Heard}
 use Rattle.paced_client.specs.Pauses.{start_end, first_end, closing_ends, pauses, readies, allowed_to_hand_out}
 use Rattle.paced_client.specs.Hearing.{IsHearing, HasHeard}

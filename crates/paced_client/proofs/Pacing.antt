@@ -6,7 +6,7 @@ use Rattle.frame_view.specs.declared.Side.TheVariants.{Server}
 use Rattle.frame_view.specs.declared.frames.TheConstants.{LONGEST_FRAME}
 use Rattle.frame_view.specs.Frames.{AreBytes, Cut}
 use Rattle.frame_view.proofs.Splitting.{frames-stopped}
-use Rattle.run_laws.specs.Settling.{count, is_ready}
+use Rattle.session_run_laws.specs.Settling.{count, is_ready}
 use Rattle.server_end.specs.declared.Moved.TheVariants.{Count}
 use Rattle.server_end.specs.Moves.{ClientReads, ClientWrites}
 use Rattle.memory_ends.specs.Clients.{is_broken}

@@ -17,7 +17,7 @@ use Rattle.frame_view.proofs.Cuts.{front-fits}
 use Rattle.frame_view.proofs.FirstTaken.{started}
 use Rattle.frame_view.proofs.Splitting.{frames-stopped}
 use Rattle.frame_view.proofs.Taking.{plain, taken_at, not_whole}
-use Rattle.run_laws.specs.Settling.{count, closes, is_ready}
+use Rattle.session_run_laws.specs.Settling.{count, closes, is_ready}
 use Rattle.paced_client.specs.declared.pauses.Heard.{Heard}
 use Rattle.paced_client.specs.Pauses.{start_end, closing_ends}
 use Rattle.paced_client.specs.Hearing.{IsHearing, HasHeard}

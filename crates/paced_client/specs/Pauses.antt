@@ -3,7 +3,7 @@ use Rattle.std.specs.Prelude.{ℕ, ◌+◌, Bool, nat_le, List, [], ◌∷◌, l
 use Rattle.frame_view.specs.declared.Side.TheVariants.{Client, Server}
 use Rattle.frame_view.specs.declared.frames.TheConstants.{LONGEST_FRAME}
 use Rattle.frame_view.specs.Frames.{FrameOf, spelling, frames, Start, FirstFront, AFirst, first_front}
-use Rattle.run_laws.specs.Settling.{count, closes, is_ready}
+use Rattle.session_run_laws.specs.Settling.{count, closes, is_ready}
 
 -- the end of the StartupMessage that stands first, or of all bytes where none does
 abbrev pub start_end : FirstFront → ℕ → ℕ

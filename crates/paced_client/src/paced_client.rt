@@ -31,7 +31,6 @@ pub struct PacedClient {
     waits: u64,
 }
 
-/// A drop of its own is proved here once, and not wherever one is held.
 impl Drop for PacedClient {
     fn drop(self) {
         let PacedClient {

@@ -38,7 +38,6 @@ pub struct StartReport {
     differs: bool,
 }
 
-/// A drop of its own is proved here once, and not wherever one is held.
 impl Drop for StartReport {
     fn drop(self) {
         let StartReport {
@@ -111,7 +110,6 @@ pub struct Reported {
     reports: Vec<StartReport>,
 }
 
-/// A drop of its own is proved here once, and not wherever one is held.
 impl Drop for Reported {
     fn drop(self) {
         let Reported { reports: _ } = self;

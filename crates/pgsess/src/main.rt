@@ -11,7 +11,7 @@ use pool_app::files::{self, Inputs};
 use pool_app::line::{self, Job};
 use pool_run::pool::serve_on;
 use replay_run::replay::replay;
-use server_catalogue::Catalogue;
+use session_catalogue::Catalogue;
 use std::alloc::Global;
 use std::net::{Ipv4Addr, Net, SocketAddr};
 use std::process::ExitCode;

@@ -17,7 +17,7 @@ use Rattle.login_core.specs.Logins.{StepMeans, AwaitsPacket, LoginView, Tells, a
 use Rattle.login_core.proofs.Telling.{new_tells, steps_say, steps_tell}
 use Rattle.ini_config.specs.Bounds.{AreWithinBounds}
 use Rattle.link_start.specs.Starts.{IsLinkKey as IsStartKey}
-use Rattle.login_keys.specs.Laws.{BoundedRowsAreLawful, PassedKeysAreLinkKeys}
+use Rattle.login_laws.specs.Laws.{BoundedRowsAreLawful, PassedKeysAreLinkKeys}
 use Rattle.act_client.specs.Clients.{ActClientOf, given_more, new_client, taken}
 use Rattle.memory_house.specs.Houses.{HouseOf}
 use Rattle.play.specs.Players.{HasPassed, IsAtPiece, IsLetIn, LogsIn, Steps, Waits, rows_of}

@@ -11,7 +11,7 @@ use crate::table::Table;
 use act_client::{Act, scripts};
 use ini_config::Settings;
 use memory_house::House;
-use server_catalogue::Catalogue;
+use session_catalogue::Catalogue;
 use std::alloc::{AllocError, Global};
 use std::sync::Arc;
 use user_file::Users;

@@ -10,7 +10,7 @@ use memory_ends::memory_server::MemoryServer;
 use memory_house::House;
 use message_view::KeyWord;
 use relay_core::relay::{Relay, Returned};
-use relay_steps::Next;
+use relay_laws::Next;
 use server_end::gate::Ready;
 use server_end::{ClientEnd, ServerEnd};
 use std::alloc::AllocError;

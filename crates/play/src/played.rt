@@ -7,7 +7,6 @@ pub struct Given {
     pub links: Vec<u64>,
 }
 
-/// A drop of its own is proved here once, and not wherever one is held.
 impl Drop for Given {
     fn drop(self) {
         let Given { bytes: _, links: _ } = self;
@@ -19,7 +18,6 @@ pub struct Played {
     pub clients: Vec<Given>,
 }
 
-/// A drop of its own is proved here once, and not wherever one is held.
 impl Drop for Played {
     fn drop(self) {
         let Played { clients: _ } = self;

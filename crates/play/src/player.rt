@@ -20,7 +20,6 @@ pub(crate) struct Player<'a> {
     stage: Stage<'a>,
 }
 
-/// A drop of its own is proved here once, and not wherever one is held.
 impl<'a> Drop for Player<'a> {
     fn drop(self) {
         let Player {

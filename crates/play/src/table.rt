@@ -20,7 +20,6 @@ pub(crate) struct Table<'a> {
     players: Vec<Player<'a>>,
 }
 
-/// A drop of its own is proved here once, and not wherever one is held.
 impl<'a> Drop for Table<'a> {
     fn drop(self) {
         let Table {

@@ -9,7 +9,7 @@ use act_client::ActClient;
 use link_run::links::CleanLink;
 use link_start::close::close_link;
 use login_core::laws::login_is_of_its_row;
-use login_keys::laws::{bounded_rows_are_lawful, passed_keys_are_link_keys};
+use login_laws::laws::{bounded_rows_are_lawful, passed_keys_are_link_keys};
 use memory_ends::memory_server::MemoryServer;
 use memory_house::House;
 use memory_house::answers::Taken;

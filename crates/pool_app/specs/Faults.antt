@@ -4,7 +4,7 @@ use Rattle.ini_config.specs.declared.faults.Cause.{Cause as IniCause}
 use Rattle.ini_config.specs.declared.faults.Cause.TheVariants as ini
 use Rattle.user_file.specs.declared.faults.Cause.{Cause as UsersCause}
 use Rattle.user_file.specs.declared.faults.Cause.TheVariants as users
-use Rattle.server_catalogue.specs.CatalogueCodes.{code_of}
+use Rattle.session_catalogue.specs.CatalogueCodes.{code_of}
 use Rattle.pool_app.specs.declared.fault.AppFault.{AppFault}
 use Rattle.pool_app.specs.declared.fault.AppFault.TheVariants.{File, Ini, Users, Catalogue, Stdin, Stdout, Memory, Port}
 

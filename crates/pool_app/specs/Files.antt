@@ -3,7 +3,7 @@ use Rattle.std.specs.Prelude.{◌≡◌, ◌≢◌, ◌⊎◌, ◌<◌, ℕ, Lis
 use Rattle.std.specs.Borrow.{Bor}
 use Rattle.ini_config.specs.Reading as ini
 use Rattle.ini_config.specs.declared.option_values.Settings.{Settings}
-use Rattle.server_catalogue.specs.Catalogues as catalogue
+use Rattle.session_catalogue.specs.Catalogues as catalogue
 use Rattle.session_values.specs.State.{CatalogueOf}
 use Rattle.user_file.specs.Users as users
 use Rattle.user_file.specs.declared.user_table.UserRow.{UserRow}

@@ -3,7 +3,7 @@ ghost use Rattle.std.specs.Prelude.{◌≡◌, IfOk, string_bytes};
 ghost use Rattle.pool_app.specs.Faults as spec;
 
 use itoa::Buffer;
-use server_catalogue::CatalogueFault;
+use session_catalogue::CatalogueFault;
 use std::alloc::{AllocError, Global};
 use std::io;
 

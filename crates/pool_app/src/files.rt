@@ -7,7 +7,7 @@ ghost use Rattle.pool_app.specs.Files as spec;
 use crate::fault::AppFault;
 use ini_config::laws::read_settings_are_within_bounds;
 use ini_config::{Settings, read_settings};
-use server_catalogue::Catalogue;
+use session_catalogue::Catalogue;
 use std::alloc::Global;
 use std::io::{ErrorKind, Read};
 use std::rt::Files;

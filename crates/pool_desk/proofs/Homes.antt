@@ -2,7 +2,7 @@
 use Rattle.std.proofs.Common.{◌≡◌, ℕ, Bool, true, false, cond, not, List, [], ◌∷◌, ◌++◌, Option, None, Some, refl, sym, subst}
 use Rattle.std.specs.Prelude.{IfSome, filter, find}
 use Rattle.link_run.specs.Links.{LinkView}
-use Rattle.book_lists.specs.declared.events.Reply.{Reply as ListsReply}
+use Rattle.book_model.specs.declared.events.Reply.{Reply as ListsReply}
 use Rattle.lease_book.specs.Links.{found, goes_out, handed_after, handed_back, idle_after, is_done, is_numbered, left}
 use Rattle.lease_book.specs.declared.events.Event.{Event}
 use Rattle.lease_book.specs.declared.events.Event.TheVariants as event

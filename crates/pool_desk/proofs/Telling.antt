@@ -2,17 +2,18 @@
 use Rattle.std.proofs.Common.{◌≡◌, ℕ, suc, Bool, true, false, cond, not, ◌||◌, ◌==◌, nat_lt, length, find, Option, None, Some, inl, inr, refl, sym, ap, ◌∙◌, subst, arith}
 use native.Mathlib.Numerals.{unary_clauses}
 use Rattle.std.specs.Arc.{arc_value}
+use Rattle.std.proofs.lemmas.Bool.{true≢false}
 use Rattle.message_view.specs.declared.refusal.Refusal.TheVariants.{LastDecision}
 use Rattle.session_values.specs.State.{StartKeyOf}
-use Rattle.book_lists.specs.Book.{Book, Link, Ticket, in_pool, is_link, is_of, latest_of, link_count, pool_count, pool_size, waiting_before}
-use Rattle.book_lists.specs.Outcomes.{Answer, Event, apply, apply_return, at_clock, closes, counted, decided, evicts, gives_back, grants, has_waited, is_crowded, is_old, is_stale, is_started_as, is_strange, kind_of, last_decision, outcome, raised, takes}
-use Rattle.book_lists.specs.Outcomes.Event.{Arrive, Ask, Take, GiveBack, Lost, StartFailed, Leave, Tick, NewLimits, Pause, Resume, Shutdown}
-use Rattle.book_lists.specs.declared.counts.Counts.{Counts}
-use Rattle.book_lists.specs.declared.counts.Kind.{Kind}
-use Rattle.book_lists.specs.declared.counts.Kind.TheVariants.{Arrival, ArrivalRefused, Asking, AskRefused, Grant, TicketLost, Return, Loss, FailedStart, Leaving, Ticking, Limiting, Pausing, Resuming, Closing}
-use Rattle.book_lists.specs.declared.events.Reply.{Reply}
-use Rattle.book_lists.specs.declared.events.Reply.TheVariants.{Refuse, Done, Stranger}
-use Rattle.book_order.proofs.KeepingLists.{impossible, not_found}
+use Rattle.book_model.specs.Book.{Book, Link, Ticket, in_pool, is_link, is_of, latest_of, link_count, pool_count, pool_size, waiting_before}
+use Rattle.book_model.specs.Outcomes.{Answer, Event, apply, apply_return, at_clock, closes, counted, decided, evicts, gives_back, grants, has_waited, is_crowded, is_old, is_stale, is_started_as, is_strange, kind_of, last_decision, outcome, raised, takes}
+use Rattle.book_model.specs.Outcomes.Event.{Arrive, Ask, Take, GiveBack, Lost, StartFailed, Leave, Tick, NewLimits, Pause, Resume, Shutdown}
+use Rattle.book_model.specs.declared.counts.Counts.{Counts}
+use Rattle.book_model.specs.declared.counts.Kind.{Kind}
+use Rattle.book_model.specs.declared.counts.Kind.TheVariants.{Arrival, ArrivalRefused, Asking, AskRefused, Grant, TicketLost, Return, Loss, FailedStart, Leaving, Ticking, Limiting, Pausing, Resuming, Closing}
+use Rattle.book_model.specs.declared.events.Reply.{Reply}
+use Rattle.book_model.specs.declared.events.Reply.TheVariants.{Refuse, Done, Stranger}
+use Rattle.book_model.proofs.KeepingLists.{not_found}
 use Rattle.lease_book.specs.Links.{answered, plain}
 use Rattle.lease_book.specs.declared.events.Event.{Event as LinkEvent}
 use Rattle.lease_book.specs.declared.events.Event.TheVariants as event
@@ -140,14 +141,14 @@ fits_takes b c t =
 
 not_strange : (b : Bool) → not b ≡ false → b ≡ true
 not_strange true e = refl
-not_strange false e = impossible e
+not_strange false e = absurd (true≢false e)
 
 fits_taken : (b : Book) (c : ℕ) (o : Option Ticket) → find (is_of c) b.tickets ≡ o → is_strange b (Take c) ≡ false → Fits b (Take c) (takes b o)
-fits_taken b c None e known = impossible (sym (not_strange _ known) ∙ not_found (is_of c) b.tickets e)
+fits_taken b c None e known = absurd (true≢false (sym (not_strange _ known) ∙ not_found (is_of c) b.tickets e))
 fits_taken b c (Some t) e known = fits_takes b c t
 
 fits_given : (b : Book) (n : ℕ) (o : Option Link) → find (is_link n) b.lent ≡ o → is_strange b (GiveBack n) ≡ false → Fits b (GiveBack n) (gives_back b o)
-fits_given b n None e known = impossible (sym (not_strange _ known) ∙ not_found (is_link n) b.lent e)
+fits_given b n None e known = absurd (true≢false (sym (not_strange _ known) ∙ not_found (is_link n) b.lent e))
 fits_given b n (Some link) e known =
     both (Fits b (GiveBack n)) (is_old b link || is_crowded b link) _ _ (record { counts = refl; tells = λ p. refl }) (record { counts = refl; tells = λ p. refl })
 
@@ -203,18 +204,18 @@ counted_strange : (b : Book) (e : Event) → is_strange b e ≡ true → Counted
 counted_strange b e is = record { kind = None; counts = refl; tells = strange e is }
   where
     strange : (e : Event) → is_strange b e ≡ true → (p : PassOf) → Tells e Stranger p (passed None Stranger p)
-    strange Arrive is p = impossible (sym is)
+    strange Arrive is p = absurd (true≢false (sym is))
     strange (Ask c key) is p = refl
     strange (Take c) is p = refl
     strange (GiveBack n) is p = refl
     strange (Lost n) is p = refl
     strange (StartFailed n) is p = refl
     strange (Leave c) is p = refl
-    strange (Tick now) is p = impossible (sym is)
-    strange (NewLimits l) is p = impossible (sym is)
-    strange Pause is p = impossible (sym is)
-    strange Resume is p = impossible (sym is)
-    strange Shutdown is p = impossible (sym is)
+    strange (Tick now) is p = absurd (true≢false (sym is))
+    strange (NewLimits l) is p = absurd (true≢false (sym is))
+    strange Pause is p = absurd (true≢false (sym is))
+    strange Resume is p = absurd (true≢false (sym is))
+    strange Shutdown is p = absurd (true≢false (sym is))
 
 counted_decided : (b : Book) (e : Event) (a : Answer) → Fits b e a → Counted b e (decided b e a)
 counted_decided b e a f = record { kind = kind_of b e a.reply; counts = class_counted a.book (kind_of b e a.reply) ∙ ap (λ (c : Counts). one_more (kind_of b e a.reply) (class_counts c)) f.counts; tells = f.tells }

@@ -1,6 +1,6 @@
 -- The book's decisions by class.
 use Rattle.std.specs.Prelude.{◌+◌}
-use Rattle.book_lists.specs.declared.counts.Counts.{Counts}
+use Rattle.book_model.specs.declared.counts.Counts.{Counts}
 use Rattle.desk_tallies.specs.Passes.{Made}
 
 abbrev pub class_counts : Counts → Made

@@ -1,10 +1,10 @@
 -- What a pass tells after an event that was made through it.
 use Rattle.std.specs.Prelude.{◌≡◌, ◌⊎◌, Bool, true, false}
 use Rattle.message_view.specs.declared.refusal.Refusal.TheVariants.{LastDecision}
-use Rattle.book_lists.specs.Outcomes.{Event}
-use Rattle.book_lists.specs.Outcomes.Event.{Arrive, Ask, Take, GiveBack, Lost, StartFailed, Leave, Tick, NewLimits, Pause, Resume, Shutdown}
-use Rattle.book_lists.specs.declared.events.Reply.{Reply}
-use Rattle.book_lists.specs.declared.events.Reply.TheVariants.{Arrived, Queued, Lend, Start, Close, Refuse, Done, Stranger}
+use Rattle.book_model.specs.Outcomes.{Event}
+use Rattle.book_model.specs.Outcomes.Event.{Arrive, Ask, Take, GiveBack, Lost, StartFailed, Leave, Tick, NewLimits, Pause, Resume, Shutdown}
+use Rattle.book_model.specs.declared.events.Reply.{Reply}
+use Rattle.book_model.specs.declared.events.Reply.TheVariants.{Arrived, Queued, Lend, Start, Close, Refuse, Done, Stranger}
 use Rattle.desk_tallies.specs.Passes.{PassOf, after_refusal, broken, one_arrived, one_given_back, one_granted, one_left, one_lost, one_other}
 use Rattle.desk_tallies.specs.Refusing.{RefusesArrival, RefusesAsking, RefusesGrant}
 

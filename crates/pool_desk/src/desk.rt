@@ -16,7 +16,7 @@ use crate::answers::{Changed, Ticked};
 use crate::bells::Bells;
 use crate::dial::Dial;
 use crate::inner::Core;
-use book_lists::limits::{Limits, MOST_CLIENTS};
+use book_model::limits::{Limits, MOST_CLIENTS};
 use book_register::view::BookView;
 use desk_tallies::answers::{Arrival, Asked, Back, Gone, Grant};
 use desk_tallies::passes::{Pass, Totals};
@@ -60,8 +60,6 @@ pub struct Desk<S: Dial, A: Ledger, G: Ledger, B: Ledger, L: Ledger, W: Ledger, 
     bells: Bells,
 }
 
-/// A drop of its own is proved here once. A derived one would be proved, with that of each part of a book, in every crate that has a
-/// desk.
 impl<S: Dial, A: Ledger, G: Ledger, B: Ledger, L: Ledger, W: Ledger, O: Ledger> Drop
     for Desk<S, A, G, B, L, W, O> {
     fn drop(self) {

@@ -1,8 +1,8 @@
 //! What lies behind the desk's lock.
 ghost use Rattle.std.specs.Prelude.{◌≡◌, ◌<◌, ◌≤◌, ◌^◌, ◌||◌, [], IfOk, IfErr, IfSome, IfNone, vec_len, suc, ◌≢◌};
 ghost use Rattle.std.specs.Arc.{arc_value};
-ghost use Rattle.book_lists.specs.Book.{empty_book};
-ghost use Rattle.book_order.specs.Kept.{total};
+ghost use Rattle.book_model.specs.Book.{empty_book};
+ghost use Rattle.book_model.specs.Kept.{total};
 ghost use Rattle.book_register.specs.Views.{view_of};
 ghost use Rattle.lease_book.specs.Links.{IsTwice, answered, handed, handed_after, history_after, idle_after, plain, reply_of};
 ghost use Rattle.desk_tallies.specs.Homes.{IsAtHome};
@@ -14,8 +14,8 @@ ghost use Rattle.pool_desk.specs.Joined.{brought};
 ghost use Rattle.pool_desk.specs.Tells.{Tells, breaks};
 
 use crate::dial::Dial;
-use book_lists::counts::Counts;
-use book_lists::limits::Limits;
+use book_model::counts::Counts;
+use book_model::limits::Limits;
 use book_register::view::{BookView, Waiting};
 use desk_tallies::passes::{ALL_PARTS, Pass, Shares, Totals};
 use desk_tallies::tallies::{Blanks, Tallies};

@@ -8,6 +8,7 @@ ghost use Rattle.desk_tallies.specs.declared.passes.TheConstants.{ALL_PARTS};
 ghost use Rattle.desk_tallies.specs.Shares.{by_class, names_of, of_each, parts_of};
 
 use crate::dialing::TcpDial;
+use book_model::settings::limits_of;
 use desk_tallies::passes::Pass;
 use desk_tallies::tallies::Blanks;
 use ini_config::Settings;
@@ -20,7 +21,6 @@ use pool_desk::answers::Ticked;
 use pool_desk::desk::Desk;
 use pool_desk::handle::{DeskAt, WorkerPass};
 use pool_serve::serve::serve;
-use settings_limits::limits_of;
 use std::alloc::{AllocError, Global};
 use std::marker::{Brand, Model};
 use std::net::Net;
@@ -91,7 +91,6 @@ struct Pool<R: Net, A: Ledger, G: Ledger, B: Ledger, L: Ledger, W: Ledger, O: Le
     has_ended: AtomicBool,
 }
 
-/// A drop of its own is proved here once.
 impl<R: Net + Drop, A: Ledger, G: Ledger, B: Ledger, L: Ledger, W: Ledger, O: Ledger> Drop
     for Pool<R, A, G, B, L, W, O> {
     fn drop(self) {

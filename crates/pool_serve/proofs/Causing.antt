@@ -12,10 +12,10 @@ use Rattle.link_desk.specs.Passes.{Made, PassOf, after_leaving, after_loss, afte
 use Rattle.link_desk.specs.Refusing.{RefusesArrival, RefusesAsking, RefusesGrant}
 use Rattle.link_desk.specs.declared.answers.Gone.{Gone}
 use Rattle.link_desk.specs.declared.answers.Gone.TheVariants as gone
-use Rattle.relay_steps.specs.Leases.{IsLease, Place, RelayView}
-use Rattle.relay_steps.specs.Answers.{AtBorder, RefusedBy, refusal_by, refusal_of}
-use Rattle.relay_steps.specs.Faults.{IsAtFault}
-use Rattle.relay_steps.proofs.Faults.{client_fault}
+use Rattle.relay_laws.specs.Leases.{IsLease, Place, RelayView}
+use Rattle.relay_laws.specs.Answers.{AtBorder, RefusedBy, refusal_by, refusal_of}
+use Rattle.relay_laws.specs.Faults.{IsAtFault}
+use Rattle.relay_laws.proofs.Faults.{client_fault}
 use Rattle.pool_serve.specs.declared.word.LastWord.{LastWord}
 use Rattle.pool_serve.specs.declared.word.LastWord.TheVariants as last
 use Rattle.pool_serve.specs.Words.{or_nothing}

@@ -10,10 +10,10 @@ use Rattle.link_laws.specs.Stages as stages
 use Rattle.link_run.specs.Links.{LinkView}
 use Rattle.link_desk.specs.Homes.{HomeOf, IsAtHome, IsDialled, address_in}
 use Rattle.link_start.specs.Starts.{IsStarted}
-use Rattle.login_keys.specs.Laws.{IsOfRow, IsAtRow}
+use Rattle.login_laws.specs.Laws.{IsOfRow, IsAtRow}
 use Rattle.user_file.specs.declared.secrets.Secret.{Secret}
 use Rattle.message_view.specs.declared.KeyWord.{KeyWord}
-use Rattle.relay_steps.specs.Leases.{RelayView, IsLease, place}
+use Rattle.relay_laws.specs.Leases.{RelayView, IsLease, place}
 use Rattle.relay_core.specs.declared.relay.Returned.{Returned}
 use Rattle.relay_core.specs.declared.relay.Returned.TheVariants.{Unused, Used, Gone}
 use Rattle.relay_core.specs.Returns.{IsReturned, IsThatLink}

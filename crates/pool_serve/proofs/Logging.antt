@@ -16,7 +16,7 @@ use Rattle.login_core.specs.Dialogue.{Refused as RefusedBy, Rows, login_among, r
 use Rattle.login_core.specs.Logins.{LoginView, rows_of}
 use Rattle.login_core.specs.Laws.{names_in, row_for}
 use Rattle.login_core.specs.Solo.{solo_in}
-use Rattle.login_keys.specs.Laws.{BoundedRowsAreLawful, IsOfRow, PassedKeysAreLinkKeys, PassedKeysAreOfTheirRows}
+use Rattle.login_laws.specs.Laws.{BoundedRowsAreLawful, IsOfRow, PassedKeysAreLinkKeys, PassedKeysAreOfTheirRows}
 use Rattle.login_run.specs.Runs.{Arrived, Awaits, Console, Gone, IsAllGiven, IsKeyOf, IsPiece, IsRun, IsSameLogin, Passed, PhaseOf, RunView, Stopped, Talking}
 use Rattle.login_run.specs.Laws.{AllowedBy, IsAtPiece, PassedRunsAreLetIn, PassedRunsHavePassed, RunsAreAllowed, RunsStandAtPieces, own}
 use Rattle.link_desk.specs.Homes.{HomeOf}

@@ -14,7 +14,6 @@ pub(crate) struct Guest {
     pub login: Login,
 }
 
-/// A drop of its own is proved here once, and not wherever one is held.
 impl Drop for Guest {
     fn drop(self) {
         let Guest {

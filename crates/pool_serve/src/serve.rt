@@ -16,7 +16,7 @@ use crate::word::LastWord;
 use link_desk::answers::Arrival;
 use link_desk::desk::LinkDesk;
 use login_core::Login;
-use login_keys::laws::{
+use login_laws::laws::{
     bounded_rows_are_lawful, passed_keys_are_link_keys, passed_keys_are_of_their_rows,
 };
 use login_run::laws::{

@@ -4,7 +4,7 @@ ghost use Rattle.ini_config.specs.Bounds.{AreWithinBounds};
 
 use ini_config::laws::read_settings_are_within_bounds;
 use ini_config::{Settings, read_settings};
-use server_catalogue::Catalogue;
+use session_catalogue::Catalogue;
 use std::alloc::{AllocError, Global};
 use std::sync::Arc;
 use user_file::{Users, read_users};

@@ -7,7 +7,7 @@ ghost use Rattle.login_core.specs.Logins.{AwaitsPacket};
 ghost use Rattle.pool_tests.specs.Words.{key_word};
 
 use crate::files::{SHOP, settings_of, users};
-use book_lists::limits::{Limits, MOST_CLIENTS};
+use book_model::limits::{Limits, MOST_CLIENTS};
 use desk_tallies::passes::Pass;
 use login_core::Login;
 use memory_dial::{MemoryDial, Naming};

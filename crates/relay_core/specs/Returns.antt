@@ -5,9 +5,9 @@ use Rattle.std.specs.Arc.{arc_value}
 use Rattle.link_laws.specs.Standing.{Standing}
 use Rattle.link_run.specs.Links.{LinkView}
 use Rattle.link_run.specs.declared.links.Lent.{Lent}
-use Rattle.relay_steps.specs.Leases.{RelayView, relay_verdict}
+use Rattle.relay_laws.specs.Leases.{RelayView, relay_verdict}
 use Rattle.relay_flow.specs.Flows.{is_empty, is_faulty}
-use Rattle.relay_steps.specs.Answers.{is_quiet}
+use Rattle.relay_laws.specs.Answers.{is_quiet}
 use Rattle.relay_core.specs.declared.relay.Cause.{Cause}
 use Rattle.relay_core.specs.declared.relay.Cause.TheVariants.{Left, Lost}
 use Rattle.relay_core.specs.declared.relay.Returned.{Returned}

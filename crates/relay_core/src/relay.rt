@@ -13,7 +13,7 @@ use link_run::links::{CleanLink, Lent, UsedLink};
 use link_run::welcome::welcome_over;
 use message_view::KeyWord;
 use relay_flow::flow::Flow;
-use relay_steps::{Flags, Next, Phase};
+use relay_laws::{Flags, Next, Phase};
 use server_end::gate::Ready;
 use server_end::{ClientEnd, ServerEnd};
 use std::alloc::Global;
@@ -57,7 +57,6 @@ pub struct Relay<C: ClientEnd, E: ServerEnd> {
     pub(crate) phase: Phase,
 }
 
-/// A drop of its own is proved here once, and not wherever one is held.
 impl<C: ClientEnd, E: ServerEnd> Drop for Relay<C, E> {
     fn drop(self) {
         let Relay {
@@ -78,8 +77,8 @@ impl<C: ClientEnd, E: ServerEnd> Drop for Relay<C, E> {
 impl<C: ClientEnd, E: ServerEnd> Model for Relay<C, E> {
     ghost use Rattle.std.specs.Prelude.{◌≤◌, drop, length};
     ghost use Rattle.std.specs.Arc.{arc_value};
-    ghost use Rattle.relay_steps.specs.Leases.{RelayView, relay_view, IsRelay};
-    ghost use Rattle.relay_steps.specs.Verdicts.{told_of};
+    ghost use Rattle.relay_laws.specs.Leases.{RelayView, relay_view, IsRelay};
+    ghost use Rattle.relay_laws.specs.Verdicts.{told_of};
 
     ghost Value = { RelayView };
 
@@ -90,12 +89,12 @@ impl<C: ClientEnd, E: ServerEnd> Model for Relay<C, E> {
 
 impl<C: ClientEnd, E: ServerEnd> Relay<C, E> {
     ghost use Rattle.std.specs.Prelude.{Bool};
-    ghost use Rattle.relay_steps.specs.Leases.{Place, place, IsLease, IsExact, IsAllowed, Keeps, relay_verdict, at_border};
-    ghost use Rattle.relay_steps.specs.Answers.{EndsByClient, RefusedBy, AtBorder, IsCut, judged, phase_after};
+    ghost use Rattle.relay_laws.specs.Leases.{Place, place, IsLease, IsExact, IsAllowed, Keeps, relay_verdict, at_border};
+    ghost use Rattle.relay_laws.specs.Answers.{EndsByClient, RefusedBy, AtBorder, IsCut, judged, phase_after};
     ghost use Rattle.relay_core.specs.Returns.{IsReturned, is_clear};
-    ghost use Rattle.relay_steps.specs.Steps.{bytes_moved, HoldsAll, Waits};
-    ghost use Rattle.relay_steps.specs.declared.Next.TheVariants.{Again, Wait, ClientDone, Refuse, Closed};
-    ghost use Rattle.relay_steps.specs.declared.Phase.TheVariants.{Running, Done, Shut};
+    ghost use Rattle.relay_laws.specs.Steps.{bytes_moved, HoldsAll, Waits};
+    ghost use Rattle.relay_laws.specs.declared.Next.TheVariants.{Again, Wait, ClientDone, Refuse, Closed};
+    ghost use Rattle.relay_laws.specs.declared.Phase.TheVariants.{Running, Done, Shut};
     ghost use Rattle.message_view.specs.declared.refusal.Refusal.{Refusal};
 
     /// The lease of a link to a client begins. The client is to be given the link's welcome first, with the client's own key

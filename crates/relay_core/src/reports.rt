@@ -2,7 +2,7 @@
 ghost use Rattle.std.specs.Prelude.{◌≡◌, ◌≤◌, false, length};
 ghost use Rattle.frame_view.specs.declared.server.TheConstants as server;
 ghost use Rattle.relay_flow.specs.declared.parts.TheConstants as parts;
-ghost use Rattle.relay_steps.specs.Verdicts.{IsRead};
+ghost use Rattle.relay_laws.specs.Verdicts.{IsRead};
 
 use frame_view::server::PARAMETER_STATUS;
 use message_view::StatusView;

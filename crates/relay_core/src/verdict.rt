@@ -2,7 +2,7 @@
 ghost use Rattle.std.specs.Prelude.{◌≡◌, ◌≢◌, None, false, true};
 ghost use Rattle.disposal.specs.Tallies.{may_end};
 ghost use Rattle.disposal.specs.declared.Verdict.TheVariants.{Settled};
-ghost use Rattle.relay_steps.specs.Verdicts.{begun_arrived, told_arrived, told_sent, verdict_by};
+ghost use Rattle.relay_laws.specs.Verdicts.{begun_arrived, told_arrived, told_sent, verdict_by};
 
 use disposal::{Traffic, Verdict};
 use relay_flow::flow::Passed;

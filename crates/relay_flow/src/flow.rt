@@ -51,7 +51,6 @@ pub struct Flow {
     ends: Ends,
 }
 
-/// A drop of its own is proved here once, and not wherever one is held.
 impl Drop for Flow {
     fn drop(self) {
         let Flow {

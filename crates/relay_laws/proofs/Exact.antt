@@ -9,7 +9,7 @@ use Rattle.link_laws.specs.Leases as lease
 use Rattle.link_laws.specs.Leases.{Lease, IsUnderWay, IsFront}
 use Rattle.link_laws.specs.Standing.{marks_since}
 use Rattle.link_laws.proofs.ByName.{leases_are_exact, leases_are_fronts, spared_are_unstruck}
-use Rattle.run_laws.proofs.Service.{service_unmarked}
+use Rattle.session_run_laws.proofs.Service.{service_unmarked}
 use Rattle.session_values.specs.State.{CatalogueOf, StartKeyOf}
 use Rattle.session_values.specs.Service.{service}
 use Rattle.relay_flow.proofs.Parting.{opens_stops}

@@ -5,3 +5,6 @@ pub mod Passing
 pub mod Beginning
 pub mod Exact
 pub mod Rest
+pub mod Faults
+pub mod Judging
+pub mod Stepping

@@ -21,12 +21,12 @@ use Rattle.link_laws.specs.Links.{IsFresh, IsIdle, IsResting}
 use Rattle.link_run.specs.Links.{IsClean, IsUsed, IsRestingLink, after_frames, kept_by}
 use Rattle.link_run.proofs.Reporting.{told-frames}
 use Rattle.link_laws.proofs.Splits.{SplitsOff, split_whole}
-use Rattle.run_laws.proofs.ByName.{run_replies_are_frames, run_reports_tell_values}
+use Rattle.session_run_laws.proofs.ByName.{run_replies_are_frames, run_reports_tell_values}
 use Rattle.session_laws.specs.Laws.{Reaches, after_replies}
 use Rattle.param_track.specs.Kept.{Kept}
 use Rattle.frame_view.specs.declared.Side.TheVariants.{Server}
 use Rattle.frame_view.specs.declared.frames.TheConstants.{LONGEST_FRAME}
-use Rattle.run_laws.specs.Settling.{IsAnswered}
+use Rattle.session_run_laws.specs.Settling.{IsAnswered}
 use Rattle.link_laws.proofs.ByName.{settled_links_rest}
 use Rattle.relay_laws.proofs.Settling.{Answered, answered_by}
 use Rattle.relay_flow.specs.Flows.{is_empty, is_faulty}

@@ -5,6 +5,7 @@ use Rattle.std.specs.Option.{option_or}
 use Rattle.std.specs.List.{flat_map, AllByRecursion}
 use Rattle.std.proofs.lemmas.Bool.{true≢false, false≢true, ne_eqb}
 use Rattle.std.proofs.lemmas.Grind.{flat_map-append}
+use Rattle.std.proofs.lemmas.Option.{same_Some}
 use Rattle.frame_view.specs.Frames.{FrameOf, is_closing}
 use Rattle.frame_view.specs.declared.server.TheConstants.{PARAMETER_STATUS, READY_FOR_QUERY}
 use Rattle.message_view.specs.declared.kinds.TheConstants.{IDLE}
@@ -15,7 +16,7 @@ use Rattle.disposal.specs.declared.Verdict.TheVariants.{Settled}
 use Rattle.param_track.specs.Kept.{Kept}
 use Rattle.link_run.specs.Links.{after_frame, after_frames}
 use Rattle.disposal.specs.Laws.{CallsTell, SettledExactly}
-use Rattle.run_laws.specs.Settling.{count, closes, is_ready, last_status, IsAnswered}
+use Rattle.session_run_laws.specs.Settling.{count, closes, is_ready, last_status, IsAnswered}
 use Rattle.relay_flow.specs.declared.flow.Passed.{Passed}
 use Rattle.relay_flow.specs.declared.parts.TheConstants.{LONGEST_STATUS}
 use Rattle.relay_flow.specs.Parts.{byte_in, is_foreign, status_in}
@@ -106,16 +107,8 @@ record EndsWith (fs : List FrameOf) (kind : ℕ) : Type 0 where
   last : fs ≡ before ++ final ∷ []
   kind_is : final.kind ≡ kind
 
-value_in : Option ℕ → ℕ
-value_in None = 0
-value_in (Some n) = n
-
-same_value : (n m : ℕ) → Some n ≡ Some m → n ≡ m
-unfolding value_in
-same_value n m e = ap value_in e
-
 ends_with : (f : FrameOf) (fs : List FrameOf) (kind : ℕ) → fold or_later (Some f.kind) (flat_map sent_as fs) ≡ Some kind → EndsWith (f ∷ fs) kind
-ends_with f [] kind e = record { before = []; final = f; last = refl; kind_is = same_value f.kind kind e }
+ends_with f [] kind e = record { before = []; final = f; last = refl; kind_is = same_Some f.kind kind e }
 ends_with f (g ∷ fs) kind e = let x = ends_with g fs kind e in record { before = f ∷ x.before; final = x.final; last = ap (λ (t : List FrameOf). f ∷ t) x.last; kind_is = x.kind_is }
 
 last_sent-is : (fs : List FrameOf) (kind : ℕ) → fold or_later None (flat_map sent_as fs) ≡ Some kind → EndsWith fs kind
@@ -148,7 +141,7 @@ by_ready : (f : FrameOf) (fs : List FrameOf) (x : Option ℕ) (body : List ℕ) 
 by_ready f fs x body false next own i k e = next x body i e
 by_ready f fs x body true next own i k e =
     let one = own_ready f own k in
-    next (Some one.0) f.body (λ q. one.1 ∙ ap (λ (n : ℕ). n ∷ []) (same_value one.0 IDLE q)) (ap (λ (bytes : List ℕ). fold status_after (option_or (byte_in bytes) x) (flat_map own_as fs)) (sym one.1) ∙ e)
+    next (Some one.0) f.body (λ q. one.1 ∙ ap (λ (n : ℕ). n ∷ []) (same_Some one.0 IDLE q)) (ap (λ (bytes : List ℕ). fold status_after (option_or (byte_in bytes) x) (flat_map own_as fs)) (sym one.1) ∙ e)
 
 ends_idle : (fs : List FrameOf) → AllByRecursion IsUsual fs → EndsIdle fs
 ends_idle [] own x body i e = i e

@@ -20,12 +20,12 @@ use Rattle.login_core.specs.Talk.End.{Unfinished, Passed, Stopped}
 use Rattle.login_core.specs.Dialogue.{Rows, Dialogue, Way, ToConsole, ToLink, ok, Packet, Reason, Refused, Failed, Left, Stage, AtFirst, Asked, dialogue_from, login, login_among, packet, packets_left, react}
 use Rattle.login_core.specs.Logins.{LoginView, Awaiting, AwaitsPacket, Arriving, Over, after, goes_on, goes_from, login_view, missing, missing_of, question_bytes, rows_of}
 use Rattle.login_core.specs.Solo.{after_login, service_pieces}
-use Rattle.login_keys.specs.Laws.{AreLawfulRows, PassedKeysAreLinkKeys, SettingsRowsAreLawful}
+use Rattle.login_laws.specs.Laws.{AreLawfulRows, PassedKeysAreLinkKeys, SettingsRowsAreLawful}
 use Rattle.frame_view.specs.declared.frames.TheConstants.{LONGEST_FRAME}
 use Rattle.memory_lease.specs.Answers.{IsAllowed, IsAnswer, IsGiven}
 use Rattle.session_values.specs.Service.{client_frames, served, service}
 use Rattle.memory_lease.proofs.Causes.{was_allowed}
-use Rattle.run_laws.proofs.Pieces.{pieces_join}
+use Rattle.session_run_laws.proofs.Pieces.{pieces_join}
 use Rattle.replay_run.specs.Replay.{Follows, IsAnswered, IsReply, WritesReply, standing_catalogue, standing_row, standing_rows, standing_settings, standing_users, standing_word}
 use Rattle.replay_run.specs.Told.{Adds, HasLinkKey, IsKeyed, IsPastArrival, Says, WantsMemory, silence, is_end}
 

@@ -13,9 +13,9 @@ use Rattle.ini_config.specs.OptionValues.{auth_type, change_of, key_named}
 use Rattle.ini_config.specs.Values.{address, dotted, names, number_between, octet}
 use Rattle.user_file.specs.Users as users
 use Rattle.user_file.specs.Fields as user_fields
-use Rattle.server_catalogue.specs.Catalogues.{catalogue_of, fields, said, parts}
+use Rattle.session_catalogue.specs.Catalogues.{catalogue_of, fields, said, parts}
 use Rattle.session_values.specs.State.{CatalogueOf}
-use Rattle.server_catalogue.specs.declared.catalogue_fault.CatalogueCause.{CatalogueCause}
+use Rattle.session_catalogue.specs.declared.catalogue_fault.CatalogueCause.{CatalogueCause}
 use Rattle.replay_run.specs.declared.standing.TheConstants.{CATALOGUE, SETTINGS, USERS}
 use Rattle.replay_run.specs.Replay.{standing_catalogue, standing_settings, standing_users}
 

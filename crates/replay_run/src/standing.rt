@@ -4,7 +4,7 @@ ghost use Rattle.replay_run.specs.Replay.{standing_catalogue, standing_settings,
 
 use ini_config::{Settings, read_settings};
 use message_view::KeyWord;
-use server_catalogue::Catalogue;
+use session_catalogue::Catalogue;
 use std::alloc::{AllocError, Global};
 use user_file::{Users, read_users};
 

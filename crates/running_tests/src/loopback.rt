@@ -6,7 +6,7 @@ use ini_config::laws::read_settings_are_within_bounds;
 use ini_config::{Settings, read_settings};
 use mio::net::TcpListener;
 use pool_run::pool::serve_on;
-use server_catalogue::Catalogue;
+use session_catalogue::Catalogue;
 use std::alloc::Global;
 use std::io::{Read, Write};
 use std::net::{Ipv4Addr, Net, Shutdown, SocketAddr, TcpStream};

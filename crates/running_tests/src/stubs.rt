@@ -1,6 +1,6 @@
 //! The stand-in server over the loopback network.
 use mio::net::TcpListener;
-use server_catalogue::Catalogue;
+use session_catalogue::Catalogue;
 use std::alloc::Global;
 use std::io::{Read, Write};
 use std::net::{Ipv4Addr, Net, Shutdown, SocketAddr, TcpStream};

@@ -1,15 +1,29 @@
 -- Each law by its name. A proof in another crate imports it so:
 --     use Rattle.session_laws.proofs.ByName.{each_step_ends}
-use Rattle.std.proofs.Common.{refl, arith}
+use Rattle.std.proofs.Common.{refl, arith, ℕ, length, Option, Some, None}
+use Rattle.std.specs.Prelude.{IfSome}
 use Rattle.frame_view.specs.Frames.{IsFrame}
 use Rattle.frame_view.specs.declared.Side.TheVariants.{Server}
 use Rattle.session_values.specs.Errors.{fatal}
+use Rattle.session_values.proofs.Alls.{OfSome}
+use Rattle.mini_sql.specs.Statements.{Statement, statement}
+use Rattle.session_laws.specs.Statements.{IsSpelled, StatementsAreSpelled}
 use Rattle.session_laws.specs.Laws.{begins, EachStepEnds, FreshIsAtRest, FreshHasKey, StepKeepsKey, DiscardAllGivesFresh, StruckDiscardAllIsRefused, OnlyStatementsAreStruck, RepliesAreFrames, StatusesAreReports, ReportsTellValues}
 use Rattle.session_laws.specs.Starts.{FreshIsReached, ReachedHasKey, FreshByNames, WelcomeIsFrames, StartErrorIsFrame, DiscardAllIsFrame, ReportsAreRead, WelcomeIsRead, StartErrorIsShort, ResetsAreRead, longest_start_frame}
+use Rattle.session_laws.proofs.Spelled.{spelled}
 use Rattle.session_laws.proofs.ReadyLast.{step-ends}
 use Rattle.session_laws.proofs.Freshness.{fresh-at_rest, step-has_key, discard-fresh, discard-struck, only-statements}
 use Rattle.session_laws.proofs.Reached.{reached-frames, reached-reports, reached-told, reached-key}
 use Rattle.session_laws.proofs.Starting.{fresh-by_names, welcome-frames, report-read, welcome-read, start_error-short, resets-read}
+
+-- ---- a statement
+
+if-some : (n : ℕ) (o : Option Statement) → OfSome (IsSpelled n) o → IfSome o (λ x. IsSpelled n x)
+if-some n None h = tt
+if-some n (Some x) h = h
+
+pub statements_are_spelled : StatementsAreSpelled
+statements_are_spelled t h = if-some (length t) (statement t) (spelled t h)
 
 -- ---- one step
 

@@ -21,7 +21,7 @@ use Rattle.session_values.specs.Step.{Asked, Terminate, Sync, Query, FunctionCal
 use Rattle.session_laws.specs.Laws.{discard_all, discard_replies, IsAtRest, HasKey, StruckDiscardAllIsRefused, OnlyStatementsAreStruck}
 use Rattle.session_laws.proofs.ReadyLast.{AllFine, bound-fine, query-fine, parse-fine, bind-fine, describe-fine, close-fine, executed-fine, save-same, roll_back-same}
 use Rattle.session_laws.proofs.Bodies.{read-discard_all}
-use Rattle.statement_laws.proofs.Spelled.{spells-discard_all}
+use Rattle.session_laws.proofs.Spelled.{spells-discard_all}
 
 -- ---- defaults
 

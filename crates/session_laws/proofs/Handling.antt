@@ -25,8 +25,8 @@ use Rattle.session_values.specs.Step.{heading}
 use Rattle.session_values.specs.Lawful.{IsShort, IsValue}
 use Rattle.session_values.proofs.Alls.{OfSome, all-each, all-append, all-map, all-filter, all-find}
 use Rattle.session_laws.proofs.GoodValues.{AreSettings, AreReported, OfOk, longest, value-setting}
-use Rattle.statement_laws.specs.Statements.{IsSpelled}
-use Rattle.statement_laws.proofs.Spelled.{spelled, longer-some}
+use Rattle.session_laws.specs.Statements.{IsSpelled}
+use Rattle.session_laws.proofs.Spelled.{spelled, longer-some}
 use Rattle.session_laws.proofs.Lawful.{IsPlain, IsSendable, row-plain, IsRow, IsTable, IsSource, IsPrepared, IsPortal, IsCursor, IsSaved, Lawful, row-sendable, one-sendable, AreColumns, columns-plain, tag-plain, decimal-length}
 
 pub record Kept (s : State) (after : State) (sent : List FrameOf) : Type 0 where

@@ -26,7 +26,7 @@ use Rattle.session_values.specs.Extended.{values_fault, unless_some, parse, bind
 use Rattle.session_values.specs.Lawful.{IsShort, IsValue}
 use Rattle.session_values.proofs.Alls.{OfSome, all-append, all-map, all-filter, all-find, all-set, all-take, all-drop, and-first, and-second}
 use Rattle.session_laws.proofs.GoodValues.{AreSettings, IsGiven, OfOk, set-settings, reset-settings}
-use Rattle.statement_laws.proofs.Spelled.{few-parameters}
+use Rattle.session_laws.proofs.Spelled.{few-parameters}
 use Rattle.session_values.specs.Step.{query, query_ran, heading, without_unnamed}
 use Rattle.session_laws.proofs.Handling.{Kept, AllKept, IsOutcome, IsRan, RanKept, kept, made, bound-kept, Any, any, found-ok, IsRead, reading-read, usable-read, look_up-columns, read-table, selected-columns, rows-sent, shown-sent, rows-plain, row_tag-plain, given-plain, heading-plain}
 use Rattle.session_laws.proofs.Lawful.{IsPlain, IsSendable, IsRow, IsTable, IsSource, AreLeft, IsPrepared, IsPortal, IsCursor, IsSaved, Lawful, AreColumns, columns-plain, oids-plain}

@@ -1,3 +1,5 @@
+pub mod Lexed
+pub mod Spelled
 pub mod Bodies
 pub mod ReadyLast
 pub mod Freshness

@@ -14,17 +14,17 @@ use crate::parse::is_taken;
 use bytes::BytesMut;
 use message_view::{BindView, Codes, Values, put_bind_complete};
 use mini_sql::Stmt;
-use server_catalogue::Catalogue;
+use session_catalogue::Catalogue;
+use session_statements::lookup::look_up;
+use session_statements::portal::{BoundStatement, Portal, Prepared};
+use session_statements::run::usable;
+use session_statements::session::SessionState;
 use session_values::cause::Cause;
 use session_values::names::Names;
 use session_values::naming::{HasName, find_named};
 use session_values::row::Row;
 use session_values::stop::Stop;
 use session_values::text::Text;
-use statement_runs::lookup::look_up;
-use statement_runs::portal::{BoundStatement, Portal, Prepared};
-use statement_runs::run::usable;
-use statement_runs::session::SessionState;
 use std::alloc::{AllocError, Global};
 
 /// How many values a prepared statement asks for: its greatest `$n`, or as many as its Parse gave

@@ -6,8 +6,8 @@ ghost use Rattle.session_values.specs.Extended.{close};
 
 use bytes::BytesMut;
 use message_view::{Target, put_close_complete};
-use statement_runs::portal::Portal;
-use statement_runs::session::SessionState;
+use session_statements::portal::Portal;
+use session_statements::session::SessionState;
 use std::alloc::{AllocError, Global};
 
 /// Close of a prepared statement, with its portals, or of a portal.

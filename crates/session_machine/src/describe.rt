@@ -11,17 +11,17 @@ use crate::bind::{is_result_count, parameter_count};
 use bytes::BytesMut;
 use message_view::{Target, put_parameter_description};
 use mini_sql::Stmt;
-use server_catalogue::Catalogue;
+use session_catalogue::Catalogue;
+use session_statements::lookup::look_up;
+use session_statements::output::put_description;
+use session_statements::portal::{Portal, Prepared};
+use session_statements::run::read_narrow;
+use session_statements::session::SessionState;
 use session_values::block::Block;
 use session_values::cause::Cause;
 use session_values::names::Names;
 use session_values::naming::find_named;
 use session_values::stop::Stop;
-use statement_runs::lookup::look_up;
-use statement_runs::output::put_description;
-use statement_runs::portal::{Portal, Prepared};
-use statement_runs::run::read_narrow;
-use statement_runs::session::SessionState;
 use std::alloc::{AllocError, Global};
 
 /// The oid of the type text.

@@ -9,22 +9,22 @@ ghost use Rattle.session_values.specs.Extended.{execute, execute_on, execute_out
 ghost use Rattle.session_values.specs.Picks.{HasAtMost64Columns};
 ghost use Rattle.session_values.specs.State.{NotRun};
 ghost use Rattle.session_values.specs.Step.{executed};
-ghost use Rattle.statement_runs.specs.Rans.{outcome_of};
+ghost use Rattle.session_statements.specs.Rans.{outcome_of};
 
 use bytes::BytesMut;
 use message_view::put_portal_suspended;
 use mini_sql::Stmt;
-use server_catalogue::Catalogue;
+use session_catalogue::Catalogue;
+use session_statements::lookup::look_up;
+use session_statements::output::{put_row_tag, put_rows};
+use session_statements::portal::{Portal, Progress, Rows};
+use session_statements::ran::{Outcome, put_notices, put_outcome};
+use session_statements::run::{run, usable};
+use session_statements::session::SessionState;
 use session_values::cause::Cause;
 use session_values::naming::{HasName, find_named};
 use session_values::stop::Stop;
 use shared_list::Shared;
-use statement_runs::lookup::look_up;
-use statement_runs::output::{put_row_tag, put_rows};
-use statement_runs::portal::{Portal, Progress, Rows};
-use statement_runs::ran::{Outcome, put_notices, put_outcome};
-use statement_runs::run::{run, usable};
-use statement_runs::session::SessionState;
 use std::alloc::{AllocError, Global};
 
 /// Whether a portal with so many rows left is suspended: where a row limit above 0 is no greater.

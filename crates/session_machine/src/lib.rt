@@ -11,9 +11,9 @@ mod service;
 mod session;
 mod step;
 
-pub use server_catalogue::{Catalogue, CatalogueCause, CatalogueFault};
 pub use service::solo_bytes;
 pub use session::{Session, StartError};
+pub use session_catalogue::{Catalogue, CatalogueCause, CatalogueFault};
 pub use session_values::block::Block;
 pub use session_values::cause::Cause;
 pub use session_values::parameter::Parameter;

@@ -7,15 +7,15 @@ ghost use Rattle.session_values.specs.Extended.{is_taken, parse, prepared_of};
 
 use bytes::BytesMut;
 use message_view::{Oids, ParseView, put_parse_complete};
-use server_catalogue::Catalogue;
+use session_catalogue::Catalogue;
+use session_statements::lookup::look_up;
+use session_statements::portal::Prepared;
+use session_statements::run::usable;
+use session_statements::session::SessionState;
 use session_values::cause::Cause;
 use session_values::naming::find_named;
 use session_values::stop::Stop;
 use session_values::text::Text;
-use statement_runs::lookup::look_up;
-use statement_runs::portal::Prepared;
-use statement_runs::run::usable;
-use statement_runs::session::SessionState;
 use std::alloc::{AllocError, Global};
 
 /// Only what has no name may be replaced.

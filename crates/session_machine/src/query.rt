@@ -8,22 +8,22 @@ ghost use Rattle.session_values.specs.Answers.{Gave, Performs};
 ghost use Rattle.session_values.specs.Runs.{given_frames};
 ghost use Rattle.session_values.specs.State.{commit_outside, ready};
 ghost use Rattle.session_values.specs.Step.{end_query, heading, query, step_query};
-ghost use Rattle.statement_runs.specs.Rans.{notices_of, outcome_of};
+ghost use Rattle.session_statements.specs.Rans.{notices_of, outcome_of};
 
 use bytes::BytesMut;
 use message_view::QueryView;
 use mini_sql::Stmt;
-use server_catalogue::Catalogue;
+use session_catalogue::Catalogue;
+use session_statements::lookup::look_up;
+use session_statements::output::put_columns;
+use session_statements::ran::{Ran, put_notices, put_outcome};
+use session_statements::run::{run, usable};
+use session_statements::session::SessionState;
 use session_values::cause::Cause;
 use session_values::error_responses::put_error;
 use session_values::names::Names;
 use session_values::row::Row;
 use session_values::stop::Stop;
-use statement_runs::lookup::look_up;
-use statement_runs::output::put_columns;
-use statement_runs::ran::{Ran, put_notices, put_outcome};
-use statement_runs::run::{run, usable};
-use statement_runs::session::SessionState;
 use std::alloc::{AllocError, Global};
 
 /// RowDescription, before rows.

@@ -10,11 +10,11 @@ use crate::step::answer;
 use bytes::BytesMut;
 use frame_view::{LONGEST_FRAME, Side, Step, next_frame};
 use message_view::{KeyWord, Status, put_backend_key_data, put_ready_for_query};
-use server_catalogue::Catalogue;
+use session_catalogue::Catalogue;
+use session_statements::session::SessionState;
 use session_values::error_responses::put_fatal;
 use session_values::stop::Stop;
 use start_keys::key::StartKey;
-use statement_runs::session::SessionState;
 use std::alloc::{AllocError, Global};
 
 /// Writes the welcome of a session: its reports, BackendKeyData of the key word, and

@@ -14,11 +14,11 @@ use crate::query::{answer_query, fail_query};
 use bytes::BytesMut;
 use frame_view::{Frame, client};
 use message_view::{BindView, CloseView, DescribeView, ExecuteView, ParseView};
-use server_catalogue::Catalogue;
+use session_catalogue::Catalogue;
+use session_statements::session::SessionState;
 use session_values::cause::Cause;
 use session_values::error_responses::put_error;
 use session_values::stop::Stop;
-use statement_runs::session::SessionState;
 use std::alloc::{AllocError, Global};
 
 /// The error of an extended message: everything is skipped until the next Sync.

@@ -20,7 +20,6 @@ pub struct Cursor {
     is_held: bool,
 }
 
-/// A drop of its own is proved here once, and not wherever one is held.
 impl Drop for Cursor {
     fn drop(self) {
         let Cursor {

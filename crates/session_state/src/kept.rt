@@ -88,7 +88,6 @@ pub(crate) struct Kept {
     pub cursors: Shared<Cursor>,
 }
 
-/// A drop of its own is proved here once, and not wherever one is held.
 impl Drop for Kept {
     fn drop(self) {
         let Kept {

@@ -9,4 +9,4 @@ pub mod session;
 pub mod start;
 pub mod work;
 
-pub use server_catalogue::Catalogue;
+pub use session_catalogue::Catalogue;

@@ -20,7 +20,6 @@ pub struct Prepared {
     oids: Vec<u32>,
 }
 
-/// A drop of its own is proved here once, and not wherever one is held.
 impl Drop for Prepared {
     fn drop(self) {
         let Prepared {
@@ -85,7 +84,6 @@ pub struct Rows {
     from: usize,
 }
 
-/// A drop of its own is proved here once, and not wherever one is held.
 impl Drop for Rows {
     fn drop(self) {
         let Rows { list: _, from: _ } = self;
@@ -154,7 +152,6 @@ pub enum Progress {
     Finished,
 }
 
-/// A drop of its own is proved here once, and not wherever one is held.
 impl Drop for Progress {
     fn drop(self) {
         match self {
@@ -187,7 +184,6 @@ pub struct BoundStatement {
     pub formats: Vec<u16>,
 }
 
-/// A drop of its own is proved here once, and not wherever one is held.
 impl Drop for BoundStatement {
     fn drop(self) {
         let BoundStatement {
@@ -208,7 +204,6 @@ pub struct Portal {
     progress: Progress,
 }
 
-/// A drop of its own is proved here once, and not wherever one is held.
 impl Drop for Portal {
     fn drop(self) {
         let Portal {

@@ -34,7 +34,6 @@ pub struct SessionState {
     pub(crate) kept: Kept,
 }
 
-/// A drop of its own is proved here once, and not wherever one is held.
 impl Drop for SessionState {
     fn drop(self) {
         let SessionState {

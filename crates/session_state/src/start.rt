@@ -3,7 +3,7 @@ ghost use Rattle.session_values.specs.Answers.{Finds};
 ghost use Rattle.session_values.specs.State.{fresh, set_all, started, started_over};
 
 use crate::session::SessionState;
-use server_catalogue::Catalogue;
+use session_catalogue::Catalogue;
 use session_values::cause::Cause;
 use session_values::setting::set_all;
 use session_values::stop::Stop;

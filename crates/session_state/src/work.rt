@@ -13,7 +13,6 @@ pub struct Work {
     pub tables: Shared<Table>,
 }
 
-/// A drop of its own is proved here once, and not wherever one is held.
 impl Drop for Work {
     fn drop(self) {
         let Work {

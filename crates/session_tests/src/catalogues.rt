@@ -1,5 +1,5 @@
 //! Catalogue files and their faults.
-use server_catalogue::{Catalogue, CatalogueCause, CatalogueFault};
+use session_catalogue::{Catalogue, CatalogueCause, CatalogueFault};
 use session_values::naming::HasName;
 use session_values::text::Text;
 use std::alloc::Global;

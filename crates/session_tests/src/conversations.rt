@@ -78,7 +78,11 @@ fn answers_a_cancel(rt: HostRuntime) -> Result<(), Fail> {
     assert!(rt; synced.as_slice() == b"Z\0\0\0\x05I".as_slice());
     let cancelled = answer(alloc, &mut session, b"Q\0\0\0\x05\0")?;
     assert!(rt; cancelled.len() == 58);
-    assert!(rt; cancelled.as_slice().starts_with(b"E\0\0\0\x33SERROR\0VERROR\0C57014\0"));
+    assert!(rt;
+        cancelled
+            .as_slice()
+            .starts_with(b"E\0\0\0\x33SERROR\0VERROR\0C57014\0")
+    );
     let next = answer(alloc, &mut session, b"Q\0\0\0\x05\0")?;
     assert!(rt; next.as_slice() == b"I\0\0\0\x04Z\0\0\0\x05I".as_slice());
     Ok(())

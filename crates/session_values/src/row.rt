@@ -10,7 +10,6 @@ pub struct Row {
     values: Vec<Option<Text>>,
 }
 
-/// A drop of its own is proved here once, and not wherever one is held.
 impl Drop for Row {
     fn drop(self) {
         let Row { values: _ } = self;

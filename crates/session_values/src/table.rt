@@ -15,7 +15,6 @@ pub struct Table {
     rows: AppendList<Row>,
 }
 
-/// A drop of its own is proved here once, and not wherever one is held.
 impl Drop for Table {
     fn drop(self) {
         let Table {

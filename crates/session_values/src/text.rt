@@ -20,7 +20,6 @@ pub struct Text {
     bytes: Vec<u8>,
 }
 
-/// A drop of its own is proved here once, and not wherever one is held.
 impl Drop for Text {
     fn drop(self) {
         let Text { bytes: _ } = self;

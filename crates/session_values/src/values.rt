@@ -20,7 +20,6 @@ pub struct Values {
     list: Shared<Text>,
 }
 
-/// A drop of its own is proved here once, and not wherever one is held.
 impl Drop for Values {
     fn drop(self) {
         let Values { list: _ } = self;

@@ -16,7 +16,6 @@ pub struct AppendList<T> {
     tail: Shared<T>,
 }
 
-/// A drop of its own is proved here once, and not wherever one is held.
 impl<T: Drop> Drop for AppendList<T> {
     fn drop(self) {
         let AppendList { full: _, tail: _ } = self;

@@ -11,7 +11,6 @@ pub struct Shared<T> {
     list: Arc<Vec<Arc<T>>>,
 }
 
-/// A drop of its own is proved here once, and not wherever one is held.
 impl<T: Drop> Drop for Shared<T> {
     fn drop(self) {
         let Shared { list: _ } = self;

@@ -25,7 +25,6 @@ pub struct StartKey {
     pub parameters: Vec<StartParameter>,
 }
 
-/// A drop of its own is proved here once, and not wherever one is held.
 impl Drop for StartKey {
     fn drop(self) {
         let StartKey {

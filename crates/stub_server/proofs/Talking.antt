@@ -19,7 +19,7 @@ use Rattle.frame_view.specs.Laws.{FirstGrows, FirstReadIsSpelled, FrontGrows}
 use Rattle.frame_view.proofs.FirstTaken.{started}
 use Rattle.frame_view.proofs.Splitting.{frames-stopped}
 use Rattle.frame_view.proofs.Taking.{taken}
-use Rattle.run_laws.proofs.GoesOn.{unmarked_run}
+use Rattle.session_run_laws.proofs.GoesOn.{unmarked_run}
 use Rattle.session_machine.specs.Sessions.{SessionOf}
 use Rattle.session_values.specs.declared.cause.Cause.{Cause}
 use Rattle.session_values.specs.Answers.{Gave, frame_of}

@@ -5,9 +5,9 @@ ghost use Rattle.stub_server.specs.Talks.{HasEnded, IsNew, Turns};
 
 use crate::talk::Talk;
 use message_view::KeyWord;
-use server_catalogue::Catalogue;
 use server_end::gate::Gate;
 use server_end::{ClientEnd, ServerEnd};
+use session_catalogue::Catalogue;
 use std::alloc::Global;
 use std::sync::Arc;
 

@@ -4,7 +4,7 @@ ghost use Rattle.std.specs.Prelude.{◌≡◌, [], ◌∷◌};
 use crate::connection::serve_client;
 use message_view::KeyWord;
 use mio::net::TcpListener;
-use server_catalogue::Catalogue;
+use session_catalogue::Catalogue;
 use std::alloc::Global;
 use std::net::Net;
 use std::sync::{Arc, Wait};

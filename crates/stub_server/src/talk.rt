@@ -16,7 +16,7 @@ use frame_view::laws::{
 use frame_view::{FirstStep, LONGEST_FRAME, Side, Step, first_packet, next_frame};
 use link_laws::futures_stay;
 use message_view::{KeyWord, StartupView, put_authentication_ok};
-use server_catalogue::Catalogue;
+use session_catalogue::Catalogue;
 use session_machine::Session;
 use session_values::error_responses::put_fatal;
 use session_values::stop::Stop;
@@ -60,7 +60,6 @@ pub struct Host {
     own: KeyWord,
 }
 
-/// A drop of its own is proved here once, and not wherever one is held.
 impl Drop for Host {
     fn drop(self) {
         let Host {
@@ -79,7 +78,6 @@ pub struct Talk {
     outbox: BytesMut,
 }
 
-/// A drop of its own is proved here once, and not wherever one is held.
 impl Drop for Talk {
     fn drop(self) {
         let Talk {

@@ -25,7 +25,6 @@ pub struct Acceptor {
     events: Events<Global>,
 }
 
-/// A drop of its own is proved here once, and not wherever one is held.
 impl Drop for Acceptor {
     fn drop(self) {
         let Acceptor {

@@ -31,7 +31,6 @@ pub struct TcpGate {
     link: Option<Arc<AtomicBool>>,
 }
 
-/// A drop of its own is proved here once, and not wherever one is held.
 impl Drop for TcpGate {
     fn drop(self) {
         let TcpGate {

@@ -3,7 +3,7 @@ ghost use Rattle.std.specs.Prelude.{◌<◌};
 ghost use Rattle.lease_book.specs.Links.{IsTwice};
 
 use crate::gone::{Gone, key};
-use book_lists::limits::Limits;
+use book_model::limits::Limits;
 use lease_book::book::Book;
 use lease_book::events::{Event, Reply};
 use link_run::links::{CleanLink, Lent};

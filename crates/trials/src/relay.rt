@@ -7,7 +7,7 @@ use link_run::links::Lent;
 use message_view::KeyWord;
 use param_track::Reported;
 use relay_core::relay::Relay;
-use relay_steps::Next;
+use relay_laws::Next;
 use server_end::gate::Ready;
 use std::alloc::{AllocError, Global};
 

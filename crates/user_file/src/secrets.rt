@@ -16,7 +16,6 @@ pub enum Secret {
     Md5([u8; 32]),
 }
 
-/// A drop of its own is proved here once, and not wherever one is held.
 impl Drop for Secret {
     fn drop(self) {
         match self {

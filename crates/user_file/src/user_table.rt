@@ -17,7 +17,6 @@ pub struct UserRow {
     pub secret: Secret,
 }
 
-/// A drop of its own is proved here once, and not wherever one is held.
 impl Drop for UserRow {
     fn drop(self) {
         let UserRow { name: _, secret: _ } = self;
@@ -35,7 +34,6 @@ pub struct Users {
     by_name: IndexMap<Vec<u8>, UserRow>,
 }
 
-/// A drop of its own is proved here once, and not wherever one is held.
 impl Drop for Users {
     fn drop(self) {
         let Users { by_name: _ } = self;

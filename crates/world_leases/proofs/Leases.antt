@@ -14,13 +14,13 @@ use Rattle.session_values.specs.Lawful.{IsLawfulKey}
 use Rattle.session_laws.specs.Laws.{Reaches}
 use Rattle.session_laws.specs.Starts.{StartErrorIsFrame}
 use Rattle.session_laws.proofs.ByName.{fresh_is_at_rest, fresh_is_reached}
-use Rattle.run_laws.proofs.ByName.{runs_stay_reached}
+use Rattle.session_run_laws.proofs.ByName.{runs_stay_reached}
 use Rattle.login_core.specs.Talk.{End}
 use Rattle.login_core.specs.Talk.End.{Passed}
 use Rattle.login_core.specs.Dialogue.{Way, Reason, ToLink, login}
 use Rattle.login_core.specs.Solo.{after_in}
-use Rattle.book_lists.specs.Outcomes.Event.{Arrive, Ask, Take, Tick}
-use Rattle.book_lists.specs.declared.events.Reply.TheVariants.{Arrived, Lend, Start, Done, Close}
+use Rattle.book_model.specs.Outcomes.Event.{Arrive, Ask, Take, Tick}
+use Rattle.book_model.specs.declared.events.Reply.TheVariants.{Arrived, Lend, Start, Done, Close}
 use Rattle.world_steps.specs.Clients.Phase.{Absent, LoggingIn, Waiting, Starting, Served, Finishing, Refusing, Closed}
 use Rattle.world_steps.specs.Links.Role.{Unborn, Promised, Lent, InReset, Clean, Idle, Gone}
 use Rattle.world_steps.specs.Steps.IsInHand.{in_reset}
@@ -35,10 +35,10 @@ use Rattle.world_steps.specs.Links.{IsSettled, IsReset, Link, newborn}
 use Rattle.world_steps.specs.Relation.{IsLent, IsClean, RoleFits, InLogin, InQueue, InService, PhaseFits, TicketFits, Related}
 use Rattle.world_steps.specs.Steps.{gone, promised, gets_link, IsInHand}
 use Rattle.world_steps.specs.Worlds.{World, put, with_client, with_link, with_pair, with_book}
-use Rattle.book_lists.specs.Book.{Book}
-use Rattle.book_lists.specs.Outcomes.{Answer, Event, apply, apply_return}
-use Rattle.book_lists.specs.declared.events.Reply.{Reply}
-use Rattle.book_lists.specs.Laws.{IsPlain, PlainEventsAddNothing, ArrivalsNumber, AsksQueue, TakesLend, TakesStart, TakesEvict, ReturnsAdd, ReturnsClose, TicksClose, AddsNothing, StartsNothing, Lends, Starts, Drops, Numbers}
+use Rattle.book_model.specs.Book.{Book}
+use Rattle.book_model.specs.Outcomes.{Answer, Event, apply, apply_return}
+use Rattle.book_model.specs.declared.events.Reply.{Reply}
+use Rattle.book_model.specs.Laws.{IsPlain, PlainEventsAddNothing, ArrivalsNumber, AsksQueue, TakesLend, TakesStart, TakesEvict, ReturnsAdd, ReturnsClose, TicksClose, AddsNothing, StartsNothing, Lends, Starts, Drops, Numbers}
 use Rattle.world_steps.specs.Laws.{BookStepsKeep, LinkStepsKeep}
 use Rattle.world_steps.specs.Steps.{Gives}
 use Rattle.world_steps.specs.Steps.BookStep.{plain_event, arrives, asks, is_lent, is_promised, is_promised_for, gives_back, gives_back_too_late, tick_closes}

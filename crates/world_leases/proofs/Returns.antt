@@ -8,8 +8,8 @@ use Rattle.session_values.specs.State.{State, CatalogueOf, StartKeyOf, Answer, f
 use Rattle.session_values.specs.Step.{step, run_frames}
 use Rattle.session_laws.specs.Laws.{IsSent, IsAtRest, Reaches, HasKey, discard_all}
 use Rattle.session_laws.proofs.ByName.{discard_all_gives_fresh, discard_all_is_frame, reached_has_key}
-use Rattle.run_laws.specs.Settling.{IsAnswered, IsQuiet}
-use Rattle.run_laws.proofs.ByName.{run_replies_are_frames, settled_is_quiet}
+use Rattle.session_run_laws.specs.Settling.{IsAnswered, IsQuiet}
+use Rattle.session_run_laws.proofs.ByName.{run_replies_are_frames, settled_is_quiet}
 use Rattle.link_laws.proofs.Splits.{SplitsOff, split_whole}
 use Rattle.world_steps.proofs.Sole.{all_client}
 use Rattle.frame_view.specs.declared.frames.TheConstants.{LONGEST_FRAME}

@@ -3,7 +3,7 @@
 
 ghost use Rattle.world_steps.specs.Laws.{BookStepsKeep, LinkStepsKeep};
 
-use book_lists::book_laws;
+use book_model::book_laws;
 use session_laws::starts::start_error_is_frame;
 
 /// Events of the book, the clock and its limits keep the relation.

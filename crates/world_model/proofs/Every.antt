@@ -2,6 +2,7 @@
 use Rattle.std.proofs.Common.{⊎_elim, ◌≡◌, ℕ, List, [], ◌∷◌, ◌++◌, ◌⊎◌, inl, inr, refl, sym, ap, ap₂, ◌∙◌, subst, append_assoc, append-nil, Option, Some, None, true}
 use Rattle.std.specs.Prelude.{map}
 use Rattle.std.specs.List.{flat_map}
+use Rattle.std.proofs.lemmas.Option.{none-some}
 use Rattle.frame_view.specs.declared.Side.TheVariants.{Client as OfClient}
 use Rattle.frame_view.specs.Frames.{FrameOf, Cut, spelling}
 use Rattle.frame_view.proofs.Splitting.{frames-stopped}
@@ -16,8 +17,8 @@ use Rattle.login_core.specs.Dialogue.{LoginRow, Way, ToLink, ToConsole, Reason, 
 use Rattle.login_core.specs.Solo.{service_pieces, after_in, solo_in}
 use Rattle.world_steps.specs.Clients.Phase.{Starting, Served}
 use Rattle.world_steps.specs.Links.Role.{Promised, Lent, Idle}
-use Rattle.book_lists.specs.Book.{Book, Limits}
-use Rattle.book_lists.specs.Laws.{HasLink, HasTicket}
+use Rattle.book_model.specs.Book.{Book, Limits}
+use Rattle.book_model.specs.Laws.{HasLink, HasTicket}
 use Rattle.world_steps.specs.Clients.{Phase}
 use Rattle.world_steps.specs.Links.{Role}
 use Rattle.world_steps.specs.Relation.{PhaseFits, RoleFits}
@@ -54,10 +55,7 @@ keeps k {w} {v} (link_step s) = k.link w v s
 keeps k {w} {v} (end_step s) = k.end w v s
 
 no_number : {A : Type 0} {m : Option ℕ} {n : ℕ} → m ≡ None → m ≡ Some n → A
-no_number {A} {m} {n} e f = absurd (go (sym e ∙ f))
-  where
-    go : ◌≡◌ {A = Option ℕ} None (Some n) → ⊥
-    go p = cc
+no_number {A} {m} {n} e f = absurd (none-some n (sym e ∙ f))
 
 pub at_first : (w : World) (limits : Limits) → IsEmpty w limits → Related w
 at_first w limits h = record {

@@ -9,7 +9,7 @@ use Rattle.session_values.specs.Step.{run_frames}
 use Rattle.session_values.specs.Service.{client_frames}
 use Rattle.login_core.specs.Talk.End.{Passed}
 use Rattle.login_core.specs.Dialogue.{ToLink, login}
-use Rattle.book_lists.specs.Laws.{HasLink}
+use Rattle.book_model.specs.Laws.{HasLink}
 use Rattle.world_steps.specs.Clients.{Client, Phase, given}
 use Rattle.world_steps.specs.Clients.Phase.{Starting, Served}
 use Rattle.world_steps.specs.Links.{Link}

@@ -7,7 +7,7 @@ use Rattle.frame_view.specs.Frames.{FrameOf, spelling}
 use Rattle.message_view.specs.Refusals.{joined_pieces}
 use Rattle.session_values.specs.State.{Answer, CatalogueOf, State, and_then}
 use Rattle.session_values.specs.Step.{marks_after, run_frames}
-use Rattle.run_laws.proofs.ByName.{runs_go_on}
+use Rattle.session_run_laws.proofs.ByName.{runs_go_on}
 use Rattle.world_steps.specs.Relation.{IsFront}
 
 pub front_refl : {A : Type 0} (xs : List A) → IsFront xs xs

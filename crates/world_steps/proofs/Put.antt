@@ -1,5 +1,6 @@
 -- What a change of one client or one link leaves of the facts on the others.
 use Rattle.std.proofs.Common.{◌≡◌, ◌≢◌, ℕ, Bool, true, false, refl, sym, ap, ◌∙◌, subst, nat_eq, ◌==◌, if◌then◌else◌, eqb-true, eq-eqb}
+use Rattle.std.proofs.lemmas.Bool.{false≢true}
 use Rattle.session_values.specs.State.{CatalogueOf, StartKeyOf, Address, address_of}
 use Rattle.world_steps.specs.Clients.Phase.{Absent, LoggingIn, Waiting, Starting, Served, Finishing, Refusing, Closed}
 use Rattle.world_steps.specs.Links.Role.{Lent, Promised}
@@ -18,10 +19,7 @@ at_bool Q x y false f g = g refl
 -- at each number: the changed value there, the old value elsewhere
 pub put_case : {A : Type 0} (Q : A → Type 0) (f : ℕ → A) (k : ℕ) (x : A) (i : ℕ) → (i ≡ k → Q x) → (i ≢ k → Q (f i)) → Q (put f k x i)
 put_case Q f k x i here there =
-    at_bool Q x (f i) (i == k) (λ e. here (eqb-true i k e)) (λ e. there (λ h. absurd (differ (sym e ∙ subst (λ j. nat_eq i j ≡ true) h (nat_eq-same i)))))
-  where
-    differ : false ≡ true → ⊥
-    differ e = cc
+    at_bool Q x (f i) (i == k) (λ e. here (eqb-true i k e)) (λ e. there (λ h. absurd (false≢true (sym e ∙ subst (λ j. nat_eq i j ≡ true) h (nat_eq-same i)))))
 
 pub put_all : {A : Type 0} (P : ℕ → A → Type 0) (f : ℕ → A) (k : ℕ) (x : A) → P k x → ((i : ℕ) → i ≢ k → P i (f i)) → (i : ℕ) → P i (put f k x i)
 put_all {A} P f k x here there i = put_case (P i) f k x i (λ e. subst (λ j. P j x) (sym e) here) (there i)

@@ -1,6 +1,7 @@
 -- A link under moves of bytes, a server's step and a death.
 use Rattle.std.proofs.Common.{◌≡◌, ℕ, true, false, List, [], ◌∷◌, ◌++◌, refl, sym, ap, ◌∙◌, append_assoc, append-nil}
 use Rattle.std.specs.List.{flat_map}
+use Rattle.std.proofs.lemmas.Bool.{false≢true}
 use Rattle.frame_view.specs.Frames.{FrameOf, spelling}
 use Rattle.session_values.specs.State.{State, CatalogueOf, Address, address_of}
 use Rattle.session_values.specs.Step.{step, run_frames}
@@ -15,9 +16,6 @@ use Rattle.world_steps.specs.Relation.{Runs, IsClean, RoleFits}
 -- what came over the link and what is in the outbox are together what they were
 moved : (received outbox bytes rest : List ℕ) → outbox ≡ bytes ++ rest → (received ++ bytes) ++ rest ≡ received ++ outbox
 moved received outbox bytes rest e = append_assoc received bytes rest ∙ ap (λ (l : List ℕ). received ++ l) (sym e)
-
-false_not_true : false ≡ true → ⊥
-false_not_true e = cc
 
 module _ {cat : CatalogueOf} {base : State} {y : Link} where
   pub runs_gets : (bytes : List ℕ) → Runs cat base y → Runs cat base (link_gets y bytes)
@@ -47,7 +45,7 @@ module _ {cat : CatalogueOf} {base : State} {y : Link} where
     sent_is = r.sent_is;
     session_is = r.session_is;
     told = front_trans (front_under y.received (record { rest = lost; is = sym e })) r.told;
-    all_told = λ live. absurd (false_not_true live);
+    all_told = λ live. absurd (false≢true live);
   }
 
 -- one frame more

@@ -1,13 +1,14 @@
 -- Each step of a client, its worker and a server keeps the relation, step by step.
-use Rattle.std.proofs.Common.{◌≡◌, ◌⊎◌, inl, inr, ℕ, true, List, [], ◌++◌, refl, sym, ap, ◌∙◌, subst, append_assoc, Option, Some, None}
+use Rattle.std.proofs.Common.{◌≡◌, ◌⊎◌, inl, inr, ℕ, true, List, [], ◌++◌, refl, sym, ap, ◌∙◌, subst, append_assoc}
+use Rattle.std.proofs.lemmas.Option.{none-some}
 use Rattle.frame_view.specs.Frames.{FrameOf, spelling}
 use Rattle.message_view.specs.declared.KeyWord.{KeyWord}
 use Rattle.message_view.specs.declared.refusal.Refusal.{Refusal}
 use Rattle.message_view.specs.Refusals.{joined_pieces, refusal}
 use Rattle.session_values.specs.State.{CatalogueOf, StartKeyOf, Address, address_of}
 use Rattle.session_laws.specs.Laws.{IsSent}
-use Rattle.start_key_laws.specs.StartKeys.{IsLawfulRow}
-use Rattle.login_keys.proofs.ByName.{passed_keys_are_link_keys}
+use Rattle.login_laws.specs.StartKeys.{IsLawfulRow}
+use Rattle.login_laws.proofs.ByName.{passed_keys_are_link_keys}
 use Rattle.login_core.specs.Talk.End.{Passed}
 use Rattle.login_core.specs.Dialogue.{LoginRow, ToLink, login}
 use Rattle.world_steps.specs.Clients.Phase.{Absent, LoggingIn, Waiting, Starting, Served, Finishing, Refusing, Closed}
@@ -46,10 +47,7 @@ role_at {w} l role r e = subst (λ (p : Role). RoleFits w.catalogue p (w.links l
 
 no_number : (x : Client) (row : LoginRow) (word : KeyWord) → SameNumber x (newcomer row word)
 unfolding SameNumber
-no_number x row word = λ n e. absurd (go n e)
-  where
-    go : (n : ℕ) → ◌≡◌ {A = Option ℕ} None (Some n) → ⊥
-    go n e = cc
+no_number x row word = λ n e. absurd (none-some n e)
 
 -- ---- a client
 pub step_comes : (w : World) (c : ℕ) (row : LoginRow) (word : KeyWord) → Related w → (w.clients c).phase ≡ Absent → IsLawfulRow row.database → Related (with_client w c (newcomer row word))

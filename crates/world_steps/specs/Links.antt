@@ -7,7 +7,7 @@ use Rattle.frame_view.specs.declared.frames.TheConstants.{LONGEST_FRAME}
 use Rattle.frame_view.specs.Frames.{FrameOf, IsFrame, spelling}
 use Rattle.session_values.specs.State.{State, StartKeyOf}
 use Rattle.session_laws.specs.Laws.{discard_all}
-use Rattle.run_laws.specs.Settling.{IsAnswered}
+use Rattle.session_run_laws.specs.Settling.{IsAnswered}
 
 -- what a link is there for
 pub data Role : Type 0 where

@@ -11,11 +11,11 @@ use Rattle.session_values.specs.State.{State, CatalogueOf, StartKeyOf, fresh, Ad
 use Rattle.session_values.specs.Step.{run_frames}
 use Rattle.session_values.specs.Service.{welcome}
 use Rattle.session_laws.specs.Laws.{IsSent, IsAtRest, Reaches}
-use Rattle.start_key_laws.specs.StartKeys.{IsLawfulRow}
+use Rattle.login_laws.specs.StartKeys.{IsLawfulRow}
 use Rattle.login_core.specs.Talk.End.{Passed}
 use Rattle.login_core.specs.Dialogue.{ToLink, login}
 use Rattle.login_core.specs.Solo.{after_in, solo_in}
-use Rattle.book_lists.specs.Laws.{HasLink, HasTicket}
+use Rattle.book_model.specs.Laws.{HasLink, HasTicket}
 use Rattle.world_steps.specs.Clients.{Client, Phase}
 use Rattle.world_steps.specs.Clients.Phase.{Absent, LoggingIn, Waiting, Starting, Served, Finishing, Refusing, Closed}
 use Rattle.world_steps.specs.Links.{Link, Role}

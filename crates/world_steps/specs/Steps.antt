@@ -12,15 +12,15 @@ use Rattle.session_values.specs.State.{State, StartKeyOf, CatalogueOf, fresh, Ad
 use Rattle.session_values.specs.Step.{step}
 use Rattle.session_values.specs.Service.{welcome}
 use Rattle.session_laws.specs.Laws.{IsSent, discard_all}
-use Rattle.start_key_laws.specs.StartKeys.{IsLawfulRow}
+use Rattle.login_laws.specs.StartKeys.{IsLawfulRow}
 use Rattle.login_core.specs.Talk.End.{Passed}
 use Rattle.login_core.specs.Dialogue.{LoginRow, ToLink, login}
-use Rattle.book_lists.specs.Book.{Book, Limits, empty_book}
-use Rattle.book_lists.specs.Outcomes.{Answer, Event, apply, apply_return}
-use Rattle.book_lists.specs.declared.events.Reply.{Reply}
-use Rattle.book_lists.specs.Outcomes.Event.{Arrive, Ask, Take, Tick}
-use Rattle.book_lists.specs.declared.events.Reply.TheVariants.{Arrived, Lend, Start, Close, Done}
-use Rattle.book_lists.specs.Laws.{IsPlain}
+use Rattle.book_model.specs.Book.{Book, Limits, empty_book}
+use Rattle.book_model.specs.Outcomes.{Answer, Event, apply, apply_return}
+use Rattle.book_model.specs.declared.events.Reply.{Reply}
+use Rattle.book_model.specs.Outcomes.Event.{Arrive, Ask, Take, Tick}
+use Rattle.book_model.specs.declared.events.Reply.TheVariants.{Arrived, Lend, Start, Close, Done}
+use Rattle.book_model.specs.Laws.{IsPlain}
 use Rattle.world_steps.specs.Clients.{AtBorder, Client, HasEnded, MayWrite, newcomer}
 use Rattle.world_steps.specs.Clients.Phase.{Absent, LoggingIn, Waiting, Starting, Served, Finishing, Refusing, Closed}
 use Rattle.world_steps.specs.Links.{IsReset, IsSettled, Link, Role, newborn}

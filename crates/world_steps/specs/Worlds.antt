@@ -2,7 +2,7 @@
 use Rattle.std.specs.Prelude.{ℕ, List, [], ◌==◌, if◌then◌else◌}
 use Rattle.session_values.specs.State.{Address, CatalogueOf}
 use Rattle.login_core.specs.Solo.{solo_in}
-use Rattle.book_lists.specs.Book.{Book}
+use Rattle.book_model.specs.Book.{Book}
 use Rattle.world_steps.specs.Clients.{Client}
 use Rattle.world_steps.specs.Links.{Link}
 

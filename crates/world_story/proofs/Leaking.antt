@@ -13,7 +13,7 @@ use Rattle.session_values.specs.State.{State, started_over, fresh}
 use Rattle.session_values.specs.Step.{step, run_frames}
 use Rattle.session_laws.specs.Laws.{IsSent}
 use Rattle.login_core.specs.Dialogue.{ok}
-use Rattle.book_lists.specs.Outcomes.{apply, apply_return}
+use Rattle.book_model.specs.Outcomes.{apply, apply_return}
 use Rattle.world_steps.specs.Clients.{MayWrite}
 use Rattle.world_steps.specs.Clients.MayWrite.{served}
 use Rattle.world_steps.specs.Clients.HasEnded.{closed}

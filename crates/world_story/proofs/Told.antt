@@ -24,17 +24,17 @@ use Rattle.session_values.specs.Step.{step, run_frames}
 use Rattle.session_values.proofs.Alls.{all-as, list_all-each}
 use Rattle.session_laws.specs.Laws.{IsSent, discard_all}
 use Rattle.param_track.specs.StartKeys.{always_followed}
-use Rattle.start_key_laws.specs.StartKeys.{IsLawfulRow}
+use Rattle.login_laws.specs.StartKeys.{IsLawfulRow}
 use Rattle.login_core.specs.Dialogue.{LoginRow, ok}
-use Rattle.book_lists.specs.Book.{Limits, empty_book}
-use Rattle.book_lists.specs.Outcomes.{apply, apply_return}
+use Rattle.book_model.specs.Book.{Limits, empty_book}
+use Rattle.book_model.specs.Outcomes.{apply, apply_return}
 use Rattle.world_steps.specs.Clients.{Client, MayWrite}
 use Rattle.world_steps.specs.Clients.Phase.{Absent, Refusing}
 use Rattle.world_steps.specs.Clients.AtBorder.{past_login}
 use Rattle.message_view.specs.declared.refusal.Refusal.TheVariants.{ServerFailed}
 use Rattle.message_view.specs.Refusals.{refusal}
 use Rattle.session_laws.proofs.ByName.{fresh_is_reached, welcome_is_frames}
-use Rattle.login_keys.proofs.ByName.{passed_keys_are_link_keys}
+use Rattle.login_laws.proofs.ByName.{passed_keys_are_link_keys}
 use Rattle.world_steps.specs.Clients.MayWrite.{served}
 use Rattle.world_steps.specs.Clients.HasEnded.{closed, refusing}
 use Rattle.world_steps.specs.Links.{Link}

@@ -1,4 +1,4 @@
-use Rattle.relay_steps.specs.Leases.{Keeps}
+use Rattle.relay_laws.specs.Leases.{Keeps}
 use Rattle.pool_serve.proofs.relaying.pumped.Given as goal
 
 abbrev pub invariant-loop : goal.invariant-loop

@@ -4,7 +4,7 @@ use Rattle.mini_sql.specs.Meanings.{meaning}
 use Rattle.session_values.specs.Answers.{Gave}
 use Rattle.session_values.specs.Extended.{execute_outcome}
 use Rattle.session_values.specs.Runs.{run}
-use Rattle.statement_runs.specs.Rans.{outcome_of, ran_of}
+use Rattle.session_statements.specs.Rans.{outcome_of, ran_of}
 use Rattle.session_machine.proofs.Endings.{ran_executes}
 use Rattle.session_machine.proofs.execute.execute_first.Goals as goal
 

@@ -1,5 +1,5 @@
 use Rattle.std.proofs.Common.{sym, ◌∙◌}
-use Rattle.book_lists.specs.Events.{event_of}
+use Rattle.book_model.specs.Events.{event_of}
 use Rattle.book_register.proofs.Decisions.{goes_on, last_one, strangers}
 use Rattle.book_register.proofs.board.Board.apply.Goals as goal
 

@@ -1,6 +1,6 @@
 use Rattle.std.proofs.Common.{ℕ, ◌≤◌, ap, sym, ◌∙◌, subst}
 use Rattle.std.specs.Prelude.{count_by}
-use Rattle.book_lists.specs.Book.{Book, Link, is_link}
+use Rattle.book_model.specs.Book.{Book, Link, is_link}
 use Rattle.book_register.proofs.Returns.{none_stale, stale_gone}
 use Rattle.book_register.proofs.board.Board.closes_first.Goals as goal
 

@@ -1,5 +1,5 @@
 use Rattle.std.proofs.Common.{rules, ◌≡◌, None, Some, refl, sym, ◌∙◌}
-use Rattle.book_lists.specs.Events.{event_of}
+use Rattle.book_model.specs.Events.{event_of}
 use Rattle.book_register.proofs.Decisions.{counted_is, still_counted, still_more}
 use Rattle.book_register.proofs.board.Board.decides.Goals as goal
 

@@ -1,6 +1,6 @@
 use Rattle.std.proofs.Common.{ap, sym, ◌∙◌}
 use Rattle.std.specs.Prelude.{position}
-use Rattle.book_lists.specs.Book.{Book, is_link}
+use Rattle.book_model.specs.Book.{Book, is_link}
 use Rattle.book_register.proofs.Returns.{no_link}
 use Rattle.book_register.proofs.board.Board.gives_back.Goals as goal
 

@@ -1,6 +1,6 @@
 use Rattle.std.proofs.Common.{ℕ, ◌≤◌, sym, ap, subst, arith}
 use Rattle.std.specs.Prelude.{count_by}
-use Rattle.book_lists.specs.Book.{Book, Link, is_client, is_link, is_of}
+use Rattle.book_model.specs.Book.{Book, Link, is_client, is_link, is_of}
 use Rattle.book_register.proofs.Takes.{evict_done, lend_done, one_idle, one_ticket, start_done, ticket_read, wait_done}
 use Rattle.book_register.proofs.board.Board.grants.Goals as goal
 

@@ -1,7 +1,7 @@
 use Rattle.std.proofs.Common.{◌≡◌, false, subst}
-use Rattle.book_lists.specs.Events.{event_of}
-use Rattle.book_lists.specs.Outcomes.{is_strange}
-use Rattle.book_lists.specs.declared.events.Event.{Event}
+use Rattle.book_model.specs.Events.{event_of}
+use Rattle.book_model.specs.Outcomes.{is_strange}
+use Rattle.book_model.specs.declared.events.Event.{Event}
 use Rattle.book_register.proofs.Decisions.{asker_has_room}
 use Rattle.book_register.proofs.board.Board.happens.Goals as goal
 

@@ -1,6 +1,6 @@
 use Rattle.std.proofs.Common.{ℕ, ◌≤◌, sym, subst}
 use Rattle.std.specs.Prelude.{count_by}
-use Rattle.book_lists.specs.Book.{Book, is_client}
+use Rattle.book_model.specs.Book.{Book, is_client}
 use Rattle.book_register.proofs.board.Board.lends.Goals as goal
 
 pub put_in_state-requires : goal.put_in_state-requires

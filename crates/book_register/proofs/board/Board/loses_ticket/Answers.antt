@@ -1,6 +1,6 @@
 use Rattle.std.proofs.Common.{ℕ, ◌≤◌, sym, subst}
 use Rattle.std.specs.Prelude.{count_by}
-use Rattle.book_lists.specs.Book.{Book, is_of}
+use Rattle.book_model.specs.Book.{Book, is_of}
 use Rattle.book_register.proofs.board.Board.loses_ticket.Goals as goal
 
 pub remove-requires : goal.remove-requires

@@ -1,6 +1,6 @@
 use Rattle.std.proofs.Common.{◌≡◌, true, false, sym, ◌∙◌}
 use Rattle.std.specs.Prelude.{position, nat_lt}
-use Rattle.book_lists.specs.Book.{Link, in_pool, link_count, pool_count, pool_size}
+use Rattle.book_model.specs.Book.{Link, in_pool, link_count, pool_count, pool_size}
 use Rattle.book_register.proofs.Choices.{book_full, pool_full, start_chosen}
 use Rattle.book_register.proofs.board.Board.room_for.Goals as goal
 

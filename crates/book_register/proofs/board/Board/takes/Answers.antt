@@ -1,6 +1,6 @@
 use Rattle.std.proofs.Common.{◌≡◌, ◌≤◌, ℕ, None, sym, subst}
 use Rattle.std.specs.Prelude.{count_by, position}
-use Rattle.book_lists.specs.Book.{Book, is_of}
+use Rattle.book_model.specs.Book.{Book, is_of}
 use Rattle.book_register.proofs.Takes.{no_ticket, one_ticket}
 use Rattle.book_register.proofs.board.Board.takes.Goals as goal
 

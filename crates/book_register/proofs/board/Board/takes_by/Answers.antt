@@ -1,5 +1,5 @@
 use Rattle.std.proofs.Common.{◌≡◌, ap, sym, ◌∙◌}
-use Rattle.book_lists.specs.Book.{Book, Ticket, waiting_before}
+use Rattle.book_model.specs.Book.{Book, Ticket, waiting_before}
 use Rattle.session_values.specs.State.{StartKeyOf}
 use Rattle.book_register.proofs.Takes.{granted_done, is_first, late_done, one_ticket, shut_done, waiting_done}
 use Rattle.book_register.proofs.board.Board.takes_by.Goals as goal

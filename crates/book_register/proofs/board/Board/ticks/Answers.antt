@@ -1,6 +1,6 @@
 use Rattle.std.proofs.Common.{ℕ, ◌≤◌, sym, subst}
 use Rattle.std.specs.Prelude.{count_by}
-use Rattle.book_lists.specs.Book.{Book, is_link}
+use Rattle.book_model.specs.Book.{Book, is_link}
 use Rattle.book_register.proofs.Returns.{tick_done}
 use Rattle.book_register.proofs.Takes.{one_idle}
 use Rattle.book_register.proofs.board.Board.ticks.Goals as goal

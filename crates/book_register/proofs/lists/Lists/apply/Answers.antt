@@ -1,4 +1,4 @@
-use Rattle.book_lists.specs.Events.{event_of}
+use Rattle.book_model.specs.Events.{event_of}
 use Rattle.book_register.proofs.Beginnings.{kept_on}
 use Rattle.book_register.proofs.lists.Lists.apply.Goals as goal
 

@@ -1,5 +1,5 @@
 use Rattle.std.proofs.Common.{◌∙◌, sym}
-use Rattle.book_lists.specs.Book.{is_client}
+use Rattle.book_model.specs.Book.{is_client}
 use Rattle.book_rows.proofs.Places.{only_one}
 use Rattle.book_rows.proofs.clients.Clients.place_of.Goals as goal
 

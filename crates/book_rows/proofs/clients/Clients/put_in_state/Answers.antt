@@ -1,7 +1,7 @@
 use Rattle.std.proofs.Common.{◌≡◌, Some, List, rules, sym, ◌∙◌, ap, subst, get_or}
 use Rattle.std.proofs.Math.ListN.{set}
 use Rattle.std.specs.Prelude.{position}
-use Rattle.book_lists.specs.Book.{Client, is_client}
+use Rattle.book_model.specs.Book.{Client, is_client}
 use Rattle.book_rows.proofs.Places.{changed_none, changed_one}
 use Rattle.book_rows.proofs.clients.Clients.put_in_state.Goals as goal
 

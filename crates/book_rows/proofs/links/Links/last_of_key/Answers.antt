@@ -1,6 +1,6 @@
 use Rattle.std.proofs.Common.{◌≡◌, subst, get_or, ap, sym, ◌∙◌, List, take_all}
 use Rattle.start_keys.specs.Keys.{same_key}
-use Rattle.book_lists.specs.Book.{Link}
+use Rattle.book_model.specs.Book.{Link}
 use Rattle.book_rows.specs.Places.{IsLast}
 use Rattle.book_rows.proofs.Places.{last_goes_on, last_stays}
 use Rattle.book_rows.proofs.links.Links.last_of_key.Goals as goal

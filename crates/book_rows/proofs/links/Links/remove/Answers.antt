@@ -1,6 +1,6 @@
 use Rattle.std.proofs.Common.{◌≡◌, Some, List, rules, sym, ◌∙◌, ap}
 use Rattle.std.specs.Prelude.{position, remove}
-use Rattle.book_lists.specs.Book.{Link, is_link}
+use Rattle.book_model.specs.Book.{Link, is_link}
 use Rattle.book_rows.proofs.Places.{removed_none, removed_one}
 use Rattle.book_rows.proofs.links.Links.remove.Goals as goal
 

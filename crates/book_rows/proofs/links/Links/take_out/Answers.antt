@@ -1,7 +1,7 @@
 use Rattle.std.proofs.Common.{◌≡◌, ◌∙◌, ap, sym, true, refl, get_or, List}
 use Rattle.std.specs.Prelude.{remove}
 use Rattle.std.proofs.lemmas.Bool.{eq-eqb}
-use Rattle.book_lists.specs.Book.{Link, is_link}
+use Rattle.book_model.specs.Book.{Link, is_link}
 use Rattle.book_rows.proofs.Places.{remove_one}
 use Rattle.book_rows.proofs.links.Links.take_out.Goals as goal
 

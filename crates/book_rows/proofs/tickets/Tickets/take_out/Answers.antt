@@ -1,7 +1,7 @@
 use Rattle.std.proofs.Common.{◌≡◌, ◌∙◌, ap, sym, true, refl, rules, get_or, List}
 use Rattle.std.specs.Prelude.{remove}
 use Rattle.std.proofs.lemmas.Bool.{eq-eqb}
-use Rattle.book_lists.specs.Book.{Ticket, is_of}
+use Rattle.book_model.specs.Book.{Ticket, is_of}
 use Rattle.book_rows.proofs.Places.{remove_one}
 use Rattle.book_rows.proofs.tickets.Tickets.take_out.Goals as goal
 

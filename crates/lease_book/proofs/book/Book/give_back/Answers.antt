@@ -1,5 +1,5 @@
 use Rattle.std.proofs.Common.{rules, ◌≡◌, true, false}
-use Rattle.book_lists.specs.Outcomes.{apply_return}
+use Rattle.book_model.specs.Outcomes.{apply_return}
 use Rattle.lease_book.specs.Links.{is_done}
 use Rattle.lease_book.proofs.Returns.{has_place, holds_one_more, may_be_handed, still_holds}
 use Rattle.lease_book.proofs.book.Book.give_back.Goals as goal

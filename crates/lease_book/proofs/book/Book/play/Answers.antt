@@ -1,5 +1,5 @@
 use Rattle.std.proofs.Common.{rules}
-use Rattle.book_lists.specs.Events.{event_of}
+use Rattle.book_model.specs.Events.{event_of}
 use Rattle.lease_book.proofs.Holding.{holds_after, named_after, once_idle}
 use Rattle.lease_book.proofs.book.Book.play.Goals as goal
 

@@ -1,5 +1,5 @@
 use Rattle.std.proofs.Common.{arith}
-use Rattle.book_lists.specs.Events.{event_of}
+use Rattle.book_model.specs.Events.{event_of}
 use Rattle.lease_book.proofs.Kept.{leads_on, leads_still}
 use Rattle.lease_book.proofs.history.Register.apply.Goals as goal
 

@@ -1,7 +1,7 @@
 use Rattle.std.proofs.Common.{⊎_elim, ap, sym, ◌∙◌, subst}
 use Rattle.std.proofs.lemmas.List.{drop_all}
 use Rattle.frame_view.specs.Frames.{spelling}
-use Rattle.run_laws.specs.Laws.{discard_all}
+use Rattle.session_run_laws.specs.Laws.{discard_all}
 use Rattle.server_end.specs.Standing.{was_struck}
 use Rattle.link_run.specs.Resets.{ResetView, IsAnsweredReset, IsResetFrom}
 use Rattle.link_run.proofs.Resetting.{answered}

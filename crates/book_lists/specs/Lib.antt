@@ -1,5 +1,0 @@
-pub mod Book
-pub mod Outcomes
-pub mod Replay
-pub mod Events
-pub mod Laws

@@ -1,0 +1,367 @@
+-- What each event of the book leaves.
+use Rattle.std.proofs.Common.{◌≡◌, ◌≢◌, ℕ, suc, Bool, true, false, cond, not, ◌&&◌, ◌||◌, List, [], ◌∷◌, ◌++◌, ◌⊎◌, inl, inr, refl, sym, ap, ◌∙◌, subst, arith, Option, Some, None, nat_lt, ◌==◌, eqb-true, length, eq-eqb, ⊎_elim, le_refl, find}
+use Rattle.std.proofs.lemmas.Bool.{false≢true}
+use Rattle.std.proofs.lemmas.Option.{none-some, same_Some}
+use Rattle.message_view.specs.declared.refusal.Refusal.{Refusal}
+use Rattle.message_view.specs.declared.refusal.Refusal.TheVariants.{WaitedTooLong, ShuttingDown, LastDecision}
+use Rattle.session_values.specs.State.{StartKeyOf}
+use Rattle.start_keys.specs.Keys.{same_key}
+use Rattle.start_keys.specs.SameKeys.{same_keys-one}
+use Rattle.book_model.specs.Book.{Book, Link, Ticket, find_last, in_pool, is_link, is_of, latest_of, link_count, or_else, pool_count, pool_size, waiting_before, without, without_ticket}
+use Rattle.book_model.specs.declared.counts.Counts.{Counts}
+use Rattle.book_model.specs.declared.counts.Kind.{Kind}
+use Rattle.book_model.specs.declared.events.ClientState.TheVariants.{Waiting}
+use Rattle.book_model.specs.declared.events.Reply.{Reply}
+use Rattle.book_model.specs.Outcomes.{Answer, Event, apply, apply_return, at_clock, closes, counted, evicts, gives_back, grants, has_waited, in_state, is_crowded, is_old, is_stale, is_started_as, is_strange, kind_of, last_decision, loses_ticket, outcome, raised, starts, takes, waits}
+use Rattle.book_model.specs.Outcomes.Event.{Arrive, Ask, Take, GiveBack, Lost, StartFailed, Leave, Tick, NewLimits, Pause, Resume, Shutdown}
+use Rattle.book_model.specs.declared.events.Reply.TheVariants.{Arrived, Queued, Lend, Start, Close, Refuse, Done, Stranger}
+use Rattle.book_model.specs.Laws.{AddsNothing, Drops, HasLink, HasTicket, Lends, Numbers, Queues, Starts, StartsNothing, TakesBack}
+use Rattle.book_model.specs.Laws.{PlainEventsAddNothing, ArrivalsNumber, AsksQueue, TakesLend, TakesStart, TakesEvict, ReturnsAdd, ReturnsClose, TicksClose}
+use Rattle.book_model.specs.Laws.IsPlain.{turned_away, waits_no_more, lost, start_failed, leave, ticks, new_limits, pause, resume, shutdown}
+use Rattle.book_model.specs.Laws.IsPlain.{waits as waits_on}
+
+first_of : (a b : Bool) → (a && b) ≡ true → a ≡ true
+first_of true b e = refl
+first_of false b e = absurd (false≢true e)
+
+-- ---- the lists without one entry, and with one more
+
+without_keeps : (n m : ℕ) (key : StartKeyOf) (links : List Link) → HasLink m key (without n links) → HasLink m key links × (m ≢ n)
+without_keeps n m key [] h = absurd h
+without_keeps n m key (link ∷ links) h = go (link.number == n) refl h (without_keeps n m key links)
+  where
+    differs : (link.number == n) ≡ false → link.number ≡ m → m ≢ n
+    differs e p q = absurd (false≢true (sym e ∙ eq-eqb link.number n (p ∙ q)))
+
+    go : (b : Bool) → (link.number == n) ≡ b → HasLink m key (cond (not b) (link ∷ without n links) (without n links)) →
+        (HasLink m key (without n links) → HasLink m key links × (m ≢ n)) → HasLink m key (link ∷ links) × (m ≢ n)
+    go true e k ih = let r = ih k in (inr r.0, r.1)
+    go false e (inl k) ih = (inl k, differs e k.0)
+    go false e (inr k) ih = let r = ih k in (inr r.0, r.1)
+
+tickets_keep : (client c : ℕ) (key : StartKeyOf) (ts : List Ticket) → HasTicket c key (without_ticket client ts) → HasTicket c key ts
+tickets_keep client c key [] h = h
+tickets_keep client c key (t ∷ ts) h = go (not (is_of client t)) h (tickets_keep client c key ts)
+  where
+    go : (b : Bool) → HasTicket c key (cond b (t ∷ without_ticket client ts) (without_ticket client ts)) → (HasTicket c key (without_ticket client ts) → HasTicket c key ts) → HasTicket c key (t ∷ ts)
+    go false k ih = inr (ih k)
+    go true (inl k) ih = inl k
+    go true (inr k) ih = inr (ih k)
+
+ticket_added : (c : ℕ) (key : StartKeyOf) (u : Ticket) (ts : List Ticket) → HasTicket c key (ts ++ u ∷ []) → HasTicket c key ts ⊎ ((u.client ≡ c) × (u.key ≡ key))
+ticket_added c key u [] (inl h) = inr h
+ticket_added c key u [] (inr h) = absurd h
+ticket_added c key u (v ∷ ts) (inl h) = inl (inl h)
+ticket_added c key u (v ∷ ts) (inr h) = go (ticket_added c key u ts h)
+  where
+    go : HasTicket c key ts ⊎ ((u.client ≡ c) × (u.key ≡ key)) → HasTicket c key (v ∷ ts) ⊎ ((u.client ≡ c) × (u.key ≡ key))
+    go (inl k) = inl (inr k)
+    go (inr k) = inr k
+
+link_added : (n : ℕ) (key : StartKeyOf) (u : Link) (links : List Link) → HasLink n key (links ++ u ∷ []) → HasLink n key links ⊎ ((u.number ≡ n) × (u.key ≡ key))
+link_added n key u [] (inl h) = inr h
+link_added n key u [] (inr h) = absurd h
+link_added n key u (v ∷ links) (inl h) = inl (inl h)
+link_added n key u (v ∷ links) (inr h) = go (link_added n key u links h)
+  where
+    go : HasLink n key links ⊎ ((u.number ≡ n) × (u.key ≡ key)) → HasLink n key (v ∷ links) ⊎ ((u.number ≡ n) × (u.key ≡ key))
+    go (inl k) = inl (inr k)
+    go (inr k) = inr k
+
+-- ---- what is found is there
+
+ticket_found : (client : ℕ) (ts : List Ticket) (t : Ticket) → find (is_of client) ts ≡ Some t → HasTicket client t.key ts
+ticket_found client [] t e = absurd (none-some _ e)
+ticket_found client (u ∷ us) t e = go (u.client == client) refl e (ticket_found client us t)
+  where
+    go : (b : Bool) → (u.client == client) ≡ b → cond b (Some u) (find (is_of client) us) ≡ Some t → (find (is_of client) us ≡ Some t → HasTicket client t.key us) → HasTicket client t.key (u ∷ us)
+    go true q p ih = inl (eqb-true u.client client q, ap (λ (v : Ticket). v.key) (same_Some _ _ p))
+    go false q p ih = inr (ih p)
+
+record Found (test : Link → Bool) (links : List Link) (link : Link) : Type 0 where
+  has : HasLink link.number link.key links
+  passes : test link ≡ true
+
+found_here : (test : Link → Bool) (l : Link) (ls : List Link) (link : Link) → test l ≡ true → l ≡ link → Found test (l ∷ ls) link
+found_here test l ls link q e = record { has = inl (ap (λ (m : Link). m.number) e, ap (λ (m : Link). m.key) e); passes = sym (ap test e) ∙ q }
+
+found_there : (test : Link → Bool) (l : Link) (ls : List Link) (link : Link) → Found test ls link → Found test (l ∷ ls) link
+found_there test l ls link f = record { has = inr f.has; passes = f.passes }
+
+first_found : (test : Link → Bool) (links : List Link) (link : Link) → find test links ≡ Some link → Found test links link
+first_found test [] link e = absurd (none-some _ e)
+first_found test (l ∷ ls) link e = go (test l) refl e (first_found test ls link)
+  where
+    go : (b : Bool) → test l ≡ b → cond b (Some l) (find test ls) ≡ Some link → (find test ls ≡ Some link → Found test ls link) → Found test (l ∷ ls) link
+    go true q p ih = found_here test l ls link q (same_Some _ _ p)
+    go false q p ih = found_there test l ls link (ih p)
+
+last_found : (test : Link → Bool) (links : List Link) (link : Link) → find_last test links ≡ Some link → Found test links link
+last_found test [] link e = absurd (none-some _ e)
+last_found test (l ∷ ls) link e = go (find_last test ls) refl (test l) refl e (last_found test ls link)
+  where
+    go : (o : Option Link) → find_last test ls ≡ o → (b : Bool) → test l ≡ b → or_else o (cond b (Some l) None) ≡ Some link → (find_last test ls ≡ Some link → Found test ls link) → Found test (l ∷ ls) link
+    go None q true r p ih = found_here test l ls link r (same_Some _ _ p)
+    go None q false r p ih = absurd (none-some _ p)
+    go (Some m) q b r p ih = found_there test l ls link (ih (q ∙ p))
+
+latest_found : (key : StartKeyOf) (links : List Link) (link : Link) → latest_of key links ≡ Some link → HasLink link.number key links
+latest_found key links link e =
+    let f = last_found (λ (l : Link). same_key l.key key) links link e in
+    subst (λ (k : StartKeyOf). HasLink link.number k links) ((same_keys-one link.key key).0 f.passes) f.has
+
+-- ---- an event is answered as it is for what is there, or changes nothing
+
+-- the book with another number of decisions
+abbrev with_counts : Book → ℕ → Counts → Book
+with_counts b d counts = record b { decisions = d; counts = counts }
+
+by_branch : {A : Type 0} (P : A → Type 0) (d : Bool) (x y : A) → P x → P y → P (cond d x y)
+by_branch P true x y h k = h
+by_branch P false x y h k = k
+
+by_known_branch : {A : Type 0} (P : A → Type 0) (d : Bool) (x y : A) → (d ≡ true → P x) → P y → P (cond d x y)
+by_known_branch P true x y h k = h refl
+by_known_branch P false x y h k = k
+
+counted_fits : (F : Book → Type 0) (b : Book) (kind : Option Kind) → ((d : ℕ) (counts : Counts) → F (with_counts b d counts)) → F (counted b kind)
+counted_fits F b None f = f b.decisions b.counts
+counted_fits F b (Some kind) f = f (suc b.decisions) (raised kind b.counts)
+
+-- an answer fits however its decision is counted
+AnswerFits : (Reply → Book → Type 0) → Answer → Type 0
+AnswerFits F a = (d : ℕ) (counts : Counts) → F a.reply (with_counts a.book d counts)
+
+applied : (F : Reply → Book → Type 0) (b : Book) (e : Event) → F (Refuse LastDecision) b → F Stranger b → AnswerFits F (outcome b e) → F (apply b e).reply (apply b e).book
+unfolding apply AnswerFits
+applied F b e h k f =
+    by_branch (λ (a : Answer). F a.reply a.book) (b.decisions == last_decision) _ _ h
+    (by_branch (λ (a : Answer). F a.reply a.book) (is_strange b e) _ _ k (counted_fits (F (outcome b e).reply) (outcome b e).book (kind_of b e (outcome b e).reply) f))
+
+nothing_new : (b : Book) (d : ℕ) (counts : Counts) → AddsNothing b (with_counts b d counts)
+nothing_new b d counts = record { next_client = le_refl b.next_client; idle = λ n key h. h; tickets = λ c key h. h }
+
+nothing_started : (b : Book) (d : ℕ) (counts : Counts) → StartsNothing b (with_counts b d counts)
+nothing_started b d counts = record { adds_nothing = nothing_new b d counts; next_link = refl }
+
+unchanged : (b : Book) → StartsNothing b b
+unchanged b = nothing_started b b.decisions b.counts
+
+-- ---- a Take
+
+DropsAny : Book → Option ℕ → Book → Type 0
+DropsAny old None new = Unit {0}
+DropsAny old (Some l) new = Drops old l new
+
+TakeFits : Book → ℕ → Reply → Book → Type 0
+TakeFits old c (Lend l) new = Lends old c l new
+TakeFits old c (Start l born evicted) new = Starts old l new × DropsAny old evicted new
+TakeFits old c (Arrived n) new = StartsNothing old new
+TakeFits old c (Queued n) new = StartsNothing old new
+TakeFits old c (Close n) new = StartsNothing old new
+TakeFits old c (Refuse n) new = StartsNothing old new
+TakeFits old c Done new = StartsNothing old new
+TakeFits old c Stranger new = StartsNothing old new
+
+waits_ok : (b : Book) (c : ℕ) (t : Ticket) → AnswerFits (TakeFits b c) (waits b t)
+unfolding AnswerFits TakeFits
+waits_ok b c t = λ d counts. nothing_started b d counts
+
+loses_ok : (b : Book) (c : ℕ) (t : Ticket) (refusal : Refusal) → AnswerFits (TakeFits b c) (loses_ticket b t refusal)
+unfolding AnswerFits TakeFits
+loses_ok b c t refusal = λ d counts. record { adds_nothing = record { next_client = le_refl b.next_client; idle = λ n key h. h; tickets = λ u key h. tickets_keep t.client u key b.tickets h }; next_link = refl }
+
+starts_ok : (b : Book) (c : ℕ) (t : Ticket) → AnswerFits (TakeFits b c) (starts b t b.idle None)
+unfolding AnswerFits TakeFits DropsAny
+starts_ok b c t = λ d counts. (record { number = refl; next_link = refl; adds_nothing = record { next_client = le_refl b.next_client; idle = λ n key h. h; tickets = λ u key h. tickets_keep t.client u key b.tickets h } }, tt)
+
+evicts_ok : (b : Book) (c : ℕ) (t : Ticket) (test : Link → Bool) (o : Option Link) → find test b.idle ≡ o → AnswerFits (TakeFits b c) (evicts b t o)
+unfolding AnswerFits TakeFits DropsAny
+evicts_ok b c t test None e = λ d counts. nothing_started b d counts
+evicts_ok b c t test (Some old) e = λ d counts. (
+  record { number = refl; next_link = refl; adds_nothing = record { next_client = le_refl b.next_client; idle = λ n key k. (without_keeps old.number n key b.idle k).0; tickets = λ u key h. tickets_keep t.client u key b.tickets h } },
+  record { key = old.key; was_idle = (first_found test b.idle old e).has; not_idle = λ n key k. (without_keeps old.number n key b.idle k).1 },
+)
+
+grants_ok : (b : Book) (c : ℕ) (t : Ticket) (o : Option Link) → HasTicket c t.key b.tickets → latest_of t.key b.idle ≡ o → AnswerFits (TakeFits b c) (grants b t o)
+unfolding AnswerFits TakeFits
+grants_ok b c t None h e =
+    by_branch (λ (a : Answer). AnswerFits (TakeFits b c) a) (nat_lt (pool_count b t.key) (pool_size b.limits t.key)) _ _
+    (by_branch (λ (a : Answer). AnswerFits (TakeFits b c) a) (nat_lt (link_count b) b.limits.max_links) _ _ (starts_ok b c t) (evicts_ok b c t (λ link. true) (find (λ link. true) b.idle) refl))
+    (evicts_ok b c t (in_pool t.key) (find (in_pool t.key) b.idle) refl)
+grants_ok b c t (Some link) h e = λ d counts. record {
+  key = t.key;
+  has_ticket = h;
+  was_idle = latest_found t.key b.idle link e;
+  not_idle = λ n key k. (without_keeps link.number n key b.idle k).1;
+  starts_nothing = record { adds_nothing = record { next_client = le_refl b.next_client; idle = λ n key k. (without_keeps link.number n key b.idle k).0; tickets = λ u key k. tickets_keep t.client u key b.tickets k }; next_link = refl };
+}
+
+takes_ok : (b : Book) (c : ℕ) (o : Option Ticket) → find (is_of c) b.tickets ≡ o → AnswerFits (TakeFits b c) (takes b o)
+unfolding AnswerFits TakeFits
+takes_ok b c None e = λ d counts. nothing_started b d counts
+takes_ok b c (Some t) e =
+    by_branch (λ (a : Answer). AnswerFits (TakeFits b c) a) b.is_shut _ _ (loses_ok b c t ShuttingDown)
+    (by_branch (λ (a : Answer). AnswerFits (TakeFits b c) a) (has_waited b t) _ _ (loses_ok b c t WaitedTooLong)
+    (by_branch (λ (a : Answer). AnswerFits (TakeFits b c) a) (b.is_paused || not (waiting_before t.key t.client b.tickets == 0)) _ _ (waits_ok b c t)
+    (grants_ok b c t (latest_of t.key b.idle) (ticket_found c b.tickets t e) refl)))
+
+take_event : (b : Book) (c : ℕ) → TakeFits b c (apply b (Take c)).reply (apply b (Take c)).book
+unfolding TakeFits
+take_event b c = applied (TakeFits b c) b (Take c) (unchanged b) (unchanged b) (takes_ok b c (find (is_of c) b.tickets) refl)
+
+take_of : (b : Book) (c : ℕ) (r : Reply) → (apply b (Take c)).reply ≡ r → TakeFits b c r (apply b (Take c)).book
+take_of b c r e = subst (λ (s : Reply). TakeFits b c s (apply b (Take c)).book) e (take_event b c)
+
+pub takes_lend : TakesLend
+unfolding TakeFits
+takes_lend b c l e = take_of b c (Lend l) e
+
+pub takes_start : TakesStart
+unfolding TakeFits
+takes_start b c l born e = (take_of b c (Start l born None) e).0
+
+pub takes_evict : TakesEvict
+unfolding TakeFits DropsAny
+takes_evict b c l born old e = take_of b c (Start l born (Some old)) e
+
+-- ---- an Ask
+
+pub asks_queue : AsksQueue
+unfolding AnswerFits
+asks_queue b c key = applied (λ r new. Queues b c key new) b (Ask c key) (same b.decisions b.counts) (same b.decisions b.counts)
+    (by_branch (λ (a : Answer). AnswerFits (λ r new. Queues b c key new) a) b.is_shut _ _ same added)
+  where
+    same : (d : ℕ) (counts : Counts) → Queues b c key (with_counts b d counts)
+    same d counts = record { idle = λ n k h. h; tickets = λ u k h. inl h; next_client = refl; next_link = refl }
+
+    added : (d : ℕ) (counts : Counts) → Queues b c key (with_counts (record b { clients = in_state Waiting c b.clients; tickets = b.tickets ++ record { client = c; key = key; since = b.clock } ∷ [] }) d counts)
+    added d counts = record {
+      idle = λ n k h. h;
+      tickets = λ u k h. ticket_added u k (record { client = c; key = key; since = b.clock }) b.tickets h;
+      next_client = refl;
+      next_link = refl;
+    }
+
+-- ---- a return
+
+BackFits : Book → ℕ → StartKeyOf → Reply → Book → Type 0
+BackFits old l key Done new = TakesBack old l key new
+BackFits old l key (Close n) new = StartsNothing old new
+BackFits old l key (Lend n) new = Unit {0}
+BackFits old l key (Start n born evicted) new = Unit {0}
+BackFits old l key (Arrived n) new = Unit {0}
+BackFits old l key (Queued n) new = Unit {0}
+BackFits old l key (Refuse n) new = Unit {0}
+BackFits old l key Stranger new = Unit {0}
+
+back_ok : (b : Book) (l : ℕ) (key : StartKeyOf) (o : Option Link) → find (is_link l) b.lent ≡ o → (born : ℕ) → is_started_as key born o ≡ true → AnswerFits (BackFits b l key) (gives_back b o)
+unfolding BackFits AnswerFits
+back_ok b l key None e born s = λ d counts. tt
+back_ok b l key (Some link) e born s =
+    by_branch (λ (a : Answer). AnswerFits (BackFits b l key) a) (is_old b link || is_crowded b link) _ _
+    (λ d counts. record { adds_nothing = record { next_client = le_refl b.next_client; idle = λ n k h. h; tickets = λ u k h. h }; next_link = refl })
+    (λ d counts. record { idle = λ n k h. ⊎_elim (λ q. inl q) (λ q. inr (sym number ∙ q.0, sym key_is ∙ q.1)) (link_added n k (record link { since = b.clock }) b.idle h); tickets = λ u k h. h; next_client = refl; next_link = refl })
+  where
+    number : link.number ≡ l
+    number = eqb-true link.number l (first_found (is_link l) b.lent link e).passes
+
+    key_is : link.key ≡ key
+    key_is = (same_keys-one link.key key).0 (first_of (same_key link.key key) (link.born == born) s)
+
+back_event : (b : Book) (l : ℕ) (key : StartKeyOf) (born : ℕ) → BackFits b l key (apply_return b l key born).reply (apply_return b l key born).book
+unfolding BackFits apply_return
+back_event b l key born =
+    by_branch (λ (a : Answer). BackFits b l key a.reply a.book) (b.decisions == last_decision) _ _ tt
+    (by_known_branch (λ (a : Answer). BackFits b l key a.reply a.book) (is_started_as key born (find (is_link l) b.lent)) _ _
+    (λ s. applied (BackFits b l key) b (GiveBack l) tt tt (back_ok b l key (find (is_link l) b.lent) refl born s)) tt)
+
+back_of : (b : Book) (l : ℕ) (key : StartKeyOf) (born : ℕ) (r : Reply) → (apply_return b l key born).reply ≡ r → BackFits b l key r (apply_return b l key born).book
+back_of b l key born r e = subst (λ (s : Reply). BackFits b l key s (apply_return b l key born).book) e (back_event b l key born)
+
+pub returns_add : ReturnsAdd
+unfolding BackFits
+returns_add b l key born e = back_of b l key born Done e
+
+pub returns_close : ReturnsClose
+unfolding BackFits
+returns_close b l n key born e = back_of b l key born (Close n) e
+
+-- ---- the clock
+
+TickFits : Book → Reply → Book → Type 0
+TickFits old (Close n) new = StartsNothing old new × Drops old n new
+TickFits old Done new = StartsNothing old new
+TickFits old (Lend n) new = Unit {0}
+TickFits old (Start n born evicted) new = Unit {0}
+TickFits old (Arrived n) new = Unit {0}
+TickFits old (Queued n) new = Unit {0}
+TickFits old (Refuse n) new = Unit {0}
+TickFits old Stranger new = Unit {0}
+
+tick_ok : (b : Book) (now : ℕ) (o : Option Link) → find (is_stale (at_clock b now)) b.idle ≡ o → AnswerFits (TickFits b) (closes (at_clock b now) o)
+unfolding TickFits AnswerFits
+tick_ok b now None e = λ d counts. record { adds_nothing = record { next_client = le_refl b.next_client; idle = λ n k h. h; tickets = λ u k h. h }; next_link = refl }
+tick_ok b now (Some link) e = λ d counts. (
+  record { adds_nothing = record { next_client = le_refl b.next_client; idle = λ n k h. (without_keeps link.number n k b.idle h).0; tickets = λ u k h. h }; next_link = refl },
+  record { key = link.key; was_idle = (first_found (is_stale (at_clock b now)) b.idle link e).has; not_idle = λ n k h. (without_keeps link.number n k b.idle h).1 },
+)
+
+tick_event : (b : Book) (now : ℕ) → TickFits b (apply b (Tick now)).reply (apply b (Tick now)).book
+unfolding TickFits
+tick_event b now = applied (TickFits b) b (Tick now) tt tt (tick_ok b now (find (is_stale (at_clock b now)) b.idle) refl)
+
+tick_of : (b : Book) (now : ℕ) (r : Reply) → (apply b (Tick now)).reply ≡ r → TickFits b r (apply b (Tick now)).book
+tick_of b now r e = subst (λ (s : Reply). TickFits b s (apply b (Tick now)).book) e (tick_event b now)
+
+pub ticks_close : TicksClose
+unfolding TickFits
+ticks_close b now n e = tick_of b now (Close n) e
+
+-- ---- an Arrive
+
+ArriveFits : Book → Reply → Book → Type 0
+ArriveFits old (Arrived n) new = Numbers old n new
+ArriveFits old (Refuse n) new = StartsNothing old new
+ArriveFits old Done new = Unit {0}
+ArriveFits old (Lend n) new = Unit {0}
+ArriveFits old (Start n born evicted) new = Unit {0}
+ArriveFits old (Close n) new = Unit {0}
+ArriveFits old (Queued n) new = Unit {0}
+ArriveFits old Stranger new = Unit {0}
+
+arrive_event : (b : Book) → ArriveFits b (apply b Arrive).reply (apply b Arrive).book
+unfolding ArriveFits AnswerFits
+arrive_event b = applied (ArriveFits b) b Arrive (unchanged b) tt
+    (by_branch (λ (a : Answer). AnswerFits (ArriveFits b) a) b.is_shut _ _ (λ d counts. nothing_started b d counts)
+    (by_branch (λ (a : Answer). AnswerFits (ArriveFits b) a) (nat_lt (length b.clients) b.limits.max_clients) _ _
+    (λ d counts. record { number = refl; next_client = refl; starts_nothing = record { adds_nothing = record { next_client = omega arith; idle = λ n key h. h; tickets = λ u key h. h }; next_link = refl } })
+    (λ d counts. nothing_started b d counts)))
+
+arrive_of : (b : Book) (r : Reply) → (apply b Arrive).reply ≡ r → ArriveFits b r (apply b Arrive).book
+arrive_of b r e = subst (λ (s : Reply). ArriveFits b s (apply b Arrive).book) e (arrive_event b)
+
+pub arrivals_number : ArrivalsNumber
+unfolding ArriveFits
+arrivals_number b n e = arrive_of b (Arrived n) e
+
+-- ---- the other events
+
+changes_little : (b : Book) (e : Event) → AnswerFits (λ r new. StartsNothing b new) (outcome b e) → StartsNothing b (apply b e).book
+changes_little b e h = applied (λ r new. StartsNothing b new) b e (unchanged b) (unchanged b) h
+
+pub plain_events_add_nothing : PlainEventsAddNothing
+unfolding TakeFits TickFits ArriveFits AnswerFits
+plain_events_add_nothing b Arrive _ (turned_away {refusal = n}) q = arrive_of b (Refuse n) q
+plain_events_add_nothing b (Take c) _ (waits_on {before = n}) q = take_of b c (Queued n) q
+plain_events_add_nothing b (Take c) _ (waits_no_more {refusal = n}) q = take_of b c (Refuse n) q
+plain_events_add_nothing b (Tick now) _ ticks q = tick_of b now Done q
+plain_events_add_nothing b (Lost n) r lost q = changes_little b (Lost n) (λ d counts. record { adds_nothing = record { next_client = le_refl b.next_client; idle = λ m key h. h; tickets = λ u key h. h }; next_link = refl })
+plain_events_add_nothing b (StartFailed n) r start_failed q = changes_little b (StartFailed n) (λ d counts. record { adds_nothing = record { next_client = le_refl b.next_client; idle = λ m key h. h; tickets = λ u key h. h }; next_link = refl })
+plain_events_add_nothing b (Leave c) r leave q = changes_little b (Leave c) (λ d counts. record { adds_nothing = record { next_client = le_refl b.next_client; idle = λ m key h. h; tickets = λ u key h. tickets_keep c u key b.tickets h }; next_link = refl })
+plain_events_add_nothing b (NewLimits limits) r new_limits q = changes_little b (NewLimits limits) (λ d counts. record { adds_nothing = record { next_client = le_refl b.next_client; idle = λ m key h. h; tickets = λ u key h. h }; next_link = refl })
+plain_events_add_nothing b Pause r pause q = changes_little b Pause (λ d counts. record { adds_nothing = record { next_client = le_refl b.next_client; idle = λ m key h. h; tickets = λ u key h. h }; next_link = refl })
+plain_events_add_nothing b Resume r resume q = changes_little b Resume (λ d counts. record { adds_nothing = record { next_client = le_refl b.next_client; idle = λ m key h. h; tickets = λ u key h. h }; next_link = refl })
+plain_events_add_nothing b Shutdown r shutdown q = changes_little b Shutdown (λ d counts. record { adds_nothing = record { next_client = le_refl b.next_client; idle = λ m key h. h; tickets = λ u key h. h }; next_link = refl })
+plain_events_add_nothing b (Ask c key) r p q = elim p [ ]
+plain_events_add_nothing b (GiveBack n) r p q = elim p [ ]

@@ -1,0 +1,29 @@
+use Rattle.book_model.proofs.Outcomes.{plain_events_add_nothing, arrivals_number, asks_queue, takes_lend, takes_start, takes_evict, returns_add, returns_close, ticks_close}
+use Rattle.book_model.proofs.book_laws.Goals as goal
+
+pub returns-clause-plain : goal.returns-clause-plain
+returns-clause-plain c = plain_events_add_nothing
+
+pub returns-clause-arrives : goal.returns-clause-arrives
+returns-clause-arrives c = arrivals_number
+
+pub returns-clause-asks : goal.returns-clause-asks
+returns-clause-asks c = asks_queue
+
+pub returns-clause-lends : goal.returns-clause-lends
+returns-clause-lends c = takes_lend
+
+pub returns-clause-starts : goal.returns-clause-starts
+returns-clause-starts c = takes_start
+
+pub returns-clause-evicts : goal.returns-clause-evicts
+returns-clause-evicts c = takes_evict
+
+pub returns-clause-gives_back : goal.returns-clause-gives_back
+returns-clause-gives_back c = returns_add
+
+pub returns-clause-too_late : goal.returns-clause-too_late
+returns-clause-too_late c = returns_close
+
+pub returns-clause-tick : goal.returns-clause-tick
+returns-clause-tick c = ticks_close

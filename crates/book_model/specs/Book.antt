@@ -1,0 +1,127 @@
+-- The lease book as plain lists: who is there, who waits, and which links there are.
+use Rattle.std.specs.Prelude.{ℕ, Bool, false, List, [], ◌∷◌, Option, Some, None, not, cond, ◌==◌, ◌&&◌, ◌+◌, length, filter, count_by, bytes_eq}
+use Rattle.session_values.specs.State.{StartKeyOf}
+use Rattle.start_keys.specs.Keys.{same_key}
+use Rattle.book_model.specs.declared.counts.Counts.{Counts}
+use Rattle.book_model.specs.declared.events.ClientState.{ClientState}
+
+pub record Client : Type 0 where
+  pub number : ℕ
+  -- in its login; waiting, from its Ask until a Take of it is granted; active
+  pub state : ClientState
+
+-- a client waits for a link of this key, since this second
+pub record Ticket : Type 0 where
+  pub client : ℕ
+  pub key : StartKeyOf
+  pub since : ℕ
+
+-- `born`: the second of its start; `since`: that of its last return, or of its start
+pub record Link : Type 0 where
+  pub number : ℕ
+  pub key : StartKeyOf
+  pub born : ℕ
+  pub since : ℕ
+
+-- how many links a pool of this database row may have
+pub record RowSize : Type 0 where
+  pub row : List ℕ
+  pub size : ℕ
+
+-- seconds; a wait or idle timeout of 0 is none
+pub record Limits : Type 0 where
+  pub max_clients : ℕ
+  pub max_links : ℕ
+  pub row_sizes : List RowSize
+  pub default_size : ℕ
+  pub wait_timeout : ℕ
+  pub lifetime : ℕ
+  pub idle_timeout : ℕ
+
+-- clients in the order of Arrive, tickets in that of Ask, lent links in that of their Take, idle ones in that of their return
+pub record Book : Type 0 where
+  pub clients : List Client
+  pub tickets : List Ticket
+  pub lent : List Link
+  pub idle : List Link
+  pub next_client : ℕ
+  pub next_link : ℕ
+  pub clock : ℕ
+  pub limits : Limits
+  pub is_paused : Bool
+  pub is_shut : Bool
+  -- all decisions, and those of each kind
+  pub decisions : ℕ
+  pub counts : Counts
+  -- links started, lent again, closed for another's start, and lost or failed
+  pub starts : ℕ
+  pub reuses : ℕ
+  pub evictions : ℕ
+  pub losses : ℕ
+
+abbrev pub no_counts : Counts
+no_counts = record { arrived = 0; arrivals_refused = 0; asked = 0; asks_refused = 0; granted = 0; tickets_lost = 0; given_back = 0; lost = 0; starts_failed = 0; left = 0; ticked = 0; limited = 0; paused = 0; resumed = 0; shut_down = 0 }
+
+abbrev pub empty_book : Limits → Book
+empty_book limits = record { clients = []; tickets = []; lent = []; idle = []; next_client = 1; next_link = 1; clock = 0; limits = limits; is_paused = false; is_shut = false; decisions = 0; counts = no_counts; starts = 0; reuses = 0; evictions = 0; losses = 0 }
+
+-- ---- pools: a pool is a database row's name and a user
+
+abbrev pub same_pool : StartKeyOf → StartKeyOf → Bool
+same_pool a b = bytes_eq a.row b.row && bytes_eq a.user b.user
+
+-- the size of the first of this name, or the default
+abbrev pub size_in : List RowSize → ℕ → List ℕ → ℕ
+size_in [] size name = size
+size_in (r ∷ rs) size name = cond (bytes_eq r.row name) r.size (size_in rs size name)
+
+abbrev pub pool_size : Limits → StartKeyOf → ℕ
+pool_size limits pool = size_in limits.row_sizes limits.default_size pool.row
+
+abbrev pub in_pool : StartKeyOf → Link → Bool
+in_pool pool link = same_pool link.key pool
+
+-- the links of a pool, and all
+abbrev pub pool_count : Book → StartKeyOf → ℕ
+pool_count b pool = count_by (in_pool pool) b.lent + count_by (in_pool pool) b.idle
+
+abbrev pub link_count : Book → ℕ
+link_count b = length b.lent + length b.idle
+
+-- ---- who is there
+
+abbrev pub is_client : ℕ → Client → Bool
+is_client n c = c.number == n
+
+abbrev pub is_of : ℕ → Ticket → Bool
+is_of client t = t.client == client
+
+abbrev pub is_link : ℕ → Link → Bool
+is_link n link = link.number == n
+
+abbrev pub without : ℕ → List Link → List Link
+without n links = filter (λ link. not (is_link n link)) links
+
+abbrev pub without_ticket : ℕ → List Ticket → List Ticket
+without_ticket client tickets = filter (λ t. not (is_of client t)) tickets
+
+abbrev pub without_client : ℕ → List Client → List Client
+without_client n clients = filter (λ c. not (is_client n c)) clients
+
+-- how many tickets of a pool stand before a client's
+abbrev pub waiting_before : StartKeyOf → ℕ → List Ticket → ℕ
+waiting_before pool client [] = 0
+waiting_before pool client (t ∷ ts) = cond (is_of client t) 0 (cond {A = ℕ} (same_pool t.key pool) 1 0 + waiting_before pool client ts)
+
+abbrev pub or_else : {A : Type 0} → Option A → Option A → Option A
+or_else None other = other
+or_else (Some x) other = Some x
+
+-- the last that passes
+abbrev pub find_last : {A : Type 0} → (A → Bool) → List A → Option A
+find_last test [] = None
+find_last test (x ∷ xs) = or_else (find_last test xs) (cond (test x) (Some x) None)
+
+-- the latest returned link of this key
+abbrev pub latest_of : StartKeyOf → List Link → Option Link
+latest_of key idle = find_last (λ link. same_key link.key key) idle

@@ -1,0 +1,61 @@
+-- What holds of every book that was made empty and had events.
+use Rattle.std.specs.Prelude.{◌≡◌, ℕ, suc, ◌+◌, ◌≤◌, List, count_by, length}
+use Rattle.session_values.specs.State.{StartKeyOf}
+use Rattle.book_model.specs.Book.{Book, Client, Limits, Link, Ticket, empty_book, is_client, is_link, is_of}
+use Rattle.book_model.specs.Outcomes.{Event, apply, apply_return}
+use Rattle.book_model.specs.Outcomes.Event.{NewLimits}
+use Rattle.book_model.specs.declared.counts.Counts.{Counts}
+use Rattle.book_model.specs.declared.limits.TheConstants.{MOST_CLIENTS, MOST_LINKS}
+
+-- each client number stands once and below the next, and each ticket is its client's only one
+pub record KeptClients (clients : List Client) (tickets : List Ticket) (next : ℕ) : Type 0 where
+  pub fit : length clients ≤ MOST_CLIENTS
+  pub once : (n : ℕ) → count_by (is_client n) clients ≤ 1
+  pub fresh : (n : ℕ) → next ≤ n → count_by (is_client n) clients ≡ 0
+  pub of_clients : (n : ℕ) → count_by (is_of n) tickets ≤ count_by (is_client n) clients
+
+-- each link number stands once, lent or idle, and below the next
+pub record KeptLinks (lent idle : List Link) (next : ℕ) : Type 0 where
+  pub fit : length lent + length idle ≤ MOST_LINKS
+  pub once : (n : ℕ) → count_by (is_link n) lent + count_by (is_link n) idle ≤ 1
+  pub fresh : (n : ℕ) → next ≤ n → count_by (is_link n) lent + count_by (is_link n) idle ≡ 0
+
+-- all kinds together
+abbrev pub total : Counts → ℕ
+total c = c.arrived + c.arrivals_refused + c.asked + c.asks_refused + c.granted + c.tickets_lost + c.given_back + c.lost + c.starts_failed + c.left + c.ticked + c.limited + c.paused + c.resumed + c.shut_down
+
+-- the counts agree with one another and with the lists
+pub record KeptCounts (b : Book) : Type 0 where
+  pub all : total b.counts ≡ b.decisions
+  pub clients : b.next_client ≡ suc b.counts.arrived
+  pub links : b.next_link ≡ suc b.starts
+  pub grants : b.starts + b.reuses ≡ b.counts.granted
+  pub evicted : b.evictions ≤ b.starts
+  pub losses : b.losses ≡ b.counts.lost + b.counts.starts_failed
+  pub lent : length b.lent + b.counts.given_back + b.losses ≡ b.counts.granted
+
+pub record KeptLimits (l : Limits) : Type 0 where
+  pub clients : l.max_clients ≤ MOST_CLIENTS
+  pub links : l.max_links ≤ MOST_LINKS
+
+-- new limits fit, too
+abbrev pub FitsLimits : Event → Type 0
+FitsLimits (NewLimits limits) = KeptLimits limits
+FitsLimits _ = Unit {0}
+
+pub record Kept (b : Book) : Type 0 where
+  pub clients : KeptClients b.clients b.tickets b.next_client
+  pub links : KeptLinks b.lent b.idle b.next_link
+  pub counts : KeptCounts b
+  pub limits : KeptLimits b.limits
+
+-- Every event leaves a book in order that was in order.
+abbrev pub EventsKeep : Type 0
+EventsKeep = (b : Book) (e : Event) → FitsLimits e → Kept b → Kept (apply b e).book
+
+-- So does the return of a link, and an empty book is in order.
+abbrev pub ReturnsKeep : Type 0
+ReturnsKeep = (b : Book) (n : ℕ) (key : StartKeyOf) (born : ℕ) → Kept b → Kept (apply_return b n key born).book
+
+abbrev pub EmptyBooksAreKept : Type 0
+EmptyBooksAreKept = (limits : Limits) → KeptLimits limits → Kept (empty_book limits)

@@ -1,0 +1,7 @@
+pub mod Book
+pub mod Outcomes
+pub mod Replay
+pub mod Events
+pub mod Laws
+pub mod Kept
+pub mod Limits

@@ -1,0 +1,225 @@
+-- What happens to the book, and what it answers: of one event, the next lists and one reply.
+use Rattle.std.specs.Prelude.{ℕ, suc, ◌-◌, Bool, true, false, List, [], ◌∷◌, ◌++◌, Option, Some, None, not, cond, ◌==◌, ◌&&◌, ◌||◌, nat_le, nat_lt, length, find, map, count_by}
+use Rattle.std.specs.List.{list_any}
+use Rattle.message_view.specs.declared.refusal.Refusal.{Refusal}
+use Rattle.message_view.specs.declared.refusal.Refusal.TheVariants.{TooManyClients, WaitedTooLong, ShuttingDown, LastDecision}
+use Rattle.session_values.specs.State.{StartKeyOf}
+use Rattle.start_keys.specs.Keys.{same_key}
+use Rattle.book_model.specs.Book.{Book, Client, Limits, Link, Ticket, in_pool, is_client, is_link, is_of, latest_of, link_count, pool_count, pool_size, same_pool, waiting_before, without, without_client, without_ticket}
+use Rattle.book_model.specs.declared.counts.Counts.{Counts}
+use Rattle.book_model.specs.declared.counts.Kind.{Kind}
+use Rattle.book_model.specs.declared.counts.Kind.TheVariants.{Arrival, ArrivalRefused, Asking, AskRefused, Grant, TicketLost, Return, Loss, FailedStart, Leaving, Ticking, Limiting, Pausing, Resuming, Closing}
+use Rattle.book_model.specs.declared.events.ClientState.{ClientState}
+use Rattle.book_model.specs.declared.events.ClientState.TheVariants.{LoggingIn, Waiting, Active}
+use Rattle.book_model.specs.declared.events.Reply.{Reply}
+use Rattle.book_model.specs.declared.events.Reply.TheVariants.{Arrived, Queued, Lend, Start, Close, Refuse, Done, Stranger}
+
+-- an event, with clients and links by their numbers
+pub data Event : Type 0 where
+  Arrive : Event
+  Ask : (client : ℕ) → (key : StartKeyOf) → Event
+  Take : (client : ℕ) → Event
+  GiveBack : (link : ℕ) → Event
+  Lost : (link : ℕ) → Event
+  StartFailed : (link : ℕ) → Event
+  Leave : (client : ℕ) → Event
+  Tick : (now : ℕ) → Event
+  NewLimits : Limits → Event
+  Pause : Event
+  Resume : Event
+  Shutdown : Event
+
+pub record Answer : Type 0 where
+  pub book : Book
+  pub reply : Reply
+
+-- ---- a client comes, asks and leaves
+
+abbrev pub arrives : Book → Answer
+arrives b =
+    cond b.is_shut (record { book = b; reply = Refuse ShuttingDown })
+    (cond (nat_lt (length b.clients) b.limits.max_clients)
+    (record { book = record b { clients = b.clients ++ record { number = b.next_client; state = LoggingIn } ∷ []; next_client = suc b.next_client }; reply = Arrived b.next_client })
+    (record { book = b; reply = Refuse TooManyClients }))
+
+-- a client's state becomes this
+abbrev pub in_state : ClientState → ℕ → List Client → List Client
+in_state state n clients = map (λ c. cond (is_client n c) (record c { state = state }) c) clients
+
+abbrev pub asks : Book → ℕ → StartKeyOf → Answer
+asks b client key =
+    cond b.is_shut (record { book = b; reply = Refuse ShuttingDown })
+    (record { book = record b { clients = in_state Waiting client b.clients; tickets = b.tickets ++ record { client = client; key = key; since = b.clock } ∷ [] }; reply = Queued (count_by (λ t. same_pool t.key key) b.tickets) })
+
+abbrev pub leaves : Book → ℕ → Answer
+leaves b client = record { book = record b { clients = without_client client b.clients; tickets = without_ticket client b.tickets }; reply = Done }
+
+-- ---- a ticket is granted, lost, or waits
+
+abbrev pub waits : Book → Ticket → Answer
+waits b t = record { book = b; reply = Queued (waiting_before t.key t.client b.tickets) }
+
+abbrev pub loses_ticket : Book → Ticket → Refusal → Answer
+loses_ticket b t refusal = record { book = record b { tickets = without_ticket t.client b.tickets }; reply = Refuse refusal }
+
+-- a link goes to the ticket's client
+abbrev pub granted : Book → Ticket → Link → List Link → Book
+granted b t link idle = record b { clients = in_state Active t.client b.clients; tickets = without_ticket t.client b.tickets; lent = b.lent ++ link ∷ []; idle = idle }
+
+abbrev pub lends : Book → Ticket → Link → Answer
+lends b t link = record { book = record (granted b t link (without link.number b.idle)) { reuses = suc b.reuses }; reply = Lend link.number }
+
+-- a link is to be started
+abbrev pub starts : Book → Ticket → List Link → Option ℕ → Answer
+starts b t idle evicted = record {
+  book = record (granted b t (record { number = b.next_link; key = t.key; born = b.clock; since = b.clock }) idle) { next_link = suc b.next_link; starts = suc b.starts };
+  reply = Start b.next_link b.clock evicted;
+}
+
+-- a link is to be started in place of this one
+abbrev pub evicts : Book → Ticket → Option Link → Answer
+evicts b t None = waits b t
+evicts b t (Some old) = starts (record b { evictions = suc b.evictions }) t (without old.number b.idle) (Some old.number)
+
+-- the latest returned link of the key; else a new one, where pool and book have room; else one in place of the longest idle
+-- one, of the pool where the pool has no room, of the book where the book has none; else the ticket waits
+abbrev pub grants : Book → Ticket → Option Link → Answer
+grants b t (Some link) = lends b t link
+grants b t None =
+    cond (nat_lt (pool_count b t.key) (pool_size b.limits t.key))
+    (cond (nat_lt (link_count b) b.limits.max_links) (starts b t b.idle None) (evicts b t (find (λ link. true) b.idle)))
+    (evicts b t (find (in_pool t.key) b.idle))
+
+abbrev pub has_waited : Book → Ticket → Bool
+has_waited b t = not (b.limits.wait_timeout == 0) && nat_le b.limits.wait_timeout (b.clock - t.since)
+
+abbrev pub takes : Book → Option Ticket → Answer
+takes b None = record { book = b; reply = Stranger }
+takes b (Some t) =
+    cond b.is_shut (loses_ticket b t ShuttingDown)
+    (cond (has_waited b t) (loses_ticket b t WaitedTooLong)
+    (cond (b.is_paused || not (waiting_before t.key t.client b.tickets == 0)) (waits b t)
+    (grants b t (latest_of t.key b.idle))))
+
+-- ---- a link comes back, or is closed
+
+abbrev pub is_old : Book → Link → Bool
+is_old b link = nat_le b.limits.lifetime (b.clock - link.born) || b.is_shut
+
+abbrev pub is_stale : Book → Link → Bool
+is_stale b link = is_old b link || (not (b.limits.idle_timeout == 0) && nat_le b.limits.idle_timeout (b.clock - link.since))
+
+abbrev pub is_crowded : Book → Link → Bool
+is_crowded b link = nat_lt b.limits.max_links (link_count b) || nat_lt (pool_size b.limits link.key) (pool_count b link.key)
+
+abbrev pub loses : Book → ℕ → Book
+loses b n = record b { lent = without n b.lent }
+
+abbrev pub gives_back : Book → Option Link → Answer
+gives_back b None = record { book = b; reply = Stranger }
+gives_back b (Some link) =
+    cond (is_old b link || is_crowded b link) (record { book = loses b link.number; reply = Close link.number })
+    (record { book = record (loses b link.number) { idle = b.idle ++ record link { since = b.clock } ∷ [] }; reply = Done })
+
+abbrev pub closes : Book → Option Link → Answer
+closes b None = record { book = b; reply = Done }
+closes b (Some link) = record { book = record b { idle = without link.number b.idle }; reply = Close link.number }
+
+-- the greatest second of any tick
+abbrev pub at_clock : Book → ℕ → Book
+at_clock b now = record b { clock = cond (nat_lt b.clock now) now b.clock }
+
+-- what an event gives whose client, ticket or link is there
+abbrev pub outcome : Book → Event → Answer
+outcome b Arrive = arrives b
+outcome b (Ask client key) = asks b client key
+outcome b (Take client) = takes b (find (is_of client) b.tickets)
+outcome b (GiveBack n) = gives_back b (find (is_link n) b.lent)
+outcome b (Lost n) = record { book = record (loses b n) { losses = suc b.losses }; reply = Done }
+outcome b (StartFailed n) = record { book = record (loses b n) { losses = suc b.losses }; reply = Done }
+outcome b (Leave client) = leaves b client
+outcome b (Tick now) = closes (at_clock b now) (find (is_stale (at_clock b now)) b.idle)
+outcome b (NewLimits limits) = record { book = record b { limits = limits }; reply = Done }
+outcome b Pause = record { book = record b { is_paused = true }; reply = Done }
+outcome b Resume = record { book = record b { is_paused = false }; reply = Done }
+outcome b Shutdown = record { book = record b { is_shut = true }; reply = Done }
+
+-- ---- strangers
+
+-- a client or link that isn't there, or a second ticket
+abbrev pub is_strange : Book → Event → Bool
+is_strange b (Ask client key) = not (list_any (is_client client) b.clients) || list_any (is_of client) b.tickets
+is_strange b (Take client) = not (list_any (is_of client) b.tickets)
+is_strange b (GiveBack n) = not (list_any (is_link n) b.lent)
+is_strange b (Lost n) = not (list_any (is_link n) b.lent)
+is_strange b (StartFailed n) = not (list_any (is_link n) b.lent)
+is_strange b (Leave client) = not (list_any (is_client client) b.clients)
+is_strange b _ = false
+
+-- ---- decisions
+
+-- The kind of an event with this reply; none, where it changed nothing: a Take that waits on, and a Tick that neither raised
+-- the clock nor closed a link.
+abbrev pub kind_of : Book → Event → Reply → Option Kind
+kind_of b Arrive (Refuse refusal) = Some ArrivalRefused
+kind_of b Arrive _ = Some Arrival
+kind_of b (Ask client key) (Refuse refusal) = Some AskRefused
+kind_of b (Ask client key) _ = Some Asking
+kind_of b (Take client) (Queued n) = None
+kind_of b (Take client) (Refuse refusal) = Some TicketLost
+kind_of b (Take client) _ = Some Grant
+kind_of b (GiveBack n) _ = Some Return
+kind_of b (Lost n) _ = Some Loss
+kind_of b (StartFailed n) _ = Some FailedStart
+kind_of b (Leave client) _ = Some Leaving
+kind_of b (Tick now) Done = cond (nat_lt b.clock now) (Some Ticking) None
+kind_of b (Tick now) _ = Some Ticking
+kind_of b (NewLimits limits) _ = Some Limiting
+kind_of b Pause _ = Some Pausing
+kind_of b Resume _ = Some Resuming
+kind_of b Shutdown _ = Some Closing
+
+abbrev pub raised : Kind → Counts → Counts
+raised Arrival c = record c { arrived = suc c.arrived }
+raised ArrivalRefused c = record c { arrivals_refused = suc c.arrivals_refused }
+raised Asking c = record c { asked = suc c.asked }
+raised AskRefused c = record c { asks_refused = suc c.asks_refused }
+raised Grant c = record c { granted = suc c.granted }
+raised TicketLost c = record c { tickets_lost = suc c.tickets_lost }
+raised Return c = record c { given_back = suc c.given_back }
+raised Loss c = record c { lost = suc c.lost }
+raised FailedStart c = record c { starts_failed = suc c.starts_failed }
+raised Leaving c = record c { left = suc c.left }
+raised Ticking c = record c { ticked = suc c.ticked }
+raised Limiting c = record c { limited = suc c.limited }
+raised Pausing c = record c { paused = suc c.paused }
+raised Resuming c = record c { resumed = suc c.resumed }
+raised Closing c = record c { shut_down = suc c.shut_down }
+
+abbrev pub counted : Book → Option Kind → Book
+counted b None = b
+counted b (Some kind) = record b { decisions = suc b.decisions; counts = raised kind b.counts }
+
+abbrev pub decided : Book → Event → Answer → Answer
+decided b e a = record { book = counted a.book (kind_of b e a.reply); reply = a.reply }
+
+-- the greatest number of decisions: 2^64 - 1
+abbrev pub last_decision : ℕ
+last_decision = 18446744073709551615
+
+unfoldable pub apply : Book → Event → Answer
+apply b e =
+    cond (b.decisions == last_decision) (record { book = b; reply = Refuse LastDecision })
+    (cond (is_strange b e) (record { book = b; reply = Stranger })
+    (decided b e (outcome b e)))
+
+-- ---- a link that is given back must be of the key and birth of its start
+
+abbrev pub is_started_as : StartKeyOf → ℕ → Option Link → Bool
+is_started_as key born None = false
+is_started_as key born (Some link) = same_key link.key key && link.born == born
+
+unfoldable pub apply_return : Book → ℕ → StartKeyOf → ℕ → Answer
+apply_return b n key born =
+    cond (b.decisions == last_decision) (record { book = b; reply = Refuse LastDecision })
+    (cond (is_started_as key born (find (is_link n) b.lent)) (apply b (GiveBack n)) (record { book = b; reply = Stranger }))

@@ -1,0 +1,33 @@
+//! The lease book by definitions: which client waits, which link is lent or idle, what each event makes of them, and what holds of
+//! every book that began empty; and the limits that it decides by, which the settings give.
+#![tactic(auto)]
+
+ghost use Rattle.book_model.specs.Laws.{PlainEventsAddNothing, ArrivalsNumber, AsksQueue, TakesLend, TakesStart, TakesEvict, ReturnsAdd, ReturnsClose, TicksClose};
+ghost use Rattle.book_model.specs.Kept.{EmptyBooksAreKept, EventsKeep, ReturnsKeep};
+
+pub mod counts;
+pub mod events;
+pub mod limits;
+pub mod settings;
+
+/// What each event makes of the book's tickets, its idle links and its next numbers.
+pub fn book_laws()
+    ensures plain { PlainEventsAddNothing }
+    ensures arrives { ArrivalsNumber }
+    ensures asks { AsksQueue }
+    ensures lends { TakesLend }
+    ensures starts { TakesStart }
+    ensures evicts { TakesEvict }
+    ensures gives_back { ReturnsAdd }
+    ensures too_late { ReturnsClose }
+    ensures tick { TicksClose }
+{}
+
+/// Each client's number stands once, each link's once, lent or idle; each ticket is its client's only one; the counts agree with one
+/// another and with the lists, so that the lent links are as many as were granted and neither given back, lost nor failed. An empty
+/// book is so, and every event leaves it so, whose new limits are within what a book can hold.
+pub fn books_are_in_order()
+    ensures empty { EmptyBooksAreKept }
+    ensures events { EventsKeep }
+    ensures returns { ReturnsKeep }
+{}

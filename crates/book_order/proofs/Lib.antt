@@ -1,5 +1,0 @@
-pub mod KeepingLists
-pub mod KeepingClients
-pub mod KeepingLinks
-pub mod KeepingCounts
-pub mod Keeping

@@ -1,3 +1,0 @@
-pub mod PassedKeys
-pub mod Rows
-pub mod ByName

@@ -1,5 +1,0 @@
-use Rattle.login_keys.proofs.ByName.{passed_keys_are_of_their_rows}
-use Rattle.login_keys.proofs.laws.passed_keys_are_of_their_rows.Goals as goal
-
-pub returns : goal.returns
-returns c = passed_keys_are_of_their_rows

@@ -1,5 +1,0 @@
-use Rattle.login_keys.proofs.ByName.{read_rows_are_lawful}
-use Rattle.login_keys.proofs.laws.read_rows_are_lawful.Goals as goal
-
-pub returns : goal.returns
-returns c = read_rows_are_lawful

@@ -1,0 +1,4 @@
+pub mod Following
+pub mod PassedKeys
+pub mod Rows
+pub mod ByName

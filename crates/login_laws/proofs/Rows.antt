@@ -1,0 +1,62 @@
+-- The rows of settings.
+use Rattle.std.proofs.Common.{◌≡◌, ℕ, ◌<◌, Bool, true, false, List, [], ◌∷◌, Option, Some, None, refl, ap, arith, zero, suc}
+use Rattle.std.specs.Prelude.{not, ◌&&◌, ◌||◌, ◌==◌, length, bytes_eq}
+use Rattle.std.specs.List.{AllByRecursion, list_any}
+use Rattle.std.proofs.lemmas.Bool.{false≢true, true≢false}
+use Rattle.message_view.specs.Bodies.{HasNoZero}
+use Rattle.ini_config.specs.Bounds.{IsServedRow}
+use Rattle.ini_config.specs.DatabaseValues.{is_database}
+use Rattle.ini_config.proofs.Bounds.{read_settings_are_within_bounds}
+use Rattle.ini_config.specs.declared.database_rows.DbRow.{DbRow}
+use Rattle.ini_config.specs.Tables.{row_named}
+use Rattle.session_values.proofs.Alls.{OfSome, all-find}
+use Rattle.login_laws.specs.StartKeys.{IsLawfulRow}
+use Rattle.login_core.specs.Dialogue.{row_in}
+use Rattle.login_laws.specs.Laws.{BoundedRowsAreLawful, SettingsRowsAreLawful, ReadRowsAreLawful}
+
+abbrev IsRow : DbRow → Type 0
+IsRow row = IsLawfulRow (Some row)
+
+some-row : (o : Option DbRow) → OfSome IsRow o → IsLawfulRow o
+some-row None h = tt
+some-row (Some row) h = h
+
+pub rows-lawful : SettingsRowsAreLawful
+unfolding row_in
+rows-lawful s users h database user = some-row (row_named database s.rows) (all-find IsRow (λ row. bytes_eq database row.name) s.rows h)
+
+-- ---- rows of a file
+
+both : (a b : Bool) → (a && b) ≡ true → (a ≡ true) × (b ≡ true)
+both true b e = (refl, e)
+both false b e = absurd (false≢true e)
+
+has_bytes : (name : List ℕ) → not (length name == 0) ≡ true → 0 < length name
+has_bytes [] e = absurd (false≢true e)
+has_bytes (c ∷ cs) e = omega (arith)
+
+positive : (c : ℕ) → (c == 0) ≡ false → 0 < c
+positive zero e = absurd (true≢false e)
+positive (suc c) e = omega (arith)
+
+no_zero : (name : List ℕ) → not (list_any (λ b. b == 0) name) ≡ true → HasNoZero name
+no_zero [] e = tt
+no_zero (c ∷ cs) e = go (c == 0) refl (list_any (λ b. b == 0) cs) refl e (no_zero cs)
+  where
+    go : (z : Bool) → (c == 0) ≡ z → (later : Bool) → list_any (λ b. b == 0) cs ≡ later → not (z || later) ≡ true → (not (list_any (λ b. b == 0) cs) ≡ true → HasNoZero cs) → HasNoZero (c ∷ cs)
+    go true h later k e ih = absurd (false≢true e)
+    go false h true k e ih = absurd (false≢true e)
+    go false h false k e ih = (positive c h, ih (ap not k))
+
+lawful-row : (row : DbRow) → is_database row.dbname ≡ true → IsRow row
+lawful-row row e = let p = both (not (length row.dbname == 0)) (not (list_any (λ b. b == 0) row.dbname)) e in (has_bytes row.dbname p.0, no_zero row.dbname p.1)
+
+all-lawful : (rows : List DbRow) → AllByRecursion IsServedRow rows → AllByRecursion IsRow rows
+all-lawful [] h = tt
+all-lawful (row ∷ rows) h = (lawful-row row h.0.database, all-lawful rows h.1)
+
+pub bounded-rows-lawful : BoundedRowsAreLawful
+bounded-rows-lawful s users b = rows-lawful s users (all-lawful s.rows b.rows)
+
+pub read-rows-lawful : ReadRowsAreLawful
+read-rows-lawful lines s users e = bounded-rows-lawful s users (read_settings_are_within_bounds lines s e)

@@ -1,0 +1,2 @@
+pub mod StartKeys
+pub mod Laws

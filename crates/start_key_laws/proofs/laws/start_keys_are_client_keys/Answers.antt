@@ -1,5 +1,0 @@
-use Rattle.start_key_laws.proofs.ByName.{start_keys_are_client_keys}
-use Rattle.start_key_laws.proofs.laws.start_keys_are_client_keys.Goals as goal
-
-pub returns : goal.returns
-returns c = start_keys_are_client_keys

@@ -1,3 +1,0 @@
-pub mod Lexed
-pub mod Spelled
-pub mod ByName
