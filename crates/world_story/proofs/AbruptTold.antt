@@ -1,10 +1,10 @@
 -- A refusal inside AuthenticationOk, and what it leads to.
-use Rattle.std.proofs.Common.{◌≡◌, ℕ, List, [], ◌∷◌, ◌++◌, ◌⊎◌, inl, inr, refl, sym, ap, ◌∙◌, append_assoc, append-nil, arith}
+use Rattle.std.proofs.Common.{◌≡◌, ℕ, List, [], ◌∷◌, ◌++◌, inl, inr, refl, sym, ap, ◌∙◌, append_assoc, append-nil, arith}
 use Rattle.std.specs.Prelude.{slice_index}
 use Rattle.frame_view.specs.Frames.{cut_after}
 use Rattle.message_view.specs.declared.refusal.Refusal.{Refusal}
 use Rattle.message_view.specs.declared.refusal.Refusal.TheVariants.{ServerFailed}
-use Rattle.message_view.specs.Refusals.{Allowed, IsRefused, joined_pieces, refusal}
+use Rattle.message_view.specs.Refusals.{Allowed, joined_pieces, refusal}
 use Rattle.message_view.specs.Reading.{text_at, startup_of, pair_at, ended_at, list_until}
 use Rattle.session_values.specs.Parameters.{accepted_of, date_styles}
 use Rattle.session_values.specs.State.{started_over, fresh}
@@ -13,8 +13,6 @@ use Rattle.login_core.specs.Dialogue.{ok}
 use Rattle.login_core.specs.Solo.{solo_in}
 use Rattle.world_steps.specs.Clients.Phase.{Refusing}
 use Rattle.world_steps.specs.Clients.MayWrite.{logging_in}
-use Rattle.world_steps.specs.Worlds.{World}
-use Rattle.world_steps.specs.Steps.{Step}
 use Rattle.world_steps.specs.Steps.Reached.{begins}
 use Rattle.world_steps.specs.Steps.Step.{client_step, byte_step, end_step}
 use Rattle.world_steps.specs.Steps.ClientStep.{of_client}
@@ -23,13 +21,11 @@ use Rattle.world_steps.specs.Steps.ByteStep.{by_client}
 use Rattle.world_steps.specs.Steps.ClientBytes.{to_client}
 use Rattle.world_steps.specs.Steps.EndStep.{of_end}
 use Rattle.world_steps.specs.Steps.EndMove.{refusal_to_client}
-use Rattle.world_story.specs.Abrupt.{IsReachedAbruptly, Abruptness}
-use Rattle.world_story.specs.Abrupt.IsReachedAbruptly.{so_far, breaks_off}
-use Rattle.world_story.specs.Abrupt.IsReachedAbruptly.{goes_on as then_goes}
+use Rattle.world_story.specs.Slips.{SpoilsRefusal}
+use Rattle.world_story.specs.Slips.IsReachedBy.{so_far, slips}
+use Rattle.world_story.specs.Slips.BreaksOff.{breaks_off}
+use Rattle.world_story.proofs.Slipping.{next_do}
 use Rattle.world_story.proofs.Told.{the_catalogue, lawful, row, lawful_row, word, limits, hello, bytes, at_first, then_do}
-
-next_do : {w v : World} → Step w v → IsReachedAbruptly w → IsReachedAbruptly v
-next_do s h = then_goes h s
 
 -- the first byte of AuthenticationOk, and then the refusal
 abbrev broken : List ℕ
@@ -82,7 +78,7 @@ not_allowed : Allowed broken own_pieces → ⊥
 not_allowed (inl b) = no_beginning b.more b.both
 not_allowed (inr r) = refused r.given r.kept r.pieces_are r.last r.begins.more r.cause r.begins.both r.out_is
 
-pub abruptness : Abruptness
+pub abruptness : SpoilsRefusal
 unfolding then_do next_do refusal cut_after text_at startup_of pair_at ended_at list_until
 abruptness =
     let h0 = begins {w = at_first} limits (record { lawful = λ _. lawful; absent = λ _. refl; unnumbered = λ _. refl; given_nothing = λ _. (refl, refl); unborn = λ _. refl; book_is = refl }) in
@@ -91,6 +87,6 @@ abruptness =
     let h3 = then_do (client_step (of_client 1 (reads [] hello [] (ok ∷ []) refl refl refl))) h2 in
     let h4 = then_do (byte_step (by_client 1 (to_client (82 ∷ []) (0 ∷ 0 ∷ 0 ∷ 8 ∷ 0 ∷ 0 ∷ 0 ∷ 0 ∷ []) logging_in refl))) h3 in
     let c4 = so_far h4 in
-    let c5 = breaks_off 1 ServerFailed c4 logging_in in
+    let c5 = slips c4 (breaks_off 1 ServerFailed logging_in) in
     let c6 = next_do (end_step (of_end 1 (refusal_to_client (refusal ServerFailed) [] (ap Refusing (sym (append-nil (refusal ServerFailed))))))) c5 in
     record { world = _; reached = c6; wrong = not_allowed }

@@ -1,10 +1,7 @@
 -- A return of a link that isn't settled, and what it leads to, step by step. false
-use Rattle.std.proofs.Common.{◌≡◌, ℕ, false, List, [], ◌∷◌, ◌++◌, refl, sym, append-nil, inr, ap, ◌∙◌, append_assoc, arith}
-use Rattle.std.specs.Prelude.{codes}
+use Rattle.std.proofs.Common.{◌≡◌, ℕ, false, List, [], ◌∷◌, ◌++◌, refl, sym, append-nil, ◌∙◌, append_assoc, arith}
 use Rattle.std.specs.List.{flat_map}
-use Rattle.frame_view.specs.Frames.{FrameOf, cut_after, spelling}
-use Rattle.message_view.specs.Messages.{command_complete, parameter_status, ready_for_query}
-use Rattle.message_view.specs.declared.kinds.TheConstants.{IDLE}
+use Rattle.frame_view.specs.Frames.{cut_after, spelling}
 use Rattle.message_view.specs.Reading.{text_at, int16_at, int32_at, value_at, list_at, query_of, parse_of, bind_of, target_of, execute_of, startup_of, pair_at, ended_at, list_until}
 use Rattle.mini_sql.specs.Tokens.{literal_length, unquoted, tokens_after}
 use Rattle.mini_sql.specs.Statements.{read, ends, pass, take_value, either, with_item, items, definitions, columns_at, at_most_64, take_columns, take_operands, block, assignment, set_name, set, reset, show, discard, definition_list, create, drop_table, value_list, insert, where_of, end_of, from_of, select, of_tokens, less_semicolon, phrase, statement}
@@ -15,47 +12,38 @@ use Rattle.session_values.specs.Step.{step, run_frames}
 use Rattle.session_laws.specs.Laws.{IsSent, discard_all}
 use Rattle.login_core.specs.Dialogue.{ok}
 use Rattle.book_model.specs.Outcomes.{apply, apply_return}
-use Rattle.world_steps.specs.Clients.{MayWrite}
 use Rattle.world_steps.specs.Clients.MayWrite.{served}
 use Rattle.world_steps.specs.Clients.HasEnded.{closed}
-use Rattle.world_steps.specs.Worlds.{World, with_client}
-use Rattle.world_steps.specs.Steps.{Step}
+use Rattle.world_steps.specs.Worlds.{World}
 use Rattle.world_steps.specs.Steps.Reached.{begins}
 use Rattle.world_steps.specs.Steps.Step.{book_step, client_step, byte_step, link_step, end_step}
 use Rattle.world_steps.specs.Steps.BookStep.{arrives, asks, is_lent, is_promised, gives_back}
 use Rattle.world_steps.specs.Steps.ClientStep.{of_client}
 use Rattle.world_steps.specs.Steps.ClientMove.{comes, sends, reads, passes}
 use Rattle.world_steps.specs.Steps.ByteStep.{by_client, by_lease, by_link}
-use Rattle.world_steps.specs.Steps.ClientBytes.{from_client, to_client}
-use Rattle.world_steps.specs.Steps.LeaseBytes.{to_link, from_link}
+use Rattle.world_steps.specs.Steps.ClientBytes.{from_client}
+use Rattle.world_steps.specs.Steps.LeaseBytes.{to_link}
 use Rattle.world_steps.specs.Steps.LinkBytes.{to_reset, from_reset, server_answers}
 use Rattle.world_steps.specs.Steps.LinkStep.{starts, ends_reset}
 use Rattle.world_steps.specs.Steps.EndStep.{of_end}
 use Rattle.world_steps.specs.Steps.EndMove.{closes}
-use Rattle.world_steps.specs.Clients.Phase.{Served}
-use Rattle.world_steps.specs.Worlds.{with_pair}
+use Rattle.world_steps.specs.Clients.{HasEnded}
+use Rattle.world_steps.specs.Links.Role.{Lent, InReset}
+use Rattle.world_steps.specs.Worlds.{World, with_link}
 use Rattle.world_story.specs.Story.{changed}
-use Rattle.world_story.specs.Hasty.{IsReachedHastily, Haste}
-use Rattle.world_story.specs.Hasty.IsReachedHastily.{so_far, hurries}
-use Rattle.world_story.specs.Hasty.IsReachedHastily.{goes_on as then_goes}
 use Rattle.std.proofs.lemmas.List.{append_cancel_left}
+use Rattle.world_story.specs.Slips.{IsReachedBy, Spoils, Hurries}
+use Rattle.world_story.specs.Slips.IsReachedBy.{so_far, slips}
+use Rattle.world_story.specs.Slips.Hurries.{hurries}
+use Rattle.world_story.proofs.Slipping.{next_do, takes_all, gives_rest}
 use Rattle.world_story.proofs.Told.{state_of, the_catalogue, lawful, row, lawful_row, key, word, limits, hello, change, bytes, at_first, then_do, change-sent, changed-are}
 
 discard-sent : IsSent discard_all
 discard-sent = record { whole = record { of_type = refl; size = omega arith }; bytes = bytes discard_all.body refl }
 
-next_do : {w v : World} → Step w v → IsReachedHastily w → IsReachedHastily v
-next_do s h = then_goes h s
-
--- all that its link has for a client is held for it, and all that is held is given to it
-takes_all : {w : World} (c l : ℕ) → (w.clients c).phase ≡ Served l → IsReachedHastily w →
-    IsReachedHastily (with_pair w c (record (w.clients c) { for_client = (w.clients c).for_client ++ (w.links l).outbox }) l (record (w.links l) { outbox = []; received = (w.links l).received ++ (w.links l).outbox }))
-unfolding next_do
-takes_all {w} c l e h = next_do (byte_step (by_lease c l e (from_link (w.links l).outbox [] (sym (append-nil (w.links l).outbox))))) h
-
-gives_rest : {w : World} (c : ℕ) → MayWrite (w.clients c).phase → IsReachedHastily w → IsReachedHastily (with_client w c (record (w.clients c) { for_client = []; out = (w.clients c).out ++ (w.clients c).for_client }))
-unfolding next_do
-gives_rest {w} c m h = next_do (byte_step (by_client c (to_client (w.clients c).for_client [] m (sym (append-nil (w.clients c).for_client))))) h
+-- the same, with the world before it to be found from what is reached
+hurry : {w : World} (c l : ℕ) → IsReachedBy Hurries w → (w.links l).role ≡ Lent c → HasEnded (w.clients c).phase → IsReachedBy Hurries (with_link w l (record (w.links l) { role = InReset; sent = []; received = [] }))
+hurry c l h e f = slips h (hurries c l e f)
 
 abbrev fresh_one : State
 fresh_one = state_of (fresh the_catalogue key)
@@ -77,8 +65,8 @@ is_some more e = cc
 too_much : (more : List ℕ) → (greeting ++ answered) ++ more ≡ greeting → ⊥
 too_much more e = is_some more (append_cancel_left greeting (answered ++ more) [] (sym (append_assoc greeting answered more) ∙ e ∙ sym (append-nil greeting)))
 
-pub haste : Haste
-unfolding then_do next_do takes_all gives_rest apply apply_return cut_after text_at int16_at int32_at value_at list_at query_of parse_of bind_of target_of execute_of startup_of pair_at ended_at list_until literal_length unquoted tokens_after read ends pass take_value either with_item items definitions columns_at at_most_64 take_columns take_operands block assignment set_name set reset show discard definition_list create drop_table value_list insert where_of end_of from_of select of_tokens less_semicolon phrase statement accepted_of date_styles started_over fresh step run_frames
+pub haste : Spoils Hurries 2
+unfolding hurry then_do next_do takes_all gives_rest apply apply_return cut_after text_at int16_at int32_at value_at list_at query_of parse_of bind_of target_of execute_of startup_of pair_at ended_at list_until literal_length unquoted tokens_after read ends pass take_value either with_item items definitions columns_at at_most_64 take_columns take_operands block assignment set_name set reset show discard definition_list create drop_table value_list insert where_of end_of from_of select of_tokens less_semicolon phrase statement accepted_of date_styles started_over fresh step run_frames
 haste =
     let h0 = begins {w = at_first} limits (record { lawful = λ _. lawful; absent = λ _. refl; unnumbered = λ _. refl; given_nothing = λ _. (refl, refl); unborn = λ _. refl; book_is = refl }) in
     let h1 = then_do (client_step (of_client 1 (comes row (word 1) refl lawful_row))) h0 in
@@ -93,7 +81,7 @@ haste =
     let h9 = then_do (byte_step (by_lease 1 1 refl (to_link (spelling change) [] refl))) h8 in
     let h10 = then_do (end_step (of_end 1 closes)) h9 in
     let c10 = so_far h10 in
-    let c11 = hurries 1 1 c10 refl closed in
+    let c11 = hurry 1 1 c10 refl closed in
     -- the answer to the client's last message comes, and is taken for that to the reset
     let c12 = next_do (byte_step (by_link 1 (server_answers change [] refl change-sent refl))) c11 in
     let c13 = next_do (byte_step (by_link 1 (from_reset (flat_map spelling changed) [] refl refl))) c12 in

@@ -1,5 +1,5 @@
 -- A return that skips the reset, and what it leads to, step by step.
-use Rattle.std.proofs.Common.{◌≡◌, ℕ, false, List, [], ◌∷◌, ◌++◌, refl, sym, append-nil, inr, ap, ◌∙◌, append_assoc, arith}
+use Rattle.std.proofs.Common.{◌≡◌, ℕ, false, List, [], ◌∷◌, ◌++◌, refl, sym, inr, ap, ◌∙◌, append_assoc, arith}
 use Rattle.std.specs.Prelude.{codes}
 use Rattle.std.specs.List.{flat_map}
 use Rattle.frame_view.specs.Frames.{FrameOf, cut_after, spelling}
@@ -14,31 +14,32 @@ use Rattle.session_values.specs.Step.{step, run_frames}
 use Rattle.session_laws.specs.Laws.{IsSent}
 use Rattle.login_core.specs.Dialogue.{ok}
 use Rattle.book_model.specs.Outcomes.{apply, apply_return}
-use Rattle.world_steps.specs.Clients.{MayWrite}
 use Rattle.world_steps.specs.Clients.MayWrite.{served}
 use Rattle.world_steps.specs.Clients.HasEnded.{closed}
-use Rattle.world_steps.specs.Worlds.{World, with_client}
-use Rattle.world_steps.specs.Steps.{Step}
+use Rattle.world_steps.specs.Worlds.{World}
 use Rattle.world_steps.specs.Steps.Reached.{begins}
 use Rattle.world_steps.specs.Steps.Step.{book_step, client_step, byte_step, link_step, end_step}
 use Rattle.world_steps.specs.Steps.BookStep.{arrives, asks, is_lent, is_promised, gives_back}
 use Rattle.world_steps.specs.Steps.ClientStep.{of_client}
 use Rattle.world_steps.specs.Steps.ClientMove.{comes, sends, reads, passes}
 use Rattle.world_steps.specs.Steps.ByteStep.{by_client, by_lease, by_link}
-use Rattle.world_steps.specs.Steps.ClientBytes.{from_client, to_client}
+use Rattle.world_steps.specs.Steps.ClientBytes.{from_client}
 use Rattle.world_steps.specs.Steps.LeaseBytes.{to_link, from_link}
 use Rattle.world_steps.specs.Steps.LinkBytes.{server_answers}
 use Rattle.world_steps.specs.Steps.LinkStep.{starts}
 use Rattle.world_steps.specs.Steps.EndStep.{of_end}
 use Rattle.world_steps.specs.Steps.EndMove.{closes}
-use Rattle.world_steps.specs.Clients.Phase.{Served}
-use Rattle.world_steps.specs.Worlds.{with_pair}
+use Rattle.world_steps.specs.Clients.{HasEnded}
+use Rattle.world_steps.specs.Links.{IsSettled}
+use Rattle.world_steps.specs.Links.Role.{Lent, Clean}
+use Rattle.world_steps.specs.Worlds.{World, with_link}
 use Rattle.world_story.specs.Story.{changed}
-use Rattle.world_story.specs.Skipped.{IsReachedCarelessly, Leak}
-use Rattle.world_story.specs.Skipped.IsReachedCarelessly.{so_far, skips}
-use Rattle.world_story.specs.Skipped.IsReachedCarelessly.{goes_on as then_goes}
 use Rattle.std.specs.Prelude.{slice_index}
 use Rattle.std.proofs.lemmas.List.{append_cancel_left}
+use Rattle.world_story.specs.Slips.{IsReachedBy, Spoils, SkipsReset}
+use Rattle.world_story.specs.Slips.IsReachedBy.{so_far, slips}
+use Rattle.world_story.specs.Slips.SkipsReset.{skips_reset}
+use Rattle.world_story.proofs.Slipping.{next_do, takes_all, gives_rest}
 use Rattle.world_story.proofs.Told.{state_of, the_catalogue, lawful, row, lawful_row, key, word, limits, hello, change, bytes, at_first, then_do, change-sent, changed-are, gives_all}
 
 abbrev asked : FrameOf
@@ -47,18 +48,10 @@ asked = query (codes "SHOW application_name")
 asked-sent : IsSent asked
 asked-sent = record { whole = record { of_type = refl; size = omega arith }; bytes = bytes asked.body refl }
 
-next_do : {w v : World} → Step w v → IsReachedCarelessly w → IsReachedCarelessly v
-next_do s h = then_goes h s
-
--- all that its link has for a client is held for it, and all that is held is given to it
-takes_all : {w : World} (c l : ℕ) → (w.clients c).phase ≡ Served l → IsReachedCarelessly w →
-    IsReachedCarelessly (with_pair w c (record (w.clients c) { for_client = (w.clients c).for_client ++ (w.links l).outbox }) l (record (w.links l) { outbox = []; received = (w.links l).received ++ (w.links l).outbox }))
-unfolding next_do
-takes_all {w} c l e h = next_do (byte_step (by_lease c l e (from_link (w.links l).outbox [] (sym (append-nil (w.links l).outbox))))) h
-
-gives_rest : {w : World} (c : ℕ) → MayWrite (w.clients c).phase → IsReachedCarelessly w → IsReachedCarelessly (with_client w c (record (w.clients c) { for_client = []; out = (w.clients c).out ++ (w.clients c).for_client }))
-unfolding next_do
-gives_rest {w} c m h = next_do (byte_step (by_client c (to_client (w.clients c).for_client [] m (sym (append-nil (w.clients c).for_client))))) h
+-- the same, with the world before it to be found from what is reached
+skip : {w : World} (c l : ℕ) → IsReachedBy SkipsReset w → (w.links l).role ≡ Lent c → HasEnded (w.clients c).phase → IsSettled (w.links l).sent (w.links l).received →
+    IsReachedBy SkipsReset (with_link w l (record (w.links l) { role = Clean; sent = []; received = [] }))
+skip c l h e f s = slips h (skips_reset c l e f s)
 
 -- what SHOW is answered by, in the session that the first client left and in a fresh one
 abbrev fresh_one : State
@@ -84,8 +77,8 @@ greeting = ok ++ flat_map spelling (welcome fresh_one 2 2)
 begins_alike : (more : List ℕ) → (greeting ++ shown left_over) ++ more ≡ greeting ++ shown fresh_one → ⊥
 begins_alike more e = not_begun more (append_cancel_left greeting (shown left_over ++ more) (shown fresh_one) (sym (append_assoc greeting (shown left_over) more) ∙ e))
 
-pub leak : Leak
-unfolding then_do gives_all next_do takes_all gives_rest apply apply_return cut_after text_at int16_at int32_at value_at list_at query_of parse_of bind_of target_of execute_of startup_of pair_at ended_at list_until literal_length unquoted tokens_after read ends pass take_value either with_item items definitions columns_at at_most_64 take_columns take_operands block assignment set_name set reset show discard definition_list create drop_table value_list insert where_of end_of from_of select of_tokens less_semicolon phrase statement accepted_of date_styles started_over fresh step run_frames
+pub leak : Spoils SkipsReset 2
+unfolding skip then_do gives_all next_do takes_all gives_rest apply apply_return cut_after text_at int16_at int32_at value_at list_at query_of parse_of bind_of target_of execute_of startup_of pair_at ended_at list_until literal_length unquoted tokens_after read ends pass take_value either with_item items definitions columns_at at_most_64 take_columns take_operands block assignment set_name set reset show discard definition_list create drop_table value_list insert where_of end_of from_of select of_tokens less_semicolon phrase statement accepted_of date_styles started_over fresh step run_frames
 leak =
     let h0 = begins {w = at_first} limits (record { lawful = λ _. lawful; absent = λ _. refl; unnumbered = λ _. refl; given_nothing = λ _. (refl, refl); unborn = λ _. refl; book_is = refl }) in
     let h1 = then_do (client_step (of_client 1 (comes row (word 1) refl lawful_row))) h0 in
@@ -103,7 +96,7 @@ leak =
     let h12 = gives_all 1 served h11 in
     let h13 = then_do (end_step (of_end 1 closes)) h12 in
     let c13 = so_far h13 in
-    let c14 = skips 1 1 c13 refl closed (record {
+    let c14 = skip 1 1 c13 refl closed (record {
       went = change ∷ [];
       came = changed;
       sent_are = record { each = (change-sent.whole, tt); bytes_are = refl };

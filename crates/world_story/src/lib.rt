@@ -1,10 +1,8 @@
 //! A list of steps that the pooler's world can take, computed: what is said of every world is said of this one.
 #![tactic(auto)]
 
-ghost use Rattle.world_story.specs.Abrupt.{Abruptness};
-ghost use Rattle.world_story.specs.Hasty.{Haste};
 ghost use Rattle.world_story.specs.Others.{Others};
-ghost use Rattle.world_story.specs.Skipped.{Leak};
+ghost use Rattle.world_story.specs.Slips.{DiesLying, Hurries, Misnames, PassesSomehow, SkipsReset, Spoils, SpoilsRefusal};
 ghost use Rattle.world_story.specs.Story.{Story};
 
 use world_model::every_world;
@@ -16,22 +14,37 @@ pub fn two_clients_one_link()
     every_world();
 }
 
-/// Were a settled link given back without a reset, a second client would be given what no server of its own answers.
-pub fn no_reset_leaks()
-    ensures { Leak }
-{}
-
 /// The steps that the story doesn't take can be taken too.
 pub fn other_steps_are_taken()
     ensures { Others }
 {}
 
+/// Were a settled link given back without a reset, a second client would be given what no server of its own answers.
+pub fn no_reset_leaks()
+    ensures { Spoils SkipsReset 2 }
+{}
+
 /// Were a link reset before it is settled, a second client would be given the answer to the reset.
 pub fn haste_leaks()
-    ensures { Haste }
+    ensures { Spoils Hurries 2 }
+{}
+
+/// Were a server's death to leave bytes that it never gave, its client would be given them.
+pub fn lies_are_given()
+    ensures { Spoils DiesLying 1 }
+{}
+
+/// Were a client welcomed with another key word, it would be told another's.
+pub fn misnaming_shows()
+    ensures { Spoils Misnames 1 }
+{}
+
+/// Were a login to pass with any key, its client would get a session of another start.
+pub fn any_key_shows()
+    ensures { Spoils PassesSomehow 1 }
 {}
 
 /// Were a client refused inside a message, it would be given what no answer of a server of its own allows.
 pub fn abruptness_shows()
-    ensures { Abruptness }
+    ensures { SpoilsRefusal }
 {}

@@ -1,0 +1,61 @@
+-- What would be so if a premise of the steps were left out, one at a time: a client is given what no server of its own answers.
+use Rattle.std.specs.Prelude.{◌≡◌, ℕ, List, [], ◌++◌, Ok, false}
+use Rattle.std.specs.List.{flat_map}
+use Rattle.frame_view.specs.Frames.{spelling}
+use Rattle.message_view.specs.declared.KeyWord.{KeyWord}
+use Rattle.message_view.specs.declared.refusal.Refusal.{Refusal}
+use Rattle.message_view.specs.Refusals.{Allowed, Begins, joined_pieces, refusal}
+use Rattle.session_values.specs.Service.{welcome}
+use Rattle.session_values.specs.State.{State, StartKeyOf, address_of, fresh}
+use Rattle.world_steps.specs.Clients.{HasEnded, MayWrite, given}
+use Rattle.world_steps.specs.Clients.Phase.{LoggingIn, Refusing, Served, Starting, Waiting}
+use Rattle.world_steps.specs.Links.{IsSettled, newborn}
+use Rattle.world_steps.specs.Links.Role.{Clean, InReset, Lent}
+use Rattle.world_steps.specs.Worlds.{World, own, with_client, with_link, with_pair}
+use Rattle.world_steps.specs.Steps.{Reached, Step}
+
+-- a world that steps lead to, and slips of this kind
+pub data IsReachedBy (Slip : World → World → Type 0) : World → Type 0 where
+  so_far : {w : World} → Reached w → IsReachedBy Slip w
+  slips : {w v : World} → IsReachedBy Slip w → Slip w v → IsReachedBy Slip v
+  goes_on : {w v : World} → IsReachedBy Slip w → Step w v → IsReachedBy Slip v
+
+-- by slips of this kind a client comes to be given what begins nothing that a server of its own answers
+pub record Spoils (Slip : World → World → Type 0) (client : ℕ) : Type 0 where
+  pub world : World
+  pub reached : IsReachedBy Slip world
+  pub wrong : Begins (world.clients client).out (joined_pieces (own world (world.clients client))) → ⊥
+
+-- ---- the slips
+
+-- a settled link is clean without a reset
+pub data SkipsReset (w : World) : World → Type 0 where
+  skips_reset : (c l : ℕ) → (w.links l).role ≡ Lent c → HasEnded (w.clients c).phase → IsSettled (w.links l).sent (w.links l).received →
+      SkipsReset w (with_link w l (record (w.links l) { role = Clean; sent = []; received = [] }))
+
+-- a link is reset that isn't settled
+pub data Hurries (w : World) : World → Type 0 where
+  hurries : (c l : ℕ) → (w.links l).role ≡ Lent c → HasEnded (w.clients c).phase → Hurries w (with_link w l (record (w.links l) { role = InReset; sent = []; received = [] }))
+
+-- a server that dies leaves bytes that it never gave
+pub data DiesLying (w : World) : World → Type 0 where
+  dies_lying : (l : ℕ) (bytes : List ℕ) → DiesLying w (with_link w l (record (w.links l) { alive = false; outbox = bytes }))
+
+-- a client is welcomed with another key word
+pub data Misnames (w : World) : World → Type 0 where
+  misnames : (c l : ℕ) (key : StartKeyOf) (s : State) (word : KeyWord) → (w.clients c).phase ≡ Starting key l → fresh (w.catalogue (address_of key)) key ≡ Ok s →
+      Misnames w (with_pair w c (record (w.clients c) { phase = Served l; for_client = (w.clients c).for_client ++ flat_map spelling (welcome s word.pid word.secret) }) l (newborn c key s))
+
+-- a login passes with any key
+pub data PassesSomehow (w : World) : World → Type 0 where
+  passes_somehow : (c : ℕ) (read : List ℕ) (key : StartKeyOf) → (w.clients c).phase ≡ LoggingIn read → PassesSomehow w (with_client w c (record (w.clients c) { phase = Waiting key; for_link = [] }))
+
+-- a client is refused at no border
+pub data BreaksOff (w : World) : World → Type 0 where
+  breaks_off : (c : ℕ) (cause : Refusal) → MayWrite (w.clients c).phase → BreaksOff w (with_client w c (record (w.clients c) { phase = Refusing (refusal cause); for_client = [] }))
+
+-- so what client 1 was given with its refusal is allowed by no answer of a server of its own
+pub record SpoilsRefusal : Type 0 where
+  pub world : World
+  pub reached : IsReachedBy BreaksOff world
+  pub wrong : Allowed (given (world.clients 1)) (own world (world.clients 1)) → ⊥
