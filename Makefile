@@ -49,6 +49,7 @@ gate:
 	@$(MAKE) --no-print-directory $(program) $(trials)
 	scripts/rows.sh $(program) $(trials)
 	scripts/leases.sh $(trials)
+	scripts/conversations.sh $(program) $(trials)
 	scripts/logins.sh $(trials)
 	scripts/clients.sh $(trials)
 	scripts/refuse-growth.sh $(program) $(trials)

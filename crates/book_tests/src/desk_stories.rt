@@ -1,10 +1,11 @@
 //! What a desk answers, call after call.
 ghost use Rattle.std.specs.Prelude.{◌≡◌};
 ghost use Rattle.desk_tallies.specs.declared.passes.TheConstants.{ALL_PARTS};
-ghost use Rattle.desk_tallies.specs.Shares.{by_class, names_of, of_each, parts_of};
+ghost use Rattle.desk_tallies.specs.Shares.{names_of, of_each, parts_of};
 
 use crate::desk_parts::{Nowhere, key, limits, link};
 use crate::gone::Gone;
+use desk_tallies::ledgers::Ledgers;
 use desk_tallies::passes::{Pass, Totals};
 use desk_tallies::tallies::Blanks;
 use link_desk::answers as told;
@@ -14,7 +15,6 @@ use pool_desk::desk::Desk;
 use std::alloc::{AllocError, Global};
 use std::marker::Brand;
 use std::sync::Wait;
-use std::sync::ledger::Ledger;
 use std::test::Fail;
 
 /// What happens at the desk.
@@ -120,11 +120,11 @@ fn ticked(ticked: Ticked<Gone>) -> Says {
 }
 
 /// What the desk answers.
-fn answer<A: Ledger, G: Ledger, B: Ledger, L: Ledger, W: Ledger, O: Ledger, R: Wait>(
+fn answer<K: Ledgers, R: Wait>(
     rt: &R,
     alloc: Global,
-    desk: &Desk<Nowhere, A, G, B, L, W, O>,
-    pass: &mut Pass<A, G, B, L, W, O>,
+    desk: &Desk<Nowhere, K>,
+    pass: &mut Pass<K>,
     act: Act,
 ) -> Result<Says, AllocError> {
     Ok(match act {
@@ -153,18 +153,18 @@ fn answer<A: Ledger, G: Ledger, B: Ledger, L: Ledger, W: Ledger, O: Ledger, R: W
 }
 
 /// The first act that the desk answers otherwise, and the totals of its pass.
-fn surprise<A: Ledger, G: Ledger, B: Ledger, L: Ledger, W: Ledger, O: Ledger, R: Wait>(
+fn surprise<K: Ledgers, R: Wait>(
     rt: &R,
     alloc: Global,
     clients: u32,
     blanks: Blanks,
     acts: &[(Act, Says)],
 ) -> Result<(Option<(usize, Says)>, Totals), Fail>
-    requires names { names_of blanks ≡ by_class A.name G.name B.name L.name W.name O.name }
-    requires parts { by_class A.parts G.parts B.parts L.parts W.parts O.parts ≡ parts_of blanks }
+    requires names { names_of blanks ≡ K.names }
+    requires parts { K.parts ≡ parts_of blanks }
     requires all { parts_of blanks ≡ of_each ALL_PARTS }
 {
-    let desk = Desk::<Nowhere, A, G, B, L, W, O>::new(alloc, limits(alloc, clients)?, blanks)?;
+    let desk = Desk::<Nowhere, K>::new(alloc, limits(alloc, clients)?, blanks)?;
     let mut pass = desk.pass(rt).ok_or("no pass")?;
     let mut first = None;
     for (at, (act, wanted)) in acts.iter().enumerate() {
@@ -186,7 +186,7 @@ fn told_otherwise<R: Wait>(
     clients: u32,
     acts: &[(Act, Says)],
 ) -> Result<(Option<(usize, Says)>, Totals), Fail> {
-    surprise::<Brand, Brand, Brand, Brand, Brand, Brand, R>(rt, alloc, clients, Blanks::new(), acts)
+    surprise::<Brand, R>(rt, alloc, clients, Blanks::new(), acts)
 }
 
 #[test]

@@ -1,10 +1,11 @@
 //! Clients that wait at a desk, each in a thread of its own.
 ghost use Rattle.std.specs.Prelude.{◌≡◌};
 ghost use Rattle.desk_tallies.specs.declared.passes.TheConstants.{ALL_PARTS};
-ghost use Rattle.desk_tallies.specs.Shares.{by_class, names_of, of_each, parts_of};
+ghost use Rattle.desk_tallies.specs.Shares.{names_of, of_each, parts_of};
 
 use crate::desk_parts::{Nowhere, key, limits, link};
 use crate::desk_stories::{Says, granted};
+use desk_tallies::ledgers::Ledgers;
 use desk_tallies::passes::{Pass, Totals};
 use desk_tallies::tallies::Blanks;
 use link_desk::answers::Grant;
@@ -13,26 +14,25 @@ use pool_desk::desk::Desk;
 use std::alloc::{AllocError, Global};
 use std::marker::Brand;
 use std::sync::Wait;
-use std::sync::ledger::Ledger;
 use std::test::Fail;
 use std::thread::{Threads, join};
 
 /// How many clients wait at the desk.
-fn waiting<A: Ledger, G: Ledger, B: Ledger, L: Ledger, W: Ledger, O: Ledger, R: Wait>(
+fn waiting<K: Ledgers, R: Wait>(
     rt: &R,
     alloc: Global,
-    desk: &Desk<Nowhere, A, G, B, L, W, O>,
-    pass: &mut Pass<A, G, B, L, W, O>,
+    desk: &Desk<Nowhere, K>,
+    pass: &mut Pass<K>,
 ) -> Result<usize, AllocError> {
     Ok(desk.view(rt, alloc, pass)?.tickets.len())
 }
 
 /// So many clients come and ask; the first has its link, number 1.
-fn come<A: Ledger, G: Ledger, B: Ledger, L: Ledger, W: Ledger, O: Ledger, R: Wait>(
+fn come<K: Ledgers, R: Wait>(
     rt: &R,
     alloc: Global,
-    desk: &Desk<Nowhere, A, G, B, L, W, O>,
-    pass: &mut Pass<A, G, B, L, W, O>,
+    desk: &Desk<Nowhere, K>,
+    pass: &mut Pass<K>,
     clients: u64,
 ) -> Result<Says, AllocError> {
     let key = key(alloc)?;
@@ -44,11 +44,11 @@ fn come<A: Ledger, G: Ledger, B: Ledger, L: Ledger, W: Ledger, O: Ledger, R: Wai
 }
 
 /// Second 4 comes, and second 5 once it was seen who waits.
-fn ticks<A: Ledger, G: Ledger, B: Ledger, L: Ledger, W: Ledger, O: Ledger, R: Wait>(
+fn ticks<K: Ledgers, R: Wait>(
     rt: &R,
     alloc: Global,
-    desk: &Desk<Nowhere, A, G, B, L, W, O>,
-    pass: &mut Pass<A, G, B, L, W, O>,
+    desk: &Desk<Nowhere, K>,
+    pass: &mut Pass<K>,
 ) -> usize {
     desk.tick(rt, pass, 4);
     let waiting = waiting(rt, alloc, desk, pass).unwrap_or(9);
@@ -57,20 +57,16 @@ fn ticks<A: Ledger, G: Ledger, B: Ledger, L: Ledger, W: Ledger, O: Ledger, R: Wa
 }
 
 /// What the second client is told that waits from second 0 to second 5, and how many waited in second 4.
-fn too_late<
-    A: Ledger + Send + Sync,
-    G: Ledger + Send + Sync,
-    B: Ledger + Send + Sync,
-    L: Ledger + Send + Sync,
-    W: Ledger + Send + Sync,
-    O: Ledger + Send + Sync,
-    R: Threads + Wait + Sync,
->(rt: &R, alloc: Global, blanks: Blanks) -> Result<(Says, usize), Fail>
-    requires names { names_of blanks ≡ by_class A.name G.name B.name L.name W.name O.name }
-    requires parts { by_class A.parts G.parts B.parts L.parts W.parts O.parts ≡ parts_of blanks }
+fn too_late<K: Ledgers + Send + Sync, R: Threads + Wait + Sync>(
+    rt: &R,
+    alloc: Global,
+    blanks: Blanks,
+) -> Result<(Says, usize), Fail>
+    requires names { names_of blanks ≡ K.names }
+    requires parts { K.parts ≡ parts_of blanks }
     requires all { parts_of blanks ≡ of_each ALL_PARTS }
 {
-    let desk = Desk::<Nowhere, A, G, B, L, W, O>::new(alloc, limits(alloc, 100)?, blanks)?;
+    let desk = Desk::<Nowhere, K>::new(alloc, limits(alloc, 100)?, blanks)?;
     let mut first = desk.pass(rt).ok_or("no pass")?;
     let mut second = desk.pass(rt).ok_or("no pass")?;
     come(rt, alloc, &desk, &mut first, 2)?;
@@ -84,21 +80,17 @@ fn too_late<
 
 #[test]
 fn a_client_waits_for_so_long(rt: HostRuntime) -> Result<(), Fail> {
-    let told = too_late::<Brand, Brand, Brand, Brand, Brand, Brand, HostRuntime>(
-        &rt,
-        rt.alloc(),
-        Blanks::new(),
-    )?;
+    let told = too_late::<Brand, HostRuntime>(&rt, rt.alloc(), Blanks::new())?;
     assert!(rt; told == (Says::Refuse(Refusal::WaitedTooLong), 1));
     Ok(())
 }
 
 /// A client that waits has its link and gives it back: the link's number, and how many waited meanwhile.
-fn has_its_turn<A: Ledger, G: Ledger, B: Ledger, L: Ledger, W: Ledger, O: Ledger, R: Wait>(
+fn has_its_turn<K: Ledgers, R: Wait>(
     rt: &R,
     alloc: Global,
-    desk: &Desk<Nowhere, A, G, B, L, W, O>,
-    pass: &mut Pass<A, G, B, L, W, O>,
+    desk: &Desk<Nowhere, K>,
+    pass: &mut Pass<K>,
     client: u64,
 ) -> (u64, usize) {
     match desk.take(rt, pass, client) {
@@ -114,11 +106,11 @@ fn has_its_turn<A: Ledger, G: Ledger, B: Ledger, L: Ledger, W: Ledger, O: Ledger
 }
 
 /// How many wait, and then link 1 comes back.
-fn gives_back<A: Ledger, G: Ledger, B: Ledger, L: Ledger, W: Ledger, O: Ledger, R: Wait>(
+fn gives_back<K: Ledgers, R: Wait>(
     rt: &R,
     alloc: Global,
-    desk: &Desk<Nowhere, A, G, B, L, W, O>,
-    pass: &mut Pass<A, G, B, L, W, O>,
+    desk: &Desk<Nowhere, K>,
+    pass: &mut Pass<K>,
 ) -> Result<usize, AllocError> {
     let waiting = waiting(rt, alloc, desk, pass)?;
     let mut back = Some(link(alloc, 1)?);
@@ -127,12 +119,12 @@ fn gives_back<A: Ledger, G: Ledger, B: Ledger, L: Ledger, W: Ledger, O: Ledger, 
 }
 
 /// The totals of a desk with three passes.
-fn gathered<A: Ledger, G: Ledger, B: Ledger, L: Ledger, W: Ledger, O: Ledger>(
+fn gathered<K: Ledgers>(
     alloc: Global,
-    desk: Desk<Nowhere, A, G, B, L, W, O>,
-    first: Pass<A, G, B, L, W, O>,
-    second: Pass<A, G, B, L, W, O>,
-    third: Pass<A, G, B, L, W, O>,
+    desk: Desk<Nowhere, K>,
+    first: Pass<K>,
+    second: Pass<K>,
+    third: Pass<K>,
 ) -> Result<Totals, Fail> {
     let mut passes = Vec::new(alloc);
     passes.push(first).ok().ok_or("no memory")?;
@@ -142,20 +134,12 @@ fn gathered<A: Ledger, G: Ledger, B: Ledger, L: Ledger, W: Ledger, O: Ledger>(
 }
 
 /// The first client gives its link back, and the second has its turn: how many waited before, and the turn.
-fn goes_on<
-    A: Ledger + Send + Sync,
-    G: Ledger + Send + Sync,
-    B: Ledger + Send + Sync,
-    L: Ledger + Send + Sync,
-    W: Ledger + Send + Sync,
-    O: Ledger + Send + Sync,
-    R: Threads + Wait + Sync,
->(
+fn goes_on<K: Ledgers + Send + Sync, R: Threads + Wait + Sync>(
     rt: &R,
     alloc: Global,
-    desk: &Desk<Nowhere, A, G, B, L, W, O>,
-    first: &mut Pass<A, G, B, L, W, O>,
-    second: &mut Pass<A, G, B, L, W, O>,
+    desk: &Desk<Nowhere, K>,
+    first: &mut Pass<K>,
+    second: &mut Pass<K>,
 ) -> (usize, (u64, usize)) {
     let (turn, waited) = join(
         rt,
@@ -166,21 +150,13 @@ fn goes_on<
 }
 
 /// The same, and the turn of the third.
-fn takes_turns<
-    A: Ledger + Send + Sync,
-    G: Ledger + Send + Sync,
-    B: Ledger + Send + Sync,
-    L: Ledger + Send + Sync,
-    W: Ledger + Send + Sync,
-    O: Ledger + Send + Sync,
-    R: Threads + Wait + Sync,
->(
+fn takes_turns<K: Ledgers + Send + Sync, R: Threads + Wait + Sync>(
     rt: &R,
     alloc: Global,
-    desk: &Desk<Nowhere, A, G, B, L, W, O>,
-    first: &mut Pass<A, G, B, L, W, O>,
-    second: &mut Pass<A, G, B, L, W, O>,
-    third: &mut Pass<A, G, B, L, W, O>,
+    desk: &Desk<Nowhere, K>,
+    first: &mut Pass<K>,
+    second: &mut Pass<K>,
+    third: &mut Pass<K>,
 ) -> (usize, (u64, usize), (u64, usize)) {
     let (last, (waited, turn)) = join(
         rt,
@@ -191,24 +167,16 @@ fn takes_turns<
 }
 
 /// Three clients come to a new desk; the first has the only link, and the others their turns.
-fn in_turn<
-    A: Ledger + Send + Sync,
-    G: Ledger + Send + Sync,
-    B: Ledger + Send + Sync,
-    L: Ledger + Send + Sync,
-    W: Ledger + Send + Sync,
-    O: Ledger + Send + Sync,
-    R: Threads + Wait + Sync,
->(
+fn in_turn<K: Ledgers + Send + Sync, R: Threads + Wait + Sync>(
     rt: &R,
     alloc: Global,
     blanks: Blanks,
 ) -> Result<((usize, (u64, usize), (u64, usize)), Totals), Fail>
-    requires names { names_of blanks ≡ by_class A.name G.name B.name L.name W.name O.name }
-    requires parts { by_class A.parts G.parts B.parts L.parts W.parts O.parts ≡ parts_of blanks }
+    requires names { names_of blanks ≡ K.names }
+    requires parts { K.parts ≡ parts_of blanks }
     requires all { parts_of blanks ≡ of_each ALL_PARTS }
 {
-    let desk = Desk::<Nowhere, A, G, B, L, W, O>::new(alloc, limits(alloc, 100)?, blanks)?;
+    let desk = Desk::<Nowhere, K>::new(alloc, limits(alloc, 100)?, blanks)?;
     let mut first = desk.pass(rt).ok_or("no pass")?;
     let mut second = desk.pass(rt).ok_or("no pass")?;
     let mut third = desk.pass(rt).ok_or("no pass")?;
@@ -220,11 +188,7 @@ fn in_turn<
 
 #[test]
 fn clients_have_their_turns(rt: HostRuntime) -> Result<(), Fail> {
-    let (turns, totals) = in_turn::<Brand, Brand, Brand, Brand, Brand, Brand, HostRuntime>(
-        &rt,
-        rt.alloc(),
-        Blanks::new(),
-    )?;
+    let (turns, totals) = in_turn::<Brand, HostRuntime>(&rt, rt.alloc(), Blanks::new())?;
     let wanted = Totals {
         arrived: 3,
         granted: 3,

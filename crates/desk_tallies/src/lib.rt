@@ -1,6 +1,7 @@
 //! Counters of decisions by class, and the passes that share in them.
 #![tactic(auto)]
 
+pub mod ledgers;
 pub mod passes;
 pub mod tallies;
 

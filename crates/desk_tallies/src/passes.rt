@@ -3,8 +3,9 @@ ghost use Rattle.std.specs.Prelude.{◌≡◌, ℕ, ◌+◌, ◌≤◌, length, 
 ghost use Rattle.link_desk.specs.Passes.{new_pass};
 ghost use Rattle.desk_tallies.specs.Shares.{AtMost, by_class, of_each, sum_of, sum_over};
 
+use crate::ledgers::{Arrived, GivenBack, Granted, Ledgers, Left, Lost, Others};
 use std::marker::Model;
-use std::sync::ledger::{Ledger, Share};
+use std::sync::ledger::Share;
 
 /// Into so many parts the shares of each ledger can be cut.
 pub const ALL_PARTS: u64 = 1 << 32;
@@ -27,17 +28,16 @@ pub struct Totals {
 }
 
 /// A share of each ledger.
-pub struct Shares<A: Ledger, G: Ledger, B: Ledger, L: Ledger, W: Ledger, O: Ledger> {
-    pub(crate) arrived: Share<A>,
-    pub(crate) granted: Share<G>,
-    pub(crate) given_back: Share<B>,
-    pub(crate) lost: Share<L>,
-    pub(crate) left: Share<W>,
-    pub(crate) others: Share<O>,
+pub struct Shares<K: Ledgers> {
+    pub(crate) arrived: Share<Arrived<K>>,
+    pub(crate) granted: Share<Granted<K>>,
+    pub(crate) given_back: Share<GivenBack<K>>,
+    pub(crate) lost: Share<Lost<K>>,
+    pub(crate) left: Share<Left<K>>,
+    pub(crate) others: Share<Others<K>>,
 }
 
-impl<A: Ledger, G: Ledger, B: Ledger, L: Ledger, W: Ledger, O: Ledger> Drop
-    for Shares<A, G, B, L, W, O> {
+impl<K: Ledgers> Drop for Shares<K> {
     fn drop(self) {
         let Shares {
             arrived: _,
@@ -50,8 +50,7 @@ impl<A: Ledger, G: Ledger, B: Ledger, L: Ledger, W: Ledger, O: Ledger> Drop
     }
 }
 
-impl<A: Ledger, G: Ledger, B: Ledger, L: Ledger, W: Ledger, O: Ledger> Model
-    for Shares<A, G, B, L, W, O> {
+impl<K: Ledgers> Model for Shares<K> {
     ghost use Rattle.desk_tallies.specs.Shares.{SharesOf, by_class};
 
     ghost Value = { SharesOf };
@@ -63,18 +62,14 @@ impl<A: Ledger, G: Ledger, B: Ledger, L: Ledger, W: Ledger, O: Ledger> Model
 }
 
 /// A pass: a number, and one part of each ledger, with what was counted on it. Decisions are made through it.
-///
-/// `A` to `O` are the ledgers of the classes of decisions: clients let in, links granted, given back, lost or not started, clients
-/// gone, and all others.
-pub struct Pass<A: Ledger, G: Ledger, B: Ledger, L: Ledger, W: Ledger, O: Ledger> {
+pub struct Pass<K: Ledgers> {
     number: u64,
     /// Whether a call through it was answered as strange, or by the last decision.
     pub(crate) is_broken: bool,
-    pub(crate) shares: Shares<A, G, B, L, W, O>,
+    pub(crate) shares: Shares<K>,
 }
 
-impl<A: Ledger, G: Ledger, B: Ledger, L: Ledger, W: Ledger, O: Ledger> Drop
-    for Pass<A, G, B, L, W, O> {
+impl<K: Ledgers> Drop for Pass<K> {
     fn drop(self) {
         let Pass {
             number: _,
@@ -84,8 +79,7 @@ impl<A: Ledger, G: Ledger, B: Ledger, L: Ledger, W: Ledger, O: Ledger> Drop
     }
 }
 
-impl<A: Ledger, G: Ledger, B: Ledger, L: Ledger, W: Ledger, O: Ledger> Model
-    for Pass<A, G, B, L, W, O> {
+impl<K: Ledgers> Model for Pass<K> {
     ghost use Rattle.std.specs.Prelude.{◌≡◌};
     ghost use Rattle.desk_tallies.specs.Shares.{PassView, of_each};
 
@@ -96,7 +90,7 @@ impl<A: Ledger, G: Ledger, B: Ledger, L: Ledger, W: Ledger, O: Ledger> Model
     ghost invariant = { λ p. p.shares.parts ≡ of_each 1 };
 }
 
-impl<A: Ledger, G: Ledger, B: Ledger, L: Ledger, W: Ledger, O: Ledger> Pass<A, G, B, L, W, O> {
+impl<K: Ledgers> Pass<K> {
     /// Its number, counted from 0.
     pub fn number(&self) -> u64
         ensures { result ≡ self.now.number }
@@ -105,7 +99,7 @@ impl<A: Ledger, G: Ledger, B: Ledger, L: Ledger, W: Ledger, O: Ledger> Pass<A, G
     }
 
     /// Its shares: a part of each ledger, and what was made through it.
-    fn into_shares(self) -> Shares<A, G, B, L, W, O>
+    fn into_shares(self) -> Shares<K>
         ensures parts { result.parts ≡ of_each 1 }
         ensures amounts { result.amounts ≡ self.told.made }
     {
@@ -118,9 +112,9 @@ impl<A: Ledger, G: Ledger, B: Ledger, L: Ledger, W: Ledger, O: Ledger> Pass<A, G
     }
 }
 
-impl<A: Ledger, G: Ledger, B: Ledger, L: Ledger, W: Ledger, O: Ledger> Shares<A, G, B, L, W, O> {
+impl<K: Ledgers> Shares<K> {
     /// Cuts one part off each, as a pass.
-    pub fn cut(&mut self, number: u64) -> Pass<A, G, B, L, W, O>
+    pub fn cut(&mut self, number: u64) -> Pass<K>
         requires none { self.old.amounts ≡ of_each 0 }
         requires some { AtMost (of_each 2) self.old.parts }
         ensures pass { result ≡ record { number = number; told = new_pass } }
@@ -142,7 +136,7 @@ impl<A: Ledger, G: Ledger, B: Ledger, L: Ledger, W: Ledger, O: Ledger> Shares<A,
         }
     }
 
-    fn merge(&mut self, other: Shares<A, G, B, L, W, O>)
+    fn merge(&mut self, other: Shares<K>)
         ensures parts { self.new.parts ≡ sum_of self.old.parts other.parts }
         ensures amounts { self.new.amounts ≡ sum_of self.old.amounts other.amounts }
     {
@@ -163,7 +157,7 @@ impl<A: Ledger, G: Ledger, B: Ledger, L: Ledger, W: Ledger, O: Ledger> Shares<A,
     }
 
     /// Takes the passes in.
-    pub(crate) fn merge_all(&mut self, mut passes: Vec<Pass<A, G, B, L, W, O>>)
+    pub(crate) fn merge_all(&mut self, mut passes: Vec<Pass<K>>)
         ensures parts { self.new.parts ≡ sum_of self.old.parts (of_each (vec_len passes)) }
         ensures amounts { self.new.amounts ≡ sum_of self.old.amounts (sum_over passes.items) }
     {

@@ -1,8 +1,9 @@
 //! Counters of decisions by class, each with a ledger of who made them.
 ghost use Rattle.std.specs.Prelude.{◌≡◌, ◌+◌, ◌<◌, ◌≤◌, ◌||◌, vec_len};
 ghost use Rattle.desk_tallies.specs.declared.passes.TheConstants.{ALL_PARTS};
-ghost use Rattle.desk_tallies.specs.Shares.{AtMost, by_class, made_of, names_of, of_each, parts_of, sum_of, sum_over};
+ghost use Rattle.desk_tallies.specs.Shares.{AtMost, made_of, names_of, of_each, parts_of, sum_of, sum_over};
 
+use crate::ledgers::{Arrived, GivenBack, Granted, Ledgers, Left, Lost, Others};
 use crate::passes::{ALL_PARTS, Pass, Shares, Totals};
 use std::marker::Model;
 use std::sync::ledger::{Blank, Book, Ledger, Share};
@@ -54,17 +55,16 @@ impl<L: Ledger> Tally<L> {
 }
 
 /// The counters of all classes.
-pub struct Tallies<A: Ledger, G: Ledger, B: Ledger, L: Ledger, W: Ledger, O: Ledger> {
-    arrived: Tally<A>,
-    granted: Tally<G>,
-    given_back: Tally<B>,
-    lost: Tally<L>,
-    left: Tally<W>,
-    others: Tally<O>,
+pub struct Tallies<K: Ledgers> {
+    arrived: Tally<Arrived<K>>,
+    granted: Tally<Granted<K>>,
+    given_back: Tally<GivenBack<K>>,
+    lost: Tally<Lost<K>>,
+    left: Tally<Left<K>>,
+    others: Tally<Others<K>>,
 }
 
-impl<A: Ledger, G: Ledger, B: Ledger, L: Ledger, W: Ledger, O: Ledger> Drop
-    for Tallies<A, G, B, L, W, O> {
+impl<K: Ledgers> Drop for Tallies<K> {
     fn drop(self) {
         let Tallies {
             arrived: _,
@@ -77,8 +77,7 @@ impl<A: Ledger, G: Ledger, B: Ledger, L: Ledger, W: Ledger, O: Ledger> Drop
     }
 }
 
-impl<A: Ledger, G: Ledger, B: Ledger, L: Ledger, W: Ledger, O: Ledger> Model
-    for Tallies<A, G, B, L, W, O> {
+impl<K: Ledgers> Model for Tallies<K> {
     ghost use Rattle.std.specs.Prelude.{◌≡◌};
     ghost use Rattle.link_desk.specs.Passes.{Made};
     ghost use Rattle.desk_tallies.specs.Shares.{by_class, of_each};
@@ -88,7 +87,7 @@ impl<A: Ledger, G: Ledger, B: Ledger, L: Ledger, W: Ledger, O: Ledger> Model
 
     ghost view = { λ t. by_class t.arrived.count t.granted.count t.given_back.count t.lost.count t.left.count t.others.count };
 
-    ghost invariant = { λ t. by_class A.parts G.parts B.parts L.parts W.parts O.parts ≡ of_each ALL_PARTS };
+    ghost invariant = { λ t. K.parts ≡ of_each ALL_PARTS };
 }
 
 /// The ledgers of the classes, before anything was counted.
@@ -118,22 +117,22 @@ impl Blanks {
     }
 }
 
-impl<A: Ledger, G: Ledger, B: Ledger, L: Ledger, W: Ledger, O: Ledger> Tallies<A, G, B, L, W, O> {
+impl<K: Ledgers> Tallies<K> {
     /// Counters at 0, and shares with every part.
-    pub fn open(blanks: Blanks) -> (Tallies<A, G, B, L, W, O>, Shares<A, G, B, L, W, O>)
-        requires names { names_of blanks ≡ by_class A.name G.name B.name L.name W.name O.name }
-        requires parts { by_class A.parts G.parts B.parts L.parts W.parts O.parts ≡ parts_of blanks }
+    pub fn open(blanks: Blanks) -> (Tallies<K>, Shares<K>)
+        requires names { names_of blanks ≡ K.names }
+        requires parts { K.parts ≡ parts_of blanks }
         requires all { parts_of blanks ≡ of_each ALL_PARTS }
         ensures none { result.0 ≡ of_each 0 }
         ensures parts { result.1.parts ≡ of_each ALL_PARTS }
         ensures amounts { result.1.amounts ≡ of_each 0 }
     {
-        let (arrived, arrivals) = Tally::<A>::open(blanks.arrived);
-        let (granted, grants) = Tally::<G>::open(blanks.granted);
-        let (given_back, returns) = Tally::<B>::open(blanks.given_back);
-        let (lost, losses) = Tally::<L>::open(blanks.lost);
-        let (left, leavings) = Tally::<W>::open(blanks.left);
-        let (others, rest) = Tally::<O>::open(blanks.others);
+        let (arrived, arrivals) = Tally::<Arrived<K>>::open(blanks.arrived);
+        let (granted, grants) = Tally::<Granted<K>>::open(blanks.granted);
+        let (given_back, returns) = Tally::<GivenBack<K>>::open(blanks.given_back);
+        let (lost, losses) = Tally::<Lost<K>>::open(blanks.lost);
+        let (left, leavings) = Tally::<Left<K>>::open(blanks.left);
+        let (others, rest) = Tally::<Others<K>>::open(blanks.others);
         let tallies = Tallies {
             arrived,
             granted,
@@ -153,7 +152,7 @@ impl<A: Ledger, G: Ledger, B: Ledger, L: Ledger, W: Ledger, O: Ledger> Tallies<A
         (tallies, shares)
     }
 
-    fn follow(&mut self, mine: &mut Shares<A, G, B, L, W, O>, to: Totals)
+    fn follow(&mut self, mine: &mut Shares<K>, to: Totals)
         requires part { AtMost (of_each 1) mine.old.parts }
         requires more { AtMost self.old (made_of to) }
         ensures count { self.new ≡ made_of to }
@@ -168,7 +167,7 @@ impl<A: Ledger, G: Ledger, B: Ledger, L: Ledger, W: Ledger, O: Ledger> Tallies<A
         self.others.follow(&mut mine.others, to.others);
     }
 
-    fn audit(&mut self, mine: &mut Shares<A, G, B, L, W, O>)
+    fn audit(&mut self, mine: &mut Shares<K>)
         ensures same { self.new ≡ self.old }
         ensures mine { mine.new ≡ mine.old }
         ensures bound { AtMost mine.old.amounts self.old }
@@ -183,7 +182,7 @@ impl<A: Ledger, G: Ledger, B: Ledger, L: Ledger, W: Ledger, O: Ledger> Tallies<A
     }
 
     /// The counters go on to these, and what is added was made through this pass, whose call may have broken it.
-    pub fn count(&mut self, pass: &mut Pass<A, G, B, L, W, O>, to: Totals, breaks: bool)
+    pub fn count(&mut self, pass: &mut Pass<K>, to: Totals, breaks: bool)
         requires more { AtMost self.old (made_of to) }
         ensures count { self.new ≡ made_of to }
         ensures number { pass.new.number ≡ pass.old.number }
@@ -195,7 +194,7 @@ impl<A: Ledger, G: Ledger, B: Ledger, L: Ledger, W: Ledger, O: Ledger> Tallies<A
     }
 
     /// What was made through a pass is among the counts. Nothing changes.
-    pub fn compare(&mut self, pass: &mut Pass<A, G, B, L, W, O>)
+    pub fn compare(&mut self, pass: &mut Pass<K>)
         ensures same { self.new ≡ self.old }
         ensures pass { pass.new ≡ pass.old }
         ensures bound { AtMost pass.old.told.made self.old }
@@ -204,7 +203,7 @@ impl<A: Ledger, G: Ledger, B: Ledger, L: Ledger, W: Ledger, O: Ledger> Tallies<A
     }
 
     /// Takes in all passes and what was never cut off: the counts are what was made through the passes.
-    pub fn settle(self, shares: Shares<A, G, B, L, W, O>, passes: Vec<Pass<A, G, B, L, W, O>>)
+    pub fn settle(self, shares: Shares<K>, passes: Vec<Pass<K>>)
         requires none { shares.amounts ≡ of_each 0 }
         requires all { sum_of shares.parts (of_each (vec_len passes)) ≡ of_each ALL_PARTS }
         ensures { self ≡ sum_over passes.items }

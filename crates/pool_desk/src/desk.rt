@@ -6,7 +6,7 @@ ghost use Rattle.desk_tallies.specs.Homes.{IsAtHome, IsGrantAtHome};
 ghost use Rattle.desk_tallies.specs.Passes.{after_arrival, after_asking, after_back, after_grant, after_leaving, after_loss, keeps, new_pass};
 ghost use Rattle.desk_tallies.specs.Refusing.{MayArrive, MayAsk, MayTake};
 ghost use Rattle.desk_tallies.specs.declared.passes.TheConstants.{ALL_PARTS};
-ghost use Rattle.desk_tallies.specs.Shares.{AtMost, by_class, made_of, names_of, of_each, parts_of, sum_over};
+ghost use Rattle.desk_tallies.specs.Shares.{AtMost, made_of, names_of, of_each, parts_of, sum_over};
 ghost use Rattle.pool_desk.specs.Changes.{AfterTick, IsTickAtHome, after_change, is_change};
 ghost use Rattle.pool_desk.specs.Classes.{class_counts};
 ghost use Rattle.pool_desk.specs.Joined.{brought};
@@ -19,6 +19,7 @@ use crate::inner::Core;
 use book_model::limits::{Limits, MOST_CLIENTS};
 use book_register::view::BookView;
 use desk_tallies::answers::{Arrival, Asked, Back, Gone, Grant};
+use desk_tallies::ledgers::Ledgers;
 use desk_tallies::passes::{Pass, Totals};
 use desk_tallies::tallies::Blanks;
 use lease_book::events::{Event, Reply};
@@ -26,7 +27,6 @@ use link_run::links::CleanLink;
 use server_end::ServerEnd;
 use start_keys::StartKey;
 use std::alloc::{AllocError, Global};
-use std::sync::ledger::Ledger;
 use std::sync::{Arc, Mutex, Wait};
 
 /// Which of the clients that wait a decision may help.
@@ -52,40 +52,24 @@ fn helped_by<E: ServerEnd>(event: &Event<E>) -> Helps {
 }
 
 /// The lease book behind one lock, and the bells of the clients that wait. Each event is one hold of the lock, in which no byte moves.
-///
-/// `A` to `O` are the ledgers of the classes of decisions: clients let in, links granted, given back, lost or not started, clients
-/// gone, and all others.
-pub struct Desk<S: Dial, A: Ledger, G: Ledger, B: Ledger, L: Ledger, W: Ledger, O: Ledger> {
-    core: Mutex<Core<S, A, G, B, L, W, O>>,
+pub struct Desk<S: Dial, K: Ledgers> {
+    core: Mutex<Core<S, K>>,
     bells: Bells,
 }
 
-impl<S: Dial, A: Ledger, G: Ledger, B: Ledger, L: Ledger, W: Ledger, O: Ledger> Drop
-    for Desk<S, A, G, B, L, W, O> {
+impl<S: Dial, K: Ledgers> Drop for Desk<S, K> {
     fn drop(self) {
         let Desk { core: _, bells: _ } = self;
     }
 }
 
-impl<S: Dial, A: Ledger, G: Ledger, B: Ledger, L: Ledger, W: Ledger, O: Ledger> Desk<
-    S,
-    A,
-    G,
-    B,
-    L,
-    W,
-    O,
-> {
+impl<S: Dial, K: Ledgers> Desk<S, K> {
     /// A desk with an empty book.
     ///
     /// `AllocError` where memory is refused.
-    pub fn new(
-        alloc: Global,
-        limits: Arc<Limits>,
-        blanks: Blanks,
-    ) -> Result<Desk<S, A, G, B, L, W, O>, AllocError>
-        requires names { names_of blanks ≡ by_class A.name G.name B.name L.name W.name O.name }
-        requires parts { by_class A.parts G.parts B.parts L.parts W.parts O.parts ≡ parts_of blanks }
+    pub fn new(alloc: Global, limits: Arc<Limits>, blanks: Blanks) -> Result<Desk<S, K>, AllocError>
+        requires names { names_of blanks ≡ K.names }
+        requires parts { K.parts ≡ parts_of blanks }
         requires all { parts_of blanks ≡ of_each ALL_PARTS }
     {
         let bells = Bells::new(alloc)?;
@@ -97,14 +81,14 @@ impl<S: Dial, A: Ledger, G: Ledger, B: Ledger, L: Ledger, W: Ledger, O: Ledger> 
     }
 
     /// A pass; `None` where 4,294,967,295 were cut off.
-    pub fn pass<R: Wait>(&self, rt: &R) -> Option<Pass<A, G, B, L, W, O>>
+    pub fn pass<R: Wait>(&self, rt: &R) -> Option<Pass<K>>
         ensures { IfSome result (λ p. p.told ≡ new_pass) }
     {
         self.core.lock(rt).pass()
     }
 
     /// Wakes the first that waits of each pool.
-    fn ring_first(&self, core: &Core<S, A, G, B, L, W, O>) {
+    fn ring_first(&self, core: &Core<S, K>) {
         for at in 0..MOST_CLIENTS as usize {
             match core.ticket(at) {
                 Some(waiting) if waiting.first_of_pool => self
@@ -117,7 +101,7 @@ impl<S: Dial, A: Ledger, G: Ledger, B: Ledger, L: Ledger, W: Ledger, O: Ledger> 
         }
     }
 
-    fn ring(&self, core: &Core<S, A, G, B, L, W, O>, helps: Helps) {
+    fn ring(&self, core: &Core<S, K>, helps: Helps) {
         match helps {
             Helps::Nobody => {}
             Helps::First => self.ring_first(core),
@@ -126,12 +110,7 @@ impl<S: Dial, A: Ledger, G: Ledger, B: Ledger, L: Ledger, W: Ledger, O: Ledger> 
     }
 
     /// One event, in one hold of the lock.
-    fn hold<R: Wait>(
-        &self,
-        rt: &R,
-        pass: &mut Pass<A, G, B, L, W, O>,
-        event: Event<S::End>,
-    ) -> Reply<S::End>
+    fn hold<R: Wait>(&self, rt: &R, pass: &mut Pass<K>, event: Event<S::End>) -> Reply<S::End>
         requires twice { IsTwice event }
         requires home { IfSome (brought event) (λ l. IsAtHome S.home l) }
         ensures number { pass.new.number ≡ pass.old.number }
@@ -150,7 +129,7 @@ impl<S: Dial, A: Ledger, G: Ledger, B: Ledger, L: Ledger, W: Ledger, O: Ledger> 
     }
 
     /// A client has come.
-    pub fn arrive<R: Wait>(&self, rt: &R, pass: &mut Pass<A, G, B, L, W, O>) -> Arrival
+    pub fn arrive<R: Wait>(&self, rt: &R, pass: &mut Pass<K>) -> Arrival
         ensures told { pass.new.told ≡ after_arrival pass.old.told result }
         ensures refused { MayArrive result }
     {
@@ -165,7 +144,7 @@ impl<S: Dial, A: Ledger, G: Ledger, B: Ledger, L: Ledger, W: Ledger, O: Ledger> 
     pub fn ask<R: Wait>(
         &self,
         rt: &R,
-        pass: &mut Pass<A, G, B, L, W, O>,
+        pass: &mut Pass<K>,
         client: u64,
         key: &Arc<StartKey>,
     ) -> Asked
@@ -189,12 +168,7 @@ impl<S: Dial, A: Ledger, G: Ledger, B: Ledger, L: Ledger, W: Ledger, O: Ledger> 
     }
 
     /// Waits until the client needn't wait any longer for its link.
-    pub fn take<R: Wait>(
-        &self,
-        rt: &R,
-        pass: &mut Pass<A, G, B, L, W, O>,
-        client: u64,
-    ) -> Grant<S::End>
+    pub fn take<R: Wait>(&self, rt: &R, pass: &mut Pass<K>, client: u64) -> Grant<S::End>
         ensures told { pass.new.told ≡ after_grant pass.old.told result }
         ensures refused { MayTake result }
         ensures home { IsGrantAtHome S.home result }
@@ -230,7 +204,7 @@ impl<S: Dial, A: Ledger, G: Ledger, B: Ledger, L: Ledger, W: Ledger, O: Ledger> 
     pub fn give_back<R: Wait>(
         &self,
         rt: &R,
-        pass: &mut Pass<A, G, B, L, W, O>,
+        pass: &mut Pass<K>,
         link: &mut Option<CleanLink<S::End>>,
     ) -> Back
         requires here { IsSome link.old }
@@ -260,7 +234,7 @@ impl<S: Dial, A: Ledger, G: Ledger, B: Ledger, L: Ledger, W: Ledger, O: Ledger> 
     }
 
     /// A lent link has been closed.
-    pub fn lost<R: Wait>(&self, rt: &R, pass: &mut Pass<A, G, B, L, W, O>, number: u64) -> Gone
+    pub fn lost<R: Wait>(&self, rt: &R, pass: &mut Pass<K>, number: u64) -> Gone
         ensures { pass.new.told ≡ after_loss pass.old.told result }
     {
         match self.hold(rt, pass, Event::Lost { number }) {
@@ -272,12 +246,7 @@ impl<S: Dial, A: Ledger, G: Ledger, B: Ledger, L: Ledger, W: Ledger, O: Ledger> 
     }
 
     /// A link that was to be started could not be.
-    pub fn start_failed<R: Wait>(
-        &self,
-        rt: &R,
-        pass: &mut Pass<A, G, B, L, W, O>,
-        number: u64,
-    ) -> Gone
+    pub fn start_failed<R: Wait>(&self, rt: &R, pass: &mut Pass<K>, number: u64) -> Gone
         ensures { pass.new.told ≡ after_loss pass.old.told result }
     {
         match self.hold(rt, pass, Event::StartFailed { number }) {
@@ -289,7 +258,7 @@ impl<S: Dial, A: Ledger, G: Ledger, B: Ledger, L: Ledger, W: Ledger, O: Ledger> 
     }
 
     /// A client has gone.
-    pub fn leave<R: Wait>(&self, rt: &R, pass: &mut Pass<A, G, B, L, W, O>, client: u64) -> Gone
+    pub fn leave<R: Wait>(&self, rt: &R, pass: &mut Pass<K>, client: u64) -> Gone
         ensures { pass.new.told ≡ after_leaving pass.old.told result }
     {
         match self.hold(rt, pass, Event::Leave { client }) {
@@ -301,12 +270,7 @@ impl<S: Dial, A: Ledger, G: Ledger, B: Ledger, L: Ledger, W: Ledger, O: Ledger> 
     }
 
     /// It is this second.
-    pub fn tick<R: Wait>(
-        &self,
-        rt: &R,
-        pass: &mut Pass<A, G, B, L, W, O>,
-        now: u64,
-    ) -> Ticked<S::End>
+    pub fn tick<R: Wait>(&self, rt: &R, pass: &mut Pass<K>, now: u64) -> Ticked<S::End>
         ensures told { AfterTick result pass.old.told pass.new.told }
         ensures home { IsTickAtHome S.home result }
     {
@@ -319,12 +283,7 @@ impl<S: Dial, A: Ledger, G: Ledger, B: Ledger, L: Ledger, W: Ledger, O: Ledger> 
     }
 
     /// An event that is always a decision, but for the last one.
-    fn change<R: Wait>(
-        &self,
-        rt: &R,
-        pass: &mut Pass<A, G, B, L, W, O>,
-        event: Event<S::End>,
-    ) -> Changed
+    fn change<R: Wait>(&self, rt: &R, pass: &mut Pass<K>, event: Event<S::End>) -> Changed
         requires twice { IsTwice event }
         requires change { is_change event ≡ true }
         ensures { pass.new.told ≡ after_change pass.old.told result }
@@ -342,7 +301,7 @@ impl<S: Dial, A: Ledger, G: Ledger, B: Ledger, L: Ledger, W: Ledger, O: Ledger> 
     pub fn limits<R: Wait>(
         &self,
         rt: &R,
-        pass: &mut Pass<A, G, B, L, W, O>,
+        pass: &mut Pass<K>,
         limits: &Arc<Limits>,
     ) -> Result<Changed, AllocError>
         ensures ok { IfOk result (λ c. pass.new.told ≡ after_change pass.old.told c) }
@@ -354,21 +313,21 @@ impl<S: Dial, A: Ledger, G: Ledger, B: Ledger, L: Ledger, W: Ledger, O: Ledger> 
     }
 
     /// No link is lent until [`Desk::resume`].
-    pub fn pause<R: Wait>(&self, rt: &R, pass: &mut Pass<A, G, B, L, W, O>) -> Changed
+    pub fn pause<R: Wait>(&self, rt: &R, pass: &mut Pass<K>) -> Changed
         ensures { pass.new.told ≡ after_change pass.old.told result }
     {
         self.change(rt, pass, Event::Pause)
     }
 
     /// Links are lent again.
-    pub fn resume<R: Wait>(&self, rt: &R, pass: &mut Pass<A, G, B, L, W, O>) -> Changed
+    pub fn resume<R: Wait>(&self, rt: &R, pass: &mut Pass<K>) -> Changed
         ensures { pass.new.told ≡ after_change pass.old.told result }
     {
         self.change(rt, pass, Event::Resume)
     }
 
     /// No client is let in and no link lent any more.
-    pub fn shutdown<R: Wait>(&self, rt: &R, pass: &mut Pass<A, G, B, L, W, O>) -> Changed
+    pub fn shutdown<R: Wait>(&self, rt: &R, pass: &mut Pass<K>) -> Changed
         ensures { pass.new.told ≡ after_change pass.old.told result }
     {
         self.change(rt, pass, Event::Shutdown)
@@ -381,7 +340,7 @@ impl<S: Dial, A: Ledger, G: Ledger, B: Ledger, L: Ledger, W: Ledger, O: Ledger> 
         &self,
         rt: &R,
         alloc: Global,
-        pass: &mut Pass<A, G, B, L, W, O>,
+        pass: &mut Pass<K>,
     ) -> Result<BookView, AllocError>
         ensures at_least { IfOk result (λ v. AtMost pass.old.told.made (class_counts v.counts)) }
         ensures pass { pass.new ≡ pass.old }
@@ -391,10 +350,7 @@ impl<S: Dial, A: Ledger, G: Ledger, B: Ledger, L: Ledger, W: Ledger, O: Ledger> 
 
     /// The book's decisions by class, which are those made through all passes together. `Err`, with both handed back: these are not
     /// as many passes as were cut off.
-    pub fn gather(
-        self,
-        passes: Vec<Pass<A, G, B, L, W, O>>,
-    ) -> Result<Totals, (Desk<S, A, G, B, L, W, O>, Vec<Pass<A, G, B, L, W, O>>)>
+    pub fn gather(self, passes: Vec<Pass<K>>) -> Result<Totals, (Desk<S, K>, Vec<Pass<K>>)>
         ensures sums { IfOk result (λ t. made_of t ≡ sum_over passes.items) }
         ensures back { IfErr result (λ e. e.1 ≡ passes) }
     {

@@ -8,7 +8,7 @@ ghost use Rattle.lease_book.specs.Links.{IsTwice, answered, handed, handed_after
 ghost use Rattle.desk_tallies.specs.Homes.{IsAtHome};
 ghost use Rattle.desk_tallies.specs.Passes.{new_pass};
 ghost use Rattle.desk_tallies.specs.declared.passes.TheConstants.{ALL_PARTS};
-ghost use Rattle.desk_tallies.specs.Shares.{AtMost, by_class, made_of, names_of, of_each, parts_of, sum_over};
+ghost use Rattle.desk_tallies.specs.Shares.{AtMost, made_of, names_of, of_each, parts_of, sum_over};
 ghost use Rattle.pool_desk.specs.Classes.{class_counts};
 ghost use Rattle.pool_desk.specs.Joined.{brought};
 ghost use Rattle.pool_desk.specs.Tells.{Tells, breaks};
@@ -17,6 +17,7 @@ use crate::dial::Dial;
 use book_model::counts::Counts;
 use book_model::limits::Limits;
 use book_register::view::{BookView, Waiting};
+use desk_tallies::ledgers::Ledgers;
 use desk_tallies::passes::{ALL_PARTS, Pass, Shares, Totals};
 use desk_tallies::tallies::{Blanks, Tallies};
 use lease_book::book::Book;
@@ -26,7 +27,6 @@ use server_end::ServerEnd;
 use std::alloc::{AllocError, Global};
 use std::marker::{Model, PhantomData};
 use std::sync::Arc;
-use std::sync::ledger::Ledger;
 
 /// The book's decisions by class.
 fn totals_of(decisions: u64, counts: Counts) -> Totals
@@ -58,17 +58,16 @@ fn breaks<E: ServerEnd>(reply: &Reply<E>) -> bool
 
 /// The book, the counters of its decisions by class, and the shares that no pass has.
 #[derive(Drop)]
-pub struct Core<S: Dial, A: Ledger, G: Ledger, B: Ledger, L: Ledger, W: Ledger, O: Ledger> {
+pub struct Core<S: Dial, K: Ledgers> {
     book: Book<S::End>,
-    tallies: Tallies<A, G, B, L, W, O>,
-    uncut: Shares<A, G, B, L, W, O>,
+    tallies: Tallies<K>,
+    uncut: Shares<K>,
     /// So many passes were cut off.
     given: u64,
     dialer: PhantomData<S>,
 }
 
-impl<S: Dial, A: Ledger, G: Ledger, B: Ledger, L: Ledger, W: Ledger, O: Ledger> Model
-    for Core<S, A, G, B, L, W, O> {
+impl<S: Dial, K: Ledgers> Model for Core<S, K> {
     ghost use Rattle.pool_desk.specs.Joined.{CoreOf, IsJoined};
 
     ghost Value = { CoreOf };
@@ -78,25 +77,13 @@ impl<S: Dial, A: Ledger, G: Ledger, B: Ledger, L: Ledger, W: Ledger, O: Ledger> 
     ghost invariant = { λ c. IsJoined S.home c.book c.tallies c.uncut c.given };
 }
 
-impl<S: Dial, A: Ledger, G: Ledger, B: Ledger, L: Ledger, W: Ledger, O: Ledger> Core<
-    S,
-    A,
-    G,
-    B,
-    L,
-    W,
-    O,
-> {
+impl<S: Dial, K: Ledgers> Core<S, K> {
     /// An empty book, of which nothing was counted.
     ///
     /// `AllocError` where memory is refused.
-    pub fn new(
-        alloc: Global,
-        limits: Arc<Limits>,
-        blanks: Blanks,
-    ) -> Result<Core<S, A, G, B, L, W, O>, AllocError>
-        requires names { names_of blanks ≡ by_class A.name G.name B.name L.name W.name O.name }
-        requires parts { by_class A.parts G.parts B.parts L.parts W.parts O.parts ≡ parts_of blanks }
+    pub fn new(alloc: Global, limits: Arc<Limits>, blanks: Blanks) -> Result<Core<S, K>, AllocError>
+        requires names { names_of blanks ≡ K.names }
+        requires parts { K.parts ≡ parts_of blanks }
         requires all { parts_of blanks ≡ of_each ALL_PARTS }
         ensures lists { IfOk result (λ c. c.book.lists ≡ empty_book (arc_value limits)) }
         ensures given { IfOk result (λ c. c.given ≡ 0) }
@@ -113,7 +100,7 @@ impl<S: Dial, A: Ledger, G: Ledger, B: Ledger, L: Ledger, W: Ledger, O: Ledger> 
     }
 
     /// Cuts a pass off; `None` where one part of each ledger is left.
-    pub fn pass(&mut self) -> Option<Pass<A, G, B, L, W, O>>
+    pub fn pass(&mut self) -> Option<Pass<K>>
         ensures pass { IfSome result (λ p. p ≡ record { number = self.old.given; told = new_pass }) }
         ensures given { IfSome result (λ p. self.new.given ≡ suc self.old.given) }
         ensures none { IfNone result (suc self.old.given ≡ ALL_PARTS) }
@@ -128,11 +115,7 @@ impl<S: Dial, A: Ledger, G: Ledger, B: Ledger, L: Ledger, W: Ledger, O: Ledger> 
     }
 
     /// One event, made through this pass.
-    pub fn apply(
-        &mut self,
-        pass: &mut Pass<A, G, B, L, W, O>,
-        event: Event<S::End>,
-    ) -> Reply<S::End>
+    pub fn apply(&mut self, pass: &mut Pass<K>, event: Event<S::End>) -> Reply<S::End>
         requires twice { IsTwice event }
         requires home { IfSome (brought event) (λ l. IsAtHome S.home l) }
         ensures lists { self.new.book.lists ≡ (answered self.old.book.lists event).book }
@@ -154,11 +137,7 @@ impl<S: Dial, A: Ledger, G: Ledger, B: Ledger, L: Ledger, W: Ledger, O: Ledger> 
     /// The book as it is now, in rows of the caller's own; what was made through the pass is among its decisions.
     ///
     /// `AllocError` where memory is refused.
-    pub fn view(
-        &mut self,
-        alloc: Global,
-        pass: &mut Pass<A, G, B, L, W, O>,
-    ) -> Result<BookView, AllocError>
+    pub fn view(&mut self, alloc: Global, pass: &mut Pass<K>) -> Result<BookView, AllocError>
         ensures view { IfOk result (λ v. v ≡ view_of self.old.book.lists) }
         ensures at_least { IfOk result (λ v. AtMost pass.old.told.made (class_counts v.counts)) }
         ensures pass { pass.new ≡ pass.old }
@@ -180,10 +159,7 @@ impl<S: Dial, A: Ledger, G: Ledger, B: Ledger, L: Ledger, W: Ledger, O: Ledger> 
 
     /// The book's decisions by class, which are those made through all passes together. `Err`: these are not as many passes as
     /// were cut off.
-    pub fn gather(
-        self,
-        passes: Vec<Pass<A, G, B, L, W, O>>,
-    ) -> Result<Totals, (Core<S, A, G, B, L, W, O>, Vec<Pass<A, G, B, L, W, O>>)>
+    pub fn gather(self, passes: Vec<Pass<K>>) -> Result<Totals, (Core<S, K>, Vec<Pass<K>>)>
         ensures counts { IfOk result (λ t. made_of t ≡ class_counts self.book.lists.counts) }
         ensures sums { IfOk result (λ t. made_of t ≡ sum_over passes.items) }
         ensures all { IfOk result (λ t. vec_len passes ≡ self.given) }

@@ -5,10 +5,11 @@ ghost use Rattle.ini_config.specs.Bounds.{AreWithinBounds};
 ghost use Rattle.login_core.specs.Dialogue.{AtFirst};
 ghost use Rattle.login_core.specs.Logins.{AwaitsPacket, login_view};
 ghost use Rattle.desk_tallies.specs.declared.passes.TheConstants.{ALL_PARTS};
-ghost use Rattle.desk_tallies.specs.Shares.{by_class, names_of, of_each, parts_of};
+ghost use Rattle.desk_tallies.specs.Shares.{names_of, of_each, parts_of};
 
 use crate::dialing::TcpDial;
 use book_model::settings::limits_of;
+use desk_tallies::ledgers::Ledgers;
 use desk_tallies::passes::Pass;
 use desk_tallies::tallies::Blanks;
 use ini_config::Settings;
@@ -26,7 +27,6 @@ use std::marker::{Brand, Model};
 use std::net::Net;
 use std::rt::Clock;
 use std::sync::atomic::{AtomicBool, Ordering};
-use std::sync::ledger::Ledger;
 use std::sync::{Arc, Mutex, Wait};
 use std::thread::Threads;
 use std::time::{Duration, Instant};
@@ -39,8 +39,8 @@ use worker_threads::Workers;
 
 /// Passes that no worker has at this time.
 #[derive(Drop)]
-struct Free<A: Ledger, G: Ledger, B: Ledger, L: Ledger, W: Ledger, O: Ledger> {
-    passes: Vec<Pass<A, G, B, L, W, O>>,
+struct Free<K: Ledgers> {
+    passes: Vec<Pass<K>>,
 }
 
 /// Settings within their bounds, which are shared.
@@ -80,19 +80,18 @@ impl Bounded {
 }
 
 /// What all threads of a pool share.
-struct Pool<R: Net, A: Ledger, G: Ledger, B: Ledger, L: Ledger, W: Ledger, O: Ledger> {
+struct Pool<R: Net, K: Ledgers> {
     alloc: Global,
-    desk: Desk<TcpDial<R>, A, G, B, L, W, O>,
+    desk: Desk<TcpDial<R>, K>,
     dialer: TcpDial<R>,
-    free: Mutex<Free<A, G, B, L, W, O>>,
+    free: Mutex<Free<K>>,
     settings: Bounded,
     users: Arc<Users>,
     /// The last connection is done.
     has_ended: AtomicBool,
 }
 
-impl<R: Net + Drop, A: Ledger, G: Ledger, B: Ledger, L: Ledger, W: Ledger, O: Ledger> Drop
-    for Pool<R, A, G, B, L, W, O> {
+impl<R: Net + Drop, K: Ledgers> Drop for Pool<R, K> {
     fn drop(self) {
         let Pool {
             alloc: _,
@@ -106,15 +105,7 @@ impl<R: Net + Drop, A: Ledger, G: Ledger, B: Ledger, L: Ledger, W: Ledger, O: Le
     }
 }
 
-impl<R: Net + Drop, A: Ledger, G: Ledger, B: Ledger, L: Ledger, W: Ledger, O: Ledger> Pool<
-    R,
-    A,
-    G,
-    B,
-    L,
-    W,
-    O,
-> {
+impl<R: Net + Drop, K: Ledgers> Pool<R, K> {
     /// A pool with an empty book.
     fn open(
         rt: R,
@@ -122,14 +113,14 @@ impl<R: Net + Drop, A: Ledger, G: Ledger, B: Ledger, L: Ledger, W: Ledger, O: Le
         settings: Settings,
         users: Users,
         blanks: Blanks,
-    ) -> Result<Pool<R, A, G, B, L, W, O>, AllocError>
+    ) -> Result<Pool<R, K>, AllocError>
         requires bounds { AreWithinBounds settings }
-        requires names { names_of blanks ≡ by_class A.name G.name B.name L.name W.name O.name }
-        requires parts { by_class A.parts G.parts B.parts L.parts W.parts O.parts ≡ parts_of blanks }
+        requires names { names_of blanks ≡ K.names }
+        requires parts { K.parts ≡ parts_of blanks }
         requires all { parts_of blanks ≡ of_each ALL_PARTS }
     {
         let limits = Arc::new(alloc, limits_of(alloc, &settings)?)?;
-        let desk = Desk::<TcpDial<R>, A, G, B, L, W, O>::new(alloc, limits, blanks)?;
+        let desk = Desk::<TcpDial<R>, K>::new(alloc, limits, blanks)?;
         let free = Free {
             passes: Vec::new(alloc),
         };
@@ -145,17 +136,9 @@ impl<R: Net + Drop, A: Ledger, G: Ledger, B: Ledger, L: Ledger, W: Ledger, O: Le
     }
 }
 
-impl<R: Net, A: Ledger, G: Ledger, B: Ledger, L: Ledger, W: Ledger, O: Ledger> Pool<
-    R,
-    A,
-    G,
-    B,
-    L,
-    W,
-    O,
-> {
+impl<R: Net, K: Ledgers> Pool<R, K> {
     /// A pass that another worker gave back, or a new one.
-    fn pass<T: Wait>(&self, rt: &T) -> Option<Pass<A, G, B, L, W, O>> {
+    fn pass<T: Wait>(&self, rt: &T) -> Option<Pass<K>> {
         let free = self.free.lock(rt).passes.pop();
         match free {
             Some(pass) => Some(pass),
@@ -164,7 +147,7 @@ impl<R: Net, A: Ledger, G: Ledger, B: Ledger, L: Ledger, W: Ledger, O: Ledger> P
     }
 
     /// A worker is done with this pass.
-    fn give_back<T: Wait>(&self, rt: &T, pass: Pass<A, G, B, L, W, O>) {
+    fn give_back<T: Wait>(&self, rt: &T, pass: Pass<K>) {
         // one that isn't kept is never used again
         let _ = self.free.lock(rt).passes.push(pass);
     }
@@ -206,7 +189,7 @@ impl<R: Net, A: Ledger, G: Ledger, B: Ledger, L: Ledger, W: Ledger, O: Ledger> P
     }
 
     /// Tells the desk this second until nothing more is to be closed; whether the clock is still wanted.
-    fn tick<T: Wait>(&self, rt: &T, pass: &mut Pass<A, G, B, L, W, O>, now: u64) -> bool {
+    fn tick<T: Wait>(&self, rt: &T, pass: &mut Pass<K>, now: u64) -> bool {
         for _ in rt.forever() {
             match self.desk.tick(rt, pass, now) {
                 Ticked::Done => return true,
@@ -244,16 +227,11 @@ fn start_worker<
         + Send
         + Sync
         + 'static,
-    A: Ledger + Send + Sync + 'static,
-    G: Ledger + Send + Sync + 'static,
-    B: Ledger + Send + Sync + 'static,
-    L: Ledger + Send + Sync + 'static,
-    W: Ledger + Send + Sync + 'static,
-    O: Ledger + Send + Sync + 'static,
+    K: Ledgers + Send + Sync + 'static,
 >(
     rt: R,
     workers: &mut Workers,
-    pool: &Arc<Pool<R, A, G, B, L, W, O>>,
+    pool: &Arc<Pool<R, K>>,
     word: KeyWord,
     client: TcpEnd,
 ) -> Result<(), AllocError> {
@@ -270,17 +248,12 @@ fn accept_all<
         + Send
         + Sync
         + 'static,
-    A: Ledger + Send + Sync + 'static,
-    G: Ledger + Send + Sync + 'static,
-    B: Ledger + Send + Sync + 'static,
-    L: Ledger + Send + Sync + 'static,
-    W: Ledger + Send + Sync + 'static,
-    O: Ledger + Send + Sync + 'static,
+    K: Ledgers + Send + Sync + 'static,
 >(
     rt: R,
     acceptor: &mut Acceptor,
     workers: &mut Workers,
-    pool: &Arc<Pool<R, A, G, B, L, W, O>>,
+    pool: &Arc<Pool<R, K>>,
     seed: [u8; 32],
     count: Option<u64>,
 ) {
@@ -314,12 +287,7 @@ fn serve_all<
         + Send
         + Sync
         + 'static,
-    A: Ledger + Send + Sync + 'static,
-    G: Ledger + Send + Sync + 'static,
-    B: Ledger + Send + Sync + 'static,
-    L: Ledger + Send + Sync + 'static,
-    W: Ledger + Send + Sync + 'static,
-    O: Ledger + Send + Sync + 'static,
+    K: Ledgers + Send + Sync + 'static,
 >(
     rt: R,
     alloc: Global,
@@ -331,13 +299,13 @@ fn serve_all<
     blanks: Blanks,
 ) -> io::Result<()>
     requires bounds { AreWithinBounds settings }
-    requires names { names_of blanks ≡ by_class A.name G.name B.name L.name W.name O.name }
-    requires parts { by_class A.parts G.parts B.parts L.parts W.parts O.parts ≡ parts_of blanks }
+    requires names { names_of blanks ≡ K.names }
+    requires parts { K.parts ≡ parts_of blanks }
     requires all { parts_of blanks ≡ of_each ALL_PARTS }
 {
     let mut acceptor = Acceptor::new(&rt, alloc, listener)?;
     let mut workers = Workers::new(alloc)?;
-    let pool = Pool::<R, A, G, B, L, W, O>::open(rt, alloc, settings, users, blanks)?;
+    let pool = Pool::<R, K>::open(rt, alloc, settings, users, blanks)?;
     let pool = Arc::new(alloc, pool)?;
     let shared = Arc::try_clone(&pool)?;
     let clock = thread::spawn(&rt, move || {
@@ -371,7 +339,7 @@ pub fn serve_on<
 ) -> io::Result<()>
     requires { AreWithinBounds settings }
 {
-    serve_all::<R, Brand, Brand, Brand, Brand, Brand, Brand>(
+    serve_all::<R, Brand>(
         rt,
         alloc,
         listener,

@@ -2,12 +2,13 @@
 ghost use Rattle.std.specs.Prelude.{◌≡◌};
 ghost use Rattle.std.specs.Arc.{arc_value};
 ghost use Rattle.desk_tallies.specs.declared.passes.TheConstants.{ALL_PARTS};
-ghost use Rattle.desk_tallies.specs.Shares.{by_class, names_of, of_each, parts_of};
+ghost use Rattle.desk_tallies.specs.Shares.{names_of, of_each, parts_of};
 ghost use Rattle.memory_dial.specs.Homes.{IsEverywhere};
 
 use crate::files::catalogue;
 use crate::noted_ends::{HoldingGate, NotedClient, Notes};
 use crate::worker_parts::{CUT, WELCOME, limits, login, serve_by, word};
+use desk_tallies::ledgers::Ledgers;
 use desk_tallies::passes::Pass;
 use desk_tallies::tallies::Blanks;
 use memory_dial::{MemoryDial, Naming};
@@ -20,7 +21,6 @@ use std::alloc::{AllocError, Global};
 use std::marker::Brand;
 use std::rt::Clock;
 use std::sync::atomic::AtomicBool;
-use std::sync::ledger::Ledger;
 use std::sync::{Arc, Wait};
 use std::test::Fail;
 use std::thread::{Threads, join};
@@ -40,22 +40,11 @@ struct One<'a> {
 }
 
 /// Serves this client: how many bytes it was given at its end.
-fn served<
-    'a,
-    T: Gate<MemoryServer> + Drop,
-    N: Naming,
-    A: Ledger,
-    G: Ledger,
-    B: Ledger,
-    L: Ledger,
-    W: Ledger,
-    O: Ledger,
-    R: Wait,
->(
+fn served<'a, T: Gate<MemoryServer> + Drop, N: Naming, K: Ledgers, R: Wait>(
     rt: &R,
-    desk: &Desk<MemoryDial<N>, A, G, B, L, W, O>,
+    desk: &Desk<MemoryDial<N>, K>,
     dialer: &MemoryDial<N>,
-    pass: Pass<A, G, B, L, W, O>,
+    pass: Pass<K>,
     one: One<'a>,
     gate: T,
 ) -> Result<usize, AllocError> {
@@ -73,23 +62,19 @@ fn served<
 }
 
 /// Whether the second client was answered while the first one's gate kept its turn, and how much the first was given.
-fn at_once<
-    N: Naming + Send + Sync,
-    A: Ledger + Send + Sync,
-    G: Ledger + Send + Sync,
-    B: Ledger + Send + Sync,
-    L: Ledger + Send + Sync,
-    W: Ledger + Send + Sync,
-    O: Ledger + Send + Sync,
-    R: Threads + Wait + Clock + Sync,
->(rt: &R, alloc: Global, catalogue: Arc<Catalogue>, blanks: Blanks) -> Result<(bool, usize), Fail>
+fn at_once<N: Naming + Send + Sync, K: Ledgers + Send + Sync, R: Threads + Wait + Clock + Sync>(
+    rt: &R,
+    alloc: Global,
+    catalogue: Arc<Catalogue>,
+    blanks: Blanks,
+) -> Result<(bool, usize), Fail>
     requires everywhere { IsEverywhere N.catalogue (arc_value catalogue) }
-    requires names { names_of blanks ≡ by_class A.name G.name B.name L.name W.name O.name }
-    requires parts { by_class A.parts G.parts B.parts L.parts W.parts O.parts ≡ parts_of blanks }
+    requires names { names_of blanks ≡ K.names }
+    requires parts { K.parts ≡ parts_of blanks }
     requires all { parts_of blanks ≡ of_each ALL_PARTS }
 {
     let dialer = MemoryDial::<N>::new(alloc, catalogue, word(7), CUT);
-    let desk = Desk::<MemoryDial<N>, A, G, B, L, W, O>::new(alloc, limits(alloc, 100)?, blanks)?;
+    let desk = Desk::<MemoryDial<N>, K>::new(alloc, limits(alloc, 100)?, blanks)?;
     let first_pass = desk.pass(rt).ok_or("no pass")?;
     let second_pass = desk.pass(rt).ok_or("no pass")?;
     let notes = Notes::new();
@@ -121,7 +106,7 @@ fn at_once<
 
 #[test]
 fn two_clients_at_once(rt: HostRuntime) -> Result<(), Fail> {
-    let (in_time, given) = at_once::<Brand, Brand, Brand, Brand, Brand, Brand, Brand, HostRuntime>(
+    let (in_time, given) = at_once::<Brand, Brand, HostRuntime>(
         &rt,
         rt.alloc(),
         catalogue(rt.alloc())?,

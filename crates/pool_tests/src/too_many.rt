@@ -2,11 +2,12 @@
 ghost use Rattle.std.specs.Prelude.{◌≡◌};
 ghost use Rattle.std.specs.Arc.{arc_value};
 ghost use Rattle.desk_tallies.specs.declared.passes.TheConstants.{ALL_PARTS};
-ghost use Rattle.desk_tallies.specs.Shares.{by_class, names_of, of_each, parts_of};
+ghost use Rattle.desk_tallies.specs.Shares.{names_of, of_each, parts_of};
 ghost use Rattle.memory_dial.specs.Homes.{IsEverywhere};
 
 use crate::files::{START, catalogue};
 use crate::worker_parts::{CUT, limits, login, serve_by, word};
+use desk_tallies::ledgers::Ledgers;
 use desk_tallies::tallies::Blanks;
 use memory_dial::{MemoryDial, Naming};
 use paced_client::PacedClient;
@@ -15,7 +16,6 @@ use server_end::gate::OpenGate;
 use session_catalogue::Catalogue;
 use std::alloc::Global;
 use std::marker::Brand;
-use std::sync::ledger::Ledger;
 use std::sync::{Arc, Wait};
 use std::test::Fail;
 
@@ -23,26 +23,22 @@ use std::test::Fail;
 const REFUSED: &[u8] = b"E\0\0\0\x37SFATAL\0VFATAL\0C53300\0Mtoo many client connections\0\0";
 
 /// What a client is given that comes to a desk where as many are as may be.
-fn one_too_many<
-    N: Naming,
-    A: Ledger,
-    G: Ledger,
-    B: Ledger,
-    L: Ledger,
-    W: Ledger,
-    O: Ledger,
-    R: Wait,
->(rt: &R, alloc: Global, catalogue: Arc<Catalogue>, blanks: Blanks) -> Result<PacedClient, Fail>
+fn one_too_many<N: Naming, K: Ledgers, R: Wait>(
+    rt: &R,
+    alloc: Global,
+    catalogue: Arc<Catalogue>,
+    blanks: Blanks,
+) -> Result<PacedClient, Fail>
     requires everywhere { IsEverywhere N.catalogue (arc_value catalogue) }
-    requires names { names_of blanks ≡ by_class A.name G.name B.name L.name W.name O.name }
-    requires parts { by_class A.parts G.parts B.parts L.parts W.parts O.parts ≡ parts_of blanks }
+    requires names { names_of blanks ≡ K.names }
+    requires parts { K.parts ≡ parts_of blanks }
     requires all { parts_of blanks ≡ of_each ALL_PARTS }
 {
     let limits = limits(alloc, 1)?;
     let client = PacedClient::new(alloc, START, CUT)?;
     let login = login(alloc, 2)?;
     let dialer = MemoryDial::<N>::new(alloc, catalogue, word(7), CUT);
-    let desk = Desk::<MemoryDial<N>, A, G, B, L, W, O>::new(alloc, limits, blanks)?;
+    let desk = Desk::<MemoryDial<N>, K>::new(alloc, limits, blanks)?;
     let mut pass = desk.pass(rt).ok_or("no pass")?;
     desk.arrive(rt, &mut pass);
     let (client, _pass) = serve_by(rt, alloc, &desk, &dialer, pass, client, login, 2, OpenGate);
@@ -51,7 +47,7 @@ fn one_too_many<
 
 #[test]
 fn one_client_too_many_is_told_so(rt: HostRuntime) -> Result<(), Fail> {
-    let client = one_too_many::<Brand, Brand, Brand, Brand, Brand, Brand, Brand, HostRuntime>(
+    let client = one_too_many::<Brand, Brand, HostRuntime>(
         &rt,
         rt.alloc(),
         catalogue(rt.alloc())?,

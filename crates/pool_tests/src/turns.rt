@@ -2,11 +2,12 @@
 ghost use Rattle.std.specs.Prelude.{◌≡◌};
 ghost use Rattle.std.specs.Arc.{arc_value};
 ghost use Rattle.desk_tallies.specs.declared.passes.TheConstants.{ALL_PARTS};
-ghost use Rattle.desk_tallies.specs.Shares.{by_class, names_of, of_each, parts_of};
+ghost use Rattle.desk_tallies.specs.Shares.{names_of, of_each, parts_of};
 ghost use Rattle.memory_dial.specs.Homes.{IsEverywhere};
 
 use crate::files::catalogue;
 use crate::worker_parts::{CUT, limits, login, serve_by, word};
+use desk_tallies::ledgers::Ledgers;
 use desk_tallies::passes::Totals;
 use desk_tallies::tallies::Blanks;
 use memory_dial::{MemoryDial, Naming};
@@ -16,7 +17,6 @@ use server_end::gate::OpenGate;
 use session_catalogue::Catalogue;
 use std::alloc::{AllocError, Global};
 use std::marker::Brand;
-use std::sync::ledger::Ledger;
 use std::sync::{Arc, Wait};
 use std::test::Fail;
 
@@ -67,15 +67,15 @@ struct Story {
 }
 
 /// Both clients, one after the other.
-fn both<N: Naming, A: Ledger, G: Ledger, B: Ledger, L: Ledger, W: Ledger, O: Ledger, R: Wait>(
+fn both<N: Naming, K: Ledgers, R: Wait>(
     rt: &R,
     alloc: Global,
     catalogue: Arc<Catalogue>,
     blanks: Blanks,
 ) -> Result<Story, Fail>
     requires everywhere { IsEverywhere N.catalogue (arc_value catalogue) }
-    requires names { names_of blanks ≡ by_class A.name G.name B.name L.name W.name O.name }
-    requires parts { by_class A.parts G.parts B.parts L.parts W.parts O.parts ≡ parts_of blanks }
+    requires names { names_of blanks ≡ K.names }
+    requires parts { K.parts ≡ parts_of blanks }
     requires all { parts_of blanks ≡ of_each ALL_PARTS }
 {
     let limits = limits(alloc, 100)?;
@@ -83,7 +83,7 @@ fn both<N: Naming, A: Ledger, G: Ledger, B: Ledger, L: Ledger, W: Ledger, O: Led
     let second = PacedClient::new(alloc, SECOND, CUT)?;
     let (one, two) = (login(alloc, 1)?, login(alloc, 2)?);
     let dialer = MemoryDial::<N>::new(alloc, catalogue, word(7), CUT);
-    let desk = Desk::<MemoryDial<N>, A, G, B, L, W, O>::new(alloc, limits, blanks)?;
+    let desk = Desk::<MemoryDial<N>, K>::new(alloc, limits, blanks)?;
     let pass = desk.pass(rt).ok_or("no pass")?;
     let (first, pass) = serve_by(rt, alloc, &desk, &dialer, pass, first, one, 1, OpenGate);
     let (second, mut pass) = serve_by(rt, alloc, &desk, &dialer, pass, second, two, 2, OpenGate);
@@ -102,7 +102,7 @@ fn both<N: Naming, A: Ledger, G: Ledger, B: Ledger, L: Ledger, W: Ledger, O: Led
 
 #[test]
 fn a_link_comes_back_as_it_was(rt: HostRuntime) -> Result<(), Fail> {
-    let story = both::<Brand, Brand, Brand, Brand, Brand, Brand, Brand, HostRuntime>(
+    let story = both::<Brand, Brand, HostRuntime>(
         &rt,
         rt.alloc(),
         catalogue(rt.alloc())?,

@@ -8,6 +8,7 @@ ghost use Rattle.pool_tests.specs.Words.{key_word};
 
 use crate::files::{SHOP, settings_of, users};
 use book_model::limits::{Limits, MOST_CLIENTS};
+use desk_tallies::ledgers::Ledgers;
 use desk_tallies::passes::Pass;
 use login_core::Login;
 use memory_dial::{MemoryDial, Naming};
@@ -19,7 +20,6 @@ use pool_serve::serve::serve;
 use server_end::ClientEnd;
 use server_end::gate::Gate;
 use std::alloc::{AllocError, Global};
-use std::sync::ledger::Ledger;
 use std::sync::{Arc, Wait};
 
 /// As many bytes as a call of a server or a client moves at most.
@@ -66,28 +66,17 @@ pub(crate) fn limits(alloc: Global, clients: u32) -> Result<Arc<Limits>, AllocEr
 }
 
 /// Serves a client by this desk, and hands back its end and the pass.
-pub(crate) fn serve_by<
-    C: ClientEnd,
-    T: Gate<MemoryServer> + Drop,
-    N: Naming,
-    A: Ledger,
-    G: Ledger,
-    B: Ledger,
-    L: Ledger,
-    W: Ledger,
-    O: Ledger,
-    R: Wait,
->(
+pub(crate) fn serve_by<C: ClientEnd, T: Gate<MemoryServer> + Drop, N: Naming, K: Ledgers, R: Wait>(
     rt: &R,
     alloc: Global,
-    desk: &Desk<MemoryDial<N>, A, G, B, L, W, O>,
+    desk: &Desk<MemoryDial<N>, K>,
     dialer: &MemoryDial<N>,
-    pass: Pass<A, G, B, L, W, O>,
+    pass: Pass<K>,
     client: C,
     login: Login,
     number: u32,
     gate: T,
-) -> (C, Pass<A, G, B, L, W, O>)
+) -> (C, Pass<K>)
     requires awaiting { login.awaiting ≡ AwaitsPacket (AtFirst false false) }
     requires held { login.held ≡ [] }
     requires word { login.word ≡ key_word number }
