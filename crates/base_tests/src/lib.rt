@@ -7,6 +7,8 @@ mod append_lists;
 #[cfg(test)]
 mod blocks;
 #[cfg(test)]
+mod cursors;
+#[cfg(test)]
 mod frames;
 #[cfg(test)]
 mod message_parts;

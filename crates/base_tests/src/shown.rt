@@ -1,4 +1,5 @@
 //! A statement as one line of text, and tables of texts with the lines that are wanted of them.
+use itoa::Buffer;
 use mini_sql::{Columns, Filter, Literal, Operand, Setting, SqlFault, Stmt, read_statement};
 use std::alloc::Global;
 use std::process::Abort;
@@ -71,6 +72,16 @@ fn put_filter(line: &mut Vec<u8>, filter: &Option<Filter<'_>>) -> Result<(), Fai
     Ok(())
 }
 
+fn put_count(line: &mut Vec<u8>, count: Option<u32>) -> Result<(), Fail> {
+    match count {
+        None => put(line, b" all"),
+        Some(rows) => {
+            put(line, b" ")?;
+            put(line, Buffer::new().format(rows).as_bytes())
+        }
+    }
+}
+
 fn put_stmt(line: &mut Vec<u8>, stmt: &Stmt<'_>) -> Result<(), Fail> {
     match stmt {
         Stmt::Empty => put(line, b"empty"),
@@ -123,10 +134,7 @@ fn put_stmt(line: &mut Vec<u8>, stmt: &Stmt<'_>) -> Result<(), Fail> {
         }
         Stmt::Fetch { count, cursor } => {
             put_named(line, b"fetch", cursor)?;
-            if count.is_none() {
-                put(line, b" all")?;
-            }
-            Ok(())
+            put_count(line, *count)
         }
         Stmt::CloseCursor { cursor } => put_named(line, b"close", cursor),
     }
