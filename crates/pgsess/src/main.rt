@@ -10,6 +10,7 @@ use pool_app::fault::{self, AppFault};
 use pool_app::files::{self, Inputs};
 use pool_app::line::{self, Job};
 use pool_run::pool::serve_on;
+use pool_run::runtime::PoolRuntime;
 use replay_run::replay::replay;
 use session_catalogue::Catalogue;
 use std::alloc::Global;
@@ -31,19 +32,11 @@ fn listen<'a, R: Net>(rt: &R, address: [u8; 4], port: u16) -> Result<TcpListener
 }
 
 /// Serves clients as the settings say, from when its line tells where.
-fn serve<
-    'a,
-    R: Files
-        + Print
-        + Threads
-        + Wait
-        + Clock
-        + Net<Listener = net::TcpListener, Stream = net::TcpStream>
-        + Copy
-        + Send
-        + Sync
-        + 'static,
->(rt: R, alloc: Global, inputs: Inputs) -> Result<(), AppFault<'a>>
+fn serve<'a, R: Files + Print + PoolRuntime + 'static>(
+    rt: R,
+    alloc: Global,
+    inputs: Inputs,
+) -> Result<(), AppFault<'a>>
     requires { AreWithinBounds inputs.settings }
 {
     let [a, b, c, d] = inputs.settings.listen_addr();

@@ -3,3 +3,4 @@
 
 mod dialing;
 pub mod pool;
+pub mod runtime;

@@ -8,6 +8,7 @@ ghost use Rattle.desk_tallies.specs.declared.passes.TheConstants.{ALL_PARTS};
 ghost use Rattle.desk_tallies.specs.Shares.{names_of, of_each, parts_of};
 
 use crate::dialing::TcpDial;
+use crate::runtime::PoolRuntime;
 use book_model::settings::limits_of;
 use desk_tallies::ledgers::Ledgers;
 use desk_tallies::passes::Pass;
@@ -28,9 +29,8 @@ use std::net::Net;
 use std::rt::Clock;
 use std::sync::atomic::{AtomicBool, Ordering};
 use std::sync::{Arc, Mutex, Wait};
-use std::thread::Threads;
 use std::time::{Duration, Instant};
-use std::{io, net, thread};
+use std::{io, thread};
 use tcp_end::acceptor::Acceptor;
 use tcp_end::connection::TcpEnd;
 use tcp_end::gate::TcpGate;
@@ -219,16 +219,7 @@ impl<R: Net, K: Ledgers> Pool<R, K> {
 }
 
 /// Serves one connection on a thread of its own.
-fn start_worker<
-    R: Threads
-        + Wait
-        + Net<Listener = net::TcpListener, Stream = net::TcpStream>
-        + Copy
-        + Send
-        + Sync
-        + 'static,
-    K: Ledgers + Send + Sync + 'static,
->(
+fn start_worker<R: PoolRuntime + 'static, K: Ledgers + Send + Sync + 'static>(
     rt: R,
     workers: &mut Workers,
     pool: &Arc<Pool<R, K>>,
@@ -240,16 +231,7 @@ fn start_worker<
 }
 
 /// Accepts connections, each served on a thread of its own: as many as `count` says, and then no more, or for ever.
-fn accept_all<
-    R: Threads
-        + Wait
-        + Net<Listener = net::TcpListener, Stream = net::TcpStream>
-        + Copy
-        + Send
-        + Sync
-        + 'static,
-    K: Ledgers + Send + Sync + 'static,
->(
+fn accept_all<R: PoolRuntime + 'static, K: Ledgers + Send + Sync + 'static>(
     rt: R,
     acceptor: &mut Acceptor,
     workers: &mut Workers,
@@ -278,17 +260,7 @@ fn accept_all<
 ///
 /// A connection for which there is no thread, no poll, no pass or no memory is closed, and the others go on. The error is that the
 /// system has no poll for the listener or no thread for the clock, or that an allocation failed before the first connection.
-fn serve_all<
-    R: Threads
-        + Wait
-        + Clock
-        + Net<Listener = net::TcpListener, Stream = net::TcpStream>
-        + Copy
-        + Send
-        + Sync
-        + 'static,
-    K: Ledgers + Send + Sync + 'static,
->(
+fn serve_all<R: PoolRuntime + 'static, K: Ledgers + Send + Sync + 'static>(
     rt: R,
     alloc: Global,
     listener: TcpListener,
@@ -319,16 +291,7 @@ fn serve_all<
 }
 
 /// The same, over new ledgers.
-pub fn serve_on<
-    R: Threads
-        + Wait
-        + Clock
-        + Net<Listener = net::TcpListener, Stream = net::TcpStream>
-        + Copy
-        + Send
-        + Sync
-        + 'static,
->(
+pub fn serve_on<R: PoolRuntime + 'static>(
     rt: R,
     alloc: Global,
     listener: TcpListener,

@@ -16,6 +16,8 @@ mod play_parts;
 #[cfg(test)]
 mod refusals;
 #[cfg(test)]
+mod silent;
+#[cfg(test)]
 mod too_many;
 #[cfg(test)]
 mod turns;

@@ -39,16 +39,26 @@ pub(crate) fn word(number: u32) -> KeyWord
     }
 }
 
-/// A new login of the client with this number.
+/// A new login of the client with this number, by these settings.
+pub(crate) fn login_by(alloc: Global, settings: &[u8], number: u32) -> Result<Login, AllocError>
+    ensures awaiting { IfOk result (λ l. l.awaiting ≡ AwaitsPacket (AtFirst false false)) }
+    ensures held { IfOk result (λ l. l.held ≡ []) }
+    ensures word { IfOk result (λ l. l.word ≡ key_word number) }
+    ensures settings { IfOk result (λ l. AreWithinBounds l.settings) }
+{
+    let settings = Arc::new(alloc, settings_of(alloc, settings)?)?;
+    let users = users(alloc)?;
+    Login::new(alloc, settings, users, word(number))
+}
+
+/// The same, where no password is asked for.
 pub(crate) fn login(alloc: Global, number: u32) -> Result<Login, AllocError>
     ensures awaiting { IfOk result (λ l. l.awaiting ≡ AwaitsPacket (AtFirst false false)) }
     ensures held { IfOk result (λ l. l.held ≡ []) }
     ensures word { IfOk result (λ l. l.word ≡ key_word number) }
     ensures settings { IfOk result (λ l. AreWithinBounds l.settings) }
 {
-    let settings = Arc::new(alloc, settings_of(alloc, SHOP)?)?;
-    let users = users(alloc)?;
-    Login::new(alloc, settings, users, word(number))
+    login_by(alloc, SHOP, number)
 }
 
 /// Limits of so many clients, and of pools of two links.

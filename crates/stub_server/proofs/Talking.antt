@@ -247,7 +247,7 @@ takes_frame_here stay h cat s next frame took bytes items rest out replied w d f
 
     by : (b : Bool) → (frame.kind == TERMINATE) ≡ b → Takes (after_frame frame.kind) (talk_of h (Serves s) items out) (talk_of h (Serves next) rest replied)
     by true e =
-        let ended : next.state.ended ≡ true = ap (λ (u : State). u.ended) gave.next ∙ ap (λ (k : ℕ). (step cat s false (record { kind = k; body = frame.body.now })).next.ended) (eqb-true frame.kind TERMINATE e) ∙ terminated cat s.state frame.body.now in
+        let ended : next.state.ended ≡ true = ap (λ (u : State). u.ended) gave.next ∙ ap (λ (k : ℕ). (step cat s.state false (record { kind = k; body = frame.body.now })).next.ended) (eqb-true frame.kind TERMINATE e) ∙ terminated cat s.state frame.body.now in
         rw e (heard, record { silent = λ more. ap (flat_map spelling) (run_ended v.catalogue (client_frames (rest ++ more)) next.state ended) })
     by false e =
         let k = taken Client LONGEST_FRAME frame items (subst (λ (b : List ℕ). Tells (found.Whole frame) b (front Client LONGEST_FRAME b)) same t) in
