@@ -82,20 +82,31 @@ fn put_count(line: &mut Vec<u8>, count: Option<u32>) -> Result<(), Fail> {
     }
 }
 
+fn put_set(line: &mut Vec<u8>, word: &[u8], name: &[u8], to: &Setting<'_>) -> Result<(), Fail> {
+    put_named(line, word, name)?;
+    put_setting(line, to)
+}
+
+fn put_select(
+    line: &mut Vec<u8>,
+    word: &[u8],
+    table: &[u8],
+    columns: Columns<'_>,
+    filter: &Option<Filter<'_>>,
+) -> Result<(), Fail> {
+    put_named(line, word, table)?;
+    put_columns(line, columns)?;
+    put_filter(line, filter)
+}
+
 fn put_stmt(line: &mut Vec<u8>, stmt: &Stmt<'_>) -> Result<(), Fail> {
     match stmt {
         Stmt::Empty => put(line, b"empty"),
         Stmt::Begin => put(line, b"begin"),
         Stmt::Commit => put(line, b"commit"),
         Stmt::Rollback => put(line, b"rollback"),
-        Stmt::Set { name, to } => {
-            put_named(line, b"set", name)?;
-            put_setting(line, to)
-        }
-        Stmt::SetLocal { name, to } => {
-            put_named(line, b"set local", name)?;
-            put_setting(line, to)
-        }
+        Stmt::Set { name, to } => put_set(line, b"set", name, to),
+        Stmt::SetLocal { name, to } => put_set(line, b"set local", name, to),
         Stmt::Reset { name } => put_named(line, b"reset", name),
         Stmt::ResetAll => put(line, b"reset all"),
         Stmt::Show { name } => put_named(line, b"show", name),
@@ -116,11 +127,7 @@ fn put_stmt(line: &mut Vec<u8>, stmt: &Stmt<'_>) -> Result<(), Fail> {
             columns,
             table,
             filter,
-        } => {
-            put_named(line, b"select", table)?;
-            put_columns(line, *columns)?;
-            put_filter(line, filter)
-        }
+        } => put_select(line, b"select", table, *columns, filter),
         Stmt::Declare {
             cursor,
             columns,
@@ -128,9 +135,7 @@ fn put_stmt(line: &mut Vec<u8>, stmt: &Stmt<'_>) -> Result<(), Fail> {
             filter,
         } => {
             put_named(line, b"declare", cursor)?;
-            put_named(line, b" select", table)?;
-            put_columns(line, *columns)?;
-            put_filter(line, filter)
+            put_select(line, b" select", table, *columns, filter)
         }
         Stmt::Fetch { count, cursor } => {
             put_named(line, b"fetch", cursor)?;
