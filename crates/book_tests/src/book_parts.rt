@@ -1,4 +1,6 @@
 //! Keys, limits and links of the tests.
+ghost use Rattle.std.specs.Prelude.{◌≡◌, false};
+
 use crate::gone::Gone;
 use book_model::limits::Limits;
 use link_run::links::{CleanLink, Lent};
@@ -52,6 +54,8 @@ pub(crate) enum Settings {
     Wait(u32),
     /// A lifetime of 3,600 seconds, and an idle timeout of so many.
     Idle(u32),
+    /// A lifetime of so many seconds.
+    Lifetime(u32),
 }
 
 /// The limits of these settings.
@@ -75,12 +79,17 @@ pub(crate) fn limits(alloc: Global, settings: Settings) -> Result<Arc<Limits>, A
             limits.query_wait_timeout = seconds;
         }
         Settings::Idle(seconds) => limits.server_idle_timeout = seconds,
+        Settings::Lifetime(seconds) => limits.server_lifetime = seconds,
     }
     Ok(Arc::new(alloc, limits)?)
 }
 
 /// A link of this key and number, begun in this second.
-pub(crate) fn link(alloc: Global, key: Arc<StartKey>, number: u64, born: u64) -> CleanLink<Gone> {
+pub(crate) fn link(alloc: Global, key: Arc<StartKey>, number: u64, born: u64) -> CleanLink<Gone>
+    ensures number { result.number ≡ number }
+    ensures born { result.born ≡ born }
+    ensures silent { result.stands.follows ≡ false }
+{
     let lent = Lent {
         end: Gone,
         key,

@@ -101,7 +101,7 @@ static THE_LONGEST_IDLE_LINK_MAKES_ROOM_FOR_ANOTHER_POOL: [(Act, Told); 11] = [
     (Act::Take(3), Told::Start(3, 0, Some(2))),
 ];
 
-static STRANGERS_CHANGE_NOTHING: [(Act, Told); 12] = [
+static STRANGERS_CHANGE_NOTHING: [(Act, Told); 13] = [
     (Act::Ask(1, Whose::Ann), Told::Stranger(None)),
     (Act::Come, Told::Client(1)),
     (Act::Take(1), Told::Stranger(None)),
@@ -113,7 +113,24 @@ static STRANGERS_CHANGE_NOTHING: [(Act, Told); 12] = [
     (Act::Back(2, Whose::Ann), Told::Stranger(Some(2))),
     (Act::Lost(2), Told::Stranger(None)),
     (Act::StartFailed(2), Told::Stranger(None)),
+    (Act::Take(2), Told::Stranger(None)),
     (Act::Leave(2), Told::Stranger(None)),
+];
+
+/// A client whose ticket was granted, a link that is idle, and a client that left.
+static WHO_WAS_THERE_IS_STRANGE: [(Act, Told); 12] = [
+    (Act::Come, Told::Client(1)),
+    (Act::Ask(1, Whose::Ann), Told::Queued(0)),
+    (Act::Take(1), Told::Start(1, 0, None)),
+    (Act::Take(1), Told::Stranger(None)),
+    (Act::Back(1, Whose::Ann), Told::Done),
+    (Act::Back(1, Whose::Ann), Told::Stranger(Some(1))),
+    (Act::Lost(1), Told::Stranger(None)),
+    (Act::StartFailed(1), Told::Stranger(None)),
+    (Act::Leave(1), Told::Done),
+    (Act::Leave(1), Told::Stranger(None)),
+    (Act::Ask(1, Whose::Ann), Told::Stranger(None)),
+    (Act::Take(1), Told::Stranger(None)),
 ];
 
 static NO_LINK_IS_LENT_IN_A_PAUSE_OR_AFTER_THE_SHUTDOWN: [(Act, Told); 18] = [
@@ -169,12 +186,11 @@ fn story(at: usize) -> Option<(&'static [(Act, Told)], Settings)> {
             &THE_LONGEST_IDLE_LINK_MAKES_ROOM_FOR_ANOTHER_POOL,
             Settings::TwoLinks,
         )),
-        8 => Some((&STRANGERS_CHANGE_NOTHING, Settings::Default)),
-        9 => Some((
+        8 => Some((
             &NO_LINK_IS_LENT_IN_A_PAUSE_OR_AFTER_THE_SHUTDOWN,
             Settings::Default,
         )),
-        10 => Some((
+        9 => Some((
             &SMALLER_LIMITS_HOLD_FOR_LINKS_THAT_COME_BACK,
             Settings::Default,
         )),
@@ -184,13 +200,25 @@ fn story(at: usize) -> Option<(&'static [(Act, Told)], Settings)> {
 
 #[test]
 fn each_story_goes_as_told(rt: HostRuntime) -> Result<(), Fail> {
-    for at in 0..11usize {
+    for at in 0..10usize {
         let Some((acts, settings)) = story(at) else {
             break;
         };
         let mut story = Story::new(rt.alloc(), settings)?;
         assert!(rt; (at, surprise(&mut story, acts)?) == (at, None));
     }
+    Ok(())
+}
+
+/// Strangers are no decisions, and change no row.
+#[test]
+fn strangers_are_no_decisions(rt: HostRuntime) -> Result<(), Fail> {
+    let mut story = Story::new(rt.alloc(), Settings::Default)?;
+    assert!(rt; surprise(&mut story, &STRANGERS_CHANGE_NOTHING)?.is_none());
+    assert!(rt; (story.totals()?, story.sizes()?) == ([3, 1, 0, 0, 0], [1, 0, 1, 0]));
+    let mut story = Story::new(rt.alloc(), Settings::Default)?;
+    assert!(rt; surprise(&mut story, &WHO_WAS_THERE_IS_STRANGE)?.is_none());
+    assert!(rt; (story.totals()?, story.sizes()?) == ([5, 1, 0, 0, 0], [0, 0, 0, 1]));
     Ok(())
 }
 

@@ -1,276 +1,531 @@
-//! What a desk answers, call after call.
+//! What a desk answers, call after call, and what it shows then.
 ghost use Rattle.std.specs.Prelude.{◌≡◌};
 ghost use Rattle.desk_tallies.specs.declared.passes.TheConstants.{ALL_PARTS};
 ghost use Rattle.desk_tallies.specs.Shares.{names_of, of_each, parts_of};
 
-use crate::desk_parts::{Nowhere, key, limits, link};
-use crate::gone::Gone;
+use crate::book_parts::{Settings, Whose, limits};
+use crate::desk_acts::{Act, Says, answer};
+use crate::desk_parts::{Nowhere, TestDesk};
+use crate::desk_rows::{Rows, shows};
+use book_model::events::ClientState;
 use desk_tallies::ledgers::Ledgers;
 use desk_tallies::passes::{Pass, Totals};
 use desk_tallies::tallies::Blanks;
-use link_desk::answers as told;
 use message_view::Refusal;
-use pool_desk::answers::{Changed, Ticked};
 use pool_desk::desk::Desk;
 use std::alloc::{AllocError, Global};
 use std::marker::Brand;
 use std::sync::Wait;
 use std::test::Fail;
 
-/// What happens at the desk.
+/// A call through the pass at this place, and its answer.
+type Step = (usize, Act, Says);
+
+/// The calls through so many passes, what the desk shows at the end, and the decisions by class.
 #[derive(Clone, Copy, Drop)]
-enum Act {
-    Come,
-    Ask(u64),
-    Take(u64),
-    /// The link of this number comes back.
-    Back(u64),
-    Lost(u64),
-    StartFailed(u64),
-    Leave(u64),
-    Tick(u64),
-    /// So many clients may be there from now on.
-    Limits(u32),
-    Pause,
-    Resume,
-    Shutdown,
+struct Story {
+    settings: Settings,
+    passes: usize,
+    steps: &'static [Step],
+    rows: Rows,
+    totals: Totals,
 }
 
-/// What it answers.
-#[derive(Clone, Copy, PartialEq, Eq, Drop)]
-pub(crate) enum Says {
-    Client(u64),
-    Queued(u64),
-    Lend(u64),
-    Start(u64),
-    Refuse(Refusal),
-    Close,
-    Done,
-    Last,
-    Stranger,
-    Memory,
+/// Where a desk departs from a story.
+#[derive(Clone, Copy, Drop)]
+enum Departure {
+    /// It gives this answer at this place.
+    Answer(usize, Says),
+    Rows,
+    Totals(Totals),
 }
 
-impl From<told::Arrival> for Says {
-    fn from(arrival: told::Arrival) -> Says {
-        match arrival {
-            told::Arrival::Client(client) => Says::Client(client),
-            told::Arrival::Refused(refusal) => Says::Refuse(refusal),
-        }
+/// An empty book.
+const NOTHING: Rows = Rows {
+    clients: &[],
+    tickets: &[],
+    lent: &[],
+    idle: &[],
+    sums: [0; 6],
+    is_paused: false,
+    is_shut: false,
+};
+
+static A_LINK_IS_LENT_AGAIN: [Step; 10] = [
+    (0, Act::Come, Says::Client(1)),
+    (0, Act::Ask(Whose::Ann), Says::Queued(0)),
+    (0, Act::Take, Says::Start(1, 0, None)),
+    (0, Act::Back(Whose::Ann), Says::Done),
+    (0, Act::Leave, Says::Done),
+    (1, Act::Come, Says::Client(2)),
+    (1, Act::Ask(Whose::Ann), Says::Queued(0)),
+    (1, Act::Take, Says::Lend(1)),
+    (1, Act::Lost, Says::Done),
+    (1, Act::Leave, Says::Done),
+];
+
+fn lending_again() -> Story {
+    Story {
+        settings: Settings::PoolsOf(1),
+        passes: 2,
+        steps: &A_LINK_IS_LENT_AGAIN,
+        rows: Rows {
+            sums: [0, 1, 1, 0, 1, 0],
+            ..NOTHING
+        },
+        totals: Totals {
+            arrived: 2,
+            granted: 2,
+            given_back: 1,
+            lost: 1,
+            left: 2,
+            others: 2,
+        },
     }
 }
 
-impl From<told::Asked> for Says {
-    fn from(asked: told::Asked) -> Says {
-        match asked {
-            told::Asked::Queued(before) => Says::Queued(before),
-            told::Asked::Refused(refusal) => Says::Refuse(refusal),
-            told::Asked::Memory => Says::Memory,
-            told::Asked::Stranger => Says::Stranger,
-        }
+static ONE_CLIENT_TOO_MANY_IS_REFUSED: [Step; 4] = [
+    (0, Act::Come, Says::Client(1)),
+    (1, Act::Come, Says::Refuse(Refusal::TooManyClients)),
+    (1, Act::Limits(Settings::Default), Says::Done),
+    (1, Act::Come, Says::Client(2)),
+];
+
+fn one_too_many() -> Story {
+    Story {
+        settings: Settings::OneClient,
+        passes: 2,
+        steps: &ONE_CLIENT_TOO_MANY_IS_REFUSED,
+        rows: Rows {
+            clients: &[(1, ClientState::LoggingIn), (2, ClientState::LoggingIn)],
+            ..NOTHING
+        },
+        totals: Totals {
+            arrived: 2,
+            granted: 0,
+            given_back: 0,
+            lost: 0,
+            left: 0,
+            others: 2,
+        },
     }
 }
 
-impl From<told::Back> for Says {
-    fn from(back: told::Back) -> Says {
-        match back {
-            told::Back::Done => Says::Done,
-            told::Back::Close => Says::Close,
-            told::Back::Last => Says::Last,
-            told::Back::Stranger => Says::Stranger,
-        }
+static WHO_ASKS_TWICE_IS_STRANGE: [Step; 4] = [
+    (0, Act::Come, Says::Client(1)),
+    (0, Act::Ask(Whose::Ann), Says::Queued(0)),
+    (0, Act::Ask(Whose::Bc), Says::Stranger),
+    (1, Act::Come, Says::Client(2)),
+];
+
+fn asking_twice() -> Story {
+    Story {
+        settings: Settings::Default,
+        passes: 2,
+        steps: &WHO_ASKS_TWICE_IS_STRANGE,
+        rows: Rows {
+            clients: &[(1, ClientState::Waiting), (2, ClientState::LoggingIn)],
+            tickets: &[(1, 0)],
+            ..NOTHING
+        },
+        totals: Totals {
+            arrived: 2,
+            granted: 0,
+            given_back: 0,
+            lost: 0,
+            left: 0,
+            others: 1,
+        },
     }
 }
 
-impl From<told::Gone> for Says {
-    fn from(gone: told::Gone) -> Says {
-        match gone {
-            told::Gone::Done => Says::Done,
-            told::Gone::Last => Says::Last,
-            told::Gone::Stranger => Says::Stranger,
-        }
+/// In a pause clients come and ask; after the shutdown they don't.
+static A_DESK_IS_PAUSED_AND_SHUT: [Step; 18] = [
+    (0, Act::Come, Says::Client(1)),
+    (1, Act::Pause, Says::Done),
+    (0, Act::Ask(Whose::Ann), Says::Queued(0)),
+    (1, Act::Come, Says::Client(2)),
+    (1, Act::Resume, Says::Done),
+    (0, Act::Take, Says::Start(1, 0, None)),
+    (0, Act::StartFailed, Says::Done),
+    (0, Act::Ask(Whose::Ann), Says::Queued(0)),
+    (0, Act::Take, Says::Start(2, 0, None)),
+    (0, Act::Back(Whose::Ann), Says::Done),
+    (0, Act::Tick(1), Says::Done),
+    (1, Act::Shutdown, Says::Done),
+    (0, Act::Tick(1), Says::Close(2)),
+    (0, Act::Tick(1), Says::Done),
+    (0, Act::Ask(Whose::Ann), Says::Refuse(Refusal::ShuttingDown)),
+    (1, Act::Ask(Whose::Ann), Says::Refuse(Refusal::ShuttingDown)),
+    (1, Act::Leave, Says::Done),
+    (1, Act::Come, Says::Refuse(Refusal::ShuttingDown)),
+];
+
+fn pause_and_shutdown() -> Story {
+    Story {
+        settings: Settings::Default,
+        passes: 2,
+        steps: &A_DESK_IS_PAUSED_AND_SHUT,
+        rows: Rows {
+            clients: &[(1, ClientState::Active)],
+            sums: [1, 2, 0, 0, 0, 1],
+            is_shut: true,
+            ..NOTHING
+        },
+        totals: Totals {
+            arrived: 2,
+            granted: 2,
+            given_back: 1,
+            lost: 1,
+            left: 1,
+            others: 10,
+        },
     }
 }
 
-impl From<Changed> for Says {
-    fn from(changed: Changed) -> Says {
-        match changed {
-            Changed::Done => Says::Done,
-            Changed::Last => Says::Last,
-        }
+/// A client has a link, one gave its link back, one isn't through its login, and one waits.
+static EACH_ROW_IS_SHOWN: [Step; 14] = [
+    (0, Act::Come, Says::Client(1)),
+    (0, Act::Ask(Whose::Ann), Says::Queued(0)),
+    (0, Act::Tick(3), Says::Done),
+    (0, Act::Take, Says::Start(1, 3, None)),
+    (1, Act::Come, Says::Client(2)),
+    (1, Act::Ask(Whose::Bc), Says::Queued(0)),
+    (1, Act::Take, Says::Start(2, 3, None)),
+    (1, Act::Tick(4), Says::Done),
+    (1, Act::Back(Whose::Bc), Says::Done),
+    (2, Act::Come, Says::Client(3)),
+    (3, Act::Come, Says::Client(4)),
+    (3, Act::Tick(5), Says::Done),
+    (3, Act::Ask(Whose::Ann), Says::Queued(0)),
+    (2, Act::Pause, Says::Done),
+];
+
+fn each_row() -> Story {
+    Story {
+        settings: Settings::Default,
+        passes: 4,
+        steps: &EACH_ROW_IS_SHOWN,
+        rows: Rows {
+            clients: &[
+                (1, ClientState::Active),
+                (2, ClientState::Active),
+                (3, ClientState::LoggingIn),
+                (4, ClientState::Waiting),
+            ],
+            tickets: &[(4, 5)],
+            lent: &[(1, 3, 3)],
+            idle: &[(2, 3, 4)],
+            sums: [5, 2, 0, 0, 0, 0],
+            is_paused: true,
+            is_shut: false,
+        },
+        totals: Totals {
+            arrived: 4,
+            granted: 2,
+            given_back: 1,
+            lost: 0,
+            left: 0,
+            others: 7,
+        },
     }
 }
 
-/// The grant, with its link's number alone.
-pub(crate) fn granted(grant: told::Grant<Gone>) -> Says {
-    match grant {
-        told::Grant::Lend(link) => Says::Lend(link.number()),
-        told::Grant::Start { number, .. } => Says::Start(number),
-        told::Grant::Refused(refusal) => Says::Refuse(refusal),
-        told::Grant::Stranger => Says::Stranger,
+/// A link is closed in the second in which it is 10 seconds old: where it lies idle, and where it comes back.
+static A_LINK_LIVES_FOR_SO_LONG: [Step; 16] = [
+    (0, Act::Come, Says::Client(1)),
+    (0, Act::Ask(Whose::Ann), Says::Queued(0)),
+    (0, Act::Take, Says::Start(1, 0, None)),
+    (1, Act::Tick(3), Says::Done),
+    (0, Act::Back(Whose::Ann), Says::Done),
+    (1, Act::Tick(9), Says::Done),
+    (1, Act::Tick(10), Says::Close(1)),
+    (1, Act::Tick(10), Says::Done),
+    (0, Act::Ask(Whose::Ann), Says::Queued(0)),
+    (0, Act::Take, Says::Start(2, 10, None)),
+    (1, Act::Tick(19), Says::Done),
+    (0, Act::Back(Whose::Ann), Says::Done),
+    (0, Act::Ask(Whose::Ann), Says::Queued(0)),
+    (0, Act::Take, Says::Lend(2)),
+    (1, Act::Tick(20), Says::Done),
+    (0, Act::Back(Whose::Ann), Says::Close(2)),
+];
+
+fn lifetimes() -> Story {
+    Story {
+        settings: Settings::Lifetime(10),
+        passes: 2,
+        steps: &A_LINK_LIVES_FOR_SO_LONG,
+        rows: Rows {
+            clients: &[(1, ClientState::Active)],
+            sums: [20, 2, 1, 0, 0, 0],
+            ..NOTHING
+        },
+        totals: Totals {
+            arrived: 1,
+            granted: 3,
+            given_back: 3,
+            lost: 0,
+            left: 0,
+            others: 8,
+        },
     }
 }
 
-fn ticked(ticked: Ticked<Gone>) -> Says {
-    match ticked {
-        Ticked::Done => Says::Done,
-        Ticked::Close(_link) => Says::Close,
-        Ticked::Last => Says::Last,
+static A_LINK_LIES_IDLE_FOR_SO_LONG: [Step; 7] = [
+    (0, Act::Come, Says::Client(1)),
+    (0, Act::Ask(Whose::Ann), Says::Queued(0)),
+    (0, Act::Take, Says::Start(1, 0, None)),
+    (1, Act::Tick(3), Says::Done),
+    (0, Act::Back(Whose::Ann), Says::Done),
+    (1, Act::Tick(7), Says::Done),
+    (1, Act::Tick(8), Says::Close(1)),
+];
+
+fn idle_times() -> Story {
+    Story {
+        settings: Settings::Idle(5),
+        passes: 2,
+        steps: &A_LINK_LIES_IDLE_FOR_SO_LONG,
+        rows: Rows {
+            clients: &[(1, ClientState::Active)],
+            sums: [8, 1, 0, 0, 0, 0],
+            ..NOTHING
+        },
+        totals: Totals {
+            arrived: 1,
+            granted: 1,
+            given_back: 1,
+            lost: 0,
+            left: 0,
+            others: 4,
+        },
     }
 }
 
-/// What the desk answers.
-fn answer<K: Ledgers, R: Wait>(
-    rt: &R,
+/// A client waits behind those of its pool that asked before and have no link yet: keys of one pool count together, and those of
+/// another pool don't.
+static CLIENTS_WAIT_BEHIND_THEIR_POOL: [Step; 14] = [
+    (0, Act::Come, Says::Client(1)),
+    (1, Act::Come, Says::Client(2)),
+    (2, Act::Come, Says::Client(3)),
+    (3, Act::Come, Says::Client(4)),
+    (0, Act::Ask(Whose::Ann), Says::Queued(0)),
+    (0, Act::Take, Says::Start(1, 0, None)),
+    (1, Act::Ask(Whose::Ann), Says::Queued(0)),
+    (2, Act::Ask(Whose::AnnAsB), Says::Queued(1)),
+    (3, Act::Ask(Whose::Bc), Says::Queued(0)),
+    (0, Act::Back(Whose::Ann), Says::Done),
+    (1, Act::Take, Says::Lend(1)),
+    (0, Act::Leave, Says::Done),
+    (0, Act::Come, Says::Client(5)),
+    (0, Act::Ask(Whose::Ann), Says::Queued(1)),
+];
+
+fn queues() -> Story {
+    Story {
+        settings: Settings::PoolsOf(1),
+        passes: 4,
+        steps: &CLIENTS_WAIT_BEHIND_THEIR_POOL,
+        rows: Rows {
+            clients: &[
+                (2, ClientState::Active),
+                (3, ClientState::Waiting),
+                (4, ClientState::Waiting),
+                (5, ClientState::Waiting),
+            ],
+            tickets: &[(3, 0), (4, 0), (5, 0)],
+            lent: &[(1, 0, 0)],
+            sums: [0, 1, 1, 0, 0, 0],
+            ..NOTHING
+        },
+        totals: Totals {
+            arrived: 5,
+            granted: 2,
+            given_back: 1,
+            lost: 0,
+            left: 1,
+            others: 5,
+        },
+    }
+}
+
+/// A link of another key makes room for a start, which fails; the next is lost.
+static FAILED_STARTS_ARE_NO_LOSSES: [Step; 11] = [
+    (0, Act::Come, Says::Client(1)),
+    (0, Act::Ask(Whose::Ann), Says::Queued(0)),
+    (0, Act::Take, Says::Start(1, 0, None)),
+    (0, Act::Back(Whose::Ann), Says::Done),
+    (1, Act::Come, Says::Client(2)),
+    (1, Act::Ask(Whose::AnnAsB), Says::Queued(0)),
+    (1, Act::Take, Says::Start(2, 0, Some(1))),
+    (1, Act::StartFailed, Says::Done),
+    (1, Act::Ask(Whose::Ann), Says::Queued(0)),
+    (1, Act::Take, Says::Start(3, 0, None)),
+    (1, Act::Lost, Says::Done),
+];
+
+fn failed_starts() -> Story {
+    Story {
+        settings: Settings::PoolsOf(1),
+        passes: 2,
+        steps: &FAILED_STARTS_ARE_NO_LOSSES,
+        rows: Rows {
+            clients: &[(1, ClientState::Active), (2, ClientState::Active)],
+            sums: [0, 3, 0, 1, 1, 1],
+            ..NOTHING
+        },
+        totals: Totals {
+            arrived: 2,
+            granted: 3,
+            given_back: 1,
+            lost: 2,
+            left: 0,
+            others: 3,
+        },
+    }
+}
+
+/// The stories.
+fn story_at(at: usize) -> Option<Story> {
+    match at {
+        0 => Some(lending_again()),
+        1 => Some(one_too_many()),
+        2 => Some(asking_twice()),
+        3 => Some(pause_and_shutdown()),
+        4 => Some(each_row()),
+        5 => Some(lifetimes()),
+        6 => Some(idle_times()),
+        7 => Some(queues()),
+        8 => Some(failed_starts()),
+        _ => None,
+    }
+}
+
+/// So many passes of a desk.
+pub(crate) fn passes_of<R: Wait, K: Ledgers>(
     alloc: Global,
-    desk: &Desk<Nowhere, K>,
-    pass: &mut Pass<K>,
-    act: Act,
-) -> Result<Says, AllocError> {
-    Ok(match act {
-        Act::Come => Says::from(desk.arrive(rt, pass)),
-        Act::Ask(client) => {
-            let key = key(alloc)?;
-            Says::from(desk.ask(rt, pass, client, &key))
-        }
-        Act::Take(client) => granted(desk.take(rt, pass, client)),
-        Act::Back(number) => {
-            let mut back = Some(link(alloc, number)?);
-            Says::from(desk.give_back(rt, pass, &mut back))
-        }
-        Act::Lost(number) => Says::from(desk.lost(rt, pass, number)),
-        Act::StartFailed(number) => Says::from(desk.start_failed(rt, pass, number)),
-        Act::Leave(client) => Says::from(desk.leave(rt, pass, client)),
-        Act::Tick(now) => ticked(desk.tick(rt, pass, now)),
-        Act::Limits(clients) => {
-            let limits = limits(alloc, clients)?;
-            Says::from(desk.limits(rt, pass, &limits)?)
-        }
-        Act::Pause => Says::from(desk.pause(rt, pass)),
-        Act::Resume => Says::from(desk.resume(rt, pass)),
-        Act::Shutdown => Says::from(desk.shutdown(rt, pass)),
-    })
+    desk: &TestDesk<R, K>,
+    count: usize,
+) -> Result<Vec<Pass<K>>, Fail> {
+    let mut passes = Vec::new(alloc);
+    for _ in 0..count {
+        let pass = desk.pass().ok_or("no pass")?;
+        passes.push(pass).ok().ok_or("no memory")?;
+    }
+    Ok(passes)
 }
 
-/// The first act that the desk answers otherwise, and the totals of its pass.
-fn surprise<K: Ledgers, R: Wait>(
-    rt: &R,
+/// The first step that the desk answers otherwise than told: its place, and the answer.
+fn surprise<R: Wait, K: Ledgers>(
     alloc: Global,
-    clients: u32,
+    desk: &TestDesk<R, K>,
+    passes: &mut [Pass<K>],
+    steps: &[Step],
+) -> Result<Option<(usize, Says)>, AllocError> {
+    for (at, (place, act, wanted)) in steps.iter().enumerate() {
+        let Some(pass) = passes.get_mut(*place) else {
+            return Ok(Some((at, Says::Nobody)));
+        };
+        let says = answer(alloc, desk, pass, *act)?;
+        if says != *wanted {
+            return Ok(Some((at, says)));
+        }
+    }
+    Ok(None)
+}
+
+/// Whether the desk shows these rows, whoever looks.
+fn shows_all<R: Wait, K: Ledgers>(
+    alloc: Global,
+    desk: &TestDesk<R, K>,
+    passes: &mut [Pass<K>],
+    rows: &Rows,
+) -> Result<bool, AllocError> {
+    for pass in passes {
+        if !shows(&desk.view(alloc, pass)?, rows) {
+            return Ok(false);
+        }
+    }
+    Ok(true)
+}
+
+/// Where a desk departs from a story first.
+fn departure_from<R: Wait + Drop, K: Ledgers>(
+    rt: R,
+    alloc: Global,
     blanks: Blanks,
-    acts: &[(Act, Says)],
-) -> Result<(Option<(usize, Says)>, Totals), Fail>
+    story: &Story,
+) -> Result<Option<Departure>, Fail>
     requires names { names_of blanks ≡ K.names }
     requires parts { K.parts ≡ parts_of blanks }
     requires all { parts_of blanks ≡ of_each ALL_PARTS }
 {
-    let desk = Desk::<Nowhere, K>::new(alloc, limits(alloc, clients)?, blanks)?;
-    let mut pass = desk.pass(rt).ok_or("no pass")?;
-    let mut first = None;
-    for (at, (act, wanted)) in acts.iter().enumerate() {
-        let told = answer(rt, alloc, &desk, &mut pass, *act)?;
-        if first.is_none() && told != *wanted {
-            first = Some((at, told));
-        }
+    let limits = limits(alloc, story.settings)?;
+    let desk = Desk::<R, Nowhere, K>::new(rt, alloc, Nowhere, limits, blanks)?;
+    let mut passes = passes_of(alloc, &desk, story.passes)?;
+    if let Some((at, says)) = surprise(alloc, &desk, passes.as_mut_slice(), story.steps)? {
+        return Ok(Some(Departure::Answer(at, says)));
     }
-    let mut passes = Vec::new(alloc);
-    passes.push(pass).ok().ok_or("no memory")?;
+    if !shows_all(alloc, &desk, passes.as_mut_slice(), &story.rows)? {
+        return Ok(Some(Departure::Rows));
+    }
     let totals = desk.gather(passes).ok().ok_or("other passes")?;
-    Ok((first, totals))
+    if totals != story.totals {
+        return Ok(Some(Departure::Totals(totals)));
+    }
+    Ok(None)
 }
 
-/// The same, at a new desk with new ledgers.
-fn told_otherwise<R: Wait>(
-    rt: &R,
+/// The same, at new ledgers.
+fn told_otherwise<R: Wait + Drop>(
+    rt: R,
     alloc: Global,
-    clients: u32,
-    acts: &[(Act, Says)],
-) -> Result<(Option<(usize, Says)>, Totals), Fail> {
-    surprise::<Brand, R>(rt, alloc, clients, Blanks::new(), acts)
+    story: &Story,
+) -> Result<Option<Departure>, Fail> {
+    departure_from::<R, Brand>(rt, alloc, Blanks::new(), story)
 }
 
 #[test]
-fn a_second_client_gets_the_first_ones_link(rt: HostRuntime) -> Result<(), Fail> {
-    let acts = [
-        (Act::Come, Says::Client(1)),
-        (Act::Ask(1), Says::Queued(0)),
-        (Act::Take(1), Says::Start(1)),
-        (Act::Back(1), Says::Done),
-        (Act::Leave(1), Says::Done),
-        (Act::Come, Says::Client(2)),
-        (Act::Ask(2), Says::Queued(0)),
-        (Act::Take(2), Says::Lend(1)),
-        (Act::Lost(1), Says::Done),
-        (Act::Leave(2), Says::Done),
-    ];
-    let (first, totals) = told_otherwise(&rt, rt.alloc(), 100, &acts)?;
-    assert!(rt; first.is_none());
-    let made = Totals {
-        arrived: 2,
-        granted: 2,
-        given_back: 1,
-        lost: 1,
-        left: 2,
-        others: 2,
+fn each_story_goes_as_told(rt: HostRuntime) -> Result<(), Fail> {
+    for at in 0..9usize {
+        let Some(story) = story_at(at) else {
+            break;
+        };
+        assert!(rt;
+            told_otherwise(rt, rt.alloc(), &story)?.is_none(),
+            "story {at}"
+        );
+    }
+    Ok(())
+}
+
+/// What a desk answers to so many of its passes, of which one was used; and then to all of them.
+fn gathers<R: Wait + Drop, K: Ledgers>(rt: R, alloc: Global, blanks: Blanks) -> Result<bool, Fail>
+    requires names { names_of blanks ≡ K.names }
+    requires parts { K.parts ≡ parts_of blanks }
+    requires all { parts_of blanks ≡ of_each ALL_PARTS }
+{
+    let limits = limits(alloc, Settings::Default)?;
+    let desk = Desk::<R, Nowhere, K>::new(rt, alloc, Nowhere, limits, blanks)?;
+    let mut passes = passes_of(alloc, &desk, 3)?;
+    let mut last = passes.pop().ok_or("no pass")?;
+    answer(alloc, &desk, &mut last, Act::Come)?;
+    let Err((desk, _)) = desk.gather(Vec::new(alloc)) else {
+        return Ok(false);
     };
-    assert!(rt; totals == made);
-    Ok(())
+    let Err((desk, passes)) = desk.gather(passes) else {
+        return Ok(false);
+    };
+    let mut passes = passes;
+    passes.push(last).ok().ok_or("no memory")?;
+    let totals = desk.gather(passes).ok().ok_or("other passes")?;
+    Ok((totals.arrived, totals.others) == (1, 0))
 }
 
+/// Totals come of all passes alone: not of none while one is out, nor of those that weren't used.
 #[test]
-fn one_client_too_many_is_refused(rt: HostRuntime) -> Result<(), Fail> {
-    let refused = Says::Refuse(Refusal::TooManyClients);
-    let acts = [
-        (Act::Come, Says::Client(1)),
-        (Act::Come, refused),
-        (Act::Limits(2), Says::Done),
-        (Act::Come, Says::Client(2)),
-    ];
-    let (first, totals) = told_otherwise(&rt, rt.alloc(), 1, &acts)?;
-    assert!(rt; first.is_none());
-    assert!(rt; totals.arrived == 2);
-    assert!(rt; totals.others == 2);
-    Ok(())
-}
-
-#[test]
-fn who_is_strange_is_told_so(rt: HostRuntime) -> Result<(), Fail> {
-    let acts = [
-        (Act::Ask(1), Says::Stranger),
-        (Act::Take(1), Says::Stranger),
-        (Act::Back(1), Says::Stranger),
-        (Act::Lost(1), Says::Stranger),
-        (Act::StartFailed(1), Says::Stranger),
-        (Act::Leave(1), Says::Stranger),
-    ];
-    let (first, totals) = told_otherwise(&rt, rt.alloc(), 1, &acts)?;
-    assert!(rt; first.is_none());
-    assert!(rt; totals.others == 0);
-    Ok(())
-}
-
-#[test]
-fn a_desk_is_paused_and_shut(rt: HostRuntime) -> Result<(), Fail> {
-    let refused = Says::Refuse(Refusal::ShuttingDown);
-    let acts = [
-        (Act::Come, Says::Client(1)),
-        (Act::Ask(1), Says::Queued(0)),
-        (Act::Pause, Says::Done),
-        (Act::Resume, Says::Done),
-        (Act::Take(1), Says::Start(1)),
-        (Act::StartFailed(1), Says::Done),
-        (Act::Ask(1), Says::Queued(0)),
-        (Act::Take(1), Says::Start(2)),
-        (Act::Back(2), Says::Done),
-        (Act::Tick(1), Says::Done),
-        (Act::Shutdown, Says::Done),
-        (Act::Tick(1), Says::Close),
-        (Act::Tick(1), Says::Done),
-        (Act::Come, refused),
-    ];
-    let (first, totals) = told_otherwise(&rt, rt.alloc(), 100, &acts)?;
-    assert!(rt; first.is_none());
-    assert!(rt; totals.lost == 1);
-    assert!(rt; totals.others == 8);
+fn all_passes_are_gathered(rt: HostRuntime) -> Result<(), Fail> {
+    assert!(rt; gathers::<HostRuntime, Brand>(rt, rt.alloc(), Blanks::new())?);
     Ok(())
 }

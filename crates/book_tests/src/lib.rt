@@ -8,7 +8,11 @@ mod book_parts;
 #[cfg(test)]
 mod book_stories;
 #[cfg(test)]
+mod desk_acts;
+#[cfg(test)]
 mod desk_parts;
+#[cfg(test)]
+mod desk_rows;
 #[cfg(test)]
 mod desk_stories;
 #[cfg(test)]

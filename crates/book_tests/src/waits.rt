@@ -3,201 +3,440 @@ ghost use Rattle.std.specs.Prelude.{◌≡◌};
 ghost use Rattle.desk_tallies.specs.declared.passes.TheConstants.{ALL_PARTS};
 ghost use Rattle.desk_tallies.specs.Shares.{names_of, of_each, parts_of};
 
-use crate::desk_parts::{Nowhere, key, limits, link};
-use crate::desk_stories::{Says, granted};
+use crate::book_parts::{Settings, Whose, limits};
+use crate::desk_acts::{Act, Says, answer};
+use crate::desk_parts::{Nowhere, TestDesk, TestRuntime};
 use desk_tallies::ledgers::Ledgers;
 use desk_tallies::passes::{Pass, Totals};
 use desk_tallies::tallies::Blanks;
-use link_desk::answers::Grant;
 use message_view::Refusal;
 use pool_desk::desk::Desk;
-use std::alloc::{AllocError, Global};
+use std::alloc::Global;
 use std::marker::Brand;
+use std::rt::Clock;
 use std::sync::Wait;
+use std::sync::atomic::{AtomicBool, Ordering};
 use std::test::Fail;
-use std::thread::{Threads, join};
+use std::thread::{join, sleep};
+use std::time::Duration;
 
-/// How many clients wait at the desk.
-fn waiting<K: Ledgers, R: Wait>(
-    rt: &R,
+/// What the desk answers; nobody, where memory is refused.
+fn says<R: Wait, K: Ledgers>(
     alloc: Global,
-    desk: &Desk<Nowhere, K>,
+    desk: &TestDesk<R, K>,
     pass: &mut Pass<K>,
-) -> Result<usize, AllocError> {
-    Ok(desk.view(rt, alloc, pass)?.tickets.len())
+    act: Act,
+) -> Says {
+    match answer(alloc, desk, pass, act) {
+        Ok(says) => says,
+        Err(_) => Says::Nobody,
+    }
 }
 
-/// So many clients come and ask; the first has its link, number 1.
-fn come<K: Ledgers, R: Wait>(
-    rt: &R,
+/// A client comes and asks: how many wait before it.
+fn asks<R: Wait, K: Ledgers>(
     alloc: Global,
-    desk: &Desk<Nowhere, K>,
+    desk: &TestDesk<R, K>,
     pass: &mut Pass<K>,
-    clients: u64,
-) -> Result<Says, AllocError> {
-    let key = key(alloc)?;
-    for client in 0..clients {
-        desk.arrive(rt, pass);
-        desk.ask(rt, pass, client + 1, &key);
+    whose: Whose,
+) -> Says {
+    says(alloc, desk, pass, Act::Come);
+    says(alloc, desk, pass, Act::Ask(whose))
+}
+
+/// A client comes, asks and takes a link that needn't be waited for.
+fn has_link<R: Wait, K: Ledgers>(
+    alloc: Global,
+    desk: &TestDesk<R, K>,
+    pass: &mut Pass<K>,
+    whose: Whose,
+) -> Says {
+    asks(alloc, desk, pass, whose);
+    says(alloc, desk, pass, Act::Take)
+}
+
+/// How many clients wait at the desk.
+fn waiting<R: Wait, K: Ledgers>(alloc: Global, desk: &TestDesk<R, K>, pass: &mut Pass<K>) -> usize {
+    match desk.view(alloc, pass) {
+        Ok(view) => view.tickets.len(),
+        Err(_) => 99,
     }
-    Ok(granted(desk.take(rt, pass, 1)))
+}
+
+/// Long enough for another thread to wait at its bell.
+fn rest(rt: &impl Clock) {
+    sleep(rt, Duration::from_millis(100));
 }
 
 /// Second 4 comes, and second 5 once it was seen who waits.
-fn ticks<K: Ledgers, R: Wait>(
-    rt: &R,
+fn ticks<R: TestRuntime, K: Ledgers>(
+    rt: R,
     alloc: Global,
-    desk: &Desk<Nowhere, K>,
+    desk: &TestDesk<R, K>,
     pass: &mut Pass<K>,
 ) -> usize {
-    desk.tick(rt, pass, 4);
-    let waiting = waiting(rt, alloc, desk, pass).unwrap_or(9);
-    desk.tick(rt, pass, 5);
+    says(alloc, desk, pass, Act::Tick(4));
+    rest(&rt);
+    let waiting = waiting(alloc, desk, pass);
+    says(alloc, desk, pass, Act::Tick(5));
     waiting
 }
 
-/// What the second client is told that waits from second 0 to second 5, and how many waited in second 4.
-fn too_late<K: Ledgers + Send + Sync, R: Threads + Wait + Sync>(
-    rt: &R,
+/// A client waits from second 0 to second 5 for the one link of its pool, and no longer.
+fn waits_too_long<R: TestRuntime, K: Ledgers + Send + Sync>(
+    rt: R,
     alloc: Global,
-    blanks: Blanks,
-) -> Result<(Says, usize), Fail>
-    requires names { names_of blanks ≡ K.names }
-    requires parts { K.parts ≡ parts_of blanks }
-    requires all { parts_of blanks ≡ of_each ALL_PARTS }
-{
-    let desk = Desk::<Nowhere, K>::new(alloc, limits(alloc, 100)?, blanks)?;
-    let mut first = desk.pass(rt).ok_or("no pass")?;
-    let mut second = desk.pass(rt).ok_or("no pass")?;
-    come(rt, alloc, &desk, &mut first, 2)?;
-    let shared = &desk;
-    Ok(join(
-        rt,
-        move || -> Says { granted(shared.take(rt, &mut second, 2)) },
-        move || -> usize { ticks(rt, alloc, shared, &mut first) },
-    ))
+    desk: &TestDesk<R, K>,
+    first: &mut Pass<K>,
+    second: &mut Pass<K>,
+) -> bool {
+    has_link(alloc, desk, first, Whose::Ann);
+    asks(alloc, desk, second, Whose::Ann);
+    let (told, waited) = join(
+        &rt,
+        || -> Says { says(alloc, desk, second, Act::Take) },
+        || -> usize { ticks(rt, alloc, desk, first) },
+    );
+    (told, waited) == (Says::Refuse(Refusal::WaitedTooLong), 1)
 }
 
-#[test]
-fn a_client_waits_for_so_long(rt: HostRuntime) -> Result<(), Fail> {
-    let told = too_late::<Brand, HostRuntime>(&rt, rt.alloc(), Blanks::new())?;
-    assert!(rt; told == (Says::Refuse(Refusal::WaitedTooLong), 1));
-    Ok(())
-}
-
-/// A client that waits has its link and gives it back: the link's number, and how many waited meanwhile.
-fn has_its_turn<K: Ledgers, R: Wait>(
-    rt: &R,
+/// What a client takes, how many wait meanwhile, and what it is told when it gives the link back.
+fn has_its_turn<R: Wait, K: Ledgers>(
     alloc: Global,
-    desk: &Desk<Nowhere, K>,
+    desk: &TestDesk<R, K>,
     pass: &mut Pass<K>,
-    client: u64,
-) -> (u64, usize) {
-    match desk.take(rt, pass, client) {
-        Grant::Lend(link) => {
-            let number = link.number();
-            let waiting = waiting(rt, alloc, desk, pass).unwrap_or(9);
-            let mut back = Some(link);
-            desk.give_back(rt, pass, &mut back);
-            (number, waiting)
-        }
-        _ => (0, 9),
-    }
-}
-
-/// How many wait, and then link 1 comes back.
-fn gives_back<K: Ledgers, R: Wait>(
-    rt: &R,
-    alloc: Global,
-    desk: &Desk<Nowhere, K>,
-    pass: &mut Pass<K>,
-) -> Result<usize, AllocError> {
-    let waiting = waiting(rt, alloc, desk, pass)?;
-    let mut back = Some(link(alloc, 1)?);
-    desk.give_back(rt, pass, &mut back);
-    Ok(waiting)
-}
-
-/// The totals of a desk with three passes.
-fn gathered<K: Ledgers>(
-    alloc: Global,
-    desk: Desk<Nowhere, K>,
-    first: Pass<K>,
-    second: Pass<K>,
-    third: Pass<K>,
-) -> Result<Totals, Fail> {
-    let mut passes = Vec::new(alloc);
-    passes.push(first).ok().ok_or("no memory")?;
-    passes.push(second).ok().ok_or("no memory")?;
-    passes.push(third).ok().ok_or("no memory")?;
-    Ok(desk.gather(passes).ok().ok_or("other passes")?)
+) -> (Says, usize, Says) {
+    let taken = says(alloc, desk, pass, Act::Take);
+    let waiting = waiting(alloc, desk, pass);
+    (
+        taken,
+        waiting,
+        says(alloc, desk, pass, Act::Back(Whose::Ann)),
+    )
 }
 
 /// The first client gives its link back, and the second has its turn: how many waited before, and the turn.
-fn goes_on<K: Ledgers + Send + Sync, R: Threads + Wait + Sync>(
-    rt: &R,
+fn goes_on<R: TestRuntime, K: Ledgers + Send + Sync>(
+    rt: R,
     alloc: Global,
-    desk: &Desk<Nowhere, K>,
+    desk: &TestDesk<R, K>,
     first: &mut Pass<K>,
     second: &mut Pass<K>,
-) -> (usize, (u64, usize)) {
+) -> (usize, (Says, usize, Says)) {
     let (turn, waited) = join(
-        rt,
-        || -> (u64, usize) { has_its_turn(rt, alloc, desk, second, 2) },
-        || -> usize { gives_back(rt, alloc, desk, first).unwrap_or(9) },
+        &rt,
+        || -> (Says, usize, Says) { has_its_turn(alloc, desk, second) },
+        || -> usize {
+            rest(&rt);
+            let waiting = waiting(alloc, desk, first);
+            says(alloc, desk, first, Act::Back(Whose::Ann));
+            waiting
+        },
     );
     (waited, turn)
 }
 
-/// The same, and the turn of the third.
-fn takes_turns<K: Ledgers + Send + Sync, R: Threads + Wait + Sync>(
-    rt: &R,
+/// Three clients ask for the one link of their pool: the first has it, the second is woken by its return, and the third by the
+/// second's.
+fn have_their_turns<R: TestRuntime, K: Ledgers + Send + Sync>(
+    rt: R,
     alloc: Global,
-    desk: &Desk<Nowhere, K>,
+    desk: &TestDesk<R, K>,
     first: &mut Pass<K>,
     second: &mut Pass<K>,
     third: &mut Pass<K>,
-) -> (usize, (u64, usize), (u64, usize)) {
+) -> bool {
+    let asked = [
+        asks(alloc, desk, first, Whose::Ann),
+        asks(alloc, desk, second, Whose::Ann),
+        asks(alloc, desk, third, Whose::Ann),
+    ];
+    says(alloc, desk, first, Act::Take);
     let (last, (waited, turn)) = join(
-        rt,
-        || -> (u64, usize) { has_its_turn(rt, alloc, desk, third, 3) },
-        || -> (usize, (u64, usize)) { goes_on(rt, alloc, desk, first, second) },
+        &rt,
+        || -> (Says, usize, Says) { has_its_turn(alloc, desk, third) },
+        || -> (usize, (Says, usize, Says)) { goes_on(rt, alloc, desk, first, second) },
     );
-    (waited, turn, last)
+    asked == [Says::Queued(0), Says::Queued(1), Says::Queued(2)]
+        && (waited, turn) == (2, (Says::Lend(1), 1, Says::Done))
+        && last == (Says::Lend(1), 0, Says::Done)
 }
 
-/// Three clients come to a new desk; the first has the only link, and the others their turns.
-fn in_turn<K: Ledgers + Send + Sync, R: Threads + Wait + Sync>(
-    rt: &R,
+/// What a client is told that waits, and a note of it.
+fn noted<R: Wait, K: Ledgers>(
+    alloc: Global,
+    desk: &TestDesk<R, K>,
+    pass: &mut Pass<K>,
+    told: &AtomicBool,
+) -> Says {
+    let says = says(alloc, desk, pass, Act::Take);
+    told.store(true, Ordering::SeqCst);
+    says
+}
+
+/// A pause ends: whether the client that waits was told nothing until then.
+fn resumes<R: TestRuntime, K: Ledgers>(
+    rt: R,
+    alloc: Global,
+    desk: &TestDesk<R, K>,
+    pass: &mut Pass<K>,
+    told: &AtomicBool,
+) -> bool {
+    rest(&rt);
+    let was_told = told.load(Ordering::SeqCst);
+    let waiting = waiting(alloc, desk, pass);
+    says(alloc, desk, pass, Act::Resume);
+    !was_told && waiting == 1
+}
+
+/// A client whose pool has room waits while the desk is paused, and no longer.
+fn waits_in_a_pause<R: TestRuntime, K: Ledgers + Send + Sync>(
+    rt: R,
+    alloc: Global,
+    desk: &TestDesk<R, K>,
+    first: &mut Pass<K>,
+    second: &mut Pass<K>,
+) -> bool {
+    let told = AtomicBool::new(false);
+    let note = &told;
+    says(alloc, desk, second, Act::Pause);
+    asks(alloc, desk, first, Whose::Ann);
+    let (grant, waited) = join(
+        &rt,
+        || -> Says { noted(alloc, desk, first, note) },
+        || -> bool { resumes(rt, alloc, desk, second, note) },
+    );
+    waited && grant == Says::Start(1, 0, None)
+}
+
+/// Two links come back, one right behind the other.
+fn both_come_back<R: TestRuntime, K: Ledgers>(
+    rt: R,
+    alloc: Global,
+    desk: &TestDesk<R, K>,
+    first: &mut Pass<K>,
+    second: &mut Pass<K>,
+) {
+    rest(&rt);
+    says(alloc, desk, first, Act::Back(Whose::Ann));
+    says(alloc, desk, second, Act::Back(Whose::Ann));
+}
+
+/// Whether these are the links 1 and 2, in either order.
+fn are_both(one: Says, other: Says) -> bool {
+    let links = (one, other);
+    links == (Says::Lend(1), Says::Lend(2)) || links == (Says::Lend(2), Says::Lend(1))
+}
+
+/// Two clients wait for two links of their pool, which come back before the first of them is awake. The return of a link wakes
+/// nobody but that first client: so it is for its grant to wake the other.
+fn both_are_woken<R: TestRuntime, K: Ledgers + Send + Sync>(
+    rt: R,
+    alloc: Global,
+    desk: &TestDesk<R, K>,
+    first: &mut Pass<K>,
+    second: &mut Pass<K>,
+    third: &mut Pass<K>,
+    fourth: &mut Pass<K>,
+) -> bool {
+    has_link(alloc, desk, first, Whose::Ann);
+    has_link(alloc, desk, second, Whose::Ann);
+    asks(alloc, desk, third, Whose::Ann);
+    asks(alloc, desk, fourth, Whose::Ann);
+    let (one, (other, ())) = join(
+        &rt,
+        || -> Says { says(alloc, desk, third, Act::Take) },
+        || -> (Says, ()) {
+            join(
+                &rt,
+                || -> Says { says(alloc, desk, fourth, Act::Take) },
+                || -> () { both_come_back(rt, alloc, desk, first, second) },
+            )
+        },
+    );
+    are_both(one, other)
+}
+
+/// A client waits for the link of its pool, which comes back.
+fn is_served<R: TestRuntime, K: Ledgers + Send + Sync>(
+    rt: R,
+    alloc: Global,
+    desk: &TestDesk<R, K>,
+    holder: &mut Pass<K>,
+    waiter: &mut Pass<K>,
+    whose: Whose,
+) -> Says {
+    let (told, ()) = join(
+        &rt,
+        || -> Says { says(alloc, desk, waiter, Act::Take) },
+        || -> () {
+            rest(&rt);
+            says(alloc, desk, holder, Act::Back(whose));
+        },
+    );
+    told
+}
+
+/// Two clients wait, each for the one link of its pool. That of the client that asked last comes back first, and it has it while the
+/// other waits on.
+fn each_pool_is_woken<R: TestRuntime, K: Ledgers + Send + Sync>(
+    rt: R,
+    alloc: Global,
+    desk: &TestDesk<R, K>,
+    first: &mut Pass<K>,
+    second: &mut Pass<K>,
+    third: &mut Pass<K>,
+    fourth: &mut Pass<K>,
+) -> bool {
+    has_link(alloc, desk, first, Whose::Ann);
+    has_link(alloc, desk, second, Whose::Bc);
+    asks(alloc, desk, third, Whose::Ann);
+    asks(alloc, desk, fourth, Whose::Bc);
+    let (one, other) = join(
+        &rt,
+        || -> Says { says(alloc, desk, third, Act::Take) },
+        || -> Says {
+            let told = is_served(rt, alloc, desk, second, fourth, Whose::Bc);
+            says(alloc, desk, first, Act::Back(Whose::Ann));
+            told
+        },
+    );
+    (one, other) == (Says::Lend(1), Says::Lend(2))
+}
+
+/// How clients wait at a desk.
+#[derive(Clone, Copy, Drop)]
+enum Manner {
+    TooLong,
+    InTurn,
+    InAPause,
+    ForTwoLinks,
+    ForTwoPools,
+}
+
+/// The settings of the desk at which they wait.
+fn settings(wait: Manner) -> Settings {
+    match wait {
+        Manner::TooLong => Settings::Wait(5),
+        Manner::InTurn | Manner::ForTwoPools => Settings::PoolsOf(1),
+        Manner::InAPause => Settings::Default,
+        Manner::ForTwoLinks => Settings::PoolsOf(2),
+    }
+}
+
+/// The decisions by class that are made then: of so many clients, links granted, returns and other decisions.
+fn totals(wait: Manner) -> Totals {
+    let (clients, granted, given_back, others) = match wait {
+        // two questions, a place that is lost, two seconds
+        Manner::TooLong => (2, 1, 0, 5),
+        Manner::InTurn => (3, 3, 3, 3),
+        // a question, a pause and its end
+        Manner::InAPause => (1, 1, 0, 3),
+        Manner::ForTwoLinks | Manner::ForTwoPools => (4, 4, 2, 4),
+    };
+    Totals {
+        arrived: clients,
+        granted,
+        given_back,
+        lost: 0,
+        left: 0,
+        others,
+    }
+}
+
+/// Whether they wait as they are to, through these passes.
+fn waits<R: TestRuntime, K: Ledgers + Send + Sync>(
+    rt: R,
+    alloc: Global,
+    desk: &TestDesk<R, K>,
+    wait: Manner,
+    first: &mut Pass<K>,
+    second: &mut Pass<K>,
+    third: &mut Pass<K>,
+    fourth: &mut Pass<K>,
+) -> bool {
+    match wait {
+        Manner::TooLong => waits_too_long(rt, alloc, desk, first, second),
+        Manner::InTurn => have_their_turns(rt, alloc, desk, first, second, third),
+        Manner::InAPause => waits_in_a_pause(rt, alloc, desk, first, second),
+        Manner::ForTwoLinks => both_are_woken(rt, alloc, desk, first, second, third, fourth),
+        Manner::ForTwoPools => each_pool_is_woken(rt, alloc, desk, first, second, third, fourth),
+    }
+}
+
+/// Four passes of a desk.
+fn four_passes<R: Wait, K: Ledgers>(
+    desk: &TestDesk<R, K>,
+) -> Option<(Pass<K>, Pass<K>, Pass<K>, Pass<K>)> {
+    Some((desk.pass()?, desk.pass()?, desk.pass()?, desk.pass()?))
+}
+
+/// Whether they wait as they are to at a new desk, and the decisions are counted.
+fn waits_at<R: TestRuntime, K: Ledgers + Send + Sync>(
+    rt: R,
     alloc: Global,
     blanks: Blanks,
-) -> Result<((usize, (u64, usize), (u64, usize)), Totals), Fail>
+    wait: Manner,
+) -> Result<bool, Fail>
     requires names { names_of blanks ≡ K.names }
     requires parts { K.parts ≡ parts_of blanks }
     requires all { parts_of blanks ≡ of_each ALL_PARTS }
 {
-    let desk = Desk::<Nowhere, K>::new(alloc, limits(alloc, 100)?, blanks)?;
-    let mut first = desk.pass(rt).ok_or("no pass")?;
-    let mut second = desk.pass(rt).ok_or("no pass")?;
-    let mut third = desk.pass(rt).ok_or("no pass")?;
-    come(rt, alloc, &desk, &mut first, 3)?;
-    let turns = takes_turns(rt, alloc, &desk, &mut first, &mut second, &mut third);
-    let totals = gathered(alloc, desk, first, second, third)?;
-    Ok((turns, totals))
+    let limits = limits(alloc, settings(wait))?;
+    let desk = Desk::<R, Nowhere, K>::new(rt, alloc, Nowhere, limits, blanks)?;
+    let (mut first, mut second, mut third, mut fourth) = four_passes(&desk).ok_or("no pass")?;
+    let waits = waits(
+        rt,
+        alloc,
+        &desk,
+        wait,
+        &mut first,
+        &mut second,
+        &mut third,
+        &mut fourth,
+    );
+    let passes = Vec::from_array(alloc, [first, second, third, fourth])?;
+    let made = desk.gather(passes).ok().ok_or("other passes")?;
+    Ok(waits && made == totals(wait))
+}
+
+/// The same, at new ledgers.
+fn waits_well<R: TestRuntime>(rt: R, alloc: Global, wait: Manner) -> Result<bool, Fail> {
+    waits_at::<R, Brand>(rt, alloc, Blanks::new(), wait)
+}
+
+#[test]
+fn a_client_waits_for_so_long(rt: HostRuntime) -> Result<(), Fail> {
+    assert!(rt; waits_well(rt, rt.alloc(), Manner::TooLong)?);
+    Ok(())
 }
 
 #[test]
 fn clients_have_their_turns(rt: HostRuntime) -> Result<(), Fail> {
-    let (turns, totals) = in_turn::<Brand, HostRuntime>(&rt, rt.alloc(), Blanks::new())?;
-    let wanted = Totals {
-        arrived: 3,
-        granted: 3,
-        given_back: 3,
-        lost: 0,
-        left: 0,
-        others: 3,
-    };
-    assert!(rt; turns == (2, (1, 1), (1, 0)));
-    assert!(rt; totals == wanted);
+    assert!(rt; waits_well(rt, rt.alloc(), Manner::InTurn)?);
+    Ok(())
+}
+
+#[test]
+fn nobody_is_served_in_a_pause(rt: HostRuntime) -> Result<(), Fail> {
+    assert!(rt; waits_well(rt, rt.alloc(), Manner::InAPause)?);
+    Ok(())
+}
+
+/// Ten times, since the first client may be awake before the second link is back.
+#[test]
+fn a_grant_wakes_the_next(rt: HostRuntime) -> Result<(), Fail> {
+    for time in 0..10u32 {
+        assert!(rt;
+            waits_well(rt, rt.alloc(), Manner::ForTwoLinks)?,
+            "time {time}"
+        );
+    }
+    Ok(())
+}
+
+#[test]
+fn the_first_of_each_pool_is_woken(rt: HostRuntime) -> Result<(), Fail> {
+    assert!(rt; waits_well(rt, rt.alloc(), Manner::ForTwoPools)?);
     Ok(())
 }

@@ -1,6 +1,7 @@
 -- Shares of the six ledgers, class by class.
 use Rattle.std.specs.Prelude.{ℕ, ◌+◌, ◌≤◌, List, sum_by}
 use Rattle.link_desk.specs.Passes.{Made, PassOf}
+use Rattle.link_desk.specs.declared.calls.Holder.{Holder}
 use Rattle.desk_tallies.specs.declared.passes.Totals.{Totals}
 use Rattle.desk_tallies.specs.declared.tallies.Blanks.{Blanks}
 
@@ -9,10 +10,11 @@ pub record SharesOf : Type 0 where
   pub parts : Made
   pub amounts : Made
 
--- a pass: its number, and what it tells
+-- a pass: its number, what it tells, and who holds it
 pub record PassView : Type 0 where
   pub number : ℕ
   pub told : PassOf
+  pub holder : Holder
 
 abbrev pub by_class : ℕ → ℕ → ℕ → ℕ → ℕ → ℕ → Made
 by_class a g b l w o = record { arrived = a; granted = g; given_back = b; lost = l; left = w; others = o }

@@ -1,9 +1,10 @@
 //! Passes: who made which decisions.
 ghost use Rattle.std.specs.Prelude.{◌≡◌, ℕ, ◌+◌, ◌≤◌, length, vec_len, false};
-ghost use Rattle.link_desk.specs.Passes.{new_pass};
+ghost use Rattle.link_desk.specs.Passes.{new_holder, new_pass};
 ghost use Rattle.desk_tallies.specs.Shares.{AtMost, by_class, of_each, sum_of, sum_over};
 
 use crate::ledgers::{Arrived, GivenBack, Granted, Ledgers, Left, Lost, Others};
+use link_desk::calls::Holder;
 use std::marker::Model;
 use std::sync::ledger::Share;
 
@@ -61,9 +62,10 @@ impl<K: Ledgers> Model for Shares<K> {
     } };
 }
 
-/// A pass: a number, and one part of each ledger, with what was counted on it. Decisions are made through it.
+/// A pass: a number, one part of each ledger, with what was counted on it, and who holds it. Decisions are made through it.
 pub struct Pass<K: Ledgers> {
     number: u64,
+    pub(crate) holder: Holder,
     /// Whether a call through it was answered as strange, or by the last decision.
     pub(crate) is_broken: bool,
     pub(crate) shares: Shares<K>,
@@ -73,6 +75,7 @@ impl<K: Ledgers> Drop for Pass<K> {
     fn drop(self) {
         let Pass {
             number: _,
+            holder: _,
             is_broken: _,
             shares: _,
         } = self;
@@ -85,7 +88,7 @@ impl<K: Ledgers> Model for Pass<K> {
 
     ghost Value = { PassView };
 
-    ghost view = { λ p. record { number = p.number; told = record { made = p.shares.amounts; is_broken = p.is_broken } } };
+    ghost view = { λ p. record { number = p.number; told = record { made = p.shares.amounts; is_broken = p.is_broken }; holder = p.holder } };
 
     ghost invariant = { λ p. p.shares.parts ≡ of_each 1 };
 }
@@ -98,6 +101,13 @@ impl<K: Ledgers> Pass<K> {
         self.number
     }
 
+    /// Who holds it.
+    pub fn holder(&self) -> Holder
+        ensures { result ≡ self.now.holder }
+    {
+        self.holder
+    }
+
     /// Its shares: a part of each ledger, and what was made through it.
     fn into_shares(self) -> Shares<K>
         ensures parts { result.parts ≡ of_each 1 }
@@ -105,6 +115,7 @@ impl<K: Ledgers> Pass<K> {
     {
         let Pass {
             number: _,
+            holder: _,
             is_broken: _,
             shares,
         } = self;
@@ -113,11 +124,11 @@ impl<K: Ledgers> Pass<K> {
 }
 
 impl<K: Ledgers> Shares<K> {
-    /// Cuts one part off each, as a pass.
+    /// Cuts one part off each, as a pass that nobody holds.
     pub fn cut(&mut self, number: u64) -> Pass<K>
         requires none { self.old.amounts ≡ of_each 0 }
         requires some { AtMost (of_each 2) self.old.parts }
-        ensures pass { result ≡ record { number = number; told = new_pass } }
+        ensures pass { result ≡ record { number = number; told = new_pass; holder = new_holder } }
         ensures parts { sum_of self.new.parts (of_each 1) ≡ self.old.parts }
         ensures amounts { self.new.amounts ≡ self.old.amounts }
     {
@@ -131,6 +142,12 @@ impl<K: Ledgers> Shares<K> {
         };
         Pass {
             number,
+            holder: Holder {
+                client: None,
+                lease: None,
+                refused: None,
+                last: None,
+            },
             is_broken: false,
             shares,
         }

@@ -5,6 +5,7 @@ ghost use Rattle.desk_tallies.specs.Shares.{AtMost, made_of, names_of, of_each, 
 
 use crate::ledgers::{Arrived, GivenBack, Granted, Ledgers, Left, Lost, Others};
 use crate::passes::{ALL_PARTS, Pass, Shares, Totals};
+use link_desk::calls::Holder;
 use std::marker::Model;
 use std::sync::ledger::{Blank, Book, Ledger, Share};
 
@@ -181,16 +182,19 @@ impl<K: Ledgers> Tallies<K> {
         self.others.audit(&mut mine.others);
     }
 
-    /// The counters go on to these, and what is added was made through this pass, whose call may have broken it.
-    pub fn count(&mut self, pass: &mut Pass<K>, to: Totals, breaks: bool)
+    /// The counters go on to these, and what is added was made through this pass, by a call that may have broken it and after which it
+    /// has this holder.
+    pub fn count(&mut self, pass: &mut Pass<K>, to: Totals, breaks: bool, holder: Holder)
         requires more { AtMost self.old (made_of to) }
         ensures count { self.new ≡ made_of to }
         ensures number { pass.new.number ≡ pass.old.number }
         ensures made { sum_of pass.new.told.made self.old ≡ sum_of pass.old.told.made (made_of to) }
         ensures broken { pass.new.told.is_broken ≡ (breaks || pass.old.told.is_broken) }
+        ensures holder { pass.new.holder ≡ holder }
     {
         self.follow(&mut pass.shares, to);
         pass.is_broken = breaks || pass.is_broken;
+        pass.holder = holder;
     }
 
     /// What was made through a pass is among the counts. Nothing changes.

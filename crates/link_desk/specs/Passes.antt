@@ -1,8 +1,12 @@
--- What a pass tells: the decisions that were made through it, by class.
-use Rattle.std.specs.Prelude.{ℕ, suc, Bool, true, false, Option, Some, None}
+-- What a pass tells: the decisions that were made through it, by class, and who holds it.
+use Rattle.std.specs.Prelude.{ℕ, suc, Bool, true, false, Option, Some, None, option_map}
 use Rattle.message_view.specs.declared.refusal.Refusal.{Refusal}
 use Rattle.message_view.specs.declared.refusal.Refusal.TheVariants.{LastDecision}
 use Rattle.link_start.specs.Links.{LinkView}
+use Rattle.link_desk.specs.declared.calls.Call.{Call}
+use Rattle.link_desk.specs.declared.calls.Call.TheVariants as call
+use Rattle.link_desk.specs.declared.calls.Lease.{Lease}
+use Rattle.link_desk.specs.declared.calls.Holder.{Holder}
 use Rattle.link_desk.specs.declared.answers.Arrival.{Arrival}
 use Rattle.link_desk.specs.declared.answers.Arrival.TheVariants as arrival
 use Rattle.link_desk.specs.declared.answers.Asked.{Asked}
@@ -95,10 +99,44 @@ after_leaving p gone.Done = one_left p
 after_leaving p gone.Last = broken p
 after_leaving p gone.Stranger = broken p
 
--- the client that has come through a pass and has not gone, after one more has come
-abbrev pub client_after : Option ℕ → Arrival → Option ℕ
-client_after client (arrival.Client n) = Some n
-client_after client (arrival.Refused refusal) = client
+-- ---- what each call makes of its holder; what goes to the book is the holder'h own
+
+abbrev pub new_holder : Holder
+new_holder = record { client = None; lease = None; refused = None; last = None }
+
+abbrev pub lease_of : LinkView → Lease
+lease_of l = record { number = l.number; born = l.born }
+
+-- a call of a client's number, or of a link's
+abbrev pub of_client : (ℕ → Call) → Holder → Option Call
+of_client call h = option_map call h.client
+
+abbrev pub of_lease : (ℕ → Call) → Holder → Option Call
+of_lease call h = option_map (λ (l : Lease). call l.number) h.lease
+
+abbrev pub arrived : Holder → Arrival → Holder
+arrived h (arrival.Client n) = record h { client = Some n; refused = None; last = Some call.Arrive }
+arrived h (arrival.Refused refusal) = record h { refused = Some refusal; last = Some call.Arrive }
+
+abbrev pub asked_by : Holder → Asked → Holder
+asked_by h (asked.Queued n) = record h { last = of_client call.Ask h }
+asked_by h (asked.Refused refusal) = record h { refused = Some refusal; last = of_client call.Ask h }
+asked_by h asked.Memory = h
+asked_by h asked.Stranger = record h { last = of_client call.Ask h }
+
+module _ {E : Type 0} where
+  abbrev pub taken : Holder → Grant E → Holder
+  taken h (grant.Lend l) = record h { lease = Some (lease_of l); last = of_client call.Take h }
+  taken h (grant.Start number born evicted) = record h { lease = Some (record { number = number; born = born }); last = of_client call.Take h }
+  taken h (grant.Refused refusal) = record h { refused = Some refusal; last = of_client call.Take h }
+  taken h grant.Stranger = record h { last = of_client call.Take h }
+
+-- by a link's return, its loss, or its start that failed
+abbrev pub without_lease : (ℕ → Call) → Holder → Holder
+without_lease call h = record h { lease = None; last = of_lease call h }
+
+abbrev pub left : Holder → Holder
+left h = record h { client = None; last = of_client call.Leave h }
 
 -- the desk keeps the link where it is done, and else leaves it there
 abbrev pub keeps : Back → Option LinkView → Option LinkView

@@ -1,6 +1,7 @@
 -- What lies behind the desk's lock.
 use Rattle.std.specs.Prelude.{◌≡◌, ◌<◌, ℕ, List, [], ◌∷◌, Option, Some, None}
 use Rattle.link_run.specs.Links.{LinkView}
+use Rattle.book_model.specs.Kept.{Kept}
 use Rattle.lease_book.specs.Links.{BookOf}
 use Rattle.lease_book.specs.declared.events.Event.{Event}
 use Rattle.lease_book.specs.declared.events.Event.TheVariants as event
@@ -19,9 +20,10 @@ abbrev pub AreAtHome : HomeOf → List LinkView → Type 0
 AreAtHome home [] = Unit {0}
 AreAtHome home (link ∷ links) = IsAtHome home link × AreAtHome home links
 
--- each counter is the book's count of its class, the idle links are at home, and no part of a ledger was lost: those that no pass
--- has are here, with nothing counted on them
+-- the lists are in order, each counter is the book's count of its class, the idle links are at home, and no part of a ledger was lost:
+-- those that no pass has are here, with nothing counted on them
 pub record IsJoined (home : HomeOf) (book : BookOf) (tallies : Made) (uncut : SharesOf) (given : ℕ) : Type 0 where
+  pub kept : Kept book.lists
   pub counted : class_counts book.lists.counts ≡ tallies
   pub at_home : AreAtHome home book.idle
   pub parts : sum_of uncut.parts (of_each given) ≡ of_each ALL_PARTS

@@ -1,4 +1,5 @@
 pub mod Classes
 pub mod Tells
+pub mod Hears
 pub mod Joined
 pub mod Changes

@@ -1,22 +1,26 @@
 //! What lies behind the desk's lock.
-ghost use Rattle.std.specs.Prelude.{◌≡◌, ◌<◌, ◌≤◌, ◌^◌, ◌||◌, [], IfOk, IfErr, IfSome, IfNone, vec_len, suc, ◌≢◌};
+ghost use Rattle.std.specs.Prelude.{◌≡◌, ◌<◌, ◌≤◌, ◌^◌, ◌||◌, [], IfOk, IfErr, IfSome, IfNone, MatchOption, Some, vec_len, suc, ◌≢◌};
 ghost use Rattle.std.specs.Arc.{arc_value};
 ghost use Rattle.book_model.specs.Book.{empty_book};
-ghost use Rattle.book_model.specs.Kept.{total};
+ghost use Rattle.book_model.specs.Kept.{FitsLimits, Kept, KeptLimits, total};
 ghost use Rattle.book_register.specs.Views.{view_of};
 ghost use Rattle.lease_book.specs.Links.{IsTwice, answered, handed, handed_after, history_after, idle_after, plain, reply_of};
-ghost use Rattle.desk_tallies.specs.Homes.{IsAtHome};
-ghost use Rattle.desk_tallies.specs.Passes.{new_pass};
+ghost use Rattle.desk_tallies.specs.Homes.{IsAtHome, IsGrantAtHome};
+ghost use Rattle.desk_tallies.specs.Passes.{after_grant, new_holder, new_pass, taken};
+ghost use Rattle.desk_tallies.specs.Refusing.{MayTake};
 ghost use Rattle.desk_tallies.specs.declared.passes.TheConstants.{ALL_PARTS};
 ghost use Rattle.desk_tallies.specs.Shares.{AtMost, made_of, names_of, of_each, parts_of, sum_over};
 ghost use Rattle.pool_desk.specs.Classes.{class_counts};
+ghost use Rattle.pool_desk.specs.Hears.{call_of, heard};
 ghost use Rattle.pool_desk.specs.Joined.{brought};
 ghost use Rattle.pool_desk.specs.Tells.{Tells, breaks};
 
 use crate::dial::Dial;
+use crate::hearing::{call_of, heard};
 use book_model::counts::Counts;
 use book_model::limits::Limits;
 use book_register::view::{BookView, Waiting};
+use desk_tallies::answers::Grant;
 use desk_tallies::ledgers::Ledgers;
 use desk_tallies::passes::{ALL_PARTS, Pass, Shares, Totals};
 use desk_tallies::tallies::{Blanks, Tallies};
@@ -42,6 +46,24 @@ fn totals_of(decisions: u64, counts: Counts) -> Totals
         lost,
         left: counts.left,
         others: decisions - known,
+    }
+}
+
+/// All settings fit.
+fn fits(limits: &Limits)
+    ensures { KeptLimits limits.now }
+{
+    // for the prover: a look into the limits, whose type keeps them within what a book can hold
+    let _ = &limits.max_links;
+}
+
+/// Those of an event, too.
+fn event_fits<E: ServerEnd>(event: &Event<E>)
+    ensures { FitsLimits (plain event.now) }
+{
+    match event {
+        Event::Limits(limits, _) => fits(limits),
+        _ => {}
     }
 }
 
@@ -88,6 +110,7 @@ impl<S: Dial, K: Ledgers> Core<S, K> {
         ensures lists { IfOk result (λ c. c.book.lists ≡ empty_book (arc_value limits)) }
         ensures given { IfOk result (λ c. c.given ≡ 0) }
     {
+        fits(&limits);
         let book = Book::new(alloc, limits)?;
         let (tallies, uncut) = Tallies::open(blanks);
         Ok(Core {
@@ -101,7 +124,7 @@ impl<S: Dial, K: Ledgers> Core<S, K> {
 
     /// Cuts a pass off; `None` where one part of each ledger is left.
     pub fn pass(&mut self) -> Option<Pass<K>>
-        ensures pass { IfSome result (λ p. p ≡ record { number = self.old.given; told = new_pass }) }
+        ensures pass { IfSome result (λ p. p ≡ record { number = self.old.given; told = new_pass; holder = new_holder }) }
         ensures given { IfSome result (λ p. self.new.given ≡ suc self.old.given) }
         ensures none { IfNone result (suc self.old.given ≡ ALL_PARTS) }
         ensures book { self.new.book ≡ self.old.book }
@@ -114,7 +137,7 @@ impl<S: Dial, K: Ledgers> Core<S, K> {
         Some(pass)
     }
 
-    /// One event, made through this pass.
+    /// One event, made through this pass, which hears the reply.
     pub fn apply(&mut self, pass: &mut Pass<K>, event: Event<S::End>) -> Reply<S::End>
         requires twice { IsTwice event }
         requires home { IfSome (brought event) (λ l. IsAtHome S.home l) }
@@ -126,12 +149,42 @@ impl<S: Dial, K: Ledgers> Core<S, K> {
         ensures home { IfSome (handed result) (λ l. IsAtHome S.home l) }
         ensures number { pass.new.number ≡ pass.old.number }
         ensures told { Tells (plain event) (reply_of result) pass.old.told pass.new.told }
+        ensures holder { pass.new.holder ≡ heard pass.old.holder (call_of event) result }
         ensures given { self.new.given ≡ self.old.given }
     {
+        event_fits(&event);
+        let call = call_of(&event);
         let reply = self.book.apply(pass.number(), event);
         let totals = totals_of(self.book.decisions(), self.book.counts());
-        self.tallies.count(pass, totals, breaks(&reply));
+        let holder = heard(pass.holder(), call, &reply);
+        self.tallies.count(pass, totals, breaks(&reply), holder);
         reply
+    }
+
+    /// What the pass's client, of this number, is granted; `None` where it waits on.
+    pub fn take(&mut self, pass: &mut Pass<K>, client: u64) -> Option<Grant<S::End>>
+        requires own { pass.old.holder.client ≡ Some client }
+        ensures told { MatchOption result (pass.new.told ≡ pass.old.told) (λ g. pass.new.told ≡ after_grant pass.old.told g) }
+        ensures holder { MatchOption result (pass.new.holder ≡ pass.old.holder) (λ g. pass.new.holder ≡ taken pass.old.holder g) }
+        ensures refused { IfSome result (λ g. MayTake g) }
+        ensures home { IfSome result (λ g. IsGrantAtHome S.home g) }
+    {
+        match self.apply(pass, Event::Take { client }) {
+            Reply::Queued(_before) => None,
+            Reply::Lend(link) => Some(Grant::Lend(link)),
+            Reply::Start {
+                number,
+                born,
+                evicted,
+            } => Some(Grant::Start {
+                number,
+                born,
+                evicted,
+            }),
+            Reply::Refuse(refusal, _back) => Some(Grant::Refused(refusal)),
+            Reply::Stranger(_back) => Some(Grant::Stranger),
+            _ => unreachable!(),
+        }
     }
 
     /// The book as it is now, in rows of the caller's own; what was made through the pass is among its decisions.
@@ -139,6 +192,7 @@ impl<S: Dial, K: Ledgers> Core<S, K> {
     /// `AllocError` where memory is refused.
     pub fn view(&mut self, alloc: Global, pass: &mut Pass<K>) -> Result<BookView, AllocError>
         ensures view { IfOk result (λ v. v ≡ view_of self.old.book.lists) }
+        ensures kept { Kept self.old.book.lists }
         ensures at_least { IfOk result (λ v. AtMost pass.old.told.made (class_counts v.counts)) }
         ensures pass { pass.new ≡ pass.old }
         ensures same { self.new ≡ self.old }

@@ -1,5 +1,5 @@
 //! One pool, from the first connection to the last.
-ghost use Rattle.std.specs.Prelude.{◌≡◌, [], false, IfOk};
+ghost use Rattle.std.specs.Prelude.{◌≡◌, [], false, IfOk, None};
 ghost use Rattle.std.specs.Arc.{arc_value};
 ghost use Rattle.ini_config.specs.Bounds.{AreWithinBounds};
 ghost use Rattle.login_core.specs.Dialogue.{AtFirst};
@@ -21,7 +21,6 @@ use message_view::KeyWord;
 use mio::net::TcpListener;
 use pool_desk::answers::Ticked;
 use pool_desk::desk::Desk;
-use pool_desk::handle::{DeskAt, WorkerPass};
 use pool_serve::serve::serve;
 use std::alloc::{AllocError, Global};
 use std::marker::{Brand, Model};
@@ -37,10 +36,18 @@ use tcp_end::gate::TcpGate;
 use user_file::Users;
 use worker_threads::Workers;
 
+/// A pass that no client holds, nor a link.
+#[derive(Drop)]
+struct FreePass<K: Ledgers> {
+    pass: Pass<K>,
+    ghost no_client: { pass.holder.client ≡ None },
+    ghost no_lease: { pass.holder.lease ≡ None },
+}
+
 /// Passes that no worker has at this time.
 #[derive(Drop)]
 struct Free<K: Ledgers> {
-    passes: Vec<Pass<K>>,
+    passes: Vec<FreePass<K>>,
 }
 
 /// Settings within their bounds, which are shared.
@@ -80,10 +87,9 @@ impl Bounded {
 }
 
 /// What all threads of a pool share.
-struct Pool<R: Net, K: Ledgers> {
+struct Pool<R: Net + Wait, K: Ledgers> {
     alloc: Global,
-    desk: Desk<TcpDial<R>, K>,
-    dialer: TcpDial<R>,
+    desk: Desk<R, TcpDial<R>, K>,
     free: Mutex<Free<K>>,
     settings: Bounded,
     users: Arc<Users>,
@@ -91,12 +97,11 @@ struct Pool<R: Net, K: Ledgers> {
     has_ended: AtomicBool,
 }
 
-impl<R: Net + Drop, K: Ledgers> Drop for Pool<R, K> {
+impl<R: Net + Wait + Drop, K: Ledgers> Drop for Pool<R, K> {
     fn drop(self) {
         let Pool {
             alloc: _,
             desk: _,
-            dialer: _,
             free: _,
             settings: _,
             users: _,
@@ -105,7 +110,7 @@ impl<R: Net + Drop, K: Ledgers> Drop for Pool<R, K> {
     }
 }
 
-impl<R: Net + Drop, K: Ledgers> Pool<R, K> {
+impl<R: PoolRuntime, K: Ledgers> Pool<R, K> {
     /// A pool with an empty book.
     fn open(
         rt: R,
@@ -120,14 +125,14 @@ impl<R: Net + Drop, K: Ledgers> Pool<R, K> {
         requires all { parts_of blanks ≡ of_each ALL_PARTS }
     {
         let limits = Arc::new(alloc, limits_of(alloc, &settings)?)?;
-        let desk = Desk::<TcpDial<R>, K>::new(alloc, limits, blanks)?;
+        let dialer = TcpDial { rt, alloc };
+        let desk = Desk::<R, TcpDial<R>, K>::new(rt, alloc, dialer, limits, blanks)?;
         let free = Free {
             passes: Vec::new(alloc),
         };
         Ok(Pool {
             alloc,
             desk,
-            dialer: TcpDial { rt, alloc },
             free: Mutex::new(free),
             settings: Bounded::new(alloc, settings)?,
             users: Arc::new(alloc, users)?,
@@ -136,18 +141,20 @@ impl<R: Net + Drop, K: Ledgers> Pool<R, K> {
     }
 }
 
-impl<R: Net, K: Ledgers> Pool<R, K> {
+impl<R: Net + Wait, K: Ledgers> Pool<R, K> {
     /// A pass that another worker gave back, or a new one.
-    fn pass<T: Wait>(&self, rt: &T) -> Option<Pass<K>> {
+    fn pass<T: Wait>(&self, rt: &T) -> Option<FreePass<K>> {
         let free = self.free.lock(rt).passes.pop();
         match free {
             Some(pass) => Some(pass),
-            None => self.desk.pass(rt),
+            None => Some(FreePass {
+                pass: self.desk.pass()?,
+            }),
         }
     }
 
     /// A worker is done with this pass.
-    fn give_back<T: Wait>(&self, rt: &T, pass: Pass<K>) {
+    fn give_back<T: Wait>(&self, rt: &T, pass: FreePass<K>) {
         // one that isn't kept is never used again
         let _ = self.free.lock(rt).passes.push(pass);
     }
@@ -169,29 +176,17 @@ impl<R: Net, K: Ledgers> Pool<R, K> {
         else {
             return;
         };
-        let Some(pass) = self.pass(rt) else {
+        let Some(FreePass { pass }) = self.pass(rt) else {
             return;
         };
-        let desk = DeskAt {
-            rt,
-            desk: &self.desk,
-            dialer: &self.dialer,
-        };
-        let pass = WorkerPass { pass, client: None };
-        let (_, back) = serve(self.alloc, &desk, pass, client, login, word, gate);
-        let WorkerPass { pass, client: _ } = back;
-        let DeskAt {
-            rt,
-            desk: _,
-            dialer: _,
-        } = desk;
-        self.give_back(rt, pass);
+        let (_, pass) = serve(self.alloc, &self.desk, pass, client, login, word, gate);
+        self.give_back(rt, FreePass { pass });
     }
 
     /// Tells the desk this second until nothing more is to be closed; whether the clock is still wanted.
-    fn tick<T: Wait>(&self, rt: &T, pass: &mut Pass<K>, now: u64) -> bool {
+    fn tick<T: Wait>(&self, rt: &T, pass: &mut FreePass<K>, now: u64) -> bool {
         for _ in rt.forever() {
-            match self.desk.tick(rt, pass, now) {
+            match self.desk.tick(&mut pass.pass, now) {
                 Ticked::Done => return true,
                 Ticked::Close(link) => close_link(link),
                 Ticked::Last => return false,
@@ -200,22 +195,33 @@ impl<R: Net, K: Ledgers> Pool<R, K> {
         unreachable!()
     }
 
-    /// The clock: the whole seconds since the start, one after the other, until the last connection is done.
-    fn run_clock<T: Wait + Clock>(&self, rt: &T) -> io::Result<()> {
-        let start = Instant::now(rt)?;
-        let Some(mut pass) = self.desk.pass(rt) else {
-            return Ok(());
+    /// The clock: each second the whole seconds since its first reading, until the last connection is done. In a second in which it
+    /// can't be read it tells nothing, and goes on with the next.
+    fn run_clock<T: Wait + Clock>(&self, rt: &T) {
+        let Some(mut pass) = self.pass(rt) else {
+            return;
         };
+        let mut start = Instant::now(rt).ok();
         for _ in rt.forever() {
             thread::sleep(rt, Duration::from_millis(1000));
-            let now = start.elapsed(rt)?.as_secs();
-            if self.has_ended.load(Ordering::SeqCst) || !self.tick(rt, &mut pass, now) {
+            if self.has_ended.load(Ordering::SeqCst) {
+                break;
+            }
+            if let Some(now) = second(rt, &mut start)
+                && !self.tick(rt, &mut pass, now)
+            {
                 break;
             }
         }
         self.give_back(rt, pass);
-        Ok(())
     }
+}
+
+/// The whole seconds since the clock's first reading, which this is where there was none; `None` where it can't be read.
+fn second<T: Clock>(rt: &T, start: &mut Option<Instant>) -> Option<u64> {
+    let now = Instant::now(rt).ok()?;
+    let first = *start.get_or_insert(now);
+    Some(now.duration_since(first).as_secs())
 }
 
 /// Serves one connection on a thread of its own.
@@ -280,9 +286,7 @@ fn serve_all<R: PoolRuntime + 'static, K: Ledgers + Send + Sync + 'static>(
     let pool = Pool::<R, K>::open(rt, alloc, settings, users, blanks)?;
     let pool = Arc::new(alloc, pool)?;
     let shared = Arc::try_clone(&pool)?;
-    let clock = thread::spawn(&rt, move || {
-        let _ = shared.run_clock(&rt);
-    })?;
+    let clock = thread::spawn(&rt, move || shared.run_clock(&rt))?;
     accept_all(rt, &mut acceptor, &mut workers, &pool, seed, count);
     workers.join_all(&rt);
     pool.has_ended.store(true, Ordering::SeqCst);

@@ -1,6 +1,6 @@
 -- Why a client is refused.
-use Rattle.std.proofs.Common.{◌≡◌, inl, inr, ℕ, ◌+◌, ◌≤◌, true, false, List, [], ◌++◌, refl, sym, ap, ◌∙◌, arith, append-nil, subst, Option, Some, None}
-use Rattle.std.specs.Prelude.{IfSome}
+use Rattle.std.proofs.Common.{◌≡◌, inl, inr, ℕ, ◌+◌, ◌≤◌, Bool, true, false, cond, List, [], ◌++◌, refl, sym, ap, ◌∙◌, arith, append-nil, subst, Option, Some, None}
+use Rattle.std.specs.Prelude.{IfSome, ◌==◌}
 use Rattle.std.proofs.lemmas.Bool.{true≢false}
 use Rattle.frame_view.specs.declared.FrameFault.{FrameFault}
 use Rattle.frame_view.specs.declared.FrameFault.TheVariants.{TooShort, TooLong, UnknownType, UnknownCode}
@@ -8,19 +8,31 @@ use Rattle.message_view.specs.declared.refusal.Refusal.{Refusal}
 use Rattle.message_view.specs.declared.refusal.Refusal.TheVariants.{TooManyClients, UnsupportedProtocol, MalformedClientMessage, UnsupportedParameter, WaitedTooLong, ServerFailed, ServerNotReached, ShuttingDown, OutOfMemory, ClientMessageTooLong, MalformedServerMessage, LastDecision}
 use Rattle.relay_flow.specs.declared.flow.Ends.{Ends}
 use Rattle.relay_flow.specs.declared.flow.Ends.TheVariants.{Open, Last, Faulty}
-use Rattle.link_desk.specs.Passes.{Made, PassOf, after_leaving, after_loss, after_refusal, one_arrived, one_granted, one_other}
+use Rattle.relay_flow.specs.Flows.{is_faulty}
+use Rattle.link_start.specs.declared.start.StartCause.{StartCause}
+use Rattle.link_start.specs.declared.start.StartCause.TheVariants as cause
+use Rattle.link_desk.specs.Passes.{PassOf, after_leaving, after_loss, after_refusal, one_arrived, one_other}
 use Rattle.link_desk.specs.Refusing.{RefusesArrival, RefusesAsking, RefusesGrant}
 use Rattle.link_desk.specs.declared.answers.Gone.{Gone}
 use Rattle.link_desk.specs.declared.answers.Gone.TheVariants as gone
 use Rattle.relay_laws.specs.Leases.{IsLease, Place, RelayView}
-use Rattle.relay_laws.specs.Answers.{AtBorder, RefusedBy, refusal_by, refusal_of}
+use Rattle.relay_laws.specs.Answers.{RefusedBy, is_done, is_quiet, judged, quiet_next, refusal_by, refusal_of, refused}
+use Rattle.relay_laws.specs.declared.Next.{Next}
 use Rattle.relay_laws.specs.Faults.{IsAtFault}
 use Rattle.relay_laws.proofs.Faults.{client_fault}
-use Rattle.pool_serve.specs.declared.word.LastWord.{LastWord}
+use Rattle.pool_serve.specs.declared.ending.Ending.{Ending}
+use Rattle.pool_serve.specs.declared.ending.Ending.TheVariants as ending
 use Rattle.pool_serve.specs.declared.word.LastWord.TheVariants as last
-use Rattle.pool_serve.specs.Words.{or_nothing}
+use Rattle.pool_serve.specs.Words.{last_of, or_nothing, word_of}
 use Rattle.pool_serve.specs.Shares as shares
-use Rattle.pool_serve.specs.Causes.{EndsFor, EndsLease, HadLink, HasFault, HasLost, HasLostLink, IsFaulty, IsFaultyWord, IsTurnedAway, IsUnstarted, Since, AtArrival, AtAsking, AtWait, of_wait, HasTrace, WordHasTrace}
+use Rattle.pool_serve.specs.Causes.{HadLink, HadNone, HasFault, HasLost, IsFaulty, IsFaultyWord, IsTurnedAway, Since, AtArrival, AtAsking, AtLease, AtWait, of_wait, HasTrace, WordHasTrace}
+use Rattle.pool_serve.specs.Endings.{HasRelayed, IsUnopened, Traces, refusal_at, refusal_told}
+use Rattle.link_run.specs.Links.{LinkView}
+use Rattle.link_laws.specs.Standing.{ClientFacts}
+use Rattle.link_desk.specs.Homes.{HomeOf}
+use Rattle.login_core.specs.Logins.{LoginView}
+use Rattle.pool_serve.specs.Stays.{CameIn}
+use Rattle.pool_serve.specs.declared.guest.Guest.{Guest}
 
 -- ---- the desk's refusals
 
@@ -67,16 +79,17 @@ by_grant Q late shut end ClientMessageTooLong h = absurd h
 by_grant Q late shut end MalformedServerMessage h = absurd h
 
 turned : (p : PassOf) → IsTurnedAway 1 p (one_other p)
-turned p = λ e. record { granted = refl; others = omega arith }
+turned p = (refl, λ e. omega arith)
 
-pub arrival_why : (p q : PassOf) (r : Refusal) → q ≡ after_refusal p r → RefusesArrival r → WordHasTrace AtArrival p q (last.Refusal r)
-arrival_why p q r e h = subst (λ (x : PassOf). HasTrace AtArrival p x r) (sym e) (by_arrival (λ (s : Refusal). HasTrace AtArrival p (after_refusal p s) s) (turned p, λ b. refl) (turned p) refl r h)
+pub arrival_traces : (p q : PassOf) (r : Refusal) → q ≡ after_refusal p r → RefusesArrival r → Traces AtArrival p q (ending.Refused r)
+arrival_traces p q r e h =
+    subst (λ (x : PassOf). Traces AtArrival p x (ending.Refused r)) (sym e) (by_arrival (λ (s : Refusal). Traces AtArrival p (after_refusal p s) (ending.Refused s)) (refl, (turned p, refl)) (refl, turned p) (refl, refl) r h)
 
-pub asking_why : (p q : PassOf) (r : Refusal) → q ≡ after_refusal p r → RefusesAsking r → WordHasTrace AtAsking p q (last.Refusal r)
-asking_why p q r e h = subst (λ (x : PassOf). HasTrace AtAsking p x r) (sym e) (by_asking (λ (s : Refusal). HasTrace AtAsking p (after_refusal p s) s) (turned p) refl r h)
+pub asking_traces : (p q : PassOf) (r : Refusal) → q ≡ after_refusal p r → RefusesAsking r → Traces AtAsking p q (ending.Refused r)
+asking_traces p q r e h = subst (λ (x : PassOf). Traces AtAsking p x (ending.Refused r)) (sym e) (by_asking (λ (s : Refusal). Traces AtAsking p (after_refusal p s) (ending.Refused s)) (refl, turned p) (refl, refl) r h)
 
-pub grant_why : (p q : PassOf) (r : Refusal) → q ≡ after_refusal p r → RefusesGrant r → WordHasTrace AtWait p q (last.Refusal r)
-grant_why p q r e h = subst (λ (x : PassOf). HasTrace AtWait p x r) (sym e) (by_grant (λ (s : Refusal). HasTrace AtWait p (after_refusal p s) s) (turned p) (turned p) refl r h)
+pub grant_traces : (p q : PassOf) (r : Refusal) → q ≡ after_refusal p r → RefusesGrant r → Traces AtWait p q (ending.Refused r)
+grant_traces p q r e h = subst (λ (x : PassOf). Traces AtWait p x (ending.Refused r)) (sym e) (by_grant (λ (s : Refusal). Traces AtWait p (after_refusal p s) (ending.Refused s)) (refl, turned p) (refl, turned p) (refl, refl) r h)
 
 -- none of them is for a message of the client's
 pub arrival_fault : (rows : _) (word : _) (limit : ℕ) (taken : List ℕ) (r : Refusal) → RefusesArrival r → HasFault rows word limit taken r
@@ -91,190 +104,266 @@ grant_fault limit bytes r h = by_grant (IsFaulty limit bytes) tt tt tt r h
 -- ---- the same over more decisions
 
 -- these moved no link, and make up for the asking that counts
-record Within (a b : Since) (p q before after : Made) : Type 0 where
-  granted_before : before.granted ≡ p.granted
-  granted_after : after.granted ≡ q.granted
-  lost_before : before.lost ≡ p.lost
-  lost_after : after.lost ≡ q.lost
-  fewer : before.others + of_wait b ≤ p.others + of_wait a
-  no_more : before.others ≤ p.others
-  no_fewer : q.others ≤ after.others
-
 record Spans (a b : Since) (p q before after : PassOf) : Type 0 where
   stays : q.is_broken ≡ true → after.is_broken ≡ true
   was : after.is_broken ≡ false → q.is_broken ≡ false
   none : HasTrace a p q TooManyClients → ⊥
-  made : after.is_broken ≡ false → Within a b p.made q.made before.made after.made
+  had : HadLink a p q → HadLink b before after
+  granted_before : before.made.granted ≡ p.made.granted
+  granted_after : after.made.granted ≡ q.made.granted
+  lost_before : before.made.lost ≡ p.made.lost
+  lost_after : after.made.lost ≡ q.made.lost
+  fewer : before.made.others + of_wait b ≤ p.made.others + of_wait a
+  no_more : before.made.others ≤ p.made.others
+  no_fewer : q.made.others ≤ after.made.others
 
 module _ (a b : Since) (p q before after : PassOf) (s : Spans a b p q before after) where
+  wider_none : HadNone p q → HadNone before after
+  wider_none h = s.granted_after ∙ (h ∙ sym s.granted_before)
+
+  wider_lost : HasLost p q → HasLost before after
+  wider_lost h = λ e. s.lost_after ∙ (h (s.was e) ∙ ap (λ (k : ℕ). k + 1) (sym s.lost_before))
+
   wider_refused : IsTurnedAway 1 p q → IsTurnedAway 1 before after
-  wider_refused h = λ e.
-      let w = s.made e in
-      let t = h (s.was e) in
-      record { granted = w.granted_after ∙ (t.granted ∙ sym w.granted_before); others = omega (arith, w.no_more, t.others, w.no_fewer) }
+  wider_refused h = (wider_none h.0, λ e. omega (arith, s.no_more, h.1 (s.was e), s.no_fewer))
 
   wider_waited : IsTurnedAway (of_wait a) p q → IsTurnedAway (of_wait b) before after
-  wider_waited h = λ e.
-      let w = s.made e in
-      let t = h (s.was e) in
-      record { granted = w.granted_after ∙ (t.granted ∙ sym w.granted_before); others = omega (arith, w.fewer, t.others, w.no_fewer) }
-
-  wider_had : HadLink p q → HadLink before after
-  wider_had h = λ e.
-      let w = s.made e in
-      w.granted_after ∙ (h (s.was e) ∙ ap (λ (k : ℕ). k + 1) (sym w.granted_before))
-
-  wider_lost : HasLostLink p q → HasLostLink before after
-  wider_lost h = λ e.
-      let w = s.made e in
-      let l = h (s.was e) in
-      record { granted = w.granted_after ∙ (l.granted ∙ ap (λ (k : ℕ). k + 1) (sym w.granted_before)); lost = w.lost_after ∙ (l.lost ∙ ap (λ (k : ℕ). k + 1) (sym w.lost_before)) }
+  wider_waited h = (wider_none h.0, λ e. omega (arith, s.fewer, h.1 (s.was e), s.no_fewer))
 
   wider : (r : Refusal) → HasTrace a p q r → HasTrace b before after r
   wider TooManyClients h = absurd (s.none h)
   wider ShuttingDown h = wider_refused h
   wider WaitedTooLong h = wider_waited h
   wider LastDecision h = s.stays h
-  wider ServerNotReached h = wider_lost h
-  wider MalformedClientMessage h = wider_had h
-  wider ClientMessageTooLong h = wider_had h
-  wider MalformedServerMessage h = wider_had h
-  wider ServerFailed h = wider_had h
+  wider ServerNotReached h = (s.had h.0, wider_lost h.1)
+  wider MalformedClientMessage h = s.had h
+  wider ClientMessageTooLong h = s.had h
+  wider MalformedServerMessage h = s.had h
+  wider ServerFailed h = s.had h
   wider OutOfMemory h = tt
   wider UnsupportedProtocol h = absurd h
   wider UnsupportedParameter h = absurd h
 
-  wider_word : (word : LastWord) → WordHasTrace a p q word → WordHasTrace b before after word
-  wider_word last.Nothing h = tt
-  wider_word (last.Refusal r) h = wider r h
-  wider_word (last.Error error) h = wider_lost h
+  wider_end : (e : Ending) → Traces a p q e → Traces b before after e
+  wider_end ending.Left h = wider_none h
+  wider_end (ending.Refused r) h = (wider_none h.0, wider r h.1)
+  wider_end ending.Memory h = tt
+  wider_end ending.Strange (inl h) = inl (s.stays h)
+  wider_end ending.Strange (inr h) = inr (s.had h.0, wider_lost h.1)
+  wider_end ending.Unreached h = (s.had h.0, wider_lost h.1)
+  wider_end (ending.Unstarted cause) h = (s.had h.0, wider_lost h.1)
+  wider_end (ending.Relayed r) h = s.had h
 
 spans_queue : (p q : PassOf) → Spans AtWait AtAsking (one_other p) q p q
 spans_queue p q = record {
   stays = λ e. e;
   was = λ e. e;
   none = λ h. h;
-  made = λ e. record { granted_before = refl; granted_after = refl; lost_before = refl; lost_after = refl; fewer = omega arith; no_more = omega arith; no_fewer = omega arith };
+  had = λ h. h;
+  granted_before = refl;
+  granted_after = refl;
+  lost_before = refl;
+  lost_after = refl;
+  fewer = omega arith;
+  no_more = omega arith;
+  no_fewer = omega arith;
 }
 
 -- behind an asking that was queued
-pub queued_why : (p mid q : PassOf) (word : LastWord) → mid ≡ one_other p → WordHasTrace AtWait mid q word → WordHasTrace AtAsking p q word
-queued_why p mid q word e h = wider_word AtWait AtAsking (one_other p) q p q (spans_queue p q) word (subst (λ (x : PassOf). WordHasTrace AtWait x q word) e h)
+pub queued_traces : (p mid q : PassOf) (e : Ending) → mid ≡ one_other p → Traces AtWait mid q e → Traces AtAsking p q e
+queued_traces p mid q e is h = wider_end AtWait AtAsking (one_other p) q p q (spans_queue p q) e (subst (λ (x : PassOf). Traces AtWait x q e) is h)
 
 spans_stay : (p q : PassOf) (g : Gone) → Spans AtAsking AtArrival (one_arrived p) q p (after_leaving q g)
 spans_stay p q gone.Done = record {
   stays = λ e. e;
   was = λ e. e;
   none = λ h. h;
-  made = λ e. record { granted_before = refl; granted_after = refl; lost_before = refl; lost_after = refl; fewer = omega arith; no_more = omega arith; no_fewer = omega arith };
+  had = λ h. h;
+  granted_before = refl;
+  granted_after = refl;
+  lost_before = refl;
+  lost_after = refl;
+  fewer = omega arith;
+  no_more = omega arith;
+  no_fewer = omega arith;
 }
-spans_stay p q gone.Last = record { stays = λ e. refl; was = λ e. absurd (true≢false e); none = λ h. h; made = λ e. absurd (true≢false e) }
-spans_stay p q gone.Stranger = record { stays = λ e. refl; was = λ e. absurd (true≢false e); none = λ h. h; made = λ e. absurd (true≢false e) }
+spans_stay p q gone.Last = record {
+  stays = λ e. refl;
+  was = λ e. absurd (true≢false e);
+  none = λ h. h;
+  had = λ h. h;
+  granted_before = refl;
+  granted_after = refl;
+  lost_before = refl;
+  lost_after = refl;
+  fewer = omega arith;
+  no_more = omega arith;
+  no_fewer = omega arith;
+}
+spans_stay p q gone.Stranger = record {
+  stays = λ e. refl;
+  was = λ e. absurd (true≢false e);
+  none = λ h. h;
+  had = λ h. h;
+  granted_before = refl;
+  granted_after = refl;
+  lost_before = refl;
+  lost_after = refl;
+  fewer = omega arith;
+  no_more = omega arith;
+  no_fewer = omega arith;
+}
 
 -- between a client's arrival and its leaving
-pub stay_why : (p mid q after : PassOf) (g : Gone) (word : LastWord) → mid ≡ one_arrived p → after ≡ after_leaving q g → WordHasTrace AtAsking mid q word → WordHasTrace AtArrival p after word
-stay_why p mid q after g word e l h =
-    subst (λ (x : PassOf). WordHasTrace AtArrival p x word) (sym l) (wider_word AtAsking AtArrival (one_arrived p) q p (after_leaving q g) (spans_stay p q g) word (subst (λ (x : PassOf). WordHasTrace AtAsking x q word) e h))
+pub stay_traces : (p mid q after : PassOf) (g : Gone) (e : Ending) → mid ≡ one_arrived p → after ≡ after_leaving q g → Traces AtAsking mid q e → Traces AtArrival p after e
+stay_traces p mid q after g e is l h =
+    subst (λ (x : PassOf). Traces AtArrival p x e) (sym l) (wider_end AtAsking AtArrival (one_arrived p) q p (after_leaving q g) (spans_stay p q g) e (subst (λ (x : PassOf). Traces AtAsking x q e) is h))
 
 -- ---- of a link that was granted
 
-module _ (p q : PassOf) (s : shares.Ends (one_granted p) q) where
-  granted_had : HadLink p q
-  granted_had = λ e. omega (arith, (s e).1.granted)
+pub lost_by : (p q : PassOf) (g : Gone) → q ≡ after_loss p g → HadLink AtLease p q × HasLost p q
+lost_by p q g e = subst (λ (x : PassOf). HadLink AtLease p x × HasLost p x) (sym e) (by g)
+  where
+    by : (g : Gone) → HadLink AtLease p (after_loss p g) × HasLost p (after_loss p g)
+    by gone.Done = (refl, λ e. omega arith)
+    by gone.Last = (refl, λ e. absurd (true≢false e))
+    by gone.Stranger = (refl, λ e. absurd (true≢false e))
 
-  granted_lost : HasLost (one_granted p) q → HasLostLink p q
-  granted_lost h = λ e. record { granted = omega (arith, (s e).1.granted); lost = h e }
+pub relayed_traces : (link : LinkView) (g : Guest) (before after : ClientFacts) (p q : PassOf) (e : Ending) → HasRelayed link g before after e → shares.Ends p q → Traces AtLease p q e
+relayed_traces link g before after p q (ending.Relayed r) x s = s.granted
+relayed_traces link g before after p q ending.Memory x s = tt
+relayed_traces link g before after p q ending.Left x s = absurd x
+relayed_traces link g before after p q (ending.Refused r) x s = absurd x
+relayed_traces link g before after p q ending.Strange x s = absurd x
+relayed_traces link g before after p q ending.Unreached x s = absurd x
+relayed_traces link g before after p q (ending.Unstarted cause) x s = absurd x
 
-  lease_ends : (word : LastWord) → EndsLease word → WordHasTrace AtWait p q word
-  lease_ends last.Nothing h = tt
-  lease_ends (last.Refusal MalformedClientMessage) h = granted_had
-  lease_ends (last.Refusal ClientMessageTooLong) h = granted_had
-  lease_ends (last.Refusal MalformedServerMessage) h = granted_had
-  lease_ends (last.Refusal ServerFailed) h = granted_had
-  lease_ends (last.Refusal OutOfMemory) h = tt
-  lease_ends (last.Refusal TooManyClients) h = absurd h
-  lease_ends (last.Refusal UnsupportedProtocol) h = absurd h
-  lease_ends (last.Refusal UnsupportedParameter) h = absurd h
-  lease_ends (last.Refusal WaitedTooLong) h = absurd h
-  lease_ends (last.Refusal ServerNotReached) h = absurd h
-  lease_ends (last.Refusal ShuttingDown) h = absurd h
-  lease_ends (last.Refusal LastDecision) h = absurd h
-  lease_ends (last.Error error) h = absurd h
+pub unopened_traces : (home : HomeOf) (g : Guest) (p q : PassOf) (e : Ending) → IsUnopened home g e → HadLink AtLease p q × HasLost p q → Traces AtLease p q e
+unopened_traces home g p q ending.Unreached x h = h
+unopened_traces home g p q (ending.Unstarted cause) x h = h
+unopened_traces home g p q ending.Memory x h = tt
+unopened_traces home g p q ending.Left x h = absurd x
+unopened_traces home g p q (ending.Refused r) x h = absurd x
+unopened_traces home g p q ending.Strange x h = absurd x
+unopened_traces home g p q (ending.Relayed r) x h = absurd x
 
-  start_fails : (word : LastWord) → IsUnstarted word → HasLost (one_granted p) q → WordHasTrace AtWait p q word
-  start_fails (last.Refusal ServerNotReached) h l = granted_lost l
-  start_fails (last.Refusal OutOfMemory) h l = tt
-  start_fails (last.Error error) h l = granted_lost l
-  start_fails last.Nothing h l = absurd h
-  start_fails (last.Refusal TooManyClients) h l = absurd h
-  start_fails (last.Refusal UnsupportedProtocol) h l = absurd h
-  start_fails (last.Refusal MalformedClientMessage) h l = absurd h
-  start_fails (last.Refusal UnsupportedParameter) h l = absurd h
-  start_fails (last.Refusal WaitedTooLong) h l = absurd h
-  start_fails (last.Refusal ServerFailed) h l = absurd h
-  start_fails (last.Refusal ShuttingDown) h l = absurd h
-  start_fails (last.Refusal ClientMessageTooLong) h l = absurd h
-  start_fails (last.Refusal MalformedServerMessage) h l = absurd h
-  start_fails (last.Refusal LastDecision) h l = absurd h
+cause_fault : (limit : ℕ) (bytes : List ℕ) (c : StartCause) → IsFaultyWord limit bytes (last_of c)
+cause_fault limit bytes (cause.Refused error) = tt
+cause_fault limit bytes cause.Memory = tt
+cause_fault limit bytes cause.Lost = tt
+cause_fault limit bytes cause.Unanswerable = tt
+cause_fault limit bytes cause.Unexpected = tt
+cause_fault limit bytes cause.Turns = tt
 
-  ends_why : (word : LastWord) → EndsFor (one_granted p) q word → WordHasTrace AtWait p q word
-  ends_why word (inl h) = lease_ends word h
-  ends_why word (inr h) = start_fails word h.0 h.1
-
-pub granted_why : (p mid q : PassOf) (word : LastWord) → mid ≡ one_granted p → shares.Ends mid q → EndsFor mid q word → WordHasTrace AtWait p q word
-granted_why p mid q word e s h = ends_why p q (subst (λ (x : PassOf). shares.Ends x q) e s) word (subst (λ (x : PassOf). EndsFor x q word) e h)
-
-lost_by : (p : PassOf) (g : Gone) → HasLost p (after_loss p g)
-lost_by p gone.Done = λ e. omega arith
-lost_by p gone.Last = λ e. absurd (true≢false e)
-lost_by p gone.Stranger = λ e. absurd (true≢false e)
-
-pub has_lost : (p q : PassOf) (g : Gone) → q ≡ after_loss p g → HasLost p q
-has_lost p q g e = subst (HasLost p) (sym e) (lost_by p g)
-
-pub unstarted_fault : (limit : ℕ) (bytes : List ℕ) (word : LastWord) → IsUnstarted word → IsFaultyWord limit bytes word
-unstarted_fault limit bytes last.Nothing h = tt
-unstarted_fault limit bytes (last.Error error) h = tt
-unstarted_fault limit bytes (last.Refusal TooManyClients) h = tt
-unstarted_fault limit bytes (last.Refusal UnsupportedProtocol) h = tt
-unstarted_fault limit bytes (last.Refusal MalformedClientMessage) h = absurd h
-unstarted_fault limit bytes (last.Refusal UnsupportedParameter) h = tt
-unstarted_fault limit bytes (last.Refusal WaitedTooLong) h = tt
-unstarted_fault limit bytes (last.Refusal ServerFailed) h = tt
-unstarted_fault limit bytes (last.Refusal ServerNotReached) h = tt
-unstarted_fault limit bytes (last.Refusal ShuttingDown) h = tt
-unstarted_fault limit bytes (last.Refusal OutOfMemory) h = tt
-unstarted_fault limit bytes (last.Refusal ClientMessageTooLong) h = absurd h
-unstarted_fault limit bytes (last.Refusal MalformedServerMessage) h = tt
-unstarted_fault limit bytes (last.Refusal LastDecision) h = tt
+pub unopened_fault : (home : HomeOf) (g : Guest) (limit : ℕ) (bytes : List ℕ) (e : Ending) → IsUnopened home g e → IsFaultyWord limit bytes (word_of e)
+unopened_fault home g limit bytes ending.Unreached x = tt
+unopened_fault home g limit bytes (ending.Unstarted c) x = cause_fault limit bytes c
+unopened_fault home g limit bytes ending.Memory x = tt
+unopened_fault home g limit bytes ending.Left x = absurd x
+unopened_fault home g limit bytes (ending.Refused r) x = absurd x
+unopened_fault home g limit bytes ending.Strange x = absurd x
+unopened_fault home g limit bytes (ending.Relayed r) x = absurd x
 
 -- ---- a relay's refusals
 
-fault_ends : (f : FrameFault) → EndsLease (last.Refusal (refusal_by f))
-fault_ends TooShort = tt
-fault_ends TooLong = tt
-fault_ends UnknownType = tt
-fault_ends UnknownCode = tt
+-- one of these four
+abbrev IsRelays : Refusal → Type 0
+IsRelays MalformedClientMessage = Unit {0}
+IsRelays ClientMessageTooLong = Unit {0}
+IsRelays MalformedServerMessage = Unit {0}
+IsRelays ServerFailed = Unit {0}
+IsRelays other = ⊥
 
-client_ends : (e : Ends) (r : Refusal) → refusal_of e ≡ Some r → EndsLease (last.Refusal r)
-client_ends Open r e = absurd cc
-client_ends Last r e = absurd cc
-client_ends (Faulty f) r e =
-    let same : refusal_by f ≡ r = cc in
-    subst (λ (x : Refusal). EndsLease (last.Refusal x)) same (fault_ends f)
+abbrev Relays : Next → Type 0
+Relays n = IfSome (refusal_told n) IsRelays
 
-refusal_ends_lease : (p : Place) (v : RelayView) (r : Refusal) → RefusedBy p v r → EndsLease (last.Refusal r)
-refusal_ends_lease p v r (inl e) = client_ends v.to_link.ends r e
-refusal_ends_lease p v r (inr (inl e)) = subst (λ (x : Refusal). EndsLease (last.Refusal x)) (sym e.0) tt
-refusal_ends_lease p v r (inr (inr e)) = subst (λ (x : Refusal). EndsLease (last.Refusal x)) (sym e.0) tt
+both : (Q : Next → Type 0) (b : Bool) (x y : Next) → Q x → Q y → Q (cond b x y)
+both Q true x y p q = p
+both Q false x y p q = q
 
-answer_ends : (p : Place) (old v : RelayView) (r : Option Refusal) → IsLease p old → IfSome r (λ s. (q : Place) → IsLease q old → AtBorder q v × RefusedBy q v s) → EndsLease (or_nothing r)
-answer_ends p old v None x h = tt
-answer_ends p old v (Some r) x h = refusal_ends_lease p v r (h p x).1
+fault_relays : (f : FrameFault) → IsRelays (refusal_by f)
+fault_relays TooShort = tt
+fault_relays TooLong = tt
+fault_relays UnknownType = tt
+fault_relays UnknownCode = tt
 
-pub relay_ends : (p : Place) (old v : RelayView) (r : Option Refusal) (word : LastWord) → IsLease p old → IfSome r (λ s. (q : Place) → IsLease q old → AtBorder q v × RefusedBy q v s) → word ≡ or_nothing r → EndsLease word
-relay_ends p old v r word x h e = subst EndsLease (sym e) (answer_ends p old v r x h)
+refused_relays : (e : Ends) (n : Next) → Relays n → Relays (refused (refusal_of e) n)
+refused_relays Open n h = h
+refused_relays Last n h = h
+refused_relays (Faulty f) n h = fault_relays f
 
+quiet_relays : (v : RelayView) → Relays (quiet_next true v)
+quiet_relays v =
+    both Relays (v.to_client.rest == 0) _ _
+    (refused_relays v.to_link.ends _ (both Relays (is_faulty v.to_client.ends) _ _ tt (both Relays v.flags.link_over _ _ tt tt)))
+    (both Relays v.flags.link_over _ _ tt tt)
+
+judged_relays : (v : RelayView) → IfSome (refusal_at v) IsRelays
+judged_relays v = both Relays (is_done v) _ _ tt (both Relays (is_quiet v) _ _ (quiet_relays v) tt)
+
+-- whether anything moved makes no difference to it
+same_told : (none : Bool) (v : RelayView) → refusal_told (judged none v) ≡ refusal_at v
+same_told true v = refl
+same_told false v = two (is_done v) _ _ _ _ refl (two (is_quiet v) _ _ _ _ quiet refl)
+  where
+    two : (b : Bool) (x y u w : Next) → refusal_told x ≡ refusal_told u → refusal_told y ≡ refusal_told w → refusal_told (cond b x y) ≡ refusal_told (cond b u w)
+    two true x y u w e f = e
+    two false x y u w e f = f
+
+    ends : (e : Ends) (x u : Next) → refusal_told x ≡ refusal_told u → refusal_told (refused (refusal_of e) x) ≡ refusal_told (refused (refusal_of e) u)
+    ends Open x u e = e
+    ends Last x u e = e
+    ends (Faulty f) x u e = refl
+
+    quiet : refusal_told (quiet_next false v) ≡ refusal_told (quiet_next true v)
+    quiet =
+        two (v.to_client.rest == 0) _ _ _ _
+        (ends v.to_link.ends _ _ (two (is_faulty v.to_client.ends) _ _ _ _ refl (two v.flags.link_over _ _ _ _ refl refl)))
+        (two v.flags.link_over _ _ _ _ refl refl)
+
+-- what a pump's answer refuses by
+pub told_by_pump : (n : Next) (v : RelayView) → (none : Bool) × (n ≡ judged none v) → refusal_told n ≡ refusal_at v
+told_by_pump n v x = ap refusal_told x.1 ∙ same_told x.0 v
+
+-- ---- the trace of the last word
+
+module _ (p q : PassOf) where
+  cause_traces : (c : StartCause) → HadLink AtArrival p q × HasLost p q → WordHasTrace AtArrival p q (last_of c)
+  cause_traces (cause.Refused error) h = h
+  cause_traces cause.Memory h = tt
+  cause_traces cause.Lost h = h
+  cause_traces cause.Unanswerable h = h
+  cause_traces cause.Unexpected h = h
+  cause_traces cause.Turns h = h
+
+  relay_trace : (r : Refusal) → IsRelays r → HadLink AtArrival p q → HasTrace AtArrival p q r
+  relay_trace MalformedClientMessage x h = h
+  relay_trace ClientMessageTooLong x h = h
+  relay_trace MalformedServerMessage x h = h
+  relay_trace ServerFailed x h = h
+  relay_trace TooManyClients x h = absurd x
+  relay_trace UnsupportedProtocol x h = absurd x
+  relay_trace UnsupportedParameter x h = absurd x
+  relay_trace WaitedTooLong x h = absurd x
+  relay_trace ServerNotReached x h = absurd x
+  relay_trace ShuttingDown x h = absurd x
+  relay_trace OutOfMemory x h = absurd x
+  relay_trace LastDecision x h = absurd x
+
+  relayed_word : (r : Option Refusal) → IfSome r IsRelays → HadLink AtArrival p q → WordHasTrace AtArrival p q (or_nothing r)
+  relayed_word None x h = tt
+  relayed_word (Some r) x h = relay_trace r x h
+
+  pub word_traces : (home : HomeOf) (v : LoginView) (after : ClientFacts) (e : Ending) → CameIn home v after e → Traces AtArrival p q e → WordHasTrace AtArrival p q (word_of e)
+  word_traces home v after ending.Left c h = tt
+  word_traces home v after (ending.Refused r) c h = h.1
+  word_traces home v after ending.Memory c h = tt
+  word_traces home v after ending.Strange c h = tt
+  word_traces home v after ending.Unreached c h = h
+  word_traces home v after (ending.Unstarted cause) c h = cause_traces cause h
+  word_traces home v after (ending.Relayed r) c h = relayed_word r (subst (λ (o : Option Refusal). IfSome o IsRelays) (sym c.lease.relayed.told) (judged_relays c.lease.relayed.view)) h
+
+-- what was relayed, at fault
 faulty_by : (limit : ℕ) (bytes : List ℕ) (f : FrameFault) → IsAtFault limit bytes (refusal_by f) → IsFaulty limit bytes (refusal_by f)
 faulty_by limit bytes TooShort x = x
 faulty_by limit bytes TooLong x = x

@@ -6,3 +6,5 @@ pub mod Owing
 pub mod Stopping
 pub mod Logging
 pub mod Giving
+pub mod Leases
+pub mod Pumping

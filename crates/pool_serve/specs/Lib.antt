@@ -3,3 +3,5 @@ pub mod Shares
 pub mod Backs
 pub mod Causes
 pub mod Serving
+pub mod Endings
+pub mod Stays

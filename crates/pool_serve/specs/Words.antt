@@ -8,6 +8,8 @@ use Rattle.link_start.specs.declared.start.StartCause.{StartCause}
 use Rattle.link_start.specs.declared.start.StartCause.TheVariants as cause
 use Rattle.login_run.specs.Runs.{IsClientOver}
 use Rattle.pool_serve.specs.declared.TheConstants.{TURNS}
+use Rattle.pool_serve.specs.declared.ending.Ending.{Ending}
+use Rattle.pool_serve.specs.declared.ending.Ending.TheVariants as ending
 use Rattle.pool_serve.specs.declared.word.LastWord.{LastWord}
 use Rattle.pool_serve.specs.declared.word.LastWord.TheVariants as last
 
@@ -28,6 +30,16 @@ last_of cause.Lost = last.Refusal ServerNotReached
 last_of cause.Unanswerable = last.Refusal ServerNotReached
 last_of cause.Unexpected = last.Refusal ServerNotReached
 last_of cause.Turns = last.Refusal ServerNotReached
+
+-- what a client is told last whose time at the desk ended so
+abbrev pub word_of : Ending → LastWord
+word_of ending.Left = last.Nothing
+word_of (ending.Refused r) = last.Refusal r
+word_of ending.Memory = last.Refusal OutOfMemory
+word_of ending.Strange = last.Nothing
+word_of ending.Unreached = last.Refusal ServerNotReached
+word_of (ending.Unstarted cause) = last_of cause
+word_of (ending.Relayed r) = or_nothing r
 
 -- So many of these bytes were given: all, unless the client's end ended or faulted, or so many times as `TURNS` bytes went or none did.
 pub record HasGiven (old new : ClientFacts) (bytes : List ℕ) : Type 0 where

@@ -5,10 +5,8 @@ use message_view::KeyWord;
 use start_keys::StartKey;
 use std::sync::Arc;
 
-/// A client that is through its login: its number in the book, its start key, its key word, and the login, whose settings and
-/// users it keeps.
+/// A client that is through its login: its start key, its key word, and the login, whose settings and users it keeps.
 pub(crate) struct Guest {
-    pub number: u64,
     pub key: Arc<StartKey>,
     pub word: KeyWord,
     pub login: Login,
@@ -17,7 +15,6 @@ pub(crate) struct Guest {
 impl Drop for Guest {
     fn drop(self) {
         let Guest {
-            number: _,
             key: _,
             word: _,
             login: _,

@@ -1,24 +1,24 @@
 //! A link for a client, and its lease.
-ghost use Rattle.std.specs.Prelude.{◌≡◌, Some, true};
+ghost use Rattle.std.specs.Prelude.{◌≡◌, IsSome, None, Some};
 ghost use Rattle.std.specs.Arc.{arc_value};
 ghost use Rattle.start_keys.specs.Keys.{same_key};
 ghost use Rattle.link_desk.specs.Homes.{IsAtHome};
-ghost use Rattle.pool_serve.specs.Causes.{AtAsking, AtWait, EndsFor, WordHasTrace};
-ghost use Rattle.pool_serve.specs.Serving.{IsGuest, LetsIn, Serves, limit_of, owed};
+ghost use Rattle.link_desk.specs.Passes.{lease_of};
+ghost use Rattle.pool_serve.specs.Causes.{AtAsking, AtLease, AtWait};
+ghost use Rattle.pool_serve.specs.Endings.{Frees, HasEnded, HasLeased};
+ghost use Rattle.pool_serve.specs.Serving.{IsGuest};
 ghost use Rattle.pool_serve.specs.Shares.{Ends, Evens};
 
+use crate::ending::Ending;
 use crate::guest::Guest;
 use crate::opening::open_link;
-use crate::relaying::relayed;
-use crate::word::LastWord;
+use crate::worker::Worker;
 use link_desk::answers::{Asked, Grant};
 use link_desk::desk::LinkDesk;
 use link_run::links::CleanLink;
 use link_start::close::close_link;
-use message_view::Refusal;
 use server_end::gate::Gate;
 use server_end::{ClientEnd, ServerEnd};
-use std::alloc::Global;
 
 /// Whether a link's session is of a client's key.
 fn is_for<E: ServerEnd>(link: &CleanLink<E>, guest: &Guest) -> bool
@@ -27,125 +27,96 @@ fn is_for<E: ServerEnd>(link: &CleanLink<E>, guest: &Guest) -> bool
     **link.key() == *guest.key
 }
 
-/// The same link; from here on the gate's turns tell of its end.
-fn watched<E: ServerEnd, G: Gate<E>>(link: CleanLink<E>, gate: &mut G) -> CleanLink<E>
-    ensures { result ≡ link }
-{
-    let mut lent = link.lend();
-    gate.watch(&mut lent.end);
-    lent.clean()
-}
-
-/// Serves a client over a link that was idle. One with another key than the client's is closed, and the client isn't served.
-fn over_lent<C: ClientEnd, D: LinkDesk, G: Gate<D::End>>(
-    alloc: Global,
-    desk: &D,
-    pass: &mut D::Pass,
-    client: C,
-    guest: &Guest,
-    link: CleanLink<D::End>,
-    gate: &mut G,
-) -> (C, LastWord)
-    requires home { IsAtHome D.home link }
-    requires guest { IsGuest guest.now }
-    ensures tells { (C.facts result.0).tells ≡ (C.facts client).tells }
-    ensures share { Ends (D.told pass.old) (D.told pass.new) }
-    ensures whose { D.whose pass.new ≡ D.whose pass.old }
-    ensures why { EndsFor (D.told pass.old) (D.told pass.new) result.1 }
-    ensures serves { (C.facts client).tells ≡ true → LetsIn D.home guest.now.login.users → Serves (limit_of guest.now) D.home.strikable (C.facts client) (C.facts result.0) (owed D.home.catalogue guest.now) result.1 }
-{
-    if !is_for(&link, guest) {
-        let number = link.number();
-        close_link(link);
-        desk.lost(pass, number);
-        return (client, LastWord::Nothing);
-    }
-    let link = watched(link, gate);
-    relayed(alloc, desk, pass, client, guest, link, gate)
-}
-
-/// Serves a client over a new link.
-fn over_new<C: ClientEnd, D: LinkDesk, G: Gate<D::End>>(
-    alloc: Global,
-    desk: &D,
-    pass: &mut D::Pass,
-    client: C,
-    guest: &Guest,
-    number: u64,
-    born: u64,
-    gate: &mut G,
-) -> (C, LastWord)
-    requires guest { IsGuest guest.now }
-    ensures tells { (C.facts result.0).tells ≡ (C.facts client).tells }
-    ensures share { Ends (D.told pass.old) (D.told pass.new) }
-    ensures whose { D.whose pass.new ≡ D.whose pass.old }
-    ensures why { EndsFor (D.told pass.old) (D.told pass.new) result.1 }
-    ensures serves { (C.facts client).tells ≡ true → LetsIn D.home guest.now.login.users → Serves (limit_of guest.now) D.home.strikable (C.facts client) (C.facts result.0) (owed D.home.catalogue guest.now) result.1 }
-{
-    match open_link(alloc, desk, guest, number, born, gate) {
-        Ok(link) => relayed(alloc, desk, pass, client, guest, link, gate),
-        Err(last) => {
-            desk.start_failed(pass, number);
-            (client, last)
+impl<'a, D: LinkDesk, G: Gate<D::End>> Worker<'a, D, G> {
+    /// Serves a client over a link that was idle. One with another key than the client's is closed, and the client isn't served.
+    fn over_lent<C: ClientEnd>(
+        &mut self,
+        client: C,
+        guest: &Guest,
+        link: CleanLink<D::End>,
+    ) -> (C, Ending)
+        requires home { IsAtHome D.home link }
+        requires own { (D.holder self.old.pass).lease ≡ Some (lease_of link) }
+        requires guest { IsGuest guest.now }
+        ensures share { Ends (D.told self.old.pass) (D.told self.new.pass) }
+        ensures frees { Frees (D.holder self.old.pass) (D.holder self.new.pass) result.1 }
+        ensures ended { HasEnded D.home guest.now AtLease (D.told self.old.pass) (D.told self.new.pass) (C.facts client) (C.facts result.0) result.1 }
+    {
+        let mut link = link;
+        if !is_for(&link, guest) {
+            close_link(link);
+            self.desk.lost(&mut self.pass);
+            return (client, Ending::Strange);
         }
+        link.watch(&mut self.gate);
+        self.relay(client, guest, link)
     }
-}
 
-/// Serves a client that has its ticket: waits for its link.
-fn granted<C: ClientEnd, D: LinkDesk, G: Gate<D::End>>(
-    alloc: Global,
-    desk: &D,
-    pass: &mut D::Pass,
-    client: C,
-    guest: &Guest,
-    gate: &mut G,
-) -> (C, LastWord)
-    requires guest { IsGuest guest.now }
-    requires own { D.whose pass.old ≡ Some guest.now.number }
-    ensures tells { (C.facts result.0).tells ≡ (C.facts client).tells }
-    ensures share { Evens (D.told pass.old) (D.told pass.new) }
-    ensures whose { D.whose pass.new ≡ D.whose pass.old }
-    ensures why { WordHasTrace AtWait (D.told pass.old) (D.told pass.new) result.1 }
-    ensures serves { (C.facts client).tells ≡ true → LetsIn D.home guest.now.login.users → Serves (limit_of guest.now) D.home.strikable (C.facts client) (C.facts result.0) (owed D.home.catalogue guest.now) result.1 }
-{
-    match desk.take(pass, guest.number) {
-        Grant::Lend(link) => over_lent(alloc, desk, pass, client, guest, link, gate),
-        Grant::Start {
-            number,
-            born,
-            evicted,
-        } => {
-            if let Some(link) = evicted {
-                close_link(link);
+    /// Serves a client over a new link.
+    fn over_new<C: ClientEnd>(
+        &mut self,
+        client: C,
+        guest: &Guest,
+        number: u64,
+        born: u64,
+    ) -> (C, Ending)
+        requires own { (D.holder self.old.pass).lease ≡ Some (record { number = number; born = born }) }
+        requires guest { IsGuest guest.now }
+        ensures share { Ends (D.told self.old.pass) (D.told self.new.pass) }
+        ensures frees { Frees (D.holder self.old.pass) (D.holder self.new.pass) result.1 }
+        ensures ended { HasEnded D.home guest.now AtLease (D.told self.old.pass) (D.told self.new.pass) (C.facts client) (C.facts result.0) result.1 }
+    {
+        match open_link(self.alloc, self.desk, guest, number, born, &mut self.gate) {
+            Ok(link) => self.relay(client, guest, link),
+            Err(ending) => {
+                self.desk.start_failed(&mut self.pass);
+                (client, ending)
             }
-            over_new(alloc, desk, pass, client, guest, number, born, gate)
         }
-        Grant::Refused(refusal) => (client, LastWord::Refusal(refusal)),
-        Grant::Stranger => (client, LastWord::Nothing),
     }
-}
 
-/// Serves a client that is through its login: asks for a link.
-pub(crate) fn lease<C: ClientEnd, D: LinkDesk, G: Gate<D::End>>(
-    alloc: Global,
-    desk: &D,
-    pass: &mut D::Pass,
-    client: C,
-    guest: &Guest,
-    gate: &mut G,
-) -> (C, LastWord)
-    requires guest { IsGuest guest.now }
-    requires own { D.whose pass.old ≡ Some guest.now.number }
-    ensures tells { (C.facts result.0).tells ≡ (C.facts client).tells }
-    ensures share { Evens (D.told pass.old) (D.told pass.new) }
-    ensures whose { D.whose pass.new ≡ D.whose pass.old }
-    ensures why { WordHasTrace AtAsking (D.told pass.old) (D.told pass.new) result.1 }
-    ensures serves { (C.facts client).tells ≡ true → LetsIn D.home guest.now.login.users → Serves (limit_of guest.now) D.home.strikable (C.facts client) (C.facts result.0) (owed D.home.catalogue guest.now) result.1 }
-{
-    match desk.ask(pass, guest.number, &guest.key) {
-        Asked::Queued(_) => granted(alloc, desk, pass, client, guest, gate),
-        Asked::Refused(refusal) => (client, LastWord::Refusal(refusal)),
-        Asked::Memory => (client, LastWord::Refusal(Refusal::OutOfMemory)),
-        Asked::Stranger => (client, LastWord::Nothing),
+    /// Serves a client that has its ticket: waits for its link.
+    fn wait<C: ClientEnd>(&mut self, client: C, guest: &Guest) -> (C, Ending)
+        requires guest { IsGuest guest.now }
+        requires here { IsSome (D.holder self.old.pass).client }
+        requires none { (D.holder self.old.pass).lease ≡ None }
+        requires unrefused { (D.holder self.old.pass).refused ≡ None }
+        ensures share { Evens (D.told self.old.pass) (D.told self.new.pass) }
+        ensures leased { HasLeased (D.holder self.old.pass) (D.holder self.new.pass) result.1 }
+        ensures ended { HasEnded D.home guest.now AtWait (D.told self.old.pass) (D.told self.new.pass) (C.facts client) (C.facts result.0) result.1 }
+    {
+        match self.desk.take(&mut self.pass) {
+            Grant::Lend(link) => self.over_lent(client, guest, link),
+            Grant::Start {
+                number,
+                born,
+                evicted,
+            } => {
+                if let Some(link) = evicted {
+                    close_link(link);
+                }
+                self.over_new(client, guest, number, born)
+            }
+            Grant::Refused(refusal) => (client, Ending::Refused(refusal)),
+            Grant::Stranger => (client, Ending::Strange),
+        }
+    }
+
+    /// Serves a client that is through its login: asks for a link.
+    pub(crate) fn lease<C: ClientEnd>(&mut self, client: C, guest: &Guest) -> (C, Ending)
+        requires guest { IsGuest guest.now }
+        requires here { IsSome (D.holder self.old.pass).client }
+        requires none { (D.holder self.old.pass).lease ≡ None }
+        requires unrefused { (D.holder self.old.pass).refused ≡ None }
+        ensures share { Evens (D.told self.old.pass) (D.told self.new.pass) }
+        ensures leased { HasLeased (D.holder self.old.pass) (D.holder self.new.pass) result.1 }
+        ensures ended { HasEnded D.home guest.now AtAsking (D.told self.old.pass) (D.told self.new.pass) (C.facts client) (C.facts result.0) result.1 }
+    {
+        match self.desk.ask(&mut self.pass, &guest.key) {
+            Asked::Queued(_) => self.wait(client, guest),
+            Asked::Refused(refusal) => (client, Ending::Refused(refusal)),
+            Asked::Memory => (client, Ending::Memory),
+            Asked::Stranger => (client, Ending::Strange),
+        }
     }
 }

@@ -6,8 +6,10 @@ mod guest;
 mod leasing;
 mod opening;
 mod relaying;
+mod returning;
 pub mod serve;
 mod word;
+mod worker;
 
 /// The turns that a start, a reset, a last word and a pause in a client's dialogue may each take: a minute of waits, where a gate's turn
 /// waits for 100 ms.

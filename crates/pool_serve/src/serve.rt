@@ -1,18 +1,21 @@
 //! One client, from its first byte to its end.
-ghost use Rattle.std.specs.Prelude.{◌≡◌, Bool, List, [], None, Some, false, true};
+ghost use Rattle.std.specs.Prelude.{◌≡◌, ◌⊎◌, Bool, IsSome, List, [], None, false, true};
 ghost use Rattle.ini_config.specs.Bounds.{AreWithinBounds};
 ghost use Rattle.login_core.specs.Dialogue.{AtFirst};
 ghost use Rattle.login_core.specs.Logins.{AwaitsPacket};
 ghost use Rattle.login_run.specs.Laws.{AllowedBy, own};
 ghost use Rattle.login_run.specs.Runs.{Arrived, IsAllGiven, IsSameLogin};
-ghost use Rattle.pool_serve.specs.Causes.{AtArrival, AtAsking, HasCause, WordHasTrace};
+ghost use Rattle.pool_serve.specs.Causes.{AtArrival, AtAsking, HasCause};
+ghost use Rattle.pool_serve.specs.Endings.{HasLeased, Traces, refusal_in};
 ghost use Rattle.pool_serve.specs.Serving.{AreMarksOf, HasStopped, IsServed, LetsIn};
 ghost use Rattle.pool_serve.specs.Shares.{Evens, Settles};
+ghost use Rattle.pool_serve.specs.Stays.{CameIn, IsOver, IsUntouched};
+ghost use Rattle.pool_serve.specs.Words.{word_of};
 
 use crate::TURNS;
+use crate::ending::Ending;
 use crate::guest::Guest;
-use crate::leasing::lease;
-use crate::word::LastWord;
+use crate::worker::Worker;
 use link_desk::answers::Arrival;
 use link_desk::desk::LinkDesk;
 use login_core::Login;
@@ -56,85 +59,72 @@ fn converse<C: ClientEnd, E: ServerEnd, G: Gate<E>>(
     LoginTurn::Over
 }
 
-/// Serves a client that has arrived, with this number. One whose dialogue doesn't go on for [`TURNS`] turns is closed.
-fn attend<C: ClientEnd, D: LinkDesk, G: Gate<D::End>>(
-    alloc: Global,
-    desk: &D,
-    pass: &mut D::Pass,
-    run: LoginRun<C>,
-    number: u64,
-    word: KeyWord,
-    gate: &mut G,
-) -> (C, LastWord)
-    requires settings { AreWithinBounds run.login.settings }
-    requires word { run.login.word ≡ word }
-    requires own { D.whose pass.old ≡ Some number }
-    ensures tells { (C.facts result.0).tells ≡ run.client.tells }
-    ensures share { Evens (D.told pass.old) (D.told pass.new) }
-    ensures whose { D.whose pass.new ≡ D.whose pass.old }
-    ensures why { WordHasTrace AtAsking (D.told pass.old) (D.told pass.new) result.1 }
-    ensures serves { run.client.tells ≡ true → LetsIn D.home run.login.users → IsServed D.home run.login (C.facts result.0) result.1 }
-{
-    bounded_rows_are_lawful();
-    passed_keys_are_link_keys();
-    passed_keys_are_of_their_rows();
-    runs_are_allowed();
-    passed_runs_are_let_in();
-    passed_runs_have_passed();
-    let mut run = run;
-    match converse(alloc, &mut run, gate, Some(TURNS)) {
-        LoginTurn::Passed => {}
-        _ => {
-            let (client, _, _) = run.finish();
-            return (client, LastWord::Nothing);
+impl<'a, D: LinkDesk, G: Gate<D::End>> Worker<'a, D, G> {
+    /// Serves the client that has arrived. One whose dialogue doesn't go on for [`TURNS`] turns is closed.
+    fn attend<C: ClientEnd>(&mut self, run: LoginRun<C>, word: KeyWord) -> (C, Ending)
+        requires settings { AreWithinBounds run.login.settings }
+        requires word { run.login.word ≡ word }
+        requires here { IsSome (D.holder self.old.pass).client }
+        requires none { (D.holder self.old.pass).lease ≡ None }
+        requires unrefused { (D.holder self.old.pass).refused ≡ None }
+        ensures tells { (C.facts result.0).tells ≡ run.client.tells }
+        ensures share { Evens (D.told self.old.pass) (D.told self.new.pass) }
+        ensures leased { HasLeased (D.holder self.old.pass) (D.holder self.new.pass) result.1 }
+        ensures traces { Traces AtAsking (D.told self.old.pass) (D.told self.new.pass) result.1 }
+        ensures came { CameIn D.home run.login (C.facts result.0) result.1 }
+        ensures serves { run.client.tells ≡ true → LetsIn D.home run.login.users → IsServed D.home run.login (C.facts result.0) (word_of result.1) }
+    {
+        bounded_rows_are_lawful();
+        passed_keys_are_link_keys();
+        passed_keys_are_of_their_rows();
+        runs_are_allowed();
+        passed_runs_are_let_in();
+        passed_runs_have_passed();
+        let mut run = run;
+        match converse(self.alloc, &mut run, &mut self.gate, Some(TURNS)) {
+            LoginTurn::Passed => {}
+            _ => {
+                let (client, _, _) = run.finish();
+                return (client, Ending::Left);
+            }
+        }
+        let (client, login, key) = run.finish();
+        match key {
+            Some(key) => self.lease(client, &Guest { key, word, login }),
+            None => (client, Ending::Left),
         }
     }
-    let (client, login, key) = run.finish();
-    match key {
-        Some(key) => {
-            let guest = Guest {
-                number,
-                key,
-                word,
-                login,
-            };
-            lease(alloc, desk, pass, client, &guest, gate)
-        }
-        None => (client, LastWord::Nothing),
-    }
-}
 
-/// Lets a client that arrives in, and serves it.
-fn admit<C: ClientEnd, D: LinkDesk, G: Gate<D::End>>(
-    alloc: Global,
-    desk: &D,
-    pass: &mut D::Pass,
-    run: LoginRun<C>,
-    word: KeyWord,
-    gate: &mut G,
-) -> (C, LastWord)
-    requires arrived { run.phase ≡ Arrived }
-    requires given { IsAllGiven run }
-    requires settings { AreWithinBounds run.login.settings }
-    requires word { run.login.word ≡ word }
-    ensures tells { (C.facts result.0).tells ≡ run.client.tells }
-    ensures share { Settles (D.told pass.old) (D.told pass.new) }
-    ensures gone { D.whose pass.old ≡ None → D.whose pass.new ≡ None }
-    ensures why { WordHasTrace AtArrival (D.told pass.old) (D.told pass.new) result.1 }
-    ensures serves { run.client.tells ≡ true → LetsIn D.home run.login.users → IsServed D.home run.login (C.facts result.0) result.1 }
-{
-    runs_stand_at_pieces();
-    match desk.arrive(pass) {
-        Arrival::Client(number) => {
-            let mut run = run;
-            run.go_on(alloc);
-            let served = attend(alloc, desk, pass, run, number, word, gate);
-            desk.leave(pass, number);
-            served
-        }
-        Arrival::Refused(refusal) => {
-            let (client, _, _) = run.finish();
-            (client, LastWord::Refusal(refusal))
+    /// Lets a client that arrives in, and serves it.
+    fn admit<C: ClientEnd>(&mut self, run: LoginRun<C>, word: KeyWord) -> (C, Ending)
+        requires arrived { run.phase ≡ Arrived }
+        requires given { IsAllGiven run }
+        requires settings { AreWithinBounds run.login.settings }
+        requires word { run.login.word ≡ word }
+        requires free { (D.holder self.old.pass).client ≡ None }
+        requires none { (D.holder self.old.pass).lease ≡ None }
+        ensures tells { (C.facts result.0).tells ≡ run.client.tells }
+        ensures share { Settles (D.told self.old.pass) (D.told self.new.pass) }
+        ensures free { (D.holder self.new.pass).client ≡ None }
+        ensures none { (D.holder self.new.pass).lease ≡ None }
+        ensures refused { (D.holder self.new.pass).refused ≡ refusal_in result.1 }
+        ensures traces { Traces AtArrival (D.told self.old.pass) (D.told self.new.pass) result.1 }
+        ensures came { CameIn D.home run.login (C.facts result.0) result.1 }
+        ensures serves { run.client.tells ≡ true → LetsIn D.home run.login.users → IsServed D.home run.login (C.facts result.0) (word_of result.1) }
+    {
+        runs_stand_at_pieces();
+        match self.desk.arrive(&mut self.pass) {
+            Arrival::Client(_) => {
+                let mut run = run;
+                run.go_on(self.alloc);
+                let served = self.attend(run, word);
+                self.desk.leave(&mut self.pass);
+                served
+            }
+            Arrival::Refused(refusal) => {
+                let (client, _, _) = run.finish();
+                (client, Ending::Refused(refusal))
+            }
         }
     }
 }
@@ -150,7 +140,11 @@ fn admit<C: ClientEnd, D: LinkDesk, G: Gate<D::End>>(
 /// end tells which); and a refusal in it has its cause: it is the login's own, or for memory, or the pass tells its trace (a refusal
 /// by the desk, a link that was lent, one that was lost), and a message of the client's that is refused is none under the limit. The
 /// traces hold unless a call of the desk was answered by the last decision or as strange. With the same exception, as many links were
-/// granted as given back or lost, and as many clients arrived as left. Where no client was in the pass, none is in it afterwards.
+/// granted as given back or lost, and as many clients arrived as left.
+///
+/// Whether it tells or not, the client's last word is that of how its time at the desk ended: the desk's own refusal, the cause for
+/// which its link wasn't started, or the refusal that its relay's last answer tells. It is given whole, unless the client's end ended
+/// or faulted or took nothing for [`TURNS`] turns. No client is in the pass before, and none afterwards.
 pub fn serve<C: ClientEnd, D: LinkDesk, G: Gate<D::End> + Drop>(
     alloc: Global,
     desk: &D,
@@ -166,13 +160,16 @@ pub fn serve<C: ClientEnd, D: LinkDesk, G: Gate<D::End> + Drop>(
     requires settings { AreWithinBounds login.settings }
     requires taken { (C.facts client).tells ≡ true → (C.facts client).taken ≡ [] }
     requires given { (C.facts client).tells ≡ true → (C.facts client).given ≡ [] }
+    requires free { (D.holder pass).client ≡ None }
+    requires none { (D.holder pass).lease ≡ None }
     ensures tells { (C.facts result.0).tells ≡ (C.facts client).tells }
     ensures allowed { (C.facts client).tells ≡ true → LetsIn D.home login.users → (marks : List Bool) × (AreMarksOf D.home.strikable marks × AllowedBy (HasCause login (C.facts result.0).taken (D.told pass) (D.told result.1)) (C.facts result.0).given (own D.home.catalogue login marks (C.facts result.0).taken)) }
     ensures share { Settles (D.told pass) (D.told result.1) }
-    ensures gone { D.whose pass ≡ None → D.whose result.1 ≡ None }
+    ensures free { (D.holder result.1).client ≡ None }
+    ensures none { (D.holder result.1).lease ≡ None }
+    ensures over { IsUntouched (D.told pass) (D.told result.1) (D.holder pass) (D.holder result.1) ⊎ IsOver D.home login (D.told pass) (D.told result.1) (D.holder result.1) (C.facts result.0) }
 {
     runs_are_allowed();
-    let mut pass = pass;
     let mut gate = gate;
     let mut run = LoginRun::new(client, login);
     // a client that hasn't come yet takes no place in the book
@@ -183,7 +180,19 @@ pub fn serve<C: ClientEnd, D: LinkDesk, G: Gate<D::End> + Drop>(
             return (client, pass);
         }
     }
-    let (mut client, last) = admit(alloc, desk, &mut pass, run, word, &mut gate);
-    last.tell(&mut client, &mut gate);
+    let mut worker = Worker {
+        alloc,
+        desk,
+        pass,
+        gate,
+    };
+    let (mut client, ending) = worker.admit(run, word);
+    ending.into_word().tell(&mut client, &mut worker.gate);
+    let Worker {
+        alloc: _,
+        desk: _,
+        pass,
+        gate: _,
+    } = worker;
     (client, pass)
 }

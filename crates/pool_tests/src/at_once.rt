@@ -7,7 +7,7 @@ ghost use Rattle.memory_dial.specs.Homes.{IsEverywhere};
 
 use crate::files::catalogue;
 use crate::noted_ends::{HoldingGate, NotedClient, Notes};
-use crate::worker_parts::{CUT, WELCOME, limits, login, serve_by, word};
+use crate::worker_parts::{CUT, TestRuntime, WELCOME, limits, login, serve_by, word};
 use desk_tallies::ledgers::Ledgers;
 use desk_tallies::passes::Pass;
 use desk_tallies::tallies::Blanks;
@@ -19,11 +19,10 @@ use server_end::gate::{Gate, OpenGate};
 use session_catalogue::Catalogue;
 use std::alloc::{AllocError, Global};
 use std::marker::Brand;
-use std::rt::Clock;
 use std::sync::atomic::AtomicBool;
 use std::sync::{Arc, Wait};
 use std::test::Fail;
-use std::thread::{Threads, join};
+use std::thread::join;
 
 /// What each client sends: Ann's StartupMessage for the database shop, and `SHOW application_name`.
 const INPUT: &[u8] =
@@ -39,11 +38,9 @@ struct One<'a> {
     given: &'a AtomicBool,
 }
 
-/// Serves this client: how many bytes it was given at its end.
+/// Serves this client: how many bytes it was given at its end; none, where memory is refused.
 fn served<'a, T: Gate<MemoryServer> + Drop, N: Naming, K: Ledgers, R: Wait>(
-    rt: &R,
-    desk: &Desk<MemoryDial<N>, K>,
-    dialer: &MemoryDial<N>,
+    desk: &Desk<R, MemoryDial<N>, K>,
     pass: Pass<K>,
     one: One<'a>,
     gate: T,
@@ -55,15 +52,15 @@ fn served<'a, T: Gate<MemoryServer> + Drop, N: Naming, K: Ledgers, R: Wait>(
         given: one.given,
     };
     let login = login(alloc, one.number)?;
-    let (client, _pass) = serve_by(
-        rt, alloc, desk, dialer, pass, client, login, one.number, gate,
-    );
-    Ok(client.client.given().len())
+    match serve_by(alloc, desk, pass, client, login, one.number, gate) {
+        Some((client, _)) => Ok(client.client.given().len()),
+        None => Ok(0),
+    }
 }
 
 /// Whether the second client was answered while the first one's gate kept its turn, and how much the first was given.
-fn at_once<N: Naming + Send + Sync, K: Ledgers + Send + Sync, R: Threads + Wait + Clock + Sync>(
-    rt: &R,
+fn at_once<N: Naming + Send + Sync, K: Ledgers + Send + Sync, R: TestRuntime>(
+    rt: R,
     alloc: Global,
     catalogue: Arc<Catalogue>,
     blanks: Blanks,
@@ -74,11 +71,15 @@ fn at_once<N: Naming + Send + Sync, K: Ledgers + Send + Sync, R: Threads + Wait 
     requires all { parts_of blanks ≡ of_each ALL_PARTS }
 {
     let dialer = MemoryDial::<N>::new(alloc, catalogue, word(7), CUT);
-    let desk = Desk::<MemoryDial<N>, K>::new(alloc, limits(alloc, 100)?, blanks)?;
-    let first_pass = desk.pass(rt).ok_or("no pass")?;
-    let second_pass = desk.pass(rt).ok_or("no pass")?;
+    let limits = limits(alloc, 100, 2)?;
+    let desk = Desk::<R, MemoryDial<N>, K>::new(rt, alloc, dialer, limits, blanks)?;
+    let first_pass = desk.pass().ok_or("no pass")?;
+    let second_pass = desk.pass().ok_or("no pass")?;
     let notes = Notes::new();
-    let gate = HoldingGate { rt, notes: &notes };
+    let gate = HoldingGate {
+        rt: &rt,
+        notes: &notes,
+    };
     let first = One {
         alloc,
         number: 1,
@@ -92,13 +93,10 @@ fn at_once<N: Naming + Send + Sync, K: Ledgers + Send + Sync, R: Threads + Wait 
         given: &notes.answered,
     };
     let shared = &desk;
-    let servers = &dialer;
     let (first, second) = join(
-        rt,
-        || -> Result<usize, AllocError> { served(rt, shared, servers, first_pass, first, gate) },
-        || -> Result<usize, AllocError> {
-            served(rt, shared, servers, second_pass, second, OpenGate)
-        },
+        &rt,
+        || -> Result<usize, AllocError> { served(shared, first_pass, first, gate) },
+        || -> Result<usize, AllocError> { served(shared, second_pass, second, OpenGate) },
     );
     second?;
     Ok((notes.are_in_time(), first?))
@@ -107,7 +105,7 @@ fn at_once<N: Naming + Send + Sync, K: Ledgers + Send + Sync, R: Threads + Wait 
 #[test]
 fn two_clients_at_once(rt: HostRuntime) -> Result<(), Fail> {
     let (in_time, given) = at_once::<Brand, Brand, HostRuntime>(
-        &rt,
+        rt,
         rt.alloc(),
         catalogue(rt.alloc())?,
         Blanks::new(),

@@ -8,7 +8,11 @@ mod deaths;
 #[cfg(test)]
 mod files;
 #[cfg(test)]
+mod guests;
+#[cfg(test)]
 mod links;
+#[cfg(test)]
+mod meanwhile;
 #[cfg(test)]
 mod noted_ends;
 #[cfg(test)]
@@ -16,9 +20,15 @@ mod play_parts;
 #[cfg(test)]
 mod refusals;
 #[cfg(test)]
-mod silent;
+mod refused_rows;
 #[cfg(test)]
-mod too_many;
+mod rows;
+#[cfg(test)]
+mod served_rows;
+#[cfg(test)]
+mod servers;
+#[cfg(test)]
+mod serving;
 #[cfg(test)]
 mod turns;
 #[cfg(test)]

@@ -67,8 +67,8 @@ struct Story {
 }
 
 /// Both clients, one after the other.
-fn both<N: Naming, K: Ledgers, R: Wait>(
-    rt: &R,
+fn both<N: Naming, K: Ledgers, R: Wait + Drop>(
+    rt: R,
     alloc: Global,
     catalogue: Arc<Catalogue>,
     blanks: Blanks,
@@ -78,16 +78,17 @@ fn both<N: Naming, K: Ledgers, R: Wait>(
     requires parts { K.parts ≡ parts_of blanks }
     requires all { parts_of blanks ≡ of_each ALL_PARTS }
 {
-    let limits = limits(alloc, 100)?;
+    let limits = limits(alloc, 100, 2)?;
     let first = PacedClient::new(alloc, FIRST, CUT)?;
     let second = PacedClient::new(alloc, SECOND, CUT)?;
     let (one, two) = (login(alloc, 1)?, login(alloc, 2)?);
     let dialer = MemoryDial::<N>::new(alloc, catalogue, word(7), CUT);
-    let desk = Desk::<MemoryDial<N>, K>::new(alloc, limits, blanks)?;
-    let pass = desk.pass(rt).ok_or("no pass")?;
-    let (first, pass) = serve_by(rt, alloc, &desk, &dialer, pass, first, one, 1, OpenGate);
-    let (second, mut pass) = serve_by(rt, alloc, &desk, &dialer, pass, second, two, 2, OpenGate);
-    let view = desk.view(rt, alloc, &mut pass)?;
+    let desk = Desk::<R, MemoryDial<N>, K>::new(rt, alloc, dialer, limits, blanks)?;
+    let pass = desk.pass().ok_or("no pass")?;
+    let (first, pass) = serve_by(alloc, &desk, pass, first, one, 1, OpenGate).ok_or("held")?;
+    let (second, pass) = serve_by(alloc, &desk, pass, second, two, 2, OpenGate).ok_or("held")?;
+    let mut pass = pass;
+    let view = desk.view(alloc, &mut pass)?;
     let mut passes = Vec::new(alloc);
     passes.push(pass).ok().ok_or("no memory")?;
     let totals = desk.gather(passes).ok().ok_or("other passes")?;
@@ -103,7 +104,7 @@ fn both<N: Naming, K: Ledgers, R: Wait>(
 #[test]
 fn a_link_comes_back_as_it_was(rt: HostRuntime) -> Result<(), Fail> {
     let story = both::<Brand, Brand, HostRuntime>(
-        &rt,
+        rt,
         rt.alloc(),
         catalogue(rt.alloc())?,
         Blanks::new(),

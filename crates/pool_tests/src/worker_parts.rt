@@ -1,4 +1,4 @@
-//! Logins, limits and servers of the workers.
+//! Logins, limits and keys of the workers, and how they serve.
 ghost use Rattle.std.specs.Prelude.{◌≡◌, [], IfOk, false, true};
 ghost use Rattle.std.specs.Arc.{arc_value};
 ghost use Rattle.ini_config.specs.Bounds.{AreWithinBounds};
@@ -10,17 +10,25 @@ use crate::files::{SHOP, settings_of, users};
 use book_model::limits::{Limits, MOST_CLIENTS};
 use desk_tallies::ledgers::Ledgers;
 use desk_tallies::passes::Pass;
+use link_desk::calls::Holder;
 use login_core::Login;
-use memory_dial::{MemoryDial, Naming};
-use memory_ends::memory_server::MemoryServer;
 use message_view::KeyWord;
 use pool_desk::desk::Desk;
-use pool_desk::handle::{DeskAt, WorkerPass};
+use pool_desk::dial::Dial;
 use pool_serve::serve::serve;
 use server_end::ClientEnd;
 use server_end::gate::Gate;
+use session_values::text::Text;
+use start_keys::StartKey;
 use std::alloc::{AllocError, Global};
+use std::rt::Clock;
 use std::sync::{Arc, Wait};
+use std::thread::Threads;
+
+/// What workers ask of their runtime here: threads that wait, each with a copy of it, and a clock.
+pub(crate) trait TestRuntime: Threads + Wait + Clock + Copy + Send + Sync {}
+
+impl<R: Threads + Wait + Clock + Copy + Send + Sync> TestRuntime for R {}
 
 /// As many bytes as a call of a server or a client moves at most.
 pub(crate) const CUT: usize = 8_192;
@@ -61,13 +69,13 @@ pub(crate) fn login(alloc: Global, number: u32) -> Result<Login, AllocError>
     login_by(alloc, SHOP, number)
 }
 
-/// Limits of so many clients, and of pools of two links.
-pub(crate) fn limits(alloc: Global, clients: u32) -> Result<Arc<Limits>, AllocError> {
+/// Limits of so many clients and pools of so many links, a wait of 5 seconds, a lifetime of 3,600 and an idle timeout of 600.
+pub(crate) fn limits(alloc: Global, clients: u32, pool: u32) -> Result<Arc<Limits>, AllocError> {
     let limits = Limits {
         max_client_conn: clients.min(MOST_CLIENTS),
         max_links: 100,
-        default_pool_size: 2,
-        query_wait_timeout: 120,
+        default_pool_size: pool,
+        query_wait_timeout: 5,
         server_lifetime: 3_600,
         server_idle_timeout: 600,
         row_sizes: Vec::new(alloc),
@@ -75,18 +83,44 @@ pub(crate) fn limits(alloc: Global, clients: u32) -> Result<Arc<Limits>, AllocEr
     Ok(Arc::new(alloc, limits)?)
 }
 
-/// Serves a client by this desk, and hands back its end and the pass.
-pub(crate) fn serve_by<C: ClientEnd, T: Gate<MemoryServer> + Drop, N: Naming, K: Ledgers, R: Wait>(
-    rt: &R,
+/// Ann's key on the database shop.
+pub(crate) fn key(alloc: Global) -> Result<Arc<StartKey>, AllocError> {
+    let key = StartKey {
+        row: Text::from_slice(alloc, b"shop")?,
+        host: Some([127, 0, 0, 1]),
+        port: 5432,
+        dbname: Text::from_slice(alloc, b"shop")?,
+        user: Text::from_slice(alloc, b"ann")?,
+        parameters: Vec::new(alloc),
+    };
+    Ok(Arc::new(alloc, key)?)
+}
+
+/// Whether nobody holds a pass.
+fn is_free<K: Ledgers>(pass: &Pass<K>) -> bool
+    ensures client { result ≡ true → pass.now.holder.client ≡ None }
+    ensures lease { result ≡ true → pass.now.holder.lease ≡ None }
+{
+    matches!(
+        pass.holder(),
+        Holder {
+            client: None,
+            lease: None,
+            ..
+        },
+    )
+}
+
+/// Serves a client by this desk, and hands back its end and the pass; `None` where somebody holds the pass.
+pub(crate) fn serve_by<C: ClientEnd, R: Wait, S: Dial, T: Gate<S::End> + Drop, K: Ledgers>(
     alloc: Global,
-    desk: &Desk<MemoryDial<N>, K>,
-    dialer: &MemoryDial<N>,
+    desk: &Desk<R, S, K>,
     pass: Pass<K>,
     client: C,
     login: Login,
     number: u32,
     gate: T,
-) -> (C, Pass<K>)
+) -> Option<(C, Pass<K>)>
     requires awaiting { login.awaiting ≡ AwaitsPacket (AtFirst false false) }
     requires held { login.held ≡ [] }
     requires word { login.word ≡ key_word number }
@@ -94,14 +128,8 @@ pub(crate) fn serve_by<C: ClientEnd, T: Gate<MemoryServer> + Drop, N: Naming, K:
     requires taken { (C.facts client).tells ≡ true → (C.facts client).taken ≡ [] }
     requires given { (C.facts client).tells ≡ true → (C.facts client).given ≡ [] }
 {
-    let at = DeskAt { rt, desk, dialer };
-    let pass = WorkerPass { pass, client: None };
-    let (client, back) = serve(alloc, &at, pass, client, login, word(number), gate);
-    let WorkerPass { pass, client: _ } = back;
-    let DeskAt {
-        rt: _,
-        desk: _,
-        dialer: _,
-    } = at;
-    (client, pass)
+    if !is_free(&pass) {
+        return None;
+    }
+    Some(serve(alloc, desk, pass, client, login, word(number), gate))
 }

@@ -11,8 +11,12 @@ mod loopback;
 #[cfg(test)]
 mod pairs;
 #[cfg(test)]
+mod pools;
+#[cfg(test)]
 mod stubs;
 #[cfg(test)]
 mod tcp_ends;
+#[cfg(test)]
+mod timeouts;
 #[cfg(test)]
 mod workers;

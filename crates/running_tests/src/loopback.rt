@@ -1,22 +1,9 @@
-//! A pool, a stand-in server behind it and two clients in one process, over the loopback network.
-ghost use Rattle.std.specs.Prelude.{IfOk};
-ghost use Rattle.ini_config.specs.Bounds.{AreWithinBounds};
-
-use ini_config::laws::read_settings_are_within_bounds;
-use ini_config::{Settings, read_settings};
-use mio::net::TcpListener;
-use pool_run::pool::serve_on;
-use session_catalogue::Catalogue;
+//! Two clients one after the other, over the loopback network.
+use crate::pools::{connect, leave, read, start_pool, start_stub};
 use std::alloc::Global;
-use std::io::{Read, Write};
-use std::net::{Ipv4Addr, Net, Shutdown, SocketAddr, TcpStream};
-use std::rt::Clock;
-use std::sync::Wait;
+use std::net;
+use std::net::Net;
 use std::test::Fail;
-use std::thread::{JoinHandle, Threads};
-use std::{net, thread};
-use stub_server::server::stub_on;
-use user_file::{Users, read_users};
 
 /// Ann's StartupMessage for the database shop, `SET DateStyle TO 'SQL, DMY'`, `CREATE TEMP TABLE t (a text)`, Parse of `s`, Sync.
 const FIRST: &[u8] =
@@ -38,92 +25,6 @@ const FIRST_ANSWERS: &[u8] =
 const SECOND_ANSWERS: &[u8] =
     b"K\0\0\0\x0c\x28\xbd\x86\x53\xb8\x19\xd2\xbdZ\0\0\0\x05IT\0\0\0\x29\0\x01application_name\0\0\0\0\0\0\0\0\0\0\x19\xff\xff\xff\xff\xff\xff\0\0D\0\0\0\x0a\0\x01\0\0\0\0C\0\0\0\x09SHOW\0Z\0\0\0\x05IE\0\0\0\x33SERROR\0VERROR\0C42P01\0Mrelation does not exist\0\0Z\0\0\0\x05IE\0\0\0\x3dSERROR\0VERROR\0C26000\0Mprepared statement does not exist\0\0Z\0\0\0\x05I";
 
-fn catalogue(alloc: Global) -> Result<Catalogue, Fail> {
-    Ok(
-        Catalogue::read(alloc, b"version\t16.0\ndatabase\tshop\n")
-            .ok()
-            .ok_or("no catalogue")?,
-    )
-}
-
-fn users(alloc: Global) -> Result<Users, Fail> {
-    Ok(
-        read_users(alloc, b"\"ann\" \"secret\"\n")
-            .ok()
-            .ok_or("no users")?,
-    )
-}
-
-fn settings_of(alloc: Global, text: &[u8]) -> Result<Settings, Fail>
-    ensures { IfOk result (λ s. AreWithinBounds s) }
-{
-    read_settings_are_within_bounds();
-    match read_settings(alloc, text) {
-        Ok(settings) => Ok(settings),
-        Err(_) => Err("no settings")?,
-    }
-}
-
-/// Pools of one link, to a server of the loopback network at this port.
-fn settings(alloc: Global, port: u16) -> Result<Settings, Fail>
-    ensures { IfOk result (λ s. AreWithinBounds s) }
-{
-    let text = format!(in alloc;
-        "[databases]\nshop = host=127.0.0.1 port={port} dbname=shop\n[pgbouncer]\nauth_type = trust\ndefault_pool_size = 1\n"
-    )?;
-    settings_of(alloc, text.as_bytes())
-}
-
-/// A listener at a port of the system's choice, and that port.
-fn listen<R: Net<Listener = net::TcpListener, Stream = net::TcpStream>>(
-    rt: &R,
-) -> Result<(TcpListener, u16), Fail> {
-    let listener = TcpListener::bind(rt, SocketAddr::from((Ipv4Addr::LOCALHOST, 0)))?;
-    let port = listener.local_addr()?.port();
-    Ok((listener, port))
-}
-
-/// A stand-in server for one connection, and its port.
-fn start_stub<
-    R: Threads
-        + Wait
-        + Net<Listener = net::TcpListener, Stream = net::TcpStream>
-        + Copy
-        + Send
-        + 'static,
->(rt: R, alloc: Global) -> Result<(JoinHandle<bool>, u16), Fail> {
-    let (listener, port) = listen(&rt)?;
-    let catalogue = catalogue(alloc)?;
-    let stub = thread::spawn(
-        &rt,
-        move || stub_on(rt, alloc, listener, catalogue, Some(1)).is_ok(),
-    )?;
-    Ok((stub, port))
-}
-
-/// A pool for two clients over servers at this port, and its own port.
-fn start_pool<
-    R: Threads
-        + Wait
-        + Clock
-        + Net<Listener = net::TcpListener, Stream = net::TcpStream>
-        + Copy
-        + Send
-        + Sync
-        + 'static,
->(rt: R, alloc: Global, server: u16) -> Result<(JoinHandle<bool>, u16), Fail> {
-    let (listener, port) = listen(&rt)?;
-    let settings = settings(alloc, server)?;
-    let users = users(alloc)?;
-    let pool = thread::spawn(
-        &rt,
-        move || -> bool
-            requires { AreWithinBounds settings }
-        { serve_on(rt, alloc, listener, settings, users, [0; 32], Some(2)).is_ok() },
-    )?;
-    Ok((pool, port))
-}
-
 /// All that a client is given which sends this, reads so many bytes and leaves.
 fn given<R: Net<Listener = net::TcpListener, Stream = net::TcpStream>>(
     rt: &R,
@@ -132,12 +33,9 @@ fn given<R: Net<Listener = net::TcpListener, Stream = net::TcpStream>>(
     input: &[u8],
     count: usize,
 ) -> Result<Vec<u8>, Fail> {
-    let mut stream = TcpStream::connect(rt, SocketAddr::from((Ipv4Addr::LOCALHOST, port)))?;
-    stream.write_all(input)?;
-    let mut bytes = vec![in alloc; 0u8; count]?;
-    stream.read_exact(bytes.as_mut_slice())?;
-    stream.shutdown(Shutdown::Write)?;
-    stream.read_to_end(&mut bytes)?;
+    let mut stream = connect(rt, port, input)?;
+    let mut bytes = read(alloc, &mut stream, count)?;
+    bytes.extend_from_slice(leave(alloc, stream)?.as_slice())?;
     Ok(bytes)
 }
 
@@ -152,13 +50,12 @@ fn wanted(alloc: Global, answers: &[u8]) -> Result<Vec<u8>, Fail> {
 // The stand-in server takes one connection, so that the second client is served over the first one's link.
 #[test]
 fn two_clients_over_one_link(rt: HostRuntime) -> Result<(), Fail> {
-    let alloc = rt.alloc();
-    let first = wanted(alloc, FIRST_ANSWERS)?;
-    let second = wanted(alloc, SECOND_ANSWERS)?;
-    let (stub, server) = start_stub(rt, alloc)?;
-    let (pool, port) = start_pool(rt, alloc, server)?;
-    assert!(rt; given(&rt, alloc, port, FIRST, first.len())? == first);
-    assert!(rt; given(&rt, alloc, port, SECOND, second.len())? == second);
+    let first = wanted(rt.alloc(), FIRST_ANSWERS)?;
+    let second = wanted(rt.alloc(), SECOND_ANSWERS)?;
+    let (stub, server) = start_stub(rt, rt.alloc(), 1)?;
+    let (pool, port) = start_pool(rt, rt.alloc(), server, "default_pool_size = 1\n", 2)?;
+    assert!(rt; given(&rt, rt.alloc(), port, FIRST, first.len())? == first);
+    assert!(rt; given(&rt, rt.alloc(), port, SECOND, second.len())? == second);
     assert!(rt; pool.join(&rt));
     assert!(rt; stub.join(&rt));
     Ok(())

@@ -1,6 +1,7 @@
 //! Two ends of one connection over the loopback network.
 use mio::net::TcpListener;
-use std::net::{Ipv4Addr, SocketAddr};
+use std::net;
+use std::net::{Ipv4Addr, Net, SocketAddr};
 use std::test::Fail;
 use tcp_end::connection::TcpEnd;
 use tcp_end::dial::{CONNECT_SECONDS, dial};
@@ -9,7 +10,9 @@ use tcp_end::dial::{CONNECT_SECONDS, dial};
 pub const HERE: [u8; 4] = [127, 0, 0, 1];
 
 /// A listener at a port that was free, and the port.
-pub fn listen(rt: &HostRuntime) -> Result<(TcpListener, u16), Fail> {
+pub fn listen<R: Net<Listener = net::TcpListener, Stream = net::TcpStream>>(
+    rt: &R,
+) -> Result<(TcpListener, u16), Fail> {
     let listener = TcpListener::bind(rt, SocketAddr::from((Ipv4Addr::LOCALHOST, 0)))?;
     let port = listener.local_addr()?.port();
     Ok((listener, port))

@@ -1,4 +1,4 @@
-use Rattle.std.proofs.Common.{sym, ap, ◌∙◌, subst}
+use Rattle.std.proofs.Common.{refl, sym, ap, ◌∙◌, subst}
 use Rattle.std.specs.Arc.{arc_value}
 use Rattle.session_values.specs.State.{StartKeyOf, address_of}
 use Rattle.link_laws.specs.Standing.{Standing}
@@ -22,8 +22,22 @@ returns-in-Err-clause-told g c = λ lets.
     let dialled = subst (λ (s : Standing). IsDialled g.D.LinkDesk.home c.in-Some.row.now s) (sym c.watch.ensures) c.in-Some-dial.ensures in
     let key = arc_value c.args.guest.now.key in
     let user = c.in-Some-user_of.user.now in
-    unstarted (g.D.LinkDesk.home.catalogue (address_of key)) (g.D.End.ServerEnd.standing end) (g.D.End.ServerEnd.standing c.in-Err.fault.end) user.secret key c.args.guest.now.word c.in-Err.fault.cause c.of_start.result c.of_start.ensures
+    unstarted (g.D.LinkDesk.home.catalogue (address_of key)) (g.D.End.ServerEnd.standing end) (g.D.End.ServerEnd.standing c.in-Err.fault.end) user.secret key c.args.guest.now.word c.in-Err.fault.cause _ refl
     (dialled.catalogue (dialled.follows lets.follow) ∙ ap g.D.LinkDesk.home.catalogue (row_address c.args.guest.now.login.settings.rows c.in-Some.row.now key c.in-Some.ensures c.requires.guest.row))
     (dialled.follows lets.follow)
     (dialled.lets_in key user.secret (lets.accept key.user user (sym c.in-Some-user_of.ensures)))
     (subst (λ (k : StartKeyOf). IsCause (g.D.End.ServerEnd.standing end) (g.D.End.ServerEnd.standing c.in-Err.fault.end) user.secret k c.in-Err.fault.cause) c.in-Ok.ensures c.in-Err.ensures.cause)
+
+pub returns-in-Err-clause-why : goal.returns-in-Err-clause-why
+returns-in-Err-clause-why g c =
+    let end = c.watch.new.end in
+    record {
+      row = c.in-Some.row.now;
+      user = c.in-Some-user_of.user.now;
+      row_is = c.in-Some.ensures;
+      user_is = c.in-Some-user_of.ensures;
+      began = g.D.End.ServerEnd.standing end;
+      now = g.D.End.ServerEnd.standing c.in-Err.fault.end;
+      dialled = subst (λ (s : Standing). IsDialled g.D.LinkDesk.home c.in-Some.row.now s) (sym c.watch.ensures) c.in-Some-dial.ensures;
+      is_cause = subst (λ (k : StartKeyOf). IsCause (g.D.End.ServerEnd.standing end) (g.D.End.ServerEnd.standing c.in-Err.fault.end) c.in-Some-user_of.user.now.secret k c.in-Err.fault.cause) c.in-Ok.ensures c.in-Err.ensures.cause;
+    }

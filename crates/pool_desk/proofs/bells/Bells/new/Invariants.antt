@@ -1,4 +1,4 @@
-use Rattle.std.proofs.Common.{◌≡◌, vec_len, ◌-◌, ◌≤◌}
+use Rattle.std.proofs.Common.{◌≡◌, vec_len, ◌≤◌}
 use Rattle.std.specs.Prelude.{vec_capacity}
 use Rattle.pool_desk.specs.declared.bells.TheConstants.{BELLS}
 use Rattle.pool_desk.proofs.bells.Bells.new.Given as goal

@@ -5,6 +5,7 @@ use Rattle.desk_tallies.specs.Shares.{made_of}
 use Rattle.pool_desk.specs.Classes.{class_counts}
 use Rattle.pool_desk.proofs.Telling.{pass_tells, totals_rise}
 use Rattle.pool_desk.proofs.Homes.{comes_home, stay_home}
+use Rattle.pool_desk.proofs.Keeping.{stay_kept}
 use Rattle.pool_desk.proofs.inner.Core.apply.Goals as goal
 
 pub count-requires : goal.count-requires
@@ -15,6 +16,7 @@ count-requires g c =
 
 pub invariant_of-self : goal.invariant_of-self
 invariant_of-self g c = record {
+  kept = stay_kept c.self.inside.book.lists c.apply-reply.new.self.lists c.args.event c.event_fits.ensures c.self.invariant.kept c.apply-reply.ensures.lists;
   counted = sym (c.count.ensures.count ∙ c.totals_of-totals.ensures ∙ ap class_counts c.counts.ensures.counts);
   at_home = stay_home g.S.Dial.home c.args.event _ c.self.inside.book.idle c.apply-reply.new.self.idle c.self.invariant.at_home c.requires.home c.apply-reply.ensures.idle;
   parts = c.self.invariant.parts;

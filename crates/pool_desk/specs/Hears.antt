@@ -1,0 +1,41 @@
+-- Who holds a pass after an event that was made through it.
+use Rattle.std.specs.Prelude.{Some, None}
+use Rattle.lease_book.specs.declared.events.Event.{Event}
+use Rattle.lease_book.specs.declared.events.Event.TheVariants as event
+use Rattle.lease_book.specs.declared.events.Reply.{Reply}
+use Rattle.lease_book.specs.declared.events.Reply.TheVariants as reply
+use Rattle.link_desk.specs.Passes.{lease_of}
+use Rattle.link_desk.specs.declared.calls.Call.{Call}
+use Rattle.link_desk.specs.declared.calls.Call.TheVariants as call
+use Rattle.link_desk.specs.declared.calls.Holder.{Holder}
+
+module _ {E : Type 0} where
+  -- the call that an event is
+  abbrev pub call_of : Event E → Call
+  call_of event.Arrive = call.Arrive
+  call_of (event.Ask client key again) = call.Ask client
+  call_of (event.Take client) = call.Take client
+  call_of (event.GiveBack link) = call.GiveBack link.number
+  call_of (event.Lost n) = call.Lost n
+  call_of (event.StartFailed n) = call.StartFailed n
+  call_of (event.Leave client) = call.Leave client
+  call_of (event.Tick now) = call.Tick now
+  call_of (event.Limits limits again) = call.Limits
+  call_of event.Pause = call.Pause
+  call_of event.Resume = call.Resume
+  call_of event.Shutdown = call.Shutdown
+
+  -- by the call and its reply: each call is the last, but for a client's that waits on
+  abbrev pub heard : Holder → Call → Reply E → Holder
+  heard h call.Arrive (reply.Client n) = record h { client = Some n; refused = None; last = Some call.Arrive }
+  heard h call.Arrive (reply.Refuse refusal back) = record h { refused = Some refusal; last = Some call.Arrive }
+  heard h (call.Ask client) (reply.Refuse refusal back) = record h { refused = Some refusal; last = Some (call.Ask client) }
+  heard h (call.Take client) (reply.Refuse refusal back) = record h { refused = Some refusal; last = Some (call.Take client) }
+  heard h (call.Take client) (reply.Queued before) = h
+  heard h (call.Take client) (reply.Lend l) = record h { lease = Some (lease_of l); last = Some (call.Take client) }
+  heard h (call.Take client) (reply.Start n born evicted) = record h { lease = Some (record { number = n; born = born }); last = Some (call.Take client) }
+  heard h (call.GiveBack n) told = record h { lease = None; last = Some (call.GiveBack n) }
+  heard h (call.Lost n) told = record h { lease = None; last = Some (call.Lost n) }
+  heard h (call.StartFailed n) told = record h { lease = None; last = Some (call.StartFailed n) }
+  heard h (call.Leave client) told = record h { client = None; last = Some (call.Leave client) }
+  heard h made told = record h { last = Some made }

@@ -1,0 +1,70 @@
+//! Who holds a pass after an event that was made through it.
+ghost use Rattle.std.specs.Prelude.{◌≡◌};
+ghost use Rattle.pool_desk.specs.Hears.{call_of, heard};
+
+use desk_tallies::calls::{Call, Holder, Lease};
+use lease_book::events::{Event, Reply};
+use server_end::ServerEnd;
+
+/// The call that an event is.
+pub(crate) fn call_of<E: ServerEnd>(event: &Event<E>) -> Call
+    ensures { result ≡ call_of event.now }
+{
+    match event {
+        Event::Arrive => Call::Arrive,
+        Event::Ask { client, .. } => Call::Ask(*client),
+        Event::Take { client } => Call::Take(*client),
+        Event::GiveBack(link) => Call::GiveBack(link.number()),
+        Event::Lost { number } => Call::Lost(*number),
+        Event::StartFailed { number } => Call::StartFailed(*number),
+        Event::Leave { client } => Call::Leave(*client),
+        Event::Tick { now } => Call::Tick(*now),
+        Event::Limits(..) => Call::Limits,
+        Event::Pause => Call::Pause,
+        Event::Resume => Call::Resume,
+        Event::Shutdown => Call::Shutdown,
+    }
+}
+
+/// The same holder, with a link of this number and second of birth.
+fn with_lease(holder: Holder, number: u64, born: u64) -> Holder
+    ensures { result ≡ record holder { lease = Some (record { number = number; born = born }) } }
+{
+    Holder {
+        lease: Some(Lease { number, born }),
+        ..holder
+    }
+}
+
+/// Who holds a pass after this call, by its reply: each call is the last, but for a client's that waits on.
+pub(crate) fn heard<E: ServerEnd>(holder: Holder, call: Call, reply: &Reply<E>) -> Holder
+    ensures { result ≡ heard holder call reply.now }
+{
+    let held = Holder {
+        last: Some(call),
+        ..holder
+    };
+    match (call, reply) {
+        (Call::Arrive, Reply::Client(client)) => Holder {
+            client: Some(*client),
+            refused: None,
+            ..held
+        },
+        (Call::Arrive | Call::Ask(_) | Call::Take(_), Reply::Refuse(refusal, _)) => Holder {
+            refused: Some(*refusal),
+            ..held
+        },
+        (Call::Take(_), Reply::Queued(_)) => holder,
+        (Call::Take(_), Reply::Lend(link)) => with_lease(held, link.number(), link.born()),
+        (Call::Take(_), Reply::Start { number, born, .. }) => with_lease(held, *number, *born),
+        (Call::GiveBack(_) | Call::Lost(_) | Call::StartFailed(_), _) => Holder {
+            lease: None,
+            ..held
+        },
+        (Call::Leave(_), _) => Holder {
+            client: None,
+            ..held
+        },
+        _ => held,
+    }
+}

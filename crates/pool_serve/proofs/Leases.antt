@@ -1,0 +1,134 @@
+-- How a client's time at the desk ends.
+use Rattle.std.proofs.Common.{◌≡◌, inl, inr, ℕ, refl, sym, ap, ◌∙◌, arith, subst, None}
+use Rattle.std.specs.Arc.{arc_value}
+use Rattle.link_laws.specs.Standing.{ClientFacts}
+use Rattle.link_run.specs.Links.{LinkView}
+use Rattle.link_desk.specs.declared.calls.Call.{Call}
+use Rattle.link_desk.specs.declared.calls.Call.TheVariants as call
+use Rattle.link_desk.specs.declared.calls.Holder.{Holder}
+use Rattle.link_desk.specs.Homes.{HomeOf, IsAtHome}
+use Rattle.link_desk.specs.Passes.{PassOf, one_granted, one_other, without_lease}
+use Rattle.login_core.specs.Logins.{LoginView}
+use Rattle.login_run.specs.Runs.{IsSameLogin, RunView}
+use Rattle.relay_core.specs.declared.relay.Returned.{Returned}
+use Rattle.relay_core.specs.declared.relay.Returned.TheVariants.{Unused, Used, Gone}
+use Rattle.pool_serve.specs.Backs.{GoesBack, IsBackOrLost}
+use Rattle.pool_serve.specs.Causes.{AtAsking, AtLease, AtWait}
+use Rattle.pool_serve.specs.Endings.{Came, Frees, HasEnded, HasLeased, HasRelayed, IsUnopened, Traces, refusal_in}
+use Rattle.pool_serve.specs.Stays.{CameIn, IsGuestOf}
+use Rattle.pool_serve.specs.declared.ending.Ending.{Ending}
+use Rattle.pool_serve.specs.declared.ending.Ending.TheVariants as ending
+use Rattle.pool_serve.specs.declared.guest.Guest.{Guest}
+use Rattle.pool_serve.proofs.Causing.{queued_traces}
+
+-- ---- a link that goes back
+
+pub back_or_lost : {E : Type 0} (r : Returned E) (h k : Holder) → GoesBack r h k → IsBackOrLost h k
+back_or_lost (Unused l) h k x = inl x
+back_or_lost (Used l) h k x = x
+back_or_lost (Gone lent cause) h k x = inr x
+
+-- ---- a lease that has begun
+
+pub relayed_frees : (link : LinkView) (g : Guest) (before after : ClientFacts) (h k : Holder) (e : Ending) → HasRelayed link g before after e → IsBackOrLost h k → Frees h k e
+relayed_frees link g before after h k (ending.Relayed r) x b = b
+relayed_frees link g before after h k ending.Memory x b = inl b
+relayed_frees link g before after h k ending.Left x b = absurd x
+relayed_frees link g before after h k (ending.Refused r) x b = absurd x
+relayed_frees link g before after h k ending.Strange x b = absurd x
+relayed_frees link g before after h k ending.Unreached x b = absurd x
+relayed_frees link g before after h k (ending.Unstarted cause) x b = absurd x
+
+pub relayed_came : (home : HomeOf) (link : LinkView) (g : Guest) (before after : ClientFacts) (e : Ending) → HasRelayed link g before after e → IsAtHome home link → link.key ≡ arc_value g.key → Came home g before after e
+relayed_came home link g before after (ending.Relayed r) x h k = record { link = link; at_home = h; key = k; relayed = x }
+relayed_came home link g before after ending.Memory x h k = x
+relayed_came home link g before after ending.Left x h k = absurd x
+relayed_came home link g before after (ending.Refused r) x h k = absurd x
+relayed_came home link g before after ending.Strange x h k = absurd x
+relayed_came home link g before after ending.Unreached x h k = absurd x
+relayed_came home link g before after (ending.Unstarted cause) x h k = absurd x
+
+-- ---- a link that wasn't started
+
+pub unopened_frees : (home : HomeOf) (g : Guest) (h k : Holder) (e : Ending) → IsUnopened home g e → k ≡ without_lease call.StartFailed h → Frees h k e
+unopened_frees home g h k ending.Unreached x b = b
+unopened_frees home g h k (ending.Unstarted cause) x b = b
+unopened_frees home g h k ending.Memory x b = inr b
+unopened_frees home g h k ending.Left x b = absurd x
+unopened_frees home g h k (ending.Refused r) x b = absurd x
+unopened_frees home g h k ending.Strange x b = absurd x
+unopened_frees home g h k (ending.Relayed r) x b = absurd x
+
+pub unopened_came : (home : HomeOf) (g : Guest) (c : ClientFacts) (e : Ending) → IsUnopened home g e → Came home g c c e
+unopened_came home g c ending.Unreached x = refl
+unopened_came home g c (ending.Unstarted cause) x = (x, refl)
+unopened_came home g c ending.Memory x = refl
+unopened_came home g c ending.Left x = absurd x
+unopened_came home g c (ending.Refused r) x = absurd x
+unopened_came home g c ending.Strange x = absurd x
+unopened_came home g c (ending.Relayed r) x = absurd x
+
+-- ---- behind a grant
+
+module _ (old h k : Holder) (client : h.client ≡ old.client) (refused : h.refused ≡ None) where
+  by_loss : (c : ℕ → Call) (e : Ending) → refusal_in e ≡ None → k ≡ without_lease c h → HasLeased old k e
+  by_loss c e none is = record { client = ap (λ (x : Holder). x.client) is ∙ client; lease = ap (λ (x : Holder). x.lease) is; refused = ap (λ (x : Holder). x.refused) is ∙ (refused ∙ sym none) }
+
+  by_return : (e : Ending) → refusal_in e ≡ None → IsBackOrLost h k → HasLeased old k e
+  by_return e none (inl is) = by_loss call.GiveBack e none is
+  by_return e none (inr is) = by_loss call.Lost e none is
+
+  pub leased_by : (e : Ending) → Frees h k e → HasLeased old k e
+  leased_by ending.Strange x = by_loss call.Lost ending.Strange refl x
+  leased_by ending.Unreached x = by_loss call.StartFailed ending.Unreached refl x
+  leased_by (ending.Unstarted cause) x = by_loss call.StartFailed (ending.Unstarted cause) refl x
+  leased_by (ending.Relayed r) x = by_return (ending.Relayed r) refl x
+  leased_by ending.Memory (inl x) = by_return ending.Memory refl x
+  leased_by ending.Memory (inr x) = by_loss call.StartFailed ending.Memory refl x
+  leased_by ending.Left x = absurd x
+  leased_by (ending.Refused r) x = absurd x
+
+granted_traces : (p q : PassOf) (h k : Holder) (e : Ending) → Frees h k e → Traces AtLease (one_granted p) q e → Traces AtWait p q e
+granted_traces p q h k ending.Strange x (inl t) = inl t
+granted_traces p q h k ending.Strange x (inr t) = inr (omega (arith, t.0), t.1)
+granted_traces p q h k ending.Unreached x t = (omega (arith, t.0), t.1)
+granted_traces p q h k (ending.Unstarted cause) x t = (omega (arith, t.0), t.1)
+granted_traces p q h k (ending.Relayed r) x t = omega (arith, t)
+granted_traces p q h k ending.Memory x t = tt
+granted_traces p q h k ending.Left x t = absurd x
+granted_traces p q h k (ending.Refused r) x t = absurd x
+
+pub granted_ended : (home : HomeOf) (g : Guest) (p mid q : PassOf) (h k : Holder) (before after : ClientFacts) (e : Ending) → mid ≡ one_granted p → Frees h k e → HasEnded home g AtLease mid q before after e → HasEnded home g AtWait p q before after e
+granted_ended home g p mid q h k before after e is f x = record { tells = x.tells; traces = granted_traces p q h k e f (subst (λ (m : PassOf). Traces AtLease m q e) is x.traces); came = x.came; serves = x.serves }
+
+-- behind an asking that was queued
+pub queued_ended : (home : HomeOf) (g : Guest) (p mid q : PassOf) (before after : ClientFacts) (e : Ending) → mid ≡ one_other p → HasEnded home g AtWait mid q before after e → HasEnded home g AtAsking p q before after e
+queued_ended home g p mid q before after e is x = record { tells = x.tells; traces = queued_traces p mid q e is x.traces; came = x.came; serves = x.serves }
+
+-- ---- a guest of this login
+
+pub came_in : (home : HomeOf) (v : LoginView) (g : Guest) (before after : ClientFacts) (e : Ending) → IsGuestOf v g → Came home g before after e → CameIn home v after e
+came_in home v g before after (ending.Relayed r) i x = record { guest = g; is_guest = i; before = before; lease = x }
+came_in home v g before after (ending.Unstarted cause) i x = record { guest = g; is_guest = i; unstarted = x.0 }
+came_in home v g before after ending.Left i x = tt
+came_in home v g before after (ending.Refused r) i x = tt
+came_in home v g before after ending.Memory i x = tt
+came_in home v g before after ending.Strange i x = tt
+came_in home v g before after ending.Unreached i x = tt
+
+-- the same of a login that went on
+same_guest : (old new : RunView) (g : Guest) → IsSameLogin old new → IsGuestOf new.login g → IsGuestOf old.login g
+same_guest old new g s x = record { word = x.word ∙ s.word; settings = x.settings ∙ s.settings; users = x.users ∙ s.users }
+
+pub same_came : (home : HomeOf) (old new : RunView) (after : ClientFacts) (e : Ending) → IsSameLogin old new → CameIn home new.login after e → CameIn home old.login after e
+same_came home old new after (ending.Relayed r) s x = record { guest = x.guest; is_guest = same_guest old new x.guest s x.is_guest; before = x.before; lease = x.lease }
+same_came home old new after (ending.Unstarted cause) s x = record { guest = x.guest; is_guest = same_guest old new x.guest s x.is_guest; unstarted = x.unstarted }
+same_came home old new after ending.Left s x = tt
+same_came home old new after (ending.Refused r) s x = tt
+same_came home old new after ending.Memory s x = tt
+same_came home old new after ending.Strange s x = tt
+same_came home old new after ending.Unreached s x = tt
+
+-- the same of the login that it began with
+pub came_first : (home : HomeOf) (v : LoginView) (old new : RunView) (after : ClientFacts) (e : Ending) → old.login ≡ v → IsSameLogin old new → CameIn home new.login after e → CameIn home v after e
+came_first home v old new after e is s x = subst (λ (w : LoginView). CameIn home w after e) is (same_came home old new after e s x)

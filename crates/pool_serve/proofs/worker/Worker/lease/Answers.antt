@@ -1,0 +1,31 @@
+use Rattle.std.proofs.Common.{[], inl, refl, ap}
+use Rattle.message_view.specs.declared.refusal.Refusal.TheVariants.{OutOfMemory}
+use Rattle.link_desk.specs.Passes.{PassOf}
+use Rattle.pool_serve.specs.Serving.{owed}
+use Rattle.pool_serve.proofs.Causing.{asking_fault, asking_traces}
+use Rattle.pool_serve.proofs.Telling.{nothing_more, none_ends, refusal_ends}
+use Rattle.pool_serve.proofs.worker.Worker.lease.Goals as goal
+
+pub returns-in-Refused-clause-ended : goal.returns-in-Refused-clause-ended
+returns-in-Refused-clause-ended g c = record {
+  tells = refl;
+  traces = asking_traces _ _ c.in-Refused.refusal c.in-Refused.ensures.told c.in-Refused.ensures.refused;
+  came = refl;
+  serves = λ t l. nothing_more _ _ _ _ _ (asking_fault _ [] c.in-Refused.refusal c.in-Refused.ensures.refused) (refusal_ends _ c.in-Refused.refusal);
+}
+
+pub returns-in-Memory-clause-ended : goal.returns-in-Memory-clause-ended
+returns-in-Memory-clause-ended g c = record {
+  tells = refl;
+  traces = tt;
+  came = refl;
+  serves = λ t l. nothing_more _ _ _ _ _ tt (refusal_ends _ OutOfMemory);
+}
+
+pub returns-in-Stranger-clause-ended : goal.returns-in-Stranger-clause-ended
+returns-in-Stranger-clause-ended g c = record {
+  tells = refl;
+  traces = inl (ap (λ (p : PassOf). p.is_broken) c.in-Stranger.ensures.told);
+  came = refl;
+  serves = λ t l. nothing_more _ _ _ _ _ tt (none_ends (owed g.D.LinkDesk.home.catalogue c.args.guest.now [] []));
+}

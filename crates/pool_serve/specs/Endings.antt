@@ -1,0 +1,119 @@
+-- How a client's time at the desk ended: what pass and holder tell of it, and what the ends do.
+use Rattle.std.specs.Prelude.{◌≡◌, ◌⊎◌, true, Option, None, Some}
+use Rattle.std.specs.Arc.{arc_value}
+use Rattle.ini_config.specs.declared.database_rows.DbRow.{DbRow}
+use Rattle.user_file.specs.declared.user_table.UserRow.{UserRow}
+use Rattle.message_view.specs.declared.refusal.Refusal.{Refusal}
+use Rattle.link_laws.specs.Standing.{ClientFacts, Standing}
+use Rattle.link_run.specs.Links.{LinkView}
+use Rattle.link_start.specs.Starts.{IsCause}
+use Rattle.link_start.specs.declared.start.StartCause.{StartCause}
+use Rattle.link_desk.specs.declared.calls.Call.TheVariants as call
+use Rattle.link_desk.specs.declared.calls.Holder.{Holder}
+use Rattle.link_desk.specs.Homes.{HomeOf, IsAtHome, IsDialled}
+use Rattle.link_desk.specs.Passes.{PassOf, without_lease}
+use Rattle.ini_config.specs.Tables.{row_named}
+use Rattle.user_file.specs.Users.{user_named}
+use Rattle.relay_laws.specs.declared.Next.{Next}
+use Rattle.relay_laws.specs.declared.Next.TheVariants.{Refuse}
+use Rattle.relay_laws.specs.Answers.{judged}
+use Rattle.relay_laws.specs.Leases.{IsLease, RelayView, place}
+use Rattle.pool_serve.specs.Backs.{IsBackOrLost}
+use Rattle.pool_serve.specs.Causes.{HadLink, HadNone, HasLost, HasTrace, Since}
+use Rattle.pool_serve.specs.Serving.{LetsIn, Serves, limit_of, owed}
+use Rattle.pool_serve.specs.Words.{word_of}
+use Rattle.pool_serve.specs.declared.ending.Ending.{Ending}
+use Rattle.pool_serve.specs.declared.ending.Ending.TheVariants as ending
+use Rattle.pool_serve.specs.declared.guest.Guest.{Guest}
+
+-- ---- what the decisions tell of it
+
+abbrev pub Traces : Since → PassOf → PassOf → Ending → Type 0
+Traces since p q ending.Left = HadNone p q
+Traces since p q (ending.Refused r) = HadNone p q × HasTrace since p q r
+Traces since p q ending.Memory = Unit {0}
+Traces since p q ending.Strange = (q.is_broken ≡ true) ⊎ (HadLink since p q × HasLost p q)
+Traces since p q ending.Unreached = HadLink since p q × HasLost p q
+Traces since p q (ending.Unstarted cause) = HadLink since p q × HasLost p q
+Traces since p q (ending.Relayed r) = HadLink since p q
+
+-- ---- what the holder tells of it
+
+-- how its link went
+abbrev pub Frees : Holder → Holder → Ending → Type 0
+Frees h k ending.Strange = k ≡ without_lease call.Lost h
+Frees h k ending.Unreached = k ≡ without_lease call.StartFailed h
+Frees h k (ending.Unstarted cause) = k ≡ without_lease call.StartFailed h
+Frees h k (ending.Relayed r) = IsBackOrLost h k
+Frees h k ending.Memory = IsBackOrLost h k ⊎ (k ≡ without_lease call.StartFailed h)
+Frees h k other = ⊥
+
+abbrev pub refusal_in : Ending → Option Refusal
+refusal_in (ending.Refused r) = Some r
+refusal_in other = None
+
+-- the client is still in its pass, without a link, and was refused where the desk refused it
+pub record HasLeased (h k : Holder) (e : Ending) : Type 0 where
+  pub client : k.client ≡ h.client
+  pub lease : k.lease ≡ None
+  pub refused : k.refused ≡ refusal_in e
+
+-- ---- what the ends tell of it
+
+-- what the relay's last answer refuses by
+abbrev pub refusal_told : Next → Option Refusal
+refusal_told (Refuse r) = Some r
+refusal_told other = None
+
+abbrev pub refusal_at : RelayView → Option Refusal
+refusal_at v = refusal_told (judged true v)
+
+-- a lease over that link has ended so
+pub record IsRelayed (link : LinkView) (g : Guest) (before after : ClientFacts) (r : Option Refusal) : Type 0 where
+  pub view : RelayView
+  pub lease : IsLease (place before link g.word (limit_of g)) view
+  pub client : after ≡ view.client
+  pub told : r ≡ refusal_at view
+
+abbrev pub HasRelayed : LinkView → Guest → ClientFacts → ClientFacts → Ending → Type 0
+HasRelayed link g before after (ending.Relayed r) = IsRelayed link g before after r
+HasRelayed link g before after ending.Memory = after ≡ before
+HasRelayed link g before after other = ⊥
+
+-- a start over an end of its row's server failed so
+pub record IsUnstarted (home : HomeOf) (g : Guest) (cause : StartCause) : Type 0 where
+  pub row : DbRow
+  pub user : UserRow
+  pub row_is : Some row ≡ row_named (arc_value g.key).row g.login.settings.rows
+  pub user_is : Some user ≡ user_named (arc_value g.key).user g.login.users
+  pub began : Standing
+  pub now : Standing
+  pub dialled : IsDialled home row began
+  pub is_cause : IsCause began now user.secret (arc_value g.key) cause
+
+abbrev pub IsUnopened : HomeOf → Guest → Ending → Type 0
+IsUnopened home g ending.Unreached = Unit {0}
+IsUnopened home g ending.Memory = Unit {0}
+IsUnopened home g (ending.Unstarted cause) = IsUnstarted home g cause
+IsUnopened home g other = ⊥
+
+-- the lease was over a link of its key
+pub record HadLease (home : HomeOf) (g : Guest) (before after : ClientFacts) (r : Option Refusal) : Type 0 where
+  pub link : LinkView
+  pub at_home : IsAtHome home link
+  pub key : link.key ≡ arc_value g.key
+  pub relayed : IsRelayed link g before after r
+
+-- nothing moves but in a lease
+abbrev pub Came : HomeOf → Guest → ClientFacts → ClientFacts → Ending → Type 0
+Came home g before after (ending.Relayed r) = HadLease home g before after r
+Came home g before after (ending.Unstarted cause) = IsUnstarted home g cause × (after ≡ before)
+Came home g before after other = after ≡ before
+
+-- ---- all of it, of a client that is through its login
+
+pub record HasEnded (home : HomeOf) (g : Guest) (since : Since) (p q : PassOf) (before after : ClientFacts) (e : Ending) : Type 0 where
+  pub tells : after.tells ≡ before.tells
+  pub traces : Traces since p q e
+  pub came : Came home g before after e
+  pub serves : before.tells ≡ true → LetsIn home g.login.users → Serves (limit_of g) home.strikable before after (owed home.catalogue g) (word_of e)

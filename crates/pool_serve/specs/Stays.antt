@@ -1,0 +1,52 @@
+-- A client's whole time with a worker.
+use Rattle.std.specs.Prelude.{◌≡◌, Option}
+use Rattle.link_laws.specs.Standing.{ClientFacts}
+use Rattle.message_view.specs.declared.refusal.Refusal.{Refusal}
+use Rattle.link_start.specs.declared.start.StartCause.{StartCause}
+use Rattle.link_desk.specs.declared.calls.Holder.{Holder}
+use Rattle.link_desk.specs.Homes.{HomeOf}
+use Rattle.link_desk.specs.Passes.{PassOf}
+use Rattle.login_core.specs.Logins.{LoginView}
+use Rattle.pool_serve.specs.Causes.{AtArrival}
+use Rattle.pool_serve.specs.Endings.{HadLease, IsUnstarted, Traces, refusal_in}
+use Rattle.pool_serve.specs.Words.{HasGiven, last_bytes, word_of}
+use Rattle.pool_serve.specs.declared.ending.Ending.{Ending}
+use Rattle.pool_serve.specs.declared.ending.Ending.TheVariants as ending
+use Rattle.pool_serve.specs.declared.guest.Guest.{Guest}
+
+-- a client that is through this login
+pub record IsGuestOf (v : LoginView) (g : Guest) : Type 0 where
+  pub word : g.word ≡ v.word
+  pub settings : g.login.settings ≡ v.settings
+  pub users : g.login.users ≡ v.users
+
+pub record LeasedAs (home : HomeOf) (v : LoginView) (after : ClientFacts) (r : Option Refusal) : Type 0 where
+  pub guest : Guest
+  pub is_guest : IsGuestOf v guest
+  pub before : ClientFacts
+  pub lease : HadLease home guest before after r
+
+pub record UnstartedAs (home : HomeOf) (v : LoginView) (cause : StartCause) : Type 0 where
+  pub guest : Guest
+  pub is_guest : IsGuestOf v guest
+  pub unstarted : IsUnstarted home guest cause
+
+-- what the ends tell of an ending
+abbrev pub CameIn : HomeOf → LoginView → ClientFacts → Ending → Type 0
+CameIn home v after (ending.Relayed r) = LeasedAs home v after r
+CameIn home v after (ending.Unstarted cause) = UnstartedAs home v cause
+CameIn home v after other = Unit {0}
+
+-- the client never arrived at the desk
+pub record IsUntouched (p q : PassOf) (h k : Holder) : Type 0 where
+  pub told : q ≡ p
+  pub holder : k ≡ h
+
+-- Its time at the desk ended so, and it was told the last word of that.
+pub record IsOver (home : HomeOf) (v : LoginView) (p q : PassOf) (k : Holder) (after : ClientFacts) : Type 0 where
+  pub ending : Ending
+  pub before : ClientFacts
+  pub traces : Traces AtArrival p q ending
+  pub refused : k.refused ≡ refusal_in ending
+  pub came : CameIn home v before ending
+  pub told : HasGiven before after (last_bytes (word_of ending))

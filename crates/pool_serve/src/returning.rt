@@ -1,0 +1,68 @@
+//! How a link goes back to its desk.
+ghost use Rattle.std.specs.Prelude.{◌≡◌, Some, None};
+ghost use Rattle.link_desk.specs.declared.calls.Call.TheVariants.{GiveBack};
+ghost use Rattle.link_desk.specs.Homes.{IsAtHome};
+ghost use Rattle.link_desk.specs.Passes.{lease_of, without_lease};
+ghost use Rattle.pool_serve.specs.Backs.{GoesBack, IsBackHome, IsOwnLease};
+ghost use Rattle.pool_serve.specs.Shares.{Ends};
+
+use crate::TURNS;
+use crate::worker::Worker;
+use disposal::Verdict;
+use link_desk::desk::LinkDesk;
+use link_run::links::CleanLink;
+use link_run::reset::reset_link;
+use link_start::close::{close_link, offer_terminate};
+use relay_core::relay::{Cause, Returned};
+use server_end::gate::Gate;
+
+/// Whether whole messages went over the link, so that its server reads a Terminate as one.
+fn is_at_border(cause: Cause) -> bool {
+    matches!(
+        cause,
+        Cause::Left(Verdict::Unanswered) | Cause::Left(Verdict::InBlock)
+    )
+}
+
+impl<'a, D: LinkDesk, G: Gate<D::End>> Worker<'a, D, G> {
+    /// Gives the client's link back, clean; where the desk doesn't keep it, it is closed.
+    pub(crate) fn give_back(&mut self, link: CleanLink<D::End>)
+        requires home { IsAtHome D.home link }
+        requires own { (D.holder self.old.pass).lease ≡ Some (lease_of link) }
+        ensures share { Ends (D.told self.old.pass) (D.told self.new.pass) }
+        ensures holder { D.holder self.new.pass ≡ without_lease GiveBack (D.holder self.old.pass) }
+    {
+        let mut link = link;
+        link.unwatch(&mut self.gate);
+        let mut held = Some(link);
+        self.desk.give_back(&mut self.pass, &mut held);
+        if let Some(link) = held {
+            close_link(link);
+        }
+    }
+
+    /// Gives the link of a lease that has ended back: clean as it was, or reset; or offers its server a Terminate and reports it lost.
+    pub(crate) fn hand_back(&mut self, link: Returned<D::End>)
+        requires home { IsBackHome D.home link }
+        requires own { IsOwnLease (D.holder self.old.pass).lease link }
+        ensures share { Ends (D.told self.old.pass) (D.told self.new.pass) }
+        ensures holder { GoesBack link (D.holder self.old.pass) (D.holder self.new.pass) }
+    {
+        match link {
+            Returned::Unused(link) => self.give_back(link),
+            Returned::Used(link) => match reset_link(self.alloc, link, &mut self.gate, TURNS) {
+                Ok(link) => self.give_back(link),
+                Err(_) => {
+                    self.desk.lost(&mut self.pass);
+                }
+            },
+            Returned::Gone(link, cause) => {
+                let mut link = link;
+                if is_at_border(cause) {
+                    offer_terminate(&mut link.end);
+                }
+                self.desk.lost(&mut self.pass);
+            }
+        }
+    }
+}

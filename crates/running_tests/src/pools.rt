@@ -1,0 +1,134 @@
+//! A pool, and a stand-in server behind it, over the loopback network.
+ghost use Rattle.std.specs.Prelude.{IfOk};
+ghost use Rattle.ini_config.specs.Bounds.{AreWithinBounds};
+
+use crate::pairs::listen;
+use ini_config::laws::read_settings_are_within_bounds;
+use ini_config::{Settings, read_settings};
+use pool_run::pool::serve_on;
+use session_catalogue::Catalogue;
+use std::alloc::Global;
+use std::io::{Read, Write};
+use std::net::{Ipv4Addr, Net, Shutdown, SocketAddr, TcpStream};
+use std::rt::Clock;
+use std::sync::Wait;
+use std::test::Fail;
+use std::thread::{JoinHandle, Threads};
+use std::time::Duration;
+use std::{net, thread};
+use stub_server::server::stub_on;
+use user_file::{Users, read_users};
+
+/// AuthenticationOk, nine reports, BackendKeyData and ReadyForQuery.
+pub const WELCOME: usize = 260;
+
+fn catalogue(alloc: Global) -> Result<Catalogue, Fail> {
+    Ok(
+        Catalogue::read(alloc, b"version\t16.0\ndatabase\tshop\n")
+            .ok()
+            .ok_or("no catalogue")?,
+    )
+}
+
+fn users(alloc: Global) -> Result<Users, Fail> {
+    Ok(
+        read_users(alloc, b"\"ann\" \"secret\"\n")
+            .ok()
+            .ok_or("no users")?,
+    )
+}
+
+fn settings_of(alloc: Global, text: &[u8]) -> Result<Settings, Fail>
+    ensures { IfOk result (λ s. AreWithinBounds s) }
+{
+    read_settings_are_within_bounds();
+    match read_settings(alloc, text) {
+        Ok(settings) => Ok(settings),
+        Err(_) => Err("no settings")?,
+    }
+}
+
+/// A server of the loopback network at this port, and these options.
+fn settings(alloc: Global, port: u16, options: &str) -> Result<Settings, Fail>
+    ensures { IfOk result (λ s. AreWithinBounds s) }
+{
+    let text = format!(in alloc;
+        "[databases]\nshop = host=127.0.0.1 port={port} dbname=shop\n[pgbouncer]\nauth_type = trust\n{options}"
+    )?;
+    settings_of(alloc, text.as_bytes())
+}
+
+/// A stand-in server for so many connections, and its port. It ends with the last of them.
+pub fn start_stub<
+    R: Threads
+        + Wait
+        + Net<Listener = net::TcpListener, Stream = net::TcpStream>
+        + Copy
+        + Send
+        + 'static,
+>(rt: R, alloc: Global, count: u32) -> Result<(JoinHandle<bool>, u16), Fail> {
+    let (listener, port) = listen(&rt)?;
+    let catalogue = catalogue(alloc)?;
+    let stub = thread::spawn(
+        &rt,
+        move || stub_on(rt, alloc, listener, catalogue, Some(count)).is_ok(),
+    )?;
+    Ok((stub, port))
+}
+
+/// A pool for so many clients under these options, over servers at this port; and its own port. It ends with the last client.
+pub fn start_pool<
+    R: Threads
+        + Wait
+        + Clock
+        + Net<Listener = net::TcpListener, Stream = net::TcpStream>
+        + Copy
+        + Send
+        + Sync
+        + 'static,
+>(
+    rt: R,
+    alloc: Global,
+    server: u16,
+    options: &str,
+    count: u64,
+) -> Result<(JoinHandle<bool>, u16), Fail> {
+    let (listener, port) = listen(&rt)?;
+    let settings = settings(alloc, server, options)?;
+    let users = users(alloc)?;
+    let pool = thread::spawn(
+        &rt,
+        move || -> bool
+            requires { AreWithinBounds settings }
+        { serve_on(rt, alloc, listener, settings, users, [0; 32], Some(count)).is_ok() },
+    )?;
+    Ok((pool, port))
+}
+
+/// A client that has sent this. It reads for at most half a minute.
+pub fn connect<R: Net<Listener = net::TcpListener, Stream = net::TcpStream>>(
+    rt: &R,
+    port: u16,
+    input: &[u8],
+) -> Result<TcpStream, Fail> {
+    let mut stream = TcpStream::connect(rt, SocketAddr::from((Ipv4Addr::LOCALHOST, port)))?;
+    stream.set_read_timeout(Some(Duration::from_secs(30)))?;
+    stream.write_all(input)?;
+    Ok(stream)
+}
+
+/// So many bytes that a client is given.
+pub fn read(alloc: Global, stream: &mut TcpStream, count: usize) -> Result<Vec<u8>, Fail> {
+    let mut bytes = vec![in alloc; 0u8; count]?;
+    stream.read_exact(bytes.as_mut_slice())?;
+    Ok(bytes)
+}
+
+/// All that it is given besides, once it sends nothing more.
+pub fn leave(alloc: Global, stream: TcpStream) -> Result<Vec<u8>, Fail> {
+    let mut stream = stream;
+    stream.shutdown(Shutdown::Write)?;
+    let mut bytes = Vec::new(alloc);
+    stream.read_to_end(&mut bytes)?;
+    Ok(bytes)
+}
