@@ -1,8 +1,13 @@
-//! Tests of the files that the pooler reads, of their lines and of what shows of a secret; and of the command line and `replay`.
+//! Tests of the files that the pooler reads, of their lines and of what shows of a secret; of the command line and `replay`; and of what
+//! the console answers.
 #![tactic(auto)]
 
 #[cfg(test)]
 mod command_lines;
+#[cfg(test)]
+mod console;
+#[cfg(test)]
+mod console_books;
 #[cfg(test)]
 mod faults;
 #[cfg(test)]

@@ -1,0 +1,50 @@
+-- What the console shows of the settings, as rows of texts: each key of the section [pgbouncer] that is served, with its value as a settings file could say it.
+use Rattle.std.specs.Prelude.{ℕ, List, [], ◌∷◌, ◌++◌, codes, decimal}
+use Rattle.std.specs.List.{flat_map}
+use Rattle.ini_config.specs.declared.option_values.AuthType.{AuthType}
+use Rattle.ini_config.specs.declared.option_values.AuthType.TheVariants.{Trust, Plain, Md5}
+use Rattle.ini_config.specs.declared.option_values.Settings.{Settings}
+use Rattle.mini_sql.specs.Words.{Text}
+
+abbrev pub behind_dot : ℕ → Text
+behind_dot n = 46 ∷ decimal n
+
+-- numbers with dots between
+abbrev pub dotted : List ℕ → Text
+dotted [] = []
+dotted (n ∷ ns) = decimal n ++ flat_map behind_dot ns
+
+abbrev pub behind_comma : Text → Text
+behind_comma name = 44 ∷ name
+
+-- names with commas between
+abbrev pub joined : List Text → Text
+joined [] = []
+joined (name ∷ names) = name ++ flat_map behind_comma names
+
+abbrev pub auth_name : AuthType → Text
+auth_name Trust = codes "trust"
+auth_name Plain = codes "plain"
+auth_name Md5 = codes "md5"
+
+abbrev pub setting : Text → Text → List Text
+setting key value = key ∷ value ∷ []
+
+abbrev pub config : Settings → List (List Text)
+config s =
+    setting (codes "listen_addr") (dotted s.listen_addr)
+    ∷ setting (codes "listen_port") (decimal s.listen_port)
+    ∷ setting (codes "auth_type") (auth_name s.auth_type)
+    ∷ setting (codes "admin_users") (joined s.admin_users)
+    ∷ setting (codes "pool_mode") (codes "session")
+    ∷ setting (codes "server_reset_query") (codes "DISCARD ALL")
+    ∷ setting (codes "max_client_conn") (decimal s.max_client_conn)
+    ∷ setting (codes "default_pool_size") (decimal s.default_pool_size)
+    ∷ setting (codes "max_links") (decimal s.max_links)
+    ∷ setting (codes "query_wait_timeout") (decimal s.query_wait_timeout)
+    ∷ setting (codes "server_lifetime") (decimal s.server_lifetime)
+    ∷ setting (codes "server_idle_timeout") (decimal s.server_idle_timeout)
+    ∷ setting (codes "max_packet_size") (decimal s.max_packet_size)
+    ∷ setting (codes "ignore_startup_parameters") (joined s.ignore_startup_parameters)
+    ∷ setting (codes "track_extra_parameters") (joined s.track_extra_parameters)
+    ∷ []

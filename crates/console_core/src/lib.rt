@@ -1,0 +1,12 @@
+//! The console: its commands, what it answers to each from a view of the lease book and the settings, and what it answers to the other
+//! messages of its clients. It does nothing itself.
+#![tactic(auto)]
+
+pub mod cells;
+pub mod commands;
+mod config;
+mod lists;
+pub mod messages;
+mod pools;
+pub mod reply;
+pub mod writing;
