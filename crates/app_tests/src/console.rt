@@ -1,4 +1,4 @@
-//! What the console answers. Each reply was worked out by hand from the protocol's messages and the tables of docs/OPERATING.md.
+//! What the console answers. Each reply was worked out by hand from the messages of the protocol and the columns of each table.
 use crate::console_books::{Rows, one_lease, view};
 use book_model::events::ClientState;
 use book_register::view::BookView;
