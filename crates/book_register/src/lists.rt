@@ -160,6 +160,13 @@ impl Lists {
         self.board.lent.has_as(number, key, born)
     }
 
+    /// Whether no client is let in any more.
+    pub fn is_shut(&self) -> bool
+        ensures { result ≡ self.now.is_shut }
+    {
+        self.board.is_shut
+    }
+
     /// How many decisions there were of each kind.
     pub fn counts(&self) -> Counts
         ensures { result ≡ self.now.counts }

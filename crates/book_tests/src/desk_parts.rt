@@ -2,7 +2,7 @@
 use crate::gone::Gone;
 use ini_config::DbRow;
 use pool_desk::desk::Desk;
-use pool_desk::dial::Dial;
+use pool_desk::outside::Outside;
 use std::rt::Clock;
 use std::sync::Wait;
 use std::thread::Threads;
@@ -11,7 +11,7 @@ use std::thread::Threads;
 #[derive(Drop)]
 pub(crate) struct Nowhere;
 
-impl Dial for Nowhere {
+impl Outside for Nowhere {
     ghost use Rattle.link_desk.specs.Homes.{unknown_home};
 
     type End = Gone;

@@ -1,5 +1,6 @@
 -- Shares of the six ledgers, class by class.
 use Rattle.std.specs.Prelude.{ℕ, ◌+◌, ◌≤◌, List, sum_by}
+pub use Rattle.link_desk.specs.Counts.{AtMost}
 use Rattle.link_desk.specs.Passes.{Made, PassOf}
 use Rattle.link_desk.specs.declared.calls.Holder.{Holder}
 use Rattle.desk_tallies.specs.declared.passes.Totals.{Totals}
@@ -40,12 +41,3 @@ sum_of m n = by_class (m.arrived + n.arrived) (m.granted + n.granted) (m.given_b
 abbrev pub sum_over : List PassView → Made
 sum_over passes =
     by_class (sum_by (λ p. p.told.made.arrived) passes) (sum_by (λ p. p.told.made.granted) passes) (sum_by (λ p. p.told.made.given_back) passes) (sum_by (λ p. p.told.made.lost) passes) (sum_by (λ p. p.told.made.left) passes) (sum_by (λ p. p.told.made.others) passes)
-
--- class by class no more
-pub record AtMost (m n : Made) : Type 0 where
-  pub arrived : m.arrived ≤ n.arrived
-  pub granted : m.granted ≤ n.granted
-  pub given_back : m.given_back ≤ n.given_back
-  pub lost : m.lost ≤ n.lost
-  pub left : m.left ≤ n.left
-  pub others : m.others ≤ n.others

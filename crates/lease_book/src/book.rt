@@ -173,6 +173,13 @@ impl<E: ServerEnd> Book<E> {
         self.register.lists().decisions()
     }
 
+    /// Whether no client is let in any more.
+    pub fn is_shut(&self) -> bool
+        ensures { result ≡ self.now.lists.is_shut }
+    {
+        self.register.lists().is_shut()
+    }
+
     /// How many decisions there were of each kind.
     pub fn counts(&self) -> Counts
         ensures counts { result ≡ self.now.lists.counts }

@@ -1,3 +1,4 @@
 pub mod Passes
 pub mod Homes
 pub mod Refusing
+pub mod Counts

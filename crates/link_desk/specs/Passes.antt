@@ -17,6 +17,8 @@ use Rattle.link_desk.specs.declared.answers.Back.{Back}
 use Rattle.link_desk.specs.declared.answers.Back.TheVariants as back
 use Rattle.link_desk.specs.declared.answers.Gone.{Gone}
 use Rattle.link_desk.specs.declared.answers.Gone.TheVariants as gone
+use Rattle.link_desk.specs.declared.answers.Changed.{Changed}
+use Rattle.link_desk.specs.declared.answers.Changed.TheVariants as changed
 
 -- decisions by class: clients let in, links granted, links given back, links lost or not started, clients gone, and all others
 pub record Made : Type 0 where
@@ -78,6 +80,7 @@ after_asking p asked.Stranger = broken p
 
 module _ {E : Type 0} where
   abbrev pub after_grant : PassOf → Grant E → PassOf
+  after_grant p grant.Queued = p
   after_grant p (grant.Lend l) = one_granted p
   after_grant p (grant.Start number born evicted) = one_granted p
   after_grant p (grant.Refused refusal) = after_refusal p refusal
@@ -99,7 +102,11 @@ after_leaving p gone.Done = one_left p
 after_leaving p gone.Last = broken p
 after_leaving p gone.Stranger = broken p
 
--- ---- what each call makes of its holder; what goes to the book is the holder'h own
+abbrev pub after_change : PassOf → Changed → PassOf
+after_change p changed.Done = one_other p
+after_change p changed.Last = broken p
+
+-- ---- what each call makes of its holder; what goes to the book is the holder's own
 
 abbrev pub new_holder : Holder
 new_holder = record { client = None; lease = None; refused = None; last = None }
@@ -126,6 +133,7 @@ asked_by h asked.Stranger = record h { last = of_client call.Ask h }
 
 module _ {E : Type 0} where
   abbrev pub taken : Holder → Grant E → Holder
+  taken h grant.Queued = h
   taken h (grant.Lend l) = record h { lease = Some (lease_of l); last = of_client call.Take h }
   taken h (grant.Start number born evicted) = record h { lease = Some (record { number = number; born = born }); last = of_client call.Take h }
   taken h (grant.Refused refusal) = record h { refused = Some refusal; last = of_client call.Take h }

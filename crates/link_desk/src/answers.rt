@@ -26,9 +26,11 @@ pub enum Asked {
     Stranger,
 }
 
-/// To a client that takes its link, once it needn't wait any longer.
+/// To a client that takes its link.
 #[derive(Drop)]
 pub enum Grant<E: ServerEnd> {
+    /// It waits on.
+    Queued,
     /// This link, which was idle.
     Lend(CleanLink<E>),
     /// A link of this number and second of birth is to be started, once this idle one is closed.
@@ -54,6 +56,14 @@ pub enum Back {
     Last,
     /// It is handed back: no such link is lent.
     Stranger,
+}
+
+/// To new limits, Pause, Resume and Shutdown.
+#[derive(Clone, Copy, Drop)]
+pub enum Changed {
+    Done,
+    /// The book has made its last decision.
+    Last,
 }
 
 /// To a client that goes, and to a link that is lost or could not be started.

@@ -1,15 +1,25 @@
 //! A desk that lends links.
-ghost use Rattle.std.specs.Prelude.{◌≡◌, IfSome, IsSome, None, Some};
+ghost use Rattle.std.specs.Prelude.{◌≡◌, IfOk, IfSome, IsSome, None, Some};
+ghost use Rattle.std.specs.Arc.{arc_value};
+ghost use Rattle.book_model.specs.Book.{Book};
+ghost use Rattle.book_model.specs.Kept.{Kept};
+ghost use Rattle.book_register.specs.Views.{view_of};
+ghost use Rattle.link_desk.specs.Counts.{AtMost, class_counts};
 ghost use Rattle.link_desk.specs.Homes.{IsAtHome, IsDialled, IsGrantAtHome};
 ghost use Rattle.link_desk.specs.declared.calls.Call.TheVariants.{GiveBack, Lost, StartFailed};
-ghost use Rattle.link_desk.specs.Passes.{after_arrival, after_asking, after_back, after_grant, after_leaving, after_loss, arrived, asked_by, keeps, lease_of, left, taken, without_lease};
+ghost use Rattle.link_desk.specs.declared.calls.Call.TheVariants as call;
+ghost use Rattle.link_desk.specs.Passes.{after_arrival, after_asking, after_back, after_change, after_grant, after_leaving, after_loss, arrived, asked_by, keeps, lease_of, left, taken, without_lease};
 ghost use Rattle.link_desk.specs.Refusing.{MayArrive, MayAsk, MayTake};
 
-use crate::answers::{Arrival, Asked, Back, Gone, Grant};
+use crate::answers::{Arrival, Asked, Back, Changed, Gone, Grant};
+use book_model::limits::Limits;
+use book_register::view::BookView;
 use ini_config::DbRow;
 use link_start::links::CleanLink;
+use log_lines::notes::{Client, Note};
 use server_end::ServerEnd;
 use start_keys::StartKey;
+use std::alloc::{AllocError, Global};
 use std::sync::Arc;
 
 /// A desk that lends links. Its calls are those of the lease book, each made through a pass, which tells how many decisions of each
@@ -47,7 +57,7 @@ pub trait LinkDesk {
         ensures holder { holder pass.new ≡ asked_by (holder pass.old) result }
         ensures refused { MayAsk result };
 
-    /// Waits until the client needn't wait any longer for its link.
+    /// The client's link, or why there is none; where it waits on, only after a while, in which the desk may have changed.
     fn take(&self, pass: &mut Self::Pass) -> Grant<Self::End>
         requires here { IsSome (holder pass.old).client }
         requires none { (holder pass.old).lease ≡ None }
@@ -87,4 +97,42 @@ pub trait LinkDesk {
     /// A new end of this row's server, which waits for its StartupMessage; `None` where it can't be reached.
     fn dial(&self, row: &DbRow) -> Option<Self::End>
         ensures { IfSome result (λ e. IsDialled home row.now (Self.End.standing e)) };
+
+    /// The book as it is now, in rows of the caller's own; what was made through the pass is among its decisions.
+    ///
+    /// `AllocError` where memory is refused.
+    fn view(&self, alloc: Global, pass: &mut Self::Pass) -> Result<BookView, AllocError>
+        ensures view { IfOk result (λ v. (b : Book) × (Kept b × (v ≡ view_of b))) }
+        ensures at_least { IfOk result (λ v. AtMost (told pass.old).made (class_counts v.counts)) }
+        ensures told { told pass.new ≡ told pass.old }
+        ensures holder { holder pass.new ≡ holder pass.old };
+
+    /// No link is lent until [`LinkDesk::resume`].
+    fn pause(&self, pass: &mut Self::Pass) -> Changed
+        ensures told { told pass.new ≡ after_change (told pass.old) result }
+        ensures holder { holder pass.new ≡ record (holder pass.old) { last = Some call.Pause } };
+
+    /// Links are lent again.
+    fn resume(&self, pass: &mut Self::Pass) -> Changed
+        ensures told { told pass.new ≡ after_change (told pass.old) result }
+        ensures holder { holder pass.new ≡ record (holder pass.old) { last = Some call.Resume } };
+
+    /// No client is let in and no link lent any more.
+    fn shutdown(&self, pass: &mut Self::Pass) -> Changed
+        ensures told { told pass.new ≡ after_change (told pass.old) result }
+        ensures holder { holder pass.new ≡ record (holder pass.old) { last = Some call.Shutdown } };
+
+    /// These limits hold from now on. They come twice: the book keeps the one, its history the other.
+    fn limits(&self, pass: &mut Self::Pass, limits: Arc<Limits>, again: Arc<Limits>) -> Changed
+        requires twice { arc_value again ≡ arc_value limits }
+        ensures told { told pass.new ≡ after_change (told pass.old) result }
+        ensures holder { holder pass.new ≡ record (holder pass.old) { last = Some call.Limits } };
+
+    /// Reads the files of settings and users again, and keeps them for later clients; the limits of the settings, twice. `None` where
+    /// a file has a fault or memory is refused: nothing is kept then.
+    fn reload(&self) -> Option<(Arc<Limits>, Arc<Limits>)>
+        ensures { IfSome result (λ p. arc_value p.1 ≡ arc_value p.0) };
+
+    /// Tells the log. It waits for no reader of it.
+    fn note(&self, client: &Client<'_>, note: &Note<'_>);
 }

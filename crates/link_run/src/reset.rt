@@ -22,16 +22,16 @@ static DISCARD_ALL: [u8; 17] = *b"Q\0\0\0\x10DISCARD ALL\0";
 /// Why a link wasn't reset.
 #[derive(Clone, Copy, PartialEq, Eq, Drop)]
 pub enum ResetFault {
-    /// L2: the end faulted or ended.
+    /// The end faulted or ended.
     Lost,
-    /// L4: something else was answered, a report can't be read or is of a name that the start didn't report, or a frame is longer
+    /// Something else was answered, a report can't be read or is of a name that the start didn't report, or a frame is longer
     /// than [`crate::reply::LONGEST_REPLY`].
     Unexpected,
-    /// L5: after the reset the reported values aren't those of the start.
+    /// After the reset the reported values aren't those of the start.
     Changed,
-    /// L6: an allocation failed.
+    /// An allocation failed.
     Memory,
-    /// L7: the turns are used up.
+    /// The turns are used up.
     Turns,
 }
 
@@ -229,7 +229,7 @@ pub fn reset_link<E: ServerEnd, G: Gate<E>>(
 {
     let mut reset = Reset::begin(alloc, used);
     for _ in 0..turns {
-        gate.turn();
+        gate.turn_of_link();
         if let Err(cause) = reset.send() {
             return Err(reset.fail(cause));
         }

@@ -130,14 +130,14 @@ salted-open (a ∷ b ∷ c ∷ []) = tt
 salted-open (a ∷ b ∷ c ∷ d ∷ []) = tt
 salted-open (a ∷ b ∷ c ∷ d ∷ e ∷ more) = tt
 
-asked_by-open : (a b c : Bool) (more : List ℕ) → IsOpen (if a then bare LetIn more else (if b then bare (Asked Cleartext) more else (if c then salted more else Asked Unknown)))
-asked_by-open true b c more = bare-open LetIn more tt
-asked_by-open false true c more = bare-open (Asked Cleartext) more tt
-asked_by-open false false true more = salted-open more
-asked_by-open false false false more = tt
+asked_by-open : (a b c : Bool) (kind : ℕ) (more : List ℕ) → IsOpen (if a then bare LetIn more else (if b then bare (Asked Cleartext) more else (if c then salted more else Asked (Unknown kind))))
+asked_by-open true b c kind more = bare-open LetIn more tt
+asked_by-open false true c kind more = bare-open (Asked Cleartext) more tt
+asked_by-open false false true kind more = salted-open more
+asked_by-open false false false kind more = tt
 
 asked-open : (r : Result (ℕ × List ℕ) ViewFault) → IsOpen (asked_part r)
-asked-open (Ok x) = asked_by-open (x.0 == ASKS_NOTHING) (x.0 == ASKS_CLEARTEXT) (x.0 == ASKS_MD5) x.1
+asked-open (Ok x) = asked_by-open (x.0 == ASKS_NOTHING) (x.0 == ASKS_CLEARTEXT) (x.0 == ASKS_MD5) x.0 x.1
 asked-open (Err fault) = tt
 
 only-open : (h : Heard) → IsOpen (only_let_in h)

@@ -374,7 +374,7 @@ pub end_cause : (began now : Standing) (secret : Secret) (key : StartKeyOf) (v :
 end_cause began now secret key v Lost x e = ⊎_elim (λ d. inl d) (λ l. inr (omega (arith, l, x.faults))) e
 end_cause began now secret key v Memory x e = tt
 end_cause began now secret key v (causes.Refused error) x e = absurd e
-end_cause began now secret key v Unanswerable x e = absurd e
+end_cause began now secret key v (Unanswerable question) x e = absurd e
 end_cause began now secret key v Unexpected x e = absurd e
 end_cause began now secret key v Turns x e = absurd e
 

@@ -29,7 +29,7 @@ salted other = Other
 -- a cleartext question has nothing but its number, one for a digest has a salt of four bytes
 abbrev pub asked_by : ℕ → List ℕ → Heard
 asked_by kind more =
-    if kind == ASKS_NOTHING then bare LetIn more else (if kind == ASKS_CLEARTEXT then bare (Asked Cleartext) more else (if kind == ASKS_MD5 then salted more else Asked Unknown))
+    if kind == ASKS_NOTHING then bare LetIn more else (if kind == ASKS_CLEARTEXT then bare (Asked Cleartext) more else (if kind == ASKS_MD5 then salted more else Asked (Unknown kind)))
 
 abbrev pub asked_part : Result (ℕ × List ℕ) ViewFault → Heard
 asked_part (Ok x) = asked_by x.0 x.1

@@ -64,7 +64,7 @@ password_of (secrets.Md5 digits) = None
 abbrev pub answer_to : Secret → Text → Question → Option Text
 answer_to secret user Cleartext = password_of secret
 answer_to secret user (Md5 salt) = Some (answer secret user salt)
-answer_to secret user Unknown = None
+answer_to secret user (Unknown kind) = None
 
 abbrev pub answer_heard : Secret → Text → Heard → Option Text
 answer_heard secret user (heard.Asked question) = answer_to secret user question
@@ -170,14 +170,14 @@ abbrev pub IsEndCause : Standing → Standing → StartCause → Type 0
 IsEndCause old new Lost = IsLost old new
 IsEndCause old new Memory = Unit {0}
 IsEndCause old new (Refused error) = ⊥
-IsEndCause old new Unanswerable = ⊥
+IsEndCause old new (Unanswerable question) = ⊥
 IsEndCause old new Unexpected = ⊥
 IsEndCause old new Turns = ⊥
 
 abbrev pub IsCause : Standing → Standing → Secret → StartKeyOf → StartCause → Type 0
 IsCause began now secret key (Refused error) = IsError error × (began.follows ≡ true → IsRefusalOf began secret key error)
 IsCause began now secret key Lost = IsLost began now
-IsCause began now secret key Unanswerable = began.follows ≡ true → IsUnanswerable secret key.user (auth_of began.stage)
+IsCause began now secret key (Unanswerable question) = (answer_to secret key.user question ≡ None) × (began.follows ≡ true → IsUnanswerable secret key.user (auth_of began.stage))
 IsCause began now secret key Unexpected = began.follows ≡ true → ⊥
 IsCause began now secret key Memory = Unit {0}
 IsCause began now secret key Turns = Unit {0}

@@ -26,8 +26,8 @@ pub enum Question {
     Cleartext,
     /// The digest of the password with this salt.
     Md5([u8; 4]),
-    /// Another one.
-    Unknown,
+    /// Another one, of this number: 10 is SASL, as for SCRAM.
+    Unknown(u32),
 }
 
 /// How far a start's answer has come.
@@ -70,7 +70,7 @@ fn asked_by(kind: u32, more: &[u8]) -> Heard
         ASKS_NOTHING => bare(Heard::LetIn, more),
         ASKS_CLEARTEXT => bare(Heard::Asked(Question::Cleartext), more),
         ASKS_MD5 => salted(more),
-        _ => Heard::Asked(Question::Unknown),
+        kind => Heard::Asked(Question::Unknown(kind)),
     }
 }
 

@@ -10,6 +10,7 @@ ghost use Rattle.link_start.specs.declared.heard.Heard.TheVariants.{Asked};
 ghost use Rattle.link_start.specs.declared.start.Progress.TheVariants.{Ready};
 ghost use Rattle.user_file.specs.declared.secrets.Secret.{Secret};
 ghost use Rattle.link_start.specs.declared.start.StartCause.TheVariants as causes;
+ghost use Rattle.link_start.specs.Refusing.{refusal_of};
 ghost use Rattle.link_start.specs.Starts.{CanStart, HasTried, IsCause, IsDone, IsEndCause, IsLinkKey, IsOwnKey, IsSameStart, IsStarted, IsUnderWay, IsWelcomed, tried_before, tried_so_far};
 
 use crate::heard::{Heard, Question, Untaken, error_in, hear, key_told, take_reports};
@@ -18,7 +19,7 @@ use bytes::BytesMut;
 use link_run::gate::Gate;
 use link_run::links::{CleanLink, Lent};
 use link_run::{Moved, ServerEnd};
-use message_view::put_password_message;
+use message_view::{Refusal, put_password_message};
 use param_track::Reported;
 use start_keys::StartKey;
 use std::alloc::{AllocError, Global};
@@ -64,20 +65,44 @@ impl StartError {
 /// Why a link wasn't started.
 #[derive(Drop)]
 pub enum StartCause {
-    /// L1: the server refused the start, by this ErrorResponse.
+    /// The server refused the start, by this ErrorResponse.
     Refused(StartError),
-    /// L2: the end faulted or ended.
+    /// The end faulted or ended.
     Lost,
-    /// L3: the server asks for neither nothing, nor a password, nor its MD5 digest; or for a password where the secret keeps only
+    /// The server asks this, which is neither for a password nor for its MD5 digest; or for a password where the secret keeps only
     /// its digest, or has a zero byte.
-    Unanswerable,
-    /// L4: something else was answered, a report or the server's key can't be read, more than 64 names were reported, or a frame is
+    Unanswerable(Question),
+    /// Something else was answered, a report or the server's key can't be read, more than 64 names were reported, or a frame is
     /// longer than [`link_run::reply::LONGEST_REPLY`].
     Unexpected,
-    /// L6: an allocation failed, or the key has no StartupMessage of the greatest length.
+    /// An allocation failed, or the key has no StartupMessage of the greatest length.
     Memory,
-    /// L7: the turns are used up.
+    /// The turns are used up.
     Turns,
+}
+
+/// What a client is told whose link wasn't started.
+#[derive(Drop)]
+pub enum StartRefusal {
+    /// The server's own words.
+    Error(StartError),
+    Refusal(Refusal),
+}
+
+impl StartCause {
+    /// What the client is told: the server's own ErrorResponse, that memory was refused, or that the server could not be reached.
+    pub fn into_refusal(self) -> StartRefusal
+        ensures { result ≡ refusal_of self }
+    {
+        match self {
+            StartCause::Refused(error) => StartRefusal::Error(error),
+            StartCause::Memory => StartRefusal::Refusal(Refusal::OutOfMemory),
+            StartCause::Lost
+            | StartCause::Unanswerable(_)
+            | StartCause::Unexpected
+            | StartCause::Turns => StartRefusal::Refusal(Refusal::ServerNotReached),
+        }
+    }
 }
 
 impl From<AllocError> for StartCause {
@@ -241,7 +266,7 @@ impl<E: ServerEnd> Start<E> {
         match question {
             Question::Cleartext => {
                 let Some(password) = password_of(secret) else {
-                    return Err(StartCause::Unanswerable);
+                    return Err(StartCause::Unanswerable(question));
                 };
                 put_password_message(&mut self.messages, password)?;
             }
@@ -249,7 +274,7 @@ impl<E: ServerEnd> Start<E> {
                 let digest = secret.answer(self.key.user.as_slice(), salt);
                 put_password_message(&mut self.messages, &digest)?;
             }
-            Question::Unknown => return Err(StartCause::Unanswerable),
+            Question::Unknown(_) => return Err(StartCause::Unanswerable(question)),
         }
         self.answered = true;
         Ok(())
@@ -386,7 +411,7 @@ pub fn start_link<E: ServerEnd, G: Gate<E>>(
 {
     let mut start = Start::begin(alloc, end, key, number, born)?;
     for _ in 0..turns {
-        gate.turn();
+        gate.turn_of_link();
         match start.turn(alloc, secret) {
             Ok(Progress::More) => {}
             Ok(Progress::Ready) => return start.finish(alloc),

@@ -10,7 +10,7 @@ use ini_config::DbRow;
 use memory_ends::memory_server::{MemoryServer, ServerAuth};
 use memory_start_laws::memory_servers_can_start;
 use message_view::KeyWord;
-use pool_desk::dial::Dial;
+use pool_desk::outside::Outside;
 use session_catalogue::Catalogue;
 use std::alloc::Global;
 use std::marker::{Brand, Model, PhantomData};
@@ -70,7 +70,7 @@ impl<N: Naming> MemoryDial<N> {
     }
 }
 
-impl<N: Naming> Dial for MemoryDial<N> {
+impl<N: Naming> Outside for MemoryDial<N> {
     ghost use Rattle.memory_dial.specs.Homes.{open_home};
 
     type End = MemoryServer;

@@ -38,7 +38,7 @@ refused_so cat began secret key error n x = record {
 pub unstarted : (cat : CatalogueOf) (began now : Standing) (secret : Secret) (key : StartKeyOf) (c : StartCause) → IsNewServer cat began → IsCause began now secret key c → IsUnstarted cat key c
 unstarted cat began now secret key (cause.Refused error) n x = refused_so cat began secret key error n (x.1 n.home.follows)
 unstarted cat began now secret key cause.Lost n x = tt
-unstarted cat began now secret key cause.Unanswerable n x = tt
+unstarted cat began now secret key (cause.Unanswerable question) n x = tt
 unstarted cat began now secret key cause.Unexpected n x = tt
 unstarted cat began now secret key cause.Memory n x = tt
 unstarted cat began now secret key cause.Turns n x = tt
@@ -47,13 +47,13 @@ unstarted cat began now secret key cause.Turns n x = tt
 untaken_so : (cat : CatalogueOf) (key : StartKeyOf) (c : StartCause) (t : Taken) → IsUnstarted cat key c → IsUntaken c t → IsTaken cat key t
 untaken_so cat key (cause.Refused error) (taken.Failed told) u x = subst (λ (e : List ℕ). IsStartError cat key e) (sym x) u
 untaken_so cat key cause.Lost (taken.Failed told) u x = absurd x
-untaken_so cat key cause.Unanswerable (taken.Failed told) u x = absurd x
+untaken_so cat key (cause.Unanswerable question) (taken.Failed told) u x = absurd x
 untaken_so cat key cause.Unexpected (taken.Failed told) u x = absurd x
 untaken_so cat key cause.Memory (taken.Failed told) u x = absurd x
 untaken_so cat key cause.Turns (taken.Failed told) u x = absurd x
 untaken_so cat key (cause.Refused error) (taken.Link l) u x = absurd x
 untaken_so cat key cause.Lost (taken.Link l) u x = absurd x
-untaken_so cat key cause.Unanswerable (taken.Link l) u x = absurd x
+untaken_so cat key (cause.Unanswerable question) (taken.Link l) u x = absurd x
 untaken_so cat key cause.Unexpected (taken.Link l) u x = absurd x
 untaken_so cat key cause.Memory (taken.Link l) u x = absurd x
 untaken_so cat key cause.Turns (taken.Link l) u x = absurd x

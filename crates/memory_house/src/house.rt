@@ -94,8 +94,10 @@ fn untaken(fault: StartLinkFault<MemoryServer>) -> Result<Taken, AllocError>
     match cause {
         StartCause::Memory => Err(AllocError),
         StartCause::Refused(error) => Ok(Taken::Failed(error)),
-        StartCause::Lost | StartCause::Unanswerable | StartCause::Unexpected | StartCause::Turns =>
-            Ok(Taken::Refused(Refusal::ServerNotReached)),
+        StartCause::Lost
+        | StartCause::Unanswerable(_)
+        | StartCause::Unexpected
+        | StartCause::Turns => Ok(Taken::Refused(Refusal::ServerNotReached)),
     }
 }
 

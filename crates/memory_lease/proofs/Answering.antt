@@ -328,7 +328,7 @@ unstarted_by : (dies : Option ℕ) (began now : Standing) (secret : Secret) (key
     → IsAnswer dies limit bytes new (own_pieces began.server.catalogue key word bytes)
 unstarted_by dies began now secret key word limit bytes old new (cause.Refused error) f l x n t = refused_start dies began secret key word limit bytes new error l (x.1 f) (t ∙ ap (λ (o : List ℕ). o ++ error) n)
 unstarted_by dies began now secret key word limit bytes old new cause.Lost f l x n t = refused_first dies limit bytes new _ (t ∙ ap (λ (o : List ℕ). o ++ refusal ServerNotReached) n)
-unstarted_by dies began now secret key word limit bytes old new cause.Unanswerable f l x n t = refused_first dies limit bytes new _ (t ∙ ap (λ (o : List ℕ). o ++ refusal ServerNotReached) n)
+unstarted_by dies began now secret key word limit bytes old new (cause.Unanswerable question) f l x n t = refused_first dies limit bytes new _ (t ∙ ap (λ (o : List ℕ). o ++ refusal ServerNotReached) n)
 unstarted_by dies began now secret key word limit bytes old new cause.Unexpected f l x n t = refused_first dies limit bytes new _ (t ∙ ap (λ (o : List ℕ). o ++ refusal ServerNotReached) n)
 unstarted_by dies began now secret key word limit bytes old new cause.Turns f l x n t = refused_first dies limit bytes new _ (t ∙ ap (λ (o : List ℕ). o ++ refusal ServerNotReached) n)
 unstarted_by dies began now secret key word limit bytes old new cause.Memory f l x n t = absurd t

@@ -17,7 +17,7 @@ use Rattle.memory_lease.specs.declared.alone.Ending.TheVariants.{Done, Refused, 
 abbrev pub TellsCause : StartCause → List ℕ → List ℕ → Type 0
 TellsCause (cause.Refused error) before after = after ≡ before ++ error
 TellsCause cause.Lost before after = after ≡ before ++ refusal ServerNotReached
-TellsCause cause.Unanswerable before after = after ≡ before ++ refusal ServerNotReached
+TellsCause (cause.Unanswerable question) before after = after ≡ before ++ refusal ServerNotReached
 TellsCause cause.Unexpected before after = after ≡ before ++ refusal ServerNotReached
 TellsCause cause.Turns before after = after ≡ before ++ refusal ServerNotReached
 TellsCause cause.Memory before after = ⊥

@@ -64,8 +64,10 @@ fn put_unstarted(fault: &StartLinkFault<OwnServer>, out: &mut BytesMut) -> Resul
     match &fault.cause {
         StartCause::Memory => Err(AllocError),
         StartCause::Refused(error) => out.extend_from_slice(error.as_bytes()),
-        StartCause::Lost | StartCause::Unanswerable | StartCause::Unexpected | StartCause::Turns =>
-            out.extend_from_slice(refusal_bytes(Refusal::ServerNotReached)),
+        StartCause::Lost
+        | StartCause::Unanswerable(_)
+        | StartCause::Unexpected
+        | StartCause::Turns => out.extend_from_slice(refusal_bytes(Refusal::ServerNotReached)),
     }
 }
 

@@ -4,8 +4,6 @@ use Rattle.desk_tallies.specs.Homes.{HomeOf, IsAtHome}
 use Rattle.desk_tallies.specs.Passes.{PassOf, broken, one_other}
 use Rattle.lease_book.specs.declared.events.Event.{Event}
 use Rattle.lease_book.specs.declared.events.Event.TheVariants as event
-use Rattle.pool_desk.specs.declared.answers.Changed.{Changed}
-use Rattle.pool_desk.specs.declared.answers.Changed.TheVariants as changed
 use Rattle.pool_desk.specs.declared.answers.Ticked.{Ticked}
 use Rattle.pool_desk.specs.declared.answers.Ticked.TheVariants as ticked
 
@@ -19,10 +17,6 @@ module _ {E : Type 0} where
   abbrev pub IsTickAtHome : HomeOf → Ticked E → Type 0
   IsTickAtHome home (ticked.Close link) = IsAtHome home link
   IsTickAtHome home _ = Unit {0}
-
-abbrev pub after_change : PassOf → Changed → PassOf
-after_change p changed.Done = one_other p
-after_change p changed.Last = broken p
 
 module _ {E : Type 0} where
   abbrev pub is_change : Event E → Bool

@@ -1,14 +1,2 @@
 -- The book's decisions by class.
-use Rattle.std.specs.Prelude.{◌+◌}
-use Rattle.book_model.specs.declared.counts.Counts.{Counts}
-use Rattle.desk_tallies.specs.Passes.{Made}
-
-abbrev pub class_counts : Counts → Made
-class_counts c = record {
-  arrived = c.arrived;
-  granted = c.granted;
-  given_back = c.given_back;
-  lost = c.lost + c.starts_failed;
-  left = c.left;
-  others = c.arrivals_refused + c.asked + c.asks_refused + c.tickets_lost + c.ticked + c.limited + c.paused + c.resumed + c.shut_down;
-}
+pub use Rattle.link_desk.specs.Counts.{class_counts}

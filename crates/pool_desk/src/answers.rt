@@ -1,5 +1,6 @@
 //! What the desk answers to those who run it.
 
+pub use desk_tallies::answers::Changed;
 use link_run::links::CleanLink;
 use server_end::ServerEnd;
 
@@ -10,14 +11,6 @@ pub enum Ticked<E: ServerEnd> {
     Done,
     /// This idle link is to be closed, and there may be more: the same second is told again.
     Close(CleanLink<E>),
-    /// The book has made its last decision.
-    Last,
-}
-
-/// To new limits, Pause, Resume and Shutdown.
-#[derive(Clone, Copy, Drop)]
-pub enum Changed {
-    Done,
     /// The book has made its last decision.
     Last,
 }

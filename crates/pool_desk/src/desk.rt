@@ -7,22 +7,22 @@ ghost use Rattle.book_register.specs.Views.{view_of};
 ghost use Rattle.lease_book.specs.Links.{IsTwice, handed, handed_back, plain, reply_of};
 ghost use Rattle.link_desk.specs.declared.calls.Call.TheVariants as call;
 ghost use Rattle.desk_tallies.specs.Homes.{IsAtHome};
-ghost use Rattle.desk_tallies.specs.Passes.{new_holder, new_pass};
+ghost use Rattle.desk_tallies.specs.Passes.{after_change, new_holder, new_pass};
 ghost use Rattle.desk_tallies.specs.declared.passes.TheConstants.{ALL_PARTS};
 ghost use Rattle.desk_tallies.specs.Shares.{AtMost, made_of, names_of, of_each, parts_of, sum_over};
-ghost use Rattle.pool_desk.specs.Changes.{AfterTick, IsTickAtHome, after_change, is_change};
+ghost use Rattle.pool_desk.specs.Changes.{AfterTick, IsTickAtHome, is_change};
 ghost use Rattle.pool_desk.specs.Classes.{class_counts};
 ghost use Rattle.pool_desk.specs.Hears.{call_of, heard};
 ghost use Rattle.pool_desk.specs.Joined.{brought};
 ghost use Rattle.pool_desk.specs.Tells.{Tells};
 
-use crate::answers::{Changed, Ticked};
+use crate::answers::Ticked;
 use crate::bells::Bells;
-use crate::dial::Dial;
 use crate::inner::Core;
+use crate::outside::Outside;
 use book_model::limits::{Limits, MOST_CLIENTS};
 use book_register::view::BookView;
-use desk_tallies::answers::{Arrival, Asked, Back, Gone, Grant};
+use desk_tallies::answers::{Arrival, Asked, Back, Changed, Gone, Grant};
 use desk_tallies::calls::Lease;
 use desk_tallies::desk::LinkDesk;
 use desk_tallies::ledgers::Ledgers;
@@ -31,10 +31,13 @@ use desk_tallies::tallies::Blanks;
 use ini_config::DbRow;
 use lease_book::events::{Event, Reply};
 use link_run::links::CleanLink;
+use log_lines::notes::{Client, Note};
 use server_end::ServerEnd;
 use start_keys::StartKey;
 use std::alloc::{AllocError, Global};
-use std::sync::{Arc, Mutex, Wait};
+use std::rt::Clock;
+use std::sync::{Arc, Mutex, MutexGuard, Wait};
+use std::time::Duration;
 
 /// Which of the clients that wait a decision may help.
 #[derive(Clone, Copy, Drop)]
@@ -58,34 +61,39 @@ fn helped_by<E: ServerEnd>(event: &Event<E>) -> Helps {
     }
 }
 
-/// The lease book behind one lock, the bells of the clients that wait, and how servers are reached. Each event is one hold of the lock,
+/// As long as a client waits on without a look at it.
+fn longest_wait() -> Duration {
+    Duration::from_millis(1000)
+}
+
+/// The lease book behind one lock, the bells of the clients that wait, and what is reached outside. Each event is one hold of the lock,
 /// in which no byte moves.
-pub struct Desk<R: Wait, S: Dial, K: Ledgers> {
+pub struct Desk<R: Wait, S: Outside, K: Ledgers> {
     rt: R,
-    dialer: S,
+    outside: S,
     core: Mutex<Core<S, K>>,
     bells: Bells,
 }
 
-impl<R: Wait + Drop, S: Dial + Drop, K: Ledgers> Drop for Desk<R, S, K> {
+impl<R: Wait + Drop, S: Outside + Drop, K: Ledgers> Drop for Desk<R, S, K> {
     fn drop(self) {
         let Desk {
             rt: _,
-            dialer: _,
+            outside: _,
             core: _,
             bells: _,
         } = self;
     }
 }
 
-impl<R: Wait + Drop, S: Dial + Drop, K: Ledgers> Desk<R, S, K> {
+impl<R: Wait + Drop, S: Outside + Drop, K: Ledgers> Desk<R, S, K> {
     /// A desk with an empty book.
     ///
     /// `AllocError` where memory is refused.
     pub fn new(
         rt: R,
         alloc: Global,
-        dialer: S,
+        outside: S,
         limits: Arc<Limits>,
         blanks: Blanks,
     ) -> Result<Desk<R, S, K>, AllocError>
@@ -97,7 +105,7 @@ impl<R: Wait + Drop, S: Dial + Drop, K: Ledgers> Desk<R, S, K> {
         let core = Core::new(alloc, limits, blanks)?;
         Ok(Desk {
             rt,
-            dialer,
+            outside,
             core: Mutex::new(core),
             bells,
         })
@@ -111,7 +119,7 @@ impl<R: Wait + Drop, S: Dial + Drop, K: Ledgers> Desk<R, S, K> {
     {
         let Desk {
             rt,
-            dialer,
+            outside,
             core,
             bells,
         } = self;
@@ -121,7 +129,7 @@ impl<R: Wait + Drop, S: Dial + Drop, K: Ledgers> Desk<R, S, K> {
                 let core = Mutex::new(core);
                 let desk = Desk {
                     rt,
-                    dialer,
+                    outside,
                     core,
                     bells,
                 };
@@ -131,7 +139,7 @@ impl<R: Wait + Drop, S: Dial + Drop, K: Ledgers> Desk<R, S, K> {
     }
 }
 
-impl<R: Wait, S: Dial, K: Ledgers> Desk<R, S, K> {
+impl<R: Wait + Clock, S: Outside, K: Ledgers> Desk<R, S, K> {
     /// A pass that nobody holds; `None` where 4,294,967,295 were cut off.
     pub fn pass(&self) -> Option<Pass<K>>
         ensures told { IfSome result (λ p. p.told ≡ new_pass) }
@@ -162,6 +170,14 @@ impl<R: Wait, S: Dial, K: Ledgers> Desk<R, S, K> {
         }
     }
 
+    /// Lets the lock go until this client is woken, or for about a second.
+    fn wait(&self, client: u64, core: MutexGuard<'_, Core<S, K>>) {
+        let _ = self
+            .bells
+            .of(client)
+            .wait_timeout(&self.rt, core, longest_wait());
+    }
+
     /// One event, in one hold of the lock.
     fn hold(&self, pass: &mut Pass<K>, event: Event<S::End>) -> Reply<S::End>
         requires twice { IsTwice event }
@@ -180,6 +196,11 @@ impl<R: Wait, S: Dial, K: Ledgers> Desk<R, S, K> {
             self.ring(&core, helps);
         }
         reply
+    }
+
+    /// Whether no client is let in any more.
+    pub fn is_shut(&self) -> bool {
+        self.core.lock(&self.rt).is_shut()
     }
 
     /// It is this second.
@@ -209,57 +230,9 @@ impl<R: Wait, S: Dial, K: Ledgers> Desk<R, S, K> {
             _ => unreachable!(),
         }
     }
-
-    /// These limits hold from now on.
-    ///
-    /// `AllocError` where memory is refused; nothing has changed then.
-    pub fn limits(&self, pass: &mut Pass<K>, limits: &Arc<Limits>) -> Result<Changed, AllocError>
-        ensures told { IfOk result (λ c. pass.new.told ≡ after_change pass.old.told c) }
-        ensures holder { IfOk result (λ c. pass.new.holder ≡ record pass.old.holder { last = Some call.Limits }) }
-        ensures err { OnErr result (pass.new ≡ pass.old) }
-    {
-        let first = Arc::try_clone(limits)?;
-        let again = Arc::try_clone(limits)?;
-        Ok(self.change(pass, Event::Limits(first, again)))
-    }
-
-    /// No link is lent until [`Desk::resume`].
-    pub fn pause(&self, pass: &mut Pass<K>) -> Changed
-        ensures told { pass.new.told ≡ after_change pass.old.told result }
-        ensures holder { pass.new.holder ≡ record pass.old.holder { last = Some call.Pause } }
-    {
-        self.change(pass, Event::Pause)
-    }
-
-    /// Links are lent again.
-    pub fn resume(&self, pass: &mut Pass<K>) -> Changed
-        ensures told { pass.new.told ≡ after_change pass.old.told result }
-        ensures holder { pass.new.holder ≡ record pass.old.holder { last = Some call.Resume } }
-    {
-        self.change(pass, Event::Resume)
-    }
-
-    /// No client is let in and no link lent any more.
-    pub fn shutdown(&self, pass: &mut Pass<K>) -> Changed
-        ensures told { pass.new.told ≡ after_change pass.old.told result }
-        ensures holder { pass.new.holder ≡ record pass.old.holder { last = Some call.Shutdown } }
-    {
-        self.change(pass, Event::Shutdown)
-    }
-
-    /// The book as it is now, in rows of the caller's own; what was made through the pass is among its decisions.
-    ///
-    /// `AllocError` where memory is refused.
-    pub fn view(&self, alloc: Global, pass: &mut Pass<K>) -> Result<BookView, AllocError>
-        ensures view { IfOk result (λ v. (b : Book) × (Kept b × (v ≡ view_of b))) }
-        ensures at_least { IfOk result (λ v. AtMost pass.old.told.made (class_counts v.counts)) }
-        ensures pass { pass.new ≡ pass.old }
-    {
-        self.core.lock(&self.rt).view(alloc, pass)
-    }
 }
 
-impl<R: Wait, S: Dial, K: Ledgers> LinkDesk for Desk<R, S, K> {
+impl<R: Wait + Clock, S: Outside, K: Ledgers> LinkDesk for Desk<R, S, K> {
     type End = S::End;
 
     type Pass = Pass<K>;
@@ -303,14 +276,16 @@ impl<R: Wait, S: Dial, K: Ledgers> LinkDesk for Desk<R, S, K> {
             unreachable!()
         };
         let mut core = self.core.lock(&self.rt);
-        for _ in self.rt.forever() {
-            if let Some(grant) = core.take(pass, client) {
-                self.ring_first(&core);
-                return grant;
+        match core.take(pass, client) {
+            Grant::Queued => {
+                self.wait(client, core);
+                Grant::Queued
             }
-            core = self.bells.of(client).wait(&self.rt, core);
+            grant => {
+                self.ring_first(&core);
+                grant
+            }
         }
-        unreachable!()
     }
 
     fn give_back(&self, pass: &mut Pass<K>, link: &mut Option<CleanLink<S::End>>) -> Back {
@@ -372,6 +347,33 @@ impl<R: Wait, S: Dial, K: Ledgers> LinkDesk for Desk<R, S, K> {
     }
 
     fn dial(&self, row: &DbRow) -> Option<S::End> {
-        self.dialer.dial(row)
+        self.outside.dial(row)
+    }
+    fn view(&self, alloc: Global, pass: &mut Pass<K>) -> Result<BookView, AllocError> {
+        self.core.lock(&self.rt).view(alloc, pass)
+    }
+
+    fn pause(&self, pass: &mut Pass<K>) -> Changed {
+        self.change(pass, Event::Pause)
+    }
+
+    fn resume(&self, pass: &mut Pass<K>) -> Changed {
+        self.change(pass, Event::Resume)
+    }
+
+    fn shutdown(&self, pass: &mut Pass<K>) -> Changed {
+        self.change(pass, Event::Shutdown)
+    }
+
+    fn limits(&self, pass: &mut Pass<K>, limits: Arc<Limits>, again: Arc<Limits>) -> Changed {
+        self.change(pass, Event::Limits(limits, again))
+    }
+
+    fn reload(&self) -> Option<(Arc<Limits>, Arc<Limits>)> {
+        self.outside.reload()
+    }
+
+    fn note(&self, client: &Client<'_>, note: &Note<'_>) {
+        self.outside.note(client, note);
     }
 }

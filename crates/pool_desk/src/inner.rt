@@ -1,5 +1,5 @@
 //! What lies behind the desk's lock.
-ghost use Rattle.std.specs.Prelude.{◌≡◌, ◌<◌, ◌≤◌, ◌^◌, ◌||◌, [], IfOk, IfErr, IfSome, IfNone, MatchOption, Some, vec_len, suc, ◌≢◌};
+ghost use Rattle.std.specs.Prelude.{◌≡◌, ◌<◌, ◌≤◌, ◌^◌, ◌||◌, [], IfOk, IfErr, IfSome, IfNone, Some, vec_len, suc, ◌≢◌};
 ghost use Rattle.std.specs.Arc.{arc_value};
 ghost use Rattle.book_model.specs.Book.{empty_book};
 ghost use Rattle.book_model.specs.Kept.{FitsLimits, Kept, KeptLimits, total};
@@ -15,8 +15,8 @@ ghost use Rattle.pool_desk.specs.Hears.{call_of, heard};
 ghost use Rattle.pool_desk.specs.Joined.{brought};
 ghost use Rattle.pool_desk.specs.Tells.{Tells, breaks};
 
-use crate::dial::Dial;
 use crate::hearing::{call_of, heard};
+use crate::outside::Outside;
 use book_model::counts::Counts;
 use book_model::limits::Limits;
 use book_register::view::{BookView, Waiting};
@@ -80,16 +80,16 @@ fn breaks<E: ServerEnd>(reply: &Reply<E>) -> bool
 
 /// The book, the counters of its decisions by class, and the shares that no pass has.
 #[derive(Drop)]
-pub struct Core<S: Dial, K: Ledgers> {
+pub struct Core<S: Outside, K: Ledgers> {
     book: Book<S::End>,
     tallies: Tallies<K>,
     uncut: Shares<K>,
     /// So many passes were cut off.
     given: u64,
-    dialer: PhantomData<S>,
+    outside: PhantomData<S>,
 }
 
-impl<S: Dial, K: Ledgers> Model for Core<S, K> {
+impl<S: Outside, K: Ledgers> Model for Core<S, K> {
     ghost use Rattle.pool_desk.specs.Joined.{CoreOf, IsJoined};
 
     ghost Value = { CoreOf };
@@ -99,7 +99,7 @@ impl<S: Dial, K: Ledgers> Model for Core<S, K> {
     ghost invariant = { λ c. IsJoined S.home c.book c.tallies c.uncut c.given };
 }
 
-impl<S: Dial, K: Ledgers> Core<S, K> {
+impl<S: Outside, K: Ledgers> Core<S, K> {
     /// An empty book, of which nothing was counted.
     ///
     /// `AllocError` where memory is refused.
@@ -118,7 +118,7 @@ impl<S: Dial, K: Ledgers> Core<S, K> {
             tallies,
             uncut,
             given: 0,
-            dialer: PhantomData,
+            outside: PhantomData,
         })
     }
 
@@ -161,28 +161,28 @@ impl<S: Dial, K: Ledgers> Core<S, K> {
         reply
     }
 
-    /// What the pass's client, of this number, is granted; `None` where it waits on.
-    pub fn take(&mut self, pass: &mut Pass<K>, client: u64) -> Option<Grant<S::End>>
+    /// What the pass's client, of this number, is granted.
+    pub fn take(&mut self, pass: &mut Pass<K>, client: u64) -> Grant<S::End>
         requires own { pass.old.holder.client ≡ Some client }
-        ensures told { MatchOption result (pass.new.told ≡ pass.old.told) (λ g. pass.new.told ≡ after_grant pass.old.told g) }
-        ensures holder { MatchOption result (pass.new.holder ≡ pass.old.holder) (λ g. pass.new.holder ≡ taken pass.old.holder g) }
-        ensures refused { IfSome result (λ g. MayTake g) }
-        ensures home { IfSome result (λ g. IsGrantAtHome S.home g) }
+        ensures told { pass.new.told ≡ after_grant pass.old.told result }
+        ensures holder { pass.new.holder ≡ taken pass.old.holder result }
+        ensures refused { MayTake result }
+        ensures home { IsGrantAtHome S.home result }
     {
         match self.apply(pass, Event::Take { client }) {
-            Reply::Queued(_before) => None,
-            Reply::Lend(link) => Some(Grant::Lend(link)),
+            Reply::Queued(_before) => Grant::Queued,
+            Reply::Lend(link) => Grant::Lend(link),
             Reply::Start {
                 number,
                 born,
                 evicted,
-            } => Some(Grant::Start {
+            } => Grant::Start {
                 number,
                 born,
                 evicted,
-            }),
-            Reply::Refuse(refusal, _back) => Some(Grant::Refused(refusal)),
-            Reply::Stranger(_back) => Some(Grant::Stranger),
+            },
+            Reply::Refuse(refusal, _back) => Grant::Refused(refusal),
+            Reply::Stranger(_back) => Grant::Stranger,
             _ => unreachable!(),
         }
     }
@@ -204,6 +204,13 @@ impl<S: Dial, K: Ledgers> Core<S, K> {
     /// How many decisions there were.
     pub fn decisions(&self) -> u64 {
         self.book.decisions()
+    }
+
+    /// Whether no client is let in any more.
+    pub fn is_shut(&self) -> bool
+        ensures { result ≡ self.now.book.lists.is_shut }
+    {
+        self.book.is_shut()
     }
 
     /// Who waits at this place of the queue.

@@ -5,6 +5,6 @@
 pub mod answers;
 mod bells;
 pub mod desk;
-pub mod dial;
 mod hearing;
 mod inner;
+pub mod outside;

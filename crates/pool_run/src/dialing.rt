@@ -1,6 +1,6 @@
 //! Servers that are reached over TCP.
 use ini_config::DbRow;
-use pool_desk::dial::Dial;
+use pool_desk::outside::Outside;
 use std::alloc::Global;
 use std::net::Net;
 use tcp_end::connection::TcpEnd;
@@ -13,7 +13,7 @@ pub struct TcpDial<R: Net> {
     pub(crate) alloc: Global,
 }
 
-impl<R: Net> Dial for TcpDial<R> {
+impl<R: Net> Outside for TcpDial<R> {
     ghost use Rattle.link_desk.specs.Homes.{unknown_home};
 
     type End = TcpEnd;

@@ -251,7 +251,7 @@ cause_fault : (limit : ℕ) (bytes : List ℕ) (c : StartCause) → IsFaultyWord
 cause_fault limit bytes (cause.Refused error) = tt
 cause_fault limit bytes cause.Memory = tt
 cause_fault limit bytes cause.Lost = tt
-cause_fault limit bytes cause.Unanswerable = tt
+cause_fault limit bytes (cause.Unanswerable question) = tt
 cause_fault limit bytes cause.Unexpected = tt
 cause_fault limit bytes cause.Turns = tt
 
@@ -332,7 +332,7 @@ module _ (p q : PassOf) where
   cause_traces (cause.Refused error) h = h
   cause_traces cause.Memory h = tt
   cause_traces cause.Lost h = h
-  cause_traces cause.Unanswerable h = h
+  cause_traces (cause.Unanswerable question) h = h
   cause_traces cause.Unexpected h = h
   cause_traces cause.Turns h = h
 

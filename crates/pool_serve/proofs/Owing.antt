@@ -57,7 +57,7 @@ unstarted_at : (began now : Standing) (secret : Secret) (key : StartKeyOf) (word
 unstarted_at began now secret key word (cause.Refused error) f l x = refused_start began secret key word error l (x.1 f)
 unstarted_at began now secret key word cause.Memory f l x = refusal_ends (service_pieces began.server.catalogue key word [] []) OutOfMemory
 unstarted_at began now secret key word cause.Lost f l x = refusal_ends (service_pieces began.server.catalogue key word [] []) ServerNotReached
-unstarted_at began now secret key word cause.Unanswerable f l x = refusal_ends (service_pieces began.server.catalogue key word [] []) ServerNotReached
+unstarted_at began now secret key word (cause.Unanswerable question) f l x = refusal_ends (service_pieces began.server.catalogue key word [] []) ServerNotReached
 unstarted_at began now secret key word cause.Unexpected f l x = refusal_ends (service_pieces began.server.catalogue key word [] []) ServerNotReached
 unstarted_at began now secret key word cause.Turns f l x = refusal_ends (service_pieces began.server.catalogue key word [] []) ServerNotReached
 

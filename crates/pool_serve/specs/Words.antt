@@ -5,7 +5,9 @@ use Rattle.message_view.specs.declared.refusal.Refusal.TheVariants.{OutOfMemory,
 use Rattle.message_view.specs.Refusals.{refusal}
 use Rattle.link_laws.specs.Standing.{ClientFacts}
 use Rattle.link_start.specs.declared.start.StartCause.{StartCause}
-use Rattle.link_start.specs.declared.start.StartCause.TheVariants as cause
+use Rattle.link_start.specs.declared.start.StartRefusal.{StartRefusal}
+use Rattle.link_start.specs.declared.start.StartRefusal.TheVariants as told
+use Rattle.link_start.specs.Refusing.{refusal_of}
 use Rattle.login_run.specs.Runs.{IsClientOver}
 use Rattle.pool_serve.specs.declared.TheConstants.{TURNS}
 use Rattle.pool_serve.specs.declared.ending.Ending.{Ending}
@@ -22,14 +24,13 @@ abbrev pub or_nothing : Option Refusal → LastWord
 or_nothing None = last.Nothing
 or_nothing (Some r) = last.Refusal r
 
+abbrev pub word_told : StartRefusal → LastWord
+word_told (told.Error error) = last.Error error
+word_told (told.Refusal r) = last.Refusal r
+
 -- what a client is told whose link wasn't started
 abbrev pub last_of : StartCause → LastWord
-last_of (cause.Refused error) = last.Error error
-last_of cause.Memory = last.Refusal OutOfMemory
-last_of cause.Lost = last.Refusal ServerNotReached
-last_of cause.Unanswerable = last.Refusal ServerNotReached
-last_of cause.Unexpected = last.Refusal ServerNotReached
-last_of cause.Turns = last.Refusal ServerNotReached
+last_of cause = word_told (refusal_of cause)
 
 -- what a client is told last whose time at the desk ended so
 abbrev pub word_of : Ending → LastWord

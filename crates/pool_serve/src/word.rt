@@ -3,7 +3,7 @@ ghost use Rattle.std.specs.Prelude.{◌≡◌, ◌≤◌, drop, length};
 ghost use Rattle.pool_serve.specs.Words.{HasGiven, last_bytes, last_of, or_nothing};
 
 use crate::TURNS;
-use link_start::start::{StartCause, StartError};
+use link_start::start::{StartCause, StartError, StartRefusal};
 use message_view::{Refusal, refusal_bytes};
 use server_end::gate::Gate;
 use server_end::{ClientEnd, Moved, ServerEnd};
@@ -37,7 +37,7 @@ fn give<C: ClientEnd, E: ServerEnd, G: Gate<E>>(client: &mut C, bytes: &[u8], ga
         match client.write_some(rest_of(bytes, sent)) {
             Moved::Count(count) => sent += count,
             Moved::NotNow => {
-                gate.turn();
+                gate.turn_of_client();
             }
             Moved::Ended | Moved::Fault => return,
         }
@@ -59,13 +59,9 @@ impl LastWord {
     pub(crate) fn of_start(cause: StartCause) -> LastWord
         ensures { result ≡ last_of cause }
     {
-        match cause {
-            StartCause::Refused(error) => LastWord::Error(error),
-            StartCause::Memory => LastWord::Refusal(Refusal::OutOfMemory),
-            StartCause::Lost
-            | StartCause::Unanswerable
-            | StartCause::Unexpected
-            | StartCause::Turns => LastWord::Refusal(Refusal::ServerNotReached),
+        match cause.into_refusal() {
+            StartRefusal::Error(error) => LastWord::Error(error),
+            StartRefusal::Refusal(refusal) => LastWord::Refusal(refusal),
         }
     }
 

@@ -7,7 +7,7 @@ ghost use Rattle.server_end.specs.Moves.{CountsRead, CountsWrite, IsWithin, move
 use crate::worker_parts::{CUT, WELCOME, word};
 use ini_config::DbRow;
 use memory_ends::memory_server::{MemoryServer, ServerAuth};
-use pool_desk::dial::Dial;
+use pool_desk::outside::Outside;
 use server_end::{Moved, ServerEnd};
 use session_catalogue::Catalogue;
 use std::alloc::{AllocError, Global};
@@ -197,7 +197,7 @@ impl Servers {
     }
 }
 
-impl Dial for Servers {
+impl Outside for Servers {
     ghost use Rattle.link_desk.specs.Homes.{unknown_home};
 
     type End = TestServer;

@@ -14,7 +14,7 @@ use link_desk::calls::Holder;
 use login_core::Login;
 use message_view::KeyWord;
 use pool_desk::desk::Desk;
-use pool_desk::dial::Dial;
+use pool_desk::outside::Outside;
 use pool_serve::serve::serve;
 use server_end::ClientEnd;
 use server_end::gate::Gate;
@@ -112,7 +112,7 @@ fn is_free<K: Ledgers>(pass: &Pass<K>) -> bool
 }
 
 /// Serves a client by this desk, and hands back its end and the pass; `None` where somebody holds the pass.
-pub(crate) fn serve_by<C: ClientEnd, R: Wait, S: Dial, T: Gate<S::End> + Drop, K: Ledgers>(
+pub(crate) fn serve_by<C: ClientEnd, R: Wait, S: Outside, T: Gate<S::End> + Drop, K: Ledgers>(
     alloc: Global,
     desk: &Desk<R, S, K>,
     pass: Pass<K>,

@@ -14,13 +14,14 @@ use Rattle.link_start.proofs.start.Start.answer.Goals.{in-Cleartext+in-Some+in_o
 use Rattle.link_start.proofs.start.Start.answer.Goals as goal
 
 pub returns-in_default-clause-cause : goal.returns-in_default-clause-cause
-returns-in_default-clause-cause g c = λ b can k x f.
-    has_no_answer b c.args.secret.now c.args.self.now can k x f c.requires.bytes c.args.question c.requires.asked
-    (ap (answer_to c.args.secret.now c.args.self.now.key.user) c.in-Cleartext.is ∙ none_shown c.password_of.result _ c.in_default.not-Some c.password_of.ensures)
+returns-in_default-clause-cause g c = λ b can k x.
+    let none = ap (answer_to c.args.secret.now c.args.self.now.key.user) c.in-Cleartext.is ∙ none_shown c.password_of.result _ c.in_default.not-Some c.password_of.ensures in
+    (none, λ f. has_no_answer b c.args.secret.now c.args.self.now can k x f c.requires.bytes c.args.question c.requires.asked none)
 
 pub returns-in-Unknown-clause-cause : goal.returns-in-Unknown-clause-cause
-returns-in-Unknown-clause-cause g c = λ b can k x f.
-    has_no_answer b c.args.secret.now c.args.self.now can k x f c.requires.bytes c.args.question c.requires.asked (ap (answer_to c.args.secret.now c.args.self.now.key.user) c.in-Unknown.is)
+returns-in-Unknown-clause-cause g c = λ b can k x.
+    let none = ap (answer_to c.args.secret.now c.args.self.now.key.user) c.in-Unknown.is in
+    (none, λ f. has_no_answer b c.args.secret.now c.args.self.now can k x f c.requires.bytes c.args.question c.requires.asked none)
 
 pub returns-clause-under_way : goal.returns-clause-under_way
 returns-clause-under_way g c = λ b can k x.

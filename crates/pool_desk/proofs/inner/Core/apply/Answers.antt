@@ -18,14 +18,14 @@ pub invariant_of-self : goal.invariant_of-self
 invariant_of-self g c = record {
   kept = stay_kept c.self.inside.book.lists c.apply-reply.new.self.lists c.args.event c.event_fits.ensures c.self.invariant.kept c.apply-reply.ensures.lists;
   counted = sym (c.count.ensures.count ∙ c.totals_of-totals.ensures ∙ ap class_counts c.counts.ensures.counts);
-  at_home = stay_home g.S.Dial.home c.args.event _ c.self.inside.book.idle c.apply-reply.new.self.idle c.self.invariant.at_home c.requires.home c.apply-reply.ensures.idle;
+  at_home = stay_home g.S.Outside.home c.args.event _ c.self.inside.book.idle c.apply-reply.new.self.idle c.self.invariant.at_home c.requires.home c.apply-reply.ensures.idle;
   parts = c.self.invariant.parts;
   some_left = c.self.invariant.some_left;
   none_made = c.self.invariant.none_made;
 }
 
 pub returns-clause-home : goal.returns-clause-home
-returns-clause-home g c = comes_home g.S.Dial.home c.args.event _ c.self.inside.book.idle _ c.self.invariant.at_home c.requires.home c.apply-reply.ensures.handed
+returns-clause-home g c = comes_home g.S.Outside.home c.args.event _ c.self.inside.book.idle _ c.self.invariant.at_home c.requires.home c.apply-reply.ensures.handed
 
 pub returns-clause-told : goal.returns-clause-told
 returns-clause-told g c =

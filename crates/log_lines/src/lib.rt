@@ -1,0 +1,4 @@
+//! What a pool's log is told.
+#![tactic(auto)]
+
+pub mod notes;

@@ -1,0 +1,88 @@
+//! What a pool's log is told: each note is one line of it.
+
+use message_view::Refusal;
+use std::time::Instant;
+
+/// A client's connection: where it comes from, and when it came, where the clock could be read.
+#[derive(Clone, Copy)]
+pub struct Visit {
+    pub host: [u8; 4],
+    pub port: u16,
+    pub since: Option<Instant>,
+}
+
+/// Whom a note is about.
+#[derive(Clone, Copy)]
+pub struct Client<'a> {
+    pub visit: Visit,
+    /// Its number in the lease book, once it has arrived there.
+    pub number: Option<u64>,
+    /// The user and the database that its StartupMessage names; empty where none was read.
+    pub user: &'a [u8],
+    pub database: &'a [u8],
+}
+
+/// Where a link leads, or would.
+#[derive(Clone, Copy)]
+pub struct Server {
+    pub host: [u8; 4],
+    pub port: u16,
+}
+
+/// Why a link wasn't started.
+#[derive(Clone, Copy)]
+pub enum Unstarted<'a> {
+    /// No connection to the server can be had.
+    NotReached,
+    /// The server asks for another authentication than this pooler's, of this number: 10 is SASL, as for SCRAM; or for a password
+    /// (3) where the user file has but its digest.
+    Unanswerable(u32),
+    /// The connection was lost in the dialogue.
+    Lost,
+    /// Something that isn't in the protocol was answered.
+    Unexpected,
+    /// It was not answered in time.
+    TimedOut,
+    /// The server's own ErrorResponse, the whole message.
+    Refused(&'a [u8]),
+}
+
+/// Why a link was closed at the end of its lease, or lost.
+#[derive(Clone, Copy)]
+pub enum Loss {
+    /// Its server's connection ended or faulted.
+    Ended,
+    /// The client left within a transaction block.
+    InBlock,
+    /// The client left before all was answered, or within a message.
+    Unanswered,
+    /// What the server sent is no session's answer.
+    Foreign,
+    /// `DISCARD ALL` wasn't answered as it is to be, or not in time.
+    NotReset,
+}
+
+/// What a pool's log is told.
+#[derive(Clone, Copy)]
+pub enum Note<'a> {
+    /// The client is through its login.
+    LoggedIn,
+    /// The client's connection is closed.
+    Closed,
+    /// The client was refused.
+    Refused(Refusal),
+    /// It was refused because of this startup parameter.
+    UnsupportedParameter(&'a [u8]),
+    /// The user is unknown, or its password wrong.
+    WrongPassword,
+    /// The settings have no such database.
+    NoDatabase,
+    /// No link could be started for the client.
+    Unstarted(Server, Unstarted<'a>),
+    /// The client's link, of this number, is closed.
+    LinkLost(u64, Loss),
+    /// The client paused the pool, resumed it or shuts it down.
+    Paused,
+    Resumed,
+    ShuttingDown,
+}

@@ -1,0 +1,36 @@
+//! What a desk reaches outside: its servers, its files and its log.
+ghost use Rattle.std.specs.Prelude.{◌≡◌, IfSome};
+ghost use Rattle.std.specs.Arc.{arc_value};
+ghost use Rattle.desk_tallies.specs.Homes.{IsDialled};
+
+use book_model::limits::Limits;
+use ini_config::DbRow;
+use log_lines::notes::{Client, Note};
+use server_end::ServerEnd;
+use std::sync::Arc;
+
+/// What a desk reaches outside, and what is claimed of its servers.
+pub trait Outside {
+    ghost use Rattle.desk_tallies.specs.Homes.{HomeOf};
+
+    type End: ServerEnd;
+
+    ghost home: { HomeOf };
+
+    /// A new end of this row's server, which waits for its StartupMessage; `None` where it can't be reached.
+    fn dial(&self, row: &DbRow) -> Option<Self::End>
+        ensures { IfSome result (λ e. IsDialled home row.now (Self.End.standing e)) };
+
+    /// Reads the files of settings and users again, and keeps them for later clients; the limits of the settings, twice. `None` where
+    /// a file has a fault or memory is refused: nothing is kept then. So it is where there are no files.
+    fn reload(&self) -> Option<(Arc<Limits>, Arc<Limits>)>
+        ensures { IfSome result (λ p. arc_value p.1 ≡ arc_value p.0) }
+    {
+        None
+    }
+
+    /// Tells the log, if there is one. It waits for no reader of it.
+    fn note(&self, client: &Client<'_>, note: &Note<'_>) {
+        let _ = (client, note);
+    }
+}
