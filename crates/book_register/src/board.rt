@@ -175,6 +175,7 @@ impl Board {
         let limits: &Limits = &self.limits;
         let idle_timeout = u64::from(limits.server_idle_timeout);
         self.is_old(link)
+            || !limits.lists(link.key.key())
             || (idle_timeout != 0 && idle_timeout <= self.clock.saturating_sub(link.since))
     }
 
