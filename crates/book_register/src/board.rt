@@ -1,4 +1,5 @@
-//! The lists, and what an event makes of them, in the definition's order and words.
+//! The lists of the lease book, and what an event makes of them, in the definition's order and words. Between the steps of an event they
+//! needn't be in order: a list is changed before the counts rise.
 ghost use Rattle.std.specs.Prelude.{◌≡◌, ◌<◌, ◌≤◌, suc, ◌+◌, ◌++◌, ◌==◌, ◌&&◌, ◌||◌, [], ◌∷◌, Some, None, true, false, nat_lt, not, cond, count_by, ℕ, find, position, slice_get, length};
 ghost use Rattle.std.specs.Arc.{arc_value};
 ghost use Rattle.std.specs.List.{list_any};
