@@ -265,11 +265,8 @@ impl<C: ClientEnd> LoginRun<C> {
     }
 
     /// The start key with which the client arrived, once it has.
-    pub fn who(&self) -> Option<&StartKey> {
-        match &self.key {
-            Some(key) => Some(&**key),
-            None => None,
-        }
+    pub fn key(&self) -> Option<&Arc<StartKey>> {
+        self.key.as_ref()
     }
 
     /// Takes it apart: the client's end, the login, and the key of a client that was let in.
