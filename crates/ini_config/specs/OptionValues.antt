@@ -1,5 +1,5 @@
 -- The keys of the section [pgbouncer] (PgBouncer manual, "Generic settings" and after).
-use Rattle.std.specs.Prelude.{ℕ, Bool, List, [], ◌∷◌, if◌then◌else◌, Option, Some, None, option_map, bytes_eq, codes}
+use Rattle.std.specs.Prelude.{ℕ, Bool, false, List, [], ◌∷◌, if◌then◌else◌, Option, Some, None, option_map, bytes_eq, codes}
 use Rattle.std.specs.Str.{str_eq_ignore_ascii_case}
 use Rattle.std.specs.List.{list_any, find}
 use Rattle.ini_config.specs.Values.{number_between, listen_address, names}
@@ -26,13 +26,14 @@ served =
     ∷ (codes "max_client_conn", key.MaxClientConn) ∷ (codes "default_pool_size", key.DefaultPoolSize) ∷ (codes "max_links", key.MaxLinks)
     ∷ (codes "query_wait_timeout", key.QueryWaitTimeout) ∷ (codes "server_lifetime", key.ServerLifetime)
     ∷ (codes "server_idle_timeout", key.ServerIdleTimeout) ∷ (codes "max_packet_size", key.MaxPacketSize)
-    ∷ (codes "ignore_startup_parameters", key.IgnoreStartupParameters) ∷ (codes "track_extra_parameters", key.TrackExtraParameters) ∷ []
+    ∷ (codes "ignore_startup_parameters", key.IgnoreStartupParameters) ∷ (codes "track_extra_parameters", key.TrackExtraParameters)
+    ∷ (codes "log_connections", key.LogConnections) ∷ (codes "log_disconnections", key.LogDisconnections) ∷ []
 
 -- keys of PgBouncer that are read, with any value, and not used
 abbrev pub unused : List Text
 unused =
     codes "auth_file" ∷ codes "logfile" ∷ codes "pidfile" ∷ codes "unix_socket_dir" ∷ codes "syslog" ∷ codes "verbose" ∷ codes "stats_users"
-    ∷ codes "stats_period" ∷ codes "log_connections" ∷ codes "log_disconnections" ∷ codes "log_pooler_errors" ∷ codes "log_stats"
+    ∷ codes "stats_period" ∷ codes "log_pooler_errors" ∷ codes "log_stats"
     ∷ codes "job_name" ∷ codes "pkt_buf" ∷ codes "listen_backlog" ∷ codes "tcp_keepalive" ∷ codes "server_check_delay"
     ∷ codes "server_connect_timeout" ∷ codes "server_login_retry" ∷ codes "server_reset_query_always" ∷ []
 
@@ -57,6 +58,10 @@ count text = number_between 1 10000 text
 abbrev pub seconds : Text → Option ℕ
 seconds text = number_between 0 2147483647 text
 
+-- a switch: on at 1, off at every other value
+abbrev pub is_one : Text → Bool
+is_one text = bytes_eq text (codes "1")
+
 -- what a key's value makes of the settings; none where it isn't a value of the key
 unfoldable pub change_of : Key → Text → Option (Settings → Settings)
 change_of key.ListenAddr text = option_map (λ a s. record s { listen_addr = a }) (listen_address text)
@@ -74,6 +79,8 @@ change_of key.ServerIdleTimeout text = option_map (λ n s. record s { server_idl
 change_of key.MaxPacketSize text = option_map (λ n s. record s { max_packet_size = n }) (number_between 1024 2147483647 text)
 change_of key.IgnoreStartupParameters text = Some (λ s. record s { ignore_startup_parameters = names text })
 change_of key.TrackExtraParameters text = Some (λ s. record s { track_extra_parameters = names text })
+change_of key.LogConnections text = Some (λ s. record s { log_connections = is_one text })
+change_of key.LogDisconnections text = Some (λ s. record s { log_disconnections = is_one text })
 change_of key.Unused text = Some (λ s. s)
 
 -- what a value asks for that isn't served
@@ -99,6 +106,8 @@ defaults = record {
   max_packet_size = 2147483647;
   ignore_startup_parameters = [];
   track_extra_parameters = codes "IntervalStyle" ∷ [];
+  log_connections = false;
+  log_disconnections = false;
 }
 
 -- ---- what the lists of names are for
@@ -133,4 +142,6 @@ changed_by (setting.ServerIdleTimeout n) s = record s { server_idle_timeout = n 
 changed_by (setting.MaxPacketSize n) s = record s { max_packet_size = n }
 changed_by (setting.IgnoreStartupParameters text) s = record s { ignore_startup_parameters = names text.now }
 changed_by (setting.TrackExtraParameters text) s = record s { track_extra_parameters = names text.now }
+changed_by (setting.LogConnections b) s = record s { log_connections = b }
+changed_by (setting.LogDisconnections b) s = record s { log_disconnections = b }
 changed_by setting.Nothing s = s

@@ -25,6 +25,8 @@ pub(crate) enum Key {
     MaxPacketSize,
     IgnoreStartupParameters,
     TrackExtraParameters,
+    LogConnections,
+    LogDisconnections,
     /// A key of PgBouncer that is read, with any value, and not used.
     Unused,
 }
@@ -45,10 +47,12 @@ pub(crate) enum Setting<'a> {
     MaxPacketSize(u32),
     IgnoreStartupParameters(&'a [u8]),
     TrackExtraParameters(&'a [u8]),
+    LogConnections(bool),
+    LogDisconnections(bool),
     Nothing,
 }
 
-static SERVED: [(&str, Key); 15] = [
+static SERVED: [(&str, Key); 17] = [
     ("listen_addr", Key::ListenAddr),
     ("listen_port", Key::ListenPort),
     ("auth_type", Key::AuthType),
@@ -64,9 +68,11 @@ static SERVED: [(&str, Key); 15] = [
     ("max_packet_size", Key::MaxPacketSize),
     ("ignore_startup_parameters", Key::IgnoreStartupParameters),
     ("track_extra_parameters", Key::TrackExtraParameters),
+    ("log_connections", Key::LogConnections),
+    ("log_disconnections", Key::LogDisconnections),
 ];
 
-static UNUSED: [&str; 20] = [
+static UNUSED: [&str; 18] = [
     "auth_file",
     "logfile",
     "pidfile",
@@ -75,8 +81,6 @@ static UNUSED: [&str; 20] = [
     "verbose",
     "stats_users",
     "stats_period",
-    "log_connections",
-    "log_disconnections",
     "log_pooler_errors",
     "log_stats",
     "job_name",
@@ -148,6 +152,13 @@ fn auth_type(value: &[u8]) -> Option<AuthType>
     None
 }
 
+/// Whether a switch is on.
+fn is_one(value: &[u8]) -> bool
+    ensures { result ≡ spec.is_one value.now }
+{
+    value == b"1".as_slice()
+}
+
 /// What a key's value says. None where it isn't a value of the key.
 #[tactic(auto, unfolding(crate::specs::OptionValues::change_of))]
 pub(crate) fn read_setting(key: Key, value: &[u8]) -> Option<Setting<'_>>
@@ -172,6 +183,8 @@ pub(crate) fn read_setting(key: Key, value: &[u8]) -> Option<Setting<'_>>
         )?)),
         Key::IgnoreStartupParameters => Some(Setting::IgnoreStartupParameters(value)),
         Key::TrackExtraParameters => Some(Setting::TrackExtraParameters(value)),
+        Key::LogConnections => Some(Setting::LogConnections(is_one(value))),
+        Key::LogDisconnections => Some(Setting::LogDisconnections(is_one(value))),
     }
 }
 

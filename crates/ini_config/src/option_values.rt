@@ -38,6 +38,8 @@ pub struct Settings {
     pub max_packet_size: u32,
     pub ignore_startup_parameters: Names,
     pub track_extra_parameters: Names,
+    pub log_connections: bool,
+    pub log_disconnections: bool,
 }
 
 impl Drop for Settings {
@@ -57,6 +59,8 @@ impl Drop for Settings {
             max_packet_size: _,
             ignore_startup_parameters: _,
             track_extra_parameters: _,
+            log_connections: _,
+            log_disconnections: _,
         } = self;
     }
 }
@@ -82,6 +86,8 @@ impl Settings {
             max_packet_size: 2_147_483_647,
             ignore_startup_parameters: Names::new(alloc),
             track_extra_parameters,
+            log_connections: false,
+            log_disconnections: false,
         })
     }
 
@@ -108,6 +114,8 @@ impl Settings {
             Setting::TrackExtraParameters(text) => {
                 self.track_extra_parameters = Names::read(alloc, text)?
             }
+            Setting::LogConnections(is_on) => self.log_connections = is_on,
+            Setting::LogDisconnections(is_on) => self.log_disconnections = is_on,
             Setting::Nothing => {}
         }
         Ok(())
@@ -251,5 +259,19 @@ impl Settings {
         ensures { result.now ≡ self.now.track_extra_parameters }
     {
         &self.track_extra_parameters
+    }
+
+    /// Whether the log is told of each client that is let in.
+    pub fn log_connections(&self) -> bool
+        ensures { result ≡ self.now.log_connections }
+    {
+        self.log_connections
+    }
+
+    /// Whether the log is told of each client's connection that is closed.
+    pub fn log_disconnections(&self) -> bool
+        ensures { result ≡ self.now.log_disconnections }
+    {
+        self.log_disconnections
     }
 }
