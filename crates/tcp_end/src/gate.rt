@@ -55,7 +55,7 @@ fn take_note(may_have_more: &Arc<AtomicBool>) -> bool {
     may_have_more.swap(false, Ordering::SeqCst)
 }
 
-impl<R: Clock + Net> TcpGate<R> {
+impl<R: Clock + Net + Drop> TcpGate<R> {
     /// The gate of the worker of this client. That the client's connection can't be watched is ignored: its bytes are then found
     /// after at most 100 ms. The error is that the system has no more polls, or that an allocation failed.
     pub fn new(rt: R, alloc: Global, client: &mut TcpEnd) -> io::Result<TcpGate<R>>
