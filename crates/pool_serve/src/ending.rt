@@ -9,7 +9,7 @@ use message_view::Refusal;
 /// How a client's time at the desk ended, once it had arrived.
 #[derive(Drop)]
 pub(crate) enum Ending {
-    /// Its login led to no link.
+    /// It went, or its login led to no link.
     Left,
     /// The desk refused it.
     Refused(Refusal),

@@ -2,8 +2,9 @@
 ghost use Rattle.std.specs.Prelude.{◌≡◌, IsSome, None, Some};
 ghost use Rattle.std.specs.Arc.{arc_value};
 ghost use Rattle.start_keys.specs.Keys.{same_key};
-ghost use Rattle.link_desk.specs.Homes.{IsAtHome};
-ghost use Rattle.link_desk.specs.Passes.{lease_of};
+ghost use Rattle.link_desk.specs.Homes.{IsAtHome, IsGrantAtHome};
+ghost use Rattle.link_desk.specs.Passes.{after_grant, lease_of, taken};
+ghost use Rattle.link_desk.specs.Refusing.{MayTake};
 ghost use Rattle.pool_serve.specs.Causes.{AtAsking, AtLease, AtWait};
 ghost use Rattle.pool_serve.specs.Endings.{Frees, HasEnded, HasLeased};
 ghost use Rattle.pool_serve.specs.Serving.{IsGuest};
@@ -75,6 +76,28 @@ impl<'a, D: LinkDesk, G: Gate<D::End>> Worker<'a, D, G> {
         }
     }
 
+    /// Takes the client's link once it needn't wait any longer; `Queued` where the client has gone meanwhile.
+    fn take_in_turn(&mut self) -> Grant<D::End>
+        requires here { IsSome (D.holder self.old.pass).client }
+        requires none { (D.holder self.old.pass).lease ≡ None }
+        ensures told { D.told self.new.pass ≡ after_grant (D.told self.old.pass) result }
+        ensures holder { D.holder self.new.pass ≡ taken (D.holder self.old.pass) result }
+        ensures refused { MayTake result }
+        ensures home { IsGrantAtHome D.home result }
+    {
+        for _ in 0..u64::MAX {
+            match self.desk.take(&mut self.pass) {
+                Grant::Queued => {
+                    if self.gate.client_has_left() {
+                        return Grant::Queued;
+                    }
+                }
+                grant => return grant,
+            }
+        }
+        Grant::Queued
+    }
+
     /// Serves a client that has its ticket: waits for its link.
     fn wait<C: ClientEnd>(&mut self, client: C, guest: &Guest) -> (C, Ending)
         requires guest { IsGuest guest.now }
@@ -85,7 +108,8 @@ impl<'a, D: LinkDesk, G: Gate<D::End>> Worker<'a, D, G> {
         ensures leased { HasLeased (D.holder self.old.pass) (D.holder self.new.pass) result.1 }
         ensures ended { HasEnded D.home guest.now AtWait (D.told self.old.pass) (D.told self.new.pass) (C.facts client) (C.facts result.0) result.1 }
     {
-        match self.desk.take(&mut self.pass) {
+        match self.take_in_turn() {
+            Grant::Queued => (client, Ending::Left),
             Grant::Lend(link) => self.over_lent(client, guest, link),
             Grant::Start {
                 number,

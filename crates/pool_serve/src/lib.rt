@@ -4,6 +4,7 @@
 mod ending;
 mod guest;
 mod leasing;
+mod noting;
 mod opening;
 mod relaying;
 mod returning;

@@ -89,7 +89,7 @@ impl<'a, D: LinkDesk, G: Gate<D::End>> Worker<'a, D, G> {
         };
         let refusal = pumped(&mut relay, &mut self.gate);
         let (client, link) = relay.close();
-        self.hand_back(link);
+        self.hand_back(guest, link);
         (client, Ending::Relayed(refusal))
     }
 }

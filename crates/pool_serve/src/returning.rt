@@ -1,18 +1,21 @@
 //! How a link goes back to its desk.
-ghost use Rattle.std.specs.Prelude.{◌≡◌, Some, None};
-ghost use Rattle.link_desk.specs.declared.calls.Call.TheVariants.{GiveBack};
+ghost use Rattle.std.specs.Prelude.{◌≡◌, IsSome, Some, None};
+ghost use Rattle.link_desk.specs.declared.calls.Call.TheVariants.{GiveBack, Lost};
 ghost use Rattle.link_desk.specs.Homes.{IsAtHome};
 ghost use Rattle.link_desk.specs.Passes.{lease_of, without_lease};
 ghost use Rattle.pool_serve.specs.Backs.{GoesBack, IsBackHome, IsOwnLease};
 ghost use Rattle.pool_serve.specs.Shares.{Ends};
 
 use crate::TURNS;
+use crate::guest::Guest;
+use crate::noting::loss_of;
 use crate::worker::Worker;
 use disposal::Verdict;
 use link_desk::desk::LinkDesk;
 use link_run::links::CleanLink;
 use link_run::reset::reset_link;
 use link_start::close::{close_link, offer_terminate};
+use log_lines::notes::{Loss, Note};
 use relay_core::relay::{Cause, Returned};
 use server_end::gate::Gate;
 
@@ -41,8 +44,18 @@ impl<'a, D: LinkDesk, G: Gate<D::End>> Worker<'a, D, G> {
         }
     }
 
+    /// Reports the client's link, of this number, lost.
+    fn lose(&mut self, guest: &Guest, number: u64, why: Loss)
+        requires some { IsSome (D.holder self.old.pass).lease }
+        ensures share { Ends (D.told self.old.pass) (D.told self.new.pass) }
+        ensures holder { D.holder self.new.pass ≡ without_lease Lost (D.holder self.old.pass) }
+    {
+        self.note(guest, &Note::LinkLost(number, why));
+        self.desk.lost(&mut self.pass);
+    }
+
     /// Gives the link of a lease that has ended back: clean as it was, or reset; or offers its server a Terminate and reports it lost.
-    pub(crate) fn hand_back(&mut self, link: Returned<D::End>)
+    pub(crate) fn hand_back(&mut self, guest: &Guest, link: Returned<D::End>)
         requires home { IsBackHome D.home link }
         requires own { IsOwnLease (D.holder self.old.pass).lease link }
         ensures share { Ends (D.told self.old.pass) (D.told self.new.pass) }
@@ -50,18 +63,19 @@ impl<'a, D: LinkDesk, G: Gate<D::End>> Worker<'a, D, G> {
     {
         match link {
             Returned::Unused(link) => self.give_back(link),
-            Returned::Used(link) => match reset_link(self.alloc, link, &mut self.gate, TURNS) {
-                Ok(link) => self.give_back(link),
-                Err(_) => {
-                    self.desk.lost(&mut self.pass);
+            Returned::Used(link) => {
+                let number = link.number();
+                match reset_link(self.alloc, link, &mut self.gate, TURNS) {
+                    Ok(link) => self.give_back(link),
+                    Err(_) => self.lose(guest, number, Loss::NotReset),
                 }
-            },
+            }
             Returned::Gone(link, cause) => {
                 let mut link = link;
                 if is_at_border(cause) {
                     offer_terminate(&mut link.end);
                 }
-                self.desk.lost(&mut self.pass);
+                self.lose(guest, link.number, loss_of(cause));
             }
         }
     }

@@ -6,8 +6,8 @@ ghost use Rattle.login_core.specs.Logins.{AwaitsPacket};
 ghost use Rattle.login_run.specs.Laws.{AllowedBy, own};
 ghost use Rattle.login_run.specs.Runs.{Arrived, IsAllGiven, IsSameLogin};
 ghost use Rattle.pool_serve.specs.Causes.{AtArrival, AtAsking, HasCause};
-ghost use Rattle.pool_serve.specs.Endings.{HasLeased, Traces, refusal_in};
-ghost use Rattle.pool_serve.specs.Serving.{AreMarksOf, HasStopped, IsServed, LetsIn};
+ghost use Rattle.pool_serve.specs.Endings.{HasEnded, HasLeased, Traces, refusal_in};
+ghost use Rattle.pool_serve.specs.Serving.{AreMarksOf, HasStopped, IsGuest, IsServed, LetsIn};
 ghost use Rattle.pool_serve.specs.Shares.{Evens, Settles};
 ghost use Rattle.pool_serve.specs.Stays.{CameIn, IsOver, IsUntouched};
 ghost use Rattle.pool_serve.specs.Words.{word_of};
@@ -15,9 +15,11 @@ ghost use Rattle.pool_serve.specs.Words.{word_of};
 use crate::TURNS;
 use crate::ending::Ending;
 use crate::guest::Guest;
+use crate::noting::{ending_note, named, note_login};
 use crate::worker::Worker;
 use link_desk::answers::Arrival;
 use link_desk::desk::LinkDesk;
+use log_lines::notes::{Note, Visit};
 use login_core::Login;
 use login_laws::laws::{
     bounded_rows_are_lawful, passed_keys_are_link_keys, passed_keys_are_of_their_rows,
@@ -50,7 +52,7 @@ fn converse<C: ClientEnd, E: ServerEnd, G: Gate<E>>(
                 if most == Some(waited) {
                     return LoginTurn::Over;
                 }
-                gate.turn();
+                gate.turn_of_client();
                 waited = waited.saturating_add(1);
             }
             turn => return turn,
@@ -84,15 +86,35 @@ impl<'a, D: LinkDesk, G: Gate<D::End>> Worker<'a, D, G> {
         match converse(self.alloc, &mut run, &mut self.gate, Some(TURNS)) {
             LoginTurn::Passed => {}
             _ => {
+                note_login(self.desk, &run, self.visit, self.number);
                 let (client, _, _) = run.finish();
                 return (client, Ending::Left);
             }
         }
         let (client, login, key) = run.finish();
         match key {
-            Some(key) => self.lease(client, &Guest { key, word, login }),
+            Some(key) => self.host(client, &Guest { key, word, login }),
             None => (client, Ending::Left),
         }
+    }
+
+    /// Serves a client that is through its login, and tells the log how it came and went.
+    fn host<C: ClientEnd>(&mut self, client: C, guest: &Guest) -> (C, Ending)
+        requires guest { IsGuest guest.now }
+        requires here { IsSome (D.holder self.old.pass).client }
+        requires none { (D.holder self.old.pass).lease ≡ None }
+        requires unrefused { (D.holder self.old.pass).refused ≡ None }
+        ensures share { Evens (D.told self.old.pass) (D.told self.new.pass) }
+        ensures leased { HasLeased (D.holder self.old.pass) (D.holder self.new.pass) result.1 }
+        ensures ended { HasEnded D.home guest.now AtAsking (D.told self.old.pass) (D.told self.new.pass) (C.facts client) (C.facts result.0) result.1 }
+    {
+        self.note(guest, &Note::LoggedIn);
+        let (client, ending) = self.lease(client, guest);
+        if let Some(note) = ending_note(guest, &ending) {
+            self.note(guest, &note);
+        }
+        self.note(guest, &Note::Closed);
+        (client, ending)
     }
 
     /// Lets a client that arrives in, and serves it.
@@ -114,7 +136,8 @@ impl<'a, D: LinkDesk, G: Gate<D::End>> Worker<'a, D, G> {
     {
         runs_stand_at_pieces();
         match self.desk.arrive(&mut self.pass) {
-            Arrival::Client(_) => {
+            Arrival::Client(number) => {
+                self.number = Some(number);
                 let mut run = run;
                 run.go_on(self.alloc);
                 let served = self.attend(run, word);
@@ -122,6 +145,8 @@ impl<'a, D: LinkDesk, G: Gate<D::End>> Worker<'a, D, G> {
                 served
             }
             Arrival::Refused(refusal) => {
+                let named = named(self.visit, None, run.key());
+                self.desk.note(&named, &Note::Refused(refusal));
                 let (client, _, _) = run.finish();
                 (client, Ending::Refused(refusal))
             }
@@ -145,6 +170,8 @@ impl<'a, D: LinkDesk, G: Gate<D::End>> Worker<'a, D, G> {
 /// Whether it tells or not, the client's last word is that of how its time at the desk ended: the desk's own refusal, the cause for
 /// which its link wasn't started, or the refusal that its relay's last answer tells. It is given whole, unless the client's end ended
 /// or faulted or took nothing for [`TURNS`] turns. No client is in the pass before, and none afterwards.
+///
+/// The log is told of its refusal, of a start that failed and of a link that is lost; `visit` is what it knows the client by.
 pub fn serve<C: ClientEnd, D: LinkDesk, G: Gate<D::End> + Drop>(
     alloc: Global,
     desk: &D,
@@ -153,6 +180,7 @@ pub fn serve<C: ClientEnd, D: LinkDesk, G: Gate<D::End> + Drop>(
     login: Login,
     word: KeyWord,
     gate: G,
+    visit: Visit,
 ) -> (C, D::Pass)
     requires awaiting { login.awaiting ≡ AwaitsPacket (AtFirst false false) }
     requires held { login.held ≡ [] }
@@ -176,6 +204,7 @@ pub fn serve<C: ClientEnd, D: LinkDesk, G: Gate<D::End> + Drop>(
     match converse(alloc, &mut run, &mut gate, None) {
         LoginTurn::Arrived => {}
         _ => {
+            note_login(desk, &run, visit, None);
             let (client, _, _) = run.finish();
             return (client, pass);
         }
@@ -185,6 +214,8 @@ pub fn serve<C: ClientEnd, D: LinkDesk, G: Gate<D::End> + Drop>(
         desk,
         pass,
         gate,
+        visit,
+        number: None,
     };
     let (mut client, ending) = worker.admit(run, word);
     ending.into_word().tell(&mut client, &mut worker.gate);
@@ -193,6 +224,8 @@ pub fn serve<C: ClientEnd, D: LinkDesk, G: Gate<D::End> + Drop>(
         desk: _,
         pass,
         gate: _,
+        visit: _,
+        number: _,
     } = worker;
     (client, pass)
 }

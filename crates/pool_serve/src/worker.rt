@@ -1,12 +1,26 @@
 //! A worker.
 
+use crate::guest::Guest;
+use crate::noting::named;
 use link_desk::desk::LinkDesk;
+use log_lines::notes::{Note, Visit};
 use std::alloc::Global;
 
-/// What serves a client at a desk: the client's pass, and the gate where it waits for bytes.
+/// What serves a client at a desk: the client's pass, the gate where it waits for bytes, and what the log knows it by.
 pub(crate) struct Worker<'a, D: LinkDesk, G> {
     pub alloc: Global,
     pub desk: &'a D,
     pub pass: D::Pass,
     pub gate: G,
+    pub visit: Visit,
+    /// In the lease book, once it has arrived.
+    pub number: Option<u64>,
+}
+
+impl<'a, D: LinkDesk, G> Worker<'a, D, G> {
+    /// Tells the log of its client.
+    pub(crate) fn note(&self, guest: &Guest, note: &Note<'_>) {
+        let client = named(self.visit, self.number, Some(&*guest.key));
+        self.desk.note(&client, note);
+    }
 }

@@ -10,28 +10,28 @@ use Rattle.pool_serve.proofs.Leases.{came_in}
 use Rattle.pool_serve.proofs.Logging.{guest_ends, is_guest, key_is, run_ends}
 use Rattle.pool_serve.proofs.worker.Worker.attend.Goals as goal
 
-pub lease-requires-clause-guest : goal.lease-requires-clause-guest
-lease-requires-clause-guest g c =
+pub host-requires-clause-guest : goal.host-requires-clause-guest
+host-requires-clause-guest g c =
     is_guest c.bounded_rows_are_lawful.ensures c.passed_keys_are_link_keys.ensures c.passed_keys_are_of_their_rows.ensures c.passed_runs_have_passed.ensures c.converse.new.run _ c.finish-client-2.ensures.run (key_is c.converse.new.run.phase c.finish-client-2.result.2 c.in-Some.key c.in-Some.is c.finish-client-2.ensures.key) c.finish-client-2.ensures.login (subst (λ (s : Settings). AreWithinBounds s) (sym c.converse.ensures.login.settings) c.requires.settings)
 
 pub returns-in-Some-clause-came : goal.returns-in-Some-clause-came
 returns-in-Some-clause-came g c =
     let same = c.converse.ensures.login in
     let login = c.finish-client-2.ensures.login in
-    came_in _ c.args.run.login _ _ _ c.lease.result.1
+    came_in _ c.args.run.login _ _ _ c.host.result.1
     (record { word = sym c.requires.word; settings = ap (λ (v : LoginView). v.settings) login ∙ same.settings; users = ap (λ (v : LoginView). v.users) login ∙ same.users })
-    c.lease.ensures.ended.came
+    c.host.ensures.ended.came
 
 pub returns-in-Some-clause-serves : goal.returns-in-Some-clause-serves
 returns-in-Some-clause-serves g c = λ t l.
     let guest : Guest = record { key = c.in-Some.key; word = c.args.word; login = c.finish-client-2.result.1 } in
-    guest_ends c.passed_runs_are_let_in.ensures g.D.LinkDesk.home c.args.run c.converse.new.run guest (g.C.ClientEnd.facts c.finish-client-2.result.0) (g.C.ClientEnd.facts c.lease.result.0) _ c.converse.ensures.login c.finish-client-2.ensures.run
+    guest_ends c.passed_runs_are_let_in.ensures g.D.LinkDesk.home c.args.run c.converse.new.run guest (g.C.ClientEnd.facts c.finish-client-2.result.0) (g.C.ClientEnd.facts c.host.result.0) _ c.converse.ensures.login c.finish-client-2.ensures.run
     (key_is c.converse.new.run.phase c.finish-client-2.result.2 c.in-Some.key c.in-Some.is c.finish-client-2.ensures.key)
     c.in-Passed.ensures.stopped c.finish-client-2.ensures.client
     (sym (c.converse.ensures.login.word ∙ c.requires.word))
     c.finish-client-2.ensures.login
     t
-    (c.lease.ensures.ended.serves (ap (λ (x : ClientFacts). x.tells) c.finish-client-2.ensures.client ∙ (c.converse.ensures.login.tells ∙ t))
+    (c.host.ensures.ended.serves (ap (λ (x : ClientFacts). x.tells) c.finish-client-2.ensures.client ∙ (c.converse.ensures.login.tells ∙ t))
     (subst (λ (u : List UserRow). LetsIn g.D.LinkDesk.home u) (sym (ap (λ (x : LoginView). x.users) c.finish-client-2.ensures.login ∙ c.converse.ensures.login.users)) l))
 
 pub returns-in-None-clause-serves : goal.returns-in-None-clause-serves

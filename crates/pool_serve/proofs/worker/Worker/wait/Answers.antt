@@ -20,3 +20,11 @@ returns-in-Stranger-clause-ended g c = record {
   came = refl;
   serves = λ t l. nothing_more _ _ _ _ _ tt (none_ends (owed g.D.LinkDesk.home.catalogue c.args.guest.now [] []));
 }
+
+pub returns-in-Queued-clause-ended : goal.returns-in-Queued-clause-ended
+returns-in-Queued-clause-ended g c = record {
+  tells = refl;
+  traces = ap (λ (p : PassOf). p.made.granted) c.in-Queued.ensures.told;
+  came = refl;
+  serves = λ t l. nothing_more _ _ _ _ _ tt (none_ends (owed g.D.LinkDesk.home.catalogue c.args.guest.now [] []));
+}

@@ -1,0 +1,106 @@
+//! What the pool's log is told of a client. No contract says what a log is told; the tests do.
+
+use crate::ending::Ending;
+use crate::guest::Guest;
+use disposal::Verdict;
+use link_desk::desk::LinkDesk;
+use link_start::heard::Question;
+use link_start::start::StartCause;
+use log_lines::notes::{Client, Loss, Note, Server, Unstarted, Visit};
+use login_core::Failure;
+use login_run::{LoginRun, Said};
+use message_view::Refusal;
+use relay_core::relay::Cause;
+use server_end::ClientEnd;
+use start_keys::StartKey;
+
+/// A client of this key, where it is known, as the log names it.
+pub(crate) fn named<'a>(visit: Visit, number: Option<u64>, key: Option<&'a StartKey>) -> Client<'a> {
+    let (user, database) = match key {
+        Some(key) => (key.user.as_slice(), key.row.as_slice()),
+        None => (b"".as_slice(), b"".as_slice()),
+    };
+    Client {
+        visit,
+        number,
+        user,
+        database,
+    }
+}
+
+/// How a login ended that goes no further; nothing, where its client went.
+fn login_note<'a>(said: Said, parameter: Option<&'a [u8]>) -> Option<Note<'a>> {
+    match (said, parameter) {
+        (Said::Refusal(Refusal::UnsupportedParameter), Some(name)) =>
+            Some(Note::UnsupportedParameter(name)),
+        (Said::Refusal(refusal), _) => Some(Note::Refused(refusal)),
+        (Said::Failure(Failure::WrongPassword), _) => Some(Note::WrongPassword),
+        (Said::Failure(Failure::NoDatabase), _) => Some(Note::NoDatabase),
+        (Said::Nothing | Said::Question(_) | Said::LetIn, _) => None,
+    }
+}
+
+/// Tells the log how a login ended that goes no further.
+pub(crate) fn note_login<C: ClientEnd, D: LinkDesk>(
+    desk: &D,
+    run: &LoginRun<C>,
+    visit: Visit,
+    number: Option<u64>,
+) {
+    if let Some(note) = login_note(run.said(), run.login().unsupported_parameter()) {
+        desk.note(&named(visit, number, run.key()), &note);
+    }
+}
+
+/// The authentication that a question asks for, by the protocol's number.
+fn number_of(question: Question) -> u32 {
+    match question {
+        Question::Cleartext => 3,
+        Question::Md5(_) => 5,
+        Question::Unknown(number) => number,
+    }
+}
+
+/// Why a link wasn't started; nothing, where memory was refused.
+fn start_note<'a>(cause: &'a StartCause) -> Option<Unstarted<'a>> {
+    match cause {
+        StartCause::Refused(error) => Some(Unstarted::Refused(error.as_bytes())),
+        StartCause::Lost => Some(Unstarted::Lost),
+        StartCause::Unanswerable(question) => Some(Unstarted::Unanswerable(number_of(*question))),
+        StartCause::Unexpected => Some(Unstarted::Unexpected),
+        StartCause::Turns => Some(Unstarted::TimedOut),
+        StartCause::Memory => None,
+    }
+}
+
+/// The server of a client's database.
+fn server_of(guest: &Guest) -> Server {
+    Server {
+        host: guest.key.host.unwrap_or([0; 4]),
+        port: guest.key.port,
+    }
+}
+
+/// How a client's time at the desk ended; nothing, where it went or was served.
+pub(crate) fn ending_note<'a>(guest: &Guest, ending: &'a Ending) -> Option<Note<'a>> {
+    match ending {
+        Ending::Left | Ending::Strange | Ending::Relayed(None) => None,
+        Ending::Refused(refusal) | Ending::Relayed(Some(refusal)) => Some(Note::Refused(*refusal)),
+        Ending::Memory => Some(Note::Refused(Refusal::OutOfMemory)),
+        Ending::Unreached => Some(Note::Unstarted(server_of(guest), Unstarted::NotReached)),
+        Ending::Unstarted(cause) => match start_note(cause) {
+            Some(why) => Some(Note::Unstarted(server_of(guest), why)),
+            None => Some(Note::Refused(Refusal::OutOfMemory)),
+        },
+    }
+}
+
+/// Why a link is closed after its lease.
+pub(crate) fn loss_of(cause: Cause) -> Loss {
+    match cause {
+        Cause::Lost => Loss::Ended,
+        Cause::Left(Verdict::InBlock) => Loss::InBlock,
+        Cause::Left(Verdict::Broken) => Loss::Foreign,
+        Cause::Left(_) => Loss::Unanswered,
+    }
+}
