@@ -5,3 +5,4 @@ pub mod KeepingLinks
 pub mod KeepingCounts
 pub mod Keeping
 pub mod FirstItems
+pub mod Indexing

@@ -1,7 +1,7 @@
 -- The lease book as plain lists: who is there, who waits, and which links there are.
-use Rattle.std.specs.Prelude.{ℕ, Bool, false, List, [], ◌∷◌, Option, Some, None, not, cond, ◌==◌, ◌&&◌, ◌+◌, length, filter, count_by, bytes_eq}
+use Rattle.std.specs.Prelude.{ℕ, Bool, false, List, [], ◌∷◌, Option, Some, None, not, cond, ◌==◌, ◌&&◌, ◌+◌, length, filter, find, count_by, bytes_eq}
 use Rattle.session_values.specs.State.{StartKeyOf}
-use Rattle.start_keys.specs.Keys.{same_key}
+use Rattle.start_keys.specs.Keys.{same_host, same_key}
 use Rattle.book_model.specs.declared.counts.Counts.{Counts}
 use Rattle.book_model.specs.declared.events.ClientState.{ClientState}
 
@@ -23,16 +23,19 @@ pub record Link : Type 0 where
   pub born : ℕ
   pub since : ℕ
 
--- how many links a pool of this database row may have
-pub record RowSize : Type 0 where
-  pub row : List ℕ
+-- a database row: its name, where its server is, and how many links a pool of it may have
+pub record Row : Type 0 where
+  pub name : List ℕ
+  pub host : List ℕ
+  pub port : ℕ
+  pub dbname : List ℕ
   pub size : ℕ
 
 -- seconds; a wait or idle timeout of 0 is none
 pub record Limits : Type 0 where
   pub max_clients : ℕ
   pub max_links : ℕ
-  pub row_sizes : List RowSize
+  pub rows : List Row
   pub default_size : ℕ
   pub wait_timeout : ℕ
   pub lifetime : ℕ
@@ -70,13 +73,31 @@ empty_book limits = record { clients = []; tickets = []; lent = []; idle = []; n
 abbrev pub same_pool : StartKeyOf → StartKeyOf → Bool
 same_pool a b = bytes_eq a.row b.row && bytes_eq a.user b.user
 
--- the size of the first of this name, or the default
-abbrev pub size_in : List RowSize → ℕ → List ℕ → ℕ
-size_in [] size name = size
-size_in (r ∷ rs) size name = cond (bytes_eq r.row name) r.size (size_in rs size name)
+-- the first of this name
+abbrev pub row_named : List ℕ → List Row → Option Row
+row_named name rows = find (λ row. bytes_eq name row.name) rows
+
+abbrev pub size_of : ℕ → Option Row → ℕ
+size_of default None = default
+size_of default (Some row) = row.size
 
 abbrev pub pool_size : Limits → StartKeyOf → ℕ
-pool_size limits pool = size_in limits.row_sizes limits.default_size pool.row
+pool_size limits pool = size_of limits.default_size (row_named pool.row limits.rows)
+
+-- ---- a key's row: the one of its name, where that has the key's server
+
+abbrev pub leads_to : Row → StartKeyOf → Bool
+leads_to row key = same_host (Some row.host) key.host && (row.port == key.port && bytes_eq row.dbname key.dbname)
+
+abbrev pub is_row_of : StartKeyOf → Option Row → Bool
+is_row_of key None = false
+is_row_of key (Some row) = leads_to row key
+
+-- whether the limits have a database row of the key's name, host, port and dbname
+abbrev pub is_listed : Limits → StartKeyOf → Bool
+is_listed limits key = is_row_of key (row_named key.row limits.rows)
+
+-- ---- links
 
 abbrev pub in_pool : StartKeyOf → Link → Bool
 in_pool pool link = same_pool link.key pool

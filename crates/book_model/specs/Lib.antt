@@ -1,4 +1,5 @@
 pub mod Book
+pub mod RowIndex
 pub mod Outcomes
 pub mod Replay
 pub mod Events

@@ -2,20 +2,20 @@
 use Rattle.std.specs.Prelude.{ℕ, List, map, unwrap_or}
 use Rattle.ini_config.specs.declared.database_rows.DbRow.{DbRow}
 use Rattle.ini_config.specs.declared.option_values.Settings.{Settings}
-use Rattle.book_model.specs.Book.{Limits, RowSize}
+use Rattle.book_model.specs.Book.{Limits, Row}
 
--- a row's own pool size, or the default
-abbrev pub row_size : ℕ → DbRow → RowSize
-row_size default row = record { row = row.name; size = unwrap_or row.pool_size default }
+-- a row with its own pool size, or with the default
+abbrev pub row_in : ℕ → DbRow → Row
+row_in default row = record { name = row.name; host = row.host; port = row.port; dbname = row.dbname; size = unwrap_or row.pool_size default }
 
-abbrev pub sizes_in : ℕ → List DbRow → List RowSize
-sizes_in default rows = map (row_size default) rows
+abbrev pub rows_in : ℕ → List DbRow → List Row
+rows_in default rows = map (row_in default) rows
 
 abbrev pub limits_in : Settings → Limits
 limits_in s = record {
   max_clients = s.max_client_conn;
   max_links = s.max_links;
-  row_sizes = sizes_in s.default_pool_size s.rows;
+  rows = rows_in s.default_pool_size s.rows;
   default_size = s.default_pool_size;
   wait_timeout = s.query_wait_timeout;
   lifetime = s.server_lifetime;

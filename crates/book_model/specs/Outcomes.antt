@@ -5,7 +5,7 @@ use Rattle.message_view.specs.declared.refusal.Refusal.{Refusal}
 use Rattle.message_view.specs.declared.refusal.Refusal.TheVariants.{TooManyClients, WaitedTooLong, ShuttingDown, LastDecision}
 use Rattle.session_values.specs.State.{StartKeyOf}
 use Rattle.start_keys.specs.Keys.{same_key}
-use Rattle.book_model.specs.Book.{Book, Client, Limits, Link, Ticket, in_pool, is_client, is_link, is_of, latest_of, link_count, pool_count, pool_size, same_pool, waiting_before, without, without_client, without_ticket}
+use Rattle.book_model.specs.Book.{Book, Client, Limits, Link, Ticket, in_pool, is_client, is_link, is_listed, is_of, latest_of, link_count, pool_count, pool_size, same_pool, waiting_before, without, without_client, without_ticket}
 use Rattle.book_model.specs.declared.counts.Counts.{Counts}
 use Rattle.book_model.specs.declared.counts.Kind.{Kind}
 use Rattle.book_model.specs.declared.counts.Kind.TheVariants.{Arrival, ArrivalRefused, Asking, AskRefused, Grant, TicketLost, Return, Loss, FailedStart, Leaving, Ticking, Limiting, Pausing, Resuming, Closing}
@@ -106,8 +106,9 @@ takes b (Some t) =
 abbrev pub is_old : Book → Link → Bool
 is_old b link = nat_le b.limits.lifetime (b.clock - link.born) || b.is_shut
 
+-- an idle link is closed at a tick, where it is old, where no database row is its key's any more, or where it lay idle for too long
 abbrev pub is_stale : Book → Link → Bool
-is_stale b link = is_old b link || (not (b.limits.idle_timeout == 0) && nat_le b.limits.idle_timeout (b.clock - link.since))
+is_stale b link = is_old b link || (not (is_listed b.limits link.key) || (not (b.limits.idle_timeout == 0) && nat_le b.limits.idle_timeout (b.clock - link.since)))
 
 abbrev pub is_crowded : Book → Link → Bool
 is_crowded b link = nat_lt b.limits.max_links (link_count b) || nat_lt (pool_size b.limits link.key) (pool_count b link.key)

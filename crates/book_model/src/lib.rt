@@ -8,6 +8,7 @@ ghost use Rattle.book_model.specs.Kept.{EmptyBooksAreKept, EventsKeep, ReturnsKe
 pub mod counts;
 pub mod events;
 pub mod limits;
+pub mod rows;
 pub mod settings;
 
 /// What each event makes of the book's tickets, its idle links and its next numbers.

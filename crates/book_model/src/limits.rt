@@ -1,8 +1,9 @@
 //! The settings that the lease book decides by.
 ghost use Rattle.std.specs.Prelude.{◌≡◌};
-ghost use Rattle.book_model.specs.Book.{size_in};
+ghost use Rattle.book_model.specs.Book.{is_listed, row_named, size_of};
 
-use session_values::text::Text;
+use crate::rows::Rows;
+use start_keys::StartKey;
 use std::marker::Model;
 
 /// The most clients that a book can hold.
@@ -11,33 +12,13 @@ pub const MOST_CLIENTS: u32 = 10_000;
 /// The most links that a book can hold, lent and idle together.
 pub const MOST_LINKS: u32 = 10_000;
 
-/// How many links a pool of this database row may have (PgBouncer's `pool_size`).
-pub struct RowSize {
-    pub row: Text,
-    pub size: u32,
-}
-
-impl Drop for RowSize {
-    fn drop(self) {
-        let RowSize { row: _, size: _ } = self;
-    }
-}
-
-impl Model for RowSize {
-    ghost use Rattle.book_model.specs.Book.{RowSize as SizeOf};
-
-    ghost Value = { SizeOf };
-
-    ghost view = { λ s. record { row = s.row; size = s.size } };
-}
-
 /// The settings that the lease book decides by, with PgBouncer's names. Times are in seconds.
 pub struct Limits {
     /// The most clients that may be there at once, at most 10,000.
     pub max_client_conn: u32,
     /// The most links that there may be at once, lent and idle together, at most 10,000.
     pub max_links: u32,
-    /// The most links of a pool, where no row size names its database row.
+    /// The most links of a pool whose database row is none of the rows.
     pub default_pool_size: u32,
     /// How long a client may wait for a link; 0 is for ever.
     pub query_wait_timeout: u32,
@@ -45,8 +26,8 @@ pub struct Limits {
     pub server_lifetime: u32,
     /// How long a link may lie idle; 0 is for ever.
     pub server_idle_timeout: u32,
-    /// The most links of the pools of these database rows; the first of a name counts.
-    pub row_sizes: Vec<RowSize>,
+    /// The database rows: each tells the most links of a pool of it, and which idle links may be kept.
+    pub rows: Rows,
 }
 
 impl Drop for Limits {
@@ -58,7 +39,7 @@ impl Drop for Limits {
             query_wait_timeout: _,
             server_lifetime: _,
             server_idle_timeout: _,
-            row_sizes: _,
+            rows: _,
         } = self;
     }
 }
@@ -73,7 +54,7 @@ impl Model for Limits {
     ghost view = { λ l. record {
       max_clients = l.max_client_conn;
       max_links = l.max_links;
-      row_sizes = l.row_sizes.items;
+      rows = l.rows;
       default_size = l.default_pool_size;
       wait_timeout = l.query_wait_timeout;
       lifetime = l.server_lifetime;
@@ -84,15 +65,23 @@ impl Model for Limits {
 }
 
 impl Limits {
-    /// The most links of a pool of this database row.
+    /// The most links of a pool of the database row of this name.
     pub fn pool_size(&self, row: &[u8]) -> u32
-        ensures { result ≡ size_in self.now.row_sizes self.now.default_size row.now }
+        ensures { result ≡ size_of self.now.default_size (row_named row.now self.now.rows) }
     {
-        for sized in &self.row_sizes {
-            if sized.row.is(row) {
-                return sized.size;
-            }
+        match self.rows.named(row) {
+            Some(row) => row.size,
+            None => self.default_pool_size,
         }
-        self.default_pool_size
+    }
+
+    /// Whether a database row has the key's name, host, port and dbname. It takes as long for many rows as for few.
+    pub fn lists(&self, key: &StartKey) -> bool
+        ensures { result ≡ is_listed self.now key.now }
+    {
+        match self.rows.named(key.row.as_slice()) {
+            Some(row) => row.leads(key),
+            None => false,
+        }
     }
 }

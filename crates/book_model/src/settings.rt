@@ -2,25 +2,36 @@
 
 ghost use Rattle.std.specs.Prelude.{◌≡◌, IfOk};
 ghost use Rattle.ini_config.specs.Bounds.{AreWithinBounds};
-ghost use Rattle.book_model.specs.Limits.{limits_in, sizes_in};
+ghost use Rattle.book_model.specs.Limits.{limits_in, row_in, rows_in};
 
-use crate::limits::{Limits, RowSize};
-use ini_config::Settings;
+use crate::limits::Limits;
+use crate::rows::{Row, Rows};
+use ini_config::{DbRow, Settings};
 use session_values::text::Text;
 use std::alloc::{AllocError, Global};
 
-/// The most links of each row's pool, in the rows' order.
-fn sizes_of(alloc: Global, settings: &Settings) -> Result<Vec<RowSize>, AllocError>
-    ensures { IfOk result (λ v. v.items ≡ sizes_in settings.now.default_pool_size settings.now.rows) }
+/// A row of the settings, as the limits have it.
+fn row_of(alloc: Global, settings: &Settings, row: &DbRow) -> Result<Row, AllocError>
+    ensures { IfOk result (λ r. r ≡ row_in settings.now.default_pool_size row.now) }
 {
-    let mut sizes = Vec::new(alloc);
-    'rows: while let Some(row) = settings.rows.at(sizes.len()) {
-        sizes.push(RowSize {
-            row: Text::from_slice(alloc, row.name.as_bytes())?,
-            size: settings.pool_size(row),
-        })?;
+    Ok(Row {
+        name: Text::from_slice(alloc, row.name.as_bytes())?,
+        host: row.host,
+        port: row.port,
+        dbname: Text::from_slice(alloc, row.dbname.as_bytes())?,
+        size: settings.pool_size(row),
+    })
+}
+
+/// The rows of the settings, in their order.
+fn rows_of(alloc: Global, settings: &Settings) -> Result<Vec<Row>, AllocError>
+    ensures { IfOk result (λ v. v.items ≡ rows_in settings.now.default_pool_size settings.now.rows) }
+{
+    let mut listed = Vec::new(alloc);
+    'rows: while let Some(row) = settings.rows.at(listed.len()) {
+        listed.push(row_of(alloc, settings, row)?)?;
     }
-    Ok(sizes)
+    Ok(listed)
 }
 
 /// What a lease book decides by under these settings. The only error is that memory was refused.
@@ -35,6 +46,6 @@ pub fn limits_of(alloc: Global, settings: &Settings) -> Result<Limits, AllocErro
         query_wait_timeout: settings.query_wait_timeout(),
         server_lifetime: settings.server_lifetime(),
         server_idle_timeout: settings.server_idle_timeout(),
-        row_sizes: sizes_of(alloc, settings)?,
+        rows: Rows::new(alloc, rows_of(alloc, settings)?)?,
     })
 }

@@ -1,4 +1,5 @@
-//! The lists, and what an event makes of them, in the definition's order and words.
+//! The lists of the lease book, and what an event makes of them, in the definition's order and words. Between the steps of an event they
+//! needn't be in order: a list is changed before the counts rise.
 ghost use Rattle.std.specs.Prelude.{◌≡◌, ◌<◌, ◌≤◌, suc, ◌+◌, ◌++◌, ◌==◌, ◌&&◌, ◌||◌, [], ◌∷◌, Some, None, true, false, nat_lt, not, cond, count_by, ℕ, find, position, slice_get, length};
 ghost use Rattle.std.specs.Arc.{arc_value};
 ghost use Rattle.std.specs.List.{list_any};
@@ -175,6 +176,7 @@ impl Board {
         let limits: &Limits = &self.limits;
         let idle_timeout = u64::from(limits.server_idle_timeout);
         self.is_old(link)
+            || !limits.lists(link.key.key())
             || (idle_timeout != 0 && idle_timeout <= self.clock.saturating_sub(link.since))
     }
 

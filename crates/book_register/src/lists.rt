@@ -1,4 +1,4 @@
-//! The lists of the lease book, in order from their making on.
+//! The board's lists between events. What this adds: its type keeps that they are in order, so that each event may rely on it.
 ghost use Rattle.std.specs.Prelude.{◌≡◌, IfOk, find};
 ghost use Rattle.std.specs.Arc.{arc_value};
 ghost use Rattle.book_model.specs.Book.{empty_book, is_link, no_counts};

@@ -3,6 +3,7 @@ ghost use Rattle.std.specs.Prelude.{◌≡◌, false};
 
 use crate::gone::Gone;
 use book_model::limits::Limits;
+use book_model::rows::{Row, Rows};
 use link_run::links::{CleanLink, Lent};
 use param_track::Reported;
 use session_values::text::Text;
@@ -10,37 +11,57 @@ use start_keys::StartKey;
 use std::alloc::{AllocError, Global};
 use std::sync::Arc;
 
-/// A key on the database shop, of this user under this application_name.
-fn key(alloc: Global, user: &[u8], name: &[u8]) -> Result<Arc<StartKey>, AllocError> {
+/// A key on this database at a port of 127.0.0.1, of this user under this application_name.
+fn key(
+    alloc: Global,
+    database: &[u8],
+    port: u16,
+    user: &[u8],
+    name: &[u8],
+) -> Result<Arc<StartKey>, AllocError> {
     let mut parameters = Vec::new(alloc);
     let parameter = Text::from_slice(alloc, b"application_name")?;
     parameters.push((parameter, Text::from_slice(alloc, name)?))?;
     let key = StartKey {
-        row: Text::from_slice(alloc, b"shop")?,
-        host: None,
-        port: 0,
-        dbname: Text::from_slice(alloc, b"shop")?,
+        row: Text::from_slice(alloc, database)?,
+        host: Some([127, 0, 0, 1]),
+        port,
+        dbname: Text::from_slice(alloc, database)?,
         user: Text::from_slice(alloc, user)?,
         parameters,
     };
     Ok(Arc::new(alloc, key)?)
 }
 
-/// Whose key it is: of ann's two keys, which are of one pool, or of bc's, which is of another.
+/// Whose key it is: of ann's two keys on the shop, which are of one pool, or of bc's, which is of another; ann's on the shop once that
+/// is at port 5433, or hers on the cafe.
 #[derive(Clone, Copy, Drop)]
 pub(crate) enum Whose {
     Ann,
     AnnAsB,
     Bc,
+    AnnAt5433,
+    AnnAtCafe,
 }
 
 /// The key.
 pub(crate) fn key_of(alloc: Global, whose: Whose) -> Result<Arc<StartKey>, AllocError> {
     match whose {
-        Whose::Ann => key(alloc, b"ann", b"a"),
-        Whose::AnnAsB => key(alloc, b"ann", b"b"),
-        Whose::Bc => key(alloc, b"bc", b"a"),
+        Whose::Ann => key(alloc, b"shop", 5432, b"ann", b"a"),
+        Whose::AnnAsB => key(alloc, b"shop", 5432, b"ann", b"b"),
+        Whose::Bc => key(alloc, b"shop", 5432, b"bc", b"a"),
+        Whose::AnnAt5433 => key(alloc, b"shop", 5433, b"ann", b"a"),
+        Whose::AnnAtCafe => key(alloc, b"cafe", 5432, b"ann", b"a"),
     }
+}
+
+/// What becomes of the row of the shop: another host, port or dbname, or no such row.
+#[derive(Clone, Copy, Drop)]
+pub(crate) enum Change {
+    Host,
+    Port,
+    Dbname,
+    Gone,
 }
 
 /// What a test's settings are, apart from the default ones: 100 clients and links, pools of 20, no timeouts.
@@ -56,6 +77,51 @@ pub(crate) enum Settings {
     Idle(u32),
     /// A lifetime of so many seconds.
     Lifetime(u32),
+    /// The row of the shop is changed so.
+    Shop(Change),
+}
+
+/// How many links a pool may have.
+fn pool_size(settings: Settings) -> u32 {
+    match settings {
+        Settings::PoolsOf(size) => size,
+        Settings::Wait(_) => 1,
+        _ => 20,
+    }
+}
+
+/// A database row at port 5432 of 127.0.0.1, whose database is named as it is.
+fn row(alloc: Global, name: &[u8], size: u32) -> Result<Row, AllocError> {
+    Ok(Row {
+        name: Text::from_slice(alloc, name)?,
+        host: [127, 0, 0, 1],
+        port: 5432,
+        dbname: Text::from_slice(alloc, name)?,
+        size,
+    })
+}
+
+/// The row of the shop, where there is one.
+fn shop(alloc: Global, settings: Settings) -> Result<Option<Row>, AllocError> {
+    let mut row = row(alloc, b"shop", pool_size(settings))?;
+    match settings {
+        Settings::Shop(Change::Host) => row.host = [127, 0, 0, 2],
+        Settings::Shop(Change::Port) => row.port = 5433,
+        Settings::Shop(Change::Dbname) => row.dbname = Text::from_slice(alloc, b"shops")?,
+        Settings::Shop(Change::Gone) => return Ok(None),
+        _ => {}
+    }
+    Ok(Some(row))
+}
+
+/// The rows of these settings: the cafe, and the shop.
+fn rows(alloc: Global, settings: Settings) -> Result<Rows, AllocError> {
+    let mut rows = Vec::new(alloc);
+    rows.push(row(alloc, b"cafe", pool_size(settings))?)?;
+    if let Some(shop) = shop(alloc, settings)? {
+        rows.push(shop)?;
+    }
+    Rows::new(alloc, rows)
 }
 
 /// The limits of these settings.
@@ -67,17 +133,13 @@ pub(crate) fn limits(alloc: Global, settings: Settings) -> Result<Arc<Limits>, A
         query_wait_timeout: 0,
         server_lifetime: 3_600,
         server_idle_timeout: 0,
-        row_sizes: Vec::new(alloc),
+        rows: rows(alloc, settings)?,
     };
     match settings {
-        Settings::Default => {}
-        Settings::PoolsOf(size) => limits.default_pool_size = size,
+        Settings::Default | Settings::PoolsOf(_) | Settings::Shop(_) => {}
         Settings::OneClient => limits.max_client_conn = 1,
         Settings::TwoLinks => limits.max_links = 2,
-        Settings::Wait(seconds) => {
-            limits.default_pool_size = 1;
-            limits.query_wait_timeout = seconds;
-        }
+        Settings::Wait(seconds) => limits.query_wait_timeout = seconds,
         Settings::Idle(seconds) => limits.server_idle_timeout = seconds,
         Settings::Lifetime(seconds) => limits.server_lifetime = seconds,
     }

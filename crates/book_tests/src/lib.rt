@@ -20,4 +20,6 @@ mod gone;
 #[cfg(test)]
 mod histories;
 #[cfg(test)]
+mod row_stories;
+#[cfg(test)]
 mod waits;

@@ -1,4 +1,4 @@
-//! The lease book, with its idle links.
+//! The lease book. What it adds to the lists and their history: the idle links themselves, each the one of its number.
 ghost use Rattle.std.specs.Prelude.{find, ◌≡◌, ◌+◌, [], ◌∷◌, ◌++◌, IfOk, Some, cond, false, true, length};
 ghost use Rattle.std.specs.Arc.{arc_value};
 ghost use Rattle.book_model.specs.Book.{empty_book, is_link};

@@ -1,4 +1,5 @@
-//! What lies behind the desk's lock.
+//! What lies behind the desk's lock. What it adds to the book: counters of its decisions by class, of which each pass has its share, and
+//! who holds a pass.
 ghost use Rattle.std.specs.Prelude.{◌≡◌, ◌<◌, ◌≤◌, ◌^◌, ◌||◌, [], IfOk, IfErr, IfSome, IfNone, Some, vec_len, suc, ◌≢◌};
 ghost use Rattle.std.specs.Arc.{arc_value};
 ghost use Rattle.book_model.specs.Book.{empty_book};

@@ -153,6 +153,7 @@ module _ (a b : Since) (p q before after : PassOf) (s : Spans a b p q before aft
   wider_end ending.Unreached h = (s.had h.0, wider_lost h.1)
   wider_end (ending.Unstarted cause) h = (s.had h.0, wider_lost h.1)
   wider_end (ending.Relayed r) h = s.had h
+  wider_end (ending.Managed r) h = wider_none h
 
 spans_queue : (p q : PassOf) → Spans AtWait AtAsking (one_other p) q p q
 spans_queue p q = record {
@@ -237,6 +238,7 @@ relayed_traces link g before after p q (ending.Refused r) x s = absurd x
 relayed_traces link g before after p q ending.Strange x s = absurd x
 relayed_traces link g before after p q ending.Unreached x s = absurd x
 relayed_traces link g before after p q (ending.Unstarted cause) x s = absurd x
+relayed_traces link g before after p q (ending.Managed r) x s = absurd x
 
 pub unopened_traces : (home : HomeOf) (g : Guest) (p q : PassOf) (e : Ending) → IsUnopened home g e → HadLink AtLease p q × HasLost p q → Traces AtLease p q e
 unopened_traces home g p q ending.Unreached x h = h
@@ -246,6 +248,7 @@ unopened_traces home g p q ending.Left x h = absurd x
 unopened_traces home g p q (ending.Refused r) x h = absurd x
 unopened_traces home g p q ending.Strange x h = absurd x
 unopened_traces home g p q (ending.Relayed r) x h = absurd x
+unopened_traces home g p q (ending.Managed r) x h = absurd x
 
 cause_fault : (limit : ℕ) (bytes : List ℕ) (c : StartCause) → IsFaultyWord limit bytes (last_of c)
 cause_fault limit bytes (cause.Refused error) = tt
@@ -263,6 +266,7 @@ unopened_fault home g limit bytes ending.Left x = absurd x
 unopened_fault home g limit bytes (ending.Refused r) x = absurd x
 unopened_fault home g limit bytes ending.Strange x = absurd x
 unopened_fault home g limit bytes (ending.Relayed r) x = absurd x
+unopened_fault home g limit bytes (ending.Managed r) x = absurd x
 
 -- ---- a relay's refusals
 
@@ -327,6 +331,11 @@ told_by_pump n v x = ap refusal_told x.1 ∙ same_told x.0 v
 
 -- ---- the trace of the last word
 
+-- it is no client of the console
+abbrev pub IsFromServer : Ending → Type 0
+IsFromServer (ending.Managed r) = ⊥
+IsFromServer _ = Unit {0}
+
 module _ (p q : PassOf) where
   cause_traces : (c : StartCause) → HadLink AtArrival p q × HasLost p q → WordHasTrace AtArrival p q (last_of c)
   cause_traces (cause.Refused error) h = h
@@ -354,14 +363,15 @@ module _ (p q : PassOf) where
   relayed_word None x h = tt
   relayed_word (Some r) x h = relay_trace r x h
 
-  pub word_traces : (home : HomeOf) (v : LoginView) (after : ClientFacts) (e : Ending) → CameIn home v after e → Traces AtArrival p q e → WordHasTrace AtArrival p q (word_of e)
-  word_traces home v after ending.Left c h = tt
-  word_traces home v after (ending.Refused r) c h = h.1
-  word_traces home v after ending.Memory c h = tt
-  word_traces home v after ending.Strange c h = tt
-  word_traces home v after ending.Unreached c h = h
-  word_traces home v after (ending.Unstarted cause) c h = cause_traces cause h
-  word_traces home v after (ending.Relayed r) c h = relayed_word r (subst (λ (o : Option Refusal). IfSome o IsRelays) (sym c.lease.relayed.told) (judged_relays c.lease.relayed.view)) h
+  pub word_traces : (home : HomeOf) (v : LoginView) (after : ClientFacts) (e : Ending) → IsFromServer e → CameIn home v after e → Traces AtArrival p q e → WordHasTrace AtArrival p q (word_of e)
+  word_traces home v after ending.Left o c h = tt
+  word_traces home v after (ending.Refused r) o c h = h.1
+  word_traces home v after ending.Memory o c h = tt
+  word_traces home v after ending.Strange o c h = tt
+  word_traces home v after ending.Unreached o c h = h
+  word_traces home v after (ending.Unstarted cause) o c h = cause_traces cause h
+  word_traces home v after (ending.Managed r) o c h = absurd o
+  word_traces home v after (ending.Relayed r) o c h = relayed_word r (subst (λ (o : Option Refusal). IfSome o IsRelays) (sym c.lease.relayed.told) (judged_relays c.lease.relayed.view)) h
 
 -- what was relayed, at fault
 faulty_by : (limit : ℕ) (bytes : List ℕ) (f : FrameFault) → IsAtFault limit bytes (refusal_by f) → IsFaulty limit bytes (refusal_by f)

@@ -20,6 +20,7 @@ use Rattle.pool_serve.specs.declared.ending.Ending.{Ending}
 use Rattle.pool_serve.specs.declared.ending.Ending.TheVariants as ending
 use Rattle.pool_serve.specs.declared.guest.Guest.{Guest}
 use Rattle.pool_serve.proofs.Causing.{queued_traces}
+use Rattle.pool_serve.proofs.Managing.{same_managed}
 
 -- ---- a link that goes back
 
@@ -38,6 +39,7 @@ relayed_frees link g before after h k (ending.Refused r) x b = absurd x
 relayed_frees link g before after h k ending.Strange x b = absurd x
 relayed_frees link g before after h k ending.Unreached x b = absurd x
 relayed_frees link g before after h k (ending.Unstarted cause) x b = absurd x
+relayed_frees link g before after h k (ending.Managed r) x b = absurd x
 
 pub relayed_came : (home : HomeOf) (link : LinkView) (g : Guest) (before after : ClientFacts) (e : Ending) → HasRelayed link g before after e → IsAtHome home link → link.key ≡ arc_value g.key → Came home g before after e
 relayed_came home link g before after (ending.Relayed r) x h k = record { link = link; at_home = h; key = k; relayed = x }
@@ -47,6 +49,7 @@ relayed_came home link g before after (ending.Refused r) x h k = absurd x
 relayed_came home link g before after ending.Strange x h k = absurd x
 relayed_came home link g before after ending.Unreached x h k = absurd x
 relayed_came home link g before after (ending.Unstarted cause) x h k = absurd x
+relayed_came home link g before after (ending.Managed r) x h k = absurd x
 
 -- ---- a link that wasn't started
 
@@ -58,6 +61,7 @@ unopened_frees home g h k ending.Left x b = absurd x
 unopened_frees home g h k (ending.Refused r) x b = absurd x
 unopened_frees home g h k ending.Strange x b = absurd x
 unopened_frees home g h k (ending.Relayed r) x b = absurd x
+unopened_frees home g h k (ending.Managed r) x b = absurd x
 
 pub unopened_came : (home : HomeOf) (g : Guest) (c : ClientFacts) (e : Ending) → IsUnopened home g e → Came home g c c e
 unopened_came home g c ending.Unreached x = refl
@@ -67,6 +71,7 @@ unopened_came home g c ending.Left x = absurd x
 unopened_came home g c (ending.Refused r) x = absurd x
 unopened_came home g c ending.Strange x = absurd x
 unopened_came home g c (ending.Relayed r) x = absurd x
+unopened_came home g c (ending.Managed r) x = absurd x
 
 -- ---- behind a grant
 
@@ -87,6 +92,7 @@ module _ (old h k : Holder) (client : h.client ≡ old.client) (refused : h.refu
   leased_by ending.Memory (inr x) = by_loss call.StartFailed ending.Memory refl x
   leased_by ending.Left x = absurd x
   leased_by (ending.Refused r) x = absurd x
+  leased_by (ending.Managed r) x = absurd x
 
 granted_traces : (p q : PassOf) (h k : Holder) (e : Ending) → Frees h k e → Traces AtLease (one_granted p) q e → Traces AtWait p q e
 granted_traces p q h k ending.Strange x (inl t) = inl t
@@ -97,6 +103,7 @@ granted_traces p q h k (ending.Relayed r) x t = omega (arith, t)
 granted_traces p q h k ending.Memory x t = tt
 granted_traces p q h k ending.Left x t = absurd x
 granted_traces p q h k (ending.Refused r) x t = absurd x
+granted_traces p q h k (ending.Managed r) x t = absurd x
 
 pub granted_ended : (home : HomeOf) (g : Guest) (p mid q : PassOf) (h k : Holder) (before after : ClientFacts) (e : Ending) → mid ≡ one_granted p → Frees h k e → HasEnded home g AtLease mid q before after e → HasEnded home g AtWait p q before after e
 granted_ended home g p mid q h k before after e is f x = record { tells = x.tells; traces = granted_traces p q h k e f (subst (λ (m : PassOf). Traces AtLease m q e) is x.traces); came = x.came; serves = x.serves }
@@ -115,6 +122,7 @@ came_in home v g before after (ending.Refused r) i x = tt
 came_in home v g before after ending.Memory i x = tt
 came_in home v g before after ending.Strange i x = tt
 came_in home v g before after ending.Unreached i x = tt
+came_in home v g before after (ending.Managed r) i x = absurd x
 
 -- the same of a login that went on
 same_guest : (old new : RunView) (g : Guest) → IsSameLogin old new → IsGuestOf new.login g → IsGuestOf old.login g
@@ -128,6 +136,7 @@ same_came home old new after (ending.Refused r) s x = tt
 same_came home old new after ending.Memory s x = tt
 same_came home old new after ending.Strange s x = tt
 same_came home old new after ending.Unreached s x = tt
+same_came home old new after (ending.Managed r) s x = λ t. same_managed old new after r s (x t)
 
 -- the same of the login that it began with
 pub came_first : (home : HomeOf) (v : LoginView) (old new : RunView) (after : ClientFacts) (e : Ending) → old.login ≡ v → IsSameLogin old new → CameIn home new.login after e → CameIn home v after e

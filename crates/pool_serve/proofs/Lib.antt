@@ -5,6 +5,7 @@ pub mod Homing
 pub mod Owing
 pub mod Stopping
 pub mod Logging
+pub mod Managing
 pub mod Giving
 pub mod Leases
 pub mod Pumping

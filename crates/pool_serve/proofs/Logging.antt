@@ -41,7 +41,7 @@ same_owed : (catalogue : Address → CatalogueOf) (v w : LoginView) (marks : Lis
 same_owed catalogue v w marks bytes s u k =
     ap₂ (λ (r : Rows) (x : KeyWord). solo_in catalogue (row_for r (names_in bytes)) x marks bytes) (ap₂ (λ (a : Settings) (b : List UserRow). row_in a b) s u) k
 
-same_rows : (old new : RunView) → IsSameLogin old new → rows_of new.login ≡ rows_of old.login
+pub same_rows : (old new : RunView) → IsSameLogin old new → rows_of new.login ≡ rows_of old.login
 same_rows old new s = ap₂ row_in s.settings s.users
 
 abbrev AtLogin : List Bool → (Address → CatalogueOf) → Rows → KeyWord → ClientFacts → Type 0

@@ -36,6 +36,7 @@ Traces since p q ending.Strange = (q.is_broken ≡ true) ⊎ (HadLink since p q 
 Traces since p q ending.Unreached = HadLink since p q × HasLost p q
 Traces since p q (ending.Unstarted cause) = HadLink since p q × HasLost p q
 Traces since p q (ending.Relayed r) = HadLink since p q
+Traces since p q (ending.Managed r) = HadNone p q
 
 -- ---- what the holder tells of it
 
@@ -108,6 +109,7 @@ pub record HadLease (home : HomeOf) (g : Guest) (before after : ClientFacts) (r 
 abbrev pub Came : HomeOf → Guest → ClientFacts → ClientFacts → Ending → Type 0
 Came home g before after (ending.Relayed r) = HadLease home g before after r
 Came home g before after (ending.Unstarted cause) = IsUnstarted home g cause × (after ≡ before)
+Came home g before after (ending.Managed r) = ⊥
 Came home g before after other = after ≡ before
 
 -- ---- all of it, of a client that is through its login

@@ -1,5 +1,5 @@
 -- A client's whole time with a worker.
-use Rattle.std.specs.Prelude.{◌≡◌, Option}
+use Rattle.std.specs.Prelude.{◌≡◌, Bool, true, List, Option}
 use Rattle.link_laws.specs.Standing.{ClientFacts}
 use Rattle.message_view.specs.declared.refusal.Refusal.{Refusal}
 use Rattle.link_start.specs.declared.start.StartCause.{StartCause}
@@ -7,8 +7,10 @@ use Rattle.link_desk.specs.declared.calls.Holder.{Holder}
 use Rattle.link_desk.specs.Homes.{HomeOf}
 use Rattle.link_desk.specs.Passes.{PassOf}
 use Rattle.login_core.specs.Logins.{LoginView}
-use Rattle.pool_serve.specs.Causes.{AtArrival}
+use Rattle.login_run.specs.Laws.{AllowedBy, own}
+use Rattle.pool_serve.specs.Causes.{AtArrival, HasCause}
 use Rattle.pool_serve.specs.Endings.{HadLease, IsUnstarted, Traces, refusal_in}
+use Rattle.pool_serve.specs.Serving.{AreMarksOf, IsAtConsole, IsManaged, IsServed}
 use Rattle.pool_serve.specs.Words.{HasGiven, last_bytes, word_of}
 use Rattle.pool_serve.specs.declared.ending.Ending.{Ending}
 use Rattle.pool_serve.specs.declared.ending.Ending.TheVariants as ending
@@ -35,7 +37,19 @@ pub record UnstartedAs (home : HomeOf) (v : LoginView) (cause : StartCause) : Ty
 abbrev pub CameIn : HomeOf → LoginView → ClientFacts → Ending → Type 0
 CameIn home v after (ending.Relayed r) = LeasedAs home v after r
 CameIn home v after (ending.Unstarted cause) = UnstartedAs home v cause
+CameIn home v after (ending.Managed last) = after.tells ≡ true → IsManaged v after last
 CameIn home v after other = Unit {0}
+
+-- What it was given is allowed for what a server started for it alone answers, where cancels struck some of its frames or none: a
+-- refusal in it has its cause.
+abbrev pub IsAllowed : HomeOf → LoginView → PassOf → PassOf → ClientFacts → Type 0
+IsAllowed home v p q c =
+    (marks : List Bool) × (AreMarksOf home.strikable marks × AllowedBy (HasCause v c.taken p q) c.given (own home.catalogue v marks c.taken))
+
+-- what it was given until then, but for its last word
+abbrev pub ServesAs : HomeOf → LoginView → ClientFacts → Ending → Type 0
+ServesAs home v c (ending.Managed last) = IsAtConsole v c.taken
+ServesAs home v c e = IsServed home v c (word_of e)
 
 -- the client never arrived at the desk
 pub record IsUntouched (p q : PassOf) (h k : Holder) : Type 0 where

@@ -41,6 +41,7 @@ word_of ending.Strange = last.Nothing
 word_of ending.Unreached = last.Refusal ServerNotReached
 word_of (ending.Unstarted cause) = last_of cause
 word_of (ending.Relayed r) = or_nothing r
+word_of (ending.Managed r) = or_nothing r
 
 -- So many of these bytes were given: all, unless the client's end ended or faulted, or so many times as `TURNS` bytes went or none did.
 pub record HasGiven (old new : ClientFacts) (bytes : List ℕ) : Type 0 where

@@ -23,6 +23,8 @@ pub(crate) enum Ending {
     Unstarted(StartCause),
     /// Its lease has ended, by this refusal or by none.
     Relayed(Option<Refusal>),
+    /// It was a client of the console, and its talk has ended, by this refusal or by none.
+    Managed(Option<Refusal>),
 }
 
 impl Ending {
@@ -36,7 +38,7 @@ impl Ending {
             Ending::Memory => LastWord::Refusal(Refusal::OutOfMemory),
             Ending::Unreached => LastWord::Refusal(Refusal::ServerNotReached),
             Ending::Unstarted(cause) => LastWord::of_start(cause),
-            Ending::Relayed(refusal) => LastWord::of(refusal),
+            Ending::Relayed(refusal) | Ending::Managed(refusal) => LastWord::of(refusal),
         }
     }
 }

@@ -13,6 +13,7 @@ use message_view::Refusal;
 use relay_core::relay::Cause;
 use server_end::ClientEnd;
 use start_keys::StartKey;
+use std::sync::Arc;
 
 /// A client of this key, where it is known, as the log names it.
 pub(crate) fn named<'a>(visit: Visit, number: Option<u64>, key: Option<&'a StartKey>) -> Client<'a> {
@@ -25,6 +26,21 @@ pub(crate) fn named<'a>(visit: Visit, number: Option<u64>, key: Option<&'a Start
         number,
         user,
         database,
+    }
+}
+
+/// The key of a client that has arrived, where it can be shared.
+pub(crate) fn own_key<C: ClientEnd>(run: &LoginRun<C>) -> Option<Arc<StartKey>> {
+    match run.key() {
+        Some(key) => Arc::try_clone(key).ok(),
+        None => None,
+    }
+}
+
+pub(crate) fn key_of(key: &Option<Arc<StartKey>>) -> Option<&StartKey> {
+    match key {
+        Some(key) => Some(&**key),
+        None => None,
     }
 }
 
@@ -84,8 +100,10 @@ fn server_of(guest: &Guest) -> Server {
 /// How a client's time at the desk ended; nothing, where it went or was served.
 pub(crate) fn ending_note<'a>(guest: &Guest, ending: &'a Ending) -> Option<Note<'a>> {
     match ending {
-        Ending::Left | Ending::Strange | Ending::Relayed(None) => None,
-        Ending::Refused(refusal) | Ending::Relayed(Some(refusal)) => Some(Note::Refused(*refusal)),
+        Ending::Left | Ending::Strange | Ending::Relayed(None) | Ending::Managed(None) => None,
+        Ending::Refused(refusal)
+        | Ending::Relayed(Some(refusal))
+        | Ending::Managed(Some(refusal)) => Some(Note::Refused(*refusal)),
         Ending::Memory => Some(Note::Refused(Refusal::OutOfMemory)),
         Ending::Unreached => Some(Note::Unstarted(server_of(guest), Unstarted::NotReached)),
         Ending::Unstarted(cause) => match start_note(cause) {

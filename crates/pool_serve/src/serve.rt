@@ -1,22 +1,22 @@
 //! One client, from its first byte to its end.
-ghost use Rattle.std.specs.Prelude.{◌≡◌, ◌⊎◌, Bool, IsSome, List, [], None, false, true};
+ghost use Rattle.std.specs.Prelude.{◌≡◌, ◌⊎◌, IsSome, [], None, false, true};
 ghost use Rattle.ini_config.specs.Bounds.{AreWithinBounds};
 ghost use Rattle.login_core.specs.Dialogue.{AtFirst};
 ghost use Rattle.login_core.specs.Logins.{AwaitsPacket};
-ghost use Rattle.login_run.specs.Laws.{AllowedBy, own};
-ghost use Rattle.login_run.specs.Runs.{Arrived, IsAllGiven, IsSameLogin};
-ghost use Rattle.pool_serve.specs.Causes.{AtArrival, AtAsking, HasCause};
+ghost use Rattle.login_run.specs.Runs.{Arrived, Console, IsAllGiven, IsSameLogin};
+ghost use Rattle.console_run.specs.Passing.{IsSameHolder};
+ghost use Rattle.pool_serve.specs.Causes.{AtArrival, AtAsking};
 ghost use Rattle.pool_serve.specs.Endings.{HasEnded, HasLeased, Traces, refusal_in};
-ghost use Rattle.pool_serve.specs.Serving.{AreMarksOf, HasStopped, IsGuest, IsServed, LetsIn};
+ghost use Rattle.pool_serve.specs.Serving.{HasStopped, IsAtConsole, IsGuest, LetsIn};
 ghost use Rattle.pool_serve.specs.Shares.{Evens, Settles};
-ghost use Rattle.pool_serve.specs.Stays.{CameIn, IsOver, IsUntouched};
-ghost use Rattle.pool_serve.specs.Words.{word_of};
+ghost use Rattle.pool_serve.specs.Stays.{CameIn, IsAllowed, IsOver, IsUntouched, ServesAs};
 
 use crate::TURNS;
 use crate::ending::Ending;
 use crate::guest::Guest;
-use crate::noting::{ending_note, named, note_login};
+use crate::noting::{ending_note, key_of, named, note_login, own_key};
 use crate::worker::Worker;
+use console_run::console::serve_console;
 use link_desk::answers::Arrival;
 use link_desk::desk::LinkDesk;
 use log_lines::notes::{Note, Visit};
@@ -62,6 +62,40 @@ fn converse<C: ClientEnd, E: ServerEnd, G: Gate<E>>(
 }
 
 impl<'a, D: LinkDesk, G: Gate<D::End>> Worker<'a, D, G> {
+    /// Serves a client of the console, which is through its login.
+    fn manage<C: ClientEnd>(&mut self, run: LoginRun<C>, word: KeyWord) -> (C, Ending)
+        requires console { run.phase ≡ Console }
+        requires given { IsAllGiven run }
+        requires word { run.login.word ≡ word }
+        ensures tells { (C.facts result.0).tells ≡ run.client.tells }
+        ensures share { Evens (D.told self.old.pass) (D.told self.new.pass) }
+        ensures holder { IsSameHolder (D.holder self.old.pass) (D.holder self.new.pass) }
+        ensures traces { Traces AtAsking (D.told self.old.pass) (D.told self.new.pass) result.1 }
+        ensures refused { refusal_in result.1 ≡ None }
+        ensures came { CameIn D.home run.login (C.facts result.0) result.1 }
+        ensures serves { run.client.tells ≡ true → ServesAs D.home run.login (C.facts result.0) result.1 }
+    {
+        let key = own_key(&run);
+        let (client, login, _) = run.finish();
+        let who = named(self.visit, self.number, key_of(&key));
+        self.desk.note(&who, &Note::LoggedIn);
+        let (client, last) = serve_console(
+            self.alloc,
+            self.desk,
+            &mut self.pass,
+            client,
+            login.settings(),
+            word,
+            &mut self.gate,
+            &who,
+        );
+        if let Some(refusal) = last {
+            self.desk.note(&who, &Note::Refused(refusal));
+        }
+        self.desk.note(&who, &Note::Closed);
+        (client, Ending::Managed(last))
+    }
+
     /// Serves the client that has arrived. One whose dialogue doesn't go on for [`TURNS`] turns is closed.
     fn attend<C: ClientEnd>(&mut self, run: LoginRun<C>, word: KeyWord) -> (C, Ending)
         requires settings { AreWithinBounds run.login.settings }
@@ -74,7 +108,7 @@ impl<'a, D: LinkDesk, G: Gate<D::End>> Worker<'a, D, G> {
         ensures leased { HasLeased (D.holder self.old.pass) (D.holder self.new.pass) result.1 }
         ensures traces { Traces AtAsking (D.told self.old.pass) (D.told self.new.pass) result.1 }
         ensures came { CameIn D.home run.login (C.facts result.0) result.1 }
-        ensures serves { run.client.tells ≡ true → LetsIn D.home run.login.users → IsServed D.home run.login (C.facts result.0) (word_of result.1) }
+        ensures serves { run.client.tells ≡ true → LetsIn D.home run.login.users → ServesAs D.home run.login (C.facts result.0) result.1 }
     {
         bounded_rows_are_lawful();
         passed_keys_are_link_keys();
@@ -85,6 +119,7 @@ impl<'a, D: LinkDesk, G: Gate<D::End>> Worker<'a, D, G> {
         let mut run = run;
         match converse(self.alloc, &mut run, &mut self.gate, Some(TURNS)) {
             LoginTurn::Passed => {}
+            LoginTurn::Console => return self.manage(run, word),
             _ => {
                 note_login(self.desk, &run, self.visit, self.number);
                 let (client, _, _) = run.finish();
@@ -132,7 +167,7 @@ impl<'a, D: LinkDesk, G: Gate<D::End>> Worker<'a, D, G> {
         ensures refused { (D.holder self.new.pass).refused ≡ refusal_in result.1 }
         ensures traces { Traces AtArrival (D.told self.old.pass) (D.told self.new.pass) result.1 }
         ensures came { CameIn D.home run.login (C.facts result.0) result.1 }
-        ensures serves { run.client.tells ≡ true → LetsIn D.home run.login.users → IsServed D.home run.login (C.facts result.0) (word_of result.1) }
+        ensures serves { run.client.tells ≡ true → LetsIn D.home run.login.users → ServesAs D.home run.login (C.facts result.0) result.1 }
     {
         runs_stand_at_pieces();
         match self.desk.arrive(&mut self.pass) {
@@ -191,7 +226,7 @@ pub fn serve<C: ClientEnd, D: LinkDesk, G: Gate<D::End> + Drop>(
     requires free { (D.holder pass).client ≡ None }
     requires none { (D.holder pass).lease ≡ None }
     ensures tells { (C.facts result.0).tells ≡ (C.facts client).tells }
-    ensures allowed { (C.facts client).tells ≡ true → LetsIn D.home login.users → (marks : List Bool) × (AreMarksOf D.home.strikable marks × AllowedBy (HasCause login (C.facts result.0).taken (D.told pass) (D.told result.1)) (C.facts result.0).given (own D.home.catalogue login marks (C.facts result.0).taken)) }
+    ensures allowed { (C.facts client).tells ≡ true → LetsIn D.home login.users → IsAllowed D.home login (D.told pass) (D.told result.1) (C.facts result.0) ⊎ IsAtConsole login (C.facts result.0).taken }
     ensures share { Settles (D.told pass) (D.told result.1) }
     ensures free { (D.holder result.1).client ≡ None }
     ensures none { (D.holder result.1).lease ≡ None }

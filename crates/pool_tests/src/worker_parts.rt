@@ -8,6 +8,7 @@ ghost use Rattle.pool_tests.specs.Words.{key_word};
 
 use crate::files::{SHOP, settings_of, users};
 use book_model::limits::{Limits, MOST_CLIENTS};
+use book_model::rows::{Row, Rows};
 use desk_tallies::ledgers::Ledgers;
 use desk_tallies::passes::Pass;
 use link_desk::calls::Holder;
@@ -69,6 +70,20 @@ pub(crate) fn login(alloc: Global, number: u32) -> Result<Login, AllocError>
     login_by(alloc, SHOP, number)
 }
 
+/// The database row of the settings, for pools of so many links.
+fn rows(alloc: Global, size: u32) -> Result<Rows, AllocError> {
+    let shop = Row {
+        name: Text::from_slice(alloc, b"shop")?,
+        host: [127, 0, 0, 1],
+        port: 5432,
+        dbname: Text::from_slice(alloc, b"shop")?,
+        size,
+    };
+    let mut rows = Vec::new(alloc);
+    rows.push(shop)?;
+    Rows::new(alloc, rows)
+}
+
 /// Limits of so many clients and pools of so many links, a wait of 5 seconds, a lifetime of 3,600 and an idle timeout of 600.
 pub(crate) fn limits(alloc: Global, clients: u32, pool: u32) -> Result<Arc<Limits>, AllocError> {
     let limits = Limits {
@@ -78,7 +93,7 @@ pub(crate) fn limits(alloc: Global, clients: u32, pool: u32) -> Result<Arc<Limit
         query_wait_timeout: 5,
         server_lifetime: 3_600,
         server_idle_timeout: 600,
-        row_sizes: Vec::new(alloc),
+        rows: rows(alloc, pool)?,
     };
     Ok(Arc::new(alloc, limits)?)
 }

@@ -2,8 +2,9 @@
 ghost use Rattle.std.specs.Prelude.{◌<◌};
 ghost use Rattle.lease_book.specs.Links.{IsTwice};
 
-use crate::gone::{Gone, key};
+use crate::gone::{Gone, key, row};
 use book_model::limits::Limits;
+use book_model::rows::Rows;
 use lease_book::book::Book;
 use lease_book::events::{Event, Reply};
 use link_run::links::{CleanLink, Lent};
@@ -48,6 +49,8 @@ struct Bench {
 
 /// 10,000 clients and 1,000 links, 10 to a pool.
 fn limits(alloc: Global) -> Result<Arc<Limits>, AllocError> {
+    let mut rows = Vec::new(alloc);
+    rows.push(row(alloc, b"bench", 10)?)?;
     let limits = Limits {
         max_client_conn: 10_000,
         max_links: 1_000,
@@ -55,7 +58,7 @@ fn limits(alloc: Global) -> Result<Arc<Limits>, AllocError> {
         query_wait_timeout: 0,
         server_lifetime: 3_600,
         server_idle_timeout: 0,
-        row_sizes: Vec::new(alloc),
+        rows: Rows::new(alloc, rows)?,
     };
     Ok(Arc::new(alloc, limits)?)
 }
@@ -64,7 +67,7 @@ fn limits(alloc: Global) -> Result<Arc<Limits>, AllocError> {
 fn keys(alloc: Global) -> Result<Vec<Arc<StartKey>>, AllocError> {
     let mut keys = Vec::new(alloc);
     for number in 0..KEYS {
-        keys.push(key(alloc, number, number % POOLS)?)?;
+        keys.push(key(alloc, b"bench", number, number % POOLS)?)?;
     }
     Ok(keys)
 }

@@ -2,7 +2,7 @@
 
 /// The line that a wrong command line is answered by.
 pub const USAGE: &str =
-    "usage: trials login INI USERS CUT | trials solo CATALOGUE USER [CANCELLED] | trials lease CUT [DIES_AFTER] (a client's bytes on standard input) | trials relay SIZE TOTAL | trials book CLIENTS EVENTS";
+    "usage: trials login INI USERS CUT | trials solo CATALOGUE USER [CANCELLED] | trials lease CUT [DIES_AFTER] (a client's bytes on standard input) | trials relay SIZE TOTAL | trials book CLIENTS EVENTS | trials ticks LINKS ROWS SECONDS";
 
 /// What a command line asks for.
 #[derive(Clone, Copy, Drop)]
@@ -35,6 +35,12 @@ pub enum Job<'a> {
     Book {
         clients: u64,
         events: u64,
+    },
+    /// In how many of so many seconds a lease book closes none of so many idle links, under so many database rows.
+    Ticks {
+        links: u64,
+        rows: u64,
+        seconds: u64,
     },
 }
 
@@ -80,6 +86,11 @@ pub fn job_of<'a>(words: &'a [String]) -> Option<Job<'a>> {
         "book" if words.len() == 4 => Some(Job::Book {
             clients: words[2].parse::<u64>().ok()?,
             events: words[3].parse::<u64>().ok()?,
+        }),
+        "ticks" if words.len() == 5 => Some(Job::Ticks {
+            links: words[2].parse::<u64>().ok()?,
+            rows: words[3].parse::<u64>().ok()?,
+            seconds: words[4].parse::<u64>().ok()?,
         }),
         _ => None,
     }

@@ -1,5 +1,5 @@
 //! A tool for this repository's tests and measurements: a login fed with its bytes in pieces, what a session alone answers, what a lease
-//! gives; rows through a relay, and events of a lease book.
+//! gives; rows through a relay, and events and seconds of a lease book.
 #![tactic(auto)]
 
 mod book;
@@ -13,6 +13,7 @@ mod login;
 mod relay;
 mod rows;
 mod solo;
+mod ticks;
 
 use job::Job;
 use lines::number_line;
@@ -57,6 +58,11 @@ fn answer<'a, R: Files + Input>(
         Job::Lease { cut, dies_after } => lease::answer(rt, alloc, cut, dies_after),
         Job::Relay { size, total } => line_of(alloc, relay::relayed(alloc, size.max(11), total)),
         Job::Book { clients, events } => line_of(alloc, book::events(alloc, clients, events)),
+        Job::Ticks {
+            links,
+            rows,
+            seconds,
+        } => line_of(alloc, ticks::quiet(alloc, links, rows, seconds)),
     }
 }
 

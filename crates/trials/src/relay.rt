@@ -20,7 +20,7 @@ pub fn relayed(alloc: Global, size: u32, total: u64) -> Result<u64, AllocError>
 {
     let link = Lent {
         end: RowServer::new(alloc, size, total)?,
-        key: key(alloc, 0, 0)?,
+        key: key(alloc, b"bench", 0, 0)?,
         number: 1,
         born: 0,
         server_key: None,

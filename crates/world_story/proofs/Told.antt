@@ -80,8 +80,12 @@ key = record { row = codes "shop"; host = Some (127 ∷ 0 ∷ 0 ∷ 1 ∷ []); p
 abbrev pub word : ℕ → KeyWord
 word n = record { pid = n; secret = n; salt = [] }
 
+-- the one database row, with pools of this size
+abbrev pub rows : ℕ → List Row
+rows size = record { name = db.name; host = db.host; port = db.port; dbname = db.dbname; size = size } ∷ []
+
 abbrev pub limits : Limits
-limits = record { max_clients = 9; max_links = 9; row_sizes = []; default_size = 9; wait_timeout = 0; lifetime = 3600; idle_timeout = 600 }
+limits = record { max_clients = 9; max_links = 9; rows = rows 9; default_size = 9; wait_timeout = 0; lifetime = 3600; idle_timeout = 600 }
 
 abbrev pub hello : List ℕ
 hello = startup_message ((codes "user", codes "ann") ∷ (codes "database", codes "shop") ∷ [])

@@ -4,21 +4,22 @@ use Rattle.link_laws.specs.Standing.{ClientFacts}
 use Rattle.login_core.specs.Logins.{LoginView}
 use Rattle.login_run.specs.Laws.{AllowedBy, own}
 use Rattle.pool_serve.specs.Causes.{HasCause}
-use Rattle.pool_serve.specs.Serving.{AreMarksOf, IsServed, LetsIn}
+use Rattle.pool_serve.specs.Serving.{AreMarksOf, LetsIn}
+use Rattle.pool_serve.specs.Stays.{ServesAs}
 use Rattle.pool_serve.specs.Words.{HasGiven, last_bytes, word_of}
 use Rattle.pool_serve.specs.declared.word.LastWord.{LastWord}
-use Rattle.pool_serve.proofs.Causing.{word_traces}
 use Rattle.pool_serve.proofs.Leases.{came_first}
-use Rattle.pool_serve.proofs.Logging.{run_ends, same_served}
-use Rattle.pool_serve.proofs.Telling.{told_client, untold_client}
+use Rattle.pool_serve.proofs.Logging.{run_ends}
+use Rattle.pool_serve.proofs.Managing.{same_serves, told_as}
+use Rattle.pool_serve.proofs.Telling.{untold_client}
 use Rattle.pool_serve.proofs.serve.serve.Goals as goal
 
 pub returns-in_default : goal.returns-in_default
 returns-in_default g c = record {
   tells = ap (λ (x : ClientFacts). x.tells) c.finish-client.ensures.client ∙ (c.converse.ensures.login.tells ∙ ap (λ (x : ClientFacts). x.tells) c.new-run.ensures.client);
-  allowed = λ t l.
-      subst (λ (v : LoginView). (marks : List Bool) × (AreMarksOf g.D.LinkDesk.home.strikable marks × AllowedBy (HasCause v (g.C.ClientEnd.facts c.finish-client.result.0).taken (g.D.LinkDesk.told c.args.pass) (g.D.LinkDesk.told c.args.pass)) (g.C.ClientEnd.facts c.finish-client.result.0).given (own g.D.LinkDesk.home.catalogue v marks (g.C.ClientEnd.facts c.finish-client.result.0).taken))) c.new-run.ensures.login
-      (untold_client g.D.LinkDesk.home c.new-run.result.login (g.C.ClientEnd.facts c.finish-client.result.0) (g.D.LinkDesk.told c.args.pass) (g.D.LinkDesk.told c.args.pass) (run_ends c.runs_are_allowed.ensures g.D.LinkDesk.home c.new-run.result c.converse.new.run (g.C.ClientEnd.facts c.finish-client.result.0) c.converse.ensures.login c.finish-client.ensures.run c.finish-client.ensures.client (ap (λ (x : ClientFacts). x.tells) c.new-run.ensures.client ∙ t)));
+  allowed = λ t l. inl
+      (subst (λ (v : LoginView). (marks : List Bool) × (AreMarksOf g.D.LinkDesk.home.strikable marks × AllowedBy (HasCause v (g.C.ClientEnd.facts c.finish-client.result.0).taken (g.D.LinkDesk.told c.args.pass) (g.D.LinkDesk.told c.args.pass)) (g.C.ClientEnd.facts c.finish-client.result.0).given (own g.D.LinkDesk.home.catalogue v marks (g.C.ClientEnd.facts c.finish-client.result.0).taken))) c.new-run.ensures.login
+      (untold_client g.D.LinkDesk.home c.new-run.result.login (g.C.ClientEnd.facts c.finish-client.result.0) (g.D.LinkDesk.told c.args.pass) (g.D.LinkDesk.told c.args.pass) (run_ends c.runs_are_allowed.ensures g.D.LinkDesk.home c.new-run.result c.converse.new.run (g.C.ClientEnd.facts c.finish-client.result.0) c.converse.ensures.login c.finish-client.ensures.run c.finish-client.ensures.client (ap (λ (x : ClientFacts). x.tells) c.new-run.ensures.client ∙ t))));
   share = λ e. record { leases = refl; clients = refl };
   free = c.requires.free;
   none = c.requires.none;
@@ -28,15 +29,15 @@ returns-in_default g c = record {
 pub returns-clause-allowed : goal.returns-clause-allowed
 returns-clause-allowed g c = λ t l.
     let client = g.C.ClientEnd.facts c.admit-client.result.0 in
-    let word = word_of c.admit-client.result.1 in
+    let end = c.admit-client.result.1 in
     let tells = c.converse.ensures.login.tells ∙ (ap (λ (x : ClientFacts). x.tells) c.new-run.ensures.client ∙ t) in
     let lets = subst (λ (u : List UserRow). LetsIn g.D.LinkDesk.home u) (sym (c.converse.ensures.login.users ∙ ap (λ (x : LoginView). x.users) c.new-run.ensures.login)) l in
-    told_client g.D.LinkDesk.home c.args.login client (g.C.ClientEnd.facts c.tell.new.client) (g.D.LinkDesk.told c.args.pass) (g.D.LinkDesk.told c.admit-client.new.self.pass) word
+    told_as g.D.LinkDesk.home c.args.login client (g.C.ClientEnd.facts c.tell.new.client) (g.D.LinkDesk.told c.args.pass) (g.D.LinkDesk.told c.admit-client.new.self.pass) end
     (subst (λ (w : LastWord). HasGiven client (g.C.ClientEnd.facts c.tell.new.client) (last_bytes w)) c.into_word.ensures c.tell.ensures)
     (c.admit-client.ensures.tells ∙ tells)
-    (word_traces (g.D.LinkDesk.told c.args.pass) (g.D.LinkDesk.told c.admit-client.new.self.pass) g.D.LinkDesk.home c.converse.new.run.login client c.admit-client.result.1 c.admit-client.ensures.came c.admit-client.ensures.traces)
-    (subst (λ (v : LoginView). IsServed g.D.LinkDesk.home v client word) c.new-run.ensures.login
-    (same_served g.D.LinkDesk.home c.new-run.result c.converse.new.run client word c.converse.ensures.login (c.admit-client.ensures.serves tells lets)))
+    (came_first _ c.args.login c.new-run.result c.converse.new.run _ end c.new-run.ensures.login c.converse.ensures.login c.admit-client.ensures.came)
+    c.admit-client.ensures.traces
+    (subst (λ (v : LoginView). ServesAs g.D.LinkDesk.home v client end) c.new-run.ensures.login (same_serves g.D.LinkDesk.home c.new-run.result c.converse.new.run client end c.converse.ensures.login (c.admit-client.ensures.serves tells lets)))
 
 pub returns-clause-over : goal.returns-clause-over
 returns-clause-over g c = inr (record {

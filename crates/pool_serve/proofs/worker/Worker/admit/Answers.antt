@@ -4,7 +4,8 @@ use Rattle.link_laws.specs.Standing.{ClientFacts}
 use Rattle.pool_serve.specs.Serving.{LetsIn}
 use Rattle.pool_serve.proofs.Causing.{arrival_traces, stay_traces}
 use Rattle.pool_serve.proofs.Leases.{same_came}
-use Rattle.pool_serve.proofs.Logging.{arrival_ends, same_served}
+use Rattle.pool_serve.proofs.Logging.{arrival_ends}
+use Rattle.pool_serve.proofs.Managing.{same_serves}
 use Rattle.pool_serve.proofs.worker.Worker.admit.Goals as goal
 
 pub returns-in-Client-clause-came : goal.returns-in-Client-clause-came
@@ -12,7 +13,7 @@ returns-in-Client-clause-came g c = same_came _ c.args.run c.go_on.new.self _ c.
 
 pub returns-in-Client-clause-serves : goal.returns-in-Client-clause-serves
 returns-in-Client-clause-serves g c = λ t l.
-    same_served g.D.LinkDesk.home c.args.run c.go_on.new.self (g.C.ClientEnd.facts c.attend-served.result.0) _ c.go_on.ensures.login
+    same_serves g.D.LinkDesk.home c.args.run c.go_on.new.self (g.C.ClientEnd.facts c.attend-served.result.0) c.attend-served.result.1 c.go_on.ensures.login
     (c.attend-served.ensures.serves (ap (λ (x : ClientFacts). x.tells) c.go_on.ensures.client ∙ t) (subst (λ (u : List UserRow). LetsIn g.D.LinkDesk.home u) (sym c.go_on.ensures.login.users) l))
 
 pub returns-in-Refused-clause-serves : goal.returns-in-Refused-clause-serves

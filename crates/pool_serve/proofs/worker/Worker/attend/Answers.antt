@@ -6,7 +6,8 @@ use Rattle.link_laws.specs.Standing.{ClientFacts}
 use Rattle.login_core.specs.Logins.{LoginView}
 use Rattle.pool_serve.specs.declared.guest.Guest.{Guest}
 use Rattle.pool_serve.specs.Serving.{LetsIn}
-use Rattle.pool_serve.proofs.Leases.{came_in}
+use Rattle.pool_serve.proofs.Leases.{came_in, same_came}
+use Rattle.pool_serve.proofs.Managing.{guest_serves, same_serves}
 use Rattle.pool_serve.proofs.Logging.{guest_ends, is_guest, key_is, run_ends}
 use Rattle.pool_serve.proofs.worker.Worker.attend.Goals as goal
 
@@ -25,14 +26,15 @@ returns-in-Some-clause-came g c =
 pub returns-in-Some-clause-serves : goal.returns-in-Some-clause-serves
 returns-in-Some-clause-serves g c = λ t l.
     let guest : Guest = record { key = c.in-Some.key; word = c.args.word; login = c.finish-client-2.result.1 } in
-    guest_ends c.passed_runs_are_let_in.ensures g.D.LinkDesk.home c.args.run c.converse.new.run guest (g.C.ClientEnd.facts c.finish-client-2.result.0) (g.C.ClientEnd.facts c.host.result.0) _ c.converse.ensures.login c.finish-client-2.ensures.run
+    guest_serves g.D.LinkDesk.home c.args.run.login guest _ _ c.host.result.1 c.host.ensures.ended.came
+    (guest_ends c.passed_runs_are_let_in.ensures g.D.LinkDesk.home c.args.run c.converse.new.run guest (g.C.ClientEnd.facts c.finish-client-2.result.0) (g.C.ClientEnd.facts c.host.result.0) _ c.converse.ensures.login c.finish-client-2.ensures.run
     (key_is c.converse.new.run.phase c.finish-client-2.result.2 c.in-Some.key c.in-Some.is c.finish-client-2.ensures.key)
     c.in-Passed.ensures.stopped c.finish-client-2.ensures.client
     (sym (c.converse.ensures.login.word ∙ c.requires.word))
     c.finish-client-2.ensures.login
     t
     (c.host.ensures.ended.serves (ap (λ (x : ClientFacts). x.tells) c.finish-client-2.ensures.client ∙ (c.converse.ensures.login.tells ∙ t))
-    (subst (λ (u : List UserRow). LetsIn g.D.LinkDesk.home u) (sym (ap (λ (x : LoginView). x.users) c.finish-client-2.ensures.login ∙ c.converse.ensures.login.users)) l))
+    (subst (λ (u : List UserRow). LetsIn g.D.LinkDesk.home u) (sym (ap (λ (x : LoginView). x.users) c.finish-client-2.ensures.login ∙ c.converse.ensures.login.users)) l)))
 
 pub returns-in-None-clause-serves : goal.returns-in-None-clause-serves
 returns-in-None-clause-serves g c = λ t l. run_ends c.runs_are_allowed.ensures g.D.LinkDesk.home c.args.run c.converse.new.run (g.C.ClientEnd.facts c.finish-client-2.result.0) c.converse.ensures.login c.finish-client-2.ensures.run c.finish-client-2.ensures.client t
@@ -45,4 +47,14 @@ returns-in_default g c = record {
   traces = refl;
   came = tt;
   serves = λ t l. run_ends c.runs_are_allowed.ensures g.D.LinkDesk.home c.args.run c.converse.new.run (g.C.ClientEnd.facts c.finish-client.result.0) c.converse.ensures.login c.finish-client.ensures.run c.finish-client.ensures.client t;
+}
+
+pub returns-in-Console : goal.returns-in-Console
+returns-in-Console g c = record {
+  tells = c.manage.ensures.tells ∙ c.converse.ensures.login.tells;
+  share = c.manage.ensures.share;
+  leased = record { client = c.manage.ensures.holder.client; lease = c.manage.ensures.holder.lease ∙ c.requires.none; refused = c.manage.ensures.holder.refused ∙ (c.requires.unrefused ∙ sym c.manage.ensures.refused) };
+  traces = c.manage.ensures.traces;
+  came = same_came _ c.args.run c.converse.new.run _ c.manage.result.1 c.converse.ensures.login c.manage.ensures.came;
+  serves = λ t l. same_serves g.D.LinkDesk.home c.args.run c.converse.new.run _ c.manage.result.1 c.converse.ensures.login (c.manage.ensures.serves (c.converse.ensures.login.tells ∙ t));
 }

@@ -1,9 +1,0 @@
-use Rattle.std.proofs.Common.{◌≡◌, ◌-◌, length, take, vec_len}
-use Rattle.book_model.specs.Limits.{sizes_in}
-use Rattle.book_model.proofs.settings.sizes_of.Given as goal
-
-abbrev pub invariant-rows : goal.invariant-rows
-invariant-rows l = l.sizes.items ≡ sizes_in l.settings.default_pool_size (take (vec_len l.sizes) l.settings.rows)
-
-abbrev pub decreases-rows : goal.decreases-rows
-decreases-rows l = length l.settings.rows - vec_len l.sizes

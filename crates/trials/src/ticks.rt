@@ -1,0 +1,106 @@
+//! `trials ticks`: seconds of a lease book in which links lie idle, under many database rows.
+ghost use Rattle.lease_book.specs.Links.{IsTwice};
+
+use crate::gone::{Gone, key, row};
+use book_model::limits::Limits;
+use book_model::rows::Rows;
+use lease_book::book::Book;
+use lease_book::events::{Event, Reply};
+use link_run::links::{CleanLink, Lent};
+use param_track::Reported;
+use start_keys::StartKey;
+use std::alloc::{AllocError, Global};
+use std::sync::Arc;
+
+/// So many rows, each named by its number.
+fn rows(alloc: Global, count: u64) -> Result<Rows, AllocError> {
+    let mut rows = Vec::new(alloc);
+    for number in 0..count {
+        rows.push(row(alloc, &number.to_be_bytes(), 10_000)?)?;
+    }
+    Rows::new(alloc, rows)
+}
+
+/// Links live for a day, and lie idle for as long.
+fn limits(alloc: Global, count: u64) -> Result<Arc<Limits>, AllocError> {
+    let limits = Limits {
+        max_client_conn: 10_000,
+        max_links: 10_000,
+        default_pool_size: 10_000,
+        query_wait_timeout: 0,
+        server_lifetime: 86_400,
+        server_idle_timeout: 86_400,
+        rows: rows(alloc, count)?,
+    };
+    Ok(Arc::new(alloc, limits)?)
+}
+
+/// The book.
+#[derive(Drop)]
+struct Bench {
+    alloc: Global,
+    book: Book<Gone>,
+}
+
+impl Bench {
+    /// What the book answers.
+    fn happens(&mut self, event: Event<Gone>) -> Reply<Gone>
+        requires { IsTwice event }
+    {
+        self.book.apply(0, event)
+    }
+
+    /// The link of this number and second of birth, for this key.
+    fn link(&self, key: Arc<StartKey>, number: u64, born: u64) -> CleanLink<Gone> {
+        let lent = Lent {
+            end: Gone,
+            key,
+            number,
+            born,
+            server_key: None,
+            reported: Reported::new(self.alloc),
+        };
+        lent.clean()
+    }
+
+    /// A client of this database row comes, has a link for a key of its own, gives it back and goes.
+    fn leaves_link(&mut self, own: u64, row: u64) -> Result<(), AllocError> {
+        let Reply::Client(client) = self.happens(Event::Arrive) else {
+            return Err(AllocError);
+        };
+        let key = key(self.alloc, &row.to_be_bytes(), own, 0)?;
+        let again = Arc::try_clone(&key)?;
+        let of_link = Arc::try_clone(&key)?;
+        drop(self.happens(Event::Ask { client, key, again }));
+        let Reply::Start { number, born, .. } = self.happens(Event::Take { client }) else {
+            return Err(AllocError);
+        };
+        let link = self.link(of_link, number, born);
+        drop(self.happens(Event::GiveBack(link)));
+        drop(self.happens(Event::Leave { client }));
+        Ok(())
+    }
+
+    /// How many of so many seconds close no link.
+    fn seconds(&mut self, count: u64) -> u64 {
+        let mut quiet: u64 = 0;
+        for now in 0..count {
+            if matches!(self.happens(Event::Tick { now }), Reply::Done) {
+                quiet = quiet.saturating_add(1);
+            }
+        }
+        quiet
+    }
+}
+
+/// So many links, one after the other of each of so many rows, lie idle for so many seconds: how many of these close no link.
+pub fn quiet(alloc: Global, links: u64, rows: u64, seconds: u64) -> Result<u64, AllocError> {
+    let mut bench = Bench {
+        alloc,
+        book: Book::new(alloc, limits(alloc, rows)?)?,
+    };
+    for number in 0..links {
+        bench.leaves_link(number, number % rows.max(1))?;
+    }
+    Ok(bench.seconds(seconds))
+}
