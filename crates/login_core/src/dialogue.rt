@@ -15,8 +15,9 @@ use frame_view::{
 };
 use ini_config::{AuthType, Settings};
 use message_view::{KeyWord, PasswordView, Refusal, StartupView};
-use param_track::{StartFault, start_key};
+use param_track::{StartFault, start_key, unsupported_name};
 use start_keys::StartKey;
+use start_keys::text::Text;
 use std::alloc::Global;
 use std::sync::Arc;
 use user_file::Users;
@@ -78,6 +79,31 @@ fn refusal_of_start(fault: StartFault) -> Refusal
         StartFault::NoUser => Refusal::MalformedClientMessage,
         StartFault::UnsupportedParameter | StartFault::Replication => Refusal::UnsupportedParameter,
         StartFault::Memory => Refusal::OutOfMemory,
+    }
+}
+
+/// The parameter for which a packet is refused that is a StartupMessage, where there is memory for its name.
+fn unsupported_in(alloc: Global, settings: &Settings, packet: &[u8]) -> Option<Text> {
+    let FirstStep::Startup(text) = first_packet(packet) else {
+        return None;
+    };
+    let Ok(start) = StartupView::read(text) else {
+        return None;
+    };
+    let name = unsupported_name(settings, &start)?;
+    Text::from_slice(alloc, name).ok()
+}
+
+/// Keeps the parameter for which this step, the answer to a packet, refuses the client.
+pub(crate) fn note_unsupported(
+    alloc: Global,
+    settings: &Settings,
+    packet: &[u8],
+    step: &LoginStep,
+    name: &mut Option<Text>,
+) {
+    if step.is_unsupported() {
+        *name = unsupported_in(alloc, settings, packet);
     }
 }
 

@@ -5,13 +5,14 @@ ghost use Rattle.login_core.specs.Dialogue.{AtFirst};
 ghost use Rattle.login_core.specs.Logins.{ArrivesOnce, StepMeans, AwaitsPacket, Over, awaiting_of, login_view, missing, with_held};
 ghost use Rattle.login_core.specs.declared.steps.LoginStep.TheVariants.{Left};
 
-use crate::dialogue::{LONGEST_MESSAGE, Place, Rules};
+use crate::dialogue::{LONGEST_MESSAGE, Place, Rules, note_unsupported};
 use crate::laws::packets_grow;
 use crate::steps::LoginStep;
 use bytes::BytesMut;
 use frame_view::{FirstStep, Side, Step, first_packet, next_frame};
 use ini_config::Settings;
 use message_view::KeyWord;
+use start_keys::text::Text;
 use std::alloc::{AllocError, Global};
 use std::marker::Model;
 use std::mem;
@@ -28,6 +29,7 @@ pub struct Login {
     rules: Rules,
     place: Place,
     held: BytesMut,
+    unsupported: Option<Text>,
 }
 
 impl Drop for Login {
@@ -36,6 +38,7 @@ impl Drop for Login {
             rules: _,
             place: _,
             held: _,
+            unsupported: _,
         } = self;
     }
 }
@@ -73,6 +76,7 @@ impl Login {
                 gss: false,
             },
             held: BytesMut::with_capacity(alloc, LONGEST_PACKET)?,
+            unsupported: None,
         })
     }
 
@@ -88,6 +92,15 @@ impl Login {
         ensures { arc_value result.now ≡ self.now.users }
     {
         &self.rules.users
+    }
+
+    /// The name of the parameter for which the client was refused as [`message_view::Refusal::UnsupportedParameter`], as it was
+    /// sent. None where it wasn't refused so, or where there was no memory for the name.
+    pub fn unsupported_parameter(&self) -> Option<&[u8]> {
+        match &self.unsupported {
+            Some(name) => Some(name.as_slice()),
+            None => None,
+        }
     }
 
     /// The bytes that are known to be missing from the packet that it waits for: at least one after `new`,
@@ -135,6 +148,13 @@ impl Login {
         if step.is_more() {
             return step;
         }
+        note_unsupported(
+            alloc,
+            &self.rules.settings,
+            self.held.as_slice(),
+            &step,
+            &mut self.unsupported,
+        );
         self.held.clear();
         step
     }

@@ -80,4 +80,9 @@ impl LoginStep {
     {
         matches!(self, LoginStep::More)
     }
+
+    /// Whether it refuses a startup parameter.
+    pub(crate) fn is_unsupported(&self) -> bool {
+        matches!(self, LoginStep::Refused(Refusal::UnsupportedParameter))
+    }
 }

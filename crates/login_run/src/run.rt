@@ -63,6 +63,7 @@ pub struct LoginRun<C: ClientEnd> {
     phase: Phase,
     said: Said,
     sent: usize,
+    key: Option<Arc<StartKey>>,
 }
 
 impl<C: ClientEnd> Drop for LoginRun<C> {
@@ -73,6 +74,7 @@ impl<C: ClientEnd> Drop for LoginRun<C> {
             phase: _,
             said: _,
             sent: _,
+            key: _,
         } = self;
     }
 }
@@ -101,6 +103,13 @@ fn after(step: LoginStep) -> (Phase, Said)
         LoginStep::Refused(refusal) => (Phase::Stopped, Said::Refusal(refusal)),
         LoginStep::Failed(failure) => (Phase::Stopped, Said::Failure(failure)),
         LoginStep::Left => (Phase::Stopped, Said::Nothing),
+    }
+}
+
+/// Keeps the key with which a client arrives; without one where its count is at its end.
+fn keep_arrival(step: &LoginStep, key: &mut Option<Arc<StartKey>>) {
+    if let LoginStep::Arrived(arrived) = step {
+        *key = Arc::try_clone(arrived).ok();
     }
 }
 
@@ -140,6 +149,7 @@ impl<C: ClientEnd> LoginRun<C> {
             phase: Phase::Talking,
             said: Said::Nothing,
             sent: 0,
+            key: None,
         }
     }
 
@@ -206,6 +216,7 @@ impl<C: ClientEnd> LoginRun<C> {
         match moved {
             Moved::Count(count) => {
                 let (_, step) = self.login.on_bytes(alloc, &chunk[..count]);
+                keep_arrival(&step, &mut self.key);
                 (self.phase, self.said) = after(step);
                 LoginTurn::Again
             }
@@ -239,6 +250,25 @@ impl<C: ClientEnd> LoginRun<C> {
         let _ = &self.sent;
     }
 
+    /// The login.
+    pub fn login(&self) -> &Login
+        ensures { result.now ≡ self.now.login }
+    {
+        &self.login
+    }
+
+    /// What the client was given last, or is to be given.
+    pub fn said(&self) -> Said
+        ensures { result ≡ self.now.said }
+    {
+        self.said
+    }
+
+    /// The start key with which the client arrived, once it has.
+    pub fn key(&self) -> Option<&Arc<StartKey>> {
+        self.key.as_ref()
+    }
+
     /// Takes it apart: the client's end, the login, and the key of a client that was let in.
     pub fn finish(self) -> (C, Login, Option<Arc<StartKey>>)
         ensures client { C.facts result.0 ≡ self.client }
@@ -252,6 +282,7 @@ impl<C: ClientEnd> LoginRun<C> {
             phase,
             said: _,
             sent: _,
+            key: _,
         } = self;
         match phase {
             Phase::Passed(key) => (client, login, Some(key)),

@@ -1,8 +1,9 @@
 -- Which start key a client's StartupMessage gives under the settings (PostgreSQL manual,
 -- "StartupMessage"; PgBouncer manual, "ignore_startup_parameters" and "track_extra_parameters").
-use Rattle.std.specs.Prelude.{◌≡◌, ℕ, List, [], ◌∷◌, ◌++◌, length, fold, Option, Some, None, Result, Ok, Err, Bool, true, false, ◌==◌, ◌&&◌, ◌||◌, not, if◌then◌else◌, bytes_eq, codes}
+use Rattle.std.specs.Prelude.{◌≡◌, ℕ, List, [], ◌∷◌, ◌++◌, length, fold, Option, Some, None, option_map, Result, Ok, Err, Bool, true, false, ◌==◌, ◌&&◌, ◌||◌, not, if◌then◌else◌, bytes_eq, codes}
 use Rattle.std.specs.Str.{str_eq_ignore_ascii_case}
-use Rattle.std.specs.List.{list_any}
+use Rattle.std.specs.List.{list_any, find}
+use Rattle.std.specs.Option.{option_or}
 use Rattle.ini_config.specs.declared.database_rows.DbRow.{DbRow}
 use Rattle.ini_config.specs.declared.option_values.Settings.{Settings}
 use Rattle.ini_config.specs.OptionValues.{has_folded}
@@ -56,6 +57,16 @@ is_use _ _ = false
 
 abbrev pub has_use : Names → Use → List Pair → Bool
 has_use names wanted pairs = list_any (λ p. is_use (use_of names p.0) wanted) pairs
+
+-- ---- the parameter for which a message is told to be unsupported
+
+-- the name of the first pair of which the settings make this
+abbrev pub first_name : Names → Use → List Pair → Option Text
+first_name names wanted pairs = option_map (λ p. p.0) (find (λ p. is_use (use_of names p.0) wanted) pairs)
+
+-- the first that is neither followed nor ignored; where each is, `replication`, unless it is ignored
+abbrev pub unsupported_name : Names → List Pair → Option Text
+unsupported_name names pairs = option_or (first_name names Unsupported pairs) (first_name names Replication pairs)
 
 -- ---- the followed parameters
 

@@ -13,6 +13,7 @@ ghost use Rattle.param_track.specs.declared.StartFault.TheVariants.{Memory};
 pub use key::start_key;
 pub use reported::{MOST_NAMES, ReportFault, Reported, StartReport};
 use std::alloc::AllocError;
+pub use uses::unsupported_name;
 
 /// Why a StartupMessage gives no start key. The first of these that holds is told, wherever they stand in the message.
 #[derive(Clone, Copy, Debug, PartialEq, Eq, Drop)]

@@ -1,5 +1,5 @@
 //! What becomes of each pair of a StartupMessage.
-ghost use Rattle.std.specs.Prelude.{◌≡◌};
+ghost use Rattle.std.specs.Prelude.{◌≡◌, option_map};
 ghost use Rattle.std.specs.List.{list_any};
 ghost use Rattle.std.specs.Str.{str_eq_ignore_ascii_case};
 ghost use Rattle.ini_config.specs.OptionValues.{has_folded};
@@ -95,4 +95,28 @@ pub(crate) fn has_use(settings: &Settings, start: &StartupView<'_>, wanted: Use)
         }
     }
     false
+}
+
+/// The name of the first pair of which the settings make this.
+fn first_name<'a>(settings: &Settings, start: &StartupView<'a>, wanted: Use) -> Option<&'a [u8]>
+    ensures { option_map (λ n. n.now) result ≡ spec.first_name (spec.names_of settings.now) wanted (pairs_left start.now.pairs) }
+{
+    let mut pairs = start.pairs();
+    while let Some((name, _)) = next_pair(&mut pairs) {
+        if use_of(settings, name) == wanted {
+            return Some(name);
+        }
+    }
+    None
+}
+
+/// The name, as it was sent, of the parameter for which a message is refused as unsupported: the first that is neither followed
+/// nor ignored; where there is none, `replication`, unless the settings ignore it. It takes no memory.
+pub fn unsupported_name<'a>(settings: &Settings, start: &StartupView<'a>) -> Option<&'a [u8]>
+    ensures { option_map (λ n. n.now) result ≡ spec.unsupported_name (spec.names_of settings.now) (pairs_left start.now.pairs) }
+{
+    match first_name(settings, start, Use::Unsupported) {
+        Some(name) => Some(name),
+        None => first_name(settings, start, Use::Replication),
+    }
 }

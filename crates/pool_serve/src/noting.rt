@@ -16,7 +16,11 @@ use start_keys::StartKey;
 use std::sync::Arc;
 
 /// A client of this key, where it is known, as the log names it.
-pub(crate) fn named<'a>(visit: Visit, number: Option<u64>, key: Option<&'a StartKey>) -> Client<'a> {
+pub(crate) fn named<'a>(
+    visit: Visit,
+    number: Option<u64>,
+    key: Option<&'a Arc<StartKey>>,
+) -> Client<'a> {
     let (user, database) = match key {
         Some(key) => (key.user.as_slice(), key.row.as_slice()),
         None => (b"".as_slice(), b"".as_slice()),
@@ -33,13 +37,6 @@ pub(crate) fn named<'a>(visit: Visit, number: Option<u64>, key: Option<&'a Start
 pub(crate) fn own_key<C: ClientEnd>(run: &LoginRun<C>) -> Option<Arc<StartKey>> {
     match run.key() {
         Some(key) => Arc::try_clone(key).ok(),
-        None => None,
-    }
-}
-
-pub(crate) fn key_of(key: &Option<Arc<StartKey>>) -> Option<&StartKey> {
-    match key {
-        Some(key) => Some(&**key),
         None => None,
     }
 }

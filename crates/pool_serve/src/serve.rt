@@ -14,7 +14,7 @@ ghost use Rattle.pool_serve.specs.Stays.{CameIn, IsAllowed, IsOver, IsUntouched,
 use crate::TURNS;
 use crate::ending::Ending;
 use crate::guest::Guest;
-use crate::noting::{ending_note, key_of, named, note_login, own_key};
+use crate::noting::{ending_note, named, note_login, own_key};
 use crate::worker::Worker;
 use console_run::console::serve_console;
 use link_desk::answers::Arrival;
@@ -77,7 +77,7 @@ impl<'a, D: LinkDesk, G: Gate<D::End>> Worker<'a, D, G> {
     {
         let key = own_key(&run);
         let (client, login, _) = run.finish();
-        let who = named(self.visit, self.number, key_of(&key));
+        let who = named(self.visit, self.number, key.as_ref());
         self.desk.note(&who, &Note::LoggedIn);
         let (client, last) = serve_console(
             self.alloc,

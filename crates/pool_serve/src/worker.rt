@@ -20,7 +20,7 @@ pub(crate) struct Worker<'a, D: LinkDesk, G> {
 impl<'a, D: LinkDesk, G> Worker<'a, D, G> {
     /// Tells the log of its client.
     pub(crate) fn note(&self, guest: &Guest, note: &Note<'_>) {
-        let client = named(self.visit, self.number, Some(&*guest.key));
+        let client = named(self.visit, self.number, Some(&guest.key));
         self.desk.note(&client, note);
     }
 }

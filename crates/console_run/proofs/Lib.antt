@@ -1,0 +1,4 @@
+pub mod Passing
+pub mod Answering
+pub mod Going
+pub mod Talking

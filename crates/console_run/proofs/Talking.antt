@@ -1,0 +1,250 @@
+-- What each turn of a talk keeps.
+use Rattle.std.proofs.Common.{◌≡◌, ◌⊎◌, inl, inr, ℕ, ◌+◌, ◌<◌, ◌≤◌, Bool, true, false, List, [], ◌∷◌, ◌++◌, length, take, drop, Option, Some, None, refl, sym, ap, ap₂, ◌∙◌, subst, arith, append-nil, le_refl, le_trans, length-take}
+use Rattle.std.specs.List.{flat_map}
+use Rattle.bytes.specs.Filled.{Filled}
+use Rattle.frame_view.specs.declared.Frame.{Frame}
+use Rattle.frame_view.specs.declared.FrameFault.{FrameFault}
+use Rattle.frame_view.specs.declared.FrameFault.TheVariants as fault
+use Rattle.frame_view.specs.declared.Side.TheVariants.{Client}
+use Rattle.frame_view.specs.declared.Step.TheVariants.{Whole, Bad}
+use Rattle.frame_view.specs.Answers.{IsCut, Tells}
+use Rattle.frame_view.specs.Frames.{AreBytes, Front, AFrame, Lacks, Faulty, FrameOf, IsFrame, front, spelling}
+use Rattle.frame_view.specs.Laws.{FrontIsSpelled}
+use Rattle.message_view.specs.declared.KeyWord.{KeyWord}
+use Rattle.message_view.specs.declared.refusal.Refusal.{Refusal}
+use Rattle.message_view.specs.declared.refusal.Refusal.TheVariants.{OutOfMemory}
+use Rattle.session_values.specs.Answers.{frame_of}
+use Rattle.ini_config.specs.declared.option_values.Settings.{Settings}
+use Rattle.link_laws.specs.Standing.{ClientFacts}
+use Rattle.server_end.specs.declared.Moved.{Moved}
+use Rattle.server_end.specs.declared.Moved.TheVariants.{Ended, Fault}
+use Rattle.server_end.specs.Moves.{ClientReads, ClientWrites, faults_in, moved, waits_in}
+use Rattle.console_core.specs.Messages.{response_to}
+use Rattle.console_run.specs.declared.answering.Answered.TheVariants as answered
+use Rattle.console_run.specs.declared.talk.Turn.{Turn}
+use Rattle.console_run.specs.declared.talk.Turn.TheVariants as turn
+use Rattle.console_run.specs.Passing.{Pass}
+use Rattle.console_run.specs.Exchanges.{after_exchanges}
+use Rattle.console_run.specs.Talks.{EndsBy, IsClientOver, IsFaulty, IsOver, IsRefused, IsRefusedBy, IsServed, Leaves, MOST_TURNS, Said, Talks, refused_by}
+use Rattle.console_run.specs.Turns.{Goes, HasEnded, HasGone, HasMoved, HasRead, HasResponded, HasTurned, HasWritten, IsRefusedAt, TalkView, greeted, talk_view}
+use Rattle.console_run.proofs.Answering.{refused_here}
+use Rattle.console_run.proofs.Going.{goes_fewer, goes_further, goes_moved, goes_none}
+use Rattle.console_run.proofs.Passing.{Keeps, keeps_exchanges, keeps_further, keeps_refused}
+
+-- ---- a write, and a read
+
+-- what was written, and what is left
+pub wrote : (n : ℕ) (c d : ClientFacts) (held unwritten put left : List ℕ) (drops : Bool) (m : Moved) → ClientWrites c d put m → unwritten ≡ put ++ left → n ≤ length put + waits_in m → HasMoved n (talk_view c held unwritten drops) (talk_view d held left drops)
+wrote n c d held unwritten put left drops m k e f = record {
+  got = [];
+  put = put;
+  tells = k.tells;
+  taken = λ t. k.taken t ∙ sym (append-nil c.taken);
+  given = k.given;
+  held = sym (append-nil held);
+  unwritten = e;
+  drops = refl;
+  faults = omega (arith, k.faults);
+  counted = omega (arith, k.read_waits, k.write_waits, f);
+}
+
+pub took : (n : ℕ) (c d : ClientFacts) (held got more unwritten : List ℕ) (drops : Bool) (m : Moved) → ClientReads c d got m → more ≡ held ++ got → n ≤ length got + waits_in m → HasMoved n (talk_view c held unwritten drops) (talk_view d more unwritten drops)
+took n c d held got more unwritten drops m k e f = record {
+  got = got;
+  put = [];
+  tells = k.tells;
+  taken = k.taken;
+  given = λ t. k.given t ∙ sym (append-nil c.given);
+  held = e;
+  unwritten = refl;
+  drops = refl;
+  faults = omega (arith, k.faults);
+  counted = omega (arith, k.read_waits, k.write_waits, f);
+}
+
+nothing_moved : (m : Moved) (bytes : List ℕ) → (m ≡ Ended) ⊎ (m ≡ Fault) → moved m bytes ≡ []
+nothing_moved m bytes (inl e) = ap (λ (n : Moved). moved n bytes) e
+nothing_moved m bytes (inr e) = ap (λ (n : Moved). moved n bytes) e
+
+over_by_write : (c d : ClientFacts) (put : List ℕ) (m : Moved) → (m ≡ Ended) ⊎ (m ≡ Fault) → ClientWrites c d put m → IsClientOver c d
+over_by_write c d put m (inl e) k = inl (k.ended e)
+over_by_write c d put m (inr e) k = inr (omega (arith, k.faults, ap faults_in e))
+
+over_by_read : (c d : ClientFacts) (got : List ℕ) (m : Moved) → (m ≡ Ended) ⊎ (m ≡ Fault) → ClientReads c d got m → IsClientOver c d
+over_by_read c d got m (inl e) k = inl (k.ended e)
+over_by_read c d got m (inr e) k = inr (omega (arith, k.faults, ap faults_in e))
+
+pub wrote_last : (c d : ClientFacts) (held unwritten bytes : List ℕ) (drops : Bool) (m : Moved) → (m ≡ Ended) ⊎ (m ≡ Fault) → ClientWrites c d (moved m bytes) m → HasMoved 0 (talk_view c held unwritten drops) (talk_view d held unwritten drops) × IsClientOver c d
+wrote_last c d held unwritten bytes drops m e k = (
+  wrote 0 c d held unwritten [] unwritten drops m (subst (λ (l : List ℕ). ClientWrites c d l m) (nothing_moved m bytes e) k) refl (omega arith),
+  over_by_write c d (moved m bytes) m e k,
+)
+
+pub took_last : (c d : ClientFacts) (held bytes unwritten : List ℕ) (drops : Bool) (m : Moved) → (m ≡ Ended) ⊎ (m ≡ Fault) → ClientReads c d (moved m bytes) m → HasMoved 0 (talk_view c held unwritten drops) (talk_view d held unwritten drops) × IsClientOver c d
+took_last c d held bytes unwritten drops m e k = (
+  took 0 c d held [] held unwritten drops m (subst (λ (l : List ℕ). ClientReads c d l m) (nothing_moved m bytes e) k) (sym (append-nil held)) (omega arith),
+  over_by_read c d (moved m bytes) m e k,
+)
+
+-- some bytes are at least one
+pub some_taken : (n : ℕ) (bytes : List ℕ) → 0 < n → n ≤ length bytes → 1 ≤ length (take n bytes)
+some_taken n bytes h i = omega (arith, h, i, length-take n bytes)
+
+client_over : (s : Settings) (old new : TalkView) (p q : Pass) → HasMoved 0 old new → IsClientOver old.client new.client → q ≡ p → HasEnded s old new p q None
+client_over s old new p q h o e = record { turns = 0; goes = goes_moved s 0 old new p q h e; why = inr (inl o) }
+
+pub written_turned : (s : Settings) (old new : TalkView) (p q : Pass) (t : Turn) → HasWritten old new t → q ≡ p → HasTurned s old new p q t
+written_turned s old new p q turn.Again h e = goes_moved s 1 old new p q h e
+written_turned s old new p q turn.Wait h e = goes_moved s 1 old new p q h e
+written_turned s old new p q (turn.Over None) h e = client_over s old new p q h.0 h.1 e
+written_turned s old new p q (turn.Over (Some r)) h e = absurd h
+
+no_memory : (s : Settings) (old new : TalkView) (p q : Pass) (r : Refusal) → old.unwritten ≡ [] → r ≡ OutOfMemory → new ≡ old → q ≡ p → IsRefusedAt s old new p q r
+no_memory s old new p q r w f n e =
+    subst (λ (v : TalkView). IsRefusedAt s old v p q r) (sym n)
+    (subst (λ (x : Refusal). IsRefusedAt s old old p q x) (sym f) (record { at = p; goes = goes_none s old p; written = w; refused = e }))
+
+pub read_turned : (s : Settings) (old new : TalkView) (p q : Pass) (t : Turn) → old.unwritten ≡ [] → HasRead old new t → q ≡ p → HasTurned s old new p q t
+read_turned s old new p q turn.Again w h e = goes_moved s 1 old new p q h e
+read_turned s old new p q turn.Wait w h e = goes_moved s 1 old new p q h e
+read_turned s old new p q (turn.Over None) w h e = client_over s old new p q h.0 h.1 e
+read_turned s old new p q (turn.Over (Some r)) w h e = no_memory s old new p q r w h.0 h.1 e
+
+-- ---- a message
+
+drop_front : (xs ys : List ℕ) → drop (length xs) (xs ++ ys) ≡ ys
+drop_front [] ys = refl
+drop_front (x ∷ xs) ys = drop_front xs ys
+
+-- one exchange
+exchanged : (s : Settings) (c : ClientFacts) (held rest unwritten : List ℕ) (drops dropping : Bool) (f : FrameOf) (reply : Filled) (p q : Pass) → unwritten ≡ [] → held ≡ spelling f ++ rest → IsFrame Client s.max_packet_size f → HasResponded s (response_to drops f) (answered.Told reply dropping) p q
+    → Goes s 1 (talk_view c held unwritten drops) (talk_view c rest reply.items dropping) p q
+exchanged s c held rest unwritten drops dropping f reply p q w e i h = record {
+  got = [];
+  put = [];
+  exchanges = record { asks = f; told = h.0.told; does = h.0.does } ∷ [];
+  tells = refl;
+  taken = λ t. sym (append-nil c.taken);
+  given = λ t. sym (append-nil c.given);
+  heard = append-nil held ∙ (e ∙ ap (λ (l : List ℕ). l ++ rest) (sym (append-nil (spelling f))));
+  told = ap (λ (l : List ℕ). l ++ (flat_map spelling h.0.told ++ [])) w ∙ (append-nil (flat_map spelling h.0.told) ∙ sym h.0.bytes_are);
+  answered = (i, (h.0.answers_it, tt));
+  drops = h.1;
+  pass = h.0.pass;
+  faults = le_refl c.faults;
+  counted = omega arith;
+}
+
+framed : FrontIsSpelled → (s : Settings) (c : ClientFacts) (held unwritten : List ℕ) (drops dropping : Bool) (frame : Frame) (reply : Filled) (p q : Pass) (kind : ℕ) (body rest : List ℕ) → AreBytes held → unwritten ≡ [] → front Client s.max_packet_size held ≡ AFrame kind body rest → IsCut frame held kind body rest
+    → HasResponded s (response_to drops (frame_of frame)) (answered.Told reply dropping) p q → Goes s 1 (talk_view c held unwritten drops) (talk_view c (drop (length frame.whole.now) held) reply.items dropping) p q
+framed law s c held unwritten drops dropping frame reply p q kind body rest b w e k h =
+    let same : frame_of frame ≡ record { kind = kind; body = body } = ap₂ (λ (x : ℕ) (y : List ℕ). record { kind = x; body = y }) k.kind_is k.body_is in
+    let spelled = law Client s.max_packet_size held kind body rest b e in
+    let behind : drop (length frame.whole.now) held ≡ rest = ap (λ (l : List ℕ). drop (length frame.whole.now) l) (sym k.whole_is) ∙ drop_front frame.whole.now rest in
+    subst (λ (l : List ℕ). Goes s 1 (talk_view c held unwritten drops) (talk_view c l reply.items dropping) p q) (sym behind)
+    (exchanged s c held rest unwritten drops dropping (frame_of frame) reply p q w (subst (λ (f : FrameOf). held ≡ spelling f ++ rest) (sym same) spelled.0) (subst (λ (f : FrameOf). IsFrame Client s.max_packet_size f) (sym same) spelled.1) h)
+
+pub message_told : FrontIsSpelled → (s : Settings) (c : ClientFacts) (held unwritten : List ℕ) (drops dropping : Bool) (frame : Frame) (reply : Filled) (p q : Pass) → AreBytes held → unwritten ≡ [] → Tells (Whole frame) held (front Client s.max_packet_size held)
+    → HasResponded s (response_to drops (frame_of frame)) (answered.Told reply dropping) p q → Goes s 1 (talk_view c held unwritten drops) (talk_view c (drop (length frame.whole.now) held) reply.items dropping) p q
+message_told law s c held unwritten drops dropping frame reply p q b w t h = go (front Client s.max_packet_size held) refl t
+  where
+    go : (x : Front) → front Client s.max_packet_size held ≡ x → Tells (Whole frame) held x → Goes s 1 (talk_view c held unwritten drops) (talk_view c (drop (length frame.whole.now) held) reply.items dropping) p q
+    go (AFrame kind body rest) e k = framed law s c held unwritten drops dropping frame reply p q kind body rest b w e k h
+    go (Lacks n) e k = absurd k
+    go (Faulty f) e k = absurd k
+
+pub message_refused : (s : Settings) (v : TalkView) (p q : Pass) (r : Refusal) → v.unwritten ≡ [] → IsRefusedBy r p q → IsRefusedAt s v v p q r
+message_refused s v p q r w h = record { at = p; goes = goes_none s v p; written = w; refused = refused_here s.max_packet_size v.held r p q h }
+
+-- the client leaves
+framed_leaving : FrontIsSpelled → (s : Settings) (v : TalkView) (frame : Frame) (p q : Pass) (kind : ℕ) (body rest : List ℕ) → AreBytes v.held → v.unwritten ≡ [] → front Client s.max_packet_size v.held ≡ AFrame kind body rest → IsCut frame v.held kind body rest
+    → HasResponded s (response_to v.drops (frame_of frame)) answered.Left p q → HasGone s v v p q
+framed_leaving law s v frame p q kind body rest b w e k h =
+    let same : frame_of frame ≡ record { kind = kind; body = body } = ap₂ (λ (x : ℕ) (y : List ℕ). record { kind = x; body = y }) k.kind_is k.body_is in
+    let spelled = law Client s.max_packet_size v.held kind body rest b e in
+    record {
+      turns = 0;
+      goes = subst (λ (x : Pass). Goes s 0 v v p x) (sym h.1) (goes_none s v p);
+      why = inl (record { message = record { kind = kind; body = body }; behind = rest; stands = spelled.0; is_frame = spelled.1; leaves = ap (λ (f : FrameOf). response_to v.drops f) (sym same) ∙ h.0 }, w);
+    }
+
+pub message_left : FrontIsSpelled → (s : Settings) (v : TalkView) (frame : Frame) (p q : Pass) → AreBytes v.held → v.unwritten ≡ [] → Tells (Whole frame) v.held (front Client s.max_packet_size v.held) → HasResponded s (response_to v.drops (frame_of frame)) answered.Left p q → HasGone s v v p q
+message_left law s v frame p q b w t h = go (front Client s.max_packet_size v.held) refl t
+  where
+    go : (x : Front) → front Client s.max_packet_size v.held ≡ x → Tells (Whole frame) v.held x → HasGone s v v p q
+    go (AFrame kind body rest) e k = framed_leaving law s v frame p q kind body rest b w e k h
+    go (Lacks n) e k = absurd k
+    go (Faulty f) e k = absurd k
+
+is_faulty : (limit : ℕ) (held : List ℕ) (f : FrameFault) → Tells (Bad f) held (front Client limit held) → IsFaulty limit held (refused_by f)
+is_faulty limit held f t = go (front Client limit held) refl t
+  where
+    go : (x : Front) → front Client limit held ≡ x → Tells (Bad f) held x → IsFaulty limit held (refused_by f)
+    go (AFrame kind body rest) e k = absurd k
+    go (Lacks n) e k = absurd k
+    go (Faulty other) e k = record { fault = other; stands = e; refusal = ap refused_by (sym k) }
+
+faulty_refused : (limit : ℕ) (held : List ℕ) (f : FrameFault) (p q : Pass) → q ≡ p → IsFaulty limit held (refused_by f) → IsRefused limit held (refused_by f) p q
+faulty_refused limit held fault.TooLong p q e h = (h, e)
+faulty_refused limit held fault.TooShort p q e h = (h, e)
+faulty_refused limit held fault.UnknownType p q e h = (h, e)
+faulty_refused limit held fault.UnknownCode p q e h = (h, e)
+
+pub message_faulty : (s : Settings) (v : TalkView) (p q : Pass) (f : FrameFault) → v.unwritten ≡ [] → Tells (Bad f) v.held (front Client s.max_packet_size v.held) → q ≡ p → IsRefusedAt s v v p q (refused_by f)
+message_faulty s v p q f w t e = record { at = p; goes = goes_none s v p; written = w; refused = faulty_refused s.max_packet_size v.held f p q e (is_faulty s.max_packet_size v.held f t) }
+
+-- ---- the whole talk
+
+over_further : (c d e : ClientFacts) → c.faults ≤ d.faults → IsClientOver d e → IsClientOver c e
+over_further c d e h (inl o) = inl o
+over_further c d e h (inr o) = inr (omega (arith, h, o))
+
+pub ended_further : (s : Settings) (n : ℕ) (old mid new : TalkView) (p q r : Pass) (last : Option Refusal) → Goes s n old mid p q → HasEnded s mid new q r last → HasEnded s old new p r last
+ended_further s n old mid new p q r None g h = record { turns = n + h.turns; goes = goes_further s n h.turns old mid new p q r g h.goes; why = go h.why }
+  where
+    go : (Leaves s.max_packet_size new.drops new.held × (new.unwritten ≡ [])) ⊎ (IsClientOver mid.client new.client ⊎ (MOST_TURNS ≤ h.turns)) → (Leaves s.max_packet_size new.drops new.held × (new.unwritten ≡ [])) ⊎ (IsClientOver old.client new.client ⊎ (MOST_TURNS ≤ n + h.turns))
+    go (inl x) = inl x
+    go (inr (inl o)) = inr (inl (over_further old.client mid.client new.client g.faults o))
+    go (inr (inr m)) = inr (inr (le_trans m (omega arith)))
+ended_further s n old mid new p q r (Some x) g h = record { at = h.at; goes = goes_further s 0 0 old mid new p q h.at (goes_fewer s n old mid p q g) h.goes; written = h.written; refused = h.refused }
+
+-- no turn is left
+pub turned_out : (s : Settings) (n : ℕ) (old new : TalkView) (p q : Pass) → Goes s n old new p q → MOST_TURNS ≤ n → HasEnded s old new p q None
+turned_out s n old new p q g m = record { turns = n; goes = g; why = inr (inr m) }
+
+goes_keeps : (s : Settings) (n : ℕ) (old new : TalkView) (p q : Pass) → Goes s n old new p q → Keeps p q
+goes_keeps s n old new p q g = subst (λ (r : Pass). Keeps p r) (sym g.pass) (keeps_exchanges g.exchanges p)
+
+pub ended_keeps : (s : Settings) (old new : TalkView) (p q : Pass) (last : Option Refusal) → HasEnded s old new p q last → Keeps p q
+ended_keeps s old new p q None h = goes_keeps s h.turns old new p q h.goes
+ended_keeps s old new p q (Some r) h = keeps_further p h.at q (goes_keeps s 0 old new p h.at h.goes) (keeps_refused {s.max_packet_size} {new.held} r h.at q h.refused)
+
+pub ended_tells : (s : Settings) (old new : TalkView) (p q : Pass) (last : Option Refusal) → HasEnded s old new p q last → new.client.tells ≡ old.client.tells
+ended_tells s old new p q None h = h.goes.tells
+ended_tells s old new p q (Some r) h = h.goes.tells
+
+-- what was said in a talk
+said_in : (s : Settings) (n : ℕ) (word : KeyWord) (c : ClientFacts) (v : TalkView) (p q : Pass) → Goes s n (greeted c word) v p q → Said
+said_in s n word c v p q g = record { exchanges = g.exchanges; held = v.held; put = g.put; unwritten = v.unwritten }
+
+talked : (s : Settings) (n : ℕ) (word : KeyWord) (c : ClientFacts) (v : TalkView) (p at q : Pass) (last : Option Refusal) (g : Goes s n (greeted c word) v p at) → EndsBy s.max_packet_size c v.client (said_in s n word c v p at g) last (after_exchanges g.exchanges p) q → Talks s word c v.client p q last
+talked s n word c v p at q last g e = record {
+  said = said_in s n word c v p at g;
+  answered = g.answered;
+  taken = λ t. g.taken t ∙ ap (λ (l : List ℕ). c.taken ++ l) g.heard;
+  given = g.given;
+  told = sym g.told;
+  ends = e;
+}
+
+why_over : (s : Settings) (word : KeyWord) (c : ClientFacts) (v : TalkView) (p q : Pass) (h : HasGone s (greeted c word) v p q) → IsOver s.max_packet_size c v.client (said_in s h.turns word c v p q h.goes)
+why_over s word c v p q h = go h.why
+  where
+    go : (Leaves s.max_packet_size v.drops v.held × (v.unwritten ≡ [])) ⊎ (IsClientOver c v.client ⊎ (MOST_TURNS ≤ h.turns)) → IsOver s.max_packet_size c v.client (said_in s h.turns word c v p q h.goes)
+    go (inl x) = inl (subst (λ (d : Bool). Leaves s.max_packet_size d v.held) h.goes.drops x.0, x.1)
+    go (inr (inl o)) = inr (inl o)
+    go (inr (inr m)) = inr (inr (omega (arith, m, h.goes.counted, ap (λ (l : List ℕ). length l) h.goes.heard)))
+
+pub served : (s : Settings) (word : KeyWord) (c : ClientFacts) (v : TalkView) (p q : Pass) (last : Option Refusal) → HasEnded s (greeted c word) v p q last → IsServed s word c v.client p q last
+served s word c v p q None h = inr (talked s h.turns word c v p q q None h.goes (why_over s word c v p q h, h.goes.pass))
+served s word c v p q (Some r) h = inr (talked s 0 word c v p h.at q (Some r) h.goes (h.written, subst (λ (x : Pass). IsRefused s.max_packet_size v.held r x q) h.goes.pass h.refused))

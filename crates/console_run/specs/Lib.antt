@@ -1,0 +1,4 @@
+pub mod Exchanges
+pub mod Passing
+pub mod Talks
+pub mod Turns

@@ -1,0 +1,158 @@
+-- A talk under way, turn by turn.
+use Rattle.std.specs.Prelude.{◌≡◌, ◌⊎◌, ℕ, ◌+◌, ◌≤◌, Bool, true, false, List, [], ◌++◌, length, Option, Some, None, Result, Ok, Err}
+use Rattle.std.specs.List.{flat_map}
+use Rattle.bytes.specs.Filled.{Filled}
+use Rattle.frame_view.specs.Frames.{FrameOf, spelling}
+use Rattle.message_view.specs.declared.KeyWord.{KeyWord}
+use Rattle.message_view.specs.declared.refusal.Refusal.{Refusal}
+use Rattle.message_view.specs.declared.refusal.Refusal.TheVariants.{OutOfMemory}
+use Rattle.ini_config.specs.declared.option_values.Settings.{Settings}
+use Rattle.link_laws.specs.Standing.{ClientFacts}
+use Rattle.link_desk.specs.Passes.{PassOf, broken, one_other}
+use Rattle.link_desk.specs.declared.calls.Holder.{Holder}
+use Rattle.link_desk.specs.declared.answers.Changed.{Changed}
+use Rattle.link_desk.specs.declared.answers.Changed.TheVariants as changed
+use Rattle.console_core.specs.declared.commands.Action.{Action}
+use Rattle.console_core.specs.declared.commands.Action.TheVariants.{Reload}
+use Rattle.console_core.specs.declared.commands.Command.{Command}
+use Rattle.console_core.specs.declared.commands.Command.TheVariants.{Act}
+use Rattle.console_core.specs.Messages.{Response, Frames, Leave}
+use Rattle.console_run.specs.declared.acting.Acted.{Acted}
+use Rattle.console_run.specs.declared.acting.Acted.TheVariants as acted
+use Rattle.console_run.specs.declared.answering.Answered.{Answered}
+use Rattle.console_run.specs.declared.answering.Answered.TheVariants as answered
+use Rattle.console_run.specs.declared.talk.Turn.{Turn}
+use Rattle.console_run.specs.declared.talk.Turn.TheVariants as turn
+use Rattle.console_run.specs.Passing.{Pass, after_action, after_doing, broken_by, called}
+use Rattle.console_run.specs.Exchanges.{AreAnswered, Exchange, IsResponse, IsShown, after_exchanges, asked_bytes, drops_after, drops_behind, greeting, told_bytes}
+use Rattle.console_run.specs.Talks.{IsClientOver, IsRefused, IsRefusedBy, Leaves, MOST_TURNS, waits}
+
+-- ---- what an action came to
+
+abbrev pub acted_of : Changed → Acted
+acted_of changed.Done = acted.Done
+acted_of changed.Last = acted.Last
+
+-- only that files are read again may be refused by a fault in one of them
+abbrev pub HasActed : Acted → Action → Pass → Pass → Type 0
+HasActed acted.Done a p q = q ≡ after_action a p
+HasActed acted.Faulty Reload p q = q ≡ p
+HasActed acted.Faulty a p q = ⊥
+HasActed acted.Last a p q = q ≡ broken_by a p
+
+-- ---- what a message came to
+
+module _ {Z : Type 0} where
+  abbrev pub told_of : Result Filled Z → Bool → Answered
+  told_of (Ok reply) drops = answered.Told reply drops
+  told_of (Err e) drops = answered.Refused OutOfMemory
+
+-- the bytes of frames that answer it
+pub record IsTold (answers : List FrameOf → Option Action → Type 0) (bytes : List ℕ) (p q : Pass) : Type 0 where
+  pub told : List FrameOf
+  pub does : Option Action
+  pub answers_it : answers told does
+  pub bytes_are : bytes ≡ flat_map spelling told
+  pub pass : q ≡ after_doing does p
+
+abbrev pub HasAnswered : (List FrameOf → Option Action → Type 0) → (drops : Bool) → Answered → Pass → Pass → Type 0
+HasAnswered answers drops (answered.Told reply dropping) p q = IsTold answers reply.items p q × (dropping ≡ drops)
+HasAnswered answers drops answered.Left p q = ⊥
+HasAnswered answers drops (answered.Refused r) p q = IsRefusedBy r p q
+
+abbrev pub HasResponded : Settings → Response → Answered → Pass → Pass → Type 0
+HasResponded s response answered.Left p q = (response ≡ Leave) × (q ≡ p)
+HasResponded s response a p q = HasAnswered (IsResponse s response) (drops_after response) a p q
+
+-- the action of a command
+abbrev pub action_in : Option Command → Option Action
+action_in (Some (Act action)) = Some action
+action_in _ = None
+
+-- the bytes of a response's frames
+abbrev pub IsSaid : Response → List ℕ → Type 0
+IsSaid (Frames frames drops) bytes = bytes ≡ flat_map spelling frames
+IsSaid _ bytes = Unit {0}
+
+-- what is no action was answered so
+pub record IsShownAs (s : Settings) (command : Option Command) (bytes : List ℕ) : Type 0 where
+  pub told : List FrameOf
+  pub shown : IsShown s command told
+  pub bytes_are : bytes ≡ flat_map spelling told
+
+-- ---- a talk
+
+-- the client's end, what is held of its messages, what it is told and not given yet, and whether messages are dropped
+pub record TalkView : Type 0 where
+  pub client : ClientFacts
+  pub held : List ℕ
+  pub unwritten : List ℕ
+  pub drops : Bool
+
+abbrev pub talk_view : ClientFacts → (held unwritten : List ℕ) → Bool → TalkView
+talk_view client held unwritten drops = record { client = client; held = held; unwritten = unwritten; drops = drops }
+
+abbrev pub greeted : ClientFacts → KeyWord → TalkView
+greeted client word = talk_view client [] (flat_map spelling (greeting word)) false
+
+-- A read or a write, in so many turns: `got` was taken, or `put` given.
+pub record HasMoved (turns : ℕ) (old new : TalkView) : Type 0 where
+  pub got : List ℕ
+  pub put : List ℕ
+  pub tells : new.client.tells ≡ old.client.tells
+  pub taken : old.client.tells ≡ true → new.client.taken ≡ old.client.taken ++ got
+  pub given : old.client.tells ≡ true → new.client.given ≡ old.client.given ++ put
+  pub held : new.held ≡ old.held ++ got
+  pub unwritten : old.unwritten ≡ put ++ new.unwritten
+  pub drops : new.drops ≡ old.drops
+  pub faults : old.client.faults ≤ new.client.faults
+  pub counted : turns + waits old.client ≤ length got + length put + waits new.client
+
+abbrev pub HasWritten : TalkView → TalkView → Turn → Type 0
+HasWritten old new (turn.Over None) = HasMoved 0 old new × IsClientOver old.client new.client
+HasWritten old new (turn.Over (Some r)) = ⊥
+HasWritten old new t = HasMoved 1 old new
+
+-- there may have been no memory for what was to be read
+abbrev pub HasRead : TalkView → TalkView → Turn → Type 0
+HasRead old new (turn.Over None) = HasMoved 0 old new × IsClientOver old.client new.client
+HasRead old new (turn.Over (Some r)) = (r ≡ OutOfMemory) × (new ≡ old)
+HasRead old new t = HasMoved 1 old new
+
+-- From one turn to a later one, in so many turns at least. Two parts of a talk, one after the other, are one.
+pub record Goes (s : Settings) (turns : ℕ) (old new : TalkView) (p q : Pass) : Type 0 where
+  pub got : List ℕ
+  pub put : List ℕ
+  pub exchanges : List Exchange
+  pub tells : new.client.tells ≡ old.client.tells
+  pub taken : old.client.tells ≡ true → new.client.taken ≡ old.client.taken ++ got
+  pub given : old.client.tells ≡ true → new.client.given ≡ old.client.given ++ put
+  pub heard : old.held ++ got ≡ asked_bytes exchanges ++ new.held
+  pub told : old.unwritten ++ told_bytes exchanges ≡ put ++ new.unwritten
+  pub answered : AreAnswered s old.drops exchanges
+  pub drops : new.drops ≡ drops_behind old.drops exchanges
+  pub pass : q ≡ after_exchanges exchanges p
+  pub faults : old.client.faults ≤ new.client.faults
+  pub counted : turns + waits old.client ≤ length got + length put + length exchanges + waits new.client
+
+-- the client has left or its end is over, or it was turned as often as it may be
+pub record HasGone (s : Settings) (old new : TalkView) (p q : Pass) : Type 0 where
+  pub turns : ℕ
+  pub goes : Goes s turns old new p q
+  pub why : (Leaves s.max_packet_size new.drops new.held × (new.unwritten ≡ [])) ⊎ (IsClientOver old.client new.client ⊎ (MOST_TURNS ≤ turns))
+
+-- it is refused, where all that was told is given
+pub record IsRefusedAt (s : Settings) (old new : TalkView) (p q : Pass) (r : Refusal) : Type 0 where
+  pub at : Pass
+  pub goes : Goes s 0 old new p at
+  pub written : new.unwritten ≡ []
+  pub refused : IsRefused s.max_packet_size new.held r at q
+
+abbrev pub HasEnded : Settings → TalkView → TalkView → Pass → Pass → Option Refusal → Type 0
+HasEnded s old new p q None = HasGone s old new p q
+HasEnded s old new p q (Some r) = IsRefusedAt s old new p q r
+
+abbrev pub HasTurned : Settings → TalkView → TalkView → Pass → Pass → Turn → Type 0
+HasTurned s old new p q turn.Again = Goes s 1 old new p q
+HasTurned s old new p q turn.Wait = Goes s 1 old new p q
+HasTurned s old new p q (turn.Over last) = HasEnded s old new p q last

@@ -1,0 +1,50 @@
+//! What the console does at its desk.
+ghost use Rattle.std.specs.Prelude.{◌≡◌};
+ghost use Rattle.console_core.specs.declared.commands.Action.TheVariants.{Reload};
+ghost use Rattle.console_run.specs.Passing.{pass_of};
+ghost use Rattle.console_run.specs.Turns.{HasActed, acted_of};
+
+use console_core::commands::Action;
+use link_desk::answers::Changed;
+use link_desk::desk::LinkDesk;
+
+/// What an action came to.
+#[derive(Clone, Copy, Drop)]
+pub(crate) enum Acted {
+    Done,
+    /// A file has a fault, or there was no memory for what it holds; nothing has changed.
+    Faulty,
+    /// The book has made its last decision.
+    Last,
+}
+
+fn acted(changed: Changed) -> Acted
+    ensures { result ≡ acted_of changed }
+{
+    match changed {
+        Changed::Done => Acted::Done,
+        Changed::Last => Acted::Last,
+    }
+}
+
+/// Reads the files again, and keeps the book to their limits.
+fn reload<D: LinkDesk>(desk: &D, pass: &mut D::Pass) -> Acted
+    ensures { HasActed result Reload (pass_of (D.told pass.old) (D.holder pass.old)) (pass_of (D.told pass.new) (D.holder pass.new)) }
+{
+    match desk.reload() {
+        Some((limits, again)) => acted(desk.limits(pass, limits, again)),
+        None => Acted::Faulty,
+    }
+}
+
+/// Does what the console was asked to.
+pub(crate) fn act<D: LinkDesk>(desk: &D, pass: &mut D::Pass, action: Action) -> Acted
+    ensures { HasActed result action (pass_of (D.told pass.old) (D.holder pass.old)) (pass_of (D.told pass.new) (D.holder pass.new)) }
+{
+    match action {
+        Action::Pause => acted(desk.pause(pass)),
+        Action::Resume => acted(desk.resume(pass)),
+        Action::Reload => reload(desk, pass),
+        Action::Shutdown => acted(desk.shutdown(pass)),
+    }
+}
