@@ -91,6 +91,30 @@ struct Kept {
     users: Arc<Users>,
 }
 
+impl Kept {
+    fn new(alloc: Global, settings: Settings, users: Users) -> Result<Kept, AllocError>
+        requires { AreWithinBounds settings }
+    {
+        Ok(Kept {
+            settings: Bounded::new(alloc, settings)?,
+            users: Arc::new(alloc, users)?,
+        })
+    }
+}
+
+/// The limits of these settings, twice.
+fn limits_twice(
+    alloc: Global,
+    settings: &Settings,
+) -> Result<(Arc<Limits>, Arc<Limits>), AllocError>
+    requires { AreWithinBounds settings.now }
+    ensures { IfOk result (λ p. arc_value p.1 ≡ arc_value p.0) }
+{
+    let limits = Arc::new(alloc, limits_of(alloc, settings)?)?;
+    let again = Arc::try_clone(&limits)?;
+    Ok((limits, again))
+}
+
 /// The settings and users of later clients, behind a lock under which no other is taken, and where they are read again.
 pub(crate) struct Keeper<R, F: Source> {
     rt: R,
@@ -121,10 +145,7 @@ impl<R: Drop, F: Source> Keeper<R, F> {
     ) -> Result<Keeper<R, F>, AllocError>
         requires { AreWithinBounds settings }
     {
-        let kept = Kept {
-            settings: Bounded::new(alloc, settings)?,
-            users: Arc::new(alloc, users)?,
-        };
+        let kept = Kept::new(alloc, settings, users)?;
         Ok(Keeper {
             rt,
             alloc,
@@ -162,13 +183,9 @@ impl<R: Wait, F: Source> Keeper<R, F> {
         ensures { IfOk result (λ p. arc_value p.1 ≡ arc_value p.0) }
     {
         let (settings, users) = self.source.read()?;
-        let limits = Arc::new(self.alloc, limits_of(self.alloc, &settings)?)?;
-        let again = Arc::try_clone(&limits)?;
-        let kept = Kept {
-            settings: Bounded::new(self.alloc, settings)?,
-            users: Arc::new(self.alloc, users)?,
-        };
+        let limits = limits_twice(self.alloc, &settings)?;
+        let kept = Kept::new(self.alloc, settings, users)?;
         *self.kept.lock(&self.rt) = kept;
-        Ok((limits, again))
+        Ok(limits)
     }
 }
