@@ -4,7 +4,7 @@ SHELL := /bin/bash
 .DELETE_ON_ERROR:
 .DEFAULT_GOAL := build
 .NOTPARALLEL:
-.PHONY: build run test gate wrong install bench clean
+.PHONY: build run test gate wrong install deb bench clean
 
 PREFIX ?= /usr/local
 DESTDIR ?=
@@ -67,6 +67,13 @@ wrong:
 install: build/pgsess
 	install -d "$(DESTDIR)$(PREFIX)/bin"
 	install -m 755 build/pgsess "$(DESTDIR)$(PREFIX)/bin/pgsess"
+	install -D -m 644 man/pgsess.1 "$(DESTDIR)$(PREFIX)/share/man/man1/pgsess.1"
+	install -D -m 644 man/pgsess.ini.5 "$(DESTDIR)$(PREFIX)/share/man/man5/pgsess.ini.5"
+	install -D -m 644 packaging/pgsess.bash "$(DESTDIR)$(PREFIX)/share/bash-completion/completions/pgsess"
+
+# a Debian package of the built program, in build/
+deb: build/pgsess
+	scripts/deb.sh build/pgsess build
 
 # all run; the status says whether a bound was missed
 bench: build/pgsess $(trials)

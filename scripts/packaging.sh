@@ -1,0 +1,48 @@
+#!/usr/bin/env bash
+# packaging.sh PROGRAM: installs the program and its pages into a folder and packs it, and looks at what came of both; the unit, the man
+# pages and the completion through their own checkers, where those are there.
+set -eu
+cd "$(dirname "$0")/.."
+program=$(realpath "$1")
+work=$(mktemp -d)
+trap 'rm -rf "$work"' EXIT
+passed=0 failed=0
+check() { # check WORDS COMMAND..
+    local words=$1
+    shift
+    if "$@" > "$work/out" 2>&1; then
+        passed=$((passed + 1))
+    else
+        failed=$((failed + 1))
+        echo "packaging: $words"
+        head -5 "$work/out"
+    fi
+}
+silent() { # silent COMMAND..: it succeeds and says nothing
+    "$@" > "$work/said" 2>&1 && [ ! -s "$work/said" ] || { cat "$work/said"; return 1; }
+}
+
+scripts/deb.sh "$program" "$work" > /dev/null
+dpkg-deb -x "$work"/pgsess_*_amd64.deb "$work/root"
+check "the packed program is the built one" cmp "$program" "$work/root/usr/bin/pgsess"
+check "it runs" test "$("$work/root/usr/bin/pgsess" --version)" = "pgsess 1"
+check "settings and users are the service's alone" test "$(stat -c %a "$work/root/etc/pgsess" "$work/root/etc/pgsess/users.txt" | tr '\n' ' ')" = "750 640 "
+check "the packed settings are read" bash -c "'$program' serve --ini '$work/root/etc/pgsess/pgsess.ini' --users '$work/root/etc/pgsess/users.txt' --key-seed /dev/null 2>&1 | grep -qx 'pgsess: file /dev/null'"
+for page in 1:pgsess 5:pgsess.ini; do
+    name=${page#*:}.${page%%:*}
+    check "$name is packed" test -s "$work/root/usr/share/man/man${page%%:*}/$name.gz"
+    if command -v mandoc > /dev/null; then
+        check "mandoc has nothing to say of $name" silent mandoc -Tlint -Wwarning "man/$name"
+    elif command -v man > /dev/null; then
+        check "man has nothing to say of $name" bash -c "! LC_ALL=C.UTF-8 man --warnings -E UTF-8 -l -Tutf8 -Z 'man/$name' 2>&1 > /dev/null | grep ."
+    fi
+done
+if command -v systemd-analyze > /dev/null; then
+    # its program stands elsewhere here, and its man page isn't installed
+    sed -e "s#/usr/bin/pgsess#$program#; s#/usr/bin/psql#/bin/true#; /^Documentation=/d" packaging/pgsess.service > "$work/pgsess.service"
+    check "systemd-analyze has nothing to say of the unit" silent systemd-analyze verify "$work/pgsess.service"
+fi
+check "the completion knows the commands" bash -c 'source packaging/pgsess.bash; COMP_WORDS=(pgsess s); COMP_CWORD=1; _pgsess; [ "${COMPREPLY[*]}" = "serve stub" ]'
+check "and their options" bash -c 'source packaging/pgsess.bash; COMP_WORDS=(pgsess stub --); COMP_CWORD=2; _pgsess; [ "${COMPREPLY[*]}" = "--port --catalogue --help" ]'
+echo "$passed passed, $failed failed"
+[ "$failed" -eq 0 ]
