@@ -5,15 +5,17 @@ ghost use Rattle.std.specs.Prelude.{◌≡◌};
 ghost use Rattle.ini_config.specs.Bounds.{AreWithinBounds};
 ghost use Rattle.pgsess.specs.Statuses as spec;
 
+use ini_config::Settings;
 use mio::net::TcpListener;
 use pool_app::fault::{self, AppFault};
 use pool_app::files::{self, Inputs};
 use pool_app::line::{self, Job};
+use pool_run::keeping::{Source, Unread};
 use pool_run::pool::serve_on;
 use pool_run::runtime::PoolRuntime;
 use replay_run::replay::replay;
 use session_catalogue::Catalogue;
-use std::alloc::Global;
+use std::alloc::{AllocError, Global};
 use std::net::{Ipv4Addr, Net, SocketAddr};
 use std::process::ExitCode;
 use std::rt::{Clock, Files};
@@ -21,6 +23,7 @@ use std::sync::Wait;
 use std::thread::Threads;
 use std::{env, io, net};
 use stub_server::server::stub_on;
+use user_file::Users;
 
 /// A listener on this port.
 fn listen<'a, R: Net>(rt: &R, address: [u8; 4], port: u16) -> Result<TcpListener, AppFault<'a>> {
@@ -31,11 +34,49 @@ fn listen<'a, R: Net>(rt: &R, address: [u8; 4], port: u16) -> Result<TcpListener
     }
 }
 
-/// Serves clients as the settings say, from when its line tells where.
-fn serve<'a, R: Files + Print + PoolRuntime + 'static>(
+/// The files that the command line names, which are read again where the console is told so.
+#[derive(Drop)]
+struct NamedFiles {
+    rt: HostRuntime,
+    alloc: Global,
+    ini: String,
+    users: String,
+}
+
+/// The files at these paths. The only error is that an allocation failed.
+fn named_files(
+    rt: HostRuntime,
+    alloc: Global,
+    ini: &str,
+    users: &str,
+) -> Result<NamedFiles, AllocError> {
+    Ok(NamedFiles {
+        rt,
+        alloc,
+        ini: String::from_str(alloc, ini)?,
+        users: String::from_str(alloc, users)?,
+    })
+}
+
+impl Source for NamedFiles {
+    fn read(&self) -> Result<(Settings, Users), Unread> {
+        let fault = match files::read_again(&self.rt, self.alloc, &self.ini, &self.users) {
+            Ok(read) => return Ok(read),
+            Err(fault) => fault,
+        };
+        match fault::again_text(self.alloc, &fault, &self.ini, &self.users) {
+            Ok(text) => Err(Unread::Fault(text)),
+            Err(_) => Err(Unread::Memory),
+        }
+    }
+}
+
+/// Serves clients as the settings say, from when its line tells where, until the console ends it.
+fn serve<'a, R: Print + PoolRuntime + 'static>(
     rt: R,
     alloc: Global,
     inputs: Inputs,
+    source: NamedFiles,
 ) -> Result<(), AppFault<'a>>
     requires { AreWithinBounds inputs.settings }
 {
@@ -49,8 +90,9 @@ fn serve<'a, R: Files + Print + PoolRuntime + 'static>(
         users,
         seed,
     } = inputs;
-    match serve_on(rt, alloc, listener, settings, users, seed, None) {
-        Ok(()) => Ok(()),
+    match serve_on(rt, alloc, listener, settings, users, source, seed, None) {
+        Ok(Some(_)) => Ok(()),
+        Ok(None) => Err(AppFault::Totals),
         Err(_) => Err(AppFault::Memory),
     }
 }
@@ -60,6 +102,7 @@ fn stub<
     'a,
     R: Threads
         + Wait
+        + Clock
         + Net<Listener = net::TcpListener, Stream = net::TcpStream>
         + Copy
         + Send
@@ -72,21 +115,13 @@ fn stub<
     }
 }
 
-/// Does the job.
-fn run<
-    'a,
-    R: Files
-        + Input
-        + Print
-        + Threads
-        + Wait
-        + Clock
-        + Net<Listener = net::TcpListener, Stream = net::TcpStream>
-        + Copy
-        + Send
-        + Sync
-        + 'static,
->(rt: R, alloc: Global, job: Job<'a>) -> Result<(), AppFault<'a>> {
+/// Does the job. `host` is the same runtime, whose files a pool reads on any of its threads.
+fn run<'a, R: Files + Input + Print + PoolRuntime + 'static>(
+    rt: R,
+    host: HostRuntime,
+    alloc: Global,
+    job: Job<'a>,
+) -> Result<(), AppFault<'a>> {
     match job {
         Job::Replay => replay(alloc, rt.reader(), &mut io::writer(&rt)),
         Job::Serve {
@@ -95,7 +130,8 @@ fn run<
             key_seed,
         } => {
             let inputs = files::read_inputs(&rt, alloc, ini, users, key_seed)?;
-            serve(rt, alloc, inputs)
+            let source = named_files(host, alloc, ini, users).map_err(|_| AppFault::Memory)?;
+            serve(rt, alloc, inputs, source)
         }
         Job::Stub { port, catalogue } => {
             let catalogue = files::read_catalogue(&rt, alloc, catalogue)?;
@@ -149,7 +185,7 @@ fn main(rt: HostRuntime) -> ExitCode {
     };
     match line::read_line(rt.alloc(), words.as_slice()) {
         Ok(job) => {
-            let done = run(rt, rt.alloc(), job);
+            let done = run(rt, rt, rt.alloc(), job);
             if let Err(fault) = &done {
                 let _ = fault::tell(&rt, rt.alloc(), fault);
             }

@@ -6,7 +6,7 @@ use Rattle.user_file.specs.declared.faults.Cause.{Cause as UsersCause}
 use Rattle.user_file.specs.declared.faults.Cause.TheVariants as users
 use Rattle.session_catalogue.specs.CatalogueCodes.{code_of}
 use Rattle.pool_app.specs.declared.fault.AppFault.{AppFault}
-use Rattle.pool_app.specs.declared.fault.AppFault.TheVariants.{File, Ini, Users, Catalogue, Stdin, Stdout, Memory, Port}
+use Rattle.pool_app.specs.declared.fault.AppFault.TheVariants.{File, Ini, Users, Catalogue, Stdin, Stdout, Memory, Port, Totals}
 
 abbrev pub Text : Type 0
 Text = List ℕ
@@ -41,6 +41,20 @@ fault_line Stdin = codes "pgsess: stdin"
 fault_line Stdout = codes "pgsess: stdout"
 fault_line Memory = codes "pgsess: memory"
 fault_line (Port port) = codes "pgsess: port " ++ decimal port
+fault_line Totals = codes "pgsess: totals"
+
+-- ---- what the log is told of the files that are read again
+
+abbrev pub fault_in : Text → ℕ → Text → Text
+fault_in code line path = code ++ codes " line " ++ decimal line ++ codes " of " ++ path
+
+abbrev pub again_text : Text → Text → AppFault → Text
+again_text ini users (File path) = codes "file " ++ path.now
+again_text ini users (Ini fault) = fault_in (ini_code fault.cause) fault.line ini
+again_text ini users (Users fault) = fault_in (users_code fault.cause) fault.line users
+again_text ini users other = codes "memory"
+
+-- ---- the status
 
 abbrev pub status : AppFault → ℕ
 status (Port port) = 3

@@ -57,5 +57,8 @@ abbrev pub IsCatalogueFault : Bor (List ℕ) → AppFault → Type 0
 IsCatalogueFault path (Catalogue fault) = Unit {0}
 IsCatalogueFault path other = IsUnread path other
 
+abbrev pub IsAgainFault : Bor (List ℕ) → Bor (List ℕ) → AppFault → Type 0
+IsAgainFault ini users fault = IsSettingsFault ini fault ⊎ IsUsersFault users fault
+
 abbrev pub IsInputsFault : Bor (List ℕ) → Bor (List ℕ) → Bor (List ℕ) → AppFault → Type 0
 IsInputsFault ini users key_seed fault = IsSettingsFault ini fault ⊎ (IsUsersFault users fault ⊎ IsUnread key_seed fault)

@@ -26,6 +26,8 @@ pub enum AppFault<'a> {
     Memory,
     /// The port can't be had.
     Port(u16),
+    /// The pooler has ended, and what was decided isn't known: a worker's count is missing.
+    Totals,
 }
 
 fn ini_code(cause: ini_config::Cause) -> &'static str
@@ -89,6 +91,37 @@ pub fn fault_line(alloc: Global, fault: &AppFault<'_>) -> Result<String, AllocEr
             let mut digits = Buffer::new();
             joined(alloc, "pgsess: port ", digits.format(*port))
         }
+        AppFault::Totals => String::from_str(alloc, "pgsess: totals"),
+    }
+}
+
+/// A fault of a text in the file at this path.
+fn fault_in(alloc: Global, code: &str, line: usize, path: &str) -> Result<String, AllocError>
+    ensures { IfOk result (λ t. string_bytes t ≡ spec.fault_in code.now line path.now) }
+{
+    let mut text = joined(alloc, code, " line ")?;
+    let mut digits = Buffer::new();
+    text.push_str(digits.format(line))?;
+    text.push_str(" of ")?;
+    text.push_str(path)?;
+    Ok(text)
+}
+
+/// What the log is told of a fault of the files that are read again, which are at these paths: the code and the line, and of which
+/// file; or the file that can't be read; or that memory was refused. The only error is that an allocation failed.
+pub fn again_text(
+    alloc: Global,
+    fault: &AppFault<'_>,
+    ini: &str,
+    users: &str,
+) -> Result<String, AllocError>
+    ensures { IfOk result (λ t. string_bytes t ≡ spec.again_text ini.now users.now fault.now) }
+{
+    match fault {
+        AppFault::File(path) => joined(alloc, "file ", path),
+        AppFault::Ini(fault) => fault_in(alloc, ini_code(fault.cause), fault.line, ini),
+        AppFault::Users(fault) => fault_in(alloc, users_code(fault.cause), fault.line, users),
+        _ => String::from_str(alloc, "memory"),
     }
 }
 

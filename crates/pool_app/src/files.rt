@@ -158,6 +158,20 @@ pub fn read_inputs<'a, R: Files>(
     })
 }
 
+/// The settings and the users, read again while the pooler serves: first the settings, which are within their bounds. A fault is one
+/// of a file's lines, or names the file; or memory was refused.
+pub fn read_again<'a, R: Files>(
+    rt: &R,
+    alloc: Global,
+    ini: &'a str,
+    users: &'a str,
+) -> Result<(Settings, Users), AppFault<'a>>
+    ensures bounds { IfOk result (λ read. AreWithinBounds read.0) }
+    ensures fault { IfErr result (spec.IsAgainFault ini.entry users.entry) }
+{
+    Ok((settings_at(rt, alloc, ini)?, users_at(rt, alloc, users)?))
+}
+
 /// The catalogue of a file's text.
 pub fn catalogue_of<'a>(alloc: Global, text: &[u8]) -> Result<Catalogue, AppFault<'a>>
     ensures { spec.IsCatalogueOf (raw_lines text.now) result }

@@ -14,6 +14,7 @@ A fault is told in one line on standard error, as `pgsess: C3 line 7`, and the s
   file F  the file F can't be read or is too long, or the key seed hasn't 32 bytes
   memory  no memory was left, elsewhere than in a file's text
   port N  the port N can't be had; then the status is 3
+  totals  after SHUTDOWN, a worker's count is missing
 Of the settings:
   C1  a header of an unknown section, or a line in [users] or [peers]
   C2  an unknown key in [pgbouncer]

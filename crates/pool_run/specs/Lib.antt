@@ -1,0 +1,2 @@
+pub mod Logins
+pub mod Telling

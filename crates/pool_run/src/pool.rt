@@ -1,21 +1,22 @@
 //! One pool, from the first connection to the last.
-ghost use Rattle.std.specs.Prelude.{◌≡◌, [], false, IfOk, None};
-ghost use Rattle.std.specs.Arc.{arc_value};
+ghost use Rattle.std.specs.Prelude.{◌≡◌, IfSome, None};
 ghost use Rattle.ini_config.specs.Bounds.{AreWithinBounds};
-ghost use Rattle.login_core.specs.Dialogue.{AtFirst};
-ghost use Rattle.login_core.specs.Logins.{AwaitsPacket, login_view};
 ghost use Rattle.desk_tallies.specs.declared.passes.TheConstants.{ALL_PARTS};
 ghost use Rattle.desk_tallies.specs.Shares.{names_of, of_each, parts_of};
+ghost use Rattle.pool_run.specs.Logins.{IsNewLogin};
 
-use crate::dialing::TcpDial;
+use crate::keeping::{Keeper, Source};
+use crate::log::Log;
 use crate::runtime::PoolRuntime;
+use crate::surroundings::Surroundings;
 use book_model::settings::limits_of;
 use desk_tallies::ledgers::Ledgers;
-use desk_tallies::passes::Pass;
+use desk_tallies::passes::{Pass, Totals};
 use desk_tallies::tallies::Blanks;
 use ini_config::Settings;
 use key_source::KeySource;
 use link_start::close::close_link;
+use log_lines::notes::Visit;
 use login_core::Login;
 use message_view::KeyWord;
 use mio::net::TcpListener;
@@ -23,14 +24,13 @@ use pool_desk::answers::Ticked;
 use pool_desk::desk::Desk;
 use pool_serve::serve::serve;
 use std::alloc::{AllocError, Global};
-use std::marker::{Brand, Model};
-use std::net::Net;
+use std::marker::Brand;
 use std::rt::Clock;
 use std::sync::atomic::{AtomicBool, Ordering};
 use std::sync::{Arc, Mutex, Wait};
 use std::time::{Duration, Instant};
 use std::{io, thread};
-use tcp_end::acceptor::Acceptor;
+use tcp_end::acceptor::{Acceptor, Peer, Turn};
 use tcp_end::connection::TcpEnd;
 use tcp_end::gate::TcpGate;
 use user_file::Users;
@@ -48,143 +48,126 @@ struct FreePass<K: Ledgers> {
 #[derive(Drop)]
 struct Free<K: Ledgers> {
     passes: Vec<FreePass<K>>,
-}
-
-/// Settings within their bounds, which are shared.
-#[derive(Drop)]
-struct Bounded {
-    settings: Arc<Settings>,
-}
-
-impl Model for Bounded {
-    ghost use Rattle.std.specs.Arc.{arc_value};
-    ghost use Rattle.ini_config.specs.Bounds.{AreWithinBounds};
-    ghost use Rattle.ini_config.specs.declared.option_values.Settings.{Settings as SettingsOf};
-
-    ghost Value = { SettingsOf };
-
-    ghost view = { λ b. arc_value b.settings };
-
-    ghost invariant = { λ b. AreWithinBounds (arc_value b.settings) };
-}
-
-impl Bounded {
-    fn new(alloc: Global, settings: Settings) -> Result<Bounded, AllocError>
-        requires { AreWithinBounds settings }
-        ensures { IfOk result (λ b. b ≡ settings) }
-    {
-        Ok(Bounded {
-            settings: Arc::new(alloc, settings)?,
-        })
-    }
-
-    fn share(&self) -> Result<Arc<Settings>, AllocError>
-        ensures same { IfOk result (λ s. arc_value s ≡ self.now) }
-        ensures bounds { AreWithinBounds self.now }
-    {
-        Arc::try_clone(&self.settings)
-    }
+    /// So many were cut off in all, and there is room for so many.
+    cut: usize,
 }
 
 /// What all threads of a pool share.
-struct Pool<R: Net + Wait, K: Ledgers> {
+struct Pool<R: PoolRuntime, F: Source, K: Ledgers> {
     alloc: Global,
-    desk: Desk<R, TcpDial<R>, K>,
+    desk: Desk<R, Surroundings<R, F>, K>,
     free: Mutex<Free<K>>,
-    settings: Bounded,
-    users: Arc<Users>,
+    keeper: Arc<Keeper<R, F>>,
+    log: Arc<Log>,
     /// The last connection is done.
     has_ended: AtomicBool,
 }
 
-impl<R: Net + Wait + Drop, K: Ledgers> Drop for Pool<R, K> {
+impl<R: PoolRuntime, F: Source, K: Ledgers> Drop for Pool<R, F, K> {
     fn drop(self) {
         let Pool {
             alloc: _,
             desk: _,
             free: _,
-            settings: _,
-            users: _,
+            keeper: _,
+            log: _,
             has_ended: _,
         } = self;
     }
 }
 
-impl<R: PoolRuntime, K: Ledgers> Pool<R, K> {
+impl<R: PoolRuntime, F: Source, K: Ledgers> Pool<R, F, K> {
     /// A pool with an empty book.
     fn open(
         rt: R,
         alloc: Global,
         settings: Settings,
         users: Users,
+        source: F,
+        log: &Arc<Log>,
         blanks: Blanks,
-    ) -> Result<Pool<R, K>, AllocError>
+    ) -> Result<Pool<R, F, K>, AllocError>
         requires bounds { AreWithinBounds settings }
         requires names { names_of blanks ≡ K.names }
         requires parts { K.parts ≡ parts_of blanks }
         requires all { parts_of blanks ≡ of_each ALL_PARTS }
     {
         let limits = Arc::new(alloc, limits_of(alloc, &settings)?)?;
-        let dialer = TcpDial { rt, alloc };
-        let desk = Desk::<R, TcpDial<R>, K>::new(rt, alloc, dialer, limits, blanks)?;
+        let keeper = Keeper::new(rt, alloc, settings, users, source)?;
+        let keeper = Arc::new(alloc, keeper)?;
+        let outside = Surroundings {
+            rt,
+            alloc,
+            keeper: Arc::try_clone(&keeper)?,
+            log: Arc::try_clone(log)?,
+        };
+        let desk = Desk::<R, Surroundings<R, F>, K>::new(rt, alloc, outside, limits, blanks)?;
         let free = Free {
             passes: Vec::new(alloc),
+            cut: 0,
         };
         Ok(Pool {
             alloc,
             desk,
             free: Mutex::new(free),
-            settings: Bounded::new(alloc, settings)?,
-            users: Arc::new(alloc, users)?,
+            keeper,
+            log: Arc::try_clone(log)?,
             has_ended: AtomicBool::new(false),
         })
     }
-}
 
-impl<R: Net + Wait, K: Ledgers> Pool<R, K> {
-    /// A pass that another worker gave back, or a new one.
-    fn pass<T: Wait>(&self, rt: &T) -> Option<FreePass<K>> {
-        let free = self.free.lock(rt).passes.pop();
-        match free {
-            Some(pass) => Some(pass),
-            None => Some(FreePass {
-                pass: self.desk.pass()?,
-            }),
+    /// A pass that another worker gave back; or a new one, for which there is then room among those.
+    fn pass(&self, rt: &R) -> Option<FreePass<K>> {
+        let mut free = self.free.lock(rt);
+        if let Some(pass) = free.passes.pop() {
+            return Some(pass);
         }
+        let room = free.cut.checked_add(1)?;
+        free.passes.reserve(room).ok()?;
+        let pass = self.desk.pass()?;
+        free.cut = room;
+        Some(FreePass { pass })
     }
 
     /// A worker is done with this pass.
-    fn give_back<T: Wait>(&self, rt: &T, pass: FreePass<K>) {
-        // one that isn't kept is never used again
+    fn give_back(&self, rt: &R, pass: FreePass<K>) {
+        // there is room: it was reserved when the pass was cut off
         let _ = self.free.lock(rt).passes.push(pass);
     }
 
-    /// The login of a client with this key word.
-    fn login(&self, word: KeyWord) -> Result<Login, AllocError>
-        ensures login { IfOk result (λ l. l ≡ login_view self.now.settings (arc_value self.now.users) word (AwaitsPacket (AtFirst false false)) []) }
-        ensures bounds { AreWithinBounds self.now.settings }
+    /// What the worker of a connection needs; `None` where there is no poll, no memory or no pass for it.
+    fn equip(
+        &self,
+        rt: R,
+        word: KeyWord,
+        client: &mut TcpEnd,
+    ) -> Option<(TcpGate<R>, Login, FreePass<K>)>
+        ensures client { client.new ≡ client.old }
+        ensures login { IfSome result (λ e. IsNewLogin word e.1) }
     {
-        let settings = self.settings.share()?;
-        let users = Arc::try_clone(&self.users)?;
-        Login::new(self.alloc, settings, users, word)
+        let gate = TcpGate::new(rt, self.alloc, client).ok()?;
+        let login = self.keeper.login(word).ok()?;
+        // last, since a pass that is dropped is lost
+        let pass = self.pass(&rt)?;
+        Some((gate, login, pass))
     }
 
     /// Serves one connection to its end. One for which there is no poll, no pass or no memory is closed.
-    fn attend<T: Wait + Net>(&self, rt: &T, word: KeyWord, client: TcpEnd) {
+    fn attend(&self, rt: R, word: KeyWord, client: TcpEnd, visit: Visit) {
         let mut client = client;
-        let (Ok(gate), Ok(login)) = (TcpGate::new(rt, self.alloc, &mut client), self.login(word))
-        else {
-            return;
-        };
-        let Some(FreePass { pass }) = self.pass(rt) else {
-            return;
-        };
-        let (_, pass) = serve(self.alloc, &self.desk, pass, client, login, word, gate);
-        self.give_back(rt, FreePass { pass });
+        match self.equip(rt, word, &mut client) {
+            Some((gate, login, FreePass { pass })) => {
+                let (_, pass) = serve(
+                    self.alloc, &self.desk, pass, client, login, word, gate, visit,
+                );
+                self.give_back(&rt, FreePass { pass });
+            }
+            None => self.log.unserved(),
+        }
     }
 
     /// Tells the desk this second until nothing more is to be closed; whether the clock is still wanted.
-    fn tick<T: Wait>(&self, rt: &T, pass: &mut FreePass<K>, now: u64) -> bool {
+    fn tick(&self, rt: &R, pass: &mut FreePass<K>, now: u64) -> bool {
         for _ in rt.forever() {
             match self.desk.tick(&mut pass.pass, now) {
                 Ticked::Done => return true,
@@ -197,7 +180,7 @@ impl<R: Net + Wait, K: Ledgers> Pool<R, K> {
 
     /// The clock: each second the whole seconds since its first reading, until the last connection is done. In a second in which it
     /// can't be read it tells nothing, and goes on with the next.
-    fn run_clock<T: Wait + Clock>(&self, rt: &T) {
+    fn run_clock(&self, rt: &R) {
         let Some(mut pass) = self.pass(rt) else {
             return;
         };
@@ -215,6 +198,22 @@ impl<R: Net + Wait, K: Ledgers> Pool<R, K> {
         }
         self.give_back(rt, pass);
     }
+    /// The decisions by class, once all passes are back; `None` where one is missing. The only error is that an allocation failed.
+    fn close(self) -> Result<Option<Totals>, AllocError> {
+        let Pool {
+            alloc,
+            desk,
+            free,
+            keeper: _,
+            log: _,
+            has_ended: _,
+        } = self;
+        let mut passes = Vec::new(alloc);
+        for FreePass { pass } in free.into_inner().passes {
+            passes.push(pass).map_err(|_| AllocError)?;
+        }
+        Ok(desk.gather(passes).ok())
+    }
 }
 
 /// The whole seconds since the clock's first reading, which this is where there was none; `None` where it can't be read.
@@ -224,94 +223,144 @@ fn second<T: Clock>(rt: &T, start: &mut Option<Instant>) -> Option<u64> {
     Some(now.duration_since(first).as_secs())
 }
 
-/// Serves one connection on a thread of its own.
-fn start_worker<R: PoolRuntime + 'static, K: Ledgers + Send + Sync + 'static>(
-    rt: R,
-    workers: &mut Workers,
-    pool: &Arc<Pool<R, K>>,
-    word: KeyWord,
-    client: TcpEnd,
-) -> Result<(), AllocError> {
-    let pool = Arc::try_clone(pool)?;
-    workers.start(rt, move || pool.attend(&rt, word, client))
+/// A client that comes now.
+fn visit_of<R: Clock>(rt: &R, peer: Peer) -> Visit {
+    Visit {
+        host: peer.host,
+        port: peer.port,
+        since: Instant::now(rt).ok(),
+    }
 }
 
-/// Accepts connections, each served on a thread of its own: as many as `count` says, and then no more, or for ever.
-fn accept_all<R: PoolRuntime + 'static, K: Ledgers + Send + Sync + 'static>(
+/// Serves one connection on a thread of its own.
+fn start_worker<
+    R: PoolRuntime + 'static,
+    F: Source + Send + Sync + 'static,
+    K: Ledgers + Send + Sync + 'static,
+>(
+    rt: R,
+    workers: &mut Workers,
+    pool: &Arc<Pool<R, F, K>>,
+    word: KeyWord,
+    client: TcpEnd,
+    visit: Visit,
+) -> Result<(), AllocError> {
+    let pool = Arc::try_clone(pool)?;
+    workers.start(rt, move || pool.attend(rt, word, client, visit))
+}
+
+/// Accepts connections, each served on a thread of its own: as many as `count` says, and then no more; or until the desk lets no
+/// client in any more.
+fn accept_all<
+    R: PoolRuntime + 'static,
+    F: Source + Send + Sync + 'static,
+    K: Ledgers + Send + Sync + 'static,
+>(
     rt: R,
     acceptor: &mut Acceptor,
     workers: &mut Workers,
-    pool: &Arc<Pool<R, K>>,
+    pool: &Arc<Pool<R, F, K>>,
     seed: [u8; 32],
     count: Option<u64>,
 ) {
     let mut keys = KeySource::new(seed);
     let mut accepted: u64 = 0;
     for _ in rt.forever() {
-        if count == Some(accepted) {
+        if count == Some(accepted) || pool.desk.is_shut() {
             return;
         }
-        if let Some(client) = acceptor.turn() {
-            accepted = accepted.wrapping_add(1);
-            let word = keys.next();
-            // a thread that can't be started closes this connection alone
-            let _ = start_worker(rt, workers, pool, word, client);
+        match acceptor.turn() {
+            Turn::Client(client, peer) => {
+                accepted = accepted.wrapping_add(1);
+                let word = keys.next();
+                let visit = visit_of(&rt, peer);
+                // a thread that can't be started closes this connection alone
+                if start_worker(rt, workers, pool, word, client, visit).is_err() {
+                    pool.log.unserved();
+                }
+            }
+            Turn::Nobody => {}
+            Turn::Failed => pool.log.unserved(),
         }
     }
 }
 
 /// Serves the connections of a listener, each on a thread of its own, over links of one desk: as many as `count` says, and then no
-/// more, or for ever. It returns when the last is done. A thread more tells the desk the seconds, and closes the links that are idle
-/// or old.
+/// more, or until the console ends it. It returns when the last is done, with the decisions by class; without them where a worker's
+/// are missing. A thread more tells the desk the seconds, and closes the links that are idle or old.
 ///
 /// A connection for which there is no thread, no poll, no pass or no memory is closed, and the others go on. The error is that the
-/// system has no poll for the listener or no thread for the clock, or that an allocation failed before the first connection.
-fn serve_all<R: PoolRuntime + 'static, K: Ledgers + Send + Sync + 'static>(
+/// system has no poll for the listener or no thread for the clock, or that an allocation failed before the first connection or after
+/// the last.
+fn serve_all<
+    R: PoolRuntime + 'static,
+    F: Source + Send + Sync + 'static,
+    K: Ledgers + Send + Sync + 'static,
+>(
     rt: R,
     alloc: Global,
     listener: TcpListener,
     settings: Settings,
     users: Users,
+    source: F,
     seed: [u8; 32],
     count: Option<u64>,
     blanks: Blanks,
-) -> io::Result<()>
+) -> io::Result<Option<Totals>>
     requires bounds { AreWithinBounds settings }
     requires names { names_of blanks ≡ K.names }
     requires parts { K.parts ≡ parts_of blanks }
     requires all { parts_of blanks ≡ of_each ALL_PARTS }
 {
+    let log = Arc::new(alloc, Log::new())?;
+    log.listening(settings.listen_addr(), settings.listen_port());
     let mut acceptor = Acceptor::new(&rt, alloc, listener)?;
     let mut workers = Workers::new(alloc)?;
-    let pool = Pool::<R, K>::open(rt, alloc, settings, users, blanks)?;
+    let pool = Pool::<R, F, K>::open(rt, alloc, settings, users, source, &log, blanks)?;
     let pool = Arc::new(alloc, pool)?;
     let shared = Arc::try_clone(&pool)?;
     let clock = thread::spawn(&rt, move || shared.run_clock(&rt))?;
     accept_all(rt, &mut acceptor, &mut workers, &pool, seed, count);
+    // the port is free before the last client has gone
+    drop(acceptor);
     workers.join_all(&rt);
     pool.has_ended.store(true, Ordering::SeqCst);
     clock.join(&rt);
-    Ok(())
+    let totals = totals_of(pool)?;
+    log.ended(totals.as_ref());
+    Ok(totals)
+}
+
+/// The decisions of a pool that no thread shares any more.
+fn totals_of<R: PoolRuntime, F: Source, K: Ledgers>(
+    pool: Arc<Pool<R, F, K>>,
+) -> Result<Option<Totals>, AllocError> {
+    match Arc::try_unwrap(pool) {
+        Ok(pool) => pool.close(),
+        Err(_) => Ok(None),
+    }
 }
 
 /// The same, over new ledgers.
-pub fn serve_on<R: PoolRuntime + 'static>(
+pub fn serve_on<R: PoolRuntime + 'static, F: Source + Send + Sync + 'static>(
     rt: R,
     alloc: Global,
     listener: TcpListener,
     settings: Settings,
     users: Users,
+    source: F,
     seed: [u8; 32],
     count: Option<u64>,
-) -> io::Result<()>
+) -> io::Result<Option<Totals>>
     requires { AreWithinBounds settings }
 {
-    serve_all::<R, Brand>(
+    serve_all::<R, F, Brand>(
         rt,
         alloc,
         listener,
         settings,
         users,
+        source,
         seed,
         count,
         Blanks::new(),

@@ -7,19 +7,28 @@ use mio::net::TcpListener;
 use session_catalogue::Catalogue;
 use std::alloc::Global;
 use std::net::Net;
+use std::rt::Clock;
 use std::sync::{Arc, Wait};
 use std::thread::Threads;
 use std::{io, net};
-use tcp_end::acceptor::Acceptor;
+use tcp_end::acceptor::{Acceptor, Turn};
 use tcp_end::connection::TcpEnd;
 use tcp_end::gate::TcpGate;
 use worker_threads::Workers;
 
 /// Serves one connection to its end. One that can't be watched, since the system has no more polls, is closed.
-fn attend<R: Net>(rt: &R, alloc: Global, catalogue: Arc<Catalogue>, own: KeyWord, client: TcpEnd) {
+fn attend<R: Net + Clock + Drop>(
+    rt: R,
+    alloc: Global,
+    catalogue: Arc<Catalogue>,
+    own: KeyWord,
+    client: TcpEnd,
+) {
     let mut client = client;
     if let Ok(mut gate) = TcpGate::new(rt, alloc, &mut client) {
-        let _ = serve_client::<TcpEnd, TcpEnd, TcpGate>(alloc, catalogue, own, client, &mut gate);
+        let _ = serve_client::<TcpEnd, TcpEnd, TcpGate<R>>(
+            alloc, catalogue, own, client, &mut gate,
+        );
     }
 }
 
@@ -42,6 +51,7 @@ pub fn key_word(number: u32) -> KeyWord
 pub fn stub_on<
     R: Threads
         + Wait
+        + Clock
         + Net<Listener = net::TcpListener, Stream = net::TcpStream>
         + Copy
         + Send
@@ -61,13 +71,14 @@ pub fn stub_on<
         if count == Some(accepted) {
             break;
         }
-        let (Some(client), Ok(catalogue)) = (acceptor.turn(), Arc::try_clone(&catalogue)) else {
+        let (Turn::Client(client, _), Ok(catalogue)) = (acceptor.turn(), Arc::try_clone(&catalogue))
+        else {
             continue;
         };
         accepted = accepted.wrapping_add(1);
         let own = key_word(accepted);
         // a thread that can't be started closes this connection alone
-        let _ = workers.start(rt, move || attend(&rt, alloc, catalogue, own, client));
+        let _ = workers.start(rt, move || attend(rt, alloc, catalogue, own, client));
     }
     workers.join_all(&rt);
     Ok(())

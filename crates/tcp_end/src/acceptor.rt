@@ -1,14 +1,14 @@
 //! The connections that clients make.
-ghost use Rattle.std.specs.Prelude.{◌≡◌, IfSome};
-ghost use Rattle.tcp_end.specs.Connections.{new_connection};
+ghost use Rattle.std.specs.Prelude.{◌≡◌};
+ghost use Rattle.tcp_end.specs.Turns as spec;
 
 use crate::connection::TcpEnd;
-use mio::net::TcpListener;
+use mio::net::{TcpListener, TcpStream};
 use mio::{Events, Interest, Poll, Token};
 use std::alloc::Global;
 use std::io;
 use std::io::ErrorKind;
-use std::net::Net;
+use std::net::{Net, SocketAddr};
 use std::time::Duration;
 
 /// The listener among those of its poll.
@@ -16,6 +16,24 @@ const LISTENER: Token = Token(0);
 
 /// As long as a turn waits at most, in milliseconds.
 const LONGEST_WAIT: u64 = 100;
+
+/// The address and port that a client comes from.
+#[derive(Clone, Copy)]
+pub struct Peer {
+    pub host: [u8; 4],
+    pub port: u16,
+}
+
+/// What a turn came to.
+#[derive(Drop)]
+pub enum Turn {
+    /// The end of the next connection, and where it comes from.
+    Client(TcpEnd, Peer),
+    /// None came within 100 ms, or it went again.
+    Nobody,
+    /// One couldn't be had: an allocation failed, or the system has no more files. The turns after this may have it.
+    Failed,
+}
 
 /// A listener, and where it waits for the next connection.
 pub struct Acceptor {
@@ -36,6 +54,30 @@ impl Drop for Acceptor {
     }
 }
 
+/// Whether a connection was there, by the error that was answered in its place, and couldn't be had.
+fn is_failure(kind: ErrorKind) -> bool
+    ensures { result ≡ spec.is_failure kind }
+{
+    !matches!(
+        kind,
+        ErrorKind::WouldBlock | ErrorKind::Interrupted | ErrorKind::ConnectionAborted
+    )
+}
+
+/// A client of the network of IPv4; zeros for another, which no listener of an IPv4 address has.
+fn peer_of(address: &SocketAddr) -> Peer {
+    match address {
+        SocketAddr::V4(address) => Peer {
+            host: address.ip().octets(),
+            port: address.port(),
+        },
+        SocketAddr::V6(_) => Peer {
+            host: [0; 4],
+            port: 0,
+        },
+    }
+}
+
 impl Acceptor {
     /// Waits at this listener. The error is that the system has no more polls, or that an allocation failed.
     pub fn new<R: Net>(rt: &R, alloc: Global, listener: TcpListener) -> io::Result<Acceptor> {
@@ -52,22 +94,33 @@ impl Acceptor {
         })
     }
 
-    /// The end of the next connection, which may have waited already. None where none came within 100 ms, or one couldn't be
-    /// had: it went again, an allocation failed, or the system has no more files. Such a failure is no end: the turns after it
-    /// may have a connection.
-    pub fn turn(&mut self) -> Option<TcpEnd>
-        ensures { IfSome result (λ e. e ≡ new_connection) }
+    /// The next connection, which may have waited already.
+    pub fn turn(&mut self) -> Turn
+        ensures { spec.IsTurn result }
     {
-        match self.listener.accept() {
-            Ok((stream, _)) => TcpEnd::from_stream(self.alloc, stream).ok(),
-            Err(error) => {
-                // one that went again is no reason to wait: more may stand behind it
-                if error.kind() != ErrorKind::ConnectionAborted {
-                    let wait = Duration::from_millis(LONGEST_WAIT);
-                    let _ = self.poll.poll(&mut self.events, Some(wait));
-                }
-                None
-            }
+        let kind = match self.listener.accept() {
+            Ok((stream, address)) => return client_of(self.alloc, stream, &address),
+            Err(error) => error.kind(),
+        };
+        // one that went again is no reason to wait: more may stand behind it
+        if kind != ErrorKind::ConnectionAborted {
+            let wait = Duration::from_millis(LONGEST_WAIT);
+            let _ = self.poll.poll(&mut self.events, Some(wait));
         }
+        if is_failure(kind) {
+            Turn::Failed
+        } else {
+            Turn::Nobody
+        }
+    }
+}
+
+/// The end of a connection from this address.
+fn client_of(alloc: Global, stream: TcpStream, address: &SocketAddr) -> Turn
+    ensures { spec.IsTurn result }
+{
+    match TcpEnd::from_stream(alloc, stream) {
+        Ok(client) => Turn::Client(client, peer_of(address)),
+        Err(_) => Turn::Failed,
     }
 }

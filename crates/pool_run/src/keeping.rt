@@ -1,0 +1,191 @@
+//! The settings and users of later clients, which a RELOAD changes.
+ghost use Rattle.std.specs.Prelude.{◌≡◌, IfOk};
+ghost use Rattle.std.specs.Arc.{arc_value};
+ghost use Rattle.ini_config.specs.Bounds.{AreWithinBounds};
+ghost use Rattle.pool_run.specs.Logins.{IsNewLogin};
+ghost use Rattle.pool_run.specs.Telling as spec;
+
+use book_model::limits::Limits;
+use book_model::settings::limits_of;
+use ini_config::Settings;
+use log_lines::notes::Note;
+use login_core::Login;
+use message_view::KeyWord;
+use std::alloc::{AllocError, Global};
+use std::marker::Model;
+use std::sync::{Arc, Mutex, Wait};
+use user_file::Users;
+
+/// Why files aren't read again.
+#[derive(Drop)]
+pub enum Unread {
+    /// A file's fault, as the log tells it.
+    Fault(String),
+    /// No memory was left.
+    Memory,
+}
+
+impl From<AllocError> for Unread {
+    fn from(_error: AllocError) -> Unread {
+        Unread::Memory
+    }
+}
+
+/// Where the files of settings and users are.
+pub trait Source: Drop {
+    /// What both say now: settings within their bounds, and users.
+    fn read(&self) -> Result<(Settings, Users), Unread>
+        ensures { IfOk result (λ read. AreWithinBounds read.0) };
+}
+
+/// Settings within their bounds, which are shared.
+#[derive(Drop)]
+struct Bounded {
+    settings: Arc<Settings>,
+}
+
+impl Model for Bounded {
+    ghost use Rattle.std.specs.Arc.{arc_value};
+    ghost use Rattle.ini_config.specs.Bounds.{AreWithinBounds};
+    ghost use Rattle.ini_config.specs.declared.option_values.Settings.{Settings as SettingsOf};
+
+    ghost Value = { SettingsOf };
+
+    ghost view = { λ b. arc_value b.settings };
+
+    ghost invariant = { λ b. AreWithinBounds (arc_value b.settings) };
+}
+
+impl Bounded {
+    fn new(alloc: Global, settings: Settings) -> Result<Bounded, AllocError>
+        requires { AreWithinBounds settings }
+        ensures { IfOk result (λ b. b ≡ settings) }
+    {
+        Ok(Bounded {
+            settings: Arc::new(alloc, settings)?,
+        })
+    }
+
+    fn share(&self) -> Result<Arc<Settings>, AllocError>
+        ensures { IfOk result (λ s. AreWithinBounds (arc_value s)) }
+    {
+        Arc::try_clone(&self.settings)
+    }
+
+    /// Whether the log is told such a note.
+    fn tells(&self, note: &Note<'_>) -> bool
+        ensures { result ≡ spec.is_told self.now note.now }
+    {
+        match note {
+            Note::LoggedIn => self.settings.log_connections(),
+            Note::Closed => self.settings.log_disconnections(),
+            _ => true,
+        }
+    }
+}
+
+/// The settings and users of later clients.
+#[derive(Drop)]
+struct Kept {
+    settings: Bounded,
+    users: Arc<Users>,
+}
+
+impl Kept {
+    fn new(alloc: Global, settings: Settings, users: Users) -> Result<Kept, AllocError>
+        requires { AreWithinBounds settings }
+    {
+        Ok(Kept {
+            settings: Bounded::new(alloc, settings)?,
+            users: Arc::new(alloc, users)?,
+        })
+    }
+}
+
+/// The limits of these settings, twice.
+fn limits_twice(
+    alloc: Global,
+    settings: &Settings,
+) -> Result<(Arc<Limits>, Arc<Limits>), AllocError>
+    requires { AreWithinBounds settings.now }
+    ensures { IfOk result (λ p. arc_value p.1 ≡ arc_value p.0) }
+{
+    let limits = Arc::new(alloc, limits_of(alloc, settings)?)?;
+    let again = Arc::try_clone(&limits)?;
+    Ok((limits, again))
+}
+
+/// The settings and users of later clients, behind a lock under which no other is taken, and where they are read again.
+pub(crate) struct Keeper<R, F: Source> {
+    rt: R,
+    alloc: Global,
+    kept: Mutex<Kept>,
+    source: F,
+}
+
+impl<R: Drop, F: Source> Drop for Keeper<R, F> {
+    fn drop(self) {
+        let Keeper {
+            rt: _,
+            alloc: _,
+            kept: _,
+            source: _,
+        } = self;
+    }
+}
+
+impl<R: Drop, F: Source> Keeper<R, F> {
+    /// Keeps these. The only error is that an allocation failed.
+    pub(crate) fn new(
+        rt: R,
+        alloc: Global,
+        settings: Settings,
+        users: Users,
+        source: F,
+    ) -> Result<Keeper<R, F>, AllocError>
+        requires { AreWithinBounds settings }
+    {
+        let kept = Kept::new(alloc, settings, users)?;
+        Ok(Keeper {
+            rt,
+            alloc,
+            kept: Mutex::new(kept),
+            source,
+        })
+    }
+}
+
+impl<R: Wait, F: Source> Keeper<R, F> {
+    /// The settings and users of a client that comes now.
+    fn share(&self) -> Result<(Arc<Settings>, Arc<Users>), AllocError>
+        ensures { IfOk result (λ p. AreWithinBounds (arc_value p.0)) }
+    {
+        let kept = self.kept.lock(&self.rt);
+        Ok((kept.settings.share()?, Arc::try_clone(&kept.users)?))
+    }
+
+    /// The login of a client that comes now, with this key word. The only error is that an allocation failed.
+    pub(crate) fn login(&self, word: KeyWord) -> Result<Login, AllocError>
+        ensures { IfOk result (λ l. IsNewLogin word l) }
+    {
+        let (settings, users) = self.share()?;
+        Login::new(self.alloc, settings, users, word)
+    }
+
+    /// Whether the log is told such a note, by the settings of later clients.
+    pub(crate) fn tells(&self, note: &Note<'_>) -> bool {
+        self.kept.lock(&self.rt).settings.tells(note)
+    }
+
+    /// Reads the files again, and keeps what they say for later clients; the limits of the settings, twice. Where a file has a fault
+    /// or an allocation fails nothing is kept.
+    pub(crate) fn reload(&self) -> Result<(Arc<Limits>, Arc<Limits>), Unread>
+        ensures { IfOk result (λ p. arc_value p.1 ≡ arc_value p.0) }
+    {
+        let (settings, users) = self.source.read()?;
+        let limits = limits_twice(self.alloc, &settings)?;
+        let kept = Kept::new(self.alloc, settings, users)?;
+        *self.kept.lock(&self.rt) = kept;
+        Ok(limits)
+    }
+}
