@@ -4,7 +4,7 @@ SHELL := /bin/bash
 .DELETE_ON_ERROR:
 .DEFAULT_GOAL := build
 .NOTPARALLEL:
-.PHONY: build run test gate wrong install deb bench clean
+.PHONY: build run demo test gate wrong install deb bench clean
 
 PREFIX ?= /usr/local
 DESTDIR ?=
@@ -34,9 +34,13 @@ build/pgsess: $(program)
 
 build: build/pgsess
 
-# the main job: one client's session, from bytes to bytes
+# the product: a pool before a stand-in server, and two clients one after the other over one link. KEEP=1 leaves it running
 run: build/pgsess
-	@scripts/show.sh build/pgsess
+	@scripts/show.py build/pgsess $(if $(KEEP),--keep)
+
+# the same over a real PostgreSQL, by a program that is built and not proved
+demo:
+	@scripts/demo.py
 
 # the whole gate, and what it took: by the clock, and of processor time in user and system
 test:
@@ -58,6 +62,8 @@ gate:
 	scripts/cursors.sh $(program)
 	scripts/postgres.sh $(program)
 	scripts/abuse.sh $(program)
+	scripts/show.py $(program)
+	scripts/packaging.sh $(program)
 
 # the wrong versions of functions that aren't tried by the gate; CRATES names some crates. It is no part of `test`: on top of the
 # gate it would need each library built once more, which takes longer than all edits. Run it before a crate lands

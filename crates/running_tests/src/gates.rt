@@ -2,8 +2,10 @@
 use crate::pairs::pair;
 use server_end::gate::{Gate, Ready};
 use server_end::{ClientEnd, Moved, ServerEnd};
+use std::rt::Clock;
 use std::test::Fail;
-use std::time::Instant;
+use std::thread::sleep;
+use std::time::{Duration, Instant};
 use tcp_end::connection::TcpEnd;
 use tcp_end::gate::TcpGate;
 
@@ -14,7 +16,7 @@ const BOTH: Ready = Ready {
 
 /// How many turns of idle ends take a second: each is followed by a read of both.
 fn idle_turns(rt: &HostRuntime, client: &mut TcpEnd, link: &mut TcpEnd) -> Result<u32, Fail> {
-    let mut gate = TcpGate::new(rt, rt.alloc(), client)?;
+    let mut gate = TcpGate::new(*rt, rt.alloc(), client)?;
     gate.watch(link);
     let start = Instant::now(rt)?;
     for turns in 0..1_000_000u32 {
@@ -38,7 +40,7 @@ fn idle_ends_have_ten_turns_a_second(rt: HostRuntime) -> Result<(), Fail> {
 }
 
 /// Reads one byte once it is there; how many turns that took.
-fn read_by_turns(gate: &mut TcpGate, link: &mut TcpEnd) -> u32 {
+fn read_by_turns<R: Clock>(gate: &mut TcpGate<R>, link: &mut TcpEnd) -> u32 {
     for turns in 1..1000u32 {
         gate.turn();
         if ServerEnd::read_some(link, &mut [0; 1]) == Moved::Count(1) {
@@ -53,7 +55,7 @@ fn read_by_turns(gate: &mut TcpGate, link: &mut TcpEnd) -> u32 {
 fn bytes_end_a_wait(rt: HostRuntime) -> Result<(), Fail> {
     let (mut client, _near) = pair(&rt)?;
     let (mut link, mut far) = pair(&rt)?;
-    let mut gate = TcpGate::new(&rt, rt.alloc(), &mut client)?;
+    let mut gate = TcpGate::new(rt, rt.alloc(), &mut client)?;
     gate.watch(&mut link);
     let start = Instant::now(&rt)?;
     for _ in 0..200 {
@@ -69,7 +71,7 @@ fn bytes_end_a_wait(rt: HostRuntime) -> Result<(), Fail> {
 fn bytes_that_are_there_need_no_wait(rt: HostRuntime) -> Result<(), Fail> {
     let (mut client, _near) = pair(&rt)?;
     let (mut link, mut far) = pair(&rt)?;
-    let mut gate = TcpGate::new(&rt, rt.alloc(), &mut client)?;
+    let mut gate = TcpGate::new(rt, rt.alloc(), &mut client)?;
     gate.watch(&mut link);
     assert!(rt; ServerEnd::write_some(&mut far, &[7; 10_000]) == Moved::Count(10_000));
     let mut turns = 0u32;
@@ -78,5 +80,58 @@ fn bytes_that_are_there_need_no_wait(rt: HostRuntime) -> Result<(), Fail> {
     }
     assert!(rt; turns < 10_100);
     gate.unwatch(&mut link);
+    Ok(())
+}
+
+/// How many milliseconds twelve turns of an idle link take, where the client sends a byte before each.
+fn link_turns(
+    rt: &HostRuntime,
+    client: &mut TcpEnd,
+    near: &mut TcpEnd,
+    link: &mut TcpEnd,
+) -> Result<u128, Fail> {
+    let mut gate = TcpGate::new(*rt, rt.alloc(), client)?;
+    gate.watch(link);
+    let start = Instant::now(rt)?;
+    for _ in 0..12 {
+        let _ = ClientEnd::write_some(near, b"Q");
+        gate.turn_of_link();
+        let _ = ServerEnd::read_some(link, &mut [0; 4]);
+    }
+    Ok(start.elapsed(rt)?.as_millis())
+}
+
+// The first two are taken at once, as above; the others wait for 100 ms each.
+#[test]
+fn what_a_client_sends_ends_no_turn_of_the_link(rt: HostRuntime) -> Result<(), Fail> {
+    let (mut client, mut near) = pair(&rt)?;
+    let (mut link, _far) = pair(&rt)?;
+    let milliseconds = link_turns(&rt, &mut client, &mut near, &mut link)?;
+    assert!(rt; milliseconds >= 950);
+    assert!(rt; milliseconds < 5_000);
+    Ok(())
+}
+
+/// Whether the client is seen to have gone within a second.
+fn is_seen_to_go(rt: &HostRuntime, gate: &mut TcpGate<HostRuntime>) -> bool {
+    for _ in 0..1_000u32 {
+        if Gate::<TcpEnd>::client_has_left(gate) {
+            return true;
+        }
+        sleep(rt, Duration::from_millis(1));
+    }
+    false
+}
+
+// What it sent before is still there: nothing was taken of it.
+#[test]
+fn a_client_that_goes_is_seen(rt: HostRuntime) -> Result<(), Fail> {
+    let (mut client, mut near) = pair(&rt)?;
+    let mut gate = TcpGate::new(rt, rt.alloc(), &mut client)?;
+    assert!(rt; ClientEnd::write_some(&mut near, b"Q") == Moved::Count(1));
+    assert!(rt; !Gate::<TcpEnd>::client_has_left(&mut gate));
+    drop(near);
+    assert!(rt; is_seen_to_go(&rt, &mut gate));
+    assert!(rt; ClientEnd::read_some(&mut client, &mut [0; 4]) == Moved::Count(1));
     Ok(())
 }

@@ -1,0 +1,83 @@
+#!/usr/bin/env python3
+"""Shows pgsess in front of a PostgreSQL server, within some two minutes and before anything is proved.
+
+Usage: demo.py [PROGRAM]
+
+Without PROGRAM the sources of crates/pgsess are built by `rt try`, which proves nothing: what is shown is the program's behaviour, not its
+proof. It makes a PostgreSQL server in a temporary folder, pools it, lets one client leave settings, a temporary table and a prepared
+statement behind, and shows that the next client, over the same server session, finds none of them.
+"""
+import os
+import shutil
+import signal
+import socket
+import subprocess
+import sys
+import time
+
+from cluster import HERE, TOP, USERS, Cluster, Place, free_port, set_up, until
+
+SECONDS = 900
+LEAVES = "SET work_mem = '7MB'; CREATE TEMP TABLE left_behind (a int); PREPARE p AS SELECT 1; SELECT pg_backend_pid() AS backend, current_setting('work_mem') AS work_mem;"
+FINDS = ("SELECT pg_backend_pid() AS backend, current_setting('work_mem') AS work_mem, "
+         "(SELECT count(*) FROM pg_class WHERE relname = 'left_behind') AS tables, (SELECT count(*) FROM pg_prepared_statements) AS statements;")
+
+
+def serve(program, place, cluster, port):
+    """The pooler, once it listens."""
+    ini = place.write("demo.ini", f"[databases]\nshop = host={HERE} port={cluster.port} dbname=shop\n[pgbouncer]\nlisten_port = {port}\n"
+                                  "auth_type = md5\ndefault_pool_size = 1\n")
+    users = place.write("demo.txt", "".join(f'"{name}" "{secret}"\n' for name, (_, secret) in USERS.items()))
+    words = ["serve", "--ini", ini, "--users", users, "--key-seed", place.write("seed", os.urandom(32))]
+    if program:
+        return subprocess.Popen([os.path.abspath(program), *map(str, words)], stdout=subprocess.DEVNULL, start_new_session=True)
+    if not shutil.which("rt"):
+        sys.exit("rt isn't in PATH: install the Rattle kit first (rt version)")
+    print("building crates/pgsess, UNPROVED (rt try): about two minutes", flush=True)
+    return subprocess.Popen(["rt", "try", "--seconds", str(SECONDS), "--", *map(str, words)], cwd=TOP / "crates/pgsess",
+                            stdout=subprocess.DEVNULL, stderr=subprocess.DEVNULL, start_new_session=True)
+
+
+def answers(port):
+    """`rt try` hands on what a program prints only once it has ended, so it is the port that is looked at."""
+    try:
+        socket.create_connection((HERE, port), 1).close()
+    except OSError:
+        return False
+    return True
+
+
+def psql(port, text):
+    environment = {**os.environ, "PGPASSWORD": USERS["ann"][0]}
+    print(f"\n$ psql -h {HERE} -p {port} -U ann shop\n{text}", flush=True)
+    words = ["psql", "-X", "-q", "-P", "footer=off", "-h", HERE, "-p", str(port), "-U", "ann", "-c", text, "shop"]
+    out = subprocess.run(words, env=environment, check=True, timeout=60, stdout=subprocess.PIPE, text=True).stdout
+    print(out.rstrip())
+    return [part.strip() for part in out.splitlines()[2].split("|")]
+
+
+def main():
+    set_up()
+    began, place, pooler = time.monotonic(), Place(), None
+    try:
+        cluster, port = Cluster(place), free_port()
+        pooler = serve(sys.argv[1] if len(sys.argv) > 1 else None, place, cluster, port)
+        if not until(lambda: pooler.poll() is not None or answers(port), SECONDS) or pooler.poll() is not None:
+            sys.exit("pgsess doesn't listen: see `cd crates/pgsess && rt try -- serve --help`")
+        print(f"pgsess listens at {HERE} {port}   ({time.monotonic() - began:.0f} s)")
+        (backend, _), (again, memory, tables, statements) = psql(port, LEAVES), psql(port, FINDS)
+        clean = (memory, tables, statements) == ("4MB", "0", "0")
+        print(f"\nThe second client had {'the same' if again == backend else 'ANOTHER'} backend, and found {'nothing' if clean else 'SOMETHING'} of the first.")
+        print("That no client ever finds anything is what `make test` proves; this run proves nothing.")
+        return 0 if clean and again == backend else 1
+    finally:
+        if pooler:
+            os.killpg(pooler.pid, signal.SIGTERM)
+        for pid in place.processes():
+            os.kill(pid, signal.SIGKILL)
+        until(lambda: not place.processes())
+        place.clear()
+
+
+if __name__ == "__main__":
+    sys.exit(main())
