@@ -7,7 +7,7 @@ use std::net::Net;
 use std::sync::atomic::AtomicBool;
 use std::test::Fail;
 
-const OPTIONS: &str = "admin_users = ann\n";
+const OPTIONS: &str = "default_pool_size = 1\nadmin_users = ann\n";
 
 /// Ann's StartupMessage for the database shop.
 const START: &[u8] = b"\0\0\0\x20\0\x03\0\0user\0ann\0database\0shop\0\0";
