@@ -203,7 +203,7 @@ class Show:
     def told(self, pooler, name, pattern):
         """A line of the log."""
         found = until(lambda: re.search(pattern, pooler.log(), re.I | re.M), 5)
-        self.passes.holds(f"the log tells: {name}", found, pooler.log()[-400:])
+        self.passes.holds(f"the log tells: {name}", found, f"{pooler.log()[-400:]!r}")
 
     # ---- c. RELOAD
 
