@@ -3,6 +3,8 @@
 #![tactic(auto)]
 
 #[cfg(test)]
+mod console;
+#[cfg(test)]
 mod gates;
 #[cfg(test)]
 mod keys;

@@ -3,15 +3,19 @@ ghost use Rattle.std.specs.Prelude.{IfOk};
 ghost use Rattle.ini_config.specs.Bounds.{AreWithinBounds};
 
 use crate::pairs::listen;
+use desk_tallies::passes::Totals;
 use ini_config::laws::read_settings_are_within_bounds;
 use ini_config::{Settings, read_settings};
+use pool_run::keeping::{Source, Unread};
 use pool_run::pool::serve_on;
+use pool_run::runtime::PoolRuntime;
 use session_catalogue::Catalogue;
 use std::alloc::Global;
 use std::io::{Read, Write};
 use std::net::{Ipv4Addr, Net, Shutdown, SocketAddr, TcpStream};
 use std::rt::Clock;
 use std::sync::Wait;
+use std::sync::atomic::{AtomicBool, Ordering};
 use std::test::Fail;
 use std::thread::{JoinHandle, Threads};
 use std::time::Duration;
@@ -62,6 +66,7 @@ fn settings(alloc: Global, port: u16, options: &str) -> Result<Settings, Fail>
 pub fn start_stub<
     R: Threads
         + Wait
+        + Clock
         + Net<Listener = net::TcpListener, Stream = net::TcpStream>
         + Copy
         + Send
@@ -76,33 +81,81 @@ pub fn start_stub<
     Ok((stub, port))
 }
 
-/// A pool for so many clients under these options, over servers at this port; and its own port. It ends with the last client.
-pub fn start_pool<
-    R: Threads
-        + Wait
-        + Clock
-        + Net<Listener = net::TcpListener, Stream = net::TcpStream>
-        + Copy
-        + Send
-        + Sync
-        + 'static,
->(
+/// Files that lead to the server at this port, under these options. They are read at the second time.
+pub struct Elsewhere {
+    pub alloc: Global,
+    pub port: u16,
+    pub options: &'static str,
+    pub was_asked: AtomicBool,
+}
+
+impl Drop for Elsewhere {
+    fn drop(self) {
+        let Elsewhere {
+            alloc: _,
+            port: _,
+            options: _,
+            was_asked: _,
+        } = self;
+    }
+}
+
+impl Source for Elsewhere {
+    fn read(&self) -> Result<(Settings, Users), Unread> {
+        if !self.was_asked.swap(true, Ordering::SeqCst) {
+            return Err(Unread::Memory);
+        }
+        let Ok(settings) = settings(self.alloc, self.port, self.options) else {
+            return Err(Unread::Memory);
+        };
+        match users(self.alloc) {
+            Ok(users) => Ok((settings, users)),
+            Err(_) => Err(Unread::Memory),
+        }
+    }
+}
+
+/// A pool under these options, over servers at this port, and then over those of the source; and its own port. It ends with the last of
+/// so many clients, or at SHUTDOWN.
+pub fn start_pool_of<R: PoolRuntime + 'static>(
     rt: R,
     alloc: Global,
     server: u16,
     options: &str,
-    count: u64,
-) -> Result<(JoinHandle<bool>, u16), Fail> {
+    source: Elsewhere,
+    count: Option<u64>,
+) -> Result<(JoinHandle<Option<Totals>>, u16), Fail> {
     let (listener, port) = listen(&rt)?;
     let settings = settings(alloc, server, options)?;
     let users = users(alloc)?;
     let pool = thread::spawn(
         &rt,
-        move || -> bool
+        move || -> Option<Totals>
             requires { AreWithinBounds settings }
-        { serve_on(rt, alloc, listener, settings, users, [0; 32], Some(count)).is_ok() },
+        {
+            serve_on(rt, alloc, listener, settings, users, source, [0; 32], count)
+                .ok()
+                .flatten()
+        },
     )?;
     Ok((pool, port))
+}
+
+/// A pool for so many clients under these options, over servers at this port; and its own port. It ends with the last client.
+pub fn start_pool<R: PoolRuntime + 'static>(
+    rt: R,
+    alloc: Global,
+    server: u16,
+    options: &str,
+    count: u64,
+) -> Result<(JoinHandle<Option<Totals>>, u16), Fail> {
+    let source = Elsewhere {
+        alloc,
+        port: server,
+        options: "",
+        was_asked: AtomicBool::new(false),
+    };
+    start_pool_of(rt, alloc, server, options, source, Some(count))
 }
 
 /// A client that has sent this. It reads for at most half a minute.

@@ -4,6 +4,7 @@ use session_catalogue::Catalogue;
 use std::alloc::Global;
 use std::io::{Read, Write};
 use std::net::{Ipv4Addr, Net, Shutdown, SocketAddr, TcpStream};
+use std::rt::Clock;
 use std::sync::Wait;
 use std::test::Fail;
 use std::thread::Threads;
@@ -36,6 +37,7 @@ fn catalogue(alloc: Global) -> Result<Catalogue, Fail> {
 fn given<
     R: Threads
         + Wait
+        + Clock
         + Net<Listener = net::TcpListener, Stream = net::TcpStream>
         + Copy
         + Send

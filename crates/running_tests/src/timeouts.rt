@@ -43,7 +43,7 @@ fn a_client_waits_for_a_second(rt: HostRuntime) -> Result<(), Fail> {
     assert!(rt; given.as_slice().get(9..) == Some(refusal_bytes(Refusal::WaitedTooLong)));
     assert!(rt; seconds < SOON);
     assert!(rt; leave(rt.alloc(), first)?.is_empty());
-    assert!(rt; pool.join(&rt) && stub.join(&rt));
+    assert!(rt; pool.join(&rt).is_some() && stub.join(&rt));
     Ok(())
 }
 
@@ -109,7 +109,7 @@ fn closed_after<
     let seconds = start.elapsed(&rt)?.as_secs();
     drop(connect(&rt, port, b"")?);
     Ok((
-        pool.join(&rt) && has_ended && are_distinct(keys.as_slice()),
+        pool.join(&rt).is_some() && has_ended && are_distinct(keys.as_slice()),
         seconds,
     ))
 }

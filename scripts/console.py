@@ -1,0 +1,420 @@
+#!/usr/bin/env python3
+"""Shows the admin console of `pgsess serve` and its log, in front of a PostgreSQL server of Debian.
+
+Usage: console.py PROGRAM
+"""
+import os
+import re
+import signal
+import socket
+import subprocess
+import sys
+import threading
+import time
+
+from cluster import HERE, USERS, Cluster, Passes, Place, Pooler, free_port, set_up, until
+from wire import Client, Cut, Refused, startup
+
+COLUMNS = {
+    "POOLS": ["database", "user", "cl_active", "cl_waiting", "sv_active", "sv_idle"],
+    "CLIENTS": ["number", "state"],
+    "SERVERS": ["number", "database", "user", "state"],
+    "CONFIG": ["key", "value"],
+    "VERSION": ["version"],
+    "TOTALS": ["decisions", "starts", "reuses", "evictions", "losses"],
+}
+REFUSALS = 1000
+
+
+def environment(port, user, database):
+    return {**os.environ, "PGHOST": HERE, "PGPORT": str(port), "PGUSER": user, "PGDATABASE": database, "PGPASSWORD": USERS[user][0],
+            "PGCONNECT_TIMEOUT": "20", "LC_ALL": "C"}
+
+
+def console(port, command, *more, user="root"):
+    """What psql says of a command: its status, its output, and what stands on standard error."""
+    done = subprocess.run(["psql", "-X", *more, "-c", command], capture_output=True, timeout=60, env=environment(port, user, "pgbouncer"))
+    return done.returncode, done.stdout.decode(), done.stderr.decode()
+
+
+def table(port, name):
+    """The rows of a table, each by its columns' names."""
+    status, out, errors = console(port, f"SHOW {name};", "-A", "-F", "\t", "-P", "footer=off")
+    if status:
+        raise RuntimeError(f"SHOW {name}: {status} {errors}")
+    head, *rows = [line.split("\t") for line in out.splitlines()]
+    return [dict(zip(head, row)) for row in rows]
+
+
+def value(port, name):
+    """A setting, as the console shows it."""
+    return {row["key"]: row["value"] for row in table(port, "CONFIG")}[name]
+
+
+def figures(port):
+    """cl_active, cl_waiting, sv_active, sv_idle of ann's pool."""
+    for row in table(port, "POOLS"):
+        if (row["database"], row["user"]) == ("shop", "ann"):
+            return [int(row[name]) for name in COLUMNS["POOLS"][2:]]
+    return None
+
+
+class Worker(threading.Thread):
+    """A client that asks again and again over one connection, until it is told to stop. What it is told by an error is kept."""
+
+    def __init__(self, port):
+        super().__init__(daemon=True)
+        self.client = Client(port, "ann", "shop", USERS["ann"][0])
+        self.stops, self.asked, self.error = False, 0, None
+        self.start()
+
+    def run(self):
+        try:
+            while not self.stops:
+                self.client.ask("SELECT count(*) FROM pg_class")
+                self.asked += 1
+            self.client.leave()
+        except (Refused, Cut, OSError) as error:
+            self.error = error
+
+    def end(self):
+        self.stops = True
+        self.join(60)
+        return self.error
+
+
+class Waiting(threading.Thread):
+    """A client that logs in, which waits where all links are lent: what comes of it."""
+
+    def __init__(self, port):
+        super().__init__(daemon=True)
+        self.port, self.told = port, None
+        self.start()
+
+    def run(self):
+        try:
+            client = Client(self.port, "ann", "shop", USERS["ann"][0], seconds=60)
+            client.ask("SELECT 1")
+            client.leave()
+            self.told = "served"
+        except Refused as error:
+            self.told = f"{error.code} {error.text}"
+        except (Cut, OSError):
+            self.told = "cut"
+
+
+class Logged(Pooler):
+    """A pooler whose log is a file, with further lines in [pgbouncer]."""
+
+    def __init__(self, place, cluster, program, lines="", **settings):
+        super().__init__(place, cluster, program, auth="md5", **settings)
+        if lines:
+            self.write("pgsess.ini", self.read("pgsess.ini") + lines)
+            status, _, errors = console(self.port, "RELOAD")
+            if status:
+                sys.exit(f"the first RELOAD: {errors}")
+
+    def read(self, name):
+        return (self.place.folder / name).read_text()
+
+    def write(self, name, text):
+        self.place.write(name, text)
+
+    def log(self):
+        self.errors.flush()
+        return self.read("pgsess.err")
+
+    def edit(self, old, new):
+        text, count = re.subn(old, new, self.read("pgsess.ini"), flags=re.M)
+        if not count:
+            raise RuntimeError(f"{old!r} isn't in the settings")
+        self.write("pgsess.ini", text)
+
+
+class Show:
+    def __init__(self, program):
+        self.program, self.passes = program, Passes("console")
+        self.place = Place()
+        self.cluster = self.other = None
+
+    def pooler(self, lines="", **settings):
+        (self.place.folder / "pgsess.err").unlink(missing_ok=True)
+        return Logged(self.place, self.cluster, self.program, lines, **settings)
+
+    # ---- a. the tables
+
+    def tables(self):
+        pooler = self.pooler(size=2)
+        for name, columns in COLUMNS.items():
+            status, out, errors = console(pooler.port, f"SHOW {name};", "-A", "-F", "\t", "-P", "footer=off")
+            self.passes.same(f"SHOW {name}: its columns", (status, out.split("\n")[0].split("\t"), errors), (0, columns, ""))
+            status, out, errors = console(pooler.port, f"show {name.lower()}", "-x", "-A")
+            names = [line.split("|")[0] for line in out.split("\n\n")[0].splitlines()]
+            self.passes.holds(f"show {name.lower()} under psql -x", status == 0 and (names == columns or not out.strip() or "No rows" in out or "(0 rows)" in out), f"{out!r} {errors}")
+        self.passes.same("SHOW VERSION", table(pooler.port, "VERSION"), [{"version": "pgsess 1"}])
+        self.passes.same("SHOW CONFIG: default_pool_size", value(pooler.port, "default_pool_size"), "2")
+        status, _, errors = console(pooler.port, "SELECT 1")
+        self.passes.same("what is no command", (status, errors.strip()), (1, "ERROR:  syntax error"))
+        status, _, errors = console(pooler.port, "SHOW POOLS", user="ann")
+        self.passes.holds("who is no administrator isn't let in", status == 2 and "FATAL" in errors, f"{status} {errors}")
+        pooler.stop()
+
+    def counted(self):
+        """The figures while 8 clients work and 2 wait."""
+        pooler = self.pooler(size=8)
+        workers = [Worker(pooler.port) for _ in range(8)]
+        waiting = [Waiting(pooler.port) for _ in range(2)]
+        self.passes.holds("8 clients work and 2 wait: SHOW POOLS", until(lambda: figures(pooler.port) == [8, 2, 8, 0], 10), f"{figures(pooler.port)}")
+        states = sorted(row["state"] for row in table(pooler.port, "CLIENTS"))
+        # the console's own client is one of those that are there
+        self.passes.same("SHOW CLIENTS", states, ["active"] * 8 + ["login"] + ["waiting"] * 2)
+        servers = table(pooler.port, "SERVERS")
+        self.passes.same("SHOW SERVERS", [(row["database"], row["user"], row["state"]) for row in servers], [("shop", "ann", "active")] * 8)
+        numbers = [int(row["number"]) for row in servers]
+        self.passes.same("SHOW SERVERS: by number", numbers, sorted(set(numbers)))
+        self.passes.same("the workers' errors", [worker.end() for worker in workers], [None] * 8)
+        for one in waiting:
+            one.join(30)
+        self.passes.same("those that waited are served", [one.told for one in waiting], ["served"] * 2)
+        self.passes.holds("all links are idle afterwards", until(lambda: figures(pooler.port) == [0, 0, 0, 8], 10), f"{figures(pooler.port)}")
+        totals = table(pooler.port, "TOTALS")[0]
+        self.passes.same("SHOW TOTALS: starts, reuses", (totals["starts"], totals["reuses"]), ("8", "2"))
+        pooler.stop()
+
+    # ---- b. PAUSE and RESUME
+
+    def paused(self):
+        pooler = self.pooler(size=8)
+        bench = subprocess.Popen(["pgbench", "-n", "-S", "-C", "-c", "8", "-j", "8", "-T", "8"], stdout=subprocess.PIPE, stderr=subprocess.PIPE,
+                                 env=environment(pooler.port, "ann", "shop"))
+        time.sleep(2)
+        self.passes.same("PAUSE", console(pooler.port, "PAUSE")[:2], (0, "PAUSE\n"))
+        stands = until(lambda: (figures(pooler.port) or [1])[0] == 0, 5)
+        time.sleep(3)
+        self.passes.holds("while it is paused no link is lent, and clients wait", stands and figures(pooler.port)[:3] == [0, 8, 0], f"{figures(pooler.port)}")
+        self.passes.same("RESUME", console(pooler.port, "RESUME")[:2], (0, "RESUME\n"))
+        out, errors = bench.communicate(timeout=60)
+        failed = [line for line in errors.decode().splitlines() if "error" in line or "FATAL" in line or "aborted" in line]
+        self.passes.same("pgbench -C of 8 clients over PAUSE and RESUME: no error", (bench.returncode, failed), (0, []))
+        self.told(pooler, "PAUSE", r"pause")
+        self.told(pooler, "RESUME", r"resume")
+        pooler.stop()
+
+    def told(self, pooler, name, pattern):
+        """A line of the log."""
+        found = until(lambda: re.search(pattern, pooler.log(), re.I | re.M), 5)
+        self.passes.holds(f"the log tells: {name}", found, f"{pooler.log()[-400:]!r}")
+
+    # ---- c. RELOAD
+
+    def reloaded(self):
+        pooler = self.pooler(size=4)
+        workers = [Worker(pooler.port) for _ in range(3)]
+        idle = Worker(pooler.port)
+        self.passes.same("a fourth client leaves its link", idle.end(), None)
+        before, elsewhere = len(self.cluster.backends()), self.other.logins()
+        pooler.edit(r"^(shop = .*)port=\d+", rf"\g<1>port={self.other.port}")
+        self.passes.same("RELOAD", console(pooler.port, "RELOAD")[:2], (0, "RELOAD\n"))
+        self.passes.same("4 sessions were open at the old server", before, 4)
+        self.passes.holds("after the next tick the idle one is closed there", until(lambda: len(self.cluster.backends()) == 3, 3.5), f"{len(self.cluster.backends())}")
+        client = Client(pooler.port, "ann", "shop", USERS["ann"][0])
+        asked = client.ask("SELECT inet_server_port()")
+        client.leave()
+        self.passes.same("a client that comes later reaches the new server", (asked, self.other.logins() - elsewhere), ([[str(self.other.port)]], 1))
+        counts = [worker.asked for worker in workers]
+        self.passes.holds("the clients that worked go on", until(lambda: all(worker.asked > count for worker, count in zip(workers, counts)), 10))
+        self.passes.same("no client failed", [worker.end() for worker in workers], [None] * 3)
+        self.passes.holds("their links are closed once they come back", until(lambda: self.cluster.backends() == [], 5), f"{self.cluster.backends()}")
+        self.faulty(pooler)
+        pooler.stop()
+
+    def faulty(self, pooler):
+        """A file with a fault changes nothing, and the log names it."""
+        for name, spoilt, code, line in (("pgsess.ini", "no line\n", "C7", 1), ("users.txt", "no user\n", "U1", 1)):
+            kept = pooler.read(name)
+            pooler.write(name, spoilt + kept.replace("default_pool_size = 4", "default_pool_size = 5"))
+            status, _, errors = console(pooler.port, "RELOAD", "-v", "VERBOSITY=sqlstate")
+            self.passes.same(f"RELOAD with a fault in {name}", (status, errors), (1, "ERROR:  22023\n"))
+            self.told(pooler, f"a fault in {name}", rf"{code} line {line} of .*{name}")
+            pooler.write(name, kept)
+            self.passes.same("nothing is changed", (value(pooler.port, "default_pool_size"), table(pooler.port, "VERSION")), ("4", [{"version": "pgsess 1"}]))
+        (self.place.folder / "users.txt").rename(self.place.folder / "away.txt")
+        self.passes.same("RELOAD without the user file", console(pooler.port, "RELOAD")[0], 1)
+        self.told(pooler, "a file that can't be read", r"file .*users\.txt")
+        (self.place.folder / "away.txt").rename(self.place.folder / "users.txt")
+        self.passes.same("RELOAD once it is there again", console(pooler.port, "RELOAD")[0], 0)
+
+    # ---- d. SHUTDOWN
+
+    def shut(self):
+        """Working, waiting and silent clients and the console's own, each ends as it should."""
+        pooler = self.pooler("", size=2)
+        workers = [Worker(pooler.port) for _ in range(2)]
+        waiting = [Waiting(pooler.port) for _ in range(2)]
+        until(lambda: figures(pooler.port) == [2, 2, 2, 0], 10)
+        silent = socket.create_connection((HERE, pooler.port))
+        asking = Client(pooler.port, "root", "pgbouncer", USERS["root"][0])
+        until(lambda: len(table(pooler.port, "CLIENTS")) >= 6, 5)
+        self.passes.same("SHUTDOWN", console(pooler.port, "SHUTDOWN")[:2], (0, "SHUTDOWN\n"))
+        for one in waiting:
+            one.join(10)
+        self.passes.same("waiting clients are refused", [one.told for one in waiting], ["57P01 pooler is shutting down"] * 2)
+        self.passes.holds("nobody listens any more", until(lambda: not is_taken(pooler.port), 2))
+        silent.sendall(startup("ann", "shop"))
+        self.passes.holds("a client that was silent is refused", b"57P01" in received(silent))
+        counts = [worker.asked for worker in workers]
+        self.passes.holds("those that work go on", until(lambda: all(worker.asked > count for worker, count in zip(workers, counts)), 10) and pooler.runs())
+        self.passes.same("and end their sessions", [worker.end() for worker in workers], [None] * 2)
+        self.passes.holds("all links are closed or idle", until(lambda: pools_of(asking) in ([], [0, 0]), 5), f"{pools_of(asking)}")
+        self.passes.holds("a console that is open keeps the pooler", pooler.runs())
+        totals = asking.ask("SHOW TOTALS")[0]
+        asking.leave()
+        self.passes.holds("then it ends", until(lambda: not pooler.runs(), 10))
+        self.passes.same("with status 0", pooler.process.returncode, 0)
+        # 2 clients were lent a link, and the two that waited, the silent one, this console and two of psql's arrived or were refused
+        self.passes.same("SHOW TOTALS at the end: starts, reuses, losses", [totals[1], totals[2], totals[4]], ["2", "0", "0"])
+        self.told(pooler, "the totals", r"2 granted|granted[ =:]+2|grants[ =:]+2")
+        pooler.stop()
+
+    # ---- e. the log
+
+    def lines(self):
+        """Each kind of line once."""
+        pooler = self.pooler("log_connections = 1\nlog_disconnections = 1\n", size=1, wait=1, clients=4, closed=free_port())
+        self.told(pooler, "where it listens", rf"listening .*{pooler.port}")
+        one = Client(pooler.port, "ann", "shop", USERS["ann"][0])
+        self.refused(pooler, "query_wait_timeout", user="ann")
+        self.refused(pooler, "a wrong password", user="ann", password="other")
+        self.refused(pooler, "an unknown database", user="ann", database="nowhere")
+        self.refused(pooler, "a parameter", user="ann", search_path="x")
+        self.refused(pooler, "a server that isn't reached", user="ann", database="closed")
+        one.ask("BEGIN")
+        one.leave()
+        for name, pattern in (
+                ("a client that is let in", r"ann.*shop|shop.*ann"), ("query_wait_timeout", r"query_wait_timeout"),
+                ("a wrong password", r"password"), ("an unknown database", r"nowhere"), ("a parameter", r"search_path"),
+                ("a server that isn't reached", rf"{pooler.port and 'closed'}"), ("a link that is lost in a block", r"block|transaction")):
+            self.told(pooler, name, pattern)
+        os.kill(self.link(pooler), signal.SIGTERM)
+        pooler.stop()
+
+    def link(self, pooler):
+        """The server process of a link."""
+        Client(pooler.port, "ann", "shop", USERS["ann"][0]).leave()
+        until(lambda: self.cluster.backends(), 5)
+        return self.cluster.backends()[0]
+
+    def refused(self, pooler, name, user, database="shop", password=None, **parameters):
+        try:
+            Client(pooler.port, user, database, USERS[user][0] if password is None else password, **parameters).leave()
+            told = "let in"
+        except Refused as error:
+            told = error.code
+        except (Cut, OSError):
+            told = "cut"
+        self.passes.holds(f"refused: {name}", told not in ("let in", "cut"), told)
+
+    def unread(self):
+        """Nobody reads the log: a thousand clients are refused at full speed."""
+        pooler = self.pooler(size=1)
+        quick = self.refusals(pooler)
+        pooler.stop()
+        reader, writer = os.pipe()
+        folder = self.place.folder
+        process = self.place.start(self.program, "serve", "--ini", folder / "pgsess.ini", "--users", folder / "users.txt", "--key-seed", folder / "seed",
+                                   stdout=subprocess.PIPE, stderr=writer)
+        os.close(writer)
+        process.stdout.readline()
+        pooler.process, pooler.errors = process, open(os.devnull, "ab")
+        for _ in range(3):
+            slow = self.refusals(pooler)
+        self.passes.holds(f"{REFUSALS} refusals, whose log nobody reads: as quick as with a reader", slow < 2 * quick + 2, f"{slow:.1f} s for {quick:.1f} s")
+        status, _, errors = console(pooler.port, "SHUTDOWN")
+        self.passes.same("SHUTDOWN, while nobody reads", status, 0)
+        self.passes.holds("it ends all the same", until(lambda: process.poll() is not None, 20))
+        self.passes.same("with status 0", process.returncode, 0)
+        os.close(reader)
+        process.stdout.close()
+
+    def refusals(self, pooler):
+        """How long a thousand take: each is of a database that isn't there."""
+        begin = time.monotonic()
+        for _ in range(REFUSALS):
+            try:
+                Client(pooler.port, "ann", "nowhere", USERS["ann"][0])
+            except Refused:
+                pass
+        return time.monotonic() - begin
+
+    # ---- all
+
+    def all(self):
+        self.cluster = Cluster(self.place)
+        second = Place()
+        try:
+            self.other = Cluster(second)
+            subprocess.run(["pgbench", "-i", "-q", "-s", "1"], env=environment(self.cluster.port, "ann", "shop"), stderr=subprocess.DEVNULL, check=True)
+            self.tables()
+            self.counted()
+            self.paused()
+            self.reloaded()
+            self.shut()
+            self.lines()
+            self.unread()
+            self.other.stop()
+        finally:
+            for pid in second.processes():
+                os.kill(pid, signal.SIGKILL)
+            until(lambda: not second.processes())
+            second.clear()
+        self.cluster.stop()
+        self.passes.same("no process is left", self.place.processes(), [])
+
+
+def pools_of(client):
+    """cl_active and cl_waiting of the first pool."""
+    rows = client.ask("SHOW POOLS")
+    return [int(cell) for cell in rows[0][2:4]] if rows else []
+
+
+def is_taken(port):
+    try:
+        socket.create_connection((HERE, port), 1).close()
+    except OSError:
+        return False
+    return True
+
+
+def received(stream):
+    """All that still comes over a connection."""
+    stream.settimeout(20)
+    got = b""
+    try:
+        while piece := stream.recv(65536):
+            got += piece
+    except OSError:
+        pass
+    stream.close()
+    return got
+
+
+def main():
+    if len(sys.argv) != 2:
+        sys.exit(__doc__)
+    set_up()
+    signal.signal(signal.SIGTERM, lambda *_: sys.exit(1))
+    begin = time.monotonic()
+    show = Show(os.path.abspath(sys.argv[1]))
+    try:
+        show.all()
+    finally:
+        for pid in show.place.processes():
+            os.kill(pid, signal.SIGKILL)
+        until(lambda: not show.place.processes())
+        show.place.clear()
+    print(f"console: {time.monotonic() - begin:.0f} s")
+    show.passes.end()
+
+
+if __name__ == "__main__":
+    main()
