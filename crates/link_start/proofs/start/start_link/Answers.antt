@@ -19,7 +19,7 @@ pub returns-in-Err-clause-cause : goal.returns-in-Err-clause-cause
 returns-in-Err-clause-cause g c =
     subst (λ (k : StartKeyOf). IsCause (g.E.ServerEnd.standing c.args.end) (g.E.ServerEnd.standing c.fail.result.end) c.args.secret.now k c.fail.result.cause) c.loop.invariant.key
     (subst (λ (s : Standing). IsCause (g.E.ServerEnd.standing c.args.end) s c.args.secret.now c.loop.start.key c.fail.result.cause) (sym c.fail.ensures.end)
-    (subst (λ (cause : StartCause). IsCause (g.E.ServerEnd.standing c.args.end) c.turn-in-loop.new.self.end c.args.secret.now c.loop.start.key cause) (sym c.fail.ensures.cause)
+    (subst (λ (cause : StartCause). IsCause (g.E.ServerEnd.standing c.args.end) c.turn.new.self.end c.args.secret.now c.loop.start.key cause) (sym c.fail.ensures.cause)
     (c.in-Err.ensures.cause _ c.requires.can_start (subst (λ (k : StartKeyOf). IsLinkKey k) (sym c.loop.invariant.key) c.requires.key) c.loop.invariant.under_way)))
 
 pub loop-preserved : goal.loop-preserved
