@@ -1,6 +1,6 @@
 -- Which start key a client's StartupMessage gives under the settings (PostgreSQL manual,
 -- "StartupMessage"; PgBouncer manual, "ignore_startup_parameters" and "track_extra_parameters").
-use Rattle.std.specs.Prelude.{◌≡◌, List, [], ◌∷◌, ◌++◌, length, fold, Option, Some, None, option_map, Result, Ok, Err, Bool, true, false, ◌==◌, ◌&&◌, ◌||◌, not, if◌then◌else◌, codes}
+use Rattle.std.specs.Prelude.{◌≡◌, ℕ, List, [], ◌∷◌, ◌++◌, length, fold, Option, Some, None, option_map, Result, Ok, Err, Bool, true, false, ◌==◌, ◌&&◌, ◌||◌, not, if◌then◌else◌, bytes_eq, codes}
 use Rattle.std.specs.Str.{str_eq_ignore_ascii_case}
 use Rattle.std.specs.List.{list_any, find}
 use Rattle.std.specs.Option.{option_or}
