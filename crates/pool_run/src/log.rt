@@ -1,6 +1,6 @@
 //! What the pool's log is told.
 
-use desk_tallies::passes::Totals;
+use log_lines::events::Totals;
 use log_lines::notes::{Client, Note};
 
 /// The pool's log.

@@ -11,11 +11,13 @@ use crate::runtime::PoolRuntime;
 use crate::surroundings::Surroundings;
 use book_model::settings::limits_of;
 use desk_tallies::ledgers::Ledgers;
-use desk_tallies::passes::{Pass, Totals};
+use desk_tallies::passes::Pass;
 use desk_tallies::tallies::Blanks;
 use ini_config::Settings;
 use key_source::KeySource;
+use link_desk::desk::LinkDesk;
 use link_start::close::close_link;
+use log_lines::events::Totals;
 use log_lines::notes::Visit;
 use login_core::Login;
 use message_view::KeyWord;
@@ -198,8 +200,18 @@ impl<R: PoolRuntime, F: Source, K: Ledgers> Pool<R, F, K> {
         }
         self.give_back(rt, pass);
     }
-    /// The decisions by class, once all passes are back; `None` where one is missing. The only error is that an allocation failed.
-    fn close(self) -> Result<Option<Totals>, AllocError> {
+    /// The decisions of the book, and the links started; `None` where memory is refused, or no pass is left to ask through.
+    fn counted(&self, rt: &R) -> Option<(u64, u64)> {
+        let mut pass = self.pass(rt)?;
+        let view = self.desk.view(self.alloc, &mut pass.pass);
+        self.give_back(rt, pass);
+        let view = view.ok()?;
+        Some((view.decisions, view.starts))
+    }
+
+    /// What was decided from the first client to the last, once all passes are back. `None` where one is missing, or memory is refused.
+    fn close(self, rt: &R) -> Option<Totals> {
+        let (decisions, starts) = self.counted(rt)?;
         let Pool {
             alloc,
             desk,
@@ -210,9 +222,19 @@ impl<R: PoolRuntime, F: Source, K: Ledgers> Pool<R, F, K> {
         } = self;
         let mut passes = Vec::new(alloc);
         for FreePass { pass } in free.into_inner().passes {
-            passes.push(pass).map_err(|_| AllocError)?;
+            passes.push(pass).ok()?;
         }
-        Ok(desk.gather(passes).ok())
+        let made = desk.gather(passes).ok()?;
+        Some(Totals {
+            decisions,
+            starts,
+            arrived: made.arrived,
+            granted: made.granted,
+            given_back: made.given_back,
+            lost: made.lost,
+            left: made.left,
+            others: made.others,
+        })
     }
 }
 
@@ -286,12 +308,11 @@ fn accept_all<
 }
 
 /// Serves the connections of a listener, each on a thread of its own, over links of one desk: as many as `count` says, and then no
-/// more, or until the console ends it. It returns when the last is done, with the decisions by class; without them where a worker's
-/// are missing. A thread more tells the desk the seconds, and closes the links that are idle or old.
+/// more, or until the console ends it. It returns when the last is done, with what was decided; without it where a worker's share is
+/// missing, or memory was refused then. A thread more tells the desk the seconds, and closes the links that are idle or old.
 ///
 /// A connection for which there is no thread, no poll, no pass or no memory is closed, and the others go on. The error is that the
-/// system has no poll for the listener or no thread for the clock, or that an allocation failed before the first connection or after
-/// the last.
+/// system has no poll for the listener or no thread for the clock, or that an allocation failed before the first connection.
 fn serve_all<
     R: PoolRuntime + 'static,
     F: Source + Send + Sync + 'static,
@@ -326,18 +347,19 @@ fn serve_all<
     workers.join_all(&rt);
     pool.has_ended.store(true, Ordering::SeqCst);
     clock.join(&rt);
-    let totals = totals_of(pool)?;
+    let totals = totals_of(&rt, pool);
     log.ended(totals.as_ref());
     Ok(totals)
 }
 
-/// The decisions of a pool that no thread shares any more.
+/// What a pool has decided that no thread shares any more.
 fn totals_of<R: PoolRuntime, F: Source, K: Ledgers>(
+    rt: &R,
     pool: Arc<Pool<R, F, K>>,
-) -> Result<Option<Totals>, AllocError> {
+) -> Option<Totals> {
     match Arc::try_unwrap(pool) {
-        Ok(pool) => pool.close(),
-        Err(_) => Ok(None),
+        Ok(pool) => pool.close(rt),
+        Err(_) => None,
     }
 }
 

@@ -3,9 +3,9 @@ ghost use Rattle.std.specs.Prelude.{IfOk};
 ghost use Rattle.ini_config.specs.Bounds.{AreWithinBounds};
 
 use crate::pairs::listen;
-use desk_tallies::passes::Totals;
 use ini_config::laws::read_settings_are_within_bounds;
 use ini_config::{Settings, read_settings};
+use log_lines::events::Totals;
 use pool_run::keeping::{Source, Unread};
 use pool_run::pool::serve_on;
 use pool_run::runtime::PoolRuntime;
