@@ -23,7 +23,7 @@ drops_both drops (x ∷ xs) ys = drops_both (drops_after (response_to drops x.as
 
 answered_both : (s : Settings) (drops : Bool) (xs ys : List Exchange) → AreAnswered s drops xs → AreAnswered s (drops_behind drops xs) ys → AreAnswered s drops (xs ++ ys)
 answered_both s drops [] ys a b = b
-answered_both s drops (x ∷ xs) ys a b = (a.0, (a.1.0, answered_both s (drops_after (response_to drops x.asks)) xs ys a.1.1 b))
+answered_both s drops (x ∷ xs) ys a b = (a.0, a.1, answered_both s (drops_after (response_to drops x.asks)) xs ys a.2 b)
 
 asked_both : (xs ys : List Exchange) → asked_bytes (xs ++ ys) ≡ asked_bytes xs ++ asked_bytes ys
 asked_both xs ys = flat_map-append (λ (x : Exchange). spelling x.asks) xs ys

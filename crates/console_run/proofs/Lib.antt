@@ -1,4 +1,4 @@
 pub mod Passing
-pub mod Answering
+pub mod Replying
 pub mod Going
 pub mod Talking

@@ -56,16 +56,16 @@ keeps_broken a p = record {
 pub keeps_same : (p q : Pass) → q ≡ p → Keeps p q
 keeps_same p q e = subst (λ (r : Pass). Keeps p r) (sym e) (keeps_none p)
 
-pub keeps_refused : {limit : ℕ} {held : List ℕ} (r : Refusal) (p q : Pass) → IsRefused limit held r p q → Keeps p q
-keeps_refused refusal.MalformedClientMessage p q h = keeps_same p q h.1
-keeps_refused refusal.ClientMessageTooLong p q h = keeps_same p q h.1
-keeps_refused refusal.OutOfMemory p q h = keeps_same p q h
-keeps_refused refusal.LastDecision p q h = subst (λ (r : Pass). Keeps p r) (sym h.1) (keeps_broken h.0 p)
-keeps_refused refusal.TooManyClients p q h = absurd h
-keeps_refused refusal.UnsupportedProtocol p q h = absurd h
-keeps_refused refusal.UnsupportedParameter p q h = absurd h
-keeps_refused refusal.WaitedTooLong p q h = absurd h
-keeps_refused refusal.ServerFailed p q h = absurd h
-keeps_refused refusal.ServerNotReached p q h = absurd h
-keeps_refused refusal.ShuttingDown p q h = absurd h
-keeps_refused refusal.MalformedServerMessage p q h = absurd h
+pub keeps_refused : (limit : ℕ) (held : List ℕ) (r : Refusal) (p q : Pass) → IsRefused limit held r p q → Keeps p q
+keeps_refused limit held refusal.MalformedClientMessage p q h = keeps_same p q h.1
+keeps_refused limit held refusal.ClientMessageTooLong p q h = keeps_same p q h.1
+keeps_refused limit held refusal.OutOfMemory p q h = keeps_same p q h
+keeps_refused limit held refusal.LastDecision p q h = subst (λ (r : Pass). Keeps p r) (sym h.1) (keeps_broken h.0 p)
+keeps_refused limit held refusal.TooManyClients p q h = absurd h
+keeps_refused limit held refusal.UnsupportedProtocol p q h = absurd h
+keeps_refused limit held refusal.UnsupportedParameter p q h = absurd h
+keeps_refused limit held refusal.WaitedTooLong p q h = absurd h
+keeps_refused limit held refusal.ServerFailed p q h = absurd h
+keeps_refused limit held refusal.ServerNotReached p q h = absurd h
+keeps_refused limit held refusal.ShuttingDown p q h = absurd h
+keeps_refused limit held refusal.MalformedServerMessage p q h = absurd h

@@ -1,11 +1,12 @@
 -- What each turn of a talk keeps.
-use Rattle.std.proofs.Common.{◌≡◌, ◌⊎◌, inl, inr, ℕ, ◌+◌, ◌<◌, ◌≤◌, Bool, true, false, List, [], ◌∷◌, ◌++◌, length, take, drop, Option, Some, None, refl, sym, ap, ap₂, ◌∙◌, subst, arith, append-nil, le_refl, le_trans, length-take}
+use Rattle.std.proofs.Common.{◌≡◌, ◌⊎◌, inl, inr, ℕ, ◌+◌, ◌<◌, ◌≤◌, Bool, true, false, List, [], ◌∷◌, ◌++◌, length, take, drop, Option, Some, None, refl, sym, ap, ap₂, ◌∙◌, subst, arith, append-nil, le_refl, le_trans, length-take, take-append-drop}
 use Rattle.std.specs.List.{flat_map}
 use Rattle.bytes.specs.Filled.{Filled}
 use Rattle.frame_view.specs.declared.Frame.{Frame}
 use Rattle.frame_view.specs.declared.FrameFault.{FrameFault}
 use Rattle.frame_view.specs.declared.FrameFault.TheVariants as fault
 use Rattle.frame_view.specs.declared.Side.TheVariants.{Client}
+use Rattle.frame_view.specs.declared.Step.{Step}
 use Rattle.frame_view.specs.declared.Step.TheVariants.{Whole, Bad}
 use Rattle.frame_view.specs.Answers.{IsCut, Tells}
 use Rattle.frame_view.specs.Frames.{AreBytes, Front, AFrame, Lacks, Faulty, FrameOf, IsFrame, front, spelling}
@@ -17,9 +18,10 @@ use Rattle.session_values.specs.Answers.{frame_of}
 use Rattle.ini_config.specs.declared.option_values.Settings.{Settings}
 use Rattle.link_laws.specs.Standing.{ClientFacts}
 use Rattle.server_end.specs.declared.Moved.{Moved}
-use Rattle.server_end.specs.declared.Moved.TheVariants.{Ended, Fault}
+use Rattle.server_end.specs.declared.Moved.TheVariants.{Count, NotNow, Ended, Fault}
 use Rattle.server_end.specs.Moves.{ClientReads, ClientWrites, faults_in, moved, waits_in}
-use Rattle.console_core.specs.Messages.{response_to}
+use Rattle.console_core.specs.Messages.{Response, response_to}
+use Rattle.console_run.specs.declared.answering.Answered.{Answered}
 use Rattle.console_run.specs.declared.answering.Answered.TheVariants as answered
 use Rattle.console_run.specs.declared.talk.Turn.{Turn}
 use Rattle.console_run.specs.declared.talk.Turn.TheVariants as turn
@@ -27,14 +29,14 @@ use Rattle.console_run.specs.Passing.{Pass}
 use Rattle.console_run.specs.Exchanges.{after_exchanges}
 use Rattle.console_run.specs.Talks.{EndsBy, IsClientOver, IsFaulty, IsOver, IsRefused, IsRefusedBy, IsServed, Leaves, MOST_TURNS, Said, Talks, refused_by}
 use Rattle.console_run.specs.Turns.{Goes, HasEnded, HasGone, HasMoved, HasRead, HasResponded, HasTurned, HasWritten, IsRefusedAt, TalkView, greeted, talk_view}
-use Rattle.console_run.proofs.Answering.{refused_here}
+use Rattle.console_run.proofs.Replying.{refused_here}
 use Rattle.console_run.proofs.Going.{goes_fewer, goes_further, goes_moved, goes_none}
 use Rattle.console_run.proofs.Passing.{Keeps, keeps_exchanges, keeps_further, keeps_refused}
 
 -- ---- a write, and a read
 
 -- what was written, and what is left
-pub wrote : (n : ℕ) (c d : ClientFacts) (held unwritten put left : List ℕ) (drops : Bool) (m : Moved) → ClientWrites c d put m → unwritten ≡ put ++ left → n ≤ length put + waits_in m → HasMoved n (talk_view c held unwritten drops) (talk_view d held left drops)
+wrote : (n : ℕ) (c d : ClientFacts) (held unwritten put left : List ℕ) (drops : Bool) (m : Moved) → ClientWrites c d put m → unwritten ≡ put ++ left → n ≤ length put + waits_in m → HasMoved n (talk_view c held unwritten drops) (talk_view d held left drops)
 wrote n c d held unwritten put left drops m k e f = record {
   got = [];
   put = put;
@@ -48,7 +50,7 @@ wrote n c d held unwritten put left drops m k e f = record {
   counted = omega (arith, k.read_waits, k.write_waits, f);
 }
 
-pub took : (n : ℕ) (c d : ClientFacts) (held got more unwritten : List ℕ) (drops : Bool) (m : Moved) → ClientReads c d got m → more ≡ held ++ got → n ≤ length got + waits_in m → HasMoved n (talk_view c held unwritten drops) (talk_view d more unwritten drops)
+took : (n : ℕ) (c d : ClientFacts) (held got more unwritten : List ℕ) (drops : Bool) (m : Moved) → ClientReads c d got m → more ≡ held ++ got → n ≤ length got + waits_in m → HasMoved n (talk_view c held unwritten drops) (talk_view d more unwritten drops)
 took n c d held got more unwritten drops m k e f = record {
   got = got;
   put = [];
@@ -74,21 +76,37 @@ over_by_read : (c d : ClientFacts) (got : List ℕ) (m : Moved) → (m ≡ Ended
 over_by_read c d got m (inl e) k = inl (k.ended e)
 over_by_read c d got m (inr e) k = inr (omega (arith, k.faults, ap faults_in e))
 
-pub wrote_last : (c d : ClientFacts) (held unwritten bytes : List ℕ) (drops : Bool) (m : Moved) → (m ≡ Ended) ⊎ (m ≡ Fault) → ClientWrites c d (moved m bytes) m → HasMoved 0 (talk_view c held unwritten drops) (talk_view d held unwritten drops) × IsClientOver c d
-wrote_last c d held unwritten bytes drops m e k = (
-  wrote 0 c d held unwritten [] unwritten drops m (subst (λ (l : List ℕ). ClientWrites c d l m) (nothing_moved m bytes e) k) refl (omega arith),
-  over_by_write c d (moved m bytes) m e k,
-)
-
-pub took_last : (c d : ClientFacts) (held bytes unwritten : List ℕ) (drops : Bool) (m : Moved) → (m ≡ Ended) ⊎ (m ≡ Fault) → ClientReads c d (moved m bytes) m → HasMoved 0 (talk_view c held unwritten drops) (talk_view d held unwritten drops) × IsClientOver c d
-took_last c d held bytes unwritten drops m e k = (
-  took 0 c d held [] held unwritten drops m (subst (λ (l : List ℕ). ClientReads c d l m) (nothing_moved m bytes e) k) (sym (append-nil held)) (omega arith),
-  over_by_read c d (moved m bytes) m e k,
-)
-
 -- some bytes are at least one
-pub some_taken : (n : ℕ) (bytes : List ℕ) → 0 < n → n ≤ length bytes → 1 ≤ length (take n bytes)
+some_taken : (n : ℕ) (bytes : List ℕ) → 0 < n → n ≤ length bytes → 1 ≤ length (take n bytes)
 some_taken n bytes h i = omega (arith, h, i, length-take n bytes)
+
+-- ---- the same by what a call of the end came to
+
+pub wrote_some : (v : TalkView) (c d : ClientFacts) (held unwritten bytes left : List ℕ) (drops : Bool) (n : ℕ) → talk_view c held unwritten drops ≡ v → bytes ≡ unwritten → left ≡ drop n unwritten → (0 < n) × (n ≤ length bytes) → ClientWrites c d (take n bytes) (Count n) → HasMoved 1 v (talk_view d held left drops)
+wrote_some v c d held unwritten bytes left drops n e f l w k =
+    subst (λ (x : TalkView). HasMoved 1 x (talk_view d held left drops)) e
+    (wrote 1 c d held unwritten (take n bytes) left drops (Count n) k (sym (take-append-drop n unwritten) ∙ (ap (λ (x : List ℕ). take n x ++ drop n unwritten) (sym f) ∙ ap (λ (x : List ℕ). take n bytes ++ x) (sym l))) (le_trans (some_taken n bytes w.0 w.1) (omega arith)))
+
+pub wrote_none : (v : TalkView) (c d : ClientFacts) (held unwritten : List ℕ) (drops : Bool) → talk_view c held unwritten drops ≡ v → ClientWrites c d [] NotNow → HasMoved 1 v (talk_view d held unwritten drops)
+wrote_none v c d held unwritten drops e k = subst (λ (x : TalkView). HasMoved 1 x (talk_view d held unwritten drops)) e (wrote 1 c d held unwritten [] unwritten drops NotNow k refl (omega arith))
+
+pub wrote_last : (v : TalkView) (c d : ClientFacts) (held unwritten bytes : List ℕ) (drops : Bool) (m : Moved) → talk_view c held unwritten drops ≡ v → (m ≡ Ended) ⊎ (m ≡ Fault) → ClientWrites c d (moved m bytes) m → HasMoved 0 v (talk_view d held unwritten drops) × IsClientOver v.client d
+wrote_last v c d held unwritten bytes drops m e o k =
+    subst (λ (x : TalkView). HasMoved 0 x (talk_view d held unwritten drops) × IsClientOver x.client d) e
+    (wrote 0 c d held unwritten [] unwritten drops m (subst (λ (l : List ℕ). ClientWrites c d l m) (nothing_moved m bytes o) k) refl (omega arith), over_by_write c d (moved m bytes) m o k)
+
+pub took_some : (v : TalkView) (c d : ClientFacts) (held reserved chunk more unwritten : List ℕ) (drops : Bool) (n : ℕ) → talk_view c held unwritten drops ≡ v → reserved ≡ held → more ≡ reserved ++ take n chunk → (0 < n) × (n ≤ length chunk) → ClientReads c d (take n chunk) (Count n) → HasMoved 1 v (talk_view d more unwritten drops)
+took_some v c d held reserved chunk more unwritten drops n e f l w k =
+    subst (λ (x : TalkView). HasMoved 1 x (talk_view d more unwritten drops)) e
+    (took 1 c d held (take n chunk) more unwritten drops (Count n) k (l ∙ ap (λ (x : List ℕ). x ++ take n chunk) f) (le_trans (some_taken n chunk w.0 w.1) (omega arith)))
+
+pub took_none : (v : TalkView) (c d : ClientFacts) (held reserved unwritten : List ℕ) (drops : Bool) → talk_view c held unwritten drops ≡ v → reserved ≡ held → ClientReads c d [] NotNow → HasMoved 1 v (talk_view d reserved unwritten drops)
+took_none v c d held reserved unwritten drops e f k = subst (λ (x : TalkView). HasMoved 1 x (talk_view d reserved unwritten drops)) e (took 1 c d held [] reserved unwritten drops NotNow k (f ∙ sym (append-nil held)) (omega arith))
+
+pub took_last : (v : TalkView) (c d : ClientFacts) (held reserved bytes unwritten : List ℕ) (drops : Bool) (m : Moved) → talk_view c held unwritten drops ≡ v → reserved ≡ held → (m ≡ Ended) ⊎ (m ≡ Fault) → ClientReads c d (moved m bytes) m → HasMoved 0 v (talk_view d reserved unwritten drops) × IsClientOver v.client d
+took_last v c d held reserved bytes unwritten drops m e f o k =
+    subst (λ (x : TalkView). HasMoved 0 x (talk_view d reserved unwritten drops) × IsClientOver x.client d) e
+    (took 0 c d held [] reserved unwritten drops m (subst (λ (l : List ℕ). ClientReads c d l m) (nothing_moved m bytes o) k) (f ∙ sym (append-nil held)) (omega arith), over_by_read c d (moved m bytes) m o k)
 
 client_over : (s : Settings) (old new : TalkView) (p q : Pass) → HasMoved 0 old new → IsClientOver old.client new.client → q ≡ p → HasEnded s old new p q None
 client_over s old new p q h o e = record { turns = 0; goes = goes_moved s 0 old new p q h e; why = inr (inl o) }
@@ -144,7 +162,7 @@ framed law s c held unwritten drops dropping frame reply p q kind body rest b w 
     subst (λ (l : List ℕ). Goes s 1 (talk_view c held unwritten drops) (talk_view c l reply.items dropping) p q) (sym behind)
     (exchanged s c held rest unwritten drops dropping (frame_of frame) reply p q w (subst (λ (f : FrameOf). held ≡ spelling f ++ rest) (sym same) spelled.0) (subst (λ (f : FrameOf). IsFrame Client s.max_packet_size f) (sym same) spelled.1) h)
 
-pub message_told : FrontIsSpelled → (s : Settings) (c : ClientFacts) (held unwritten : List ℕ) (drops dropping : Bool) (frame : Frame) (reply : Filled) (p q : Pass) → AreBytes held → unwritten ≡ [] → Tells (Whole frame) held (front Client s.max_packet_size held)
+message_told : FrontIsSpelled → (s : Settings) (c : ClientFacts) (held unwritten : List ℕ) (drops dropping : Bool) (frame : Frame) (reply : Filled) (p q : Pass) → AreBytes held → unwritten ≡ [] → Tells (Whole frame) held (front Client s.max_packet_size held)
     → HasResponded s (response_to drops (frame_of frame)) (answered.Told reply dropping) p q → Goes s 1 (talk_view c held unwritten drops) (talk_view c (drop (length frame.whole.now) held) reply.items dropping) p q
 message_told law s c held unwritten drops dropping frame reply p q b w t h = go (front Client s.max_packet_size held) refl t
   where
@@ -153,7 +171,7 @@ message_told law s c held unwritten drops dropping frame reply p q b w t h = go 
     go (Lacks n) e k = absurd k
     go (Faulty f) e k = absurd k
 
-pub message_refused : (s : Settings) (v : TalkView) (p q : Pass) (r : Refusal) → v.unwritten ≡ [] → IsRefusedBy r p q → IsRefusedAt s v v p q r
+message_refused : (s : Settings) (v : TalkView) (p q : Pass) (r : Refusal) → v.unwritten ≡ [] → IsRefusedBy r p q → IsRefusedAt s v v p q r
 message_refused s v p q r w h = record { at = p; goes = goes_none s v p; written = w; refused = refused_here s.max_packet_size v.held r p q h }
 
 -- the client leaves
@@ -168,7 +186,7 @@ framed_leaving law s v frame p q kind body rest b w e k h =
       why = inl (record { message = record { kind = kind; body = body }; behind = rest; stands = spelled.0; is_frame = spelled.1; leaves = ap (λ (f : FrameOf). response_to v.drops f) (sym same) ∙ h.0 }, w);
     }
 
-pub message_left : FrontIsSpelled → (s : Settings) (v : TalkView) (frame : Frame) (p q : Pass) → AreBytes v.held → v.unwritten ≡ [] → Tells (Whole frame) v.held (front Client s.max_packet_size v.held) → HasResponded s (response_to v.drops (frame_of frame)) answered.Left p q → HasGone s v v p q
+message_left : FrontIsSpelled → (s : Settings) (v : TalkView) (frame : Frame) (p q : Pass) → AreBytes v.held → v.unwritten ≡ [] → Tells (Whole frame) v.held (front Client s.max_packet_size v.held) → HasResponded s (response_to v.drops (frame_of frame)) answered.Left p q → HasGone s v v p q
 message_left law s v frame p q b w t h = go (front Client s.max_packet_size v.held) refl t
   where
     go : (x : Front) → front Client s.max_packet_size v.held ≡ x → Tells (Whole frame) v.held x → HasGone s v v p q
@@ -190,8 +208,32 @@ faulty_refused limit held fault.TooShort p q e h = (h, e)
 faulty_refused limit held fault.UnknownType p q e h = (h, e)
 faulty_refused limit held fault.UnknownCode p q e h = (h, e)
 
-pub message_faulty : (s : Settings) (v : TalkView) (p q : Pass) (f : FrameFault) → v.unwritten ≡ [] → Tells (Bad f) v.held (front Client s.max_packet_size v.held) → q ≡ p → IsRefusedAt s v v p q (refused_by f)
+message_faulty : (s : Settings) (v : TalkView) (p q : Pass) (f : FrameFault) → v.unwritten ≡ [] → Tells (Bad f) v.held (front Client s.max_packet_size v.held) → q ≡ p → IsRefusedAt s v v p q (refused_by f)
 message_faulty s v p q f w t e = record { at = p; goes = goes_none s v p; written = w; refused = faulty_refused s.max_packet_size v.held f p q e (is_faulty s.max_packet_size v.held f t) }
+
+-- ---- the same by what was found
+
+same_tells : (step : Step) (limit limit_of : ℕ) (bytes held : List ℕ) → limit ≡ limit_of → bytes ≡ held → Tells step bytes (front Client limit bytes) → Tells step held (front Client limit_of held)
+same_tells step limit limit_of bytes held e f t = subst (λ (n : ℕ). Tells step held (front Client n held)) e (subst (λ (l : List ℕ). Tells step l (front Client limit l)) f t)
+
+pub heard_told : FrontIsSpelled → (s : Settings) (v : TalkView) (c : ClientFacts) (held unwritten bytes left : List ℕ) (drops dropping : Bool) (frame : Frame) (reply : Filled) (limit : ℕ) (x : Answered) (p q : Pass) → talk_view c held unwritten drops ≡ v → v.unwritten ≡ [] → limit ≡ s.max_packet_size → bytes ≡ held → AreBytes bytes
+    → Tells (Whole frame) bytes (front Client limit bytes) → HasResponded s (response_to drops (frame_of frame)) x p q → x ≡ answered.Told reply dropping → left ≡ drop (length frame.whole.now) held → Goes s 1 v (talk_view c left reply.items dropping) p q
+heard_told law s v c held unwritten bytes left drops dropping frame reply limit x p q e w m f b t h i l =
+    subst (λ (y : TalkView). Goes s 1 y (talk_view c left reply.items dropping) p q) e
+    (subst (λ (y : List ℕ). Goes s 1 (talk_view c held unwritten drops) (talk_view c y reply.items dropping) p q) (sym l)
+    (message_told law s c held unwritten drops dropping frame reply p q (subst AreBytes f b) (ap (λ (y : TalkView). y.unwritten) e ∙ w) (same_tells (Whole frame) limit s.max_packet_size bytes held m f t) (subst (λ (y : Answered). HasResponded s (response_to drops (frame_of frame)) y p q) i h)))
+
+pub heard_left : FrontIsSpelled → (s : Settings) (v : TalkView) (bytes : List ℕ) (drops : Bool) (frame : Frame) (limit : ℕ) (x : Answered) (p q : Pass) → drops ≡ v.drops → v.unwritten ≡ [] → limit ≡ s.max_packet_size → bytes ≡ v.held → AreBytes bytes → Tells (Whole frame) bytes (front Client limit bytes) → HasResponded s (response_to drops (frame_of frame)) x p q
+    → x ≡ answered.Left → HasGone s v v p q
+heard_left law s v bytes drops frame limit x p q d w m f b t h i =
+    message_left law s v frame p q (subst AreBytes f b) w (same_tells (Whole frame) limit s.max_packet_size bytes v.held m f t)
+    (subst (λ (y : Answered). HasResponded s (response_to v.drops (frame_of frame)) y p q) i (subst (λ (y : Bool). HasResponded s (response_to y (frame_of frame)) x p q) d h))
+
+pub heard_refused : (s : Settings) (v : TalkView) (r : Refusal) (message : Response) (x : Answered) (p q : Pass) → v.unwritten ≡ [] → HasResponded s message x p q → x ≡ answered.Refused r → IsRefusedAt s v v p q r
+heard_refused s v r message x p q w h i = message_refused s v p q r w (subst (λ (y : Answered). HasResponded s message y p q) i h)
+
+pub heard_faulty : (s : Settings) (v : TalkView) (bytes : List ℕ) (f : FrameFault) (limit : ℕ) (r : Refusal) (p : Pass) → v.unwritten ≡ [] → limit ≡ s.max_packet_size → bytes ≡ v.held → Tells (Bad f) bytes (front Client limit bytes) → r ≡ refused_by f → IsRefusedAt s v v p p r
+heard_faulty s v bytes f limit r p w m e t i = subst (λ (x : Refusal). IsRefusedAt s v v p p x) (sym i) (message_faulty s v p p f w (same_tells (Bad f) limit s.max_packet_size bytes v.held m e t) refl)
 
 -- ---- the whole talk
 
@@ -217,11 +259,16 @@ goes_keeps s n old new p q g = subst (λ (r : Pass). Keeps p r) (sym g.pass) (ke
 
 pub ended_keeps : (s : Settings) (old new : TalkView) (p q : Pass) (last : Option Refusal) → HasEnded s old new p q last → Keeps p q
 ended_keeps s old new p q None h = goes_keeps s h.turns old new p q h.goes
-ended_keeps s old new p q (Some r) h = keeps_further p h.at q (goes_keeps s 0 old new p h.at h.goes) (keeps_refused {s.max_packet_size} {new.held} r h.at q h.refused)
+ended_keeps s old new p q (Some r) h = keeps_further p h.at q (goes_keeps s 0 old new p h.at h.goes) (keeps_refused s.max_packet_size new.held r h.at q h.refused)
 
 pub ended_tells : (s : Settings) (old new : TalkView) (p q : Pass) (last : Option Refusal) → HasEnded s old new p q last → new.client.tells ≡ old.client.tells
 ended_tells s old new p q None h = h.goes.tells
 ended_tells s old new p q (Some r) h = h.goes.tells
+
+-- a turn, after which it goes on
+pub turned_on : (s : Settings) (n : ℕ) (old mid new : TalkView) (p q r : Pass) (t : Turn) → (t ≡ turn.Again) ⊎ (t ≡ turn.Wait) → Goes s n old mid p q → HasTurned s mid new q r t → Goes s (n + 1) old new p r
+turned_on s n old mid new p q r t (inl e) g h = goes_further s n 1 old mid new p q r g (subst (λ (x : Turn). HasTurned s mid new q r x) e h)
+turned_on s n old mid new p q r t (inr e) g h = goes_further s n 1 old mid new p q r g (subst (λ (x : Turn). HasTurned s mid new q r x) e h)
 
 -- what was said in a talk
 said_in : (s : Settings) (n : ℕ) (word : KeyWord) (c : ClientFacts) (v : TalkView) (p q : Pass) → Goes s n (greeted c word) v p q → Said

@@ -18,7 +18,7 @@ pub(crate) enum Acted {
     Last,
 }
 
-fn acted(changed: Changed) -> Acted
+fn came_to(changed: Changed) -> Acted
     ensures { result ≡ acted_of changed }
 {
     match changed {
@@ -32,7 +32,7 @@ fn reload<D: LinkDesk>(desk: &D, pass: &mut D::Pass) -> Acted
     ensures { HasActed result Reload (pass_of (D.told pass.old) (D.holder pass.old)) (pass_of (D.told pass.new) (D.holder pass.new)) }
 {
     match desk.reload() {
-        Some((limits, again)) => acted(desk.limits(pass, limits, again)),
+        Some((limits, again)) => came_to(desk.limits(pass, limits, again)),
         None => Acted::Faulty,
     }
 }
@@ -42,9 +42,9 @@ pub(crate) fn act<D: LinkDesk>(desk: &D, pass: &mut D::Pass, action: Action) -> 
     ensures { HasActed result action (pass_of (D.told pass.old) (D.holder pass.old)) (pass_of (D.told pass.new) (D.holder pass.new)) }
 {
     match action {
-        Action::Pause => acted(desk.pause(pass)),
-        Action::Resume => acted(desk.resume(pass)),
+        Action::Pause => came_to(desk.pause(pass)),
+        Action::Resume => came_to(desk.resume(pass)),
         Action::Reload => reload(desk, pass),
-        Action::Shutdown => acted(desk.shutdown(pass)),
+        Action::Shutdown => came_to(desk.shutdown(pass)),
     }
 }

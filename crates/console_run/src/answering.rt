@@ -40,6 +40,7 @@ pub(crate) enum Answered {
 }
 
 /// The console, as it answers one client: its desk, the settings of the client's arrival, and who the client is.
+#[derive(Drop)]
 pub(crate) struct Console<'a, D: LinkDesk> {
     pub alloc: Global,
     pub desk: &'a D,
@@ -82,7 +83,7 @@ fn put_response(
     out: &mut BytesMut,
 ) -> Result<(), AllocError>
     requires { out.old.items ≡ [] }
-    ensures { OnOk result (IsSaid (response_view drops response) out.new.items) }
+    ensures { OnOk result (IsSaid (response_view drops response.entry) out.new.items) }
 {
     match response {
         Response::Malformed => put_refusal(alloc, Cause::MalformedMessage, out),
@@ -98,7 +99,7 @@ fn response_bytes(
     response: Response<'_>,
     drops: bool,
 ) -> Result<BytesMut, AllocError>
-    ensures { IfOk result (λ out. IsSaid (response_view drops response) out.items) }
+    ensures { IfOk result (λ out. IsSaid (response_view drops response.entry) out.items) }
 {
     let mut out = BytesMut::new(alloc);
     put_response(alloc, response, drops, &mut out)?;
@@ -107,7 +108,7 @@ fn response_bytes(
 
 /// Whether messages are dropped behind one of this response.
 fn drops_after(response: Response<'_>, drops: bool) -> bool
-    ensures { result ≡ exchange.drops_after (response_view drops response) }
+    ensures { result ≡ exchange.drops_after (response_view drops response.entry) }
 {
     match response {
         Response::NotServed => true,

@@ -1,1 +1,4 @@
-
+pub mod Shown
+pub mod Lines
+pub mod Events
+pub mod Laws

@@ -1,4 +1,8 @@
-//! What a pool's log is told.
+//! The pool's log: what it is told, and the lines that are made of it.
 #![tactic(auto)]
 
+pub mod events;
+pub mod laws;
+pub mod lines;
 pub mod notes;
+mod shown;

@@ -30,7 +30,5 @@ pub trait Outside {
     }
 
     /// Tells the log, if there is one. It waits for no reader of it.
-    fn note(&self, client: &Client<'_>, note: &Note<'_>) {
-        let _ = (client, note);
-    }
+    fn note(&self, _client: &Client<'_>, _note: &Note<'_>) {}
 }

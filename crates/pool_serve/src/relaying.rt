@@ -79,6 +79,7 @@ impl<'a, D: LinkDesk, G: Gate<D::End>> Worker<'a, D, G> {
     {
         leases_are_allowed();
         service_is_its_pieces();
+        let number = link.number();
         let limit = guest.login.settings().max_packet_size();
         let mut relay = match Relay::begin(self.alloc, client, link, guest.word, limit) {
             Ok(relay) => relay,
@@ -89,7 +90,7 @@ impl<'a, D: LinkDesk, G: Gate<D::End>> Worker<'a, D, G> {
         };
         let refusal = pumped(&mut relay, &mut self.gate);
         let (client, link) = relay.close();
-        self.hand_back(guest, link);
+        self.hand_back(guest, number, link);
         (client, Ending::Relayed(refusal))
     }
 }

@@ -54,8 +54,8 @@ impl<'a, D: LinkDesk, G: Gate<D::End>> Worker<'a, D, G> {
         self.desk.lost(&mut self.pass);
     }
 
-    /// Gives the link of a lease that has ended back: clean as it was, or reset; or offers its server a Terminate and reports it lost.
-    pub(crate) fn hand_back(&mut self, guest: &Guest, link: Returned<D::End>)
+    /// Gives the link of a lease that has ended, of this number, back: clean as it was, or reset; or offers its server a Terminate and reports it lost.
+    pub(crate) fn hand_back(&mut self, guest: &Guest, number: u64, link: Returned<D::End>)
         requires home { IsBackHome D.home link }
         requires own { IsOwnLease (D.holder self.old.pass).lease link }
         ensures share { Ends (D.told self.old.pass) (D.told self.new.pass) }
@@ -63,19 +63,16 @@ impl<'a, D: LinkDesk, G: Gate<D::End>> Worker<'a, D, G> {
     {
         match link {
             Returned::Unused(link) => self.give_back(link),
-            Returned::Used(link) => {
-                let number = link.number();
-                match reset_link(self.alloc, link, &mut self.gate, TURNS) {
-                    Ok(link) => self.give_back(link),
-                    Err(_) => self.lose(guest, number, Loss::NotReset),
-                }
-            }
+            Returned::Used(link) => match reset_link(self.alloc, link, &mut self.gate, TURNS) {
+                Ok(link) => self.give_back(link),
+                Err(_) => self.lose(guest, number, Loss::NotReset),
+            },
             Returned::Gone(link, cause) => {
                 let mut link = link;
                 if is_at_border(cause) {
                     offer_terminate(&mut link.end);
                 }
-                self.lose(guest, link.number, loss_of(cause));
+                self.lose(guest, number, loss_of(cause));
             }
         }
     }

@@ -26,7 +26,7 @@ use Rattle.session_laws.specs.Laws.{IsSent, discard_all}
 use Rattle.param_track.specs.StartKeys.{always_followed}
 use Rattle.login_laws.specs.StartKeys.{IsLawfulRow}
 use Rattle.login_core.specs.Dialogue.{LoginRow, ok}
-use Rattle.book_model.specs.Book.{Limits, empty_book}
+use Rattle.book_model.specs.Book.{Limits, Row, empty_book}
 use Rattle.book_model.specs.Outcomes.{apply, apply_return}
 use Rattle.world_steps.specs.Clients.{Client, MayWrite}
 use Rattle.world_steps.specs.Clients.Phase.{Absent, Refusing}

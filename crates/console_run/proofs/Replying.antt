@@ -24,19 +24,23 @@ use Rattle.console_core.specs.Commands.{command_of, tag}
 use Rattle.console_core.specs.Messages.{Response, Frames, Answer, Leave}
 use Rattle.console_core.specs.Replies.{done, ready, refused}
 use Rattle.console_core.specs.Views.{response_view}
+use Rattle.console_run.specs.declared.acting.Acted.{Acted}
 use Rattle.console_run.specs.declared.acting.Acted.TheVariants as acted
 use Rattle.console_run.specs.declared.answering.Answered.{Answered}
 use Rattle.console_run.specs.declared.answering.Answered.TheVariants as answered
 use Rattle.console_run.specs.Passing.{Pass, pass_of, after_action, called}
 use Rattle.console_run.specs.Exchanges.{IsActed, IsAnswer, IsResponse, IsShown, drops_after}
 use Rattle.console_run.specs.Talks.{IsRefused, IsRefusedBy}
-use Rattle.console_run.specs.Turns.{HasActed, HasAnswered, HasResponded, IsSaid, IsShownAs, acted_of, action_in, told_of}
+use Rattle.console_run.specs.Turns.{HasActed, HasAnswered, HasResponded, IsSaid, IsShownAs, IsTold, acted_of, action_in, told_of}
 
 -- ---- an action
 
-pub changed_acted : (c : Changed) (a : Action) (t u : PassOf) (h k : Holder) → u ≡ after_change t c → k ≡ called a h → HasActed (acted_of c) a (pass_of t h) (pass_of u k)
-changed_acted changed.Done a t u h k e f = ap₂ pass_of e f
-changed_acted changed.Last a t u h k e f = ap₂ pass_of e f
+by_change : (c : Changed) (a : Action) (t u : PassOf) (h k : Holder) → u ≡ after_change t c → k ≡ called a h → HasActed (acted_of c) a (pass_of t h) (pass_of u k)
+by_change changed.Done a t u h k e f = ap₂ pass_of e f
+by_change changed.Last a t u h k e f = ap₂ pass_of e f
+
+pub changed_acted : (c : Changed) (x : Acted) (a : Action) (t u : PassOf) (h k : Holder) → x ≡ acted_of c → u ≡ after_change t c → k ≡ called a h → HasActed x a (pass_of t h) (pass_of u k)
+changed_acted c x a t u h k is e f = subst (λ (y : Acted). HasActed y a (pass_of t h) (pass_of u k)) (sym is) (by_change c a t u h k e f)
 
 acted_done : (a : Action) → IsActed a (done (tag a)) (Some a)
 acted_done Pause = (refl, refl)
@@ -44,16 +48,19 @@ acted_done Resume = (refl, refl)
 acted_done Reload = inl (refl, refl)
 acted_done Shutdown = (refl, refl)
 
-pub done_answered : (a : Action) (reply : Filled) (p q : Pass) → reply.items ≡ flat_map spelling (done (tag a)) → HasActed acted.Done a p q → HasAnswered (IsActed a) false (answered.Told reply false) p q
-done_answered a reply p q e h = (record { told = done (tag a); does = Some a; answers_it = acted_done a; bytes_are = e; pass = h }, refl)
+pub done_told : (a : Action) (bytes : List ℕ) (p q : Pass) → bytes ≡ flat_map spelling (done (tag a)) → HasActed acted.Done a p q → IsTold (IsActed a) bytes p q
+done_told a bytes p q e h = record { told = done (tag a); does = Some a; answers_it = acted_done a; bytes_are = e; pass = h }
 
 -- a file has a fault
-pub faulty_answered : {Z : Type 0} (a : Action) (reply : Result Filled Z) (p q : Pass) → IfOk reply (λ (out : Filled). out.items ≡ flat_map spelling (refused InvalidValue)) → HasActed acted.Faulty a p q → HasAnswered (IsActed a) false (told_of reply false) p q
-faulty_answered Reload (Ok reply) p q e h = (record { told = refused InvalidValue; does = None; answers_it = inr (refl, refl); bytes_are = e; pass = h }, refl)
-faulty_answered Reload (Err z) p q e h = h
-faulty_answered Pause reply p q e h = absurd h
-faulty_answered Resume reply p q e h = absurd h
-faulty_answered Shutdown reply p q e h = absurd h
+faulty_told : {Z : Type 0} (a : Action) (reply : Result Filled Z) (p q : Pass) → IfOk reply (λ (out : Filled). out.items ≡ flat_map spelling (refused InvalidValue)) → HasActed acted.Faulty a p q → HasAnswered (IsActed a) false (told_of reply false) p q
+faulty_told Reload (Ok reply) p q e h = (record { told = refused InvalidValue; does = None; answers_it = inr (refl, refl); bytes_are = e; pass = h }, refl)
+faulty_told Reload (Err z) p q e h = h
+faulty_told Pause reply p q e h = absurd h
+faulty_told Resume reply p q e h = absurd h
+faulty_told Shutdown reply p q e h = absurd h
+
+pub faulty_answered : {Z : Type 0} (a : Action) (reply : Result Filled Z) (x : Answered) (p q : Pass) → x ≡ told_of reply false → IfOk reply (λ (out : Filled). out.items ≡ flat_map spelling (refused InvalidValue)) → HasActed acted.Faulty a p q → HasAnswered (IsActed a) false x p q
+faulty_answered a reply x p q is e h = subst (λ (y : Answered). HasAnswered (IsActed a) false y p q) (sym is) (faulty_told a reply p q e h)
 
 -- ---- a command
 
@@ -65,9 +72,12 @@ shown_answers s (Some (Act a)) told e h = absurd (some_none e)
     some_none : {b : Action} → Some b ≡ None → ⊥
     some_none f = absurd cc
 
-pub shown_answered : {Z : Type 0} (s : Settings) (command : Option Command) (reply : Result Filled Z) (p q : Pass) → action_in command ≡ None → IfOk reply (λ (out : Filled). IsShownAs s command out.items) → q ≡ p → HasAnswered (IsAnswer s command) false (told_of reply false) p q
-shown_answered s command (Ok reply) p q e x h = (record { told = x.told; does = None; answers_it = shown_answers s command x.told e x.shown; bytes_are = x.bytes_are; pass = h }, refl)
-shown_answered s command (Err z) p q e x h = h
+shown_told : {Z : Type 0} (s : Settings) (command : Option Command) (reply : Result Filled Z) (p q : Pass) → action_in command ≡ None → IfOk reply (λ (out : Filled). IsShownAs s command out.items) → q ≡ p → HasAnswered (IsAnswer s command) false (told_of reply false) p q
+shown_told s command (Ok reply) p q e x h = (record { told = x.told; does = None; answers_it = shown_answers s command x.told e x.shown; bytes_are = x.bytes_are; pass = h }, refl)
+shown_told s command (Err z) p q e x h = h
+
+pub shown_answered : {Z : Type 0} (s : Settings) (command : Option Command) (reply : Result Filled Z) (a : Answered) (p q : Pass) → a ≡ told_of reply false → action_in command ≡ None → IfOk reply (λ (out : Filled). IsShownAs s command out.items) → q ≡ p → HasAnswered (IsAnswer s command) false a p q
+shown_answered s command reply a p q is e x h = subst (λ (y : Answered). HasAnswered (IsAnswer s command) false y p q) (sym is) (shown_told s command reply p q e x h)
 
 acted_answers : (s : Settings) (command : Option Command) (a : Action) (told : List FrameOf) (does : Option Action) → action_in command ≡ Some a → IsActed a told does → IsAnswer s command told does
 acted_answers s (Some (Act b)) a told does e h = subst (λ (c : Action). IsActed c told does) (sym (same e)) h
@@ -113,15 +123,21 @@ refused_here limit held refusal.ShuttingDown p q h = absurd h
 refused_here limit held refusal.MalformedServerMessage p q h = absurd h
 
 -- a response that is no command's answer, and whose client doesn't leave
-pub simply_responded : {Z : Type 0} (s : Settings) (drops : Bool) (r : its.Response) (reply : Result Filled Z) (dropping : Bool) (p q : Pass) → ((text : Bor (List ℕ)) → r ≡ response.Answer text → ⊥) → (r ≡ response.Leave → ⊥) → IfOk reply (λ (out : Filled). IsSaid (response_view drops r) out.items) → dropping ≡ drops_after (response_view drops r) → q ≡ p
-    → HasResponded s (response_view drops r) (told_of reply dropping) p q
-simply_responded s drops response.Malformed (Ok reply) dropping p q a l e d h = (record { told = refused MalformedMessage; does = None; answers_it = (refl, refl); bytes_are = e; pass = h }, d)
-simply_responded s drops response.NotServed (Ok reply) dropping p q a l e d h = (record { told = error NotSupported ∷ []; does = None; answers_it = (refl, refl); bytes_are = e; pass = h }, d)
-simply_responded s drops response.Ready (Ok reply) dropping p q a l e d h = (record { told = ready ∷ []; does = None; answers_it = (refl, refl); bytes_are = e; pass = h }, d)
-simply_responded s drops response.Nothing (Ok reply) dropping p q a l e d h = (record { told = []; does = None; answers_it = (refl, refl); bytes_are = e; pass = h }, d)
-simply_responded s drops (response.Answer text) reply dropping p q a l e d h = absurd (a text refl)
-simply_responded s drops response.Leave reply dropping p q a l e d h = absurd (l refl)
-simply_responded s drops response.Malformed (Err z) dropping p q a l e d h = h
-simply_responded s drops response.NotServed (Err z) dropping p q a l e d h = h
-simply_responded s drops response.Ready (Err z) dropping p q a l e d h = h
-simply_responded s drops response.Nothing (Err z) dropping p q a l e d h = h
+simply_told : {Z : Type 0} (s : Settings) (drops : Bool) (r : its.Response) (reply : Result Filled Z) (p q : Pass) → ((text : Bor (List ℕ)) → r ≡ response.Answer text → ⊥) → (r ≡ response.Leave → ⊥) → IfOk reply (λ (out : Filled). IsSaid (response_view drops r) out.items) → q ≡ p
+    → HasResponded s (response_view drops r) (told_of reply (drops_after (response_view drops r))) p q
+simply_told s drops response.Malformed (Ok reply) p q a l e h = (record { told = refused MalformedMessage; does = None; answers_it = (refl, refl); bytes_are = e; pass = h }, refl)
+simply_told s drops response.NotServed (Ok reply) p q a l e h = (record { told = error NotSupported ∷ []; does = None; answers_it = (refl, refl); bytes_are = e; pass = h }, refl)
+simply_told s drops response.Ready (Ok reply) p q a l e h = (record { told = ready ∷ []; does = None; answers_it = (refl, refl); bytes_are = e; pass = h }, refl)
+simply_told s drops response.Nothing (Ok reply) p q a l e h = (record { told = []; does = None; answers_it = (refl, refl); bytes_are = e; pass = h }, refl)
+simply_told s drops (response.Answer text) reply p q a l e h = absurd (a text refl)
+simply_told s drops response.Leave reply p q a l e h = absurd (l refl)
+simply_told s drops response.Malformed (Err z) p q a l e h = h
+simply_told s drops response.NotServed (Err z) p q a l e h = h
+simply_told s drops response.Ready (Err z) p q a l e h = h
+simply_told s drops response.Nothing (Err z) p q a l e h = h
+
+pub simply_responded : {Z : Type 0} (s : Settings) (drops dropping : Bool) (r : its.Response) (view : Response) (reply : Result Filled Z) (x : Answered) (p q : Pass) → response_view drops r ≡ view → dropping ≡ drops_after (response_view drops r) → x ≡ told_of reply dropping
+    → ((text : Bor (List ℕ)) → r ≡ response.Answer text → ⊥) → (r ≡ response.Leave → ⊥) → IfOk reply (λ (out : Filled). IsSaid (response_view drops r) out.items) → q ≡ p → HasResponded s view x p q
+simply_responded s drops dropping r view reply x p q v d is a l e h =
+    subst (λ (y : Answered). HasResponded s view y p q) (sym (is ∙ ap (λ (b : Bool). told_of reply b) d))
+    (subst (λ (w : Response). HasResponded s w (told_of reply (drops_after (response_view drops r))) p q) v (simply_told s drops r reply p q a l e h))

@@ -1,0 +1,33 @@
+-- The lines of the log about the program itself, each without its end.
+use Rattle.std.specs.Prelude.{ℕ, List, [], ◌∷◌, ◌++◌, codes, decimal}
+use Rattle.std.specs.List.{flat_map}
+use Rattle.std.specs.Borrow.{Bor}
+use Rattle.log_lines.specs.declared.events.Totals.{Totals}
+use Rattle.log_lines.specs.declared.events.Event.{Event}
+use Rattle.log_lines.specs.declared.events.Event.TheVariants as event
+use Rattle.log_lines.specs.Shown.{Text, dotted, shown_text}
+
+-- a number, and what there are so many of
+abbrev pub counted : ℕ × Text → Text
+counted c = decimal c.0 ++ c.1
+
+abbrev pub counts : Totals → List (ℕ × Text)
+counts t =
+    (t.decisions, codes " decisions, ") ∷ (t.starts, codes " starts; ")
+    ∷ (t.arrived, codes " arrived, ") ∷ (t.granted, codes " granted, ") ∷ (t.given_back, codes " given back, ")
+    ∷ (t.lost, codes " lost, ") ∷ (t.left, codes " left, ") ∷ (t.others, codes " others") ∷ []
+
+-- the same of what the code holds
+abbrev pub counted_view : ℕ × Bor Text → Text
+counted_view c = counted (c.0, c.1.now)
+
+abbrev pub event_words : Event → Text
+event_words (event.Listening host port) = codes "listening " ++ dotted host ++ 32 ∷ decimal port
+event_words event.Reloaded = codes "reloaded"
+event_words (event.NotReloaded fault) = codes "not reloaded: " ++ shown_text fault.now
+event_words (event.Wanting n) = counted (n, codes " connections closed for want of a thread, a poll, a file or memory")
+event_words (event.Dropped n) = counted (n, codes " lines of the log were dropped")
+event_words (event.Ended t) = codes "shut down: " ++ flat_map counted (counts t)
+
+abbrev pub event_line : Event → Text
+event_line e = codes "pgsess: " ++ event_words e

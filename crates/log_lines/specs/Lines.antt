@@ -1,0 +1,100 @@
+-- The lines of the log about clients, each without its end: `pgsess: `, the client, and what is told of it.
+use Rattle.std.specs.Prelude.{ℕ, List, [], ◌∷◌, ◌++◌, ◌==◌, Option, Some, None, Result, Ok, Err, if◌then◌else◌, length, drop, codes, decimal}
+use Rattle.message_view.specs.declared.refusal.Refusal.{Refusal}
+use Rattle.message_view.specs.declared.ViewFault.{ViewFault}
+use Rattle.message_view.specs.Refusals.{telling}
+use Rattle.message_view.specs.Reading.{note_of}
+use Rattle.log_lines.specs.declared.notes.Client.{Client}
+use Rattle.log_lines.specs.declared.notes.Unstarted.{Unstarted}
+use Rattle.log_lines.specs.declared.notes.Unstarted.TheVariants as unstarted
+use Rattle.log_lines.specs.declared.notes.Loss.{Loss}
+use Rattle.log_lines.specs.declared.notes.Loss.TheVariants as loss
+use Rattle.log_lines.specs.declared.notes.Note.{Note}
+use Rattle.log_lines.specs.declared.notes.Note.TheVariants as note
+use Rattle.log_lines.specs.Shown.{Text, shown_name, quoted, shown_text, address, after}
+
+-- ---- whom
+
+abbrev pub numbered : Option ℕ → Text
+numbered None = []
+numbered (Some n) = 32 ∷ decimal n
+
+-- as far as its StartupMessage was read
+abbrev pub named : Text → Text → Text
+named user database = if length user == 0 then [] else 32 ∷ shown_name user ++ 64 ∷ shown_name database
+
+abbrev pub who : Client → Text
+who c = codes "client" ++ numbered c.number ++ named c.user.now c.database.now ++ codes " from " ++ address c.visit.host c.visit.port
+
+-- ---- an ErrorResponse of a server
+
+-- the text of the first field of this code
+abbrev pub field : ℕ → List (ℕ × Text) → Text
+field code [] = []
+field code (f ∷ fields) = if f.0 == code then f.1 else field code fields
+
+-- the fields of a message; none where it is faulty
+abbrev pub fields_or_none : Result (List (ℕ × Text)) ViewFault → List (ℕ × Text)
+fields_or_none (Ok fields) = fields
+fields_or_none (Err fault) = []
+
+-- its SQLSTATE (C) and its text (M)
+abbrev pub state_and_text : List (ℕ × Text) → Text
+state_and_text fields = shown_text (field 67 fields) ++ 32 ∷ shown_text (field 77 fields)
+
+-- of the whole message, whose body follows its type and length
+abbrev pub error_words : Text → Text
+error_words message = state_and_text (fields_or_none (note_of (drop 5 message)))
+
+-- ---- why a link wasn't started
+
+-- the server's question for another authentication
+abbrev pub asks_for : ℕ → Text
+asks_for n =
+    if n == 10 then codes " asks for SCRAM (authentication method 10), which isn't served: use md5 or a password" else (
+    if n == 3 then codes " asks for a password (authentication method 3), which can't be given: the user file has but its digest" else
+    codes " asks for authentication method " ++ decimal n ++ codes ", which isn't served: use md5 or a password")
+
+abbrev pub unstarted_words : Unstarted → Text
+unstarted_words unstarted.NotReached = codes " could not be reached (P7)"
+unstarted_words (unstarted.Unanswerable n) = asks_for n ++ codes " (P7)"
+unstarted_words unstarted.Lost = codes " closed the connection within its start (P7)"
+unstarted_words unstarted.Unexpected = codes " answered its start by no message that belongs there (P7)"
+unstarted_words unstarted.TimedOut = codes " didn't answer its start in time (P7)"
+unstarted_words (unstarted.Refused message) = codes " refused the start: " ++ error_words message.now
+
+-- ---- why a link was closed
+
+abbrev pub loss_words : Loss → Text
+loss_words loss.Ended = codes "server connection ended"
+loss_words loss.InBlock = codes "left within a transaction block"
+loss_words loss.Unanswered = codes "left before all was answered"
+loss_words loss.Foreign = codes "malformed server message"
+loss_words loss.NotReset = codes "not reset by DISCARD ALL"
+
+-- ---- what is told
+
+-- a refusal of this pooler: its text and its number
+abbrev pub refusal_words : Refusal → Text
+refusal_words r = (telling r).message ++ codes " (" ++ (telling r).number ++ codes ")"
+
+-- an unsupported startup parameter
+abbrev pub parameter_words : Text → Text
+parameter_words name = codes "unsupported startup parameter " ++ quoted name ++ codes " (P4)"
+
+-- after so many milliseconds, where they are known
+abbrev pub words : Note → Option ℕ → Text
+words note.LoggedIn ms = codes " in"
+words note.Closed ms = codes " out" ++ after ms
+words (note.Refused r) ms = codes " refused" ++ after ms ++ codes ": " ++ refusal_words r
+words (note.UnsupportedParameter name) ms = codes " refused" ++ after ms ++ codes ": " ++ parameter_words name.now
+words note.WrongPassword ms = codes " failed" ++ after ms ++ codes ": password authentication failed (28P01)"
+words note.NoDatabase ms = codes " failed" ++ after ms ++ codes ": database does not exist (3D000)"
+words (note.Unstarted server why) ms = codes " refused" ++ after ms ++ codes ": server " ++ address server.host server.port ++ unstarted_words why
+words (note.LinkLost number why) ms = codes " link " ++ decimal number ++ codes " closed: " ++ loss_words why
+words note.Paused ms = codes " paused the pool"
+words note.Resumed ms = codes " resumed the pool"
+words note.ShuttingDown ms = codes " shuts the pool down"
+
+abbrev pub line : Client → Note → Option ℕ → Text
+line c told ms = codes "pgsess: " ++ who c ++ words told ms

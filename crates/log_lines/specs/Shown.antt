@@ -1,0 +1,54 @@
+-- How the log shows numbers, addresses and texts of others: in printing ASCII alone.
+use Rattle.std.specs.Prelude.{ℕ, List, [], ◌∷◌, ◌++◌, Bool, ◌==◌, ◌&&◌, not, ◌+◌, ◌/◌, ◌%◌, Option, Some, None, if◌then◌else◌, nat_lt, nat_le, length, take, codes, decimal}
+use Rattle.std.specs.List.{flat_map}
+
+abbrev pub Text : Type 0
+Text = List ℕ
+
+-- the space and all marks, digits and letters of ASCII
+abbrev pub is_printing : ℕ → Bool
+is_printing b = nat_le 32 b && nat_le b 126
+
+-- ---- texts
+
+-- the last hexadecimal digit of a number
+abbrev pub hex_digit : ℕ → ℕ
+hex_digit n = if nat_lt (n % 16) 10 then 48 + n % 16 else 87 + n % 16
+
+-- as it stands where it prints, and is neither a backslash nor the mark that ends the text; else as \xNN
+abbrev pub shown_byte : ℕ → ℕ → Text
+shown_byte mark b = if is_printing b && (not (b == 92) && not (b == mark)) then b ∷ [] else 92 ∷ 120 ∷ hex_digit (b / 16) ∷ hex_digit b ∷ []
+
+-- its first 200 bytes, and that there are more
+abbrev pub shown : ℕ → Text → Text
+shown mark text = flat_map (shown_byte mark) (take 200 text) ++ (if nat_lt 200 (length text) then codes "..." else [])
+
+-- one word: no space within
+abbrev pub shown_name : Text → Text
+shown_name = shown 32
+
+-- between quotation marks
+abbrev pub quoted : Text → Text
+quoted text = 34 ∷ shown 34 text ++ 34 ∷ []
+
+-- to the end of the line
+abbrev pub shown_text : Text → Text
+shown_text = shown 92
+
+-- ---- numbers
+
+abbrev pub behind_dot : ℕ → Text
+behind_dot n = 46 ∷ decimal n
+
+-- numbers with dots between
+abbrev pub dotted : List ℕ → Text
+dotted [] = []
+dotted (n ∷ ns) = decimal n ++ flat_map behind_dot ns
+
+abbrev pub address : List ℕ → ℕ → Text
+address host port = dotted host ++ 58 ∷ decimal port
+
+-- milliseconds as seconds and tenths, what is left of a tenth left out; nothing where they aren't known
+abbrev pub after : Option ℕ → Text
+after None = []
+after (Some ms) = codes " after " ++ decimal (ms / 1000) ++ 46 ∷ decimal (ms % 1000 / 100) ++ codes " s"

@@ -1,0 +1,121 @@
+//! What the log is told of the program itself, and the lines of it.
+ghost use Rattle.std.specs.Prelude.{◌≡◌, ◌++◌, codes, OnOk};
+ghost use Rattle.std.specs.List.{flat_map};
+ghost use Rattle.log_lines.specs.Events.{counted, counted_view};
+ghost use Rattle.log_lines.specs.Events as spec;
+ghost use Rattle.log_lines.specs.Shown.{shown_text};
+
+use crate::shown::{put_dotted, put_number, put_text};
+use std::alloc::AllocError;
+
+/// What a pool has done when it ends.
+#[derive(Clone, Copy)]
+pub struct Totals {
+    /// All decisions of the book.
+    pub decisions: u64,
+    /// Links started.
+    pub starts: u64,
+    /// The decisions by class, which are all together: clients let in.
+    pub arrived: u64,
+    /// Links granted.
+    pub granted: u64,
+    /// Links given back.
+    pub given_back: u64,
+    /// Links lost, or not started.
+    pub lost: u64,
+    /// Clients gone.
+    pub left: u64,
+    /// All others.
+    pub others: u64,
+}
+
+/// What the log is told of the program itself.
+#[derive(Clone, Copy)]
+pub enum Event<'a> {
+    /// It listens at this address and port.
+    Listening([u8; 4], u16),
+    /// The settings and users were read again.
+    Reloaded,
+    /// They weren't, because of this fault.
+    NotReloaded(&'a [u8]),
+    /// So many connections were closed unserved, for want of a thread, a poll, a file or memory.
+    Wanting(u64),
+    /// So many lines of the log were dropped.
+    Dropped(u64),
+    /// The pool has ended.
+    Ended(Totals),
+}
+
+/// A number, and what there are so many of.
+fn put_count(line: &mut Vec<u8>, n: u64, what: &[u8]) -> Result<(), AllocError>
+    ensures { OnOk result (line.new.items ≡ line.old.items ++ counted (n, what.now)) }
+{
+    put_number(line, n)?;
+    line.extend_from_slice(what)
+}
+
+fn counts_of(totals: &Totals) -> [(u64, &'static [u8]); 8]
+    ensures { flat_map counted_view result ≡ flat_map counted (spec.counts totals.now) }
+{
+    [
+        (totals.decisions, b" decisions, "),
+        (totals.starts, b" starts; "),
+        (totals.arrived, b" arrived, "),
+        (totals.granted, b" granted, "),
+        (totals.given_back, b" given back, "),
+        (totals.lost, b" lost, "),
+        (totals.left, b" left, "),
+        (totals.others, b" others"),
+    ]
+}
+
+/// Numbers, each with what there are so many of.
+fn put_counts(line: &mut Vec<u8>, counts: &[(u64, &[u8])]) -> Result<(), AllocError>
+    ensures { OnOk result (line.new.items ≡ line.old.items ++ flat_map counted_view counts.now) }
+{
+    for (n, what) in counts {
+        put_count(line, *n, *what)?;
+    }
+    Ok(())
+}
+
+fn put_fault(line: &mut Vec<u8>, fault: &[u8]) -> Result<(), AllocError>
+    ensures { OnOk result (line.new.items ≡ line.old.items ++ (codes "not reloaded: " ++ shown_text fault.now)) }
+{
+    line.extend_from_slice(b"not reloaded: ")?;
+    put_text(line, fault)
+}
+
+fn put_words(line: &mut Vec<u8>, event: Event<'_>) -> Result<(), AllocError>
+    ensures { OnOk result (line.new.items ≡ line.old.items ++ spec.event_words event.entry) }
+{
+    match event {
+        Event::Listening(host, port) => {
+            line.extend_from_slice(b"listening ")?;
+            put_dotted(line, &host)?;
+            line.push(b' ')?;
+            put_number(line, port as u64)
+        }
+        Event::Reloaded => line.extend_from_slice(b"reloaded"),
+        Event::NotReloaded(fault) => put_fault(line, fault),
+        Event::Wanting(n) => put_count(
+            line,
+            n,
+            b" connections closed for want of a thread, a poll, a file or memory",
+        ),
+        Event::Dropped(n) => put_count(line, n, b" lines of the log were dropped"),
+        Event::Ended(totals) => {
+            line.extend_from_slice(b"shut down: ")?;
+            put_counts(line, &counts_of(&totals))
+        }
+    }
+}
+
+/// Appends an event's line, without its end, to a buffer. The only error is that an allocation failed: then the buffer holds a
+/// part of it.
+pub fn put_event(line: &mut Vec<u8>, event: Event<'_>) -> Result<(), AllocError>
+    ensures { OnOk result (line.new.items ≡ line.old.items ++ spec.event_line event.entry) }
+{
+    line.extend_from_slice(b"pgsess: ")?;
+    put_words(line, event)
+}

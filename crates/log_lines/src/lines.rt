@@ -1,0 +1,277 @@
+//! The lines about clients.
+ghost use Rattle.std.specs.Prelude.{◌≡◌, ◌++◌, codes, decimal, OnOk};
+ghost use Rattle.std.specs.Iterator.{YieldsFirstBy};
+ghost use Rattle.message_view.specs.Left.{fields_left};
+ghost use Rattle.message_view.specs.Views.{code_and_text_of};
+ghost use Rattle.message_view.specs.Reading.{note_of};
+ghost use Rattle.message_view.specs.Refusals.{telling};
+ghost use Rattle.log_lines.specs.Shown.{address, after};
+ghost use Rattle.log_lines.specs.Lines as spec;
+
+use crate::notes::{Client, Loss, Note, Server, Unstarted};
+use crate::shown::{put_address, put_after, put_name, put_number, put_quoted, put_text};
+use message_view::{Fields, NoteView, Refusal};
+use std::alloc::AllocError;
+
+/// What precedes the body in a message: its type and length.
+const HEAD: usize = 5;
+
+/// The authentication methods of which the log says more than their number: a password, and SASL.
+const PASSWORD: u32 = 3;
+
+const SASL: u32 = 10;
+
+fn put_numbered(line: &mut Vec<u8>, number: Option<u64>) -> Result<(), AllocError>
+    ensures { OnOk result (line.new.items ≡ line.old.items ++ spec.numbered number) }
+{
+    let Some(number) = number else {
+        return Ok(());
+    };
+    line.push(b' ')?;
+    put_number(line, number)
+}
+
+fn put_named(line: &mut Vec<u8>, user: &[u8], database: &[u8]) -> Result<(), AllocError>
+    ensures { OnOk result (line.new.items ≡ line.old.items ++ spec.named user.now database.now) }
+{
+    if user.is_empty() {
+        return Ok(());
+    }
+    line.push(b' ')?;
+    put_name(line, user)?;
+    line.push(b'@')?;
+    put_name(line, database)
+}
+
+/// Whom the line is about.
+fn put_who(line: &mut Vec<u8>, client: &Client<'_>) -> Result<(), AllocError>
+    ensures { OnOk result (line.new.items ≡ line.old.items ++ spec.who client.now) }
+{
+    line.extend_from_slice(b"client")?;
+    put_numbered(line, client.number)?;
+    put_named(line, client.user, client.database)?;
+    line.extend_from_slice(b" from ")?;
+    put_address(line, client.visit.host, client.visit.port)
+}
+
+fn next_field<'a>(fields: &mut Fields<'a>) -> Option<(u8, &'a [u8])>
+    ensures { YieldsFirstBy code_and_text_of fields_left fields.old result fields.new }
+{
+    fields.next()
+}
+
+/// The text of the first field of this code; empty where there is none.
+fn field<'a>(fields: Fields<'a>, code: u8) -> &'a [u8]
+    ensures { result.now ≡ spec.field code (fields_left fields.entry) }
+{
+    let mut fields = fields;
+    while let Some((other, text)) = next_field(&mut fields) {
+        if other == code {
+            return text;
+        }
+    }
+    b""
+}
+
+/// The SQLSTATE and the text of an ErrorResponse, the body of one.
+fn put_error_body(line: &mut Vec<u8>, body: &[u8]) -> Result<(), AllocError>
+    ensures { OnOk result (line.new.items ≡ line.old.items ++ spec.state_and_text (spec.fields_or_none (note_of body.now))) }
+{
+    match NoteView::read(body) {
+        Ok(view) => {
+            put_text(line, field(view.fields(), b'C'))?;
+            line.push(b' ')?;
+            put_text(line, field(view.fields(), b'M'))
+        }
+        Err(_) => {
+            line.push(b' ')?;
+            Ok(())
+        }
+    }
+}
+
+/// The SQLSTATE and the text of an ErrorResponse, the whole message.
+fn put_error(line: &mut Vec<u8>, message: &[u8]) -> Result<(), AllocError>
+    ensures { OnOk result (line.new.items ≡ line.old.items ++ spec.error_words message.now) }
+{
+    if message.len() < HEAD {
+        return put_error_body(line, b"");
+    }
+    put_error_body(line, &message[HEAD..])
+}
+
+fn put_server_error(line: &mut Vec<u8>, message: &[u8]) -> Result<(), AllocError>
+    ensures { OnOk result (line.new.items ≡ line.old.items ++ (codes " refused the start: " ++ spec.error_words message.now)) }
+{
+    line.extend_from_slice(b" refused the start: ")?;
+    put_error(line, message)
+}
+
+fn put_asked(line: &mut Vec<u8>, method: u32) -> Result<(), AllocError>
+    ensures { OnOk result (line.new.items ≡ line.old.items ++ spec.asks_for method) }
+{
+    if method == SASL {
+        return line.extend_from_slice(
+            b" asks for SCRAM (authentication method 10), which isn't served: use md5 or a password",
+        );
+    }
+    if method == PASSWORD {
+        return line.extend_from_slice(
+            b" asks for a password (authentication method 3), which can't be given: the user file has but its digest",
+        );
+    }
+    line.extend_from_slice(b" asks for authentication method ")?;
+    put_number(line, method as u64)?;
+    line.extend_from_slice(b", which isn't served: use md5 or a password")
+}
+
+/// Why a link wasn't started.
+fn put_unstarted(line: &mut Vec<u8>, why: Unstarted<'_>) -> Result<(), AllocError>
+    ensures { OnOk result (line.new.items ≡ line.old.items ++ spec.unstarted_words why.entry) }
+{
+    match why {
+        Unstarted::NotReached => line.extend_from_slice(b" could not be reached (P7)"),
+        Unstarted::Unanswerable(method) => {
+            put_asked(line, method)?;
+            line.extend_from_slice(b" (P7)")
+        }
+        Unstarted::Lost => line.extend_from_slice(b" closed the connection within its start (P7)"),
+        Unstarted::Unexpected => line.extend_from_slice(
+            b" answered its start by no message that belongs there (P7)",
+        ),
+        Unstarted::TimedOut => line.extend_from_slice(b" didn't answer its start in time (P7)"),
+        Unstarted::Refused(message) => put_server_error(line, message),
+    }
+}
+
+fn loss_words(loss: Loss) -> &'static [u8]
+    ensures { result.now ≡ spec.loss_words loss }
+{
+    match loss {
+        Loss::Ended => b"server connection ended",
+        Loss::InBlock => b"left within a transaction block",
+        Loss::Unanswered => b"left before all was answered",
+        Loss::Foreign => b"malformed server message",
+        Loss::NotReset => b"not reset by DISCARD ALL",
+    }
+}
+
+fn refusal_text(refusal: Refusal) -> &'static [u8]
+    ensures { result.now ≡ (telling refusal).message }
+{
+    match refusal {
+        Refusal::TooManyClients => b"too many client connections",
+        Refusal::UnsupportedProtocol => b"unsupported protocol version",
+        Refusal::MalformedClientMessage => b"malformed client message",
+        Refusal::UnsupportedParameter => b"unsupported startup parameter",
+        Refusal::WaitedTooLong => b"query_wait_timeout",
+        Refusal::ServerFailed => b"server connection failed",
+        Refusal::ServerNotReached => b"server could not be reached",
+        Refusal::ShuttingDown => b"pooler is shutting down",
+        Refusal::OutOfMemory => b"pooler is out of memory",
+        Refusal::ClientMessageTooLong => b"client message is too long",
+        Refusal::MalformedServerMessage => b"malformed server message",
+        Refusal::LastDecision => b"pooler has reached its last decision",
+    }
+}
+
+/// A refusal's text and number.
+fn put_refusal(line: &mut Vec<u8>, refusal: Refusal) -> Result<(), AllocError>
+    ensures { OnOk result (line.new.items ≡ line.old.items ++ spec.refusal_words refusal) }
+{
+    line.extend_from_slice(refusal_text(refusal))?;
+    line.extend_from_slice(b" (")?;
+    line.extend_from_slice(refusal.code())?;
+    line.extend_from_slice(b")")
+}
+
+/// A word, how long it took, and a text.
+fn put_timed(
+    line: &mut Vec<u8>,
+    word: &[u8],
+    ms: Option<u64>,
+    text: &[u8],
+) -> Result<(), AllocError>
+    ensures { OnOk result (line.new.items ≡ line.old.items ++ (word.now ++ after ms ++ text.now)) }
+{
+    line.extend_from_slice(word)?;
+    put_after(line, ms)?;
+    line.extend_from_slice(text)
+}
+
+/// An unsupported startup parameter.
+fn put_parameter(line: &mut Vec<u8>, name: &[u8]) -> Result<(), AllocError>
+    ensures { OnOk result (line.new.items ≡ line.old.items ++ spec.parameter_words name.now) }
+{
+    line.extend_from_slice(b"unsupported startup parameter ")?;
+    put_quoted(line, name)?;
+    line.extend_from_slice(b" (P4)")
+}
+
+/// A client's refusal because of its server.
+fn put_refused_by(
+    line: &mut Vec<u8>,
+    server: Server,
+    why: Unstarted<'_>,
+    ms: Option<u64>,
+) -> Result<(), AllocError>
+    ensures { OnOk result (line.new.items ≡ line.old.items ++ (codes " refused" ++ after ms ++ codes ": server " ++ address server.host server.port ++ spec.unstarted_words why.entry)) }
+{
+    put_timed(line, b" refused", ms, b": server ")?;
+    put_address(line, server.host, server.port)?;
+    put_unstarted(line, why)
+}
+
+fn put_lost(line: &mut Vec<u8>, number: u64, loss: Loss) -> Result<(), AllocError>
+    ensures { OnOk result (line.new.items ≡ line.old.items ++ (codes " link " ++ decimal number ++ codes " closed: " ++ spec.loss_words loss)) }
+{
+    line.extend_from_slice(b" link ")?;
+    put_number(line, number)?;
+    line.extend_from_slice(b" closed: ")?;
+    line.extend_from_slice(loss_words(loss))
+}
+
+/// What is told.
+fn put_words(line: &mut Vec<u8>, note: Note<'_>, ms: Option<u64>) -> Result<(), AllocError>
+    ensures { OnOk result (line.new.items ≡ line.old.items ++ spec.words note.entry ms) }
+{
+    match note {
+        Note::LoggedIn => line.extend_from_slice(b" in"),
+        Note::Closed => put_timed(line, b" out", ms, b""),
+        Note::Refused(refusal) => {
+            put_timed(line, b" refused", ms, b": ")?;
+            put_refusal(line, refusal)
+        }
+        Note::UnsupportedParameter(name) => {
+            put_timed(line, b" refused", ms, b": ")?;
+            put_parameter(line, name)
+        }
+        Note::WrongPassword => put_timed(
+            line,
+            b" failed",
+            ms,
+            b": password authentication failed (28P01)",
+        ),
+        Note::NoDatabase => put_timed(line, b" failed", ms, b": database does not exist (3D000)"),
+        Note::Unstarted(server, why) => put_refused_by(line, server, why, ms),
+        Note::LinkLost(number, loss) => put_lost(line, number, loss),
+        Note::Paused => line.extend_from_slice(b" paused the pool"),
+        Note::Resumed => line.extend_from_slice(b" resumed the pool"),
+        Note::ShuttingDown => line.extend_from_slice(b" shuts the pool down"),
+    }
+}
+
+/// Appends the line of what is told of a client, without its end, to a buffer: after so many milliseconds of its visit, where
+/// they are known. The only error is that an allocation failed: then the buffer holds a part of it.
+pub fn put_note(
+    line: &mut Vec<u8>,
+    client: &Client<'_>,
+    note: Note<'_>,
+    ms: Option<u64>,
+) -> Result<(), AllocError>
+    ensures { OnOk result (line.new.items ≡ line.old.items ++ spec.line client.now note.entry ms) }
+{
+    line.extend_from_slice(b"pgsess: ")?;
+    put_who(line, client)?;
+    put_words(line, note, ms)
+}
