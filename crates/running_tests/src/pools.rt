@@ -19,7 +19,7 @@ use std::sync::atomic::{AtomicBool, Ordering};
 use std::test::Fail;
 use std::thread::{JoinHandle, Threads};
 use std::time::Duration;
-use std::{net, thread};
+use std::{io, net, thread};
 use stub_server::server::stub_on;
 use user_file::{Users, read_users};
 
@@ -129,9 +129,12 @@ pub fn start_pool_of<R: PoolRuntime + 'static>(
         move || -> Option<Totals>
             requires { AreWithinBounds settings }
         {
-            serve_on(rt, alloc, listener, settings, users, source, [0; 32], count)
-                .ok()
-                .flatten()
+            let log = io::sink();
+            serve_on(
+                rt, alloc, listener, settings, users, source, log, [0; 32], count,
+            )
+            .ok()
+            .flatten()
         },
     )?;
     Ok((pool, port))
