@@ -71,9 +71,10 @@ impl Source for NamedFiles {
     }
 }
 
-/// Serves clients as the settings say, from when its line tells where, until the console ends it.
+/// Serves clients as the settings say, from when its line tells where, until the console ends it. Its log goes to standard error.
 fn serve<'a, R: Print + PoolRuntime + 'static>(
     rt: R,
+    host: HostRuntime,
     alloc: Global,
     inputs: Inputs,
     source: NamedFiles,
@@ -90,7 +91,10 @@ fn serve<'a, R: Print + PoolRuntime + 'static>(
         users,
         seed,
     } = inputs;
-    match serve_on(rt, alloc, listener, settings, users, source, seed, None) {
+    let log = host.stderr();
+    match serve_on(
+        rt, alloc, listener, settings, users, source, log, seed, None,
+    ) {
         Ok(Some(_)) => Ok(()),
         Ok(None) => Err(AppFault::Totals),
         Err(_) => Err(AppFault::Memory),
@@ -115,7 +119,7 @@ fn stub<
     }
 }
 
-/// Does the job. `host` is the same runtime, whose files a pool reads on any of its threads.
+/// Does the job. `host` is the same runtime, whose files and standard error a pool's threads use.
 fn run<'a, R: Files + Input + Print + PoolRuntime + 'static>(
     rt: R,
     host: HostRuntime,
@@ -131,7 +135,7 @@ fn run<'a, R: Files + Input + Print + PoolRuntime + 'static>(
         } => {
             let inputs = files::read_inputs(&rt, alloc, ini, users, key_seed)?;
             let source = named_files(host, alloc, ini, users).map_err(|_| AppFault::Memory)?;
-            serve(rt, alloc, inputs, source)
+            serve(rt, host, alloc, inputs, source)
         }
         Job::Stub { port, catalogue } => {
             let catalogue = files::read_catalogue(&rt, alloc, catalogue)?;

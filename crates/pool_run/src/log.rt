@@ -1,36 +1,94 @@
-//! What the pool's log is told.
+//! The pool's log, as its threads tell it. No contract says what a log is told; scripts/console.py shows it.
 
-use desk_tallies::passes::Totals;
+use log_lines::events::{Event, Totals};
 use log_lines::notes::{Client, Note};
+use log_writer::limiter::Limiter;
+use log_writer::log::Log;
+use std::alloc::Global;
+use std::rt::Clock;
+use std::sync::{Arc, Mutex, Wait};
+use std::time::Instant;
 
-/// The pool's log.
-#[derive(Drop)]
-pub(crate) struct Log {}
+/// A log, and the connections that weren't served since it was told of some.
+pub(crate) struct PoolLog<R> {
+    rt: R,
+    alloc: Global,
+    log: Arc<Log>,
+    unserved: Mutex<Limiter>,
+}
 
-impl Log {
-    pub(crate) fn new() -> Log {
-        Log {}
+impl<R: Drop> Drop for PoolLog<R> {
+    fn drop(self) {
+        let PoolLog {
+            rt: _,
+            alloc: _,
+            log: _,
+            unserved: _,
+        } = self;
+    }
+}
+
+impl<R> PoolLog<R> {
+    pub(crate) fn new(rt: R, alloc: Global, log: Arc<Log>) -> PoolLog<R> {
+        PoolLog {
+            rt,
+            alloc,
+            log,
+            unserved: Mutex::new(Limiter::new()),
+        }
+    }
+}
+
+impl<R: Wait + Clock> PoolLog<R> {
+    /// So many milliseconds have passed since then; `None` where the clock can't be read.
+    fn age(&self, since: Option<Instant>) -> Option<u64> {
+        let passed = since?.elapsed(&self.rt).ok()?;
+        u64::try_from(passed.as_millis()).ok()
     }
 
+    /// Tells of a client.
     pub(crate) fn note(&self, client: &Client<'_>, note: &Note<'_>) {
-        let _ = (client, note);
+        let age = self.age(client.visit.since);
+        self.log.note(&self.rt, self.alloc, client, *note, age);
+    }
+
+    fn event(&self, event: Event<'_>) {
+        self.log.event(&self.rt, self.alloc, event);
     }
 
     /// The pool listens at this address and port.
     pub(crate) fn listening(&self, address: [u8; 4], port: u16) {
-        let _ = (address, port);
+        self.event(Event::Listening(address, port));
     }
 
-    /// A connection can't be served, or had: there is no thread, no poll, no pass, no file or no memory for it.
-    pub(crate) fn unserved(&self) {}
-
-    /// The files weren't read again, for this reason.
-    pub(crate) fn not_reloaded(&self, why: &str) {
-        let _ = why;
+    /// The files were read again.
+    pub(crate) fn reloaded(&self) {
+        self.event(Event::Reloaded);
     }
 
-    /// So much was decided from the first client to the last.
-    pub(crate) fn ended(&self, totals: Option<&Totals>) {
-        let _ = totals;
+    /// They weren't, because of this fault.
+    pub(crate) fn not_reloaded(&self, fault: &str) {
+        self.event(Event::NotReloaded(fault.as_bytes()));
+    }
+
+    /// A connection can't be served, or had. It is told with the next second.
+    pub(crate) fn unserved(&self) {
+        self.unserved.lock(&self.rt).add();
+    }
+
+    /// It is this second: tells of connections that weren't served.
+    pub(crate) fn tell_unserved(&self, second: u64) {
+        let due = self.unserved.lock(&self.rt).due(second);
+        if let Some(count) = due {
+            self.event(Event::Wanting(count));
+        }
+    }
+
+    /// The pool has ended, with these totals if they are known.
+    pub(crate) fn ended(&self, totals: &Option<Totals>) {
+        self.tell_unserved(u64::MAX);
+        if let Some(totals) = totals {
+            self.event(Event::Ended(*totals));
+        }
     }
 }

@@ -6,17 +6,20 @@ ghost use Rattle.desk_tallies.specs.Shares.{names_of, of_each, parts_of};
 ghost use Rattle.pool_run.specs.Logins.{IsNewLogin};
 
 use crate::keeping::{Keeper, Source};
-use crate::log::Log;
+use crate::log::PoolLog;
 use crate::runtime::PoolRuntime;
 use crate::surroundings::Surroundings;
 use book_model::settings::limits_of;
 use desk_tallies::ledgers::Ledgers;
-use desk_tallies::passes::{Pass, Totals};
+use desk_tallies::passes::Pass;
 use desk_tallies::tallies::Blanks;
 use ini_config::Settings;
 use key_source::KeySource;
+use link_desk::desk::LinkDesk;
 use link_start::close::close_link;
+use log_lines::events::Totals;
 use log_lines::notes::Visit;
+use log_writer::log::begin;
 use login_core::Login;
 use message_view::KeyWord;
 use mio::net::TcpListener;
@@ -24,6 +27,7 @@ use pool_desk::answers::Ticked;
 use pool_desk::desk::Desk;
 use pool_serve::serve::serve;
 use std::alloc::{AllocError, Global};
+use std::io::Write;
 use std::marker::Brand;
 use std::rt::Clock;
 use std::sync::atomic::{AtomicBool, Ordering};
@@ -58,7 +62,7 @@ struct Pool<R: PoolRuntime, F: Source, K: Ledgers> {
     desk: Desk<R, Surroundings<R, F>, K>,
     free: Mutex<Free<K>>,
     keeper: Arc<Keeper<R, F>>,
-    log: Arc<Log>,
+    log: Arc<PoolLog<R>>,
     /// The last connection is done.
     has_ended: AtomicBool,
 }
@@ -84,7 +88,7 @@ impl<R: PoolRuntime, F: Source, K: Ledgers> Pool<R, F, K> {
         settings: Settings,
         users: Users,
         source: F,
-        log: &Arc<Log>,
+        log: &Arc<PoolLog<R>>,
         blanks: Blanks,
     ) -> Result<Pool<R, F, K>, AllocError>
         requires bounds { AreWithinBounds settings }
@@ -190,16 +194,28 @@ impl<R: PoolRuntime, F: Source, K: Ledgers> Pool<R, F, K> {
             if self.has_ended.load(Ordering::SeqCst) {
                 break;
             }
-            if let Some(now) = second(rt, &mut start)
-                && !self.tick(rt, &mut pass, now)
-            {
+            let Some(now) = second(rt, &mut start) else {
+                continue;
+            };
+            self.log.tell_unserved(now);
+            if !self.tick(rt, &mut pass, now) {
                 break;
             }
         }
         self.give_back(rt, pass);
     }
-    /// The decisions by class, once all passes are back; `None` where one is missing. The only error is that an allocation failed.
-    fn close(self) -> Result<Option<Totals>, AllocError> {
+    /// The decisions of the book, and the links started; `None` where memory is refused, or no pass is left to ask through.
+    fn counted(&self, rt: &R) -> Option<(u64, u64)> {
+        let mut pass = self.pass(rt)?;
+        let view = self.desk.view(self.alloc, &mut pass.pass);
+        self.give_back(rt, pass);
+        let view = view.ok()?;
+        Some((view.decisions, view.starts))
+    }
+
+    /// What was decided from the first client to the last, once all passes are back. `None` where one is missing, or memory is refused.
+    fn close(self, rt: &R) -> Option<Totals> {
+        let (decisions, starts) = self.counted(rt)?;
         let Pool {
             alloc,
             desk,
@@ -210,9 +226,19 @@ impl<R: PoolRuntime, F: Source, K: Ledgers> Pool<R, F, K> {
         } = self;
         let mut passes = Vec::new(alloc);
         for FreePass { pass } in free.into_inner().passes {
-            passes.push(pass).map_err(|_| AllocError)?;
+            passes.push(pass).ok()?;
         }
-        Ok(desk.gather(passes).ok())
+        let made = desk.gather(passes).ok()?;
+        Some(Totals {
+            decisions,
+            starts,
+            arrived: made.arrived,
+            granted: made.granted,
+            given_back: made.given_back,
+            lost: made.lost,
+            left: made.left,
+            others: made.others,
+        })
     }
 }
 
@@ -285,13 +311,18 @@ fn accept_all<
     }
 }
 
-/// Serves the connections of a listener, each on a thread of its own, over links of one desk: as many as `count` says, and then no
-/// more, or until the console ends it. It returns when the last is done, with the decisions by class; without them where a worker's
-/// are missing. A thread more tells the desk the seconds, and closes the links that are idle or old.
-///
-/// A connection for which there is no thread, no poll, no pass or no memory is closed, and the others go on. The error is that the
-/// system has no poll for the listener or no thread for the clock, or that an allocation failed before the first connection or after
-/// the last.
+/// What a pool has decided that no thread shares any more.
+fn totals_of<R: PoolRuntime, F: Source, K: Ledgers>(
+    rt: &R,
+    pool: Arc<Pool<R, F, K>>,
+) -> Option<Totals> {
+    match Arc::try_unwrap(pool) {
+        Ok(pool) => pool.close(rt),
+        Err(_) => None,
+    }
+}
+
+/// Serves the connections of a listener until the last is done, as [`serve_on`] says, over these ledgers.
 fn serve_all<
     R: PoolRuntime + 'static,
     F: Source + Send + Sync + 'static,
@@ -305,6 +336,7 @@ fn serve_all<
     source: F,
     seed: [u8; 32],
     count: Option<u64>,
+    log: PoolLog<R>,
     blanks: Blanks,
 ) -> io::Result<Option<Totals>>
     requires bounds { AreWithinBounds settings }
@@ -312,7 +344,7 @@ fn serve_all<
     requires parts { K.parts ≡ parts_of blanks }
     requires all { parts_of blanks ≡ of_each ALL_PARTS }
 {
-    let log = Arc::new(alloc, Log::new())?;
+    let log = Arc::new(alloc, log)?;
     log.listening(settings.listen_addr(), settings.listen_port());
     let mut acceptor = Acceptor::new(&rt, alloc, listener)?;
     let mut workers = Workers::new(alloc)?;
@@ -326,35 +358,37 @@ fn serve_all<
     workers.join_all(&rt);
     pool.has_ended.store(true, Ordering::SeqCst);
     clock.join(&rt);
-    let totals = totals_of(pool)?;
-    log.ended(totals.as_ref());
+    let totals = totals_of(&rt, pool);
+    log.ended(&totals);
     Ok(totals)
 }
 
-/// The decisions of a pool that no thread shares any more.
-fn totals_of<R: PoolRuntime, F: Source, K: Ledgers>(
-    pool: Arc<Pool<R, F, K>>,
-) -> Result<Option<Totals>, AllocError> {
-    match Arc::try_unwrap(pool) {
-        Ok(pool) => pool.close(),
-        Err(_) => Ok(None),
-    }
-}
-
-/// The same, over new ledgers.
-pub fn serve_on<R: PoolRuntime + 'static, F: Source + Send + Sync + 'static>(
+/// Serves the connections of a listener, each on a thread of its own, over links of one desk: as many as `count` says, and then no
+/// more, or until the console ends it. It returns when the last is done, with what was decided; without it where a worker's share is
+/// missing, or memory was refused then. A thread more tells the desk the seconds, and closes the links that are idle or old; and one
+/// writes the log to `out`. Nobody waits for that, but for a second at the end.
+///
+/// A connection for which there is no thread, no poll, no pass or no memory is closed, and the others go on. The error is that the
+/// system has no poll for the listener or no thread for the clock or the log, or that an allocation failed before the first connection.
+pub fn serve_on<
+    R: PoolRuntime + 'static,
+    F: Source + Send + Sync + 'static,
+    W: Write + Drop + Send + 'static,
+>(
     rt: R,
     alloc: Global,
     listener: TcpListener,
     settings: Settings,
     users: Users,
     source: F,
+    out: W,
     seed: [u8; 32],
     count: Option<u64>,
 ) -> io::Result<Option<Totals>>
     requires { AreWithinBounds settings }
 {
-    serve_all::<R, F, Brand>(
+    let (log, writing) = begin(rt, alloc, out)?;
+    let served = serve_all::<R, F, Brand>(
         rt,
         alloc,
         listener,
@@ -363,6 +397,9 @@ pub fn serve_on<R: PoolRuntime + 'static, F: Source + Send + Sync + 'static>(
         source,
         seed,
         count,
+        PoolLog::new(rt, alloc, log),
         Blanks::new(),
-    )
+    );
+    writing.close(&rt);
+    served
 }

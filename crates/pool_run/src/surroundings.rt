@@ -2,7 +2,7 @@
 ghost use Rattle.std.specs.Prelude.{◌≡◌};
 
 use crate::keeping::{Keeper, Source, Unread};
-use crate::log::Log;
+use crate::log::PoolLog;
 use crate::runtime::PoolRuntime;
 use book_model::limits::Limits;
 use ini_config::DbRow;
@@ -18,7 +18,7 @@ pub struct Surroundings<R: PoolRuntime, F: Source> {
     pub(crate) rt: R,
     pub(crate) alloc: Global,
     pub(crate) keeper: Arc<Keeper<R, F>>,
-    pub(crate) log: Arc<Log>,
+    pub(crate) log: Arc<PoolLog<R>>,
 }
 
 impl<R: PoolRuntime, F: Source> Drop for Surroundings<R, F> {
@@ -45,7 +45,10 @@ impl<R: PoolRuntime, F: Source> Outside for Surroundings<R, F> {
 
     fn reload(&self) -> Option<(Arc<Limits>, Arc<Limits>)> {
         match self.keeper.reload() {
-            Ok(limits) => Some(limits),
+            Ok(limits) => {
+                self.log.reloaded();
+                Some(limits)
+            }
             Err(Unread::Fault(fault)) => {
                 self.log.not_reloaded(&fault);
                 None

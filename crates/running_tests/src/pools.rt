@@ -1,11 +1,11 @@
 //! A pool, and a stand-in server behind it, over the loopback network.
-ghost use Rattle.std.specs.Prelude.{IfOk};
+ghost use Rattle.std.specs.Prelude.{IfSome};
 ghost use Rattle.ini_config.specs.Bounds.{AreWithinBounds};
 
 use crate::pairs::listen;
-use desk_tallies::passes::Totals;
 use ini_config::laws::read_settings_are_within_bounds;
 use ini_config::{Settings, read_settings};
+use log_lines::events::Totals;
 use pool_run::keeping::{Source, Unread};
 use pool_run::pool::serve_on;
 use pool_run::runtime::PoolRuntime;
@@ -19,7 +19,7 @@ use std::sync::atomic::{AtomicBool, Ordering};
 use std::test::Fail;
 use std::thread::{JoinHandle, Threads};
 use std::time::Duration;
-use std::{net, thread};
+use std::{io, net, thread};
 use stub_server::server::stub_on;
 use user_file::{Users, read_users};
 
@@ -34,31 +34,27 @@ fn catalogue(alloc: Global) -> Result<Catalogue, Fail> {
     )
 }
 
-fn users(alloc: Global) -> Result<Users, Fail> {
-    Ok(
-        read_users(alloc, b"\"ann\" \"secret\"\n")
-            .ok()
-            .ok_or("no users")?,
-    )
+fn users(alloc: Global) -> Option<Users> {
+    read_users(alloc, b"\"ann\" \"secret\"\n").ok()
 }
 
-fn settings_of(alloc: Global, text: &[u8]) -> Result<Settings, Fail>
-    ensures { IfOk result (λ s. AreWithinBounds s) }
+fn settings_of(alloc: Global, text: &[u8]) -> Option<Settings>
+    ensures { IfSome result (λ s. AreWithinBounds s) }
 {
     read_settings_are_within_bounds();
     match read_settings(alloc, text) {
-        Ok(settings) => Ok(settings),
-        Err(_) => Err("no settings")?,
+        Ok(settings) => Some(settings),
+        Err(_) => None,
     }
 }
 
 /// A server of the loopback network at this port, and these options.
-fn settings(alloc: Global, port: u16, options: &str) -> Result<Settings, Fail>
-    ensures { IfOk result (λ s. AreWithinBounds s) }
+fn settings(alloc: Global, port: u16, options: &str) -> Option<Settings>
+    ensures { IfSome result (λ s. AreWithinBounds s) }
 {
     let text = format!(in alloc;
         "[databases]\nshop = host=127.0.0.1 port={port} dbname=shop\n[pgbouncer]\nauth_type = trust\n{options}"
-    )?;
+    ).ok()?;
     settings_of(alloc, text.as_bytes())
 }
 
@@ -105,12 +101,12 @@ impl Source for Elsewhere {
         if !self.was_asked.swap(true, Ordering::SeqCst) {
             return Err(Unread::Memory);
         }
-        let Ok(settings) = settings(self.alloc, self.port, self.options) else {
+        let Some(settings) = settings(self.alloc, self.port, self.options) else {
             return Err(Unread::Memory);
         };
         match users(self.alloc) {
-            Ok(users) => Ok((settings, users)),
-            Err(_) => Err(Unread::Memory),
+            Some(users) => Ok((settings, users)),
+            None => Err(Unread::Memory),
         }
     }
 }
@@ -126,16 +122,19 @@ pub fn start_pool_of<R: PoolRuntime + 'static>(
     count: Option<u64>,
 ) -> Result<(JoinHandle<Option<Totals>>, u16), Fail> {
     let (listener, port) = listen(&rt)?;
-    let settings = settings(alloc, server, options)?;
-    let users = users(alloc)?;
+    let settings = settings(alloc, server, options).ok_or("no settings")?;
+    let users = users(alloc).ok_or("no users")?;
     let pool = thread::spawn(
         &rt,
         move || -> Option<Totals>
             requires { AreWithinBounds settings }
         {
-            serve_on(rt, alloc, listener, settings, users, source, [0; 32], count)
-                .ok()
-                .flatten()
+            let log = io::sink();
+            serve_on(
+                rt, alloc, listener, settings, users, source, log, [0; 32], count,
+            )
+            .ok()
+            .flatten()
         },
     )?;
     Ok((pool, port))
