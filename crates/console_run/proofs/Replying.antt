@@ -1,5 +1,5 @@
 -- What a message came to.
-use Rattle.std.proofs.Common.{◌≡◌, ◌⊎◌, inl, inr, ℕ, Bool, true, false, List, [], ◌∷◌, ◌++◌, Option, Some, None, refl, sym, ap, ap₂, ◌∙◌, subst}
+use Rattle.std.proofs.Common.{◌≡◌, inl, inr, ℕ, Bool, false, List, [], ◌∷◌, Option, Some, None, refl, sym, ap, ap₂, ◌∙◌, subst}
 use Rattle.std.specs.Prelude.{Result, Ok, Err, IfOk}
 use Rattle.std.specs.Borrow.{Bor}
 use Rattle.std.specs.List.{flat_map}
@@ -21,15 +21,15 @@ use Rattle.console_core.specs.declared.commands.Command.TheVariants.{Act, Show}
 use Rattle.console_core.specs.declared.messages.Response as its
 use Rattle.console_core.specs.declared.messages.Response.TheVariants as response
 use Rattle.console_core.specs.Commands.{command_of, tag}
-use Rattle.console_core.specs.Messages.{Response, Frames, Answer, Leave}
+use Rattle.console_core.specs.Messages.{Response, Answer}
 use Rattle.console_core.specs.Replies.{done, ready, refused}
 use Rattle.console_core.specs.Views.{response_view}
 use Rattle.console_run.specs.declared.acting.Acted.{Acted}
 use Rattle.console_run.specs.declared.acting.Acted.TheVariants as acted
 use Rattle.console_run.specs.declared.answering.Answered.{Answered}
 use Rattle.console_run.specs.declared.answering.Answered.TheVariants as answered
-use Rattle.console_run.specs.Passing.{Pass, pass_of, after_action, called}
-use Rattle.console_run.specs.Exchanges.{IsActed, IsAnswer, IsResponse, IsShown, drops_after}
+use Rattle.console_run.specs.Passing.{Pass, pass_of, called}
+use Rattle.console_run.specs.Exchanges.{IsActed, IsAnswer, IsShown, drops_after}
 use Rattle.console_run.specs.Talks.{IsRefused, IsRefusedBy}
 use Rattle.console_run.specs.Turns.{HasActed, HasAnswered, HasResponded, IsSaid, IsShownAs, IsTold, acted_of, action_in, told_of}
 

@@ -8,8 +8,6 @@ use Rattle.message_view.specs.declared.refusal.Refusal.{Refusal}
 use Rattle.message_view.specs.declared.refusal.Refusal.TheVariants.{OutOfMemory}
 use Rattle.ini_config.specs.declared.option_values.Settings.{Settings}
 use Rattle.link_laws.specs.Standing.{ClientFacts}
-use Rattle.link_desk.specs.Passes.{PassOf, broken, one_other}
-use Rattle.link_desk.specs.declared.calls.Holder.{Holder}
 use Rattle.link_desk.specs.declared.answers.Changed.{Changed}
 use Rattle.link_desk.specs.declared.answers.Changed.TheVariants as changed
 use Rattle.console_core.specs.declared.commands.Action.{Action}
@@ -23,7 +21,7 @@ use Rattle.console_run.specs.declared.answering.Answered.{Answered}
 use Rattle.console_run.specs.declared.answering.Answered.TheVariants as answered
 use Rattle.console_run.specs.declared.talk.Turn.{Turn}
 use Rattle.console_run.specs.declared.talk.Turn.TheVariants as turn
-use Rattle.console_run.specs.Passing.{Pass, after_action, after_doing, broken_by, called}
+use Rattle.console_run.specs.Passing.{Pass, after_action, after_doing, broken_by}
 use Rattle.console_run.specs.Exchanges.{AreAnswered, Exchange, IsResponse, IsShown, after_exchanges, asked_bytes, drops_after, drops_behind, greeting, told_bytes}
 use Rattle.console_run.specs.Talks.{IsClientOver, IsRefused, IsRefusedBy, Leaves, MOST_TURNS, waits}
 
