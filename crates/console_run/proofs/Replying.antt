@@ -22,7 +22,11 @@ use Rattle.console_core.specs.declared.messages.Response as its
 use Rattle.console_core.specs.declared.messages.Response.TheVariants as response
 use Rattle.console_core.specs.Commands.{command_of, tag}
 use Rattle.console_core.specs.Messages.{Response, Answer}
-use Rattle.console_core.specs.Replies.{done, ready, refused}
+use Rattle.book_model.specs.Book.{Book}
+use Rattle.book_model.specs.Kept.{Kept}
+use Rattle.book_register.specs.Views.{View, view_of}
+use Rattle.link_desk.specs.Counts.{AtMost, class_counts}
+use Rattle.console_core.specs.Replies.{ReplyOf, answer, done, frames_of, ready, refused, reply_to}
 use Rattle.console_core.specs.Views.{response_view}
 use Rattle.console_run.specs.declared.acting.Acted.{Acted}
 use Rattle.console_run.specs.declared.acting.Acted.TheVariants as acted
@@ -34,13 +38,6 @@ use Rattle.console_run.specs.Talks.{IsRefused, IsRefusedBy}
 use Rattle.console_run.specs.Turns.{HasActed, HasAnswered, HasResponded, IsSaid, IsShownAs, IsTold, acted_of, action_in, told_of}
 
 -- ---- an action
-
-by_change : (c : Changed) (a : Action) (t u : PassOf) (h k : Holder) → u ≡ after_change t c → k ≡ called a h → HasActed (acted_of c) a (pass_of t h) (pass_of u k)
-by_change changed.Done a t u h k e f = ap₂ pass_of e f
-by_change changed.Last a t u h k e f = ap₂ pass_of e f
-
-pub changed_acted : (c : Changed) (x : Acted) (a : Action) (t u : PassOf) (h k : Holder) → x ≡ acted_of c → u ≡ after_change t c → k ≡ called a h → HasActed x a (pass_of t h) (pass_of u k)
-changed_acted c x a t u h k is e f = subst (λ (y : Acted). HasActed y a (pass_of t h) (pass_of u k)) (sym is) (by_change c a t u h k e f)
 
 acted_done : (a : Action) → IsActed a (done (tag a)) (Some a)
 acted_done Pause = (refl, refl)
@@ -64,47 +61,23 @@ faulty_answered a reply x p q is e h = subst (λ (y : Answered). HasAnswered (Is
 
 -- ---- a command
 
-shown_answers : (s : Settings) (command : Option Command) (told : List FrameOf) → action_in command ≡ None → IsShown s command told → IsAnswer s command told None
-shown_answers s None told e h = (h, refl)
-shown_answers s (Some (Show table)) told e h = (h, refl)
-shown_answers s (Some (Act a)) told e h = absurd (some_none e)
-  where
-    some_none : {b : Action} → Some b ≡ None → ⊥
-    some_none f = absurd cc
+-- over the book that a desk shows
+shown_so : (s : Settings) (p : Pass) (v : View) (text bytes : List ℕ) (r : ReplyOf) → (b : Book) × (Kept b × (v ≡ view_of b)) → AtMost p.told.made (class_counts v.counts) → r ≡ answer v s text → bytes ≡ flat_map spelling (frames_of r) → IsShownAs s p (command_of text) bytes
+shown_so s p v text bytes r k m e f = record {
+  told = frames_of r;
+  shown = record {
+    book = k.0;
+    kept = k.1.0;
+    counted = subst (λ (w : View). AtMost p.told.made (class_counts w.counts)) k.1.1 m;
+    told_is = ap frames_of e ∙ ap (λ (w : View). frames_of (reply_to w s (command_of text))) k.1.1;
+  };
+  bytes_are = f;
+}
 
-shown_told : {Z : Type 0} (s : Settings) (command : Option Command) (reply : Result Filled Z) (p q : Pass) → action_in command ≡ None → IfOk reply (λ (out : Filled). IsShownAs s command out.items) → q ≡ p → HasAnswered (IsAnswer s command) false (told_of reply false) p q
-shown_told s command (Ok reply) p q e x h = (record { told = x.told; does = None; answers_it = shown_answers s command x.told e x.shown; bytes_are = x.bytes_are; pass = h }, refl)
-shown_told s command (Err z) p q e x h = h
-
-pub shown_answered : {Z : Type 0} (s : Settings) (command : Option Command) (reply : Result Filled Z) (a : Answered) (p q : Pass) → a ≡ told_of reply false → action_in command ≡ None → IfOk reply (λ (out : Filled). IsShownAs s command out.items) → q ≡ p → HasAnswered (IsAnswer s command) false a p q
-shown_answered s command reply a p q is e x h = subst (λ (y : Answered). HasAnswered (IsAnswer s command) false y p q) (sym is) (shown_told s command reply p q e x h)
-
-acted_answers : (s : Settings) (command : Option Command) (a : Action) (told : List FrameOf) (does : Option Action) → action_in command ≡ Some a → IsActed a told does → IsAnswer s command told does
-acted_answers s (Some (Act b)) a told does e h = subst (λ (c : Action). IsActed c told does) (sym (same e)) h
-  where
-    same : Some b ≡ Some a → b ≡ a
-    same f = cc
-acted_answers s (Some (Show table)) a told does e h = absurd cc
-acted_answers s None a told does e h = absurd cc
-
--- what answers in one way answers in another
-answered_too : (one other : List FrameOf → Option Action → Type 0) (drops : Bool) (a : Answered) (p q : Pass) → ((told : List FrameOf) (does : Option Action) → one told does → other told does) → HasAnswered one drops a p q → HasAnswered other drops a p q
-answered_too one other drops (answered.Told reply dropping) p q f h = (record { told = h.0.told; does = h.0.does; answers_it = f h.0.told h.0.does h.0.answers_it; bytes_are = h.0.bytes_are; pass = h.0.pass }, h.1)
-answered_too one other drops answered.Left p q f h = h
-answered_too one other drops (answered.Refused r) p q f h = h
-
-pub acted_answered : (s : Settings) (command : Option Command) (a : Action) (x : Answered) (p q : Pass) → action_in command ≡ Some a → HasAnswered (IsActed a) false x p q → HasAnswered (IsAnswer s command) false x p q
-acted_answered s command a x p q e h = answered_too (IsActed a) (IsAnswer s command) false x p q (λ told does i. acted_answers s command a told does e i) h
-
--- ---- a message
-
-pub command_responded : (s : Settings) (r : Response) (text : List ℕ) (x : Answered) (p q : Pass) → Answer text ≡ r → HasAnswered (IsAnswer s (command_of text)) false x p q → HasResponded s r x p q
-command_responded s r text x p q e h = subst (λ (y : Response). HasResponded s y x p q) e (go x h)
-  where
-    go : (a : Answered) → HasAnswered (IsAnswer s (command_of text)) false a p q → HasResponded s (Answer text) a p q
-    go (answered.Told reply dropping) i = i
-    go answered.Left i = absurd i
-    go (answered.Refused t) i = i
+pub shown_in : {Z : Type 0} (s : Settings) (p : Pass) (v : View) (text : List ℕ) (r : ReplyOf) (reply : Result Filled Z) → (b : Book) × (Kept b × (v ≡ view_of b)) → AtMost p.told.made (class_counts v.counts) → r ≡ answer v s text → IfOk reply (λ (out : Filled). out.items ≡ flat_map spelling (frames_of r))
+    → IfOk reply (λ (out : Filled). IsShownAs s p (command_of text) out.items)
+shown_in s p v text r (Ok out) k m e f = shown_so s p v text out.items r k m e f
+shown_in s p v text r (Err z) k m e f = tt
 
 -- ---- a refusal of a whole message
 
