@@ -1,41 +1,29 @@
 -- What a message came to.
-use Rattle.std.proofs.Common.{◌≡◌, inl, inr, ℕ, Bool, false, List, [], ◌∷◌, Option, Some, None, refl, sym, ap, ap₂, ◌∙◌, subst}
+use Rattle.std.proofs.Common.{◌≡◌, inl, inr, ℕ, Bool, false, List, [], ◌∷◌, Some, None, refl, sym, ap, ◌∙◌, subst}
 use Rattle.std.specs.Prelude.{Result, Ok, Err, IfOk}
 use Rattle.std.specs.Borrow.{Bor}
 use Rattle.std.specs.List.{flat_map}
 use Rattle.bytes.specs.Filled.{Filled}
-use Rattle.frame_view.specs.Frames.{FrameOf, spelling}
+use Rattle.frame_view.specs.Frames.{spelling}
 use Rattle.message_view.specs.declared.refusal.Refusal.{Refusal}
 use Rattle.message_view.specs.declared.refusal.Refusal.TheVariants as refusal
 use Rattle.session_values.specs.declared.cause.Cause.TheVariants.{InvalidValue, MalformedMessage, NotSupported}
 use Rattle.session_values.specs.Errors.{error}
-use Rattle.link_desk.specs.declared.answers.Changed.{Changed}
-use Rattle.link_desk.specs.declared.answers.Changed.TheVariants as changed
-use Rattle.link_desk.specs.declared.calls.Holder.{Holder}
-use Rattle.link_desk.specs.Passes.{PassOf, after_change}
 use Rattle.ini_config.specs.declared.option_values.Settings.{Settings}
 use Rattle.console_core.specs.declared.commands.Action.{Action}
 use Rattle.console_core.specs.declared.commands.Action.TheVariants.{Pause, Resume, Reload, Shutdown}
-use Rattle.console_core.specs.declared.commands.Command.{Command}
-use Rattle.console_core.specs.declared.commands.Command.TheVariants.{Act, Show}
 use Rattle.console_core.specs.declared.messages.Response as its
 use Rattle.console_core.specs.declared.messages.Response.TheVariants as response
-use Rattle.console_core.specs.Commands.{command_of, tag}
-use Rattle.console_core.specs.Messages.{Response, Answer}
-use Rattle.book_model.specs.Book.{Book}
-use Rattle.book_model.specs.Kept.{Kept}
-use Rattle.book_register.specs.Views.{View, view_of}
-use Rattle.link_desk.specs.Counts.{AtMost, class_counts}
-use Rattle.console_core.specs.Replies.{ReplyOf, answer, done, frames_of, ready, refused, reply_to}
+use Rattle.console_core.specs.Commands.{tag}
+use Rattle.console_core.specs.Messages.{Response}
+use Rattle.console_core.specs.Replies.{done, ready, refused}
 use Rattle.console_core.specs.Views.{response_view}
-use Rattle.console_run.specs.declared.acting.Acted.{Acted}
 use Rattle.console_run.specs.declared.acting.Acted.TheVariants as acted
 use Rattle.console_run.specs.declared.answering.Answered.{Answered}
-use Rattle.console_run.specs.declared.answering.Answered.TheVariants as answered
-use Rattle.console_run.specs.Passing.{Pass, pass_of, called}
-use Rattle.console_run.specs.Exchanges.{IsActed, IsAnswer, IsShown, drops_after}
+use Rattle.console_run.specs.Passing.{Pass}
+use Rattle.console_run.specs.Exchanges.{IsActed, drops_after}
 use Rattle.console_run.specs.Talks.{IsRefused, IsRefusedBy}
-use Rattle.console_run.specs.Turns.{HasActed, HasAnswered, HasResponded, IsSaid, IsShownAs, IsTold, acted_of, action_in, told_of}
+use Rattle.console_run.specs.Turns.{HasActed, HasAnswered, HasResponded, IsSaid, IsTold, told_of}
 
 -- ---- an action
 
@@ -58,26 +46,6 @@ faulty_told Shutdown reply p q e h = absurd h
 
 pub faulty_answered : {Z : Type 0} (a : Action) (reply : Result Filled Z) (x : Answered) (p q : Pass) → x ≡ told_of reply false → IfOk reply (λ (out : Filled). out.items ≡ flat_map spelling (refused InvalidValue)) → HasActed acted.Faulty a p q → HasAnswered (IsActed a) false x p q
 faulty_answered a reply x p q is e h = subst (λ (y : Answered). HasAnswered (IsActed a) false y p q) (sym is) (faulty_told a reply p q e h)
-
--- ---- a command
-
--- over the book that a desk shows
-shown_so : (s : Settings) (p : Pass) (v : View) (text bytes : List ℕ) (r : ReplyOf) → (b : Book) × (Kept b × (v ≡ view_of b)) → AtMost p.told.made (class_counts v.counts) → r ≡ answer v s text → bytes ≡ flat_map spelling (frames_of r) → IsShownAs s p (command_of text) bytes
-shown_so s p v text bytes r k m e f = record {
-  told = frames_of r;
-  shown = record {
-    book = k.0;
-    kept = k.1.0;
-    counted = subst (λ (w : View). AtMost p.told.made (class_counts w.counts)) k.1.1 m;
-    told_is = ap frames_of e ∙ ap (λ (w : View). frames_of (reply_to w s (command_of text))) k.1.1;
-  };
-  bytes_are = f;
-}
-
-pub shown_in : {Z : Type 0} (s : Settings) (p : Pass) (v : View) (text : List ℕ) (r : ReplyOf) (reply : Result Filled Z) → (b : Book) × (Kept b × (v ≡ view_of b)) → AtMost p.told.made (class_counts v.counts) → r ≡ answer v s text → IfOk reply (λ (out : Filled). out.items ≡ flat_map spelling (frames_of r))
-    → IfOk reply (λ (out : Filled). IsShownAs s p (command_of text) out.items)
-shown_in s p v text r (Ok out) k m e f = shown_so s p v text out.items r k m e f
-shown_in s p v text r (Err z) k m e f = tt
 
 -- ---- a refusal of a whole message
 
