@@ -1,5 +1,5 @@
 -- What stays of a pass, whatever is done.
-use Rattle.std.proofs.Common.{◌≡◌, ℕ, ◌≤◌, List, [], ◌∷◌, Option, Some, None, refl, sym, ap, ◌∙◌, subst, arith, le_refl}
+use Rattle.std.proofs.Common.{◌≡◌, ℕ, ◌≤◌, true≢false, List, [], ◌∷◌, Option, Some, None, refl, sym, ap, ◌∙◌, subst, arith, le_refl}
 use Rattle.message_view.specs.declared.refusal.Refusal.{Refusal}
 use Rattle.message_view.specs.declared.refusal.Refusal.TheVariants as refusal
 use Rattle.link_desk.specs.Passes.{PassOf}
@@ -16,7 +16,7 @@ pub record Keeps (p q : Pass) : Type 0 where
 
 pub keeps_none : (p : Pass) → Keeps p p
 keeps_none p = record {
-  share = record { arrived = refl; granted = refl; given_back = refl; lost = refl; left = refl; others = le_refl p.told.made.others };
+  share = record { arrived = refl; granted = refl; given_back = refl; lost = refl; left = refl; others = le_refl p.told.made.others; unbroken = λ e. e };
   holder = record { client = refl; lease = refl; refused = refl };
 }
 
@@ -29,13 +29,14 @@ keeps_further p q r x y = record {
     lost = y.share.lost ∙ x.share.lost;
     left = y.share.left ∙ x.share.left;
     others = omega (arith, x.share.others, y.share.others);
+    unbroken = λ e. x.share.unbroken (y.share.unbroken e);
   };
   holder = record { client = y.holder.client ∙ x.holder.client; lease = y.holder.lease ∙ x.holder.lease; refused = y.holder.refused ∙ x.holder.refused };
 }
 
 keeps_action : (a : Action) (p : Pass) → Keeps p (after_action a p)
 keeps_action a p = record {
-  share = record { arrived = refl; granted = refl; given_back = refl; lost = refl; left = refl; others = omega arith };
+  share = record { arrived = refl; granted = refl; given_back = refl; lost = refl; left = refl; others = omega arith; unbroken = λ e. e };
   holder = record { client = refl; lease = refl; refused = refl };
 }
 
@@ -49,7 +50,7 @@ keeps_exchanges (x ∷ xs) p = keeps_further p (after_doing x.does p) (after_exc
 
 keeps_broken : (a : Action) (p : Pass) → Keeps p (broken_by a p)
 keeps_broken a p = record {
-  share = record { arrived = refl; granted = refl; given_back = refl; lost = refl; left = refl; others = le_refl p.told.made.others };
+  share = record { arrived = refl; granted = refl; given_back = refl; lost = refl; left = refl; others = le_refl p.told.made.others; unbroken = λ e. absurd (true≢false e) };
   holder = record { client = refl; lease = refl; refused = refl };
 }
 

@@ -146,7 +146,7 @@ exchanged s c held rest unwritten drops dropping f reply p q w e i h = record {
   given = λ t. sym (append-nil c.given);
   heard = append-nil held ∙ (e ∙ ap (λ (l : List ℕ). l ++ rest) (sym (append-nil (spelling f))));
   told = ap (λ (l : List ℕ). l ++ (flat_map spelling h.0.told ++ [])) w ∙ (append-nil (flat_map spelling h.0.told) ∙ sym h.0.bytes_are);
-  answered = (i, (h.0.answers_it, tt));
+  answered = (i, h.0.answers_it, tt);
   drops = h.1;
   pass = h.0.pass;
   faults = le_refl c.faults;
@@ -216,17 +216,17 @@ message_faulty s v p q f w t e = record { at = p; goes = goes_none s v p; writte
 same_tells : (step : Step) (limit limit_of : ℕ) (bytes held : List ℕ) → limit ≡ limit_of → bytes ≡ held → Tells step bytes (front Client limit bytes) → Tells step held (front Client limit_of held)
 same_tells step limit limit_of bytes held e f t = subst (λ (n : ℕ). Tells step held (front Client n held)) e (subst (λ (l : List ℕ). Tells step l (front Client limit l)) f t)
 
-pub heard_told : FrontIsSpelled → (s : Settings) (v : TalkView) (c : ClientFacts) (held unwritten bytes left : List ℕ) (drops dropping : Bool) (frame : Frame) (reply : Filled) (limit : ℕ) (x : Answered) (p q : Pass) → talk_view c held unwritten drops ≡ v → v.unwritten ≡ [] → limit ≡ s.max_packet_size → bytes ≡ held → AreBytes bytes
+pub heard_told : FrontIsSpelled → (s : Settings) (v : TalkView) (c : ClientFacts) (held unwritten read bytes left : List ℕ) (drops dropping : Bool) (frame : Frame) (reply : Filled) (limit : ℕ) (x : Answered) (p q : Pass) → talk_view c held unwritten drops ≡ v → v.unwritten ≡ [] → limit ≡ s.max_packet_size → read ≡ held → AreBytes read → bytes ≡ held
     → Tells (Whole frame) bytes (front Client limit bytes) → HasResponded s (response_to drops (frame_of frame)) x p q → x ≡ answered.Told reply dropping → left ≡ drop (length frame.whole.now) held → Goes s 1 v (talk_view c left reply.items dropping) p q
-heard_told law s v c held unwritten bytes left drops dropping frame reply limit x p q e w m f b t h i l =
+heard_told law s v c held unwritten read bytes left drops dropping frame reply limit x p q e w m a b f t h i l =
     subst (λ (y : TalkView). Goes s 1 y (talk_view c left reply.items dropping) p q) e
     (subst (λ (y : List ℕ). Goes s 1 (talk_view c held unwritten drops) (talk_view c y reply.items dropping) p q) (sym l)
-    (message_told law s c held unwritten drops dropping frame reply p q (subst AreBytes f b) (ap (λ (y : TalkView). y.unwritten) e ∙ w) (same_tells (Whole frame) limit s.max_packet_size bytes held m f t) (subst (λ (y : Answered). HasResponded s (response_to drops (frame_of frame)) y p q) i h)))
+    (message_told law s c held unwritten drops dropping frame reply p q (subst AreBytes a b) (ap (λ (y : TalkView). y.unwritten) e ∙ w) (same_tells (Whole frame) limit s.max_packet_size bytes held m f t) (subst (λ (y : Answered). HasResponded s (response_to drops (frame_of frame)) y p q) i h)))
 
-pub heard_left : FrontIsSpelled → (s : Settings) (v : TalkView) (bytes : List ℕ) (drops : Bool) (frame : Frame) (limit : ℕ) (x : Answered) (p q : Pass) → drops ≡ v.drops → v.unwritten ≡ [] → limit ≡ s.max_packet_size → bytes ≡ v.held → AreBytes bytes → Tells (Whole frame) bytes (front Client limit bytes) → HasResponded s (response_to drops (frame_of frame)) x p q
+pub heard_left : FrontIsSpelled → (s : Settings) (v : TalkView) (read bytes : List ℕ) (drops : Bool) (frame : Frame) (limit : ℕ) (x : Answered) (p q : Pass) → drops ≡ v.drops → v.unwritten ≡ [] → limit ≡ s.max_packet_size → read ≡ v.held → AreBytes read → bytes ≡ v.held → Tells (Whole frame) bytes (front Client limit bytes) → HasResponded s (response_to drops (frame_of frame)) x p q
     → x ≡ answered.Left → HasGone s v v p q
-heard_left law s v bytes drops frame limit x p q d w m f b t h i =
-    message_left law s v frame p q (subst AreBytes f b) w (same_tells (Whole frame) limit s.max_packet_size bytes v.held m f t)
+heard_left law s v read bytes drops frame limit x p q d w m a b f t h i =
+    message_left law s v frame p q (subst AreBytes a b) w (same_tells (Whole frame) limit s.max_packet_size bytes v.held m f t)
     (subst (λ (y : Answered). HasResponded s (response_to v.drops (frame_of frame)) y p q) i (subst (λ (y : Bool). HasResponded s (response_to y (frame_of frame)) x p q) d h))
 
 pub heard_refused : (s : Settings) (v : TalkView) (r : Refusal) (message : Response) (x : Answered) (p q : Pass) → v.unwritten ≡ [] → HasResponded s message x p q → x ≡ answered.Refused r → IsRefusedAt s v v p q r
@@ -265,13 +265,8 @@ pub ended_tells : (s : Settings) (old new : TalkView) (p q : Pass) (last : Optio
 ended_tells s old new p q None h = h.goes.tells
 ended_tells s old new p q (Some r) h = h.goes.tells
 
--- a turn, after which it goes on
-pub turned_on : (s : Settings) (n : ℕ) (old mid new : TalkView) (p q r : Pass) (t : Turn) → (t ≡ turn.Again) ⊎ (t ≡ turn.Wait) → Goes s n old mid p q → HasTurned s mid new q r t → Goes s (n + 1) old new p r
-turned_on s n old mid new p q r t (inl e) g h = goes_further s n 1 old mid new p q r g (subst (λ (x : Turn). HasTurned s mid new q r x) e h)
-turned_on s n old mid new p q r t (inr e) g h = goes_further s n 1 old mid new p q r g (subst (λ (x : Turn). HasTurned s mid new q r x) e h)
-
 -- what was said in a talk
-said_in : (s : Settings) (n : ℕ) (word : KeyWord) (c : ClientFacts) (v : TalkView) (p q : Pass) → Goes s n (greeted c word) v p q → Said
+abbrev said_in : (s : Settings) (n : ℕ) (word : KeyWord) (c : ClientFacts) (v : TalkView) (p q : Pass) → Goes s n (greeted c word) v p q → Said
 said_in s n word c v p q g = record { exchanges = g.exchanges; held = v.held; put = g.put; unwritten = v.unwritten }
 
 talked : (s : Settings) (n : ℕ) (word : KeyWord) (c : ClientFacts) (v : TalkView) (p at q : Pass) (last : Option Refusal) (g : Goes s n (greeted c word) v p at) → EndsBy s.max_packet_size c v.client (said_in s n word c v p at g) last (after_exchanges g.exchanges p) q → Talks s word c v.client p q last
@@ -292,6 +287,9 @@ why_over s word c v p q h = go h.why
     go (inr (inl o)) = inr (inl o)
     go (inr (inr m)) = inr (inr (omega (arith, m, h.goes.counted, ap (λ (l : List ℕ). length l) h.goes.heard)))
 
-pub served : (s : Settings) (word : KeyWord) (c : ClientFacts) (v : TalkView) (p q : Pass) (last : Option Refusal) → HasEnded s (greeted c word) v p q last → IsServed s word c v.client p q last
+served : (s : Settings) (word : KeyWord) (c : ClientFacts) (v : TalkView) (p q : Pass) (last : Option Refusal) → HasEnded s (greeted c word) v p q last → IsServed s word c v.client p q last
 served s word c v p q None h = inr (talked s h.turns word c v p q q None h.goes (why_over s word c v p q h, h.goes.pass))
 served s word c v p q (Some r) h = inr (talked s 0 word c v p h.at q (Some r) h.goes (h.written, subst (λ (x : Pass). IsRefused s.max_packet_size v.held r x q) h.goes.pass h.refused))
+
+pub served_by : (s : Settings) (word : KeyWord) (c d : ClientFacts) (begun v : TalkView) (p q : Pass) (last : Option Refusal) → begun ≡ greeted c word → d ≡ v.client → HasEnded s begun v p q last → IsServed s word c d p q last
+served_by s word c d begun v p q last e f h = subst (λ (x : ClientFacts). IsServed s word c x p q last) (sym f) (served s word c v p q last (subst (λ (x : TalkView). HasEnded s x v p q last) e h))

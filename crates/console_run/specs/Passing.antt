@@ -1,5 +1,5 @@
 -- What the console's actions do to the pass of its client.
-use Rattle.std.specs.Prelude.{◌≡◌, ◌≤◌, Option, Some, None}
+use Rattle.std.specs.Prelude.{◌≡◌, ◌≤◌, false, Option, Some, None}
 use Rattle.link_desk.specs.declared.calls.Call.{Call}
 use Rattle.link_desk.specs.declared.calls.Call.TheVariants as call
 use Rattle.link_desk.specs.declared.calls.Holder.{Holder}
@@ -40,7 +40,7 @@ after_doing (Some a) p = after_action a p
 
 -- ---- what stays, whatever was done
 
--- no decision but those of the class of the others
+-- no decision but those of the class of the others, and a pass that was broken stays so
 pub record Manages (p q : PassOf) : Type 0 where
   pub arrived : q.made.arrived ≡ p.made.arrived
   pub granted : q.made.granted ≡ p.made.granted
@@ -48,6 +48,7 @@ pub record Manages (p q : PassOf) : Type 0 where
   pub lost : q.made.lost ≡ p.made.lost
   pub left : q.made.left ≡ p.made.left
   pub others : p.made.others ≤ q.made.others
+  pub unbroken : q.is_broken ≡ false → p.is_broken ≡ false
 
 -- the client, its link, and what it was refused by
 pub record IsSameHolder (h k : Holder) : Type 0 where
