@@ -104,12 +104,12 @@ class Waiting(threading.Thread):
 
 
 class Logged(Pooler):
-    """A pooler whose log is a file, with further lines in [pgbouncer]."""
+    """A pooler whose log is a file, and tells of clients that come and go where it is asked to."""
 
-    def __init__(self, place, cluster, program, lines="", **settings):
+    def __init__(self, place, cluster, program, tells_all=False, **settings):
         super().__init__(place, cluster, program, auth="md5", **settings)
-        if lines:
-            self.write("pgsess.ini", self.read("pgsess.ini") + lines)
+        if tells_all:
+            self.edit("^(log_.*connections) = 0", r"\g<1> = 1")
             status, _, errors = console(self.port, "RELOAD")
             if status:
                 sys.exit(f"the first RELOAD: {errors}")
@@ -137,9 +137,9 @@ class Show:
         self.place = Place()
         self.cluster = self.other = None
 
-    def pooler(self, lines="", **settings):
+    def pooler(self, **settings):
         (self.place.folder / "pgsess.err").unlink(missing_ok=True)
-        return Logged(self.place, self.cluster, self.program, lines, **settings)
+        return Logged(self.place, self.cluster, self.program, **settings)
 
     # ---- a. the tables
 
@@ -249,7 +249,7 @@ class Show:
 
     def shut(self):
         """Working, waiting and silent clients and the console's own, each ends as it should."""
-        pooler = self.pooler("", size=2)
+        pooler = self.pooler(size=2)
         workers = [Worker(pooler.port) for _ in range(2)]
         waiting = [Waiting(pooler.port) for _ in range(2)]
         until(lambda: figures(pooler.port) == [2, 2, 2, 0], 10)
@@ -285,7 +285,7 @@ class Show:
     def lines(self):
         """Each kind of line once, of a client that is there or that comes."""
         closed = free_port()
-        pooler = self.pooler("log_connections = 1\nlog_disconnections = 1\n", size=1, wait=1, clients=3, closed=closed)
+        pooler = self.pooler(tells_all=True, size=1, wait=1, clients=3, closed=closed)
         ann, shop = r"client \d+ ann@shop from 127\.0\.0\.1:\d+", rf"127\.0\.0\.1:{self.cluster.port}"
         self.told(pooler, "where it listens", rf"^pgsess: listening 127\.0\.0\.1 {pooler.port}$")
         one = self.client(pooler)
