@@ -61,6 +61,7 @@ gate:
 	scripts/welcomes.sh $(program)
 	scripts/cursors.sh $(program)
 	scripts/postgres.sh $(program)
+	scripts/console.sh $(program)
 	scripts/abuse.sh $(program)
 	scripts/show.py $(program)
 	scripts/packaging.sh $(program)

@@ -104,12 +104,12 @@ class Waiting(threading.Thread):
 
 
 class Logged(Pooler):
-    """A pooler whose log is a file, with further lines in [pgbouncer]."""
+    """A pooler whose log is a file, and tells of clients that come and go where it is asked to."""
 
-    def __init__(self, place, cluster, program, lines="", **settings):
+    def __init__(self, place, cluster, program, tells_all=False, **settings):
         super().__init__(place, cluster, program, auth="md5", **settings)
-        if lines:
-            self.write("pgsess.ini", self.read("pgsess.ini") + lines)
+        if tells_all:
+            self.edit("^(log_.*connections) = 0", r"\g<1> = 1")
             status, _, errors = console(self.port, "RELOAD")
             if status:
                 sys.exit(f"the first RELOAD: {errors}")
@@ -137,9 +137,9 @@ class Show:
         self.place = Place()
         self.cluster = self.other = None
 
-    def pooler(self, lines="", **settings):
+    def pooler(self, **settings):
         (self.place.folder / "pgsess.err").unlink(missing_ok=True)
-        return Logged(self.place, self.cluster, self.program, lines, **settings)
+        return Logged(self.place, self.cluster, self.program, **settings)
 
     # ---- a. the tables
 
@@ -196,8 +196,8 @@ class Show:
         out, errors = bench.communicate(timeout=60)
         failed = [line for line in errors.decode().splitlines() if "error" in line or "FATAL" in line or "aborted" in line]
         self.passes.same("pgbench -C of 8 clients over PAUSE and RESUME: no error", (bench.returncode, failed), (0, []))
-        self.told(pooler, "PAUSE", r"pause")
-        self.told(pooler, "RESUME", r"resume")
+        for name, words in (("PAUSE", "paused"), ("RESUME", "resumed")):
+            self.told(pooler, name, rf"^pgsess: client \d+ root@pgbouncer from 127\.0\.0\.1:\d+ {words} the pool$")
         pooler.stop()
 
     def told(self, pooler, name, pattern):
@@ -235,20 +235,21 @@ class Show:
             pooler.write(name, spoilt + kept.replace("default_pool_size = 4", "default_pool_size = 5"))
             status, _, errors = console(pooler.port, "RELOAD", "-v", "VERBOSITY=sqlstate")
             self.passes.same(f"RELOAD with a fault in {name}", (status, errors), (1, "ERROR:  22023\n"))
-            self.told(pooler, f"a fault in {name}", rf"{code} line {line} of .*{name}")
+            self.told(pooler, f"a fault in {name}", rf"^pgsess: not reloaded: {code} line {line} of /.*/{name}$")
             pooler.write(name, kept)
             self.passes.same("nothing is changed", (value(pooler.port, "default_pool_size"), table(pooler.port, "VERSION")), ("4", [{"version": "pgsess 1"}]))
         (self.place.folder / "users.txt").rename(self.place.folder / "away.txt")
         self.passes.same("RELOAD without the user file", console(pooler.port, "RELOAD")[0], 1)
-        self.told(pooler, "a file that can't be read", r"file .*users\.txt")
+        self.told(pooler, "a file that can't be read", r"^pgsess: not reloaded: file /.*/users\.txt$")
         (self.place.folder / "away.txt").rename(self.place.folder / "users.txt")
         self.passes.same("RELOAD once it is there again", console(pooler.port, "RELOAD")[0], 0)
+        self.told(pooler, "RELOAD", r"^pgsess: reloaded$")
 
     # ---- d. SHUTDOWN
 
     def shut(self):
         """Working, waiting and silent clients and the console's own, each ends as it should."""
-        pooler = self.pooler("", size=2)
+        pooler = self.pooler(size=2)
         workers = [Worker(pooler.port) for _ in range(2)]
         waiting = [Waiting(pooler.port) for _ in range(2)]
         until(lambda: figures(pooler.port) == [2, 2, 2, 0], 10)
@@ -271,40 +272,59 @@ class Show:
         asking.leave()
         self.passes.holds("then it ends", until(lambda: not pooler.runs(), 10))
         self.passes.same("with status 0", pooler.process.returncode, 0)
-        # 2 clients were lent a link, and the two that waited, the silent one, this console and two of psql's arrived or were refused
         self.passes.same("SHOW TOTALS at the end: starts, reuses, losses", [totals[1], totals[2], totals[4]], ["2", "0", "0"])
-        self.told(pooler, "the totals", r"2 granted|granted[ =:]+2|grants[ =:]+2")
+        self.told(pooler, "SHUTDOWN", r"^pgsess: client \d+ root@pgbouncer from 127\.0\.0\.1:\d+ shuts the pool down$")
+        # two worked and two waited; one console asked, and psql's for SHUTDOWN and before that for tables, whose number varies
+        self.told(pooler, "the totals", r"^pgsess: shut down: \d+ decisions, 2 starts; \d+ arrived, 2 granted, 2 given back, 0 lost, \d+ left, \d+ others$")
+        told = re.search(r"shut down: (\d+) decisions, .* (\d+) arrived, .* (\d+) left", pooler.log())
+        self.passes.holds("the totals: who arrived left, and no decision is missing", told and told[2] == told[3] and int(told[1]) >= int(totals[0]), f"{told} {totals}")
         pooler.stop()
 
     # ---- e. the log
 
     def lines(self):
-        """Each kind of line once."""
-        pooler = self.pooler("log_connections = 1\nlog_disconnections = 1\n", size=1, wait=1, clients=4, closed=free_port())
-        self.told(pooler, "where it listens", rf"listening .*{pooler.port}")
-        one = Client(pooler.port, "ann", "shop", USERS["ann"][0])
-        self.refused(pooler, "query_wait_timeout", user="ann")
-        self.refused(pooler, "a wrong password", user="ann", password="other")
-        self.refused(pooler, "an unknown database", user="ann", database="nowhere")
-        self.refused(pooler, "a parameter", user="ann", search_path="x")
-        self.refused(pooler, "a server that isn't reached", user="ann", database="closed")
+        """Each kind of line once, of a client that is there or that comes."""
+        closed = free_port()
+        pooler = self.pooler(tells_all=True, size=1, wait=1, clients=3, closed=closed)
+        ann, shop = r"client \d+ ann@shop from 127\.0\.0\.1:\d+", rf"127\.0\.0\.1:{self.cluster.port}"
+        self.told(pooler, "where it listens", rf"^pgsess: listening 127\.0\.0\.1 {pooler.port}$")
+        one = self.client(pooler)
+        self.told(pooler, "a client that is let in", rf"^pgsess: {ann} in$")
+        self.refused(pooler, "query_wait_timeout", "57P03", "ann")
+        self.told(pooler, "a client that has waited too long", rf"^pgsess: {ann} refused after \d+\.\d s: query_wait_timeout \(P5\)$")
+        self.refused(pooler, "a wrong password", "28P01", "ann", password="other")
+        self.told(pooler, "a wrong password", r"failed after \d+\.\d s: password authentication failed \(28P01\)$")
+        self.refused(pooler, "an unknown database", "3D000", "ann", database="nowhere")
+        self.told(pooler, "an unknown database", r"failed after \d+\.\d s: database does not exist \(3D000\)$")
+        self.refused(pooler, "a parameter", "0A000", "ann", search_path="x")
+        self.told(pooler, "a parameter that isn't served", r'refused after \d+\.\d s: unsupported startup parameter "search_path" \(P4\)$')
+        self.refused(pooler, "a server that isn't reached", "08001", "ann", database="closed")
+        self.told(pooler, "a server that isn't reached", rf"refused after \d+\.\d s: server 127\.0\.0\.1:{closed} could not be reached \(P7\)$")
+        others = [Waiting(pooler.port) for _ in range(3)]
+        for other in others:
+            other.join(20)
+        self.told(pooler, "too many clients", r"refused after \d+\.\d s: too many client connections \(P1\)$")
         one.ask("BEGIN")
         one.leave()
-        for name, pattern in (
-                ("a client that is let in", r"ann.*shop|shop.*ann"), ("query_wait_timeout", r"query_wait_timeout"),
-                ("a wrong password", r"password"), ("an unknown database", r"nowhere"), ("a parameter", r"search_path"),
-                ("a server that isn't reached", rf"{pooler.port and 'closed'}"), ("a link that is lost in a block", r"block|transaction")):
-            self.told(pooler, name, pattern)
-        os.kill(self.link(pooler), signal.SIGTERM)
+        self.told(pooler, "a link that is closed within a block", rf"^pgsess: {ann} link \d+ closed: left within a transaction block$")
+        self.told(pooler, "a client that goes", rf"^pgsess: {ann} out after \d+\.\d s$")
+        self.asks_for_more(pooler, shop)
         pooler.stop()
 
-    def link(self, pooler):
-        """The server process of a link."""
-        Client(pooler.port, "ann", "shop", USERS["ann"][0]).leave()
-        until(lambda: self.cluster.backends(), 5)
-        return self.cluster.backends()[0]
+    def asks_for_more(self, pooler, shop):
+        """A server that refuses a user, and one that asks for SCRAM."""
+        self.cluster.tell("ALTER ROLE ann NOLOGIN", "postgres")
+        self.refused(pooler, "a user without LOGIN", "28000", "ann")
+        self.told(pooler, "a server's refusal", rf"refused after \d+\.\d s: server {shop} refused the start: 28000 ")
+        self.cluster.tell("SET password_encryption = 'scram-sha-256'; ALTER ROLE ann LOGIN PASSWORD 'secret'", "postgres")
+        self.refused(pooler, "a server that asks for SCRAM", "08001", "ann")
+        self.told(pooler, "a server that asks for SCRAM", rf"server {shop} asks for SCRAM \(authentication method 10\), which isn't served: use md5 or a password \(P7\)$")
+        self.cluster.tell("ALTER ROLE ann PASSWORD 'secret'", "postgres")
 
-    def refused(self, pooler, name, user, database="shop", password=None, **parameters):
+    def client(self, pooler):
+        return Client(pooler.port, "ann", "shop", USERS["ann"][0])
+
+    def refused(self, pooler, name, wanted, user, database="shop", password=None, **parameters):
         try:
             Client(pooler.port, user, database, USERS[user][0] if password is None else password, **parameters).leave()
             told = "let in"
@@ -312,7 +332,7 @@ class Show:
             told = error.code
         except (Cut, OSError):
             told = "cut"
-        self.passes.holds(f"refused: {name}", told not in ("let in", "cut"), told)
+        self.passes.same(f"refused: {name}", told, wanted)
 
     def unread(self):
         """Nobody reads the log: a thousand clients are refused at full speed."""

@@ -114,6 +114,24 @@ fn settings_of_choices(rt: HostRuntime) -> Result<(), Fail> {
     Ok(())
 }
 
+#[test]
+fn settings_of_the_log(rt: HostRuntime) -> Result<(), Fail> {
+    let files: [(&[u8], [bool; 2]); 4] = [
+        (b"", [false, false]),
+        (b"[pgbouncer]\nlog_connections = 1\n", [true, false]),
+        (b"[pgbouncer]\nlog_disconnections=1\n", [false, true]),
+        (
+            b"[pgbouncer]\nlog_connections = yes\nlog_disconnections = 01\n",
+            [false, false],
+        ),
+    ];
+    for (text, expected) in files {
+        let settings = read_settings(rt.alloc(), text)?;
+        assert!(rt; [settings.log_connections(), settings.log_disconnections()] == expected);
+    }
+    Ok(())
+}
+
 /// How many names each of the three lists has.
 fn lengths(settings: &Settings) -> [usize; 3] {
     [

@@ -251,9 +251,10 @@ fn second<T: Clock>(rt: &T, start: &mut Option<Instant>) -> Option<u64> {
 
 /// A client that comes now.
 fn visit_of<R: Clock>(rt: &R, peer: Peer) -> Visit {
+    let Peer { host, port } = peer;
     Visit {
-        host: peer.host,
-        port: peer.port,
+        host,
+        port,
         since: Instant::now(rt).ok(),
     }
 }
