@@ -1,6 +1,6 @@
 -- A client of the console.
-use Rattle.std.proofs.Common.{◌≡◌, ◌⊎◌, ℕ, true, List, [], ◌∷◌, ◌++◌, inl, inr, refl, sym, ap, ap₂, ◌∙◌, subst, arith, append-nil, append_assoc, take, length, Option}
-use Rattle.std.proofs.lemmas.List.{flat_map-append, take-length}
+use Rattle.std.proofs.Common.{◌≡◌, ◌⊎◌, ℕ, true, List, [], ◌∷◌, ◌++◌, inl, inr, refl, sym, ap, ap₂, ◌∙◌, subst, arith, append-nil, append_assoc, take, take_all, length, Option}
+use Rattle.std.proofs.lemmas.Grind.{flat_map-append}
 use Rattle.message_view.specs.declared.KeyWord.{KeyWord}
 use Rattle.message_view.specs.declared.refusal.Refusal.{Refusal}
 use Rattle.message_view.specs.Refusals.{joined_pieces}
@@ -65,7 +65,7 @@ said_joined (said.Refusal r) p = absurd p
 
 pieces_joined : (done : List (List ℕ)) (s : Said) (sent : ℕ) → IsPiece s → sent ≡ length (said_bytes s) → joined_pieces done ++ take sent (said_bytes s) ≡ joined_pieces (done ++ said_pieces s)
 pieces_joined done s sent p e =
-    ap (λ (l : List ℕ). joined_pieces done ++ l) (ap (λ (n : ℕ). take n (said_bytes s)) e ∙ (take-length (said_bytes s) ∙ sym (said_joined s p)))
+    ap (λ (l : List ℕ). joined_pieces done ++ l) (ap (λ (n : ℕ). take n (said_bytes s)) e ∙ (take_all (length (said_bytes s)) (said_bytes s) (omega arith) ∙ sym (said_joined s p)))
     ∙ sym (flat_map-append (λ (b : List ℕ). b) done (said_pieces s))
 
 pub managed : (v : RunView) (before after : ClientFacts) (p q : Pass) (last : Option Refusal) → IsRun v → v.phase ≡ Console → IsAllGiven v → before ≡ v.client → v.client.tells ≡ true → IsServedAtConsole v.login.settings v.login.word before after p q last → IsManaged v.login after last
@@ -126,11 +126,11 @@ guest_serves home v g before c (ending.Managed r) x h = absurd x
 -- a client that was told its last word
 module _ (home : HomeOf) (v : LoginView) (before after : ClientFacts) (p q : PassOf) where
   pub told_as : (e : Ending) → HasGiven before after (last_bytes (word_of e)) → before.tells ≡ true → CameIn home v before e → Traces AtArrival p q e → ServesAs home v before e → IsAllowed home v p q after ⊎ IsAtConsole v after.taken
-  told_as ending.Left h t c x s = inl (told_client home v before after p q _ h t (word_traces p q home v before ending.Left tt c x) s)
-  told_as (ending.Refused r) h t c x s = inl (told_client home v before after p q _ h t (word_traces p q home v before (ending.Refused r) tt c x) s)
-  told_as ending.Memory h t c x s = inl (told_client home v before after p q _ h t (word_traces p q home v before ending.Memory tt c x) s)
-  told_as ending.Strange h t c x s = inl (told_client home v before after p q _ h t (word_traces p q home v before ending.Strange tt c x) s)
-  told_as ending.Unreached h t c x s = inl (told_client home v before after p q _ h t (word_traces p q home v before ending.Unreached tt c x) s)
-  told_as (ending.Unstarted cause) h t c x s = inl (told_client home v before after p q _ h t (word_traces p q home v before (ending.Unstarted cause) tt c x) s)
-  told_as (ending.Relayed r) h t c x s = inl (told_client home v before after p q _ h t (word_traces p q home v before (ending.Relayed r) tt c x) s)
+  told_as ending.Left h t c x s = inl (told_client home v before after p q (word_of ending.Left) h t (word_traces p q home v before ending.Left tt c x) s)
+  told_as (ending.Refused r) h t c x s = inl (told_client home v before after p q (word_of (ending.Refused r)) h t (word_traces p q home v before (ending.Refused r) tt c x) s)
+  told_as ending.Memory h t c x s = inl (told_client home v before after p q (word_of ending.Memory) h t (word_traces p q home v before ending.Memory tt c x) s)
+  told_as ending.Strange h t c x s = inl (told_client home v before after p q (word_of ending.Strange) h t (word_traces p q home v before ending.Strange tt c x) s)
+  told_as ending.Unreached h t c x s = inl (told_client home v before after p q (word_of ending.Unreached) h t (word_traces p q home v before ending.Unreached tt c x) s)
+  told_as (ending.Unstarted cause) h t c x s = inl (told_client home v before after p q (word_of (ending.Unstarted cause)) h t (word_traces p q home v before (ending.Unstarted cause) tt c x) s)
+  told_as (ending.Relayed r) h t c x s = inl (told_client home v before after p q (word_of (ending.Relayed r)) h t (word_traces p q home v before (ending.Relayed r) tt c x) s)
   told_as (ending.Managed r) h t c x s = inr (subst (λ (taken : List ℕ). IsAtConsole v taken) (sym (h.taken t)) s)

@@ -44,8 +44,9 @@ pub(crate) fn own_key<C: ClientEnd>(run: &LoginRun<C>) -> Option<Arc<StartKey>> 
 /// How a login ended that goes no further; nothing, where its client went.
 fn login_note<'a>(said: Said, parameter: Option<&'a [u8]>) -> Option<Note<'a>> {
     match (said, parameter) {
-        (Said::Refusal(Refusal::UnsupportedParameter), Some(name)) =>
-            Some(Note::UnsupportedParameter(name)),
+        (Said::Refusal(Refusal::UnsupportedParameter), Some(name)) => Some(
+            Note::UnsupportedParameter(name),
+        ),
         (Said::Refusal(refusal), _) => Some(Note::Refused(refusal)),
         (Said::Failure(Failure::WrongPassword), _) => Some(Note::WrongPassword),
         (Said::Failure(Failure::NoDatabase), _) => Some(Note::NoDatabase),
@@ -63,6 +64,14 @@ pub(crate) fn note_login<C: ClientEnd, D: LinkDesk>(
     if let Some(note) = login_note(run.said(), run.login().unsupported_parameter()) {
         desk.note(&named(visit, number, run.key()), &note);
     }
+}
+
+/// Tells the log by what a client of the console was refused, if by anything, and that it is gone.
+pub(crate) fn note_end<D: LinkDesk>(desk: &D, client: &Client<'_>, last: Option<Refusal>) {
+    if let Some(refusal) = last {
+        desk.note(client, &Note::Refused(refusal));
+    }
+    desk.note(client, &Note::Closed);
 }
 
 /// The authentication that a question asks for, by the protocol's number.

@@ -14,7 +14,7 @@ ghost use Rattle.pool_serve.specs.Stays.{CameIn, IsAllowed, IsOver, IsUntouched,
 use crate::TURNS;
 use crate::ending::Ending;
 use crate::guest::Guest;
-use crate::noting::{ending_note, named, note_login, own_key};
+use crate::noting::{ending_note, named, note_end, note_login, own_key};
 use crate::worker::Worker;
 use console_run::console::serve_console;
 use link_desk::answers::Arrival;
@@ -89,10 +89,7 @@ impl<'a, D: LinkDesk, G: Gate<D::End>> Worker<'a, D, G> {
             &mut self.gate,
             &who,
         );
-        if let Some(refusal) = last {
-            self.desk.note(&who, &Note::Refused(refusal));
-        }
-        self.desk.note(&who, &Note::Closed);
+        note_end(self.desk, &who, last);
         (client, Ending::Managed(last))
     }
 

@@ -55,6 +55,6 @@ returns-in-Console g c = record {
   share = c.manage.ensures.share;
   leased = record { client = c.manage.ensures.holder.client; lease = c.manage.ensures.holder.lease ∙ c.requires.none; refused = c.manage.ensures.holder.refused ∙ (c.requires.unrefused ∙ sym c.manage.ensures.refused) };
   traces = c.manage.ensures.traces;
-  came = same_came _ c.args.run c.converse.new.run _ c.manage.result.1 c.converse.ensures.login c.manage.ensures.came;
-  serves = λ t l. same_serves g.D.LinkDesk.home c.args.run c.converse.new.run _ c.manage.result.1 c.converse.ensures.login (c.manage.ensures.serves (c.converse.ensures.login.tells ∙ t));
+  came = same_came _ c.args.run c.converse.new.run (g.C.ClientEnd.facts c.manage.result.0) c.manage.result.1 c.converse.ensures.login c.manage.ensures.came;
+  serves = λ t l. same_serves g.D.LinkDesk.home c.args.run c.converse.new.run (g.C.ClientEnd.facts c.manage.result.0) c.manage.result.1 c.converse.ensures.login (c.manage.ensures.serves (c.converse.ensures.login.tells ∙ t));
 }
