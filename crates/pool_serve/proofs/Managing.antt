@@ -1,5 +1,5 @@
 -- A client of the console.
-use Rattle.std.proofs.Common.{◌≡◌, ◌⊎◌, ℕ, true, List, [], ◌∷◌, ◌++◌, inl, inr, refl, sym, ap, ap₂, ◌∙◌, subst, arith, append-nil, append_assoc, take, take_all, length, Option}
+use Rattle.std.proofs.Common.{◌≡◌, ◌⊎◌, ℕ, true, List, [], ◌++◌, inl, inr, refl, sym, ap, ◌∙◌, subst, arith, append-nil, take, take_all, length, Option}
 use Rattle.std.proofs.lemmas.Grind.{flat_map-append}
 use Rattle.message_view.specs.declared.KeyWord.{KeyWord}
 use Rattle.message_view.specs.declared.refusal.Refusal.{Refusal}
@@ -14,7 +14,7 @@ use Rattle.login_run.specs.declared.said.Said.TheVariants as said
 use Rattle.login_run.specs.Runs.{Awaits, Console, IsAllGiven, IsPiece, IsRun, IsSameLogin, PhaseOf, RunView, StandsAt, said_bytes, said_pieces}
 use Rattle.link_desk.specs.Passes.{PassOf}
 use Rattle.console_run.specs.Passing.{Manages, Pass}
-use Rattle.console_run.specs.Talks.{IsServed as IsServedAtConsole, Talks}
+use Rattle.console_run.specs.Talks.{IsServed as IsServedAtConsole}
 use Rattle.link_desk.specs.Homes.{HomeOf}
 use Rattle.pool_serve.specs.declared.ending.Ending.{Ending}
 use Rattle.pool_serve.specs.declared.ending.Ending.TheVariants as ending
@@ -68,10 +68,11 @@ pieces_joined done s sent p e =
     ap (λ (l : List ℕ). joined_pieces done ++ l) (ap (λ (n : ℕ). take n (said_bytes s)) e ∙ (take_all (length (said_bytes s)) (said_bytes s) (omega arith) ∙ sym (said_joined s p)))
     ∙ sym (flat_map-append (λ (b : List ℕ). b) done (said_pieces s))
 
-pub managed : (v : RunView) (before after : ClientFacts) (p q : Pass) (last : Option Refusal) → IsRun v → v.phase ≡ Console → IsAllGiven v → before ≡ v.client → v.client.tells ≡ true → IsServedAtConsole v.login.settings v.login.word before after p q last → IsManaged v.login after last
-managed v before after p q last x e n b t h =
-    let ended = subst (λ (f : PhaseOf). StandsAt f v.said v.login x.2.heard (x.2.done ++ said_pieces v.said)) e x.2.stands in
-    let piece : IsPiece v.said = subst (λ (f : PhaseOf). Awaits f v.said v.login) e x.1 in
+pub managed : (v : RunView) (before after : ClientFacts) (s : Settings) (word : KeyWord) (p q : Pass) (last : Option Refusal) → IsRun v → v.phase ≡ Console → IsAllGiven v → before ≡ v.client → v.client.tells ≡ true → s ≡ v.login.settings → v.login.word ≡ word → IsServedAtConsole s word before after p q last
+    → IsManaged v.login after last
+managed v before after s word p q last x e n b t f w h =
+    let ended = subst (λ (z : PhaseOf). StandsAt z v.said v.login x.2.heard (x.2.done ++ said_pieces v.said)) e x.2.stands in
+    let piece : IsPiece v.said = subst (λ (z : PhaseOf). Awaits z v.said v.login) e x.1 in
     record {
       before = before;
       pieces = x.2.done ++ said_pieces v.said;
@@ -79,7 +80,7 @@ managed v before after p q last x e n b t h =
       given = ap (λ (c : ClientFacts). c.given) b ∙ (x.2.given t ∙ pieces_joined x.2.done v.said v.sent piece n);
       p = p;
       q = q;
-      talks = h;
+      talks = subst (λ (k : KeyWord). IsServedAtConsole v.login.settings k before after p q last) (sym w) (subst (λ (z : Settings). IsServedAtConsole z word before after p q last) f h);
     }
 
 -- it went on with these bytes

@@ -6,7 +6,7 @@ use Rattle.login_run.specs.Laws.{AllowedBy, own}
 use Rattle.pool_serve.specs.Causes.{HasCause}
 use Rattle.pool_serve.specs.Serving.{AreMarksOf, LetsIn}
 use Rattle.pool_serve.specs.Stays.{ServesAs}
-use Rattle.pool_serve.specs.Words.{HasGiven, last_bytes, word_of}
+use Rattle.pool_serve.specs.Words.{HasGiven, last_bytes}
 use Rattle.pool_serve.specs.declared.word.LastWord.{LastWord}
 use Rattle.pool_serve.proofs.Leases.{came_first}
 use Rattle.pool_serve.proofs.Logging.{run_ends}
