@@ -2,7 +2,7 @@
 use book_model::counts::Counts;
 use book_model::events::{ClientState, Event};
 use book_model::limits::Limits;
-use book_model::rows::Rows;
+use book_model::rows::Rows as DatabaseRows;
 use book_register::lists::Lists;
 use book_register::view::BookView;
 use book_rows::clients::Client;
@@ -34,7 +34,7 @@ fn limits(alloc: Global) -> Result<Arc<Limits>, AllocError> {
         query_wait_timeout: 0,
         server_lifetime: 3_600,
         server_idle_timeout: 0,
-        rows: Rows::new(alloc, Vec::new(alloc))?,
+        rows: DatabaseRows::new(alloc, Vec::new(alloc))?,
     };
     Ok(Arc::new(alloc, limits)?)
 }
