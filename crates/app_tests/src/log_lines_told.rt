@@ -187,7 +187,6 @@ fn line_of_user(alloc: Global, user: &[u8]) -> Result<Vec<u8>, Fail> {
     Ok(line)
 }
 
-// 14 bytes stand before the name, and 24 after it.
 #[test]
 fn two_hundred_bytes_of_a_name(rt: HostRuntime) -> Result<(), Fail> {
     let whole = line_of_user(rt.alloc(), &[b'a'; 200])?;
