@@ -1,5 +1,5 @@
-//! Tests of the files that the pooler reads, of their lines and of what shows of a secret; of the command line and `replay`; and of what
-//! the console answers.
+//! Tests of the files that the pooler reads, of their lines and of what shows of a secret; of the command line and `replay`; of what
+//! the console answers; and of the lines of the log.
 #![tactic(auto)]
 
 #[cfg(test)]
@@ -14,6 +14,8 @@ mod faults;
 mod ini_faults;
 #[cfg(test)]
 mod ini_settings;
+#[cfg(test)]
+mod log_lines_told;
 #[cfg(test)]
 mod replies;
 #[cfg(test)]

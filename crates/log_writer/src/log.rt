@@ -128,7 +128,8 @@ fn put_line(line: &mut Vec<u8>, next: Next) -> Result<(), AllocError> {
     Ok(())
 }
 
-/// The thread of a log.
+/// The thread of a log. Where it is let go it isn't closed: it waits, and is cut off when the program ends.
+#[derive(Drop)]
 pub struct LogThread {
     log: Arc<Log>,
     thread: JoinHandle<()>,

@@ -1,5 +1,5 @@
 //! Tests over the loopback network: of `tcp_end`, and of the running program's parts: the pool, the stand-in server, their key words
-//! and threads.
+//! and threads, and the thread that writes the log.
 #![tactic(auto)]
 
 #[cfg(test)]
@@ -8,6 +8,8 @@ mod console;
 mod gates;
 #[cfg(test)]
 mod keys;
+#[cfg(test)]
+mod logs;
 #[cfg(test)]
 mod loopback;
 #[cfg(test)]

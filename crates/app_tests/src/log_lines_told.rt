@@ -1,0 +1,241 @@
+//! The lines of the log. Each was worked out by hand from what is told.
+use log_lines::events::{Event, Totals, put_event};
+use log_lines::lines::put_note;
+use log_lines::notes::{Client, Loss, Note, Server, Unstarted, Visit};
+use message_view::Refusal;
+use std::alloc::Global;
+use std::test::Fail;
+
+const VISIT: Visit = Visit {
+    host: [10, 0, 0, 5],
+    port: 40_112,
+    since: None,
+};
+
+const ANN: Client<'static> = Client {
+    visit: VISIT,
+    number: Some(12),
+    user: b"ann",
+    database: b"shop",
+};
+
+const SERVER: Server = Server {
+    host: [127, 0, 0, 1],
+    port: 5432,
+};
+
+/// Whether this is the line of what is told of the client.
+fn is_line(
+    alloc: Global,
+    client: &Client<'_>,
+    note: Note<'_>,
+    ms: Option<u64>,
+    wanted: &[u8],
+) -> Result<bool, Fail> {
+    let mut line = Vec::new(alloc);
+    put_note(&mut line, client, note, ms)?;
+    Ok(line.as_slice() == wanted)
+}
+
+/// Whether the line of ann goes on so after her address.
+fn goes_on(alloc: Global, note: Note<'_>, ms: Option<u64>, wanted: &[u8]) -> Result<bool, Fail> {
+    let mut line = Vec::new(alloc);
+    line.extend_from_slice(b"pgsess: client 12 ann@shop from 10.0.0.5:40112")?;
+    line.extend_from_slice(wanted)?;
+    is_line(alloc, &ANN, note, ms, &line)
+}
+
+#[test]
+fn what_a_client_comes_to(rt: HostRuntime) -> Result<(), Fail> {
+    let rows: [(Note<'_>, Option<u64>, &[u8]); 12] = [
+        (Note::LoggedIn, Some(7), b" in"),
+        (Note::Closed, Some(3_299), b" out after 3.2 s"),
+        (Note::Closed, None, b" out"),
+        (
+            Note::Refused(Refusal::WaitedTooLong),
+            Some(120_400),
+            b" refused after 120.4 s: query_wait_timeout (P5)",
+        ),
+        (
+            Note::UnsupportedParameter(b"search_path"),
+            Some(0),
+            b" refused after 0.0 s: unsupported startup parameter \"search_path\" (P4)",
+        ),
+        (
+            Note::WrongPassword,
+            Some(99),
+            b" failed after 0.0 s: password authentication failed (28P01)",
+        ),
+        (
+            Note::NoDatabase,
+            Some(100),
+            b" failed after 0.1 s: database does not exist (3D000)",
+        ),
+        (
+            Note::LinkLost(7, Loss::Ended),
+            Some(5),
+            b" link 7 closed: server connection ended",
+        ),
+        (
+            Note::LinkLost(7, Loss::InBlock),
+            None,
+            b" link 7 closed: left within a transaction block",
+        ),
+        (Note::Paused, None, b" paused the pool"),
+        (Note::Resumed, None, b" resumed the pool"),
+        (Note::ShuttingDown, None, b" shuts the pool down"),
+    ];
+    for (note, ms, wanted) in rows {
+        assert!(rt; goes_on(rt.alloc(), note, ms, wanted)?);
+    }
+    Ok(())
+}
+
+/// A FATAL error of a server: 28P01, `password authentication failed for user "ann"`.
+const SERVER_ERROR: &[u8] =
+    b"E\0\0\0\x49SFATAL\0VFATAL\0C28P01\0Mpassword authentication failed for user \"ann\"\0\0";
+
+#[test]
+fn why_no_link_was_started(rt: HostRuntime) -> Result<(), Fail> {
+    let rows: [(Unstarted<'_>, &[u8]); 8] = [
+        (Unstarted::NotReached, b" could not be reached (P7)"),
+        (
+            Unstarted::Unanswerable(10),
+            b" asks for SCRAM (authentication method 10), which isn't served: use md5 or a password (P7)",
+        ),
+        (
+            Unstarted::Unanswerable(7),
+            b" asks for authentication method 7, which isn't served: use md5 or a password (P7)",
+        ),
+        (
+            Unstarted::Unanswerable(3),
+            b" asks for a password (authentication method 3), which can't be given: the user file has but its digest (P7)",
+        ),
+        (
+            Unstarted::Lost,
+            b" closed the connection within its start (P7)",
+        ),
+        (
+            Unstarted::TimedOut,
+            b" didn't answer its start in time (P7)",
+        ),
+        (
+            Unstarted::Refused(SERVER_ERROR),
+            b" refused the start: 28P01 password authentication failed for user \"ann\"",
+        ),
+        (Unstarted::Refused(b"E\0\0"), b" refused the start:  "),
+    ];
+    for (why, wanted) in rows {
+        let mut words = Vec::new(rt.alloc());
+        words.extend_from_slice(b" refused after 1.5 s: server 127.0.0.1:5432")?;
+        words.extend_from_slice(wanted)?;
+        assert!(rt;
+            goes_on(
+                rt.alloc(),
+                Note::Unstarted(SERVER, why),
+                Some(1_500),
+                &words
+            )?
+        );
+    }
+    Ok(())
+}
+
+// Before its StartupMessage is read a client has neither name nor number.
+#[test]
+fn unknown_clients(rt: HostRuntime) -> Result<(), Fail> {
+    let client = Client {
+        visit: VISIT,
+        number: None,
+        user: b"",
+        database: b"",
+    };
+    let wanted = b"pgsess: client from 10.0.0.5:40112 refused: malformed client message (P3)";
+    let note = Note::Refused(Refusal::MalformedClientMessage);
+    assert!(rt; is_line(rt.alloc(), &client, note, None, wanted)?);
+    Ok(())
+}
+
+// A name ends no line and holds no space; a text between quotation marks doesn't end them; an UTF-8 letter is two bytes.
+#[test]
+fn names_are_escaped(rt: HostRuntime) -> Result<(), Fail> {
+    let client = Client {
+        visit: VISIT,
+        number: None,
+        user: b"a b\n\x1b[2J\\\x7f",
+        database: b"caf\xc3\xa9",
+    };
+    let wanted =
+        b"pgsess: client a\\x20b\\x0a\\x1b[2J\\x5c\\x7f@caf\\xc3\\xa9 from 10.0.0.5:40112 in";
+    assert!(rt; is_line(rt.alloc(), &client, Note::LoggedIn, None, wanted)?);
+    let note = Note::UnsupportedParameter(b"a\"\r\n~ b");
+    let wanted = b" refused: unsupported startup parameter \"a\\x22\\x0d\\x0a~ b\" (P4)";
+    assert!(rt; goes_on(rt.alloc(), note, None, wanted)?);
+    Ok(())
+}
+
+/// The line of a client of this user.
+fn line_of_user(alloc: Global, user: &[u8]) -> Result<Vec<u8>, Fail> {
+    let client = Client {
+        visit: VISIT,
+        number: None,
+        user,
+        database: b"d",
+    };
+    let mut line = Vec::new(alloc);
+    put_note(&mut line, &client, Note::LoggedIn, None)?;
+    Ok(line)
+}
+
+#[test]
+fn two_hundred_bytes_of_a_name(rt: HostRuntime) -> Result<(), Fail> {
+    let whole = line_of_user(rt.alloc(), &[b'a'; 200])?;
+    assert!(rt; whole.ends_with(b"aa@d from 10.0.0.5:40112 in"));
+    let cut = line_of_user(rt.alloc(), &[b'a'; 201])?;
+    assert!(rt; cut.ends_with(b"aa...@d from 10.0.0.5:40112 in"));
+    assert!(rt; cut.len() == whole.len() + 3);
+    Ok(())
+}
+
+#[test]
+fn what_the_program_tells(rt: HostRuntime) -> Result<(), Fail> {
+    let totals = Totals {
+        decisions: 21,
+        starts: 2,
+        arrived: 6,
+        granted: 5,
+        given_back: 4,
+        lost: 1,
+        left: 3,
+        others: 2,
+    };
+    let rows: [(Event<'_>, &[u8]); 6] = [
+        (
+            Event::Listening([127, 0, 0, 1], 6432),
+            b"pgsess: listening 127.0.0.1 6432",
+        ),
+        (Event::Reloaded, b"pgsess: reloaded"),
+        (
+            Event::NotReloaded(b"file /etc/pgsess.ini: C3 line 7"),
+            b"pgsess: not reloaded: file /etc/pgsess.ini: C3 line 7",
+        ),
+        (
+            Event::Wanting(17),
+            b"pgsess: 17 connections closed for want of a thread, a poll, a file or memory",
+        ),
+        (
+            Event::Dropped(18_446_744_073_709_551_615),
+            b"pgsess: 18446744073709551615 lines of the log were dropped",
+        ),
+        (
+            Event::Ended(totals),
+            b"pgsess: shut down: 21 decisions, 2 starts; 6 arrived, 5 granted, 4 given back, 1 lost, 3 left, 2 others",
+        ),
+    ];
+    for (event, wanted) in rows {
+        let mut line = Vec::new(rt.alloc());
+        put_event(&mut line, event)?;
+        assert!(rt; line.as_slice() == wanted);
+    }
+    Ok(())
+}
