@@ -1,5 +1,5 @@
 -- A talk from one turn to a later one.
-use Rattle.std.proofs.Common.{◌≡◌, ℕ, ◌+◌, ◌≤◌, Bool, true, false, List, [], ◌∷◌, ◌++◌, length, refl, sym, ap, ◌∙◌, subst, arith, append_assoc, append-nil, le_refl, le_trans, length-append}
+use Rattle.std.proofs.Common.{◌≡◌, ℕ, ◌+◌, ◌≤◌, Bool, List, [], ◌∷◌, ◌++◌, length, refl, sym, ap, ◌∙◌, subst, arith, append_assoc, append-nil, le_refl, le_trans, length-append}
 use Rattle.std.proofs.lemmas.Grind.{flat_map-append}
 use Rattle.std.specs.List.{flat_map}
 use Rattle.frame_view.specs.Frames.{spelling}
@@ -21,9 +21,9 @@ drops_both : (drops : Bool) (xs ys : List Exchange) → drops_behind drops (xs +
 drops_both drops [] ys = refl
 drops_both drops (x ∷ xs) ys = drops_both (drops_after (response_to drops x.asks)) xs ys
 
-answered_both : (s : Settings) (drops : Bool) (xs ys : List Exchange) → AreAnswered s drops xs → AreAnswered s (drops_behind drops xs) ys → AreAnswered s drops (xs ++ ys)
-answered_both s drops [] ys a b = b
-answered_both s drops (x ∷ xs) ys a b = (a.0, a.1, answered_both s (drops_after (response_to drops x.asks)) xs ys a.2 b)
+answered_both : (s : Settings) (drops : Bool) (p : Pass) (xs ys : List Exchange) → AreAnswered s drops p xs → AreAnswered s (drops_behind drops xs) (after_exchanges xs p) ys → AreAnswered s drops p (xs ++ ys)
+answered_both s drops p [] ys a b = b
+answered_both s drops p (x ∷ xs) ys a b = (a.0, a.1, answered_both s (drops_after (response_to drops x.asks)) (after_doing x.does p) xs ys a.2 b)
 
 asked_both : (xs ys : List Exchange) → asked_bytes (xs ++ ys) ≡ asked_bytes xs ++ asked_bytes ys
 asked_both xs ys = flat_map-append (λ (x : Exchange). spelling x.asks) xs ys
@@ -99,7 +99,7 @@ goes_further s n m old mid new p q r x y = record {
   given = λ t. y.given (x.tells ∙ t) ∙ (ap (λ (l : List ℕ). l ++ y.put) (x.given t) ∙ append_assoc old.client.given x.put y.put);
   heard = heard_both old.held x.got y.got mid.held new.held x.exchanges y.exchanges x.heard y.heard;
   told = said_both old.unwritten x.put y.put mid.unwritten new.unwritten x.exchanges y.exchanges x.told y.told;
-  answered = answered_both s old.drops x.exchanges y.exchanges x.answered (subst (λ (d : Bool). AreAnswered s d y.exchanges) x.drops y.answered);
+  answered = answered_both s old.drops p x.exchanges y.exchanges x.answered (subst (λ (d : Bool). AreAnswered s d (after_exchanges x.exchanges p) y.exchanges) x.drops (subst (λ (z : Pass). AreAnswered s mid.drops z y.exchanges) x.pass y.answered));
   drops = y.drops ∙ (ap (λ (d : Bool). drops_behind d y.exchanges) x.drops ∙ sym (drops_both old.drops x.exchanges y.exchanges));
   pass = y.pass ∙ (ap (λ (z : Pass). after_exchanges y.exchanges z) x.pass ∙ sym (after_both x.exchanges y.exchanges p));
   faults = le_trans x.faults y.faults;

@@ -1,11 +1,9 @@
 -- What stays of a pass, whatever is done.
-use Rattle.std.proofs.Common.{◌≡◌, ℕ, ◌≤◌, true≢false, List, [], ◌∷◌, Option, Some, None, refl, sym, ap, ◌∙◌, subst, arith, le_refl}
+use Rattle.std.proofs.Common.{◌≡◌, ℕ, true≢false, List, [], ◌∷◌, Option, Some, None, refl, sym, ◌∙◌, subst, arith, le_refl}
 use Rattle.message_view.specs.declared.refusal.Refusal.{Refusal}
 use Rattle.message_view.specs.declared.refusal.Refusal.TheVariants as refusal
-use Rattle.link_desk.specs.Passes.{PassOf}
-use Rattle.link_desk.specs.declared.calls.Holder.{Holder}
 use Rattle.console_core.specs.declared.commands.Action.{Action}
-use Rattle.console_run.specs.Passing.{Pass, pass_of, after_action, after_doing, broken_by, Manages, IsSameHolder}
+use Rattle.console_run.specs.Passing.{Pass, after_action, after_doing, broken_by, Manages, IsSameHolder}
 use Rattle.console_run.specs.Exchanges.{Exchange, after_exchanges}
 use Rattle.console_run.specs.Talks.{IsRefused}
 

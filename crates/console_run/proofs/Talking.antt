@@ -1,5 +1,5 @@
 -- What each turn of a talk keeps.
-use Rattle.std.proofs.Common.{◌≡◌, ◌⊎◌, inl, inr, ℕ, ◌+◌, ◌<◌, ◌≤◌, Bool, true, false, List, [], ◌∷◌, ◌++◌, length, take, drop, Option, Some, None, refl, sym, ap, ap₂, ◌∙◌, subst, arith, append-nil, le_refl, le_trans, length-take, take-append-drop}
+use Rattle.std.proofs.Common.{◌≡◌, ◌⊎◌, inl, inr, ℕ, ◌+◌, ◌<◌, ◌≤◌, Bool, List, [], ◌∷◌, ◌++◌, length, take, drop, Option, Some, None, refl, sym, ap, ap₂, ◌∙◌, subst, arith, append-nil, le_refl, le_trans, length-take, take-append-drop}
 use Rattle.std.specs.List.{flat_map}
 use Rattle.bytes.specs.Filled.{Filled}
 use Rattle.frame_view.specs.declared.Frame.{Frame}
@@ -250,20 +250,12 @@ ended_further s n old mid new p q r None g h = record { turns = n + h.turns; goe
     go (inr (inr m)) = inr (inr (le_trans m (omega arith)))
 ended_further s n old mid new p q r (Some x) g h = record { at = h.at; goes = goes_further s 0 0 old mid new p q h.at (goes_fewer s n old mid p q g) h.goes; written = h.written; refused = h.refused }
 
--- no turn is left
-pub turned_out : (s : Settings) (n : ℕ) (old new : TalkView) (p q : Pass) → Goes s n old new p q → MOST_TURNS ≤ n → HasEnded s old new p q None
-turned_out s n old new p q g m = record { turns = n; goes = g; why = inr (inr m) }
-
 goes_keeps : (s : Settings) (n : ℕ) (old new : TalkView) (p q : Pass) → Goes s n old new p q → Keeps p q
 goes_keeps s n old new p q g = subst (λ (r : Pass). Keeps p r) (sym g.pass) (keeps_exchanges g.exchanges p)
 
 pub ended_keeps : (s : Settings) (old new : TalkView) (p q : Pass) (last : Option Refusal) → HasEnded s old new p q last → Keeps p q
 ended_keeps s old new p q None h = goes_keeps s h.turns old new p q h.goes
 ended_keeps s old new p q (Some r) h = keeps_further p h.at q (goes_keeps s 0 old new p h.at h.goes) (keeps_refused s.max_packet_size new.held r h.at q h.refused)
-
-pub ended_tells : (s : Settings) (old new : TalkView) (p q : Pass) (last : Option Refusal) → HasEnded s old new p q last → new.client.tells ≡ old.client.tells
-ended_tells s old new p q None h = h.goes.tells
-ended_tells s old new p q (Some r) h = h.goes.tells
 
 -- what was said in a talk
 abbrev said_in : (s : Settings) (n : ℕ) (word : KeyWord) (c : ClientFacts) (v : TalkView) (p q : Pass) → Goes s n (greeted c word) v p q → Said

@@ -1,5 +1,5 @@
 -- The messages of a client of the console, what it is told, and what is done for it.
-use Rattle.std.specs.Prelude.{◌≡◌, ◌⊎◌, ℕ, Bool, true, false, List, [], ◌∷◌, ◌++◌, Option, Some, None}
+use Rattle.std.specs.Prelude.{◌≡◌, ◌⊎◌, ℕ, Bool, false, List, [], ◌∷◌, Option, Some, None}
 use Rattle.std.specs.List.{flat_map}
 use Rattle.frame_view.specs.declared.Side.TheVariants.{Client}
 use Rattle.frame_view.specs.Frames.{FrameOf, IsFrame, spelling}
@@ -11,6 +11,7 @@ use Rattle.ini_config.specs.declared.option_values.Settings.{Settings}
 use Rattle.book_model.specs.Book.{Book}
 use Rattle.book_model.specs.Kept.{Kept}
 use Rattle.book_register.specs.Views.{view_of}
+use Rattle.link_desk.specs.Counts.{AtMost, class_counts}
 use Rattle.console_core.specs.declared.commands.Action.{Action}
 use Rattle.console_core.specs.declared.commands.Action.TheVariants.{Reload}
 use Rattle.console_core.specs.declared.commands.Command.{Command}
@@ -35,30 +36,31 @@ abbrev pub IsActed : Action → List FrameOf → Option Action → Type 0
 IsActed Reload told does = ((told ≡ done (tag Reload)) × (does ≡ Some Reload)) ⊎ ((told ≡ refused InvalidValue) × (does ≡ None))
 IsActed action told does = (told ≡ done (tag action)) × (does ≡ Some action)
 
--- what is no action is answered over some book
-pub record IsShown (s : Settings) (command : Option Command) (told : List FrameOf) : Type 0 where
+-- What is no action is answered over some book, in which all that was made through the pass is counted.
+pub record IsShown (s : Settings) (p : Pass) (command : Option Command) (told : List FrameOf) : Type 0 where
   pub book : Book
   pub kept : Kept book
+  pub counted : AtMost p.told.made (class_counts book.counts)
   pub told_is : told ≡ frames_of (reply_to (view_of book) s command)
 
-abbrev pub IsAnswer : Settings → Option Command → List FrameOf → Option Action → Type 0
-IsAnswer s (Some (Act action)) told does = IsActed action told does
-IsAnswer s command told does = IsShown s command told × (does ≡ None)
+abbrev pub IsAnswer : Settings → Pass → Option Command → List FrameOf → Option Action → Type 0
+IsAnswer s p (Some (Act action)) told does = IsActed action told does
+IsAnswer s p command told does = IsShown s p command told × (does ≡ None)
 
-abbrev pub IsResponse : Settings → Response → List FrameOf → Option Action → Type 0
-IsResponse s (Frames frames drops) told does = (told ≡ frames) × (does ≡ None)
-IsResponse s (Answer text) told does = IsAnswer s (command_of text) told does
-IsResponse s Leave told does = ⊥
+abbrev pub IsResponse : Settings → Pass → Response → List FrameOf → Option Action → Type 0
+IsResponse s p (Frames frames drops) told does = (told ≡ frames) × (does ≡ None)
+IsResponse s p (Answer text) told does = IsAnswer s p (command_of text) told does
+IsResponse s p Leave told does = ⊥
 
 -- whether messages are dropped behind one that is answered
 abbrev pub drops_after : Response → Bool
 drops_after (Frames frames drops) = drops
 drops_after _ = false
 
--- Each message is a frame under the limit and is answered as it is defined, where messages are dropped before the first of them or not. None is a Terminate.
-abbrev pub AreAnswered : Settings → Bool → List Exchange → Type 0
-AreAnswered s drops [] = Unit {0}
-AreAnswered s drops (x ∷ xs) = IsFrame Client s.max_packet_size x.asks × IsResponse s (response_to drops x.asks) x.told x.does × AreAnswered s (drops_after (response_to drops x.asks)) xs
+-- Each message is a frame under the limit and is answered as it is defined, where messages are dropped before the first of them or not, and the pass stands so. None is a Terminate.
+abbrev pub AreAnswered : Settings → Bool → Pass → List Exchange → Type 0
+AreAnswered s drops p [] = Unit {0}
+AreAnswered s drops p (x ∷ xs) = IsFrame Client s.max_packet_size x.asks × IsResponse s p (response_to drops x.asks) x.told x.does × AreAnswered s (drops_after (response_to drops x.asks)) (after_doing x.does p) xs
 
 -- ---- one after the other
 

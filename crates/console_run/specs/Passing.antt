@@ -3,7 +3,7 @@ use Rattle.std.specs.Prelude.{◌≡◌, ◌≤◌, false, Option, Some, None}
 use Rattle.link_desk.specs.declared.calls.Call.{Call}
 use Rattle.link_desk.specs.declared.calls.Call.TheVariants as call
 use Rattle.link_desk.specs.declared.calls.Holder.{Holder}
-use Rattle.link_desk.specs.Passes.{Made, PassOf, broken, one_other}
+use Rattle.link_desk.specs.Passes.{PassOf, broken, one_other}
 use Rattle.console_core.specs.declared.commands.Action.{Action}
 use Rattle.console_core.specs.declared.commands.Action.TheVariants.{Pause, Resume, Reload, Shutdown}
 

@@ -85,7 +85,7 @@ EndsBy limit before after x (Some r) p q = (x.unwritten ≡ []) × IsRefused lim
 -- Whole messages were heard, none between them left out, and answered as each came. The client was given what it was told, the greeting and the answers, but for what is unwritten.
 pub record Talks (s : Settings) (word : KeyWord) (before after : ClientFacts) (p q : Pass) (last : Option Refusal) : Type 0 where
   pub said : Said
-  pub answered : AreAnswered s false said.exchanges
+  pub answered : AreAnswered s false p said.exchanges
   pub taken : before.tells ≡ true → after.taken ≡ before.taken ++ (asked_bytes said.exchanges ++ said.held)
   pub given : before.tells ≡ true → after.given ≡ before.given ++ said.put
   pub told : said.put ++ said.unwritten ≡ flat_map spelling (greeting word) ++ told_bytes said.exchanges

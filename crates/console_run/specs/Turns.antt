@@ -8,8 +8,6 @@ use Rattle.message_view.specs.declared.refusal.Refusal.{Refusal}
 use Rattle.message_view.specs.declared.refusal.Refusal.TheVariants.{OutOfMemory}
 use Rattle.ini_config.specs.declared.option_values.Settings.{Settings}
 use Rattle.link_laws.specs.Standing.{ClientFacts}
-use Rattle.link_desk.specs.Passes.{PassOf, broken, one_other}
-use Rattle.link_desk.specs.declared.calls.Holder.{Holder}
 use Rattle.link_desk.specs.declared.answers.Changed.{Changed}
 use Rattle.link_desk.specs.declared.answers.Changed.TheVariants as changed
 use Rattle.console_core.specs.declared.commands.Action.{Action}
@@ -23,7 +21,7 @@ use Rattle.console_run.specs.declared.answering.Answered.{Answered}
 use Rattle.console_run.specs.declared.answering.Answered.TheVariants as answered
 use Rattle.console_run.specs.declared.talk.Turn.{Turn}
 use Rattle.console_run.specs.declared.talk.Turn.TheVariants as turn
-use Rattle.console_run.specs.Passing.{Pass, after_action, after_doing, broken_by, called}
+use Rattle.console_run.specs.Passing.{Pass, after_action, after_doing, broken_by}
 use Rattle.console_run.specs.Exchanges.{AreAnswered, Exchange, IsResponse, IsShown, after_exchanges, asked_bytes, drops_after, drops_behind, greeting, told_bytes}
 use Rattle.console_run.specs.Talks.{IsClientOver, IsRefused, IsRefusedBy, Leaves, MOST_TURNS, waits}
 
@@ -62,7 +60,7 @@ HasAnswered answers drops (answered.Refused r) p q = IsRefusedBy r p q
 
 abbrev pub HasResponded : Settings → Response → Answered → Pass → Pass → Type 0
 HasResponded s response answered.Left p q = (response ≡ Leave) × (q ≡ p)
-HasResponded s response a p q = HasAnswered (IsResponse s response) (drops_after response) a p q
+HasResponded s response a p q = HasAnswered (IsResponse s p response) (drops_after response) a p q
 
 -- the action of a command
 abbrev pub action_in : Option Command → Option Action
@@ -75,9 +73,9 @@ IsSaid (Frames frames drops) bytes = bytes ≡ flat_map spelling frames
 IsSaid _ bytes = Unit {0}
 
 -- what is no action was answered so
-pub record IsShownAs (s : Settings) (command : Option Command) (bytes : List ℕ) : Type 0 where
+pub record IsShownAs (s : Settings) (p : Pass) (command : Option Command) (bytes : List ℕ) : Type 0 where
   pub told : List FrameOf
-  pub shown : IsShown s command told
+  pub shown : IsShown s p command told
   pub bytes_are : bytes ≡ flat_map spelling told
 
 -- ---- a talk
@@ -129,7 +127,7 @@ pub record Goes (s : Settings) (turns : ℕ) (old new : TalkView) (p q : Pass) :
   pub given : old.client.tells ≡ true → new.client.given ≡ old.client.given ++ put
   pub heard : old.held ++ got ≡ asked_bytes exchanges ++ new.held
   pub told : old.unwritten ++ told_bytes exchanges ≡ put ++ new.unwritten
-  pub answered : AreAnswered s old.drops exchanges
+  pub answered : AreAnswered s old.drops p exchanges
   pub drops : new.drops ≡ drops_behind old.drops exchanges
   pub pass : q ≡ after_exchanges exchanges p
   pub faults : old.client.faults ≤ new.client.faults

@@ -165,7 +165,7 @@ impl<'a, D: LinkDesk> Console<'a, D> {
 
     /// The answer to a text that asks for no action, over the book as it is now.
     fn show(&self, pass: &mut D::Pass, text: &[u8]) -> Result<BytesMut, AllocError>
-        ensures shown { IfOk result (λ out. IsShownAs self.now.settings.now (command_of text.now) out.items) }
+        ensures shown { IfOk result (λ out. IsShownAs self.now.settings.now (pass_of (D.told pass.old) (D.holder pass.old)) (command_of text.now) out.items) }
         ensures told { D.told pass.new ≡ D.told pass.old }
         ensures holder { D.holder pass.new ≡ D.holder pass.old }
     {
@@ -176,7 +176,7 @@ impl<'a, D: LinkDesk> Console<'a, D> {
 
     /// The answer to the text of a Query.
     fn command(&self, pass: &mut D::Pass, text: &[u8]) -> Answered
-        ensures { HasAnswered (IsAnswer self.now.settings.now (command_of text.now)) false result (pass_of (D.told pass.old) (D.holder pass.old)) (pass_of (D.told pass.new) (D.holder pass.new)) }
+        ensures { HasAnswered (IsAnswer self.now.settings.now (pass_of (D.told pass.old) (D.holder pass.old)) (command_of text.now)) false result (pass_of (D.told pass.old) (D.holder pass.old)) (pass_of (D.told pass.new) (D.holder pass.new)) }
     {
         match action_in(text) {
             Some(action) => self.act(pass, action),
