@@ -349,6 +349,7 @@ impl<R: Wait + Clock, S: Outside, K: Ledgers> LinkDesk for Desk<R, S, K> {
     fn dial(&self, row: &DbRow) -> Option<S::End> {
         self.outside.dial(row)
     }
+
     fn view(&self, alloc: Global, pass: &mut Pass<K>) -> Result<BookView, AllocError> {
         self.core.lock(&self.rt).view(alloc, pass)
     }
