@@ -11,7 +11,8 @@ use link_run::links::CleanLink;
 use message_view::Refusal;
 use pool_desk::answers::{Changed, Ticked};
 use std::alloc::{AllocError, Global};
-use std::sync::Wait;
+use std::rt::Clock;
+use std::sync::{Arc, Wait};
 
 /// A call through a pass.
 #[derive(Clone, Copy, Drop)]
@@ -46,6 +47,8 @@ pub(crate) enum Says {
     Last,
     Stranger,
     Memory,
+    /// The client waits on.
+    Waits,
     /// Nothing was asked of it: the pass has no client or no link for this call, or has one already.
     Nobody,
 }
@@ -99,6 +102,7 @@ fn number_of(link: Option<CleanLink<Gone>>) -> Option<u64> {
 
 fn granted(grant: told::Grant<Gone>) -> Says {
     match grant {
+        told::Grant::Queued => Says::Waits,
         told::Grant::Lend(link) => Says::Lend(link.number()),
         told::Grant::Start {
             number,
@@ -129,14 +133,14 @@ fn taken_back(back: told::Back, left: Option<CleanLink<Gone>>) -> Says {
     }
 }
 
-fn comes<R: Wait, K: Ledgers>(desk: &TestDesk<R, K>, pass: &mut Pass<K>) -> Says {
+fn comes<R: Wait + Clock, K: Ledgers>(desk: &TestDesk<R, K>, pass: &mut Pass<K>) -> Says {
     match pass.holder().client {
         None => Says::from(desk.arrive(pass)),
         Some(_) => Says::Nobody,
     }
 }
 
-fn asks<R: Wait, K: Ledgers>(
+fn asks<R: Wait + Clock, K: Ledgers>(
     alloc: Global,
     desk: &TestDesk<R, K>,
     pass: &mut Pass<K>,
@@ -149,7 +153,8 @@ fn asks<R: Wait, K: Ledgers>(
     })
 }
 
-fn takes<R: Wait, K: Ledgers>(desk: &TestDesk<R, K>, pass: &mut Pass<K>) -> Says {
+/// A call that takes a link; nobody, where the call is none of the pass's.
+fn takes_once<R: Wait + Clock, K: Ledgers>(desk: &TestDesk<R, K>, pass: &mut Pass<K>) -> Says {
     match pass.holder() {
         Holder {
             client: Some(_),
@@ -160,7 +165,18 @@ fn takes<R: Wait, K: Ledgers>(desk: &TestDesk<R, K>, pass: &mut Pass<K>) -> Says
     }
 }
 
-fn gives_back<R: Wait, K: Ledgers>(
+/// The same, until the client needn't wait any longer; each call waits for at most a second.
+fn takes<R: Wait + Clock, K: Ledgers>(desk: &TestDesk<R, K>, pass: &mut Pass<K>) -> Says {
+    for _ in 0..60u32 {
+        match takes_once(desk, pass) {
+            Says::Waits => {}
+            says => return says,
+        }
+    }
+    Says::Waits
+}
+
+fn gives_back<R: Wait + Clock, K: Ledgers>(
     alloc: Global,
     desk: &TestDesk<R, K>,
     pass: &mut Pass<K>,
@@ -175,21 +191,21 @@ fn gives_back<R: Wait, K: Ledgers>(
     Ok(taken_back(answer, back))
 }
 
-fn loses<R: Wait, K: Ledgers>(desk: &TestDesk<R, K>, pass: &mut Pass<K>) -> Says {
+fn loses<R: Wait + Clock, K: Ledgers>(desk: &TestDesk<R, K>, pass: &mut Pass<K>) -> Says {
     match pass.holder().lease {
         Some(_) => Says::from(desk.lost(pass)),
         None => Says::Nobody,
     }
 }
 
-fn starts_in_vain<R: Wait, K: Ledgers>(desk: &TestDesk<R, K>, pass: &mut Pass<K>) -> Says {
+fn starts_in_vain<R: Wait + Clock, K: Ledgers>(desk: &TestDesk<R, K>, pass: &mut Pass<K>) -> Says {
     match pass.holder().lease {
         Some(_) => Says::from(desk.start_failed(pass)),
         None => Says::Nobody,
     }
 }
 
-fn leaves<R: Wait, K: Ledgers>(desk: &TestDesk<R, K>, pass: &mut Pass<K>) -> Says {
+fn leaves<R: Wait + Clock, K: Ledgers>(desk: &TestDesk<R, K>, pass: &mut Pass<K>) -> Says {
     match pass.holder() {
         Holder {
             client: Some(_),
@@ -200,18 +216,19 @@ fn leaves<R: Wait, K: Ledgers>(desk: &TestDesk<R, K>, pass: &mut Pass<K>) -> Say
     }
 }
 
-fn keeps_to<R: Wait, K: Ledgers>(
+fn keeps_to<R: Wait + Clock, K: Ledgers>(
     alloc: Global,
     desk: &TestDesk<R, K>,
     pass: &mut Pass<K>,
     settings: Settings,
 ) -> Result<Says, AllocError> {
     let limits = limits(alloc, settings)?;
-    Ok(Says::from(desk.limits(pass, &limits)?))
+    let again = Arc::try_clone(&limits)?;
+    Ok(Says::from(desk.limits(pass, limits, again)))
 }
 
 /// What the desk answers; nobody, where the call is none of the pass's.
-pub(crate) fn answer<R: Wait, K: Ledgers>(
+pub(crate) fn answer<R: Wait + Clock, K: Ledgers>(
     alloc: Global,
     desk: &TestDesk<R, K>,
     pass: &mut Pass<K>,

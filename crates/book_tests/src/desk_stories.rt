@@ -11,10 +11,12 @@ use book_model::events::ClientState;
 use desk_tallies::ledgers::Ledgers;
 use desk_tallies::passes::{Pass, Totals};
 use desk_tallies::tallies::Blanks;
+use link_desk::desk::LinkDesk;
 use message_view::Refusal;
 use pool_desk::desk::Desk;
 use std::alloc::{AllocError, Global};
 use std::marker::Brand;
+use std::rt::Clock;
 use std::sync::Wait;
 use std::test::Fail;
 
@@ -403,7 +405,7 @@ fn story_at(at: usize) -> Option<Story> {
 }
 
 /// So many passes of a desk.
-pub(crate) fn passes_of<R: Wait, K: Ledgers>(
+pub(crate) fn passes_of<R: Wait + Clock, K: Ledgers>(
     alloc: Global,
     desk: &TestDesk<R, K>,
     count: usize,
@@ -417,7 +419,7 @@ pub(crate) fn passes_of<R: Wait, K: Ledgers>(
 }
 
 /// The first step that the desk answers otherwise than told: its place, and the answer.
-fn surprise<R: Wait, K: Ledgers>(
+fn surprise<R: Wait + Clock, K: Ledgers>(
     alloc: Global,
     desk: &TestDesk<R, K>,
     passes: &mut [Pass<K>],
@@ -436,7 +438,7 @@ fn surprise<R: Wait, K: Ledgers>(
 }
 
 /// Whether the desk shows these rows, whoever looks.
-fn shows_all<R: Wait, K: Ledgers>(
+fn shows_all<R: Wait + Clock, K: Ledgers>(
     alloc: Global,
     desk: &TestDesk<R, K>,
     passes: &mut [Pass<K>],
@@ -451,7 +453,7 @@ fn shows_all<R: Wait, K: Ledgers>(
 }
 
 /// Where a desk departs from a story first.
-fn departure_from<R: Wait + Drop, K: Ledgers>(
+fn departure_from<R: Wait + Clock + Drop, K: Ledgers>(
     rt: R,
     alloc: Global,
     blanks: Blanks,
@@ -478,7 +480,7 @@ fn departure_from<R: Wait + Drop, K: Ledgers>(
 }
 
 /// The same, at new ledgers.
-fn told_otherwise<R: Wait + Drop>(
+fn told_otherwise<R: Wait + Clock + Drop>(
     rt: R,
     alloc: Global,
     story: &Story,
@@ -501,7 +503,11 @@ fn each_story_goes_as_told(rt: HostRuntime) -> Result<(), Fail> {
 }
 
 /// What a desk answers to so many of its passes, of which one was used; and then to all of them.
-fn gathers<R: Wait + Drop, K: Ledgers>(rt: R, alloc: Global, blanks: Blanks) -> Result<bool, Fail>
+fn gathers<R: Wait + Clock + Drop, K: Ledgers>(
+    rt: R,
+    alloc: Global,
+    blanks: Blanks,
+) -> Result<bool, Fail>
     requires names { names_of blanks ≡ K.names }
     requires parts { K.parts ≡ parts_of blanks }
     requires all { parts_of blanks ≡ of_each ALL_PARTS }

@@ -9,6 +9,7 @@ use crate::desk_parts::{Nowhere, TestDesk, TestRuntime};
 use desk_tallies::ledgers::Ledgers;
 use desk_tallies::passes::{Pass, Totals};
 use desk_tallies::tallies::Blanks;
+use link_desk::desk::LinkDesk;
 use message_view::Refusal;
 use pool_desk::desk::Desk;
 use std::alloc::Global;
@@ -21,7 +22,7 @@ use std::thread::{join, sleep};
 use std::time::Duration;
 
 /// What the desk answers; nobody, where memory is refused.
-fn says<R: Wait, K: Ledgers>(
+fn says<R: Wait + Clock, K: Ledgers>(
     alloc: Global,
     desk: &TestDesk<R, K>,
     pass: &mut Pass<K>,
@@ -34,7 +35,7 @@ fn says<R: Wait, K: Ledgers>(
 }
 
 /// A client comes and asks: how many wait before it.
-fn asks<R: Wait, K: Ledgers>(
+fn asks<R: Wait + Clock, K: Ledgers>(
     alloc: Global,
     desk: &TestDesk<R, K>,
     pass: &mut Pass<K>,
@@ -45,7 +46,7 @@ fn asks<R: Wait, K: Ledgers>(
 }
 
 /// A client comes, asks and takes a link that needn't be waited for.
-fn has_link<R: Wait, K: Ledgers>(
+fn has_link<R: Wait + Clock, K: Ledgers>(
     alloc: Global,
     desk: &TestDesk<R, K>,
     pass: &mut Pass<K>,
@@ -56,7 +57,11 @@ fn has_link<R: Wait, K: Ledgers>(
 }
 
 /// How many clients wait at the desk.
-fn waiting<R: Wait, K: Ledgers>(alloc: Global, desk: &TestDesk<R, K>, pass: &mut Pass<K>) -> usize {
+fn waiting<R: Wait + Clock, K: Ledgers>(
+    alloc: Global,
+    desk: &TestDesk<R, K>,
+    pass: &mut Pass<K>,
+) -> usize {
     match desk.view(alloc, pass) {
         Ok(view) => view.tickets.len(),
         Err(_) => 99,
@@ -101,7 +106,7 @@ fn waits_too_long<R: TestRuntime, K: Ledgers + Send + Sync>(
 }
 
 /// What a client takes, how many wait meanwhile, and what it is told when it gives the link back.
-fn has_its_turn<R: Wait, K: Ledgers>(
+fn has_its_turn<R: Wait + Clock, K: Ledgers>(
     alloc: Global,
     desk: &TestDesk<R, K>,
     pass: &mut Pass<K>,
@@ -163,7 +168,7 @@ fn have_their_turns<R: TestRuntime, K: Ledgers + Send + Sync>(
 }
 
 /// What a client is told that waits, and a note of it.
-fn noted<R: Wait, K: Ledgers>(
+fn noted<R: Wait + Clock, K: Ledgers>(
     alloc: Global,
     desk: &TestDesk<R, K>,
     pass: &mut Pass<K>,
@@ -365,7 +370,7 @@ fn waits<R: TestRuntime, K: Ledgers + Send + Sync>(
 }
 
 /// Four passes of a desk.
-fn four_passes<R: Wait, K: Ledgers>(
+fn four_passes<R: Wait + Clock, K: Ledgers>(
     desk: &TestDesk<R, K>,
 ) -> Option<(Pass<K>, Pass<K>, Pass<K>, Pass<K>)> {
     Some((desk.pass()?, desk.pass()?, desk.pass()?, desk.pass()?))

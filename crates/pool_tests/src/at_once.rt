@@ -19,6 +19,7 @@ use server_end::gate::{Gate, OpenGate};
 use session_catalogue::Catalogue;
 use std::alloc::{AllocError, Global};
 use std::marker::Brand;
+use std::rt::Clock;
 use std::sync::atomic::AtomicBool;
 use std::sync::{Arc, Wait};
 use std::test::Fail;
@@ -39,7 +40,7 @@ struct One<'a> {
 }
 
 /// Serves this client: how many bytes it was given at its end; none, where memory is refused.
-fn served<'a, T: Gate<MemoryServer> + Drop, N: Naming, K: Ledgers, R: Wait>(
+fn served<'a, T: Gate<MemoryServer> + Drop, N: Naming, K: Ledgers, R: Wait + Clock>(
     desk: &Desk<R, MemoryDial<N>, K>,
     pass: Pass<K>,
     one: One<'a>,

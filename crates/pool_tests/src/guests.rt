@@ -33,9 +33,10 @@ pub(crate) enum Talk {
     WithoutUser,
     OldProtocol,
     WithOptions,
-    /// The user bob, the databases other and pgbouncer.
+    /// The user bob, the database other.
     AsBob,
     ToOther,
+    /// The console: it asks for its version, and leaves with the answer.
     ToConsole,
     /// It answers the question for its password.
     RightPassword,
@@ -89,6 +90,8 @@ fn then(talk: Talk, at: usize) -> Option<(&'static [u8], &'static [u8])> {
         (Talk::Longest, 1..=105) => Some((b"", b"                   ")),
         (Talk::Longest, 106) => Some((b"", b"\0")),
         (Talk::Longest, 107) => Some((READY, TERMINATE)),
+        (Talk::ToConsole, 0) => Some((READY, b"Q\0\0\0\x12SHOW VERSION;\0")),
+        (Talk::ToConsole, 1) => Some((READY, TERMINATE)),
         (Talk::RightPassword, 0) => Some((QUESTION, RIGHT)),
         (Talk::RightPassword, 1) => Some((READY, TERMINATE)),
         (Talk::WrongPassword, 0) => Some((QUESTION, WRONG)),

@@ -3,6 +3,7 @@ use crate::servers::{Servers, TestServer};
 use crate::worker_parts::{TestRuntime, key, limits};
 use desk_tallies::ledgers::Ledgers;
 use desk_tallies::passes::Pass;
+use link_desk::answers::Grant;
 use link_desk::calls::Holder;
 use link_desk::desk::LinkDesk;
 use pool_desk::answers::Changed;
@@ -10,8 +11,8 @@ use pool_desk::desk::Desk;
 use server_end::gate::{Gate, Ready};
 use std::alloc::{AllocError, Global};
 use std::rt::Clock;
-use std::sync::Wait;
 use std::sync::atomic::{AtomicBool, Ordering};
+use std::sync::{Arc, Wait};
 use std::thread::sleep;
 use std::time::Duration;
 
@@ -42,7 +43,7 @@ pub(crate) enum Moment {
     AtTicket,
 }
 
-fn arrives<R: Wait, K: Ledgers>(desk: &TestDesk<R, K>, pass: &mut Pass<K>) -> bool {
+fn arrives<R: Wait + Clock, K: Ledgers>(desk: &TestDesk<R, K>, pass: &mut Pass<K>) -> bool {
     match pass.holder().client {
         None => {
             desk.arrive(pass);
@@ -52,7 +53,7 @@ fn arrives<R: Wait, K: Ledgers>(desk: &TestDesk<R, K>, pass: &mut Pass<K>) -> bo
     }
 }
 
-fn asks<R: Wait, K: Ledgers>(
+fn asks<R: Wait + Clock, K: Ledgers>(
     alloc: Global,
     desk: &TestDesk<R, K>,
     pass: &mut Pass<K>,
@@ -67,18 +68,22 @@ fn asks<R: Wait, K: Ledgers>(
     })
 }
 
-fn takes<R: Wait, K: Ledgers>(desk: &TestDesk<R, K>, pass: &mut Pass<K>) -> bool {
-    match pass.holder() {
-        Holder {
-            client: Some(_),
-            lease: None,
-            ..
-        } => {
-            desk.take(pass);
-            true
+/// The client has its link, or knows why not; each call waits for at most a second.
+fn takes<R: Wait + Clock, K: Ledgers>(desk: &TestDesk<R, K>, pass: &mut Pass<K>) -> bool {
+    for _ in 0..60u32 {
+        match pass.holder() {
+            Holder {
+                client: Some(_),
+                lease: None,
+                ..
+            } => match desk.take(pass) {
+                Grant::Queued => {}
+                _ => return true,
+            },
+            _ => return false,
         }
-        _ => false,
     }
+    false
 }
 
 fn is_done(changed: Changed) -> bool {
@@ -87,7 +92,7 @@ fn is_done(changed: Changed) -> bool {
 
 impl Act {
     /// Whether it could happen.
-    pub(crate) fn happens<R: Wait, K: Ledgers>(
+    pub(crate) fn happens<R: Wait + Clock, K: Ledgers>(
         self,
         alloc: Global,
         desk: &TestDesk<R, K>,
@@ -105,7 +110,8 @@ impl Act {
             }
             Act::Pools(size) => {
                 let limits = limits(alloc, 100, size)?;
-                Ok(is_done(desk.limits(pass, &limits)?))
+                let again = Arc::try_clone(&limits)?;
+                Ok(is_done(desk.limits(pass, limits, again)))
             }
             Act::Shutdown => Ok(is_done(desk.shutdown(pass))),
         }
@@ -183,6 +189,8 @@ impl Notes {
 pub(crate) struct TurnedGate<'a, R: Clock + Drop> {
     pub rt: R,
     pub notes: &'a Notes,
+    /// Its client is seen to have gone.
+    pub goes: bool,
 }
 
 impl<'a, R: Clock + Drop> Gate<TestServer> for TurnedGate<'a, R> {
@@ -193,5 +201,9 @@ impl<'a, R: Clock + Drop> Gate<TestServer> for TurnedGate<'a, R> {
             client: true,
             server: true,
         }
+    }
+
+    fn client_has_left(&mut self) -> bool {
+        self.goes
     }
 }

@@ -69,7 +69,7 @@ pub(crate) fn shut_at_arrival() -> Row {
     }
 }
 
-/// An unknown user, another database, a wrong password behind the question for it, and the console's user: each arrives and leaves.
+/// An unknown user, another database, a wrong password behind the question for it; and a client of the console: each arrives and leaves.
 pub(crate) fn not_let_in() -> Row {
     Row {
         served: &[
@@ -94,8 +94,9 @@ pub(crate) fn not_let_in() -> Row {
             Client {
                 talk: Talk::ToConsole,
                 under: Under::Admin,
-                before: 0,
-                last: Last::Nothing,
+                // AuthenticationOk, three reports, its key word and ReadyForQuery
+                before: 105,
+                last: Last::Version,
             },
         ],
         totals: Totals {
@@ -187,7 +188,33 @@ pub(crate) fn waited_too_long() -> Row {
     }
 }
 
-/// The same, and the shutdown comes.
+/// A client waits for the one link of its pool, and goes: its ticket goes with it, and nothing is dialled.
+pub(crate) fn gone_while_waiting() -> Row {
+    Row {
+        pool: 1,
+        first: Act::HasLink,
+        served: &[Client {
+            talk: Talk::Stays,
+            under: Under::Trust,
+            before: 9,
+            last: Last::Nothing,
+        }],
+        go: true,
+        there: (1, 0),
+        lent: &[1],
+        sums: [1, 0, 0, 0, 0],
+        totals: Totals {
+            arrived: 2,
+            granted: 1,
+            left: 1,
+            others: 2,
+            ..NONE
+        },
+        ..QUIET
+    }
+}
+
+/// A client waits for the one link of its pool, and the shutdown comes.
 pub(crate) fn shut_at_waiting() -> Row {
     Row {
         pool: 1,

@@ -47,6 +47,8 @@ pub(crate) enum Last {
     Question,
     /// The last of the key word of the client with this number, up to 10, and ReadyForQuery.
     Welcome(u8),
+    /// The console's answer to `SHOW VERSION`.
+    Version,
     /// The answer to `SHOW application_name`, where it is empty; and its first ten bytes.
     Name,
     NameBegun,
@@ -75,6 +77,8 @@ impl Last {
             Last::StartError => START_ERROR,
             Last::Question => QUESTION,
             Last::Welcome(number) => welcome(number),
+            Last::Version =>
+                b"T\0\0\0\x20\0\x01version\0\0\0\0\0\0\0\0\0\0\x19\xff\xff\xff\xff\xff\xff\0\0D\0\0\0\x12\0\x01\0\0\0\x08pgsess 1C\0\0\0\x09SHOW\0Z\0\0\0\x05I",
             Last::Name =>
                 b"T\0\0\0\x29\0\x01application_name\0\0\0\0\0\0\0\0\0\0\x19\xff\xff\xff\xff\xff\xff\0\0D\0\0\0\x0a\0\x01\0\0\0\0C\0\0\0\x09SHOW\0Z\0\0\0\x05I",
             Last::NameBegun => b"T\0\0\0\x29\0\x01app",
@@ -107,6 +111,8 @@ pub(crate) struct Row {
     /// The clients that are served, one after the other, so many times.
     pub served: &'static [Client],
     pub times: u32,
+    /// They have gone once they wait for a link.
+    pub go: bool,
     /// How many clients and tickets there are then, and the numbers of the links that are lent and idle.
     pub there: (usize, usize),
     pub lent: &'static [u64],
@@ -138,6 +144,7 @@ pub(crate) const QUIET: Row = Row {
     moment: Moment::Never,
     served: &[],
     times: 1,
+    go: false,
     there: (0, 0),
     lent: &[],
     idle: &[],

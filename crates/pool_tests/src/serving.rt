@@ -15,6 +15,7 @@ use book_rows::links::Link;
 use desk_tallies::ledgers::Ledgers;
 use desk_tallies::passes::{Pass, Totals};
 use desk_tallies::tallies::Blanks;
+use link_desk::desk::LinkDesk;
 use pool_desk::desk::Desk;
 use std::alloc::{AllocError, Global};
 use std::marker::Brand;
@@ -54,7 +55,12 @@ fn served_once<R: TestRuntime, K: Ledgers + Send + Sync>(
 ) -> Result<(Pass<K>, bool), AllocError> {
     let notes = Notes::new(row.moment);
     let shared = &notes;
-    let gate = TurnedGate { rt, notes: shared };
+    let goes = row.go;
+    let gate = TurnedGate {
+        rt,
+        notes: shared,
+        goes,
+    };
     let login = login_by(alloc, client.under.settings(), number)?;
     let guest = Guest::new(alloc, client.talk, CUT)?;
     let (moment, act) = (row.moment, row.act);
@@ -204,6 +210,7 @@ fn refused_at(at: usize) -> Option<Row> {
         12 => Some(refused::dead_in_a_message()),
         13 => Some(refused::malformed_by_its_server()),
         14 => Some(refused::malformed_or_too_long()),
+        15 => Some(refused::gone_while_waiting()),
         _ => None,
     }
 }
@@ -225,7 +232,7 @@ fn served_at(at: usize) -> Option<Row> {
 
 #[test]
 fn each_is_told_why_it_is_refused(rt: HostRuntime) -> Result<(), Fail> {
-    for at in 0..15usize {
+    for at in 0..16usize {
         let Some(row) = refused_at(at) else {
             break;
         };

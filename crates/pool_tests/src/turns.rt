@@ -10,6 +10,7 @@ use crate::worker_parts::{CUT, limits, login, serve_by, word};
 use desk_tallies::ledgers::Ledgers;
 use desk_tallies::passes::Totals;
 use desk_tallies::tallies::Blanks;
+use link_desk::desk::LinkDesk;
 use memory_dial::{MemoryDial, Naming};
 use paced_client::PacedClient;
 use pool_desk::desk::Desk;
@@ -17,6 +18,7 @@ use server_end::gate::OpenGate;
 use session_catalogue::Catalogue;
 use std::alloc::{AllocError, Global};
 use std::marker::Brand;
+use std::rt::Clock;
 use std::sync::{Arc, Wait};
 use std::test::Fail;
 
@@ -67,7 +69,7 @@ struct Story {
 }
 
 /// Both clients, one after the other.
-fn both<N: Naming, K: Ledgers, R: Wait + Drop>(
+fn both<N: Naming, K: Ledgers, R: Wait + Clock + Drop>(
     rt: R,
     alloc: Global,
     catalogue: Arc<Catalogue>,

@@ -12,6 +12,7 @@ use book_model::rows::{Row, Rows};
 use desk_tallies::ledgers::Ledgers;
 use desk_tallies::passes::Pass;
 use link_desk::calls::Holder;
+use log_lines::notes::Visit;
 use login_core::Login;
 use message_view::KeyWord;
 use pool_desk::desk::Desk;
@@ -36,6 +37,13 @@ pub(crate) const CUT: usize = 8_192;
 
 /// The bytes that a client is given before its first reply: AuthenticationOk, nine reports, its key word and ReadyForQuery.
 pub(crate) const WELCOME: usize = 260;
+
+/// Where the log has clients come from.
+const VISIT: Visit = Visit {
+    host: [127, 0, 0, 1],
+    port: 40_112,
+    since: None,
+};
 
 /// The key word of the client with this number.
 pub(crate) fn word(number: u32) -> KeyWord
@@ -127,7 +135,13 @@ fn is_free<K: Ledgers>(pass: &Pass<K>) -> bool
 }
 
 /// Serves a client by this desk, and hands back its end and the pass; `None` where somebody holds the pass.
-pub(crate) fn serve_by<C: ClientEnd, R: Wait, S: Outside, T: Gate<S::End> + Drop, K: Ledgers>(
+pub(crate) fn serve_by<
+    C: ClientEnd,
+    R: Wait + Clock,
+    S: Outside,
+    T: Gate<S::End> + Drop,
+    K: Ledgers,
+>(
     alloc: Global,
     desk: &Desk<R, S, K>,
     pass: Pass<K>,
@@ -146,5 +160,6 @@ pub(crate) fn serve_by<C: ClientEnd, R: Wait, S: Outside, T: Gate<S::End> + Drop
     if !is_free(&pass) {
         return None;
     }
-    Some(serve(alloc, desk, pass, client, login, word(number), gate))
+    let key = word(number);
+    Some(serve(alloc, desk, pass, client, login, key, gate, VISIT))
 }
