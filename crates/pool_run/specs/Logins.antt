@@ -9,5 +9,5 @@ use Rattle.login_core.specs.Logins.{AwaitsPacket, LoginView}
 pub record IsNewLogin (word : KeyWord) (v : LoginView) : Type 0 where
   pub awaiting : v.awaiting ≡ AwaitsPacket (AtFirst false false)
   pub held : v.held ≡ []
-  pub word : v.word ≡ word
+  pub own : v.word ≡ word
   pub settings : AreWithinBounds v.settings
