@@ -6,8 +6,8 @@ use Rattle.login_core.specs.Dialogue.{AtFirst}
 use Rattle.login_core.specs.Logins.{AwaitsPacket, LoginView}
 
 -- it was made with this key word, under settings within their bounds, and has taken no byte
-pub record IsNewLogin (word : KeyWord) (v : LoginView) : Type 0 where
+pub record IsNewLogin (given : KeyWord) (v : LoginView) : Type 0 where
   pub awaiting : v.awaiting ≡ AwaitsPacket (AtFirst false false)
   pub held : v.held ≡ []
-  pub own : v.word ≡ word
+  pub word : v.word ≡ given
   pub settings : AreWithinBounds v.settings

@@ -8,11 +8,14 @@ use std::net::{Net, TcpStream};
 use std::rt::Clock;
 use std::sync::Wait;
 use std::test::Fail;
-use std::thread::Threads;
-use std::time::Instant;
+use std::thread::{Threads, sleep};
+use std::time::{Duration, Instant};
 
 /// Ann's StartupMessage for the database shop.
 const START: &[u8] = b"\0\0\0\x20\0\x03\0\0user\0ann\0database\0shop\0\0";
+
+/// AuthenticationOk, which a client is given before its link is there.
+const AUTHENTICATION_OK: &[u8] = b"R\0\0\0\x08\0\0\0\0";
 
 /// More seconds than a timeout of one second takes, and fewer than one of ten.
 const SOON: u64 = 10;
@@ -43,6 +46,28 @@ fn a_client_waits_for_a_second(rt: HostRuntime) -> Result<(), Fail> {
     assert!(rt; given.as_slice().get(9..) == Some(refusal_bytes(Refusal::WaitedTooLong)));
     assert!(rt; seconds < SOON);
     assert!(rt; leave(rt.alloc(), first)?.is_empty());
+    assert!(rt; pool.join(&rt).is_some() && stub.join(&rt));
+    Ok(())
+}
+
+/// A client that waits for a link and hangs up gives its place back: the next one waits in its stead, and has the link.
+#[test]
+fn a_client_that_goes_waits_no_longer(rt: HostRuntime) -> Result<(), Fail> {
+    let options = "default_pool_size = 1\nmax_client_conn = 2\n";
+    let (stub, server) = start_stub(rt, rt.alloc(), 1)?;
+    let (pool, port) = start_pool(rt, rt.alloc(), server, options, 3)?;
+    let mut first = connect(&rt, port, START)?;
+    read(rt.alloc(), &mut first, WELCOME)?;
+    let mut second = connect(&rt, port, START)?;
+    read(rt.alloc(), &mut second, AUTHENTICATION_OK.len())?;
+    drop(second);
+    sleep(&rt, Duration::from_millis(2_500));
+    let mut third = connect(&rt, port, START)?;
+    let begun = read(rt.alloc(), &mut third, AUTHENTICATION_OK.len())?;
+    assert!(rt; begun.as_slice() == AUTHENTICATION_OK);
+    assert!(rt; leave(rt.alloc(), first)?.is_empty());
+    read(rt.alloc(), &mut third, WELCOME - AUTHENTICATION_OK.len())?;
+    assert!(rt; leave(rt.alloc(), third)?.is_empty());
     assert!(rt; pool.join(&rt).is_some() && stub.join(&rt));
     Ok(())
 }
