@@ -120,8 +120,8 @@ free_port() {
     python3 -c 'import socket; s = socket.socket(); s.bind(("127.0.0.1", 0)); print(s.getsockname()[1])'
 }
 
-# listens NAME LINE PORT WORD.. : the program says this line on standard output (none: nothing) and nothing on standard error, can be
-# reached at the port, and runs until it is told to end
+# listens NAME LINE PORT WORD.. : the program says this line on standard output, and the same to its log on standard error (none:
+# nothing on both), can be reached at the port, and runs until it is told to end
 listens() {
     local name=$1 line=$2 port=$3 process reached=1
     shift 3
@@ -136,7 +136,7 @@ listens() {
     done
     result "$name: reached" 0 "$reached"
     result "$name: standard output" "$line" "$(cat out.txt)"
-    result "$name: standard error" 0 "$(wc -c <err.txt)"
+    result "$name: standard error" "${line:+pgsess: $line}" "$(cat err.txt)"
     kill -TERM "$process"
     wait "$process" 2>/dev/null
     result "$name: told to end" 143 $?
