@@ -120,7 +120,20 @@ fn stub<
 }
 
 /// Does the job. `host` is the same runtime, whose files and standard error a pool's threads use.
-fn run<'a, R: Files + Input + Print + PoolRuntime + 'static>(
+fn run<
+    'a,
+    R: Files
+        + Input
+        + Print
+        + Threads
+        + Wait
+        + Clock
+        + Net<Listener = net::TcpListener, Stream = net::TcpStream>
+        + Copy
+        + Send
+        + Sync
+        + 'static,
+>(
     rt: R,
     host: HostRuntime,
     alloc: Global,

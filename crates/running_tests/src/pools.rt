@@ -8,7 +8,6 @@ use ini_config::{Settings, read_settings};
 use log_lines::events::Totals;
 use pool_run::keeping::{Source, Unread};
 use pool_run::pool::serve_on;
-use pool_run::runtime::PoolRuntime;
 use session_catalogue::Catalogue;
 use std::alloc::Global;
 use std::io::{Read, Write};
@@ -113,7 +112,16 @@ impl Source for Elsewhere {
 
 /// A pool under these options, over servers at this port, and then over those of the source; and its own port. It ends with the last of
 /// so many clients, or at SHUTDOWN.
-pub fn start_pool_of<R: PoolRuntime + 'static>(
+pub fn start_pool_of<
+    R: Threads
+        + Wait
+        + Clock
+        + Net<Listener = net::TcpListener, Stream = net::TcpStream>
+        + Copy
+        + Send
+        + Sync
+        + 'static,
+>(
     rt: R,
     alloc: Global,
     server: u16,
@@ -141,7 +149,16 @@ pub fn start_pool_of<R: PoolRuntime + 'static>(
 }
 
 /// A pool for so many clients under these options, over servers at this port; and its own port. It ends with the last client.
-pub fn start_pool<R: PoolRuntime + 'static>(
+pub fn start_pool<
+    R: Threads
+        + Wait
+        + Clock
+        + Net<Listener = net::TcpListener, Stream = net::TcpStream>
+        + Copy
+        + Send
+        + Sync
+        + 'static,
+>(
     rt: R,
     alloc: Global,
     server: u16,
