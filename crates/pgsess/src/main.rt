@@ -133,12 +133,7 @@ fn run<
         + Send
         + Sync
         + 'static,
->(
-    rt: R,
-    host: HostRuntime,
-    alloc: Global,
-    job: Job<'a>,
-) -> Result<(), AppFault<'a>> {
+>(rt: R, host: HostRuntime, alloc: Global, job: Job<'a>) -> Result<(), AppFault<'a>> {
     match job {
         Job::Replay => replay(alloc, rt.reader(), &mut io::writer(&rt)),
         Job::Serve {
