@@ -21,9 +21,9 @@ use Rattle.pool_serve.specs.declared.ending.Ending.TheVariants as ending
 use Rattle.pool_serve.specs.declared.guest.Guest.{Guest}
 use Rattle.pool_serve.specs.Causes.{AtArrival}
 use Rattle.pool_serve.specs.Endings.{Came, Traces}
-use Rattle.pool_serve.specs.Serving.{IsAtConsole, IsManaged, IsServed}
+use Rattle.pool_serve.specs.Serving.{IsManaged, IsServed}
 use Rattle.pool_serve.specs.Shares.{Evens}
-use Rattle.pool_serve.specs.Stays.{CameIn, IsAllowed, ServesAs}
+use Rattle.pool_serve.specs.Stays.{CameIn, IsAllowed, IsAtConsole, ServesAs}
 use Rattle.pool_serve.specs.Words.{HasGiven, last_bytes, word_of}
 use Rattle.pool_serve.proofs.Causing.{word_traces}
 use Rattle.pool_serve.proofs.Logging.{same_rows, same_served}
@@ -41,12 +41,6 @@ same_managed old new after last s x = record {
   p = x.p;
   q = x.q;
   talks = subst (λ (k : KeyWord). IsServedAtConsole old.login.settings k x.before after x.p x.q last) s.word (subst (λ (t : Settings). IsServedAtConsole t new.login.word x.before after x.p x.q last) s.settings x.talks);
-}
-
-pub same_console : (old new : RunView) (taken : List ℕ) → IsSameLogin old new → IsAtConsole new.login taken → IsAtConsole old.login taken
-same_console old new taken s x = record {
-  rest = x.rest;
-  passed = subst (λ (k : KeyWord). (login_among (rows_of old.login) k taken).ended ≡ PassedWith ToConsole x.rest) s.word (subst (λ (rows : Rows). (login_among rows new.login.word taken).ended ≡ PassedWith ToConsole x.rest) (same_rows old new s) x.passed);
 }
 
 -- ---- its pass
@@ -83,24 +77,6 @@ managed v before after s word p q last x e n b t f w h =
       talks = subst (λ (k : KeyWord). IsServedAtConsole v.login.settings k before after p q last) (sym w) (subst (λ (z : Settings). IsServedAtConsole z word before after p q last) f h);
     }
 
--- it went on with these bytes
-abbrev TookMore : ClientFacts → ClientFacts → Type 0
-TookMore before after = (more : List ℕ) × (after.taken ≡ before.taken ++ more)
-
-took_more : (s : Settings) (word : KeyWord) (before after : ClientFacts) (p q : Pass) (last : Option Refusal) → before.tells ≡ true → IsServedAtConsole s word before after p q last → TookMore before after
-took_more s word before after p q last t (inl u) = ([], ap (λ (c : ClientFacts). c.taken) u.client ∙ sym (append-nil before.taken))
-took_more s word before after p q last t (inr k) = (_, k.taken t)
-
-pub at_console : (v : RunView) (before after : ClientFacts) (s : Settings) (word : KeyWord) (p q : Pass) (last : Option Refusal) → IsRun v → v.phase ≡ Console → before ≡ v.client → v.client.tells ≡ true → IsServedAtConsole s word before after p q last → IsAtConsole v.login after.taken
-at_console v before after s word p q last x e b t h =
-    let ended = subst (λ (f : PhaseOf). StandsAt f v.said v.login x.2.heard (x.2.done ++ said_pieces v.said)) e x.2.stands in
-    let more = took_more s word before after p q last (ap (λ (c : ClientFacts). c.tells) b ∙ t) h in
-    let taken : after.taken ≡ x.2.heard ++ more.0 = more.1 ∙ ap (λ (l : List ℕ). l ++ more.0) (ap (λ (c : ClientFacts). c.taken) b ∙ x.2.taken t) in
-    record {
-      rest = more.0;
-      passed = ap (λ (l : List ℕ). (login_among (rows_of v.login) v.login.word l).ended) taken ∙ ap (λ (d : Dialogue). d.ended) (ended more.0);
-    }
-
 -- ---- by how its time ended
 
 pub same_serves : (home : HomeOf) (old new : RunView) (c : ClientFacts) (e : Ending) → IsSameLogin old new → ServesAs home new.login c e → ServesAs home old.login c e
@@ -111,7 +87,7 @@ same_serves home old new c ending.Strange s h = same_served home old new c (word
 same_serves home old new c ending.Unreached s h = same_served home old new c (word_of ending.Unreached) s h
 same_serves home old new c (ending.Unstarted cause) s h = same_served home old new c (word_of (ending.Unstarted cause)) s h
 same_serves home old new c (ending.Relayed r) s h = same_served home old new c (word_of (ending.Relayed r)) s h
-same_serves home old new c (ending.Managed r) s h = same_console old new c.taken s h
+same_serves home old new c (ending.Managed r) s h = h
 
 -- a client that asked for a link
 pub guest_serves : (home : HomeOf) (v : LoginView) (g : Guest) (before c : ClientFacts) (e : Ending) → Came home g before c e → IsServed home v c (word_of e) → ServesAs home v c e
@@ -126,7 +102,7 @@ guest_serves home v g before c (ending.Managed r) x h = absurd x
 
 -- a client that was told its last word
 module _ (home : HomeOf) (v : LoginView) (before after : ClientFacts) (p q : PassOf) where
-  pub told_as : (e : Ending) → HasGiven before after (last_bytes (word_of e)) → before.tells ≡ true → CameIn home v before e → Traces AtArrival p q e → ServesAs home v before e → IsAllowed home v p q after ⊎ IsAtConsole v after.taken
+  pub told_as : (e : Ending) → HasGiven before after (last_bytes (word_of e)) → before.tells ≡ true → CameIn home v before e → Traces AtArrival p q e → ServesAs home v before e → IsAllowed home v p q after ⊎ IsAtConsole v after
   told_as ending.Left h t c x s = inl (told_client home v before after p q (word_of ending.Left) h t (word_traces p q home v before ending.Left tt c x) s)
   told_as (ending.Refused r) h t c x s = inl (told_client home v before after p q (word_of (ending.Refused r)) h t (word_traces p q home v before (ending.Refused r) tt c x) s)
   told_as ending.Memory h t c x s = inl (told_client home v before after p q (word_of ending.Memory) h t (word_traces p q home v before ending.Memory tt c x) s)
@@ -134,4 +110,4 @@ module _ (home : HomeOf) (v : LoginView) (before after : ClientFacts) (p q : Pas
   told_as ending.Unreached h t c x s = inl (told_client home v before after p q (word_of ending.Unreached) h t (word_traces p q home v before ending.Unreached tt c x) s)
   told_as (ending.Unstarted cause) h t c x s = inl (told_client home v before after p q (word_of (ending.Unstarted cause)) h t (word_traces p q home v before (ending.Unstarted cause) tt c x) s)
   told_as (ending.Relayed r) h t c x s = inl (told_client home v before after p q (word_of (ending.Relayed r)) h t (word_traces p q home v before (ending.Relayed r) tt c x) s)
-  told_as (ending.Managed r) h t c x s = inr (subst (λ (taken : List ℕ). IsAtConsole v taken) (sym (h.taken t)) s)
+  told_as (ending.Managed r) h t c x s = inr (record { last = r; before = before; managed = c t; told = h })

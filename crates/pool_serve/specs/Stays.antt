@@ -10,8 +10,8 @@ use Rattle.login_core.specs.Logins.{LoginView}
 use Rattle.login_run.specs.Laws.{AllowedBy, own}
 use Rattle.pool_serve.specs.Causes.{AtArrival, HasCause}
 use Rattle.pool_serve.specs.Endings.{HadLease, IsUnstarted, Traces, refusal_in}
-use Rattle.pool_serve.specs.Serving.{AreMarksOf, IsAtConsole, IsManaged, IsServed}
-use Rattle.pool_serve.specs.Words.{HasGiven, last_bytes, word_of}
+use Rattle.pool_serve.specs.Serving.{AreMarksOf, IsManaged, IsServed}
+use Rattle.pool_serve.specs.Words.{HasGiven, last_bytes, or_nothing, word_of}
 use Rattle.pool_serve.specs.declared.ending.Ending.{Ending}
 use Rattle.pool_serve.specs.declared.ending.Ending.TheVariants as ending
 use Rattle.pool_serve.specs.declared.guest.Guest.{Guest}
@@ -46,9 +46,17 @@ abbrev pub IsAllowed : HomeOf → LoginView → PassOf → PassOf → ClientFact
 IsAllowed home v p q c =
     (marks : List Bool) × (AreMarksOf home.strikable marks × AllowedBy (HasCause v c.taken p q) c.given (own home.catalogue v marks c.taken))
 
--- what it was given until then, but for its last word
+-- A client of the console, to which no server would have answered: it was given all pieces of its login and what the console says to
+-- it, and then the last word.
+pub record IsAtConsole (v : LoginView) (after : ClientFacts) : Type 0 where
+  pub last : Option Refusal
+  pub before : ClientFacts
+  pub managed : IsManaged v before last
+  pub told : HasGiven before after (last_bytes (or_nothing last))
+
+-- what it was given until then, but for its last word; what a client of the console was given stands where it came in
 abbrev pub ServesAs : HomeOf → LoginView → ClientFacts → Ending → Type 0
-ServesAs home v c (ending.Managed last) = IsAtConsole v c.taken
+ServesAs home v c (ending.Managed last) = Unit {0}
 ServesAs home v c e = IsServed home v c (word_of e)
 
 -- the client never arrived at the desk

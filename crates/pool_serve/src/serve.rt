@@ -7,9 +7,9 @@ ghost use Rattle.login_run.specs.Runs.{Arrived, Console, IsAllGiven, IsSameLogin
 ghost use Rattle.console_run.specs.Passing.{IsSameHolder};
 ghost use Rattle.pool_serve.specs.Causes.{AtArrival, AtAsking};
 ghost use Rattle.pool_serve.specs.Endings.{HasEnded, HasLeased, Traces, refusal_in};
-ghost use Rattle.pool_serve.specs.Serving.{HasStopped, IsAtConsole, IsGuest, LetsIn};
+ghost use Rattle.pool_serve.specs.Serving.{HasStopped, IsGuest, LetsIn};
 ghost use Rattle.pool_serve.specs.Shares.{Evens, Settles};
-ghost use Rattle.pool_serve.specs.Stays.{CameIn, IsAllowed, IsOver, IsUntouched, ServesAs};
+ghost use Rattle.pool_serve.specs.Stays.{CameIn, IsAllowed, IsAtConsole, IsOver, IsUntouched, ServesAs};
 
 use crate::TURNS;
 use crate::ending::Ending;
@@ -199,6 +199,9 @@ impl<'a, D: LinkDesk, G: Gate<D::End>> Worker<'a, D, G> {
 /// traces hold unless a call of the desk was answered by the last decision or as strange. With the same exception, as many links were
 /// granted as given back or lost, and as many clients arrived as left.
 ///
+/// A client of the console, to which no server would answer, was given its login, what the console says to its messages over the desk's
+/// book, and its last word.
+///
 /// Whether it tells or not, the client's last word is that of how its time at the desk ended: the desk's own refusal, the cause for
 /// which its link wasn't started, or the refusal that its relay's last answer tells. It is given whole, unless the client's end ended
 /// or faulted or took nothing for [`TURNS`] turns. No client is in the pass before, and none afterwards.
@@ -223,7 +226,7 @@ pub fn serve<C: ClientEnd, D: LinkDesk, G: Gate<D::End> + Drop>(
     requires free { (D.holder pass).client ≡ None }
     requires none { (D.holder pass).lease ≡ None }
     ensures tells { (C.facts result.0).tells ≡ (C.facts client).tells }
-    ensures allowed { (C.facts client).tells ≡ true → LetsIn D.home login.users → IsAllowed D.home login (D.told pass) (D.told result.1) (C.facts result.0) ⊎ IsAtConsole login (C.facts result.0).taken }
+    ensures allowed { (C.facts client).tells ≡ true → LetsIn D.home login.users → IsAllowed D.home login (D.told pass) (D.told result.1) (C.facts result.0) ⊎ IsAtConsole login (C.facts result.0) }
     ensures share { Settles (D.told pass) (D.told result.1) }
     ensures free { (D.holder result.1).client ≡ None }
     ensures none { (D.holder result.1).lease ≡ None }

@@ -1,7 +1,7 @@
 use Rattle.std.proofs.Common.{sym, ap, ◌∙◌}
 use Rattle.link_laws.specs.Standing.{ClientFacts}
 use Rattle.login_core.specs.Logins.{LoginView}
-use Rattle.pool_serve.proofs.Managing.{at_console, managed}
+use Rattle.pool_serve.proofs.Managing.{managed}
 use Rattle.pool_serve.proofs.worker.Worker.manage.Goals as goal
 
 pub returns-clause-came : goal.returns-clause-came
@@ -10,7 +10,3 @@ returns-clause-came g c = λ t.
     (sym (ap (λ (x : ClientFacts). x.tells) c.finish-client.ensures.client) ∙ (sym c.serve_console-client.ensures.tells ∙ t))
     (c.deref.ensures ∙ (c.settings.ensures ∙ ap (λ (v : LoginView). v.settings) c.finish-client.ensures.login))
     c.requires.word c.serve_console-client.ensures.served
-
-pub returns-clause-serves : goal.returns-clause-serves
-returns-clause-serves g c = λ t.
-    at_console c.args.run (g.C.ClientEnd.facts c.finish-client.result.0) (g.C.ClientEnd.facts c.serve_console-client.result.0) _ _ _ _ c.serve_console-client.result.1 c.finish-client.ensures.run c.requires.console c.finish-client.ensures.client t c.serve_console-client.ensures.served
