@@ -7,13 +7,13 @@ ghost use Rattle.login_run.specs.Runs.{Arrived, Console, IsAllGiven, IsSameLogin
 ghost use Rattle.console_run.specs.Passing.{IsSameHolder};
 ghost use Rattle.pool_serve.specs.Causes.{AtArrival, AtAsking};
 ghost use Rattle.pool_serve.specs.Endings.{HasEnded, HasLeased, Traces, refusal_in};
-ghost use Rattle.pool_serve.specs.Serving.{HasStopped, IsGuest, LetsIn};
+ghost use Rattle.pool_serve.specs.Serving.{HasStopped, IsLoggedIn, LetsIn};
 ghost use Rattle.pool_serve.specs.Shares.{Evens, Settles};
 ghost use Rattle.pool_serve.specs.Stays.{CameIn, IsAllowed, IsAtConsole, IsOver, IsUntouched, ServesAs};
 
 use crate::TURNS;
 use crate::ending::Ending;
-use crate::guest::Guest;
+use crate::logged_in::LoggedIn;
 use crate::noting::{ending_note, named, note_end, note_login, own_key};
 use crate::worker::Worker;
 use console_run::console::serve_console;
@@ -33,7 +33,7 @@ use server_end::gate::Gate;
 use server_end::{ClientEnd, ServerEnd};
 use std::alloc::Global;
 
-/// Goes on with a login until it has arrived, is let in or is over; or until nothing has moved for so many turns of the gate, if
+/// Goes on with a login until it has arrived, is let in or is over; or until nothing has moved for so many turns of the client, if
 /// `most` says how many. A turn is taken only where nothing moved.
 fn converse<C: ClientEnd, E: ServerEnd, G: Gate<E>>(
     alloc: Global,
@@ -48,13 +48,18 @@ fn converse<C: ClientEnd, E: ServerEnd, G: Gate<E>>(
     for _ in 0..u64::MAX {
         match run.turn(alloc) {
             LoginTurn::Again => waited = 0,
-            LoginTurn::Wait => {
-                if most == Some(waited) {
-                    return LoginTurn::Over;
+            LoginTurn::Wait => match most {
+                None => {
+                    gate.turn();
                 }
-                gate.turn_of_client();
-                waited = waited.saturating_add(1);
-            }
+                Some(most) => {
+                    if most == waited {
+                        return LoginTurn::Over;
+                    }
+                    gate.turn_of_client();
+                    waited = waited.saturating_add(1);
+                }
+            },
             turn => return turn,
         }
     }
@@ -125,27 +130,27 @@ impl<'a, D: LinkDesk, G: Gate<D::End>> Worker<'a, D, G> {
         }
         let (client, login, key) = run.finish();
         match key {
-            Some(key) => self.host(client, &Guest { key, word, login }),
+            Some(key) => self.host(client, &LoggedIn { key, word, login }),
             None => (client, Ending::Left),
         }
     }
 
     /// Serves a client that is through its login, and tells the log how it came and went.
-    fn host<C: ClientEnd>(&mut self, client: C, guest: &Guest) -> (C, Ending)
-        requires guest { IsGuest guest.now }
+    fn host<C: ClientEnd>(&mut self, client: C, logged_in: &LoggedIn) -> (C, Ending)
+        requires logged_in { IsLoggedIn logged_in.now }
         requires here { IsSome (D.holder self.old.pass).client }
         requires none { (D.holder self.old.pass).lease ≡ None }
         requires unrefused { (D.holder self.old.pass).refused ≡ None }
         ensures share { Evens (D.told self.old.pass) (D.told self.new.pass) }
         ensures leased { HasLeased (D.holder self.old.pass) (D.holder self.new.pass) result.1 }
-        ensures ended { HasEnded D.home guest.now AtAsking (D.told self.old.pass) (D.told self.new.pass) (C.facts client) (C.facts result.0) result.1 }
+        ensures ended { HasEnded D.home logged_in.now AtAsking (D.told self.old.pass) (D.told self.new.pass) (C.facts client) (C.facts result.0) result.1 }
     {
-        self.note(guest, &Note::LoggedIn);
-        let (client, ending) = self.lease(client, guest);
-        if let Some(note) = ending_note(guest, &ending) {
-            self.note(guest, &note);
+        self.note(logged_in, &Note::LoggedIn);
+        let (client, ending) = self.lease(client, logged_in);
+        if let Some(note) = ending_note(logged_in, &ending) {
+            self.note(logged_in, &note);
         }
-        self.note(guest, &Note::Closed);
+        self.note(logged_in, &Note::Closed);
         (client, ending)
     }
 

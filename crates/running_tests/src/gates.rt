@@ -1,28 +1,24 @@
 //! How long the turns of a gate take.
 use crate::pairs::pair;
-use server_end::gate::{Gate, Ready};
+use server_end::gate::Gate;
 use server_end::{ClientEnd, Moved, ServerEnd};
 use std::rt::Clock;
 use std::test::Fail;
-use std::thread::sleep;
+use std::thread::{join, sleep};
 use std::time::{Duration, Instant};
 use tcp_end::connection::TcpEnd;
 use tcp_end::gate::TcpGate;
 
-const BOTH: Ready = Ready {
-    client: true,
-    server: true,
-};
-
-/// How many turns of idle ends take a second: each is followed by a read of both.
+/// How many turns of an idle client take a second: each is followed by a read of both ends.
 fn idle_turns(rt: &HostRuntime, client: &mut TcpEnd, link: &mut TcpEnd) -> Result<u32, Fail> {
     let mut gate = TcpGate::new(*rt, rt.alloc(), client)?;
     gate.watch(link);
     let start = Instant::now(rt)?;
     for turns in 0..1_000_000u32 {
-        if start.elapsed(rt)?.as_secs() > 0 || gate.turn() != BOTH {
+        if start.elapsed(rt)?.as_secs() > 0 {
             return Ok(turns);
         }
+        Gate::<TcpEnd>::turn_of_client(&mut gate);
         let _ = ClientEnd::read_some(client, &mut [0; 4]);
         let _ = ServerEnd::read_some(link, &mut [0; 4]);
     }
@@ -31,11 +27,68 @@ fn idle_turns(rt: &HostRuntime, client: &mut TcpEnd, link: &mut TcpEnd) -> Resul
 
 // The first two are taken at once: by what a new end notes, and by the events of its registration.
 #[test]
-fn idle_ends_have_ten_turns_a_second(rt: HostRuntime) -> Result<(), Fail> {
+fn an_idle_client_has_ten_turns_a_second(rt: HostRuntime) -> Result<(), Fail> {
     let (mut client, _near) = pair(&rt)?;
     let (mut link, _far) = pair(&rt)?;
     let turns = idle_turns(&rt, &mut client, &mut link)?;
     assert!(rt; turns <= 13);
+    Ok(())
+}
+
+/// A peer says nothing for a second, and then one byte.
+fn speaks_late<R: Clock>(rt: &R, far: &mut TcpEnd) -> Moved {
+    sleep(rt, Duration::from_millis(1_000));
+    ServerEnd::write_some(far, b"Z")
+}
+
+// Turns that aren't counted wait until something comes: of 100 ms each they would be ten.
+#[test]
+fn an_idle_lease_sleeps(rt: HostRuntime) -> Result<(), Fail> {
+    let (mut client, _near) = pair(&rt)?;
+    let (mut link, mut far) = pair(&rt)?;
+    let mut gate = TcpGate::new(rt, rt.alloc(), &mut client)?;
+    gate.watch(&mut link);
+    let (turns, _) = join(
+        &rt,
+        || -> u32 { read_by_turns(&mut gate, &mut link) },
+        || -> Moved { speaks_late(&rt, &mut far) },
+    );
+    assert!(rt; turns <= 4);
+    Ok(())
+}
+
+/// Reads into four bytes' room, and once more after a turn at most.
+fn read_twice(gate: &mut TcpGate<HostRuntime>, client: &mut TcpEnd) -> (Moved, Moved) {
+    let first = ClientEnd::read_some(client, &mut [0; 4]);
+    let second = ClientEnd::read_some(client, &mut [0; 4]);
+    if second == Moved::NotNow {
+        Gate::<TcpEnd>::turn_of_client(gate);
+        return (first, ClientEnd::read_some(client, &mut [0; 4]));
+    }
+    (first, second)
+}
+
+// The event that tells of the bytes tells of the end too, and no other does.
+#[test]
+fn an_end_behind_bytes_is_seen(rt: HostRuntime) -> Result<(), Fail> {
+    let (mut client, mut near) = pair(&rt)?;
+    let mut gate = TcpGate::new(rt, rt.alloc(), &mut client)?;
+    assert!(rt; ClientEnd::write_some(&mut near, b"Q") == Moved::Count(1));
+    drop(near);
+    assert!(rt; is_seen_to_go(&rt, &mut gate));
+    assert!(rt; read_twice(&mut gate, &mut client) == (Moved::Count(1), Moved::Ended));
+    Ok(())
+}
+
+#[test]
+fn an_end_after_bytes_is_seen(rt: HostRuntime) -> Result<(), Fail> {
+    let (mut client, mut near) = pair(&rt)?;
+    let mut gate = TcpGate::new(rt, rt.alloc(), &mut client)?;
+    assert!(rt; ClientEnd::write_some(&mut near, b"Q") == Moved::Count(1));
+    Gate::<TcpEnd>::turn_of_client(&mut gate);
+    assert!(rt; ClientEnd::read_some(&mut client, &mut [0; 4]) == Moved::Count(1));
+    drop(near);
+    assert!(rt; read_twice(&mut gate, &mut client).1 == Moved::Ended);
     Ok(())
 }
 

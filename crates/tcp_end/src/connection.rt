@@ -1,10 +1,12 @@
 //! A TCP connection as an end of a lease: a server's or a client's.
-ghost use Rattle.std.specs.Prelude.{◌≡◌, ◌<◌, length, true, false, IfOk};
+ghost use Rattle.std.specs.Prelude.{◌≡◌, ◌≢◌, ◌<◌, length, true, false, IfOk};
 ghost use Rattle.server_end.specs.Moves.{IsWithin};
 ghost use Rattle.tcp_end.specs.Connections.{Reads, Sends, has_ended, is_broken, new_connection};
 ghost use Rattle.tcp_end.specs.Connections as spec;
+ghost use Rattle.server_end.specs.declared.Moved.TheVariants.{Ended};
 
 use crate::accepted::Accepted;
+use crate::notes::Notes;
 use mio::net::TcpStream;
 use mio::{Interest, Poll, Token};
 use server_end::{ClientEnd, Moved, ServerEnd};
@@ -13,9 +15,9 @@ use std::io;
 use std::io::{ErrorKind, Read, Write};
 use std::marker::Model;
 use std::sync::Arc;
-use std::sync::atomic::{AtomicBool, Ordering};
 
-/// A TCP connection. A read of none of the peer's bytes, when it has sent its last, is the end of its input: no further read is
+/// A TCP connection. While a gate minds it, it answers [`Moved::NotNow`] without a call of the system where the last read has emptied
+/// its socket, or the last write filled it, until the gate has seen an event. A read of none of the peer's bytes, when it has sent its last, is the end of its input: no further read is
 /// tried, and a server's end isn't written to either. After a fault, or at the last count that a number of eight bytes has,
 /// nothing is tried any more.
 ///
@@ -29,8 +31,8 @@ pub struct TcpEnd {
     faults: u64,
     read_waits: u64,
     write_waits: u64,
-    /// The last read came to something, so there may be more. Its gate reads it too.
-    may_have_more: Arc<AtomicBool>,
+    /// Its gate has them too.
+    notes: Arc<Notes>,
 }
 
 impl Drop for TcpEnd {
@@ -42,7 +44,7 @@ impl Drop for TcpEnd {
             faults: _,
             read_waits: _,
             write_waits: _,
-            may_have_more: _,
+            notes: _,
         } = self;
     }
 }
@@ -107,7 +109,7 @@ impl TcpEnd {
             faults: 0,
             read_waits: 0,
             write_waits: 0,
-            may_have_more: Arc::new(alloc, AtomicBool::new(true))?,
+            notes: Arc::new(alloc, Notes::new())?,
         })
     }
 
@@ -116,7 +118,8 @@ impl TcpEnd {
         ensures { self.new ≡ self.old }
     {
         let both = Interest::READABLE | Interest::WRITABLE;
-        let _ = poll.registry().register(&mut self.stream, token, both);
+        let registered = poll.registry().register(&mut self.stream, token, both);
+        self.notes.mind(registered.is_ok());
     }
 
     /// Has the poll tell of it no more.
@@ -124,11 +127,12 @@ impl TcpEnd {
         ensures { self.new ≡ self.old }
     {
         let _ = poll.registry().deregister(&mut self.stream);
+        self.notes.mind(false);
     }
 
-    /// What is noted of its last read, as the gate reads it.
-    pub(crate) fn note(&self) -> Result<Arc<AtomicBool>, AllocError> {
-        Arc::try_clone(&self.may_have_more)
+    /// Its notes, for its gate.
+    pub(crate) fn notes(&self) -> Result<Arc<Notes>, AllocError> {
+        Arc::try_clone(&self.notes)
     }
 
     fn is_broken(&self) -> bool
@@ -143,6 +147,36 @@ impl TcpEnd {
         self.input_ended || self.is_broken()
     }
 
+    /// Reads once of the stream, where it may come to something.
+    fn try_read(&mut self, into: &mut [u8]) -> Moved
+        requires { 0 < length into.old }
+        ensures within { IsWithin result (length into.old) }
+        ensures same { self.new ≡ self.old }
+    {
+        if self.notes.is_empty() {
+            return Moved::NotNow;
+        }
+        let room = into.len();
+        let answer = self.stream.read(into);
+        self.notes.read(&answer, room);
+        read_outcome(answer)
+    }
+
+    /// Writes once to the stream, where it may come to something.
+    fn try_write(&mut self, from: &[u8]) -> Moved
+        requires { 0 < length from.now }
+        ensures within { IsWithin result (length from.now) }
+        ensures some { result ≢ Ended }
+        ensures same { self.new ≡ self.old }
+    {
+        if self.notes.is_full() {
+            return Moved::NotNow;
+        }
+        let answer = self.stream.write(from);
+        self.notes.wrote(&answer, from.len());
+        write_outcome(answer)
+    }
+
     /// Reads once, for either kind of end.
     fn read(&mut self, into: &mut [u8]) -> Moved
         requires { 0 < length into.old }
@@ -152,9 +186,7 @@ impl TcpEnd {
         if self.has_ended() {
             return Moved::Ended;
         }
-        let moved = read_outcome(self.stream.read(into));
-        self.may_have_more
-            .store(moved != Moved::NotNow, Ordering::SeqCst);
+        let moved = self.try_read(into);
         match moved {
             Moved::Count(_) => {}
             Moved::NotNow => self.read_waits += 1,
@@ -171,7 +203,7 @@ impl TcpEnd {
         ensures within { IsWithin result (length from.now) }
         ensures sends { Sends self.old self.new from.now result }
     {
-        let moved = write_outcome(self.stream.write(from));
+        let moved = self.try_write(from);
         match moved {
             Moved::Count(count) => self.accepted.note(&from[..count]),
             Moved::NotNow => self.write_waits += 1,

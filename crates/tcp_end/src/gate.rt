@@ -2,6 +2,7 @@
 ghost use Rattle.std.specs.Prelude.{◌≡◌, true, IfOk};
 
 use crate::connection::TcpEnd;
+use crate::notes::Notes;
 use mio::{Events, Poll, Token};
 use server_end::gate::{Gate, Ready};
 use std::alloc::Global;
@@ -9,7 +10,6 @@ use std::io;
 use std::net::Net;
 use std::rt::Clock;
 use std::sync::Arc;
-use std::sync::atomic::{AtomicBool, Ordering};
 use std::time::{Duration, Instant};
 
 /// The client's connection among those of a poll, and the link's.
@@ -20,19 +20,26 @@ const LINK: Token = Token(1);
 /// As many events as one wait tells: the two connections have one each.
 const MOST_EVENTS: usize = 2;
 
-/// As long as a turn waits at most.
-fn longest_wait() -> Duration {
+/// As long as a turn that is counted waits at most: those of the client alone, and of the link alone.
+fn longest_turn() -> Duration {
     Duration::from_millis(100)
 }
 
-/// Where a worker waits for the bytes of its client, and of its link while that is watched. A turn waits for at most 100 ms, and
-/// not at all where the last read of an end that it minds, since the turn before, came to something; it names both sides.
+/// As long as any other waits. An event ends it; this is for one that the system might not tell.
+fn longest_rest() -> Duration {
+    Duration::from_secs(10)
+}
+
+/// Where a worker waits for the bytes of its client, and of its link while that is watched. A turn of the client or of the link alone
+/// waits for at most 100 ms, since so many turns are a time; any other for at most ten seconds, so that a client that says nothing
+/// costs next to nothing. It doesn't wait where the last read of an end that it minds, since the turn before, may have left more; it
+/// names both sides.
 pub struct TcpGate<R: Clock> {
     rt: R,
     poll: Poll,
     events: Events<Global>,
-    client: Arc<AtomicBool>,
-    link: Option<Arc<AtomicBool>>,
+    client: Arc<Notes>,
+    link: Option<Arc<Notes>>,
     /// The client has sent its last byte.
     client_has_left: bool,
 }
@@ -50,26 +57,21 @@ impl<R: Clock + Drop> Drop for TcpGate<R> {
     }
 }
 
-/// Whether there may be more, by what was noted since this was last asked.
-fn take_note(may_have_more: &Arc<AtomicBool>) -> bool {
-    may_have_more.swap(false, Ordering::SeqCst)
-}
-
 impl<R: Clock + Net + Drop> TcpGate<R> {
     /// The gate of the worker of this client. That the client's connection can't be watched is ignored: its bytes are then found
-    /// after at most 100 ms. The error is that the system has no more polls, or that an allocation failed.
+    /// when a turn is over. The error is that the system has no more polls, or that an allocation failed.
     pub fn new(rt: R, alloc: Global, client: &mut TcpEnd) -> io::Result<TcpGate<R>>
         ensures { client.new ≡ client.old }
     {
         let poll = Poll::new(&rt)?;
         let events = Events::with_capacity(alloc, MOST_EVENTS)?;
-        let note = client.note()?;
+        let notes = client.notes()?;
         client.register(&poll, CLIENT);
         Ok(TcpGate {
             rt,
             poll,
             events,
-            client: note,
+            client: notes,
             link: None,
             client_has_left: false,
         })
@@ -78,12 +80,12 @@ impl<R: Clock + Net + Drop> TcpGate<R> {
 
 impl<R: Clock> TcpGate<R> {
     fn client_may_have_more(&self) -> bool {
-        take_note(&self.client)
+        self.client.take_more()
     }
 
     fn link_may_have_more(&self) -> bool {
         match &self.link {
-            Some(note) => take_note(note),
+            Some(notes) => notes.take_more(),
             None => false,
         }
     }
@@ -91,19 +93,33 @@ impl<R: Clock> TcpGate<R> {
     /// What is left of a turn that began then.
     fn left_of_turn(&self, start: &Instant) -> Option<Duration> {
         let waited = start.elapsed(&self.rt).ok()?;
-        longest_wait().checked_sub(waited)
+        longest_turn().checked_sub(waited)
+    }
+
+    /// No event came: both ends are tried again, as if one had.
+    fn open_both(&self) {
+        self.client.open();
+        if let Some(link) = &self.link {
+            link.open();
+        }
     }
 
     /// Waits for an event, or for so long; whether the link had one, or none came. The system tells each of a client's but once, so
     /// it is noted here.
     fn wait(&mut self, longest: Duration) -> bool {
         let _ = self.poll.poll(&mut self.events, Some(longest));
-        let mut is_for_link = self.events.is_empty();
+        if self.events.is_empty() {
+            self.open_both();
+            return true;
+        }
+        let mut is_for_link = false;
         for event in self.events.iter() {
             if event.token() == CLIENT {
-                self.client.store(true, Ordering::SeqCst);
+                self.client.saw(event);
+                self.client.expect_more();
                 self.client_has_left = self.client_has_left || event.is_read_closed();
-            } else {
+            } else if let Some(link) = &self.link {
+                link.saw(event);
                 is_for_link = true;
             }
         }
@@ -118,7 +134,7 @@ impl<R: Clock> Gate<TcpEnd> for TcpGate<R> {
         let client = self.client_may_have_more();
         let link = self.link_may_have_more();
         if !client && !link {
-            self.wait(longest_wait());
+            self.wait(longest_rest());
         }
         Ready {
             client: true,
@@ -128,7 +144,7 @@ impl<R: Clock> Gate<TcpEnd> for TcpGate<R> {
 
     fn turn_of_client(&mut self) {
         if !self.client_may_have_more() {
-            self.wait(longest_wait());
+            self.wait(longest_turn());
         }
     }
 
@@ -137,7 +153,7 @@ impl<R: Clock> Gate<TcpEnd> for TcpGate<R> {
             return;
         }
         let Ok(start) = Instant::now(&self.rt) else {
-            self.wait(longest_wait());
+            self.wait(longest_turn());
             return;
         };
         for _ in 0..u64::MAX {
@@ -155,7 +171,7 @@ impl<R: Clock> Gate<TcpEnd> for TcpGate<R> {
 
     fn watch(&mut self, end: &mut TcpEnd) {
         end.register(&self.poll, LINK);
-        self.link = end.note().ok();
+        self.link = end.notes().ok();
     }
 
     fn unwatch(&mut self, end: &mut TcpEnd) {

@@ -1,11 +1,12 @@
 //! A TCP connection as an end of a lease, and the gate at which a worker waits for the bytes of two such ends.
 //!
 //! What readiness is remembered, and why. The system tells of a connection only when it changes (an edge), so bytes that were
-//! there before, and weren't all read, are told of no more. An end therefore notes of each read whether it came to something: then
-//! more may be there. A [`gate::TcpGate`] that finds such a note since its last turn doesn't wait at this turn; otherwise every
-//! read since came to nothing, so the next bytes make an edge, and the wait ends there. Each turn forgets the notes, so no two turns
-//! in a row go without a wait unless bytes were read between them: an idle connection has ten turns a second. A turn always names
-//! both sides, and nothing is claimed of edges: one that was lost costs what is left of 100 ms.
+//! there before, and weren't all read, are told of no more. An end therefore notes of each read whether it may have left more, and of
+//! each read and write whether a further one would come to nothing until the next edge: that one isn't tried. A [`gate::TcpGate`] that
+//! finds that there may be more since its last turn doesn't wait at this turn; otherwise the next bytes make an edge, and the wait ends
+//! there. Each turn forgets that note, so no two turns in a row go without a wait unless bytes were read between them. A peer that has
+//! sent its last byte, or a socket with an error, makes its edge but once, so from then on reads are tried in any case. A turn always
+//! names both sides, and nothing is claimed of edges: after a wait without one both ends are tried again.
 #![tactic(auto)]
 
 mod accepted;
@@ -13,3 +14,4 @@ pub mod acceptor;
 pub mod connection;
 pub mod dial;
 pub mod gate;
+mod notes;

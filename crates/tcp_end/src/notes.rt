@@ -1,0 +1,116 @@
+//! What a connection and the gate that minds it tell one another, so that neither asks the system in vain. A poll tells of a socket but
+//! once for what comes to it; a read that doesn't fill its slice has emptied a socket, and a write that isn't taken whole has filled it
+//! (Linux manual, epoll(7), "Questions and answers"). Nothing is proved of it: a try that is left out counts as one that came to nothing.
+
+use mio::event::Event;
+use std::io;
+use std::io::ErrorKind;
+use std::sync::atomic::{AtomicBool, Ordering};
+
+/// The notes of one connection.
+pub(crate) struct Notes {
+    /// A gate minds it.
+    is_minded: AtomicBool,
+    /// The last read came to something, and may have left more.
+    may_have_more: AtomicBool,
+    /// There is nothing to read until the gate sees an event.
+    is_empty: AtomicBool,
+    /// There is no room to write until the gate sees an event.
+    is_full: AtomicBool,
+    /// The peer has sent its last byte, or the socket has an error: no event says so again, so reads are tried until they find it.
+    is_closing: AtomicBool,
+}
+
+impl Drop for Notes {
+    fn drop(self) {
+        let Notes {
+            is_minded: _,
+            may_have_more: _,
+            is_empty: _,
+            is_full: _,
+            is_closing: _,
+        } = self;
+    }
+}
+
+/// Whether a call that was given room for so many bytes leaves nothing to a further one.
+fn is_exhausted(answer: &io::Result<usize>, room: usize) -> bool {
+    match answer {
+        Ok(count) => 0 < *count && *count < room,
+        Err(error) => error.kind() == ErrorKind::WouldBlock,
+    }
+}
+
+fn get(flag: &AtomicBool) -> bool {
+    flag.load(Ordering::SeqCst)
+}
+
+fn set(flag: &AtomicBool, value: bool) {
+    flag.store(value, Ordering::SeqCst);
+}
+
+impl Notes {
+    /// Those of a new connection.
+    pub(crate) fn new() -> Notes {
+        Notes {
+            is_minded: AtomicBool::new(false),
+            may_have_more: AtomicBool::new(true),
+            is_empty: AtomicBool::new(false),
+            is_full: AtomicBool::new(false),
+            is_closing: AtomicBool::new(false),
+        }
+    }
+
+    /// A gate minds the connection from now on, or doesn't. What it doesn't mind is always tried.
+    pub(crate) fn mind(&self, is_minded: bool) {
+        set(&self.is_minded, is_minded);
+        set(&self.may_have_more, true);
+        self.open();
+    }
+
+    /// A read into a slice of this length was answered so.
+    pub(crate) fn read(&self, answer: &io::Result<usize>, room: usize) {
+        let is_empty = is_exhausted(answer, room);
+        set(&self.is_empty, is_empty);
+        set(&self.may_have_more, !is_empty);
+    }
+
+    /// A write of so many bytes was answered so.
+    pub(crate) fn wrote(&self, answer: &io::Result<usize>, bytes: usize) {
+        set(&self.is_full, is_exhausted(answer, bytes));
+    }
+
+    /// Whether a read would come to nothing.
+    pub(crate) fn is_empty(&self) -> bool {
+        get(&self.is_minded) && get(&self.is_empty) && !get(&self.is_closing)
+    }
+
+    /// Whether a write would.
+    pub(crate) fn is_full(&self) -> bool {
+        get(&self.is_minded) && get(&self.is_full)
+    }
+
+    /// Whether the last read may have left more; asked once.
+    pub(crate) fn take_more(&self) -> bool {
+        self.may_have_more.swap(false, Ordering::SeqCst)
+    }
+
+    /// There may be bytes again.
+    pub(crate) fn expect_more(&self) {
+        set(&self.may_have_more, true);
+    }
+
+    /// Both are to be tried again.
+    pub(crate) fn open(&self) {
+        set(&self.is_empty, false);
+        set(&self.is_full, false);
+    }
+
+    /// The gate saw this event of the connection.
+    pub(crate) fn saw(&self, event: &Event) {
+        if event.is_read_closed() || event.is_error() {
+            set(&self.is_closing, true);
+        }
+        self.open();
+    }
+}
