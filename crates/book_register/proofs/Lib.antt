@@ -3,3 +3,4 @@ pub mod Takes
 pub mod Returns
 pub mod Decisions
 pub mod Beginnings
+pub mod Waking

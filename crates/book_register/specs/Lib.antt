@@ -2,3 +2,4 @@ pub mod Choices
 pub mod Kinds
 pub mod Counted
 pub mod Views
+pub mod Waking

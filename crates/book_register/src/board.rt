@@ -221,7 +221,7 @@ impl Board {
     }
 
     /// Whether the book has room for a link more.
-    fn has_room(&self) -> bool
+    pub fn has_room(&self) -> bool
         ensures { result ≡ nat_lt (book.link_count self.now) self.now.limits.max_links }
     {
         let limits: &Limits = &self.limits;

@@ -6,6 +6,7 @@ ghost use Rattle.book_model.specs.Events.{event_of};
 ghost use Rattle.book_model.specs.Outcomes.{apply, is_started_as};
 ghost use Rattle.book_register.specs.Counted.{counted_book};
 ghost use Rattle.book_register.specs.Views.{view_of, waiting_at};
+ghost use Rattle.book_register.specs.Waking.{is_full, waiting_behind, waiting_for};
 ghost use Rattle.book_model.specs.Kept.{FitsLimits, Kept, KeptLimits};
 
 use crate::board::Board;
@@ -188,5 +189,26 @@ impl Lists {
         ensures { result ≡ waiting_at self.now.tickets at }
     {
         self.board.ticket(at)
+    }
+
+    /// Who has waited longest in the pool for which this client waits, but for itself; nobody where it doesn't wait.
+    pub fn waiting_behind(&self, client: u64) -> Option<u64>
+        ensures { result ≡ waiting_behind self.now client }
+    {
+        self.board.waiting_behind(client)
+    }
+
+    /// Who has waited longest in the pool of this lent link; nobody where it isn't lent.
+    pub fn waiting_for(&self, link: u64) -> Option<u64>
+        ensures { result ≡ waiting_for self.now link }
+    {
+        self.board.waiting_for(link)
+    }
+
+    /// Whether no link more may be started.
+    pub fn is_full(&self) -> bool
+        ensures { result ≡ is_full self.now }
+    {
+        !self.board.has_room()
     }
 }

@@ -1,6 +1,8 @@
 //! What a book shows of itself.
-ghost use Rattle.std.specs.Prelude.{◌≡◌, IfOk};
+ghost use Rattle.std.specs.Prelude.{◌≡◌, ◌≤◌, ℕ, IfOk, count_by};
+ghost use Rattle.book_model.specs.Book as book;
 ghost use Rattle.book_register.specs.Views.{view_of, waiting_at};
+ghost use Rattle.book_register.specs.Waking.{waiting_behind, waiting_for};
 
 use crate::board::Board;
 use book_model::counts::Counts;
@@ -126,5 +128,30 @@ impl Board {
             client: ticket.client,
             first_of_pool: !self.tickets.has_before(at, &ticket.key),
         })
+    }
+
+    /// Who has waited longest in the pool for which this client waits, but for itself; nobody where it doesn't wait.
+    #[tactic(auto, using(crate::proofs::Waking::behind_nobody))]
+    pub fn waiting_behind(&self, client: u64) -> Option<u64>
+        requires once { (n : ℕ) → count_by (book.is_of n) self.now.tickets ≤ 1 }
+        ensures { result ≡ waiting_behind self.now client }
+    {
+        match self.tickets.place_of(client) {
+            Some(place) => self
+                .tickets
+                .longest_waiting_but(client, &self.tickets.at(place).key),
+            None => None,
+        }
+    }
+
+    /// Who has waited longest in the pool of this lent link; nobody where it isn't lent.
+    #[tactic(auto, using(crate::proofs::Waking::for_nothing))]
+    pub fn waiting_for(&self, link: u64) -> Option<u64>
+        ensures { result ≡ waiting_for self.now link }
+    {
+        match self.lent.place_of(link) {
+            Some(place) => self.tickets.longest_waiting(&self.lent.at(place).key),
+            None => None,
+        }
     }
 }

@@ -1,9 +1,10 @@
 //! The tickets of the clients that wait.
-ghost use Rattle.std.specs.Prelude.{◌≡◌, ◌<◌, ◌≤◌, ◌++◌, ◌∷◌, [], ℕ, None, Some, IfOk, MatchOption, count_by, length, position, slice_get, slice_index_or, take};
+ghost use Rattle.std.specs.Prelude.{◌≡◌, ◌<◌, ◌≤◌, ◌++◌, ◌∷◌, ◌&&◌, [], ℕ, None, Some, IfOk, MatchOption, count_by, find, length, not, position, slice_get, slice_index_or, take};
 ghost use Rattle.std.specs.List.{list_any};
 ghost use Rattle.book_model.specs.Book as book;
 ghost use Rattle.book_model.specs.declared.limits.TheConstants.{MOST_CLIENTS};
 ghost use Rattle.book_rows.specs.Places.{passes};
+ghost use Rattle.book_rows.specs.Waiting.{longest_waiting, longest_waiting_but};
 
 use crate::pools::PoolKey;
 use book_model::limits::MOST_CLIENTS;
@@ -157,6 +158,25 @@ impl Tickets {
         ensures { result ≡ list_any (λ t. book.same_pool t.key pool.now) (take place self.now) }
     {
         self.rows.range(..place).any(|t| t.is_in_pool(pool))
+    }
+
+    /// Who has waited longest for a link of this pool.
+    pub fn longest_waiting(&self, pool: &PoolKey) -> Option<u64>
+        ensures { result ≡ longest_waiting pool.now self.now }
+    {
+        let first = self.rows.iter().find(|t| t.is_in_pool(pool))?;
+        Some(first.client)
+    }
+
+    /// The same, but for this client.
+    pub fn longest_waiting_but(&self, client: u64, pool: &PoolKey) -> Option<u64>
+        ensures { result ≡ longest_waiting_but client pool.now self.now }
+    {
+        let first = self
+            .rows
+            .iter()
+            .find(|t| t.is_in_pool(pool) && !t.is_of(client))?;
+        Some(first.client)
     }
 
     /// A client waits.

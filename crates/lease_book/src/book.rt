@@ -8,6 +8,7 @@ ghost use Rattle.book_model.specs.Outcomes.Event.{GiveBack};
 ghost use Rattle.book_model.specs.Kept.{total};
 ghost use Rattle.book_register.specs.Counted.{counted_book};
 ghost use Rattle.book_register.specs.Views.{view_of, waiting_at};
+ghost use Rattle.book_register.specs.Waking.{is_full, waiting_behind, waiting_for};
 ghost use Rattle.book_model.specs.Replay.{noted_of};
 ghost use Rattle.lease_book.specs.Links.{answered, brings_nothing, found, goes_out, handed, handed_after, handed_back, history_after, idle_after, idle_with, is_done, is_return, IsTwice, left, may_hand_back, number_of, plain, reply_of};
 
@@ -203,6 +204,27 @@ impl<E: ServerEnd> Book<E> {
         ensures { result ≡ waiting_at self.now.lists.tickets at }
     {
         self.register.lists().ticket(at)
+    }
+
+    /// Who has waited longest in the pool for which this client waits, but for itself; nobody where it doesn't wait.
+    pub fn waiting_behind(&self, client: u64) -> Option<u64>
+        ensures { result ≡ waiting_behind self.now.lists client }
+    {
+        self.register.lists().waiting_behind(client)
+    }
+
+    /// Who has waited longest in the pool of this lent link; nobody where it isn't lent.
+    pub fn waiting_for(&self, link: u64) -> Option<u64>
+        ensures { result ≡ waiting_for self.now.lists link }
+    {
+        self.register.lists().waiting_for(link)
+    }
+
+    /// Whether no link more may be started.
+    pub fn is_full(&self) -> bool
+        ensures { result ≡ is_full self.now.lists }
+    {
+        self.register.lists().is_full()
     }
 
     /// An event with no link.

@@ -3,3 +3,4 @@ pub mod Tells
 pub mod Hears
 pub mod Joined
 pub mod Changes
+pub mod Helping

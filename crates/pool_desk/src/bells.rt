@@ -6,7 +6,15 @@ use std::alloc::{AllocError, Global};
 use std::sync::Condvar;
 
 /// So many bells there are.
-const BELLS: u64 = 1024;
+pub const BELLS: u64 = 1024;
+
+/// Which of the bells are to be rung.
+pub type Chosen = [bool; BELLS as usize];
+
+/// Chooses the bell of this client too.
+pub fn choose(chosen: &mut Chosen, client: u64) {
+    chosen[(client % BELLS) as usize] = true;
+}
 
 /// A client waits at the bell of its number, modulo their number.
 #[derive(Drop)]
@@ -29,6 +37,15 @@ impl Bells {
     /// The bell of this client.
     pub fn of(&self, client: u64) -> &Condvar {
         &self.bells[(client % BELLS) as usize]
+    }
+
+    /// Wakes those that wait at these bells.
+    pub fn ring(&self, chosen: &Chosen) {
+        for (bell, is_chosen) in self.bells.iter().zip(chosen) {
+            if *is_chosen {
+                bell.notify_all();
+            }
+        }
     }
 
     /// Wakes all that wait.

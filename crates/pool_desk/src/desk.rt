@@ -18,9 +18,10 @@ ghost use Rattle.pool_desk.specs.Tells.{Tells};
 
 use crate::answers::Ticked;
 use crate::bells::Bells;
+use crate::helping::Helps;
 use crate::inner::Core;
 use crate::outside::Outside;
-use book_model::limits::{Limits, MOST_CLIENTS};
+use book_model::limits::Limits;
 use book_register::view::BookView;
 use desk_tallies::answers::{Arrival, Asked, Back, Changed, Gone, Grant};
 use desk_tallies::calls::Lease;
@@ -38,28 +39,6 @@ use std::alloc::{AllocError, Global};
 use std::rt::Clock;
 use std::sync::{Arc, Mutex, MutexGuard, Wait};
 use std::time::Duration;
-
-/// Which of the clients that wait a decision may help.
-#[derive(Clone, Copy, Drop)]
-enum Helps {
-    Nobody,
-    /// The first of each pool.
-    First,
-    All,
-}
-
-fn helped_by<E: ServerEnd>(event: &Event<E>) -> Helps {
-    match event {
-        Event::Arrive | Event::Ask { .. } => Helps::Nobody,
-        Event::Take { .. }
-        | Event::GiveBack(_)
-        | Event::Lost { .. }
-        | Event::StartFailed { .. }
-        | Event::Leave { .. } => Helps::First,
-        Event::Tick { .. } | Event::Limits(..) | Event::Pause | Event::Resume | Event::Shutdown =>
-            Helps::All,
-    }
-}
 
 /// As long as a client waits on without a look at it.
 fn longest_wait() -> Duration {
@@ -148,25 +127,23 @@ impl<R: Wait + Clock, S: Outside, K: Ledgers> Desk<R, S, K> {
         self.core.lock(&self.rt).pass()
     }
 
-    /// Wakes the first that waits of each pool.
-    fn ring_first(&self, core: &Core<S, K>) {
-        for at in 0..MOST_CLIENTS as usize {
-            match core.ticket(at) {
-                Some(waiting) if waiting.first_of_pool => self
-                    .bells
-                    .of(waiting.client)
-                    .notify_all(),
-                Some(_) => {}
-                None => return,
-            }
-        }
-    }
-
-    fn ring(&self, core: &Core<S, K>, helps: Helps) {
+    /// Lets the lock go, and wakes those that a decision may help.
+    fn ring(&self, core: MutexGuard<'_, Core<S, K>>, helps: Helps) {
         match helps {
             Helps::Nobody => {}
-            Helps::First => self.ring_first(core),
-            Helps::All => self.bells.ring_all(),
+            Helps::One(client) => {
+                drop(core);
+                self.bells.of(client).notify_all();
+            }
+            Helps::FirstOfEach => {
+                let chosen = core.first_of_each();
+                drop(core);
+                self.bells.ring(&chosen);
+            }
+            Helps::All => {
+                drop(core);
+                self.bells.ring_all();
+            }
         }
     }
 
@@ -188,12 +165,12 @@ impl<R: Wait + Clock, S: Outside, K: Ledgers> Desk<R, S, K> {
         ensures home { IfSome (handed result) (λ l. IsAtHome S.home l) }
         ensures back { IfSome (brought event) (λ l. handed result ≡ handed_back l (reply_of result)) }
     {
-        let helps = helped_by(&event);
         let mut core = self.core.lock(&self.rt);
+        let helps = core.helped_by(&event);
         let before = core.decisions();
         let reply = core.apply(pass, event);
         if core.decisions() != before {
-            self.ring(&core, helps);
+            self.ring(core, helps);
         }
         reply
     }
@@ -276,13 +253,14 @@ impl<R: Wait + Clock, S: Outside, K: Ledgers> LinkDesk for Desk<R, S, K> {
             unreachable!()
         };
         let mut core = self.core.lock(&self.rt);
+        let helps = core.helped_behind(client);
         match core.take(pass, client) {
             Grant::Queued => {
                 self.wait(client, core);
                 Grant::Queued
             }
             grant => {
-                self.ring_first(&core);
+                self.ring(core, helps);
                 grant
             }
         }

@@ -20,7 +20,7 @@ use crate::hearing::{call_of, heard};
 use crate::outside::Outside;
 use book_model::counts::Counts;
 use book_model::limits::Limits;
-use book_register::view::{BookView, Waiting};
+use book_register::view::BookView;
 use desk_tallies::answers::Grant;
 use desk_tallies::ledgers::Ledgers;
 use desk_tallies::passes::{ALL_PARTS, Pass, Shares, Totals};
@@ -82,7 +82,7 @@ fn breaks<E: ServerEnd>(reply: &Reply<E>) -> bool
 /// The book, the counters of its decisions by class, and the shares that no pass has.
 #[derive(Drop)]
 pub struct Core<S: Outside, K: Ledgers> {
-    book: Book<S::End>,
+    pub(crate) book: Book<S::End>,
     tallies: Tallies<K>,
     uncut: Shares<K>,
     /// So many passes were cut off.
@@ -212,11 +212,6 @@ impl<S: Outside, K: Ledgers> Core<S, K> {
         ensures { result ≡ self.now.book.lists.is_shut }
     {
         self.book.is_shut()
-    }
-
-    /// Who waits at this place of the queue.
-    pub fn ticket(&self, at: usize) -> Option<Waiting> {
-        self.book.ticket(at)
     }
 
     /// The book's decisions by class, which are those made through all passes together. `Err`: these are not as many passes as

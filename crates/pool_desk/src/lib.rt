@@ -6,5 +6,6 @@ pub mod answers;
 mod bells;
 pub mod desk;
 mod hearing;
+mod helping;
 mod inner;
 pub mod outside;

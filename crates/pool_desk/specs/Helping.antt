@@ -1,0 +1,30 @@
+-- Whom a decision may help.
+use Rattle.std.specs.Prelude.{ℕ, Option, Some, None, cond}
+use Rattle.book_model.specs.Book.{Book}
+use Rattle.book_model.specs.Outcomes.{Event}
+use Rattle.book_model.specs.Outcomes.Event.{Arrive, Ask, Take, GiveBack, Lost, StartFailed, Leave}
+use Rattle.book_register.specs.Waking.{is_full, waiting_behind, waiting_for}
+use Rattle.pool_desk.specs.declared.helping.Helps.{Helps}
+use Rattle.pool_desk.specs.declared.helping.Helps.TheVariants as helps
+
+abbrev pub one_or_nobody : Option ℕ → Helps
+one_or_nobody None = helps.Nobody
+one_or_nobody (Some client) = helps.One client
+
+-- this client waits no more
+abbrev pub helped_behind : Book → ℕ → Helps
+helped_behind b client = one_or_nobody (waiting_behind b client)
+
+-- this link isn't lent any more
+abbrev pub helped_by_link : Book → ℕ → Helps
+helped_by_link b link = cond (is_full b) helps.FirstOfEach (one_or_nobody (waiting_for b link))
+
+abbrev pub helped_by : Book → Event → Helps
+helped_by b Arrive = helps.Nobody
+helped_by b (Ask client key) = helps.Nobody
+helped_by b (Take client) = helped_behind b client
+helped_by b (Leave client) = helped_behind b client
+helped_by b (GiveBack link) = helped_by_link b link
+helped_by b (Lost link) = helped_by_link b link
+helped_by b (StartFailed link) = helped_by_link b link
+helped_by b _ = helps.All

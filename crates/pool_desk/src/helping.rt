@@ -1,0 +1,78 @@
+//! Which of the clients that wait a decision may help. That nobody is forgotten is shown by tests.
+ghost use Rattle.std.specs.Prelude.{◌≡◌};
+ghost use Rattle.book_register.specs.Waking.{waiting_behind};
+ghost use Rattle.pool_desk.specs.Helping.{helped_behind, helped_by, helped_by_link};
+ghost use Rattle.lease_book.specs.Links.{plain};
+
+use crate::bells::{BELLS, Chosen, choose};
+use crate::inner::Core;
+use crate::outside::Outside;
+use book_model::limits::MOST_CLIENTS;
+use desk_tallies::ledgers::Ledgers;
+use lease_book::events::Event;
+
+/// Which of the clients that wait a decision may help.
+#[derive(Clone, Copy, Drop)]
+pub enum Helps {
+    Nobody,
+    /// The one that has waited longest in its pool.
+    One(u64),
+    /// The one that has waited longest in each pool.
+    FirstOfEach,
+    All,
+}
+
+impl<S: Outside, K: Ledgers> Core<S, K> {
+    /// Whom this event helps, once it is decided.
+    pub fn helped_by(&self, event: &Event<S::End>) -> Helps
+        ensures { result ≡ helped_by self.now.book.lists (plain event.now) }
+    {
+        match event {
+            Event::Arrive | Event::Ask { .. } => Helps::Nobody,
+            Event::Take { client } | Event::Leave { client } => self.helped_behind(*client),
+            Event::GiveBack(link) => self.helped_by_link(link.number()),
+            Event::Lost { number } | Event::StartFailed { number } => self.helped_by_link(*number),
+            Event::Tick { .. }
+            | Event::Limits(..)
+            | Event::Pause
+            | Event::Resume
+            | Event::Shutdown => Helps::All,
+        }
+    }
+
+    /// Whom it helps that this client waits no more.
+    pub fn helped_behind(&self, client: u64) -> Helps
+        ensures { result ≡ helped_behind self.now.book.lists client }
+    {
+        match self.book.waiting_behind(client) {
+            Some(next) => Helps::One(next),
+            None => Helps::Nobody,
+        }
+    }
+
+    /// Whom it helps that this link isn't lent any more.
+    fn helped_by_link(&self, link: u64) -> Helps
+        ensures { result ≡ helped_by_link self.now.book.lists link }
+    {
+        if self.book.is_full() {
+            return Helps::FirstOfEach;
+        }
+        match self.book.waiting_for(link) {
+            Some(next) => Helps::One(next),
+            None => Helps::Nobody,
+        }
+    }
+
+    /// The bells of those that have waited longest in each pool.
+    pub fn first_of_each(&self) -> Chosen {
+        let mut chosen = [false; BELLS as usize];
+        for at in 0..MOST_CLIENTS as usize {
+            match self.book.ticket(at) {
+                Some(waiting) if waiting.first_of_pool => choose(&mut chosen, waiting.client),
+                Some(_) => {}
+                None => break,
+            }
+        }
+        chosen
+    }
+}
