@@ -2,13 +2,13 @@
 ghost use Rattle.lease_book.specs.Links.{IsTwice};
 
 use crate::book_parts::{Settings, Whose, key_of, limits, link};
-use crate::gone::Gone;
 use book_model::events::ClientState;
 use book_register::view::Waiting;
 use book_rows::clients::Client;
 use lease_book::book::Book;
 use lease_book::events::{Event, Reply};
 use link_run::links::CleanLink;
+use memory_ends::gone_end::GoneEnd;
 use message_view::Refusal;
 use std::alloc::{AllocError, Global};
 use std::sync::Arc;
@@ -48,12 +48,12 @@ pub(crate) enum Told {
 }
 
 /// The number of a link, which is closed.
-fn number(link: CleanLink<Gone>) -> u64 {
+fn number(link: CleanLink<GoneEnd>) -> u64 {
     link.number()
 }
 
 /// The number of a link that may be there.
-fn number_of(link: Option<CleanLink<Gone>>) -> Option<u64> {
+fn number_of(link: Option<CleanLink<GoneEnd>>) -> Option<u64> {
     match link {
         Some(link) => Some(number(link)),
         None => None,
@@ -61,7 +61,7 @@ fn number_of(link: Option<CleanLink<Gone>>) -> Option<u64> {
 }
 
 /// The reply, without its links.
-fn by_numbers(reply: Reply<Gone>) -> Told {
+fn by_numbers(reply: Reply<GoneEnd>) -> Told {
     match reply {
         Reply::Client(client) => Told::Client(client),
         Reply::Queued(before) => Told::Queued(before),
@@ -82,7 +82,7 @@ fn by_numbers(reply: Reply<Gone>) -> Told {
 #[derive(Drop)]
 pub(crate) struct Story {
     alloc: Global,
-    book: Book<Gone>,
+    book: Book<GoneEnd>,
 }
 
 /// The state of the client of this number, if it is one of these.
@@ -110,14 +110,14 @@ impl Story {
     }
 
     /// What the book answers, of which a proof knows nothing: so none of a test carries the book's definition along.
-    fn reply(&mut self, event: Event<Gone>) -> Reply<Gone>
+    fn reply(&mut self, event: Event<GoneEnd>) -> Reply<GoneEnd>
         requires { IsTwice event }
     {
         self.book.apply(7, event)
     }
 
     /// The same, with links by their numbers.
-    fn happens(&mut self, event: Event<Gone>) -> Told
+    fn happens(&mut self, event: Event<GoneEnd>) -> Told
         requires { IsTwice event }
     {
         by_numbers(self.reply(event))

@@ -1,10 +1,10 @@
 //! Keys, limits and links of the tests.
 ghost use Rattle.std.specs.Prelude.{◌≡◌, false};
 
-use crate::gone::Gone;
 use book_model::limits::Limits;
 use book_model::rows::{Row, Rows};
-use link_run::links::{CleanLink, Lent};
+use link_run::links::{CleanLink, LinkParts};
+use memory_ends::gone_end::GoneEnd;
 use param_track::Reported;
 use session_values::text::Text;
 use start_keys::StartKey;
@@ -36,7 +36,7 @@ fn key(
 /// Whose key it is: of ann's two keys on the shop, which are of one pool, or of bc's, which is of another; ann's on the shop once that
 /// is at port 5433, or hers on the cafe.
 #[derive(Clone, Copy, Drop)]
-pub(crate) enum Whose {
+pub enum Whose {
     Ann,
     AnnAsB,
     Bc,
@@ -45,7 +45,7 @@ pub(crate) enum Whose {
 }
 
 /// The key.
-pub(crate) fn key_of(alloc: Global, whose: Whose) -> Result<Arc<StartKey>, AllocError> {
+pub fn key_of(alloc: Global, whose: Whose) -> Result<Arc<StartKey>, AllocError> {
     match whose {
         Whose::Ann => key(alloc, b"shop", 5432, b"ann", b"a"),
         Whose::AnnAsB => key(alloc, b"shop", 5432, b"ann", b"b"),
@@ -57,7 +57,7 @@ pub(crate) fn key_of(alloc: Global, whose: Whose) -> Result<Arc<StartKey>, Alloc
 
 /// What becomes of the row of the shop: another host, port or dbname, or no such row.
 #[derive(Clone, Copy, Drop)]
-pub(crate) enum Change {
+pub enum Change {
     Host,
     Port,
     Dbname,
@@ -66,7 +66,7 @@ pub(crate) enum Change {
 
 /// What a test's settings are, apart from the default ones: 100 clients and links, pools of 20, no timeouts.
 #[derive(Clone, Copy, Drop)]
-pub(crate) enum Settings {
+pub enum Settings {
     Default,
     PoolsOf(u32),
     OneClient,
@@ -125,7 +125,7 @@ fn rows(alloc: Global, settings: Settings) -> Result<Rows, AllocError> {
 }
 
 /// The limits of these settings.
-pub(crate) fn limits(alloc: Global, settings: Settings) -> Result<Arc<Limits>, AllocError> {
+pub fn limits(alloc: Global, settings: Settings) -> Result<Arc<Limits>, AllocError> {
     let mut limits = Limits {
         max_client_conn: 100,
         max_links: 100,
@@ -147,13 +147,13 @@ pub(crate) fn limits(alloc: Global, settings: Settings) -> Result<Arc<Limits>, A
 }
 
 /// A link of this key and number, begun in this second.
-pub(crate) fn link(alloc: Global, key: Arc<StartKey>, number: u64, born: u64) -> CleanLink<Gone>
+pub fn link(alloc: Global, key: Arc<StartKey>, number: u64, born: u64) -> CleanLink<GoneEnd>
     ensures number { result.number ≡ number }
     ensures born { result.born ≡ born }
     ensures silent { result.stands.follows ≡ false }
 {
-    let lent = Lent {
-        end: Gone,
+    let lent = LinkParts {
+        end: GoneEnd,
         key,
         number,
         born,

@@ -1,25 +1,12 @@
-//! Tests of the lease book and of the desk that lends by it, over links whose servers are gone.
+//! Tests of the lease book, over links whose servers have gone.
 #![tactic(auto)]
 
 #[cfg(test)]
 mod acts;
-#[cfg(test)]
-mod book_parts;
+pub mod book_parts;
 #[cfg(test)]
 mod book_stories;
-#[cfg(test)]
-mod desk_acts;
-#[cfg(test)]
-mod desk_parts;
-#[cfg(test)]
-mod desk_rows;
-#[cfg(test)]
-mod desk_stories;
-#[cfg(test)]
-mod gone;
 #[cfg(test)]
 mod histories;
 #[cfg(test)]
 mod row_stories;
-#[cfg(test)]
-mod waits;

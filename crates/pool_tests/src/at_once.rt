@@ -5,7 +5,6 @@ ghost use Rattle.desk_tallies.specs.declared.passes.TheConstants.{ALL_PARTS};
 ghost use Rattle.desk_tallies.specs.Shares.{names_of, of_each, parts_of};
 ghost use Rattle.memory_dial.specs.Homes.{IsEverywhere};
 
-use crate::files::catalogue;
 use crate::noted_ends::{HoldingGate, NotedClient, Notes};
 use crate::worker_parts::{CUT, TestRuntime, WELCOME, limits, login, serve_by, word};
 use desk_tallies::ledgers::Ledgers;
@@ -14,6 +13,7 @@ use desk_tallies::tallies::Blanks;
 use memory_dial::{MemoryDial, Naming};
 use memory_ends::memory_server::MemoryServer;
 use paced_client::PacedClient;
+use play_tests::files::catalogue;
 use pool_desk::desk::Desk;
 use server_end::gate::{Gate, OpenGate};
 use session_catalogue::Catalogue;

@@ -5,7 +5,6 @@ ghost use Rattle.desk_tallies.specs.declared.passes.TheConstants.{ALL_PARTS};
 ghost use Rattle.desk_tallies.specs.Shares.{names_of, of_each, parts_of};
 ghost use Rattle.memory_dial.specs.Homes.{IsEverywhere};
 
-use crate::files::catalogue;
 use crate::worker_parts::{CUT, limits, login, serve_by, word};
 use desk_tallies::ledgers::Ledgers;
 use desk_tallies::passes::Totals;
@@ -13,6 +12,7 @@ use desk_tallies::tallies::Blanks;
 use link_desk::desk::LinkDesk;
 use memory_dial::{MemoryDial, Naming};
 use paced_client::PacedClient;
+use play_tests::files::catalogue;
 use pool_desk::desk::Desk;
 use server_end::gate::OpenGate;
 use session_catalogue::Catalogue;

@@ -6,7 +6,6 @@ ghost use Rattle.login_core.specs.Dialogue.{AtFirst};
 ghost use Rattle.login_core.specs.Logins.{AwaitsPacket};
 ghost use Rattle.pool_tests.specs.Words.{key_word};
 
-use crate::files::{SHOP, settings_of, users};
 use book_model::limits::{Limits, MOST_CLIENTS};
 use book_model::rows::{Row, Rows};
 use desk_tallies::ledgers::Ledgers;
@@ -15,6 +14,7 @@ use link_desk::calls::Holder;
 use log_lines::notes::Visit;
 use login_core::Login;
 use message_view::KeyWord;
+use play_tests::files::{SHOP, settings_of, users};
 use pool_desk::desk::Desk;
 use pool_desk::outside::Outside;
 use pool_serve::serve::serve;
@@ -28,15 +28,15 @@ use std::sync::{Arc, Wait};
 use std::thread::Threads;
 
 /// What workers ask of their runtime here: threads that wait, each with a copy of it, and a clock.
-pub(crate) trait TestRuntime: Threads + Wait + Clock + Copy + Send + Sync {}
+pub trait TestRuntime: Threads + Wait + Clock + Copy + Send + Sync {}
 
 impl<R: Threads + Wait + Clock + Copy + Send + Sync> TestRuntime for R {}
 
 /// As many bytes as a call of a server or a client moves at most.
-pub(crate) const CUT: usize = 8_192;
+pub const CUT: usize = 8_192;
 
 /// The bytes that a client is given before its first reply: AuthenticationOk, nine reports, its key word and ReadyForQuery.
-pub(crate) const WELCOME: usize = 260;
+pub const WELCOME: usize = 260;
 
 /// Where the log has clients come from.
 const VISIT: Visit = Visit {
@@ -46,7 +46,7 @@ const VISIT: Visit = Visit {
 };
 
 /// The key word of the client with this number.
-pub(crate) fn word(number: u32) -> KeyWord
+pub fn word(number: u32) -> KeyWord
     ensures { result ≡ key_word number }
 {
     KeyWord {
@@ -57,7 +57,7 @@ pub(crate) fn word(number: u32) -> KeyWord
 }
 
 /// A new login of the client with this number, by these settings.
-pub(crate) fn login_by(alloc: Global, settings: &[u8], number: u32) -> Result<Login, AllocError>
+pub fn login_by(alloc: Global, settings: &[u8], number: u32) -> Result<Login, AllocError>
     ensures awaiting { IfOk result (λ l. l.awaiting ≡ AwaitsPacket (AtFirst false false)) }
     ensures held { IfOk result (λ l. l.held ≡ []) }
     ensures word { IfOk result (λ l. l.word ≡ key_word number) }
@@ -69,7 +69,7 @@ pub(crate) fn login_by(alloc: Global, settings: &[u8], number: u32) -> Result<Lo
 }
 
 /// The same, where no password is asked for.
-pub(crate) fn login(alloc: Global, number: u32) -> Result<Login, AllocError>
+pub fn login(alloc: Global, number: u32) -> Result<Login, AllocError>
     ensures awaiting { IfOk result (λ l. l.awaiting ≡ AwaitsPacket (AtFirst false false)) }
     ensures held { IfOk result (λ l. l.held ≡ []) }
     ensures word { IfOk result (λ l. l.word ≡ key_word number) }
@@ -93,7 +93,7 @@ fn rows(alloc: Global, size: u32) -> Result<Rows, AllocError> {
 }
 
 /// Limits of so many clients and pools of so many links, a wait of 5 seconds, a lifetime of 3,600 and an idle timeout of 600.
-pub(crate) fn limits(alloc: Global, clients: u32, pool: u32) -> Result<Arc<Limits>, AllocError> {
+pub fn limits(alloc: Global, clients: u32, pool: u32) -> Result<Arc<Limits>, AllocError> {
     let limits = Limits {
         max_client_conn: clients.min(MOST_CLIENTS),
         max_links: 100,
@@ -107,7 +107,7 @@ pub(crate) fn limits(alloc: Global, clients: u32, pool: u32) -> Result<Arc<Limit
 }
 
 /// Ann's key on the database shop.
-pub(crate) fn key(alloc: Global) -> Result<Arc<StartKey>, AllocError> {
+pub fn key(alloc: Global) -> Result<Arc<StartKey>, AllocError> {
     let key = StartKey {
         row: Text::from_slice(alloc, b"shop")?,
         host: Some([127, 0, 0, 1]),
@@ -135,13 +135,7 @@ fn is_free<K: Ledgers>(pass: &Pass<K>) -> bool
 }
 
 /// Serves a client by this desk, and hands back its end and the pass; `None` where somebody holds the pass.
-pub(crate) fn serve_by<
-    C: ClientEnd,
-    R: Wait + Clock,
-    S: Outside,
-    T: Gate<S::End> + Drop,
-    K: Ledgers,
->(
+pub fn serve_by<C: ClientEnd, R: Wait + Clock, S: Outside, T: Gate<S::End> + Drop, K: Ledgers>(
     alloc: Global,
     desk: &Desk<R, S, K>,
     pass: Pass<K>,

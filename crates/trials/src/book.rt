@@ -2,12 +2,13 @@
 ghost use Rattle.std.specs.Prelude.{◌<◌};
 ghost use Rattle.lease_book.specs.Links.{IsTwice};
 
-use crate::gone::{Gone, key, row};
+use crate::keys::{key, row};
 use book_model::limits::Limits;
 use book_model::rows::Rows;
 use lease_book::book::Book;
 use lease_book::events::{Event, Reply};
-use link_run::links::{CleanLink, Lent};
+use link_run::links::{CleanLink, LinkParts};
+use memory_ends::gone_end::GoneEnd;
 use param_track::Reported;
 use start_keys::StartKey;
 use std::alloc::{AllocError, Global};
@@ -30,7 +31,7 @@ struct Client {
 /// A lent link, and whose it is.
 #[derive(Drop)]
 struct Lease {
-    link: CleanLink<Gone>,
+    link: CleanLink<GoneEnd>,
     client: Client,
 }
 
@@ -38,7 +39,7 @@ struct Lease {
 #[derive(Drop)]
 struct Bench {
     alloc: Global,
-    book: Book<Gone>,
+    book: Book<GoneEnd>,
     keys: Vec<Arc<StartKey>>,
     waiting: Vec<VecDeque<Client>>,
     leases: Vec<Lease>,
@@ -103,7 +104,7 @@ impl Bench {
     }
 
     /// What the book answers.
-    fn happens(&mut self, event: Event<Gone>) -> Reply<Gone>
+    fn happens(&mut self, event: Event<GoneEnd>) -> Reply<GoneEnd>
         requires { IsTwice event }
     {
         self.events = self.events.saturating_add(1);
@@ -140,15 +141,15 @@ impl Bench {
     }
 
     /// The client has this link.
-    fn has(&mut self, client: Client, link: CleanLink<Gone>) -> Result<(), AllocError> {
+    fn has(&mut self, client: Client, link: CleanLink<GoneEnd>) -> Result<(), AllocError> {
         self.waits_no_more(client.pool);
         Ok(self.leases.push(Lease { link, client })?)
     }
 
     /// A link of this number is started for the client.
     fn starts(&mut self, client: Client, number: u64, born: u64) -> Result<(), AllocError> {
-        let lent = Lent {
-            end: Gone,
+        let lent = LinkParts {
+            end: GoneEnd,
             key: self.key_of(client.key)?,
             number,
             born,

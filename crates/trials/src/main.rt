@@ -4,9 +4,9 @@
 
 mod book;
 mod fault;
-mod gone;
 mod input;
 mod job;
+mod keys;
 mod lease;
 mod lines;
 mod login;

@@ -1,9 +1,9 @@
 //! `trials relay`: rows through a relay between ends in memory that cost next to nothing.
 ghost use Rattle.std.specs.Prelude.{◌≤◌};
 
-use crate::gone::key;
+use crate::keys::key;
 use crate::rows::{Counter, RowServer};
-use link_run::links::Lent;
+use link_run::links::LinkParts;
 use message_view::KeyWord;
 use param_track::Reported;
 use relay_core::relay::Relay;
@@ -18,7 +18,7 @@ const LIMIT: u32 = 2_147_483_647;
 pub fn relayed(alloc: Global, size: u32, total: u64) -> Result<u64, AllocError>
     requires { 11 ≤ size }
 {
-    let link = Lent {
+    let link = LinkParts {
         end: RowServer::new(alloc, size, total)?,
         key: key(alloc, b"bench", 0, 0)?,
         number: 1,

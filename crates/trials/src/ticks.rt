@@ -1,12 +1,13 @@
 //! `trials ticks`: seconds of a lease book in which links lie idle, under many database rows.
 ghost use Rattle.lease_book.specs.Links.{IsTwice};
 
-use crate::gone::{Gone, key, row};
+use crate::keys::{key, row};
 use book_model::limits::Limits;
 use book_model::rows::Rows;
 use lease_book::book::Book;
 use lease_book::events::{Event, Reply};
-use link_run::links::{CleanLink, Lent};
+use link_run::links::{CleanLink, LinkParts};
+use memory_ends::gone_end::GoneEnd;
 use param_track::Reported;
 use start_keys::StartKey;
 use std::alloc::{AllocError, Global};
@@ -39,21 +40,21 @@ fn limits(alloc: Global, count: u64) -> Result<Arc<Limits>, AllocError> {
 #[derive(Drop)]
 struct Bench {
     alloc: Global,
-    book: Book<Gone>,
+    book: Book<GoneEnd>,
 }
 
 impl Bench {
     /// What the book answers.
-    fn happens(&mut self, event: Event<Gone>) -> Reply<Gone>
+    fn happens(&mut self, event: Event<GoneEnd>) -> Reply<GoneEnd>
         requires { IsTwice event }
     {
         self.book.apply(0, event)
     }
 
     /// The link of this number and second of birth, for this key.
-    fn link(&self, key: Arc<StartKey>, number: u64, born: u64) -> CleanLink<Gone> {
-        let lent = Lent {
-            end: Gone,
+    fn link(&self, key: Arc<StartKey>, number: u64, born: u64) -> CleanLink<GoneEnd> {
+        let lent = LinkParts {
+            end: GoneEnd,
             key,
             number,
             born,

@@ -1,0 +1,13 @@
+//! Tests of the desk that lends by the lease book, over links whose servers have gone.
+#![tactic(auto)]
+
+#[cfg(test)]
+mod desk_acts;
+#[cfg(test)]
+mod desk_parts;
+#[cfg(test)]
+mod desk_rows;
+#[cfg(test)]
+mod desk_stories;
+#[cfg(test)]
+mod waits;

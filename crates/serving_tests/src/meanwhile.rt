@@ -1,0 +1,209 @@
+//! What else happens at a desk while its workers serve.
+use crate::servers::{Servers, TestServer};
+use desk_tallies::ledgers::Ledgers;
+use desk_tallies::passes::Pass;
+use link_desk::answers::Grant;
+use link_desk::calls::Holder;
+use link_desk::desk::LinkDesk;
+use pool_desk::answers::Changed;
+use pool_desk::desk::Desk;
+use pool_tests::worker_parts::{TestRuntime, key, limits};
+use server_end::gate::{Gate, Ready};
+use std::alloc::{AllocError, Global};
+use std::rt::Clock;
+use std::sync::atomic::{AtomicBool, Ordering};
+use std::sync::{Arc, Wait};
+use std::thread::sleep;
+use std::time::Duration;
+
+/// The desk of the tests.
+pub(crate) type TestDesk<R, K> = Desk<R, Servers, K>;
+
+/// What happens.
+#[derive(Clone, Copy, Drop)]
+pub(crate) enum Act {
+    Nothing,
+    /// A client comes.
+    Comes,
+    /// One comes, and has a link of Ann's pool.
+    HasLink,
+    Tick(u64),
+    /// Pools have so many links from now on.
+    Pools(u32),
+    Shutdown,
+}
+
+/// When it happens.
+#[derive(Clone, Copy, Drop)]
+pub(crate) enum Moment {
+    Never,
+    /// At the first turn of a client's gate, which lasts until it has happened.
+    AtTurn,
+    /// Once a client waits for a link.
+    AtTicket,
+}
+
+fn arrives<R: Wait + Clock, K: Ledgers>(desk: &TestDesk<R, K>, pass: &mut Pass<K>) -> bool {
+    match pass.holder().client {
+        None => {
+            desk.arrive(pass);
+            true
+        }
+        Some(_) => false,
+    }
+}
+
+fn asks<R: Wait + Clock, K: Ledgers>(
+    alloc: Global,
+    desk: &TestDesk<R, K>,
+    pass: &mut Pass<K>,
+) -> Result<bool, AllocError> {
+    let key = key(alloc)?;
+    Ok(match pass.holder().client {
+        Some(_) => {
+            desk.ask(pass, &key);
+            true
+        }
+        None => false,
+    })
+}
+
+/// The client has its link, or knows why not; each call waits for at most a second.
+fn takes<R: Wait + Clock, K: Ledgers>(desk: &TestDesk<R, K>, pass: &mut Pass<K>) -> bool {
+    for _ in 0..60u32 {
+        match pass.holder() {
+            Holder {
+                client: Some(_),
+                lease: None,
+                ..
+            } => match desk.take(pass) {
+                Grant::Queued => {}
+                _ => return true,
+            },
+            _ => return false,
+        }
+    }
+    false
+}
+
+fn is_done(changed: Changed) -> bool {
+    matches!(changed, Changed::Done)
+}
+
+impl Act {
+    /// Whether it could happen.
+    pub(crate) fn happens<R: Wait + Clock, K: Ledgers>(
+        self,
+        alloc: Global,
+        desk: &TestDesk<R, K>,
+        pass: &mut Pass<K>,
+    ) -> Result<bool, AllocError> {
+        match self {
+            Act::Nothing => Ok(true),
+            Act::Comes => Ok(arrives(desk, pass)),
+            Act::HasLink => Ok(
+                arrives(desk, pass) && asks(alloc, desk, pass)? && takes(desk, pass),
+            ),
+            Act::Tick(now) => {
+                desk.tick(pass, now);
+                Ok(true)
+            }
+            Act::Pools(size) => {
+                let limits = limits(alloc, 100, size)?;
+                let again = Arc::try_clone(&limits)?;
+                Ok(is_done(desk.limits(pass, limits, again)))
+            }
+            Act::Shutdown => Ok(is_done(desk.shutdown(pass))),
+        }
+    }
+}
+
+/// How far a client's gate and what else happens have come.
+#[derive(Drop)]
+pub(crate) struct Notes {
+    /// A gate is at its first turn.
+    turned: AtomicBool,
+    /// What was to happen has happened.
+    happened: AtomicBool,
+}
+
+/// Waits until this is noted, for at most 60,000 sleeps of 1 ms.
+fn wait_for(rt: &impl Clock, note: &AtomicBool) {
+    for _ in 0..60_000u32 {
+        if note.load(Ordering::SeqCst) {
+            return;
+        }
+        sleep(rt, Duration::from_millis(1));
+    }
+}
+
+/// Waits until a client waits for a link, as long.
+fn wait_for_ticket<R: TestRuntime, K: Ledgers>(
+    rt: &R,
+    alloc: Global,
+    desk: &TestDesk<R, K>,
+    pass: &mut Pass<K>,
+) -> Result<(), AllocError> {
+    for _ in 0..60_000u32 {
+        if desk.view(alloc, pass)?.tickets.len() > 0 {
+            return Ok(());
+        }
+        sleep(rt, Duration::from_millis(1));
+    }
+    Ok(())
+}
+
+impl Notes {
+    /// Of nothing yet; where nothing happens at a turn, of all.
+    pub(crate) fn new(moment: Moment) -> Notes {
+        let is_at_turn = matches!(moment, Moment::AtTurn);
+        Notes {
+            turned: AtomicBool::new(!is_at_turn),
+            happened: AtomicBool::new(!is_at_turn),
+        }
+    }
+
+    /// Has this happen in its moment.
+    pub(crate) fn follow<R: TestRuntime, K: Ledgers>(
+        &self,
+        rt: R,
+        alloc: Global,
+        desk: &TestDesk<R, K>,
+        pass: &mut Pass<K>,
+        moment: Moment,
+        act: Act,
+    ) -> Result<bool, AllocError> {
+        match moment {
+            Moment::Never => return Ok(true),
+            Moment::AtTurn => wait_for(&rt, &self.turned),
+            Moment::AtTicket => wait_for_ticket(&rt, alloc, desk, pass)?,
+        }
+        let happens = act.happens(alloc, desk, pass)?;
+        self.happened.store(true, Ordering::SeqCst);
+        Ok(happens)
+    }
+}
+
+/// A gate that never waits but at its first turn, until what is to happen then has happened.
+#[derive(Drop)]
+pub(crate) struct TurnedGate<'a, R: Clock + Drop> {
+    pub rt: R,
+    pub notes: &'a Notes,
+    /// Its client is seen to have gone.
+    pub goes: bool,
+}
+
+impl<'a, R: Clock + Drop> Gate<TestServer> for TurnedGate<'a, R> {
+    fn turn(&mut self) -> Ready {
+        self.notes.turned.store(true, Ordering::SeqCst);
+        wait_for(&self.rt, &self.notes.happened);
+        Ready {
+            client: true,
+            server: true,
+        }
+    }
+
+    fn client_has_left(&mut self) -> bool {
+        self.goes
+    }
+}

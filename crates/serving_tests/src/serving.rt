@@ -1,0 +1,253 @@
+//! What comes of each row of the table.
+ghost use Rattle.std.specs.Prelude.{◌≡◌};
+ghost use Rattle.desk_tallies.specs.declared.passes.TheConstants.{ALL_PARTS};
+ghost use Rattle.desk_tallies.specs.Shares.{names_of, of_each, parts_of};
+
+use crate::guests::Guest;
+use crate::meanwhile::{Notes, TestDesk, TurnedGate};
+use crate::rows::{Client, Row};
+use crate::servers::{Seen, Servers};
+use crate::{refused_rows as refused, served_rows as served};
+use book_register::view::BookView;
+use book_rows::links::Link;
+use desk_tallies::ledgers::Ledgers;
+use desk_tallies::passes::{Pass, Totals};
+use desk_tallies::tallies::Blanks;
+use link_desk::desk::LinkDesk;
+use play_tests::files::catalogue;
+use pool_desk::desk::Desk;
+use pool_tests::worker_parts::{CUT, TestRuntime, limits, login_by, serve_by};
+use std::alloc::{AllocError, Global};
+use std::marker::Brand;
+use std::sync::atomic::Ordering;
+use std::test::Fail;
+use std::thread::join;
+
+/// Where the workers depart from a row.
+#[derive(Clone, Copy, Drop)]
+enum Departure {
+    /// What the client of this number is given.
+    Given(u32),
+    /// What the desk shows.
+    Shown,
+    /// What the servers saw.
+    Seen,
+    Totals(Totals),
+}
+
+/// Whether so many bytes were given, and then the last of the client.
+fn is_told(given: &[u8], client: &Client) -> bool {
+    let last = client.last.bytes();
+    given.len().checked_sub(last.len()) == Some(client.before) && given.ends_with(last)
+}
+
+/// Serves a client through this pass, while the row's act happens through the other: the pass, and whether it was given what it is
+/// to be given.
+fn served_once<R: TestRuntime, K: Ledgers + Send + Sync>(
+    rt: R,
+    alloc: Global,
+    desk: &TestDesk<R, K>,
+    own: Pass<K>,
+    other: &mut Pass<K>,
+    row: &Row,
+    client: &Client,
+    number: u32,
+) -> Result<(Pass<K>, bool), AllocError> {
+    let notes = Notes::new(row.moment);
+    let shared = &notes;
+    let goes = row.go;
+    let gate = TurnedGate {
+        rt,
+        notes: shared,
+        goes,
+    };
+    let login = login_by(alloc, client.under.settings(), number)?;
+    let guest = Guest::new(alloc, client.talk, CUT)?;
+    let (moment, act) = (row.moment, row.act);
+    let (served, happened) = join(
+        &rt,
+        || -> Option<(Guest, Pass<K>)> { serve_by(alloc, desk, own, guest, login, number, gate) },
+        || -> bool {
+            shared
+                .follow(rt, alloc, desk, other, moment, act)
+                .unwrap_or(false)
+        },
+    );
+    let Some((guest, pass)) = served else {
+        return Err(AllocError);
+    };
+    let is_told = is_told(guest.given(), client);
+    Ok((pass, is_told && happened))
+}
+
+/// Serves the row's clients one after the other: the pass, and the number of the first that wasn't given what it is to be given.
+fn served_all<R: TestRuntime, K: Ledgers + Send + Sync>(
+    rt: R,
+    alloc: Global,
+    desk: &TestDesk<R, K>,
+    own: Pass<K>,
+    other: &mut Pass<K>,
+    row: &Row,
+) -> Result<(Pass<K>, Option<u32>), AllocError> {
+    let mut pass = own;
+    let mut number: u32 = 0;
+    let mut first = None;
+    for _ in 0..row.times {
+        for client in row.served {
+            number = number.saturating_add(1);
+            let (next, is_told) = served_once(rt, alloc, desk, pass, other, row, client, number)?;
+            pass = next;
+            if first.is_none() && !is_told {
+                first = Some(number);
+            }
+        }
+    }
+    Ok((pass, first))
+}
+
+fn are_links(links: &[Link], numbers: &[u64]) -> bool {
+    for (link, number) in links.iter().zip(numbers.iter()) {
+        if link.number != *number {
+            return false;
+        }
+    }
+    links.len() == numbers.len()
+}
+
+fn shows(view: &BookView, row: &Row) -> bool {
+    let sums = [
+        view.starts,
+        view.reuses,
+        view.evictions,
+        view.counts.lost,
+        view.counts.starts_failed,
+    ];
+    (view.clients.len(), view.tickets.len()) == row.there
+        && are_links(&view.lent, row.lent)
+        && are_links(&view.idle, row.idle)
+        && sums == row.sums
+}
+
+fn have_seen(seen: &Seen, row: &Row) -> bool {
+    let terminates = seen.terminates.load(Ordering::SeqCst);
+    let resets = seen.resets.load(Ordering::SeqCst);
+    [terminates, resets] == row.seen
+}
+
+/// What happens at a desk by this row, and where it departs from it, but for the totals.
+fn happens<R: TestRuntime, K: Ledgers + Send + Sync>(
+    rt: R,
+    alloc: Global,
+    desk: &TestDesk<R, K>,
+    own: Pass<K>,
+    other: &mut Pass<K>,
+    row: &Row,
+) -> Result<(Pass<K>, Option<Departure>), AllocError> {
+    row.first.happens(alloc, desk, other)?;
+    let (pass, first) = served_all(rt, alloc, desk, own, other, row)?;
+    if let Some(number) = first {
+        return Ok((pass, Some(Departure::Given(number))));
+    }
+    if !shows(&desk.view(alloc, other)?, row) {
+        return Ok((pass, Some(Departure::Shown)));
+    }
+    Ok((pass, None))
+}
+
+/// Where workers over new ledgers depart from a row first.
+fn departure_from<R: TestRuntime, K: Ledgers + Send + Sync>(
+    rt: R,
+    alloc: Global,
+    blanks: Blanks,
+    row: &Row,
+) -> Result<Option<Departure>, Fail>
+    requires names { names_of blanks ≡ K.names }
+    requires parts { K.parts ≡ parts_of blanks }
+    requires all { parts_of blanks ≡ of_each ALL_PARTS }
+{
+    let servers = Servers::new(alloc, catalogue(alloc)?, row.behind)?;
+    let seen = servers.seen()?;
+    let limits = limits(alloc, row.clients, row.pool)?;
+    let desk = Desk::<R, Servers, K>::new(rt, alloc, servers, limits, blanks)?;
+    let (Some(own), Some(mut other)) = (desk.pass(), desk.pass()) else {
+        return Err("no pass")?;
+    };
+    let (own, departure) = happens(rt, alloc, &desk, own, &mut other, row)?;
+    if departure.is_some() {
+        return Ok(departure);
+    }
+    let passes = Vec::from_array(alloc, [own, other])?;
+    let totals = desk.gather(passes).ok().ok_or("other passes")?;
+    if totals != row.totals {
+        return Ok(Some(Departure::Totals(totals)));
+    }
+    if !have_seen(&seen, row) {
+        return Ok(Some(Departure::Seen));
+    }
+    Ok(None)
+}
+
+/// The same, and whether it departs nowhere.
+fn goes_as_told<R: TestRuntime>(rt: R, alloc: Global, row: &Row) -> Result<bool, Fail> {
+    Ok(departure_from::<R, Brand>(rt, alloc, Blanks::new(), row)?.is_none())
+}
+
+/// The rows of those that aren't served.
+fn refused_at(at: usize) -> Option<Row> {
+    match at {
+        0 => Some(refused::before_arrival()),
+        1 => Some(refused::too_many()),
+        2 => Some(refused::shut_at_arrival()),
+        3 => Some(refused::not_let_in()),
+        4 => Some(refused::silent()),
+        5 => Some(refused::shut_at_asking()),
+        6 => Some(refused::waited_too_long()),
+        7 => Some(refused::shut_at_waiting()),
+        8 => Some(refused::unreached()),
+        9 => Some(refused::dead_in_its_start()),
+        10 => Some(refused::refused_by_its_server()),
+        11 => Some(refused::dead_at_a_border()),
+        12 => Some(refused::dead_in_a_message()),
+        13 => Some(refused::malformed_by_its_server()),
+        14 => Some(refused::malformed_or_too_long()),
+        15 => Some(refused::gone_while_waiting()),
+        _ => None,
+    }
+}
+
+/// The rows of those that are.
+fn served_at(at: usize) -> Option<Row> {
+    match at {
+        0 => Some(served::unused()),
+        1 => Some(served::reset_byte_by_byte()),
+        2 => Some(served::left_in_a_block()),
+        3 => Some(served::longest_message()),
+        4 => Some(served::right_password()),
+        5 => Some(served::too_many_links()),
+        6 => Some(served::shut_while_served()),
+        7 => Some(served::evicted()),
+        _ => None,
+    }
+}
+
+#[test]
+fn each_is_told_why_it_is_refused(rt: HostRuntime) -> Result<(), Fail> {
+    for at in 0..16usize {
+        let Some(row) = refused_at(at) else {
+            break;
+        };
+        assert!(rt; goes_as_told(rt, rt.alloc(), &row)?, "row {at}");
+    }
+    Ok(())
+}
+
+#[test]
+fn each_link_is_kept_or_closed(rt: HostRuntime) -> Result<(), Fail> {
+    for at in 0..8usize {
+        let Some(row) = served_at(at) else {
+            break;
+        };
+        assert!(rt; goes_as_told(rt, rt.alloc(), &row)?, "row {at}");
+    }
+    Ok(())
+}
