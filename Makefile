@@ -54,6 +54,7 @@ gate:
 	scripts/rows.sh $(program) $(trials)
 	scripts/leases.sh $(trials)
 	scripts/conversations.sh $(program) $(trials)
+	scripts/fuzz.py $(program)
 	scripts/logins.sh $(trials)
 	scripts/clients.sh $(trials)
 	scripts/refuse-growth.sh $(program) $(trials)
@@ -64,6 +65,7 @@ gate:
 	scripts/console.sh $(program)
 	scripts/abuse.sh $(program)
 	scripts/show.py $(program)
+	scripts/readme.py $(program)
 	scripts/packaging.sh $(program)
 
 # the wrong versions of functions that aren't tried by the gate; CRATES names some crates. It is no part of `test`: on top of the
@@ -84,7 +86,7 @@ deb: build/pgsess
 
 # all run; the status says whether a bound was missed
 bench: build/pgsess $(trials)
-	@status=0; bench/replay.sh build/pgsess || status=$$?; bench/tables.sh build/pgsess || status=$$?; bench/relay.sh $(trials) || status=$$?; bench/book.sh $(trials) || status=$$?; bench/pool.sh build/pgsess || status=$$?; exit $$status
+	@status=0; bench/replay.sh build/pgsess || status=$$?; bench/tables.sh build/pgsess || status=$$?; bench/relay.sh $(trials) || status=$$?; bench/book.sh $(trials) || status=$$?; bench/calls.py build/pgsess || status=$$?; bench/pool.sh build/pgsess || status=$$?; exit $$status
 
 clean:
 	rm -rf build crates/*/out
