@@ -13,7 +13,7 @@ use std::sync::Arc;
 
 /// A link taken apart, of which nothing is known.
 #[derive(Drop)]
-pub struct Lent<E: ServerEnd> {
+pub struct LinkParts<E: ServerEnd> {
     pub end: E,
     /// The start key of its session.
     pub key: Arc<StartKey>,
@@ -29,7 +29,7 @@ pub struct Lent<E: ServerEnd> {
 /// A link that nobody has used since its start or its reset: where its end follows, it stands in the fresh session of its key,
 /// with nothing under way.
 pub struct CleanLink<E: ServerEnd> {
-    link: Lent<E>,
+    link: LinkParts<E>,
 }
 
 impl<E: ServerEnd> Drop for CleanLink<E> {
@@ -52,7 +52,7 @@ impl<E: ServerEnd> Model for CleanLink<E> {
 /// A link that was used and is settled: where its end follows and lives, it stands at rest in a session of its key, with nothing
 /// under way. A reset makes it clean.
 pub struct UsedLink<E: ServerEnd> {
-    link: Lent<E>,
+    link: LinkParts<E>,
 }
 
 impl<E: ServerEnd> Drop for UsedLink<E> {
@@ -124,7 +124,7 @@ impl<E: ServerEnd> CleanLink<E> {
     }
 
     /// Takes it apart, for a lease.
-    pub fn lend(self) -> Lent<E>
+    pub fn lend(self) -> LinkParts<E>
         ensures stands { E.standing result.end ≡ self.stands }
         ensures key { arc_value result.key ≡ self.key }
         ensures number { result.number ≡ self.number }
@@ -140,7 +140,7 @@ impl<E: ServerEnd> CleanLink<E> {
 
 impl<E: ServerEnd> UsedLink<E> {
     /// Takes it apart, for its reset.
-    pub fn lend(self) -> Lent<E>
+    pub fn lend(self) -> LinkParts<E>
         ensures stands { E.standing result.end ≡ self.stands }
         ensures key { arc_value result.key ≡ self.key }
         ensures number { result.number ≡ self.number }
@@ -154,7 +154,7 @@ impl<E: ServerEnd> UsedLink<E> {
     }
 }
 
-impl<E: ServerEnd> Lent<E> {
+impl<E: ServerEnd> LinkParts<E> {
     /// The same as a link that nobody has used.
     pub fn clean(self) -> CleanLink<E>
         requires { IsClean (E.standing self.end) (arc_value self.key) self.reported }

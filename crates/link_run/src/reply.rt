@@ -8,6 +8,7 @@ ghost use Rattle.session_values.specs.Answers.{frame_of};
 ghost use Rattle.link_run.specs.Links.{after_frame, after_frames};
 ghost use Rattle.link_run.specs.Resets.{answered_by, are_known, at_rest, is_aside, is_idle, is_known, is_tag, reads};
 
+use frame_view::laws::are_bytes;
 use frame_view::server::{COMMAND_COMPLETE, NOTICE_RESPONSE, PARAMETER_STATUS, READY_FOR_QUERY};
 use frame_view::{Frame, Side, Step, next_frame};
 use message_view::StatusView;
@@ -98,12 +99,6 @@ impl Answered {
             Step::Bad(_) => Answered::Other,
         }
     }
-}
-
-fn are_bytes(bytes: &[u8])
-    ensures { AreBytes bytes.now }
-{
-    let _count = bytes.len();
 }
 
 /// What the whole frames of these bytes and the head behind them come to, and whether nothing stands behind the frames.

@@ -5,7 +5,7 @@ ghost use Rattle.link_run.specs.Resets.{EndsDialogue, IsAnsweredReset, IsDisturb
 ghost use Rattle.link_run.specs.declared.reset.ResetFault.TheVariants.{Changed, Lost, Unexpected};
 ghost use Rattle.link_run.specs.declared.reply.Answered.TheVariants.{All, Other};
 
-use crate::links::{CleanLink, Lent, UsedLink};
+use crate::links::{CleanLink, LinkParts, UsedLink};
 use crate::reply::{Answered, read_reply, tell_reports};
 use bytes::BytesMut;
 use server_end::gate::Gate;
@@ -44,7 +44,7 @@ pub struct Disposed<E: ServerEnd> {
 
 /// A link that is being reset: how much of the Query was sent, and all that was answered.
 struct Reset<E: ServerEnd> {
-    link: Lent<E>,
+    link: LinkParts<E>,
     sent: usize,
     reply: BytesMut,
 }
@@ -192,11 +192,11 @@ impl<E: ServerEnd> Reset<E> {
     }
 }
 
-fn dispose<E: ServerEnd>(link: Lent<E>, cause: ResetFault) -> Disposed<E>
+fn dispose<E: ServerEnd>(link: LinkParts<E>, cause: ResetFault) -> Disposed<E>
     ensures cause { result.cause ≡ cause }
     ensures stands { E.standing result.end ≡ E.standing link.end }
 {
-    let Lent {
+    let LinkParts {
         end,
         key: _,
         number: _,

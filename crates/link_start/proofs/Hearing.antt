@@ -8,16 +8,16 @@ use Rattle.message_view.specs.declared.ViewFault.{ViewFault}
 use Rattle.message_view.specs.declared.kinds.TheConstants.{ASKS_NOTHING, ASKS_CLEARTEXT, ASKS_MD5}
 use Rattle.message_view.specs.Reading.{authentication_of}
 use Rattle.session_laws.specs.Laws.{has_ready}
-use Rattle.link_start.specs.declared.heard.Heard.{Heard}
-use Rattle.link_start.specs.declared.heard.Heard.TheVariants.{Nothing, Asked, LetIn, Ready, Refused, Other}
-use Rattle.link_start.specs.declared.heard.Question.{Question}
-use Rattle.link_start.specs.declared.heard.Question.TheVariants.{Cleartext, Unknown}
-use Rattle.link_start.specs.Heard.{bare, salted, asked_part, asked, only_let_in, answered, is_idle, is_welcome, heard_by, heard_all, error_in}
+use Rattle.link_start.specs.declared.start_reply.StartProgress.{StartProgress}
+use Rattle.link_start.specs.declared.start_reply.StartProgress.TheVariants.{Nothing, Asked, LetIn, Ready, Refused, Other}
+use Rattle.link_start.specs.declared.start_reply.Question.{Question}
+use Rattle.link_start.specs.declared.start_reply.Question.TheVariants.{Cleartext, Unknown}
+use Rattle.link_start.specs.StartReply.{bare, salted, asked_part, asked, only_let_in, answered, is_idle, is_welcome, heard_by, heard_all, error_in}
 use Rattle.link_start.specs.Starts.{IsError}
 
 -- ---- one after the other
 
-pub heard-append : (h : Heard) (xs ys : List FrameOf) → heard_all h (xs ++ ys) ≡ heard_all (heard_all h xs) ys
+pub heard-append : (h : StartProgress) (xs ys : List FrameOf) → heard_all h (xs ++ ys) ≡ heard_all (heard_all h xs) ys
 heard-append h [] ys = refl
 heard-append h (x ∷ xs) ys = heard-append (heard_by h x) xs ys
 
@@ -30,20 +30,20 @@ refused_stays [] = refl
 refused_stays (f ∷ fs) = refused_stays fs
 
 pub no_other : (got more : List FrameOf) → heard_all Nothing (got ++ more) ≢ Other → heard_all Nothing got ≢ Other
-no_other got more n e = n (heard-append Nothing got more ∙ ap (λ (h : Heard). heard_all h more) e ∙ other_stays more)
+no_other got more n e = n (heard-append Nothing got more ∙ ap (λ (h : StartProgress). heard_all h more) e ∙ other_stays more)
 
 pub still_refused : (got more : List FrameOf) → heard_all Nothing got ≡ Refused → heard_all Nothing (got ++ more) ≡ Refused
-still_refused got more e = heard-append Nothing got more ∙ ap (λ (h : Heard). heard_all h more) e ∙ refused_stays more
+still_refused got more e = heard-append Nothing got more ∙ ap (λ (h : StartProgress). heard_all h more) e ∙ refused_stays more
 
 -- nothing follows ReadyForQuery
 pub ready_is_last : (got more : List FrameOf) → heard_all Nothing (got ++ more) ≢ Other → heard_all Nothing got ≡ Ready → more ≡ []
 ready_is_last got [] n e = refl
-ready_is_last got (m ∷ ms) n e = absurd (n (heard-append Nothing got (m ∷ ms) ∙ ap (λ (h : Heard). heard_all h (m ∷ ms)) e ∙ other_stays ms))
+ready_is_last got (m ∷ ms) n e = absurd (n (heard-append Nothing got (m ∷ ms) ∙ ap (λ (h : StartProgress). heard_all h (m ∷ ms)) e ∙ other_stays ms))
 
 -- ---- where an answer comes from
 
 -- no question any more
-abbrev pub IsPast : Heard → Type 0
+abbrev pub IsPast : StartProgress → Type 0
 IsPast Nothing = ⊥
 IsPast (Asked q) = ⊥
 IsPast LetIn = Unit {0}
@@ -52,7 +52,7 @@ IsPast Refused = Unit {0}
 IsPast Other = Unit {0}
 
 -- no ReadyForQuery, and no error
-abbrev IsOpen : Heard → Type 0
+abbrev IsOpen : StartProgress → Type 0
 IsOpen Nothing = Unit {0}
 IsOpen (Asked q) = Unit {0}
 IsOpen LetIn = Unit {0}
@@ -69,7 +69,7 @@ welcomed-past true b c = tt
 welcomed-past false true c = tt
 welcomed-past false false c = refused-past c
 
-past_goes : (h : Heard) (f : FrameOf) → IsPast h → IsPast (heard_by h f)
+past_goes : (h : StartProgress) (f : FrameOf) → IsPast h → IsPast (heard_by h f)
 past_goes Nothing f p = absurd p
 past_goes (Asked q) f p = absurd p
 past_goes LetIn f p = welcomed-past (is_welcome f.kind) (is_idle f) (f.kind == ERROR_RESPONSE)
@@ -77,7 +77,7 @@ past_goes Ready f p = tt
 past_goes Refused f p = tt
 past_goes Other f p = tt
 
-pub never_asked : {A : Type 0} (h : Heard) (fs : List FrameOf) (q : Question) → IsPast h → heard_all h fs ≡ Asked q → A
+pub never_asked : {A : Type 0} (h : StartProgress) (fs : List FrameOf) (q : Question) → IsPast h → heard_all h fs ≡ Asked q → A
 never_asked Nothing [] q p e = absurd p
 never_asked (Asked r) [] q p e = absurd p
 never_asked LetIn [] q p e = absurd cc
@@ -86,7 +86,7 @@ never_asked Refused [] q p e = absurd cc
 never_asked Other [] q p e = absurd cc
 never_asked h (f ∷ fs) q p e = never_asked (heard_by h f) fs q (past_goes h f p) e
 
-only_let_in-past : (h : Heard) → IsPast (only_let_in h)
+only_let_in-past : (h : StartProgress) → IsPast (only_let_in h)
 only_let_in-past Nothing = tt
 only_let_in-past (Asked q) = tt
 only_let_in-past LetIn = tt
@@ -94,7 +94,7 @@ only_let_in-past Ready = tt
 only_let_in-past Refused = tt
 only_let_in-past Other = tt
 
-question_of : Heard → Question → Question
+question_of : StartProgress → Question → Question
 question_of (Asked q) other = q
 question_of Nothing other = other
 question_of LetIn other = other
@@ -104,7 +104,7 @@ question_of Other other = other
 
 same_question : (p q : Question) → Asked p ≡ Asked q → p ≡ q
 unfolding question_of
-same_question p q e = ap (λ (h : Heard). question_of h q) e
+same_question p q e = ap (λ (h : StartProgress). question_of h q) e
 
 -- a question stays the one that it is
 pub asked_stays : (p q : Question) (fs : List FrameOf) → heard_all (Asked p) fs ≡ Asked q → p ≡ q
@@ -118,7 +118,7 @@ asked_stays p q (f ∷ fs) e = by (λ h. asked_stays p q fs h) (f.kind == NOTICE
 
 -- ---- ReadyForQuery, and errors
 
-bare-open : (h : Heard) (more : List ℕ) → IsOpen h → IsOpen (bare h more)
+bare-open : (h : StartProgress) (more : List ℕ) → IsOpen h → IsOpen (bare h more)
 bare-open h [] o = o
 bare-open h (b ∷ bs) o = tt
 
@@ -140,7 +140,7 @@ asked-open : (r : Result (ℕ × List ℕ) ViewFault) → IsOpen (asked_part r)
 asked-open (Ok x) = asked_by-open (x.0 == ASKS_NOTHING) (x.0 == ASKS_CLEARTEXT) (x.0 == ASKS_MD5) x.0 x.1
 asked-open (Err fault) = tt
 
-only-open : (h : Heard) → IsOpen (only_let_in h)
+only-open : (h : StartProgress) → IsOpen (only_let_in h)
 only-open Nothing = tt
 only-open (Asked q) = tt
 only-open LetIn = tt
@@ -148,7 +148,7 @@ only-open Ready = tt
 only-open Refused = tt
 only-open Other = tt
 
-not_ready : (h : Heard) → IsOpen h → h ≡ Ready → ⊥
+not_ready : (h : StartProgress) → IsOpen h → h ≡ Ready → ⊥
 not_ready Ready o e = o
 not_ready Nothing o e = cc
 not_ready (Asked q) o e = cc
@@ -156,7 +156,7 @@ not_ready LetIn o e = cc
 not_ready Refused o e = o
 not_ready Other o e = cc
 
-not_refused : (h : Heard) → IsOpen h → h ≡ Refused → ⊥
+not_refused : (h : StartProgress) → IsOpen h → h ≡ Refused → ⊥
 not_refused Ready o e = o
 not_refused Nothing o e = cc
 not_refused (Asked q) o e = cc
@@ -173,7 +173,7 @@ is_refused true e = refl
 is_refused false e = absurd cc
 
 -- ReadyForQuery comes of a frame of that type alone
-by_ready : (h : Heard) (f : FrameOf) → h ≢ Ready → heard_by h f ≡ Ready → (f.kind == READY_FOR_QUERY) ≡ true
+by_ready : (h : StartProgress) (f : FrameOf) → h ≢ Ready → heard_by h f ≡ Ready → (f.kind == READY_FOR_QUERY) ≡ true
 by_ready Nothing f n e = absurd (by (f.kind == NOTICE_RESPONSE) (f.kind == AUTHENTICATION) (f.kind == ERROR_RESPONSE) e)
   where
     by : (a b c : Bool) → (if a then Nothing else (if b then asked f.body else (if c then Refused else Other))) ≡ Ready → ⊥
@@ -204,7 +204,7 @@ by_ready Refused f n e = absurd cc
 by_ready Other f n e = absurd cc
 
 -- and a refusal of an ErrorResponse
-by_refused : (h : Heard) (f : FrameOf) → h ≢ Refused → heard_by h f ≡ Refused → (f.kind == ERROR_RESPONSE) ≡ true
+by_refused : (h : StartProgress) (f : FrameOf) → h ≢ Refused → heard_by h f ≡ Refused → (f.kind == ERROR_RESPONSE) ≡ true
 by_refused Nothing f n e = by (f.kind == NOTICE_RESPONSE) (f.kind == AUTHENTICATION) (f.kind == ERROR_RESPONSE) e
   where
     by : (a b c : Bool) → (if a then Nothing else (if b then asked f.body else (if c then Refused else Other))) ≡ Refused → c ≡ true
@@ -227,7 +227,7 @@ by_refused Ready f n e = absurd cc
 by_refused Refused f n e = absurd (n refl)
 by_refused Other f n e = absurd cc
 
-pub ready_came : (h : Heard) (fs : List FrameOf) → h ≢ Ready → heard_all h fs ≡ Ready → has_ready fs ≡ true
+pub ready_came : (h : StartProgress) (fs : List FrameOf) → h ≢ Ready → heard_all h fs ≡ Ready → has_ready fs ≡ true
 ready_came h [] n e = absurd (n e)
 ready_came h (f ∷ fs) n e = by (λ k. ready_came (heard_by h f) fs (λ r. true≢false (sym (by_ready h f n r) ∙ k)) e) (f.kind == READY_FOR_QUERY) refl
   where
@@ -235,7 +235,7 @@ ready_came h (f ∷ fs) n e = by (λ k. ready_came (heard_by h f) fs (λ r. true
     by go true k = refl
     by go false k = go k
 
-pub first_error : (h : Heard) (got more : List FrameOf) → h ≢ Refused → heard_all h got ≡ Refused → error_in (got ++ more) ≡ error_in got
+pub first_error : (h : StartProgress) (got more : List FrameOf) → h ≢ Refused → heard_all h got ≡ Refused → error_in (got ++ more) ≡ error_in got
 first_error h [] more n e = absurd (n e)
 first_error h (f ∷ fs) more n e = by (λ k. first_error (heard_by h f) fs more (λ r. true≢false (sym (by_refused h f n r) ∙ k)) e) (f.kind == ERROR_RESPONSE) refl
   where
@@ -243,7 +243,7 @@ first_error h (f ∷ fs) more n e = by (λ k. first_error (heard_by h f) fs more
     by go true k = refl
     by go false k = go k
 
-pub is_error : (h : Heard) (got : List FrameOf) → h ≢ Refused → heard_all h got ≡ Refused → IsError (error_in got)
+pub is_error : (h : StartProgress) (got : List FrameOf) → h ≢ Refused → heard_all h got ≡ Refused → IsError (error_in got)
 is_error h [] n e = absurd (n e)
 is_error h (f ∷ fs) n e = by (λ k. is_error (heard_by h f) fs (λ r. true≢false (sym (by_refused h f n r) ∙ k)) e) (f.kind == ERROR_RESPONSE) refl
   where

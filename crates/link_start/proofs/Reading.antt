@@ -16,12 +16,12 @@ use Rattle.frame_view.proofs.Splitting.{frames-stopped}
 use Rattle.message_view.specs.declared.ViewFault.{ViewFault}
 use Rattle.message_view.specs.declared.views.KeyView.{KeyView}
 use Rattle.param_track.specs.Kept.{Kept}
-use Rattle.link_start.specs.declared.heard.Heard.{Heard}
-use Rattle.link_start.specs.declared.heard.Heard.TheVariants.{Nothing}
-use Rattle.link_start.specs.declared.heard.Untaken.{Untaken}
-use Rattle.link_start.specs.declared.heard.Untaken.TheVariants.{Unexpected, Memory}
+use Rattle.link_start.specs.declared.start_reply.StartProgress.{StartProgress}
+use Rattle.link_start.specs.declared.start_reply.StartProgress.TheVariants.{Nothing}
+use Rattle.link_start.specs.declared.start_reply.ReportError.{ReportError}
+use Rattle.link_start.specs.declared.start_reply.ReportError.TheVariants.{Unexpected, Memory}
 use Rattle.link_start.specs.Starts.{with_zero}
-use Rattle.link_start.specs.Heard.{before, heard, heard_all, error_in, Takes, reported_by, reported_next, reported_all, keyed_by, keyed_next, keyed_all}
+use Rattle.link_start.specs.StartReply.{before, heard, heard_all, error_in, Takes, reported_by, reported_next, reported_all, keyed_by, keyed_next, keyed_all}
 
 stopped : (x : Step) (bytes : List ℕ) → ((frame : Frame) → x ≡ Whole frame → ⊥) → Tells x bytes (front Server 65536 bytes) → frames Server 65536 bytes ≡ record { frames = []; rest = bytes }
 stopped x bytes n t = frames-stopped Server 65536 bytes (not_whole x bytes (front Server 65536 bytes) n t)
@@ -30,12 +30,12 @@ stopped x bytes n t = frames-stopped Server 65536 bytes (not_whole x bytes (fron
 pub rest_at : (at : ℕ) (bytes : List ℕ) → take (length bytes - at) (drop at bytes) ≡ drop at bytes
 rest_at at bytes = take_all (length bytes - at) (drop at bytes) (omega (arith, length-drop at bytes))
 
-pub heard_at : (x : Step) (at : ℕ) (bytes : List ℕ) (h : Heard) → ((frame : Frame) → x ≡ Whole frame → ⊥) → Tells x (drop at bytes) (front Server 65536 (drop at bytes))
+pub heard_at : (x : Step) (at : ℕ) (bytes : List ℕ) (h : StartProgress) → ((frame : Frame) → x ≡ Whole frame → ⊥) → Tells x (drop at bytes) (front Server 65536 (drop at bytes))
     → heard_all h (frames Server 65536 (drop at bytes)).frames ≡ heard_all Nothing (frames Server 65536 bytes).frames → (frames Server 65536 (drop at bytes)).rest ≡ (frames Server 65536 bytes).rest
     → before h (drop at bytes) ≡ heard bytes
 heard_at x at bytes h n t e r =
     let s = stopped x (drop at bytes) n t in
-    ap₂ (λ (k : Heard) (b : List ℕ). before k b) (ap (λ (c : Cut). heard_all h c.frames) (sym s) ∙ e) (ap (λ (c : Cut). c.rest) (sym s) ∙ r)
+    ap₂ (λ (k : StartProgress) (b : List ℕ). before k b) (ap (λ (c : Cut). heard_all h c.frames) (sym s) ∙ e) (ap (λ (c : Cut). c.rest) (sym s) ∙ r)
 
 pub error_at : (x : Step) (bytes whole : List ℕ) → ((frame : Frame) → x ≡ Whole frame → ⊥) → Tells x bytes (front Server 65536 bytes) → error_in (frames Server 65536 bytes).frames ≡ whole → [] ≡ whole
 error_at x bytes whole n t e = ap (λ (c : Cut). error_in c.frames) (sym (stopped x bytes n t)) ∙ e
@@ -47,7 +47,7 @@ reports_at x bytes kept whole n t e = sym e ∙ ap (λ (c : Cut). reported_all k
 pub reports_next : (kept new : List Kept) (f : FrameOf) (fs : List FrameOf) → reported_by kept f ≡ Some new → reported_all new fs ≡ reported_all kept (f ∷ fs)
 reports_next kept new f fs e = ap (λ (o : Option (List Kept)). reported_next o (λ ks. reported_all ks fs)) (sym e)
 
-pub none_next : (kept new : List Kept) (f : FrameOf) (fs : List FrameOf) (whole : Option (List Kept)) (u : Untaken) → Takes (reported_by kept f) new (Err u) → reported_all kept (f ∷ fs) ≡ whole → Takes whole new (Err u)
+pub none_next : (kept new : List Kept) (f : FrameOf) (fs : List FrameOf) (whole : Option (List Kept)) (u : ReportError) → Takes (reported_by kept f) new (Err u) → reported_all kept (f ∷ fs) ≡ whole → Takes whole new (Err u)
 none_next kept new f fs whole Unexpected t e = sym e ∙ ap (λ (o : Option (List Kept)). reported_next o (λ ks. reported_all ks fs)) t
 none_next kept new f fs whole Memory t e = tt
 

@@ -25,13 +25,13 @@ use Rattle.link_laws.specs.Dialogues.{IsStarting, IsToQuestion, IsTold, IsShortR
 use Rattle.link_laws.proofs.Both.{moves_none, moves_got, moves_put}
 use Rattle.link_laws.proofs.ByName.{start_replies_are_frames, starts_are_told, started_is_fresh}
 use Rattle.link_run.specs.Links.{kept_by, IsClean}
-use Rattle.link_start.specs.declared.heard.Heard.{Heard}
-use Rattle.link_start.specs.declared.heard.Heard.TheVariants.{Nothing, Asked, LetIn, Ready, Refused, Other}
-use Rattle.link_start.specs.declared.heard.Question.{Question}
+use Rattle.link_start.specs.declared.start_reply.StartProgress.{StartProgress}
+use Rattle.link_start.specs.declared.start_reply.StartProgress.TheVariants.{Nothing, Asked, LetIn, Ready, Refused, Other}
+use Rattle.link_start.specs.declared.start_reply.Question.{Question}
 use Rattle.link_start.specs.declared.start.StartCause.{StartCause}
 use Rattle.link_start.specs.declared.start.StartCause.TheVariants.{Lost, Unanswerable, Unexpected, Memory, Turns}
 use Rattle.link_start.specs.declared.start.StartCause.TheVariants as causes
-use Rattle.link_start.specs.Heard.{asked, bare, before, if_lawful, heard, heard_by, heard_all, error_in, reported_all, TellsKey, keyed_all}
+use Rattle.link_start.specs.StartReply.{asked, bare, before, if_lawful, heard, heard_by, heard_all, error_in, reported_all, TellsKey, keyed_all}
 use Rattle.link_start.specs.Starts.{IsStartable, CanStart, IsLinkKey, answer_to, answer_heard, own_answer, AsksQuestion, StartView, start_view, IsOwn, IsUnderWay, IsWelcomed, IsDone, IsOwnKey, IsError, IsRefusalOf, IsUnanswerable, IsEndCause, IsCause, shown}
 use Rattle.link_start.proofs.Hearing.{no_other, still_refused, ready_is_last, never_asked, asked_stays, ready_came, first_error, is_error}
 use Rattle.link_start.proofs.Keying.{TellsOwnKey}
@@ -104,7 +104,7 @@ start_answered began l secret k n b a u w r text z e h own x =
 
 -- ---- what is read behind the whole frames
 
-if_asked : (h : Heard) (q : Question) (z : Front) → if_lawful h z ≡ Asked q → h ≡ Asked q
+if_asked : (h : StartProgress) (q : Question) (z : Front) → if_lawful h z ≡ Asked q → h ≡ Asked q
 if_asked h q (AFrame kind body rest) e = e
 if_asked h q (Lacks n) e = e
 if_asked h q (Faulty fault) e = absurd cc
@@ -113,7 +113,7 @@ bare_asked : (q : Question) (rest : List ℕ) → bare Ready rest ≡ Asked q �
 bare_asked q [] e = e
 bare_asked q (b ∷ rest) e = absurd cc
 
-before_asked : (h : Heard) (q : Question) (rest : List ℕ) → before h rest ≡ Asked q → h ≡ Asked q
+before_asked : (h : StartProgress) (q : Question) (rest : List ℕ) → before h rest ≡ Asked q → h ≡ Asked q
 before_asked Nothing q rest e = if_asked Nothing q (front FromServer 65536 rest) e
 before_asked (Asked p) q rest e = if_asked (Asked p) q (front FromServer 65536 rest) e
 before_asked LetIn q rest e = if_asked LetIn q (front FromServer 65536 rest) e
@@ -121,7 +121,7 @@ before_asked Ready q rest e = bare_asked q rest e
 before_asked Refused q rest e = e
 before_asked Other q rest e = e
 
-if_refused : (h : Heard) (z : Front) → if_lawful h z ≡ Refused → h ≡ Refused
+if_refused : (h : StartProgress) (z : Front) → if_lawful h z ≡ Refused → h ≡ Refused
 if_refused h (AFrame kind body rest) e = e
 if_refused h (Lacks n) e = e
 if_refused h (Faulty fault) e = absurd cc
@@ -130,7 +130,7 @@ bare_refused : (rest : List ℕ) → bare Ready rest ≡ Refused → Ready ≡ R
 bare_refused [] e = e
 bare_refused (b ∷ rest) e = absurd cc
 
-before_refused : (h : Heard) (rest : List ℕ) → before h rest ≡ Refused → h ≡ Refused
+before_refused : (h : StartProgress) (rest : List ℕ) → before h rest ≡ Refused → h ≡ Refused
 before_refused Nothing rest e = if_refused Nothing (front FromServer 65536 rest) e
 before_refused (Asked p) rest e = if_refused (Asked p) (front FromServer 65536 rest) e
 before_refused LetIn rest e = if_refused LetIn (front FromServer 65536 rest) e
@@ -138,15 +138,15 @@ before_refused Ready rest e = bare_refused rest e
 before_refused Refused rest e = e
 before_refused Other rest e = e
 
-if_ready : (h : Heard) (z : Front) → if_lawful h z ≡ Ready → h ≡ Ready
+if_ready : (h : StartProgress) (z : Front) → if_lawful h z ≡ Ready → h ≡ Ready
 if_ready h (AFrame kind body rest) e = e
 if_ready h (Lacks n) e = e
 if_ready h (Faulty fault) e = absurd cc
 
-not_that : {A : Type 0} (h : Heard) → h ≢ Ready → h ≡ Ready → A
+not_that : {A : Type 0} (h : StartProgress) → h ≢ Ready → h ≡ Ready → A
 not_that h n e = absurd (n e)
 
-before_ready : (h : Heard) (rest : List ℕ) → before h rest ≡ Ready → (h ≡ Ready) × (rest ≡ [])
+before_ready : (h : StartProgress) (rest : List ℕ) → before h rest ≡ Ready → (h ≡ Ready) × (rest ≡ [])
 before_ready Nothing rest e = absurd (let z : Nothing ≡ Ready = if_ready Nothing (front FromServer 65536 rest) e in cc)
 before_ready (Asked p) rest e = absurd (let z : Asked p ≡ Ready = if_ready (Asked p) (front FromServer 65536 rest) e in cc)
 before_ready LetIn rest e = absurd (let z : LetIn ≡ Ready = if_ready LetIn (front FromServer 65536 rest) e in cc)
@@ -171,12 +171,12 @@ first_is g f xs ys e = cc
 let_in_first : {A : Type 0} (got more rest : List FrameOf) (q : Question) → got ++ more ≡ let_in ∷ rest → heard_all Nothing got ≡ Asked q → A
 let_in_first [] more rest q e h = absurd cc
 let_in_first (g ∷ got) more rest q e h =
-    never_asked LetIn got q tt (ap (λ (x : Heard). heard_all x got) (sym (ap (heard_by Nothing) (first_is g let_in (got ++ more) rest e) ∙ let_in_heard)) ∙ h)
+    never_asked LetIn got q tt (ap (λ (x : StartProgress). heard_all x got) (sym (ap (heard_by Nothing) (first_is g let_in (got ++ more) rest e) ∙ let_in_heard)) ∙ h)
 
 question_first : (kind : ℕ) (text : List ℕ) (got more rest : List FrameOf) (p q : Question) → heard_by Nothing (authentication kind text) ≡ Asked p → got ++ more ≡ authentication kind text ∷ rest → heard_all Nothing got ≡ Asked q → p ≡ q
 question_first kind text [] more rest p q a e h = absurd cc
 question_first kind text (g ∷ got) more rest p q a e h =
-    asked_stays p q got (ap (λ (x : Heard). heard_all x got) (sym (ap (heard_by Nothing) (first_is g (authentication kind text) (got ++ more) rest e) ∙ a)) ∙ h)
+    asked_stays p q got (ap (λ (x : StartProgress). heard_all x got) (sym (ap (heard_by Nothing) (first_is g (authentication kind text) (got ++ more) rest e) ∙ a)) ∙ h)
 
 not_asked : {A : Type 0} (v : Server) (r : Result State Cause) (got more : List FrameOf) (q : Question) → got ++ more ≡ (opened v r).replies ++ [] → heard_all Nothing got ≡ Asked q → A
 not_asked v (Ok s) got more q e h = let_in_first got more _ q e h
@@ -251,7 +251,7 @@ module _ (began : Standing) (secret : Secret) (v : StartView) (c : CanStart bega
   more_short : AllByRecursion IsShortReply told.more
   more_short = all-after IsShortReply got told.more (subst (AllByRecursion IsShortReply) told.frames shorts)
 
-  lawful_front : (h : Heard) (z : Front) → front FromServer 65536 tail ≡ z → h ≢ Other → if_lawful h z ≢ Other
+  lawful_front : (h : StartProgress) (z : Front) → front FromServer 65536 tail ≡ z → h ≢ Other → if_lawful h z ≢ Other
   lawful_front h (AFrame kind body rest) e n o = n o
   lawful_front h (Lacks m) e n o = n o
   lawful_front h (Faulty fault) e n o = not_faulty told.more tail told.lost fault more_short told.bytes e
@@ -259,7 +259,7 @@ module _ (began : Standing) (secret : Secret) (v : StartView) (c : CanStart bega
   none_behind : heard_all Nothing got ≡ Ready → tail ≡ []
   none_behind e = nothing_in tail told.lost (told.bytes ∙ ap (flat_map spelling) (ready_is_last got told.more lawful e))
 
-  lawful_before : (h : Heard) → heard_all Nothing got ≡ h → before h tail ≢ Other
+  lawful_before : (h : StartProgress) → heard_all Nothing got ≡ h → before h tail ≢ Other
   lawful_before Nothing e o = lawful_front Nothing (front FromServer 65536 tail) refl (λ z. cc) o
   lawful_before (Asked q) e o = lawful_front (Asked q) (front FromServer 65536 tail) refl (λ z. cc) o
   lawful_before LetIn e o = lawful_front LetIn (front FromServer 65536 tail) refl (λ z. cc) o

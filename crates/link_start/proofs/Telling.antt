@@ -25,10 +25,10 @@ use Rattle.link_laws.specs.Starts.{start_body}
 use Rattle.link_laws.specs.Dialogues.{start_replies, start_error, start_refusal, IsToQuestion, IsShortReply}
 use Rattle.link_laws.proofs.ByName.{starts_are_of_their_keys}
 use Rattle.link_run.specs.Links.{kept_by}
-use Rattle.link_start.specs.declared.heard.Heard.{Heard}
-use Rattle.link_start.specs.declared.heard.Heard.TheVariants.{Nothing, Asked, LetIn, Ready, Refused, Other}
-use Rattle.link_start.specs.declared.heard.Question.{Question}
-use Rattle.link_start.specs.Heard.{heard_by, heard_all, error_in, reported_all}
+use Rattle.link_start.specs.declared.start_reply.StartProgress.{StartProgress}
+use Rattle.link_start.specs.declared.start_reply.StartProgress.TheVariants.{Nothing, Asked, LetIn, Ready, Refused, Other}
+use Rattle.link_start.specs.declared.start_reply.Question.{Question}
+use Rattle.link_start.specs.StartReply.{heard_by, heard_all, error_in, reported_all}
 use Rattle.link_start.specs.Starts.{AsksQuestion, IsLinkKey}
 use Rattle.link_start.proofs.Reporting.{welcome_reports}
 use Rattle.link_start.proofs.Keying.{TellsOwnKey, behind_none, welcome_tells_key}
@@ -61,23 +61,23 @@ pub record RefusedBy (refusal : Option FrameOf) (bytes : List ℕ) : Type 0 wher
   pub whole : bytes ≡ spelling frame
 
 -- replies of which each front is heard as a start: what the last says, and nothing else than a start's frames
-pub record IsHeard (v : Server) (key : StartKeyOf) (h : Heard) (replies : List FrameOf) (refusal : Option FrameOf) : Type 0 where
+pub record IsHeard (v : Server) (key : StartKeyOf) (h : StartProgress) (replies : List FrameOf) (refusal : Option FrameOf) : Type 0 where
   pub lawful : heard_all h replies ≢ Other
   pub ready : heard_all h replies ≡ Ready → OpensReported v key replies
   pub refused : heard_all h replies ≡ Refused → RefusedBy refusal (error_in replies)
 
-opened_heard : (v : Server) (key : StartKeyOf) (h : Heard) (r : Result State Cause) → heard_by h let_in ≡ LetIn → fresh v.catalogue key ≡ r → IsLawfulCatalogue v.catalogue → IsLinkKey key
+opened_heard : (v : Server) (key : StartKeyOf) (h : StartProgress) (r : Result State Cause) → heard_by h let_in ≡ LetIn → fresh v.catalogue key ≡ r → IsLawfulCatalogue v.catalogue → IsLinkKey key
     → IsHeard v key h (opened v r).replies (start_error r)
 opened_heard v key h (Ok s) e f c k =
     let w : Welcomes s v.pid v.secret = welcome_is_read v.catalogue key s v.pid v.secret (fresh_is_reached v.catalogue key s c k.0.lawful f) in
-    let is : heard_all h (opened v (Ok s)).replies ≡ Ready = ap (λ (x : Heard). heard_all x (welcome s v.pid v.secret)) e ∙ welcome_heard reported_parameters s.reported v.pid v.secret in
+    let is : heard_all h (opened v (Ok s)).replies ≡ Ready = ap (λ (x : StartProgress). heard_all x (welcome s v.pid v.secret)) e ∙ welcome_heard reported_parameters s.reported v.pid v.secret in
     record {
       lawful = λ o. let z : Ready ≡ Other = sym is ∙ o in cc;
       ready = λ _. record { session = s; is_fresh = f; reported = welcome_reports s v.pid v.secret w; keyed = behind_none v let_in (welcome s v.pid v.secret) refl (welcome_tells_key v s) };
       refused = λ o. absurd (let z : Ready ≡ Refused = sym is ∙ o in cc);
     }
 opened_heard v key h (Err c) e f l k =
-    let is : heard_all h (opened v (Err c)).replies ≡ Refused = ap (λ (x : Heard). heard_all x (fatal c ∷ [])) e in
+    let is : heard_all h (opened v (Err c)).replies ≡ Refused = ap (λ (x : StartProgress). heard_all x (fatal c ∷ [])) e in
     record {
       lawful = λ o. let z : Refused ≡ Other = sym is ∙ o in cc;
       ready = λ o. absurd (let z : Refused ≡ Ready = sym is ∙ o in cc);
@@ -93,7 +93,7 @@ wrong_heard v key q = record {
 
 -- ---- all that is answered to a start
 
-and_none : (v : Server) (key : StartKeyOf) (h : Heard) (replies : List FrameOf) (refusal : Option FrameOf) → IsHeard v key h replies refusal → IsHeard v key h (replies ++ []) refusal
+and_none : (v : Server) (key : StartKeyOf) (h : StartProgress) (replies : List FrameOf) (refusal : Option FrameOf) → IsHeard v key h replies refusal → IsHeard v key h (replies ++ []) refusal
 and_none v key h replies refusal x = subst (λ (fs : List FrameOf). IsHeard v key h fs refusal) (sym (append-nil replies)) x
 
 answer_heard : (v : Server) (key : StartKeyOf) (q : Question) (right : Bool) → IsLawfulCatalogue v.catalogue → IsLinkKey key
@@ -108,7 +108,7 @@ answer_heard v key q false c k = wrong_heard v key q
 after_question : (v : Server) (key : StartKeyOf) (kind : ℕ) (more : List ℕ) (q : Question) (replies : List FrameOf) (refusal : Option FrameOf) → heard_by Nothing (authentication kind more) ≡ Asked q
     → IsHeard v key (Asked q) replies refusal → IsHeard v key Nothing (authentication kind more ∷ replies) refusal
 after_question v key kind more q replies refusal e x =
-    let is : heard_all Nothing (authentication kind more ∷ replies) ≡ heard_all (Asked q) replies = ap (λ (h : Heard). heard_all h replies) e in
+    let is : heard_all Nothing (authentication kind more ∷ replies) ≡ heard_all (Asked q) replies = ap (λ (h : StartProgress). heard_all h replies) e in
     record {
       lawful = λ o. x.lawful (sym is ∙ o);
       ready = λ o. let y = x.ready (sym is ∙ o) in record { session = y.session; is_fresh = y.is_fresh; reported = y.reported; keyed = behind_none v (authentication kind more) replies refl y.keyed };

@@ -1,4 +1,4 @@
-pub mod Heard
+pub mod StartReply
 pub mod Starts
 pub mod Closes
 pub use Rattle.link_run.specs.Links

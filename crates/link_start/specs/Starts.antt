@@ -18,13 +18,13 @@ use Rattle.link_laws.specs.Standing.{Standing, Moves}
 use Rattle.link_laws.specs.Dialogues.{IsNew, AsksInFrame, IsStarting, auth_of, start_error, start_refusal}
 use Rattle.link_run.specs.Links.{LinkView}
 use Rattle.link_run.specs.declared.reply.TheConstants.{LONGEST_REPLY}
-use Rattle.link_start.specs.declared.heard.Heard.{Heard}
-use Rattle.link_start.specs.declared.heard.Heard.TheVariants as heard
-use Rattle.link_start.specs.declared.heard.Question.{Question}
-use Rattle.link_start.specs.declared.heard.Question.TheVariants.{Cleartext, Md5, Unknown}
+use Rattle.link_start.specs.declared.start_reply.StartProgress.{StartProgress}
+use Rattle.link_start.specs.declared.start_reply.StartProgress.TheVariants as heard
+use Rattle.link_start.specs.declared.start_reply.Question.{Question}
+use Rattle.link_start.specs.declared.start_reply.Question.TheVariants.{Cleartext, Md5, Unknown}
 use Rattle.link_start.specs.declared.start.StartCause.{StartCause}
 use Rattle.link_start.specs.declared.start.StartCause.TheVariants.{Refused, Lost, Unanswerable, Unexpected, Memory, Turns}
-use Rattle.link_start.specs.Heard as spec
+use Rattle.link_start.specs.StartReply as spec
 
 -- ---- what a start may begin with
 
@@ -66,7 +66,7 @@ answer_to secret user Cleartext = password_of secret
 answer_to secret user (Md5 salt) = Some (answer secret user salt)
 answer_to secret user (Unknown kind) = None
 
-abbrev pub answer_heard : Secret → Text → Heard → Option Text
+abbrev pub answer_heard : Secret → Text → StartProgress → Option Text
 answer_heard secret user (heard.Asked question) = answer_to secret user question
 answer_heard secret user heard.Nothing = None
 answer_heard secret user heard.LetIn = None

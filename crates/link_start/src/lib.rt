@@ -3,8 +3,8 @@
 #![tactic(auto)]
 
 pub mod close;
-pub mod heard;
 mod messages;
 pub mod start;
+pub mod start_reply;
 
 pub use link_run::links;

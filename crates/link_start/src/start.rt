@@ -5,19 +5,21 @@ ghost use Rattle.frame_view.specs.declared.Side.TheVariants.{Server};
 ghost use Rattle.link_run.specs.declared.reply.TheConstants.{LONGEST_REPLY};
 ghost use Rattle.std.specs.Arc.{arc_value};
 ghost use Rattle.link_laws.specs.Standing.{Standing};
-ghost use Rattle.link_start.specs.Heard.{error_in, heard};
-ghost use Rattle.link_start.specs.declared.heard.Heard.TheVariants.{Asked};
+ghost use Rattle.link_start.specs.StartReply.{error_in, heard};
+ghost use Rattle.link_start.specs.declared.start_reply.StartProgress.TheVariants.{Asked};
 ghost use Rattle.link_start.specs.declared.start.Progress.TheVariants.{Ready};
 ghost use Rattle.user_file.specs.declared.secrets.Secret.{Secret};
 ghost use Rattle.link_start.specs.declared.start.StartCause.TheVariants as causes;
 ghost use Rattle.link_start.specs.Refusing.{refusal_of};
 ghost use Rattle.link_start.specs.Starts.{CanStart, HasTried, IsCause, IsDone, IsEndCause, IsLinkKey, IsOwnKey, IsSameStart, IsStarted, IsUnderWay, IsWelcomed, tried_before, tried_so_far};
 
-use crate::heard::{Heard, Question, Untaken, error_in, hear, key_told, take_reports};
 use crate::messages::{password_of, startup_message};
+use crate::start_reply::{
+    Question, ReportError, StartProgress, error_in, key_told, read_start_reply, take_reports,
+};
 use bytes::BytesMut;
 use link_run::gate::Gate;
-use link_run::links::{CleanLink, Lent};
+use link_run::links::{CleanLink, LinkParts};
 use link_run::{Moved, ServerEnd};
 use message_view::{Refusal, put_password_message};
 use param_track::Reported;
@@ -46,7 +48,7 @@ impl Model for StartError {
     ghost use Rattle.frame_view.specs.Frames.{frames};
     ghost use Rattle.frame_view.specs.declared.Side.TheVariants.{Server};
     ghost use Rattle.link_run.specs.declared.reply.TheConstants.{LONGEST_REPLY};
-    ghost use Rattle.link_start.specs.Heard.{error_in};
+    ghost use Rattle.link_start.specs.StartReply.{error_in};
 
     ghost Value = { List ℕ };
 
@@ -242,11 +244,11 @@ impl<E: ServerEnd> Start<E> {
     }
 
     /// How far the server's answer has come.
-    fn hear(&self) -> Heard
+    fn read_start_reply(&self) -> StartProgress
         ensures heard { result ≡ heard self.now.received }
         ensures bytes { AreBytes self.now.received }
     {
-        hear(self.reply.as_slice())
+        read_start_reply(self.reply.as_slice())
     }
 
     /// Puts the answer to the server's question behind what is sent, once.
@@ -294,12 +296,12 @@ impl<E: ServerEnd> Start<E> {
             return Ok(Progress::More);
         }
         self.receive()?;
-        match self.hear() {
-            Heard::Ready => return Ok(Progress::Ready),
-            Heard::Asked(question) => self.answer(question, secret)?,
-            Heard::Refused => return Err(StartCause::Refused(self.take_error(alloc))),
-            Heard::Other => return Err(StartCause::Unexpected),
-            Heard::Nothing | Heard::LetIn => {}
+        match self.read_start_reply() {
+            StartProgress::Ready => return Ok(Progress::Ready),
+            StartProgress::Asked(question) => self.answer(question, secret)?,
+            StartProgress::Refused => return Err(StartCause::Refused(self.take_error(alloc))),
+            StartProgress::Other => return Err(StartCause::Unexpected),
+            StartProgress::Nothing | StartProgress::LetIn => {}
         }
         Ok(Progress::More)
     }
@@ -343,7 +345,7 @@ impl<E: ServerEnd> Start<E> {
         };
         let mut reported = Reported::new(alloc);
         match take_reports(alloc, reply.as_slice(), &mut reported) {
-            Ok(()) => Ok(Lent {
+            Ok(()) => Ok(LinkParts {
                 end,
                 key,
                 number,
@@ -352,11 +354,11 @@ impl<E: ServerEnd> Start<E> {
                 reported,
             }
             .clean()),
-            Err(Untaken::Unexpected) => Err(StartLinkFault {
+            Err(ReportError::Unexpected) => Err(StartLinkFault {
                 end,
                 cause: StartCause::Unexpected,
             }),
-            Err(Untaken::Memory) => Err(StartLinkFault {
+            Err(ReportError::Memory) => Err(StartLinkFault {
                 end,
                 cause: StartCause::Memory,
             }),

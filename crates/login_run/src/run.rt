@@ -1,5 +1,5 @@
 //! The turns of a login over a client's end.
-ghost use Rattle.std.specs.Prelude.{◌≡◌, ◌<◌, ◌≤◌, [], drop, length, false, true};
+ghost use Rattle.std.specs.Prelude.{◌≡◌, ◌<◌, ◌≤◌, [], length, false, true};
 ghost use Rattle.std.specs.Arc.{arc_value};
 ghost use Rattle.server_end.specs.Moves.{ClientReads, IsWithin, moved};
 ghost use Rattle.login_core.specs.Dialogue.{AtFirst};
@@ -10,7 +10,7 @@ ghost use Rattle.login_run.specs.Runs.{IsRun, IsSameLogin, IsAllGiven, HasTurned
 use crate::said::Said;
 use login_core::laws::{new_tells, steps_say, steps_tell};
 use login_core::{Login, LoginStep};
-use server_end::{ClientEnd, Moved};
+use server_end::{ClientEnd, Moved, rest_of};
 use start_keys::StartKey;
 use std::alloc::Global;
 use std::marker::Model;
@@ -56,7 +56,7 @@ pub enum LoginTurn {
 /// A login over a client's end.
 ///
 /// Contracts see the end's facts, the login, what it comes to next, and how much of what was said the client was given. That this
-/// is of the login's definition (`IsRun`) is the type's invariant: [`LoginRun::is_of_its_login`] tells it.
+/// is of the login's definition (`IsRun`) is the type's invariant.
 pub struct LoginRun<C: ClientEnd> {
     client: C,
     login: Login,
@@ -111,14 +111,6 @@ fn keep_arrival(step: &LoginStep, key: &mut Option<Arc<StartKey>>) {
     if let LoginStep::Arrived(arrived) = step {
         *key = Arc::try_clone(arrived).ok();
     }
-}
-
-/// What is left of some bytes.
-fn rest_of(bytes: &[u8], from: usize) -> &[u8]
-    requires { from ≤ length bytes.now }
-    ensures { result.now ≡ drop from bytes.now }
-{
-    &bytes[from..]
 }
 
 /// Reads at most so many bytes of a client into the front of a slice.
@@ -241,13 +233,6 @@ impl<C: ClientEnd> LoginRun<C> {
         let (_, step) = self.login.on_bytes(alloc, b"");
         (self.phase, self.said) = after(step);
         self.sent = 0;
-    }
-
-    /// What was taken from the client and given to it is of the login's definition.
-    pub fn is_of_its_login(&self)
-        ensures { IsRun self.now }
-    {
-        let _ = &self.sent;
     }
 
     /// The login.

@@ -327,11 +327,11 @@ refused_first dies limit bytes out pieces e = inr (record { at = record { given 
 unstarted_by : (dies : Option ℕ) (began now : Standing) (secret : Secret) (key : StartKeyOf) (word : KeyWord) (limit : ℕ) (bytes old new : List ℕ) (c : StartCause) → began.follows ≡ true → IsLetIn began key secret → IsCause began now secret key c → old ≡ [] → TellsCause c old new
     → IsAnswer dies limit bytes new (own_pieces began.server.catalogue key word bytes)
 unstarted_by dies began now secret key word limit bytes old new (cause.Refused error) f l x n t = refused_start dies began secret key word limit bytes new error l (x.1 f) (t ∙ ap (λ (o : List ℕ). o ++ error) n)
-unstarted_by dies began now secret key word limit bytes old new cause.Lost f l x n t = refused_first dies limit bytes new _ (t ∙ ap (λ (o : List ℕ). o ++ refusal ServerNotReached) n)
-unstarted_by dies began now secret key word limit bytes old new (cause.Unanswerable question) f l x n t = refused_first dies limit bytes new _ (t ∙ ap (λ (o : List ℕ). o ++ refusal ServerNotReached) n)
-unstarted_by dies began now secret key word limit bytes old new cause.Unexpected f l x n t = refused_first dies limit bytes new _ (t ∙ ap (λ (o : List ℕ). o ++ refusal ServerNotReached) n)
-unstarted_by dies began now secret key word limit bytes old new cause.Turns f l x n t = refused_first dies limit bytes new _ (t ∙ ap (λ (o : List ℕ). o ++ refusal ServerNotReached) n)
-unstarted_by dies began now secret key word limit bytes old new cause.Memory f l x n t = absurd t
+unstarted_by dies began now secret key word limit bytes old new cause.Lost f l x n t = refused_first dies limit bytes new _ (t.1 ∙ ap (λ (o : List ℕ). o ++ refusal ServerNotReached) n)
+unstarted_by dies began now secret key word limit bytes old new (cause.Unanswerable question) f l x n t = refused_first dies limit bytes new _ (t.1 ∙ ap (λ (o : List ℕ). o ++ refusal ServerNotReached) n)
+unstarted_by dies began now secret key word limit bytes old new cause.Unexpected f l x n t = refused_first dies limit bytes new _ (t.1 ∙ ap (λ (o : List ℕ). o ++ refusal ServerNotReached) n)
+unstarted_by dies began now secret key word limit bytes old new cause.Turns f l x n t = refused_first dies limit bytes new _ (t.1 ∙ ap (λ (o : List ℕ). o ++ refusal ServerNotReached) n)
+unstarted_by dies began now secret key word limit bytes old new cause.Memory f l x n t = absurd (t.0 refl)
 
 -- what a client is told whose link wasn't started
 pub unstarted : (dies : Option ℕ) (start now : Standing) (first_own : OwnOf) (secret : Secret) (key : StartKeyOf) (word : KeyWord) (limit : ℕ) (bytes old new : List ℕ) (c : StartCause) → first_own ≡ own_server dies start → start.follows ≡ true → IsLetIn start key secret

@@ -1,10 +1,12 @@
 -- What the code of a client's service holds, in the definitions' words.
-use Rattle.std.specs.Prelude.{◌≡◌, ◌⊎◌, ℕ, Bool, true, false, List, [], ◌++◌}
-use Rattle.message_view.specs.declared.refusal.Refusal.TheVariants.{ServerNotReached}
+use Rattle.std.specs.Prelude.{◌≡◌, ◌≢◌, ◌⊎◌, ℕ, Bool, true, false, List, [], ◌++◌}
+use Rattle.message_view.specs.declared.refusal.Refusal.TheVariants.{OutOfMemory}
 use Rattle.message_view.specs.Refusals.{refusal}
 use Rattle.link_laws.specs.Futures.{future}
 use Rattle.link_start.specs.declared.start.StartCause.{StartCause}
-use Rattle.link_start.specs.declared.start.StartCause.TheVariants as cause
+use Rattle.link_start.specs.declared.start.StartRefusal.{StartRefusal}
+use Rattle.link_start.specs.declared.start.StartRefusal.TheVariants as told
+use Rattle.link_start.specs.Refusing.{refusal_of}
 use Rattle.relay_core.specs.Leases.{RelayView, Place, IsLease}
 use Rattle.relay_core.specs.Answers.{AtBorder, EndsByClient, RefusedBy}
 use Rattle.relay_core.specs.Steps.{IsStuck}
@@ -13,14 +15,13 @@ use Rattle.memory_lease.specs.Own.{IsMarked, OwnOf}
 use Rattle.memory_lease.specs.declared.alone.Ending.{Ending}
 use Rattle.memory_lease.specs.declared.alone.Ending.TheVariants.{Done, Refused, Cut}
 
--- the bytes that tell a client why its link wasn't started; out of memory tells nothing
+-- the bytes that tell a client why its link wasn't started; of refused memory it is told nothing
+abbrev pub TellsRefusal : StartRefusal → List ℕ → List ℕ → Type 0
+TellsRefusal (told.Error error) before after = after ≡ before ++ error
+TellsRefusal (told.Refusal r) before after = (r ≢ OutOfMemory) × (after ≡ before ++ refusal r)
+
 abbrev pub TellsCause : StartCause → List ℕ → List ℕ → Type 0
-TellsCause (cause.Refused error) before after = after ≡ before ++ error
-TellsCause cause.Lost before after = after ≡ before ++ refusal ServerNotReached
-TellsCause (cause.Unanswerable question) before after = after ≡ before ++ refusal ServerNotReached
-TellsCause cause.Unexpected before after = after ≡ before ++ refusal ServerNotReached
-TellsCause cause.Turns before after = after ≡ before ++ refusal ServerNotReached
-TellsCause cause.Memory before after = ⊥
+TellsCause c before after = TellsRefusal (refusal_of c) before after
 
 -- How a lease ended: by its client, and nothing more of the client's may go on; or at a border, by a refusal.
 abbrev pub IsEnding : RelayView → RelayView → Ending → Type 0

@@ -7,8 +7,8 @@ use Rattle.link_laws.specs.Stages.{packets_bytes}
 use Rattle.link_laws.specs.Standing.{Standing}
 use Rattle.link_laws.specs.Dialogues.{start_packets}
 use Rattle.memory_ends.specs.Servers.{LAST_COUNT}
-use Rattle.memory_lease.specs.declared.alone.Unserved.{Unserved}
-use Rattle.memory_lease.specs.declared.alone.Unserved.TheVariants.{Memory, Unended}
+use Rattle.memory_lease.specs.declared.alone.ServeError.{ServeError}
+use Rattle.memory_lease.specs.declared.alone.ServeError.TheVariants.{Memory, Unended}
 
 -- the server lives; or it was read in vain as often as is counted
 abbrev pub StillWaits : Standing → Type 0
@@ -23,6 +23,6 @@ pub record IsUnended (began : Standing) (key : StartKeyOf) (bytes : List ℕ) (n
   pub own : Begins over bytes
 
 -- That memory was refused no contract can say.
-abbrev pub IsUnserved : Standing → StartKeyOf → List ℕ → Unserved → Type 0
+abbrev pub IsUnserved : Standing → StartKeyOf → List ℕ → ServeError → Type 0
 IsUnserved began key bytes Memory = Unit {0}
 IsUnserved began key bytes (Unended server) = IsUnended began key bytes server.standing

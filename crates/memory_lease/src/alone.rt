@@ -10,7 +10,7 @@ ghost use Rattle.relay_core.specs.declared.Phase.TheVariants.{Running};
 ghost use Rattle.memory_lease.specs.Answers.{IsAnswer, own_pieces};
 ghost use Rattle.memory_lease.specs.Held.{IsEnding, TellsCause, TellsEnding};
 ghost use Rattle.memory_lease.specs.Unended.{IsUnserved, StillWaits};
-ghost use Rattle.memory_lease.specs.declared.alone.Unserved.TheVariants as unserved;
+ghost use Rattle.memory_lease.specs.declared.alone.ServeError.TheVariants as serve_error;
 
 use crate::own_server::OwnServer;
 use crate::patient_client::PatientClient;
@@ -18,7 +18,7 @@ use bytes::BytesMut;
 use frame_view::laws::are_bytes;
 use link_start::close::close_link;
 use link_start::links::CleanLink;
-use link_start::start::{StartCause, StartLinkFault, start_link};
+use link_start::start::{StartLinkFault, StartRefusal, start_link};
 use memory_ends::memory_server::MemoryServer;
 use message_view::{KeyWord, Refusal, refusal_bytes};
 use relay_core::Next;
@@ -38,7 +38,7 @@ const MOST_WAITS: u32 = 4;
 
 /// Why a client isn't served to its end.
 #[derive(Drop)]
-pub enum Unserved {
+pub enum ServeError {
     /// An allocation failed.
     Memory,
     /// The lease came to no end while its server lives: it ended with something on its way, nothing moved any more, or its turns were
@@ -46,28 +46,26 @@ pub enum Unserved {
     Unended(MemoryServer),
 }
 
-impl From<AllocError> for Unserved {
-    ghost from_gives = { λ _ fault. fault ≡ unserved.Memory };
+impl From<AllocError> for ServeError {
+    ghost from_gives = { λ _ fault. fault ≡ serve_error.Memory };
 
-    fn from(_error: AllocError) -> Unserved {
-        Unserved::Memory
+    fn from(_error: AllocError) -> ServeError {
+        ServeError::Memory
     }
 }
 
 /// What a client is told whose link wasn't started.
-fn put_unstarted(fault: &StartLinkFault<OwnServer>, out: &mut BytesMut) -> Result<(), AllocError>
-    ensures { OnOk result (TellsCause fault.now.cause out.old.items out.new.items) }
+fn put_unstarted(fault: StartLinkFault<OwnServer>, out: &mut BytesMut) -> Result<(), AllocError>
+    ensures { OnOk result (TellsCause fault.cause out.old.items out.new.items) }
 {
-    if fault.end.faults() > 0 {
+    let StartLinkFault { end, cause } = fault;
+    if end.faults() > 0 {
         return Err(AllocError);
     }
-    match &fault.cause {
-        StartCause::Memory => Err(AllocError),
-        StartCause::Refused(error) => out.extend_from_slice(error.as_bytes()),
-        StartCause::Lost
-        | StartCause::Unanswerable(_)
-        | StartCause::Unexpected
-        | StartCause::Turns => out.extend_from_slice(refusal_bytes(Refusal::ServerNotReached)),
+    match cause.into_refusal() {
+        StartRefusal::Error(error) => out.extend_from_slice(error.as_bytes()),
+        StartRefusal::Refusal(Refusal::OutOfMemory) => Err(AllocError),
+        StartRefusal::Refusal(refusal) => out.extend_from_slice(refusal_bytes(refusal)),
     }
 }
 
@@ -183,7 +181,7 @@ pub fn serve_alone(
     limit: u32,
     cut: usize,
     bytes: &[u8],
-) -> Result<BytesMut, Unserved>
+) -> Result<BytesMut, ServeError>
     requires startable { IsStartable server.standing }
     requires follows { server.standing.follows ≡ true }
     requires spared { server.standing.server.strikable ≡ false }
@@ -201,7 +199,7 @@ pub fn serve_alone(
         Ok(link) => link,
         Err(fault) => {
             let mut out = BytesMut::new(alloc);
-            put_unstarted(&fault, &mut out)?;
+            put_unstarted(fault, &mut out)?;
             return Ok(out);
         }
     };
@@ -215,5 +213,5 @@ pub fn serve_alone(
     if put_ending(ending, clear, &server, &mut out)? {
         return Ok(out);
     }
-    Err(Unserved::Unended(server.into_server()))
+    Err(ServeError::Unended(server.into_server()))
 }

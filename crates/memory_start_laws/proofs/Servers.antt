@@ -8,9 +8,9 @@ use Rattle.link_laws.specs.Stages.{Server}
 use Rattle.link_laws.specs.Dialogues.{AsksInFrame, IsNew, auth_of}
 use Rattle.memory_ends.specs.declared.memory_server.ServerAuth.TheVariants.{Trust, Plain, Md5}
 use Rattle.memory_ends.specs.Servers.{auth_of as memory_auth, new_server}
-use Rattle.link_start.specs.declared.heard.Heard.TheVariants.{Asked}
-use Rattle.link_start.specs.declared.heard.Question.TheVariants as question
-use Rattle.link_start.specs.Heard.{asked}
+use Rattle.link_start.specs.declared.start_reply.StartProgress.TheVariants.{Asked}
+use Rattle.link_start.specs.declared.start_reply.Question.TheVariants as question
+use Rattle.link_start.specs.StartReply.{asked}
 use Rattle.link_start.specs.Starts.{AsksQuestion, CanStart, IsQuestion}
 use Rattle.memory_start_laws.specs.Starts.{MemoryServersCanStart}
 

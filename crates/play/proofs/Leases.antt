@@ -32,13 +32,13 @@ use Rattle.relay_laws.proofs.Exact.{lease_allowed, spared_service}
 use Rattle.relay_laws.specs.Answers.{AtBorder}
 use Rattle.act_client.specs.Clients.{ActClientOf, facts_of, given_more}
 use Rattle.memory_ends.specs.Clients.{given_with}
-use Rattle.memory_house.specs.Houses.{HouseOf, IsAtHome, IsServerOf, IsStartError}
+use Rattle.memory_pool.specs.MemoryPools.{MemoryPoolOf, IsAtHome, IsServerOf, IsStartError}
 use Rattle.play.specs.Players.{IsAtPiece, IsDone, IsServed, StopsAt, Waits, rows_of}
 use Rattle.play.proofs.Pieces.{joined_both, joined_one, own_is, service_piece}
 
 -- ---- a lease begins
 
-pub lease_begins : (h : HouseOf) (word : KeyWord) (c : ActClientOf) (l : LinkView) (limit : ℕ) (v : RelayView) → Waits h word c l.key → IsAtHome h.catalogue l → IsLease (place (facts_of c) l word limit) v → IsServed h word c.input v
+pub lease_begins : (h : MemoryPoolOf) (word : KeyWord) (c : ActClientOf) (l : LinkView) (limit : ℕ) (v : RelayView) → Waits h word c l.key → IsAtHome h.catalogue l → IsLease (place (facts_of c) l word limit) v → IsServed h word c.input v
 lease_begins h word c l limit v x home lease = record {
   at = place (facts_of c) l word limit;
   lease = lease;
@@ -51,7 +51,7 @@ lease_begins h word c l limit v x home lease = record {
 }
 
 -- and goes on
-pub lease_goes : (h : HouseOf) (word : KeyWord) (bytes : List ℕ) (v w : RelayView) → Keeps v w → IsServed h word bytes v → IsServed h word bytes w
+pub lease_goes : (h : MemoryPoolOf) (word : KeyWord) (bytes : List ℕ) (v w : RelayView) → Keeps v w → IsServed h word bytes v → IsServed h word bytes w
 lease_goes h word bytes v w k x = record {
   at = x.at;
   lease = k x.at x.lease;
@@ -63,12 +63,12 @@ lease_goes h word bytes v w k x = record {
   given = x.given;
 }
 
-pub lease_stops : (h : HouseOf) (word : KeyWord) (bytes : List ℕ) (v w : RelayView) → Keeps v w → ((p : Place) → IsLease p v → AtBorder p w) → IsServed h word bytes v → StopsAt h word bytes w
+pub lease_stops : (h : MemoryPoolOf) (word : KeyWord) (bytes : List ℕ) (v w : RelayView) → Keeps v w → ((p : Place) → IsLease p v → AtBorder p w) → IsServed h word bytes v → StopsAt h word bytes w
 unfolding lease_goes
 lease_stops h word bytes v w k b x = record { served = lease_goes h word bytes v w k x; border = b x.at x.lease }
 
 -- its link is at home
-pub lease_home : (h : HouseOf) (word : KeyWord) (bytes : List ℕ) (v : RelayView) → IsServed h word bytes v → IsServerOf h.catalogue v.link
+pub lease_home : (h : MemoryPoolOf) (word : KeyWord) (bytes : List ℕ) (v : RelayView) → IsServed h word bytes v → IsServerOf h.catalogue v.link
 lease_home h word bytes v x = record {
   follows = x.lease.moves.follows ∙ x.server.follows;
   catalogue = ap (λ s. s.catalogue) x.lease.moves.server ∙ x.server.catalogue;
@@ -78,7 +78,7 @@ lease_home h word bytes v x = record {
 -- ---- it ends
 
 -- whose client it was, what it was given, and what it sent behind its login
-pub record Ends (h : HouseOf) (word : KeyWord) (bytes : List ℕ) (c : ActClientOf) (v : RelayView) (x : IsServed h word bytes v) : Type 0 where
+pub record Ends (h : MemoryPoolOf) (word : KeyWord) (bytes : List ℕ) (c : ActClientOf) (v : RelayView) (x : IsServed h word bytes v) : Type 0 where
   pub input : c.input ≡ bytes
   pub since : List ℕ
   pub given : c.given ≡ joined_pieces x.pieces ++ since
@@ -97,7 +97,7 @@ front_of f t p d = append_assoc f t (p ++ d) ∙ (ap (λ (l : List ℕ). f ++ l)
 service_begins : (cat : CatalogueOf) (key : StartKeyOf) (pid secret : ℕ) (a bytes : List ℕ) → Begins a bytes → Begins (service cat key pid secret [] a) (service cat key pid secret [] bytes)
 service_begins cat key pid secret a bytes x = subst (λ (l : List ℕ). Begins (service cat key pid secret [] a) (service cat key pid secret [] l)) x.both (service_on cat key pid secret [] a x.more)
 
-pub lease_ends : (h : HouseOf) (word : KeyWord) (bytes : List ℕ) (c : ActClientOf) (v : RelayView) (x : IsServed h word bytes v) → facts_of c ≡ v.client → Ends h word bytes c v x
+pub lease_ends : (h : MemoryPoolOf) (word : KeyWord) (bytes : List ℕ) (c : ActClientOf) (v : RelayView) (x : IsServed h word bytes v) → facts_of c ≡ v.client → Ends h word bytes c v x
 lease_ends h word bytes c v x e =
     let tells : v.client.tells ≡ true = x.lease.told ∙ x.told in
     let follows : v.link.follows ≡ true = x.lease.moves.follows ∙ x.server.follows in
@@ -124,7 +124,7 @@ lease_ends h word bytes c v x e =
     }
 
 -- what it was given begins what its own server answers
-begun : (h : HouseOf) (word : KeyWord) (c : ActClientOf) (pieces : List (List ℕ)) (key : StartKeyOf) (left since held : List ℕ) → login_among (rows_of h) word c.input ≡ record { pieces = pieces; ended = Passed (ToLink key) left } → c.given ≡ joined_pieces pieces ++ since
+begun : (h : MemoryPoolOf) (word : KeyWord) (c : ActClientOf) (pieces : List (List ℕ)) (key : StartKeyOf) (left since held : List ℕ) → login_among (rows_of h) word c.input ≡ record { pieces = pieces; ended = Passed (ToLink key) left } → c.given ≡ joined_pieces pieces ++ since
     → Begins (since ++ held) (service h.catalogue key word.pid word.secret [] left) → IsDone h word c
 begun h word c pieces key left since held e g b = inl (record {
   more = held ++ b.more;
@@ -134,12 +134,12 @@ begun h word c pieces key left since held e g b = inl (record {
       ∙ (sym (joined_both pieces (service_pieces h.catalogue key word [] left)) ∙ ap joined_pieces (sym (own_is h word c.input _ e)))));
 })
 
-pub lease_done : (h : HouseOf) (word : KeyWord) (bytes : List ℕ) (c : ActClientOf) (v : RelayView) → IsServed h word bytes v → facts_of c ≡ v.client → IsDone h word c
+pub lease_done : (h : MemoryPoolOf) (word : KeyWord) (bytes : List ℕ) (c : ActClientOf) (v : RelayView) → IsServed h word bytes v → facts_of c ≡ v.client → IsDone h word c
 lease_done h word bytes c v x e =
     let k : Ends h word bytes c v x = lease_ends h word bytes c v x e in
     begun h word c x.pieces x.at.key k.left k.since _ k.passed k.given k.there
 
-pub lease_input : (h : HouseOf) (word : KeyWord) (bytes : List ℕ) (c : ActClientOf) (v : RelayView) → IsServed h word bytes v → facts_of c ≡ v.client → c.input ≡ bytes
+pub lease_input : (h : MemoryPoolOf) (word : KeyWord) (bytes : List ℕ) (c : ActClientOf) (v : RelayView) → IsServed h word bytes v → facts_of c ≡ v.client → c.input ≡ bytes
 lease_input h word bytes c v x e = (lease_ends h word bytes c v x e).input
 
 -- ---- it is refused at a border
@@ -160,7 +160,7 @@ first_replies cat key s ws arrived since held left more r ab came i b =
     (same_back (flat_map spelling ws) _ (flat_map spelling arrived ++ (held ++ more))
     (sym b ∙ (append_assoc since held more ∙ (ap (λ (l : List ℕ). l ++ (held ++ more)) i ∙ append_assoc (flat_map spelling ws) (flat_map spelling arrived) (held ++ more)))))
 
-pub lease_piece : (h : HouseOf) (word : KeyWord) (bytes : List ℕ) (c : ActClientOf) (v : RelayView) → (x : StopsAt h word bytes v) → facts_of c ≡ v.client → AreBytes bytes → IsAtPiece h word c
+pub lease_piece : (h : MemoryPoolOf) (word : KeyWord) (bytes : List ℕ) (c : ActClientOf) (v : RelayView) → (x : StopsAt h word bytes v) → facts_of c ≡ v.client → AreBytes bytes → IsAtPiece h word c
 lease_piece h word bytes c v x e ab =
     let y : IsServed h word bytes v = x.served in
     let k : Ends h word bytes c v y = lease_ends h word bytes c v y e in
@@ -187,7 +187,7 @@ error_piece : (cat : CatalogueOf) (r : Result State Cause) (f : FrameOf) (word :
 error_piece cat (Ok s) f word fs e = absurd cc
 error_piece cat (Err c) f word fs e = cc
 
-pub start_fails : (h : HouseOf) (word : KeyWord) (c : ActClientOf) (key : StartKeyOf) (error : List ℕ) → Waits h word c key → IsStartError h.catalogue key error → IsAtPiece h word (given_more c error)
+pub start_fails : (h : MemoryPoolOf) (word : KeyWord) (c : ActClientOf) (key : StartKeyOf) (error : List ℕ) → Waits h word c key → IsStartError h.catalogue key error → IsAtPiece h word (given_more c error)
 start_fails h word c key error x r =
     let rest : List ℕ = drop c.at c.input in
     service_piece h word (given_more c error) key x.pieces (error ∷ []) [] rest (ap (login_among (rows_of h) word) (sym (take-append-drop c.at c.input)) ∙ x.passed rest)

@@ -1,7 +1,7 @@
 -- The players of a table, one by one.
 use Rattle.std.proofs.lemmas.List.{take_more}
 use Rattle.message_view.specs.declared.KeyWord.{KeyWord}
-use Rattle.memory_house.specs.Houses.{HouseOf}
+use Rattle.memory_pool.specs.MemoryPools.{MemoryPoolOf}
 use Rattle.play.specs.declared.stage.Stage.{Stage}
 use Rattle.play.specs.Players.{IsAt}
 use Rattle.std.proofs.Common.{◌≡◌, ℕ, zero, suc, ◌<◌, List, [], ◌∷◌, ◌++◌, refl, sym, ap, ◌∙◌, subst, length, get_or, arith, take, ◌+◌}
@@ -38,9 +38,9 @@ module _ {A B : Type 0} (R : A → B → Type 0) where
   zip-length (x ∷ xs) (y ∷ ys) h = ap suc (zip-length xs ys h.1)
 
 -- the same stage, under other names
-pub same_at : (h k : HouseOf) (word other : KeyWord) (input bytes : List ℕ) (s t : Stage) → k ≡ h → other ≡ word → input ≡ bytes → t ≡ s → IsAt k other input s → IsAt h word bytes t
+pub same_at : (h k : MemoryPoolOf) (word other : KeyWord) (input bytes : List ℕ) (s t : Stage) → k ≡ h → other ≡ word → input ≡ bytes → t ≡ s → IsAt k other input s → IsAt h word bytes t
 same_at h k word other input bytes s t e w i n x =
-    subst (λ (a : HouseOf). IsAt a word bytes t) e
+    subst (λ (a : MemoryPoolOf). IsAt a word bytes t) e
     (subst (λ (a : KeyWord). IsAt k a bytes t) w
     (subst (λ (a : List ℕ). IsAt k other a t) i
     (subst (λ (a : Stage). IsAt k other input a) (sym n) x)))

@@ -4,13 +4,13 @@ ghost use Rattle.std.specs.Arc.{arc_value};
 ghost use Rattle.ini_config.specs.Bounds.{AreWithinBounds};
 ghost use Rattle.act_client.specs.Acts.{all_send};
 ghost use Rattle.play.specs.Players.{AreAllowed};
-ghost use Rattle.memory_house.specs.Houses.{house_of};
+ghost use Rattle.memory_pool.specs.MemoryPools.{memory_pool_of};
 
 use crate::played::Played;
 use crate::table::Table;
 use act_client::{Act, scripts};
 use ini_config::Settings;
-use memory_house::House;
+use memory_pool::MemoryPool;
 use session_catalogue::Catalogue;
 use std::alloc::{AllocError, Global};
 use std::sync::Arc;
@@ -35,11 +35,11 @@ pub fn play(
 ) -> Result<Played, AllocError>
     requires cut { 0 < cut }
     requires bounds { AreWithinBounds (arc_value settings) }
-    ensures { IfOk result (λ p. AreAllowed (house_of (arc_value settings) (arc_value users) (arc_value catalogue)) (all_send 1 acts.now) p.clients.items) }
+    ensures { IfOk result (λ p. AreAllowed (memory_pool_of (arc_value settings) (arc_value users) (arc_value catalogue)) (all_send 1 acts.now) p.clients.items) }
 {
     let scripts = scripts(alloc, acts)?;
-    let house = House::new(alloc, settings, users, catalogue, cut)?;
-    let mut table = Table::new(alloc, house, scripts.as_slice())?;
+    let pool = MemoryPool::new(alloc, settings, users, catalogue, cut)?;
+    let mut table = Table::new(alloc, pool, scripts.as_slice())?;
     for act in acts {
         table.perform(act);
         table.serve()?;

@@ -7,7 +7,7 @@ use crate::stage::{Stage, leave, refuse};
 use act_client::{ActClient, Script};
 use frame_view::laws::are_bytes;
 use memory_ends::memory_server::MemoryServer;
-use memory_house::House;
+use memory_pool::MemoryPool;
 use message_view::KeyWord;
 use relay_core::relay::{Relay, Returned};
 use relay_laws::Next;
@@ -18,15 +18,15 @@ use std::alloc::AllocError;
 /// A turn of a client that has a link: its lease is pumped once. At its end the client is refused, if it is, and leaves.
 #[tactic(auto, using(crate::proofs::Leases::lease_goes, crate::proofs::Leases::lease_stops, crate::proofs::Leases::lease_piece, crate::proofs::Leases::lease_done, crate::proofs::Leases::lease_input))]
 pub(crate) fn serve<'a>(
-    house: &mut House,
+    pool: &mut MemoryPool,
     word: KeyWord,
     script: &Script,
     mut relay: Relay<ActClient<'a>, MemoryServer>,
     number: u64,
 ) -> Result<(Stage<'a>, bool), AllocError>
-    requires { IsServed house.old word script.now.bytes relay }
-    ensures same { house.new ≡ house.old }
-    ensures at { IfOk result (λ r. IsAt house.old word script.now.bytes r.0) }
+    requires { IsServed pool.old word script.now.bytes relay }
+    ensures same { pool.new ≡ pool.old }
+    ensures at { IfOk result (λ r. IsAt pool.old word script.now.bytes r.0) }
 {
     are_bytes(script.input());
     let next = relay.pump(Ready {
@@ -37,12 +37,12 @@ pub(crate) fn serve<'a>(
         Next::Again => return Ok((Stage::Served { relay, number }, true)),
         Next::Wait => return Ok((Stage::Served { relay, number }, false)),
         Next::Refuse(refusal) => {
-            let client = part(house, word, script, relay)?;
-            refuse(house, word, client, Some(number), refusal)?
+            let client = part(pool, word, script, relay)?;
+            refuse(pool, word, client, Some(number), refusal)?
         }
         Next::ClientDone | Next::Closed => {
-            let client = part(house, word, script, relay)?;
-            leave(house, word, client, Some(number))
+            let client = part(pool, word, script, relay)?;
+            leave(pool, word, client, Some(number))
         }
     };
     Ok((stage, true))
@@ -51,21 +51,21 @@ pub(crate) fn serve<'a>(
 /// The lease ends: its link is given back, where it can be used again, and the client's end is left.
 #[tactic(auto, using(crate::proofs::Leases::lease_home))]
 fn part<'a>(
-    house: &mut House,
+    pool: &mut MemoryPool,
     word: KeyWord,
     script: &Script,
     relay: Relay<ActClient<'a>, MemoryServer>,
 ) -> Result<ActClient<'a>, AllocError>
-    requires { IsServed house.old word script.now.bytes relay }
-    ensures same { house.new ≡ house.old }
+    requires { IsServed pool.old word script.now.bytes relay }
+    ensures same { pool.new ≡ pool.old }
     ensures client { IfOk result (λ c. facts_of c ≡ relay.entry.client) }
 {
     let (client, link) = relay.close();
     match link {
-        Returned::Unused(link) => house.give_back(link),
-        Returned::Used(link) => house.reset(link),
+        Returned::Unused(link) => pool.give_back(link),
+        Returned::Used(link) => pool.reset(link),
         Returned::Gone(lent, _) => {
-            house.lose(lent.number);
+            pool.lose(lent.number);
             if lent.end.faults() > 0 {
                 return Err(AllocError);
             }
@@ -80,14 +80,14 @@ fn part<'a>(
 /// The client's end, once nothing more comes.
 #[tactic(auto, using(crate::proofs::Logins::logs_in_piece, crate::proofs::Logins::waits_piece, crate::proofs::Pieces::piece_done, crate::proofs::Leases::lease_done, crate::proofs::Leases::lease_input))]
 pub(crate) fn last<'a>(
-    house: &mut House,
+    pool: &mut MemoryPool,
     word: KeyWord,
     script: &Script,
     stage: Stage<'a>,
 ) -> Result<ActClient<'a>, AllocError>
-    requires { IsAt house.old word script.now.bytes stage }
-    ensures same { house.new ≡ house.old }
-    ensures done { IfOk result (λ c. (c.input ≡ script.now.bytes) × IsDone house.old word c) }
+    requires { IsAt pool.old word script.now.bytes stage }
+    ensures same { pool.new ≡ pool.old }
+    ensures done { IfOk result (λ c. (c.input ≡ script.now.bytes) × IsDone pool.old word c) }
 {
     are_bytes(script.input());
     match stage {
@@ -101,7 +101,7 @@ pub(crate) fn last<'a>(
             key: _,
             number: _,
         } => Ok(client),
-        Stage::Served { relay, number: _ } => part(house, word, script, relay),
+        Stage::Served { relay, number: _ } => part(pool, word, script, relay),
         Stage::Closed(client) => Ok(client),
         Stage::Absent => Err(AllocError),
     }

@@ -8,8 +8,8 @@ use crate::stage::{Stage, leave, refuse};
 use act_client::ActClient;
 use login_core::laws::{login_is_of_its_row, steps_say, steps_tell};
 use login_core::{Login, LoginStep};
-use memory_house::House;
-use memory_house::answers::Answer;
+use memory_pool::MemoryPool;
+use memory_pool::answers::Answer;
 use message_view::{KeyWord, Refusal};
 use server_end::Moved;
 use start_keys::StartKey;
@@ -26,23 +26,23 @@ static LET_IN: [u8; 9] = *b"R\0\0\0\x08\0\0\0\0";
 #[tactic(auto, using(crate::proofs::Logins::logs_in_piece, crate::proofs::Pieces::piece_done, crate::proofs::Logins::takes))]
 pub(crate) fn log_in<'a>(
     alloc: Global,
-    house: &mut House,
+    pool: &mut MemoryPool,
     word: KeyWord,
     mut client: ActClient<'a>,
     mut login: Login,
     number: Option<u64>,
 ) -> Result<(Stage<'a>, bool), AllocError>
-    requires logs_in { LogsIn house.old word client login }
+    requires logs_in { LogsIn pool.old word client login }
     requires missing { 0 < missing login.awaiting login.held }
-    ensures same { house.new ≡ house.old }
-    ensures at { IfOk result (λ r. IsAt house.old word client.entry.input r.0) }
+    ensures same { pool.new ≡ pool.old }
+    ensures at { IfOk result (λ r. IsAt pool.old word client.entry.input r.0) }
 {
     let mut chunk = [0u8; CHUNK];
     let wanted = login.wants().min(CHUNK);
     match client.read(&mut chunk[..wanted]) {
         Moved::Count(count) => {
             let (_, step) = login.on_bytes(alloc, &chunk[..count]);
-            let stage = on_step(alloc, house, word, client, login, number, step)?;
+            let stage = on_step(alloc, pool, word, client, login, number, step)?;
             Ok((stage, true))
         }
         Moved::NotNow => Ok((
@@ -53,7 +53,7 @@ pub(crate) fn log_in<'a>(
             },
             false,
         )),
-        Moved::Ended | Moved::Fault => Ok((leave(house, word, client, number), true)),
+        Moved::Ended | Moved::Fault => Ok((leave(pool, word, client, number), true)),
     }
 }
 
@@ -61,56 +61,56 @@ pub(crate) fn log_in<'a>(
 #[tactic(auto, using(crate::proofs::Logins::steps_piece, crate::proofs::Pieces::piece_done, crate::proofs::Logins::goes_arrived, crate::proofs::Logins::takes))]
 fn on_step<'a>(
     alloc: Global,
-    house: &mut House,
+    pool: &mut MemoryPool,
     word: KeyWord,
     client: ActClient<'a>,
     mut login: Login,
     number: Option<u64>,
     step: LoginStep,
 ) -> Result<Stage<'a>, AllocError>
-    requires { Steps house.old word client step login }
-    ensures same { house.new ≡ house.old }
-    ensures at { IfOk result (IsAt house.old word client.entry.input) }
+    requires { Steps pool.old word client step login }
+    ensures same { pool.new ≡ pool.old }
+    ensures at { IfOk result (IsAt pool.old word client.entry.input) }
 {
     match step {
-        LoginStep::Arrived(_) => match house.arrive() {
+        LoginStep::Arrived(_) => match pool.arrive() {
             Answer::Number(number) => {
                 let (_, step) = login.on_bytes(alloc, b"");
-                follow(house, word, client, login, Some(number), step)
+                follow(pool, word, client, login, Some(number), step)
             }
-            Answer::Refused(refusal) => refuse(house, word, client, None, refusal),
-            Answer::Strange => Ok(leave(house, word, client, None)),
+            Answer::Refused(refusal) => refuse(pool, word, client, None, refusal),
+            Answer::Strange => Ok(leave(pool, word, client, None)),
         },
-        step => follow(house, word, client, login, number, step),
+        step => follow(pool, word, client, login, number, step),
     }
 }
 
 /// Any other step of the login.
 #[tactic(auto, using(crate::proofs::Logins::steps_piece, crate::proofs::Pieces::piece_done, crate::proofs::Logins::goes_more, crate::proofs::Logins::goes_asked, crate::proofs::Logins::passes, crate::proofs::Logins::fails))]
 fn follow<'a>(
-    house: &mut House,
+    pool: &mut MemoryPool,
     word: KeyWord,
     mut client: ActClient<'a>,
     login: Login,
     number: Option<u64>,
     step: LoginStep,
 ) -> Result<Stage<'a>, AllocError>
-    requires { Steps house.old word client step login }
-    ensures same { house.new ≡ house.old }
-    ensures at { IfOk result (IsAt house.old word client.entry.input) }
+    requires { Steps pool.old word client step login }
+    ensures same { pool.new ≡ pool.old }
+    ensures at { IfOk result (IsAt pool.old word client.entry.input) }
 {
     match step {
         LoginStep::More => {}
         LoginStep::Ask(question) => client.give(question.as_bytes())?,
-        LoginStep::Passed(key) => return ask(house, word, client, key, number),
+        LoginStep::Passed(key) => return ask(pool, word, client, key, number),
         LoginStep::Refused(Refusal::OutOfMemory) => return Err(AllocError),
-        LoginStep::Refused(refusal) => return refuse(house, word, client, number, refusal),
+        LoginStep::Refused(refusal) => return refuse(pool, word, client, number, refusal),
         LoginStep::Failed(failure) => {
             client.give(failure.as_bytes())?;
-            return Ok(leave(house, word, client, number));
+            return Ok(leave(pool, word, client, number));
         }
         LoginStep::Arrived(_) | LoginStep::Console | LoginStep::Left => {
-            return Ok(leave(house, word, client, number));
+            return Ok(leave(pool, word, client, number));
         }
     }
     Ok(Stage::LoggingIn {
@@ -123,27 +123,27 @@ fn follow<'a>(
 /// The client is let in, and asks for a link of this key.
 #[tactic(auto, using(crate::proofs::Logins::let_in_waits, crate::proofs::Logins::waits_piece, crate::proofs::Pieces::piece_done, crate::proofs::Logins::let_in_piece))]
 fn ask<'a>(
-    house: &mut House,
+    pool: &mut MemoryPool,
     word: KeyWord,
     mut client: ActClient<'a>,
     key: Arc<StartKey>,
     number: Option<u64>,
 ) -> Result<Stage<'a>, AllocError>
-    requires { IsLetIn house.old word client (arc_value key) }
-    ensures same { house.new ≡ house.old }
-    ensures at { IfOk result (IsAt house.old word client.entry.input) }
+    requires { IsLetIn pool.old word client (arc_value key) }
+    ensures same { pool.new ≡ pool.old }
+    ensures at { IfOk result (IsAt pool.old word client.entry.input) }
 {
     client.give(&LET_IN)?;
     let Some(asks) = number else {
-        return Ok(leave(house, word, client, None));
+        return Ok(leave(pool, word, client, None));
     };
-    match house.ask(asks, &key)? {
+    match pool.ask(asks, &key)? {
         Answer::Number(_) => Ok(Stage::Waiting {
             client,
             key,
             number: asks,
         }),
-        Answer::Refused(refusal) => refuse(house, word, client, number, refusal),
-        Answer::Strange => Ok(leave(house, word, client, number)),
+        Answer::Refused(refusal) => refuse(pool, word, client, number, refusal),
+        Answer::Strange => Ok(leave(pool, word, client, number)),
     }
 }

@@ -8,7 +8,7 @@ use crate::played::Given;
 use crate::stage::Stage;
 use crate::waiting::wait;
 use act_client::{ActClient, Script};
-use memory_house::House;
+use memory_pool::MemoryPool;
 use message_view::KeyWord;
 use std::alloc::{AllocError, Global};
 use std::mem;
@@ -34,10 +34,10 @@ impl<'a> Player<'a> {
     /// The client of this script, of which nothing was taken.
     pub(crate) fn new(
         alloc: Global,
-        house: &House,
+        pool: &MemoryPool,
         script: &'a Script,
     ) -> Result<Player<'a>, AllocError>
-        ensures { IfOk result (IsPlayer house.now script.now) }
+        ensures { IfOk result (IsPlayer pool.now script.now) }
     {
         let number = script.number();
         let word = KeyWord {
@@ -49,8 +49,8 @@ impl<'a> Player<'a> {
             word,
             links: Vec::new(alloc),
             stage: Stage::LoggingIn {
-                client: ActClient::new(alloc, script, house.cut()),
-                login: house.login(word)?,
+                client: ActClient::new(alloc, script, pool.cut()),
+                login: pool.login(word)?,
                 number: None,
             },
         })
@@ -60,12 +60,12 @@ impl<'a> Player<'a> {
     pub(crate) fn turn(
         &mut self,
         alloc: Global,
-        house: &mut House,
+        pool: &mut MemoryPool,
         script: &Script,
     ) -> Result<bool, AllocError>
-        requires { IsPlayer house.old script.now self.old }
-        ensures same { house.new ≡ house.old }
-        ensures player { IsPlayer house.old script.now self.new }
+        requires { IsPlayer pool.old script.now self.old }
+        ensures same { pool.new ≡ pool.old }
+        ensures player { IsPlayer pool.old script.now self.new }
     {
         let word = self.word;
         let (stage, moved) = match mem::replace(&mut self.stage, Stage::Absent) {
@@ -73,13 +73,13 @@ impl<'a> Player<'a> {
                 client,
                 login,
                 number,
-            } => log_in(alloc, house, word, client, login, number)?,
+            } => log_in(alloc, pool, word, client, login, number)?,
             Stage::Waiting {
                 client,
                 key,
                 number,
-            } => wait(alloc, house, word, &mut self.links, client, key, number)?,
-            Stage::Served { relay, number } => serve(house, word, script, relay, number)?,
+            } => wait(alloc, pool, word, &mut self.links, client, key, number)?,
+            Stage::Served { relay, number } => serve(pool, word, script, relay, number)?,
             Stage::Closed(client) => (Stage::Closed(client), false),
             Stage::Absent => return Err(AllocError),
         };
@@ -91,17 +91,17 @@ impl<'a> Player<'a> {
     pub(crate) fn finish(
         &mut self,
         alloc: Global,
-        house: &mut House,
+        pool: &mut MemoryPool,
         script: &Script,
     ) -> Result<Given, AllocError>
-        requires { IsPlayer house.old script.now self.old }
-        ensures same { house.new ≡ house.old }
-        ensures player { IsPlayer house.old script.now self.new }
-        ensures allowed { IfOk result (IsAllowedTo house.old script.now) }
+        requires { IsPlayer pool.old script.now self.old }
+        ensures same { pool.new ≡ pool.old }
+        ensures player { IsPlayer pool.old script.now self.new }
+        ensures allowed { IfOk result (IsAllowedTo pool.old script.now) }
     {
         let stage = mem::replace(&mut self.stage, Stage::Absent);
         let links = mem::replace(&mut self.links, Vec::new(alloc));
-        let client = last(house, self.word, script, stage)?;
+        let client = last(pool, self.word, script, stage)?;
         Ok(Given {
             bytes: client.into_given(),
             links,

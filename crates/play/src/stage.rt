@@ -2,12 +2,12 @@
 ghost use Rattle.std.specs.Prelude.{◌≡◌, ◌++◌, IfOk, IfSome};
 ghost use Rattle.message_view.specs.Refusals.{refusal as refused};
 ghost use Rattle.play.specs.Players.{IsAt, IsAtPiece, IsDone};
-ghost use Rattle.memory_house.specs.Houses.{HouseOf};
+ghost use Rattle.memory_pool.specs.MemoryPools.{MemoryPoolOf};
 
 use act_client::ActClient;
 use login_core::Login;
 use memory_ends::memory_server::MemoryServer;
-use memory_house::House;
+use memory_pool::MemoryPool;
 use message_view::{KeyWord, Refusal, refusal_bytes};
 use relay_core::relay::Relay;
 use start_keys::StartKey;
@@ -42,17 +42,17 @@ pub(crate) enum Stage<'a> {
 
 /// The client is closed, and leaves the book, where it is in it.
 pub(crate) fn leave<'a>(
-    house: &mut House,
+    pool: &mut MemoryPool,
     word: KeyWord,
     client: ActClient<'a>,
     number: Option<u64>,
 ) -> Stage<'a>
-    requires { IsDone house.old word client }
-    ensures same { house.new ≡ house.old }
-    ensures at { IsAt house.old word client.entry.input result }
+    requires { IsDone pool.old word client }
+    ensures same { pool.new ≡ pool.old }
+    ensures at { IsAt pool.old word client.entry.input result }
 {
     if let Some(number) = number {
-        house.leave(number);
+        pool.leave(number);
     }
     Stage::Closed(client)
 }
@@ -60,16 +60,16 @@ pub(crate) fn leave<'a>(
 /// The client is given this refusal, and leaves.
 
 pub(crate) fn refuse<'a>(
-    house: &mut House,
+    pool: &mut MemoryPool,
     word: KeyWord,
     mut client: ActClient<'a>,
     number: Option<u64>,
     refusal: Refusal,
 ) -> Result<Stage<'a>, AllocError>
-    requires { IsAtPiece house.old word client }
-    ensures same { house.new ≡ house.old }
-    ensures at { IfOk result (IsAt house.old word client.entry.input) }
+    requires { IsAtPiece pool.old word client }
+    ensures same { pool.new ≡ pool.old }
+    ensures at { IfOk result (IsAt pool.old word client.entry.input) }
 {
     client.give(refusal_bytes(refusal))?;
-    Ok(leave(house, word, client, number))
+    Ok(leave(pool, word, client, number))
 }

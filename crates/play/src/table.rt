@@ -5,7 +5,7 @@ ghost use Rattle.play.specs.Players.{AreAllowed, ArePlayers, IsAllowedTo, IsPlay
 use crate::played::Given;
 use crate::player::Player;
 use act_client::{Act, Script};
-use memory_house::House;
+use memory_pool::MemoryPool;
 use std::alloc::{AllocError, Global};
 use std::marker::Model;
 
@@ -15,7 +15,7 @@ const MOST_TURNS: u32 = 100_000;
 /// The clients of a play, in the order of their scripts, and what they are served over.
 pub(crate) struct Table<'a> {
     alloc: Global,
-    house: House,
+    pool: MemoryPool,
     scripts: &'a [Script],
     players: Vec<Player<'a>>,
 }
@@ -24,7 +24,7 @@ impl<'a> Drop for Table<'a> {
     fn drop(self) {
         let Table {
             alloc: _,
-            house: _,
+            pool: _,
             scripts: _,
             players: _,
         } = self;
@@ -36,22 +36,22 @@ impl<'a> Model for Table<'a> {
 
     ghost Value = { TableOf };
 
-    ghost view = { λ t. record { house = t.house; senders = t.scripts.now } };
+    ghost view = { λ t. record { pool = t.pool; senders = t.scripts.now } };
 
-    ghost invariant = { λ t. ArePlayers t.house t.scripts.now t.players.items };
+    ghost invariant = { λ t. ArePlayers t.pool t.scripts.now t.players.items };
 }
 
 /// The clients of these scripts, none of which has come. The only error is that an allocation failed.
 fn players<'a>(
     alloc: Global,
-    house: &House,
+    pool: &MemoryPool,
     scripts: &'a [Script],
 ) -> Result<Vec<Player<'a>>, AllocError>
-    ensures { IfOk result (λ v. ArePlayers house.now scripts.now v.items) }
+    ensures { IfOk result (λ v. ArePlayers pool.now scripts.now v.items) }
 {
     let mut players = Vec::new(alloc);
     for script in scripts {
-        players.push(Player::new(alloc, house, script)?)?;
+        players.push(Player::new(alloc, pool, script)?)?;
     }
     Ok(players)
 }
@@ -60,15 +60,15 @@ impl<'a> Table<'a> {
     /// The clients of these scripts, none of which has come. The only error is that an allocation failed.
     pub(crate) fn new(
         alloc: Global,
-        house: House,
+        pool: MemoryPool,
         scripts: &'a [Script],
     ) -> Result<Table<'a>, AllocError>
-        ensures { IfOk result (λ t. t ≡ record { house = house; senders = scripts.now }) }
+        ensures { IfOk result (λ t. t ≡ record { pool = pool; senders = scripts.now }) }
     {
-        let players = players(alloc, &house, scripts)?;
+        let players = players(alloc, &pool, scripts)?;
         Ok(Table {
             alloc,
-            house,
+            pool,
             scripts,
             players,
         })
@@ -90,8 +90,8 @@ impl<'a> Table<'a> {
                     script.go();
                 }
             }
-            Act::Tick(second) => self.house.tick(*second),
-            Act::ServersDieAfter(count) => self.house.let_servers_die(*count),
+            Act::Tick(second) => self.pool.tick(*second),
+            Act::ServersDieAfter(count) => self.pool.let_servers_die(*count),
         }
     }
 
@@ -142,7 +142,7 @@ impl<'a> Table<'a> {
     {
         let Table {
             alloc,
-            house,
+            pool,
             scripts,
             players,
         } = self;
@@ -153,7 +153,7 @@ impl<'a> Table<'a> {
         if !script.has_come() {
             return Ok(false);
         }
-        players[at].turn(*alloc, house, script)
+        players[at].turn(*alloc, pool, script)
     }
 
     /// What the client at this place was given.
@@ -161,20 +161,20 @@ impl<'a> Table<'a> {
         requires there { at < length self.old.senders }
         requires script { script.now ≡ slice_index_or self.old.senders at script.now }
         ensures same { self.new ≡ self.old }
-        ensures allowed { IfOk result (IsAllowedTo self.old.house script.now) }
+        ensures allowed { IfOk result (IsAllowedTo self.old.pool script.now) }
     {
         let Table {
             alloc,
-            house,
+            pool,
             scripts: _,
             players,
         } = self;
-        players[at].finish(*alloc, house, script)
+        players[at].finish(*alloc, pool, script)
     }
 
     /// What each client was given; their turns are over. The only error is that an allocation failed.
     pub(crate) fn finish(&mut self) -> Result<Vec<Given>, AllocError>
-        ensures { IfOk result (λ v. AreAllowed self.old.house self.old.senders v.items) }
+        ensures { IfOk result (λ v. AreAllowed self.old.pool self.old.senders v.items) }
     {
         let mut all = Vec::new(self.alloc);
         let scripts = self.scripts;

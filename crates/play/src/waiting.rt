@@ -2,7 +2,7 @@
 ghost use Rattle.std.specs.Prelude.{◌≡◌, IfOk};
 ghost use Rattle.std.specs.Arc.{arc_value};
 ghost use Rattle.play.specs.Players.{IsAt, Waits};
-ghost use Rattle.memory_house.specs.Houses.{IsAtHome};
+ghost use Rattle.memory_pool.specs.MemoryPools.{IsAtHome};
 
 use crate::stage::{Stage, leave, refuse};
 use act_client::ActClient;
@@ -11,8 +11,8 @@ use link_start::close::close_link;
 use login_core::laws::login_is_of_its_row;
 use login_laws::laws::{bounded_rows_are_lawful, passed_keys_are_link_keys};
 use memory_ends::memory_server::MemoryServer;
-use memory_house::House;
-use memory_house::answers::Taken;
+use memory_pool::MemoryPool;
+use memory_pool::answers::Taken;
 use message_view::KeyWord;
 use relay_core::relay::Relay;
 use start_keys::StartKey;
@@ -24,27 +24,27 @@ use std::sync::Arc;
 #[tactic(auto, using(crate::proofs::Logins::waits_piece, crate::proofs::Pieces::piece_done, crate::proofs::Leases::start_fails, crate::proofs::Logins::key_starts))]
 pub(crate) fn wait<'a>(
     alloc: Global,
-    house: &mut House,
+    pool: &mut MemoryPool,
     word: KeyWord,
     links: &mut Vec<u64>,
     mut client: ActClient<'a>,
     key: Arc<StartKey>,
     number: u64,
 ) -> Result<(Stage<'a>, bool), AllocError>
-    requires { Waits house.old word client (arc_value key) }
-    ensures same { house.new ≡ house.old }
-    ensures at { IfOk result (λ r. IsAt house.old word client.entry.input r.0) }
+    requires { Waits pool.old word client (arc_value key) }
+    ensures same { pool.new ≡ pool.old }
+    ensures at { IfOk result (λ r. IsAt pool.old word client.entry.input r.0) }
 {
-    house.is_bounded();
+    pool.is_bounded();
     bounded_rows_are_lawful();
     passed_keys_are_link_keys();
     if client.script().has_gone() {
-        return Ok((leave(house, word, client, Some(number)), true));
+        return Ok((leave(pool, word, client, Some(number)), true));
     }
-    let stage = match house.take(number, &key)? {
+    let stage = match pool.take(number, &key)? {
         Taken::Link(link) => {
             links.push(link.number())?;
-            begin(alloc, house, word, client, link, number)?
+            begin(alloc, pool, word, client, link, number)?
         }
         Taken::Waits => {
             let stage = Stage::Waiting {
@@ -54,12 +54,12 @@ pub(crate) fn wait<'a>(
             };
             return Ok((stage, false));
         }
-        Taken::Refused(refusal) => refuse(house, word, client, Some(number), refusal)?,
+        Taken::Refused(refusal) => refuse(pool, word, client, Some(number), refusal)?,
         Taken::Failed(error) => {
             client.give(error.as_bytes())?;
-            leave(house, word, client, Some(number))
+            leave(pool, word, client, Some(number))
         }
-        Taken::Strange => leave(house, word, client, Some(number)),
+        Taken::Strange => leave(pool, word, client, Some(number)),
     };
     Ok((stage, true))
 }
@@ -68,17 +68,17 @@ pub(crate) fn wait<'a>(
 #[tactic(auto, using(crate::proofs::Leases::lease_begins))]
 fn begin<'a>(
     alloc: Global,
-    house: &House,
+    pool: &MemoryPool,
     word: KeyWord,
     client: ActClient<'a>,
     link: CleanLink<MemoryServer>,
     number: u64,
 ) -> Result<Stage<'a>, AllocError>
-    requires waits { Waits house.now word client link.key }
-    requires home { IsAtHome house.now.catalogue link }
-    ensures { IfOk result (IsAt house.now word client.entry.input) }
+    requires waits { Waits pool.now word client link.key }
+    requires home { IsAtHome pool.now.catalogue link }
+    ensures { IfOk result (IsAt pool.now word client.entry.input) }
 {
-    match Relay::begin(alloc, client, link, word, house.limit()) {
+    match Relay::begin(alloc, client, link, word, pool.limit()) {
         Ok(relay) => Ok(Stage::Served { relay, number }),
         Err((_, link)) => {
             close_link(link);

@@ -32,7 +32,7 @@ use Rattle.link_laws.specs.Standing.{ClientFacts}
 use Rattle.link_desk.specs.Homes.{HomeOf}
 use Rattle.login_core.specs.Logins.{LoginView}
 use Rattle.pool_serve.specs.Stays.{CameIn}
-use Rattle.pool_serve.specs.declared.guest.Guest.{Guest}
+use Rattle.pool_serve.specs.declared.logged_in.LoggedIn.{LoggedIn}
 
 -- ---- the desk's refusals
 
@@ -230,7 +230,7 @@ lost_by p q g e = subst (λ (x : PassOf). HadLink AtLease p x × HasLost p x) (s
     by gone.Last = (refl, λ e. absurd (true≢false e))
     by gone.Stranger = (refl, λ e. absurd (true≢false e))
 
-pub relayed_traces : (link : LinkView) (g : Guest) (before after : ClientFacts) (p q : PassOf) (e : Ending) → HasRelayed link g before after e → shares.Ends p q → Traces AtLease p q e
+pub relayed_traces : (link : LinkView) (g : LoggedIn) (before after : ClientFacts) (p q : PassOf) (e : Ending) → HasRelayed link g before after e → shares.Ends p q → Traces AtLease p q e
 relayed_traces link g before after p q (ending.Relayed r) x s = s.granted
 relayed_traces link g before after p q ending.Memory x s = tt
 relayed_traces link g before after p q ending.Left x s = absurd x
@@ -240,7 +240,7 @@ relayed_traces link g before after p q ending.Unreached x s = absurd x
 relayed_traces link g before after p q (ending.Unstarted cause) x s = absurd x
 relayed_traces link g before after p q (ending.Managed r) x s = absurd x
 
-pub unopened_traces : (home : HomeOf) (g : Guest) (p q : PassOf) (e : Ending) → IsUnopened home g e → HadLink AtLease p q × HasLost p q → Traces AtLease p q e
+pub unopened_traces : (home : HomeOf) (g : LoggedIn) (p q : PassOf) (e : Ending) → IsUnopened home g e → HadLink AtLease p q × HasLost p q → Traces AtLease p q e
 unopened_traces home g p q ending.Unreached x h = h
 unopened_traces home g p q (ending.Unstarted cause) x h = h
 unopened_traces home g p q ending.Memory x h = tt
@@ -258,7 +258,7 @@ cause_fault limit bytes (cause.Unanswerable question) = tt
 cause_fault limit bytes cause.Unexpected = tt
 cause_fault limit bytes cause.Turns = tt
 
-pub unopened_fault : (home : HomeOf) (g : Guest) (limit : ℕ) (bytes : List ℕ) (e : Ending) → IsUnopened home g e → IsFaultyWord limit bytes (word_of e)
+pub unopened_fault : (home : HomeOf) (g : LoggedIn) (limit : ℕ) (bytes : List ℕ) (e : Ending) → IsUnopened home g e → IsFaultyWord limit bytes (word_of e)
 unopened_fault home g limit bytes ending.Unreached x = tt
 unopened_fault home g limit bytes (ending.Unstarted c) x = cause_fault limit bytes c
 unopened_fault home g limit bytes ending.Memory x = tt

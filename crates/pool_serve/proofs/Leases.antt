@@ -18,7 +18,7 @@ use Rattle.pool_serve.specs.Endings.{Came, Frees, HasEnded, HasLeased, HasRelaye
 use Rattle.pool_serve.specs.Stays.{CameIn, IsGuestOf}
 use Rattle.pool_serve.specs.declared.ending.Ending.{Ending}
 use Rattle.pool_serve.specs.declared.ending.Ending.TheVariants as ending
-use Rattle.pool_serve.specs.declared.guest.Guest.{Guest}
+use Rattle.pool_serve.specs.declared.logged_in.LoggedIn.{LoggedIn}
 use Rattle.pool_serve.proofs.Causing.{queued_traces}
 use Rattle.pool_serve.proofs.Managing.{same_managed}
 
@@ -31,7 +31,7 @@ back_or_lost (Gone lent cause) h k x = inr x
 
 -- ---- a lease that has begun
 
-pub relayed_frees : (link : LinkView) (g : Guest) (before after : ClientFacts) (h k : Holder) (e : Ending) → HasRelayed link g before after e → IsBackOrLost h k → Frees h k e
+pub relayed_frees : (link : LinkView) (g : LoggedIn) (before after : ClientFacts) (h k : Holder) (e : Ending) → HasRelayed link g before after e → IsBackOrLost h k → Frees h k e
 relayed_frees link g before after h k (ending.Relayed r) x b = b
 relayed_frees link g before after h k ending.Memory x b = inl b
 relayed_frees link g before after h k ending.Left x b = absurd x
@@ -41,7 +41,7 @@ relayed_frees link g before after h k ending.Unreached x b = absurd x
 relayed_frees link g before after h k (ending.Unstarted cause) x b = absurd x
 relayed_frees link g before after h k (ending.Managed r) x b = absurd x
 
-pub relayed_came : (home : HomeOf) (link : LinkView) (g : Guest) (before after : ClientFacts) (e : Ending) → HasRelayed link g before after e → IsAtHome home link → link.key ≡ arc_value g.key → Came home g before after e
+pub relayed_came : (home : HomeOf) (link : LinkView) (g : LoggedIn) (before after : ClientFacts) (e : Ending) → HasRelayed link g before after e → IsAtHome home link → link.key ≡ arc_value g.key → Came home g before after e
 relayed_came home link g before after (ending.Relayed r) x h k = record { link = link; at_home = h; key = k; relayed = x }
 relayed_came home link g before after ending.Memory x h k = x
 relayed_came home link g before after ending.Left x h k = absurd x
@@ -53,7 +53,7 @@ relayed_came home link g before after (ending.Managed r) x h k = absurd x
 
 -- ---- a link that wasn't started
 
-pub unopened_frees : (home : HomeOf) (g : Guest) (h k : Holder) (e : Ending) → IsUnopened home g e → k ≡ without_lease call.StartFailed h → Frees h k e
+pub unopened_frees : (home : HomeOf) (g : LoggedIn) (h k : Holder) (e : Ending) → IsUnopened home g e → k ≡ without_lease call.StartFailed h → Frees h k e
 unopened_frees home g h k ending.Unreached x b = b
 unopened_frees home g h k (ending.Unstarted cause) x b = b
 unopened_frees home g h k ending.Memory x b = inr b
@@ -63,7 +63,7 @@ unopened_frees home g h k ending.Strange x b = absurd x
 unopened_frees home g h k (ending.Relayed r) x b = absurd x
 unopened_frees home g h k (ending.Managed r) x b = absurd x
 
-pub unopened_came : (home : HomeOf) (g : Guest) (c : ClientFacts) (e : Ending) → IsUnopened home g e → Came home g c c e
+pub unopened_came : (home : HomeOf) (g : LoggedIn) (c : ClientFacts) (e : Ending) → IsUnopened home g e → Came home g c c e
 unopened_came home g c ending.Unreached x = refl
 unopened_came home g c (ending.Unstarted cause) x = (x, refl)
 unopened_came home g c ending.Memory x = refl
@@ -105,18 +105,18 @@ granted_traces p q h k ending.Left x t = absurd x
 granted_traces p q h k (ending.Refused r) x t = absurd x
 granted_traces p q h k (ending.Managed r) x t = absurd x
 
-pub granted_ended : (home : HomeOf) (g : Guest) (p mid q : PassOf) (h k : Holder) (before after : ClientFacts) (e : Ending) → mid ≡ one_granted p → Frees h k e → HasEnded home g AtLease mid q before after e → HasEnded home g AtWait p q before after e
+pub granted_ended : (home : HomeOf) (g : LoggedIn) (p mid q : PassOf) (h k : Holder) (before after : ClientFacts) (e : Ending) → mid ≡ one_granted p → Frees h k e → HasEnded home g AtLease mid q before after e → HasEnded home g AtWait p q before after e
 granted_ended home g p mid q h k before after e is f x = record { tells = x.tells; traces = granted_traces p q h k e f (subst (λ (m : PassOf). Traces AtLease m q e) is x.traces); came = x.came; serves = x.serves }
 
 -- behind an asking that was queued
-pub queued_ended : (home : HomeOf) (g : Guest) (p mid q : PassOf) (before after : ClientFacts) (e : Ending) → mid ≡ one_other p → HasEnded home g AtWait mid q before after e → HasEnded home g AtAsking p q before after e
+pub queued_ended : (home : HomeOf) (g : LoggedIn) (p mid q : PassOf) (before after : ClientFacts) (e : Ending) → mid ≡ one_other p → HasEnded home g AtWait mid q before after e → HasEnded home g AtAsking p q before after e
 queued_ended home g p mid q before after e is x = record { tells = x.tells; traces = queued_traces p mid q e is x.traces; came = x.came; serves = x.serves }
 
--- ---- a guest of this login
+-- ---- a logged_in of this login
 
-pub came_in : (home : HomeOf) (v : LoginView) (g : Guest) (before after : ClientFacts) (e : Ending) → IsGuestOf v g → Came home g before after e → CameIn home v after e
-came_in home v g before after (ending.Relayed r) i x = record { guest = g; is_guest = i; before = before; lease = x }
-came_in home v g before after (ending.Unstarted cause) i x = record { guest = g; is_guest = i; unstarted = x.0 }
+pub came_in : (home : HomeOf) (v : LoginView) (g : LoggedIn) (before after : ClientFacts) (e : Ending) → IsGuestOf v g → Came home g before after e → CameIn home v after e
+came_in home v g before after (ending.Relayed r) i x = record { logged_in = g; is_logged_in = i; before = before; lease = x }
+came_in home v g before after (ending.Unstarted cause) i x = record { logged_in = g; is_logged_in = i; unstarted = x.0 }
 came_in home v g before after ending.Left i x = tt
 came_in home v g before after (ending.Refused r) i x = tt
 came_in home v g before after ending.Memory i x = tt
@@ -125,12 +125,12 @@ came_in home v g before after ending.Unreached i x = tt
 came_in home v g before after (ending.Managed r) i x = absurd x
 
 -- the same of a login that went on
-same_guest : (old new : RunView) (g : Guest) → IsSameLogin old new → IsGuestOf new.login g → IsGuestOf old.login g
-same_guest old new g s x = record { word = x.word ∙ s.word; settings = x.settings ∙ s.settings; users = x.users ∙ s.users }
+same_logged_in : (old new : RunView) (g : LoggedIn) → IsSameLogin old new → IsGuestOf new.login g → IsGuestOf old.login g
+same_logged_in old new g s x = record { word = x.word ∙ s.word; settings = x.settings ∙ s.settings; users = x.users ∙ s.users }
 
 pub same_came : (home : HomeOf) (old new : RunView) (after : ClientFacts) (e : Ending) → IsSameLogin old new → CameIn home new.login after e → CameIn home old.login after e
-same_came home old new after (ending.Relayed r) s x = record { guest = x.guest; is_guest = same_guest old new x.guest s x.is_guest; before = x.before; lease = x.lease }
-same_came home old new after (ending.Unstarted cause) s x = record { guest = x.guest; is_guest = same_guest old new x.guest s x.is_guest; unstarted = x.unstarted }
+same_came home old new after (ending.Relayed r) s x = record { logged_in = x.logged_in; is_logged_in = same_logged_in old new x.logged_in s x.is_logged_in; before = x.before; lease = x.lease }
+same_came home old new after (ending.Unstarted cause) s x = record { logged_in = x.logged_in; is_logged_in = same_logged_in old new x.logged_in s x.is_logged_in; unstarted = x.unstarted }
 same_came home old new after ending.Left s x = tt
 same_came home old new after (ending.Refused r) s x = tt
 same_came home old new after ending.Memory s x = tt

@@ -21,11 +21,11 @@ use Rattle.login_run.specs.Runs.{Arrived, Awaits, Console, Gone, IsAllGiven, IsK
 use Rattle.login_run.specs.Laws.{AllowedBy, IsAtPiece, PassedRunsAreLetIn, PassedRunsHavePassed, RunsAreAllowed, RunsStandAtPieces, own}
 use Rattle.link_desk.specs.Homes.{HomeOf}
 use Rattle.link_desk.specs.Refusing.{RefusesArrival}
-use Rattle.pool_serve.specs.declared.guest.Guest.{Guest}
+use Rattle.pool_serve.specs.declared.logged_in.LoggedIn.{LoggedIn}
 use Rattle.pool_serve.specs.declared.word.LastWord.{LastWord}
 use Rattle.pool_serve.specs.declared.word.LastWord.TheVariants as last
 use Rattle.pool_serve.specs.Causes.{HasFault}
-use Rattle.pool_serve.specs.Serving.{IsGuest, IsServed, IsServedUnder, MayEnd, Serves, limit_of, owed}
+use Rattle.pool_serve.specs.Serving.{IsLoggedIn, IsServed, IsServedUnder, MayEnd, Serves, limit_of, owed}
 use Rattle.pool_serve.proofs.Causing.{arrival_fault}
 use Rattle.pool_serve.proofs.Owing.{behind_login}
 
@@ -92,9 +92,9 @@ key_is p o k e h = key_of p k (subst (IsKeyOf p) e h)
     key_of Stopped l i = absurd cc
     key_of Gone l i = absurd cc
 
-pub is_guest : BoundedRowsAreLawful → PassedKeysAreLinkKeys → PassedKeysAreOfTheirRows → PassedRunsHavePassed → (v : RunView) (g : Guest) → IsRun v → v.phase ≡ Passed (arc_value g.key) → g.login ≡ v.login → AreWithinBounds v.login.settings → IsGuest g
+pub is_logged_in : BoundedRowsAreLawful → PassedKeysAreLinkKeys → PassedKeysAreOfTheirRows → PassedRunsHavePassed → (v : RunView) (g : LoggedIn) → IsRun v → v.phase ≡ Passed (arc_value g.key) → g.login ≡ v.login → AreWithinBounds v.login.settings → IsLoggedIn g
 unfolding row_in
-is_guest bounded keys rows passed v g x e l b =
+is_logged_in bounded keys rows passed v g x e l b =
     let p = passed v (arc_value g.key) x e in
     let lawful = bounded v.login.settings v.login.users b in
     let k = keys (rows_of v.login) v.login.word p.0 [] (arc_value g.key) lawful p.1 in
@@ -104,7 +104,7 @@ is_guest bounded keys rows passed v g x e l b =
       settings = subst (λ (w : LoginView). AreWithinBounds w.settings) (sym l) b;
     }
 
-pub guest_ends : PassedRunsAreLetIn → (home : HomeOf) (old new : RunView) (g : Guest) (before after : ClientFacts) (word : LastWord) → IsSameLogin old new → IsRun new → new.phase ≡ Passed (arc_value g.key) → IsAllGiven new → before ≡ new.client → g.word ≡ new.login.word → g.login ≡ new.login → old.client.tells ≡ true
+pub logged_in_ends : PassedRunsAreLetIn → (home : HomeOf) (old new : RunView) (g : LoggedIn) (before after : ClientFacts) (word : LastWord) → IsSameLogin old new → IsRun new → new.phase ≡ Passed (arc_value g.key) → IsAllGiven new → before ≡ new.client → g.word ≡ new.login.word → g.login ≡ new.login → old.client.tells ≡ true
     → Serves (limit_of g) home.strikable before after (owed home.catalogue g) word → IsServed home old.login after word
-guest_ends law home old new g before after word s x p n e w l t m =
+logged_in_ends law home old new g before after word s x p n e w l t m =
     same_served home old new after word s (behind_login home new g before after word e w l (law new home.catalogue (arc_value g.key) x (s.tells ∙ t) p n) m)

@@ -18,7 +18,7 @@ use Rattle.console_run.specs.Talks.{IsServed as IsServedAtConsole}
 use Rattle.link_desk.specs.Homes.{HomeOf}
 use Rattle.pool_serve.specs.declared.ending.Ending.{Ending}
 use Rattle.pool_serve.specs.declared.ending.Ending.TheVariants as ending
-use Rattle.pool_serve.specs.declared.guest.Guest.{Guest}
+use Rattle.pool_serve.specs.declared.logged_in.LoggedIn.{LoggedIn}
 use Rattle.pool_serve.specs.Causes.{AtArrival}
 use Rattle.pool_serve.specs.Endings.{Came, Traces}
 use Rattle.pool_serve.specs.Serving.{IsManaged, IsServed}
@@ -90,15 +90,15 @@ same_serves home old new c (ending.Relayed r) s h = same_served home old new c (
 same_serves home old new c (ending.Managed r) s h = h
 
 -- a client that asked for a link
-pub guest_serves : (home : HomeOf) (v : LoginView) (g : Guest) (before c : ClientFacts) (e : Ending) → Came home g before c e → IsServed home v c (word_of e) → ServesAs home v c e
-guest_serves home v g before c ending.Left x h = h
-guest_serves home v g before c (ending.Refused r) x h = h
-guest_serves home v g before c ending.Memory x h = h
-guest_serves home v g before c ending.Strange x h = h
-guest_serves home v g before c ending.Unreached x h = h
-guest_serves home v g before c (ending.Unstarted cause) x h = h
-guest_serves home v g before c (ending.Relayed r) x h = h
-guest_serves home v g before c (ending.Managed r) x h = absurd x
+pub logged_in_serves : (home : HomeOf) (v : LoginView) (g : LoggedIn) (before c : ClientFacts) (e : Ending) → Came home g before c e → IsServed home v c (word_of e) → ServesAs home v c e
+logged_in_serves home v g before c ending.Left x h = h
+logged_in_serves home v g before c (ending.Refused r) x h = h
+logged_in_serves home v g before c ending.Memory x h = h
+logged_in_serves home v g before c ending.Strange x h = h
+logged_in_serves home v g before c ending.Unreached x h = h
+logged_in_serves home v g before c (ending.Unstarted cause) x h = h
+logged_in_serves home v g before c (ending.Relayed r) x h = h
+logged_in_serves home v g before c (ending.Managed r) x h = absurd x
 
 -- a client that was told its last word
 module _ (home : HomeOf) (v : LoginView) (before after : ClientFacts) (p q : PassOf) where

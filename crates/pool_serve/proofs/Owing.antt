@@ -24,7 +24,7 @@ use Rattle.login_core.specs.Logins.{LoginView, rows_of}
 use Rattle.login_core.specs.Solo.{service_pieces}
 use Rattle.login_run.specs.Runs.{RunView}
 use Rattle.login_run.specs.Laws as runs
-use Rattle.pool_serve.specs.declared.guest.Guest.{Guest}
+use Rattle.pool_serve.specs.declared.logged_in.LoggedIn.{LoggedIn}
 use Rattle.pool_serve.specs.declared.word.LastWord.{LastWord}
 use Rattle.pool_serve.specs.declared.word.LastWord.TheVariants as last
 use Rattle.pool_serve.specs.Words.{last_of}
@@ -34,7 +34,7 @@ use Rattle.pool_serve.proofs.Telling.{behind, refusal_ends}
 
 -- ---- over a link of its key, with the catalogue of its address
 
-pub over_link : (home : HomeOf) (limit : ℕ) (before after : ClientFacts) (g : Guest) (link : LinkView) (word : LastWord) → IsAtHome home link → link.stands.follows ≡ true → link.key ≡ arc_value g.key
+pub over_link : (home : HomeOf) (limit : ℕ) (before after : ClientFacts) (g : LoggedIn) (link : LinkView) (word : LastWord) → IsAtHome home link → link.stands.follows ≡ true → link.key ≡ arc_value g.key
     → Serves limit link.stands.server.strikable before after (service_pieces link.stands.server.catalogue link.key g.word) word → Serves limit home.strikable before after (owed home.catalogue g) word
 over_link home limit before after g link word h f k s =
     let same : link.stands.server.catalogue ≡ home.catalogue (address_of (arc_value g.key)) = h.catalogue f ∙ ap (λ (x : StartKeyOf). home.catalogue (address_of x)) k in
@@ -87,7 +87,7 @@ ends_served catalogue v key c marks took last.Nothing e x m = inl m
 ends_served catalogue v key c marks took (last.Refusal r) e x m = (m, fault_behind v key v.settings.max_packet_size c.taken took r e x)
 ends_served catalogue v key c marks took (last.Error error) e x m = m
 
-pub behind_login : (home : HomeOf) (v : RunView) (g : Guest) (before after : ClientFacts) (word : LastWord) → before ≡ v.client → g.word ≡ v.login.word → g.login ≡ v.login → runs.IsLetIn home.catalogue v (arc_value g.key) → Serves (limit_of g) home.strikable before after (owed home.catalogue g) word
+pub behind_login : (home : HomeOf) (v : RunView) (g : LoggedIn) (before after : ClientFacts) (word : LastWord) → before ≡ v.client → g.word ≡ v.login.word → g.login ≡ v.login → runs.IsLetIn home.catalogue v (arc_value g.key) → Serves (limit_of g) home.strikable before after (owed home.catalogue g) word
     → IsServed home v.login after word
 behind_login home v g before after word e w l x s =
     let taken : after.taken ≡ v.client.taken ++ s.took = s.taken ∙ ap (λ (c : ClientFacts). c.taken ++ s.took) e in

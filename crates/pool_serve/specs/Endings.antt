@@ -24,7 +24,7 @@ use Rattle.pool_serve.specs.Serving.{LetsIn, Serves, limit_of, owed}
 use Rattle.pool_serve.specs.Words.{word_of}
 use Rattle.pool_serve.specs.declared.ending.Ending.{Ending}
 use Rattle.pool_serve.specs.declared.ending.Ending.TheVariants as ending
-use Rattle.pool_serve.specs.declared.guest.Guest.{Guest}
+use Rattle.pool_serve.specs.declared.logged_in.LoggedIn.{LoggedIn}
 
 -- ---- what the decisions tell of it
 
@@ -70,19 +70,19 @@ abbrev pub refusal_at : RelayView → Option Refusal
 refusal_at v = refusal_told (judged true v)
 
 -- a lease over that link has ended so
-pub record IsRelayed (link : LinkView) (g : Guest) (before after : ClientFacts) (r : Option Refusal) : Type 0 where
+pub record IsRelayed (link : LinkView) (g : LoggedIn) (before after : ClientFacts) (r : Option Refusal) : Type 0 where
   pub view : RelayView
   pub lease : IsLease (place before link g.word (limit_of g)) view
   pub client : after ≡ view.client
   pub told : r ≡ refusal_at view
 
-abbrev pub HasRelayed : LinkView → Guest → ClientFacts → ClientFacts → Ending → Type 0
+abbrev pub HasRelayed : LinkView → LoggedIn → ClientFacts → ClientFacts → Ending → Type 0
 HasRelayed link g before after (ending.Relayed r) = IsRelayed link g before after r
 HasRelayed link g before after ending.Memory = after ≡ before
 HasRelayed link g before after other = ⊥
 
 -- a start over an end of its row's server failed so
-pub record IsUnstarted (home : HomeOf) (g : Guest) (cause : StartCause) : Type 0 where
+pub record IsUnstarted (home : HomeOf) (g : LoggedIn) (cause : StartCause) : Type 0 where
   pub row : DbRow
   pub user : UserRow
   pub row_is : Some row ≡ row_named (arc_value g.key).row g.login.settings.rows
@@ -92,21 +92,21 @@ pub record IsUnstarted (home : HomeOf) (g : Guest) (cause : StartCause) : Type 0
   pub dialled : IsDialled home row began
   pub is_cause : IsCause began now user.secret (arc_value g.key) cause
 
-abbrev pub IsUnopened : HomeOf → Guest → Ending → Type 0
+abbrev pub IsUnopened : HomeOf → LoggedIn → Ending → Type 0
 IsUnopened home g ending.Unreached = Unit {0}
 IsUnopened home g ending.Memory = Unit {0}
 IsUnopened home g (ending.Unstarted cause) = IsUnstarted home g cause
 IsUnopened home g other = ⊥
 
 -- the lease was over a link of its key
-pub record HadLease (home : HomeOf) (g : Guest) (before after : ClientFacts) (r : Option Refusal) : Type 0 where
+pub record HadLease (home : HomeOf) (g : LoggedIn) (before after : ClientFacts) (r : Option Refusal) : Type 0 where
   pub link : LinkView
   pub at_home : IsAtHome home link
   pub key : link.key ≡ arc_value g.key
   pub relayed : IsRelayed link g before after r
 
 -- nothing moves but in a lease
-abbrev pub Came : HomeOf → Guest → ClientFacts → ClientFacts → Ending → Type 0
+abbrev pub Came : HomeOf → LoggedIn → ClientFacts → ClientFacts → Ending → Type 0
 Came home g before after (ending.Relayed r) = HadLease home g before after r
 Came home g before after (ending.Unstarted cause) = IsUnstarted home g cause × (after ≡ before)
 Came home g before after (ending.Managed r) = ⊥
@@ -114,7 +114,7 @@ Came home g before after other = after ≡ before
 
 -- ---- all of it, of a client that is through its login
 
-pub record HasEnded (home : HomeOf) (g : Guest) (since : Since) (p q : PassOf) (before after : ClientFacts) (e : Ending) : Type 0 where
+pub record HasEnded (home : HomeOf) (g : LoggedIn) (since : Since) (p q : PassOf) (before after : ClientFacts) (e : Ending) : Type 0 where
   pub tells : after.tells ≡ before.tells
   pub traces : Traces since p q e
   pub came : Came home g before after e

@@ -14,24 +14,24 @@ use Rattle.pool_serve.specs.Serving.{AreMarksOf, IsManaged, IsServed}
 use Rattle.pool_serve.specs.Words.{HasGiven, last_bytes, or_nothing, word_of}
 use Rattle.pool_serve.specs.declared.ending.Ending.{Ending}
 use Rattle.pool_serve.specs.declared.ending.Ending.TheVariants as ending
-use Rattle.pool_serve.specs.declared.guest.Guest.{Guest}
+use Rattle.pool_serve.specs.declared.logged_in.LoggedIn.{LoggedIn}
 
 -- a client that is through this login
-pub record IsGuestOf (v : LoginView) (g : Guest) : Type 0 where
+pub record IsGuestOf (v : LoginView) (g : LoggedIn) : Type 0 where
   pub word : g.word ≡ v.word
   pub settings : g.login.settings ≡ v.settings
   pub users : g.login.users ≡ v.users
 
 pub record LeasedAs (home : HomeOf) (v : LoginView) (after : ClientFacts) (r : Option Refusal) : Type 0 where
-  pub guest : Guest
-  pub is_guest : IsGuestOf v guest
+  pub logged_in : LoggedIn
+  pub is_logged_in : IsGuestOf v logged_in
   pub before : ClientFacts
-  pub lease : HadLease home guest before after r
+  pub lease : HadLease home logged_in before after r
 
 pub record UnstartedAs (home : HomeOf) (v : LoginView) (cause : StartCause) : Type 0 where
-  pub guest : Guest
-  pub is_guest : IsGuestOf v guest
-  pub unstarted : IsUnstarted home guest cause
+  pub logged_in : LoggedIn
+  pub is_logged_in : IsGuestOf v logged_in
+  pub unstarted : IsUnstarted home logged_in cause
 
 -- what the ends tell of an ending
 abbrev pub CameIn : HomeOf → LoginView → ClientFacts → Ending → Type 0

@@ -7,11 +7,11 @@ ghost use Rattle.link_desk.specs.Passes.{after_grant, lease_of, taken};
 ghost use Rattle.link_desk.specs.Refusing.{MayTake};
 ghost use Rattle.pool_serve.specs.Causes.{AtAsking, AtLease, AtWait};
 ghost use Rattle.pool_serve.specs.Endings.{Frees, HasEnded, HasLeased};
-ghost use Rattle.pool_serve.specs.Serving.{IsGuest};
+ghost use Rattle.pool_serve.specs.Serving.{IsLoggedIn};
 ghost use Rattle.pool_serve.specs.Shares.{Ends, Evens};
 
 use crate::ending::Ending;
-use crate::guest::Guest;
+use crate::logged_in::LoggedIn;
 use crate::opening::open_link;
 use crate::worker::Worker;
 use link_desk::answers::{Asked, Grant};
@@ -22,10 +22,10 @@ use server_end::gate::Gate;
 use server_end::{ClientEnd, ServerEnd};
 
 /// Whether a link's session is of a client's key.
-fn is_for<E: ServerEnd>(link: &CleanLink<E>, guest: &Guest) -> bool
-    ensures { result ≡ same_key link.now.key (arc_value guest.now.key) }
+fn is_for<E: ServerEnd>(link: &CleanLink<E>, logged_in: &LoggedIn) -> bool
+    ensures { result ≡ same_key link.now.key (arc_value logged_in.now.key) }
 {
-    **link.key() == *guest.key
+    **link.key() == *logged_in.key
 }
 
 impl<'a, D: LinkDesk, G: Gate<D::End>> Worker<'a, D, G> {
@@ -33,42 +33,49 @@ impl<'a, D: LinkDesk, G: Gate<D::End>> Worker<'a, D, G> {
     fn over_lent<C: ClientEnd>(
         &mut self,
         client: C,
-        guest: &Guest,
+        logged_in: &LoggedIn,
         link: CleanLink<D::End>,
     ) -> (C, Ending)
         requires home { IsAtHome D.home link }
         requires own { (D.holder self.old.pass).lease ≡ Some (lease_of link) }
-        requires guest { IsGuest guest.now }
+        requires logged_in { IsLoggedIn logged_in.now }
         ensures share { Ends (D.told self.old.pass) (D.told self.new.pass) }
         ensures frees { Frees (D.holder self.old.pass) (D.holder self.new.pass) result.1 }
-        ensures ended { HasEnded D.home guest.now AtLease (D.told self.old.pass) (D.told self.new.pass) (C.facts client) (C.facts result.0) result.1 }
+        ensures ended { HasEnded D.home logged_in.now AtLease (D.told self.old.pass) (D.told self.new.pass) (C.facts client) (C.facts result.0) result.1 }
     {
         let mut link = link;
-        if !is_for(&link, guest) {
+        if !is_for(&link, logged_in) {
             close_link(link);
             self.desk.lost(&mut self.pass);
             return (client, Ending::Strange);
         }
         link.watch(&mut self.gate);
-        self.relay(client, guest, link)
+        self.relay(client, logged_in, link)
     }
 
     /// Serves a client over a new link.
     fn over_new<C: ClientEnd>(
         &mut self,
         client: C,
-        guest: &Guest,
+        logged_in: &LoggedIn,
         number: u64,
         born: u64,
     ) -> (C, Ending)
         requires own { (D.holder self.old.pass).lease ≡ Some (record { number = number; born = born }) }
-        requires guest { IsGuest guest.now }
+        requires logged_in { IsLoggedIn logged_in.now }
         ensures share { Ends (D.told self.old.pass) (D.told self.new.pass) }
         ensures frees { Frees (D.holder self.old.pass) (D.holder self.new.pass) result.1 }
-        ensures ended { HasEnded D.home guest.now AtLease (D.told self.old.pass) (D.told self.new.pass) (C.facts client) (C.facts result.0) result.1 }
+        ensures ended { HasEnded D.home logged_in.now AtLease (D.told self.old.pass) (D.told self.new.pass) (C.facts client) (C.facts result.0) result.1 }
     {
-        match open_link(self.alloc, self.desk, guest, number, born, &mut self.gate) {
-            Ok(link) => self.relay(client, guest, link),
+        match open_link(
+            self.alloc,
+            self.desk,
+            logged_in,
+            number,
+            born,
+            &mut self.gate,
+        ) {
+            Ok(link) => self.relay(client, logged_in, link),
             Err(ending) => {
                 self.desk.start_failed(&mut self.pass);
                 (client, ending)
@@ -99,18 +106,18 @@ impl<'a, D: LinkDesk, G: Gate<D::End>> Worker<'a, D, G> {
     }
 
     /// Serves a client that has its ticket: waits for its link.
-    fn wait<C: ClientEnd>(&mut self, client: C, guest: &Guest) -> (C, Ending)
-        requires guest { IsGuest guest.now }
+    fn wait<C: ClientEnd>(&mut self, client: C, logged_in: &LoggedIn) -> (C, Ending)
+        requires logged_in { IsLoggedIn logged_in.now }
         requires here { IsSome (D.holder self.old.pass).client }
         requires none { (D.holder self.old.pass).lease ≡ None }
         requires unrefused { (D.holder self.old.pass).refused ≡ None }
         ensures share { Evens (D.told self.old.pass) (D.told self.new.pass) }
         ensures leased { HasLeased (D.holder self.old.pass) (D.holder self.new.pass) result.1 }
-        ensures ended { HasEnded D.home guest.now AtWait (D.told self.old.pass) (D.told self.new.pass) (C.facts client) (C.facts result.0) result.1 }
+        ensures ended { HasEnded D.home logged_in.now AtWait (D.told self.old.pass) (D.told self.new.pass) (C.facts client) (C.facts result.0) result.1 }
     {
         match self.take_in_turn() {
             Grant::Queued => (client, Ending::Left),
-            Grant::Lend(link) => self.over_lent(client, guest, link),
+            Grant::Lend(link) => self.over_lent(client, logged_in, link),
             Grant::Start {
                 number,
                 born,
@@ -119,7 +126,7 @@ impl<'a, D: LinkDesk, G: Gate<D::End>> Worker<'a, D, G> {
                 if let Some(link) = evicted {
                     close_link(link);
                 }
-                self.over_new(client, guest, number, born)
+                self.over_new(client, logged_in, number, born)
             }
             Grant::Refused(refusal) => (client, Ending::Refused(refusal)),
             Grant::Stranger => (client, Ending::Strange),
@@ -127,17 +134,17 @@ impl<'a, D: LinkDesk, G: Gate<D::End>> Worker<'a, D, G> {
     }
 
     /// Serves a client that is through its login: asks for a link.
-    pub(crate) fn lease<C: ClientEnd>(&mut self, client: C, guest: &Guest) -> (C, Ending)
-        requires guest { IsGuest guest.now }
+    pub(crate) fn lease<C: ClientEnd>(&mut self, client: C, logged_in: &LoggedIn) -> (C, Ending)
+        requires logged_in { IsLoggedIn logged_in.now }
         requires here { IsSome (D.holder self.old.pass).client }
         requires none { (D.holder self.old.pass).lease ≡ None }
         requires unrefused { (D.holder self.old.pass).refused ≡ None }
         ensures share { Evens (D.told self.old.pass) (D.told self.new.pass) }
         ensures leased { HasLeased (D.holder self.old.pass) (D.holder self.new.pass) result.1 }
-        ensures ended { HasEnded D.home guest.now AtAsking (D.told self.old.pass) (D.told self.new.pass) (C.facts client) (C.facts result.0) result.1 }
+        ensures ended { HasEnded D.home logged_in.now AtAsking (D.told self.old.pass) (D.told self.new.pass) (C.facts client) (C.facts result.0) result.1 }
     {
-        match self.desk.ask(&mut self.pass, &guest.key) {
-            Asked::Queued(_) => self.wait(client, guest),
+        match self.desk.ask(&mut self.pass, &logged_in.key) {
+            Asked::Queued(_) => self.wait(client, logged_in),
             Asked::Refused(refusal) => (client, Ending::Refused(refusal)),
             Asked::Memory => (client, Ending::Memory),
             Asked::Stranger => (client, Ending::Strange),

@@ -2,8 +2,8 @@
 #![tactic(auto)]
 
 mod ending;
-mod guest;
 mod leasing;
+mod logged_in;
 mod noting;
 mod opening;
 mod relaying;

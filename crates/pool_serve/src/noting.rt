@@ -1,11 +1,11 @@
 //! What the pool's log is told of a client. No contract says what a log is told; the tests do.
 
 use crate::ending::Ending;
-use crate::guest::Guest;
+use crate::logged_in::LoggedIn;
 use disposal::Verdict;
 use link_desk::desk::LinkDesk;
-use link_start::heard::Question;
 use link_start::start::StartCause;
+use link_start::start_reply::Question;
 use log_lines::notes::{Client, Loss, Note, Server, Unstarted, Visit};
 use login_core::Failure;
 use login_run::{LoginRun, Said};
@@ -96,24 +96,24 @@ fn start_note<'a>(cause: &'a StartCause) -> Option<Unstarted<'a>> {
 }
 
 /// The server of a client's database.
-fn server_of(guest: &Guest) -> Server {
+fn server_of(logged_in: &LoggedIn) -> Server {
     Server {
-        host: guest.key.host.unwrap_or([0; 4]),
-        port: guest.key.port,
+        host: logged_in.key.host.unwrap_or([0; 4]),
+        port: logged_in.key.port,
     }
 }
 
 /// How a client's time at the desk ended; nothing, where it went or was served.
-pub(crate) fn ending_note<'a>(guest: &Guest, ending: &'a Ending) -> Option<Note<'a>> {
+pub(crate) fn ending_note<'a>(logged_in: &LoggedIn, ending: &'a Ending) -> Option<Note<'a>> {
     match ending {
         Ending::Left | Ending::Strange | Ending::Relayed(None) | Ending::Managed(None) => None,
         Ending::Refused(refusal)
         | Ending::Relayed(Some(refusal))
         | Ending::Managed(Some(refusal)) => Some(Note::Refused(*refusal)),
         Ending::Memory => Some(Note::Refused(Refusal::OutOfMemory)),
-        Ending::Unreached => Some(Note::Unstarted(server_of(guest), Unstarted::NotReached)),
+        Ending::Unreached => Some(Note::Unstarted(server_of(logged_in), Unstarted::NotReached)),
         Ending::Unstarted(cause) => match start_note(cause) {
-            Some(why) => Some(Note::Unstarted(server_of(guest), why)),
+            Some(why) => Some(Note::Unstarted(server_of(logged_in), why)),
             None => Some(Note::Refused(Refusal::OutOfMemory)),
         },
     }

@@ -5,12 +5,12 @@ ghost use Rattle.user_file.specs.Users.{user_named};
 ghost use Rattle.std.specs.Arc.{arc_value};
 ghost use Rattle.link_desk.specs.Homes.{IsAtHome};
 ghost use Rattle.pool_serve.specs.Endings.{IsUnopened};
-ghost use Rattle.pool_serve.specs.Serving.{IsGuest, LetsIn, MayEnd, owed};
+ghost use Rattle.pool_serve.specs.Serving.{IsLoggedIn, LetsIn, MayEnd, owed};
 ghost use Rattle.pool_serve.specs.Words.{word_of};
 
 use crate::TURNS;
 use crate::ending::Ending;
-use crate::guest::Guest;
+use crate::logged_in::LoggedIn;
 use ini_config::DbRow;
 use link_desk::desk::LinkDesk;
 use link_run::links::CleanLink;
@@ -21,43 +21,43 @@ use std::sync::Arc;
 use user_file::UserRow;
 
 /// The row of the database that a client asked for.
-fn row_of(guest: &Guest) -> Option<&DbRow>
-    ensures { option_copied result ≡ row_named (arc_value guest.now.key).row guest.now.login.settings.rows }
+fn row_of(logged_in: &LoggedIn) -> Option<&DbRow>
+    ensures { option_copied result ≡ row_named (arc_value logged_in.now.key).row logged_in.now.login.settings.rows }
 {
-    guest.login.settings().row(guest.key.row.as_slice())
+    logged_in.login.settings().row(logged_in.key.row.as_slice())
 }
 
 /// The row of a client's user.
-fn user_of(guest: &Guest) -> Option<&UserRow>
-    ensures { option_copied result ≡ user_named (arc_value guest.now.key).user guest.now.login.users }
+fn user_of(logged_in: &LoggedIn) -> Option<&UserRow>
+    ensures { option_copied result ≡ user_named (arc_value logged_in.now.key).user logged_in.now.login.users }
 {
-    guest.login.users().row(guest.key.user.as_slice())
+    logged_in.login.users().row(logged_in.key.user.as_slice())
 }
 
 /// Starts a link of this number and second of birth for a client, over a new end of its row's server; or why it isn't.
 pub(crate) fn open_link<D: LinkDesk, G: Gate<D::End>>(
     alloc: Global,
     desk: &D,
-    guest: &Guest,
+    logged_in: &LoggedIn,
     number: u64,
     born: u64,
     gate: &mut G,
 ) -> Result<CleanLink<D::End>, Ending>
-    requires guest { IsGuest guest.now }
-    ensures key { IfOk result (λ l. l.key ≡ arc_value guest.now.key) }
+    requires logged_in { IsLoggedIn logged_in.now }
+    ensures key { IfOk result (λ l. l.key ≡ arc_value logged_in.now.key) }
     ensures number { IfOk result (λ l. l.number ≡ number) }
     ensures born { IfOk result (λ l. l.born ≡ born) }
     ensures home { IfOk result (λ l. IsAtHome D.home l) }
-    ensures why { IfErr result (λ e. IsUnopened D.home guest.now e) }
-    ensures told { LetsIn D.home guest.now.login.users → IfErr result (λ e. MayEnd [] (owed D.home.catalogue guest.now [] []) (word_of e)) }
+    ensures why { IfErr result (λ e. IsUnopened D.home logged_in.now e) }
+    ensures told { LetsIn D.home logged_in.now.login.users → IfErr result (λ e. MayEnd [] (owed D.home.catalogue logged_in.now [] []) (word_of e)) }
 {
-    let Some(row) = row_of(guest) else {
+    let Some(row) = row_of(logged_in) else {
         return Err(Ending::Unreached);
     };
-    let Some(user) = user_of(guest) else {
+    let Some(user) = user_of(logged_in) else {
         return Err(Ending::Unreached);
     };
-    let Ok(key) = Arc::try_clone(&guest.key) else {
+    let Ok(key) = Arc::try_clone(&logged_in.key) else {
         return Err(Ending::Memory);
     };
     let Some(mut end) = desk.dial(row) else {

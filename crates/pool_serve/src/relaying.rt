@@ -14,7 +14,7 @@ ghost use Rattle.pool_serve.specs.Shares.{Ends};
 ghost use Rattle.pool_serve.specs.Words.{word_of};
 
 use crate::ending::Ending;
-use crate::guest::Guest;
+use crate::logged_in::LoggedIn;
 use crate::worker::Worker;
 use link_desk::desk::LinkDesk;
 use link_run::links::CleanLink;
@@ -65,23 +65,23 @@ impl<'a, D: LinkDesk, G: Gate<D::End>> Worker<'a, D, G> {
     pub(crate) fn relay<C: ClientEnd>(
         &mut self,
         client: C,
-        guest: &Guest,
+        logged_in: &LoggedIn,
         link: CleanLink<D::End>,
     ) -> (C, Ending)
         requires home { IsAtHome D.home link }
         requires own { (D.holder self.old.pass).lease ≡ Some (lease_of link) }
-        requires settings { AreWithinBounds guest.now.login.settings }
+        requires settings { AreWithinBounds logged_in.now.login.settings }
         ensures tells { (C.facts result.0).tells ≡ (C.facts client).tells }
         ensures share { Ends (D.told self.old.pass) (D.told self.new.pass) }
         ensures holder { IsBackOrLost (D.holder self.old.pass) (D.holder self.new.pass) }
-        ensures ended { HasRelayed link guest.now (C.facts client) (C.facts result.0) result.1 }
-        ensures serves { (C.facts client).tells ≡ true → link.stands.follows ≡ true → Serves (limit_of guest.now) link.stands.server.strikable (C.facts client) (C.facts result.0) (service_pieces link.stands.server.catalogue link.key guest.now.word) (word_of result.1) }
+        ensures ended { HasRelayed link logged_in.now (C.facts client) (C.facts result.0) result.1 }
+        ensures serves { (C.facts client).tells ≡ true → link.stands.follows ≡ true → Serves (limit_of logged_in.now) link.stands.server.strikable (C.facts client) (C.facts result.0) (service_pieces link.stands.server.catalogue link.key logged_in.now.word) (word_of result.1) }
     {
         leases_are_allowed();
         service_is_its_pieces();
         let number = link.number();
-        let limit = guest.login.settings().max_packet_size();
-        let mut relay = match Relay::begin(self.alloc, client, link, guest.word, limit) {
+        let limit = logged_in.login.settings().max_packet_size();
+        let mut relay = match Relay::begin(self.alloc, client, link, logged_in.word, limit) {
             Ok(relay) => relay,
             Err((client, link)) => {
                 self.give_back(link);
@@ -90,7 +90,7 @@ impl<'a, D: LinkDesk, G: Gate<D::End>> Worker<'a, D, G> {
         };
         let refusal = pumped(&mut relay, &mut self.gate);
         let (client, link) = relay.close();
-        self.hand_back(guest, number, link);
+        self.hand_back(logged_in, number, link);
         (client, Ending::Relayed(refusal))
     }
 }

@@ -7,7 +7,7 @@ ghost use Rattle.pool_serve.specs.Backs.{GoesBack, IsBackHome, IsOwnLease};
 ghost use Rattle.pool_serve.specs.Shares.{Ends};
 
 use crate::TURNS;
-use crate::guest::Guest;
+use crate::logged_in::LoggedIn;
 use crate::noting::loss_of;
 use crate::worker::Worker;
 use disposal::Verdict;
@@ -45,17 +45,17 @@ impl<'a, D: LinkDesk, G: Gate<D::End>> Worker<'a, D, G> {
     }
 
     /// Reports the client's link, of this number, lost.
-    fn lose(&mut self, guest: &Guest, number: u64, why: Loss)
+    fn lose(&mut self, logged_in: &LoggedIn, number: u64, why: Loss)
         requires some { IsSome (D.holder self.old.pass).lease }
         ensures share { Ends (D.told self.old.pass) (D.told self.new.pass) }
         ensures holder { D.holder self.new.pass ≡ without_lease Lost (D.holder self.old.pass) }
     {
-        self.note(guest, &Note::LinkLost(number, why));
+        self.note(logged_in, &Note::LinkLost(number, why));
         self.desk.lost(&mut self.pass);
     }
 
     /// Gives the link of a lease that has ended, of this number, back: clean as it was, or reset; or offers its server a Terminate and reports it lost.
-    pub(crate) fn hand_back(&mut self, guest: &Guest, number: u64, link: Returned<D::End>)
+    pub(crate) fn hand_back(&mut self, logged_in: &LoggedIn, number: u64, link: Returned<D::End>)
         requires home { IsBackHome D.home link }
         requires own { IsOwnLease (D.holder self.old.pass).lease link }
         ensures share { Ends (D.told self.old.pass) (D.told self.new.pass) }
@@ -65,14 +65,14 @@ impl<'a, D: LinkDesk, G: Gate<D::End>> Worker<'a, D, G> {
             Returned::Unused(link) => self.give_back(link),
             Returned::Used(link) => match reset_link(self.alloc, link, &mut self.gate, TURNS) {
                 Ok(link) => self.give_back(link),
-                Err(_) => self.lose(guest, number, Loss::NotReset),
+                Err(_) => self.lose(logged_in, number, Loss::NotReset),
             },
             Returned::Gone(link, cause) => {
                 let mut link = link;
                 if is_at_border(cause) {
                     offer_terminate(&mut link.end);
                 }
-                self.lose(guest, number, loss_of(cause));
+                self.lose(logged_in, number, loss_of(cause));
             }
         }
     }

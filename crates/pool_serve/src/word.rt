@@ -1,12 +1,12 @@
 //! The last word to a client.
-ghost use Rattle.std.specs.Prelude.{◌≡◌, ◌≤◌, drop, length};
+ghost use Rattle.std.specs.Prelude.{◌≡◌};
 ghost use Rattle.pool_serve.specs.Words.{HasGiven, last_bytes, last_of, or_nothing};
 
 use crate::TURNS;
 use link_start::start::{StartCause, StartError, StartRefusal};
 use message_view::{Refusal, refusal_bytes};
 use server_end::gate::Gate;
-use server_end::{ClientEnd, Moved, ServerEnd};
+use server_end::{ClientEnd, Moved, ServerEnd, rest_of};
 
 /// What a client is told last.
 #[derive(Drop)]
@@ -15,14 +15,6 @@ pub(crate) enum LastWord {
     Refusal(Refusal),
     /// The ErrorResponse by which a server refused the start of the client's link.
     Error(StartError),
-}
-
-/// What is left of some bytes.
-fn rest_of(bytes: &[u8], from: usize) -> &[u8]
-    requires { from ≤ length bytes.now }
-    ensures { result.now ≡ drop from bytes.now }
-{
-    &bytes[from..]
 }
 
 /// Gives a client these bytes, in at most so many turns; the gate's turns are taken where it takes none.

@@ -1,6 +1,6 @@
 //! A worker.
 
-use crate::guest::Guest;
+use crate::logged_in::LoggedIn;
 use crate::noting::named;
 use link_desk::desk::LinkDesk;
 use log_lines::notes::{Note, Visit};
@@ -19,8 +19,8 @@ pub(crate) struct Worker<'a, D: LinkDesk, G> {
 
 impl<'a, D: LinkDesk, G> Worker<'a, D, G> {
     /// Tells the log of its client.
-    pub(crate) fn note(&self, guest: &Guest, note: &Note<'_>) {
-        let client = named(self.visit, self.number, Some(&guest.key));
+    pub(crate) fn note(&self, logged_in: &LoggedIn, note: &Note<'_>) {
+        let client = named(self.visit, self.number, Some(&logged_in.key));
         self.desk.note(&client, note);
     }
 }

@@ -4,7 +4,7 @@ use Rattle.disposal.specs.declared.Verdict.TheVariants.{Settled}
 use Rattle.std.specs.Arc.{arc_value}
 use Rattle.link_laws.specs.Standing.{Standing}
 use Rattle.link_run.specs.Links.{LinkView}
-use Rattle.link_run.specs.declared.links.Lent.{Lent}
+use Rattle.link_run.specs.declared.links.LinkParts.{LinkParts}
 use Rattle.relay_laws.specs.Leases.{RelayView, relay_verdict}
 use Rattle.relay_flow.specs.Flows.{is_empty, is_faulty}
 use Rattle.relay_laws.specs.Answers.{is_quiet}
@@ -27,7 +27,7 @@ pub record IsThatLink (v : RelayView) (l : LinkView) : Type 0 where
   pub reports : l.reports ≡ v.told.reports
 
 -- the same of a link taken apart
-pub record IsThatLent {E : Type 0} (standing : E → Standing) (v : RelayView) (l : Lent E) : Type 0 where
+pub record IsThatLent {E : Type 0} (standing : E → Standing) (v : RelayView) (l : LinkParts E) : Type 0 where
   pub stands : standing l.end ≡ v.link
   pub key : arc_value l.key ≡ v.key
   pub number : l.number ≡ v.number

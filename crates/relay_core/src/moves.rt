@@ -1,20 +1,12 @@
 //! The four moves of a pump: each end is read once, and written once.
-ghost use Rattle.std.specs.Prelude.{◌≡◌, ◌≤◌, drop, length, true, false};
+ghost use Rattle.std.specs.Prelude.{◌≡◌, true, false};
 ghost use Rattle.relay_flow.specs.Flows.{is_empty};
 ghost use Rattle.relay_laws.specs.Leases.{Keeps};
 ghost use Rattle.relay_laws.specs.Steps.{IsStuck, IsStuckClient, may_read_client, may_read_link, may_write_client, may_write_link, ReadsClient, ReadsLink, WritesClient, WritesLink};
 
 use crate::flags::{any_over, client_read, client_wrote, count_moved, link_moved};
 use crate::relay::Relay;
-use server_end::{ClientEnd, Moved, ServerEnd};
-
-/// What is left of some bytes.
-fn rest_of(bytes: &[u8], from: usize) -> &[u8]
-    requires { from ≤ length bytes.now }
-    ensures { result.now ≡ drop from bytes.now }
-{
-    &bytes[from..]
-}
+use server_end::{ClientEnd, Moved, ServerEnd, rest_of};
 
 impl<C: ClientEnd, E: ServerEnd> Relay<C, E> {
     /// Reads the client, and lets what may go on.

@@ -9,7 +9,7 @@ use bytes::BytesMut;
 use disposal::laws::settled_exactly;
 use disposal::{Traffic, Verdict};
 use frame_view::Side;
-use link_run::links::{CleanLink, Lent, UsedLink};
+use link_run::links::{CleanLink, LinkParts, UsedLink};
 use link_run::welcome::welcome_over;
 use message_view::KeyWord;
 use relay_flow::flow::Flow;
@@ -36,7 +36,7 @@ pub enum Returned<E: ServerEnd> {
     /// Bytes went over it, and the verdict on them is Settled: a reset makes it clean.
     Used(UsedLink<E>),
     /// Neither: the link taken apart, and why.
-    Gone(Lent<E>, Cause),
+    Gone(LinkParts<E>, Cause),
 }
 
 /// A client's end, a link, and the bytes between them.
@@ -46,7 +46,7 @@ pub enum Returned<E: ServerEnd> {
 /// that some lease is under way (`IsLease`) is the type's invariant, and the laws of `relay_laws` say what follows from it.
 pub struct Relay<C: ClientEnd, E: ServerEnd> {
     pub(crate) client: C,
-    pub(crate) link: Lent<E>,
+    pub(crate) link: LinkParts<E>,
     pub(crate) word: KeyWord,
     pub(crate) welcome: BytesMut,
     pub(crate) greeted: usize,

@@ -18,6 +18,7 @@ ghost use Rattle.relay_flow.specs.declared.flow.TheConstants.{ROOM};
 
 use crate::parts::{Advance, body_next, head_next};
 use frame_view::client::TERMINATE;
+use frame_view::laws::are_bytes;
 use frame_view::{FrameFault, Side};
 use server_end::{ClientEnd, Moved, ServerEnd};
 use std::alloc::{AllocError, Global};
@@ -103,13 +104,6 @@ enum Ahead {
     Waits,
     Last,
     Faulty(FrameFault),
-}
-
-/// That a slice's items are bytes, for the prover.
-fn are_bytes(bytes: &[u8])
-    ensures { AreBytes bytes.now }
-{
-    let _count = bytes.len();
 }
 
 /// Whether a frame of this type ends what goes on.

@@ -4,10 +4,9 @@
 //! A server's ReadyForQuery and ParameterStatus go on only whole, since what they say is read.
 
 ghost use Rattle.std.specs.Prelude.{◌≡◌, ◌<◌, ◌≤◌, ◌^◌, true, IfSome};
-ghost use Rattle.frame_view.specs.Frames.{AreBytes};
 ghost use Rattle.relay_flow.specs.Parts.{goes_whole, status_in, is_foreign, is_foreign_in_parts, GoesOn, GoesOnInside};
 
-use frame_view::laws::{front_grows, front_is_spelled};
+use frame_view::laws::{are_bytes, front_grows, front_is_spelled};
 use frame_view::server::{PARAMETER_STATUS, READY_FOR_QUERY};
 use frame_view::{Frame, FrameFault, Side, Step, next_frame};
 
@@ -75,12 +74,6 @@ fn is_foreign_in_parts(side: Side, kind: u8) -> bool
         Side::Client => false,
         Side::Server => kind == READY_FOR_QUERY || kind == PARAMETER_STATUS,
     }
-}
-
-fn are_bytes(bytes: &[u8])
-    ensures { AreBytes bytes.now }
-{
-    let _count = bytes.len();
 }
 
 /// From inside a frame of this type of which `rest` bytes are to come: over those that are there, up to its end. None where

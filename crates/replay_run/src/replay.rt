@@ -21,7 +21,7 @@ use login_core::laws::login_is_of_its_row;
 use login_core::{Login, LoginStep};
 use login_laws::laws::{passed_keys_are_link_keys, settings_rows_are_lawful};
 use memory_ends::memory_server::{MemoryServer, ServerAuth};
-use memory_lease::alone::{Unserved, serve_alone};
+use memory_lease::alone::{ServeError, serve_alone};
 use message_view::{KeyWord, Refusal, put_authentication_ok, refusal_bytes};
 use pool_app::fault::AppFault;
 use pool_app::files::{MOST_BYTES, ReadFault, read_all};
@@ -43,7 +43,7 @@ const SERVER_WORD: KeyWord = KeyWord {
 /// The bytes that a call of an end moves at most in `replay`.
 const CUT: usize = 8_192;
 
-/// What a client is answered whose lease comes to no end ([`Unserved::Unended`]). No test has met one, and that there is none isn't
+/// What a client is answered whose lease comes to no end ([`ServeError::Unended`]). No test has met one, and that there is none isn't
 /// proved.
 #[derive(Clone, Copy, Drop)]
 pub enum Unended {
@@ -124,8 +124,8 @@ fn served(
         rest,
     ) {
         Ok(answer) => Ok(answer),
-        Err(Unserved::Memory) => Err(AllocError),
-        Err(Unserved::Unended(_)) => match service.unended {
+        Err(ServeError::Memory) => Err(AllocError),
+        Err(ServeError::Unended(_)) => match service.unended {
             Unended::BySession => answered_by_session(alloc, service, key, rest),
             Unended::Failed => Err(AllocError),
         },

@@ -3,7 +3,7 @@
 
 pub mod gate;
 
-ghost use Rattle.std.specs.Prelude.{◌≡◌, ◌<◌, [], length};
+ghost use Rattle.std.specs.Prelude.{◌≡◌, ◌<◌, ◌≤◌, [], drop, length};
 ghost use Rattle.link_laws.specs.Standing.{Standing, Moves, ClientFacts};
 ghost use Rattle.server_end.specs.Moves.{ClientReads, ClientWrites, CountsRead, CountsWrite, IsWithin, moved};
 
@@ -18,6 +18,15 @@ pub enum Moved {
     Ended,
     /// None, by a fault.
     Fault,
+}
+
+/// What of these bytes is still to go, of which so many have gone. It stands for itself, since a loop that cuts its bytes is proved
+/// the faster without the cut.
+pub fn rest_of(bytes: &[u8], gone: usize) -> &[u8]
+    requires { gone ≤ length bytes.now }
+    ensures { result.now ≡ drop gone bytes.now }
+{
+    &bytes[gone..]
 }
 
 /// A server's end of a link.

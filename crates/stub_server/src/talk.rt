@@ -1,9 +1,7 @@
 //! What the stand-in server says to one client, packet by packet.
 ghost use Rattle.std.specs.Prelude.{◌≡◌, ◌<◌, ◌≤◌, false, true, length, IfOk, OnOk};
 ghost use Rattle.std.specs.Arc.{arc_value};
-ghost use Rattle.session_machine.specs.Sessions.{unstruck_if};
-ghost use Rattle.session_values.specs.Answers.{Finds};
-ghost use Rattle.link_laws.specs.Stages.{opens, started_by};
+ghost use Rattle.link_laws.specs.Stages.{opens};
 ghost use Rattle.stub_server.specs.Talks.{Gives, Hears, IsAnswered, IsSilent, IsTurn, Takes, TakesOne, is_over, new_talk, server_of, talk_of};
 ghost use Rattle.stub_server.specs.Talks as spec;
 ghost use Rattle.stub_server.specs.declared.talk.Stage.TheVariants.{Serves, Waits};
@@ -15,12 +13,12 @@ use frame_view::laws::{
 };
 use frame_view::{FirstStep, LONGEST_FRAME, Side, Step, first_packet, next_frame};
 use link_laws::futures_stay;
-use message_view::{KeyWord, StartupView, put_authentication_ok};
+use memory_ends::dialogue::started;
+use message_view::{KeyWord, put_authentication_ok};
 use session_catalogue::Catalogue;
 use session_machine::Session;
 use session_values::error_responses::put_fatal;
 use session_values::stop::Stop;
-use start_keys::stub_key;
 use std::alloc::{AllocError, Global};
 use std::marker::Model;
 use std::sync::Arc;
@@ -95,16 +93,6 @@ impl Model for Talk {
     ghost Value = { TalkOf };
 
     ghost view = { λ t. record { server = server_of t.host; stage = t.stage; inbox = t.inbox.items; outbox = t.outbox.items } };
-}
-
-/// The session that a StartupMessage asks for, by the bytes after its code.
-fn started(alloc: Global, catalogue: &Catalogue, start: &[u8]) -> Result<Session, Stop>
-    ensures { Finds result (unstruck_if (started_by catalogue.now start.now)) }
-{
-    let view = StartupView::read(start)?;
-    let key = stub_key(alloc, &view)?;
-    let session = Session::start(alloc, catalogue, &key)??;
-    Ok(session)
 }
 
 impl Host {

@@ -7,10 +7,10 @@ use Rattle.play.proofs.lease.last.Goals as goal
 
 pub returns-in-LoggingIn-clause-done : goal.returns-in-LoggingIn-clause-done
 returns-in-LoggingIn-clause-done c =
-    let k = subst (λ s. IsAt c.args.house.now c.args.word c.args.script.now.bytes s) c.in-LoggingIn.is c.requires in
-    (k.0, piece_done c.args.house.now c.args.word c.in-LoggingIn.client (logs_in_piece c.args.house.now c.args.word c.in-LoggingIn.client c.in-LoggingIn.login k.1))
+    let k = subst (λ s. IsAt c.args.pool.now c.args.word c.args.script.now.bytes s) c.in-LoggingIn.is c.requires in
+    (k.0, piece_done c.args.pool.now c.args.word c.in-LoggingIn.client (logs_in_piece c.args.pool.now c.args.word c.in-LoggingIn.client c.in-LoggingIn.login k.1))
 
 pub returns-in-Waiting-clause-done : goal.returns-in-Waiting-clause-done
 returns-in-Waiting-clause-done c =
-    let k = subst (λ s. IsAt c.args.house.now c.args.word c.args.script.now.bytes s) c.in-Waiting.is c.requires in
-    (k.0, piece_done c.args.house.now c.args.word c.in-Waiting.client (waits_piece c.args.house.now c.args.word c.in-Waiting.client (arc_value c.in-Waiting.key) k.1))
+    let k = subst (λ s. IsAt c.args.pool.now c.args.word c.args.script.now.bytes s) c.in-Waiting.is c.requires in
+    (k.0, piece_done c.args.pool.now c.args.word c.in-Waiting.client (waits_piece c.args.pool.now c.args.word c.in-Waiting.client (arc_value c.in-Waiting.key) k.1))

@@ -7,22 +7,22 @@ use Rattle.play.proofs.login.follow.Goals.{in-More, in-Ask+in_ok-give-in-Ask}
 use Rattle.play.proofs.login.follow.Goals as goal
 
 pub ask-requires : goal.ask-requires
-ask-requires c = passes c.args.house.now c.args.word c.args.client c.in-Passed.key c.args.login (subst (λ s. Steps c.args.house.now c.args.word c.args.client s c.args.login) c.in-Passed.is c.requires)
+ask-requires c = passes c.args.pool.now c.args.word c.args.client c.in-Passed.key c.args.login (subst (λ s. Steps c.args.pool.now c.args.word c.args.client s c.args.login) c.in-Passed.is c.requires)
 
 pub refuse-requires : goal.refuse-requires
-refuse-requires c = steps_piece c.args.house.now c.args.word c.args.client c.args.step c.args.login c.requires
+refuse-requires c = steps_piece c.args.pool.now c.args.word c.args.client c.args.step c.args.login c.requires
 
 pub leave-requires : goal.leave-requires
 leave-requires c =
-    subst (λ d. IsDone c.args.house.now c.args.word d) (sym (c.in_ok-give-in-Failed.ensures.ok ∙ ap (given_more c.args.client) c.as_bytes-in-Failed.ensures))
-    (piece_done c.args.house.now c.args.word _ (fails c.args.house.now c.args.word c.args.client c.in-Failed.failure c.args.login (subst (λ s. Steps c.args.house.now c.args.word c.args.client s c.args.login) c.in-Failed.is c.requires)))
+    subst (λ d. IsDone c.args.pool.now c.args.word d) (sym (c.in_ok-give-in-Failed.ensures.ok ∙ ap (given_more c.args.client) c.as_bytes-in-Failed.ensures))
+    (piece_done c.args.pool.now c.args.word _ (fails c.args.pool.now c.args.word c.args.client c.in-Failed.failure c.args.login (subst (λ s. Steps c.args.pool.now c.args.word c.args.client s c.args.login) c.in-Failed.is c.requires)))
 
 pub leave-requires-in-Arrived : goal.leave-requires-in-Arrived
-leave-requires-in-Arrived c = piece_done c.args.house.now c.args.word c.args.client (steps_piece c.args.house.now c.args.word c.args.client c.args.step c.args.login c.requires)
+leave-requires-in-Arrived c = piece_done c.args.pool.now c.args.word c.args.client (steps_piece c.args.pool.now c.args.word c.args.client c.args.step c.args.login c.requires)
 
 pub returns-clause-at : goal.returns-clause-at
 returns-clause-at c = elim c.match-step.branch [
-  | in-More w ↦ more_at c.args.house.now c.args.word c.args.client c.match-step.client c.args.login (subst (λ s. Steps c.args.house.now c.args.word c.args.client s c.args.login) w.in-More.is c.requires) w.client-is
-  | in-Ask+in_ok-give-in-Ask w ↦ asked_at c.args.house.now c.args.word c.args.client c.match-step.client w.in-Ask.question c.args.login (subst (λ s. Steps c.args.house.now c.args.word c.args.client s c.args.login) w.in-Ask.is c.requires)
+  | in-More w ↦ more_at c.args.pool.now c.args.word c.args.client c.match-step.client c.args.login (subst (λ s. Steps c.args.pool.now c.args.word c.args.client s c.args.login) w.in-More.is c.requires) w.client-is
+  | in-Ask+in_ok-give-in-Ask w ↦ asked_at c.args.pool.now c.args.word c.args.client c.match-step.client w.in-Ask.question c.args.login (subst (λ s. Steps c.args.pool.now c.args.word c.args.client s c.args.login) w.in-Ask.is c.requires)
       (w.client-is ∙ (w.in_ok-give-in-Ask.ensures.ok ∙ ap (given_more c.args.client) w.as_bytes.ensures))
 ]

@@ -6,5 +6,5 @@ use Rattle.play.proofs.stage.refuse.Goals as goal
 
 pub leave-requires : goal.leave-requires
 leave-requires c =
-    subst (λ d. IsDone c.args.house.now c.args.word d) (sym (c.in_ok-give.ensures.ok ∙ ap (given_more c.args.client) c.refusal_bytes.ensures))
-    (refused_done c.args.house.now c.args.word c.args.client c.args.refusal c.requires)
+    subst (λ d. IsDone c.args.pool.now c.args.word d) (sym (c.in_ok-give.ensures.ok ∙ ap (given_more c.args.client) c.refusal_bytes.ensures))
+    (refused_done c.args.pool.now c.args.word c.args.client c.args.refusal c.requires)

@@ -3,4 +3,4 @@ use Rattle.play.specs.Players.{ArePlayers}
 use Rattle.play.proofs.table.players.Given as goal
 
 abbrev pub invariant-loop-script : goal.invariant-loop-script
-invariant-loop-script l = ArePlayers l.house (take l.script-index l.scripts) l.players.items
+invariant-loop-script l = ArePlayers l.pool (take l.script-index l.scripts) l.players.items

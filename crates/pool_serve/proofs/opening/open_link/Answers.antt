@@ -10,9 +10,9 @@ use Rattle.pool_serve.proofs.opening.open_link.Goals as goal
 
 pub returns-in-Ok-start_link-clause-home : goal.returns-in-Ok-start_link-clause-home
 returns-in-Ok-start_link-clause-home g c =
-    started_home g.D.LinkDesk.home (g.D.End.ServerEnd.standing c.watch.new.end) c.in-Some-user_of.user.now.secret c.in-Some.row.now (arc_value c.args.guest.now.key) c.in-Ok-start_link.link
+    started_home g.D.LinkDesk.home (g.D.End.ServerEnd.standing c.watch.new.end) c.in-Some-user_of.user.now.secret c.in-Some.row.now (arc_value c.args.logged_in.now.key) c.in-Ok-start_link.link
     (subst (λ (s : Standing). IsDialled g.D.LinkDesk.home c.in-Some.row.now s) (sym c.watch.ensures) c.in-Some-dial.ensures)
-    (row_address c.args.guest.now.login.settings.rows c.in-Some.row.now (arc_value c.args.guest.now.key) c.in-Some.ensures c.requires.guest.row)
+    (row_address c.args.logged_in.now.login.settings.rows c.in-Some.row.now (arc_value c.args.logged_in.now.key) c.in-Some.ensures c.requires.logged_in.row)
     c.in-Ok-start_link.ensures.started
     (c.in-Ok-start_link.ensures.key ∙ c.in-Ok.ensures)
 
@@ -20,10 +20,10 @@ pub returns-in-Err-clause-told : goal.returns-in-Err-clause-told
 returns-in-Err-clause-told g c = λ lets.
     let end = c.watch.new.end in
     let dialled = subst (λ (s : Standing). IsDialled g.D.LinkDesk.home c.in-Some.row.now s) (sym c.watch.ensures) c.in-Some-dial.ensures in
-    let key = arc_value c.args.guest.now.key in
+    let key = arc_value c.args.logged_in.now.key in
     let user = c.in-Some-user_of.user.now in
-    unstarted (g.D.LinkDesk.home.catalogue (address_of key)) (g.D.End.ServerEnd.standing end) (g.D.End.ServerEnd.standing c.in-Err.fault.end) user.secret key c.args.guest.now.word c.in-Err.fault.cause _ refl
-    (dialled.catalogue (dialled.follows lets.follow) ∙ ap g.D.LinkDesk.home.catalogue (row_address c.args.guest.now.login.settings.rows c.in-Some.row.now key c.in-Some.ensures c.requires.guest.row))
+    unstarted (g.D.LinkDesk.home.catalogue (address_of key)) (g.D.End.ServerEnd.standing end) (g.D.End.ServerEnd.standing c.in-Err.fault.end) user.secret key c.args.logged_in.now.word c.in-Err.fault.cause _ refl
+    (dialled.catalogue (dialled.follows lets.follow) ∙ ap g.D.LinkDesk.home.catalogue (row_address c.args.logged_in.now.login.settings.rows c.in-Some.row.now key c.in-Some.ensures c.requires.logged_in.row))
     (dialled.follows lets.follow)
     (dialled.lets_in key user.secret (lets.accept key.user user (sym c.in-Some-user_of.ensures)))
     (subst (λ (k : StartKeyOf). IsCause (g.D.End.ServerEnd.standing end) (g.D.End.ServerEnd.standing c.in-Err.fault.end) user.secret k c.in-Err.fault.cause) c.in-Ok.ensures c.in-Err.ensures.cause)

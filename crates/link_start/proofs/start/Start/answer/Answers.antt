@@ -6,8 +6,8 @@ use Rattle.frame_view.specs.Frames.{AreBytes}
 use Rattle.std.specs.Arc.{arc_value}
 use Rattle.link_laws.specs.Dialogues.{auth_of}
 use Rattle.user_file.specs.Secrets.{answer}
-use Rattle.link_start.specs.Heard.{heard}
-use Rattle.link_start.specs.declared.heard.Heard.TheVariants.{Asked}
+use Rattle.link_start.specs.StartReply.{heard}
+use Rattle.link_start.specs.declared.start_reply.StartProgress.TheVariants.{Asked}
 use Rattle.link_start.specs.Starts.{StartView, IsUnderWay, IsLinkKey, answer_to, own_answer}
 use Rattle.link_start.proofs.Starting.{has_no_answer, none_shown, own_answer_is, start_answered}
 use Rattle.link_start.proofs.start.Start.answer.Goals.{in-Cleartext+in-Some+in_ok-put_password_message-in-Cleartext, in-Md5+in_ok-put_password_message-in-Md5}

@@ -4,8 +4,8 @@ use Rattle.frame_view.specs.Frames.{AreBytes, frames}
 use Rattle.message_view.specs.declared.ViewFault.{ViewFault}
 use Rattle.message_view.specs.declared.views.KeyView.{KeyView}
 use Rattle.param_track.specs.Kept.{Kept}
-use Rattle.link_start.specs.declared.heard.Untaken.{Untaken}
-use Rattle.link_start.specs.Heard.{Takes, reported_all, keyed_all}
+use Rattle.link_start.specs.declared.start_reply.ReportError.{ReportError}
+use Rattle.link_start.specs.StartReply.{Takes, reported_all, keyed_all}
 use Rattle.link_start.specs.Starts.{StartView, IsDone, IsOwnKey}
 use Rattle.link_start.proofs.Starting.{started_clean, never_unreported, never_unkeyed, own_key}
 use Rattle.link_start.proofs.start.Start.finish.Goals as goal
@@ -37,4 +37,4 @@ returns-in-Err-Unexpected-clause-cause g c = λ b s can x f.
     let received = c.as_slice-2.ensures ∙ ap (λ (v : StartView). v.received) c.self.view_is in
     never_unreported b s c.args.self can c.requires.key x f (subst AreBytes received c.in-Err-Unexpected.ensures.bytes) c.requires.welcomed
     (ap₂ reported (sym c.new-reported.ensures) (sym received)
-    ∙ subst (λ (u : Untaken). Takes (reported c.new-reported.result c.as_slice-2.result.now) c.take_reports.new.reported (Err u)) c.in-Err-Unexpected.field-0-is c.in-Err-Unexpected.ensures.taken)
+    ∙ subst (λ (u : ReportError). Takes (reported c.new-reported.result c.as_slice-2.result.now) c.take_reports.new.reported (Err u)) c.in-Err-Unexpected.field-0-is c.in-Err-Unexpected.ensures.taken)

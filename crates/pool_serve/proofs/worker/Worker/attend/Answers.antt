@@ -4,16 +4,16 @@ use Rattle.ini_config.specs.declared.option_values.Settings.{Settings}
 use Rattle.user_file.specs.declared.user_table.UserRow.{UserRow}
 use Rattle.link_laws.specs.Standing.{ClientFacts}
 use Rattle.login_core.specs.Logins.{LoginView}
-use Rattle.pool_serve.specs.declared.guest.Guest.{Guest}
+use Rattle.pool_serve.specs.declared.logged_in.LoggedIn.{LoggedIn}
 use Rattle.pool_serve.specs.Serving.{LetsIn}
 use Rattle.pool_serve.proofs.Leases.{came_in, same_came}
-use Rattle.pool_serve.proofs.Managing.{guest_serves, same_serves}
-use Rattle.pool_serve.proofs.Logging.{guest_ends, is_guest, key_is, run_ends}
+use Rattle.pool_serve.proofs.Managing.{logged_in_serves, same_serves}
+use Rattle.pool_serve.proofs.Logging.{logged_in_ends, is_logged_in, key_is, run_ends}
 use Rattle.pool_serve.proofs.worker.Worker.attend.Goals as goal
 
-pub host-requires-clause-guest : goal.host-requires-clause-guest
-host-requires-clause-guest g c =
-    is_guest c.bounded_rows_are_lawful.ensures c.passed_keys_are_link_keys.ensures c.passed_keys_are_of_their_rows.ensures c.passed_runs_have_passed.ensures c.converse.new.run _ c.finish-client-2.ensures.run (key_is c.converse.new.run.phase c.finish-client-2.result.2 c.in-Some.key c.in-Some.is c.finish-client-2.ensures.key) c.finish-client-2.ensures.login (subst (λ (s : Settings). AreWithinBounds s) (sym c.converse.ensures.login.settings) c.requires.settings)
+pub host-requires-clause-logged_in : goal.host-requires-clause-logged_in
+host-requires-clause-logged_in g c =
+    is_logged_in c.bounded_rows_are_lawful.ensures c.passed_keys_are_link_keys.ensures c.passed_keys_are_of_their_rows.ensures c.passed_runs_have_passed.ensures c.converse.new.run _ c.finish-client-2.ensures.run (key_is c.converse.new.run.phase c.finish-client-2.result.2 c.in-Some.key c.in-Some.is c.finish-client-2.ensures.key) c.finish-client-2.ensures.login (subst (λ (s : Settings). AreWithinBounds s) (sym c.converse.ensures.login.settings) c.requires.settings)
 
 pub returns-in-Some-clause-came : goal.returns-in-Some-clause-came
 returns-in-Some-clause-came g c =
@@ -25,9 +25,9 @@ returns-in-Some-clause-came g c =
 
 pub returns-in-Some-clause-serves : goal.returns-in-Some-clause-serves
 returns-in-Some-clause-serves g c = λ t l.
-    let guest : Guest = record { key = c.in-Some.key; word = c.args.word; login = c.finish-client-2.result.1 } in
-    guest_serves g.D.LinkDesk.home c.args.run.login guest _ _ c.host.result.1 c.host.ensures.ended.came
-    (guest_ends c.passed_runs_are_let_in.ensures g.D.LinkDesk.home c.args.run c.converse.new.run guest (g.C.ClientEnd.facts c.finish-client-2.result.0) (g.C.ClientEnd.facts c.host.result.0) _ c.converse.ensures.login c.finish-client-2.ensures.run
+    let logged_in : LoggedIn = record { key = c.in-Some.key; word = c.args.word; login = c.finish-client-2.result.1 } in
+    logged_in_serves g.D.LinkDesk.home c.args.run.login logged_in _ _ c.host.result.1 c.host.ensures.ended.came
+    (logged_in_ends c.passed_runs_are_let_in.ensures g.D.LinkDesk.home c.args.run c.converse.new.run logged_in (g.C.ClientEnd.facts c.finish-client-2.result.0) (g.C.ClientEnd.facts c.host.result.0) _ c.converse.ensures.login c.finish-client-2.ensures.run
     (key_is c.converse.new.run.phase c.finish-client-2.result.2 c.in-Some.key c.in-Some.is c.finish-client-2.ensures.key)
     c.in-Passed.ensures.stopped c.finish-client-2.ensures.client
     (sym (c.converse.ensures.login.word ∙ c.requires.word))

@@ -15,12 +15,12 @@ returns-clause-ended g c =
     let link = c.watch.new.self in
     let same = c.watch.ensures in
     let home = subst (λ (x : LinkView). IsAtHome g.D.LinkDesk.home x) (sym same) c.requires.home in
-    let key = ap (λ (x : LinkView). x.key) same ∙ (same_keys-one c.args.link.key (arc_value c.args.guest.now.key)).0 (sym c.is_for.ensures ∙ c.if-not-is_for.false) in
+    let key = ap (λ (x : LinkView). x.key) same ∙ (same_keys-one c.args.link.key (arc_value c.args.logged_in.now.key)).0 (sym c.is_for.ensures ∙ c.if-not-is_for.false) in
     record {
       tells = c.relay.ensures.tells;
       traces = relayed_traces _ _ _ _ _ _ c.relay.result.1 c.relay.ensures.ended c.relay.ensures.share;
       came = relayed_came g.D.LinkDesk.home link _ _ _ c.relay.result.1 c.relay.ensures.ended home key;
-      serves = λ t l. over_link g.D.LinkDesk.home (limit_of c.args.guest.now) _ _ c.args.guest.now link _ home (home.follows l.follow) key (c.relay.ensures.serves t (home.follows l.follow));
+      serves = λ t l. over_link g.D.LinkDesk.home (limit_of c.args.logged_in.now) _ _ c.args.logged_in.now link _ home (home.follows l.follow) key (c.relay.ensures.serves t (home.follows l.follow));
     }
 
 pub returns-then-not-is_for-clause-ended : goal.returns-then-not-is_for-clause-ended
@@ -28,5 +28,5 @@ returns-then-not-is_for-clause-ended g c = record {
   tells = refl;
   traces = inr (lost_by _ _ c.lost.result c.lost.ensures.told);
   came = refl;
-  serves = λ t l. nothing_more _ _ _ _ _ tt (none_ends (owed g.D.LinkDesk.home.catalogue c.args.guest.now [] []));
+  serves = λ t l. nothing_more _ _ _ _ _ tt (none_ends (owed g.D.LinkDesk.home.catalogue c.args.logged_in.now [] []));
 }

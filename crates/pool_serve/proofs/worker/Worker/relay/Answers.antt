@@ -16,17 +16,17 @@ returns-clause-ended g c =
     let limit = c.max_packet_size-limit.ensures ∙ ap (λ (x : Settings). x.max_packet_size) (c.deref.ensures ∙ c.settings.ensures) in
     record {
       view = c.pumped-refusal.new.relay;
-      lease = subst (λ (n : ℕ). IsLease (place (g.C.ClientEnd.facts c.args.client) c.args.link c.args.guest.now.word n) c.pumped-refusal.new.relay) limit (c.pumped-refusal.ensures.keeps (place (g.C.ClientEnd.facts c.args.client) c.args.link c.args.guest.now.word c.max_packet_size-limit.result) c.in-Ok.ensures.begun);
+      lease = subst (λ (n : ℕ). IsLease (place (g.C.ClientEnd.facts c.args.client) c.args.link c.args.logged_in.now.word n) c.pumped-refusal.new.relay) limit (c.pumped-refusal.ensures.keeps (place (g.C.ClientEnd.facts c.args.client) c.args.link c.args.logged_in.now.word c.max_packet_size-limit.result) c.in-Ok.ensures.begun);
       client = c.close-client.ensures.client;
       told = c.pumped-refusal.ensures.told;
     }
 
 pub returns-in-Err-clause-serves : goal.returns-in-Err-clause-serves
 returns-in-Err-clause-serves g c = λ t f.
-    subst (λ (d : ClientFacts). Serves (limit_of c.args.guest.now) c.args.link.stands.server.strikable (g.C.ClientEnd.facts c.args.client) d (service_pieces c.args.link.stands.server.catalogue c.args.link.key c.args.guest.now.word) (last.Refusal OutOfMemory)) (sym (ap g.C.ClientEnd.facts c.in-Err.ensures.back.0))
-    (nothing_more (limit_of c.args.guest.now) c.args.link.stands.server.strikable (g.C.ClientEnd.facts c.args.client) (service_pieces c.args.link.stands.server.catalogue c.args.link.key c.args.guest.now.word) (last.Refusal OutOfMemory) tt (refusal_ends _ OutOfMemory))
+    subst (λ (d : ClientFacts). Serves (limit_of c.args.logged_in.now) c.args.link.stands.server.strikable (g.C.ClientEnd.facts c.args.client) d (service_pieces c.args.link.stands.server.catalogue c.args.link.key c.args.logged_in.now.word) (last.Refusal OutOfMemory)) (sym (ap g.C.ClientEnd.facts c.in-Err.ensures.back.0))
+    (nothing_more (limit_of c.args.logged_in.now) c.args.link.stands.server.strikable (g.C.ClientEnd.facts c.args.client) (service_pieces c.args.link.stands.server.catalogue c.args.link.key c.args.logged_in.now.word) (last.Refusal OutOfMemory) tt (refusal_ends _ OutOfMemory))
 
 pub returns-clause-serves : goal.returns-clause-serves
 returns-clause-serves g c = λ t f.
-    subst (λ (limit : ℕ). Serves limit c.args.link.stands.server.strikable (g.C.ClientEnd.facts c.args.client) (g.C.ClientEnd.facts c.close-client.result.0) (service_pieces c.args.link.stands.server.catalogue c.args.link.key c.args.guest.now.word) (or_nothing c.pumped-refusal.result)) (c.max_packet_size-limit.ensures ∙ ap (λ (x : Settings). x.max_packet_size) (c.deref.ensures ∙ c.settings.ensures))
-    (relay_serves c.leases_are_allowed.ensures c.service_is_its_pieces.ensures (g.C.ClientEnd.facts c.args.client) (g.C.ClientEnd.facts c.close-client.result.0) c.args.link c.args.guest.now.word c.max_packet_size-limit.result c.in-Ok.relay c.pumped-refusal.new.relay c.pumped-refusal.result c.in-Ok.ensures.begun c.pumped-refusal.ensures.keeps c.close-client.ensures.client c.pumped-refusal.ensures.refused t f)
+    subst (λ (limit : ℕ). Serves limit c.args.link.stands.server.strikable (g.C.ClientEnd.facts c.args.client) (g.C.ClientEnd.facts c.close-client.result.0) (service_pieces c.args.link.stands.server.catalogue c.args.link.key c.args.logged_in.now.word) (or_nothing c.pumped-refusal.result)) (c.max_packet_size-limit.ensures ∙ ap (λ (x : Settings). x.max_packet_size) (c.deref.ensures ∙ c.settings.ensures))
+    (relay_serves c.leases_are_allowed.ensures c.service_is_its_pieces.ensures (g.C.ClientEnd.facts c.args.client) (g.C.ClientEnd.facts c.close-client.result.0) c.args.link c.args.logged_in.now.word c.max_packet_size-limit.result c.in-Ok.relay c.pumped-refusal.new.relay c.pumped-refusal.result c.in-Ok.ensures.begun c.pumped-refusal.ensures.keeps c.close-client.ensures.client c.pumped-refusal.ensures.refused t f)

@@ -18,7 +18,7 @@ returns-in-Stranger-clause-ended g c = record {
   tells = refl;
   traces = inl (ap (λ (p : PassOf). p.is_broken) c.in-Stranger.ensures.told);
   came = refl;
-  serves = λ t l. nothing_more _ _ _ _ _ tt (none_ends (owed g.D.LinkDesk.home.catalogue c.args.guest.now [] []));
+  serves = λ t l. nothing_more _ _ _ _ _ tt (none_ends (owed g.D.LinkDesk.home.catalogue c.args.logged_in.now [] []));
 }
 
 pub returns-in-Queued-clause-ended : goal.returns-in-Queued-clause-ended
@@ -26,5 +26,5 @@ returns-in-Queued-clause-ended g c = record {
   tells = refl;
   traces = ap (λ (p : PassOf). p.made.granted) c.in-Queued.ensures.told;
   came = refl;
-  serves = λ t l. nothing_more _ _ _ _ _ tt (none_ends (owed g.D.LinkDesk.home.catalogue c.args.guest.now [] []));
+  serves = λ t l. nothing_more _ _ _ _ _ tt (none_ends (owed g.D.LinkDesk.home.catalogue c.args.logged_in.now [] []));
 }

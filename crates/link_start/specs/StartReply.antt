@@ -1,0 +1,155 @@
+-- What a server answers to a start, frame by frame (PostgreSQL manual, "Message Flow", "Start-up").
+use Rattle.std.specs.Prelude.{◌≡◌, ℕ, Bool, Result, Ok, Err, Option, Some, None, ◌||◌, ◌&&◌, ◌==◌, if◌then◌else◌, bytes_eq, List, [], ◌∷◌}
+use Rattle.frame_view.specs.declared.Side.TheVariants.{Server}
+use Rattle.frame_view.specs.declared.server.TheConstants.{AUTHENTICATION, BACKEND_KEY_DATA, ERROR_RESPONSE, NOTICE_RESPONSE, PARAMETER_STATUS, READY_FOR_QUERY}
+use Rattle.frame_view.specs.Frames.{FrameOf, Cut, Front, AFrame, Lacks, Faulty, front, frames, spelling}
+use Rattle.message_view.specs.declared.kinds.TheConstants.{ASKS_NOTHING, ASKS_CLEARTEXT, ASKS_MD5, IDLE}
+use Rattle.message_view.specs.declared.ViewFault.{ViewFault}
+use Rattle.message_view.specs.declared.views.KeyView.{KeyView}
+use Rattle.message_view.specs.Reading.{authentication_of, key_of, status_of}
+use Rattle.param_track.specs.Kept.{Kept, fits, with_first}
+use Rattle.param_track.specs.Reports.{Report}
+use Rattle.link_run.specs.declared.reply.TheConstants.{LONGEST_REPLY}
+use Rattle.link_start.specs.declared.start_reply.StartProgress.{StartProgress}
+use Rattle.link_start.specs.declared.start_reply.StartProgress.TheVariants.{Nothing, Asked, LetIn, Ready, Refused, Other}
+use Rattle.link_start.specs.declared.start_reply.Question.TheVariants.{Cleartext, Md5, Unknown}
+use Rattle.link_start.specs.declared.start_reply.ReportError.{ReportError}
+use Rattle.link_start.specs.declared.start_reply.ReportError.TheVariants.{Unexpected, Memory}
+
+-- ---- the question
+
+abbrev pub bare : StartProgress → List ℕ → StartProgress
+bare h [] = h
+bare h (b ∷ bs) = Other
+
+abbrev pub salted : List ℕ → StartProgress
+salted (a ∷ b ∷ c ∷ d ∷ []) = Asked (Md5 (a ∷ b ∷ c ∷ d ∷ []))
+salted other = Other
+
+-- a cleartext question has nothing but its number, one for a digest has a salt of four bytes
+abbrev pub asked_by : ℕ → List ℕ → StartProgress
+asked_by kind more =
+    if kind == ASKS_NOTHING then bare LetIn more else (if kind == ASKS_CLEARTEXT then bare (Asked Cleartext) more else (if kind == ASKS_MD5 then salted more else Asked (Unknown kind)))
+
+abbrev pub asked_part : Result (ℕ × List ℕ) ViewFault → StartProgress
+asked_part (Ok x) = asked_by x.0 x.1
+asked_part (Err fault) = Other
+
+-- what the body of an Authentication message says
+abbrev pub asked : List ℕ → StartProgress
+asked body = asked_part (authentication_of body)
+
+abbrev pub only_let_in : StartProgress → StartProgress
+only_let_in LetIn = LetIn
+only_let_in Nothing = Other
+only_let_in (Asked q) = Other
+only_let_in Ready = Other
+only_let_in Refused = Other
+only_let_in Other = Other
+
+-- after a question only AuthenticationOk goes on
+abbrev pub answered : List ℕ → StartProgress
+answered body = only_let_in (asked body)
+
+-- ---- frame by frame
+
+abbrev pub refused : ℕ → StartProgress
+refused kind = if kind == ERROR_RESPONSE then Refused else Other
+
+abbrev pub is_idle : FrameOf → Bool
+is_idle f = f.kind == READY_FOR_QUERY && bytes_eq f.body (IDLE ∷ [])
+
+-- notices, reports and the session's key, in any order, and then ReadyForQuery
+abbrev pub is_welcome : ℕ → Bool
+is_welcome kind = kind == NOTICE_RESPONSE || (kind == PARAMETER_STATUS || kind == BACKEND_KEY_DATA)
+
+abbrev pub welcomed : FrameOf → StartProgress
+welcomed f = if is_welcome f.kind then LetIn else (if is_idle f then Ready else refused f.kind)
+
+abbrev pub heard_by : StartProgress → FrameOf → StartProgress
+heard_by Nothing f = if f.kind == NOTICE_RESPONSE then Nothing else (if f.kind == AUTHENTICATION then asked f.body else refused f.kind)
+heard_by (Asked q) f = if f.kind == NOTICE_RESPONSE then Asked q else (if f.kind == AUTHENTICATION then answered f.body else refused f.kind)
+heard_by LetIn f = welcomed f
+heard_by Ready f = Other
+heard_by Refused f = Refused
+heard_by Other f = Other
+
+abbrev pub heard_all : StartProgress → List FrameOf → StartProgress
+heard_all h [] = h
+heard_all h (f ∷ fs) = heard_all (heard_by h f) fs
+
+-- with these bytes behind, which are no whole frame: nothing may follow ReadyForQuery, and no faulty frame anything
+abbrev pub if_lawful : StartProgress → Front → StartProgress
+if_lawful h (Faulty fault) = Other
+if_lawful h (AFrame kind body rest) = h
+if_lawful h (Lacks n) = h
+
+abbrev pub before : StartProgress → List ℕ → StartProgress
+before Refused rest = Refused
+before Ready rest = bare Ready rest
+before Nothing rest = if_lawful Nothing (front Server LONGEST_REPLY rest)
+before (Asked q) rest = if_lawful (Asked q) (front Server LONGEST_REPLY rest)
+before LetIn rest = if_lawful LetIn (front Server LONGEST_REPLY rest)
+before Other rest = Other
+
+abbrev pub heard_cut : Cut → StartProgress
+heard_cut cut = before (heard_all Nothing cut.frames) cut.rest
+
+abbrev pub heard : List ℕ → StartProgress
+heard bytes = heard_cut (frames Server LONGEST_REPLY bytes)
+
+-- ---- what is read in it
+
+-- the first ErrorResponse
+abbrev pub error_in : List FrameOf → List ℕ
+error_in [] = []
+error_in (f ∷ fs) = if f.kind == ERROR_RESPONSE then spelling f else error_in fs
+
+abbrev pub added : List Kept → Result Report ViewFault → Option (List Kept)
+added kept (Ok r) = if fits kept r.0 then Some (with_first kept r) else None
+added kept (Err fault) = None
+
+-- the reports with those of one more frame, where they can be read and are of at most 64 names
+abbrev pub reported_by : List Kept → FrameOf → Option (List Kept)
+reported_by kept f = if f.kind == PARAMETER_STATUS then added kept (status_of f.body) else Some kept
+
+abbrev pub reported_next : Option (List Kept) → (List Kept → Option (List Kept)) → Option (List Kept)
+reported_next (Some kept) go = go kept
+reported_next None go = None
+
+abbrev pub reported_all : List Kept → List FrameOf → Option (List Kept)
+reported_all kept [] = Some kept
+reported_all kept (f ∷ fs) = reported_next (reported_by kept f) (λ k. reported_all k fs)
+
+abbrev pub Takes : Option (List Kept) → List Kept → Result (Unit {0}) ReportError → Type 0
+Takes whole new (Ok u) = whole ≡ Some new
+Takes whole new (Err Unexpected) = whole ≡ None
+Takes whole new (Err Memory) = Unit {0}
+
+abbrev pub TakesReport : List Kept → FrameOf → List Kept → Result (Unit {0}) ReportError → Type 0
+TakesReport old f new r = Takes (reported_by old f) new r
+
+abbrev pub TakesReports : List Kept → List FrameOf → List Kept → Result (Unit {0}) ReportError → Type 0
+TakesReports old fs new r = Takes (reported_all old fs) new r
+
+-- ---- the server's key
+
+abbrev pub key_read : Result (ℕ × ℕ) ViewFault → Result (Option KeyView) ViewFault
+key_read (Ok k) = Ok (Some (record { pid = k.0; secret = k.1 }))
+key_read (Err fault) = Err fault
+
+-- the key that was told, once one more frame has come: a BackendKeyData tells it, where it can be read
+abbrev pub keyed_by : Option KeyView → FrameOf → Result (Option KeyView) ViewFault
+keyed_by key f = if f.kind == BACKEND_KEY_DATA then key_read (key_of f.body) else Ok key
+
+abbrev pub keyed_next : Result (Option KeyView) ViewFault → (Option KeyView → Result (Option KeyView) ViewFault) → Result (Option KeyView) ViewFault
+keyed_next (Ok key) go = go key
+keyed_next (Err fault) go = Err fault
+
+abbrev pub keyed_all : Option KeyView → List FrameOf → Result (Option KeyView) ViewFault
+keyed_all key [] = Ok key
+keyed_all key (f ∷ fs) = keyed_next (keyed_by key f) (λ k. keyed_all k fs)
+
+-- The dialogue of a start tells this key: the last that a BackendKeyData of it told, or none where it has none.
+abbrev pub TellsKey : List FrameOf → Option KeyView → Type 0
+TellsKey fs key = keyed_all None fs ≡ Ok key
