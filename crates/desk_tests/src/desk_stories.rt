@@ -7,7 +7,7 @@ use crate::desk_acts::{Act, Says, answer};
 use crate::desk_parts::{Nowhere, TestDesk};
 use crate::desk_rows::{Rows, shows};
 use book_model::events::ClientState;
-use book_tests::book_parts::{Settings, Whose, limits};
+use book_tests::book_parts::{Change, Settings, Whose, limits};
 use desk_tallies::ledgers::Ledgers;
 use desk_tallies::passes::{Pass, Totals};
 use desk_tallies::tallies::Blanks;
@@ -388,6 +388,42 @@ fn failed_starts() -> Story {
     }
 }
 
+/// The shop goes to another port: the link of the old one is closed by the next second, and a new client gets one of its own.
+static A_LINK_GOES_WITH_ITS_ROW: [Step; 10] = [
+    (0, Act::Come, Says::Client(1)),
+    (0, Act::Ask(Whose::Ann), Says::Queued(0)),
+    (0, Act::Take, Says::Start(1, 0, None)),
+    (0, Act::Back(Whose::Ann), Says::Done),
+    (1, Act::Limits(Settings::Shop(Change::Port)), Says::Done),
+    (1, Act::Tick(0), Says::Close(1)),
+    (1, Act::Tick(0), Says::Done),
+    (1, Act::Come, Says::Client(2)),
+    (1, Act::Ask(Whose::AnnAt5433), Says::Queued(0)),
+    (1, Act::Take, Says::Start(2, 0, None)),
+];
+
+fn moved_row() -> Story {
+    Story {
+        settings: Settings::Default,
+        passes: 2,
+        steps: &A_LINK_GOES_WITH_ITS_ROW,
+        rows: Rows {
+            clients: &[(1, ClientState::Active), (2, ClientState::Active)],
+            lent: &[(2, 0, 0)],
+            sums: [0, 2, 0, 0, 0, 0],
+            ..NOTHING
+        },
+        totals: Totals {
+            arrived: 2,
+            granted: 2,
+            given_back: 1,
+            lost: 0,
+            left: 0,
+            others: 4,
+        },
+    }
+}
+
 /// The stories.
 fn story_at(at: usize) -> Option<Story> {
     match at {
@@ -400,6 +436,7 @@ fn story_at(at: usize) -> Option<Story> {
         6 => Some(idle_times()),
         7 => Some(queues()),
         8 => Some(failed_starts()),
+        9 => Some(moved_row()),
         _ => None,
     }
 }
@@ -490,7 +527,7 @@ fn told_otherwise<R: Wait + Clock + Drop>(
 
 #[test]
 fn each_story_goes_as_told(rt: HostRuntime) -> Result<(), Fail> {
-    for at in 0..9usize {
+    for at in 0..100usize {
         let Some(story) = story_at(at) else {
             break;
         };

@@ -194,7 +194,7 @@ fn resumes<R: TestRuntime, K: Ledgers>(
     !was_told && waiting == 1
 }
 
-/// A client whose pool has room waits while the desk is paused, and no longer.
+/// A client beside an idle link of its key waits while the desk is paused, and no longer.
 fn waits_in_a_pause<R: TestRuntime, K: Ledgers + Send + Sync>(
     rt: R,
     alloc: Global,
@@ -204,14 +204,16 @@ fn waits_in_a_pause<R: TestRuntime, K: Ledgers + Send + Sync>(
 ) -> bool {
     let told = AtomicBool::new(false);
     let note = &told;
+    has_link(alloc, desk, first, Whose::Ann);
+    says(alloc, desk, first, Act::Back(Whose::Ann));
     says(alloc, desk, second, Act::Pause);
-    asks(alloc, desk, first, Whose::Ann);
+    says(alloc, desk, first, Act::Ask(Whose::Ann));
     let (grant, waited) = join(
         &rt,
         || -> Says { noted(alloc, desk, first, note) },
         || -> bool { resumes(rt, alloc, desk, second, note) },
     );
-    waited && grant == Says::Start(1, 0, None)
+    waited && grant == Says::Lend(1)
 }
 
 /// Two links come back, or are lost, one right behind the other.
@@ -368,8 +370,8 @@ fn totals(wait: Manner) -> Totals {
         // two questions, a place that is lost, two seconds
         Manner::TooLong => (2, 1, 0, 5),
         Manner::InTurn => (3, 3, 3, 3),
-        // a question, a pause and its end
-        Manner::InAPause => (1, 1, 0, 3),
+        // two questions, a pause and its end
+        Manner::InAPause => (1, 2, 1, 4),
         Manner::ForTwoLinks | Manner::ForTwoPools | Manner::ForTheBook => (4, 4, 2, 4),
     };
     let (given_back, lost) = match wait {
