@@ -230,27 +230,22 @@ fn both_go<R: TestRuntime, K: Ledgers>(
     says(alloc, desk, second, how);
 }
 
-/// Whether these are the links 1 and 2, in either order.
-fn are_both(one: Says, other: Says) -> bool {
-    let links = (one, other);
-    links == (Says::Lend(1), Says::Lend(2)) || links == (Says::Lend(2), Says::Lend(1))
-}
-
-/// Two clients wait for two links of their pool, which come back before the first of them is awake. The return of a link wakes
-/// nobody but that first client: so it is for its grant to wake the other.
-fn both_are_woken<R: TestRuntime, K: Ledgers + Send + Sync>(
+/// Two clients wait with these keys for what two others have, who give it up before the first of them is awake: what they are granted.
+fn both_wait<R: TestRuntime, K: Ledgers + Send + Sync>(
     rt: R,
     alloc: Global,
     desk: &TestDesk<R, K>,
+    asked: (Whose, Whose),
+    how: Act,
     first: &mut Pass<K>,
     second: &mut Pass<K>,
     third: &mut Pass<K>,
     fourth: &mut Pass<K>,
-) -> bool {
+) -> (Says, Says) {
     has_link(alloc, desk, first, Whose::Ann);
     has_link(alloc, desk, second, Whose::Ann);
-    asks(alloc, desk, third, Whose::Ann);
-    asks(alloc, desk, fourth, Whose::Ann);
+    asks(alloc, desk, third, asked.0);
+    asks(alloc, desk, fourth, asked.1);
     let (one, (other, ())) = join(
         &rt,
         || -> Says { says(alloc, desk, third, Act::Take) },
@@ -258,11 +253,16 @@ fn both_are_woken<R: TestRuntime, K: Ledgers + Send + Sync>(
             join(
                 &rt,
                 || -> Says { says(alloc, desk, fourth, Act::Take) },
-                || -> () { both_go(rt, alloc, desk, first, second, Act::Back(Whose::Ann)) },
+                || -> () { both_go(rt, alloc, desk, first, second, how) },
             )
         },
     );
-    are_both(one, other)
+    (one, other)
+}
+
+/// Whether both were granted, in either order.
+fn are_either(granted: (Says, Says), one: Says, other: Says) -> bool {
+    granted == (one, other) || granted == (other, one)
 }
 
 /// A client waits for the link of its pool, which comes back.
@@ -310,36 +310,6 @@ fn each_pool_is_woken<R: TestRuntime, K: Ledgers + Send + Sync>(
         },
     );
     (one, other) == (Says::Lend(1), Says::Lend(2))
-}
-
-/// The book has its two links, which are ann's: two clients of other pools wait for its room, which the links' loss gives them.
-fn each_pool_has_room<R: TestRuntime, K: Ledgers + Send + Sync>(
-    rt: R,
-    alloc: Global,
-    desk: &TestDesk<R, K>,
-    first: &mut Pass<K>,
-    second: &mut Pass<K>,
-    third: &mut Pass<K>,
-    fourth: &mut Pass<K>,
-) -> bool {
-    has_link(alloc, desk, first, Whose::Ann);
-    has_link(alloc, desk, second, Whose::Ann);
-    asks(alloc, desk, third, Whose::Bc);
-    asks(alloc, desk, fourth, Whose::AnnAtCafe);
-    let (one, (other, ())) = join(
-        &rt,
-        || -> Says { says(alloc, desk, third, Act::Take) },
-        || -> (Says, ()) {
-            join(
-                &rt,
-                || -> Says { says(alloc, desk, fourth, Act::Take) },
-                || -> () { both_go(rt, alloc, desk, first, second, Act::Lost) },
-            )
-        },
-    );
-    let started = (one, other);
-    started == (Says::Start(3, 0, None), Says::Start(4, 0, None))
-        || started == (Says::Start(4, 0, None), Says::Start(3, 0, None))
 }
 
 /// How clients wait at a desk.
@@ -403,9 +373,30 @@ fn waits<R: TestRuntime, K: Ledgers + Send + Sync>(
         Manner::TooLong => waits_too_long(rt, alloc, desk, first, second),
         Manner::InTurn => have_their_turns(rt, alloc, desk, first, second, third),
         Manner::InAPause => waits_in_a_pause(rt, alloc, desk, first, second),
-        Manner::ForTwoLinks => both_are_woken(rt, alloc, desk, first, second, third, fourth),
+        // the return of a link wakes the first client alone: so it is for its grant to wake the other
+        Manner::ForTwoLinks => {
+            let asked = (Whose::Ann, Whose::Ann);
+            let how = Act::Back(Whose::Ann);
+            let granted = both_wait(rt, alloc, desk, asked, how, first, second, third, fourth);
+            are_either(granted, Says::Lend(1), Says::Lend(2))
+        }
         Manner::ForTwoPools => each_pool_is_woken(rt, alloc, desk, first, second, third, fourth),
-        Manner::ForTheBook => each_pool_has_room(rt, alloc, desk, first, second, third, fourth),
+        // the book has its two links: clients of two other pools wait for its room
+        Manner::ForTheBook => {
+            let asked = (Whose::Bc, Whose::AnnAtCafe);
+            let granted = both_wait(
+                rt,
+                alloc,
+                desk,
+                asked,
+                Act::Lost,
+                first,
+                second,
+                third,
+                fourth,
+            );
+            are_either(granted, Says::Start(3, 0, None), Says::Start(4, 0, None))
+        }
     }
 }
 
