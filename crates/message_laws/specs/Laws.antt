@@ -2,11 +2,11 @@
 use Rattle.std.specs.Prelude.{◌≡◌, ℕ, ◌+◌, ◌^◌, ◌<◌, ◌≤◌, List, [], ◌∷◌, ◌++◌, length, Result, Ok, codes}
 use Rattle.frame_view.specs.declared.Side.TheVariants.{Client, Server}
 use Rattle.frame_view.specs.declared.first.TheConstants.{LONGEST_FIRST_PACKET}
-use Rattle.frame_view.specs.Frames.{AreBytes, FrameOf, spelling, before, frames, Start, AFirst, first_front}
+use Rattle.frame_view.specs.Frames.{AreBytes, FrameOf, spelling, before, frames, Cancels, Start, AFirst, first_front}
 use Rattle.message_view.specs.declared.kinds.TheConstants.{ASKS_NOTHING, ASKS_CLEARTEXT, ASKS_MD5, IDLE, IN_TRANSACTION, FAILED, STATEMENT, PORTAL, SEVERITY, SEVERITY_UNTRANSLATED, SQLSTATE, MESSAGE, TEXT_TYPE}
 use Rattle.message_view.specs.declared.ViewFault.{ViewFault}
 use Rattle.message_view.specs.Bodies.{Text, startup_body}
-use Rattle.message_view.specs.Messages.{password_message, query, startup_message}
+use Rattle.message_view.specs.Messages.{cancel_request, password_message, query, startup_message}
 
 -- Numbers and letters inside bodies are these.
 pub record NamesAreTheStandards : Type 0 where
@@ -37,3 +37,7 @@ PasswordMessageIsCut = (limit : ℕ) (t : Text) (rest : List ℕ) → limit < 2 
 -- A StartupMessage is the first packet, whatever follows it, where it has a first packet's length.
 abbrev pub StartupMessageIsCut : Type 0
 StartupMessageIsCut = (pairs : List (Text × Text)) (rest : List ℕ) → length (startup_message pairs) ≤ LONGEST_FIRST_PACKET → first_front (startup_message pairs ++ rest) ≡ AFirst (Start (startup_body pairs)) rest
+
+-- So is a CancelRequest, with its words.
+abbrev pub CancelRequestIsCut : Type 0
+CancelRequestIsCut = (pid secret : ℕ) (rest : List ℕ) → pid < 2 ^ 32 → secret < 2 ^ 32 → first_front (cancel_request pid secret ++ rest) ≡ AFirst (Cancels pid secret) rest

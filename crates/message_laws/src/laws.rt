@@ -3,12 +3,12 @@
 ghost use Rattle.std.specs.Prelude.{◌++◌, ◌∷◌, []};
 ghost use Rattle.std.specs.List.{AllByRecursion};
 ghost use Rattle.message_view.specs.Bodies.{HasNoZero, bind_body, columns_body, execute_body, fields_body, int32, parse_body, startup_body, status_body, target_body, text, values};
-ghost use Rattle.message_laws.specs.Laws.{IsReaderOf, NamesAreTheStandards, PasswordMessageIsCut, QueryIsCut, ServerFrameIsCut, StartupMessageIsCut};
+ghost use Rattle.message_laws.specs.Laws.{CancelRequestIsCut, IsReaderOf, NamesAreTheStandards, PasswordMessageIsCut, QueryIsCut, ServerFrameIsCut, StartupMessageIsCut};
 ghost use Rattle.message_view.specs.Parts.{status_byte};
 ghost use Rattle.message_view.specs.Reading.{authentication_of, bind_of, data_row_of, execute_of, key_of, note_of, parse_of, password_of, query_of, ready_of, row_description_of, startup_of, status_of, tag_of, target_of};
 ghost use Rattle.message_view.specs.Spelled.{Fits32, FitsBind, FitsColumn, FitsExecute, FitsField, FitsKey, FitsList, FitsPair, FitsParse, FitsStatus, FitsTarget, FitsValue};
 
-use frame_view::laws::spelled_is_first;
+use frame_view::laws::{first_spelled_is_read, spelled_is_first};
 
 /// The numbers and letters of [`message_view::kinds`] are the standard's.
 pub fn names_are_the_standards()
@@ -40,6 +40,13 @@ pub fn password_message_is_cut()
 pub fn startup_message_is_cut()
     ensures { StartupMessageIsCut }
 {}
+
+/// So is a CancelRequest.
+pub fn cancel_request_is_cut()
+    ensures { CancelRequestIsCut }
+{
+    first_spelled_is_read();
+}
 
 /// A StartupMessage's pairs are read again, and only where they spell the body.
 pub fn startup_is_read()

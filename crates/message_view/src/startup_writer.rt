@@ -1,17 +1,21 @@
-//! The writer of a client's first packet.
+//! The writers of a client's first packets.
 ghost use Rattle.std.specs.Prelude.{◌≡◌, ℕ, ◌+◌, ◌-◌, ◌^◌, ◌<◌, ◌≤◌, ◌++◌, ◌∷◌, [], length, map, min, OnOk, OnErr, IsOk};
 ghost use Rattle.std.specs.List.{flat_map};
 ghost use Rattle.frame_view.specs.declared.frames.TheConstants.{LONGEST_FRAME};
 ghost use Rattle.message_view.specs.Bodies.{pair as spelled_pair};
-ghost use Rattle.message_view.specs.Messages.{startup_message};
+ghost use Rattle.message_view.specs.Messages.{cancel_request, startup_message};
 ghost use Rattle.message_view.specs.Parts.{pairs_of};
 
+use crate::writers::put_joined;
 use bytes::BytesMut;
-use frame_view::{LONGEST_FRAME, PROTOCOL_3_0};
+use frame_view::{CANCEL_REQUEST, LONGEST_FRAME, PROTOCOL_3_0};
 use std::alloc::AllocError;
 
 /// The bytes of a StartupMessage beside its pairs: length, code, and the zero byte at its end.
 const SIZE_OF_FRAME: usize = 9;
+
+/// The bytes of a CancelRequest: length, code, process number and secret.
+const SIZE_OF_CANCEL: u32 = 16;
 
 fn pairs_length(pairs: &[(&[u8], &[u8])]) -> usize
     ensures { result ≡ min (length (flat_map spelled_pair (pairs_of pairs.now))) (2 ^ 64 - 1) }
@@ -59,5 +63,26 @@ pub fn put_startup_message(out: &mut BytesMut, pairs: &[(&[u8], &[u8])]) -> Resu
         put_pair(out, name, value);
     }
     out.extend_reserved(b"\0");
+    Ok(())
+}
+
+/// CancelRequest: what the session is at that told these words in its BackendKeyData is to be cancelled.
+///
+/// `AllocError` where a growth of `out` is refused; then `out` is unchanged.
+pub fn put_cancel_request(out: &mut BytesMut, pid: u32, secret: u32) -> Result<(), AllocError>
+    ensures ok { OnOk result (out.new.items ≡ out.old.items ++ cancel_request pid secret) }
+    ensures err { OnErr result (out.new.items ≡ out.old.items) }
+    ensures room { length (cancel_request pid secret) ≤ out.old.spare → IsOk result }
+{
+    out.reserve(SIZE_OF_CANCEL as usize)?;
+    put_joined(
+        out,
+        &[
+            &SIZE_OF_CANCEL.to_be_bytes(),
+            &CANCEL_REQUEST.to_be_bytes(),
+            &pid.to_be_bytes(),
+            &secret.to_be_bytes(),
+        ],
+    );
     Ok(())
 }
