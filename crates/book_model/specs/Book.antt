@@ -1,5 +1,6 @@
 -- The lease book as plain lists: who is there, who waits, and which links there are.
-use Rattle.std.specs.Prelude.{ℕ, Bool, false, List, [], ◌∷◌, Option, Some, None, not, cond, ◌==◌, ◌&&◌, ◌+◌, length, filter, find, count_by, bytes_eq}
+use Rattle.std.specs.Prelude.{ℕ, Bool, false, List, [], ◌∷◌, ◌++◌, Option, Some, None, not, cond, ◌==◌, ◌&&◌, ◌||◌, ◌+◌, length, filter, find, count_by, bytes_eq}
+use Rattle.message_view.specs.declared.views.KeyView.{KeyView}
 use Rattle.session_values.specs.State.{StartKeyOf}
 use Rattle.start_keys.specs.Keys.{same_host, same_key}
 use Rattle.book_model.specs.declared.counts.Counts.{Counts}
@@ -22,6 +23,12 @@ pub record Link : Type 0 where
   pub key : StartKeyOf
   pub born : ℕ
   pub since : ℕ
+
+-- a lease of a lent link, with the key words of its client and of its server
+pub record Lease : Type 0 where
+  pub link : ℕ
+  pub client : KeyView
+  pub server : KeyView
 
 -- a database row: its name, where its server is, and how many links a pool of it may have
 pub record Row : Type 0 where
@@ -47,6 +54,11 @@ pub record Book : Type 0 where
   pub tickets : List Ticket
   pub lent : List Link
   pub idle : List Link
+  -- the leases that a Cancel finds, in the order of their Keyed
+  pub keyed : List Lease
+  -- the lent links that a Cancel found, and those whose lease has ended
+  pub marked : List ℕ
+  pub ended : List ℕ
   pub next_client : ℕ
   pub next_link : ℕ
   pub clock : ℕ
@@ -63,10 +75,10 @@ pub record Book : Type 0 where
   pub losses : ℕ
 
 abbrev pub no_counts : Counts
-no_counts = record { arrived = 0; arrivals_refused = 0; asked = 0; asks_refused = 0; granted = 0; tickets_lost = 0; given_back = 0; lost = 0; starts_failed = 0; left = 0; ticked = 0; limited = 0; paused = 0; resumed = 0; shut_down = 0 }
+no_counts = record { arrived = 0; arrivals_refused = 0; asked = 0; asks_refused = 0; granted = 0; tickets_lost = 0; given_back = 0; lost = 0; starts_failed = 0; left = 0; ticked = 0; limited = 0; paused = 0; resumed = 0; shut_down = 0; keyed = 0; cancelled = 0; leases_ended = 0 }
 
 abbrev pub empty_book : Limits → Book
-empty_book limits = record { clients = []; tickets = []; lent = []; idle = []; next_client = 1; next_link = 1; clock = 0; limits = limits; is_paused = false; is_shut = false; decisions = 0; counts = no_counts; starts = 0; reuses = 0; evictions = 0; losses = 0 }
+empty_book limits = record { clients = []; tickets = []; lent = []; idle = []; keyed = []; marked = []; ended = []; next_client = 1; next_link = 1; clock = 0; limits = limits; is_paused = false; is_shut = false; decisions = 0; counts = no_counts; starts = 0; reuses = 0; evictions = 0; losses = 0 }
 
 -- ---- pools: a pool is a database row's name and a user
 
@@ -146,3 +158,27 @@ find_last test (x ∷ xs) = or_else (find_last test xs) (cond (test x) (Some x) 
 -- the latest returned link of this key
 abbrev pub latest_of : StartKeyOf → List Link → Option Link
 latest_of key idle = find_last (λ link. same_key link.key key) idle
+
+-- ---- leases
+
+abbrev pub same_words : KeyView → KeyView → Bool
+same_words a b = a.pid == b.pid && a.secret == b.secret
+
+abbrev pub is_of_link : ℕ → Lease → Bool
+is_of_link n lease = lease.link == n
+
+abbrev pub is_of_client : KeyView → Lease → Bool
+is_of_client client lease = same_words lease.client client
+
+abbrev pub without_lease : ℕ → List Lease → List Lease
+without_lease n leases = filter (λ lease. not (is_of_link n lease)) leases
+
+abbrev pub is_number : ℕ → ℕ → Bool
+is_number n m = m == n
+
+abbrev pub without_number : ℕ → List ℕ → List ℕ
+without_number n numbers = filter (λ m. not (is_number n m)) numbers
+
+-- the number stands once, and last
+abbrev pub with_number : ℕ → List ℕ → List ℕ
+with_number n numbers = without_number n numbers ++ n ∷ []

@@ -1,7 +1,7 @@
 -- What holds of every book that was made empty and had events.
 use Rattle.std.specs.Prelude.{◌≡◌, ℕ, suc, ◌+◌, ◌≤◌, List, count_by, length}
 use Rattle.session_values.specs.State.{StartKeyOf}
-use Rattle.book_model.specs.Book.{Book, Client, Limits, Link, Ticket, empty_book, is_client, is_link, is_of}
+use Rattle.book_model.specs.Book.{Book, Client, Lease, Limits, Link, Ticket, empty_book, is_client, is_link, is_number, is_of, is_of_link}
 use Rattle.book_model.specs.Outcomes.{Event, apply, apply_return}
 use Rattle.book_model.specs.Outcomes.Event.{NewLimits}
 use Rattle.book_model.specs.declared.counts.Counts.{Counts}
@@ -20,9 +20,15 @@ pub record KeptLinks (lent idle : List Link) (next : ℕ) : Type 0 where
   pub once : (n : ℕ) → count_by (is_link n) lent + count_by (is_link n) idle ≤ 1
   pub fresh : (n : ℕ) → next ≤ n → count_by (is_link n) lent + count_by (is_link n) idle ≡ 0
 
+-- each lease is its lent link's only one, and each mark and end is a lent link's, and stands once
+pub record KeptLeases (lent : List Link) (keyed : List Lease) (marked ended : List ℕ) : Type 0 where
+  pub keyed : (n : ℕ) → count_by (is_of_link n) keyed ≤ count_by (is_link n) lent
+  pub marked : (n : ℕ) → count_by (is_number n) marked ≤ count_by (is_link n) lent
+  pub ended : (n : ℕ) → count_by (is_number n) ended ≤ count_by (is_link n) lent
+
 -- all kinds together
 abbrev pub total : Counts → ℕ
-total c = c.arrived + c.arrivals_refused + c.asked + c.asks_refused + c.granted + c.tickets_lost + c.given_back + c.lost + c.starts_failed + c.left + c.ticked + c.limited + c.paused + c.resumed + c.shut_down
+total c = c.arrived + c.arrivals_refused + c.asked + c.asks_refused + c.granted + c.tickets_lost + c.given_back + c.lost + c.starts_failed + c.left + c.ticked + c.limited + c.paused + c.resumed + c.shut_down + c.keyed + c.cancelled + c.leases_ended
 
 -- the counts agree with one another and with the lists
 pub record KeptCounts (b : Book) : Type 0 where
@@ -46,6 +52,7 @@ FitsLimits _ = Unit {0}
 pub record Kept (b : Book) : Type 0 where
   pub clients : KeptClients b.clients b.tickets b.next_client
   pub links : KeptLinks b.lent b.idle b.next_link
+  pub leases : KeptLeases b.lent b.keyed b.marked b.ended
   pub counts : KeptCounts b
   pub limits : KeptLimits b.limits
 

@@ -3,16 +3,17 @@ use Rattle.std.specs.Prelude.{ℕ, suc, ◌-◌, Bool, true, false, List, [], �
 use Rattle.std.specs.List.{list_any}
 use Rattle.message_view.specs.declared.refusal.Refusal.{Refusal}
 use Rattle.message_view.specs.declared.refusal.Refusal.TheVariants.{TooManyClients, WaitedTooLong, ShuttingDown, LastDecision}
+use Rattle.message_view.specs.declared.views.KeyView.{KeyView}
 use Rattle.session_values.specs.State.{StartKeyOf}
 use Rattle.start_keys.specs.Keys.{same_key}
-use Rattle.book_model.specs.Book.{Book, Client, Limits, Link, Ticket, in_pool, is_client, is_link, is_listed, is_of, latest_of, link_count, pool_count, pool_size, same_pool, waiting_before, without, without_client, without_ticket}
+use Rattle.book_model.specs.Book.{Book, Client, Lease, Limits, Link, Ticket, in_pool, is_client, is_link, is_listed, is_number, is_of, is_of_client, is_of_link, latest_of, link_count, pool_count, pool_size, same_pool, waiting_before, with_number, without, without_client, without_lease, without_number, without_ticket}
 use Rattle.book_model.specs.declared.counts.Counts.{Counts}
 use Rattle.book_model.specs.declared.counts.Kind.{Kind}
-use Rattle.book_model.specs.declared.counts.Kind.TheVariants.{Arrival, ArrivalRefused, Asking, AskRefused, Grant, TicketLost, Return, Loss, FailedStart, Leaving, Ticking, Limiting, Pausing, Resuming, Closing}
+use Rattle.book_model.specs.declared.counts.Kind.TheVariants.{Arrival, ArrivalRefused, Asking, AskRefused, Grant, TicketLost, Return, Loss, FailedStart, Leaving, Ticking, Limiting, Pausing, Resuming, Closing, Keying, Cancelling, LeaseEnding}
 use Rattle.book_model.specs.declared.events.ClientState.{ClientState}
 use Rattle.book_model.specs.declared.events.ClientState.TheVariants.{LoggingIn, Waiting, Active}
 use Rattle.book_model.specs.declared.events.Reply.{Reply}
-use Rattle.book_model.specs.declared.events.Reply.TheVariants.{Arrived, Queued, Lend, Start, Close, Refuse, Done, Stranger}
+use Rattle.book_model.specs.declared.events.Reply.TheVariants.{Arrived, Queued, Lend, Start, Close, Refuse, Done, Stranger, Strike, Nobody, Reset, Dispose}
 
 -- an event, with clients and links by their numbers
 pub data Event : Type 0 where
@@ -28,6 +29,12 @@ pub data Event : Type 0 where
   Pause : Event
   Resume : Event
   Shutdown : Event
+  -- a lent link serves the client of this key word, and its server told that one
+  Keyed : (link : ℕ) → (client server : KeyView) → Event
+  -- what the client of this key word is at is to be cancelled
+  Cancel : (client : KeyView) → Event
+  -- the lease of a link has ended
+  EndLease : (link : ℕ) → Event
 
 pub record Answer : Type 0 where
   pub book : Book
@@ -113,8 +120,9 @@ is_stale b link = is_old b link || (not (is_listed b.limits link.key) || (not (b
 abbrev pub is_crowded : Book → Link → Bool
 is_crowded b link = nat_lt b.limits.max_links (link_count b) || nat_lt (pool_size b.limits link.key) (pool_count b link.key)
 
+-- a link isn't lent any more, and nothing is known of its lease
 abbrev pub loses : Book → ℕ → Book
-loses b n = record b { lent = without n b.lent }
+loses b n = record b { lent = without n b.lent; keyed = without_lease n b.keyed; marked = without_number n b.marked; ended = without_number n b.ended }
 
 abbrev pub gives_back : Book → Option Link → Answer
 gives_back b None = record { book = b; reply = Stranger }
@@ -130,6 +138,27 @@ closes b (Some link) = record { book = record b { idle = without link.number b.i
 abbrev pub at_clock : Book → ℕ → Book
 at_clock b now = record b { clock = cond (nat_lt b.clock now) now b.clock }
 
+-- ---- leases and cancels
+
+abbrev pub keys : Book → ℕ → KeyView → KeyView → Answer
+keys b n client server = record { book = record b { keyed = b.keyed ++ record { link = n; client = client; server = server } ∷ [] }; reply = Done }
+
+-- The cancel is for the place of the link's server, and the link is marked. (No link is asked for by a key without a host.)
+abbrev pub strikes : Book → Lease → ℕ → Option (List ℕ) → Answer
+strikes b lease port None = record { book = b; reply = Nobody }
+strikes b lease port (Some host) = record { book = record b { marked = with_number lease.link b.marked }; reply = Strike lease.link lease.server host port }
+
+abbrev pub strikes_at : Book → Lease → Option Link → Answer
+strikes_at b lease None = record { book = b; reply = Nobody }
+strikes_at b lease (Some link) = strikes b lease link.key.port link.key.host
+
+abbrev pub cancels : Book → Option Lease → Answer
+cancels b None = record { book = b; reply = Nobody }
+cancels b (Some lease) = strikes_at b lease (find (is_link lease.link) b.lent)
+
+abbrev pub ends_lease : Book → ℕ → Answer
+ends_lease b n = record { book = record b { keyed = without_lease n b.keyed; ended = with_number n b.ended }; reply = cond (list_any (is_number n) b.marked) Dispose Reset }
+
 -- what an event gives whose client, ticket or link is there
 abbrev pub outcome : Book → Event → Answer
 outcome b Arrive = arrives b
@@ -144,10 +173,13 @@ outcome b (NewLimits limits) = record { book = record b { limits = limits }; rep
 outcome b Pause = record { book = record b { is_paused = true }; reply = Done }
 outcome b Resume = record { book = record b { is_paused = false }; reply = Done }
 outcome b Shutdown = record { book = record b { is_shut = true }; reply = Done }
+outcome b (Keyed n client server) = keys b n client server
+outcome b (Cancel client) = cancels b (find (is_of_client client) b.keyed)
+outcome b (EndLease n) = ends_lease b n
 
 -- ---- strangers
 
--- a client or link that isn't there, or a second ticket
+-- a client or link that isn't there, a second ticket, or a lease that was keyed or has ended
 abbrev pub is_strange : Book → Event → Bool
 is_strange b (Ask client key) = not (list_any (is_client client) b.clients) || list_any (is_of client) b.tickets
 is_strange b (Take client) = not (list_any (is_of client) b.tickets)
@@ -155,12 +187,14 @@ is_strange b (GiveBack n) = not (list_any (is_link n) b.lent)
 is_strange b (Lost n) = not (list_any (is_link n) b.lent)
 is_strange b (StartFailed n) = not (list_any (is_link n) b.lent)
 is_strange b (Leave client) = not (list_any (is_client client) b.clients)
+is_strange b (Keyed n client server) = not (list_any (is_link n) b.lent) || (list_any (is_of_link n) b.keyed || list_any (is_number n) b.ended)
+is_strange b (EndLease n) = not (list_any (is_link n) b.lent)
 is_strange b _ = false
 
 -- ---- decisions
 
--- The kind of an event with this reply; none, where it changed nothing: a Take that waits on, and a Tick that neither raised
--- the clock nor closed a link.
+-- The kind of an event with this reply; none, where it changed nothing: a Take that waits on, a Tick that neither raised the clock
+-- nor closed a link, and a Cancel that found nobody.
 abbrev pub kind_of : Book → Event → Reply → Option Kind
 kind_of b Arrive (Refuse refusal) = Some ArrivalRefused
 kind_of b Arrive _ = Some Arrival
@@ -179,6 +213,10 @@ kind_of b (NewLimits limits) _ = Some Limiting
 kind_of b Pause _ = Some Pausing
 kind_of b Resume _ = Some Resuming
 kind_of b Shutdown _ = Some Closing
+kind_of b (Keyed n client server) _ = Some Keying
+kind_of b (Cancel client) Nobody = None
+kind_of b (Cancel client) _ = Some Cancelling
+kind_of b (EndLease n) _ = Some LeaseEnding
 
 abbrev pub raised : Kind → Counts → Counts
 raised Arrival c = record c { arrived = suc c.arrived }
@@ -196,6 +234,9 @@ raised Limiting c = record c { limited = suc c.limited }
 raised Pausing c = record c { paused = suc c.paused }
 raised Resuming c = record c { resumed = suc c.resumed }
 raised Closing c = record c { shut_down = suc c.shut_down }
+raised Keying c = record c { keyed = suc c.keyed }
+raised Cancelling c = record c { cancelled = suc c.cancelled }
+raised LeaseEnding c = record c { leases_ended = suc c.leases_ended }
 
 abbrev pub counted : Book → Option Kind → Book
 counted b None = b

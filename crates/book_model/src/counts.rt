@@ -19,6 +19,9 @@ pub enum Kind {
     Pausing,
     Resuming,
     Closing,
+    Keying,
+    Cancelling,
+    LeaseEnding,
 }
 
 /// How many decisions there were of each kind.
@@ -39,4 +42,7 @@ pub struct Counts {
     pub paused: u64,
     pub resumed: u64,
     pub shut_down: u64,
+    pub keyed: u64,
+    pub cancelled: u64,
+    pub leases_ended: u64,
 }

@@ -1,7 +1,7 @@
 //! What can happen to the lease book, and what it answers.
 
 use crate::limits::Limits;
-use message_view::Refusal;
+use message_view::{KeyView, Refusal};
 use start_keys::StartKey;
 use std::sync::Arc;
 
@@ -31,6 +31,16 @@ pub enum Event {
     Resume,
     /// No client is let in and no link lent any more.
     Shutdown,
+    /// This lent link serves the client of this key word, and its server told that one.
+    Keyed {
+        link: u64,
+        client: KeyView,
+        server: KeyView,
+    },
+    /// What the client of this key word is at is to be cancelled.
+    Cancel { client: KeyView },
+    /// The lease of this link has ended.
+    EndLease { link: u64 },
 }
 
 /// What the book answers.
@@ -54,8 +64,22 @@ pub enum Reply {
     Refuse(Refusal),
     /// It is done.
     Done,
-    /// No such client, ticket or link is there, or the client has a ticket already. Nothing has changed.
+    /// No such client, ticket or link is there, the client has a ticket already, or the lease was keyed or has ended. Nothing has
+    /// changed.
     Stranger,
+    /// The cancel is for the server of this link, which told this key word and is at this place.
+    Strike {
+        link: u64,
+        server: KeyView,
+        host: [u8; 4],
+        port: u16,
+    },
+    /// Nobody of this key word has a lease. Nothing has changed.
+    Nobody,
+    /// The lease's link may be reset, or given back unused: no cancel is for it.
+    Reset,
+    /// The lease's link is to be closed: a cancel is for it, and may still come.
+    Dispose,
 }
 
 /// A client's state.

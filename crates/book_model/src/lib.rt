@@ -2,7 +2,7 @@
 //! every book that began empty; and the limits that it decides by, which the settings give.
 #![tactic(auto)]
 
-ghost use Rattle.book_model.specs.Laws.{PlainEventsAddNothing, ArrivalsNumber, AsksQueue, TakesLend, TakesStart, TakesEvict, ReturnsAdd, ReturnsClose, TicksClose};
+ghost use Rattle.book_model.specs.Laws.{PlainEventsAddNothing, ArrivalsNumber, AsksQueue, TakesLend, TakesStart, TakesEvict, ReturnsAdd, ReturnsClose, TicksClose, KeyedKeys, CancelsStrike, ResetsRelease};
 ghost use Rattle.book_model.specs.Kept.{EmptyBooksAreKept, EventsKeep, ReturnsKeep};
 
 pub mod counts;
@@ -11,7 +11,7 @@ pub mod limits;
 pub mod rows;
 pub mod settings;
 
-/// What each event makes of the book's tickets, its idle links and its next numbers.
+/// What each event makes of the book's tickets, its links, its leases and its next numbers.
 pub fn book_laws()
     ensures plain { PlainEventsAddNothing }
     ensures arrives { ArrivalsNumber }
@@ -22,9 +22,12 @@ pub fn book_laws()
     ensures gives_back { ReturnsAdd }
     ensures too_late { ReturnsClose }
     ensures tick { TicksClose }
+    ensures keyed { KeyedKeys }
+    ensures cancels { CancelsStrike }
+    ensures resets { ResetsRelease }
 {}
 
-/// Each client's number stands once, each link's once, lent or idle; each ticket is its client's only one; the counts agree with one
+/// Each client's number stands once, each link's once, lent or idle; each ticket is its client's only one, each lease its lent link's; the counts agree with one
 /// another and with the lists, so that the lent links are as many as were granted and neither given back, lost nor failed. An empty
 /// book is so, and every event leaves it so, whose new limits are within what a book can hold.
 pub fn books_are_in_order()
