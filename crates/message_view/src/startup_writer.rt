@@ -6,7 +6,7 @@ ghost use Rattle.message_view.specs.Bodies.{pair as spelled_pair};
 ghost use Rattle.message_view.specs.Messages.{cancel_request, startup_message};
 ghost use Rattle.message_view.specs.Parts.{pairs_of};
 
-use crate::writers::put_joined;
+use crate::writers::put_parts;
 use bytes::BytesMut;
 use frame_view::{CANCEL_REQUEST, LONGEST_FRAME, PROTOCOL_3_0};
 use std::alloc::AllocError;
@@ -74,8 +74,7 @@ pub fn put_cancel_request(out: &mut BytesMut, pid: u32, secret: u32) -> Result<(
     ensures err { OnErr result (out.new.items ≡ out.old.items) }
     ensures room { length (cancel_request pid secret) ≤ out.old.spare → IsOk result }
 {
-    out.reserve(SIZE_OF_CANCEL as usize)?;
-    put_joined(
+    put_parts(
         out,
         &[
             &SIZE_OF_CANCEL.to_be_bytes(),
@@ -83,6 +82,5 @@ pub fn put_cancel_request(out: &mut BytesMut, pid: u32, secret: u32) -> Result<(
             &pid.to_be_bytes(),
             &secret.to_be_bytes(),
         ],
-    );
-    Ok(())
+    )
 }
