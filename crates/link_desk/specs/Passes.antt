@@ -1,11 +1,14 @@
 -- What a pass tells: the decisions that were made through it, by class, and who holds it.
 use Rattle.std.specs.Prelude.{ℕ, suc, Bool, true, false, Option, Some, None, option_map}
 use Rattle.message_view.specs.declared.refusal.Refusal.{Refusal}
+use Rattle.message_view.specs.declared.views.KeyView.{KeyView}
 use Rattle.message_view.specs.declared.refusal.Refusal.TheVariants.{LastDecision}
 use Rattle.link_start.specs.Links.{LinkView}
 use Rattle.link_desk.specs.declared.calls.Call.{Call}
 use Rattle.link_desk.specs.declared.calls.Call.TheVariants as call
 use Rattle.link_desk.specs.declared.calls.Lease.{Lease}
+use Rattle.link_desk.specs.declared.calls.Stage.{Stage}
+use Rattle.link_desk.specs.declared.calls.Stage.TheVariants.{Granted, Keyed, Ended}
 use Rattle.link_desk.specs.declared.calls.Holder.{Holder}
 use Rattle.link_desk.specs.declared.answers.Arrival.{Arrival}
 use Rattle.link_desk.specs.declared.answers.Arrival.TheVariants as arrival
@@ -15,6 +18,12 @@ use Rattle.link_desk.specs.declared.answers.Grant.{Grant}
 use Rattle.link_desk.specs.declared.answers.Grant.TheVariants as grant
 use Rattle.link_desk.specs.declared.answers.Back.{Back}
 use Rattle.link_desk.specs.declared.answers.Back.TheVariants as back
+use Rattle.link_desk.specs.declared.answers.Keying.{Keying}
+use Rattle.link_desk.specs.declared.answers.Keying.TheVariants as keying
+use Rattle.link_desk.specs.declared.answers.Release.{Release}
+use Rattle.link_desk.specs.declared.answers.Release.TheVariants as release
+use Rattle.link_desk.specs.declared.answers.Cancelled.{Cancelled}
+use Rattle.link_desk.specs.declared.answers.Cancelled.TheVariants as cancelled
 use Rattle.link_desk.specs.declared.answers.Gone.{Gone}
 use Rattle.link_desk.specs.declared.answers.Gone.TheVariants as gone
 use Rattle.link_desk.specs.declared.answers.Changed.{Changed}
@@ -86,6 +95,23 @@ module _ {E : Type 0} where
   after_grant p (grant.Refused refusal) = after_refusal p refusal
   after_grant p grant.Stranger = broken p
 
+abbrev pub after_keying : PassOf → Keying → PassOf
+after_keying p keying.Done = one_other p
+after_keying p keying.Last = broken p
+after_keying p keying.Stranger = broken p
+
+abbrev pub after_release : PassOf → Release → PassOf
+after_release p release.Reset = one_other p
+after_release p release.Dispose = one_other p
+after_release p release.Last = broken p
+after_release p release.Stranger = broken p
+
+-- who finds nobody changes nothing
+abbrev pub after_cancel : PassOf → Cancelled → PassOf
+after_cancel p (cancelled.Strike strike) = one_other p
+after_cancel p cancelled.Nobody = p
+after_cancel p cancelled.Last = broken p
+
 abbrev pub after_back : PassOf → Back → PassOf
 after_back p back.Done = one_given_back p
 after_back p back.Close = one_given_back p
@@ -111,8 +137,27 @@ after_change p changed.Last = broken p
 abbrev pub new_holder : Holder
 new_holder = record { client = None; lease = None; refused = None; last = None }
 
-abbrev pub lease_of : LinkView → Lease
-lease_of l = record { number = l.number; born = l.born }
+abbrev pub lease_at : Stage → LinkView → Lease
+lease_at stage l = record { number = l.number; born = l.born; stage = stage }
+
+-- a link's lease as it begins, and once it has ended without a cancel
+abbrev pub granted_lease : LinkView → Lease
+granted_lease = lease_at Granted
+
+abbrev pub ended_lease : LinkView → Lease
+ended_lease = lease_at Ended
+
+abbrev pub stage_of : Holder → Option Stage
+stage_of h = option_map (λ (l : Lease). l.stage) h.lease
+
+-- a lease is there that hasn't ended
+abbrev pub is_before_end : Option Stage → Bool
+is_before_end (Some Granted) = true
+is_before_end (Some Keyed) = true
+is_before_end _ = false
+
+abbrev pub is_open : Holder → Bool
+is_open h = is_before_end (stage_of h)
 
 -- a call of a client's number, or of a link's
 abbrev pub of_client : (ℕ → Call) → Holder → Option Call
@@ -134,10 +179,28 @@ asked_by h asked.Stranger = record h { last = of_client call.Ask h }
 module _ {E : Type 0} where
   abbrev pub taken : Holder → Grant E → Holder
   taken h grant.Queued = h
-  taken h (grant.Lend l) = record h { lease = Some (lease_of l); last = of_client call.Take h }
-  taken h (grant.Start number born evicted) = record h { lease = Some (record { number = number; born = born }); last = of_client call.Take h }
+  taken h (grant.Lend l) = record h { lease = Some (granted_lease l); last = of_client call.Take h }
+  taken h (grant.Start number born evicted) = record h { lease = Some (record { number = number; born = born; stage = Granted }); last = of_client call.Take h }
   taken h (grant.Refused refusal) = record h { refused = Some refusal; last = of_client call.Take h }
   taken h grant.Stranger = record h { last = of_client call.Take h }
+
+-- its lease is at this stage
+abbrev pub at_stage : Stage → Holder → Holder
+at_stage stage h = record h { lease = option_map (λ (l : Lease). record l { stage = stage }) h.lease }
+
+abbrev pub keyed_lease : KeyView → KeyView → Holder → Holder
+keyed_lease client server h = record (at_stage Keyed h) { last = of_lease (λ n. call.Keyed n client server) h }
+
+-- it has ended where no cancel was for it
+abbrev pub ends_by : Release → Holder → Holder
+ends_by release.Reset h = at_stage Ended h
+ends_by _ h = h
+
+abbrev pub released : Holder → Release → Holder
+released h r = record (ends_by r h) { last = of_lease call.EndLease h }
+
+abbrev pub cancelling : KeyView → Holder → Holder
+cancelling client h = record h { last = Some (call.Cancel client) }
 
 -- by a link's return, its loss, or its start that failed
 abbrev pub without_lease : (ℕ → Call) → Holder → Holder

@@ -1,7 +1,7 @@
 //! What each call of a desk answers.
 
 use link_start::links::CleanLink;
-use message_view::Refusal;
+use message_view::{KeyView, Refusal};
 use server_end::ServerEnd;
 
 /// To a client that has come.
@@ -56,6 +56,51 @@ pub enum Back {
     Last,
     /// It is handed back: no such link is lent.
     Stranger,
+}
+
+/// To a lease that may be cancelled from now on.
+#[derive(Clone, Copy, Drop)]
+pub enum Keying {
+    Done,
+    /// The book has made its last decision.
+    Last,
+    /// No such link is lent, or its lease was keyed or has ended.
+    Stranger,
+}
+
+/// To a lease that ends.
+#[derive(Clone, Copy, Drop)]
+pub enum Release {
+    /// No cancel is for its link, which may be reset, or given back unused.
+    Reset,
+    /// A cancel is for its link, and may still come: the link is to be closed.
+    Dispose,
+    /// The book has made its last decision.
+    Last,
+    /// No such link is lent.
+    Stranger,
+}
+
+/// A cancel on its way: the link that it is for, the key word that the link's server told, and where that server is.
+#[derive(Clone, Copy, Drop)]
+pub struct Strike {
+    pub link: u64,
+    pub server: KeyView,
+    /// The server's IPv4 address.
+    pub host: [u8; 4],
+    /// The server's TCP port.
+    pub port: u16,
+}
+
+/// To a CancelRequest.
+#[derive(Clone, Copy, Drop)]
+pub enum Cancelled {
+    /// This cancel is to be sent.
+    Strike(Strike),
+    /// Nobody of this key word has a lease.
+    Nobody,
+    /// The book has made its last decision.
+    Last,
 }
 
 /// To new limits, Pause, Resume and Shutdown.

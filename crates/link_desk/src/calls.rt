@@ -1,6 +1,6 @@
 //! The calls that are made through a pass, and who holds it.
 
-use message_view::Refusal;
+use message_view::{KeyView, Refusal};
 
 /// A call of a desk's: what it told the lease book.
 #[derive(Clone, Copy, Drop)]
@@ -19,6 +19,16 @@ pub enum Call {
     StartFailed(u64),
     /// This client has gone.
     Leave(u64),
+    /// The lease of the link of this number is of a client of this key word, over a server that told that one.
+    Keyed {
+        link: u64,
+        client: KeyView,
+        server: KeyView,
+    },
+    /// What the client of this key word is at was to be cancelled.
+    Cancel(KeyView),
+    /// The lease of the link of this number has ended.
+    EndLease(u64),
     /// It was this second.
     Tick(u64),
     Limits,
@@ -27,11 +37,23 @@ pub enum Call {
     Shutdown,
 }
 
-/// A link that was lent, or is to be started: its number, and its second of birth.
+/// How far a lease is.
+#[derive(Clone, Copy, Drop)]
+pub enum Stage {
+    /// No cancel finds it yet.
+    Granted,
+    /// A cancel finds it by its client's key word.
+    Keyed,
+    /// It has ended, and no cancel is for its link.
+    Ended,
+}
+
+/// A link that was lent, or is to be started: its number, its second of birth, and how far its lease is.
 #[derive(Clone, Copy, Drop)]
 pub struct Lease {
     pub number: u64,
     pub born: u64,
+    pub stage: Stage,
 }
 
 /// Who holds a pass.

@@ -1,5 +1,5 @@
 //! A desk that lends links.
-ghost use Rattle.std.specs.Prelude.{◌≡◌, IfOk, IfSome, IsSome, None, Some};
+ghost use Rattle.std.specs.Prelude.{◌≡◌, IfOk, IfSome, IsSome, None, Some, true};
 ghost use Rattle.std.specs.Arc.{arc_value};
 ghost use Rattle.book_model.specs.Book.{Book};
 ghost use Rattle.book_model.specs.Kept.{Kept};
@@ -8,15 +8,19 @@ ghost use Rattle.link_desk.specs.Counts.{AtMost, class_counts};
 ghost use Rattle.link_desk.specs.Homes.{IsAtHome, IsDialled, IsGrantAtHome};
 ghost use Rattle.link_desk.specs.declared.calls.Call.TheVariants.{GiveBack, Lost, StartFailed};
 ghost use Rattle.link_desk.specs.declared.calls.Call.TheVariants as call;
-ghost use Rattle.link_desk.specs.Passes.{after_arrival, after_asking, after_back, after_change, after_grant, after_leaving, after_loss, arrived, asked_by, keeps, lease_of, left, taken, without_lease};
+ghost use Rattle.link_desk.specs.declared.calls.Stage.TheVariants.{Granted};
+ghost use Rattle.link_desk.specs.Passes.{after_arrival, after_asking, after_back, after_cancel, after_change, after_grant, after_keying, after_leaving, after_loss, after_release, arrived, asked_by, cancelling, ended_lease, is_open, keeps, keyed_lease, left, released, stage_of, taken, without_lease};
 ghost use Rattle.link_desk.specs.Refusing.{MayArrive, MayAsk, MayTake};
 
-use crate::answers::{Arrival, Asked, Back, Changed, Gone, Grant};
+use crate::answers::{
+    Arrival, Asked, Back, Cancelled, Changed, Gone, Grant, Keying, Release, Strike,
+};
 use book_model::limits::Limits;
 use book_register::view::BookView;
 use ini_config::DbRow;
 use link_start::links::CleanLink;
 use log_lines::notes::{Client, Note};
+use message_view::KeyView;
 use server_end::ServerEnd;
 use start_keys::StartKey;
 use std::alloc::{AllocError, Global};
@@ -66,10 +70,30 @@ pub trait LinkDesk {
         ensures refused { MayTake result }
         ensures home { IsGrantAtHome home result };
 
-    /// Takes the client's link back, clean, or leaves it there to be closed.
+    /// From now on a cancel with the client's key word finds the client's lease, whose server told that other key word.
+    fn keyed(&self, pass: &mut Self::Pass, client: KeyView, server: KeyView) -> Keying
+        requires granted { stage_of (holder pass.old) ≡ Some Granted }
+        ensures told { told pass.new ≡ after_keying (told pass.old) result }
+        ensures holder { holder pass.new ≡ keyed_lease client server (holder pass.old) };
+
+    /// The client's lease has ended: no cancel finds it any more. Only where none found it before may its link go to another client.
+    fn end_lease(&self, pass: &mut Self::Pass) -> Release
+        requires open { is_open (holder pass.old) ≡ true }
+        ensures told { told pass.new ≡ after_release (told pass.old) result }
+        ensures holder { holder pass.new ≡ released (holder pass.old) result };
+
+    /// Finds the lease of the client of this key word, whatever client that is, for which somebody asks to have its statement cancelled.
+    fn cancel(&self, pass: &mut Self::Pass, client: KeyView) -> Cancelled
+        ensures told { told pass.new ≡ after_cancel (told pass.old) result }
+        ensures holder { holder pass.new ≡ cancelling client (holder pass.old) };
+
+    /// Sends a cancel on its way, and waits until the server has closed the connection on which it came, or for some seconds.
+    fn strike(&self, strike: &Strike);
+
+    /// Takes the client's link back, clean, after its lease has ended without a cancel; or leaves it there to be closed.
     fn give_back(&self, pass: &mut Self::Pass, link: &mut Option<CleanLink<Self::End>>) -> Back
         requires here { IsSome link.old }
-        requires own { IfSome link.old (λ l. (holder pass.old).lease ≡ Some (lease_of l)) }
+        requires own { IfSome link.old (λ l. (holder pass.old).lease ≡ Some (ended_lease l)) }
         requires home { IfSome link.old (λ l. IsAtHome home l) }
         ensures told { told pass.new ≡ after_back (told pass.old) result }
         ensures holder { holder pass.new ≡ without_lease GiveBack (holder pass.old) }

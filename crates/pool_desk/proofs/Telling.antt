@@ -1,18 +1,20 @@
 -- What a pass tells follows the book's counts.
-use Rattle.std.proofs.Common.{◌≡◌, ℕ, suc, Bool, true, false, cond, not, ◌||◌, ◌==◌, nat_lt, length, find, Option, None, Some, inl, inr, refl, sym, ap, ◌∙◌, subst, arith}
+use Rattle.std.proofs.Common.{◌≡◌, ℕ, suc, Bool, true, false, cond, not, ◌||◌, ◌==◌, nat_lt, length, find, List, Option, None, Some, inl, inr, refl, sym, ap, ◌∙◌, subst, arith}
 use native.Mathlib.Numerals.{unary_clauses}
 use Rattle.std.specs.Arc.{arc_value}
 use Rattle.std.proofs.lemmas.Bool.{true≢false}
 use Rattle.message_view.specs.declared.refusal.Refusal.TheVariants.{LastDecision}
+use Rattle.message_view.specs.declared.views.KeyView.{KeyView}
+use Rattle.std.specs.List.{list_any}
 use Rattle.session_values.specs.State.{StartKeyOf}
-use Rattle.book_model.specs.Book.{Book, Link, Ticket, in_pool, is_link, is_of, latest_of, link_count, pool_count, pool_size, waiting_before}
-use Rattle.book_model.specs.Outcomes.{Answer, Event, apply, apply_return, at_clock, closes, counted, decided, evicts, gives_back, grants, has_waited, is_crowded, is_old, is_stale, is_started_as, is_strange, kind_of, last_decision, outcome, raised, takes}
-use Rattle.book_model.specs.Outcomes.Event.{Arrive, Ask, Take, GiveBack, Lost, StartFailed, Leave, Tick, NewLimits, Pause, Resume, Shutdown}
+use Rattle.book_model.specs.Book.{Book, Lease, Link, Ticket, in_pool, is_link, is_number, is_of, is_of_client, latest_of, link_count, pool_count, pool_size, waiting_before}
+use Rattle.book_model.specs.Outcomes.{Answer, Event, apply, apply_return, at_clock, cancels, closes, counted, decided, ends_lease, evicts, gives_back, grants, has_waited, is_crowded, is_old, is_stale, is_started_as, is_strange, kind_of, last_decision, outcome, raised, strikes, strikes_at, takes}
+use Rattle.book_model.specs.Outcomes.Event.{Arrive, Ask, Take, GiveBack, Lost, StartFailed, Leave, Tick, NewLimits, Pause, Resume, Shutdown, Keyed, Cancel, EndLease}
 use Rattle.book_model.specs.declared.counts.Counts.{Counts}
 use Rattle.book_model.specs.declared.counts.Kind.{Kind}
-use Rattle.book_model.specs.declared.counts.Kind.TheVariants.{Arrival, ArrivalRefused, Asking, AskRefused, Grant, TicketLost, Return, Loss, FailedStart, Leaving, Ticking, Limiting, Pausing, Resuming, Closing}
+use Rattle.book_model.specs.declared.counts.Kind.TheVariants.{Arrival, ArrivalRefused, Asking, AskRefused, Grant, TicketLost, Return, Loss, FailedStart, Leaving, Ticking, Limiting, Pausing, Resuming, Closing, Keying, Cancelling, LeaseEnding}
 use Rattle.book_model.specs.declared.events.Reply.{Reply}
-use Rattle.book_model.specs.declared.events.Reply.TheVariants.{Refuse, Done, Stranger}
+use Rattle.book_model.specs.declared.events.Reply.TheVariants.{Refuse, Done, Stranger, Dispose, Reset}
 use Rattle.book_model.proofs.KeepingLists.{not_found}
 use Rattle.lease_book.specs.Links.{answered, plain}
 use Rattle.lease_book.specs.declared.events.Event.{Event as LinkEvent}
@@ -70,6 +72,9 @@ class_raised Limiting c = with_others (class_counts c) _ _ (omega arith)
 class_raised Pausing c = with_others (class_counts c) _ _ (omega arith)
 class_raised Resuming c = with_others (class_counts c) _ _ (omega arith)
 class_raised Closing c = with_others (class_counts c) _ _ (omega arith)
+class_raised Keying c = with_others (class_counts c) _ _ (omega arith)
+class_raised Cancelling c = with_others (class_counts c) _ _ (omega arith)
+class_raised LeaseEnding c = with_others (class_counts c) _ _ (omega arith)
 
 class_counted : (b : Book) (k : Option Kind) → class_counts (counted b k).counts ≡ one_more k (class_counts b.counts)
 class_counted b None = refl
@@ -93,6 +98,9 @@ one_more_is (Some Limiting) m = simp unary_clauses refl
 one_more_is (Some Pausing) m = simp unary_clauses refl
 one_more_is (Some Resuming) m = simp unary_clauses refl
 one_more_is (Some Closing) m = simp unary_clauses refl
+one_more_is (Some Keying) m = simp unary_clauses refl
+one_more_is (Some Cancelling) m = simp unary_clauses refl
+one_more_is (Some LeaseEnding) m = simp unary_clauses refl
 
 added : (a b n : Made) (m : Made) → sum_of a m ≡ sum_of b (sum_of m n) → a ≡ sum_of b n
 added a b n m h =
@@ -160,6 +168,22 @@ fits_closes : (b : Book) (now : ℕ) (o : Option Link) → Fits b (Tick now) (cl
 fits_closes b now None = record { counts = refl; tells = ticked now (nat_lt b.clock now) }
 fits_closes b now (Some link) = record { counts = refl; tells = λ p. refl }
 
+fits_strikes : (b : Book) (client : KeyView) (lease : Lease) (port : ℕ) (host : Option (List ℕ)) → Fits b (Cancel client) (strikes b lease port host)
+fits_strikes b client lease port None = record { counts = refl; tells = λ p. refl }
+fits_strikes b client lease port (Some host) = record { counts = refl; tells = λ p. refl }
+
+fits_strikes_at : (b : Book) (client : KeyView) (lease : Lease) (o : Option Link) → Fits b (Cancel client) (strikes_at b lease o)
+fits_strikes_at b client lease None = record { counts = refl; tells = λ p. refl }
+fits_strikes_at b client lease (Some link) = fits_strikes b client lease link.key.port link.key.host
+
+fits_cancels : (b : Book) (client : KeyView) (o : Option Lease) → Fits b (Cancel client) (cancels b o)
+fits_cancels b client None = record { counts = refl; tells = λ p. refl }
+fits_cancels b client (Some lease) = fits_strikes_at b client lease (find (is_link lease.link) b.lent)
+
+fits_ended : (b : Book) (n : ℕ) (marked : Bool) → Fits b (EndLease n) (record { book = (ends_lease b n).book; reply = cond marked Dispose Reset })
+fits_ended b n true = record { counts = refl; tells = λ p. refl }
+fits_ended b n false = record { counts = refl; tells = λ p. refl }
+
 fits : (b : Book) (e : Event) → is_strange b e ≡ false → Fits b e (outcome b e)
 fits b Arrive known =
     both (Fits b Arrive) b.is_shut _ _ (record { counts = refl; tells = λ p. (refl, tt) })
@@ -175,6 +199,9 @@ fits b (NewLimits l) known = record { counts = refl; tells = λ p. refl }
 fits b Pause known = record { counts = refl; tells = λ p. refl }
 fits b Resume known = record { counts = refl; tells = λ p. refl }
 fits b Shutdown known = record { counts = refl; tells = λ p. refl }
+fits b (Keyed n client server) known = record { counts = refl; tells = λ p. refl }
+fits b (Cancel client) known = fits_cancels b client (find (is_of_client client) b.keyed)
+fits b (EndLease n) known = fits_ended b n (list_any (is_number n) b.marked)
 
 -- ---- the whole answer
 
@@ -199,6 +226,9 @@ counted_last b e = record { kind = None; counts = refl; tells = last e }
     last Pause p = refl
     last Resume p = refl
     last Shutdown p = refl
+    last (Keyed n client server) p = refl
+    last (Cancel client) p = refl
+    last (EndLease n) p = refl
 
 counted_strange : (b : Book) (e : Event) → is_strange b e ≡ true → Counted b e (record { book = b; reply = Stranger })
 counted_strange b e is = record { kind = None; counts = refl; tells = strange e is }
@@ -216,6 +246,9 @@ counted_strange b e is = record { kind = None; counts = refl; tells = strange e 
     strange Pause is p = absurd (true≢false (sym is))
     strange Resume is p = absurd (true≢false (sym is))
     strange Shutdown is p = absurd (true≢false (sym is))
+    strange (Keyed n client server) is p = refl
+    strange (Cancel client) is p = absurd (true≢false (sym is))
+    strange (EndLease n) is p = refl
 
 counted_decided : (b : Book) (e : Event) (a : Answer) → Fits b e a → Counted b e (decided b e a)
 counted_decided b e a f = record { kind = kind_of b e a.reply; counts = class_counted a.book (kind_of b e a.reply) ∙ ap (λ (c : Counts). one_more (kind_of b e a.reply) (class_counts c)) f.counts; tells = f.tells }
@@ -260,6 +293,9 @@ module _ {E : Type 0} where
   counted_event b event.Pause = counted_apply b Pause
   counted_event b event.Resume = counted_apply b Resume
   counted_event b event.Shutdown = counted_apply b Shutdown
+  counted_event b (event.Keyed n client server) = counted_apply b (Keyed n client server)
+  counted_event b (event.Cancel client) = counted_apply b (Cancel client)
+  counted_event b (event.EndLease n) = counted_apply b (EndLease n)
 
   -- the counts after an event are those before, and one more
   counts_are : (b : Book) (e : LinkEvent E) (lists : Book) (old new : Made) → class_counts b.counts ≡ old → lists ≡ (answered b e).book → new ≡ class_counts lists.counts → new ≡ one_more (counted_event b e).kind old

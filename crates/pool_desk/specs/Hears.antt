@@ -4,10 +4,11 @@ use Rattle.lease_book.specs.declared.events.Event.{Event}
 use Rattle.lease_book.specs.declared.events.Event.TheVariants as event
 use Rattle.lease_book.specs.declared.events.Reply.{Reply}
 use Rattle.lease_book.specs.declared.events.Reply.TheVariants as reply
-use Rattle.link_desk.specs.Passes.{lease_of}
+use Rattle.link_desk.specs.Passes.{at_stage, granted_lease}
 use Rattle.link_desk.specs.declared.calls.Call.{Call}
 use Rattle.link_desk.specs.declared.calls.Call.TheVariants as call
 use Rattle.link_desk.specs.declared.calls.Holder.{Holder}
+use Rattle.link_desk.specs.declared.calls.Stage.TheVariants.{Granted, Keyed, Ended}
 
 module _ {E : Type 0} where
   -- the call that an event is
@@ -19,6 +20,9 @@ module _ {E : Type 0} where
   call_of (event.Lost n) = call.Lost n
   call_of (event.StartFailed n) = call.StartFailed n
   call_of (event.Leave client) = call.Leave client
+  call_of (event.Keyed n client server) = call.Keyed n client server
+  call_of (event.Cancel client) = call.Cancel client
+  call_of (event.EndLease n) = call.EndLease n
   call_of (event.Tick now) = call.Tick now
   call_of (event.Limits limits again) = call.Limits
   call_of event.Pause = call.Pause
@@ -32,8 +36,10 @@ module _ {E : Type 0} where
   heard h (call.Ask client) (reply.Refuse refusal back) = record h { refused = Some refusal; last = Some (call.Ask client) }
   heard h (call.Take client) (reply.Refuse refusal back) = record h { refused = Some refusal; last = Some (call.Take client) }
   heard h (call.Take client) (reply.Queued before) = h
-  heard h (call.Take client) (reply.Lend l) = record h { lease = Some (lease_of l); last = Some (call.Take client) }
-  heard h (call.Take client) (reply.Start n born evicted) = record h { lease = Some (record { number = n; born = born }); last = Some (call.Take client) }
+  heard h (call.Take client) (reply.Lend l) = record h { lease = Some (granted_lease l); last = Some (call.Take client) }
+  heard h (call.Take client) (reply.Start n born evicted) = record h { lease = Some (record { number = n; born = born; stage = Granted }); last = Some (call.Take client) }
+  heard h (call.Keyed n client server) told = record (at_stage Keyed h) { last = Some (call.Keyed n client server) }
+  heard h (call.EndLease n) reply.Reset = record (at_stage Ended h) { last = Some (call.EndLease n) }
   heard h (call.GiveBack n) told = record h { lease = None; last = Some (call.GiveBack n) }
   heard h (call.Lost n) told = record h { lease = None; last = Some (call.Lost n) }
   heard h (call.StartFailed n) told = record h { lease = None; last = Some (call.StartFailed n) }

@@ -2,7 +2,7 @@
 use Rattle.std.specs.Prelude.{ℕ, Option, Some, None, cond}
 use Rattle.book_model.specs.Book.{Book}
 use Rattle.book_model.specs.Outcomes.{Event}
-use Rattle.book_model.specs.Outcomes.Event.{Arrive, Ask, Take, GiveBack, Lost, StartFailed, Leave}
+use Rattle.book_model.specs.Outcomes.Event.{Arrive, Ask, Take, GiveBack, Lost, StartFailed, Leave, Keyed, Cancel, EndLease}
 use Rattle.book_register.specs.Waking.{is_full, waiting_behind, waiting_for}
 use Rattle.pool_desk.specs.declared.helping.Helps.{Helps}
 use Rattle.pool_desk.specs.declared.helping.Helps.TheVariants as helps
@@ -27,4 +27,7 @@ helped_by b (Leave client) = helped_behind b client
 helped_by b (GiveBack link) = helped_by_link b link
 helped_by b (Lost link) = helped_by_link b link
 helped_by b (StartFailed link) = helped_by_link b link
+helped_by b (Keyed link client server) = helps.Nobody
+helped_by b (Cancel client) = helps.Nobody
+helped_by b (EndLease link) = helps.Nobody
 helped_by b _ = helps.All

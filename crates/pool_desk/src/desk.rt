@@ -23,7 +23,9 @@ use crate::inner::Core;
 use crate::outside::Outside;
 use book_model::limits::Limits;
 use book_register::view::BookView;
-use desk_tallies::answers::{Arrival, Asked, Back, Changed, Gone, Grant};
+use desk_tallies::answers::{
+    Arrival, Asked, Back, Cancelled, Changed, Gone, Grant, Keying, Release, Strike,
+};
 use desk_tallies::calls::Lease;
 use desk_tallies::desk::LinkDesk;
 use desk_tallies::ledgers::Ledgers;
@@ -33,6 +35,7 @@ use ini_config::DbRow;
 use lease_book::events::{Event, Reply};
 use link_run::links::CleanLink;
 use log_lines::notes::{Client, Note};
+use message_view::KeyView;
 use server_end::ServerEnd;
 use start_keys::StartKey;
 use std::alloc::{AllocError, Global};
@@ -264,6 +267,59 @@ impl<R: Wait + Clock, S: Outside, K: Ledgers> LinkDesk for Desk<R, S, K> {
                 grant
             }
         }
+    }
+
+    fn keyed(&self, pass: &mut Pass<K>, client: KeyView, server: KeyView) -> Keying {
+        let Some(Lease { number, .. }) = pass.holder().lease else {
+            unreachable!()
+        };
+        let event = Event::Keyed {
+            number,
+            client,
+            server,
+        };
+        match self.hold(pass, event) {
+            Reply::Done => Keying::Done,
+            Reply::Refuse(..) => Keying::Last,
+            Reply::Stranger(_) => Keying::Stranger,
+            _ => unreachable!(),
+        }
+    }
+
+    fn end_lease(&self, pass: &mut Pass<K>) -> Release {
+        let Some(Lease { number, .. }) = pass.holder().lease else {
+            unreachable!()
+        };
+        match self.hold(pass, Event::EndLease { number }) {
+            Reply::Reset => Release::Reset,
+            Reply::Dispose => Release::Dispose,
+            Reply::Refuse(..) => Release::Last,
+            Reply::Stranger(_) => Release::Stranger,
+            _ => unreachable!(),
+        }
+    }
+
+    fn cancel(&self, pass: &mut Pass<K>, client: KeyView) -> Cancelled {
+        match self.hold(pass, Event::Cancel { client }) {
+            Reply::Strike {
+                number,
+                server,
+                host,
+                port,
+            } => Cancelled::Strike(Strike {
+                link: number,
+                server,
+                host,
+                port,
+            }),
+            Reply::Nobody => Cancelled::Nobody,
+            Reply::Refuse(..) => Cancelled::Last,
+            _ => unreachable!(),
+        }
+    }
+
+    fn strike(&self, strike: &Strike) {
+        self.outside.strike(strike);
     }
 
     fn give_back(&self, pass: &mut Pass<K>, link: &mut Option<CleanLink<S::End>>) -> Back {

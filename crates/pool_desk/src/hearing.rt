@@ -1,8 +1,10 @@
 //! Who holds a pass after an event that was made through it.
 ghost use Rattle.std.specs.Prelude.{◌≡◌};
+ghost use Rattle.desk_tallies.specs.Passes.{at_stage};
+ghost use Rattle.link_desk.specs.declared.calls.Stage.TheVariants.{Granted};
 ghost use Rattle.pool_desk.specs.Hears.{call_of, heard};
 
-use desk_tallies::calls::{Call, Holder, Lease};
+use desk_tallies::calls::{Call, Holder, Lease, Stage};
 use lease_book::events::{Event, Reply};
 use server_end::ServerEnd;
 
@@ -18,6 +20,17 @@ pub(crate) fn call_of<E: ServerEnd>(event: &Event<E>) -> Call
         Event::Lost { number } => Call::Lost(*number),
         Event::StartFailed { number } => Call::StartFailed(*number),
         Event::Leave { client } => Call::Leave(*client),
+        Event::Keyed {
+            number,
+            client,
+            server,
+        } => Call::Keyed {
+            link: *number,
+            client: *client,
+            server: *server,
+        },
+        Event::Cancel { client } => Call::Cancel(*client),
+        Event::EndLease { number } => Call::EndLease(*number),
         Event::Tick { now } => Call::Tick(*now),
         Event::Limits(..) => Call::Limits,
         Event::Pause => Call::Pause,
@@ -26,13 +39,30 @@ pub(crate) fn call_of<E: ServerEnd>(event: &Event<E>) -> Call
     }
 }
 
-/// The same holder, with a link of this number and second of birth.
+/// The same holder, with a link of this number and second of birth, whose lease begins.
 fn with_lease(holder: Holder, number: u64, born: u64) -> Holder
-    ensures { result ≡ record holder { lease = Some (record { number = number; born = born }) } }
+    ensures { result ≡ record holder { lease = Some (record { number = number; born = born; stage = Granted }) } }
 {
     Holder {
-        lease: Some(Lease { number, born }),
+        lease: Some(Lease {
+            number,
+            born,
+            stage: Stage::Granted,
+        }),
         ..holder
+    }
+}
+
+/// The same holder, with its lease at this stage.
+fn at_stage(holder: Holder, stage: Stage) -> Holder
+    ensures { result ≡ at_stage stage holder }
+{
+    match holder.lease {
+        Some(lease) => Holder {
+            lease: Some(Lease { stage, ..lease }),
+            ..holder
+        },
+        None => holder,
     }
 }
 
@@ -57,6 +87,8 @@ pub(crate) fn heard<E: ServerEnd>(holder: Holder, call: Call, reply: &Reply<E>) 
         (Call::Take(_), Reply::Queued(_)) => holder,
         (Call::Take(_), Reply::Lend(link)) => with_lease(held, link.number(), link.born()),
         (Call::Take(_), Reply::Start { number, born, .. }) => with_lease(held, *number, *born),
+        (Call::Keyed { .. }, _) => at_stage(held, Stage::Keyed),
+        (Call::EndLease(_), Reply::Reset) => at_stage(held, Stage::Ended),
         (Call::GiveBack(_) | Call::Lost(_) | Call::StartFailed(_), _) => Holder {
             lease: None,
             ..held

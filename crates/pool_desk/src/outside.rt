@@ -4,6 +4,7 @@ ghost use Rattle.std.specs.Arc.{arc_value};
 ghost use Rattle.desk_tallies.specs.Homes.{IsDialled};
 
 use book_model::limits::Limits;
+use desk_tallies::answers::Strike;
 use ini_config::DbRow;
 use log_lines::notes::{Client, Note};
 use server_end::ServerEnd;
@@ -20,6 +21,10 @@ pub trait Outside {
     /// A new end of this row's server, which waits for its StartupMessage; `None` where it can't be reached.
     fn dial(&self, row: &DbRow) -> Option<Self::End>
         ensures { IfSome result (λ e. IsDialled home row.now (Self.End.standing e)) };
+
+    /// Sends a cancel on its way: to the server at its place goes one CancelRequest with the key word that the link's server told. It
+    /// waits until the server has closed that connection, or for some seconds.
+    fn strike(&self, strike: &Strike);
 
     /// Reads the files of settings and users again, and keeps them for later clients; the limits of the settings, twice. `None` where
     /// a file has a fault or memory is refused: nothing is kept then. So it is where there are no files.
