@@ -145,6 +145,7 @@ impl<K: Ledgers> Shares<K> {
             holder: Holder {
                 client: None,
                 lease: None,
+                release: None,
                 refused: None,
                 last: None,
             },

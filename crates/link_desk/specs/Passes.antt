@@ -135,7 +135,7 @@ after_change p changed.Last = broken p
 -- ---- what each call makes of its holder; what goes to the book is the holder's own
 
 abbrev pub new_holder : Holder
-new_holder = record { client = None; lease = None; refused = None; last = None }
+new_holder = record { client = None; lease = None; release = None; refused = None; last = None }
 
 abbrev pub lease_at : Stage → LinkView → Lease
 lease_at stage l = record { number = l.number; born = l.born; stage = stage }
@@ -197,7 +197,7 @@ ends_by release.Reset h = at_stage Ended h
 ends_by _ h = h
 
 abbrev pub released : Holder → Release → Holder
-released h r = record (ends_by r h) { last = of_lease call.EndLease h }
+released h r = record (ends_by r h) { release = Some r; last = of_lease call.EndLease h }
 
 abbrev pub cancelling : KeyView → Holder → Holder
 cancelling client h = record h { last = Some (call.Cancel client) }

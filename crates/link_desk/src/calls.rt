@@ -1,5 +1,6 @@
 //! The calls that are made through a pass, and who holds it.
 
+use crate::answers::Release;
 use message_view::{KeyView, Refusal};
 
 /// A call of a desk's: what it told the lease book.
@@ -63,6 +64,8 @@ pub struct Holder {
     pub client: Option<u64>,
     /// The link that it has.
     pub lease: Option<Lease>,
+    /// What the desk answered to the end of the lease that ended last.
+    pub release: Option<Release>,
     /// What the client that came last was refused by.
     pub refused: Option<Refusal>,
     /// The last call that was made through the pass, but for a client's that waits on.

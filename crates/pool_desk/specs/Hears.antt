@@ -5,6 +5,7 @@ use Rattle.lease_book.specs.declared.events.Event.TheVariants as event
 use Rattle.lease_book.specs.declared.events.Reply.{Reply}
 use Rattle.lease_book.specs.declared.events.Reply.TheVariants as reply
 use Rattle.link_desk.specs.Passes.{at_stage, granted_lease}
+use Rattle.link_desk.specs.declared.answers.Release.TheVariants as release
 use Rattle.link_desk.specs.declared.calls.Call.{Call}
 use Rattle.link_desk.specs.declared.calls.Call.TheVariants as call
 use Rattle.link_desk.specs.declared.calls.Holder.{Holder}
@@ -39,7 +40,10 @@ module _ {E : Type 0} where
   heard h (call.Take client) (reply.Lend l) = record h { lease = Some (granted_lease l); last = Some (call.Take client) }
   heard h (call.Take client) (reply.Start n born evicted) = record h { lease = Some (record { number = n; born = born; stage = Granted }); last = Some (call.Take client) }
   heard h (call.Keyed n client server) told = record (at_stage Keyed h) { last = Some (call.Keyed n client server) }
-  heard h (call.EndLease n) reply.Reset = record (at_stage Ended h) { last = Some (call.EndLease n) }
+  heard h (call.EndLease n) reply.Reset = record (at_stage Ended h) { release = Some release.Reset; last = Some (call.EndLease n) }
+  heard h (call.EndLease n) reply.Dispose = record h { release = Some release.Dispose; last = Some (call.EndLease n) }
+  heard h (call.EndLease n) (reply.Refuse refusal back) = record h { release = Some release.Last; last = Some (call.EndLease n) }
+  heard h (call.EndLease n) (reply.Stranger back) = record h { release = Some release.Stranger; last = Some (call.EndLease n) }
   heard h (call.GiveBack n) told = record h { lease = None; last = Some (call.GiveBack n) }
   heard h (call.Lost n) told = record h { lease = None; last = Some (call.Lost n) }
   heard h (call.StartFailed n) told = record h { lease = None; last = Some (call.StartFailed n) }

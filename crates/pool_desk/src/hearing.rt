@@ -4,6 +4,7 @@ ghost use Rattle.desk_tallies.specs.Passes.{at_stage};
 ghost use Rattle.link_desk.specs.declared.calls.Stage.TheVariants.{Granted};
 ghost use Rattle.pool_desk.specs.Hears.{call_of, heard};
 
+use desk_tallies::answers::Release;
 use desk_tallies::calls::{Call, Holder, Lease, Stage};
 use lease_book::events::{Event, Reply};
 use server_end::ServerEnd;
@@ -66,6 +67,16 @@ fn at_stage(holder: Holder, stage: Stage) -> Holder
     }
 }
 
+/// The same holder, whose lease was answered so at its end.
+fn released(holder: Holder, release: Release) -> Holder
+    ensures { result ≡ record holder { release = Some release } }
+{
+    Holder {
+        release: Some(release),
+        ..holder
+    }
+}
+
 /// Who holds a pass after this call, by its reply: each call is the last, but for a client's that waits on.
 pub(crate) fn heard<E: ServerEnd>(holder: Holder, call: Call, reply: &Reply<E>) -> Holder
     ensures { result ≡ heard holder call reply.now }
@@ -88,7 +99,10 @@ pub(crate) fn heard<E: ServerEnd>(holder: Holder, call: Call, reply: &Reply<E>) 
         (Call::Take(_), Reply::Lend(link)) => with_lease(held, link.number(), link.born()),
         (Call::Take(_), Reply::Start { number, born, .. }) => with_lease(held, *number, *born),
         (Call::Keyed { .. }, _) => at_stage(held, Stage::Keyed),
-        (Call::EndLease(_), Reply::Reset) => at_stage(held, Stage::Ended),
+        (Call::EndLease(_), Reply::Reset) => at_stage(released(held, Release::Reset), Stage::Ended),
+        (Call::EndLease(_), Reply::Dispose) => released(held, Release::Dispose),
+        (Call::EndLease(_), Reply::Refuse(..)) => released(held, Release::Last),
+        (Call::EndLease(_), Reply::Stranger(_)) => released(held, Release::Stranger),
         (Call::GiveBack(_) | Call::Lost(_) | Call::StartFailed(_), _) => Holder {
             lease: None,
             ..held

@@ -1,10 +1,13 @@
 -- Links that go back.
-use Rattle.std.specs.Prelude.{◌≡◌, ◌⊎◌, Option, Some}
+use Rattle.std.specs.Prelude.{◌≡◌, ◌⊎◌, ℕ, true, Option, None, Some}
+use Rattle.link_desk.specs.declared.answers.Release.{Release}
+use Rattle.link_desk.specs.declared.answers.Release.TheVariants.{Reset}
+use Rattle.link_desk.specs.declared.calls.Call.{Call}
 use Rattle.link_desk.specs.declared.calls.Call.TheVariants as call
 use Rattle.link_desk.specs.declared.calls.Holder.{Holder}
-use Rattle.link_desk.specs.declared.calls.Lease.{Lease}
+use Rattle.link_desk.specs.declared.calls.Stage.{Stage}
 use Rattle.link_desk.specs.Homes.{HomeOf, IsAtHome}
-use Rattle.link_desk.specs.Passes.{lease_of, without_lease}
+use Rattle.link_desk.specs.Passes.{is_before_end, of_lease}
 use Rattle.relay_core.specs.declared.relay.Returned.{Returned}
 use Rattle.relay_core.specs.declared.relay.Returned.TheVariants.{Unused, Used, Gone}
 
@@ -13,18 +16,36 @@ IsBackHome home (Unused link) = IsAtHome home link
 IsBackHome home (Used link) = IsAtHome home link
 IsBackHome home (Gone lent cause) = Unit {0}
 
--- it is the link of this lease
-abbrev pub IsOwnLease : {E : Type 0} → Option Lease → Returned E → Type 0
-IsOwnLease lease (Unused link) = lease ≡ Some (lease_of link)
-IsOwnLease lease (Used link) = lease ≡ Some (lease_of link)
-IsOwnLease lease (Gone lent cause) = lease ≡ Some (record { number = lent.number; born = lent.born })
+-- the pass has the link of this number and second of birth, whose lease hasn't ended
+pub record HasLease (h : Holder) (number born : ℕ) : Type 0 where
+  pub stage : Stage
+  pub lease : h.lease ≡ Some (record { number = number; born = born; stage = stage })
+  pub is_open : is_before_end (Some stage) ≡ true
+
+abbrev pub IsOwnLease : {E : Type 0} → Holder → Returned E → Type 0
+IsOwnLease h (Unused link) = HasLease h link.number link.born
+IsOwnLease h (Used link) = HasLease h link.number link.born
+IsOwnLease h (Gone lent cause) = HasLease h lent.number lent.born
+
+-- its link went by this call, and nothing else of it has changed
+pub record IsFreed (call : ℕ → Call) (h k : Holder) : Type 0 where
+  pub client : k.client ≡ h.client
+  pub lease : k.lease ≡ None
+  pub refused : k.refused ≡ h.refused
+  pub last : k.last ≡ of_lease call h
 
 -- given back, or lost
 abbrev pub IsBackOrLost : Holder → Holder → Type 0
-IsBackOrLost h k = (k ≡ without_lease call.GiveBack h) ⊎ (k ≡ without_lease call.Lost h)
+IsBackOrLost h k = IsFreed call.GiveBack h k ⊎ IsFreed call.Lost h k
 
--- an unused link is given back, a used one where it was reset, and another one is lost
+-- given back where no cancel was for it, as the desk said at its lease's end, and else lost
+abbrev pub IsBackByRelease : Option Release → Holder → Holder → Type 0
+IsBackByRelease None h k = ⊥
+IsBackByRelease (Some Reset) h k = IsFreed call.GiveBack h k
+IsBackByRelease (Some other) h k = IsFreed call.Lost h k
+
+-- an unused link is given back, a used one where it was reset, each only where no cancel was for it; another one is lost
 abbrev pub GoesBack : {E : Type 0} → Returned E → Holder → Holder → Type 0
-GoesBack (Unused link) h k = k ≡ without_lease call.GiveBack h
-GoesBack (Used link) h k = IsBackOrLost h k
-GoesBack (Gone lent cause) h k = k ≡ without_lease call.Lost h
+GoesBack (Unused link) h k = IsBackByRelease k.release h k
+GoesBack (Used link) h k = IsBackByRelease k.release h k ⊎ IsFreed call.Lost h k
+GoesBack (Gone lent cause) h k = IsFreed call.Lost h k

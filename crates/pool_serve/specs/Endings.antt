@@ -11,14 +11,14 @@ use Rattle.link_start.specs.declared.start.StartCause.{StartCause}
 use Rattle.link_desk.specs.declared.calls.Call.TheVariants as call
 use Rattle.link_desk.specs.declared.calls.Holder.{Holder}
 use Rattle.link_desk.specs.Homes.{HomeOf, IsAtHome, IsDialled}
-use Rattle.link_desk.specs.Passes.{PassOf, without_lease}
+use Rattle.link_desk.specs.Passes.{PassOf}
 use Rattle.ini_config.specs.Tables.{row_named}
 use Rattle.user_file.specs.Users.{user_named}
 use Rattle.relay_laws.specs.declared.Next.{Next}
 use Rattle.relay_laws.specs.declared.Next.TheVariants.{Refuse}
 use Rattle.relay_laws.specs.Answers.{judged}
 use Rattle.relay_laws.specs.Leases.{IsLease, RelayView, place}
-use Rattle.pool_serve.specs.Backs.{IsBackOrLost}
+use Rattle.pool_serve.specs.Backs.{IsBackOrLost, IsFreed}
 use Rattle.pool_serve.specs.Causes.{HadLink, HadNone, HasLost, HasTrace, Since}
 use Rattle.pool_serve.specs.Serving.{LetsIn, Serves, limit_of, owed}
 use Rattle.pool_serve.specs.Words.{word_of}
@@ -33,6 +33,7 @@ Traces since p q ending.Left = HadNone p q
 Traces since p q (ending.Refused r) = HadNone p q × HasTrace since p q r
 Traces since p q ending.Memory = Unit {0}
 Traces since p q ending.Strange = (q.is_broken ≡ true) ⊎ (HadLink since p q × HasLost p q)
+Traces since p q ending.Last = q.is_broken ≡ true
 Traces since p q ending.Unreached = HadLink since p q × HasLost p q
 Traces since p q (ending.Unstarted cause) = HadLink since p q × HasLost p q
 Traces since p q (ending.Relayed r) = HadLink since p q
@@ -42,11 +43,12 @@ Traces since p q (ending.Managed r) = HadNone p q
 
 -- how its link went
 abbrev pub Frees : Holder → Holder → Ending → Type 0
-Frees h k ending.Strange = k ≡ without_lease call.Lost h
-Frees h k ending.Unreached = k ≡ without_lease call.StartFailed h
-Frees h k (ending.Unstarted cause) = k ≡ without_lease call.StartFailed h
+Frees h k ending.Strange = IsFreed call.Lost h k
+Frees h k ending.Last = IsFreed call.Lost h k
+Frees h k ending.Unreached = IsFreed call.StartFailed h k
+Frees h k (ending.Unstarted cause) = IsFreed call.StartFailed h k
 Frees h k (ending.Relayed r) = IsBackOrLost h k
-Frees h k ending.Memory = IsBackOrLost h k ⊎ (k ≡ without_lease call.StartFailed h)
+Frees h k ending.Memory = IsBackOrLost h k ⊎ IsFreed call.StartFailed h k
 Frees h k other = ⊥
 
 abbrev pub refusal_in : Ending → Option Refusal

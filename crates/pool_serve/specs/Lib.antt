@@ -5,3 +5,4 @@ pub mod Causes
 pub mod Serving
 pub mod Endings
 pub mod Stays
+pub mod Cancels

@@ -1,7 +1,7 @@
 -- The last word to a client.
 use Rattle.std.specs.Prelude.{◌≡◌, ◌⊎◌, ℕ, ◌+◌, ◌≤◌, true, List, [], ◌++◌, length, take, Option, Some, None}
 use Rattle.message_view.specs.declared.refusal.Refusal.{Refusal}
-use Rattle.message_view.specs.declared.refusal.Refusal.TheVariants.{OutOfMemory, ServerNotReached}
+use Rattle.message_view.specs.declared.refusal.Refusal.TheVariants.{LastDecision, OutOfMemory, ServerNotReached}
 use Rattle.message_view.specs.Refusals.{refusal}
 use Rattle.link_laws.specs.Standing.{ClientFacts}
 use Rattle.link_start.specs.declared.start.StartCause.{StartCause}
@@ -38,6 +38,7 @@ word_of ending.Left = last.Nothing
 word_of (ending.Refused r) = last.Refusal r
 word_of ending.Memory = last.Refusal OutOfMemory
 word_of ending.Strange = last.Nothing
+word_of ending.Last = last.Refusal LastDecision
 word_of ending.Unreached = last.Refusal ServerNotReached
 word_of (ending.Unstarted cause) = last_of cause
 word_of (ending.Relayed r) = or_nothing r

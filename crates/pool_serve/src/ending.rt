@@ -17,6 +17,8 @@ pub(crate) enum Ending {
     Memory,
     /// A call of the desk was answered as strange, or the link that was lent is of another key.
     Strange,
+    /// The book made its last decision before its lease was keyed.
+    Last,
     /// The server of its row can't be reached.
     Unreached,
     /// Its link wasn't started, for this cause.
@@ -36,6 +38,7 @@ impl Ending {
             Ending::Left | Ending::Strange => LastWord::Nothing,
             Ending::Refused(refusal) => LastWord::Refusal(refusal),
             Ending::Memory => LastWord::Refusal(Refusal::OutOfMemory),
+            Ending::Last => LastWord::Refusal(Refusal::LastDecision),
             Ending::Unreached => LastWord::Refusal(Refusal::ServerNotReached),
             Ending::Unstarted(cause) => LastWord::of_start(cause),
             Ending::Relayed(refusal) | Ending::Managed(refusal) => LastWord::of(refusal),

@@ -111,6 +111,7 @@ pub(crate) fn ending_note<'a>(logged_in: &LoggedIn, ending: &'a Ending) -> Optio
         | Ending::Relayed(Some(refusal))
         | Ending::Managed(Some(refusal)) => Some(Note::Refused(*refusal)),
         Ending::Memory => Some(Note::Refused(Refusal::OutOfMemory)),
+        Ending::Last => Some(Note::Refused(Refusal::LastDecision)),
         Ending::Unreached => Some(Note::Unstarted(server_of(logged_in), Unstarted::NotReached)),
         Ending::Unstarted(cause) => match start_note(cause) {
             Some(why) => Some(Note::Unstarted(server_of(logged_in), why)),

@@ -3,11 +3,10 @@ ghost use Rattle.std.specs.Prelude.{◌≡◌, IfSome, Some, true};
 ghost use Rattle.ini_config.specs.Bounds.{AreWithinBounds};
 ghost use Rattle.login_core.specs.Solo.{service_pieces};
 ghost use Rattle.link_desk.specs.Homes.{IsAtHome};
-ghost use Rattle.link_desk.specs.Passes.{lease_of};
 ghost use Rattle.relay_laws.specs.declared.Phase.TheVariants.{Running};
 ghost use Rattle.relay_laws.specs.Leases.{IsLease, Keeps, Place};
 ghost use Rattle.relay_laws.specs.Answers.{AtBorder, RefusedBy};
-ghost use Rattle.pool_serve.specs.Backs.{IsBackOrLost};
+ghost use Rattle.pool_serve.specs.Backs.{HasLease, IsBackOrLost};
 ghost use Rattle.pool_serve.specs.Endings.{HasRelayed, refusal_at, refusal_told};
 ghost use Rattle.pool_serve.specs.Serving.{Serves, limit_of};
 ghost use Rattle.pool_serve.specs.Shares.{Ends};
@@ -69,7 +68,7 @@ impl<'a, D: LinkDesk, G: Gate<D::End>> Worker<'a, D, G> {
         link: CleanLink<D::End>,
     ) -> (C, Ending)
         requires home { IsAtHome D.home link }
-        requires own { (D.holder self.old.pass).lease ≡ Some (lease_of link) }
+        requires own { HasLease (D.holder self.old.pass) link.number link.born }
         requires settings { AreWithinBounds logged_in.now.login.settings }
         ensures tells { (C.facts result.0).tells ≡ (C.facts client).tells }
         ensures share { Ends (D.told self.old.pass) (D.told self.new.pass) }
@@ -84,7 +83,7 @@ impl<'a, D: LinkDesk, G: Gate<D::End>> Worker<'a, D, G> {
         let mut relay = match Relay::begin(self.alloc, client, link, logged_in.word, limit) {
             Ok(relay) => relay,
             Err((client, link)) => {
-                self.give_back(link);
+                self.give_back_unused(logged_in, link);
                 return (client, Ending::Memory);
             }
         };

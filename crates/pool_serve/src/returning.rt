@@ -1,9 +1,9 @@
 //! How a link goes back to its desk.
-ghost use Rattle.std.specs.Prelude.{◌≡◌, IsSome, Some, None};
+ghost use Rattle.std.specs.Prelude.{◌≡◌, ◌⊎◌, IsSome, Some, None};
 ghost use Rattle.link_desk.specs.declared.calls.Call.TheVariants.{GiveBack, Lost};
 ghost use Rattle.link_desk.specs.Homes.{IsAtHome};
-ghost use Rattle.link_desk.specs.Passes.{lease_of, without_lease};
-ghost use Rattle.pool_serve.specs.Backs.{GoesBack, IsBackHome, IsOwnLease};
+ghost use Rattle.link_desk.specs.Passes.{ended_lease, without_lease};
+ghost use Rattle.pool_serve.specs.Backs.{GoesBack, HasLease, IsBackByRelease, IsBackHome, IsFreed, IsOwnLease};
 ghost use Rattle.pool_serve.specs.Shares.{Ends};
 
 use crate::TURNS;
@@ -11,8 +11,9 @@ use crate::logged_in::LoggedIn;
 use crate::noting::loss_of;
 use crate::worker::Worker;
 use disposal::Verdict;
+use link_desk::answers::Release;
 use link_desk::desk::LinkDesk;
-use link_run::links::CleanLink;
+use link_run::links::{CleanLink, UsedLink};
 use link_run::reset::reset_link;
 use link_start::close::{close_link, offer_terminate};
 use log_lines::notes::{Loss, Note};
@@ -28,10 +29,10 @@ fn is_at_border(cause: Cause) -> bool {
 }
 
 impl<'a, D: LinkDesk, G: Gate<D::End>> Worker<'a, D, G> {
-    /// Gives the client's link back, clean; where the desk doesn't keep it, it is closed.
+    /// Gives the client's link back, clean, after its lease has ended; where the desk doesn't keep it, it is closed.
     pub(crate) fn give_back(&mut self, link: CleanLink<D::End>)
         requires home { IsAtHome D.home link }
-        requires own { (D.holder self.old.pass).lease ≡ Some (lease_of link) }
+        requires own { (D.holder self.old.pass).lease ≡ Some (ended_lease link) }
         ensures share { Ends (D.told self.old.pass) (D.told self.new.pass) }
         ensures holder { D.holder self.new.pass ≡ without_lease GiveBack (D.holder self.old.pass) }
     {
@@ -54,19 +55,55 @@ impl<'a, D: LinkDesk, G: Gate<D::End>> Worker<'a, D, G> {
         self.desk.lost(&mut self.pass);
     }
 
-    /// Gives the link of a lease that has ended, of this number, back: clean as it was, or reset; or offers its server a Terminate and reports it lost.
+    /// Ends the lease of the client's link, over which nothing went, and gives the link back; one that a cancel is for is closed.
+    pub(crate) fn give_back_unused(&mut self, logged_in: &LoggedIn, link: CleanLink<D::End>)
+        requires home { IsAtHome D.home link }
+        requires own { HasLease (D.holder self.old.pass) link.number link.born }
+        ensures share { Ends (D.told self.old.pass) (D.told self.new.pass) }
+        ensures holder { IsBackByRelease (D.holder self.new.pass).release (D.holder self.old.pass) (D.holder self.new.pass) }
+    {
+        let number = link.number();
+        match self.desk.end_lease(&mut self.pass) {
+            Release::Reset => self.give_back(link),
+            Release::Dispose | Release::Last | Release::Stranger => {
+                close_link(link);
+                self.lose(logged_in, number, Loss::Cancelled);
+            }
+        }
+    }
+
+    /// Ends the lease of the client's link, over which a lease is settled, and gives the link back once it is reset; one that a cancel
+    /// is for is closed.
+    fn give_back_used(&mut self, logged_in: &LoggedIn, number: u64, link: UsedLink<D::End>)
+        requires home { IsAtHome D.home link }
+        requires own { HasLease (D.holder self.old.pass) link.number link.born }
+        ensures share { Ends (D.told self.old.pass) (D.told self.new.pass) }
+        ensures holder { IsBackByRelease (D.holder self.new.pass).release (D.holder self.old.pass) (D.holder self.new.pass) ⊎ IsFreed Lost (D.holder self.old.pass) (D.holder self.new.pass) }
+    {
+        match self.desk.end_lease(&mut self.pass) {
+            Release::Reset => match reset_link(self.alloc, link, &mut self.gate, TURNS) {
+                Ok(link) => self.give_back(link),
+                Err(_) => self.lose(logged_in, number, Loss::NotReset),
+            },
+            Release::Dispose | Release::Last | Release::Stranger => {
+                let mut parts = link.lend();
+                offer_terminate(&mut parts.end);
+                self.lose(logged_in, number, Loss::Cancelled);
+            }
+        }
+    }
+
+    /// Gives the link of a client whose time has ended, of this number, back: clean as it was, or reset; or offers its server a
+    /// Terminate and reports it lost.
     pub(crate) fn hand_back(&mut self, logged_in: &LoggedIn, number: u64, link: Returned<D::End>)
         requires home { IsBackHome D.home link }
-        requires own { IsOwnLease (D.holder self.old.pass).lease link }
+        requires own { IsOwnLease (D.holder self.old.pass) link }
         ensures share { Ends (D.told self.old.pass) (D.told self.new.pass) }
         ensures holder { GoesBack link (D.holder self.old.pass) (D.holder self.new.pass) }
     {
         match link {
-            Returned::Unused(link) => self.give_back(link),
-            Returned::Used(link) => match reset_link(self.alloc, link, &mut self.gate, TURNS) {
-                Ok(link) => self.give_back(link),
-                Err(_) => self.lose(logged_in, number, Loss::NotReset),
-            },
+            Returned::Unused(link) => self.give_back_unused(logged_in, link),
+            Returned::Used(link) => self.give_back_used(logged_in, number, link),
             Returned::Gone(link, cause) => {
                 let mut link = link;
                 if is_at_border(cause) {

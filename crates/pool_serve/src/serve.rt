@@ -5,6 +5,8 @@ ghost use Rattle.login_core.specs.Dialogue.{AtFirst};
 ghost use Rattle.login_core.specs.Logins.{AwaitsPacket};
 ghost use Rattle.login_run.specs.Runs.{Arrived, Console, IsAllGiven, IsSameLogin};
 ghost use Rattle.console_run.specs.Passing.{IsSameHolder};
+ghost use Rattle.link_desk.specs.Passes.{after_cancel, cancelling};
+ghost use Rattle.pool_serve.specs.Cancels.{HasAsked};
 ghost use Rattle.pool_serve.specs.Causes.{AtArrival, AtAsking};
 ghost use Rattle.pool_serve.specs.Endings.{HasEnded, HasLeased, Traces, refusal_in};
 ghost use Rattle.pool_serve.specs.Serving.{HasStopped, IsLoggedIn, LetsIn};
@@ -17,7 +19,7 @@ use crate::logged_in::LoggedIn;
 use crate::noting::{ending_note, named, note_end, note_login, own_key};
 use crate::worker::Worker;
 use console_run::console::serve_console;
-use link_desk::answers::Arrival;
+use link_desk::answers::{Arrival, Cancelled};
 use link_desk::desk::LinkDesk;
 use log_lines::notes::{Note, Visit};
 use login_core::Login;
@@ -28,7 +30,7 @@ use login_run::laws::{
     passed_runs_are_let_in, passed_runs_have_passed, runs_are_allowed, runs_stand_at_pieces,
 };
 use login_run::{LoginRun, LoginTurn};
-use message_view::KeyWord;
+use message_view::{KeyView, KeyWord};
 use server_end::gate::Gate;
 use server_end::{ClientEnd, ServerEnd};
 use std::alloc::Global;
@@ -64,6 +66,18 @@ fn converse<C: ClientEnd, E: ServerEnd, G: Gate<E>>(
         }
     }
     LoginTurn::Over
+}
+
+/// Has what the client of this key word is at cancelled, if it has a lease: the cancel goes to the server of its link.
+fn pass_on<D: LinkDesk>(desk: &D, pass: &mut D::Pass, client: KeyView) -> Cancelled
+    ensures told { D.told pass.new ≡ after_cancel (D.told pass.old) result }
+    ensures holder { D.holder pass.new ≡ cancelling client (D.holder pass.old) }
+{
+    let cancelled = desk.cancel(pass, client);
+    if let Cancelled::Strike(strike) = &cancelled {
+        desk.strike(strike);
+    }
+    cancelled
 }
 
 impl<'a, D: LinkDesk, G: Gate<D::End>> Worker<'a, D, G> {
@@ -211,6 +225,9 @@ impl<'a, D: LinkDesk, G: Gate<D::End>> Worker<'a, D, G> {
 /// which its link wasn't started, or the refusal that its relay's last answer tells. It is given whole, unless the client's end ended
 /// or faulted or took nothing for [`TURNS`] turns. No client is in the pass before, and none afterwards.
 ///
+/// A client whose first packet is a CancelRequest is given no byte: the desk is asked for the lease of the key word in it, and the server
+/// of that lease's link is sent a cancel. Who asks takes no place in the book.
+///
 /// The log is told of its refusal, of a start that failed and of a link that is lost; `visit` is what it knows the client by.
 pub fn serve<C: ClientEnd, D: LinkDesk, G: Gate<D::End> + Drop>(
     alloc: Global,
@@ -235,7 +252,7 @@ pub fn serve<C: ClientEnd, D: LinkDesk, G: Gate<D::End> + Drop>(
     ensures share { Settles (D.told pass) (D.told result.1) }
     ensures free { (D.holder result.1).client ≡ None }
     ensures none { (D.holder result.1).lease ≡ None }
-    ensures over { IsUntouched (D.told pass) (D.told result.1) (D.holder pass) (D.holder result.1) ⊎ IsOver D.home login (D.told pass) (D.told result.1) (D.holder result.1) (C.facts result.0) }
+    ensures over { IsUntouched (D.told pass) (D.told result.1) (D.holder pass) (D.holder result.1) ⊎ HasAsked login (D.told pass) (D.told result.1) (D.holder pass) (D.holder result.1) (C.facts result.0) ⊎ IsOver D.home login (D.told pass) (D.told result.1) (D.holder result.1) (C.facts result.0) }
 {
     runs_are_allowed();
     let mut gate = gate;
@@ -243,6 +260,12 @@ pub fn serve<C: ClientEnd, D: LinkDesk, G: Gate<D::End> + Drop>(
     // a client that hasn't come yet takes no place in the book
     match converse(alloc, &mut run, &mut gate, None) {
         LoginTurn::Arrived => {}
+        LoginTurn::Cancel(key) => {
+            let mut pass = pass;
+            pass_on(desk, &mut pass, key);
+            let (client, _, _) = run.finish();
+            return (client, pass);
+        }
         _ => {
             note_login(desk, &run, visit, None);
             let (client, _, _) = run.finish();
