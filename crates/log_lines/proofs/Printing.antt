@@ -134,6 +134,7 @@ losses loss.InBlock = refl
 losses loss.Unanswered = refl
 losses loss.Foreign = refl
 losses loss.NotReset = refl
+losses loss.Cancelled = refl
 
 refusals : (r : Refusal) → Prints (refusal_words r)
 refusals TooManyClients = refl
@@ -160,6 +161,8 @@ notes note.NoDatabase ms = both (after ms) (codes ": database does not exist (3D
 notes (note.Unstarted server why) ms = both (after ms ++ codes ": server " ++ address server.host server.port) (unstarted_words why)
     (both (after ms ++ codes ": server ") (address server.host server.port) (both (after ms) (codes ": server ") (times ms) refl) (addresses server.host server.port)) (starts why)
 notes (note.LinkLost number why) ms = both (decimal number ++ codes " closed: ") (loss_words why) (both (decimal number) (codes " closed: ") (decimals number) refl) (losses why)
+notes (note.Cancels number) ms = decimals number
+notes note.CancelsNobody ms = refl
 notes note.Paused ms = refl
 notes note.Resumed ms = refl
 notes note.ShuttingDown ms = refl

@@ -71,6 +71,7 @@ loss_words loss.InBlock = codes "left within a transaction block"
 loss_words loss.Unanswered = codes "left before all was answered"
 loss_words loss.Foreign = codes "malformed server message"
 loss_words loss.NotReset = codes "not reset by DISCARD ALL"
+loss_words loss.Cancelled = codes "cancel requested"
 
 -- ---- what is told
 
@@ -92,6 +93,8 @@ words note.WrongPassword ms = codes " failed" ++ after ms ++ codes ": password a
 words note.NoDatabase ms = codes " failed" ++ after ms ++ codes ": database does not exist (3D000)"
 words (note.Unstarted server why) ms = codes " refused" ++ after ms ++ codes ": server " ++ address server.host server.port ++ unstarted_words why
 words (note.LinkLost number why) ms = codes " link " ++ decimal number ++ codes " closed: " ++ loss_words why
+words (note.Cancels number) ms = codes " requests a cancel for link " ++ decimal number
+words note.CancelsNobody ms = codes " requests a cancel by a key that nobody has"
 words note.Paused ms = codes " paused the pool"
 words note.Resumed ms = codes " resumed the pool"
 words note.ShuttingDown ms = codes " shuts the pool down"

@@ -153,6 +153,7 @@ fn loss_words(loss: Loss) -> &'static [u8]
         Loss::Unanswered => b"left before all was answered",
         Loss::Foreign => b"malformed server message",
         Loss::NotReset => b"not reset by DISCARD ALL",
+        Loss::Cancelled => b"cancel requested",
     }
 }
 
@@ -255,6 +256,13 @@ fn put_words(line: &mut Vec<u8>, note: Note<'_>, ms: Option<u64>) -> Result<(), 
         Note::NoDatabase => put_timed(line, b" failed", ms, b": database does not exist (3D000)"),
         Note::Unstarted(server, why) => put_refused_by(line, server, why, ms),
         Note::LinkLost(number, loss) => put_lost(line, number, loss),
+        Note::Cancels(number) => {
+            line.extend_from_slice(b" requests a cancel for link ")?;
+            put_number(line, number)
+        }
+        Note::CancelsNobody => line.extend_from_slice(
+            b" requests a cancel by a key that nobody has",
+        ),
         Note::Paused => line.extend_from_slice(b" paused the pool"),
         Note::Resumed => line.extend_from_slice(b" resumed the pool"),
         Note::ShuttingDown => line.extend_from_slice(b" shuts the pool down"),

@@ -60,6 +60,8 @@ pub enum Loss {
     Foreign,
     /// `DISCARD ALL` wasn't answered as it is to be, or not in time.
     NotReset,
+    /// A cancel was for its client's lease, and may still come.
+    Cancelled,
 }
 
 /// What a pool's log is told.
@@ -81,6 +83,10 @@ pub enum Note<'a> {
     Unstarted(Server, Unstarted<'a>),
     /// The client's link, of this number, is closed.
     LinkLost(u64, Loss),
+    /// It asked to have the statement cancelled of the client that has the link of this number.
+    Cancels(u64),
+    /// It asked to have a statement cancelled, and nobody has a link by that key.
+    CancelsNobody,
     /// The client paused the pool, resumed it or shuts it down.
     Paused,
     Resumed,

@@ -6,10 +6,13 @@ ghost use Rattle.std.specs.Arc.{arc_value};
 ghost use Rattle.link_desk.specs.Homes.{IsDialled};
 ghost use Rattle.memory_dial.specs.Homes.{IsEverywhere};
 
+pub mod strikable;
+
 use ini_config::DbRow;
 use memory_ends::memory_server::{MemoryServer, ServerAuth};
 use memory_start_laws::memory_servers_can_start;
 use message_view::KeyWord;
+use pool_desk::answers::Strike;
 use pool_desk::outside::Outside;
 use session_catalogue::Catalogue;
 use std::alloc::Global;
@@ -91,4 +94,6 @@ impl<N: Naming> Outside for MemoryDial<N> {
         )
         .ok()
     }
+
+    fn strike(&self, _strike: &Strike) {}
 }

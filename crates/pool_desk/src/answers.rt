@@ -1,6 +1,6 @@
 //! What the desk answers to those who run it.
 
-pub use desk_tallies::answers::Changed;
+pub use desk_tallies::answers::{Changed, Strike};
 use link_run::links::CleanLink;
 use server_end::ServerEnd;
 

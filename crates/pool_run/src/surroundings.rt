@@ -1,17 +1,35 @@
 //! What a pool's desk reaches outside: servers over TCP, the files, the log.
-ghost use Rattle.std.specs.Prelude.{◌≡◌};
+ghost use Rattle.std.specs.Prelude.{◌≡◌, IfOk};
+ghost use Rattle.message_view.specs.Messages.{cancel_request};
 
 use crate::keeping::{Keeper, Source, Unread};
 use crate::log::PoolLog;
 use crate::runtime::PoolRuntime;
 use book_model::limits::Limits;
+use bytes::BytesMut;
 use ini_config::DbRow;
+use link_desk::answers::Strike;
 use log_lines::notes::{Client, Note};
+use message_view::put_cancel_request;
 use pool_desk::outside::Outside;
-use std::alloc::Global;
+use std::alloc::{AllocError, Global};
+use std::io;
 use std::sync::Arc;
 use tcp_end::connection::TcpEnd;
 use tcp_end::dial::{CONNECT_SECONDS, dial};
+use tcp_end::message::send_alone;
+
+/// As long as a cancel's connection may take, and as long as its server may then take for it.
+const CANCEL_SECONDS: u32 = 5;
+
+/// The CancelRequest for the session of a link's server. The only error is that an allocation failed.
+fn request_of(alloc: Global, strike: &Strike) -> Result<BytesMut, AllocError>
+    ensures { IfOk result (λ b. b.items ≡ cancel_request strike.now.server.pid strike.now.server.secret) }
+{
+    let mut request = BytesMut::new(alloc);
+    put_cancel_request(&mut request, strike.server.pid, strike.server.secret)?;
+    Ok(request)
+}
 
 /// Reaches a row's server at its address and port, the files where they are kept, and the log.
 pub struct Surroundings<R: PoolRuntime, F: Source> {
@@ -32,6 +50,21 @@ impl<R: PoolRuntime, F: Source> Drop for Surroundings<R, F> {
     }
 }
 
+impl<R: PoolRuntime, F: Source> Surroundings<R, F> {
+    /// Sends a cancel to its server, and waits until that has closed the connection.
+    fn send(&self, strike: &Strike) -> io::Result<()> {
+        let request = request_of(self.alloc, strike)?;
+        send_alone(
+            &self.rt,
+            self.alloc,
+            strike.host,
+            strike.port,
+            request.as_slice(),
+            CANCEL_SECONDS,
+        )
+    }
+}
+
 impl<R: PoolRuntime, F: Source> Outside for Surroundings<R, F> {
     ghost use Rattle.link_desk.specs.Homes.{unknown_home};
 
@@ -41,6 +74,11 @@ impl<R: PoolRuntime, F: Source> Outside for Surroundings<R, F> {
 
     fn dial(&self, row: &DbRow) -> Option<TcpEnd> {
         dial(&self.rt, self.alloc, row.host, row.port, CONNECT_SECONDS)
+    }
+
+    fn strike(&self, strike: &Strike) {
+        // whether the server took it nobody is told: the link isn't lent again in any case
+        let _ = self.send(strike);
     }
 
     fn reload(&self) -> Option<(Arc<Limits>, Arc<Limits>)> {

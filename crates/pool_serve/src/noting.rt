@@ -3,6 +3,7 @@
 use crate::ending::Ending;
 use crate::logged_in::LoggedIn;
 use disposal::Verdict;
+use link_desk::answers::Cancelled;
 use link_desk::desk::LinkDesk;
 use link_start::start::StartCause;
 use link_start::start_reply::Question;
@@ -64,6 +65,16 @@ pub(crate) fn note_login<C: ClientEnd, D: LinkDesk>(
     if let Some(note) = login_note(run.said(), run.login().unsupported_parameter()) {
         desk.note(&named(visit, number, run.key()), &note);
     }
+}
+
+/// Tells the log whose statement a CancelRequest is for.
+pub(crate) fn note_cancel<D: LinkDesk>(desk: &D, visit: Visit, cancelled: Cancelled) {
+    let note = match cancelled {
+        Cancelled::Strike(strike) => Note::Cancels(strike.link),
+        Cancelled::Nobody => Note::CancelsNobody,
+        Cancelled::Last => Note::Refused(Refusal::LastDecision),
+    };
+    desk.note(&named(visit, None, None), &note);
 }
 
 /// Tells the log by what a client of the console was refused, if by anything, and that it is gone.

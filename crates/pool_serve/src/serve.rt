@@ -16,7 +16,7 @@ ghost use Rattle.pool_serve.specs.Stays.{CameIn, IsAllowed, IsAtConsole, IsOver,
 use crate::TURNS;
 use crate::ending::Ending;
 use crate::logged_in::LoggedIn;
-use crate::noting::{ending_note, named, note_end, note_login, own_key};
+use crate::noting::{ending_note, named, note_cancel, note_end, note_login, own_key};
 use crate::worker::Worker;
 use console_run::console::serve_console;
 use link_desk::answers::{Arrival, Cancelled};
@@ -262,7 +262,8 @@ pub fn serve<C: ClientEnd, D: LinkDesk, G: Gate<D::End> + Drop>(
         LoginTurn::Arrived => {}
         LoginTurn::Cancel(key) => {
             let mut pass = pass;
-            pass_on(desk, &mut pass, key);
+            let cancelled = pass_on(desk, &mut pass, key);
+            note_cancel(desk, visit, cancelled);
             let (client, _, _) = run.finish();
             return (client, pass);
         }

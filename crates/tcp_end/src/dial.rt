@@ -51,7 +51,7 @@ fn wait_for(poll: &mut Poll, events: &mut Events, stream: &TcpStream, seconds: u
 }
 
 /// A stream to this address and port, once it is connected; an error where it can't be had, or not in so many seconds.
-fn connect<R: Net>(
+pub(crate) fn connect<R: Net>(
     rt: &R,
     alloc: Global,
     address: [u8; 4],

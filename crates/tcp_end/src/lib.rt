@@ -14,4 +14,5 @@ pub mod acceptor;
 pub mod connection;
 pub mod dial;
 pub mod gate;
+pub mod message;
 mod notes;

@@ -1,0 +1,103 @@
+//! Stand-in servers in memory that cancels reach.
+ghost use Rattle.std.specs.Prelude.{◌≡◌, ◌<◌};
+ghost use Rattle.std.specs.Arc.{arc_value};
+ghost use Rattle.memory_dial.specs.Homes.{IsEverywhere};
+
+use crate::Naming;
+use ini_config::DbRow;
+use memory_ends::memory_server::{MemoryServer, ServerAuth};
+use memory_ends::striker::Striker;
+use memory_start_laws::memory_servers_can_start;
+use message_view::KeyWord;
+use pool_desk::answers::Strike;
+use pool_desk::outside::Outside;
+use session_catalogue::Catalogue;
+use std::alloc::Global;
+use std::marker::{Model, PhantomData};
+use std::sync::{Arc, Mutex, Wait};
+
+/// Reaches new servers of one catalogue, whatever the row, which let everybody in. Each has a key word of its own, the nth that of pid
+/// and secret n, and a cancel with that strikes it.
+#[derive(Drop)]
+pub struct StrikableDial<R: Wait + Drop, N: Naming> {
+    rt: R,
+    alloc: Global,
+    catalogue: Arc<Catalogue>,
+    /// The greatest number of bytes that a call moves.
+    cut: usize,
+    strikers: Mutex<Vec<Striker>>,
+    naming: PhantomData<N>,
+}
+
+impl<R: Wait + Drop, N: Naming> Model for StrikableDial<R, N> {
+    ghost use Rattle.std.specs.Arc.{arc_value};
+    ghost use Rattle.std.specs.Prelude.{◌<◌};
+    ghost use Rattle.memory_dial.specs.Homes.{IsEverywhere};
+    ghost use Rattle.session_values.specs.State.{CatalogueOf};
+
+    ghost Value = { CatalogueOf };
+
+    ghost view = { λ d. arc_value d.catalogue };
+
+    ghost invariant = { λ d. (0 < d.cut) × IsEverywhere N.catalogue (arc_value d.catalogue) };
+}
+
+impl<R: Wait + Drop, N: Naming> StrikableDial<R, N> {
+    /// Servers of this catalogue, of which a call moves at most `cut` bytes.
+    pub fn new(rt: R, alloc: Global, catalogue: Arc<Catalogue>, cut: usize) -> StrikableDial<R, N>
+        requires cut { 0 < cut }
+        requires everywhere { IsEverywhere N.catalogue (arc_value catalogue) }
+        ensures { result ≡ arc_value catalogue }
+    {
+        StrikableDial {
+            rt,
+            alloc,
+            catalogue,
+            cut,
+            strikers: Mutex::new(Vec::new(alloc)),
+            naming: PhantomData,
+        }
+    }
+
+    /// A server with a key word of its own, whose striker is kept.
+    fn serve(&self, strikers: &mut Vec<Striker>) -> Option<MemoryServer> {
+        let catalogue = Arc::try_clone(&self.catalogue).ok()?;
+        let number = u32::try_from(strikers.len()).ok()?.checked_add(1)?;
+        let own = KeyWord {
+            pid: number,
+            secret: number,
+            salt: [0; 4],
+        };
+        let server = MemoryServer::new(
+            self.alloc,
+            catalogue,
+            ServerAuth::Trust,
+            own,
+            self.cut,
+            None,
+        )
+        .ok()?;
+        strikers.push(server.striker().ok()?).ok()?;
+        Some(server)
+    }
+}
+
+impl<R: Wait + Drop, N: Naming> Outside for StrikableDial<R, N> {
+    ghost use Rattle.memory_dial.specs.Homes.{strikable_home};
+
+    type End = MemoryServer;
+
+    ghost home = { strikable_home N.catalogue };
+
+    fn dial(&self, _row: &DbRow) -> Option<MemoryServer> {
+        memory_servers_can_start();
+        self.catalogue.is_lawful();
+        self.serve(&mut self.strikers.lock(&self.rt))
+    }
+
+    fn strike(&self, strike: &Strike) {
+        for striker in self.strikers.lock(&self.rt).iter() {
+            striker.cancel(strike.server.pid, strike.server.secret);
+        }
+    }
+}
