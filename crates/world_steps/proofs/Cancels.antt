@@ -166,7 +166,7 @@ pub record Kept (w v : World) : Type 0 where
   pub book : LendsNothing w.book v.book
   pub strikes : v.strikes ≡ w.strikes
   pub links : (l : ℕ) → LinkKeeps (w.links l) (v.links l)
-  pub roles : (l : ℕ) → MayBeLent (w.links l).role → MayBeLent (v.links l).role
+  pub lent_roles : (n : ℕ) (key : StartKeyOf) → HasLink n key v.book.lent → MayBeLent (v.links n).role
   pub clients : (c : ℕ) → ClientKeeps (w.clients c) (v.clients c)
   pub starting : (c : ℕ) (own : StartKeyOf) (n : ℕ) → (v.clients c).phase ≡ Starting own n → (w.clients c).phase ≡ Starting own n
 
@@ -195,7 +195,7 @@ module _ (w v : World) (k : Kept w v) (f : CancelsFit w) where
   -- with marks and cancels at servers that are told apart
   pub fits_on : ((c : ℕ) → IsUnstruck (v.clients c).struck ⊎ HasAsked v (key_of (v.clients c))) → ((n : ℕ) (client : KeyView) → (v.links n).due ≡ Some client → StrikeFits v n client (v.links n).role × HasAsked v client) → CancelsFit v
   fits_on asked due = record {
-    lent_roles = λ n key h. k.roles n (f.lent_roles n key (k.book.lent n key h));
+    lent_roles = k.lent_roles;
     lent = λ n c e key h. (k.links n).key ∙ f.lent n c (was_lent (w.links n).role c (subst (RoleGoes (w.links n).role) e (k.links n).role)) key (k.book.lent n key h);
     promised = λ n c own key e h. f.promised n c own key (k.starting c own n e) (k.book.lent n key h);
     server_keys = λ l m own e g t. f.server_keys l m own (sym (k.links l).server_key ∙ e) (sym (k.links m).server_key ∙ g) (together_on w v l m (k.links l).key (k.links m).key t);
@@ -214,39 +214,47 @@ module _ (w : World) (f : CancelsFit w) where
   client_keeps c x h =
       let v = with_client w c x in
       let all : (i : ℕ) → ClientStays (w.clients i) (put w.clients c x i) = put_all (λ i z. ClientStays (w.clients i) z) w.clients c x h (λ i _. same_client (w.clients i)) in
-      let k : Kept w v = record { book = lends_same w.book; strikes = refl; links = λ l. (same_link (w.links l)).keeps; roles = λ l r. r; clients = λ i. (all i).keeps; starting = λ i. (all i).starting } in
+      let k : Kept w v = record { book = lends_same w.book; strikes = refl; links = λ l. (same_link (w.links l)).keeps; lent_roles = f.lent_roles; clients = λ i. (all i).keeps; starting = λ i. (all i).starting } in
       fits_on w v k f (all_marks_on w v all f) (due_kept w v k f)
 
-  links_put_on : (l : ℕ) (y : Link) → LinkStays (w.links l) y → (i : ℕ) → LinkStays (w.links i) (put w.links l y i)
-  links_put_on l y h = put_all (λ i z. LinkStays (w.links i) z) w.links l y h (λ i _. same_link (w.links i))
+  links_put_on : (l : ℕ) (y : Link) → LinkKeeps (w.links l) y → (i : ℕ) → LinkKeeps (w.links i) (put w.links l y i)
+  links_put_on l y h = put_all (λ i z. LinkKeeps (w.links i) z) w.links l y h (λ i _. (same_link (w.links i)).keeps)
+
+  due_put_on : (l : ℕ) (y : Link) → ((client : KeyView) → y.due ≡ Some client → (w.links l).due ≡ Some client) → (n : ℕ) (client : KeyView) → (put w.links l y n).due ≡ Some client → (w.links n).due ≡ Some client
+  due_put_on l y h = put_all (λ i z. (client : KeyView) → z.due ≡ Some client → (w.links i).due ≡ Some client) w.links l y h (λ i _ client e. e)
+
+  roles_put_on : (l : ℕ) (y : Link) → ((key : StartKeyOf) → HasLink l key w.book.lent → MayBeLent y.role) → (n : ℕ) (key : StartKeyOf) → HasLink n key w.book.lent → MayBeLent (put w.links l y n).role
+  roles_put_on l y h = put_all (λ i z. (key : StartKeyOf) → HasLink i key w.book.lent → MayBeLent z.role) w.links l y h (λ i _ key t. f.lent_roles i key t)
+
+  -- with a role in which it isn't lent
+  pub link_goes : (l : ℕ) (y : Link) → LinkKeeps (w.links l) y → ((client : KeyView) → y.due ≡ Some client → (w.links l).due ≡ Some client) → ((key : StartKeyOf) → HasLink l key w.book.lent → MayBeLent y.role) → CancelsFit (with_link w l y)
+  link_goes l y h due lent =
+      let v = with_link w l y in
+      let k : Kept w v = record { book = lends_same w.book; strikes = refl; links = links_put_on l y h; lent_roles = roles_put_on l y lent; clients = λ i. (same_client (w.clients i)).keeps; starting = λ i own n e. e } in
+      fits_on w v k f (all_marks_on w v (λ i. same_client (w.clients i)) f) (λ n client e. due_kept w v k f n client (due_put_on l y due n client e))
 
   pub link_keeps : (l : ℕ) (y : Link) → LinkStays (w.links l) y → CancelsFit (with_link w l y)
-  link_keeps l y h =
-      let v = with_link w l y in
-      let all = links_put_on l y h in
-      let k : Kept w v = record { book = lends_same w.book; strikes = refl; links = λ i. (all i).keeps; roles = λ i. (all i).lent; clients = λ i. (same_client (w.clients i)).keeps; starting = λ i own n e. e } in
-      fits_on w v k f (all_marks_on w v (λ i. same_client (w.clients i)) f) (λ n client e. due_kept w v k f n client ((all n).due client e))
+  link_keeps l y h = link_goes l y h.keeps h.due (λ key t. h.lent (f.lent_roles l key t))
 
   -- with marks that are told apart
   pub pair_marked : (c : ℕ) (x : Client) (l : ℕ) (y : Link) → ClientKeeps (w.clients c) x → ((own : StartKeyOf) (n : ℕ) → x.phase ≡ Starting own n → (w.clients c).phase ≡ Starting own n) →
       LinkStays (w.links l) y → (IsUnstruck (w.clients c).struck ⊎ HasAsked w (key_of (w.clients c)) → IsUnstruck x.struck ⊎ HasAsked w (key_of x)) → CancelsFit (with_pair w c x l y)
   pair_marked c x l y h starting j marks =
       let v = with_pair w c x l y in
-      let links = links_put_on l y j in
       let keeps : (i : ℕ) → ClientKeeps (w.clients i) (put w.clients c x i) = put_all (λ i z. ClientKeeps (w.clients i) z) w.clients c x h (λ i _. (same_client (w.clients i)).keeps) in
       let on : (key : KeyView) → HasAsked w key → HasAsked v key = λ key a. asked_on w v key keeps a in
       let k : Kept w v = record {
         book = lends_same w.book;
         strikes = refl;
-        links = λ i. (links i).keeps;
-        roles = λ i. (links i).lent;
+        links = links_put_on l y j.keeps;
+        lent_roles = roles_put_on l y (λ key t. j.lent (f.lent_roles l key t));
         clients = keeps;
         starting = put_all (λ i z. (own : StartKeyOf) (n : ℕ) → z.phase ≡ Starting own n → (w.clients i).phase ≡ Starting own n) w.clients c x starting (λ i _ own n e. e);
       } in
       fits_on w v k f
       (put_all (λ i z. IsUnstruck z.struck ⊎ HasAsked v (key_of z)) w.clients c x (⊎_elim (λ none. inl none) (λ a. inr (on (key_of x) a)) (marks (f.asked c)))
       (λ i _. ⊎_elim (λ none. inl none) (λ a. inr (on (key_of (w.clients i)) a)) (f.asked i)))
-      (λ n client e. due_kept w v k f n client ((links n).due client e))
+      (λ n client e. due_kept w v k f n client (due_put_on l y j.due n client e))
 
   pub pair_keeps : (c : ℕ) (x : Client) (l : ℕ) (y : Link) → ClientStays (w.clients c) x → LinkStays (w.links l) y → CancelsFit (with_pair w c x l y)
   pair_keeps c x l y k j = pair_marked c x l y k.keeps k.starting j (λ h. marks_on w w (w.clients c) x k (λ key a. a) h)
@@ -312,9 +320,9 @@ strike_comes w l client f fit asked =
     let v = with_link w l (due_for (w.links l) client) in
     let keeps : (i : ℕ) → LinkKeeps (w.links i) (put w.links l (due_for (w.links l) client) i) =
     put_all (λ i z. LinkKeeps (w.links i) z) w.links l (due_for (w.links l) client) (record { key = refl; server_key = refl; role = stays }) (λ i _. (same_link (w.links i)).keeps) in
-    let roles : (i : ℕ) → MayBeLent (w.links i).role → MayBeLent (put w.links l (due_for (w.links l) client) i).role =
-    put_all (λ i z. MayBeLent (w.links i).role → MayBeLent z.role) w.links l (due_for (w.links l) client) (λ h. h) (λ i _ h. h) in
-    let k : Kept w v = record { book = lends_same w.book; strikes = refl; links = keeps; roles = roles; clients = λ i. (same_client (w.clients i)).keeps; starting = λ i own n e. e } in
+    let roles : (n : ℕ) (key : StartKeyOf) → HasLink n key w.book.lent → MayBeLent (put w.links l (due_for (w.links l) client) n).role =
+    put_all (λ i z. (key : StartKeyOf) → HasLink i key w.book.lent → MayBeLent z.role) w.links l (due_for (w.links l) client) (f.lent_roles l) (λ i _. f.lent_roles i) in
+    let k : Kept w v = record { book = lends_same w.book; strikes = refl; links = keeps; lent_roles = roles; clients = λ i. (same_client (w.clients i)).keeps; starting = λ i own n e. e } in
     fits_on w v k f (all_marks_on w v (λ i. same_client (w.clients i)) f) (comes k)
   where
     comes : (k : Kept w (with_link w l (due_for (w.links l) client))) (n : ℕ) (key : KeyView) → (put w.links l (due_for (w.links l) client) n).due ≡ Some key →

@@ -40,7 +40,7 @@ use Rattle.world_steps.proofs.Steps.{fits_at, step_closes, step_comes, step_fini
 -- to a phase in which it waits for no link's start, with the same login and the same marks
 pub goes_to : (x z : Client) → HasCome z.phase → ((own : StartKeyOf) (n : ℕ) → z.phase ≡ Starting own n → ⊥) → key_of z ≡ key_of x → z.struck ≡ x.struck →
     ((key : KeyView) → (login x.row x.word x.sent).ended ≡ Stopped (Cancelling key) → (login z.row z.word z.sent).ended ≡ Stopped (Cancelling key)) → ClientStays x z
-goes_to x z came no word struck asked = record { keeps = record { came = λ h. came; word = λ h. word; asked = λ key h e. asked key e }; marks = inr (struck, word); starting = λ own n e. absurd (no own n e) }
+goes_to x z came never word struck asked = record { keeps = record { came = λ h. came; word = λ h. word; asked = λ key h e. asked key e }; marks = inr (struck, word); starting = λ own n e. absurd (never own n e) }
 
 not_logging : (read : List ℕ) (own : StartKeyOf) (n : ℕ) → LoggingIn read ≡ Starting own n → ⊥
 not_logging read own n e = cc

@@ -104,7 +104,7 @@ left_none false due e = e
 undue_frame : (y : Link) (f : FrameOf) → y.due ≡ None → is_due y f ≡ false
 undue_frame y f e = ap (λ (due : Option KeyView). is_some due && may_be_struck y.session f) e
 
-still_unstruck : (marks : List Bool) (mark : Bool) → IsUnstruck marks → mark ≡ false → IsUnstruck (marks ++ mark ∷ [])
+pub still_unstruck : (marks : List Bool) (mark : Bool) → IsUnstruck marks → mark ≡ false → IsUnstruck (marks ++ mark ∷ [])
 still_unstruck [] mark h e = ap (λ (m : Bool). m || false) e
 still_unstruck (true ∷ marks) mark h e = absurd (true≢false h)
 still_unstruck (false ∷ marks) mark h e = still_unstruck marks mark h e

@@ -197,8 +197,8 @@ step_server_answers w l f rest r nobody h =
     (λ c key p k. k) (λ i. (i, refl)) (λ i. i)
 
 -- the mark is noted at the client, too
-service_answers : {cat own : CatalogueOf} {x : Client} {y : Link} (f : FrameOf) (rest : List ℕ) → InService cat x y → InService cat (noted x (is_due y f)) (answers own y f rest)
-service_answers {cat} {own} {x} {y} f rest h = record { base = h.base; is_fresh = h.is_fresh; passed = h.passed; told = h.told; quiet = h.quiet; struck = ap (λ (marks : List Bool). marks ++ is_due y f ∷ []) h.struck }
+service_answers : {cat : CatalogueOf} (own : CatalogueOf) {x : Client} {y : Link} (f : FrameOf) (rest : List ℕ) → InService cat x y → InService cat (noted x (is_due y f)) (answers own y f rest)
+service_answers {cat} own {x} {y} f rest h = record { base = h.base; is_fresh = h.is_fresh; passed = h.passed; told = h.told; quiet = h.quiet; struck = ap (λ (marks : List Bool). marks ++ is_due y f ∷ []) h.struck }
 
 pub step_server_answers_client : (w : World) (c l : ℕ) (f : FrameOf) (rest : List ℕ) → AreRelated w → (w.clients c).phase ≡ Served l → HasFrame (w.links l) f rest →
     AreRelated (with_pair w c (noted (w.clients c) (is_due (w.links l) f)) l (answers (w.catalogue (address_of (w.links l).key)) (w.links l) f rest))
@@ -208,7 +208,7 @@ step_server_answers_client w c l f rest r e k =
     let y = answers (w.catalogue (address_of (w.links l).key)) (w.links l) f rest in
     change_pair w c x l y r (alone_lent h.1)
     (subst (λ (p : Phase). PhaseFits w.catalogue (put w.links l y) c p x) (sym e)
-    (put_case (λ z. IsServed w.catalogue c x z) w.links l y l (λ _. (service_answers f rest h.0, h.1)) (λ ne. absurd (ne refl))))
+    (put_case (λ z. IsServed w.catalogue c x z) w.links l y l (λ _. (service_answers (w.catalogue (address_of (w.links l).key)) f rest h.0, h.1)) (λ ne. absurd (ne refl))))
     (role_answers w.catalogue (w.links l).role (w.links l) f rest k (r.links l))
     (kept_number _ _ refl)
     (λ key t. t) (λ i. (i, refl)) (λ i. i)
