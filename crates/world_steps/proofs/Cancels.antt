@@ -41,28 +41,30 @@ pub record ClientKeeps (x z : Client) : Type 0 where
   pub word : HasCome x.phase → key_of z ≡ key_of x
   pub asked : (key : KeyView) → HasCome x.phase → (login x.row x.word x.sent).ended ≡ Stopped (Cancelling key) → (login z.row z.word z.sent).ended ≡ Stopped (Cancelling key)
 
--- no cancel struck it but those that did, and it waits for no other link's start
-pub record ClientStays (x z : Client) : Type 0 where
+-- and no cancel struck a frame
+pub record ClientGoes (x z : Client) : Type 0 where
   pub keeps : ClientKeeps x z
   pub marks : IsUnstruck z.struck ⊎ ((z.struck ≡ x.struck) × (key_of z ≡ key_of x))
+
+-- and it waits for no other link's start
+pub record ClientStays (x z : Client) : Type 0 where
+  pub goes : ClientGoes x z
   pub starting : (own : StartKeyOf) (n : ℕ) → z.phase ≡ Starting own n → x.phase ≡ Starting own n
 
 pub same_link : (y : Link) → LinkStays y y
 same_link y = record { keeps = record { key = refl; server_key = refl; role = stays }; due = λ k e. e; lent = λ h. h }
 
 pub same_client : (x : Client) → ClientStays x x
-same_client x = record { keeps = record { came = λ h. h; word = λ h. refl; asked = λ k h e. e }; marks = inr (refl, refl); starting = λ own n e. e }
+same_client x = record { goes = record { keeps = record { came = λ h. h; word = λ h. refl; asked = λ k h e. e }; marks = inr (refl, refl) }; starting = λ own n e. e }
 
 -- ---- what goes on: at all other links, with all leases and cancels at these
 
 pub record GoesOn (w v : World) (Other : ℕ → Type 0) : Type 0 where
   pub lent : (n : ℕ) (key : StartKeyOf) → Other n → HasLink n key v.book.lent → HasLink n key w.book.lent
-  pub leases : (n : ℕ) (client server : KeyView) → HasLease n client server v.book.keyed → HasLease n client server w.book.keyed
   pub may_return : (n : ℕ) → Other n → MayReturn n v.book → MayReturn n w.book
   pub strikes : v.strikes ≡ w.strikes
   pub links : (n : ℕ) → Other n → LinkKeeps (w.links n) (v.links n)
   pub clients : (c : ℕ) → ClientKeeps (w.clients c) (v.clients c)
-  pub lease_there : (n : ℕ) (client server : KeyView) → HasLease n client server v.book.keyed → Other n
   pub goes_there : (s : Strike) (h : IsOnItsWay w s) → Other h.link
 
 of_client_on : (x z : Client) (key : KeyView) → ClientKeeps x z → IsOfClient x key → IsOfClient z key
@@ -116,11 +118,10 @@ all_on P Q f (s ∷ ss) h = (f s h.0, all_on P Q f ss h.1)
 
 -- at all links
 module _ (w v : World) (Other : ℕ → Type 0) (g : GoesOn w v Other) (f : CancelsFit w) where
-  pub leases_on : (n : ℕ) (client server : KeyView) → HasLease n client server v.book.keyed → LeaseFits v n client server (v.links n).role
-  leases_on n client server h =
-      let o = g.lease_there n client server h in
+  pub lease_kept : (n : ℕ) (client server : KeyView) → Other n → HasLease n client server w.book.keyed → LeaseFits v n client server (v.links n).role
+  lease_kept n client server o h =
       let k = g.links n o in
-      lease_on w v g.clients n client server k (λ key i. g.lent n key o i) (w.links n).role (v.links n).role k.role (f.leases n client server (g.leases n client server h))
+      lease_on w v g.clients n client server k (λ key i. g.lent n key o i) (w.links n).role (v.links n).role k.role (f.leases n client server h)
 
   way_on : (s : Strike) → IsOnItsWay w s → IsOnItsWay v s
   way_on s h =
@@ -133,23 +134,23 @@ module _ (w v : World) (Other : ℕ → Type 0) (g : GoesOn w v Other) (f : Canc
         asked = asked_on w v s.client g.clients h.asked;
       }
 
-  pub strikes_on : AllByRecursion (IsOnItsWay v) v.strikes
-  strikes_on = subst (AllByRecursion (IsOnItsWay v)) (sym g.strikes) (all_on (IsOnItsWay w) (IsOnItsWay v) way_on w.strikes f.strikes)
+  pub strikes_kept : AllByRecursion (IsOnItsWay v) v.strikes
+  strikes_kept = subst (AllByRecursion (IsOnItsWay v)) (sym g.strikes) (all_on (IsOnItsWay w) (IsOnItsWay v) way_on w.strikes f.strikes)
 
-  pub due_on : (n : ℕ) (client : KeyView) → Other n → (w.links n).due ≡ Some client → StrikeFits v n client (v.links n).role × HasAsked v client
-  due_on n client o e =
+  pub due_kept : (n : ℕ) (client : KeyView) → Other n → (w.links n).due ≡ Some client → StrikeFits v n client (v.links n).role × HasAsked v client
+  due_kept n client o e =
       let k = g.links n o in
       let p = f.due n client e in
       (strike_on w v g.clients n client (g.may_return n o) (w.links n).role (v.links n).role k.role p.0, asked_on w v client g.clients p.1)
 
 -- ---- the marks of clients
 
-marks_on : (w v : World) (x z : Client) → ClientStays x z → ((key : KeyView) → HasAsked w key → HasAsked v key) → IsUnstruck x.struck ⊎ HasAsked w (key_of x) → IsUnstruck z.struck ⊎ HasAsked v (key_of z)
+marks_on : (w v : World) (x z : Client) → ClientGoes x z → ((key : KeyView) → HasAsked w key → HasAsked v key) → IsUnstruck x.struck ⊎ HasAsked w (key_of x) → IsUnstruck z.struck ⊎ HasAsked v (key_of z)
 marks_on w v x z k on h =
     ⊎_elim (λ none. inl none)
     (λ same. ⊎_elim (λ none. inl (subst IsUnstruck (sym same.0) none)) (λ a. inr (subst (HasAsked v) (sym same.1) (on (key_of x) a))) h) k.marks
 
-pub all_marks_on : (w v : World) → ((c : ℕ) → ClientStays (w.clients c) (v.clients c)) → CancelsFit w → (c : ℕ) → IsUnstruck (v.clients c).struck ⊎ HasAsked v (key_of (v.clients c))
+pub all_marks_on : (w v : World) → ((c : ℕ) → ClientGoes (w.clients c) (v.clients c)) → CancelsFit w → (c : ℕ) → IsUnstruck (v.clients c).struck ⊎ HasAsked v (key_of (v.clients c))
 all_marks_on w v k f c = marks_on w v (w.clients c) (v.clients c) (k c) (λ key a. asked_on w v key (λ d. (k d).keeps) a) (f.asked c)
 
 -- ---- the keys of servers
@@ -170,18 +171,16 @@ pub record Kept (w v : World) : Type 0 where
   pub clients : (c : ℕ) → ClientKeeps (w.clients c) (v.clients c)
   pub starting : (c : ℕ) (own : StartKeyOf) (n : ℕ) → (v.clients c).phase ≡ Starting own n → (w.clients c).phase ≡ Starting own n
 
-abbrev Everywhere : ℕ → Type 0
+abbrev pub Everywhere : ℕ → Type 0
 Everywhere n = Unit {0}
 
 everywhere : (w v : World) → Kept w v → GoesOn w v Everywhere
 everywhere w v k = record {
   lent = λ n key o h. k.book.lent n key h;
-  leases = k.book.leases;
   may_return = λ n o m. k.book.may_return n m;
   strikes = k.strikes;
   links = λ n o. k.links n;
   clients = k.clients;
-  lease_there = λ n client server h. tt;
   goes_there = λ s h. tt;
 }
 
@@ -189,8 +188,8 @@ was_lent : (r : Role) (c : ℕ) → RoleGoes r (Lent c) → r ≡ Lent c
 was_lent r c stays = refl
 
 module _ (w v : World) (k : Kept w v) (f : CancelsFit w) where
-  pub due_kept : (n : ℕ) (client : KeyView) → (w.links n).due ≡ Some client → StrikeFits v n client (v.links n).role × HasAsked v client
-  due_kept n client e = due_on w v Everywhere (everywhere w v k) f n client tt e
+  pub due_on : (n : ℕ) (client : KeyView) → (w.links n).due ≡ Some client → StrikeFits v n client (v.links n).role × HasAsked v client
+  due_on n client e = due_kept w v Everywhere (everywhere w v k) f n client tt e
 
   -- with marks and cancels at servers that are told apart
   pub fits_on : ((c : ℕ) → IsUnstruck (v.clients c).struck ⊎ HasAsked v (key_of (v.clients c))) → ((n : ℕ) (client : KeyView) → (v.links n).due ≡ Some client → StrikeFits v n client (v.links n).role × HasAsked v client) → CancelsFit v
@@ -199,8 +198,8 @@ module _ (w v : World) (k : Kept w v) (f : CancelsFit w) where
     lent = λ n c e key h. (k.links n).key ∙ f.lent n c (was_lent (w.links n).role c (subst (RoleGoes (w.links n).role) e (k.links n).role)) key (k.book.lent n key h);
     promised = λ n c own key e h. f.promised n c own key (k.starting c own n e) (k.book.lent n key h);
     server_keys = λ l m own e g t. f.server_keys l m own (sym (k.links l).server_key ∙ e) (sym (k.links m).server_key ∙ g) (together_on w v l m (k.links l).key (k.links m).key t);
-    leases = leases_on w v Everywhere (everywhere w v k) f;
-    strikes = strikes_on w v Everywhere (everywhere w v k) f;
+    leases = λ n client server h. lease_kept w v Everywhere (everywhere w v k) f n client server tt (k.book.leases n client server h);
+    strikes = strikes_kept w v Everywhere (everywhere w v k) f;
     due = due;
     asked = asked;
   }
@@ -214,8 +213,8 @@ module _ (w : World) (f : CancelsFit w) where
   client_keeps c x h =
       let v = with_client w c x in
       let all : (i : ℕ) → ClientStays (w.clients i) (put w.clients c x i) = put_all (λ i z. ClientStays (w.clients i) z) w.clients c x h (λ i _. same_client (w.clients i)) in
-      let k : Kept w v = record { book = lends_same w.book; strikes = refl; links = λ l. (same_link (w.links l)).keeps; lent_roles = f.lent_roles; clients = λ i. (all i).keeps; starting = λ i. (all i).starting } in
-      fits_on w v k f (all_marks_on w v all f) (due_kept w v k f)
+      let k : Kept w v = record { book = lends_same w.book; strikes = refl; links = λ l. (same_link (w.links l)).keeps; lent_roles = f.lent_roles; clients = λ i. (all i).goes.keeps; starting = λ i. (all i).starting } in
+      fits_on w v k f (all_marks_on w v (λ i. (all i).goes) f) (due_on w v k f)
 
   links_put_on : (l : ℕ) (y : Link) → LinkKeeps (w.links l) y → (i : ℕ) → LinkKeeps (w.links i) (put w.links l y i)
   links_put_on l y h = put_all (λ i z. LinkKeeps (w.links i) z) w.links l y h (λ i _. (same_link (w.links i)).keeps)
@@ -230,8 +229,8 @@ module _ (w : World) (f : CancelsFit w) where
   pub link_goes : (l : ℕ) (y : Link) → LinkKeeps (w.links l) y → ((client : KeyView) → y.due ≡ Some client → (w.links l).due ≡ Some client) → ((key : StartKeyOf) → HasLink l key w.book.lent → MayBeLent y.role) → CancelsFit (with_link w l y)
   link_goes l y h due lent =
       let v = with_link w l y in
-      let k : Kept w v = record { book = lends_same w.book; strikes = refl; links = links_put_on l y h; lent_roles = roles_put_on l y lent; clients = λ i. (same_client (w.clients i)).keeps; starting = λ i own n e. e } in
-      fits_on w v k f (all_marks_on w v (λ i. same_client (w.clients i)) f) (λ n client e. due_kept w v k f n client (due_put_on l y due n client e))
+      let k : Kept w v = record { book = lends_same w.book; strikes = refl; links = links_put_on l y h; lent_roles = roles_put_on l y lent; clients = λ i. (same_client (w.clients i)).goes.keeps; starting = λ i own n e. e } in
+      fits_on w v k f (all_marks_on w v (λ i. (same_client (w.clients i)).goes) f) (λ n client e. due_on w v k f n client (due_put_on l y due n client e))
 
   pub link_keeps : (l : ℕ) (y : Link) → LinkStays (w.links l) y → CancelsFit (with_link w l y)
   link_keeps l y h = link_goes l y h.keeps h.due (λ key t. h.lent (f.lent_roles l key t))
@@ -241,7 +240,7 @@ module _ (w : World) (f : CancelsFit w) where
       LinkStays (w.links l) y → (IsUnstruck (w.clients c).struck ⊎ HasAsked w (key_of (w.clients c)) → IsUnstruck x.struck ⊎ HasAsked w (key_of x)) → CancelsFit (with_pair w c x l y)
   pair_marked c x l y h starting j marks =
       let v = with_pair w c x l y in
-      let keeps : (i : ℕ) → ClientKeeps (w.clients i) (put w.clients c x i) = put_all (λ i z. ClientKeeps (w.clients i) z) w.clients c x h (λ i _. (same_client (w.clients i)).keeps) in
+      let keeps : (i : ℕ) → ClientKeeps (w.clients i) (put w.clients c x i) = put_all (λ i z. ClientKeeps (w.clients i) z) w.clients c x h (λ i _. (same_client (w.clients i)).goes.keeps) in
       let on : (key : KeyView) → HasAsked w key → HasAsked v key = λ key a. asked_on w v key keeps a in
       let k : Kept w v = record {
         book = lends_same w.book;
@@ -254,10 +253,10 @@ module _ (w : World) (f : CancelsFit w) where
       fits_on w v k f
       (put_all (λ i z. IsUnstruck z.struck ⊎ HasAsked v (key_of z)) w.clients c x (⊎_elim (λ none. inl none) (λ a. inr (on (key_of x) a)) (marks (f.asked c)))
       (λ i _. ⊎_elim (λ none. inl none) (λ a. inr (on (key_of (w.clients i)) a)) (f.asked i)))
-      (λ n client e. due_kept w v k f n client (due_put_on l y j.due n client e))
+      (λ n client e. due_on w v k f n client (due_put_on l y j.due n client e))
 
   pub pair_keeps : (c : ℕ) (x : Client) (l : ℕ) (y : Link) → ClientStays (w.clients c) x → LinkStays (w.links l) y → CancelsFit (with_pair w c x l y)
-  pair_keeps c x l y k j = pair_marked c x l y k.keeps k.starting j (λ h. marks_on w w (w.clients c) x k (λ key a. a) h)
+  pair_keeps c x l y k j = pair_marked c x l y k.goes.keeps k.starting j (λ h. marks_on w w (w.clients c) x k.goes (λ key a. a) h)
 
 -- ---- other cancels are on their way
 
@@ -322,8 +321,8 @@ strike_comes w l client f fit asked =
     put_all (λ i z. LinkKeeps (w.links i) z) w.links l (due_for (w.links l) client) (record { key = refl; server_key = refl; role = stays }) (λ i _. (same_link (w.links i)).keeps) in
     let roles : (n : ℕ) (key : StartKeyOf) → HasLink n key w.book.lent → MayBeLent (put w.links l (due_for (w.links l) client) n).role =
     put_all (λ i z. (key : StartKeyOf) → HasLink i key w.book.lent → MayBeLent z.role) w.links l (due_for (w.links l) client) (f.lent_roles l) (λ i _. f.lent_roles i) in
-    let k : Kept w v = record { book = lends_same w.book; strikes = refl; links = keeps; lent_roles = roles; clients = λ i. (same_client (w.clients i)).keeps; starting = λ i own n e. e } in
-    fits_on w v k f (all_marks_on w v (λ i. same_client (w.clients i)) f) (comes k)
+    let k : Kept w v = record { book = lends_same w.book; strikes = refl; links = keeps; lent_roles = roles; clients = λ i. (same_client (w.clients i)).goes.keeps; starting = λ i own n e. e } in
+    fits_on w v k f (all_marks_on w v (λ i. (same_client (w.clients i)).goes) f) (comes k)
   where
     comes : (k : Kept w (with_link w l (due_for (w.links l) client))) (n : ℕ) (key : KeyView) → (put w.links l (due_for (w.links l) client) n).due ≡ Some key →
         StrikeFits (with_link w l (due_for (w.links l) client)) n key (put w.links l (due_for (w.links l) client) n).role × HasAsked (with_link w l (due_for (w.links l) client)) key
@@ -331,7 +330,7 @@ strike_comes w l client f fit asked =
         let v = with_link w l (due_for (w.links l) client) in
         put_case (λ z. z.due ≡ Some key → StrikeFits v n key z.role × HasAsked v key) w.links l (due_for (w.links l) client) n
         (λ g e. subst (λ (q : KeyView). StrikeFits v n q (w.links l).role × HasAsked v q) (some_same e)
-        (subst (λ (i : ℕ). StrikeFits v i client (w.links l).role) (sym g) (strike_on w v (λ i. (same_client (w.clients i)).keeps) l client (λ m. m) (w.links l).role (w.links l).role stays fit),
-        asked_on w v client (λ i. (same_client (w.clients i)).keeps) asked))
+        (subst (λ (i : ℕ). StrikeFits v i client (w.links l).role) (sym g) (strike_on w v (λ i. (same_client (w.clients i)).goes.keeps) l client (λ m. m) (w.links l).role (w.links l).role stays fit),
+        asked_on w v client (λ i. (same_client (w.clients i)).goes.keeps) asked))
         (λ ne e. let p = f.due n key e in
-        (strike_on w v (λ i. (same_client (w.clients i)).keeps) n key (λ m. m) (w.links n).role (w.links n).role stays p.0, asked_on w v key (λ i. (same_client (w.clients i)).keeps) p.1))
+        (strike_on w v (λ i. (same_client (w.clients i)).goes.keeps) n key (λ m. m) (w.links n).role (w.links n).role stays p.0, asked_on w v key (λ i. (same_client (w.clients i)).goes.keeps) p.1))

@@ -40,7 +40,7 @@ use Rattle.world_steps.proofs.Steps.{fits_at, step_closes, step_comes, step_fini
 -- to a phase in which it waits for no link's start, with the same login and the same marks
 pub goes_to : (x z : Client) → HasCome z.phase → ((own : StartKeyOf) (n : ℕ) → z.phase ≡ Starting own n → ⊥) → key_of z ≡ key_of x → z.struck ≡ x.struck →
     ((key : KeyView) → (login x.row x.word x.sent).ended ≡ Stopped (Cancelling key) → (login z.row z.word z.sent).ended ≡ Stopped (Cancelling key)) → ClientStays x z
-goes_to x z came never word struck asked = record { keeps = record { came = λ h. came; word = λ h. word; asked = λ key h e. asked key e }; marks = inr (struck, word); starting = λ own n e. absurd (never own n e) }
+goes_to x z came never word struck asked = record { goes = record { keeps = record { came = λ h. came; word = λ h. word; asked = λ key h e. asked key e }; marks = inr (struck, word) }; starting = λ own n e. absurd (never own n e) }
 
 not_logging : (read : List ℕ) (own : StartKeyOf) (n : ℕ) → LoggingIn read ≡ Starting own n → ⊥
 not_logging read own n e = cc
@@ -60,15 +60,13 @@ not_closed own n e = cc
 -- what it comes as has no mark
 new_stays : (x : Client) (row : LoginRow) (word : KeyWord) → x.phase ≡ Absent → ClientStays x (newcomer row word)
 new_stays x row word e = record {
-  keeps = record { came = λ h. tt; word = λ h. absurd (subst HasCome e h); asked = λ key h q. absurd (subst HasCome e h) };
-  marks = inl refl;
+  goes = record { keeps = record { came = λ h. tt; word = λ h. absurd (subst HasCome e h); asked = λ key h q. absurd (subst HasCome e h) }; marks = inl refl };
   starting = λ own n q. absurd (not_logging [] own n q);
 }
 
 sends_stays : (x : Client) (bytes : List ℕ) → ClientStays x (sends_bytes x bytes)
 sends_stays x bytes = record {
-  keeps = record { came = λ h. h; word = λ h. refl; asked = λ key h e. ap (λ (d : _). d.ended) (login_stopped x.row x.word x.sent bytes (Cancelling key) e) ∙ e };
-  marks = inr (refl, refl);
+  goes = record { keeps = record { came = λ h. h; word = λ h. refl; asked = λ key h e. ap (λ (d : _). d.ended) (login_stopped x.row x.word x.sent bytes (Cancelling key) e) ∙ e }; marks = inr (refl, refl) };
   starting = λ own n e. e;
 }
 
@@ -100,8 +98,8 @@ ends_keep w _ (of_end c closes) r =
 -- ---- moves of bytes
 
 -- with the phase, login and marks that it had
-in_place : (x z : Client) → z.phase ≡ x.phase → key_of z ≡ key_of x → z.struck ≡ x.struck → ((key : KeyView) → (login x.row x.word x.sent).ended ≡ Stopped (Cancelling key) → (login z.row z.word z.sent).ended ≡ Stopped (Cancelling key)) → ClientStays x z
-in_place x z phase word struck asked = record { keeps = record { came = λ h. subst HasCome (sym phase) h; word = λ h. word; asked = λ key h e. asked key e }; marks = inr (struck, word); starting = λ own n e. sym phase ∙ e }
+pub in_place : (x z : Client) → z.phase ≡ x.phase → key_of z ≡ key_of x → z.struck ≡ x.struck → ((key : KeyView) → (login x.row x.word x.sent).ended ≡ Stopped (Cancelling key) → (login z.row z.word z.sent).ended ≡ Stopped (Cancelling key)) → ClientStays x z
+in_place x z phase word struck asked = record { goes = record { keeps = record { came = λ h. subst HasCome (sym phase) h; word = λ h. word; asked = λ key h e. asked key e }; marks = inr (struck, word) }; starting = λ own n e. sym phase ∙ e }
 
 -- a frame that a server took leaves a cancel that was there, or none
 was_due : (struck : Bool) (due : Option KeyView) (client : KeyView) → left_due struck due ≡ Some client → due ≡ Some client
