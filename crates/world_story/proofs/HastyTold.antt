@@ -9,7 +9,7 @@ use Rattle.session_values.specs.Parameters.{accepted_of, date_styles}
 use Rattle.session_values.specs.Service.{welcome}
 use Rattle.session_values.specs.State.{State, started_over, fresh}
 use Rattle.session_values.specs.Step.{step, run_frames}
-use Rattle.session_laws.specs.Laws.{IsSent, discard_all}
+use Rattle.session_laws.specs.Laws.{discard_all}
 use Rattle.login_core.specs.Dialogue.{ok}
 use Rattle.book_model.specs.Outcomes.{apply, apply_return}
 use Rattle.book_model.specs.Outcomes.Event.{EndLease}
@@ -37,11 +37,8 @@ use Rattle.world_story.specs.Slips.{IsReachedBy, Spoils, Hurries}
 use Rattle.world_story.specs.Slips.IsReachedBy.{so_far, slips}
 use Rattle.world_story.specs.Slips.Hurries.{hurries}
 use Rattle.world_story.proofs.Slipping.{next_do, takes_all, gives_rest}
-use Rattle.world_story.proofs.Told.{state_of, the_catalogue, lawful, row, lawful_row, key, word, limits, hello, change, bytes, at_first, is_empty, change-sent, changed-are}
+use Rattle.world_story.proofs.Told.{state_of, the_catalogue, lawful, row, lawful_row, key, word, limits, hello, change, bytes, at_first, is_empty, change-sent, changed-are, discard-sent}
 use Rattle.world_story.proofs.Keys.{at_begin, new_key, server, then_do}
-
-discard-sent : IsSent discard_all
-discard-sent = record { whole = record { of_type = refl; size = omega arith }; bytes = bytes discard_all.body refl }
 
 -- the same, with the world before it to be found from what is reached
 hurry : {w : World} (c l : ℕ) → IsReachedBy Hurries w → (w.links l).role ≡ Lent c → HasEnded (w.clients c).phase → (apply w.book (EndLease l)).reply ≡ Reset →

@@ -119,7 +119,7 @@ back = command_complete (codes "DISCARD ALL") ∷ parameter_status (codes "appli
 pub change-sent : IsSent change
 change-sent = record { whole = record { of_type = refl; size = omega arith }; bytes = bytes change.body refl }
 
-discard-sent : IsSent discard_all
+pub discard-sent : IsSent discard_all
 discard-sent = record { whole = record { of_type = refl; size = omega arith }; bytes = bytes discard_all.body refl }
 
 pub changed-are : AllByRecursion (IsFrame Server LONGEST_FRAME) changed
