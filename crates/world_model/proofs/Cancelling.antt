@@ -1,12 +1,10 @@
 -- What the relation says of cancels.
-use Rattle.std.proofs.Common.{◌≡◌, ℕ, List, ◌∷◌, ◌++◌, inl, inr, ⊎_elim, refl, sym, ap, ◌∙◌, subst, Some}
+use Rattle.std.proofs.Common.{◌≡◌, ℕ, ⊎_elim, refl, subst}
 use Rattle.std.specs.List.{AllByRecursion}
 use Rattle.message_view.specs.declared.views.KeyView.{KeyView}
-use Rattle.world_steps.specs.Clients.{key_of}
 use Rattle.world_steps.specs.Links.{Role}
 use Rattle.world_steps.specs.Links.Role.{Unborn, Promised, Lent, InReset, Clean, Idle, Gone}
 use Rattle.world_steps.specs.Relation.{CancelsFit, IsOnItsWay, StrikeFits}
-use Rattle.world_steps.specs.Steps.{Reached}
 use Rattle.world_steps.specs.Worlds.{World}
 use Rattle.world_steps.proofs.Cancels.{at_middle, goes_there}
 use Rattle.world_model.specs.Cancels.{IsLentOrGone, IsOpen, OpenCancelsAreOwn, OpenCancelsStay, UnaskedAreUnstruck}

@@ -10,7 +10,6 @@ use Rattle.message_view.specs.declared.views.KeyView.{KeyView}
 use Rattle.message_view.specs.Refusals.{refusal}
 use Rattle.session_values.specs.State.{CatalogueOf, StartKeyOf, address_of}
 use Rattle.session_values.specs.Step.{may_be_struck}
-use Rattle.login_core.specs.Talk.{End}
 use Rattle.login_core.specs.Talk.End.{Stopped}
 use Rattle.login_core.specs.Dialogue.{Cancelling, LoginRow, login}
 use Rattle.world_steps.specs.Clients.{Client, HasCome, IsUnstruck, key_of, newcomer}

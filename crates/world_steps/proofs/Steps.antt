@@ -1,7 +1,7 @@
 -- Each step of a client, its worker and a server keeps the relation, step by step.
-use Rattle.std.proofs.Common.{◌≡◌, ◌≢◌, ◌⊎◌, inl, inr, ℕ, Bool, true, List, [], ◌∷◌, ◌++◌, Option, Some, None, refl, sym, ap, ◌∙◌, subst, append_assoc}
+use Rattle.std.proofs.Common.{◌≡◌, ◌⊎◌, inl, inr, ℕ, Bool, List, [], ◌∷◌, ◌++◌, Option, Some, None, refl, sym, ap, ◌∙◌, subst, append_assoc}
 use Rattle.std.proofs.lemmas.Option.{none-some}
-use Rattle.frame_view.specs.Frames.{FrameOf, spelling}
+use Rattle.frame_view.specs.Frames.{FrameOf}
 use Rattle.message_view.specs.declared.KeyWord.{KeyWord}
 use Rattle.message_view.specs.declared.views.KeyView.{KeyView}
 use Rattle.message_view.specs.declared.refusal.Refusal.{Refusal}

@@ -24,7 +24,7 @@ use Rattle.world_story.specs.Slips.{SpoilsRefusal}
 use Rattle.world_story.specs.Slips.IsReachedBy.{so_far, slips}
 use Rattle.world_story.specs.Slips.BreaksOff.{breaks_off}
 use Rattle.world_story.proofs.Slipping.{next_do}
-use Rattle.world_story.proofs.Told.{the_catalogue, lawful, row, lawful_row, word, limits, hello, bytes, at_first, is_empty}
+use Rattle.world_story.proofs.Told.{the_catalogue, row, lawful_row, word, limits, hello, bytes, at_first, is_empty}
 use Rattle.world_story.proofs.Keys.{at_begin, then_do}
 
 -- the first byte of AuthenticationOk, and then the refusal

@@ -1,15 +1,14 @@
 -- A statement is cancelled, step by step.
-use Rattle.std.proofs.Common.{◌≡◌, ℕ, List, [], ◌∷◌, ◌++◌, refl, Some}
+use Rattle.std.proofs.Common.{ℕ, List, [], ◌∷◌, ◌++◌, refl}
 use Rattle.std.specs.List.{flat_map}
-use Rattle.frame_view.specs.Frames.{FrameOf, cut_after, spelling}
-use Rattle.message_view.specs.declared.views.KeyView.{KeyView}
+use Rattle.frame_view.specs.Frames.{cut_after, spelling}
 use Rattle.message_view.specs.Messages.{cancel_request}
 use Rattle.message_view.specs.Reading.{text_at, int16_at, int32_at, value_at, list_at, query_of, parse_of, bind_of, target_of, execute_of, startup_of, pair_at, ended_at, list_until}
 use Rattle.mini_sql.specs.Tokens.{literal_length, unquoted, tokens_after}
 use Rattle.mini_sql.specs.Statements.{read, ends, pass, take_value, either, with_item, items, definitions, columns_at, at_most_64, take_columns, take_operands, block, assignment, set_name, set, reset, show, discard, definition_list, create, drop_table, value_list, insert, where_of, end_of, from_of, select, of_tokens, less_semicolon, phrase, statement}
 use Rattle.session_values.specs.Parameters.{accepted_of, date_styles}
 use Rattle.session_values.specs.Service.{welcome}
-use Rattle.session_values.specs.State.{State, started_over, fresh}
+use Rattle.session_values.specs.State.{started_over, fresh}
 use Rattle.session_values.specs.Step.{step, run_frames}
 use Rattle.login_core.specs.Dialogue.{ok}
 use Rattle.book_model.specs.Outcomes.{apply, apply_return}
@@ -18,12 +17,11 @@ use Rattle.book_model.specs.declared.events.Reply.TheVariants.{Dispose, Done}
 use Rattle.book_model.specs.Laws.IsPlain.{lease_ends, lost}
 use Rattle.world_steps.specs.Clients.MayWrite.{served}
 use Rattle.world_steps.specs.Clients.HasEnded.{closed}
-use Rattle.world_steps.specs.Worlds.{World}
 use Rattle.world_steps.specs.Steps.Step.{book_step, client_step, byte_step, link_step, end_step}
-use Rattle.world_steps.specs.Steps.BookStep.{plain_event, arrives, asks, is_lent, is_promised, gives_back, keys, cancels}
+use Rattle.world_steps.specs.Steps.BookStep.{plain_event, arrives, asks, is_promised, keys, cancels}
 use Rattle.world_steps.specs.Steps.ClientStep.{of_client}
 use Rattle.world_steps.specs.Steps.ClientMove.{comes, sends, reads, passes}
-use Rattle.world_steps.specs.Steps.ByteStep.{by_client, by_lease, by_link, server_answers, server_answers_client, strike_arrives}
+use Rattle.world_steps.specs.Steps.ByteStep.{by_client, by_lease, server_answers_client, strike_arrives}
 use Rattle.world_steps.specs.Steps.ClientBytes.{from_client}
 use Rattle.world_steps.specs.Steps.LeaseBytes.{to_link, from_link}
 use Rattle.world_steps.specs.Steps.LinkStep.{starts, disposes_lent}
@@ -33,7 +31,7 @@ use Rattle.world_model.specs.Headline.{QuietLeasesAreWhole}
 use Rattle.world_story.specs.Cancelled.{Cancelled, cancelled}
 use Rattle.world_story.specs.Story.{changed}
 use Rattle.world_story.proofs.Keys.{at_begin, new_key, server, then_do}
-use Rattle.world_story.proofs.Told.{state_of, the_catalogue, lawful, row, lawful_row, key, word, limits, hello, change, bytes, at_first, is_empty, change-sent, gives_all}
+use Rattle.world_story.proofs.Told.{state_of, the_catalogue, row, lawful_row, key, word, limits, hello, change, bytes, at_first, is_empty, change-sent, gives_all}
 
 abbrev two : List ℕ
 two = spelling change ++ spelling change

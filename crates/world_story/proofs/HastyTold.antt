@@ -1,5 +1,5 @@
 -- A return of a link that isn't settled, and what it leads to, step by step.
-use Rattle.std.proofs.Common.{◌≡◌, ℕ, false, List, [], ◌∷◌, ◌++◌, refl, sym, append-nil, ◌∙◌, append_assoc, arith}
+use Rattle.std.proofs.Common.{◌≡◌, ℕ, false, List, [], ◌∷◌, ◌++◌, refl, sym, append-nil, ◌∙◌, append_assoc}
 use Rattle.std.specs.List.{flat_map}
 use Rattle.frame_view.specs.Frames.{cut_after, spelling}
 use Rattle.message_view.specs.Reading.{text_at, int16_at, int32_at, value_at, list_at, query_of, parse_of, bind_of, target_of, execute_of, startup_of, pair_at, ended_at, list_until}
@@ -37,7 +37,7 @@ use Rattle.world_story.specs.Slips.{IsReachedBy, Spoils, Hurries}
 use Rattle.world_story.specs.Slips.IsReachedBy.{so_far, slips}
 use Rattle.world_story.specs.Slips.Hurries.{hurries}
 use Rattle.world_story.proofs.Slipping.{next_do, takes_all, gives_rest}
-use Rattle.world_story.proofs.Told.{state_of, the_catalogue, lawful, row, lawful_row, key, word, limits, hello, change, bytes, at_first, is_empty, change-sent, changed-are, discard-sent}
+use Rattle.world_story.proofs.Told.{state_of, the_catalogue, row, lawful_row, key, word, limits, hello, change, bytes, at_first, is_empty, change-sent, changed-are, discard-sent}
 use Rattle.world_story.proofs.Keys.{at_begin, new_key, server, then_do}
 
 -- the same, with the world before it to be found from what is reached

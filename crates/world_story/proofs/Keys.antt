@@ -1,19 +1,17 @@
 -- Reached worlds with the greatest pid that their servers told, so that there is a key word that none told.
-use Rattle.std.proofs.Common.{◌≡◌, ℕ, suc, ◌≤◌, ◌<◌, Bool, true, false, List, [], ◌++◌, refl, sym, ap, ◌∙◌, subst, arith, le_refl, le_trans, ltb-true, ltb-false, Option, Some, None}
+use Rattle.std.proofs.Common.{◌≡◌, ℕ, suc, ◌≤◌, Bool, true, false, refl, sym, ◌∙◌, subst, arith, le_refl, le_trans, ltb-true, ltb-false, Option, Some}
 use Rattle.std.specs.Prelude.{cond, nat_lt}
 use Rattle.std.proofs.lemmas.Option.{none-some}
 use Rattle.message_view.specs.declared.views.KeyView.{KeyView}
 use Rattle.session_values.specs.State.{StartKeyOf}
 use Rattle.book_model.specs.Book.{Limits}
-use Rattle.world_steps.specs.Clients.{MayWrite}
 use Rattle.world_steps.specs.Links.{Link, newborn}
 use Rattle.world_steps.specs.Links.Role.{Gone}
-use Rattle.world_steps.specs.Steps.{BookStep, ByteStep, IsEmpty, IsNewKey, LinkBytes, LinkStep, LeaseBytes, Reached, Step}
+use Rattle.world_steps.specs.Steps.{BookStep, ByteStep, IsEmpty, IsNewKey, LinkStep, Reached, Step}
 use Rattle.world_steps.specs.Steps.Step.{book_step, client_step, byte_step, link_step, end_step}
 use Rattle.world_steps.specs.Steps.BookStep.{plain_event, arrives, asks, is_lent, is_promised, is_promised_for, gives_back, gives_back_too_late, tick_closes, keys, cancels}
 use Rattle.world_steps.specs.Steps.ClientStep.{of_client}
 use Rattle.world_steps.specs.Steps.ByteStep.{by_client, by_lease, by_link, server_answers, server_answers_client, strike_arrives}
-use Rattle.world_steps.specs.Steps.ClientBytes.{to_client}
 use Rattle.world_steps.specs.Steps.LeaseBytes.{to_link, from_link}
 use Rattle.world_steps.specs.Steps.LinkBytes.{to_reset, from_reset, server_dies, strike_passes}
 use Rattle.world_steps.specs.Steps.LinkStep.{starts, start_fails, returns_unused, returns_used, ends_reset, disposes_lent, disposes_promised, disposes}

@@ -40,7 +40,7 @@ use Rattle.world_story.specs.Slips.{IsReachedBy, Spoils, SkipsReset}
 use Rattle.world_story.specs.Slips.IsReachedBy.{so_far, slips}
 use Rattle.world_story.specs.Slips.SkipsReset.{skips_reset}
 use Rattle.world_story.proofs.Slipping.{next_do, takes_all, gives_rest}
-use Rattle.world_story.proofs.Told.{state_of, the_catalogue, lawful, row, lawful_row, key, word, limits, hello, change, bytes, at_first, is_empty, change-sent, changed-are, gives_all}
+use Rattle.world_story.proofs.Told.{state_of, the_catalogue, row, lawful_row, key, word, limits, hello, change, bytes, at_first, is_empty, change-sent, changed-are, gives_all}
 use Rattle.world_story.proofs.Keys.{at_begin, new_key, server, then_do}
 
 abbrev pub show_name : FrameOf

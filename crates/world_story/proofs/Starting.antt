@@ -10,12 +10,11 @@ use Rattle.book_model.specs.Outcomes.{apply, apply_return}
 use Rattle.session_values.specs.State.{started_over, fresh}
 use Rattle.login_core.specs.Dialogue.{ok}
 use Rattle.world_steps.specs.Worlds.{World}
-use Rattle.world_steps.specs.Steps.{Reached}
 use Rattle.world_steps.specs.Steps.Step.{book_step, client_step}
 use Rattle.world_steps.specs.Steps.BookStep.{arrives, asks, is_promised}
 use Rattle.world_steps.specs.Steps.ClientStep.{of_client}
 use Rattle.world_steps.specs.Steps.ClientMove.{comes, sends, reads, passes}
-use Rattle.world_story.proofs.Told.{lawful, row, lawful_row, key, word, limits, hello, bytes, at_first, is_empty}
+use Rattle.world_story.proofs.Told.{row, lawful_row, key, word, limits, hello, bytes, at_first, is_empty}
 use Rattle.world_story.proofs.Keys.{At, at_begin, then_do}
 
 pub record SoFar : Type 0 where
