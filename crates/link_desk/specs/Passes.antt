@@ -188,8 +188,13 @@ module _ {E : Type 0} where
 abbrev pub at_stage : Stage → Holder → Holder
 at_stage stage h = record h { lease = option_map (λ (l : Lease). record l { stage = stage }) h.lease }
 
-abbrev pub keyed_lease : KeyView → KeyView → Holder → Holder
-keyed_lease client server h = record (at_stage Keyed h) { last = of_lease (λ n. call.Keyed n client server) h }
+-- it is keyed where the book did so
+abbrev pub keyed_by : Keying → Holder → Holder
+keyed_by keying.Done h = at_stage Keyed h
+keyed_by _ h = h
+
+abbrev pub keyed_lease : KeyView → KeyView → Holder → Keying → Holder
+keyed_lease client server h r = record (keyed_by r h) { last = of_lease (λ n. call.Keyed n client server) h }
 
 -- it has ended where no cancel was for it
 abbrev pub ends_by : Release → Holder → Holder

@@ -74,7 +74,7 @@ pub trait LinkDesk {
     fn keyed(&self, pass: &mut Self::Pass, client: KeyView, server: KeyView) -> Keying
         requires granted { stage_of (holder pass.old) ≡ Some Granted }
         ensures told { told pass.new ≡ after_keying (told pass.old) result }
-        ensures holder { holder pass.new ≡ keyed_lease client server (holder pass.old) };
+        ensures holder { holder pass.new ≡ keyed_lease client server (holder pass.old) result };
 
     /// The client's lease has ended: no cancel finds it any more. Only where none found it before may its link go to another client.
     fn end_lease(&self, pass: &mut Self::Pass) -> Release

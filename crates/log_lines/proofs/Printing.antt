@@ -161,7 +161,7 @@ notes note.NoDatabase ms = both (after ms) (codes ": database does not exist (3D
 notes (note.Unstarted server why) ms = both (after ms ++ codes ": server " ++ address server.host server.port) (unstarted_words why)
     (both (after ms ++ codes ": server ") (address server.host server.port) (both (after ms) (codes ": server ") (times ms) refl) (addresses server.host server.port)) (starts why)
 notes (note.LinkLost number why) ms = both (decimal number ++ codes " closed: ") (loss_words why) (both (decimal number) (codes " closed: ") (decimals number) refl) (losses why)
-notes (note.Cancels number) ms = decimals number
+notes (note.Cancels number) ms = both (decimal number) (codes "'s statement") (decimals number) refl
 notes note.CancelsNobody ms = refl
 notes note.Paused ms = refl
 notes note.Resumed ms = refl

@@ -232,6 +232,20 @@ fn put_lost(line: &mut Vec<u8>, number: u64, loss: Loss) -> Result<(), AllocErro
     line.extend_from_slice(loss_words(loss))
 }
 
+/// A number between two texts.
+fn put_between(
+    line: &mut Vec<u8>,
+    before: &[u8],
+    number: u64,
+    behind: &[u8],
+) -> Result<(), AllocError>
+    ensures { OnOk result (line.new.items ≡ line.old.items ++ (before.now ++ decimal number ++ behind.now)) }
+{
+    line.extend_from_slice(before)?;
+    put_number(line, number)?;
+    line.extend_from_slice(behind)
+}
+
 /// What is told.
 fn put_words(line: &mut Vec<u8>, note: Note<'_>, ms: Option<u64>) -> Result<(), AllocError>
     ensures { OnOk result (line.new.items ≡ line.old.items ++ spec.words note.entry ms) }
@@ -256,10 +270,7 @@ fn put_words(line: &mut Vec<u8>, note: Note<'_>, ms: Option<u64>) -> Result<(), 
         Note::NoDatabase => put_timed(line, b" failed", ms, b": database does not exist (3D000)"),
         Note::Unstarted(server, why) => put_refused_by(line, server, why, ms),
         Note::LinkLost(number, loss) => put_lost(line, number, loss),
-        Note::Cancels(number) => {
-            line.extend_from_slice(b" requests a cancel for link ")?;
-            put_number(line, number)
-        }
+        Note::Cancels(number) => put_between(line, b" cancels link ", number, b"'s statement"),
         Note::CancelsNobody => line.extend_from_slice(
             b" requests a cancel by a key that nobody has",
         ),

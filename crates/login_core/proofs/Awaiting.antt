@@ -1,5 +1,5 @@
 -- What the cutters of packets tell of the bytes that are held.
-use Rattle.std.proofs.Common.{◌≡◌, ℕ, ◌<◌, List, [], refl, sym, ap, ◌∙◌, Bool, true, false, Ok, Err}
+use Rattle.std.proofs.Common.{◌≡◌, ℕ, ◌<◌, List, [], refl, sym, ap, ap₂, ◌∙◌, Bool, true, false, Ok, Err}
 use Rattle.std.specs.Borrow.{Bor}
 use Rattle.frame_view.specs.declared.FrameFault.{FrameFault}
 use Rattle.frame_view.specs.declared.FirstStep.TheVariants as first
@@ -25,7 +25,7 @@ use Rattle.login_core.specs.Talk.Reaction.{Stops}
 use Rattle.login_core.specs.Dialogue.{Rows, Packet, First, Message, Reason, Refused, Left, AtFirst, Asked, refusal_of, of_first, of_front, packet, react, key_of, judged, to_message, to_password, longest_message}
 use Rattle.login_core.specs.Laws.{PacketsGrow}
 use Rattle.login_core.specs.Logins.{Awaiting, AwaitsPacket, Over, Fits, StepIs, Decides, StartMeans, left_after}
-use Rattle.login_core.proofs.Turning.{turned_bad, turned_stop, turned_left, turned_more, tls_from, gss_from, tls_twice, gss_twice, turned_start, decided_by_answer}
+use Rattle.login_core.proofs.Turning.{turned_bad, turned_stop, turned_left, turned_cancel, turned_more, tls_from, gss_from, tls_twice, gss_twice, turned_start, decided_by_answer}
 
 abbrev IsWhole : Cut Packet Reason → Packet → Type 0
 IsWhole c p = (rest : List ℕ) × (c ≡ Whole p rest)
@@ -38,9 +38,9 @@ told_start part (AFirst AsksGss rest) h = absurd h
 told_start part (LacksFirst m) h = absurd h
 told_start part (FaultyFirst o) h = absurd h
 
-told_cancel : (i k : ℕ) (f : FirstFront) → TellsFirst (first.Cancel i k) f → (p : ℕ × ℕ) × IsWhole (of_first f) (First (Cancels p.0 p.1))
+told_cancel : (i k : ℕ) (f : FirstFront) → TellsFirst (first.Cancel i k) f → IsWhole (of_first f) (First (Cancels i k))
 told_cancel i k (AFirst (Start t) rest) h = absurd h
-told_cancel i k (AFirst (Cancels p s) rest) h = ((p, s), (rest, refl))
+told_cancel i k (AFirst (Cancels p s) rest) h = (rest, ap₂ (λ (x y : ℕ). Whole (First (Cancels x y)) rest) (sym h.0) (sym h.1))
 told_cancel i k (AFirst AsksTls rest) h = absurd h
 told_cancel i k (AFirst AsksGss rest) h = absurd h
 told_cancel i k (LacksFirst m) h = absurd h
@@ -96,8 +96,8 @@ module _ (grow : PacketsGrow) (rows : Rows) (word : KeyWord) where
         StepIs rows word (AwaitsPacket (AtFirst tls gss)) held s to (left_after s held)
     hears_start part s to h e = let t = told_start part (first_front held) h in turned_start grow rows word tls gss held part.now t.0 s to fits t.1 e
 
-    pub hears_cancel : (i k : ℕ) → TellsFirst (first.Cancel i k) (first_front held) → StepIs rows word (AwaitsPacket (AtFirst tls gss)) held step.Left Over []
-    hears_cancel i k h = let t = told_cancel i k (first_front held) h in turned_left grow rows word (AtFirst tls gss) held (First (Cancels t.0.0 t.0.1)) t.1.0 fits t.1.1 refl
+    pub hears_cancel : (i k : ℕ) → TellsFirst (first.Cancel i k) (first_front held) → StepIs rows word (AwaitsPacket (AtFirst tls gss)) held (step.Cancel i k) Over []
+    hears_cancel i k h = let t = told_cancel i k (first_front held) h in turned_cancel grow rows word tls gss held t.0 i k fits t.1
 
     pub hears_tls : tls ≡ false → TellsFirst first.Tls (first_front held) → StepIs rows word (AwaitsPacket (AtFirst tls gss)) held (step.Ask question.Encryption) (AwaitsPacket (AtFirst true gss)) []
     hears_tls e h = let t = told_tls (first_front held) h in tls_from grow rows word tls gss held t.0 e fits t.1

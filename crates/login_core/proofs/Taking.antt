@@ -69,6 +69,7 @@ or_changed (step.Ask q) A B C D f g a = f a
 or_changed (step.Passed k) A B C D f g a = f a
 or_changed step.Console A B C D f g a = f a
 or_changed (step.Failed x) A B C D f g a = f a
+or_changed (step.Cancel pid secret) A B C D f g a = f a
 or_changed step.Left A B C D f g a = f a
 
 -- a step on the bytes that were taken
@@ -107,6 +108,7 @@ left_if (step.Passed k) b held m e = absurd cc
 left_if step.Console b held m e = absurd cc
 left_if (step.Refused r) b held m e = absurd cc
 left_if (step.Failed f) b held m e = absurd cc
+left_if (step.Cancel pid secret) b held m e = absurd cc
 left_if step.Left b held m e = absurd cc
 
 pub left_unless : (s : LoginStep) (b : Bool) (held : List ℕ) → IsMore b s → b ≡ false → left_after s held ≡ []
@@ -117,4 +119,5 @@ left_unless (step.Passed k) b held m e = refl
 left_unless step.Console b held m e = refl
 left_unless (step.Refused r) b held m e = refl
 left_unless (step.Failed f) b held m e = refl
+left_unless (step.Cancel pid secret) b held m e = refl
 left_unless step.Left b held m e = refl

@@ -1,7 +1,7 @@
 -- What is said once a packet is whole or faulty, and which step it is.
 use Rattle.std.proofs.Common.{◌≡◌, inl, inr, ℕ, suc, ◌<◌, List, [], ◌∷◌, ◌++◌, length, refl, sym, ap, arith, ◌∙◌, Bool, true, false, subst, Result, Ok}
 use Rattle.std.specs.Prelude.{◌==◌}
-use Rattle.frame_view.specs.Frames.{Start, AsksTls, AsksGss}
+use Rattle.frame_view.specs.Frames.{Start, Cancels, AsksTls, AsksGss}
 use Rattle.frame_view.specs.declared.client.TheConstants.{PASSWORD_MESSAGE, TERMINATE}
 use Rattle.ini_config.specs.declared.option_values.AuthType.{AuthType}
 use Rattle.ini_config.specs.declared.option_values.AuthType.TheVariants.{Trust, Plain, Md5}
@@ -65,6 +65,12 @@ module _ (grow : PacketsGrow) (rows : Rows) (word : KeyWord) where
   turned_left s held p rest h w e =
       let f = some_left s in
       record { said = λ more. turn_whole s f.0 held p rest f.1 h w more ∙ ap (after_packet f.0 more) e; fits = refl; leads = refl }
+
+  pub turned_cancel : (tls gss : Bool) (held rest : List ℕ) (pid secret : ℕ) → Fits (AwaitsPacket (AtFirst tls gss)) held → packet (AtFirst tls gss) held ≡ Whole (First (Cancels pid secret)) rest →
+      StepIs rows word (AwaitsPacket (AtFirst tls gss)) held (step.Cancel pid secret) Over []
+  turned_cancel tls gss held rest pid secret h w =
+      let f = some_left (AtFirst tls gss) in
+      record { said = turn_whole (AtFirst tls gss) f.0 held (First (Cancels pid secret)) rest f.1 h w; fits = refl; leads = refl }
 
   pub turned_more : (s : Stage) (held : List ℕ) (n : ℕ) → Fits (AwaitsPacket s) held → packet s held ≡ Need n → 0 < n →
       StepIs rows word (AwaitsPacket s) held step.More (AwaitsPacket s) held
@@ -163,6 +169,7 @@ module _ (grow : PacketsGrow) (rows : Rows) (word : KeyWord) where
   turned_start tls gss held text rest (step.Passed k) to h w e = absurd e
   turned_start tls gss held text rest step.Console to h w e = absurd e
   turned_start tls gss held text rest (step.Failed f) to h w e = absurd e
+  turned_start tls gss held text rest (step.Cancel pid secret) to h w e = absurd e
   turned_start tls gss held text rest step.Left to h w e = absurd e
 
   -- ---- the end
@@ -177,6 +184,7 @@ module _ (grow : PacketsGrow) (rows : Rows) (word : KeyWord) where
   decided from held n (step.Arrived key) r d e = absurd d
   decided from held n (step.Ask q) r d e = absurd d
   decided from held n (step.Refused c) r d e = absurd d
+  decided from held n (step.Cancel pid secret) r d e = absurd d
   decided from held n step.Left r d e = absurd d
 
   pub decided_at_once : (key : StartKeyOf) (s : LoginStep) → (rows key.row key.user).auth ≡ Trust → Decides s (judged (rows key.row key.user) word key []) →

@@ -9,6 +9,7 @@ use Rattle.frame_view.specs.declared.client.TheConstants.{PASSWORD_MESSAGE, TERM
 use Rattle.frame_view.specs.Frames.{Front, AFrame, Lacks, Faulty, front, FirstOf, Start, Cancels, AsksTls, AsksGss, FirstFront, AFirst, LacksFirst, FaultyFirst, first_front, spelling}
 use Rattle.message_view.specs.declared.KeyWord.{KeyWord}
 use Rattle.message_view.specs.declared.ViewFault.{ViewFault}
+use Rattle.message_view.specs.declared.views.KeyView.{KeyView}
 use Rattle.message_view.specs.declared.refusal.Refusal.{Refusal}
 use Rattle.message_view.specs.declared.refusal.Refusal.TheVariants.{UnsupportedProtocol, MalformedClientMessage, UnsupportedParameter, OutOfMemory}
 use Rattle.message_view.specs.Messages.{authentication, error_response}
@@ -53,6 +54,8 @@ pub data Reason : Type 0 where
   Refused : Refusal → Reason
   Failed : Reason
   Left : Reason
+  -- it asked to cancel what the client of this key is at
+  Cancelling : KeyView → Reason
 
 -- where it leads
 pub data Way : Type 0 where
@@ -193,7 +196,7 @@ not_twice false next = Goes (no_encryption ∷ []) next
 
 abbrev pub to_first : Rows → KeyWord → Bool → Bool → FirstOf → Reacts
 to_first rows word tls gss (Start text) = begins rows word (key_of rows (startup_of text))
-to_first rows word tls gss (Cancels pid secret) = Stops [] Left
+to_first rows word tls gss (Cancels pid secret) = Stops [] (Cancelling (record { pid = pid; secret = secret }))
 to_first rows word tls gss AsksTls = not_twice tls (AtFirst true gss)
 to_first rows word tls gss AsksGss = not_twice gss (AtFirst tls true)
 

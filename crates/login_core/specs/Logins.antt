@@ -25,7 +25,7 @@ use Rattle.login_core.specs.Talk.{Cut, says, follow, talk}
 use Rattle.login_core.specs.Talk.Cut.{Whole, Need, Bad}
 use Rattle.login_core.specs.Talk.Reaction.{Passes, Stops}
 use Rattle.login_core.specs.Talk.End.{Passed, Stopped}
-use Rattle.login_core.specs.Dialogue.{Rows, row_in, Reacts, Dialogue, Packet, First, Reason, Refused, Failed, Left, ToLink, ToConsole, Stage, AtFirst, Asked, packet, react, dialogue_from, login_among, key_of, asked, no_encryption, asks_cleartext, wrong_password, no_database, ok, wrong}
+use Rattle.login_core.specs.Dialogue.{Rows, row_in, Reacts, Dialogue, Packet, First, Reason, Refused, Failed, Left, Cancelling, ToLink, ToConsole, Stage, AtFirst, Asked, packet, react, dialogue_from, login_among, key_of, asked, no_encryption, asks_cleartext, wrong_password, no_database, ok, wrong}
 
 -- what it waits for: a packet, the word to go on, or nothing any more
 pub data Awaiting : Type 0 where
@@ -110,6 +110,7 @@ after (step.Passed key) more rest = record { pieces = ok ∷ []; ended = Passed 
 after step.Console more rest = record { pieces = []; ended = Passed ToConsole more }
 after (step.Refused refusal) more rest = record { pieces = []; ended = Stopped (Refused refusal) }
 after (step.Failed f) more rest = record { pieces = failure_bytes f ∷ []; ended = Stopped Failed }
+after (step.Cancel pid secret) more rest = record { pieces = []; ended = Stopped (Cancelling (record { pid = pid; secret = secret })) }
 after step.Left more rest = record { pieces = []; ended = Stopped Left }
 
 -- a start message that gives a key
@@ -136,6 +137,7 @@ LeadsTo (step.Passed key) awaiting held = awaiting ≡ Over
 LeadsTo step.Console awaiting held = awaiting ≡ Over
 LeadsTo (step.Refused refusal) awaiting held = awaiting ≡ Over
 LeadsTo (step.Failed f) awaiting held = awaiting ≡ Over
+LeadsTo (step.Cancel pid secret) awaiting held = awaiting ≡ Over
 LeadsTo step.Left awaiting held = awaiting ≡ Over
 
 -- before a client has arrived it is asked about encryption alone, and neither passes nor fails
@@ -144,6 +146,7 @@ IsBeforeArrival step.More = Unit {0}
 IsBeforeArrival (step.Ask question.Encryption) = Unit {0}
 IsBeforeArrival (step.Arrived key) = Unit {0}
 IsBeforeArrival (step.Refused refusal) = Unit {0}
+IsBeforeArrival (step.Cancel pid secret) = Unit {0}
 IsBeforeArrival step.Left = Unit {0}
 IsBeforeArrival _ = ⊥
 

@@ -222,7 +222,7 @@ impl Rules {
         packets_grow();
         match first_packet(held) {
             FirstStep::Startup(text) => self.on_startup_message(alloc, text),
-            FirstStep::Cancel { .. } => (LoginStep::Left, Place::Over),
+            FirstStep::Cancel { pid, secret } => (LoginStep::Cancel { pid, secret }, Place::Over),
             FirstStep::Tls => {
                 if tls {
                     return (

@@ -162,7 +162,8 @@ impl Login {
     /// Takes bytes of the client, never past the packet that it waits for, and tells how many, and what follows.
     ///
     /// After [`LoginStep::Arrived`] it is called with no bytes. After [`LoginStep::Passed`], [`LoginStep::Console`],
-    /// [`LoginStep::Refused`], [`LoginStep::Failed`] and [`LoginStep::Left`] it takes none and answers [`LoginStep::Left`].
+    /// [`LoginStep::Refused`], [`LoginStep::Failed`], [`LoginStep::Cancel`] and [`LoginStep::Left`] it takes none and answers
+    /// [`LoginStep::Left`].
     /// Want of memory is refused as [`message_view::Refusal::OutOfMemory`], and comes only where a start key is made.
     pub fn on_bytes(&mut self, alloc: Global, piece: &[u8]) -> (usize, LoginStep)
         ensures used { result.0 ≡ min (missing self.old.awaiting self.old.held) (length piece.now) }

@@ -70,6 +70,9 @@ pub enum LoginStep {
     Refused(Refusal),
     /// The client is given this error and closed.
     Failed(Failure),
+    /// A CancelRequest came, with these words of the BackendKeyData that it names. The client is closed without a byte, whatever
+    /// comes of it.
+    Cancel { pid: u32, secret: u32 },
     /// The client is closed without a byte.
     Left,
 }

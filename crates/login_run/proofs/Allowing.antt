@@ -1,5 +1,5 @@
 -- What a client was given in its login is allowed.
-use Rattle.std.proofs.Common.{◌≡◌, inl, inr, ℕ, Bool, true, List, [], ◌++◌, take, drop, sym, ap, ◌∙◌, subst, append_assoc, append-nil, take-append-drop}
+use Rattle.std.proofs.Common.{◌≡◌, inl, inr, ℕ, Bool, true, List, [], ◌++◌, take, drop, sym, ap, ◌∙◌, subst, append_assoc, append-nil, take-append-drop, take_all, arith}
 use Rattle.std.proofs.lemmas.Grind.{flat_map-append}
 use Rattle.message_view.specs.declared.refusal.Refusal.{Refusal}
 use Rattle.message_view.specs.Refusals.{Begins, joined_pieces, refusal}
@@ -12,7 +12,7 @@ use Rattle.login_core.specs.Solo.{after_in, service_pieces}
 use Rattle.login_run.specs.declared.said.Said.{Said}
 use Rattle.login_run.specs.declared.said.Said.TheVariants as said
 use Rattle.login_run.specs.Runs.{PhaseOf, Passed, RunView, said_bytes, said_pieces, IsPiece, IsBegun, HasEnded, IsCutOff, StandsAt, Runs, Awaits}
-use Rattle.login_run.specs.Laws.{own, AllowedBy, IsRefusedByLogin, RunsAreAllowed, RunsStandAtPieces, PassedRunsAreLetIn, PassedRunsHavePassed}
+use Rattle.login_run.specs.Laws.{own, AllowedBy, CancellingRunsHaveAsked, IsRefusedByLogin, RunsAreAllowed, RunsStandAtPieces, PassedRunsAreLetIn, PassedRunsHavePassed}
 use Rattle.login_run.proofs.Running.{joined_said, settled, stands_begun, stands_cut}
 
 joined_both : (ps qs : List (List ℕ)) → joined_pieces (ps ++ qs) ≡ joined_pieces ps ++ joined_pieces qs
@@ -127,3 +127,23 @@ pub passed_passed : PassedRunsHavePassed
 passed_passed v key x e =
     let h = ended_of v key x.2.heard (x.2.done ++ said_pieces v.said) e x.2.stands in
     (x.2.heard ++ [], ap (λ (d : Dialogue). d.ended) (h []))
+
+-- ---- a client that asks to cancel
+
+-- nothing was said last, so all of it was given
+none_left : (given : List ℕ) (done : List (List ℕ)) (s : Said) (sent : ℕ) → s ≡ said.Nothing → given ≡ joined_pieces done ++ take sent (said_bytes s) → given ≡ joined_pieces (done ++ said_pieces s)
+none_left given done s sent n g =
+    g ∙ (ap (λ (r : Said). joined_pieces done ++ take sent (said_bytes r)) n ∙ (ap (λ (l : List ℕ). joined_pieces done ++ l) (none_of sent) ∙ (append-nil (joined_pieces done)
+    ∙ (ap joined_pieces (sym (append-nil done)) ∙ ap (λ (r : Said). joined_pieces (done ++ said_pieces r)) (sym n)))))
+  where
+    none_of : (n : ℕ) → take {A = ℕ} n [] ≡ []
+    none_of n = take_all {A = ℕ} n [] (omega arith)
+
+pub cancelling_asked : CancellingRunsHaveAsked
+cancelling_asked v key x e = record {
+  heard = x.2.heard;
+  pieces = x.2.done ++ said_pieces v.said;
+  asked = subst (λ (p : PhaseOf). StandsAt p v.said v.login x.2.heard (x.2.done ++ said_pieces v.said)) e x.2.stands;
+  taken = x.2.taken;
+  given = λ tells. none_left v.client.given x.2.done v.said v.sent (subst (λ (p : PhaseOf). Awaits p v.said v.login) e x.1) (x.2.given tells);
+}

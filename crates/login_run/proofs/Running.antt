@@ -20,7 +20,7 @@ use Rattle.login_core.specs.Logins.{Awaiting, AwaitsPacket, Arriving, LoginView,
 use Rattle.login_core.specs.Laws.{waits, arrived, asks, NewTells, StepsTell, StepsSay}
 use Rattle.login_run.specs.declared.said.Said.{Said}
 use Rattle.login_run.specs.declared.said.Said.TheVariants as said
-use Rattle.login_run.specs.Runs.{PhaseOf, Talking, Arrived, Passed, Console, Stopped, Gone, RunView, run_view, said_bytes, said_pieces, IsPiece, phase_after, said_after, IsBegun, HasEnded, IsStopped, IsCutOff, StandsAt, Runs, Awaits, IsArriving, IsAllGiven, IsRun}
+use Rattle.login_run.specs.Runs.{PhaseOf, Talking, Arrived, Passed, Console, Cancelling, Stopped, Gone, RunView, run_view, said_bytes, said_pieces, IsPiece, phase_after, said_after, IsBegun, HasEnded, IsStopped, IsCutOff, StandsAt, Runs, Awaits, IsArriving, IsAllGiven, IsRun}
 
 -- ---- the login's first pieces
 
@@ -70,6 +70,7 @@ stands_begun Talking s v taken pieces h = tells_begun v taken pieces h
 stands_begun Arrived s v taken pieces h = tells_begun v taken pieces h
 stands_begun (Passed key) s v taken pieces h = ended_begun (rows_of v) v.word taken pieces _ h
 stands_begun Console s v taken pieces h = ended_begun (rows_of v) v.word taken pieces _ h
+stands_begun (Cancelling key) s v taken pieces h = ended_begun (rows_of v) v.word taken pieces _ h
 stands_begun Stopped s v taken pieces h = stopped_begun (rows_of v) v.word taken pieces s h
 stands_begun Gone s v taken pieces h = cut_begun (rows_of v) v.word taken pieces s h
 
@@ -79,6 +80,7 @@ stands_cut Talking s v taken pieces a h = begun_cut (rows_of v) v.word taken pie
 stands_cut Arrived s v taken pieces a h = begun_cut (rows_of v) v.word taken pieces s a.0 (stands_begun Arrived s v taken pieces h)
 stands_cut (Passed key) s v taken pieces a h = begun_cut (rows_of v) v.word taken pieces s a (stands_begun (Passed key) s v taken pieces h)
 stands_cut Console s v taken pieces a h = begun_cut (rows_of v) v.word taken pieces s a (stands_begun Console s v taken pieces h)
+stands_cut (Cancelling key) s v taken pieces a h = begun_cut (rows_of v) v.word taken pieces s (subst IsPiece (sym a) tt) (stands_begun (Cancelling key) s v taken pieces h)
 stands_cut Stopped s v taken pieces a h = stopped_cut (rows_of v) v.word taken pieces s h
 stands_cut Gone s v taken pieces a h = h
 
@@ -117,6 +119,7 @@ heard_stands tell say old new taken bytes done (step.Passed key) t h = ended_on 
 heard_stands tell say old new taken bytes done step.Console t h = ended_on old new bytes (taken ++ bytes) _ _ step.Console h (say old new taken bytes done step.Console t h)
 heard_stands tell say old new taken bytes done (step.Refused r) t h = refused_stands old new taken bytes done r _ t h (say old new taken bytes done (step.Refused r) t h)
 heard_stands tell say old new taken bytes done (step.Failed f) t h = ended_on old new bytes (taken ++ bytes) _ _ (step.Failed f) h (say old new taken bytes done (step.Failed f) t h)
+heard_stands tell say old new taken bytes done (step.Cancel pid secret) t h = ended_on old new bytes (taken ++ bytes) _ _ (step.Cancel pid secret) h (say old new taken bytes done (step.Cancel pid secret) t h)
 heard_stands tell say old new taken bytes done step.Left t h = ended_on old new bytes (taken ++ bytes) _ _ step.Left h (say old new taken bytes done step.Left t h)
 
 arriving : (h : Awaiting) (key : _) → h ≡ Arriving key → IsArriving h
@@ -130,6 +133,7 @@ heard_awaits old new bytes (step.Passed key) h = tt
 heard_awaits old new bytes step.Console h = tt
 heard_awaits old new bytes (step.Refused r) h = tt
 heard_awaits old new bytes (step.Failed f) h = tt
+heard_awaits old new bytes (step.Cancel pid secret) h = refl
 heard_awaits old new bytes step.Left h = tt
 
 -- ---- what was said and given

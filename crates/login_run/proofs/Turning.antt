@@ -11,6 +11,7 @@ turned_write old new turn.Over h = inr (h.0, inr h.1)
 turned_write old new turn.Arrived h = absurd h
 turned_write old new turn.Passed h = absurd h
 turned_write old new turn.Console h = absurd h
+turned_write old new (turn.Cancel key) h = absurd h
 
 pub turned_read : (old new : RunView) (t : LoginTurn) → old.phase ≡ Talking → HasRead old new t → HasTurned old new t
 turned_read old new turn.Again e h = h
@@ -19,3 +20,4 @@ turned_read old new turn.Over e h = inr (h.0, inr h.1)
 turned_read old new turn.Arrived e h = absurd h
 turned_read old new turn.Passed e h = absurd h
 turned_read old new turn.Console e h = absurd h
+turned_read old new (turn.Cancel key) e h = absurd h

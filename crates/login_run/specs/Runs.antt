@@ -4,6 +4,7 @@ use Rattle.std.specs.declared.sync.Arc.{Arc}
 use Rattle.std.specs.Arc.{arc_value}
 use Rattle.message_view.specs.declared.KeyWord.{KeyWord}
 use Rattle.message_view.specs.declared.refusal.Refusal.TheVariants.{OutOfMemory}
+use Rattle.message_view.specs.declared.views.KeyView.{KeyView}
 use Rattle.message_view.specs.Refusals.{joined_pieces, refusal}
 use Rattle.session_values.specs.State.{StartKeyOf}
 use Rattle.link_laws.specs.Standing.{ClientFacts}
@@ -11,7 +12,7 @@ use Rattle.login_core.specs.declared.steps.LoginStep.{LoginStep}
 use Rattle.login_core.specs.declared.steps.LoginStep.TheVariants as step
 use Rattle.login_core.specs.Talk.{End}
 use Rattle.login_core.specs.Talk.End.{Passed as PassedWith, Stopped as StoppedFor}
-use Rattle.login_core.specs.Dialogue.{Rows, Way, ToLink, ToConsole, Reason, Refused as RefusedBy, Failed, Left, ok, login_among}
+use Rattle.login_core.specs.Dialogue.{Rows, Way, ToLink, ToConsole, Reason, Refused as RefusedBy, Failed, Left, Cancelling as CancellingOf, ok, login_among}
 use Rattle.login_core.specs.Logins.{Awaiting, Arriving, LoginView, rows_of, Tells, missing, question_bytes, failure_bytes}
 use Rattle.login_run.specs.declared.said.Said.{Said}
 use Rattle.login_run.specs.declared.said.Said.TheVariants as said
@@ -26,6 +27,7 @@ pub data PhaseOf : Type 0 where
   Arrived : PhaseOf
   Passed : StartKeyOf → PhaseOf
   Console : PhaseOf
+  Cancelling : KeyView → PhaseOf
   Stopped : PhaseOf
   Gone : PhaseOf
 
@@ -45,6 +47,7 @@ phase_of phase.Talking = Talking
 phase_of phase.Arrived = Arrived
 phase_of (phase.Passed key) = Passed (arc_value key)
 phase_of phase.Console = Console
+phase_of (phase.Cancelling key) = Cancelling key
 phase_of phase.Stopped = Stopped
 phase_of phase.Gone = Gone
 
@@ -82,6 +85,7 @@ phase_after (step.Passed key) = Passed (arc_value key)
 phase_after step.Console = Console
 phase_after (step.Refused r) = Stopped
 phase_after (step.Failed f) = Stopped
+phase_after (step.Cancel pid secret) = Cancelling (record { pid = pid; secret = secret })
 phase_after step.Left = Stopped
 
 abbrev pub said_after : LoginStep → Said
@@ -92,6 +96,7 @@ said_after (step.Passed key) = said.LetIn
 said_after step.Console = said.Nothing
 said_after (step.Refused r) = said.Refusal r
 said_after (step.Failed f) = said.Failure f
+said_after (step.Cancel pid secret) = said.Nothing
 said_after step.Left = said.Nothing
 
 -- ---- what it keeps
@@ -124,6 +129,7 @@ StandsAt Talking s v taken pieces = Tells v taken pieces
 StandsAt Arrived s v taken pieces = Tells v taken pieces
 StandsAt (Passed key) s v taken pieces = HasEnded (rows_of v) v.word taken pieces (λ more. PassedWith (ToLink key) more)
 StandsAt Console s v taken pieces = HasEnded (rows_of v) v.word taken pieces (λ more. PassedWith ToConsole more)
+StandsAt (Cancelling key) s v taken pieces = HasEnded (rows_of v) v.word taken pieces (λ more. StoppedFor (CancellingOf key))
 StandsAt Stopped s v taken pieces = IsStopped (rows_of v) v.word taken pieces s
 StandsAt Gone s v taken pieces = IsCutOff (rows_of v) v.word taken pieces s
 
@@ -146,6 +152,7 @@ Awaits Talking s v = IsPiece s × (0 < missing v.awaiting v.held)
 Awaits Arrived s v = IsPiece s × IsArriving v.awaiting
 Awaits (Passed key) s v = IsPiece s
 Awaits Console s v = IsPiece s
+Awaits (Cancelling key) s v = s ≡ said.Nothing
 Awaits _ s v = Unit {0}
 
 abbrev pub IsRun : RunView → Type 0
@@ -195,6 +202,7 @@ HasTurned old new turn.Wait = (new.client.read_waits + new.client.write_waits �
 HasTurned old new turn.Arrived = (new.phase ≡ Arrived) × IsAllGiven new
 HasTurned old new turn.Passed = HasPassed new.phase × IsAllGiven new
 HasTurned old new turn.Console = (new.phase ≡ Console) × IsAllGiven new
+HasTurned old new (turn.Cancel key) = (new.phase ≡ Cancelling key) × IsAllGiven new
 HasTurned old new turn.Over = ((new.phase ≡ Stopped) × IsAllGiven new) ⊎ ((new.phase ≡ Gone) × ((old.phase ≡ Gone) ⊎ IsClientOver old.client new.client))
 
 -- the key of a client that was let in

@@ -1,5 +1,5 @@
 //! Laws of logins over clients' ends, each the contract of a function that does nothing: a caller that needs a law calls its function.
-ghost use Rattle.login_run.specs.Laws.{PassedRunsAreLetIn, PassedRunsHavePassed, RunsAreAllowed, RunsStandAtPieces};
+ghost use Rattle.login_run.specs.Laws.{CancellingRunsHaveAsked, PassedRunsAreLetIn, PassedRunsHavePassed, RunsAreAllowed, RunsStandAtPieces};
 
 use login_core::laws::login_is_of_its_row;
 
@@ -27,4 +27,10 @@ pub fn passed_runs_are_let_in()
 /// The login passed with the key of a client that was let in, whether its end tells or not.
 pub fn passed_runs_have_passed()
     ensures { PassedRunsHavePassed }
+{}
+
+/// The login of a client that asks to cancel has heard a CancelRequest with this key, whether its end tells or not, and nothing was
+/// said to it.
+pub fn cancelling_runs_have_asked()
+    ensures { CancellingRunsHaveAsked }
 {}

@@ -10,6 +10,7 @@ ghost use Rattle.login_run.specs.Runs.{IsRun, IsSameLogin, IsAllGiven, HasTurned
 use crate::said::Said;
 use login_core::laws::{new_tells, steps_say, steps_tell};
 use login_core::{Login, LoginStep};
+use message_view::KeyView;
 use server_end::{ClientEnd, Moved, rest_of};
 use start_keys::StartKey;
 use std::alloc::Global;
@@ -30,6 +31,8 @@ pub enum Phase {
     Passed(Arc<StartKey>),
     /// The client is let in to the console.
     Console,
+    /// The client asks to cancel what the client of this key is at. Nothing is said to it.
+    Cancelling(KeyView),
     /// The login said its last word.
     Stopped,
     /// The client's end ended or faulted.
@@ -49,6 +52,8 @@ pub enum LoginTurn {
     Passed,
     /// The client is let in to the console; it wasn't given AuthenticationOk yet.
     Console,
+    /// The client asks to cancel what the client of this key is at, and is to be closed without a byte.
+    Cancel(KeyView),
     /// The login is over: the client was given its last word, or its end ended or faulted.
     Over,
 }
@@ -102,6 +107,10 @@ fn after(step: LoginStep) -> (Phase, Said)
         LoginStep::Console => (Phase::Console, Said::Nothing),
         LoginStep::Refused(refusal) => (Phase::Stopped, Said::Refusal(refusal)),
         LoginStep::Failed(failure) => (Phase::Stopped, Said::Failure(failure)),
+        LoginStep::Cancel { pid, secret } => (
+            Phase::Cancelling(KeyView { pid, secret }),
+            Said::Nothing,
+        ),
         LoginStep::Left => (Phase::Stopped, Said::Nothing),
     }
 }
@@ -161,6 +170,7 @@ impl<C: ClientEnd> LoginRun<C> {
             Phase::Arrived => LoginTurn::Arrived,
             Phase::Passed(_) => LoginTurn::Passed,
             Phase::Console => LoginTurn::Console,
+            Phase::Cancelling(key) => LoginTurn::Cancel(*key),
             Phase::Stopped | Phase::Gone => LoginTurn::Over,
         }
     }

@@ -39,7 +39,7 @@ module _ {E : Type 0} where
   heard h (call.Take client) (reply.Queued before) = h
   heard h (call.Take client) (reply.Lend l) = record h { lease = Some (granted_lease l); last = Some (call.Take client) }
   heard h (call.Take client) (reply.Start n born evicted) = record h { lease = Some (record { number = n; born = born; stage = Granted }); last = Some (call.Take client) }
-  heard h (call.Keyed n client server) told = record (at_stage Keyed h) { last = Some (call.Keyed n client server) }
+  heard h (call.Keyed n client server) reply.Done = record (at_stage Keyed h) { last = Some (call.Keyed n client server) }
   heard h (call.EndLease n) reply.Reset = record (at_stage Ended h) { release = Some release.Reset; last = Some (call.EndLease n) }
   heard h (call.EndLease n) reply.Dispose = record h { release = Some release.Dispose; last = Some (call.EndLease n) }
   heard h (call.EndLease n) (reply.Refuse refusal back) = record h { release = Some release.Last; last = Some (call.EndLease n) }

@@ -98,7 +98,7 @@ pub(crate) fn heard<E: ServerEnd>(holder: Holder, call: Call, reply: &Reply<E>) 
         (Call::Take(_), Reply::Queued(_)) => holder,
         (Call::Take(_), Reply::Lend(link)) => with_lease(held, link.number(), link.born()),
         (Call::Take(_), Reply::Start { number, born, .. }) => with_lease(held, *number, *born),
-        (Call::Keyed { .. }, _) => at_stage(held, Stage::Keyed),
+        (Call::Keyed { .. }, Reply::Done) => at_stage(held, Stage::Keyed),
         (Call::EndLease(_), Reply::Reset) => at_stage(released(held, Release::Reset), Stage::Ended),
         (Call::EndLease(_), Reply::Dispose) => released(held, Release::Dispose),
         (Call::EndLease(_), Reply::Refuse(..)) => released(held, Release::Last),

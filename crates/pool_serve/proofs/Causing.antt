@@ -150,6 +150,7 @@ module _ (a b : Since) (p q before after : PassOf) (s : Spans a b p q before aft
   wider_end ending.Memory h = tt
   wider_end ending.Strange (inl h) = inl (s.stays h)
   wider_end ending.Strange (inr h) = inr (s.had h.0, wider_lost h.1)
+  wider_end ending.Last h = s.stays h
   wider_end ending.Unreached h = (s.had h.0, wider_lost h.1)
   wider_end (ending.Unstarted cause) h = (s.had h.0, wider_lost h.1)
   wider_end (ending.Relayed r) h = s.had h
@@ -236,6 +237,7 @@ relayed_traces link g before after p q ending.Memory x s = tt
 relayed_traces link g before after p q ending.Left x s = absurd x
 relayed_traces link g before after p q (ending.Refused r) x s = absurd x
 relayed_traces link g before after p q ending.Strange x s = absurd x
+relayed_traces link g before after p q ending.Last x s = absurd x
 relayed_traces link g before after p q ending.Unreached x s = absurd x
 relayed_traces link g before after p q (ending.Unstarted cause) x s = absurd x
 relayed_traces link g before after p q (ending.Managed r) x s = absurd x
@@ -247,6 +249,7 @@ unopened_traces home g p q ending.Memory x h = tt
 unopened_traces home g p q ending.Left x h = absurd x
 unopened_traces home g p q (ending.Refused r) x h = absurd x
 unopened_traces home g p q ending.Strange x h = absurd x
+unopened_traces home g p q ending.Last x h = absurd x
 unopened_traces home g p q (ending.Relayed r) x h = absurd x
 unopened_traces home g p q (ending.Managed r) x h = absurd x
 
@@ -265,6 +268,7 @@ unopened_fault home g limit bytes ending.Memory x = tt
 unopened_fault home g limit bytes ending.Left x = absurd x
 unopened_fault home g limit bytes (ending.Refused r) x = absurd x
 unopened_fault home g limit bytes ending.Strange x = absurd x
+unopened_fault home g limit bytes ending.Last x = absurd x
 unopened_fault home g limit bytes (ending.Relayed r) x = absurd x
 unopened_fault home g limit bytes (ending.Managed r) x = absurd x
 
@@ -368,6 +372,7 @@ module _ (p q : PassOf) where
   word_traces home v after (ending.Refused r) o c h = h.1
   word_traces home v after ending.Memory o c h = tt
   word_traces home v after ending.Strange o c h = tt
+  word_traces home v after ending.Last o c h = h
   word_traces home v after ending.Unreached o c h = h
   word_traces home v after (ending.Unstarted cause) o c h = cause_traces cause h
   word_traces home v after (ending.Managed r) o c h = absurd o

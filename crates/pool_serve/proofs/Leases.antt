@@ -10,9 +10,7 @@ use Rattle.link_desk.specs.Homes.{HomeOf, IsAtHome}
 use Rattle.link_desk.specs.Passes.{PassOf, one_granted, one_other, without_lease}
 use Rattle.login_core.specs.Logins.{LoginView}
 use Rattle.login_run.specs.Runs.{IsSameLogin, RunView}
-use Rattle.relay_core.specs.declared.relay.Returned.{Returned}
-use Rattle.relay_core.specs.declared.relay.Returned.TheVariants.{Unused, Used, Gone}
-use Rattle.pool_serve.specs.Backs.{GoesBack, IsBackOrLost}
+use Rattle.pool_serve.specs.Backs.{IsBackOrLost, IsFreed}
 use Rattle.pool_serve.specs.Causes.{AtAsking, AtLease, AtWait}
 use Rattle.pool_serve.specs.Endings.{Came, Frees, HasEnded, HasLeased, HasRelayed, IsUnopened, Traces, refusal_in}
 use Rattle.pool_serve.specs.Stays.{CameIn, IsGuestOf}
@@ -20,14 +18,8 @@ use Rattle.pool_serve.specs.declared.ending.Ending.{Ending}
 use Rattle.pool_serve.specs.declared.ending.Ending.TheVariants as ending
 use Rattle.pool_serve.specs.declared.logged_in.LoggedIn.{LoggedIn}
 use Rattle.pool_serve.proofs.Causing.{queued_traces}
+use Rattle.pool_serve.proofs.Freeing.{freed}
 use Rattle.pool_serve.proofs.Managing.{same_managed}
-
--- ---- a link that goes back
-
-pub back_or_lost : {E : Type 0} (r : Returned E) (h k : Holder) → GoesBack r h k → IsBackOrLost h k
-back_or_lost (Unused l) h k x = inl x
-back_or_lost (Used l) h k x = x
-back_or_lost (Gone lent cause) h k x = inr x
 
 -- ---- a lease that has begun
 
@@ -37,6 +29,7 @@ relayed_frees link g before after h k ending.Memory x b = inl b
 relayed_frees link g before after h k ending.Left x b = absurd x
 relayed_frees link g before after h k (ending.Refused r) x b = absurd x
 relayed_frees link g before after h k ending.Strange x b = absurd x
+relayed_frees link g before after h k ending.Last x b = absurd x
 relayed_frees link g before after h k ending.Unreached x b = absurd x
 relayed_frees link g before after h k (ending.Unstarted cause) x b = absurd x
 relayed_frees link g before after h k (ending.Managed r) x b = absurd x
@@ -47,6 +40,7 @@ relayed_came home link g before after ending.Memory x h k = x
 relayed_came home link g before after ending.Left x h k = absurd x
 relayed_came home link g before after (ending.Refused r) x h k = absurd x
 relayed_came home link g before after ending.Strange x h k = absurd x
+relayed_came home link g before after ending.Last x h k = absurd x
 relayed_came home link g before after ending.Unreached x h k = absurd x
 relayed_came home link g before after (ending.Unstarted cause) x h k = absurd x
 relayed_came home link g before after (ending.Managed r) x h k = absurd x
@@ -54,12 +48,13 @@ relayed_came home link g before after (ending.Managed r) x h k = absurd x
 -- ---- a link that wasn't started
 
 pub unopened_frees : (home : HomeOf) (g : LoggedIn) (h k : Holder) (e : Ending) → IsUnopened home g e → k ≡ without_lease call.StartFailed h → Frees h k e
-unopened_frees home g h k ending.Unreached x b = b
-unopened_frees home g h k (ending.Unstarted cause) x b = b
-unopened_frees home g h k ending.Memory x b = inr b
+unopened_frees home g h k ending.Unreached x b = freed call.StartFailed h k b
+unopened_frees home g h k (ending.Unstarted cause) x b = freed call.StartFailed h k b
+unopened_frees home g h k ending.Memory x b = inr (freed call.StartFailed h k b)
 unopened_frees home g h k ending.Left x b = absurd x
 unopened_frees home g h k (ending.Refused r) x b = absurd x
 unopened_frees home g h k ending.Strange x b = absurd x
+unopened_frees home g h k ending.Last x b = absurd x
 unopened_frees home g h k (ending.Relayed r) x b = absurd x
 unopened_frees home g h k (ending.Managed r) x b = absurd x
 
@@ -70,26 +65,28 @@ unopened_came home g c ending.Memory x = refl
 unopened_came home g c ending.Left x = absurd x
 unopened_came home g c (ending.Refused r) x = absurd x
 unopened_came home g c ending.Strange x = absurd x
+unopened_came home g c ending.Last x = absurd x
 unopened_came home g c (ending.Relayed r) x = absurd x
 unopened_came home g c (ending.Managed r) x = absurd x
 
 -- ---- behind a grant
 
 module _ (old h k : Holder) (client : h.client ≡ old.client) (refused : h.refused ≡ None) where
-  by_loss : (c : ℕ → Call) (e : Ending) → refusal_in e ≡ None → k ≡ without_lease c h → HasLeased old k e
-  by_loss c e none is = record { client = ap (λ (x : Holder). x.client) is ∙ client; lease = ap (λ (x : Holder). x.lease) is; refused = ap (λ (x : Holder). x.refused) is ∙ (refused ∙ sym none) }
+  by_freed : (c : ℕ → Call) (e : Ending) → refusal_in e ≡ None → IsFreed c h k → HasLeased old k e
+  by_freed c e none x = record { client = x.client ∙ client; lease = x.lease; refused = x.refused ∙ (refused ∙ sym none) }
 
   by_return : (e : Ending) → refusal_in e ≡ None → IsBackOrLost h k → HasLeased old k e
-  by_return e none (inl is) = by_loss call.GiveBack e none is
-  by_return e none (inr is) = by_loss call.Lost e none is
+  by_return e none (inl x) = by_freed call.GiveBack e none x
+  by_return e none (inr x) = by_freed call.Lost e none x
 
   pub leased_by : (e : Ending) → Frees h k e → HasLeased old k e
-  leased_by ending.Strange x = by_loss call.Lost ending.Strange refl x
-  leased_by ending.Unreached x = by_loss call.StartFailed ending.Unreached refl x
-  leased_by (ending.Unstarted cause) x = by_loss call.StartFailed (ending.Unstarted cause) refl x
+  leased_by ending.Strange x = by_freed call.Lost ending.Strange refl x
+  leased_by ending.Last x = by_freed call.Lost ending.Last refl x
+  leased_by ending.Unreached x = by_freed call.StartFailed ending.Unreached refl x
+  leased_by (ending.Unstarted cause) x = by_freed call.StartFailed (ending.Unstarted cause) refl x
   leased_by (ending.Relayed r) x = by_return (ending.Relayed r) refl x
   leased_by ending.Memory (inl x) = by_return ending.Memory refl x
-  leased_by ending.Memory (inr x) = by_loss call.StartFailed ending.Memory refl x
+  leased_by ending.Memory (inr x) = by_freed call.StartFailed ending.Memory refl x
   leased_by ending.Left x = absurd x
   leased_by (ending.Refused r) x = absurd x
   leased_by (ending.Managed r) x = absurd x
@@ -97,6 +94,7 @@ module _ (old h k : Holder) (client : h.client ≡ old.client) (refused : h.refu
 granted_traces : (p q : PassOf) (h k : Holder) (e : Ending) → Frees h k e → Traces AtLease (one_granted p) q e → Traces AtWait p q e
 granted_traces p q h k ending.Strange x (inl t) = inl t
 granted_traces p q h k ending.Strange x (inr t) = inr (omega (arith, t.0), t.1)
+granted_traces p q h k ending.Last x t = t
 granted_traces p q h k ending.Unreached x t = (omega (arith, t.0), t.1)
 granted_traces p q h k (ending.Unstarted cause) x t = (omega (arith, t.0), t.1)
 granted_traces p q h k (ending.Relayed r) x t = omega (arith, t)
@@ -121,6 +119,7 @@ came_in home v g before after ending.Left i x = tt
 came_in home v g before after (ending.Refused r) i x = tt
 came_in home v g before after ending.Memory i x = tt
 came_in home v g before after ending.Strange i x = tt
+came_in home v g before after ending.Last i x = tt
 came_in home v g before after ending.Unreached i x = tt
 came_in home v g before after (ending.Managed r) i x = absurd x
 
@@ -135,6 +134,7 @@ same_came home old new after ending.Left s x = tt
 same_came home old new after (ending.Refused r) s x = tt
 same_came home old new after ending.Memory s x = tt
 same_came home old new after ending.Strange s x = tt
+same_came home old new after ending.Last s x = tt
 same_came home old new after ending.Unreached s x = tt
 same_came home old new after (ending.Managed r) s x = λ t. same_managed old new after r s (x t)
 

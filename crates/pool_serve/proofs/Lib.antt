@@ -8,4 +8,6 @@ pub mod Logging
 pub mod Managing
 pub mod Giving
 pub mod Leases
+pub mod Freeing
 pub mod Pumping
+pub mod Cancelling

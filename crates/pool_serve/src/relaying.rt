@@ -6,7 +6,8 @@ ghost use Rattle.link_desk.specs.Homes.{IsAtHome};
 ghost use Rattle.relay_laws.specs.declared.Phase.TheVariants.{Running};
 ghost use Rattle.relay_laws.specs.Leases.{IsLease, Keeps, Place};
 ghost use Rattle.relay_laws.specs.Answers.{AtBorder, RefusedBy};
-ghost use Rattle.pool_serve.specs.Backs.{HasLease, IsBackOrLost};
+ghost use Rattle.pool_serve.specs.Backs.{IsBackOrLost};
+ghost use Rattle.pool_serve.specs.Cancels.{IsKeyed};
 ghost use Rattle.pool_serve.specs.Endings.{HasRelayed, refusal_at, refusal_told};
 ghost use Rattle.pool_serve.specs.Serving.{Serves, limit_of};
 ghost use Rattle.pool_serve.specs.Shares.{Ends};
@@ -68,7 +69,7 @@ impl<'a, D: LinkDesk, G: Gate<D::End>> Worker<'a, D, G> {
         link: CleanLink<D::End>,
     ) -> (C, Ending)
         requires home { IsAtHome D.home link }
-        requires own { HasLease (D.holder self.old.pass) link.number link.born }
+        requires keyed { IsKeyed (D.holder self.old.pass) link logged_in.now.word link.server_key }
         requires settings { AreWithinBounds logged_in.now.login.settings }
         ensures tells { (C.facts result.0).tells ≡ (C.facts client).tells }
         ensures share { Ends (D.told self.old.pass) (D.told self.new.pass) }

@@ -6,7 +6,7 @@ ghost use Rattle.login_core.specs.Logins.{AwaitsPacket};
 ghost use Rattle.login_run.specs.Runs.{Arrived, Console, IsAllGiven, IsSameLogin};
 ghost use Rattle.console_run.specs.Passing.{IsSameHolder};
 ghost use Rattle.link_desk.specs.Passes.{after_cancel, cancelling};
-ghost use Rattle.pool_serve.specs.Cancels.{HasAsked};
+ghost use Rattle.pool_serve.specs.Cancels.{IsPassedOn};
 ghost use Rattle.pool_serve.specs.Causes.{AtArrival, AtAsking};
 ghost use Rattle.pool_serve.specs.Endings.{HasEnded, HasLeased, Traces, refusal_in};
 ghost use Rattle.pool_serve.specs.Serving.{HasStopped, IsLoggedIn, LetsIn};
@@ -27,7 +27,7 @@ use login_laws::laws::{
     bounded_rows_are_lawful, passed_keys_are_link_keys, passed_keys_are_of_their_rows,
 };
 use login_run::laws::{
-    passed_runs_are_let_in, passed_runs_have_passed, runs_are_allowed, runs_stand_at_pieces,
+    cancelling_runs_have_asked, passed_runs_are_let_in, passed_runs_have_passed, runs_are_allowed, runs_stand_at_pieces,
 };
 use login_run::{LoginRun, LoginTurn};
 use message_view::{KeyView, KeyWord};
@@ -252,9 +252,10 @@ pub fn serve<C: ClientEnd, D: LinkDesk, G: Gate<D::End> + Drop>(
     ensures share { Settles (D.told pass) (D.told result.1) }
     ensures free { (D.holder result.1).client ≡ None }
     ensures none { (D.holder result.1).lease ≡ None }
-    ensures over { IsUntouched (D.told pass) (D.told result.1) (D.holder pass) (D.holder result.1) ⊎ HasAsked login (D.told pass) (D.told result.1) (D.holder pass) (D.holder result.1) (C.facts result.0) ⊎ IsOver D.home login (D.told pass) (D.told result.1) (D.holder result.1) (C.facts result.0) }
+    ensures over { IsUntouched (D.told pass) (D.told result.1) (D.holder pass) (D.holder result.1) ⊎ IsPassedOn login (D.told pass) (D.told result.1) (D.holder pass) (D.holder result.1) (C.facts result.0) ⊎ IsOver D.home login (D.told pass) (D.told result.1) (D.holder result.1) (C.facts result.0) }
 {
     runs_are_allowed();
+    cancelling_runs_have_asked();
     let mut gate = gate;
     let mut run = LoginRun::new(client, login);
     // a client that hasn't come yet takes no place in the book

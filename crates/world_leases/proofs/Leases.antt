@@ -1,9 +1,10 @@
 -- Events of the book, starts, returns and resets keep the relation, step by step.
-use Rattle.std.proofs.Common.{◌≡◌, ℕ, ◌≤◌, List, [], ◌∷◌, ◌++◌, ◌⊎◌, inl, inr, ⊎_elim, refl, sym, ap, ◌∙◌, subst, append_assoc, append-nil, arith, le_refl, le_trans, ◌<◌, Option, Some, None, Result, Ok, Err}
+use Rattle.std.proofs.Common.{◌≡◌, ℕ, ◌≤◌, Bool, length, List, [], ◌∷◌, ◌++◌, ◌⊎◌, inl, inr, ⊎_elim, refl, sym, ap, ◌∙◌, subst, append_assoc, append-nil, arith, le_refl, le_trans, ◌<◌, Option, Some, None, Result, Ok, Err}
 use Rattle.std.specs.Prelude.{map}
 use Rattle.std.specs.List.{flat_map}
 use Rattle.frame_view.specs.Frames.{spelling}
 use Rattle.message_view.specs.declared.KeyWord.{KeyWord}
+use Rattle.message_view.specs.declared.views.KeyView.{KeyView}
 use Rattle.message_view.specs.Refusals.{joined_pieces}
 use Rattle.session_values.specs.declared.cause.Cause.{Cause}
 use Rattle.session_values.specs.Errors.{fatal}
@@ -26,23 +27,19 @@ use Rattle.world_steps.specs.Links.Role.{Unborn, Promised, Lent, InReset, Clean,
 use Rattle.world_steps.specs.Steps.IsInHand.{in_reset}
 use Rattle.world_steps.proofs.Fronts.{front_nil, front_of}
 use Rattle.world_steps.proofs.Put.{put_case, put_all, after_link, IsServed}
-use Rattle.world_leases.proofs.Returns.{ok, settled_rests, reset_done, unsent}
+use Rattle.world_leases.proofs.Returns.{none_struck, ok, settled_rests, reset_done, unsent}
 use Rattle.world_steps.proofs.Keeps.{kept_number, number_was, change_link, change_pair, clients_pair, links_put, tickets_put, unborn_put, alone_promised, alone_idle, alone_unborn}
 use Rattle.world_steps.proofs.Steps.{fits_at, role_at, stays_away}
 use Rattle.world_steps.proofs.Changes.{numbered, in_phase, gets_start_error, in_role, at_clean_point}
 use Rattle.world_steps.specs.Clients.{Client, Phase, HasEnded}
 use Rattle.world_steps.specs.Links.{IsSettled, IsReset, Link, newborn}
-use Rattle.world_steps.specs.Relation.{IsLent, IsClean, RoleFits, InLogin, InQueue, InService, PhaseFits, TicketFits, Related}
+use Rattle.world_steps.specs.Relation.{IsLent, IsClean, RoleFits, InLogin, InQueue, InService, PhaseFits, TicketFits, AreRelated}
 use Rattle.world_steps.specs.Steps.{gone, promised, gets_link, IsInHand}
 use Rattle.world_steps.specs.Worlds.{World, put, with_client, with_link, with_pair, with_book}
 use Rattle.book_model.specs.Book.{Book}
 use Rattle.book_model.specs.Outcomes.{Answer, Event, apply, apply_return}
 use Rattle.book_model.specs.declared.events.Reply.{Reply}
 use Rattle.book_model.specs.Laws.{IsPlain, PlainEventsAddNothing, ArrivalsNumber, AsksQueue, TakesLend, TakesStart, TakesEvict, ReturnsAdd, ReturnsClose, TicksClose, AddsNothing, StartsNothing, Lends, Starts, Drops, Numbers}
-use Rattle.world_steps.specs.Laws.{BookStepsKeep, LinkStepsKeep}
-use Rattle.world_steps.specs.Steps.{Gives}
-use Rattle.world_steps.specs.Steps.BookStep.{plain_event, arrives, asks, is_lent, is_promised, is_promised_for, gives_back, gives_back_too_late, tick_closes}
-use Rattle.world_steps.specs.Steps.LinkStep.{starts, start_fails, returns_unused, returns_used, ends_reset, disposes_lent, disposes_promised, disposes}
 
 -- two different roles
 lent_idle : {A : Type 0} (c : ℕ) → Lent c ≡ Idle → A
@@ -83,24 +80,24 @@ clean_unborn e = absurd (go e)
 
 -- ---- book events
 
-pub step_keeps : (w : World) (b : Book) → Related w → StartsNothing w.book b → Related (with_book w b)
-step_keeps w b r k = record {
+pub step_keeps : (w : World) (b : Book) → AreRelated w → AddsNothing w.book b → b.next_link ≡ w.book.next_link → AreRelated (with_book w b)
+step_keeps w b r k same = record {
   lawful = r.lawful;
   clients = r.clients;
   links = r.links;
-  idle = λ n key h. r.idle n key (k.adds_nothing.idle n key h);
-  unborn = λ n le. r.unborn n (subst (λ (m : ℕ). m ≤ n) k.next_link le);
-  tickets = λ n key h. r.tickets n key (k.adds_nothing.tickets n key h);
+  idle = λ n key h. r.idle n key (k.idle n key h);
+  unborn = λ n le. r.unborn n (subst (λ (m : ℕ). m ≤ n) same le);
+  tickets = λ n key h. r.tickets n key (k.tickets n key h);
   numbers = r.numbers;
-  counted = λ c n p. le_trans (r.counted c n p) k.adds_nothing.next_client;
-  tickets_counted = λ n key h. le_trans (r.tickets_counted n key (k.adds_nothing.tickets n key h)) k.adds_nothing.next_client;
+  counted = λ c n p. le_trans (r.counted c n p) k.next_client;
+  tickets_counted = λ n key h. le_trans (r.tickets_counted n key (k.tickets n key h)) k.next_client;
 }
 
-pub step_plain : PlainEventsAddNothing → (w : World) (e : Event) (r : Reply) → Related w → IsPlain e r → (apply w.book e).reply ≡ r → Related (with_book w (apply w.book e).book)
-step_plain plain w e r h p q = step_keeps w (apply w.book e).book h (plain w.book e r p q)
+pub step_plain : PlainEventsAddNothing → (w : World) (e : Event) (r : Reply) → AreRelated w → IsPlain e r → (apply w.book e).reply ≡ r → AreRelated (with_book w (apply w.book e).book)
+step_plain plain w e r h p q = let k = plain w.book e r p q in step_keeps w (apply w.book e).book h k.adds_nothing k.next_link
 
-pub step_arrives : ArrivalsNumber → (w : World) (c n : ℕ) (read : List ℕ) → Related w → (w.clients c).phase ≡ LoggingIn read → (w.clients c).number ≡ None → (apply w.book Arrive).reply ≡ Arrived n →
-    Related (with_book (with_client w c (numbered (w.clients c) n)) (apply w.book Arrive).book)
+pub step_arrives : ArrivalsNumber → (w : World) (c n : ℕ) (read : List ℕ) → AreRelated w → (w.clients c).phase ≡ LoggingIn read → (w.clients c).number ≡ None → (apply w.book Arrive).reply ≡ Arrived n →
+    AreRelated (with_book (with_client w c (numbered (w.clients c) n)) (apply w.book Arrive).book)
 step_arrives numbers w c n read r e none reply =
     let k = numbers w.book n reply in
     let x = numbered (w.clients c) n in
@@ -119,7 +116,7 @@ step_arrives numbers w c n read r e none reply =
     }
   where
     same_login : InLogin read (w.clients c) → InLogin read (numbered (w.clients c) n)
-    same_login h = record { lawful_row = h.lawful_row; sent_is = h.sent_is; told = h.told; quiet = h.quiet }
+    same_login h = record { lawful_row = h.lawful_row; sent_is = h.sent_is; told = h.told; quiet = h.quiet; unstruck = h.unstruck }
 
     some_same : {i j : ℕ} → ◌≡◌ {A = Option ℕ} (Some i) (Some j) → i ≡ j
     some_same p = cc
@@ -139,7 +136,7 @@ step_arrives numbers w c n read r e none reply =
     both k d f m (inr p) (inl q) = let a = r.counted d m p in let i = k.number in let j = q.1 in absurd (omega arith)
     both k d f m (inr p) (inr q) = r.numbers d f m p q
 
-pub step_asks : AsksQueue → (w : World) (c m : ℕ) (key : StartKeyOf) → Related w → (w.clients c).phase ≡ Waiting key → (w.clients c).number ≡ Some m → Related (with_book w (apply w.book (Ask m key)).book)
+pub step_asks : AsksQueue → (w : World) (c m : ℕ) (key : StartKeyOf) → AreRelated w → (w.clients c).phase ≡ Waiting key → (w.clients c).number ≡ Some m → AreRelated (with_book w (apply w.book (Ask m key)).book)
 step_asks asks_queue w c m key r e num =
     let k = asks_queue w.book m key in
     record {
@@ -167,6 +164,7 @@ clean_lent_out {cat} {y} c h = record {
   runs = record {
     taken = [];
     are_sent = tt;
+    marked = ap (λ (marks : List Bool). length marks) h.struck;
     sent_is = h.sent ∙ sym h.inbox;
     session_is = refl;
     told = front_of quiet;
@@ -178,8 +176,8 @@ clean_lent_out {cat} {y} c h = record {
     quiet = ap (λ (l : List ℕ). l ++ y.outbox) h.received ∙ h.outbox
 
 -- a client that waits gets a link with nothing sent or received
-begins_service : {cat : CatalogueOf} {key : StartKeyOf} {x : Client} (y : Link) (l : ℕ) (s : State) → InQueue key x → y.key ≡ key → fresh cat key ≡ Ok s → y.sent ≡ [] → y.received ≡ [] → InService cat (gets_link x l s) y
-begins_service {cat} {key} {x} y l s h k f none silent =
+begins_service : {cat : CatalogueOf} {key : StartKeyOf} {x : Client} (y : Link) (l : ℕ) (s : State) → InQueue key x → y.key ≡ key → fresh cat key ≡ Ok s → y.sent ≡ [] → y.received ≡ [] → y.struck ≡ [] → InService cat (gets_link x l s) y
+begins_service {cat} {key} {x} y l s h k f none silent unstruck =
     let hello : List ℕ = flat_map spelling (welcome s x.word.pid x.word.secret) in
     record {
       base = s;
@@ -188,11 +186,12 @@ begins_service {cat} {key} {x} y l s h k f none silent =
       told = sym (append_assoc x.out x.for_client hello) ∙ ap (λ (b : List ℕ). b ++ hello) h.told
           ∙ ap (λ (b : List ℕ). joined_pieces (login x.row x.word x.sent).pieces ++ b) (sym (append-nil hello) ∙ ap (λ (b : List ℕ). hello ++ b) (sym silent));
       quiet = h.quiet;
+      struck = h.unstruck ∙ sym unstruck;
     }
 
-pub step_is_lent : TakesLend → (w : World) (c m l : ℕ) (key : StartKeyOf) (s : State) → Related w →
+pub step_is_lent : TakesLend → (w : World) (c m l : ℕ) (key : StartKeyOf) (s : State) → AreRelated w →
     (w.clients c).phase ≡ Waiting key → (w.clients c).number ≡ Some m → (apply w.book (Take m)).reply ≡ Lend l → fresh (w.catalogue (address_of key)) key ≡ Ok s →
-    Related (with_book (with_pair w c (gets_link (w.clients c) l s) l (in_role (w.links l) (Lent c))) (apply w.book (Take m)).book)
+    AreRelated (with_book (with_pair w c (gets_link (w.clients c) l s) l (in_role (w.links l) (Lent c))) (apply w.book (Take m)).book)
 step_is_lent lends w c m l key s r e num reply f =
     let k = lends w.book m l reply in
     let h = fits_at c (Waiting key) r e in
@@ -204,23 +203,23 @@ step_is_lent lends w c m l key s r e num reply f =
     record {
       lawful = r.lawful;
       clients = clients_pair w c x l y r (alone_idle c i.0)
-          (put_case (λ z. IsServed w.catalogue c x z) w.links l y l (λ _. (begins_service {cat = w.catalogue (address_of (w.links l).key)} y l s h same (ap (λ (q : StartKeyOf). fresh (w.catalogue (address_of q)) key) same ∙ f) clean.sent clean.received, refl)) (λ ne. absurd (ne refl)));
+          (put_case (λ z. IsServed w.catalogue c x z) w.links l y l (λ _. (begins_service {cat = w.catalogue (address_of (w.links l).key)} y l s h same (ap (λ (q : StartKeyOf). fresh (w.catalogue (address_of q)) key) same ∙ f) clean.sent clean.received clean.struck, refl)) (λ ne. absurd (ne refl)));
       links = links_put w.catalogue w.links l y (clean_lent_out c clean) r.links;
-      idle = λ n q h. put_case (λ z. (z.role ≡ Idle) × (z.key ≡ q)) w.links l y n (λ g. absurd (k.not_idle n q h g)) (λ _. r.idle n q (k.starts_nothing.adds_nothing.idle n q h));
-      unborn = λ n le. unborn_put w.links l y n (λ u. idle_unborn (sym i.0 ∙ u)) (r.unborn n (subst (λ (i : ℕ). i ≤ n) k.starts_nothing.next_link le));
-      tickets = λ n q i. tickets_put w.clients c x n q (kept_number _ _ refl) (λ _ _. tt) (r.tickets n q (k.starts_nothing.adds_nothing.tickets n q i));
+      idle = λ n q h. put_case (λ z. (z.role ≡ Idle) × (z.key ≡ q)) w.links l y n (λ g. absurd (k.not_idle n q h g)) (λ _. r.idle n q (k.adds_nothing.idle n q h));
+      unborn = λ n le. unborn_put w.links l y n (λ u. idle_unborn (sym i.0 ∙ u)) (r.unborn n (subst (λ (i : ℕ). i ≤ n) k.next_link le));
+      tickets = λ n q i. tickets_put w.clients c x n q (kept_number _ _ refl) (λ _ _. tt) (r.tickets n q (k.adds_nothing.tickets n q i));
       numbers = λ d f n p q. r.numbers d f n (number_was w.clients c x (kept_number _ _ refl) d n p) (number_was w.clients c x (kept_number _ _ refl) f n q);
-      counted = λ d n p. le_trans (r.counted d n (number_was w.clients c x (kept_number _ _ refl) d n p)) k.starts_nothing.adds_nothing.next_client;
-      tickets_counted = λ n q i. le_trans (r.tickets_counted n q (k.starts_nothing.adds_nothing.tickets n q i)) k.starts_nothing.adds_nothing.next_client;
+      counted = λ d n p. le_trans (r.counted d n (number_was w.clients c x (kept_number _ _ refl) d n p)) k.adds_nothing.next_client;
+      tickets_counted = λ n q i. le_trans (r.tickets_counted n q (k.adds_nothing.tickets n q i)) k.adds_nothing.next_client;
     }
   where
     of_ticket : (k : Lends w.book m l (apply w.book (Take m)).book) → k.key ≡ key
     of_ticket k = subst (λ (p : Phase). TicketFits k.key p) e (r.tickets m k.key k.has_ticket c num)
 
 -- a link number is promised, in a world whose book then changes so
-promise : (w : World) (b : Book) (c l : ℕ) (key : StartKeyOf) → Related w → (w.clients c).phase ≡ Waiting key → Starts w.book l b →
-    Related (with_book (promised w c l key) b)
-promise w b c l key r e k =
+promise : (w : World) (b : Book) (c m l : ℕ) (key : StartKeyOf) → AreRelated w → (w.clients c).phase ≡ Waiting key → Starts w.book m l b →
+    AreRelated (with_book (promised w c l key) b)
+promise w b c m l key r e k =
     let h = fits_at c (Waiting key) r e in
     let unborn : (w.links l).role ≡ Unborn = r.unborn l (subst (λ (m : ℕ). w.book.next_link ≤ m) (sym k.number) (le_refl w.book.next_link)) in
     let x = in_phase (w.clients c) (Starting key l) in
@@ -228,7 +227,7 @@ promise w b c l key r e k =
     record {
       lawful = r.lawful;
       clients = clients_pair w c x l y r (alone_unborn c unborn)
-          (record { lawful_key = h.lawful_key; passed = h.passed; told = h.told; quiet = h.quiet }, put_case (λ z. z.role ≡ Promised c) w.links l y l (λ _. refl) (λ ne. absurd (ne refl)));
+          (record { lawful_key = h.lawful_key; passed = h.passed; told = h.told; quiet = h.quiet; unstruck = h.unstruck }, put_case (λ z. z.role ≡ Promised c) w.links l y l (λ _. refl) (λ ne. absurd (ne refl)));
       links = links_put w.catalogue w.links l y tt r.links;
       idle = λ n q m. let i = r.idle n q (k.adds_nothing.idle n q m) in
           put_case (λ z. (z.role ≡ Idle) × (z.key ≡ q)) w.links l y n (λ g. idle_unborn (sym i.0 ∙ ap (λ (j : ℕ). (w.links j).role) g ∙ unborn)) (λ _. i);
@@ -245,13 +244,13 @@ promise w b c l key r e k =
     before : (n : ℕ) → b.next_link ≤ n → w.book.next_link ≤ n
     before n le = let d = k.next_link in omega arith
 
-pub step_is_promised : TakesStart → (w : World) (c m l born : ℕ) (key : StartKeyOf) → Related w → (w.clients c).phase ≡ Waiting key → (w.clients c).number ≡ Some m → (apply w.book (Take m)).reply ≡ Start l born None →
-    Related (with_book (promised w c l key) (apply w.book (Take m)).book)
-step_is_promised begins w c m l born key r e num reply = promise w (apply w.book (Take m)).book c l key r e (begins w.book m l born reply)
+pub step_is_promised : TakesStart → (w : World) (c m l born : ℕ) (key : StartKeyOf) → AreRelated w → (w.clients c).phase ≡ Waiting key → (w.clients c).number ≡ Some m → (apply w.book (Take m)).reply ≡ Start l born None →
+    AreRelated (with_book (promised w c l key) (apply w.book (Take m)).book)
+step_is_promised begins w c m l born key r e num reply = promise w (apply w.book (Take m)).book c m l key r e (begins w.book m l born reply)
 
 -- an idle link that the book dropped is closed
-drops_idle : (w : World) (b : Book) (l : ℕ) → Related w → AddsNothing w.book b → (n : ℕ) → b.next_link ≡ n → ((m : ℕ) → n ≤ m → w.book.next_link ≤ m) → Drops w.book l b →
-    Related (with_book (gone w l) b)
+drops_idle : (w : World) (b : Book) (l : ℕ) → AreRelated w → AddsNothing w.book b → (n : ℕ) → b.next_link ≡ n → ((m : ℕ) → n ≤ m → w.book.next_link ≤ m) → Drops w.book l b →
+    AreRelated (with_book (gone w l) b)
 drops_idle w b l r k n is le d =
     let i = r.idle l d.key d.was_idle in
     record {
@@ -270,29 +269,48 @@ drops_idle w b l r k n is le d =
     promised_idle : (c : ℕ) → Promised c ≡ Idle → ⊥
     promised_idle c p = cc
 
-pub step_tick_closes : TicksClose → (w : World) (now l : ℕ) → Related w → (apply w.book (Tick now)).reply ≡ Close l → Related (with_book (gone w l) (apply w.book (Tick now)).book)
+pub step_tick_closes : TicksClose → (w : World) (now l : ℕ) → AreRelated w → (apply w.book (Tick now)).reply ≡ Close l → AreRelated (with_book (gone w l) (apply w.book (Tick now)).book)
 step_tick_closes tick w now l r e =
     let k = tick w.book now l e in
     drops_idle w (apply w.book (Tick now)).book l r k.0.adds_nothing w.book.next_link k.0.next_link (λ m h. h) k.1
 
-pub step_is_promised_for : TakesEvict → (w : World) (c m l born old : ℕ) (key : StartKeyOf) → Related w → (w.clients c).phase ≡ Waiting key → (w.clients c).number ≡ Some m → (apply w.book (Take m)).reply ≡ Start l born (Some old) →
-    Related (with_book (promised (gone w old) c l key) (apply w.book (Take m)).book)
+-- the book before the start, without the link that it evicts
+abbrev pub evicting : Book → Book → Book
+evicting old new = record old { idle = new.idle }
+
+pub step_evicts : (w : World) (new : Book) (m l old : ℕ) → AreRelated w → Starts w.book m l new → Drops w.book old new → AreRelated (with_book (gone w old) (evicting w.book new))
+step_evicts w new m l old r k d =
+    drops_idle w (evicting w.book new) old r (record { next_client = le_refl w.book.next_client; idle = k.adds_nothing.idle; tickets = λ n q h. h }) w.book.next_link refl (λ n h. h)
+    (record { key = d.key; was_idle = d.was_idle; not_idle = d.not_idle })
+
+pub starts_on : {old new : Book} {m l : ℕ} → Starts old m l new → Starts (evicting old new) m l new
+starts_on k = record {
+  key = k.key;
+  has_ticket = k.has_ticket;
+  number = k.number;
+  next_link = k.next_link;
+  adds_nothing = record { next_client = k.adds_nothing.next_client; idle = λ n q h. h; tickets = k.adds_nothing.tickets };
+  lends_one = record {
+    lent = k.lends_one.lent;
+    leases = k.lends_one.leases;
+    may_return = λ n h. ⊎_elim (λ p. inl (record { key = p.key; is_lent = p.is_lent; unmarked = p.unmarked })) (λ p. inr p) (k.lends_one.may_return n h);
+  };
+}
+
+pub step_is_promised_for : TakesEvict → (w : World) (c m l born old : ℕ) (key : StartKeyOf) → AreRelated w → (w.clients c).phase ≡ Waiting key → (w.clients c).number ≡ Some m → (apply w.book (Take m)).reply ≡ Start l born (Some old) →
+    AreRelated (with_book (promised (gone w old) c l key) (apply w.book (Take m)).book)
 step_is_promised_for evicts w c m l born old key r e num reply =
     let k = evicts w.book m l born old reply in
     let new = (apply w.book (Take m)).book in
-    let middle : Book = record w.book { idle = new.idle } in
-    let first = drops_idle w middle old r (record { next_client = le_refl w.book.next_client; idle = k.0.adds_nothing.idle; tickets = λ n q h. h }) w.book.next_link refl (λ m h. h)
-    (record { key = k.1.key; was_idle = k.1.was_idle; not_idle = k.1.not_idle }) in
-    promise (with_book (gone w old) middle) new c l key first e
-    (record { number = k.0.number; next_link = k.0.next_link; adds_nothing = record { next_client = k.0.adds_nothing.next_client; idle = λ n q h. h; tickets = k.0.adds_nothing.tickets } })
+    promise (with_book (gone w old) (evicting w.book new)) new c m l key (step_evicts w new m l old r k.0 k.1) e (starts_on k.0)
 
-pub step_gives_back : ReturnsAdd → (w : World) (l born : ℕ) → Related w → (w.links l).role ≡ Clean → (apply_return w.book l (w.links l).key born).reply ≡ Done →
-    Related (with_book (with_link w l (in_role (w.links l) Idle)) (apply_return w.book l (w.links l).key born).book)
+pub step_gives_back : ReturnsAdd → (w : World) (l born : ℕ) → AreRelated w → (w.links l).role ≡ Clean → (apply_return w.book l (w.links l).key born).reply ≡ Done →
+    AreRelated (with_book (with_link w l (in_role (w.links l) Idle)) (apply_return w.book l (w.links l).key born).book)
 step_gives_back adds w l born r e reply =
     let k = adds w.book l (w.links l).key born reply in
     let clean = role_at l Clean r e in
     let y = in_role (w.links l) Idle in
-    let s = change_link w l y r (record { is_fresh = clean.is_fresh; lawful_key = clean.lawful_key; inbox = clean.inbox; outbox = clean.outbox; sent = clean.sent; received = clean.received })
+    let s = change_link w l y r (record { is_fresh = clean.is_fresh; lawful_key = clean.lawful_key; inbox = clean.inbox; outbox = clean.outbox; sent = clean.sent; received = clean.received; undue = clean.undue; struck = clean.struck })
     (λ d _ f. clean_lent d (sym e ∙ f.1)) (λ d _ _ f. clean_promised d (sym e ∙ f)) (λ f. clean_idle (sym e ∙ f)) (λ f. clean_unborn (sym e ∙ f)) in
     record {
       lawful = r.lawful;
@@ -307,27 +325,28 @@ step_gives_back adds w l born r e reply =
       tickets_counted = λ n q h. subst (λ (i : ℕ). n < i) (sym k.next_client) (s.tickets_counted n q (k.tickets n q h));
     }
 
-pub step_gives_back_too_late : ReturnsClose → (w : World) (l n born : ℕ) → Related w → (w.links l).role ≡ Clean → (apply_return w.book l (w.links l).key born).reply ≡ Close n →
-    Related (with_book (gone w l) (apply_return w.book l (w.links l).key born).book)
+pub step_gives_back_too_late : ReturnsClose → (w : World) (l n born : ℕ) → AreRelated w → (w.links l).role ≡ Clean → (apply_return w.book l (w.links l).key born).reply ≡ Close n →
+    AreRelated (with_book (gone w l) (apply_return w.book l (w.links l).key born).book)
 step_gives_back_too_late closes w l n born r e reply =
+    let k = closes w.book l n (w.links l).key born reply in
     step_keeps (gone w l) (apply_return w.book l (w.links l).key born).book
     (change_link w l (in_role (w.links l) Gone) r tt (λ d _ f. clean_lent d (sym e ∙ f.1)) (λ d _ _ f. clean_promised d (sym e ∙ f)) (λ f. clean_idle (sym e ∙ f)) (λ f. clean_unborn (sym e ∙ f)))
-    (closes w.book l n (w.links l).key born reply)
+    k.adds_nothing k.next_link
 
 -- ---- starts
 
-newborn_lent : {cat : CatalogueOf} {c : ℕ} {key : StartKeyOf} {s : State} → fresh cat key ≡ Ok s → IsLawfulKey key → IsLent cat (newborn c key s)
+newborn_lent : {cat : CatalogueOf} {c : ℕ} {key : StartKeyOf} {own : KeyView} {s : State} → fresh cat key ≡ Ok s → IsLawfulKey key → IsLent cat (newborn c key own s)
 unfolding run_frames
-newborn_lent {cat} {c} {key} {s} f k = record { base = s; is_fresh = f; lawful_key = k; runs = record { taken = []; are_sent = tt; sent_is = refl; session_is = refl; told = front_nil []; all_told = λ _. refl } }
+newborn_lent {cat} {c} {key} {own} {s} f k = record { base = s; is_fresh = f; lawful_key = k; runs = record { taken = []; are_sent = tt; marked = refl; sent_is = refl; session_is = refl; told = front_nil []; all_told = λ _. refl } }
 
-pub step_starts : (w : World) (c l : ℕ) (key : StartKeyOf) (s : State) → Related w → (w.clients c).phase ≡ Starting key l → fresh (w.catalogue (address_of key)) key ≡ Ok s →
-    Related (with_pair w c (gets_link (w.clients c) l s) l (newborn c key s))
-step_starts w c l key s r e f =
+pub step_starts : (w : World) (c l : ℕ) (key : StartKeyOf) (own : KeyView) (s : State) → AreRelated w → (w.clients c).phase ≡ Starting key l → fresh (w.catalogue (address_of key)) key ≡ Ok s →
+    AreRelated (with_pair w c (gets_link (w.clients c) l s) l (newborn c key own s))
+step_starts w c l key own s r e f =
     let h = fits_at c (Starting key l) r e in
     let x = gets_link (w.clients c) l s in
-    let y = newborn c key s in
+    let y = newborn c key own s in
     change_pair w c x l y r (alone_promised h.1)
-    (put_case (λ z. IsServed w.catalogue c x z) w.links l y l (λ _. (begins_service y l s h.0 refl f refl refl, refl)) (λ ne. absurd (ne refl)))
+    (put_case (λ z. IsServed w.catalogue c x z) w.links l y l (λ _. (begins_service y l s h.0 refl f refl refl refl, refl)) (λ ne. absurd (ne refl)))
     (newborn_lent f h.0.lawful_key)
     (kept_number _ _ refl) (λ _ _. tt) (λ i. absurd (promised_idle (sym h.1 ∙ i))) (λ i. absurd (promised_unborn (sym h.1 ∙ i)))
   where
@@ -338,13 +357,13 @@ step_starts w c l key s r e f =
     promised_unborn p = cc
 
 -- the service of a client whose server refuses its start
-after_refused : (catalogue : Address → CatalogueOf) (word : KeyWord) (o : End Way Reason) (key : StartKeyOf) (left : List ℕ) (cause : Cause) → o ≡ Passed (ToLink key) left → fresh (catalogue (address_of key)) key ≡ Err cause →
-    after_in catalogue word [] o ≡ spelling (fatal cause) ∷ []
-after_refused catalogue word o key left cause e f =
-    ap (after_in catalogue word []) e ∙ ap (λ (r : Result State Cause). map spelling (served (catalogue (address_of key)) r word.pid word.secret [] (client_frames left))) f
+after_refused : (catalogue : Address → CatalogueOf) (word : KeyWord) (marks : List Bool) (o : End Way Reason) (key : StartKeyOf) (left : List ℕ) (cause : Cause) → o ≡ Passed (ToLink key) left → fresh (catalogue (address_of key)) key ≡ Err cause →
+    after_in catalogue word marks o ≡ spelling (fatal cause) ∷ []
+after_refused catalogue word marks o key left cause e f =
+    ap (after_in catalogue word marks) e ∙ ap (λ (r : Result State Cause). map spelling (served (catalogue (address_of key)) r word.pid word.secret marks (client_frames left))) f
 
-pub step_start_fails : StartErrorIsFrame → (w : World) (c l : ℕ) (key : StartKeyOf) (cause : Cause) → Related w → (w.clients c).phase ≡ Starting key l → fresh (w.catalogue (address_of key)) key ≡ Err cause →
-    Related (with_pair w c (gets_start_error (w.clients c) (spelling (fatal cause))) l (in_role (w.links l) Gone))
+pub step_start_fails : StartErrorIsFrame → (w : World) (c l : ℕ) (key : StartKeyOf) (cause : Cause) → AreRelated w → (w.clients c).phase ≡ Starting key l → fresh (w.catalogue (address_of key)) key ≡ Err cause →
+    AreRelated (with_pair w c (gets_start_error (w.clients c) (spelling (fatal cause))) l (in_role (w.links l) Gone))
 step_start_fails error w c l key cause r e f =
     let h = fits_at c (Starting key l) r e in
     let x = w.clients c in
@@ -353,7 +372,7 @@ step_start_fails error w c l key cause r e f =
     (record {
       frames = fatal cause ∷ [];
       are_frames = (error cause, tt);
-      first = front_of (sym (after_refused w.catalogue x.word (login x.row x.word x.sent).ended key (x.for_link ++ x.unread) cause h.0.passed f));
+      first = front_of (sym (after_refused w.catalogue x.word x.struck (login x.row x.word x.sent).ended key (x.for_link ++ x.unread) cause h.0.passed f));
       told = front_of (sym (append_assoc x.out x.for_client (spelling (fatal cause))) ∙ ap (λ (b : List ℕ). b ++ spelling (fatal cause)) h.0.told ∙ ap (λ (b : List ℕ). said ++ b) (sym (append-nil (spelling (fatal cause)))));
       quiet = h.0.quiet;
     })
@@ -399,7 +418,7 @@ same_promised : (c d : ℕ) → Promised c ≡ Promised d → d ≡ c
 same_promised c d e = cc
 
 -- a lent link whose client has ended takes another role
-leaves_client : (w : World) (c l : ℕ) (y : Link) → Related w → (w.links l).role ≡ Lent c → HasEnded (w.clients c).phase → RoleFits w.catalogue y.role y → Related (with_link w l y)
+leaves_client : (w : World) (c l : ℕ) (y : Link) → AreRelated w → (w.links l).role ≡ Lent c → HasEnded (w.clients c).phase → RoleFits w.catalogue y.role y → AreRelated (with_link w l y)
 leaves_client w c l y r e h k =
     change_link w l y r k
     (λ d p f. ended_not_served (subst (λ (i : ℕ). HasEnded (w.clients i).phase) (sym (same_client c d (sym e ∙ f.1))) h) p)
@@ -411,45 +430,47 @@ leaves_client w c l y r e h k =
     lent_unborn : Lent c ≡ Unborn → ⊥
     lent_unborn p = cc
 
-pub step_returns_unused : (w : World) (c l : ℕ) → Related w → (w.links l).role ≡ Lent c → HasEnded (w.clients c).phase → (w.links l).sent ≡ [] → (w.links l).received ≡ [] →
-    Related (with_link w l (in_role (w.links l) Clean))
-step_returns_unused w c l r e h none silent =
+pub step_returns_unused : (w : World) (c l : ℕ) → AreRelated w → (w.links l).role ≡ Lent c → HasEnded (w.clients c).phase → (w.links l).sent ≡ [] → (w.links l).received ≡ [] →
+    (w.links l).due ≡ None → AreRelated (with_link w l (in_role (w.links l) Clean))
+step_returns_unused w c l r e h none silent undue =
     let y = w.links l in
     let cat : CatalogueOf = w.catalogue (address_of y.key) in
     let k = role_at l (Lent c) r e in
     let u = unsent cat y.key k.base y k.runs none in
-    leaves_client w c l (in_role y Clean) r e h (record { is_fresh = k.is_fresh ∙ ap ok (sym u.session); lawful_key = k.lawful_key; inbox = u.inbox; outbox = u.outbox; sent = none; received = silent })
+    leaves_client w c l (in_role y Clean) r e h (record { is_fresh = k.is_fresh ∙ ap ok (sym u.session); lawful_key = k.lawful_key; inbox = u.inbox; outbox = u.outbox; sent = none; received = silent; undue = undue; struck = none_struck cat y.key k.base y k.runs none })
 
-pub step_returns_used : (w : World) (c l : ℕ) → Related w → (w.links l).role ≡ Lent c → HasEnded (w.clients c).phase → IsSettled (w.links l).sent (w.links l).received →
-    Related (with_link w l (at_clean_point (w.links l) InReset))
+pub step_returns_used : (w : World) (c l : ℕ) → AreRelated w → (w.links l).role ≡ Lent c → HasEnded (w.clients c).phase → IsSettled (w.links l).sent (w.links l).received →
+    (w.links l).due ≡ None → AreRelated (with_link w l (at_clean_point (w.links l) InReset))
 unfolding run_frames
-step_returns_used w c l r e h settled =
+step_returns_used w c l r e h settled undue =
     let y = w.links l in
     let cat : CatalogueOf = w.catalogue (address_of y.key) in
     let k = role_at l (Lent c) r e in
     let reached : Reaches cat y.key k.base = fresh_is_reached cat y.key k.base (r.lawful (address_of y.key)) k.lawful_key k.is_fresh in
     let u = settled_rests cat y.key k.base y k.runs reached (fresh_is_at_rest cat y.key k.base k.is_fresh) settled in
-    let now : State = (run_frames cat k.base [] u.frames).next in
+    let now : State = (run_frames cat k.base y.struck u.frames).next in
     leaves_client w c l (at_clean_point y InReset) r e h (record {
       base = now;
       lawful_key = k.lawful_key;
-      reached = runs_stay_reached cat y.key k.base [] u.frames reached u.are_sent;
+      reached = runs_stay_reached cat y.key k.base y.struck u.frames reached u.are_sent;
       rests = u.rests;
-      runs = record { taken = []; are_sent = tt; sent_is = sym u.done.inbox; session_is = u.done.session; told = front_of u.done.outbox; all_told = λ _. u.done.outbox };
+      runs = record { taken = []; are_sent = tt; marked = refl; sent_is = sym u.done.inbox; session_is = u.done.session; told = front_of u.done.outbox; all_told = λ _. u.done.outbox };
+      undue = undue;
+      unstruck = refl;
     })
 
-pub step_ends_reset : (w : World) (l : ℕ) → Related w → (w.links l).role ≡ InReset → IsReset (w.links l).sent (w.links l).received → Related (with_link w l (at_clean_point (w.links l) Clean))
+pub step_ends_reset : (w : World) (l : ℕ) → AreRelated w → (w.links l).role ≡ InReset → IsReset (w.links l).sent (w.links l).received → AreRelated (with_link w l (at_clean_point (w.links l) Clean))
 step_ends_reset w l r e done =
     let y = w.links l in
     let k = role_at l InReset r e in
-    let u = reset_done (w.catalogue (address_of y.key)) y.key k.base y k.runs k.reached k.rests done in
+    let u = reset_done (w.catalogue (address_of y.key)) y.key k.base y k.runs k.reached k.rests k.unstruck done in
     stays_away w l (at_clean_point y Clean) r (subst IsInHand (sym e) in_reset)
-    (record { is_fresh = u.is_fresh; lawful_key = k.lawful_key; inbox = u.inbox; outbox = u.outbox; sent = refl; received = refl })
+    (record { is_fresh = u.is_fresh; lawful_key = k.lawful_key; inbox = u.inbox; outbox = u.outbox; sent = refl; received = refl; undue = k.undue; struck = refl })
 
-pub step_disposes_lent : (w : World) (c l : ℕ) → Related w → (w.links l).role ≡ Lent c → HasEnded (w.clients c).phase → Related (gone w l)
+pub step_disposes_lent : (w : World) (c l : ℕ) → AreRelated w → (w.links l).role ≡ Lent c → HasEnded (w.clients c).phase → AreRelated (gone w l)
 step_disposes_lent w c l r e h = leaves_client w c l (in_role (w.links l) Gone) r e h tt
 
-pub step_disposes_promised : (w : World) (c l : ℕ) → Related w → (w.links l).role ≡ Promised c → HasEnded (w.clients c).phase → Related (gone w l)
+pub step_disposes_promised : (w : World) (c l : ℕ) → AreRelated w → (w.links l).role ≡ Promised c → HasEnded (w.clients c).phase → AreRelated (gone w l)
 step_disposes_promised w c l r e h =
     change_link w l (in_role (w.links l) Gone) r tt
     (λ d _ f. absurd (promised_lent d (sym e ∙ f.1)))
@@ -465,44 +486,5 @@ step_disposes_promised w c l r e h =
     promised_unborn : Promised c ≡ Unborn → ⊥
     promised_unborn p = cc
 
-pub step_disposes : (w : World) (l : ℕ) → Related w → IsInHand (w.links l).role → Related (gone w l)
+pub step_disposes : (w : World) (l : ℕ) → AreRelated w → IsInHand (w.links l).role → AreRelated (gone w l)
 step_disposes w l r h = stays_away w l (in_role (w.links l) Gone) r h tt
-
--- ---- the two groups
-
--- the world's other parts, with the book that the event left
-with_its : (v : World) {a : Answer} {r : Reply} {b : Book} → Gives a r b → Related (with_book v a.book) → Related (with_book v b)
-with_its v q h = subst (λ (b : Book). Related (with_book v b)) q.book_is h
-
--- what is known of the book
-pub record OfBook : Type 0 where
-  pub plain : PlainEventsAddNothing
-  pub arrives : ArrivalsNumber
-  pub asks : AsksQueue
-  pub lends : TakesLend
-  pub starts : TakesStart
-  pub evicts : TakesEvict
-  pub gives_back : ReturnsAdd
-  pub too_late : ReturnsClose
-  pub tick : TicksClose
-
-pub book_keeps : OfBook → BookStepsKeep
-book_keeps k w _ (plain_event e a b p q) r = with_its w q (step_plain k.plain w e a r p q.reply_is)
-book_keeps k w _ (arrives c n read b e none q) r = with_its (with_client w c (numbered (w.clients c) n)) q (step_arrives k.arrives w c n read r e none q.reply_is)
-book_keeps k w _ (asks c m key a b h q) r = with_its w q (step_asks k.asks w c m key r h.phase h.number_is)
-book_keeps k w _ (is_lent c m l key s b h q f) r = with_its (with_pair w c (gets_link (w.clients c) l s) l (in_role (w.links l) (Lent c))) q (step_is_lent k.lends w c m l key s r h.phase h.number_is q.reply_is f)
-book_keeps k w _ (is_promised c m l born key b h q) r = with_its (promised w c l key) q (step_is_promised k.starts w c m l born key r h.phase h.number_is q.reply_is)
-book_keeps k w _ (is_promised_for c m l born old key b h q) r = with_its (promised (gone w old) c l key) q (step_is_promised_for k.evicts w c m l born old key r h.phase h.number_is q.reply_is)
-book_keeps k w _ (gives_back l born b e q) r = with_its (with_link w l (in_role (w.links l) Idle)) q (step_gives_back k.gives_back w l born r e q.reply_is)
-book_keeps k w _ (gives_back_too_late l n born b e q) r = with_its (gone w l) q (step_gives_back_too_late k.too_late w l n born r e q.reply_is)
-book_keeps k w _ (tick_closes now l b q) r = with_its (gone w l) q (step_tick_closes k.tick w now l r q.reply_is)
-
-pub links_keep : StartErrorIsFrame → LinkStepsKeep
-links_keep error w _ (starts c l key s e f) r = step_starts w c l key s r e f
-links_keep error w _ (start_fails c l key cause e f) r = step_start_fails error w c l key cause r e f
-links_keep error w _ (returns_unused c l e h none silent) r = step_returns_unused w c l r e h none silent
-links_keep error w _ (returns_used c l e h settled) r = step_returns_used w c l r e h settled
-links_keep error w _ (ends_reset l e done) r = step_ends_reset w l r e done
-links_keep error w _ (disposes_lent c l e h) r = step_disposes_lent w c l r e h
-links_keep error w _ (disposes_promised c l e h) r = step_disposes_promised w c l r e h
-links_keep error w _ (disposes l h) r = step_disposes w l r h

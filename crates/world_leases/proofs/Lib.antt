@@ -1,2 +1,4 @@
 pub mod Returns
 pub mod Leases
+pub mod Cancels
+pub mod Groups

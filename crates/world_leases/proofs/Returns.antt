@@ -1,5 +1,5 @@
 -- What a link's server is in where its traffic is settled, and at the end of a reset.
-use Rattle.std.proofs.Common.{◌≡◌, ℕ, false, List, [], ◌∷◌, ◌++◌, ◌⊎◌, inl, inr, refl, sym, ap, ◌∙◌, subst, append_assoc, append-nil, arith, Result, Ok}
+use Rattle.std.proofs.Common.{◌≡◌, ℕ, Bool, false, List, [], ◌∷◌, ◌++◌, length, ◌⊎◌, inl, inr, refl, sym, ap, ◌∙◌, subst, append_assoc, append-nil, arith, Result, Ok}
 use Rattle.std.specs.List.{flat_map, AllByRecursion}
 use Rattle.frame_view.specs.declared.Side.TheVariants.{Client, Server}
 use Rattle.frame_view.specs.Frames.{FrameOf, IsFrame, spelling}
@@ -10,9 +10,11 @@ use Rattle.session_laws.specs.Laws.{IsSent, IsAtRest, Reaches, HasKey, discard_a
 use Rattle.session_laws.proofs.ByName.{discard_all_gives_fresh, discard_all_is_frame, reached_has_key}
 use Rattle.session_run_laws.specs.Settling.{IsAnswered, IsQuiet}
 use Rattle.session_run_laws.proofs.ByName.{run_replies_are_frames, settled_is_quiet}
+use Rattle.session_run_laws.proofs.GoesOn.{unmarked_run}
 use Rattle.link_laws.proofs.Splits.{SplitsOff, split_whole}
 use Rattle.world_steps.proofs.Sole.{all_client}
 use Rattle.frame_view.specs.declared.frames.TheConstants.{LONGEST_FRAME}
+use Rattle.world_steps.specs.Clients.{IsUnstruck}
 use Rattle.world_steps.specs.Links.{IsSettled, IsReset, Link}
 use Rattle.world_steps.specs.Relation.{Runs}
 
@@ -35,42 +37,52 @@ pub record IsDone (y : Link) (s : State) : Type 0 where
 
 module _ (cat : CatalogueOf) (key : StartKeyOf) (base : State) (y : Link) (r : Runs cat base y) where
   -- nothing was sent
+  no_frames : (fs : List FrameOf) → flat_map spelling fs ≡ [] → fs ≡ []
+  no_frames [] e = refl
+  no_frames (f ∷ fs) e = absurd (go f.kind _ e)
+    where
+      go : (a : ℕ) (xs : List ℕ) → a ∷ xs ≡ [] → ⊥
+      go a xs p = cc
+
+  none_taken : y.sent ≡ [] → r.taken ≡ []
+  none_taken none = no_frames r.taken (nil_left (flat_map spelling r.taken) y.inbox (sym r.sent_is ∙ none))
+
   pub unsent : y.sent ≡ [] → IsDone y base
   unfolding run_frames
-  unsent none = record {
-    session = r.session_is ∙ ap (λ (fs : List FrameOf). (run_frames cat base [] fs).next) empty;
-    inbox = right_nil (flat_map spelling r.taken) y.inbox (sym r.sent_is ∙ none);
-    outbox = right_nil y.received y.outbox (nil_left (y.received ++ y.outbox) r.told.rest (r.told.is ∙ ap (λ (fs : List FrameOf). flat_map spelling (run_frames cat base [] fs).replies) empty));
-  }
-    where
-      no_frames : (fs : List FrameOf) → flat_map spelling fs ≡ [] → fs ≡ []
-      no_frames [] e = refl
-      no_frames (f ∷ fs) e = absurd (go f.kind _ e)
-        where
-          go : (a : ℕ) (xs : List ℕ) → a ∷ xs ≡ [] → ⊥
-          go a xs p = cc
+  unsent none =
+      let empty = none_taken none in
+      record {
+        session = r.session_is ∙ ap (λ (fs : List FrameOf). (run_frames cat base y.struck fs).next) empty;
+        inbox = right_nil (flat_map spelling r.taken) y.inbox (sym r.sent_is ∙ none);
+        outbox = right_nil y.received y.outbox (nil_left (y.received ++ y.outbox) r.told.rest (r.told.is ∙ ap (λ (fs : List FrameOf). flat_map spelling (run_frames cat base y.struck fs).replies) empty));
+      }
 
-      empty : r.taken ≡ []
-      empty = no_frames r.taken (nil_left (flat_map spelling r.taken) y.inbox (sym r.sent_is ∙ none))
+  -- so nothing was struck
+  no_marks : (marks : List Bool) → length marks ≡ 0 → marks ≡ []
+  no_marks [] e = refl
+  no_marks (m ∷ marks) e = absurd (omega (arith, e))
+
+  pub none_struck : y.sent ≡ [] → y.struck ≡ []
+  none_struck none = no_marks y.struck (r.marked ∙ ap (λ (fs : List FrameOf). length fs) (none_taken none))
 
   -- all was answered
   record AllAnswered (went : List FrameOf) : Type 0 where
-    done : IsDone y (run_frames cat base [] went).next
-    rests : IsAtRest (run_frames cat base [] went).next
+    done : IsDone y (run_frames cat base y.struck went).next
+    rests : IsAtRest (run_frames cat base y.struck went).next
     are_sent : AllByRecursion IsSent went
 
   all_answered : (went came : List FrameOf) → Reaches cat key base → AllByRecursion (IsFrame Client LONGEST_FRAME) went → y.sent ≡ flat_map spelling went →
       AllByRecursion (IsFrame Server LONGEST_FRAME) came → y.received ≡ flat_map spelling came → IsAnswered went came → AllAnswered went
   all_answered went came reached wents sent cames received answered =
-      let said : List FrameOf = (run_frames cat base [] r.taken).replies in
+      let said : List FrameOf = (run_frames cat base y.struck r.taken).replies in
       let a : SplitsOff went r.taken [] y.inbox = split_whole Client LONGEST_FRAME went r.taken y.inbox (omega arith) wents (all_client r.taken r.are_sent) (sym sent ∙ r.sent_is) in
       let told : flat_map spelling said ≡ flat_map spelling came ++ (y.outbox ++ r.told.rest) = sym r.told.is ∙ append_assoc y.received y.outbox r.told.rest ∙ ap (λ (l : List ℕ). l ++ (y.outbox ++ r.told.rest)) received in
-      let b : SplitsOff said came [] (y.outbox ++ r.told.rest) = split_whole Server LONGEST_FRAME said came (y.outbox ++ r.told.rest) (omega arith) (run_replies_are_frames cat key base [] r.taken reached r.are_sent) cames told in
-      let q : IsQuiet cat base [] went came r.taken a.more b.more = settled_is_quiet cat base [] went came r.taken a.more b.more answered a.all b.all in
+      let b : SplitsOff said came [] (y.outbox ++ r.told.rest) = split_whole Server LONGEST_FRAME said came (y.outbox ++ r.told.rest) (omega arith) (run_replies_are_frames cat key base y.struck r.taken reached r.are_sent) cames told in
+      let q : IsQuiet cat base y.struck went came r.taken a.more b.more = settled_is_quiet cat base y.struck went came r.taken a.more b.more answered a.all b.all in
       let all : r.taken ≡ went = q.all in
       record {
         done = record {
-          session = r.session_is ∙ ap (λ (fs : List FrameOf). (run_frames cat base [] fs).next) all;
+          session = r.session_is ∙ ap (λ (fs : List FrameOf). (run_frames cat base y.struck fs).next) all;
           inbox = a.bytes ∙ ap (λ (fs : List FrameOf). flat_map spelling fs ++ []) q.none_left;
           outbox = nil_left y.outbox r.told.rest (b.bytes ∙ ap (λ (fs : List FrameOf). flat_map spelling fs ++ []) q.none_more);
         };
@@ -82,8 +94,8 @@ module _ (cat : CatalogueOf) (key : StartKeyOf) (base : State) (y : Link) (r : R
   pub record Rests : Type 0 where
     pub frames : List FrameOf
     pub are_sent : AllByRecursion IsSent frames
-    pub done : IsDone y (run_frames cat base [] frames).next
-    pub rests : IsAtRest (run_frames cat base [] frames).next
+    pub done : IsDone y (run_frames cat base y.struck frames).next
+    pub rests : IsAtRest (run_frames cat base y.struck frames).next
 
   settled_by : Reaches cat key base → IsAtRest base → (h : IsSettled y.sent y.received) → (h.went ≡ []) ⊎ IsAnswered h.went h.came → Rests
   unfolding run_frames
@@ -101,15 +113,18 @@ module _ (cat : CatalogueOf) (key : StartKeyOf) (base : State) (y : Link) (r : R
     pub inbox : y.inbox ≡ []
     pub outbox : y.outbox ≡ []
 
-  discard_run : (run_frames cat base [] (discard_all ∷ [])).next ≡ (step cat base false discard_all).next
+  one_run : (run_frames cat base [] (discard_all ∷ [])).next ≡ (step cat base false discard_all).next
   unfolding run_frames
-  discard_run = refl
+  one_run = refl
 
-  pub reset_done : Reaches cat key base → IsAtRest base → IsReset y.sent y.received → IsRenewed
-  reset_done reached rests h =
+  discard_run : IsUnstruck y.struck → (run_frames cat base y.struck (discard_all ∷ [])).next ≡ (step cat base false discard_all).next
+  discard_run unstruck = ap (λ (a : Answer). a.next) (unmarked_run cat base y.struck (discard_all ∷ []) unstruck) ∙ one_run
+
+  pub reset_done : Reaches cat key base → IsAtRest base → IsUnstruck y.struck → IsReset y.sent y.received → IsRenewed
+  reset_done reached rests unstruck h =
       let a = all_answered (discard_all ∷ []) h.came reached (discard_all_is_frame, tt) (h.sent_is ∙ sym (append-nil (spelling discard_all))) h.received_are.each h.received_are.bytes_are h.answered in
       let own : HasKey cat key base = reached_has_key cat key base reached in
-      let same : y.session ≡ own.origin = a.done.session ∙ discard_run ∙ ap (λ (t : Answer). t.next) (discard_all_gives_fresh cat key base own.origin own own.is_fresh rests) in
+      let same : y.session ≡ own.origin = a.done.session ∙ discard_run unstruck ∙ ap (λ (t : Answer). t.next) (discard_all_gives_fresh cat key base own.origin own own.is_fresh rests) in
       record {
         is_fresh = own.is_fresh ∙ ap ok (sym same);
         inbox = a.done.inbox;

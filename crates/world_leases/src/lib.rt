@@ -17,5 +17,6 @@ pub fn book_steps_keep()
 pub fn link_steps_keep()
     ensures { LinkStepsKeep }
 {
+    book_laws();
     start_error_is_frame();
 }

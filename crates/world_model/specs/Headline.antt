@@ -7,6 +7,7 @@ use Rattle.message_view.specs.Refusals.{Allowed, Begins, joined_pieces, refusal}
 use Rattle.session_values.specs.State.{StartKeyOf, CatalogueOf, fresh, address_of}
 use Rattle.session_values.specs.Step.{run_frames}
 use Rattle.session_values.specs.Service.{client_frames}
+use Rattle.session_run_laws.specs.Runs.{AreSameMarks}
 use Rattle.login_core.specs.Talk.End.{Passed}
 use Rattle.login_core.specs.Dialogue.{ToLink, login}
 use Rattle.book_model.specs.Laws.{HasLink}
@@ -24,12 +25,13 @@ EveryWorld = (w : World) → Reached w → (c : ℕ) → Allowed (given (w.clien
 
 -- ---- two worlds
 
--- Two clients of two worlds agree: equal login row, key word and bytes in, and equal catalogues of the place that their
--- login leads to, if it leads to a link.
+-- Two clients of two worlds agree: equal login row, key word and bytes in, cancels that struck the same of their frames, and equal
+-- catalogues of the place that their login leads to, if it leads to a link.
 pub record Agree (w v : World) (x y : Client) : Type 0 where
   pub row : x.row ≡ y.row
   pub word : x.word ≡ y.word
   pub sent : x.sent ≡ y.sent
+  pub struck : AreSameMarks x.struck y.struck
   pub catalogue : (key : StartKeyOf) (left : List ℕ) → (login x.row x.word x.sent).ended ≡ Passed (ToLink key) left → w.catalogue (address_of key) ≡ v.catalogue (address_of key)
 
 -- Of two worlds that agree on a client, the one's bytes before any refusal begin the other's.
@@ -74,7 +76,7 @@ pub record IsFreshLink (w : World) (y : Link) : Type 0 where
 abbrev pub IdleLinksAreFresh : Type 0
 IdleLinksAreFresh = (w : World) → Reached w → (l : ℕ) (key : StartKeyOf) → HasLink l key w.book.idle → ((w.links l).key ≡ key) × ((w.links l).alive ≡ true → IsFreshLink w (w.links l))
 
--- what a link's server has still to say when these bytes follow those under way
+-- what a link's server has still to say when these bytes follow those under way, and no cancel strikes
 abbrev pub future : CatalogueOf → Link → List ℕ → List ℕ
 future cat y more = y.outbox ++ flat_map spelling (run_frames cat y.session [] (client_frames (y.inbox ++ more))).replies
 

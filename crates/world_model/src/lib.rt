@@ -1,6 +1,7 @@
 //! What holds in every world of clients, links and the book, whatever happens in it: the sentence that a pool is there for.
 #![tactic(auto)]
 
+ghost use Rattle.world_model.specs.Cancels.{OpenCancelsAreOwn, OpenCancelsStay, UnaskedAreUnstruck};
 ghost use Rattle.world_model.specs.Headline.{EveryWorld, IdleLinksAreFresh, LeasesAreExact, LinksServeOne, OutsBegin, QuietLeasesAreWhole, RefusalsStandApart, TwoWorlds};
 
 use world_leases::{book_steps_keep, link_steps_keep};
@@ -32,4 +33,20 @@ pub fn two_worlds()
     ensures { TwoWorlds }
 {
     every_world();
+}
+
+/// Over every list of steps, a cancel strikes the client alone for which it was asked, and no client for which none was.
+///
+/// A cancel that is on its way to a link's server, or came to it and struck nothing yet, was asked for the client that the link is lent
+/// to; and a link with such a cancel is lent or thrown away: it comes to no other client.
+pub fn every_cancel()
+    ensures unasked { UnaskedAreUnstruck }
+    ensures own { OpenCancelsAreOwn }
+    ensures open { OpenCancelsStay }
+{
+    book_steps_keep();
+    client_steps_keep();
+    byte_steps_keep();
+    link_steps_keep();
+    end_steps_keep();
 }

@@ -1,10 +1,8 @@
 -- What the steps make of a client and of a link, by name.
-use Rattle.std.proofs.Common.{ℕ, List, [], ◌++◌, Some, false}
-use Rattle.std.specs.List.{flat_map}
-use Rattle.frame_view.specs.Frames.{FrameOf, spelling}
+use Rattle.std.proofs.Common.{ℕ, Bool, List, [], ◌∷◌, ◌++◌, Some, None, false}
+use Rattle.message_view.specs.declared.views.KeyView.{KeyView}
 use Rattle.message_view.specs.Refusals.{joined_pieces}
-use Rattle.session_values.specs.State.{StartKeyOf, CatalogueOf}
-use Rattle.session_values.specs.Step.{step}
+use Rattle.session_values.specs.State.{StartKeyOf}
 use Rattle.world_steps.specs.Clients.{Client, Phase}
 use Rattle.world_steps.specs.Clients.Phase.{LoggingIn, Waiting, Finishing, Refusing}
 use Rattle.world_steps.specs.Links.{Link, Role}
@@ -55,10 +53,17 @@ abbrev pub refused_more : Client → List ℕ → List ℕ → Client
 refused_more x bytes rest = record x { phase = Refusing rest; refusal = x.refusal ++ bytes }
 
 abbrev pub at_clean_point : Link → Role → Link
-at_clean_point y role = record y { role = role; sent = []; received = [] }
-
-abbrev pub answers : CatalogueOf → Link → FrameOf → List ℕ → Link
-answers cat y f rest = record y { session = (step cat y.session false f).next; inbox = rest; outbox = y.outbox ++ flat_map spelling (step cat y.session false f).replies }
+at_clean_point y role = record y { role = role; sent = []; received = []; struck = [] }
 
 abbrev pub dies : Link → List ℕ → Link
 dies y kept = record y { alive = false; outbox = kept }
+
+-- a cancel came, or passed
+abbrev pub due_for : Link → KeyView → Link
+due_for y client = record y { due = Some client }
+
+abbrev pub spared : Link → Link
+spared y = record y { due = None }
+
+abbrev pub noted : Client → Bool → Client
+noted x mark = record x { struck = x.struck ++ mark ∷ [] }

@@ -1,5 +1,5 @@
 -- What is known of a client says that what it was given is allowed, also where a refusal follows; and its sends keep it.
-use Rattle.std.proofs.Common.{◌≡◌, ◌⊎◌, ℕ, List, [], ◌∷◌, ◌++◌, inl, inr, refl, sym, ap, ◌∙◌, subst, append_assoc, append-nil, arith, Result, Ok}
+use Rattle.std.proofs.Common.{◌≡◌, ◌⊎◌, ℕ, Bool, List, [], ◌∷◌, ◌++◌, inl, inr, refl, sym, ap, ◌∙◌, subst, append_assoc, append-nil, arith, Result, Ok}
 use Rattle.std.specs.Prelude.{map}
 use Rattle.std.specs.List.{flat_map, AllByRecursion}
 use Rattle.std.proofs.lemmas.List.{append_cancel_left}
@@ -39,10 +39,10 @@ fresh_one e = cc
 
 module _ (catalogue : Address → CatalogueOf) where
   -- the service of a client that has passed
-  pub after_passed : (word : KeyWord) (o : End Way Reason) (key : StartKeyOf) (left : List ℕ) (s : State) → o ≡ Passed (ToLink key) left → fresh (catalogue (address_of key)) key ≡ Ok s →
-      after_in catalogue word [] o ≡ map spelling (welcome s word.pid word.secret ++ (run_frames (catalogue (address_of key)) s [] (client_frames left)).replies)
-  after_passed word o key left s e f =
-      ap (after_in catalogue word []) e ∙ ap (λ (r : Result State Cause). map spelling (served (catalogue (address_of key)) r word.pid word.secret [] (client_frames left))) f
+  pub after_passed : (word : KeyWord) (marks : List Bool) (o : End Way Reason) (key : StartKeyOf) (left : List ℕ) (s : State) → o ≡ Passed (ToLink key) left → fresh (catalogue (address_of key)) key ≡ Ok s →
+      after_in catalogue word marks o ≡ map spelling (welcome s word.pid word.secret ++ (run_frames (catalogue (address_of key)) s marks (client_frames left)).replies)
+  after_passed word marks o key left s e f =
+      ap (after_in catalogue word marks) e ∙ ap (λ (r : Result State Cause). map spelling (served (catalogue (address_of key)) r word.pid word.secret marks (client_frames left))) f
 
   -- what it was given is told by the login alone
   pub told_login : (x : Client) → IsFront (x.out ++ x.for_client) (joined_pieces (login x.row x.word x.sent).pieces) → x.refusal ≡ [] → IsTold catalogue x
@@ -56,30 +56,31 @@ module _ (catalogue : Address → CatalogueOf) where
       let r = k.runs in
       let more : List ℕ = x.for_link ++ x.unread in
       let hello : List FrameOf = welcome k.base x.word.pid x.word.secret in
-      let said : List FrameOf = (run_frames cat k.base [] r.taken).replies in
+      let said : List FrameOf = (run_frames cat k.base y.struck r.taken).replies in
       let left : y.sent ++ more ≡ flat_map spelling r.taken ++ (y.inbox ++ more) = ap (λ (l : List ℕ). l ++ more) r.sent_is ∙ append_assoc (flat_map spelling r.taken) y.inbox more in
       let fronts : IsFront r.taken (client_frames (y.sent ++ more)) =
       record { rest = client_frames (y.inbox ++ more); is = sym (frames_after r.taken (y.inbox ++ more) r.are_sent) ∙ ap client_frames (sym left) } in
       let reached : Reaches cat y.key k.base = fresh_is_reached cat y.key k.base (lawful (address_of y.key)) k.lawful_key k.is_fresh in
       record {
         frames = hello ++ said;
-        are_frames = all-append (IsFrame Server LONGEST_FRAME) hello said (welcome_is_frames cat y.key k.base x.word.pid x.word.secret reached) (run_replies_are_frames cat y.key k.base [] r.taken reached r.are_sent);
-        first = front_trans (front_frames (front_under hello (replies_front cat k.base fronts))) (front_of (sym (after_passed x.word (login x.row x.word x.sent).ended y.key (y.sent ++ more) k.base h.passed k.is_fresh)));
+        are_frames = all-append (IsFrame Server LONGEST_FRAME) hello said (welcome_is_frames cat y.key k.base x.word.pid x.word.secret reached) (run_replies_are_frames cat y.key k.base y.struck r.taken reached r.are_sent);
+        first = front_trans (front_frames (front_under hello (replies_front cat k.base y.struck fronts)))
+            (front_of (sym (ap (λ (marks : List Bool). after_in catalogue x.word marks (login x.row x.word x.sent).ended) h.struck ∙ after_passed x.word y.struck (login x.row x.word x.sent).ended y.key (y.sent ++ more) k.base h.passed k.is_fresh)));
         told = front_is (h.told ∙ ap (λ (s : State). joined_pieces (login x.row x.word x.sent).pieces ++ (flat_map spelling (welcome s x.word.pid x.word.secret) ++ y.received)) (sym same))
             (front_under (joined_pieces (login x.row x.word x.sent).pieces) (front_trans (front_under (flat_map spelling hello) (front_cut y.received y.outbox r.told)) (front_of (sym (spelled-append hello said)))));
         quiet = h.quiet;
       }
 
   -- all that is told is a front of the whole
-  told_front : (x : Client) → IsTold catalogue x → IsFront x.out (joined_pieces (solo_in catalogue x.row x.word [] x.sent))
+  told_front : (x : Client) → IsTold catalogue x → IsFront x.out (joined_pieces (solo_in catalogue x.row x.word x.struck x.sent))
   told_front x h =
       let said : List (List ℕ) = (login x.row x.word x.sent).pieces in
-      front_cut x.out x.for_client (front_trans h.told (front_trans (front_under (joined_pieces said) (front_is (sym (joined-frames h.frames)) (front_joined h.first))) (front_of (sym (joined-append said (after_in catalogue x.word [] (login x.row x.word x.sent).ended))))))
+      front_cut x.out x.for_client (front_trans h.told (front_trans (front_under (joined_pieces said) (front_is (sym (joined-frames h.frames)) (front_joined h.first))) (front_of (sym (joined-append said (after_in catalogue x.word x.struck (login x.row x.word x.sent).ended))))))
 
   told_over : (x : Client) → IsTold catalogue x → IsOver catalogue x
   told_over x h =
       let f = told_front x h in
-      let g : IsFront (x.out ++ x.refusal) (joined_pieces (solo_in catalogue x.row x.word [] x.sent)) = front_is (ap (λ (l : List ℕ). x.out ++ l) h.quiet ∙ append-nil x.out) f in
+      let g : IsFront (x.out ++ x.refusal) (joined_pieces (solo_in catalogue x.row x.word x.struck x.sent)) = front_is (ap (λ (l : List ℕ). x.out ++ l) h.quiet ∙ append-nil x.out) f in
       record { apart = inl h.quiet; out_front = f; allowed = inl (record { more = g.rest; both = g.is }) }
 
   login_told : (read : List ℕ) (x : Client) → InLogin read x → IsTold catalogue x
@@ -102,7 +103,7 @@ module _ (catalogue : Address → CatalogueOf) where
 
     pub phase_over : (phase : Phase) (x : Client) → PhaseFits catalogue links c phase x → IsOver catalogue x
     phase_over Absent x h =
-        let f : IsFront (x.out ++ x.refusal) (joined_pieces (solo_in catalogue x.row x.word [] x.sent)) = front_is (ap (λ (l : List ℕ). l ++ x.refusal) h.0 ∙ h.1) (front_nil _) in
+        let f : IsFront (x.out ++ x.refusal) (joined_pieces (solo_in catalogue x.row x.word x.struck x.sent)) = front_is (ap (λ (l : List ℕ). l ++ x.refusal) h.0 ∙ h.1) (front_nil _) in
         record { apart = inl h.1; out_front = front_is h.0 (front_nil _); allowed = inl (record { more = f.rest; both = f.is }) }
     phase_over (LoggingIn read) x h = told_over x (phase_told (LoggingIn read) x logging_in h)
     phase_over (Waiting key) x h = told_over x (phase_told (Waiting key) x waiting h)
@@ -126,7 +127,7 @@ module _ (catalogue : Address → CatalogueOf) where
 
   pub record Pieces (x : Client) : Type 0 where
     pub pieces : List (List ℕ)
-    pub first : IsFront pieces (solo_in catalogue x.row x.word [] x.sent)
+    pub first : IsFront pieces (solo_in catalogue x.row x.word x.struck x.sent)
     pub out_is : x.out ≡ joined_pieces pieces
 
   pub border_pieces : (x : Client) → IsTold catalogue x → AtBorder x → Pieces x
@@ -147,7 +148,7 @@ module _ (catalogue : Address → CatalogueOf) where
   queue_sends : {key : StartKeyOf} {x : Client} (bytes : List ℕ) → InQueue key x → InQueue key (sends_bytes x bytes)
   queue_sends {key} {x} bytes h =
       let p = login_passed x.row x.word x.sent bytes (ToLink key) (x.for_link ++ x.unread) h.passed in
-      record { lawful_key = h.lawful_key; passed = p.1 ∙ ap (Passed (ToLink key)) (append_assoc x.for_link x.unread bytes); told = h.told ∙ ap joined_pieces (sym p.0); quiet = h.quiet }
+      record { lawful_key = h.lawful_key; passed = p.1 ∙ ap (Passed (ToLink key)) (append_assoc x.for_link x.unread bytes); told = h.told ∙ ap joined_pieces (sym p.0); quiet = h.quiet; unstruck = h.unstruck }
 
   no_pieces : (fs : List FrameOf) {ps : List (List ℕ)} → IsFront (map spelling fs) ps → ps ≡ [] → flat_map spelling fs ≡ []
   no_pieces [] f e = refl
@@ -156,7 +157,7 @@ module _ (catalogue : Address → CatalogueOf) where
       go : (p : List ℕ) (ps : List (List ℕ)) → p ∷ ps ≡ [] → ⊥
       go p ps q = cc
 
-  told_grows : (x : Client) (bytes : List ℕ) → IsTold catalogue x → Grows catalogue x.row x.word x.sent bytes → IsTold catalogue (sends_bytes x bytes)
+  told_grows : (x : Client) (bytes : List ℕ) → IsTold catalogue x → Grows catalogue x.row x.word x.struck x.sent bytes → IsTold catalogue (sends_bytes x bytes)
   told_grows x bytes h (not_done none f) =
       told_login (sends_bytes x bytes) (front_trans h.told (front_is (ap (λ (l : List ℕ). joined_pieces (login x.row x.word x.sent).pieces ++ l) (no_pieces h.frames h.first none) ∙ append-nil (joined_pieces (login x.row x.word x.sent).pieces)) (front_joined f))) h.quiet
   told_grows x bytes h (is_done same f) = record {
@@ -169,14 +170,14 @@ module _ (catalogue : Address → CatalogueOf) where
 
   apart_sends : (x : Client) (bytes : List ℕ) → (x.refusal ≡ []) ⊎ IsNamed catalogue x → ((sends_bytes x bytes).refusal ≡ []) ⊎ IsNamed catalogue (sends_bytes x bytes)
   apart_sends x bytes (inl q) = inl q
-  apart_sends x bytes (inr k) = inr (record { pieces = k.pieces; first = front_trans k.first (solo_front catalogue x.row x.word x.sent bytes); out_is = k.out_is; cause = k.cause; text = k.text })
+  apart_sends x bytes (inr k) = inr (record { pieces = k.pieces; first = front_trans k.first (solo_front catalogue x.row x.word x.struck x.sent bytes); out_is = k.out_is; cause = k.cause; text = k.text })
 
   pub phase_sends : (links : ℕ → Link) (c : ℕ) (phase : Phase) (x : Client) (bytes : List ℕ) → PhaseFits catalogue links c phase x → PhaseFits catalogue links c phase (sends_bytes x bytes)
   phase_sends links c Absent x bytes h = h
-  phase_sends links c (LoggingIn read) x bytes h = record { lawful_row = h.lawful_row; sent_is = ap (λ (l : List ℕ). l ++ bytes) h.sent_is ∙ append_assoc read x.unread bytes; told = h.told; quiet = h.quiet }
+  phase_sends links c (LoggingIn read) x bytes h = record { lawful_row = h.lawful_row; sent_is = ap (λ (l : List ℕ). l ++ bytes) h.sent_is ∙ append_assoc read x.unread bytes; told = h.told; quiet = h.quiet; unstruck = h.unstruck }
   phase_sends links c (Waiting key) x bytes h = queue_sends bytes h
   phase_sends links c (Starting key l) x bytes h = (queue_sends bytes h.0, h.1)
   phase_sends links c (Served l) x bytes h = (service_sends bytes h.0, h.1)
-  phase_sends links c Finishing x bytes h = told_grows x bytes h (grows catalogue x.row x.word x.sent bytes)
-  phase_sends links c (Refusing left) x bytes h = record { pieces = h.pieces; first = front_trans h.first (solo_front catalogue x.row x.word x.sent bytes); out_is = h.out_is; cause = h.cause; text_is = h.text_is }
-  phase_sends links c Closed x bytes h = record { apart = apart_sends x bytes h.apart; out_front = front_trans h.out_front (front_joined (solo_front catalogue x.row x.word x.sent bytes)); allowed = allowed_more (solo_front catalogue x.row x.word x.sent bytes) h.allowed }
+  phase_sends links c Finishing x bytes h = told_grows x bytes h (grows catalogue x.row x.word x.struck x.sent bytes)
+  phase_sends links c (Refusing left) x bytes h = record { pieces = h.pieces; first = front_trans h.first (solo_front catalogue x.row x.word x.struck x.sent bytes); out_is = h.out_is; cause = h.cause; text_is = h.text_is }
+  phase_sends links c Closed x bytes h = record { apart = apart_sends x bytes h.apart; out_front = front_trans h.out_front (front_joined (solo_front catalogue x.row x.word x.struck x.sent bytes)); allowed = allowed_more (solo_front catalogue x.row x.word x.struck x.sent bytes) h.allowed }

@@ -1,11 +1,11 @@
 -- Fronts of lists, joined pieces, and the replies to lists of frames in a row.
-use Rattle.std.proofs.Common.{◌≡◌, ℕ, Bool, List, [], ◌∷◌, ◌++◌, refl, sym, ap, ◌∙◌, append_assoc, append-nil}
+use Rattle.std.proofs.Common.{◌≡◌, ℕ, Bool, List, [], ◌∷◌, ◌++◌, length, refl, sym, ap, ◌∙◌, append_assoc, append-nil, arith}
 use Rattle.std.specs.Prelude.{map}
 use Rattle.std.specs.List.{flat_map}
 use Rattle.std.proofs.lemmas.Grind.{flat_map-append}
 use Rattle.frame_view.specs.Frames.{FrameOf, spelling}
 use Rattle.message_view.specs.Refusals.{joined_pieces}
-use Rattle.session_values.specs.State.{Answer, CatalogueOf, State, and_then}
+use Rattle.session_values.specs.State.{Answer, CatalogueOf, State}
 use Rattle.session_values.specs.Step.{marks_after, run_frames}
 use Rattle.session_run_laws.proofs.ByName.{runs_go_on}
 use Rattle.world_steps.specs.Relation.{IsFront}
@@ -59,16 +59,13 @@ spelled-append fs gs = flat_map-append spelling fs gs
 pub front_spelled : {fs gs : List FrameOf} → IsFront fs gs → IsFront (flat_map spelling fs) (flat_map spelling gs)
 front_spelled {fs} {gs} f = record { rest = flat_map spelling f.rest; is = sym (spelled-append fs f.rest) ∙ ap (flat_map spelling) f.is }
 
--- where no frame is struck, none of those behind is
-none_behind : (fs : List FrameOf) → marks_after fs [] ≡ []
-none_behind [] = refl
-none_behind (f ∷ fs) = none_behind fs
+-- marks of frames alone leave none for those behind
+pub none_left : (fs : List FrameOf) (marks : List Bool) → length marks ≡ length fs → marks_after fs marks ≡ []
+none_left [] [] e = refl
+none_left [] (m ∷ marks) e = absurd (omega (arith, e))
+none_left (f ∷ fs) [] e = absurd (omega (arith, e))
+none_left (f ∷ fs) (m ∷ marks) e = none_left fs marks (omega (arith, e))
 
-in_a_row : (cat : CatalogueOf) (s : State) (fs gs : List FrameOf) → run_frames cat s [] (fs ++ gs) ≡ and_then (run_frames cat s [] fs) (λ t. run_frames cat t [] gs)
-in_a_row cat s fs gs = runs_go_on cat s [] fs gs ∙ ap (λ (marks : List Bool). and_then (run_frames cat s [] fs) (λ t. run_frames cat t marks gs)) (none_behind fs)
-
-pub next-append : (cat : CatalogueOf) (s : State) (fs gs : List FrameOf) → (run_frames cat s [] (fs ++ gs)).next ≡ (run_frames cat (run_frames cat s [] fs).next [] gs).next
-next-append cat s fs gs = ap (λ (a : Answer). a.next) (in_a_row cat s fs gs)
-
-pub replies-append : (cat : CatalogueOf) (s : State) (fs gs : List FrameOf) → (run_frames cat s [] (fs ++ gs)).replies ≡ (run_frames cat s [] fs).replies ++ (run_frames cat (run_frames cat s [] fs).next [] gs).replies
-replies-append cat s fs gs = ap (λ (a : Answer). a.replies) (in_a_row cat s fs gs)
+pub replies-append : (cat : CatalogueOf) (s : State) (marks : List Bool) (fs gs : List FrameOf) →
+    (run_frames cat s marks (fs ++ gs)).replies ≡ (run_frames cat s marks fs).replies ++ (run_frames cat (run_frames cat s marks fs).next (marks_after fs marks) gs).replies
+replies-append cat s marks fs gs = ap (λ (a : Answer). a.replies) (runs_go_on cat s marks fs gs)

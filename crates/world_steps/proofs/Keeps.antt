@@ -6,7 +6,7 @@ use Rattle.world_steps.specs.Links.Role.{Unborn, Promised, Lent, Idle}
 use Rattle.world_steps.proofs.Put.{put_case, put_all, after_link, IsServed}
 use Rattle.world_steps.specs.Clients.{Client}
 use Rattle.world_steps.specs.Links.{Link, Role}
-use Rattle.world_steps.specs.Relation.{PhaseFits, RoleFits, TicketFits, Related}
+use Rattle.world_steps.specs.Relation.{PhaseFits, RoleFits, TicketFits, AreRelated}
 use Rattle.world_steps.specs.Worlds.{World, put, with_client, with_link, with_pair}
 
 -- the links' part, the clients' part and the tickets' part
@@ -57,7 +57,7 @@ alone_unborn {role} c e = λ d ne. (λ f. lent d (sym e ∙ f), λ f. promised d
     promised : (d : ℕ) → Unborn ≡ Promised d → ⊥
     promised d p = cc
 
-pub clients_pair : (w : World) (c : ℕ) (x : Client) (l : ℕ) (y : Link) → Related w → Alone (w.links l).role c → PhaseFits w.catalogue (put w.links l y) c x.phase x →
+pub clients_pair : (w : World) (c : ℕ) (x : Client) (l : ℕ) (y : Link) → AreRelated w → Alone (w.links l).role c → PhaseFits w.catalogue (put w.links l y) c x.phase x →
     (i : ℕ) → PhaseFits w.catalogue (put w.links l y) i (put w.clients c x i).phase (put w.clients c x i)
 unfolding Alone
 clients_pair w c x l y r alone h i =
@@ -94,7 +94,7 @@ pub unborn_put : (links : ℕ → Link) (l : ℕ) (y : Link) (n : ℕ) → ((lin
 unborn_put links l y n step h = put_case (λ z. z.role ≡ Unborn) links l y n (λ e. step (subst (λ i. (links i).role ≡ Unborn) e h)) (λ _. h)
 
 -- one client changes
-pub change_client : (w : World) (c : ℕ) (x : Client) → Related w → PhaseFits w.catalogue w.links c x.phase x → SameNumber (w.clients c) x → ((key : StartKeyOf) → TicketFits key (w.clients c).phase → TicketFits key x.phase) → Related (with_client w c x)
+pub change_client : (w : World) (c : ℕ) (x : Client) → AreRelated w → PhaseFits w.catalogue w.links c x.phase x → SameNumber (w.clients c) x → ((key : StartKeyOf) → TicketFits key (w.clients c).phase → TicketFits key x.phase) → AreRelated (with_client w c x)
 change_client w c x r h same step = record {
   lawful = r.lawful;
   clients = put_all (λ i z. PhaseFits w.catalogue w.links i z.phase z) w.clients c x h (λ i _. r.clients i);
@@ -108,12 +108,12 @@ change_client w c x r h same step = record {
 }
 
 -- one link changes
-pub change_link : (w : World) (l : ℕ) (y : Link) → Related w → RoleFits w.catalogue y.role y →
+pub change_link : (w : World) (l : ℕ) (y : Link) → AreRelated w → RoleFits w.catalogue y.role y →
     ((c : ℕ) → (w.clients c).phase ≡ Served l → IsServed w.catalogue c (w.clients c) (w.links l) → IsServed w.catalogue c (w.clients c) y) →
     ((c : ℕ) (key : StartKeyOf) → (w.clients c).phase ≡ Starting key l → (w.links l).role ≡ Promised c → y.role ≡ Promised c) →
     ((w.links l).role ≡ Idle → (y.role ≡ Idle) × (y.key ≡ (w.links l).key)) →
     ((w.links l).role ≡ Unborn → y.role ≡ Unborn) →
-    Related (with_link w l y)
+    AreRelated (with_link w l y)
 change_link w l y r h serves starts idle unborn = record {
   lawful = r.lawful;
   clients = λ c. after_link w.catalogue w.links l y c (w.clients c).phase (w.clients c) (serves c) (starts c) (r.clients c);
@@ -127,11 +127,11 @@ change_link w l y r h serves starts idle unborn = record {
 }
 
 -- one client and its link change, and the book's lists don't
-pub change_pair : (w : World) (c : ℕ) (x : Client) (l : ℕ) (y : Link) → Related w → Alone (w.links l).role c → PhaseFits w.catalogue (put w.links l y) c x.phase x → RoleFits w.catalogue y.role y →
+pub change_pair : (w : World) (c : ℕ) (x : Client) (l : ℕ) (y : Link) → AreRelated w → Alone (w.links l).role c → PhaseFits w.catalogue (put w.links l y) c x.phase x → RoleFits w.catalogue y.role y →
     SameNumber (w.clients c) x → ((key : StartKeyOf) → TicketFits key (w.clients c).phase → TicketFits key x.phase) →
     ((w.links l).role ≡ Idle → (y.role ≡ Idle) × (y.key ≡ (w.links l).key)) →
     ((w.links l).role ≡ Unborn → y.role ≡ Unborn) →
-    Related (with_pair w c x l y)
+    AreRelated (with_pair w c x l y)
 change_pair w c x l y r alone h k same step idle unborn = record {
   lawful = r.lawful;
   clients = clients_pair w c x l y r alone h;

@@ -8,3 +8,5 @@ pub mod Sole
 pub mod Service
 pub mod Clients
 pub mod Steps
+pub mod Cancels
+pub mod Groups

@@ -22,6 +22,7 @@ module _ {cat : CatalogueOf} {x : Client} {y : Link} where
         passed = p.1 ∙ ap (Passed (ToLink y.key)) (append_assoc y.sent (x.for_link ++ x.unread) bytes ∙ ap (λ (l : List ℕ). y.sent ++ l) (append_assoc x.for_link x.unread bytes));
         told = rw p.0 h.told;
         quiet = h.quiet;
+        struck = h.struck;
       }
 
   pub service_takes_in : (bytes rest : List ℕ) → x.unread ≡ bytes ++ rest → InService cat x y → InService cat (took_in x bytes rest) y
@@ -31,6 +32,7 @@ module _ {cat : CatalogueOf} {x : Client} {y : Link} where
     passed = h.passed ∙ ap (λ (l : List ℕ). Passed (ToLink y.key) (y.sent ++ l)) (ap (λ (l : List ℕ). x.for_link ++ l) e ∙ sym (append_assoc x.for_link bytes rest));
     told = h.told;
     quiet = h.quiet;
+    struck = h.struck;
   }
 
   pub service_forwards : (bytes rest : List ℕ) → x.for_link ≡ bytes ++ rest → InService cat x y → InService cat (forwarded x rest) (link_gets y bytes)
@@ -40,6 +42,7 @@ module _ {cat : CatalogueOf} {x : Client} {y : Link} where
     passed = h.passed ∙ ap (Passed (ToLink y.key)) (ap (λ (l : List ℕ). y.sent ++ (l ++ x.unread)) e ∙ ap (λ (l : List ℕ). y.sent ++ l) (append_assoc bytes rest x.unread) ∙ sym (append_assoc y.sent bytes (rest ++ x.unread)));
     told = h.told;
     quiet = h.quiet;
+    struck = h.struck;
   }
 
   pub service_receives : (bytes rest : List ℕ) → InService cat x y → InService cat (holds_more x bytes) (link_gives y bytes rest)
@@ -49,6 +52,7 @@ module _ {cat : CatalogueOf} {x : Client} {y : Link} where
     passed = h.passed;
     told = sym (append_assoc x.out x.for_client bytes) ∙ ap (λ (l : List ℕ). l ++ bytes) h.told ∙ simp append_assoc;
     quiet = h.quiet;
+    struck = h.struck;
   }
 
   pub service_gives_out : (bytes rest : List ℕ) → x.for_client ≡ bytes ++ rest → InService cat x y → InService cat (took_out x bytes rest) y
@@ -58,4 +62,5 @@ module _ {cat : CatalogueOf} {x : Client} {y : Link} where
     passed = h.passed;
     told = gives_out x.out x.for_client bytes rest _ e h.told;
     quiet = h.quiet;
+    struck = h.struck;
   }

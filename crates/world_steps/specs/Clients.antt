@@ -1,12 +1,14 @@
 -- A client with its worker: how far it is, what it sent and was given, and what its worker holds.
-use Rattle.std.specs.Prelude.{◌≡◌, ℕ, List, [], ◌++◌, Option, None}
+use Rattle.std.specs.Prelude.{◌≡◌, ℕ, Bool, false, List, [], ◌++◌, Option, None}
 use Rattle.std.specs.List.{flat_map, AllByRecursion}
 use Rattle.frame_view.specs.declared.Side.TheVariants.{Server}
 use Rattle.frame_view.specs.declared.frames.TheConstants.{LONGEST_FRAME}
 use Rattle.frame_view.specs.Frames.{FrameOf, IsFrame, spelling}
 use Rattle.message_view.specs.declared.KeyWord.{KeyWord}
+use Rattle.message_view.specs.declared.views.KeyView.{KeyView}
 use Rattle.message_view.specs.Refusals.{joined_pieces}
 use Rattle.session_values.specs.State.{StartKeyOf}
+use Rattle.session_values.specs.Step.{has_mark}
 use Rattle.login_core.specs.Dialogue.{LoginRow, login}
 
 pub data Phase : Type 0 where
@@ -40,13 +42,23 @@ pub record Client : Type 0 where
   -- the bytes that it was given, and behind them those of a refusal
   pub out : List ℕ
   pub refusal : List ℕ
+  -- for each of its frames that a server took while it was served, whether a cancel struck it
+  pub struck : List Bool
 
 -- a client that has come, and has sent nothing yet
 abbrev pub newcomer : LoginRow → KeyWord → Client
-newcomer row word = record { phase = LoggingIn []; number = None; row = row; word = word; sent = []; unread = []; for_link = []; for_client = []; out = []; refusal = [] }
+newcomer row word = record { phase = LoggingIn []; number = None; row = row; word = word; sent = []; unread = []; for_link = []; for_client = []; out = []; refusal = []; struck = [] }
 
 abbrev pub given : Client → List ℕ
 given x = x.out ++ x.refusal
+
+-- the key word that its welcome tells it, by which a cancel names it
+abbrev pub key_of : Client → KeyView
+key_of x = record { pid = x.word.pid; secret = x.word.secret }
+
+-- no frame is struck
+abbrev pub IsUnstruck : List Bool → Type 0
+IsUnstruck marks = has_mark marks ≡ false
 
 -- it is given what is held for it
 pub data MayWrite : Phase → Type 0 where
@@ -55,6 +67,10 @@ pub data MayWrite : Phase → Type 0 where
   starting : {key : StartKeyOf} {link : ℕ} → MayWrite (Starting key link)
   served : {link : ℕ} → MayWrite (Served link)
   last_bytes : MayWrite Finishing
+
+abbrev pub HasCome : Phase → Type 0
+HasCome Absent = ⊥
+HasCome _ = Unit {0}
 
 -- it uses no link any more
 pub data HasEnded : Phase → Type 0 where

@@ -1,11 +1,13 @@
 -- A link and the server behind it, and when the traffic over it is settled.
-use Rattle.std.specs.Prelude.{◌≡◌, ◌⊎◌, ℕ, Bool, true, List, [], ◌∷◌}
+use Rattle.std.specs.Prelude.{◌≡◌, ◌⊎◌, ℕ, Bool, true, false, ◌&&◌, List, [], ◌∷◌, Option, Some, None}
 use Rattle.std.specs.List.{flat_map, AllByRecursion}
 use Rattle.frame_view.specs.declared.Side.{Side}
 use Rattle.frame_view.specs.declared.Side.TheVariants.{Client, Server}
 use Rattle.frame_view.specs.declared.frames.TheConstants.{LONGEST_FRAME}
 use Rattle.frame_view.specs.Frames.{FrameOf, IsFrame, spelling}
+use Rattle.message_view.specs.declared.views.KeyView.{KeyView}
 use Rattle.session_values.specs.State.{State, StartKeyOf}
+use Rattle.session_values.specs.Step.{may_be_struck}
 use Rattle.session_laws.specs.Laws.{discard_all}
 use Rattle.session_run_laws.specs.Settling.{IsAnswered}
 
@@ -24,18 +26,36 @@ pub data Role : Type 0 where
 pub record Link : Type 0 where
   pub role : Role
   pub key : StartKeyOf
-  -- its server: the session, the bytes that it has still to take, and those that it has still to give
+  -- its server: the key word that it told at its start, the session, the bytes that it has still to take, and those that it has still to give
+  pub server_key : Option KeyView
   pub alive : Bool
   pub session : State
   pub inbox : List ℕ
   pub outbox : List ℕ
+  -- a cancel came to it that no statement took yet: the key word of the client for which it was asked
+  pub due : Option KeyView
   -- the bytes sent and received since it was last clean
   pub sent : List ℕ
   pub received : List ℕ
+  -- for each frame that its server took since then, whether a cancel struck it
+  pub struck : List Bool
 
--- the link of a server that has just opened this session for a client
-abbrev pub newborn : ℕ → StartKeyOf → State → Link
-newborn c key s = record { role = Lent c; key = key; alive = true; session = s; inbox = []; outbox = []; sent = []; received = [] }
+-- the link of a server that has just opened this session for a client, and told this key word
+abbrev pub newborn : ℕ → StartKeyOf → KeyView → State → Link
+newborn c key own s = record { role = Lent c; key = key; server_key = Some own; alive = true; session = s; inbox = []; outbox = []; due = None; sent = []; received = []; struck = [] }
+
+abbrev pub is_some : {A : Type 0} → Option A → Bool
+is_some None = false
+is_some (Some x) = true
+
+-- the cancel that came strikes this frame
+abbrev pub is_due : Link → FrameOf → Bool
+is_due y f = is_some y.due && may_be_struck y.session f
+
+-- a frame that is struck takes the cancel with it
+abbrev pub left_due : (struck : Bool) → Option KeyView → Option KeyView
+left_due true due = None
+left_due false due = due
 
 -- the bytes are these frames, and no part of one more
 pub record AreTheFrames (side : Side) (bytes : List ℕ) (frames : List FrameOf) : Type 0 where

@@ -1,4 +1,4 @@
-use Rattle.world_steps.proofs.Steps.{ends_keep}
+use Rattle.world_steps.proofs.Groups.{ends_keep}
 use Rattle.world_steps.proofs.end_steps_keep.Goals as goal
 
 pub returns : goal.returns

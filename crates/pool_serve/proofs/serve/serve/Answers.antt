@@ -8,6 +8,8 @@ use Rattle.pool_serve.specs.Serving.{AreMarksOf, LetsIn}
 use Rattle.pool_serve.specs.Stays.{ServesAs}
 use Rattle.pool_serve.specs.Words.{HasGiven, last_bytes}
 use Rattle.pool_serve.specs.declared.word.LastWord.{LastWord}
+use Rattle.link_desk.specs.declared.calls.Holder.{Holder}
+use Rattle.pool_serve.proofs.Cancelling.{cancelled_settles, passed_on}
 use Rattle.pool_serve.proofs.Leases.{came_first}
 use Rattle.pool_serve.proofs.Logging.{run_ends}
 use Rattle.pool_serve.proofs.Managing.{same_serves, told_as}
@@ -40,11 +42,23 @@ returns-clause-allowed g c = λ t l.
     (subst (λ (v : LoginView). ServesAs g.D.LinkDesk.home v client end) c.new-run.ensures.login (same_serves g.D.LinkDesk.home c.new-run.result c.converse.new.run client end c.converse.ensures.login (c.admit-client.ensures.serves tells lets)))
 
 pub returns-clause-over : goal.returns-clause-over
-returns-clause-over g c = inr (record {
+returns-clause-over g c = inr (inr (record {
   ending = c.admit-client.result.1;
   before = g.C.ClientEnd.facts c.admit-client.result.0;
   traces = c.admit-client.ensures.traces;
   refused = c.admit-client.ensures.refused;
   came = came_first _ c.args.login c.new-run.result c.converse.new.run _ c.admit-client.result.1 c.new-run.ensures.login c.converse.ensures.login c.admit-client.ensures.came;
   told = subst (λ (w : LastWord). HasGiven (g.C.ClientEnd.facts c.admit-client.result.0) (g.C.ClientEnd.facts c.tell.new.client) (last_bytes w)) c.into_word.ensures c.tell.ensures;
-})
+}))
+
+pub returns-in-Cancel : goal.returns-in-Cancel
+returns-in-Cancel g c = record {
+  tells = ap (λ (x : ClientFacts). x.tells) c.finish-client.ensures.client ∙ (c.converse.ensures.login.tells ∙ ap (λ (x : ClientFacts). x.tells) c.new-run.ensures.client);
+  allowed = λ t l. inl
+      (subst (λ (v : LoginView). (marks : List Bool) × (AreMarksOf g.D.LinkDesk.home.strikable marks × AllowedBy (HasCause v (g.C.ClientEnd.facts c.finish-client.result.0).taken (g.D.LinkDesk.told c.args.pass) (g.D.LinkDesk.told c.pass_on.new.pass)) (g.C.ClientEnd.facts c.finish-client.result.0).given (own g.D.LinkDesk.home.catalogue v marks (g.C.ClientEnd.facts c.finish-client.result.0).taken))) c.new-run.ensures.login
+      (untold_client g.D.LinkDesk.home c.new-run.result.login (g.C.ClientEnd.facts c.finish-client.result.0) (g.D.LinkDesk.told c.args.pass) (g.D.LinkDesk.told c.pass_on.new.pass) (run_ends c.runs_are_allowed.ensures g.D.LinkDesk.home c.new-run.result c.converse.new.run (g.C.ClientEnd.facts c.finish-client.result.0) c.converse.ensures.login c.finish-client.ensures.run c.finish-client.ensures.client (ap (λ (x : ClientFacts). x.tells) c.new-run.ensures.client ∙ t))));
+  share = cancelled_settles (g.D.LinkDesk.told c.args.pass) _ c.pass_on.result c.pass_on.ensures.told;
+  free = ap (λ (h : Holder). h.client) c.pass_on.ensures.holder ∙ c.requires.free;
+  none = ap (λ (h : Holder). h.lease) c.pass_on.ensures.holder ∙ c.requires.none;
+  over = inr (inl (passed_on c.cancelling_runs_have_asked.ensures c.args.login c.new-run.result c.converse.new.run c.in-Cancel.key _ _ _ _ _ c.pass_on.result c.new-run.ensures.login c.converse.ensures.login c.finish-client.ensures.run c.in-Cancel.ensures.stopped.0 c.finish-client.ensures.client c.pass_on.ensures.told c.pass_on.ensures.holder));
+}
