@@ -1,2 +1,3 @@
 pub mod StartKeys
 pub mod Laws
+pub mod Cancels

@@ -1,7 +1,10 @@
 //! Laws of start keys and of logins, each the contract of a function that does nothing.
 
 ghost use Rattle.login_laws.specs.StartKeys.{StartKeysAreClientKeys};
+ghost use Rattle.login_laws.specs.Cancels.{CancelKeysAreSent};
 ghost use Rattle.login_laws.specs.Laws.{BoundedRowsAreLawful, PassedKeysAreLinkKeys, PassedKeysAreOfTheirRows, ReadRowsAreLawful, SettingsRowsAreLawful};
+
+use frame_view::laws::first_read_is_spelled;
 
 /// The key that a StartupMessage gives has a user, a database where it has a server, no zero byte in any text, and its
 /// parameters in order, by names in lower case, none of them `user` or `database`.
@@ -36,3 +39,10 @@ pub fn passed_keys_are_of_their_rows()
 pub fn bounded_rows_are_lawful()
     ensures { BoundedRowsAreLawful }
 {}
+
+/// The key that a login tells where its client asks to cancel is that of a CancelRequest among the client's bytes.
+pub fn cancel_keys_are_sent()
+    ensures { CancelKeysAreSent }
+{
+    first_read_is_spelled();
+}
