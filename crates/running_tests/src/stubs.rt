@@ -1,4 +1,5 @@
 //! The stand-in server over the loopback network.
+use crate::pools::{connect, leave, read, start_stub};
 use mio::net::TcpListener;
 use session_catalogue::Catalogue;
 use std::alloc::Global;
@@ -20,7 +21,18 @@ const ASKS_GSS: &[u8] = b"\0\0\0\x08\x04\xd2\x16\x30";
 
 const CANCELS: &[u8] = b"\0\0\0\x10\x04\xd2\x16\x2e\0\0\0\x01\0\0\0\x01";
 
+/// The same process number, and another secret.
+const CANCELS_NOBODY: &[u8] = b"\0\0\0\x10\x04\xd2\x16\x2e\0\0\0\x01\0\0\0\x02";
+
 const TERMINATE: &[u8] = b"X\0\0\0\x04";
+
+const SHOW: &[u8] = b"Q\0\0\0\x12SHOW TimeZone\0";
+
+const SHOWN: &[u8] =
+    b"T\0\0\0\x21\0\x01TimeZone\0\0\0\0\0\0\0\0\0\0\x19\xff\xff\xff\xff\xff\xff\0\0D\0\0\0\x0d\0\x01\0\0\0\x03UTCC\0\0\0\x09SHOW\0Z\0\0\0\x05I";
+
+const STRUCK: &[u8] =
+    b"E\0\0\0\x33SERROR\0VERROR\0C57014\0Mstatement was cancelled\0\0Z\0\0\0\x05I";
 
 /// The answer to a StartupMessage without parameters: AuthenticationOk, nine reports, BackendKeyData and ReadyForQuery.
 const WELCOME: usize = 260;
@@ -103,5 +115,49 @@ fn encryption_is_refused_and_cancels_are_closed(rt: HostRuntime) -> Result<(), F
         assert!(rt; bytes.len() == length);
         assert!(rt; bytes.first().copied() == if length > 0 { Some(b'N') } else { None });
     }
+    Ok(())
+}
+
+/// Whether the client is answered so.
+fn is_answered(
+    alloc: Global,
+    stream: &mut TcpStream,
+    asks: &[u8],
+    wanted: &[u8],
+) -> Result<bool, Fail> {
+    stream.write_all(asks)?;
+    Ok(read(alloc, stream, wanted.len())?.as_slice() == wanted)
+}
+
+/// Of two CancelRequests the second has the key of a connection: its next statement is struck, and no other.
+#[test]
+fn a_cancel_strikes_the_connection_of_its_key(rt: HostRuntime) -> Result<(), Fail> {
+    let alloc = rt.alloc();
+    let (stub, port) = start_stub(rt, alloc, 3)?;
+    let mut stream = connect(&rt, port, START)?;
+    let _ = read(alloc, &mut stream, WELCOME)?;
+    for (cancels, answer) in [(CANCELS_NOBODY, SHOWN), (CANCELS, STRUCK)] {
+        assert!(rt; leave(alloc, connect(&rt, port, cancels)?)?.is_empty());
+        assert!(rt; is_answered(alloc, &mut stream, SHOW, answer)?);
+    }
+    assert!(rt; is_answered(alloc, &mut stream, SHOW, SHOWN)?);
+    assert!(rt; leave(alloc, stream)?.is_empty());
+    assert!(rt; stub.join(&rt));
+    Ok(())
+}
+
+/// A connection that has ended is struck no more, nor is the next one.
+#[test]
+fn a_late_cancel_strikes_nobody(rt: HostRuntime) -> Result<(), Fail> {
+    let alloc = rt.alloc();
+    let (stub, port) = start_stub(rt, alloc, 3)?;
+    let first = connect(&rt, port, START)?;
+    assert!(rt; leave(alloc, first)?.len() == WELCOME);
+    let mut second = connect(&rt, port, START)?;
+    let _ = read(alloc, &mut second, WELCOME)?;
+    assert!(rt; leave(alloc, connect(&rt, port, CANCELS)?)?.is_empty());
+    assert!(rt; is_answered(alloc, &mut second, SHOW, SHOWN)?);
+    assert!(rt; leave(alloc, second)?.is_empty());
+    assert!(rt; stub.join(&rt));
     Ok(())
 }

@@ -1,29 +1,20 @@
 //! The stand-in server over one client's end.
-ghost use Rattle.std.specs.Prelude.{◌≡◌, ◌<◌, [], length, false, true};
+ghost use Rattle.std.specs.Prelude.{◌≡◌, ◌<◌, [], length};
 ghost use Rattle.std.specs.Arc.{arc_value};
+ghost use Rattle.session_values.specs.Extended.{is_there};
 ghost use Rattle.stub_server.specs.Talks.{HasEnded, IsNew, Turns};
 
-use crate::talk::Talk;
+use crate::talk::{Ending, Talk};
 use message_view::KeyWord;
 use server_end::gate::Gate;
 use server_end::{ClientEnd, ServerEnd};
 use session_catalogue::Catalogue;
 use std::alloc::Global;
 use std::sync::Arc;
+use std::sync::atomic::AtomicBool;
 
 /// As many bytes as one read takes at most.
 const ROOM: usize = 8192;
-
-/// Why a connection is closed.
-#[derive(Clone, Copy, Drop)]
-pub enum Ending {
-    /// The server has answered all, and would answer nothing more.
-    Closed,
-    /// The client's end has ended, or came to a fault.
-    Left,
-    /// An allocation failed.
-    OutOfMemory,
-}
 
 /// What a turn of a connection came to.
 #[derive(Clone, Copy, Drop)]
@@ -73,29 +64,32 @@ fn turn<C: ClientEnd>(talk: &mut Talk, client: &mut C, room: &mut [u8]) -> Progr
     if !talk.outbox().is_empty() {
         return give(talk, client);
     }
-    if talk.is_over() {
-        return Progress::Ends(Ending::Closed);
+    match talk.ending() {
+        Some(ending) => Progress::Ends(ending),
+        None => hear(talk, client, room),
     }
-    hear(talk, client, room)
 }
 
 /// Serves one client from its first byte to its end, as the stand-in server of this catalogue whose BackendKeyData has the words of
 /// `own`: what the client is given, and why it ended. Requests for encryption are answered by `N`, and everybody is let in. A
-/// CancelRequest is answered by nothing, and strikes nothing.
+/// CancelRequest is answered by nothing: it is for the caller to strike what it names.
+///
+/// Where the flag is raised, the next Query or Execute that isn't skipped takes it down, and is struck. Without a flag none is.
 ///
 /// What is held for the client is written before more of it is read. The gate is waited at where nothing could be moved.
 pub fn serve_client<C: ClientEnd, E: ServerEnd, G: Gate<E>>(
     alloc: Global,
     catalogue: Arc<Catalogue>,
     own: KeyWord,
+    flag: Option<Arc<AtomicBool>>,
     client: C,
     gate: &mut G,
 ) -> (C, Ending)
     requires { IsNew (C.facts client) }
-    ensures { HasEnded (record { catalogue = arc_value catalogue; pid = own.pid; secret = own.secret; strikable = false }) (C.facts result.0) result.1 }
+    ensures { HasEnded (record { catalogue = arc_value catalogue; pid = own.pid; secret = own.secret; strikable = is_there flag }) (C.facts result.0) result.1 }
 {
     let mut client = client;
-    let mut talk = Talk::new(alloc, catalogue, own);
+    let mut talk = Talk::new(alloc, catalogue, own, flag);
     let mut room = [0u8; ROOM];
     for _ in 0..u64::MAX {
         match turn(&mut talk, &mut client, &mut room) {

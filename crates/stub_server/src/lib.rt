@@ -3,4 +3,5 @@
 
 pub mod connection;
 pub mod server;
+pub mod strikers;
 pub mod talk;

@@ -2,13 +2,17 @@
 ghost use Rattle.std.specs.Prelude.{◌≡◌, [], ◌∷◌};
 
 use crate::connection::serve_client;
-use message_view::KeyWord;
+use crate::strikers::Strikers;
+use crate::talk::Ending;
+use memory_ends::striker::Striker;
+use message_view::{KeyView, KeyWord};
 use mio::net::TcpListener;
 use session_catalogue::Catalogue;
-use std::alloc::Global;
+use std::alloc::{AllocError, Global};
 use std::net::Net;
 use std::rt::Clock;
-use std::sync::{Arc, Wait};
+use std::sync::atomic::AtomicBool;
+use std::sync::{Arc, Mutex, Wait};
 use std::thread::Threads;
 use std::{io, net};
 use tcp_end::acceptor::{Acceptor, Turn};
@@ -16,20 +20,67 @@ use tcp_end::connection::TcpEnd;
 use tcp_end::gate::TcpGate;
 use worker_threads::Workers;
 
-/// Serves one connection to its end. One that can't be watched, since the system has no more polls, is closed.
-fn attend<R: Net + Clock + Drop>(
+/// What the connections of a listener share.
+#[derive(Drop)]
+struct Stub {
+    catalogue: Arc<Catalogue>,
+    strikers: Mutex<Strikers>,
+}
+
+impl Stub {
+    /// The flag of a connection with this key, which cancels find from now on.
+    fn open<R: Wait>(
+        &self,
+        rt: &R,
+        alloc: Global,
+        own: KeyWord,
+    ) -> Result<Arc<AtomicBool>, AllocError> {
+        let flag = Arc::new(alloc, AtomicBool::new(false))?;
+        let striker = Striker::new(Arc::try_clone(&flag)?, own);
+        self.strikers.lock(rt).add(striker)?;
+        Ok(flag)
+    }
+
+    /// The connection with this key has ended: no cancel finds it any more.
+    fn close<R: Wait>(&self, rt: &R, own: KeyWord) {
+        let KeyWord { pid, secret, .. } = own;
+        self.strikers.lock(rt).remove(KeyView { pid, secret });
+    }
+}
+
+/// Serves one connection to its end, and strikes the connection that it asks to cancel, if one is served with that key. One that
+/// can't be watched, since the system has no more polls, is closed, and so is one for which there is no memory.
+fn attend<R: Net + Clock + Wait + Copy + Drop>(
     rt: R,
     alloc: Global,
-    catalogue: Arc<Catalogue>,
+    stub: Arc<Stub>,
     own: KeyWord,
     client: TcpEnd,
 ) {
     let mut client = client;
-    if let Ok(mut gate) = TcpGate::new(rt, alloc, &mut client) {
-        let _ = serve_client::<TcpEnd, TcpEnd, TcpGate<R>>(
-            alloc, catalogue, own, client, &mut gate,
-        );
+    let Ok(mut gate) = TcpGate::new(rt, alloc, &mut client) else {
+        return;
+    };
+    let Ok(catalogue) = Arc::try_clone(&stub.catalogue) else {
+        return;
+    };
+    let Ok(flag) = stub.open(&rt, alloc, own) else {
+        return;
+    };
+    let (client, ending) = serve_client::<TcpEnd, TcpEnd, TcpGate<R>>(
+        alloc,
+        catalogue,
+        own,
+        Some(flag),
+        client,
+        &mut gate,
+    );
+    stub.close(&rt, own);
+    if let Ending::Asked(key) = ending {
+        stub.strikers.lock(&rt).cancel(key);
     }
+    // only now: who sees that it is closed may rely on the strike
+    drop(client);
 }
 
 /// The key word of a connection: its number as pid and secret. Numbers count from 1.
@@ -44,7 +95,7 @@ pub fn key_word(number: u32) -> KeyWord
 }
 
 /// Serves the connections of this listener, each on a thread of its own: as many as `count` says, and then no more, or for ever. It
-/// returns when the last is done.
+/// returns when the last is done. A CancelRequest with the key of one that is served strikes its next Query or Execute.
 ///
 /// A connection for which there is no thread or no memory is closed, and the others go on. The error is that the system has no poll
 /// for the listener, or that an allocation failed before the first connection.
@@ -63,7 +114,11 @@ pub fn stub_on<
     catalogue: Catalogue,
     count: Option<u32>,
 ) -> io::Result<()> {
-    let catalogue = Arc::new(alloc, catalogue)?;
+    let stub = Stub {
+        catalogue: Arc::new(alloc, catalogue)?,
+        strikers: Mutex::new(Strikers::new(alloc)),
+    };
+    let stub = Arc::new(alloc, stub)?;
     let mut acceptor = Acceptor::new(&rt, alloc, listener)?;
     let mut workers = Workers::new(alloc)?;
     let mut accepted: u32 = 0;
@@ -71,14 +126,13 @@ pub fn stub_on<
         if count == Some(accepted) {
             break;
         }
-        let (Turn::Client(client, _), Ok(catalogue)) = (acceptor.turn(), Arc::try_clone(&catalogue))
-        else {
+        let (Turn::Client(client, _), Ok(stub)) = (acceptor.turn(), Arc::try_clone(&stub)) else {
             continue;
         };
         accepted = accepted.wrapping_add(1);
         let own = key_word(accepted);
         // a thread that can't be started closes this connection alone
-        let _ = workers.start(rt, move || attend(rt, alloc, catalogue, own, client));
+        let _ = workers.start(rt, move || attend(rt, alloc, stub, own, client));
     }
     workers.join_all(&rt);
     Ok(())

@@ -1,8 +1,9 @@
 //! What the stand-in server says to one client, packet by packet.
-ghost use Rattle.std.specs.Prelude.{◌≡◌, ◌<◌, ◌≤◌, false, true, length, IfOk, OnOk};
+ghost use Rattle.std.specs.Prelude.{◌≡◌, ◌<◌, ◌≤◌, false, length, IfOk, OnOk};
 ghost use Rattle.std.specs.Arc.{arc_value};
 ghost use Rattle.link_laws.specs.Stages.{opens};
-ghost use Rattle.stub_server.specs.Talks.{Gives, Hears, IsAnswered, IsSilent, IsTurn, Takes, TakesOne, is_over, new_talk, server_of, talk_of};
+ghost use Rattle.session_values.specs.Extended.{is_there};
+ghost use Rattle.stub_server.specs.Talks.{Gives, Hears, IsAnswered, IsSilent, IsTurn, Takes, TakesOne, ending_asked, ending_of, new_talk, server_of, talk_of};
 ghost use Rattle.stub_server.specs.Talks as spec;
 ghost use Rattle.stub_server.specs.declared.talk.Stage.TheVariants.{Serves, Waits};
 
@@ -14,7 +15,8 @@ use frame_view::laws::{
 use frame_view::{FirstStep, LONGEST_FRAME, Side, Step, first_packet, next_frame};
 use link_laws::futures_stay;
 use memory_ends::dialogue::started;
-use message_view::{KeyWord, put_authentication_ok};
+use memory_ends::striker::strikes;
+use message_view::{KeyView, KeyWord, put_authentication_ok};
 use session_catalogue::Catalogue;
 use session_machine::Session;
 use session_values::error_responses::put_fatal;
@@ -22,6 +24,7 @@ use session_values::stop::Stop;
 use std::alloc::{AllocError, Global};
 use std::marker::Model;
 use std::sync::Arc;
+use std::sync::atomic::AtomicBool;
 
 /// Requests for TLS and for GSS encryption, and a StartupMessage.
 const MOST_FIRST_PACKETS: u8 = 3;
@@ -38,6 +41,21 @@ pub enum Stage {
     /// So many first packets are still answered. After the last nothing is answered any more.
     Waits(u8),
     Serves(Session),
+    /// Nothing is answered any more. If the client asked to cancel what that of a key is at, with that key.
+    Over(Option<KeyView>),
+}
+
+/// Why a connection is closed.
+#[derive(Clone, Copy, Drop)]
+pub enum Ending {
+    /// The server has answered all, and would answer nothing more.
+    Closed,
+    /// The same, and the client has asked to cancel what the client of this key is at.
+    Asked(KeyView),
+    /// The client's end has ended, or came to a fault.
+    Left,
+    /// An allocation failed.
+    OutOfMemory,
 }
 
 /// What was taken.
@@ -47,8 +65,8 @@ pub enum Took {
     Packet,
     /// Nothing: what is there isn't a whole packet yet.
     Nothing,
-    /// What ends the talk: nothing that comes is answered any more.
-    End,
+    /// What ends the talk: nothing that comes is answered any more. If it is a CancelRequest, its key.
+    End(Option<KeyView>),
 }
 
 /// What a server keeps from the beginning of a talk to its end.
@@ -56,6 +74,8 @@ pub struct Host {
     alloc: Global,
     catalogue: Arc<Catalogue>,
     own: KeyWord,
+    /// Raised by a cancel, and taken down by the statement that it strikes; none where no cancel reaches it.
+    flag: Option<Arc<AtomicBool>>,
 }
 
 impl Drop for Host {
@@ -64,6 +84,7 @@ impl Drop for Host {
             alloc: _,
             catalogue: _,
             own: _,
+            flag: _,
         } = self;
     }
 }
@@ -144,12 +165,12 @@ impl Host {
                 Ok(Took::Packet)
             }
             FirstStep::Need(_) => Ok(Took::Nothing),
-            FirstStep::Cancel { .. } => Ok(Took::End),
-            FirstStep::Bad(_) => Ok(Took::End),
+            FirstStep::Cancel { pid, secret } => Ok(Took::End(Some(KeyView { pid, secret }))),
+            FirstStep::Bad(_) => Ok(Took::End(None)),
         }
     }
 
-    /// Answers the frame that stands first, if a whole one does. No cancel strikes it.
+    /// Answers the frame that stands first, if a whole one does.
     fn take_frame(
         &self,
         session: &mut Session,
@@ -167,13 +188,24 @@ impl Host {
             Step::Whole(frame) => {
                 let used = frame.whole.len();
                 let took = after_frame(frame.kind);
-                session.answer(self.alloc, &self.catalogue, false, frame, outbox)?;
+                let struck = strikes(&self.flag, session, frame);
+                session.answer(self.alloc, &self.catalogue, struck, frame, outbox)?;
                 inbox.advance(used);
                 Ok(took)
             }
             Step::Need(_) => Ok(Took::Nothing),
-            Step::Bad(_) => Ok(Took::End),
+            Step::Bad(_) => Ok(Took::End(None)),
         }
+    }
+}
+
+/// How a talk ends in which nothing is answered any more.
+fn ending_asked(asked: Option<KeyView>) -> Ending
+    ensures { result ≡ ending_asked asked }
+{
+    match asked {
+        Some(key) => Ending::Asked(key),
+        None => Ending::Closed,
     }
 }
 
@@ -182,20 +214,26 @@ fn after_frame(kind: u8) -> Took
     ensures { result ≡ spec.after_frame kind }
 {
     match kind {
-        TERMINATE => Took::End,
+        TERMINATE => Took::End(None),
         _ => Took::Packet,
     }
 }
 
 impl Talk {
-    pub(crate) fn new(alloc: Global, catalogue: Arc<Catalogue>, own: KeyWord) -> Talk
-        ensures { result ≡ new_talk (record { catalogue = arc_value catalogue; pid = own.pid; secret = own.secret; strikable = false }) }
+    pub(crate) fn new(
+        alloc: Global,
+        catalogue: Arc<Catalogue>,
+        own: KeyWord,
+        flag: Option<Arc<AtomicBool>>,
+    ) -> Talk
+        ensures { result ≡ new_talk (record { catalogue = arc_value catalogue; pid = own.pid; secret = own.secret; strikable = is_there flag }) }
     {
         Talk {
             host: Host {
                 alloc,
                 catalogue,
                 own,
+                flag,
             },
             stage: Stage::Waits(MOST_FIRST_PACKETS),
             inbox: BytesMut::new(alloc),
@@ -203,11 +241,15 @@ impl Talk {
         }
     }
 
-    /// Nothing is answered any more.
-    pub(crate) fn is_over(&self) -> bool
-        ensures { result ≡ is_over self.now.stage }
+    /// How it ends, once nothing is answered any more.
+    pub(crate) fn ending(&self) -> Option<Ending>
+        ensures { result ≡ ending_of self.now.stage }
     {
-        matches!(self.stage, Stage::Waits(0))
+        match &self.stage {
+            Stage::Waits(0) => Some(Ending::Closed),
+            Stage::Waits(_) | Stage::Serves(_) => None,
+            Stage::Over(asked) => Some(ending_asked(*asked)),
+        }
     }
 
     /// What is to be given to the client.
@@ -226,8 +268,8 @@ impl Talk {
     }
 
     /// Takes the packet that stands first, if a whole one does.
-    fn take_one(&mut self) -> Result<bool, AllocError>
-        ensures { IfOk result (λ taken. TakesOne taken self.old self.new) }
+    fn take_packet(&mut self) -> Result<Took, AllocError>
+        ensures { IfOk result (λ took. Takes took self.old self.new) }
     {
         let Talk {
             host,
@@ -235,28 +277,36 @@ impl Talk {
             inbox,
             outbox,
         } = self;
-        let took = match stage {
-            Stage::Waits(0) => Took::Nothing,
+        match stage {
+            Stage::Waits(0) | Stage::Over(_) => Ok(Took::Nothing),
             Stage::Waits(left) => {
                 let left = *left;
-                host.take_first(left, stage, inbox, outbox)?
+                host.take_first(left, stage, inbox, outbox)
             }
-            Stage::Serves(session) => host.take_frame(session, inbox, outbox)?,
-        };
-        match took {
-            Took::Packet => return Ok(true),
-            Took::Nothing => {}
-            Took::End => self.end(),
+            Stage::Serves(session) => host.take_frame(session, inbox, outbox),
         }
-        Ok(false)
+    }
+
+    /// Takes the packet that stands first, and ends the talk where that ends it: whether there may be another.
+    fn take_one(&mut self) -> Result<bool, AllocError>
+        ensures { IfOk result (λ taken. TakesOne taken self.old self.new) }
+    {
+        match self.take_packet()? {
+            Took::Packet => Ok(true),
+            Took::Nothing => Ok(false),
+            Took::End(asked) => {
+                self.end(asked);
+                Ok(false)
+            }
+        }
     }
 
     /// Nothing that comes is answered any more.
-    fn end(&mut self)
-        requires { IsSilent self.old }
+    fn end(&mut self, asked: Option<KeyView>)
+        requires { IsSilent self.old asked }
         ensures { TakesOne false self.old self.new }
     {
-        self.stage = Stage::Waits(0);
+        self.stage = Stage::Over(asked);
         self.inbox.clear();
     }
 

@@ -1,4 +1,4 @@
-use Rattle.std.proofs.Common.{◌-◌, sym, subst}
+use Rattle.std.proofs.Common.{◌-◌, Some, None, sym, subst}
 use Rattle.stub_server.specs.declared.talk.Stage.{Stage}
 use Rattle.stub_server.specs.declared.talk.Stage.TheVariants.{Waits}
 use Rattle.stub_server.specs.declared.talk.Took.TheVariants.{Packet, End}
@@ -19,10 +19,10 @@ returns-in_ok-put_u8-in-Tls c =
 
 pub returns-in-Cancel : goal.returns-in-Cancel
 returns-in-Cancel c =
-    subst (λ (x : Stage). Takes End (talk_of c.args.self.now x c.args.inbox.now.items c.args.outbox.now.items) (talk_of c.args.self.now x c.args.inbox.now.items c.args.outbox.now.items)) (sym c.requires.stage)
+    subst (λ (x : Stage). Takes (End (Some (record { pid = c.in-Cancel.pid; secret = c.in-Cancel.secret }))) (talk_of c.args.self.now x c.args.inbox.now.items c.args.outbox.now.items) (talk_of c.args.self.now x c.args.inbox.now.items c.args.outbox.now.items)) (sym c.requires.stage)
     (cancel_ends c.first_grows.ensures c.args.self.now c.args.left _ _ c.as_slice-held.result.now _ _ c.requires.some c.as_slice-held.ensures c.in-Cancel.ensures.tells)
 
 pub returns-in-Bad : goal.returns-in-Bad
 returns-in-Bad c =
-    subst (λ (x : Stage). Takes End (talk_of c.args.self.now x c.args.inbox.now.items c.args.outbox.now.items) (talk_of c.args.self.now x c.args.inbox.now.items c.args.outbox.now.items)) (sym c.requires.stage)
+    subst (λ (x : Stage). Takes (End None) (talk_of c.args.self.now x c.args.inbox.now.items c.args.outbox.now.items) (talk_of c.args.self.now x c.args.inbox.now.items c.args.outbox.now.items)) (sym c.requires.stage)
     (fault_ends c.first_grows.ensures c.args.self.now c.args.left _ c.as_slice-held.result.now _ _ c.requires.some c.as_slice-held.ensures c.in-Bad.ensures.tells)
