@@ -27,7 +27,8 @@ use login_laws::laws::{
     bounded_rows_are_lawful, passed_keys_are_link_keys, passed_keys_are_of_their_rows,
 };
 use login_run::laws::{
-    cancelling_runs_have_asked, passed_runs_are_let_in, passed_runs_have_passed, runs_are_allowed, runs_stand_at_pieces,
+    cancelling_runs_have_asked, passed_runs_are_let_in, passed_runs_have_passed, runs_are_allowed,
+    runs_stand_at_pieces,
 };
 use login_run::{LoginRun, LoginTurn};
 use message_view::{KeyView, KeyWord};
