@@ -62,6 +62,7 @@ gate:
 	scripts/welcomes.sh $(program)
 	scripts/cursors.sh $(program)
 	scripts/postgres.sh $(program)
+	scripts/cancels.sh $(program)
 	scripts/console.sh $(program)
 	scripts/abuse.sh $(program)
 	scripts/show.py $(program)

@@ -5,6 +5,7 @@ import struct
 
 SECONDS = 20
 PROTOCOL_3_0 = 196608
+CANCEL_REQUEST = 80877102
 ASKS_NOTHING, ASKS_CLEARTEXT, ASKS_MD5 = 0, 3, 5
 
 
@@ -20,6 +21,11 @@ def startup(user, database, **parameters):
     pairs = {"user": user, "database": database, **parameters}
     body = b"".join(f"{name}\0{value}\0".encode() for name, value in pairs.items()) + b"\0"
     return (8 + len(body)).to_bytes(4, "big") + PROTOCOL_3_0.to_bytes(4, "big") + body
+
+
+def cancel_request(key):
+    """The packet that asks for the cancel of what the client of this BackendKeyData is at."""
+    return (16).to_bytes(4, "big") + CANCEL_REQUEST.to_bytes(4, "big") + key
 
 
 def fields(body):
@@ -46,7 +52,7 @@ class Client:
     def __init__(self, port, user=None, database="shop", password="", host="127.0.0.1", seconds=SECONDS, **parameters):
         self.socket = socket.create_connection((host, port), seconds)
         self.socket.setsockopt(socket.IPPROTO_TCP, socket.TCP_NODELAY, 1)
-        self.held, self.reports = b"", {}
+        self.held, self.reports, self.key = b"", {}, None
         if user is not None:
             try:
                 self.log_in(user, database, password, parameters)
@@ -85,6 +91,8 @@ class Client:
             if kind == b"S":
                 name, value = body.split(b"\0")[:2]
                 self.reports[name.decode()] = value.decode()
+            if kind == b"K":
+                self.key = body
 
     def log_in(self, user, database, password, parameters):
         self.send(startup(user, database, **parameters))

@@ -4,11 +4,11 @@ use book_tests::book_parts::{Settings, Whose, key_of, limits, link};
 use desk_tallies::ledgers::Ledgers;
 use desk_tallies::passes::Pass;
 use link_desk::answers as told;
-use link_desk::calls::Holder;
+use link_desk::calls::{Holder, Lease, Stage};
 use link_desk::desk::LinkDesk;
 use link_run::links::CleanLink;
 use memory_ends::gone_end::GoneEnd;
-use message_view::Refusal;
+use message_view::{KeyView, Refusal};
 use pool_desk::answers::{Changed, Ticked};
 use std::alloc::{AllocError, Global};
 use std::rt::Clock;
@@ -21,7 +21,13 @@ pub(crate) enum Act {
     /// The client of the pass asks for a link of this key.
     Ask(Whose),
     Take,
-    /// Its link comes back, of this key.
+    /// Its lease is found from now on by a cancel of this key word, and its server's key word is that one; pid and secret are each a
+    /// number.
+    Key(Word, Word),
+    /// Somebody asks for a cancel by this key word.
+    Cancel(Word),
+    EndLease,
+    /// Its link comes back, of this key, once its lease has ended.
     Back(Whose),
     Lost,
     StartFailed,
@@ -33,6 +39,9 @@ pub(crate) enum Act {
     Shutdown,
 }
 
+/// A key word: its pid and its secret.
+type Word = (u32, u32);
+
 /// What the desk answers.
 #[derive(Clone, Copy, PartialEq, Eq, Drop)]
 pub(crate) enum Says {
@@ -43,6 +52,12 @@ pub(crate) enum Says {
     Start(u64, u64, Option<u64>),
     Refuse(Refusal),
     Close(u64),
+    /// The cancel is for this link, whose server told this key word, at this port.
+    Strike(u64, Word, u16),
+    /// Nobody of this key word has a lease.
+    Unknown,
+    Reset,
+    Dispose,
     Done,
     Last,
     Stranger,
@@ -79,6 +94,40 @@ impl From<told::Gone> for Says {
             told::Gone::Done => Says::Done,
             told::Gone::Last => Says::Last,
             told::Gone::Stranger => Says::Stranger,
+        }
+    }
+}
+
+impl From<told::Keying> for Says {
+    fn from(keying: told::Keying) -> Says {
+        match keying {
+            told::Keying::Done => Says::Done,
+            told::Keying::Last => Says::Last,
+            told::Keying::Stranger => Says::Stranger,
+        }
+    }
+}
+
+impl From<told::Release> for Says {
+    fn from(release: told::Release) -> Says {
+        match release {
+            told::Release::Reset => Says::Reset,
+            told::Release::Dispose => Says::Dispose,
+            told::Release::Last => Says::Last,
+            told::Release::Stranger => Says::Stranger,
+        }
+    }
+}
+
+impl From<told::Cancelled> for Says {
+    fn from(cancelled: told::Cancelled) -> Says {
+        match cancelled {
+            told::Cancelled::Strike(strike) => {
+                let server = (strike.server.pid, strike.server.secret);
+                Says::Strike(strike.link, server, strike.port)
+            }
+            told::Cancelled::Nobody => Says::Unknown,
+            told::Cancelled::Last => Says::Last,
         }
     }
 }
@@ -176,6 +225,41 @@ fn takes<R: Wait + Clock, K: Ledgers>(desk: &TestDesk<R, K>, pass: &mut Pass<K>)
     Says::Waits
 }
 
+fn view_of(word: Word) -> KeyView {
+    let (pid, secret) = word;
+    KeyView { pid, secret }
+}
+
+fn keys<R: Wait + Clock, K: Ledgers>(
+    desk: &TestDesk<R, K>,
+    pass: &mut Pass<K>,
+    client: Word,
+    server: Word,
+) -> Says {
+    match pass.holder().lease {
+        Some(
+            Lease {
+                stage: Stage::Granted,
+                ..
+            },
+        ) => Says::from(desk.keyed(pass, view_of(client), view_of(server))),
+        _ => Says::Nobody,
+    }
+}
+
+fn ends_lease<R: Wait + Clock, K: Ledgers>(desk: &TestDesk<R, K>, pass: &mut Pass<K>) -> Says {
+    match pass.holder().lease {
+        Some(
+            Lease {
+                stage: Stage::Granted | Stage::Keyed,
+                ..
+            },
+        ) => Says::from(desk.end_lease(pass)),
+        _ => Says::Nobody,
+    }
+}
+
+/// A link of this key comes back whose lease has ended.
 fn gives_back<R: Wait + Clock, K: Ledgers>(
     alloc: Global,
     desk: &TestDesk<R, K>,
@@ -183,12 +267,32 @@ fn gives_back<R: Wait + Clock, K: Ledgers>(
     whose: Whose,
 ) -> Result<Says, AllocError> {
     let key = key_of(alloc, whose)?;
-    let Some(lease) = pass.holder().lease else {
+    let Some(
+        Lease {
+            number,
+            born,
+            stage: Stage::Ended,
+        },
+    ) = pass.holder().lease
+    else {
         return Ok(Says::Nobody);
     };
-    let mut back = Some(link(alloc, key, lease.number, lease.born));
+    let mut back = Some(link(alloc, key, number, born));
     let answer = desk.give_back(pass, &mut back);
     Ok(taken_back(answer, back))
+}
+
+/// The lease ends, if it hasn't, and the link comes back; what the end is answered, where it doesn't.
+fn ends<R: Wait + Clock, K: Ledgers>(
+    alloc: Global,
+    desk: &TestDesk<R, K>,
+    pass: &mut Pass<K>,
+    whose: Whose,
+) -> Result<Says, AllocError> {
+    match ends_lease(desk, pass) {
+        Says::Reset | Says::Nobody => gives_back(alloc, desk, pass, whose),
+        says => Ok(says),
+    }
 }
 
 fn loses<R: Wait + Clock, K: Ledgers>(desk: &TestDesk<R, K>, pass: &mut Pass<K>) -> Says {
@@ -238,7 +342,10 @@ pub(crate) fn answer<R: Wait + Clock, K: Ledgers>(
         Act::Come => Ok(comes(desk, pass)),
         Act::Ask(whose) => asks(alloc, desk, pass, whose),
         Act::Take => Ok(takes(desk, pass)),
-        Act::Back(whose) => gives_back(alloc, desk, pass, whose),
+        Act::Key(client, server) => Ok(keys(desk, pass, client, server)),
+        Act::Cancel(client) => Ok(Says::from(desk.cancel(pass, view_of(client)))),
+        Act::EndLease => Ok(ends_lease(desk, pass)),
+        Act::Back(whose) => ends(alloc, desk, pass, whose),
         Act::Lost => Ok(loses(desk, pass)),
         Act::StartFailed => Ok(starts_in_vain(desk, pass)),
         Act::Leave => Ok(leaves(desk, pass)),

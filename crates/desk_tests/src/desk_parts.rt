@@ -1,13 +1,14 @@
 //! The desk of the tests.
 use ini_config::DbRow;
 use memory_ends::gone_end::GoneEnd;
+use pool_desk::answers::Strike;
 use pool_desk::desk::Desk;
 use pool_desk::outside::Outside;
 use std::rt::Clock;
 use std::sync::Wait;
 use std::thread::Threads;
 
-/// Reaches servers that are gone.
+/// Reaches servers that are gone, and that no cancel reaches.
 #[derive(Drop)]
 pub(crate) struct Nowhere;
 
@@ -21,6 +22,8 @@ impl Outside for Nowhere {
     fn dial(&self, _row: &DbRow) -> Option<GoneEnd> {
         Some(GoneEnd)
     }
+
+    fn strike(&self, _strike: &Strike) {}
 }
 
 /// A desk that lends links to servers that are gone.

@@ -3,6 +3,7 @@ ghost use Rattle.std.specs.Prelude.{◌≡◌};
 ghost use Rattle.desk_tallies.specs.declared.passes.TheConstants.{ALL_PARTS};
 ghost use Rattle.desk_tallies.specs.Shares.{names_of, of_each, parts_of};
 
+use crate::cancel_stories as cancels;
 use crate::desk_acts::{Act, Says, answer};
 use crate::desk_parts::{Nowhere, TestDesk};
 use crate::desk_rows::{Rows, shows};
@@ -21,16 +22,16 @@ use std::sync::Wait;
 use std::test::Fail;
 
 /// A call through the pass at this place, and its answer.
-type Step = (usize, Act, Says);
+pub(crate) type Step = (usize, Act, Says);
 
 /// The calls through so many passes, what the desk shows at the end, and the decisions by class.
 #[derive(Clone, Copy, Drop)]
-struct Story {
-    settings: Settings,
-    passes: usize,
-    steps: &'static [Step],
-    rows: Rows,
-    totals: Totals,
+pub(crate) struct Story {
+    pub settings: Settings,
+    pub passes: usize,
+    pub steps: &'static [Step],
+    pub rows: Rows,
+    pub totals: Totals,
 }
 
 /// Where a desk departs from a story.
@@ -43,7 +44,7 @@ enum Departure {
 }
 
 /// An empty book.
-const NOTHING: Rows = Rows {
+pub(crate) const NOTHING: Rows = Rows {
     clients: &[],
     tickets: &[],
     lent: &[],
@@ -81,7 +82,7 @@ fn lending_again() -> Story {
             given_back: 1,
             lost: 1,
             left: 2,
-            others: 2,
+            others: 3,
         },
     }
 }
@@ -180,7 +181,7 @@ fn pause_and_shutdown() -> Story {
             given_back: 1,
             lost: 1,
             left: 1,
-            others: 10,
+            others: 11,
         },
     }
 }
@@ -228,7 +229,7 @@ fn each_row() -> Story {
             given_back: 1,
             lost: 0,
             left: 0,
-            others: 7,
+            others: 8,
         },
     }
 }
@@ -269,7 +270,7 @@ fn lifetimes() -> Story {
             given_back: 3,
             lost: 0,
             left: 0,
-            others: 8,
+            others: 11,
         },
     }
 }
@@ -300,7 +301,7 @@ fn idle_times() -> Story {
             given_back: 1,
             lost: 0,
             left: 0,
-            others: 4,
+            others: 5,
         },
     }
 }
@@ -347,7 +348,7 @@ fn queues() -> Story {
             given_back: 1,
             lost: 0,
             left: 1,
-            others: 5,
+            others: 6,
         },
     }
 }
@@ -383,7 +384,7 @@ fn failed_starts() -> Story {
             given_back: 1,
             lost: 2,
             left: 0,
-            others: 3,
+            others: 4,
         },
     }
 }
@@ -419,7 +420,7 @@ fn moved_row() -> Story {
             given_back: 1,
             lost: 0,
             left: 0,
-            others: 4,
+            others: 5,
         },
     }
 }
@@ -437,6 +438,11 @@ fn story_at(at: usize) -> Option<Story> {
         7 => Some(queues()),
         8 => Some(failed_starts()),
         9 => Some(moved_row()),
+        10 => Some(cancels::cancelled()),
+        11 => Some(cancels::by_another_secret()),
+        12 => Some(cancels::after_the_end()),
+        13 => Some(cancels::of_one_word()),
+        14 => Some(cancels::lost()),
         _ => None,
     }
 }

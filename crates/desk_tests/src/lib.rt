@@ -2,6 +2,8 @@
 #![tactic(auto)]
 
 #[cfg(test)]
+mod cancel_stories;
+#[cfg(test)]
 mod desk_acts;
 #[cfg(test)]
 mod desk_parts;

@@ -334,19 +334,21 @@ fn settings(wait: Manner) -> Settings {
     }
 }
 
-/// The decisions by class that are made then: of so many clients, links granted, returns and other decisions.
+/// The decisions by class that are made then: of so many clients, links granted, returns and other decisions, among which is one
+/// question a link granted or waited for, and the end of a lease before each return.
 fn totals(wait: Manner) -> Totals {
     let (clients, granted, given_back, others) = match wait {
-        // two questions, a place that is lost, two seconds
+        // a place that is lost, two seconds
         Manner::TooLong => (2, 1, 0, 5),
-        Manner::InTurn => (3, 3, 3, 3),
-        // two questions, a pause and its end
-        Manner::InAPause => (1, 2, 1, 4),
-        Manner::ForTwoLinks | Manner::ForTwoPools | Manner::ForTheBook => (4, 4, 2, 4),
+        Manner::InTurn => (3, 3, 3, 6),
+        // a pause and its end
+        Manner::InAPause => (1, 2, 1, 5),
+        Manner::ForTwoLinks | Manner::ForTwoPools => (4, 4, 2, 6),
+        Manner::ForTheBook => (4, 4, 0, 4),
     };
-    let (given_back, lost) = match wait {
-        Manner::ForTheBook => (0, 2),
-        _ => (given_back, 0),
+    let lost = match wait {
+        Manner::ForTheBook => 2,
+        _ => 0,
     };
     Totals {
         arrived: clients,

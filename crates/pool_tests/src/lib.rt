@@ -4,6 +4,10 @@
 #[cfg(test)]
 mod at_once;
 #[cfg(test)]
+mod cancels;
+#[cfg(test)]
+mod held_client;
+#[cfg(test)]
 mod noted_ends;
 #[cfg(test)]
 mod turns;

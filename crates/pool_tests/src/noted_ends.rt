@@ -65,6 +65,16 @@ impl Notes {
         }
     }
 
+    /// Waits until the first client was welcomed, for at most 60,000 sleeps of 1 ms.
+    pub fn wait_for_welcome(&self, rt: &impl Clock) {
+        for _ in 0..60_000u32 {
+            if self.welcomed.load(Ordering::SeqCst) {
+                return;
+            }
+            sleep(rt, Duration::from_millis(1));
+        }
+    }
+
     /// Whether the second client was answered while the first one waited for it.
     pub fn are_in_time(&self) -> bool {
         self.answered.load(Ordering::SeqCst) && !self.late.load(Ordering::SeqCst)

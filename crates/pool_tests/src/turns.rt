@@ -11,6 +11,7 @@ use desk_tallies::passes::Totals;
 use desk_tallies::tallies::Blanks;
 use link_desk::desk::LinkDesk;
 use memory_dial::{MemoryDial, Naming};
+use message_view::KeyWord;
 use paced_client::PacedClient;
 use play_tests::files::catalogue;
 use pool_desk::desk::Desk;
@@ -47,9 +48,8 @@ const FIRST_ANSWERS: &[u8] =
 const SECOND_ANSWERS: &[u8] =
     b"T\0\0\0\x29\0\x01application_name\0\0\0\0\0\0\0\0\0\0\x19\xff\xff\xff\xff\xff\xff\0\0D\0\0\0\x0a\0\x01\0\0\0\0C\0\0\0\x09SHOW\0Z\0\0\0\x05IE\0\0\0\x33SERROR\0VERROR\0C42P01\0Mrelation does not exist\0\0Z\0\0\0\x05IE\0\0\0\x3dSERROR\0VERROR\0C26000\0Mprepared statement does not exist\0\0Z\0\0\0\x05I";
 
-/// All that the client with this number is to be given: its welcome, and these answers.
-fn wanted(alloc: Global, number: u32, answers: &[u8]) -> Result<Vec<u8>, AllocError> {
-    let own = word(number);
+/// All that the client with this key word is to be given: its welcome, and these answers.
+pub(crate) fn wanted(alloc: Global, own: KeyWord, answers: &[u8]) -> Result<Vec<u8>, AllocError> {
     let (pid, secret) = (own.pid.to_be_bytes(), own.secret.to_be_bytes());
     let mut out = Vec::new(alloc);
     for part in [REPORTS, KEY, &pid, &secret, READY, answers] {
@@ -111,15 +111,16 @@ fn a_link_comes_back_as_it_was(rt: HostRuntime) -> Result<(), Fail> {
         catalogue(rt.alloc())?,
         Blanks::new(),
     )?;
-    let first = wanted(rt.alloc(), 1, FIRST_ANSWERS)?;
-    let second = wanted(rt.alloc(), 2, SECOND_ANSWERS)?;
+    let first = wanted(rt.alloc(), word(1), FIRST_ANSWERS)?;
+    let second = wanted(rt.alloc(), word(2), SECOND_ANSWERS)?;
     let made = Totals {
         arrived: 2,
         granted: 2,
         given_back: 2,
         lost: 0,
         left: 2,
-        others: 2,
+        // two questions, two leases that are keyed, two ends
+        others: 6,
     };
     assert!(rt; story.first.given() == first.as_slice());
     assert!(rt; story.second.given() == second.as_slice());

@@ -56,16 +56,26 @@ pub fn word(number: u32) -> KeyWord
     }
 }
 
-/// A new login of the client with this number, by these settings.
+/// A new login with this key word, by these settings.
+pub fn login_as(alloc: Global, settings: &[u8], word: KeyWord) -> Result<Login, AllocError>
+    ensures awaiting { IfOk result (λ l. l.awaiting ≡ AwaitsPacket (AtFirst false false)) }
+    ensures held { IfOk result (λ l. l.held ≡ []) }
+    ensures word { IfOk result (λ l. l.word ≡ word) }
+    ensures settings { IfOk result (λ l. AreWithinBounds l.settings) }
+{
+    let settings = Arc::new(alloc, settings_of(alloc, settings)?)?;
+    let users = users(alloc)?;
+    Login::new(alloc, settings, users, word)
+}
+
+/// The same of the client with this number.
 pub fn login_by(alloc: Global, settings: &[u8], number: u32) -> Result<Login, AllocError>
     ensures awaiting { IfOk result (λ l. l.awaiting ≡ AwaitsPacket (AtFirst false false)) }
     ensures held { IfOk result (λ l. l.held ≡ []) }
     ensures word { IfOk result (λ l. l.word ≡ key_word number) }
     ensures settings { IfOk result (λ l. AreWithinBounds l.settings) }
 {
-    let settings = Arc::new(alloc, settings_of(alloc, settings)?)?;
-    let users = users(alloc)?;
-    Login::new(alloc, settings, users, word(number))
+    login_as(alloc, settings, word(number))
 }
 
 /// The same, where no password is asked for.
@@ -120,7 +130,7 @@ pub fn key(alloc: Global) -> Result<Arc<StartKey>, AllocError> {
 }
 
 /// Whether nobody holds a pass.
-fn is_free<K: Ledgers>(pass: &Pass<K>) -> bool
+pub fn is_free<K: Ledgers>(pass: &Pass<K>) -> bool
     ensures client { result ≡ true → pass.now.holder.client ≡ None }
     ensures lease { result ≡ true → pass.now.holder.lease ≡ None }
 {
@@ -134,7 +144,30 @@ fn is_free<K: Ledgers>(pass: &Pass<K>) -> bool
     )
 }
 
-/// Serves a client by this desk, and hands back its end and the pass; `None` where somebody holds the pass.
+/// Serves a client of this key word by this desk, and hands back its end and the pass; `None` where somebody holds the pass.
+pub fn serve_as<C: ClientEnd, R: Wait + Clock, S: Outside, T: Gate<S::End> + Drop, K: Ledgers>(
+    alloc: Global,
+    desk: &Desk<R, S, K>,
+    pass: Pass<K>,
+    client: C,
+    login: Login,
+    word: KeyWord,
+    gate: T,
+) -> Option<(C, Pass<K>)>
+    requires awaiting { login.awaiting ≡ AwaitsPacket (AtFirst false false) }
+    requires held { login.held ≡ [] }
+    requires word { login.word ≡ word }
+    requires settings { AreWithinBounds login.settings }
+    requires taken { (C.facts client).tells ≡ true → (C.facts client).taken ≡ [] }
+    requires given { (C.facts client).tells ≡ true → (C.facts client).given ≡ [] }
+{
+    if !is_free(&pass) {
+        return None;
+    }
+    Some(serve(alloc, desk, pass, client, login, word, gate, VISIT))
+}
+
+/// The same of the client with this number.
 pub fn serve_by<C: ClientEnd, R: Wait + Clock, S: Outside, T: Gate<S::End> + Drop, K: Ledgers>(
     alloc: Global,
     desk: &Desk<R, S, K>,
@@ -151,9 +184,5 @@ pub fn serve_by<C: ClientEnd, R: Wait + Clock, S: Outside, T: Gate<S::End> + Dro
     requires taken { (C.facts client).tells ≡ true → (C.facts client).taken ≡ [] }
     requires given { (C.facts client).tells ≡ true → (C.facts client).given ≡ [] }
 {
-    if !is_free(&pass) {
-        return None;
-    }
-    let key = word(number);
-    Some(serve(alloc, desk, pass, client, login, key, gate, VISIT))
+    serve_as(alloc, desk, pass, client, login, word(number), gate)
 }

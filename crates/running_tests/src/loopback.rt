@@ -3,7 +3,9 @@ use crate::pools::{connect, leave, read, start_pool, start_stub};
 use std::alloc::Global;
 use std::net;
 use std::net::Net;
+use std::rt::Clock;
 use std::test::Fail;
+use std::time::Instant;
 
 /// Ann's StartupMessage for the database shop, `SET DateStyle TO 'SQL, DMY'`, `CREATE TEMP TABLE t (a text)`, Parse of `s`, Sync.
 const FIRST: &[u8] =
@@ -56,6 +58,22 @@ fn two_clients_over_one_link(rt: HostRuntime) -> Result<(), Fail> {
     let (pool, port) = start_pool(rt, rt.alloc(), server, "default_pool_size = 1\n", 2)?;
     assert!(rt; given(&rt, rt.alloc(), port, FIRST, first.len())? == first);
     assert!(rt; given(&rt, rt.alloc(), port, SECOND, second.len())? == second);
+    assert!(rt; pool.join(&rt).is_some());
+    assert!(rt; stub.join(&rt));
+    Ok(())
+}
+
+// Each waits for the reset of the one before it. A reset that waited for an event before it said anything would take 100 ms.
+#[test]
+fn a_link_is_lent_again_at_once(rt: HostRuntime) -> Result<(), Fail> {
+    let count = wanted(rt.alloc(), FIRST_ANSWERS)?.len();
+    let (stub, server) = start_stub(rt, rt.alloc(), 1)?;
+    let (pool, port) = start_pool(rt, rt.alloc(), server, "default_pool_size = 1\n", 30)?;
+    let start = Instant::now(&rt)?;
+    for _ in 0..30u32 {
+        let _ = given(&rt, rt.alloc(), port, FIRST, count)?;
+    }
+    assert!(rt; start.elapsed(&rt)?.as_millis() < 2_500);
     assert!(rt; pool.join(&rt).is_some());
     assert!(rt; stub.join(&rt));
     Ok(())

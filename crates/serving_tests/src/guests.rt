@@ -38,6 +38,8 @@ pub(crate) enum Talk {
     ToOther,
     /// The console: it asks for its version, and leaves with the answer.
     ToConsole,
+    /// It asks for a cancel of what the first client is at.
+    Cancels,
     /// It answers the question for its password.
     RightPassword,
     WrongPassword,
@@ -70,6 +72,7 @@ fn first(talk: Talk) -> &'static [u8] {
         Talk::WithOptions => b"\0\0\0\x2b\0\x03\0\0user\0ann\0database\0shop\0options\0-c\0\0",
         Talk::AsBob => b"\0\0\0\x20\0\x03\0\0user\0bob\0database\0shop\0\0",
         Talk::ToOther => b"\0\0\0\x21\0\x03\0\0user\0ann\0database\0other\0\0",
+        Talk::Cancels => b"\0\0\0\x10\x04\xd2\x16\x2e\0\0\0\x01\0\0\0\x01",
         Talk::ToConsole => b"\0\0\0\x25\0\x03\0\0user\0ann\0database\0pgbouncer\0\0",
         _ => START,
     }

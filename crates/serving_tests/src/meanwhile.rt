@@ -2,9 +2,10 @@
 use crate::servers::{Servers, TestServer};
 use desk_tallies::ledgers::Ledgers;
 use desk_tallies::passes::Pass;
-use link_desk::answers::Grant;
+use link_desk::answers::{Cancelled, Grant};
 use link_desk::calls::Holder;
 use link_desk::desk::LinkDesk;
+use message_view::KeyView;
 use pool_desk::answers::Changed;
 use pool_desk::desk::Desk;
 use pool_tests::worker_parts::{TestRuntime, key, limits};
@@ -31,6 +32,8 @@ pub(crate) enum Act {
     /// Pools have so many links from now on.
     Pools(u32),
     Shutdown,
+    /// Somebody asks for a cancel by the key word of the client with this number.
+    Cancel(u32),
 }
 
 /// When it happens.
@@ -39,6 +42,8 @@ pub(crate) enum Moment {
     Never,
     /// At the first turn of a client's gate, which lasts until it has happened.
     AtTurn,
+    /// At the first turn of a client's lease, likewise.
+    AtLease,
     /// Once a client waits for a link.
     AtTicket,
 }
@@ -86,6 +91,17 @@ fn takes<R: Wait + Clock, K: Ledgers>(desk: &TestDesk<R, K>, pass: &mut Pass<K>)
     false
 }
 
+/// A cancel goes to whom it finds.
+fn cancels<R: Wait + Clock, K: Ledgers>(desk: &TestDesk<R, K>, pass: &mut Pass<K>, number: u32) {
+    let client = KeyView {
+        pid: number,
+        secret: number,
+    };
+    if let Cancelled::Strike(strike) = desk.cancel(pass, client) {
+        desk.strike(&strike);
+    }
+}
+
 fn is_done(changed: Changed) -> bool {
     matches!(changed, Changed::Done)
 }
@@ -114,6 +130,10 @@ impl Act {
                 Ok(is_done(desk.limits(pass, limits, again)))
             }
             Act::Shutdown => Ok(is_done(desk.shutdown(pass))),
+            Act::Cancel(number) => {
+                cancels(desk, pass, number);
+                Ok(true)
+            }
         }
     }
 }
@@ -156,7 +176,7 @@ fn wait_for_ticket<R: TestRuntime, K: Ledgers>(
 impl Notes {
     /// Of nothing yet; where nothing happens at a turn, of all.
     pub(crate) fn new(moment: Moment) -> Notes {
-        let is_at_turn = matches!(moment, Moment::AtTurn);
+        let is_at_turn = matches!(moment, Moment::AtTurn | Moment::AtLease);
         Notes {
             turned: AtomicBool::new(!is_at_turn),
             happened: AtomicBool::new(!is_at_turn),
@@ -175,7 +195,7 @@ impl Notes {
     ) -> Result<bool, AllocError> {
         match moment {
             Moment::Never => return Ok(true),
-            Moment::AtTurn => wait_for(&rt, &self.turned),
+            Moment::AtTurn | Moment::AtLease => wait_for(&rt, &self.turned),
             Moment::AtTicket => wait_for_ticket(&rt, alloc, desk, pass)?,
         }
         let happens = act.happens(alloc, desk, pass)?;
@@ -184,22 +204,42 @@ impl Notes {
     }
 }
 
-/// A gate that never waits but at its first turn, until what is to happen then has happened.
+/// A gate that never waits but at its first turn, or the first of a lease, until what is to happen then has happened.
 #[derive(Drop)]
 pub(crate) struct TurnedGate<'a, R: Clock + Drop> {
     pub rt: R,
     pub notes: &'a Notes,
+    /// It is a turn of a lease that lasts: one of both ends.
+    pub is_of_lease: bool,
     /// Its client is seen to have gone.
     pub goes: bool,
 }
 
-impl<'a, R: Clock + Drop> Gate<TestServer> for TurnedGate<'a, R> {
-    fn turn(&mut self) -> Ready {
+impl<'a, R: Clock + Drop> TurnedGate<'a, R> {
+    fn hold(&self) {
         self.notes.turned.store(true, Ordering::SeqCst);
         wait_for(&self.rt, &self.notes.happened);
+    }
+}
+
+impl<'a, R: Clock + Drop> Gate<TestServer> for TurnedGate<'a, R> {
+    fn turn(&mut self) -> Ready {
+        self.hold();
         Ready {
             client: true,
             server: true,
+        }
+    }
+
+    fn turn_of_client(&mut self) {
+        if !self.is_of_lease {
+            self.hold();
+        }
+    }
+
+    fn turn_of_link(&mut self) {
+        if !self.is_of_lease {
+            self.hold();
         }
     }
 

@@ -133,7 +133,7 @@ pub(crate) fn silent() -> Row {
             granted: 1,
             given_back: 1,
             left: 2,
-            others: 1,
+            others: 3,
             ..NONE
         },
         ..QUIET
@@ -328,7 +328,7 @@ pub(crate) fn dead_at_a_border() -> Row {
             granted: 10,
             lost: 10,
             left: 10,
-            others: 10,
+            others: 20,
             ..NONE
         },
         ..QUIET
@@ -351,7 +351,7 @@ pub(crate) fn dead_in_a_message() -> Row {
             granted: 1,
             lost: 1,
             left: 1,
-            others: 1,
+            others: 2,
             ..NONE
         },
         ..QUIET
@@ -374,7 +374,7 @@ pub(crate) fn malformed_by_its_server() -> Row {
             granted: 1,
             lost: 1,
             left: 1,
-            others: 1,
+            others: 2,
             ..NONE
         },
         ..QUIET
@@ -405,7 +405,7 @@ pub(crate) fn malformed_or_too_long() -> Row {
             granted: 2,
             given_back: 2,
             left: 2,
-            others: 2,
+            others: 6,
             ..NONE
         },
         ..QUIET

@@ -30,7 +30,7 @@ pub(crate) fn unused() -> Row {
             granted: 2,
             given_back: 2,
             left: 2,
-            others: 3,
+            others: 7,
             ..NONE
         },
         ..QUIET
@@ -63,7 +63,7 @@ pub(crate) fn reset_byte_by_byte() -> Row {
             granted: 2,
             given_back: 2,
             left: 2,
-            others: 2,
+            others: 6,
             ..NONE
         },
         ..QUIET
@@ -86,7 +86,7 @@ pub(crate) fn left_in_a_block() -> Row {
             granted: 1,
             lost: 1,
             left: 1,
-            others: 1,
+            others: 2,
             ..NONE
         },
         ..QUIET
@@ -110,7 +110,7 @@ pub(crate) fn longest_message() -> Row {
             granted: 1,
             given_back: 1,
             left: 1,
-            others: 1,
+            others: 3,
             ..NONE
         },
         ..QUIET
@@ -133,7 +133,7 @@ pub(crate) fn right_password() -> Row {
             granted: 1,
             given_back: 1,
             left: 1,
-            others: 1,
+            others: 3,
             ..NONE
         },
         ..QUIET
@@ -158,7 +158,7 @@ pub(crate) fn too_many_links() -> Row {
             granted: 1,
             given_back: 1,
             left: 1,
-            others: 2,
+            others: 4,
             ..NONE
         },
         ..QUIET
@@ -183,7 +183,7 @@ pub(crate) fn shut_while_served() -> Row {
             granted: 1,
             given_back: 1,
             left: 1,
-            others: 2,
+            others: 4,
             ..NONE
         },
         ..QUIET
@@ -216,7 +216,120 @@ pub(crate) fn evicted() -> Row {
             granted: 2,
             given_back: 2,
             left: 2,
-            others: 2,
+            others: 6,
+            ..NONE
+        },
+        ..QUIET
+    }
+}
+
+/// A cancel comes while a client has a link: that is closed at the end of its lease, and its server is told so. The next client has
+/// another link, which the first one's key word doesn't find: it is kept.
+pub(crate) fn cancelled() -> Row {
+    Row {
+        pool: 1,
+        act: Act::Cancel(1),
+        moment: Moment::AtLease,
+        served: &[
+            Client {
+                talk: Talk::Shows,
+                under: Under::Trust,
+                before: 260,
+                last: Last::Name,
+            },
+            Client {
+                talk: Talk::Shows,
+                under: Under::Trust,
+                before: 260,
+                last: Last::Name,
+            },
+        ],
+        idle: &[2],
+        sums: [2, 0, 0, 1, 0],
+        seen: [1, 1],
+        totals: Totals {
+            arrived: 2,
+            granted: 2,
+            given_back: 1,
+            lost: 1,
+            left: 2,
+            // two questions, two leases that are keyed, a cancel, two ends
+            others: 7,
+        },
+        ..QUIET
+    }
+}
+
+/// The same of a client that asks for nothing: its link, which needs no reset, isn't kept either.
+pub(crate) fn cancelled_unused() -> Row {
+    Row {
+        pool: 1,
+        act: Act::Cancel(1),
+        moment: Moment::AtLease,
+        served: &[
+            Client {
+                talk: Talk::Leaves,
+                under: Under::Trust,
+                before: 246,
+                last: Last::Welcome(1),
+            },
+            Client {
+                talk: Talk::Leaves,
+                under: Under::Trust,
+                before: 246,
+                last: Last::Welcome(2),
+            },
+        ],
+        idle: &[2],
+        sums: [2, 0, 0, 1, 0],
+        seen: [1, 0],
+        totals: Totals {
+            arrived: 2,
+            granted: 2,
+            given_back: 1,
+            lost: 1,
+            left: 2,
+            others: 7,
+        },
+        ..QUIET
+    }
+}
+
+/// One client may be there. A CancelRequest comes once the client has gone whose key word it has: it is given no byte, takes no place
+/// and makes no decision, and the next client has the same link.
+pub(crate) fn cancelled_too_late() -> Row {
+    Row {
+        clients: 1,
+        pool: 1,
+        served: &[
+            Client {
+                talk: Talk::Leaves,
+                under: Under::Trust,
+                before: 246,
+                last: Last::Welcome(1),
+            },
+            Client {
+                talk: Talk::Cancels,
+                under: Under::Trust,
+                before: 0,
+                last: Last::Nothing,
+            },
+            Client {
+                talk: Talk::Shows,
+                under: Under::Trust,
+                before: 260,
+                last: Last::Name,
+            },
+        ],
+        idle: &[1],
+        sums: [1, 1, 0, 0, 0],
+        seen: [0, 1],
+        totals: Totals {
+            arrived: 2,
+            granted: 2,
+            given_back: 2,
+            left: 2,
+            others: 6,
             ..NONE
         },
         ..QUIET

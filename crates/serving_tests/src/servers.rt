@@ -6,6 +6,7 @@ ghost use Rattle.server_end.specs.Moves.{CountsRead, CountsWrite, IsWithin, move
 
 use ini_config::DbRow;
 use memory_ends::memory_server::{MemoryServer, ServerAuth};
+use pool_desk::answers::Strike;
 use pool_desk::outside::Outside;
 use pool_tests::worker_parts::{CUT, WELCOME, word};
 use server_end::{Moved, ServerEnd};
@@ -120,7 +121,7 @@ impl ServerEnd for TestServer {
     }
 }
 
-/// Reaches new servers of one catalogue, whatever the row, which let everybody in.
+/// Reaches new servers of one catalogue, whatever the row, which let everybody in, and which no cancel strikes.
 pub(crate) struct Servers {
     alloc: Global,
     catalogue: Arc<Catalogue>,
@@ -216,4 +217,6 @@ impl Outside for Servers {
             seen: self.seen().ok()?,
         })
     }
+
+    fn strike(&self, _strike: &Strike) {}
 }

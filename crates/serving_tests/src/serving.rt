@@ -4,7 +4,7 @@ ghost use Rattle.desk_tallies.specs.declared.passes.TheConstants.{ALL_PARTS};
 ghost use Rattle.desk_tallies.specs.Shares.{names_of, of_each, parts_of};
 
 use crate::guests::Guest;
-use crate::meanwhile::{Notes, TestDesk, TurnedGate};
+use crate::meanwhile::{Moment, Notes, TestDesk, TurnedGate};
 use crate::rows::{Client, Row};
 use crate::servers::{Seen, Servers};
 use crate::{refused_rows as refused, served_rows as served};
@@ -59,6 +59,7 @@ fn served_once<R: TestRuntime, K: Ledgers + Send + Sync>(
     let gate = TurnedGate {
         rt,
         notes: shared,
+        is_of_lease: matches!(row.moment, Moment::AtLease),
         goes,
     };
     let login = login_by(alloc, client.under.settings(), number)?;
@@ -226,6 +227,9 @@ fn served_at(at: usize) -> Option<Row> {
         5 => Some(served::too_many_links()),
         6 => Some(served::shut_while_served()),
         7 => Some(served::evicted()),
+        8 => Some(served::cancelled()),
+        9 => Some(served::cancelled_unused()),
+        10 => Some(served::cancelled_too_late()),
         _ => None,
     }
 }
@@ -243,7 +247,7 @@ fn each_is_told_why_it_is_refused(rt: HostRuntime) -> Result<(), Fail> {
 
 #[test]
 fn each_link_is_kept_or_closed(rt: HostRuntime) -> Result<(), Fail> {
-    for at in 0..8usize {
+    for at in 0..11usize {
         let Some(row) = served_at(at) else {
             break;
         };

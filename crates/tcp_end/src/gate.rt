@@ -33,13 +33,16 @@ fn longest_rest() -> Duration {
 /// Where a worker waits for the bytes of its client, and of its link while that is watched. A turn of the client or of the link alone
 /// waits for at most 100 ms, since so many turns are a time; any other for at most ten seconds, so that a client that says nothing
 /// costs next to nothing. It doesn't wait where the last read of an end that it minds, since the turn before, may have left more; it
-/// names both sides.
+/// names both sides. Nor does a turn of the link alone where something may be due to be said: in the first such turn, and after a read
+/// that came to something.
 pub struct TcpGate<R: Clock> {
     rt: R,
     poll: Poll,
     events: Events<Global>,
     client: Arc<Notes>,
     link: Option<Arc<Notes>>,
+    /// The last turn was one of the link alone.
+    is_at_link: bool,
     /// The client has sent its last byte.
     client_has_left: bool,
 }
@@ -52,6 +55,7 @@ impl<R: Clock + Drop> Drop for TcpGate<R> {
             events: _,
             client: _,
             link: _,
+            is_at_link: _,
             client_has_left: _,
         } = self;
     }
@@ -73,6 +77,7 @@ impl<R: Clock + Net + Drop> TcpGate<R> {
             events,
             client: notes,
             link: None,
+            is_at_link: false,
             client_has_left: false,
         })
     }
@@ -88,6 +93,18 @@ impl<R: Clock> TcpGate<R> {
             Some(notes) => notes.take_more(),
             None => false,
         }
+    }
+
+    /// Whether something may be due to be said over the link: nothing was tried since a turn of another kind, or what was read last
+    /// calls for an answer.
+    fn link_may_be_due(&mut self) -> bool {
+        let is_first = !self.is_at_link;
+        self.is_at_link = true;
+        let has_spoken = match &self.link {
+            Some(notes) => notes.take_spoken(),
+            None => false,
+        };
+        is_first || has_spoken
     }
 
     /// What is left of a turn that began then.
@@ -131,6 +148,7 @@ impl<R: Clock> Gate<TcpEnd> for TcpGate<R> {
     fn turn(&mut self) -> Ready
         ensures { (result.client ≡ true) × (result.server ≡ true) }
     {
+        self.is_at_link = false;
         let client = self.client_may_have_more();
         let link = self.link_may_have_more();
         if !client && !link {
@@ -143,13 +161,15 @@ impl<R: Clock> Gate<TcpEnd> for TcpGate<R> {
     }
 
     fn turn_of_client(&mut self) {
+        self.is_at_link = false;
         if !self.client_may_have_more() {
             self.wait(longest_turn());
         }
     }
 
     fn turn_of_link(&mut self) {
-        if self.link_may_have_more() {
+        let may_have_more = self.link_may_have_more();
+        if self.link_may_be_due() || may_have_more {
             return;
         }
         let Ok(start) = Instant::now(&self.rt) else {

@@ -13,6 +13,8 @@ pub(crate) struct Notes {
     is_minded: AtomicBool,
     /// The last read came to something, and may have left more.
     may_have_more: AtomicBool,
+    /// The last read came to something, which may call for an answer.
+    has_spoken: AtomicBool,
     /// There is nothing to read until the gate sees an event.
     is_empty: AtomicBool,
     /// There is no room to write until the gate sees an event.
@@ -26,6 +28,7 @@ impl Drop for Notes {
         let Notes {
             is_minded: _,
             may_have_more: _,
+            has_spoken: _,
             is_empty: _,
             is_full: _,
             is_closing: _,
@@ -55,6 +58,7 @@ impl Notes {
         Notes {
             is_minded: AtomicBool::new(false),
             may_have_more: AtomicBool::new(true),
+            has_spoken: AtomicBool::new(false),
             is_empty: AtomicBool::new(false),
             is_full: AtomicBool::new(false),
             is_closing: AtomicBool::new(false),
@@ -73,6 +77,7 @@ impl Notes {
         let is_empty = is_exhausted(answer, room);
         set(&self.is_empty, is_empty);
         set(&self.may_have_more, !is_empty);
+        set(&self.has_spoken, answer.is_ok());
     }
 
     /// A write of so many bytes was answered so.
@@ -93,6 +98,11 @@ impl Notes {
     /// Whether the last read may have left more; asked once.
     pub(crate) fn take_more(&self) -> bool {
         self.may_have_more.swap(false, Ordering::SeqCst)
+    }
+
+    /// Whether the last read came to something; asked once.
+    pub(crate) fn take_spoken(&self) -> bool {
+        self.has_spoken.swap(false, Ordering::SeqCst)
     }
 
     /// There may be bytes again.

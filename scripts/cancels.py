@@ -1,0 +1,467 @@
+#!/usr/bin/env python3
+"""Shows cancel requests through `pgsess serve`, in front of a PostgreSQL server of Debian.
+
+Usage: cancels.py PROGRAM. With POOLER=none in the environment clients reach the server itself, to try the script: then nothing is asked of
+a console or a log, and each client has a session of its own.
+"""
+import os
+import queue
+import random
+import re
+import signal
+import socket
+import subprocess
+import sys
+import threading
+import time
+
+from cluster import HERE, USERS, Cluster, Passes, Place, Pooler, free_port, set_up, until
+from console import Worker, environment, figures, table
+from wire import CANCEL_REQUEST, Client, Refused, cancel_request, message, query, startup
+
+KIND = os.environ.get("POOLER", "pgsess")
+SECONDS = 20
+SEED = 20261126
+CANCELLED = "57014"
+LONG = "SELECT pg_sleep(30)"
+BUSY = "SELECT count(*) FROM pg_stat_activity WHERE query LIKE '%pg_sleep(30)%' AND state = 'active' AND pid <> pg_backend_pid()"
+ASKS_TLS = (8).to_bytes(4, "big") + (80877103).to_bytes(4, "big")
+# on an idle machine, in the best of some tries; and in any
+SOON, LATEST, TRIES = 0.2, 5.0, 5
+WORKERS, WRONG, FLOODS, FLOOD = 8, 1_000, 8, 250
+ROUNDS, STATEMENT, SPAN = 2_000, 0.006, 0.012
+HELD = 1.0
+# a cancel that its server never takes is given up after 5 s, and its connection may have taken as long before
+GIVEN_UP = (4.5, 10.5)
+FOUND, NOBODY = r"^pgsess: client from 127\.0\.0\.1:\d+ requests a cancel for link (\d+)$", r"^pgsess: client from 127\.0\.0\.1:\d+ requests a cancel by a key that nobody has$"
+CLOSED = r"^pgsess: client \d+ ann@shop from 127\.0\.0\.1:\d+ link (\d+) closed: cancel requested$"
+
+
+def cancel(port, key, first=b"", cut=16):
+    """Asks for a cancel over a connection of its own, in two parts where it is cut: all that comes before the other side closes it."""
+    packet, got = cancel_request(key), b""
+    with socket.create_connection((HERE, port), SECONDS) as it:
+        it.setsockopt(socket.IPPROTO_TCP, socket.TCP_NODELAY, 1)
+        if first:
+            it.sendall(first)
+            got += it.recv(1)
+        it.sendall(packet[:cut])
+        if packet[cut:]:
+            time.sleep(0.01)
+            it.sendall(packet[cut:])
+        while piece := it.recv(64):
+            got += piece
+    return got
+
+
+def ask_and_go(port, key):
+    """The same, by a client that closes at once."""
+    with socket.create_connection((HERE, port), SECONDS) as it:
+        it.sendall(cancel_request(key))
+    return b""
+
+
+def outcome(client):
+    """How a Query ended: the error's code, or the rows."""
+    rows, code = [], None
+    while True:
+        kind, body = client.next()
+        if kind == b"D":
+            rows.append(body)
+        if kind == b"E":
+            code = Refused(body).code
+        if kind == b"Z":
+            return code or rows
+
+
+# what kinds of clients ask for a cancel, and what comes back
+WAYS = {
+    "as libpq and psycopg send it": (cancel, b""),
+    "as libpq 17 sends it, after TLS was refused": (lambda port, key: cancel(port, key, first=ASKS_TLS), b"N"),
+    "in two parts": (lambda port, key: cancel(port, key, cut=7), b""),
+    "whose client closes at once": (ask_and_go, b""),
+}
+SIMPLE = query(LONG)
+# Parse, Bind, Execute, Sync, as JDBC asks
+EXTENDED = (message(b"P", b"\0" + LONG.encode() + b"\0\0\0") + message(b"B", b"\0\0\0\0\0\0\0\0") + message(b"E", b"\0\0\0\0\0") + message(b"S"))
+
+
+class Slow:
+    """Stands before a server, and holds each connection that begins by a CancelRequest for some seconds."""
+
+    def __init__(self, server, seconds):
+        self.server, self.seconds, self.passed = server, seconds, 0
+        self.listener = socket.create_server((HERE, 0))
+        self.port = self.listener.getsockname()[1]
+        threading.Thread(target=self.run, daemon=True).start()
+
+    def run(self):
+        while True:
+            try:
+                near, _ = self.listener.accept()
+            except OSError:
+                return
+            threading.Thread(target=self.serve, args=(near,), daemon=True).start()
+
+    def serve(self, near):
+        first = near.recv(8, socket.MSG_WAITALL)
+        if first[4:] == CANCEL_REQUEST.to_bytes(4, "big"):
+            time.sleep(self.seconds)
+            self.passed += 1
+        with near, socket.create_connection((HERE, self.server)) as far:
+            far.sendall(first)
+            threading.Thread(target=hand_on, args=(far, near), daemon=True).start()
+            hand_on(near, far)
+
+    def end(self):
+        self.listener.close()
+
+
+def hand_on(source, sink):
+    """All bytes, and the end."""
+    try:
+        while piece := source.recv(65536):
+            sink.sendall(piece)
+        sink.shutdown(socket.SHUT_WR)
+    except OSError:
+        pass
+
+
+class Canceller(threading.Thread):
+    """Sends cancels, each at its time, and keeps what comes back."""
+
+    def __init__(self, port):
+        super().__init__(daemon=True)
+        self.port, self.asked, self.answers = port, queue.Queue(), []
+        self.is_done = threading.Event()
+        self.start()
+
+    def run(self):
+        while (job := self.asked.get()) is not None:
+            key, moment = job
+            time.sleep(max(0.0, moment - time.monotonic()))
+            self.answers.append(told(self.port, key))
+            self.is_done.set()
+
+    def at(self, key, moment):
+        self.is_done.clear()
+        self.asked.put((key, moment))
+
+    def end(self):
+        self.asked.put(None)
+        self.join(SECONDS)
+
+
+def told(port, key):
+    """What comes back of a cancel, or the fault."""
+    try:
+        return cancel(port, key)
+    except OSError as error:
+        return repr(error)
+
+
+class Direct:
+    """No pooler: the server itself, as one."""
+
+    def __init__(self, server):
+        self.port = server.port
+
+    def log(self):
+        return ""
+
+    def stop(self):
+        pass
+
+
+class Show:
+    def __init__(self, program):
+        self.program, self.passes, self.place = program, Passes("cancels"), Place()
+        self.random = random.Random(SEED)
+
+    def pooler(self, server=None, **settings):
+        if KIND == "none":
+            return Direct(server or self.cluster)
+        (self.place.folder / "pgsess.err").unlink(missing_ok=True)
+        return Pooler(self.place, server or self.cluster, self.program, **settings)
+
+    def client(self, pooler):
+        """A client, once there is a place for it: who leaves keeps its own until its link is back."""
+        end = time.monotonic() + SECONDS
+        while True:
+            try:
+                return Client(pooler.port, "ann", "shop", USERS["ann"][0])
+            except Refused as error:
+                if error.code != "53300" or time.monotonic() > end:
+                    raise
+            time.sleep(0.01)
+
+    def session(self, pooler):
+        """The server's process behind the link that a new client has."""
+        client = self.client(pooler)
+        pid, = client.ask("SELECT pg_backend_pid()")[0]
+        client.leave()
+        return pid
+
+    def lines(self, pattern):
+        """What the log says so."""
+        return re.findall(pattern, (self.place.folder / "pgsess.err").read_text(), re.M) if KIND == "pgsess" else []
+
+    def works(self):
+        """A statement of 30 s is under way."""
+        return until(lambda: self.cluster.tell(BUSY) == [["1"]], 10)
+
+    def same_in_the_log(self, what, got, wanted):
+        if KIND == "pgsess":
+            self.passes.same(f"the log: {what}", got, wanted)
+
+    def nothing_lent(self, pooler, name):
+        """Once all have left no link is lent, and no cancel's connection is open."""
+        if KIND == "pgsess":
+            back = until(lambda: (figures(pooler.port) or [0] * 4)[:3] == [0, 0, 0], 10)
+            states = {row["state"] for row in table(pooler.port, "SERVERS")}
+            self.passes.holds(f"{name}: no link is left lent", back and states <= {"idle"}, f"{figures(pooler.port)} {states}")
+            clients = [row["state"] for row in table(pooler.port, "CLIENTS")]
+            self.passes.same(f"{name}: nobody is there but who asks", clients, ["login"])
+
+    def both_told(self, count):
+        """The log tells of so many cancels that found a link, and that each of these was closed."""
+        if KIND == "pgsess":
+            until(lambda: len(self.lines(CLOSED)) >= count, 5)
+            found = self.lines(FOUND)
+            self.passes.same("the log tells of each cancel, and of the link that is closed after it", (len(found), self.lines(CLOSED)), (count, found))
+
+    # ---- a. a statement ends
+
+    def struck(self, pooler, name, packet, way, back):
+        """Clients whose statements are cancelled, one after the other, and what each sees of it."""
+        times, ends, backs, after = [], [], [], []
+        for _ in range(TRIES):
+            client = self.client(pooler)
+            client.send(packet)
+            self.works()
+            begin = time.monotonic()
+            backs.append(way(pooler.port, client.key))
+            ends.append(outcome(client))
+            times.append(time.monotonic() - begin)
+            after.append(client.ask("SELECT 7"))
+            client.leave()
+        self.passes.same(f"{name}: ends with {CANCELLED}, and the next statement doesn't", (ends, after), ([CANCELLED] * TRIES, [[["7"]]] * TRIES))
+        self.passes.same(f"{name}: its connection is closed with {back or 'no byte'}", backs, [back] * TRIES)
+        self.in_time(name, times)
+
+    def in_time(self, name, times):
+        shown = ", ".join(f"{1000 * seconds:.0f}" for seconds in times)
+        self.passes.holds(f"{name}: within {SOON} s ({shown} ms)", min(times) < SOON and max(times) < LATEST, shown)
+
+    def ends(self):
+        """With one link, and with as many clients as may be: a cancel takes no place."""
+        pooler = self.pooler(size=1, clients=1)
+        sessions = [self.session(pooler)]
+        for name, (way, back) in WAYS.items():
+            self.struck(pooler, f"a cancel {name}", SIMPLE, way, back)
+            sessions.append(self.session(pooler))
+        self.struck(pooler, "a cancel of a statement in the extended protocol, as JDBC sends it", EXTENDED, cancel, b"")
+        sessions.append(self.session(pooler))
+        self.passes.same("after a cancel the next client has another session", len(set(sessions)), len(sessions))
+        self.interrupted(pooler)
+        count = TRIES * (len(WAYS) + 2)
+        self.both_told(count)
+        pooler.stop()
+
+    def interrupted(self, pooler):
+        """psql, which is interrupted from its terminal."""
+        times, told = [], []
+        for _ in range(TRIES):
+            psql = subprocess.Popen(["psql", "-X", "-c", LONG], stdout=subprocess.PIPE, stderr=subprocess.PIPE, env=environment(pooler.port, "ann", "shop"))
+            self.works()
+            begin = time.monotonic()
+            psql.send_signal(signal.SIGINT)
+            _, errors = psql.communicate(timeout=60)
+            times.append(time.monotonic() - begin)
+            told.append((psql.returncode, errors.decode()))
+        self.passes.same("psql's Ctrl-C", told, [(1, "Cancel request sent\nERROR:  canceling statement due to user request\n")] * TRIES)
+        self.in_time("psql's Ctrl-C", times)
+
+    # ---- b. wrong keys
+
+    def wrong(self):
+        """While 8 clients work, and at last as many are there as may be: keys whose secret or pid is another, keys of nobody, and those of clients that have gone."""
+        pooler = self.pooler(size=WORKERS + 1, clients=WORKERS + 1)
+        gone = []
+        for _ in range(100):
+            client = self.client(pooler)
+            gone.append(client.key)
+            client.leave()
+        workers = [Worker(pooler.port) for _ in range(WORKERS)]
+        keys = [self.key_of_nobody(number, workers, gone) for number in range(WRONG)]
+        self.meanwhile(f"{WRONG} cancels with wrong keys", workers, lambda: [told(pooler.port, key) for key in keys])
+        sleeper = self.client(pooler)
+        self.meanwhile(f"{FLOODS} times {FLOOD} at once", workers, lambda: self.flood(pooler, keys, sleeper))
+        self.passes.same("no worker was struck", [worker.end() for worker in workers], [None] * WORKERS)
+        sleeper.leave()
+        self.same_in_the_log("each of them, and the one with a right key", (len(self.lines(NOBODY)), len(self.lines(FOUND)), len(self.lines(CLOSED))), (WRONG + FLOODS * FLOOD, 1, 1))
+        self.nothing_lent(pooler, "after wrong keys")
+        pooler.stop()
+
+    def key_of_nobody(self, number, workers, gone):
+        key = workers[number % WORKERS].client.key
+        pid, secret = key[:4], key[4:]
+        other = bytes([secret[0] ^ 1 << self.random.randrange(8)]) + secret[1:]
+        return [pid + other, other + secret, self.random.randbytes(8), gone[number % len(gone)]][number // WORKERS % 4]
+
+    def meanwhile(self, name, workers, act):
+        """What comes back is nothing; and all workers go on."""
+        counts, begin = [worker.asked for worker in workers], time.monotonic()
+        backs = act()
+        seconds = time.monotonic() - begin
+        asked = [worker.asked - count for worker, count in zip(workers, counts)]
+        self.passes.same(f"{name}: each connection is closed with no byte", [back for back in backs if back != b""][:3], [])
+        self.passes.holds(f"{name}: each of {WORKERS} workers is served meanwhile", min(asked) > 0 and not any(worker.error for worker in workers), f"{asked} {[worker.error for worker in workers]}")
+        print(f"       {len(backs) / seconds:.0f} cancels and {sum(asked) / seconds:.0f} statements a second")
+
+    def flood(self, pooler, keys, sleeper):
+        """From several threads at once; in their midst one has the right key, and ends a statement."""
+        backs = []
+        threads = [threading.Thread(target=lambda: backs.extend([told(pooler.port, key) for key in keys[-FLOOD:]])) for _ in range(FLOODS)]
+        for thread in threads:
+            thread.start()
+        sleeper.send(SIMPLE)
+        self.works()
+        begin = time.monotonic()
+        backs.append(told(pooler.port, sleeper.key))
+        code, seconds = outcome(sleeper), time.monotonic() - begin
+        floods = any(thread.is_alive() for thread in threads)
+        for thread in threads:
+            thread.join(60)
+        self.passes.holds(f"in the midst of the flood a right key ends a statement ({1000 * seconds:.0f} ms)", floods and code == CANCELLED and seconds < LATEST, f"{floods} {code} {seconds}")
+        return backs
+
+    # ---- c. late cancels
+
+    def race(self):
+        """Over one link a client runs a short statement and leaves, and another comes; the first one's cancel comes at any moment."""
+        pooler = self.pooler(size=1)
+        canceller = Canceller(pooler.port)
+        begin, told, struck = time.monotonic(), [], []
+        for _ in range(ROUNDS):
+            first, second = self.round(pooler, canceller)
+            told.append(first)
+            struck += [code for code, _ in second if code]
+        canceller.end()
+        seconds = time.monotonic() - begin
+        self.passes.same(f"{ROUNDS} late cancels: no client that comes after is struck", (struck[:3], len(struck)), ([], 0))
+        odd = [code for code, *_ in told if code not in (None, CANCELLED)]
+        self.passes.same("each client before it is struck or served", odd[:3], [])
+        self.passes.same("each cancel's connection is closed with no byte", [back for back in canceller.answers if back != b""][:3] + [len(canceller.answers)], [ROUNDS])
+        count = sum(code == CANCELLED for code, *_ in told)
+        found = sum(is_other for *_, is_other in told)
+        print(f"       {seconds:.0f} s: {count} struck, {found} found their client's link, {ROUNDS - found} came too late")
+        self.passes.holds("there were both, early and late ones", min(count, ROUNDS - count) > ROUNDS // 100)
+        if KIND == "pgsess":
+            self.passes.holds("where a cancel found its link the next client has another", 0 < found < ROUNDS)
+        self.both_told(found)
+        self.same_in_the_log("all others found nobody", len(self.lines(NOBODY)), ROUNDS - found)
+        self.nothing_lent(pooler, "after the race")
+        pooler.stop()
+
+    def round(self, pooler, canceller):
+        """How the first client's statement ended, and those of the second, which asks on until the cancel is through."""
+        first = self.client(pooler)
+        session = self.asked(first, "SELECT pg_backend_pid()")[1]
+        canceller.at(first.key, time.monotonic() + self.random.uniform(0, SPAN))
+        first.send(query(f"SELECT pg_sleep({STATEMENT})"))
+        second = Client(pooler.port)
+        second.send(startup("ann" if KIND == "pgsess" else "postgres", "shop"))
+        code = outcome(first)
+        first.leave()
+        second.until(b"Z")
+        ends = [self.asked(second, "SELECT pg_backend_pid()")]
+        while not canceller.is_done.is_set():
+            ends.append(self.asked(second, f"SELECT pg_sleep({STATEMENT})"))
+        ends.append(self.asked(second, "SELECT 7"))
+        second.leave()
+        return (code if isinstance(code, str) else None, session != ends[0][1]), ends
+
+    def asked(self, client, text):
+        """The code of a statement's error, or its first value."""
+        try:
+            return None, client.ask(text)[0][0]
+        except Refused as error:
+            return error.code, None
+
+    # ---- d. slow servers
+
+    def slow(self):
+        """A server that takes a cancel only after a second: meanwhile its client leaves, and the next one has another session."""
+        proxy = Slow(self.cluster.port, HELD)
+        pooler = self.pooler(server=proxy, size=1)
+        first = self.client(pooler)
+        session = self.asked(first, "SELECT pg_backend_pid()")[1]
+        first.send(query("SELECT pg_sleep(0.3)"))
+        begin, backs = time.monotonic(), []
+        asking = threading.Thread(target=lambda: backs.append((told(pooler.port, first.key), time.monotonic() - begin)))
+        asking.start()
+        self.passes.same("a cancel that is held for a second: its client is served", isinstance(outcome(first), list), True)
+        first.leave()
+        second = self.client(pooler)
+        other = self.asked(second, "SELECT pg_backend_pid()")
+        soon = time.monotonic() - begin
+        self.passes.holds("the next client has another session, before the cancel is there", other[1] not in (None, session) and soon < HELD and proxy.passed == 0, f"{other} {session} {soon:.2f} s")
+        slept = self.asked(second, f"SELECT pg_sleep({HELD + 0.5})")
+        self.passes.same("nor is it struck once it is", (slept, proxy.passed), ((None, ""), 1))
+        second.leave()
+        asking.join(SECONDS)
+        self.passes.holds("its connection is closed with no byte once the server has closed", len(backs) == 1 and backs[0][0] == b"" and backs[0][1] >= HELD, f"{backs}")
+        self.struck_late(pooler, proxy)
+        self.nothing_lent(pooler, "after slow cancels")
+        pooler.stop()
+        proxy.end()
+
+    def struck_late(self, pooler, proxy):
+        """Who stays is struck once the cancel is there; and one that the server never takes is given up."""
+        client = self.client(pooler)
+        client.send(SIMPLE)
+        self.works()
+        begin = time.monotonic()
+        back = told(pooler.port, client.key)
+        code, seconds = outcome(client), time.monotonic() - begin
+        self.passes.holds(f"who stays is struck ({seconds:.1f} s)", (code, back) == (CANCELLED, b"") and HELD <= seconds < HELD + LATEST, f"{code} {back}")
+        if KIND == "pgsess":
+            proxy.seconds, begin = 60, time.monotonic()
+            back = told(pooler.port, client.key)
+            seconds = time.monotonic() - begin
+            self.passes.holds(f"a cancel that its server never takes is given up ({seconds:.1f} s)", back == b"" and GIVEN_UP[0] <= seconds <= GIVEN_UP[1], f"{back} {seconds}")
+        client.leave()
+
+    # ---- all
+
+    def all(self):
+        self.cluster = Cluster(self.place)
+        for step in (self.ends, self.wrong, self.race, self.slow):
+            begin = time.monotonic()
+            step()
+            print(f"       {step.__name__}: {time.monotonic() - begin:.0f} s", flush=True)
+        self.cluster.stop()
+        self.passes.same("no process is left", self.place.processes(), [])
+
+
+def main():
+    if len(sys.argv) != 2:
+        sys.exit(__doc__)
+    set_up()
+    signal.signal(signal.SIGTERM, lambda *_: sys.exit(1))
+    begin = time.monotonic()
+    show = Show(os.path.abspath(sys.argv[1]))
+    try:
+        show.all()
+    finally:
+        for pid in show.place.processes():
+            os.kill(pid, signal.SIGKILL)
+        until(lambda: not show.place.processes())
+        show.place.clear()
+    print(f"cancels: {time.monotonic() - begin:.0f} s")
+    show.passes.end()
+
+
+if __name__ == "__main__":
+    main()
