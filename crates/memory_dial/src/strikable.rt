@@ -1,7 +1,9 @@
 //! Stand-in servers in memory that cancels reach.
-ghost use Rattle.std.specs.Prelude.{◌≡◌, ◌<◌};
+ghost use Rattle.std.specs.Prelude.{◌≡◌, ◌<◌, IfSome, true};
 ghost use Rattle.std.specs.Arc.{arc_value};
-ghost use Rattle.memory_dial.specs.Homes.{IsEverywhere};
+ghost use Rattle.ini_config.specs.declared.database_rows.DbRow.{DbRow};
+ghost use Rattle.link_desk.specs.Homes.{IsDialled};
+ghost use Rattle.memory_dial.specs.Homes.{IsEverywhere, strikable_home};
 
 use crate::Naming;
 use ini_config::DbRow;
@@ -68,6 +70,25 @@ impl<R: Wait + Drop, N: Naming> StrikableDial<R, N> {
             naming: PhantomData,
         }
     }
+
+    /// A new server with this key word, which cancels reach.
+    fn server(&self, own: KeyWord) -> Option<MemoryServer>
+        ensures reached { IfSome result (λ e. e.standing.server.strikable ≡ true) }
+        ensures dialled { IfSome result (λ e. (row : DbRow) → IsDialled (strikable_home N.catalogue) row e.standing) }
+    {
+        memory_servers_can_start();
+        self.catalogue.is_lawful();
+        let catalogue = Arc::try_clone(&self.catalogue).ok()?;
+        MemoryServer::new(
+            self.alloc,
+            catalogue,
+            ServerAuth::Trust,
+            own,
+            self.cut,
+            None,
+        )
+        .ok()
+    }
 }
 
 impl<R: Wait + Drop, N: Naming> Outside for StrikableDial<R, N> {
@@ -78,19 +99,8 @@ impl<R: Wait + Drop, N: Naming> Outside for StrikableDial<R, N> {
     ghost home = { strikable_home N.catalogue };
 
     fn dial(&self, _row: &DbRow) -> Option<MemoryServer> {
-        memory_servers_can_start();
-        self.catalogue.is_lawful();
         let mut strikers = self.strikers.lock(&self.rt);
-        let own = next_word(strikers.len())?;
-        let server = MemoryServer::new(
-            self.alloc,
-            Arc::try_clone(&self.catalogue).ok()?,
-            ServerAuth::Trust,
-            own,
-            self.cut,
-            None,
-        )
-        .ok()?;
+        let server = self.server(next_word(strikers.len())?)?;
         strikers.push(server.striker().ok()?).ok()?;
         Some(server)
     }
