@@ -1,20 +1,22 @@
 -- Each event leaves a book in order that was in order.
-use Rattle.std.proofs.Common.{◌≡◌, ℕ, suc, ◌≤◌, Bool, true, false, cond, not, ◌||◌, ◌==◌, nat_lt, [], ◌∷◌, ◌++◌, length, count_by, find, Option, None, Some, refl, sym, ◌∙◌, arith, eq-eqb, ltb-true}
+use Rattle.std.proofs.Common.{◌≡◌, ℕ, suc, ◌≤◌, Bool, true, false, cond, not, ◌||◌, ◌==◌, nat_lt, List, [], ◌∷◌, ◌++◌, length, count_by, find, Option, None, Some, refl, sym, ◌∙◌, arith, eq-eqb, ltb-true}
 use Rattle.std.specs.List.{list_any}
 use Rattle.std.proofs.lemmas.Bool.{true≢false}
 use Rattle.message_view.specs.declared.refusal.Refusal.{Refusal}
 use Rattle.message_view.specs.declared.refusal.Refusal.TheVariants.{TooManyClients, WaitedTooLong, ShuttingDown}
+use Rattle.message_view.specs.declared.views.KeyView.{KeyView}
 use Rattle.session_values.specs.State.{StartKeyOf}
 use Rattle.start_keys.specs.Keys.{same_key}
-use Rattle.book_model.specs.Book.{Limits, Book, Link, Ticket, in_pool, is_client, is_link, is_of, latest_of, link_count, pool_count, pool_size, waiting_before, without, without_ticket, empty_book}
-use Rattle.book_model.specs.Outcomes.{Answer, Event, apply, apply_return, arrives, asks, at_clock, closes, counted, evicts, gives_back, grants, has_waited, in_state, is_crowded, is_old, is_stale, is_started_as, is_strange, kind_of, last_decision, leaves, lends, loses_ticket, outcome, starts, takes}
-use Rattle.book_model.specs.Outcomes.Event.{Arrive, Ask, Take, GiveBack, Lost, StartFailed, Leave, Tick, NewLimits, Pause, Resume, Shutdown}
-use Rattle.book_model.specs.declared.counts.Kind.TheVariants.{Arrival, ArrivalRefused, Asking, AskRefused, TicketLost, Leaving, Ticking, Limiting, Pausing, Resuming, Closing}
+use Rattle.book_model.specs.Book.{Limits, Book, Lease, Link, Ticket, in_pool, is_client, is_link, is_number, is_of, is_of_client, is_of_link, latest_of, link_count, pool_count, pool_size, waiting_before, with_number, without, without_ticket, empty_book}
+use Rattle.book_model.specs.Outcomes.{Answer, Event, apply, apply_return, arrives, asks, at_clock, cancels, closes, counted, ends_lease, evicts, gives_back, grants, has_waited, in_state, is_crowded, is_old, is_stale, is_started_as, is_strange, keys, kind_of, last_decision, leaves, lends, loses_ticket, outcome, starts, strikes, strikes_at, takes}
+use Rattle.book_model.specs.Outcomes.Event.{Arrive, Ask, Take, GiveBack, Lost, StartFailed, Leave, Tick, NewLimits, Pause, Resume, Shutdown, Keyed, Cancel, EndLease}
+use Rattle.book_model.specs.declared.counts.Kind.TheVariants.{Arrival, ArrivalRefused, Asking, AskRefused, TicketLost, Leaving, Ticking, Limiting, Pausing, Resuming, Closing, Keying, Cancelling, LeaseEnding}
 use Rattle.book_model.specs.declared.events.ClientState.TheVariants.{LoggingIn, Waiting, Active}
 use Rattle.book_model.specs.Kept.{FitsLimits, Kept, KeptClients, KeptLimits}
-use Rattle.book_model.proofs.KeepingLists.{any_counts, found_counts, last_counts, none_counts, not_found}
+use Rattle.book_model.proofs.KeepingLists.{any_counts, found_any, found_counts, last_counts, none_counts, not_found}
 use Rattle.book_model.proofs.KeepingClients.{client_comes, client_goes, state_changes, ticket_comes, ticket_goes}
 use Rattle.book_model.proofs.KeepingLinks.{idle_goes, lent_goes, link_is_idle, link_is_lent, link_starts, place_left}
+use Rattle.book_model.proofs.KeepingLeases.{lease_ends, lease_goes, lease_is_keyed, link_is_leased, link_is_marked}
 use Rattle.book_model.proofs.KeepingCounts.{arrival_counts, counts_stay, failure_counts, loss_counts, return_counts, reuse_counts, start_counts}
 
 by_branch : {A : Type 0} (P : A → Type 0) (d : Bool) (x y : A) → (d ≡ true → P x) → (d ≡ false → P y) → P (cond d x y)
@@ -33,12 +35,13 @@ arrives_keeps b h =
     (λ _. by_branch (Keeps b Arrive) (nat_lt (length b.clients) b.limits.max_clients) _ _ room (λ _. refused TooManyClients))
   where
     refused : (refusal : Refusal) → Kept (counted b (Some ArrivalRefused))
-    refused refusal = record { clients = h.clients; links = h.links; counts = counts_stay ArrivalRefused b b refl refl refl h.counts; limits = h.limits }
+    refused refusal = record { clients = h.clients; links = h.links; leases = h.leases; counts = counts_stay ArrivalRefused b b refl refl refl h.counts; limits = h.limits }
 
     room : nat_lt (length b.clients) b.limits.max_clients ≡ true → Kept (counted (record b { clients = b.clients ++ record { number = b.next_client; state = LoggingIn } ∷ []; next_client = suc b.next_client }) (Some Arrival))
     room e = record {
       clients = client_comes b.clients b.tickets b.next_client (record { number = b.next_client; state = LoggingIn }) refl (omega (arith, ltb-true _ _ e, h.limits.clients)) h.clients;
       links = h.links;
+      leases = h.leases;
       counts = arrival_counts b _ h.counts;
       limits = h.limits;
     }
@@ -54,8 +57,8 @@ not_false false e = absurd (true≢false e)
 asks_keeps : (b : Book) (client : ℕ) (key : StartKeyOf) → is_strange b (Ask client key) ≡ false → Kept b → Keeps b (Ask client key) (asks b client key)
 asks_keeps b client key known h =
     by_branch (Keeps b (Ask client key)) b.is_shut _ _
-    (λ _. record { clients = h.clients; links = h.links; counts = counts_stay AskRefused b b refl refl refl h.counts; limits = h.limits })
-    (λ _. record { clients = state_changes Waiting client b.clients _ b.next_client more; links = h.links; counts = counts_stay Asking b (record b { clients = in_state Waiting client b.clients; tickets = b.tickets ++ record { client = client; key = key; since = b.clock } ∷ [] }) refl refl refl h.counts; limits = h.limits })
+    (λ _. record { clients = h.clients; links = h.links; leases = h.leases; counts = counts_stay AskRefused b b refl refl refl h.counts; limits = h.limits })
+    (λ _. record { clients = state_changes Waiting client b.clients _ b.next_client more; links = h.links; leases = h.leases; counts = counts_stay Asking b (record b { clients = in_state Waiting client b.clients; tickets = b.tickets ++ record { client = client; key = key; since = b.clock } ∷ [] }) refl refl refl h.counts; limits = h.limits })
   where
     there : (list_any (is_client client) b.clients ≡ true) × (list_any (is_of client) b.tickets ≡ false)
     there = second_of _ _ known
@@ -67,6 +70,7 @@ leaves_keeps : (b : Book) (client : ℕ) → Kept b → Keeps b (Leave client) (
 leaves_keeps b client h = record {
   clients = client_goes client b.clients b.tickets b.next_client h.clients;
   links = h.links;
+  leases = h.leases;
   counts = counts_stay Leaving b (leaves b client).book refl refl refl h.counts;
   limits = h.limits;
 }
@@ -77,6 +81,7 @@ loses_keeps : (b : Book) (client : ℕ) (t : Ticket) (refusal : Refusal) → Kep
 loses_keeps b client t refusal h = record {
   clients = ticket_goes t.client b.clients b.tickets b.next_client h.clients;
   links = h.links;
+  leases = h.leases;
   counts = counts_stay TicketLost b (loses_ticket b t refusal).book refl refl refl h.counts;
   limits = h.limits;
 }
@@ -87,6 +92,7 @@ granted_clients b t h = state_changes Active t.client b.clients (without_ticket 
 lends_keeps : (b : Book) (client : ℕ) (t : Ticket) (link : Link) → latest_of t.key b.idle ≡ Some link → Kept b → Keeps b (Take client) (lends b t link)
 lends_keeps b client t link e h = record {
   clients = granted_clients b t h;
+  leases = link_is_leased b.lent link b.keyed b.marked b.ended h.leases;
   links = link_is_lent b.lent b.idle b.next_link link (last_counts (λ l. same_key l.key t.key) (is_link link.number) b.idle link e (eq-eqb link.number link.number refl)) h.links;
   counts = reuse_counts b t link h.counts;
   limits = h.limits;
@@ -98,6 +104,7 @@ new_link b t = record { number = b.next_link; key = t.key; born = b.clock; since
 starts_keeps : (b : Book) (client : ℕ) (t : Ticket) → nat_lt (link_count b) b.limits.max_links ≡ true → Kept b → Keeps b (Take client) (starts b t b.idle None)
 starts_keeps b client t room h = record {
   clients = granted_clients b t h;
+  leases = link_is_leased b.lent (new_link b t) b.keyed b.marked b.ended h.leases;
   links = link_starts b.lent b.idle b.next_link (new_link b t) refl (omega (arith, ltb-true _ _ room, h.limits.links)) h.links;
   counts = start_counts b t b.idle None b.evictions (omega arith) h.counts;
   limits = h.limits;
@@ -107,6 +114,7 @@ evicts_keeps : (b : Book) (client : ℕ) (t : Ticket) (test : Link → Bool) (o 
 evicts_keeps b client t test None e h = h
 evicts_keeps b client t test (Some old) e h = record {
   clients = granted_clients b t h;
+  leases = link_is_leased b.lent (new_link b t) b.keyed b.marked b.ended h.leases;
   links = link_starts b.lent (without old.number b.idle) b.next_link (new_link b t) refl (omega (arith, place_left old.number b.idle there, h.links.fit)) (idle_goes old.number b.lent b.idle b.next_link h.links);
   counts = start_counts b t (without old.number b.idle) (Some old.number) (suc b.evictions) (omega arith) h.counts;
   limits = h.limits;
@@ -144,12 +152,14 @@ gives_back_keeps b n (Some link) e known h =
     (λ _. record {
       clients = h.clients;
       links = lent_goes link.number b.lent b.idle b.next_link h.links;
+      leases = lease_goes link.number b.lent b.keyed b.marked b.ended h.leases;
       counts = return_counts b link.number b.idle (one_lent b link.number there h) h.counts;
       limits = h.limits;
     })
     (λ _. record {
       clients = h.clients;
       links = link_is_idle link.number b.lent b.idle b.next_link (record link { since = b.clock }) refl there h.links;
+      leases = lease_goes link.number b.lent b.keyed b.marked b.ended h.leases;
       counts = return_counts b link.number (b.idle ++ record link { since = b.clock } ∷ []) (one_lent b link.number there h) h.counts;
       limits = h.limits;
     })
@@ -161,6 +171,7 @@ loss_keeps : (b : Book) (n : ℕ) → list_any (is_link n) b.lent ≡ true → K
 loss_keeps b n known h = record {
   clients = h.clients;
   links = lent_goes n b.lent b.idle b.next_link h.links;
+  leases = lease_goes n b.lent b.keyed b.marked b.ended h.leases;
   counts = loss_counts b n (one_lent b n (any_counts (is_link n) b.lent known) h) h.counts;
   limits = h.limits;
 }
@@ -169,6 +180,7 @@ failure_keeps : (b : Book) (n : ℕ) → list_any (is_link n) b.lent ≡ true �
 failure_keeps b n known h = record {
   clients = h.clients;
   links = lent_goes n b.lent b.idle b.next_link h.links;
+  leases = lease_goes n b.lent b.keyed b.marked b.ended h.leases;
   counts = failure_counts b n (one_lent b n (any_counts (is_link n) b.lent known) h) h.counts;
   limits = h.limits;
 }
@@ -179,12 +191,58 @@ closes_keeps : (b : Book) (now : ℕ) (o : Option Link) → Kept b → Keeps b (
 closes_keeps b now None h = go (nat_lt b.clock now)
   where
     go : (raised : Bool) → Kept (counted (at_clock b now) (cond raised (Some Ticking) None))
-    go true = record { clients = h.clients; links = h.links; counts = counts_stay Ticking b (at_clock b now) refl refl refl h.counts; limits = h.limits }
-    go false = record { clients = h.clients; links = h.links; counts = record { all = h.counts.all; clients = h.counts.clients; links = h.counts.links; grants = h.counts.grants; evicted = h.counts.evicted; losses = h.counts.losses; lent = h.counts.lent }; limits = h.limits }
+    go true = record { clients = h.clients; links = h.links; leases = h.leases; counts = counts_stay Ticking b (at_clock b now) refl refl refl h.counts; limits = h.limits }
+    go false = record { clients = h.clients; links = h.links; leases = h.leases; counts = record { all = h.counts.all; clients = h.counts.clients; links = h.counts.links; grants = h.counts.grants; evicted = h.counts.evicted; losses = h.counts.losses; lent = h.counts.lent }; limits = h.limits }
 closes_keeps b now (Some link) h = record {
   clients = h.clients;
   links = idle_goes link.number b.lent b.idle b.next_link h.links;
+  leases = h.leases;
   counts = counts_stay Ticking b (closes (at_clock b now) (Some link)).book refl refl refl h.counts;
+  limits = h.limits;
+}
+
+-- ---- leases
+
+keys_keeps : (b : Book) (n : ℕ) (client server : KeyView) → is_strange b (Keyed n client server) ≡ false → Kept b → Keeps b (Keyed n client server) (keys b n client server)
+keys_keeps b n client server known h = record {
+  clients = h.clients;
+  links = h.links;
+  leases = lease_is_keyed b.lent (record { link = n; client = client; server = server }) b.keyed b.marked b.ended (any_counts (is_link n) b.lent there.0) (none_counts (is_of_link n) b.keyed (first_false _ _ there.1)) h.leases;
+  counts = counts_stay Keying b (keys b n client server).book refl refl refl h.counts;
+  limits = h.limits;
+}
+  where
+    first_false : (p q : Bool) → (p || q) ≡ false → p ≡ false
+    first_false true q e = e
+    first_false false q e = refl
+
+    there : (list_any (is_link n) b.lent ≡ true) × ((list_any (is_of_link n) b.keyed || list_any (is_number n) b.ended) ≡ false)
+    there = second_of _ _ known
+
+strikes_keeps : (b : Book) (client : KeyView) (lease : Lease) (link : Link) (host : Option (List ℕ)) → find (is_link lease.link) b.lent ≡ Some link → Kept b → Keeps b (Cancel client) (strikes b lease link.key.port host)
+strikes_keeps b client lease link None e h = h
+strikes_keeps b client lease link (Some host) e h = record {
+  clients = h.clients;
+  links = h.links;
+  leases = link_is_marked lease.link b.lent b.keyed b.marked b.ended (any_counts (is_link lease.link) b.lent (found_any (is_link lease.link) b.lent link e)) h.leases;
+  counts = counts_stay Cancelling b (record b { marked = with_number lease.link b.marked }) refl refl refl h.counts;
+  limits = h.limits;
+}
+
+cancels_keeps : (b : Book) (client : KeyView) (o : Option Lease) → Kept b → Keeps b (Cancel client) (cancels b o)
+cancels_keeps b client None h = h
+cancels_keeps b client (Some lease) h = go (find (is_link lease.link) b.lent) refl
+  where
+    go : (o : Option Link) → find (is_link lease.link) b.lent ≡ o → Keeps b (Cancel client) (strikes_at b lease o)
+    go None e = h
+    go (Some link) e = strikes_keeps b client lease link link.key.host e h
+
+ends_keeps : (b : Book) (n : ℕ) → list_any (is_link n) b.lent ≡ true → Kept b → Keeps b (EndLease n) (ends_lease b n)
+ends_keeps b n known h = record {
+  clients = h.clients;
+  links = h.links;
+  leases = lease_ends n b.lent b.keyed b.marked b.ended (any_counts (is_link n) b.lent known) h.leases;
+  counts = counts_stay LeaseEnding b (ends_lease b n).book refl refl refl h.counts;
   limits = h.limits;
 }
 
@@ -199,10 +257,13 @@ outcome_keeps b (Lost n) fits known h = loss_keeps b n (not_false _ known) h
 outcome_keeps b (StartFailed n) fits known h = failure_keeps b n (not_false _ known) h
 outcome_keeps b (Leave client) fits known h = leaves_keeps b client h
 outcome_keeps b (Tick now) fits known h = closes_keeps b now (find (is_stale (at_clock b now)) b.idle) h
-outcome_keeps b (NewLimits limits) fits known h = record { clients = h.clients; links = h.links; counts = counts_stay Limiting b (record b { limits = limits }) refl refl refl h.counts; limits = fits }
-outcome_keeps b Pause fits known h = record { clients = h.clients; links = h.links; counts = counts_stay Pausing b (record b { is_paused = true }) refl refl refl h.counts; limits = h.limits }
-outcome_keeps b Resume fits known h = record { clients = h.clients; links = h.links; counts = counts_stay Resuming b (record b { is_paused = false }) refl refl refl h.counts; limits = h.limits }
-outcome_keeps b Shutdown fits known h = record { clients = h.clients; links = h.links; counts = counts_stay Closing b (record b { is_shut = true }) refl refl refl h.counts; limits = h.limits }
+outcome_keeps b (NewLimits limits) fits known h = record { clients = h.clients; links = h.links; leases = h.leases; counts = counts_stay Limiting b (record b { limits = limits }) refl refl refl h.counts; limits = fits }
+outcome_keeps b Pause fits known h = record { clients = h.clients; links = h.links; leases = h.leases; counts = counts_stay Pausing b (record b { is_paused = true }) refl refl refl h.counts; limits = h.limits }
+outcome_keeps b Resume fits known h = record { clients = h.clients; links = h.links; leases = h.leases; counts = counts_stay Resuming b (record b { is_paused = false }) refl refl refl h.counts; limits = h.limits }
+outcome_keeps b Shutdown fits known h = record { clients = h.clients; links = h.links; leases = h.leases; counts = counts_stay Closing b (record b { is_shut = true }) refl refl refl h.counts; limits = h.limits }
+outcome_keeps b (Keyed n client server) fits known h = keys_keeps b n client server known h
+outcome_keeps b (Cancel client) fits known h = cancels_keeps b client (find (is_of_client client) b.keyed) h
+outcome_keeps b (EndLease n) fits known h = ends_keeps b n (not_false _ known) h
 
 pub applied_keeps : (b : Book) (e : Event) → FitsLimits e → Kept b → Kept (apply b e).book
 unfolding apply
@@ -220,6 +281,7 @@ pub empty_keeps : (limits : Limits) → KeptLimits limits → Kept (empty_book l
 empty_keeps limits l = record {
   clients = record { fit = omega arith; once = λ n. omega arith; fresh = λ n k. refl; of_clients = λ n. omega arith };
   links = record { fit = omega arith; once = λ n. omega arith; fresh = λ n k. omega arith };
+  leases = record { keyed = λ n. omega arith; marked = λ n. omega arith; ended = λ n. omega arith };
   counts = record { all = omega arith; clients = omega arith; links = omega arith; grants = omega arith; evicted = omega arith; losses = omega arith; lent = omega arith };
   limits = l;
 }

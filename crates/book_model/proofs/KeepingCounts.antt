@@ -5,7 +5,7 @@ use Rattle.book_model.specs.Book.{Book, Client, Link, Ticket, is_link, without}
 use Rattle.book_model.specs.Outcomes.{counted, lends, loses, raised, starts}
 use Rattle.book_model.specs.declared.counts.Counts.{Counts}
 use Rattle.book_model.specs.declared.counts.Kind.{Kind}
-use Rattle.book_model.specs.declared.counts.Kind.TheVariants.{Arrival, ArrivalRefused, Asking, AskRefused, Grant, TicketLost, Return, Loss, FailedStart, Leaving, Ticking, Limiting, Pausing, Resuming, Closing}
+use Rattle.book_model.specs.declared.counts.Kind.TheVariants.{Arrival, ArrivalRefused, Asking, AskRefused, Grant, TicketLost, Return, Loss, FailedStart, Leaving, Ticking, Limiting, Pausing, Resuming, Closing, Keying, Cancelling, LeaseEnding}
 use Rattle.book_model.specs.Kept.{KeptCounts, total}
 use Rattle.book_model.proofs.KeepingLists.{length_left}
 
@@ -25,6 +25,9 @@ total_raised Limiting c = omega arith
 total_raised Pausing c = omega arith
 total_raised Resuming c = omega arith
 total_raised Closing c = omega arith
+total_raised Keying c = omega arith
+total_raised Cancelling c = omega arith
+total_raised LeaseEnding c = omega arith
 
 -- the counts that others depend on, and the numbers of the book that depend on them
 abbrev telling : Counts → ℕ × ℕ × ℕ × ℕ × ℕ

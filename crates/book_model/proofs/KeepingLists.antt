@@ -120,6 +120,14 @@ not_found p (x ∷ xs) e = go (p x) e (not_found p xs)
     go true h ih = absurd (none-some _ (sym h))
     go false h ih = ih h
 
+pub found_any : {A : Type 0} (p : A → Bool) (xs : List A) (x : A) → find p xs ≡ Some x → list_any p xs ≡ true
+found_any p [] x e = absurd (none-some _ e)
+found_any p (y ∷ ys) x e = go (p y) e (found_any p ys x)
+  where
+    go : (b : Bool) → cond b (Some y) (find p ys) ≡ Some x → (find p ys ≡ Some x → list_any p ys ≡ true) → (b || list_any p ys) ≡ true
+    go true h ih = refl
+    go false h ih = ih h
+
 -- ---- at most as many of each number
 
 -- the first of a number is taken out

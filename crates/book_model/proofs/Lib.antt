@@ -2,6 +2,7 @@ pub mod Outcomes
 pub mod KeepingLists
 pub mod KeepingClients
 pub mod KeepingLinks
+pub mod KeepingLeases
 pub mod KeepingCounts
 pub mod Keeping
 pub mod FirstItems

@@ -21,10 +21,10 @@ pub record KeptLinks (lent idle : List Link) (next : ℕ) : Type 0 where
   pub fresh : (n : ℕ) → next ≤ n → count_by (is_link n) lent + count_by (is_link n) idle ≡ 0
 
 -- each lease is its lent link's only one, and each mark and end is a lent link's, and stands once
-pub record KeptLeases (lent : List Link) (keyed : List Lease) (marked ended : List ℕ) : Type 0 where
-  pub keyed : (n : ℕ) → count_by (is_of_link n) keyed ≤ count_by (is_link n) lent
-  pub marked : (n : ℕ) → count_by (is_number n) marked ≤ count_by (is_link n) lent
-  pub ended : (n : ℕ) → count_by (is_number n) ended ≤ count_by (is_link n) lent
+pub record KeptLeases (lent : List Link) (leases : List Lease) (marks ends : List ℕ) : Type 0 where
+  pub keyed : (n : ℕ) → count_by (is_of_link n) leases ≤ count_by (is_link n) lent
+  pub marked : (n : ℕ) → count_by (is_number n) marks ≤ count_by (is_link n) lent
+  pub ended : (n : ℕ) → count_by (is_number n) ends ≤ count_by (is_link n) lent
 
 -- all kinds together
 abbrev pub total : Counts → ℕ

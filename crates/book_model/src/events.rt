@@ -11,19 +11,34 @@ pub enum Event {
     /// A client has come.
     Arrive,
     /// A client that is through its login asks for a link of this key.
-    Ask { client: u64, key: Arc<StartKey> },
+    Ask {
+        client: u64,
+        key: Arc<StartKey>,
+    },
     /// A client that waits takes its link, if it may have one now.
-    Take { client: u64 },
+    Take {
+        client: u64,
+    },
     /// A client has given its link back clean.
-    GiveBack { link: u64 },
+    GiveBack {
+        link: u64,
+    },
     /// A lent link has been closed.
-    Lost { link: u64 },
+    Lost {
+        link: u64,
+    },
     /// A link that was to be started could not be.
-    StartFailed { link: u64 },
+    StartFailed {
+        link: u64,
+    },
     /// A client has gone.
-    Leave { client: u64 },
+    Leave {
+        client: u64,
+    },
     /// It is this second.
-    Tick { now: u64 },
+    Tick {
+        now: u64,
+    },
     /// These settings hold from now on.
     Limits(Arc<Limits>),
     /// No link is lent until Resume.
@@ -38,9 +53,13 @@ pub enum Event {
         server: KeyView,
     },
     /// What the client of this key word is at is to be cancelled.
-    Cancel { client: KeyView },
+    Cancel {
+        client: KeyView,
+    },
     /// The lease of this link has ended.
-    EndLease { link: u64 },
+    EndLease {
+        link: u64,
+    },
 }
 
 /// What the book answers.

@@ -27,9 +27,9 @@ pub fn book_laws()
     ensures resets { ResetsRelease }
 {}
 
-/// Each client's number stands once, each link's once, lent or idle; each ticket is its client's only one, each lease its lent link's; the counts agree with one
-/// another and with the lists, so that the lent links are as many as were granted and neither given back, lost nor failed. An empty
-/// book is so, and every event leaves it so, whose new limits are within what a book can hold.
+/// Each client's number stands once, each link's once, lent or idle; each ticket is its client's only one, each lease its lent link's;
+/// the counts agree with one another and with the lists, so that the lent links are as many as were granted and neither given back,
+/// lost nor failed. An empty book is so, and every event leaves it so, whose new limits are within what a book can hold.
 pub fn books_are_in_order()
     ensures empty { EmptyBooksAreKept }
     ensures events { EventsKeep }

@@ -12,6 +12,7 @@ pub counted_keeps : (limits : Limits) (n : ℕ) → KeptLimits limits → Kept (
 counted_keeps limits n l = record {
   clients = record { fit = omega arith; once = λ n. omega arith; fresh = λ n k. refl; of_clients = λ n. omega arith };
   links = record { fit = omega arith; once = λ n. omega arith; fresh = λ n k. omega arith };
+  leases = record { keyed = λ n. omega arith; marked = λ n. omega arith; ended = λ n. omega arith };
   counts = record { all = omega arith; clients = omega arith; links = omega arith; grants = omega arith; evicted = omega arith; losses = omega arith; lent = omega arith };
   limits = l;
 }

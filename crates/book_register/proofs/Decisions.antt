@@ -1,10 +1,10 @@
 -- An event's count: by what tells its kind, over what the event leaves of the counts.
-use Rattle.std.proofs.Common.{◌≡◌, ℕ, ◌<◌, Bool, true, false, not, cond, ◌||◌, ◌==◌, Option, None, Some, List, length, refl, sym, ap, ◌∙◌, subst, eq-eqb, eqb-true}
+use Rattle.std.proofs.Common.{◌≡◌, ℕ, ◌<◌, arith, Bool, true, false, not, cond, ◌||◌, ◌==◌, Option, None, Some, List, length, refl, sym, ap, ◌∙◌, subst, eq-eqb, eqb-true}
 use Rattle.std.specs.Prelude.{find, nat_lt}
 use Rattle.std.specs.List.{list_any}
-use Rattle.book_model.specs.Book.{Book, Client, Link, Ticket, in_pool, is_client, is_link, is_of, latest_of, link_count, pool_count, pool_size, waiting_before}
-use Rattle.book_model.specs.Outcomes.{Answer, Event, apply, at_clock, closes, counted, decided, evicts, gives_back, grants, has_waited, is_crowded, is_old, is_stale, is_strange, kind_of, last_decision, outcome, takes}
-use Rattle.book_model.specs.Outcomes.Event.{Arrive, Ask, Take, GiveBack, Lost, StartFailed, Leave, Tick, NewLimits, Pause, Resume, Shutdown}
+use Rattle.book_model.specs.Book.{Book, Client, Lease, Link, Ticket, in_pool, is_client, is_link, is_number, is_of, is_of_client, is_of_link, latest_of, link_count, pool_count, pool_size, waiting_before}
+use Rattle.book_model.specs.Outcomes.{Answer, Event, apply, at_clock, cancels, closes, counted, decided, evicts, gives_back, grants, has_waited, is_crowded, is_old, is_stale, is_strange, kind_of, last_decision, outcome, strikes, strikes_at, takes}
+use Rattle.book_model.specs.Outcomes.Event.{Arrive, Ask, Take, GiveBack, Lost, StartFailed, Leave, Tick, NewLimits, Pause, Resume, Shutdown, Keyed, Cancel, EndLease}
 use Rattle.book_model.specs.declared.counts.Kind.{Kind}
 use Rattle.book_model.specs.declared.events.Reply.{Reply}
 use Rattle.book_model.specs.declared.events.Reply.TheVariants.{Refuse, Done, Stranger}
@@ -12,7 +12,8 @@ use Rattle.message_view.specs.declared.refusal.Refusal.TheVariants.{LastDecision
 use Rattle.book_register.specs.Choices.{Gives}
 use Rattle.book_register.specs.Kinds.{kind_in, kinds_of}
 use Rattle.book_register.specs.declared.deciding.Kinds.{Kinds}
-use Rattle.book_model.specs.Kept.{KeptClients, KeptCounts, total}
+use Rattle.book_model.specs.Kept.{Kept, KeptClients, KeptCounts, total}
+use Rattle.book_model.specs.declared.limits.TheConstants.{MOST_LINKS}
 use Rattle.book_model.proofs.KeepingLists.{any_counts, longer, none_counts}
 
 pub kind_is : (b : Book) (e : Event) (r : Reply) → kind_in (kinds_of b e) r ≡ kind_of b e r
@@ -28,6 +29,9 @@ kind_is b (NewLimits limits) r = elim r as (λ x. kind_in (kinds_of b (NewLimits
 kind_is b Pause r = elim r as (λ x. kind_in (kinds_of b Pause) x ≡ kind_of b Pause x) [ Done ↦ refl | _ ↦ refl ]
 kind_is b Resume r = elim r as (λ x. kind_in (kinds_of b Resume) x ≡ kind_of b Resume x) [ Done ↦ refl | _ ↦ refl ]
 kind_is b Shutdown r = elim r as (λ x. kind_in (kinds_of b Shutdown) x ≡ kind_of b Shutdown x) [ Done ↦ refl | _ ↦ refl ]
+kind_is b (Keyed n client server) r = elim r as (λ x. kind_in (kinds_of b (Keyed n client server)) x ≡ kind_of b (Keyed n client server) x) [ Done ↦ refl | _ ↦ refl ]
+kind_is b (Cancel client) r = elim r as (λ x. kind_in (kinds_of b (Cancel client)) x ≡ kind_of b (Cancel client) x) [ Done ↦ refl | _ ↦ refl ]
+kind_is b (EndLease n) r = elim r as (λ x. kind_in (kinds_of b (EndLease n)) x ≡ kind_of b (EndLease n) x) [ Done ↦ refl | _ ↦ refl ]
 
 -- an event's answer with its count, of the kind that its reply tells
 pub counted_is : (next new b : Book) (e : Event) (r : Reply) (kinds : Kinds) (k : Option Kind) → Gives next r (outcome b e) → kinds ≡ kinds_of b e → k ≡ kind_in kinds r → new ≡ counted next k → Gives new r (decided b e (outcome b e))
@@ -74,6 +78,18 @@ closes_uncounted : (b : Book) (now : ℕ) (o : Option Link) → Uncounted b (clo
 closes_uncounted b now None = plain refl refl
 closes_uncounted b now (Some link) = plain refl refl
 
+cancels_uncounted : (b : Book) (o : Option Lease) → Uncounted b (cancels b o)
+cancels_uncounted b None = plain refl refl
+cancels_uncounted b (Some lease) = at (find (is_link lease.link) b.lent)
+  where
+    by_host : (port : ℕ) (host : Option (List ℕ)) → Uncounted b (strikes b lease port host)
+    by_host port None = plain refl refl
+    by_host port (Some host) = plain refl refl
+
+    at : (o : Option Link) → Uncounted b (strikes_at b lease o)
+    at None = plain refl refl
+    at (Some link) = by_host link.key.port link.key.host
+
 pub uncounted : (b : Book) (e : Event) → Uncounted b (outcome b e)
 uncounted b Arrive = either b.is_shut _ _ (plain refl refl) (either (nat_lt (length b.clients) b.limits.max_clients) _ _ (plain refl refl) (plain refl refl))
 uncounted b (Ask client key) = either b.is_shut _ _ (plain refl refl) (plain refl refl)
@@ -87,6 +103,9 @@ uncounted b (NewLimits limits) = plain refl refl
 uncounted b Pause = plain refl refl
 uncounted b Resume = plain refl refl
 uncounted b Shutdown = plain refl refl
+uncounted b (Keyed n client server) = plain refl refl
+uncounted b (Cancel client) = cancels_uncounted b (find (is_of_client client) b.keyed)
+uncounted b (EndLease n) = plain refl refl
 
 -- so they agree as before, and there may be one decision more
 pub still_counted : (b mid : Book) (e : Event) (r : Reply) → KeptCounts b → Gives mid r (outcome b e) → total mid.counts ≡ mid.decisions
@@ -107,6 +126,22 @@ pub asker_has_room : (clients : List Client) (tickets : List Ticket) (next clien
 asker_has_room clients tickets next client kept e =
     let tested = known (list_any (is_client client) clients) (list_any (is_of client) tickets) e in
     longer (λ (t : Ticket). t.client) (λ (c : Client). c.number) client tickets clients kept.of_clients (none_counts (is_of client) tickets tested.1) (any_counts (is_client client) clients tested.0)
+
+-- ---- a lease that may be keyed is none yet, so there are fewer leases than lent links
+
+pub lease_has_room : (b : Book) (n : ℕ) → Kept b → (not (list_any (is_link n) b.lent) || (list_any (is_of_link n) b.keyed || list_any (is_number n) b.ended)) ≡ false → length b.keyed < MOST_LINKS
+lease_has_room b n kept e = omega (arith, kept.links.fit, longer (λ (l : Lease). l.link) (λ (l : Link). l.number) n b.keyed b.lent kept.leases.keyed (none_counts (is_of_link n) b.keyed (first (list_any (is_of_link n) b.keyed) _ tested.1)) (any_counts (is_link n) b.lent tested.0))
+  where
+    tested : (list_any (is_link n) b.lent ≡ true) × ((list_any (is_of_link n) b.keyed || list_any (is_number n) b.ended) ≡ false)
+    tested = known (list_any (is_link n) b.lent) _ e
+
+    first : (p q : Bool) → (p || q) ≡ false → p ≡ false
+    first true q f = f
+    first false q f = refl
+
+pub ends_lent : (p : Bool) → not p ≡ false → p ≡ true
+ends_lent true e = refl
+ends_lent false e = cc
 
 -- ---- an event as a whole; `before` is the book as its fields stand
 

@@ -1,3 +1,4 @@
+pub mod Striking
 pub mod Choices
 pub mod Takes
 pub mod Returns

@@ -1,7 +1,7 @@
 -- What a GiveBack and a Tick give, case by case; `before` is the book as its fields stand.
 use Rattle.std.proofs.Common.{◌≡◌, ℕ, Bool, true, false, List, [], ◌∷◌, ◌++◌, Option, None, Some, cond, sym, ap, ◌∙◌, subst, get_or}
 use Rattle.std.specs.Prelude.{position, find, slice_get, nat_lt, ◌||◌}
-use Rattle.book_model.specs.Book.{Book, Link, is_link, without}
+use Rattle.book_model.specs.Book.{Book, Link, is_link, without, without_lease, without_number}
 use Rattle.book_model.specs.Outcomes.{Answer, at_clock, closes, gives_back, is_crowded, is_old, is_stale, loses}
 use Rattle.book_model.specs.declared.events.Reply.{Reply}
 use Rattle.book_model.specs.declared.events.Reply.TheVariants.{Close, Done, Stranger}
@@ -27,11 +27,19 @@ back_by before b after n place x y reply closing e f taken read test given =
     one : (u v : Link) (o : Option Link) → o ≡ Some u → o ≡ Some v → u ≡ v
     one u v o p q = cc
 
-pub closing_done : (before b : Book) (n place m : ℕ) (x y : Link) (links : List Link) → before ≡ b → position (is_link n) b.lent ≡ Some place → slice_get before.lent place ≡ Some x → y ≡ get_or before.lent place y → (is_old b y || is_crowded b y) ≡ true → links ≡ without x.number before.lent → m ≡ x.number → Gives (record before { lent = links }) (Close m) (gives_back b (find (is_link n) b.lent))
-closing_done before b n place m x y links e f taken read test el em = back_by before b (record before { lent = links }) n place x y (Close m) true e f taken read test (ap (λ (ls : List Link). record before { lent = ls }) el, ap Close em)
+-- nothing is known of a link's lease any more
+abbrev forgotten : Book → ℕ → Book
+forgotten b n = record b { keyed = without_lease n b.keyed; marked = without_number n b.marked; ended = without_number n b.ended }
 
-pub keeping_done : (before b after : Book) (n place : ℕ) (x y : Link) (links : List Link) (reply : Reply) → before ≡ b → position (is_link n) b.lent ≡ Some place → slice_get before.lent place ≡ Some x → y ≡ get_or before.lent place y → (is_old b y || is_crowded b y) ≡ false → links ≡ without x.number before.lent → after ≡ record before { lent = links; idle = before.idle ++ record x { since = before.clock } ∷ [] } → reply ≡ Done → Gives after reply (gives_back b (find (is_link n) b.lent))
-keeping_done before b after n place x y links reply e f taken read test el done replied = back_by before b after n place x y reply false e f taken read test (done ∙ ap (λ (ls : List Link). record before { lent = ls; idle = before.idle ++ record x { since = before.clock } ∷ [] }) el, replied)
+lost_is : (before mid : Book) (m : ℕ) (x : Link) (links : List Link) → links ≡ without x.number before.lent → m ≡ x.number → mid ≡ forgotten (record before { lent = links }) m → mid ≡ loses before x.number
+lost_is before mid m x links el em done = done ∙ (ap (λ (n : ℕ). forgotten (record before { lent = links }) n) em ∙ ap (λ (ls : List Link). forgotten (record before { lent = ls }) x.number) el)
+
+pub closing_done : (before b after : Book) (n place m : ℕ) (x y : Link) (links : List Link) → before ≡ b → position (is_link n) b.lent ≡ Some place → slice_get before.lent place ≡ Some x → y ≡ get_or before.lent place y → (is_old b y || is_crowded b y) ≡ true → links ≡ without x.number before.lent → m ≡ x.number → after ≡ forgotten (record before { lent = links }) m → Gives after (Close m) (gives_back b (find (is_link n) b.lent))
+closing_done before b after n place m x y links e f taken read test el em done = back_by before b after n place x y (Close m) true e f taken read test (lost_is before after m x links el em done, ap Close em)
+
+pub keeping_done : (before b mid after : Book) (n place m : ℕ) (x y : Link) (links : List Link) (reply : Reply) → before ≡ b → position (is_link n) b.lent ≡ Some place → slice_get before.lent place ≡ Some x → y ≡ get_or before.lent place y → (is_old b y || is_crowded b y) ≡ false → links ≡ without x.number before.lent → m ≡ x.number → mid ≡ forgotten (record before { lent = links }) m → after ≡ record mid { idle = mid.idle ++ record x { since = mid.clock } ∷ [] } → reply ≡ Done → Gives after reply (gives_back b (find (is_link n) b.lent))
+keeping_done before b mid after n place m x y links reply e f taken read test el em lost done replied =
+    back_by before b after n place x y reply false e f taken read test (done ∙ ap (λ (v : Book). record v { idle = v.idle ++ record x { since = v.clock } ∷ [] }) (lost_is before mid m x links el em lost), replied)
 
 pub no_link : (b : Book) (n : ℕ) → position (is_link n) b.lent ≡ None → Gives b Stranger (gives_back b (find (is_link n) b.lent))
 no_link b n e =

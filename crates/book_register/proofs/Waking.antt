@@ -1,5 +1,5 @@
 -- Who is behind a ticket, or waits for a link, that is found by its place.
-use Rattle.std.proofs.Common.{get_or, ◌≡◌, ℕ, List, Option, None, Some, sym, ap}
+use Rattle.std.proofs.Common.{get_or, ◌≡◌, ℕ, List, None, Some, sym, ap}
 use Rattle.std.specs.Prelude.{find, position}
 use Rattle.book_model.specs.Book.{Link, Ticket, is_link, is_of}
 use Rattle.book_rows.proofs.Places.{at_place, not_found}

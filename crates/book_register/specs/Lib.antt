@@ -1,4 +1,5 @@
 pub mod Choices
+pub mod Striking
 pub mod Kinds
 pub mod Counted
 pub mod Views

@@ -10,16 +10,18 @@ ghost use Rattle.book_model.specs.Outcomes as outcome;
 ghost use Rattle.book_model.specs.declared.events.Reply.TheVariants.{Done, Refuse};
 ghost use Rattle.book_model.specs.declared.limits.TheConstants.{MOST_LINKS};
 ghost use Rattle.book_register.specs.Choices.{Chooses, Gives, eviction_of};
+ghost use Rattle.book_register.specs.Striking.{strike_of};
 ghost use Rattle.book_model.specs.Kept.{Kept};
 
 use book_model::counts::Counts;
 use book_model::events::{ClientState, Event, Reply};
 use book_model::limits::Limits;
 use book_rows::clients::{Client, Clients};
+use book_rows::leases::{Lease, Leases, Numbers};
 use book_rows::links::{Link, Links};
 use book_rows::pools::PoolKey;
 use book_rows::tickets::{Ticket, Tickets};
-use message_view::Refusal;
+use message_view::{KeyView, Refusal};
 use start_keys::StartKey;
 use std::marker::Model;
 use std::sync::Arc;
@@ -30,6 +32,9 @@ pub struct Board {
     pub tickets: Tickets,
     pub lent: Links,
     pub idle: Links,
+    pub keyed: Leases,
+    pub marked: Numbers,
+    pub ended: Numbers,
     pub last_client: u64,
     pub last_link: u64,
     pub clock: u64,
@@ -51,6 +56,9 @@ impl Drop for Board {
             tickets: _,
             lent: _,
             idle: _,
+            keyed: _,
+            marked: _,
+            ended: _,
             last_client: _,
             last_link: _,
             clock: _,
@@ -79,6 +87,9 @@ impl Model for Board {
       tickets = b.tickets;
       lent = b.lent;
       idle = b.idle;
+      keyed = b.keyed;
+      marked = b.marked;
+      ended = b.ended;
       next_client = suc b.last_client;
       next_link = suc b.last_link;
       clock = b.clock;
@@ -156,9 +167,22 @@ impl Board {
         ensures book { self.new ≡ record (outcome.loses self.old link) { losses = suc self.old.losses } }
         ensures reply { result ≡ Done }
     {
+        self.forgets(link);
         self.lent.remove(link);
         self.losses += 1;
         Reply::Done
+    }
+
+    /// Nothing is known of a link's lease any more.
+    fn forgets(&mut self, number: u64)
+        requires keyed { (n : ℕ) → count_by (book.is_of_link n) self.old.keyed ≤ 1 }
+        requires marked { (n : ℕ) → count_by (book.is_number n) self.old.marked ≤ 1 }
+        requires ended { (n : ℕ) → count_by (book.is_number n) self.old.ended ≤ 1 }
+        ensures { self.new ≡ record self.old { keyed = book.without_lease number self.old.keyed; marked = book.without_number number self.old.marked; ended = book.without_number number self.old.ended } }
+    {
+        self.keyed.remove(number);
+        self.marked.remove(number);
+        self.ended.remove(number);
     }
 
     /// Whether a link that comes back is too old to be kept.
@@ -404,6 +428,7 @@ impl Board {
         let link = self.lent.at(place);
         let closes = self.closes(link);
         let link = self.lent.take_out(place);
+        self.forgets(link.number);
         if closes {
             return Reply::Close(link.number);
         }
@@ -441,6 +466,75 @@ impl Board {
                 Reply::Close(link.number)
             }
             None => Reply::Done,
+        }
+    }
+
+    /// The link's lease is found by its client's key word from now on.
+    pub fn keys(&mut self, link: u64, client: KeyView, server: KeyView) -> Reply
+        requires room { length self.old.keyed < MOST_LINKS }
+        ensures book { self.new ≡ (outcome.keys self.old link client server).book }
+        ensures reply { result ≡ Done }
+    {
+        self.keyed.push(Lease {
+            link,
+            client,
+            server,
+        });
+        Reply::Done
+    }
+
+    /// What the client of this key word is at is to be cancelled: the link of its first lease is marked.
+    pub fn cancels(&mut self, client: KeyView) -> Reply
+        requires kept { Kept self.old }
+        ensures { Gives self.new result (outcome.cancels self.old (find (book.is_of_client client) self.old.keyed)) }
+    {
+        let reply = self.strike(client);
+        if let Reply::Strike { link, .. } = reply {
+            self.marked.note(link);
+        }
+        reply
+    }
+
+    /// What a Cancel of the client is answered.
+    fn strike(&self, client: KeyView) -> Reply
+        ensures { result ≡ (outcome.cancels self.now (find (book.is_of_client client) self.now.keyed)).reply }
+    {
+        match self.keyed.of_client(client) {
+            Some(lease) => self.strike_at(lease),
+            None => Reply::Nobody,
+        }
+    }
+
+    /// What a Cancel of this lease's client is answered.
+    fn strike_at(&self, lease: &Lease) -> Reply
+        ensures { result ≡ (outcome.strikes_at self.now lease.now (find (book.is_link lease.now.link) self.now.lent)).reply }
+    {
+        match self.lent.place_of(lease.link) {
+            Some(place) => strike_by(lease, self.lent.at(place).key.key()),
+            None => Reply::Nobody,
+        }
+    }
+
+    /// The lease of a lent link ends: no Cancel finds it any more.
+    pub fn ends_lease(&mut self, link: u64) -> Reply
+        requires kept { Kept self.old }
+        requires lent { list_any (book.is_link link) self.old.lent ≡ true }
+        ensures book { self.new ≡ (outcome.ends_lease self.old link).book }
+        ensures reply { result ≡ (outcome.ends_lease self.old link).reply }
+    {
+        self.keyed.remove(link);
+        self.ended.note(link);
+        self.end_of(link)
+    }
+
+    /// What is to become of the link when its lease ends.
+    fn end_of(&self, link: u64) -> Reply
+        ensures { result ≡ (outcome.ends_lease self.now link).reply }
+    {
+        if self.marked.has(link) {
+            Reply::Dispose
+        } else {
+            Reply::Reset
         }
     }
 
@@ -485,6 +579,21 @@ impl Board {
         ensures { result ≡ position (outcome.is_stale self.now) self.now.idle }
     {
         self.idle.as_slice().iter().position(|l| self.is_stale(l))
+    }
+}
+
+/// The strike of a lease whose link was started for this key.
+fn strike_by(lease: &Lease, key: &StartKey) -> Reply
+    ensures { result ≡ strike_of lease.now key.now.port key.now.host }
+{
+    match key.host {
+        Some(host) => Reply::Strike {
+            link: lease.link,
+            server: lease.server,
+            host,
+            port: key.port,
+        },
+        None => Reply::Nobody,
     }
 }
 

@@ -1,5 +1,7 @@
 //! What an event makes of the lists, its reply, and how it is counted.
-ghost use Rattle.std.specs.Prelude.{◌≡◌, ◌<◌, Some, None, cond, false};
+ghost use Rattle.std.specs.Prelude.{◌≡◌, ◌<◌, ◌||◌, Some, None, cond, false};
+ghost use Rattle.std.specs.List.{list_any};
+ghost use Rattle.book_model.specs.Book as book;
 ghost use Rattle.book_model.specs.Events.{event_of};
 ghost use Rattle.book_model.specs.Outcomes as outcome;
 ghost use Rattle.book_register.specs.Choices.{Gives};
@@ -18,18 +20,20 @@ struct Kinds {
     refused: Option<Kind>,
     queued: Option<Kind>,
     done: Option<Kind>,
+    nobody: Option<Kind>,
     other: Option<Kind>,
 }
 
 impl Kinds {
     /// One kind, whatever the reply.
     fn all(kind: Kind) -> Kinds
-        ensures { result ≡ record { refused = Some kind; queued = Some kind; done = Some kind; other = Some kind } }
+        ensures { result ≡ record { refused = Some kind; queued = Some kind; done = Some kind; nobody = Some kind; other = Some kind } }
     {
         Kinds {
             refused: Some(kind),
             queued: Some(kind),
             done: Some(kind),
+            nobody: Some(kind),
             other: Some(kind),
         }
     }
@@ -42,6 +46,7 @@ impl Kinds {
             Reply::Refuse(_) => self.refused,
             Reply::Queued(_) => self.queued,
             Reply::Done => self.done,
+            Reply::Nobody => self.nobody,
             _ => self.other,
         }
     }
@@ -68,6 +73,9 @@ fn raise(counts: &mut Counts, kind: Kind)
         Kind::Pausing => counts.paused += 1,
         Kind::Resuming => counts.resumed += 1,
         Kind::Closing => counts.shut_down += 1,
+        Kind::Keying => counts.keyed += 1,
+        Kind::Cancelling => counts.cancelled += 1,
+        Kind::LeaseEnding => counts.leases_ended += 1,
     }
 }
 
@@ -93,7 +101,7 @@ impl Board {
         self.decides(event)
     }
 
-    /// Whether the event's client or link isn't there, or has a ticket already.
+    /// Whether the event's client or link isn't there, it has a ticket already, or the lease was keyed or has ended.
     fn is_strange(&self, event: &Event) -> bool
         requires kept { Kept self.now }
         ensures { result ≡ outcome.is_strange self.now (event_of event.now) }
@@ -105,8 +113,17 @@ impl Board {
             Event::Lost { link } => !self.lent.has(*link),
             Event::StartFailed { link } => !self.lent.has(*link),
             Event::Leave { client } => !self.clients.has(*client),
+            Event::Keyed { link, .. } => !self.lent.has(*link) || self.has_lease(*link),
+            Event::EndLease { link } => !self.lent.has(*link),
             _ => false,
         }
+    }
+
+    /// Whether the link's lease was keyed, or has ended.
+    fn has_lease(&self, link: u64) -> bool
+        ensures { result ≡ (list_any (book.is_of_link link) self.now.keyed || list_any (book.is_number link) self.now.ended) }
+    {
+        self.keyed.has(link) || self.ended.has(link)
     }
 
     /// The kinds that the event may be of.
@@ -139,6 +156,12 @@ impl Board {
             Event::Pause => Kinds::all(Kind::Pausing),
             Event::Resume => Kinds::all(Kind::Resuming),
             Event::Shutdown => Kinds::all(Kind::Closing),
+            Event::Keyed { .. } => Kinds::all(Kind::Keying),
+            Event::Cancel { .. } => Kinds {
+                nobody: None,
+                ..Kinds::all(Kind::Cancelling)
+            },
+            Event::EndLease { .. } => Kinds::all(Kind::LeaseEnding),
         }
     }
 
@@ -177,6 +200,13 @@ impl Board {
             Event::Pause => self.pauses(),
             Event::Resume => self.resumes(),
             Event::Shutdown => self.shuts_down(),
+            Event::Keyed {
+                link,
+                client,
+                server,
+            } => self.keys(link, client, server),
+            Event::Cancel { client } => self.cancels(client),
+            Event::EndLease { link } => self.ends_lease(link),
         }
     }
 

@@ -15,6 +15,7 @@ use book_model::counts::Counts;
 use book_model::events::{Event, Reply};
 use book_model::limits::Limits;
 use book_rows::clients::Clients;
+use book_rows::leases::{Leases, Numbers};
 use book_rows::links::Links;
 use book_rows::tickets::Tickets;
 use start_keys::StartKey;
@@ -82,6 +83,9 @@ fn all_ticks(decisions: u64) -> Counts
         paused: 0,
         resumed: 0,
         shut_down: 0,
+        keyed: 0,
+        cancelled: 0,
+        leases_ended: 0,
     }
 }
 
@@ -94,6 +98,9 @@ fn empty_board(alloc: Global, limits: Arc<Limits>, decisions: u64) -> Result<Boa
         tickets: Tickets::new(alloc)?,
         lent: Links::new(alloc)?,
         idle: Links::new(alloc)?,
+        keyed: Leases::new(alloc)?,
+        marked: Numbers::new(alloc)?,
+        ended: Numbers::new(alloc)?,
         last_client: 0,
         last_link: 0,
         clock: 0,

@@ -1,5 +1,5 @@
 -- Places in a list.
-use Rattle.std.specs.Prelude.{◌≡◌, ◌<◌, ◌≤◌, ℕ, Bool, false, List, Option, Some, None, count_by, length, slice_get}
+use Rattle.std.specs.Prelude.{◌≡◌, ◌<◌, ℕ, Bool, false, List, Option, Some, None, length, slice_get}
 use Rattle.book_model.specs.Book.{find_last}
 
 -- something is there, and passes

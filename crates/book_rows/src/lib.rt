@@ -1,7 +1,10 @@
-//! The rows of the lease book, each kind in a list of its own: clients, tickets and links, found by number or by pool.
+//! The rows of the lease book, each kind in a list of its own: clients, tickets, links and leases, found by number, by pool or by key
+//! word.
 #![tactic(auto)]
 
 pub mod clients;
+pub mod index;
+pub mod leases;
 pub mod links;
 pub mod pools;
 pub mod tickets;

@@ -9,7 +9,7 @@ use lease_book::book::Book;
 use lease_book::events::{Event, Reply};
 use link_run::links::CleanLink;
 use memory_ends::gone_end::GoneEnd;
-use message_view::Refusal;
+use message_view::{KeyView, Refusal};
 use std::alloc::{AllocError, Global};
 use std::sync::Arc;
 
@@ -31,6 +31,10 @@ pub(crate) enum Act {
     Pause,
     Resume,
     Shutdown,
+    /// The key words of the client and of the server.
+    Keyed(u64, KeyView, KeyView),
+    Cancel(KeyView),
+    EndLease(u64),
 }
 
 /// A reply.
@@ -45,6 +49,11 @@ pub(crate) enum Told {
     Refuse(Refusal, Option<u64>),
     Done,
     Stranger(Option<u64>),
+    /// The link, its server's key word, and its place.
+    Strike(u64, KeyView, [u8; 4], u16),
+    Nobody,
+    Reset,
+    Dispose,
 }
 
 /// The number of a link, which is closed.
@@ -75,6 +84,15 @@ fn by_numbers(reply: Reply<GoneEnd>) -> Told {
         Reply::Refuse(refusal, back) => Told::Refuse(refusal, number_of(back)),
         Reply::Done => Told::Done,
         Reply::Stranger(back) => Told::Stranger(number_of(back)),
+        Reply::Strike {
+            number,
+            server,
+            host,
+            port,
+        } => Told::Strike(number, server, host, port),
+        Reply::Nobody => Told::Nobody,
+        Reply::Reset => Told::Reset,
+        Reply::Dispose => Told::Dispose,
     }
 }
 
@@ -159,6 +177,13 @@ impl Story {
             Act::Pause => Ok(self.happens(Event::Pause)),
             Act::Resume => Ok(self.happens(Event::Resume)),
             Act::Shutdown => Ok(self.happens(Event::Shutdown)),
+            Act::Keyed(number, client, server) => Ok(self.happens(Event::Keyed {
+                number,
+                client,
+                server,
+            })),
+            Act::Cancel(client) => Ok(self.happens(Event::Cancel { client })),
+            Act::EndLease(number) => Ok(self.happens(Event::EndLease { number })),
         }
     }
 
@@ -223,6 +248,17 @@ impl Story {
     /// Who waits with the ticket at this place.
     pub(crate) fn ticket(&self, at: usize) -> Option<Waiting> {
         self.book.ticket(at)
+    }
+
+    /// All decisions, and those that were a Keyed, a Cancel or an end of a lease.
+    pub(crate) fn cancels(&self) -> [u64; 4] {
+        let counts = self.book.counts();
+        [
+            self.book.decisions(),
+            counts.keyed,
+            counts.cancelled,
+            counts.leases_ended,
+        ]
     }
 
     /// Arrivals, Asks, grants, returns, losses and Ticks.

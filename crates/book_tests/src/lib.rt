@@ -7,6 +7,8 @@ pub mod book_parts;
 #[cfg(test)]
 mod book_stories;
 #[cfg(test)]
+mod cancel_stories;
+#[cfg(test)]
 mod histories;
 #[cfg(test)]
 mod row_stories;

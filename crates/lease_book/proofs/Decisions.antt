@@ -1,16 +1,17 @@
 -- What an event does to the number of decisions, and to the lists where it is none.
-use Rattle.std.proofs.Common.{◌≡◌, ℕ, suc, Bool, true, false, cond, Option, None, Some, length, refl, ap, ◌∙◌, arith}
+use Rattle.std.proofs.Common.{◌≡◌, ℕ, suc, Bool, true, false, cond, List, Option, None, Some, length, refl, ap, ◌∙◌, arith}
 use Rattle.std.specs.Prelude.{find, not, ◌==◌, ◌&&◌, ◌||◌, nat_lt}
 use Rattle.std.proofs.lemmas.Bool.{le-ltb, lt-ltb}
 use Rattle.message_view.specs.declared.refusal.Refusal.{Refusal}
 use Rattle.message_view.specs.declared.refusal.Refusal.TheVariants.{TooManyClients, WaitedTooLong, ShuttingDown, LastDecision}
-use Rattle.book_model.specs.Book.{Book, Link, Ticket, in_pool, latest_of, link_count, pool_count, pool_size, is_of, is_link, waiting_before}
-use Rattle.book_model.specs.Outcomes.{Answer, Event, apply, outcome, decided, counted, is_strange, kind_of, last_decision, loses_ticket, evicts, grants, has_waited, takes, is_old, is_crowded, gives_back, closes, at_clock, is_stale}
-use Rattle.book_model.specs.Outcomes.Event.{Arrive, Ask, Take, GiveBack, Lost, StartFailed, Leave, Tick, NewLimits, Pause, Resume, Shutdown}
+use Rattle.message_view.specs.declared.views.KeyView.{KeyView}
+use Rattle.book_model.specs.Book.{Book, Lease, Link, Ticket, in_pool, latest_of, link_count, pool_count, pool_size, is_of, is_of_client, is_link, waiting_before}
+use Rattle.book_model.specs.Outcomes.{Answer, Event, apply, outcome, decided, counted, is_strange, kind_of, last_decision, loses_ticket, evicts, grants, has_waited, takes, is_old, is_crowded, gives_back, closes, at_clock, is_stale, cancels, strikes, strikes_at}
+use Rattle.book_model.specs.Outcomes.Event.{Arrive, Ask, Take, GiveBack, Lost, StartFailed, Leave, Tick, NewLimits, Pause, Resume, Shutdown, Keyed, Cancel, EndLease}
 use Rattle.book_model.specs.declared.counts.Kind.{Kind}
 use Rattle.book_model.specs.declared.counts.Kind.TheVariants.{Ticking}
 use Rattle.book_model.specs.declared.events.Reply.{Reply}
-use Rattle.book_model.specs.declared.events.Reply.TheVariants.{Queued, Refuse, Stranger}
+use Rattle.book_model.specs.declared.events.Reply.TheVariants.{Queued, Refuse, Stranger, Nobody}
 use Rattle.book_model.specs.Replay.{is_decision, is_a_kind}
 
 both : (Q : Answer → Type 0) (b : Bool) (x y : Answer) → Q x → Q y → Q (cond b x y)
@@ -63,6 +64,18 @@ fair_closes : (b : Book) (now : ℕ) (o : Option Link) → Fair b (Tick now) (cl
 fair_closes b now None = record { counts = refl; stays = λ n. clock_stays b now (nat_lt b.clock now) refl n }
 fair_closes b now (Some link) = record { counts = refl; stays = λ n. cc }
 
+fair_strikes : (b : Book) (client : KeyView) (lease : Lease) (port : ℕ) (host : Option (List ℕ)) → Fair b (Cancel client) (strikes b lease port host)
+fair_strikes b client lease port None = same b (Cancel client) Nobody
+fair_strikes b client lease port (Some host) = record { counts = refl; stays = λ n. cc }
+
+fair_strikes_at : (b : Book) (client : KeyView) (lease : Lease) (o : Option Link) → Fair b (Cancel client) (strikes_at b lease o)
+fair_strikes_at b client lease None = same b (Cancel client) Nobody
+fair_strikes_at b client lease (Some link) = fair_strikes b client lease link.key.port link.key.host
+
+fair_cancels : (b : Book) (client : KeyView) (o : Option Lease) → Fair b (Cancel client) (cancels b o)
+fair_cancels b client None = same b (Cancel client) Nobody
+fair_cancels b client (Some lease) = fair_strikes_at b client lease (find (is_link lease.link) b.lent)
+
 fair : (b : Book) (e : Event) → Fair b e (outcome b e)
 fair b Arrive =
     both (Fair b Arrive) b.is_shut _ _ (same b Arrive (Refuse ShuttingDown))
@@ -79,6 +92,9 @@ fair b (NewLimits l) = record { counts = refl; stays = λ n. cc }
 fair b Pause = record { counts = refl; stays = λ n. cc }
 fair b Resume = record { counts = refl; stays = λ n. cc }
 fair b Shutdown = record { counts = refl; stays = λ n. cc }
+fair b (Keyed n client server) = record { counts = refl; stays = λ k. cc }
+fair b (Cancel client) = fair_cancels b client (find (is_of_client client) b.keyed)
+fair b (EndLease n) = record { counts = refl; stays = λ k. cc }
 
 -- ---- the whole answer
 

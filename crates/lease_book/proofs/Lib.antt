@@ -1,3 +1,4 @@
+pub mod Plain
 mod Decisions
 mod Kept
 mod Links

@@ -6,7 +6,7 @@ use Rattle.link_run.specs.Links.{LinkView}
 use Rattle.book_model.specs.Book.{Book, Link, is_link}
 use Rattle.book_model.specs.Outcomes.{Answer, apply, apply_return, is_started_as}
 use Rattle.book_model.specs.Outcomes.{Event as ListsEvent}
-use Rattle.book_model.specs.Outcomes.Event.{Arrive, Ask, Take, GiveBack, Lost, StartFailed, Leave, Tick, NewLimits, Pause, Resume, Shutdown}
+use Rattle.book_model.specs.Outcomes.Event.{Arrive, Ask, Take, GiveBack, Lost, StartFailed, Leave, Tick, NewLimits, Pause, Resume, Shutdown, Keyed, Cancel, EndLease}
 use Rattle.book_model.specs.Replay.{History, noted_of}
 use Rattle.book_model.specs.declared.events.Reply.{Reply as ListsReply}
 use Rattle.book_model.specs.declared.events.Reply.TheVariants as told
@@ -103,6 +103,9 @@ module _ {E : Type 0} where
   plain event.Pause = Pause
   plain event.Resume = Resume
   plain event.Shutdown = Shutdown
+  plain (event.Keyed n client server) = Keyed n client server
+  plain (event.Cancel client) = Cancel client
+  plain (event.EndLease n) = EndLease n
 
   -- no link comes with it, nor a key, nor limits
   abbrev pub brings_nothing : Event E → Bool
@@ -126,6 +129,10 @@ module _ {E : Type 0} where
   reply_of (reply.Refuse refusal back) = told.Refuse refusal
   reply_of reply.Done = told.Done
   reply_of (reply.Stranger back) = told.Stranger
+  reply_of (reply.Strike n server host port) = told.Strike n server host port
+  reply_of reply.Nobody = told.Nobody
+  reply_of reply.Reset = told.Reset
+  reply_of reply.Dispose = told.Dispose
 
   -- the link that comes with a reply
   abbrev pub handed : Reply E → Option LinkView

@@ -56,6 +56,23 @@ fn reply_with<E: ServerEnd>(told: lists::Reply, link: Option<CleanLink<E>>) -> R
         (lists::Reply::Refuse(refusal), _) => Reply::Refuse(refusal, None),
         (lists::Reply::Done, _) => Reply::Done,
         (lists::Reply::Stranger, _) => Reply::Stranger(None),
+        (
+            lists::Reply::Strike {
+                link,
+                server,
+                host,
+                port,
+            },
+            _,
+        ) => Reply::Strike {
+            number: link,
+            server,
+            host,
+            port,
+        },
+        (lists::Reply::Nobody, _) => Reply::Nobody,
+        (lists::Reply::Reset, _) => Reply::Reset,
+        (lists::Reply::Dispose, _) => Reply::Dispose,
         _ => unreachable!(),
     }
 }
@@ -100,6 +117,17 @@ fn by_number<E: ServerEnd>(event: &Event<E>) -> lists::Event
         Event::Pause => lists::Event::Pause,
         Event::Resume => lists::Event::Resume,
         Event::Shutdown => lists::Event::Shutdown,
+        Event::Keyed {
+            number,
+            client,
+            server,
+        } => lists::Event::Keyed {
+            link: *number,
+            client: *client,
+            server: *server,
+        },
+        Event::Cancel { client } => lists::Event::Cancel { client: *client },
+        Event::EndLease { number } => lists::Event::EndLease { link: *number },
         Event::Ask { .. } | Event::GiveBack(_) | Event::Limits(..) => unreachable!(),
     }
 }

@@ -1,7 +1,7 @@
 //! What can happen to the lease book, and what it answers, with the links themselves.
 use book_model::limits::Limits;
 use link_run::links::CleanLink;
-use message_view::Refusal;
+use message_view::{KeyView, Refusal};
 use server_end::ServerEnd;
 use start_keys::StartKey;
 use std::sync::Arc;
@@ -46,6 +46,20 @@ pub enum Event<E: ServerEnd> {
     Resume,
     /// No client is let in and no link lent any more.
     Shutdown,
+    /// This lent link serves the client of this key word, and its server told that one.
+    Keyed {
+        number: u64,
+        client: KeyView,
+        server: KeyView,
+    },
+    /// What the client of this key word is at is to be cancelled.
+    Cancel {
+        client: KeyView,
+    },
+    /// The lease of this link has ended.
+    EndLease {
+        number: u64,
+    },
 }
 
 /// What the book answers. A link that leaves the book, or isn't kept, comes with the reply.
@@ -69,6 +83,20 @@ pub enum Reply<E: ServerEnd> {
     Refuse(Refusal, Option<CleanLink<E>>),
     /// It is done; a link that was given back is kept.
     Done,
-    /// No such client, ticket or link is there, or the client has a ticket already. A link that was given back is handed back.
+    /// No such client, ticket or link is there, the client has a ticket already, or the lease was keyed or has ended. A link that was
+    /// given back is handed back.
     Stranger(Option<CleanLink<E>>),
+    /// The cancel is for the server of this link, which told this key word and is at this place.
+    Strike {
+        number: u64,
+        server: KeyView,
+        host: [u8; 4],
+        port: u16,
+    },
+    /// Nobody of this key word has a lease.
+    Nobody,
+    /// The lease's link may be reset, or given back unused: no cancel is for it.
+    Reset,
+    /// The lease's link is to be closed: a cancel is for it, and may still come.
+    Dispose,
 }

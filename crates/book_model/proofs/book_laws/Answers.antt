@@ -1,4 +1,4 @@
-use Rattle.book_model.proofs.Outcomes.{plain_events_add_nothing, arrivals_number, asks_queue, takes_lend, takes_start, takes_evict, returns_add, returns_close, ticks_close}
+use Rattle.book_model.proofs.Outcomes.{plain_events_add_nothing, arrivals_number, asks_queue, takes_lend, takes_start, takes_evict, returns_add, returns_close, ticks_close, keyed_keys, cancels_strike, resets_release}
 use Rattle.book_model.proofs.book_laws.Goals as goal
 
 pub returns-clause-plain : goal.returns-clause-plain
@@ -27,3 +27,12 @@ returns-clause-too_late c = returns_close
 
 pub returns-clause-tick : goal.returns-clause-tick
 returns-clause-tick c = ticks_close
+
+pub returns-clause-keyed : goal.returns-clause-keyed
+returns-clause-keyed c = keyed_keys
+
+pub returns-clause-cancels : goal.returns-clause-cancels
+returns-clause-cancels c = cancels_strike
+
+pub returns-clause-resets : goal.returns-clause-resets
+returns-clause-resets c = resets_release
