@@ -14,6 +14,7 @@ use message_view::put_cancel_request;
 use pool_desk::outside::Outside;
 use std::alloc::{AllocError, Global};
 use std::io;
+use std::net::Net;
 use std::sync::Arc;
 use tcp_end::connection::TcpEnd;
 use tcp_end::dial::{CONNECT_SECONDS, dial};
@@ -29,6 +30,19 @@ fn request_of(alloc: Global, strike: &Strike) -> Result<BytesMut, AllocError>
     let mut request = BytesMut::new(alloc);
     put_cancel_request(&mut request, strike.server.pid, strike.server.secret)?;
     Ok(request)
+}
+
+/// Sends a cancel to its server, and waits until that has closed the connection.
+fn send<R: Net>(rt: &R, alloc: Global, strike: &Strike) -> io::Result<()> {
+    let request = request_of(alloc, strike)?;
+    send_alone(
+        rt,
+        alloc,
+        strike.host,
+        strike.port,
+        request.as_slice(),
+        CANCEL_SECONDS,
+    )
 }
 
 /// Reaches a row's server at its address and port, the files where they are kept, and the log.
@@ -50,21 +64,6 @@ impl<R: PoolRuntime, F: Source> Drop for Surroundings<R, F> {
     }
 }
 
-impl<R: PoolRuntime, F: Source> Surroundings<R, F> {
-    /// Sends a cancel to its server, and waits until that has closed the connection.
-    fn send(&self, strike: &Strike) -> io::Result<()> {
-        let request = request_of(self.alloc, strike)?;
-        send_alone(
-            &self.rt,
-            self.alloc,
-            strike.host,
-            strike.port,
-            request.as_slice(),
-            CANCEL_SECONDS,
-        )
-    }
-}
-
 impl<R: PoolRuntime, F: Source> Outside for Surroundings<R, F> {
     ghost use Rattle.link_desk.specs.Homes.{unknown_home};
 
@@ -78,7 +77,7 @@ impl<R: PoolRuntime, F: Source> Outside for Surroundings<R, F> {
 
     fn strike(&self, strike: &Strike) {
         // whether the server took it nobody is told: the link isn't lent again in any case
-        let _ = self.send(strike);
+        let _ = send(&self.rt, self.alloc, strike);
     }
 
     fn reload(&self) -> Option<(Arc<Limits>, Arc<Limits>)> {
