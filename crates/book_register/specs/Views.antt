@@ -5,7 +5,7 @@ use Rattle.book_model.specs.Book.{Book, Client, Limits, Link, Ticket, same_pool}
 use Rattle.book_model.specs.declared.counts.Counts.{Counts}
 use Rattle.book_register.specs.declared.view.Waiting.{Waiting}
 
--- all but the numbers that come next
+-- all but the leases and the numbers that come next
 pub record View : Type 0 where
   pub clients : List Client
   pub tickets : List Ticket

@@ -42,8 +42,8 @@ impl Lease {
     }
 }
 
-/// Leases in the order of their Keyed, with room for one of each link. Whether there is one of a key word is told, but for few of
-/// the key words that there aren't, without a look at them.
+/// Leases in the order of their Keyed, with room for one of each link. A key word that nobody has is mostly known for one by an index,
+/// without a look at the leases.
 pub struct Leases {
     rows: Vec<Lease>,
     index: Index,
