@@ -42,6 +42,16 @@ impl<R: Wait + Drop, N: Naming> Model for StrikableDial<R, N> {
     ghost invariant = { λ d. (0 < d.cut) × IsEverywhere N.catalogue (arc_value d.catalogue) };
 }
 
+/// The key word of the next server, where so many were dialled.
+fn next_word(dialled: usize) -> Option<KeyWord> {
+    let number = u32::try_from(dialled).ok()?.checked_add(1)?;
+    Some(KeyWord {
+        pid: number,
+        secret: number,
+        salt: [0; 4],
+    })
+}
+
 impl<R: Wait + Drop, N: Naming> StrikableDial<R, N> {
     /// Servers of this catalogue, of which a call moves at most `cut` bytes.
     pub fn new(rt: R, alloc: Global, catalogue: Arc<Catalogue>, cut: usize) -> StrikableDial<R, N>
@@ -58,28 +68,6 @@ impl<R: Wait + Drop, N: Naming> StrikableDial<R, N> {
             naming: PhantomData,
         }
     }
-
-    /// A server with a key word of its own, whose striker is kept.
-    fn serve(&self, strikers: &mut Vec<Striker>) -> Option<MemoryServer> {
-        let catalogue = Arc::try_clone(&self.catalogue).ok()?;
-        let number = u32::try_from(strikers.len()).ok()?.checked_add(1)?;
-        let own = KeyWord {
-            pid: number,
-            secret: number,
-            salt: [0; 4],
-        };
-        let server = MemoryServer::new(
-            self.alloc,
-            catalogue,
-            ServerAuth::Trust,
-            own,
-            self.cut,
-            None,
-        )
-        .ok()?;
-        strikers.push(server.striker().ok()?).ok()?;
-        Some(server)
-    }
 }
 
 impl<R: Wait + Drop, N: Naming> Outside for StrikableDial<R, N> {
@@ -92,7 +80,19 @@ impl<R: Wait + Drop, N: Naming> Outside for StrikableDial<R, N> {
     fn dial(&self, _row: &DbRow) -> Option<MemoryServer> {
         memory_servers_can_start();
         self.catalogue.is_lawful();
-        self.serve(&mut self.strikers.lock(&self.rt))
+        let mut strikers = self.strikers.lock(&self.rt);
+        let own = next_word(strikers.len())?;
+        let server = MemoryServer::new(
+            self.alloc,
+            Arc::try_clone(&self.catalogue).ok()?,
+            ServerAuth::Trust,
+            own,
+            self.cut,
+            None,
+        )
+        .ok()?;
+        strikers.push(server.striker().ok()?).ok()?;
+        Some(server)
     }
 
     fn strike(&self, strike: &Strike) {

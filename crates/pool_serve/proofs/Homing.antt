@@ -17,7 +17,8 @@ use Rattle.relay_laws.specs.Leases.{RelayView, IsLease, place}
 use Rattle.relay_core.specs.declared.relay.Returned.{Returned}
 use Rattle.relay_core.specs.declared.relay.Returned.TheVariants.{Unused, Used, Gone}
 use Rattle.relay_core.specs.Returns.{IsReturned, IsThatLink}
-use Rattle.pool_serve.specs.Backs.{IsBackHome}
+use Rattle.link_desk.specs.declared.calls.Holder.{Holder}
+use Rattle.pool_serve.specs.Backs.{HasLease, IsBackHome, IsOwnLease}
 
 -- a link of the same key, whose end has the same server still
 pub home_still : (home : HomeOf) (old new : LinkView) → new.stands.follows ≡ old.stands.follows → new.stands.server ≡ old.stands.server → new.key ≡ old.key → IsAtHome home old → IsAtHome home new
@@ -35,6 +36,14 @@ module _ (home : HomeOf) (client : ClientFacts) (link : LinkView) (word : KeyWor
   back_home standing (Unused l) t h = that_home l t.2 h
   back_home standing (Used l) t h = that_home l t.2 h
   back_home standing (Gone lent cause) t h = tt
+
+  that_own : (h : Holder) (number born : ℕ) → number ≡ v.number → born ≡ v.born → HasLease h link.number link.born → HasLease h number born
+  that_own h number born n b y = subst (λ (m : ℕ). HasLease h m born) (sym (n ∙ x.same.1)) (subst (λ (m : ℕ). HasLease h link.number m) (sym (b ∙ x.same.2)) y)
+
+  pub back_own : {E : Type 0} (standing : E → Standing) (h : Holder) (r : Returned E) → IsReturned standing v r → HasLease h link.number link.born → IsOwnLease h r
+  back_own standing h (Unused l) t y = that_own h l.number l.born t.2.number t.2.born y
+  back_own standing h (Used l) t y = that_own h l.number l.born t.2.number t.2.born y
+  back_own standing h (Gone lent cause) t y = that_own h lent.number lent.born t.0.number t.0.born y
 
 -- ---- a new link
 

@@ -17,7 +17,7 @@ use Rattle.login_core.specs.Logins.{LoginView, rows_of}
 use Rattle.login_core.specs.Laws.{names_in, row_for}
 use Rattle.login_core.specs.Solo.{solo_in}
 use Rattle.login_laws.specs.Laws.{BoundedRowsAreLawful, IsOfRow, PassedKeysAreLinkKeys, PassedKeysAreOfTheirRows}
-use Rattle.login_run.specs.Runs.{Arrived, Awaits, Console, Gone, IsAllGiven, IsKeyOf, IsPiece, IsRun, IsSameLogin, Passed, PhaseOf, RunView, Stopped, Talking}
+use Rattle.login_run.specs.Runs.{Arrived, Awaits, Cancelling, Console, Gone, IsAllGiven, IsKeyOf, IsPiece, IsRun, IsSameLogin, Passed, PhaseOf, RunView, Stopped, Talking}
 use Rattle.login_run.specs.Laws.{AllowedBy, IsAtPiece, PassedRunsAreLetIn, PassedRunsHavePassed, RunsAreAllowed, RunsStandAtPieces, own}
 use Rattle.link_desk.specs.Homes.{HomeOf}
 use Rattle.link_desk.specs.Refusing.{RefusesArrival}
@@ -89,6 +89,7 @@ key_is p o k e h = key_of p k (subst (IsKeyOf p) e h)
     key_of Talking l i = absurd cc
     key_of Arrived l i = absurd cc
     key_of Console l i = absurd cc
+    key_of (Cancelling key) l i = absurd cc
     key_of Stopped l i = absurd cc
     key_of Gone l i = absurd cc
 

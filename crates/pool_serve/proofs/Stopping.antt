@@ -11,4 +11,5 @@ stopped_by old new turn.Wait h a w = absurd (w refl)
 stopped_by old new turn.Arrived h a w = h
 stopped_by old new turn.Passed h a w = h.1
 stopped_by old new turn.Console h a w = h
+stopped_by old new (turn.Cancel key) h a w = h
 stopped_by old new turn.Over h a w = tt

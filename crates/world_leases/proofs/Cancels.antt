@@ -1,24 +1,23 @@
 -- Leases and cancels under events of the book, starts, returns and resets.
-use Rattle.std.proofs.Common.{◌≡◌, ◌≢◌, ℕ, ◌≤◌, Bool, true, false, List, [], ◌∷◌, ◌++◌, ◌⊎◌, inl, inr, ⊎_elim, refl, sym, ap, ◌∙◌, subst, le_refl, nat_eq, eqb-true, eq-eqb, Option, Some, None}
+use Rattle.std.proofs.Common.{◌≡◌, ◌≢◌, ℕ, Bool, true, false, List, [], ◌∷◌, ◌++◌, ◌⊎◌, inl, inr, ⊎_elim, refl, sym, ap, ◌∙◌, subst, nat_eq, eqb-true, eq-eqb, Some}
 use Rattle.std.specs.List.{AllByRecursion}
 use Rattle.std.proofs.lemmas.Bool.{false≢true}
 use Rattle.std.proofs.lemmas.Option.{none-some}
 use Rattle.message_view.specs.declared.views.KeyView.{KeyView}
 use Rattle.session_values.specs.State.{State, StartKeyOf}
-use Rattle.login_core.specs.Talk.{End}
 use Rattle.login_core.specs.Talk.End.{Stopped}
 use Rattle.login_core.specs.Dialogue.{Cancelling, login}
 use Rattle.book_model.specs.Book.{Book}
-use Rattle.book_model.specs.Laws.{Drops, HasLease, HasLink, HasTicket, Keys, Lends, LendsNothing, LendsOne, MayReturn, Releases, Starts, Strikes, TakesBack}
-use Rattle.world_steps.specs.Clients.{Client, HasCome, IsUnstruck, Phase, key_of}
-use Rattle.world_steps.specs.Clients.Phase.{Absent, LoggingIn, Waiting, Starting, Served, Finishing}
+use Rattle.book_model.specs.Laws.{HasLease, HasLink, Keys, Lends, LendsNothing, LendsOne, MayReturn, Releases, Starts, Strikes, TakesBack}
+use Rattle.world_steps.specs.Clients.{Client, HasCome, IsUnstruck, key_of}
+use Rattle.world_steps.specs.Clients.Phase.{LoggingIn, Waiting, Starting, Served}
 use Rattle.world_steps.specs.Links.{Link, Role, newborn}
 use Rattle.world_steps.specs.Links.Role.{Unborn, Promised, Lent, InReset, Clean, Idle, Gone}
-use Rattle.world_steps.specs.Relation.{AreRelated, CancelsFit, HasLentKey, InLogin, IsOfClient, IsOnItsWay, LeaseFits, MayBeLent, StrikeFits, TicketFits}
+use Rattle.world_steps.specs.Relation.{AreRelated, CancelsFit, HasLentKey, IsOnItsWay, LeaseFits, MayBeLent, StrikeFits}
 use Rattle.world_steps.specs.Steps.{Asks, IsNewKey, gets_link, gone, promised, sets_out}
-use Rattle.world_steps.specs.Worlds.{AreTogether, HasAsked, IsFor, Strike, World, put, with_book, with_client, with_link, with_pair, with_strikes}
-use Rattle.world_steps.proofs.Cancels.{ClientGoes, ClientKeeps, Everywhere, GoesOn, Kept, LinkKeeps, RoleGoes, all_marks_on, due_kept, due_on, fits_on, goes_there, lease_kept, link_goes, same_asked, same_client, same_link, strikes_change, strikes_kept, together_on}
-use Rattle.world_steps.proofs.Cancels.RoleGoes.{comes_back, is_renewed, is_thrown, stays}
+use Rattle.world_steps.specs.Worlds.{AreTogether, HasAsked, Strike, World, put, with_book, with_link, with_pair}
+use Rattle.world_steps.proofs.Cancels.{ClientGoes, ClientKeeps, Everywhere, GoesOn, Kept, LinkKeeps, RoleGoes, all_marks_on, due_kept, due_on, fits_on, lease_kept, link_goes, same_client, same_link, strikes_change, strikes_kept}
+use Rattle.world_steps.proofs.Cancels.RoleGoes.{comes_back, is_renewed, is_thrown}
 use Rattle.world_steps.proofs.Changes.{at_clean_point, in_phase, in_role}
 use Rattle.world_steps.proofs.Logins.{login_stopped}
 use Rattle.world_steps.proofs.Put.{put_all, put_case}

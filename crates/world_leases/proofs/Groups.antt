@@ -1,19 +1,19 @@
 -- The groups of steps that change the book's lists or the links' roles keep the relation.
-use Rattle.std.proofs.Common.{◌≡◌, ◌≢◌, ℕ, ◌≤◌, List, [], ◌∷◌, ◌++◌, refl, sym, ap, ◌∙◌, subst, le_refl, Option, Some, None}
+use Rattle.std.proofs.Common.{◌≡◌, ℕ, ◌≤◌, [], ◌∷◌, ◌++◌, refl, sym, ◌∙◌, subst, le_refl, Option, Some, None}
 use Rattle.message_view.specs.declared.views.KeyView.{KeyView}
-use Rattle.session_values.specs.State.{State, StartKeyOf}
+use Rattle.session_values.specs.State.{StartKeyOf}
 use Rattle.session_values.specs.Errors.{fatal}
 use Rattle.frame_view.specs.Frames.{spelling}
 use Rattle.session_laws.specs.Starts.{StartErrorIsFrame}
 use Rattle.book_model.specs.Book.{Book}
-use Rattle.book_model.specs.Laws.{PlainEventsAddNothing, ArrivalsNumber, AsksQueue, TakesLend, TakesStart, TakesEvict, ReturnsAdd, ReturnsClose, TicksClose, KeyedKeys, CancelsStrike, ResetsRelease, Lends, LendsNothing, Starts, StartsNothing}
+use Rattle.book_model.specs.Laws.{PlainEventsAddNothing, ArrivalsNumber, AsksQueue, TakesLend, TakesStart, TakesEvict, ReturnsAdd, ReturnsClose, TicksClose, KeyedKeys, CancelsStrike, ResetsRelease, LendsNothing, Starts}
 use Rattle.book_model.specs.Outcomes.{Answer, apply, apply_return}
 use Rattle.book_model.specs.Outcomes.Event.{Arrive, Ask, Cancel, EndLease, Keyed, Take, Tick}
 use Rattle.book_model.specs.declared.events.Reply.{Reply}
-use Rattle.world_steps.specs.Clients.{HasEnded, key_of}
+use Rattle.world_steps.specs.Clients.{key_of}
 use Rattle.world_steps.specs.Clients.Phase.{Starting, Served, Finishing, Waiting}
 use Rattle.world_steps.specs.Laws.{BookStepsKeep, LinkStepsKeep}
-use Rattle.world_steps.specs.Links.{Link, Role}
+use Rattle.world_steps.specs.Links.{Role}
 use Rattle.world_steps.specs.Links.Role.{Unborn, Promised, Lent, InReset, Clean, Idle, Gone}
 use Rattle.world_steps.specs.Relation.{AreRelated, CancelsFit, Related, TicketFits}
 use Rattle.world_steps.specs.Steps.{Gives, gets_link, gone, promised, sets_out}

@@ -37,9 +37,9 @@ use Rattle.world_steps.specs.Relation.{IsLent, IsClean, RoleFits, InLogin, InQue
 use Rattle.world_steps.specs.Steps.{gone, promised, gets_link, IsInHand}
 use Rattle.world_steps.specs.Worlds.{World, put, with_client, with_link, with_pair, with_book}
 use Rattle.book_model.specs.Book.{Book}
-use Rattle.book_model.specs.Outcomes.{Answer, Event, apply, apply_return}
+use Rattle.book_model.specs.Outcomes.{Event, apply, apply_return}
 use Rattle.book_model.specs.declared.events.Reply.{Reply}
-use Rattle.book_model.specs.Laws.{IsPlain, PlainEventsAddNothing, ArrivalsNumber, AsksQueue, TakesLend, TakesStart, TakesEvict, ReturnsAdd, ReturnsClose, TicksClose, AddsNothing, StartsNothing, Lends, Starts, Drops, Numbers}
+use Rattle.book_model.specs.Laws.{IsPlain, PlainEventsAddNothing, ArrivalsNumber, AsksQueue, TakesLend, TakesStart, TakesEvict, ReturnsAdd, ReturnsClose, TicksClose, AddsNothing, Lends, Starts, Drops, Numbers}
 
 -- two different roles
 lent_idle : {A : Type 0} (c : ℕ) → Lent c ≡ Idle → A

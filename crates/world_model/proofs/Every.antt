@@ -33,7 +33,7 @@ use Rattle.world_steps.proofs.Clients.{phase_over, fresh_one, after_passed}
 use Rattle.world_steps.proofs.Sole.{frames_after}
 use Rattle.world_steps.proofs.Steps.{fits_at, role_at}
 use Rattle.frame_view.specs.declared.frames.TheConstants.{LONGEST_FRAME}
-use Rattle.world_model.specs.Headline.{Agree, HasIt, IsQuiet, IsFreshLink, IdleLinksAreFresh, LinksServeOne, RefusalsStandApart, future, OutsBegin, TwoWorlds}
+use Rattle.world_model.specs.Headline.{Agree, HasIt, IsQuiet, IdleLinksAreFresh, LinksServeOne, RefusalsStandApart, future, OutsBegin, TwoWorlds}
 use Rattle.world_model.specs.Headline.HasIt.{is_served, awaits}
 use Rattle.world_steps.specs.Clients.{Client, given}
 use Rattle.world_steps.specs.Laws.{BookStepsKeep, ClientStepsKeep, ByteStepsKeep, LinkStepsKeep, EndStepsKeep}

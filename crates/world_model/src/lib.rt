@@ -37,8 +37,8 @@ pub fn two_worlds()
 
 /// Over every list of steps, a cancel strikes the client alone for which it was asked, and no client for which none was.
 ///
-/// A cancel that is on its way to a link's server, or came to it and struck nothing yet, was asked for the client that the link is lent
-/// to; and a link with such a cancel is lent or thrown away: it comes to no other client.
+/// A cancel that is on its way to a link's server, or came to it and struck nothing yet, was asked for the client that has the link; and
+/// a link with such a cancel is lent or thrown away: it comes to no other client.
 pub fn every_cancel()
     ensures unasked { UnaskedAreUnstruck }
     ensures own { OpenCancelsAreOwn }

@@ -1,14 +1,13 @@
 -- Leases and cancels under a step that lends nothing anew: each link goes on, or is thrown away.
-use Rattle.std.proofs.Common.{◌≡◌, ◌≢◌, ℕ, Bool, true, false, List, [], ◌∷◌, ◌++◌, ◌⊎◌, inl, inr, ⊎_elim, refl, sym, ap, ◌∙◌, subst, Option, Some, None}
+use Rattle.std.proofs.Common.{◌≡◌, ℕ, List, [], ◌∷◌, ◌++◌, ◌⊎◌, inl, inr, ⊎_elim, refl, sym, ap, ◌∙◌, subst, Option, Some}
 use Rattle.std.specs.List.{AllByRecursion}
 use Rattle.message_view.specs.declared.views.KeyView.{KeyView}
 use Rattle.session_values.specs.State.{StartKeyOf}
-use Rattle.login_core.specs.Talk.{End}
 use Rattle.login_core.specs.Talk.End.{Stopped}
 use Rattle.login_core.specs.Dialogue.{Cancelling, login}
 use Rattle.book_model.specs.Book.{Book}
 use Rattle.book_model.specs.Laws.{HasLease, HasLink, LendsNothing, MayReturn}
-use Rattle.world_steps.specs.Clients.{Client, HasCome, IsUnstruck, Phase, key_of}
+use Rattle.world_steps.specs.Clients.{Client, HasCome, IsUnstruck, key_of}
 use Rattle.world_steps.specs.Clients.Phase.{Starting}
 use Rattle.world_steps.specs.Links.{Link, Role}
 use Rattle.world_steps.specs.Links.Role.{Unborn, Promised, Lent, InReset, Clean, Idle, Gone}
@@ -225,12 +224,17 @@ module _ (w : World) (f : CancelsFit w) where
   roles_put_on : (l : ℕ) (y : Link) → ((key : StartKeyOf) → HasLink l key w.book.lent → MayBeLent y.role) → (n : ℕ) (key : StartKeyOf) → HasLink n key w.book.lent → MayBeLent (put w.links l y n).role
   roles_put_on l y h = put_all (λ i z. (key : StartKeyOf) → HasLink i key w.book.lent → MayBeLent z.role) w.links l y h (λ i _ key t. f.lent_roles i key t)
 
-  -- with a role in which it isn't lent
-  pub link_goes : (l : ℕ) (y : Link) → LinkKeeps (w.links l) y → ((client : KeyView) → y.due ≡ Some client → (w.links l).due ≡ Some client) → ((key : StartKeyOf) → HasLink l key w.book.lent → MayBeLent y.role) → CancelsFit (with_link w l y)
-  link_goes l y h due lent =
+  -- with cancels at servers that are told apart
+  link_due : (l : ℕ) (y : Link) → LinkKeeps (w.links l) y → ((key : StartKeyOf) → HasLink l key w.book.lent → MayBeLent y.role) →
+      (Kept w (with_link w l y) → (n : ℕ) (client : KeyView) → (put w.links l y n).due ≡ Some client → StrikeFits (with_link w l y) n client (put w.links l y n).role × HasAsked (with_link w l y) client) → CancelsFit (with_link w l y)
+  link_due l y h lent due =
       let v = with_link w l y in
       let k : Kept w v = record { book = lends_same w.book; strikes = refl; links = links_put_on l y h; lent_roles = roles_put_on l y lent; clients = λ i. (same_client (w.clients i)).goes.keeps; starting = λ i own n e. e } in
-      fits_on w v k f (all_marks_on w v (λ i. (same_client (w.clients i)).goes) f) (λ n client e. due_on w v k f n client (due_put_on l y due n client e))
+      fits_on w v k f (all_marks_on w v (λ i. (same_client (w.clients i)).goes) f) (due k)
+
+  -- with a role in which it may not be lent
+  pub link_goes : (l : ℕ) (y : Link) → LinkKeeps (w.links l) y → ((client : KeyView) → y.due ≡ Some client → (w.links l).due ≡ Some client) → ((key : StartKeyOf) → HasLink l key w.book.lent → MayBeLent y.role) → CancelsFit (with_link w l y)
+  link_goes l y h due lent = link_due l y h lent (λ k n client e. due_on w (with_link w l y) k f n client (due_put_on l y due n client e))
 
   pub link_keeps : (l : ℕ) (y : Link) → LinkStays (w.links l) y → CancelsFit (with_link w l y)
   link_keeps l y h = link_goes l y h.keeps h.due (λ key t. h.lent (f.lent_roles l key t))
@@ -315,22 +319,16 @@ some_same e = cc
 
 -- it comes to a server, where it fits
 pub strike_comes : (w : World) (l : ℕ) (client : KeyView) → CancelsFit w → StrikeFits w l client (w.links l).role → HasAsked w client → CancelsFit (with_link w l (due_for (w.links l) client))
-strike_comes w l client f fit asked =
-    let v = with_link w l (due_for (w.links l) client) in
-    let keeps : (i : ℕ) → LinkKeeps (w.links i) (put w.links l (due_for (w.links l) client) i) =
-    put_all (λ i z. LinkKeeps (w.links i) z) w.links l (due_for (w.links l) client) (record { key = refl; server_key = refl; role = stays }) (λ i _. (same_link (w.links i)).keeps) in
-    let roles : (n : ℕ) (key : StartKeyOf) → HasLink n key w.book.lent → MayBeLent (put w.links l (due_for (w.links l) client) n).role =
-    put_all (λ i z. (key : StartKeyOf) → HasLink i key w.book.lent → MayBeLent z.role) w.links l (due_for (w.links l) client) (f.lent_roles l) (λ i _. f.lent_roles i) in
-    let k : Kept w v = record { book = lends_same w.book; strikes = refl; links = keeps; lent_roles = roles; clients = λ i. (same_client (w.clients i)).goes.keeps; starting = λ i own n e. e } in
-    fits_on w v k f (all_marks_on w v (λ i. (same_client (w.clients i)).goes) f) (comes k)
+strike_comes w l client f fit asked = link_due w f l (due_for (w.links l) client) (record { key = refl; server_key = refl; role = stays }) (f.lent_roles l) comes
   where
-    comes : (k : Kept w (with_link w l (due_for (w.links l) client))) (n : ℕ) (key : KeyView) → (put w.links l (due_for (w.links l) client) n).due ≡ Some key →
+    same : (i : ℕ) → ClientKeeps (w.clients i) (w.clients i)
+    same i = (same_client (w.clients i)).goes.keeps
+
+    comes : Kept w (with_link w l (due_for (w.links l) client)) → (n : ℕ) (key : KeyView) → (put w.links l (due_for (w.links l) client) n).due ≡ Some key →
         StrikeFits (with_link w l (due_for (w.links l) client)) n key (put w.links l (due_for (w.links l) client) n).role × HasAsked (with_link w l (due_for (w.links l) client)) key
     comes k n key =
         let v = with_link w l (due_for (w.links l) client) in
         put_case (λ z. z.due ≡ Some key → StrikeFits v n key z.role × HasAsked v key) w.links l (due_for (w.links l) client) n
         (λ g e. subst (λ (q : KeyView). StrikeFits v n q (w.links l).role × HasAsked v q) (some_same e)
-        (subst (λ (i : ℕ). StrikeFits v i client (w.links l).role) (sym g) (strike_on w v (λ i. (same_client (w.clients i)).goes.keeps) l client (λ m. m) (w.links l).role (w.links l).role stays fit),
-        asked_on w v client (λ i. (same_client (w.clients i)).goes.keeps) asked))
-        (λ ne e. let p = f.due n key e in
-        (strike_on w v (λ i. (same_client (w.clients i)).goes.keeps) n key (λ m. m) (w.links n).role (w.links n).role stays p.0, asked_on w v key (λ i. (same_client (w.clients i)).goes.keeps) p.1))
+        (subst (λ (i : ℕ). StrikeFits v i client (w.links l).role) (sym g) (strike_on w v same l client (λ m. m) (w.links l).role (w.links l).role stays fit), asked_on w v client same asked))
+        (λ ne e. let p = f.due n key e in (strike_on w v same n key (λ m. m) (w.links n).role (w.links n).role stays p.0, asked_on w v key same p.1))

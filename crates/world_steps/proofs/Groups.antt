@@ -10,7 +10,6 @@ use Rattle.message_view.specs.declared.views.KeyView.{KeyView}
 use Rattle.message_view.specs.Refusals.{refusal}
 use Rattle.session_values.specs.State.{CatalogueOf, StartKeyOf, address_of}
 use Rattle.session_values.specs.Step.{may_be_struck}
-use Rattle.login_core.specs.Talk.{End}
 use Rattle.login_core.specs.Talk.End.{Stopped}
 use Rattle.login_core.specs.Dialogue.{Cancelling, LoginRow, login}
 use Rattle.world_steps.specs.Clients.{Client, HasCome, IsUnstruck, key_of, newcomer}
@@ -145,9 +144,9 @@ bytes_keep w _ (by_link l (server_dies kept lost e)) r =
     record { facts = step_server_dies w l kept lost r.facts e; cancels = link_keeps w r.cancels l (dies (w.links l) kept) (record { keeps = record { key = refl; server_key = refl; role = stays }; due = λ k q. q; lent = λ h. h }) }
 bytes_keep w _ (by_link l strike_passes) r =
     record { facts = step_strike_passes w l r.facts; cancels = link_keeps w r.cancels l (spared (w.links l)) (record { keeps = record { key = refl; server_key = refl; role = stays }; due = λ k q. absurd (none-some k q); lent = λ h. h }) }
-bytes_keep w _ (server_answers l f rest nobody h) r =
+bytes_keep w _ (server_answers l f rest unserved h) r =
     let y = answers (w.catalogue (address_of (w.links l).key)) (w.links l) f rest in
-    record { facts = step_server_answers w l f rest r.facts nobody h; cancels = link_keeps w r.cancels l y (answers_stay (w.catalogue (address_of (w.links l).key)) (w.links l) f rest) }
+    record { facts = step_server_answers w l f rest r.facts unserved h; cancels = link_keeps w r.cancels l y (answers_stay (w.catalogue (address_of (w.links l).key)) (w.links l) f rest) }
 bytes_keep w _ (server_answers_client c l f rest e h) r =
     let y = answers (w.catalogue (address_of (w.links l).key)) (w.links l) f rest in
     record {

@@ -1,7 +1,7 @@
 -- Each step of a client, its worker and a server keeps the relation, step by step.
-use Rattle.std.proofs.Common.{◌≡◌, ◌≢◌, ◌⊎◌, inl, inr, ℕ, Bool, true, List, [], ◌∷◌, ◌++◌, Option, Some, None, refl, sym, ap, ◌∙◌, subst, append_assoc}
+use Rattle.std.proofs.Common.{◌≡◌, ◌⊎◌, inl, inr, ℕ, Bool, List, [], ◌∷◌, ◌++◌, Option, Some, None, refl, sym, ap, ◌∙◌, subst, append_assoc}
 use Rattle.std.proofs.lemmas.Option.{none-some}
-use Rattle.frame_view.specs.Frames.{FrameOf, spelling}
+use Rattle.frame_view.specs.Frames.{FrameOf}
 use Rattle.message_view.specs.declared.KeyWord.{KeyWord}
 use Rattle.message_view.specs.declared.views.KeyView.{KeyView}
 use Rattle.message_view.specs.declared.refusal.Refusal.{Refusal}
@@ -26,7 +26,7 @@ use Rattle.world_steps.specs.Clients.{Client, Phase, newcomer, MayWrite, AtBorde
 use Rattle.world_steps.specs.Links.{Link, Role, is_due}
 use Rattle.world_steps.specs.Relation.{RoleFits, PhaseFits, TicketFits, AreRelated, InService, IsNamed, IsTold, StrikeFits}
 use Rattle.world_steps.specs.Worlds.{Strike, World, put, with_client, with_link, with_pair, with_strikes}
-use Rattle.world_steps.specs.Steps.{HasFrame, IsInHand, answers}
+use Rattle.world_steps.specs.Steps.{HasFrame, IsInHand, IsUnserved, answers}
 use Rattle.world_steps.specs.Steps.IsInHand.{in_reset, clean}
 
 -- what is known of a client in a known phase
@@ -189,11 +189,11 @@ step_closes w c r =
 
 -- ---- a server
 
-pub step_server_answers : (w : World) (l : ℕ) (f : FrameOf) (rest : List ℕ) → AreRelated w → ((c : ℕ) → (w.clients c).phase ≢ Served l) → HasFrame (w.links l) f rest →
+pub step_server_answers : (w : World) (l : ℕ) (f : FrameOf) (rest : List ℕ) → AreRelated w → IsUnserved w l (w.links l).role → HasFrame (w.links l) f rest →
     AreRelated (with_link w l (answers (w.catalogue (address_of (w.links l).key)) (w.links l) f rest))
-step_server_answers w l f rest r nobody h =
+step_server_answers w l f rest r unserved h =
     change_link w l (answers (w.catalogue (address_of (w.links l).key)) (w.links l) f rest) r (role_answers w.catalogue (w.links l).role (w.links l) f rest h (r.links l))
-    (λ c p _. absurd (nobody c p))
+    (λ c p k. absurd (subst (IsUnserved w l) k.1 unserved p))
     (λ c key p k. k) (λ i. (i, refl)) (λ i. i)
 
 -- the mark is noted at the client, too

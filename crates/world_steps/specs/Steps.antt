@@ -137,6 +137,11 @@ pub record HasFrame (y : Link) (f : FrameOf) (rest : List ℕ) : Type 0 where
 abbrev pub answers : CatalogueOf → Link → FrameOf → List ℕ → Link
 answers cat y f rest = record y { session = (step cat y.session (is_due y f) f).next; inbox = rest; outbox = y.outbox ++ flat_map spelling (step cat y.session (is_due y f) f).replies; due = left_due (is_due y f) y.due; struck = y.struck ++ is_due y f ∷ [] }
 
+-- the client that the link is lent to isn't served over it any more, or it is lent to none
+abbrev pub IsUnserved : World → ℕ → Role → Type 0
+IsUnserved w l (Lent c) = (w.clients c).phase ≢ Served l
+IsUnserved w l _ = Unit {0}
+
 -- over a link in reset, and at a server
 pub data LinkBytes (cat : CatalogueOf) (y : Link) : Link → Type 0 where
   to_reset : (bytes rest : List ℕ) → y.role ≡ InReset → y.sent ++ (bytes ++ rest) ≡ spelling discard_all →
@@ -155,7 +160,7 @@ pub data ByteStep (w : World) : World → Type 0 where
   -- what a cancel struck is noted at the client that is served over the link, if any is
   server_answers_client : (c l : ℕ) (f : FrameOf) (rest : List ℕ) → (w.clients c).phase ≡ Served l → HasFrame (w.links l) f rest →
       ByteStep w (with_pair w c (record (w.clients c) { struck = (w.clients c).struck ++ is_due (w.links l) f ∷ [] }) l (answers (w.catalogue (address_of (w.links l).key)) (w.links l) f rest))
-  server_answers : (l : ℕ) (f : FrameOf) (rest : List ℕ) → ((c : ℕ) → (w.clients c).phase ≢ Served l) → HasFrame (w.links l) f rest →
+  server_answers : (l : ℕ) (f : FrameOf) (rest : List ℕ) → IsUnserved w l (w.links l).role → HasFrame (w.links l) f rest →
       ByteStep w (with_link w l (answers (w.catalogue (address_of (w.links l).key)) (w.links l) f rest))
   -- at any later moment, and before or after others
   strike_arrives : (l : ℕ) (before later : List Strike) (s : Strike) → w.strikes ≡ before ++ s ∷ later → IsFor s (w.links l) →

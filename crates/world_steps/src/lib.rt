@@ -1,4 +1,4 @@
-//! The worlds of the pooler: clients, links and the book, what may happen next, and what every step keeps. Here are the laws of
+//! The worlds of the pooler: clients, links, the book and cancels, what may happen next, and what every step keeps. Here are the laws of
 //! the steps that leave the book's lists and the links' roles alone.
 #![tactic(auto)]
 
@@ -9,7 +9,7 @@ pub fn client_steps_keep()
     ensures { ClientStepsKeep }
 {}
 
-/// So do moves of bytes, a server's step and its death.
+/// So do moves of bytes, a server's step and its death, and cancels that come to their servers.
 pub fn byte_steps_keep()
     ensures { ByteStepsKeep }
 {}

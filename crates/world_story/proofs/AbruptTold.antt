@@ -13,7 +13,6 @@ use Rattle.login_core.specs.Dialogue.{ok}
 use Rattle.login_core.specs.Solo.{solo_in}
 use Rattle.world_steps.specs.Clients.Phase.{Refusing}
 use Rattle.world_steps.specs.Clients.MayWrite.{logging_in}
-use Rattle.world_steps.specs.Steps.Reached.{begins}
 use Rattle.world_steps.specs.Steps.Step.{client_step, byte_step, end_step}
 use Rattle.world_steps.specs.Steps.ClientStep.{of_client}
 use Rattle.world_steps.specs.Steps.ClientMove.{comes, sends, reads}
@@ -25,7 +24,8 @@ use Rattle.world_story.specs.Slips.{SpoilsRefusal}
 use Rattle.world_story.specs.Slips.IsReachedBy.{so_far, slips}
 use Rattle.world_story.specs.Slips.BreaksOff.{breaks_off}
 use Rattle.world_story.proofs.Slipping.{next_do}
-use Rattle.world_story.proofs.Told.{the_catalogue, lawful, row, lawful_row, word, limits, hello, bytes, at_first, then_do}
+use Rattle.world_story.proofs.Told.{the_catalogue, row, lawful_row, word, limits, hello, bytes, at_first, is_empty}
+use Rattle.world_story.proofs.Keys.{at_begin, then_do}
 
 -- the first byte of AuthenticationOk, and then the refusal
 abbrev broken : List ℕ
@@ -81,12 +81,12 @@ not_allowed (inr r) = refused r.given r.kept r.pieces_are r.last r.begins.more r
 pub abruptness : SpoilsRefusal
 unfolding then_do next_do refusal cut_after text_at startup_of pair_at ended_at list_until
 abruptness =
-    let h0 = begins {w = at_first} limits (record { lawful = λ _. lawful; absent = λ _. refl; unnumbered = λ _. refl; given_nothing = λ _. (refl, refl); unborn = λ _. refl; book_is = refl }) in
+    let h0 = at_begin at_first limits (is_empty limits) in
     let h1 = then_do (client_step (of_client 1 (comes row (word 1) refl lawful_row))) h0 in
     let h2 = then_do (client_step (of_client 1 (sends hello (bytes hello refl)))) h1 in
     let h3 = then_do (client_step (of_client 1 (reads [] hello [] (ok ∷ []) refl refl refl))) h2 in
     let h4 = then_do (byte_step (by_client 1 (to_client (82 ∷ []) (0 ∷ 0 ∷ 0 ∷ 8 ∷ 0 ∷ 0 ∷ 0 ∷ 0 ∷ []) logging_in refl))) h3 in
-    let c4 = so_far h4 in
+    let c4 = so_far h4.reached in
     let c5 = slips c4 (breaks_off 1 ServerFailed logging_in) in
     let c6 = next_do (end_step (of_end 1 (refusal_to_client (refusal ServerFailed) [] (ap Refusing (sym (append-nil (refusal ServerFailed))))))) c5 in
     record { world = _; reached = c6; wrong = not_allowed }

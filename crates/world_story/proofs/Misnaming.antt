@@ -18,7 +18,8 @@ use Rattle.world_story.specs.Slips.IsReachedBy.{so_far, slips}
 use Rattle.world_story.specs.Slips.Misnames.{misnames}
 use Rattle.world_story.proofs.Slipping.{next_do, takes_all, gives_rest}
 use Rattle.world_story.proofs.Starting.{logging_in, starting}
-use Rattle.world_story.proofs.Told.{state_of, the_catalogue, key, word, then_do}
+use Rattle.world_story.proofs.Told.{state_of, the_catalogue, key, word}
+use Rattle.world_story.proofs.Keys.{new_key, server, then_do}
 
 abbrev greeting : ℕ → List ℕ
 greeting n = ok ++ flat_map spelling (welcome (state_of (fresh the_catalogue key)) n n)
@@ -34,7 +35,7 @@ not_begun more e = differs (ap (λ (l : List ℕ). slice_index l 249) e)
 pub misnaming : Spoils Misnames 1
 unfolding logging_in starting then_do next_do takes_all gives_rest apply apply_return cut_after text_at int16_at int32_at value_at list_at query_of parse_of bind_of target_of execute_of startup_of pair_at ended_at list_until literal_length unquoted tokens_after read ends pass take_value either with_item items definitions columns_at at_most_64 take_columns take_operands block assignment set_name set reset show discard definition_list create drop_table value_list insert where_of end_of from_of select of_tokens less_semicolon phrase statement accepted_of date_styles started_over fresh step run_frames
 misnaming =
-    let c1 = slips (so_far starting.reached) (misnames 1 1 key _ (word 2) refl refl) in
+    let c1 = slips (so_far starting.at.reached) (misnames 1 1 key (server 1) _ (word 2) refl refl (new_key starting.at)) in
     let c2 = gives_rest 1 served c1 in
     record {
       world = _;

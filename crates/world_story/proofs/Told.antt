@@ -40,21 +40,21 @@ use Rattle.world_steps.specs.Clients.HasEnded.{closed, refusing}
 use Rattle.world_steps.specs.Links.{Link}
 use Rattle.world_steps.specs.Links.Role.{Unborn}
 use Rattle.world_steps.specs.Worlds.{World, with_client}
-use Rattle.world_steps.specs.Steps.{Reached, Step}
-use Rattle.world_steps.specs.Steps.Reached.{begins, goes_on}
+use Rattle.world_steps.specs.Steps.{IsEmpty}
 use Rattle.world_steps.specs.Steps.Step.{book_step, client_step, byte_step, link_step, end_step}
 use Rattle.world_steps.specs.Steps.BookStep.{arrives, asks, is_lent, is_promised, gives_back}
 use Rattle.world_steps.specs.Steps.ClientStep.{of_client}
 use Rattle.world_steps.specs.Steps.ClientMove.{comes, sends, reads, passes}
-use Rattle.world_steps.specs.Steps.ByteStep.{by_client, by_lease, by_link}
+use Rattle.world_steps.specs.Steps.ByteStep.{by_client, by_lease, by_link, server_answers, server_answers_client}
 use Rattle.world_steps.specs.Steps.ClientBytes.{from_client, to_client}
 use Rattle.world_steps.specs.Steps.LeaseBytes.{to_link, from_link}
-use Rattle.world_steps.specs.Steps.LinkBytes.{to_reset, from_reset, server_answers, server_dies}
+use Rattle.world_steps.specs.Steps.LinkBytes.{to_reset, from_reset, server_dies}
 use Rattle.world_steps.specs.Steps.LinkStep.{starts, returns_used, ends_reset, disposes_lent}
 use Rattle.world_steps.specs.Steps.EndStep.{of_end}
 use Rattle.world_steps.specs.Steps.EndMove.{closes, refuses, refusal_to_client}
 use Rattle.world_model.specs.Headline.{QuietLeasesAreWhole}
 use Rattle.world_story.specs.Story.{Story, changed}
+use Rattle.world_story.proofs.Keys.{At, at_begin, new_key, server, then_do}
 
 abbrev pub the_catalogue : CatalogueOf
 the_catalogue = record { version = codes "16.0"; databases = codes "shop" ∷ []; tables = [] }
@@ -102,16 +102,16 @@ pub bytes : (bs : List ℕ) → list_all (λ b. nat_lt b 256) bs ≡ true → Ar
 bytes bs h = below bs (all-as (λ b. nat_lt b 256 ≡ true) (λ b. b < 256) (λ (b : ℕ) k. ltb-true b 256 k) bs (list_all-each (λ b. nat_lt b 256) bs h))
 
 abbrev nobody : Client
-nobody = record { phase = Absent; number = None; row = row; word = word 0; sent = []; unread = []; for_link = []; for_client = []; out = []; refusal = [] }
+nobody = record { phase = Absent; number = None; row = row; word = word 0; sent = []; unread = []; for_link = []; for_client = []; out = []; refusal = []; struck = [] }
 
 abbrev no_link : Link
-no_link = record { role = Unborn; key = key; alive = true; session = begun []; inbox = []; outbox = []; sent = []; received = [] }
+no_link = record { role = Unborn; key = key; server_key = None; alive = true; session = begun []; inbox = []; outbox = []; due = None; sent = []; received = []; struck = [] }
 
 abbrev pub at_first : World
-at_first = record { catalogue = λ _. the_catalogue; clients = λ _. nobody; links = λ _. no_link; book = empty_book limits }
+at_first = record { catalogue = λ _. the_catalogue; clients = λ _. nobody; links = λ _. no_link; book = empty_book limits; strikes = [] }
 
-unfoldable pub then_do : {w v : World} → Step w v → Reached w → Reached v
-then_do s h = goes_on h s
+pub is_empty : (l : Limits) → IsEmpty (record at_first { book = empty_book l }) l
+is_empty l = record { lawful = λ _. lawful; absent = λ _. refl; unnumbered = λ _. refl; given_nothing = λ _. (refl, refl); unstruck = λ _. refl; unborn = λ _. refl; keyless = λ _. refl; undue = λ _. refl; no_strikes = refl; book_is = refl }
 
 abbrev back : List FrameOf
 back = command_complete (codes "DISCARD ALL") ∷ parameter_status (codes "application_name") [] ∷ ready_for_query IDLE ∷ []
@@ -119,7 +119,7 @@ back = command_complete (codes "DISCARD ALL") ∷ parameter_status (codes "appli
 pub change-sent : IsSent change
 change-sent = record { whole = record { of_type = refl; size = omega arith }; bytes = bytes change.body refl }
 
-discard-sent : IsSent discard_all
+pub discard-sent : IsSent discard_all
 discard-sent = record { whole = record { of_type = refl; size = omega arith }; bytes = bytes discard_all.body refl }
 
 pub changed-are : AllByRecursion (IsFrame Server LONGEST_FRAME) changed
@@ -133,9 +133,9 @@ state_of (Ok s) = s
 state_of (Err cause) = begun []
 
 -- all that is held for a client is given to it
-unfoldable pub gives_all : {w : World} (c : ℕ) → MayWrite (w.clients c).phase → Reached w → Reached (with_client w c (record (w.clients c) { for_client = []; out = (w.clients c).out ++ (w.clients c).for_client }))
+unfoldable pub gives_all : {w : World} {n : ℕ} (c : ℕ) → MayWrite (w.clients c).phase → At n w → At n (with_client w c (record (w.clients c) { for_client = []; out = (w.clients c).out ++ (w.clients c).for_client }))
 unfolding then_do
-gives_all {w} c m h = then_do (byte_step (by_client c (to_client (w.clients c).for_client [] m (sym (append-nil (w.clients c).for_client))))) h
+gives_all {w} {n} c m h = then_do (byte_step (by_client c (to_client (w.clients c).for_client [] m (sym (append-nil (w.clients c).for_client))))) h
 
 abbrev fresh_one : State
 fresh_one = state_of (fresh the_catalogue key)
@@ -154,7 +154,7 @@ greeting-are = welcome_is_frames the_catalogue key fresh_one 2 2 (fresh_is_reach
 pub story : QuietLeasesAreWhole → Story
 unfolding then_do apply apply_return cut_after text_at int16_at int32_at value_at list_at query_of parse_of bind_of target_of execute_of startup_of pair_at ended_at list_until literal_length unquoted tokens_after read ends pass take_value either with_item items definitions columns_at at_most_64 take_columns take_operands block assignment set_name set reset show discard definition_list create drop_table value_list insert where_of end_of from_of select of_tokens less_semicolon phrase statement accepted_of date_styles started_over fresh step run_frames
 story whole =
-    let h0 = begins {w = at_first} limits (record { lawful = λ _. lawful; absent = λ _. refl; unnumbered = λ _. refl; given_nothing = λ _. (refl, refl); unborn = λ _. refl; book_is = refl }) in
+    let h0 = at_begin at_first limits (is_empty limits) in
     let h1 = then_do (client_step (of_client 1 (comes row (word 1) refl lawful_row))) h0 in
     let h2 = then_do (client_step (of_client 1 (sends (hello ++ spelling change) (bytes (hello ++ spelling change) refl)))) h1 in
     let a1 = then_do (book_step (arrives 1 1 [] _ refl refl (record { reply_is = refl; book_is = refl }))) h2 in
@@ -162,22 +162,22 @@ story whole =
     let h4 = then_do (client_step (of_client 1 (passes hello [] key refl refl))) h3 in
     let h5 = then_do (book_step (asks 1 1 key _ _ (record { phase = refl; number_is = refl }) (record { reply_is = refl; book_is = refl }))) h4 in
     let h6 = then_do (book_step (is_promised 1 1 1 0 key _ (record { phase = refl; number_is = refl }) (record { reply_is = refl; book_is = refl }))) h5 in
-    let h7 = then_do (link_step (starts 1 1 key _ refl refl)) h6 in
+    let h7 = then_do (link_step (starts 1 1 key (server 1) _ refl refl (new_key h6))) h6 in
     let h8 = then_do (byte_step (by_client 1 (from_client 1 (spelling change) [] refl refl))) h7 in
     let h9 = then_do (byte_step (by_lease 1 1 refl (to_link (spelling change) [] refl))) h8 in
-    let h10 = then_do (byte_step (by_link 1 (server_answers change [] refl change-sent refl))) h9 in
+    let h10 = then_do (byte_step (server_answers_client 1 1 change [] refl (record { alive = refl; is_sent = change-sent; inbox = refl }))) h9 in
     let h11 = then_do (byte_step (by_lease 1 1 refl (from_link (flat_map spelling changed) [] refl))) h10 in
     let h12 = gives_all 1 served h11 in
     let h13 = then_do (end_step (of_end 1 closes)) h12 in
-    let h14 = then_do (link_step (returns_used 1 1 refl closed (record {
+    let h14 = then_do (link_step (returns_used 1 1 _ refl closed (record {
       went = change ∷ [];
       came = changed;
       sent_are = record { each = (change-sent.whole, tt); bytes_are = refl };
       received_are = record { each = changed-are; bytes_are = refl };
       answered = inr (record { equal = refl; before = []; final = change; last = refl; closing = refl; idle = refl });
-    }))) h13 in
+    }) (record { reply_is = refl; book_is = refl }))) h13 in
     let h15 = then_do (byte_step (by_link 1 (to_reset (spelling discard_all) [] refl refl))) h14 in
-    let h16 = then_do (byte_step (by_link 1 (server_answers discard_all [] refl discard-sent refl))) h15 in
+    let h16 = then_do (byte_step (server_answers 1 discard_all [] tt (record { alive = refl; is_sent = discard-sent; inbox = refl }))) h15 in
     let h17 = then_do (byte_step (by_link 1 (from_reset (flat_map spelling back) [] refl refl))) h16 in
     let h18 = then_do (link_step (ends_reset 1 refl (record {
       sent_is = refl;
@@ -200,14 +200,14 @@ story whole =
     let h30 = then_do (link_step (disposes_lent 2 1 refl refusing)) h29 in
     record {
       world = _;
-      reached = h26;
+      reached = h26.reached;
       second = refl;
       one_link = refl;
       before = ok ++ flat_map spelling (welcome (state_of (fresh the_catalogue key)) 1 1);
       first_given = refl;
-      second_given = whole _ h26 2 1 refl (record { alive = refl; inbox = refl; outbox = refl; unread = refl; for_link = refl; for_client = refl });
+      second_given = whole _ h26.reached 2 1 refl (record { alive = refl; inbox = refl; outbox = refl; unread = refl; for_link = refl; for_client = refl });
       later = _;
-      reached_later = h30;
+      reached_later = h30.reached;
       second_refused = refl;
       link_gone = refl;
     }

@@ -1,8 +1,9 @@
 //! A list of steps that the pooler's world can take, computed: what is said of every world is said of this one.
 #![tactic(auto)]
 
+ghost use Rattle.world_story.specs.Cancelled.{Cancelled, StrikesAnother};
 ghost use Rattle.world_story.specs.Others.{Others};
-ghost use Rattle.world_story.specs.Slips.{DiesLying, Hurries, Misnames, PassesSomehow, SkipsReset, Spoils, SpoilsRefusal};
+ghost use Rattle.world_story.specs.Slips.{DiesLying, Hurries, Misnames, PassesSomehow, RepeatsKey, ReturnsMarked, SkipsReset, Spoils, SpoilsRefusal};
 ghost use Rattle.world_story.specs.Story.{Story};
 
 use world_model::every_world;
@@ -47,4 +48,26 @@ pub fn any_key_shows()
 /// Were a client refused inside a message, it would be given what no answer of a server of its own allows.
 pub fn abruptness_shows()
     ensures { SpoilsRefusal }
+{}
+
+/// A statement is cancelled by another connection, the next one is answered, and the link is thrown away.
+pub fn a_statement_is_cancelled()
+    ensures { Cancelled }
+{
+    every_world();
+}
+
+/// Were a link returned whose lease a cancel found, the cancel would strike the next client's statement.
+pub fn late_cancels_strike()
+    ensures { StrikesAnother ReturnsMarked }
+{}
+
+/// Or it would strike the link's DISCARD ALL, and a second client would be given what no server of its own answers.
+pub fn struck_resets_leak()
+    ensures { Spoils ReturnsMarked 2 }
+{}
+
+/// Were a server to tell the key word of one that has ended, a cancel for the one would strike the other's client.
+pub fn repeated_keys_strike()
+    ensures { StrikesAnother RepeatsKey }
 {}

@@ -18,10 +18,10 @@ use Rattle.pool_serve.proofs.serve.serve.Goals as goal
 
 pub returns-in_default : goal.returns-in_default
 returns-in_default g c = record {
-  tells = ap (λ (x : ClientFacts). x.tells) c.finish-client.ensures.client ∙ (c.converse.ensures.login.tells ∙ ap (λ (x : ClientFacts). x.tells) c.new-run.ensures.client);
+  tells = ap (λ (x : ClientFacts). x.tells) c.finish-client-in_default.ensures.client ∙ (c.converse.ensures.login.tells ∙ ap (λ (x : ClientFacts). x.tells) c.new-run.ensures.client);
   allowed = λ t l. inl
-      (subst (λ (v : LoginView). (marks : List Bool) × (AreMarksOf g.D.LinkDesk.home.strikable marks × AllowedBy (HasCause v (g.C.ClientEnd.facts c.finish-client.result.0).taken (g.D.LinkDesk.told c.args.pass) (g.D.LinkDesk.told c.args.pass)) (g.C.ClientEnd.facts c.finish-client.result.0).given (own g.D.LinkDesk.home.catalogue v marks (g.C.ClientEnd.facts c.finish-client.result.0).taken))) c.new-run.ensures.login
-      (untold_client g.D.LinkDesk.home c.new-run.result.login (g.C.ClientEnd.facts c.finish-client.result.0) (g.D.LinkDesk.told c.args.pass) (g.D.LinkDesk.told c.args.pass) (run_ends c.runs_are_allowed.ensures g.D.LinkDesk.home c.new-run.result c.converse.new.run (g.C.ClientEnd.facts c.finish-client.result.0) c.converse.ensures.login c.finish-client.ensures.run c.finish-client.ensures.client (ap (λ (x : ClientFacts). x.tells) c.new-run.ensures.client ∙ t))));
+      (subst (λ (v : LoginView). (marks : List Bool) × (AreMarksOf g.D.LinkDesk.home.strikable marks × AllowedBy (HasCause v (g.C.ClientEnd.facts c.finish-client-in_default.result.0).taken (g.D.LinkDesk.told c.args.pass) (g.D.LinkDesk.told c.args.pass)) (g.C.ClientEnd.facts c.finish-client-in_default.result.0).given (own g.D.LinkDesk.home.catalogue v marks (g.C.ClientEnd.facts c.finish-client-in_default.result.0).taken))) c.new-run.ensures.login
+      (untold_client g.D.LinkDesk.home c.new-run.result.login (g.C.ClientEnd.facts c.finish-client-in_default.result.0) (g.D.LinkDesk.told c.args.pass) (g.D.LinkDesk.told c.args.pass) (run_ends c.runs_are_allowed.ensures g.D.LinkDesk.home c.new-run.result c.converse.new.run (g.C.ClientEnd.facts c.finish-client-in_default.result.0) c.converse.ensures.login c.finish-client-in_default.ensures.run c.finish-client-in_default.ensures.client (ap (λ (x : ClientFacts). x.tells) c.new-run.ensures.client ∙ t))));
   share = λ e. record { leases = refl; clients = refl };
   free = c.requires.free;
   none = c.requires.none;
@@ -55,10 +55,10 @@ pub returns-in-Cancel : goal.returns-in-Cancel
 returns-in-Cancel g c = record {
   tells = ap (λ (x : ClientFacts). x.tells) c.finish-client.ensures.client ∙ (c.converse.ensures.login.tells ∙ ap (λ (x : ClientFacts). x.tells) c.new-run.ensures.client);
   allowed = λ t l. inl
-      (subst (λ (v : LoginView). (marks : List Bool) × (AreMarksOf g.D.LinkDesk.home.strikable marks × AllowedBy (HasCause v (g.C.ClientEnd.facts c.finish-client.result.0).taken (g.D.LinkDesk.told c.args.pass) (g.D.LinkDesk.told c.pass_on.new.pass)) (g.C.ClientEnd.facts c.finish-client.result.0).given (own g.D.LinkDesk.home.catalogue v marks (g.C.ClientEnd.facts c.finish-client.result.0).taken))) c.new-run.ensures.login
-      (untold_client g.D.LinkDesk.home c.new-run.result.login (g.C.ClientEnd.facts c.finish-client.result.0) (g.D.LinkDesk.told c.args.pass) (g.D.LinkDesk.told c.pass_on.new.pass) (run_ends c.runs_are_allowed.ensures g.D.LinkDesk.home c.new-run.result c.converse.new.run (g.C.ClientEnd.facts c.finish-client.result.0) c.converse.ensures.login c.finish-client.ensures.run c.finish-client.ensures.client (ap (λ (x : ClientFacts). x.tells) c.new-run.ensures.client ∙ t))));
-  share = cancelled_settles (g.D.LinkDesk.told c.args.pass) _ c.pass_on.result c.pass_on.ensures.told;
-  free = ap (λ (h : Holder). h.client) c.pass_on.ensures.holder ∙ c.requires.free;
-  none = ap (λ (h : Holder). h.lease) c.pass_on.ensures.holder ∙ c.requires.none;
-  over = inr (inl (passed_on c.cancelling_runs_have_asked.ensures c.args.login c.new-run.result c.converse.new.run c.in-Cancel.key _ _ _ _ _ c.pass_on.result c.new-run.ensures.login c.converse.ensures.login c.finish-client.ensures.run c.in-Cancel.ensures.stopped.0 c.finish-client.ensures.client c.pass_on.ensures.told c.pass_on.ensures.holder));
+      (subst (λ (v : LoginView). (marks : List Bool) × (AreMarksOf g.D.LinkDesk.home.strikable marks × AllowedBy (HasCause v (g.C.ClientEnd.facts c.finish-client.result.0).taken (g.D.LinkDesk.told c.args.pass) (g.D.LinkDesk.told c.pass_on-cancelled.new.pass)) (g.C.ClientEnd.facts c.finish-client.result.0).given (own g.D.LinkDesk.home.catalogue v marks (g.C.ClientEnd.facts c.finish-client.result.0).taken))) c.new-run.ensures.login
+      (untold_client g.D.LinkDesk.home c.new-run.result.login (g.C.ClientEnd.facts c.finish-client.result.0) (g.D.LinkDesk.told c.args.pass) (g.D.LinkDesk.told c.pass_on-cancelled.new.pass) (run_ends c.runs_are_allowed.ensures g.D.LinkDesk.home c.new-run.result c.converse.new.run (g.C.ClientEnd.facts c.finish-client.result.0) c.converse.ensures.login c.finish-client.ensures.run c.finish-client.ensures.client (ap (λ (x : ClientFacts). x.tells) c.new-run.ensures.client ∙ t))));
+  share = cancelled_settles (g.D.LinkDesk.told c.args.pass) _ c.pass_on-cancelled.result c.pass_on-cancelled.ensures.told;
+  free = ap (λ (h : Holder). h.client) c.pass_on-cancelled.ensures.holder ∙ c.requires.free;
+  none = ap (λ (h : Holder). h.lease) c.pass_on-cancelled.ensures.holder ∙ c.requires.none;
+  over = inr (inl (passed_on c.cancelling_runs_have_asked.ensures c.args.login c.new-run.result c.converse.new.run c.in-Cancel.key _ _ _ _ _ c.pass_on-cancelled.result c.new-run.ensures.login c.converse.ensures.login c.finish-client.ensures.run c.in-Cancel.ensures.stopped.0 c.finish-client.ensures.client c.pass_on-cancelled.ensures.told c.pass_on-cancelled.ensures.holder));
 }

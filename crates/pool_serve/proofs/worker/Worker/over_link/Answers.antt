@@ -1,11 +1,23 @@
 use Rattle.std.proofs.Common.{[], inl, refl}
 use Rattle.message_view.specs.declared.refusal.Refusal.TheVariants.{LastDecision}
-use Rattle.link_desk.specs.declared.answers.Keying.TheVariants as keying
-use Rattle.link_desk.specs.declared.calls.Call.TheVariants as call
-use Rattle.pool_serve.specs.Serving.{limit_of, owed}
-use Rattle.pool_serve.proofs.Causing.{relayed_traces}
-use Rattle.pool_serve.proofs.Freeing.{keyed_back, keyed_ends, keyed_freed, still_broken}
-use Rattle.pool_serve.proofs.Leases.{relayed_came, relayed_frees}
-use Rattle.pool_serve.proofs.Owing.{over_link}
+use Rattle.link_desk.specs.Passes.{PassOf}
+use Rattle.pool_serve.specs.Serving.{owed}
+use Rattle.pool_serve.proofs.Freeing.{still_broken}
 use Rattle.pool_serve.proofs.Telling.{nothing_more, none_ends, refusal_ends}
 use Rattle.pool_serve.proofs.worker.Worker.over_link.Goals as goal
+
+pub returns-in-Last-clause-ended : goal.returns-in-Last-clause-ended
+returns-in-Last-clause-ended g c = record {
+  tells = refl;
+  traces = still_broken (g.D.LinkDesk.told c.args.self.now.pass) (g.D.LinkDesk.told c.keyed.new.pass) (g.D.LinkDesk.told c.drop_link.new.self.pass) c.in-Last.ensures.told c.drop_link.ensures.share;
+  came = refl;
+  serves = λ t l. nothing_more _ _ _ _ _ tt (refusal_ends (owed g.D.LinkDesk.home.catalogue c.args.logged_in.now [] []) LastDecision);
+}
+
+pub returns-in-Stranger-clause-ended : goal.returns-in-Stranger-clause-ended
+returns-in-Stranger-clause-ended g c = record {
+  tells = refl;
+  traces = inl (still_broken (g.D.LinkDesk.told c.args.self.now.pass) (g.D.LinkDesk.told c.keyed.new.pass) (g.D.LinkDesk.told c.drop_link-in-Stranger.new.self.pass) c.in-Stranger.ensures.told c.drop_link-in-Stranger.ensures.share);
+  came = refl;
+  serves = λ t l. nothing_more _ _ _ _ _ tt (none_ends (owed g.D.LinkDesk.home.catalogue c.args.logged_in.now [] []));
+}
