@@ -46,6 +46,9 @@ module _ {E : Type 0} where
   stays_home cat event.Pause r idle k h = all-left cat (goes_out r) idle h
   stays_home cat event.Resume r idle k h = all-left cat (goes_out r) idle h
   stays_home cat event.Shutdown r idle k h = all-left cat (goes_out r) idle h
+  stays_home cat (event.Keyed n client server) r idle k h = all-left cat (goes_out r) idle h
+  stays_home cat (event.Cancel client) r idle k h = all-left cat (goes_out r) idle h
+  stays_home cat (event.EndLease n) r idle k h = all-left cat (goes_out r) idle h
 
   pub handed_home : (cat : CatalogueOf) (e : Event E) (r : ListsReply) (idle : List LinkView) → IsBroughtHome cat e → AreAtHome cat idle → IfSome (handed_after e r idle) (IsAtHome cat)
   handed_home cat (event.GiveBack l) r idle k h = one-back cat l (is_done r) k
@@ -60,6 +63,9 @@ module _ {E : Type 0} where
   handed_home cat event.Pause r idle k h = all-found cat (goes_out r) idle h
   handed_home cat event.Resume r idle k h = all-found cat (goes_out r) idle h
   handed_home cat event.Shutdown r idle k h = all-found cat (goes_out r) idle h
+  handed_home cat (event.Keyed n client server) r idle k h = all-found cat (goes_out r) idle h
+  handed_home cat (event.Cancel client) r idle k h = all-found cat (goes_out r) idle h
+  handed_home cat (event.EndLease n) r idle k h = all-found cat (goes_out r) idle h
 
 -- keys that the comparison finds the same are one key
 pub of_same_key : (a b : StartKeyOf) → same_key a b ≡ true → a ≡ b

@@ -85,7 +85,7 @@ fn on_step<'a>(
     }
 }
 
-/// Any other step of the login.
+/// Any other step of the login. A client that asks to cancel is closed without a byte: no cancel reaches a play's servers.
 #[tactic(auto, using(crate::proofs::Logins::steps_piece, crate::proofs::Pieces::piece_done, crate::proofs::Logins::goes_more, crate::proofs::Logins::goes_asked, crate::proofs::Logins::passes, crate::proofs::Logins::fails))]
 fn follow<'a>(
     pool: &mut MemoryPool,
@@ -109,7 +109,7 @@ fn follow<'a>(
             client.give(failure.as_bytes())?;
             return Ok(leave(pool, word, client, number));
         }
-        LoginStep::Arrived(_) | LoginStep::Console | LoginStep::Left => {
+        LoginStep::Arrived(_) | LoginStep::Console | LoginStep::Cancel { .. } | LoginStep::Left => {
             return Ok(leave(pool, word, client, number));
         }
     }

@@ -17,7 +17,7 @@ use Rattle.login_core.specs.declared.steps.LoginStep.{LoginStep}
 use Rattle.login_core.specs.declared.steps.LoginStep.TheVariants as step
 use Rattle.login_core.specs.Laws.{LoginIsOfItsRow}
 use Rattle.login_core.specs.Talk.End.{Unfinished, Passed, Stopped}
-use Rattle.login_core.specs.Dialogue.{Rows, Dialogue, Way, ToConsole, ToLink, ok, Packet, Reason, Refused, Failed, Left, Stage, AtFirst, Asked, dialogue_from, login, login_among, packet, packets_left, react}
+use Rattle.login_core.specs.Dialogue.{Rows, Dialogue, Way, ToConsole, ToLink, ok, Packet, Reason, Refused, Failed, Left, Cancelling, Stage, AtFirst, Asked, dialogue_from, login, login_among, packet, packets_left, react}
 use Rattle.login_core.specs.Logins.{LoginView, Awaiting, AwaitsPacket, Arriving, Over, after, goes_on, goes_from, login_view, missing, missing_of, question_bytes, rows_of}
 use Rattle.login_core.specs.Solo.{after_login, service_pieces}
 use Rattle.login_laws.specs.Laws.{AreLawfulRows, PassedKeysAreLinkKeys, SettingsRowsAreLawful}
@@ -76,6 +76,7 @@ step_last (step.Passed k) rest d e = refl
 step_last step.Console rest d e = refl
 step_last (step.Refused r) rest d e = refl
 step_last (step.Failed f) rest d e = refl
+step_last (step.Cancel pid secret) rest d e = refl
 step_last step.Left rest d e = refl
 
 -- pieces that a step says, and then what is said from there on
@@ -101,6 +102,7 @@ step_on dies cat (step.Passed k) rest d old mid new e x y = absurd cc
 step_on dies cat step.Console rest d old mid new e x y = absurd cc
 step_on dies cat (step.Refused r) rest d old mid new e x y = absurd cc
 step_on dies cat (step.Failed f) rest d old mid new e x y = absurd cc
+step_on dies cat (step.Cancel pid secret) rest d old mid new e x y = absurd cc
 step_on dies cat step.Left rest d old mid new e x y = absurd cc
 
 -- what is said, unless memory was wanted
@@ -126,6 +128,7 @@ missing_on (step.Passed k) v p e = absurd cc
 missing_on step.Console v p e = absurd cc
 missing_on (step.Refused r) v p e = absurd cc
 missing_on (step.Failed f) v p e = absurd cc
+missing_on (step.Cancel pid secret) v p e = absurd cc
 missing_on step.Left v p e = absurd cc
 
 -- ---- a refusal
@@ -152,6 +155,7 @@ step_key (step.Passed key) rest d k = k
 step_key step.Console rest d k = tt
 step_key (step.Refused r) rest d k = tt
 step_key (step.Failed f) rest d k = tt
+step_key (step.Cancel pid secret) rest d k = tt
 step_key step.Left rest d k = tt
 
 -- out of memory gives no key
@@ -170,6 +174,7 @@ keyed_rest (step.Passed key) rest d e k = absurd cc
 keyed_rest step.Console rest d e k = absurd cc
 keyed_rest (step.Refused r) rest d e k = absurd cc
 keyed_rest (step.Failed f) rest d e k = absurd cc
+keyed_rest (step.Cancel pid secret) rest d e k = absurd cc
 keyed_rest step.Left rest d e k = absurd cc
 
 pub keyed_on : (old new : LoginView) (bytes rest : List ℕ) (s : LoginStep) → Says old bytes s new rest → (WantsMemory s → ⊥) → is_end s ≡ false → IsKeyed (goes_on old bytes).ended → IsKeyed (goes_on new rest).ended
@@ -238,6 +243,7 @@ follows_allowed dies cat (Passed ToConsole left) more f = none_allowed dies more
 follows_allowed dies cat (Stopped (Refused cause)) more f = inr (record { given = []; kept = []; pieces_are = refl; cause = cause; out_is = f })
 follows_allowed dies cat (Stopped Failed) more f = none_allowed dies more f
 follows_allowed dies cat (Stopped Left) more f = none_allowed dies more f
+follows_allowed dies cat (Stopped (Cancelling key)) more f = none_allowed dies more f
 
 reply_of : (dies : Option ℕ) (bytes out : List ℕ) → IsAnswered dies standing_catalogue (login (standing_row bytes) standing_word bytes) out → IsReply dies bytes out
 reply_of dies bytes out x = record {

@@ -33,6 +33,7 @@ is_end (step.Passed key) = true
 is_end step.Console = true
 is_end (step.Refused refusal) = true
 is_end (step.Failed f) = true
+is_end (step.Cancel pid secret) = true
 is_end step.Left = true
 
 -- a step other than an arrival; where it isn't the end, bytes are missing
@@ -44,6 +45,7 @@ IsPastArrival (step.Passed key) v = Unit {0}
 IsPastArrival step.Console v = Unit {0}
 IsPastArrival (step.Refused refusal) v = Unit {0}
 IsPastArrival (step.Failed f) v = Unit {0}
+IsPastArrival (step.Cancel pid secret) v = Unit {0}
 IsPastArrival step.Left v = Unit {0}
 
 -- what may be answered to what the login says was added
@@ -67,4 +69,5 @@ HasLinkKey (step.Passed key) = IsLinkKey (arc_value key)
 HasLinkKey step.Console = Unit {0}
 HasLinkKey (step.Refused refusal) = Unit {0}
 HasLinkKey (step.Failed f) = Unit {0}
+HasLinkKey (step.Cancel pid secret) = Unit {0}
 HasLinkKey step.Left = Unit {0}

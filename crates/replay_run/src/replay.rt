@@ -150,7 +150,7 @@ fn put_passed(
 }
 
 /// What a step of the login gives the client; where it is the last, with all that follows. A client
-/// of the console is closed without a byte. Want of memory gives nothing.
+/// of the console is closed without a byte, and so is one that asks to cancel. Want of memory gives nothing.
 fn put_step(
     alloc: Global,
     service: &Service,
@@ -167,7 +167,11 @@ fn put_step(
         LoginStep::Passed(key) => put_passed(alloc, service, key, rest, out),
         LoginStep::Refused(refusal) => put_refusal(out, *refusal),
         LoginStep::Failed(failure) => out.extend_from_slice(failure.as_bytes()),
-        LoginStep::More | LoginStep::Arrived(_) | LoginStep::Console | LoginStep::Left => Ok(()),
+        LoginStep::More
+        | LoginStep::Arrived(_)
+        | LoginStep::Console
+        | LoginStep::Cancel { .. }
+        | LoginStep::Left => Ok(()),
     }
 }
 

@@ -61,6 +61,7 @@ enum End {
     Open,
     Passed,
     Console,
+    Cancel { pid: u32, secret: u32 },
     Closed,
 }
 
@@ -93,6 +94,7 @@ fn see(seen: &mut Seen, step: LoginStep) -> Result<(), Fail> {
             seen.out.extend_from_slice(failure.as_bytes())?;
             seen.end = End::Closed;
         }
+        LoginStep::Cancel { pid, secret } => seen.end = End::Cancel { pid, secret },
         LoginStep::Left => seen.end = End::Closed,
     }
     Ok(())
@@ -228,6 +230,20 @@ fn encryption_is_refused_once_each(rt: HostRuntime) -> Result<(), Fail> {
     Ok(())
 }
 
+/// Also behind a request for encryption. What follows it isn't read.
+#[test]
+fn a_cancel_request_tells_its_key(rt: HostRuntime) -> Result<(), Fail> {
+    let alloc = rt.alloc();
+    let cancel = b"\0\0\0\x10\x04\xd2\x16\x2e\0\0\0\x01\xff\0\0\x02";
+    let end = End::Cancel {
+        pid: 1,
+        secret: 0xff00_0002,
+    };
+    assert!(rt; is_login(alloc, SHOP, &[cancel], &[], end, 0)?);
+    assert!(rt; is_login(alloc, SHOP, &[SSL, cancel, ANN], &[b"N"], end, ANN.len())?);
+    Ok(())
+}
+
 #[test]
 fn what_follows_is_left(rt: HostRuntime) -> Result<(), Fail> {
     let alloc = rt.alloc();
@@ -353,8 +369,7 @@ fn users_databases_and_the_console(rt: HostRuntime) -> Result<(), Fail> {
 #[test]
 fn faulty_first_packets(rt: HostRuntime) -> Result<(), Fail> {
     let alloc = rt.alloc();
-    let rows: [(&[u8], &[&[u8]]); 7] = [
-        (b"\0\0\0\x10\x04\xd2\x16\x2e\0\0\0\x01\0\0\0\x02", &[]),
+    let rows: [(&[u8], &[&[u8]]); 6] = [
         (b"\0\0\0\x08\0\x02\0\0", &[VERSION]),
         (b"\0\0\0\x07", &[MALFORMED]),
         (b"\0\0\x27\x11", &[MALFORMED]),

@@ -25,6 +25,7 @@ enum Ending {
     Console,
     Refused(Refusal),
     Failed(Failure),
+    Cancel { pid: u32, secret: u32 },
     Left,
 }
 
@@ -103,6 +104,7 @@ fn on_step(alloc: Global, step: LoginStep, told: &mut Told) -> Result<Next, Allo
             told.given.extend_from_slice(failure.as_bytes())?;
             Ok(Next::Nothing(Ending::Failed(failure)))
         }
+        LoginStep::Cancel { pid, secret } => Ok(Next::Nothing(Ending::Cancel { pid, secret })),
         LoginStep::Left => Ok(Next::Nothing(Ending::Left)),
     }
 }
@@ -149,6 +151,13 @@ fn put_failure(failure: Failure, out: &mut Vec<u8>) -> Result<(), AllocError> {
     }
 }
 
+fn put_cancel(pid: u32, secret: u32, out: &mut Vec<u8>) -> Result<(), AllocError> {
+    out.extend_from_slice(b"cancel pid=")?;
+    put_number(pid as usize, out)?;
+    out.extend_from_slice(b" secret=")?;
+    put_number(secret as usize, out)
+}
+
 /// Appends the line that tells how a login ended, and how many bytes it hasn't taken.
 fn put_ended(ended: &Ended<'_>, out: &mut Vec<u8>) -> Result<(), AllocError> {
     match &ended.ending {
@@ -160,6 +169,7 @@ fn put_ended(ended: &Ended<'_>, out: &mut Vec<u8>) -> Result<(), AllocError> {
         Ending::Console => out.extend_from_slice(b"console")?,
         Ending::Refused(refusal) => put_refusal(*refusal, out)?,
         Ending::Failed(failure) => put_failure(*failure, out)?,
+        Ending::Cancel { pid, secret } => put_cancel(*pid, *secret, out)?,
         Ending::Left => out.extend_from_slice(b"left")?,
     }
     out.extend_from_slice(b" unused=")?;
