@@ -15,9 +15,9 @@ import sys
 import threading
 import time
 
-from cluster import HERE, USERS, Cluster, Passes, Place, Pooler, free_port, set_up, until
+from cluster import HERE, USERS, Cluster, Passes, Place, Pooler, set_up, until
 from console import Worker, environment, figures, table
-from wire import CANCEL_REQUEST, Client, Refused, cancel_request, message, query, startup
+from wire import CANCEL_REQUEST, Client, Cut, Refused, cancel_request, message, query, startup
 
 KIND = os.environ.get("POOLER", "pgsess")
 SECONDS = 20
@@ -29,12 +29,13 @@ ASKS_TLS = (8).to_bytes(4, "big") + (80877103).to_bytes(4, "big")
 # on an idle machine, in the best of some tries; and in any
 SOON, LATEST, TRIES = 0.2, 5.0, 5
 WORKERS, WRONG, FLOODS, FLOOD = 8, 1_000, 8, 250
-ROUNDS, STATEMENT, SPAN = 2_000, 0.006, 0.012
+# so many late cancels, in pools of one link each, of these users
+ROUNDS, STATEMENT, SPAN, LANES = 2_000, 0.006, 0.012, ("ann", "bc")
 HELD = 1.0
 # a cancel that its server never takes is given up after 5 s, and its connection may have taken as long before
 GIVEN_UP = (4.5, 10.5)
-FOUND, NOBODY = r"^pgsess: client from 127\.0\.0\.1:\d+ requests a cancel for link (\d+)$", r"^pgsess: client from 127\.0\.0\.1:\d+ requests a cancel by a key that nobody has$"
-CLOSED = r"^pgsess: client \d+ ann@shop from 127\.0\.0\.1:\d+ link (\d+) closed: cancel requested$"
+FOUND, NOBODY = r"^pgsess: client from 127\.0\.0\.1:\d+ cancels link (\d+)'s statement$", r"^pgsess: client from 127\.0\.0\.1:\d+ requests a cancel by a key that nobody has$"
+CLOSED = r"^pgsess: client \d+ \w+@shop from 127\.0\.0\.1:\d+ link (\d+) closed: cancel requested$"
 
 
 def cancel(port, key, first=b"", cut=16):
@@ -160,6 +161,29 @@ def told(port, key):
         return repr(error)
 
 
+class Lane(threading.Thread):
+    """Rounds of a race, one after the other: what came of the first clients, and which of the second ones were struck."""
+
+    def __init__(self, show, pooler, user, rounds):
+        super().__init__(daemon=True)
+        self.show, self.pooler, self.user, self.rounds = show, pooler, user if KIND == "pgsess" else "postgres", rounds
+        self.random = random.Random(f"{SEED} {user}")
+        self.told, self.struck, self.backs, self.fault = [], [], [], None
+        self.start()
+
+    def run(self):
+        canceller = Canceller(self.pooler.port)
+        try:
+            for _ in range(self.rounds):
+                first, struck = self.show.round(self.pooler, self.user, canceller, self.random.uniform(0, SPAN))
+                self.told.append(first)
+                self.struck += struck
+        except (Cut, Refused, OSError) as error:
+            self.fault = repr(error)
+        canceller.end()
+        self.backs = canceller.answers
+
+
 class Direct:
     """No pooler: the server itself, as one."""
 
@@ -184,12 +208,12 @@ class Show:
         (self.place.folder / "pgsess.err").unlink(missing_ok=True)
         return Pooler(self.place, server or self.cluster, self.program, **settings)
 
-    def client(self, pooler):
+    def client(self, pooler, user="ann"):
         """A client, once there is a place for it: who leaves keeps its own until its link is back."""
         end = time.monotonic() + SECONDS
         while True:
             try:
-                return Client(pooler.port, "ann", "shop", USERS["ann"][0])
+                return Client(pooler.port, user, "shop", USERS.get(user, ("",))[0])
             except Refused as error:
                 if error.code != "53300" or time.monotonic() > end:
                     raise
@@ -227,8 +251,8 @@ class Show:
         """The log tells of so many cancels that found a link, and that each of these was closed."""
         if KIND == "pgsess":
             until(lambda: len(self.lines(CLOSED)) >= count, 5)
-            found = self.lines(FOUND)
-            self.passes.same("the log tells of each cancel, and of the link that is closed after it", (len(found), self.lines(CLOSED)), (count, found))
+            found, closed = (sorted(map(int, self.lines(pattern))) for pattern in (FOUND, CLOSED))
+            self.passes.same("the log tells of each cancel, and of the link that is closed after it", (len(found), closed), (count, found))
 
     # ---- a. a statement ends
 
@@ -341,20 +365,16 @@ class Show:
     def race(self):
         """Over one link a client runs a short statement and leaves, and another comes; the first one's cancel comes at any moment."""
         pooler = self.pooler(size=1)
-        canceller = Canceller(pooler.port)
-        begin, told, struck = time.monotonic(), [], []
-        for _ in range(ROUNDS):
-            first, second = self.round(pooler, canceller)
-            told.append(first)
-            struck += [code for code, _ in second if code]
-        canceller.end()
+        begin = time.monotonic()
+        lanes = [Lane(self, pooler, user, ROUNDS // len(LANES)) for user in LANES]
+        for lane in lanes:
+            lane.join()
         seconds = time.monotonic() - begin
-        self.passes.same(f"{ROUNDS} late cancels: no client that comes after is struck", (struck[:3], len(struck)), ([], 0))
-        odd = [code for code, *_ in told if code not in (None, CANCELLED)]
-        self.passes.same("each client before it is struck or served", odd[:3], [])
-        self.passes.same("each cancel's connection is closed with no byte", [back for back in canceller.answers if back != b""][:3] + [len(canceller.answers)], [ROUNDS])
-        count = sum(code == CANCELLED for code, *_ in told)
-        found = sum(is_other for *_, is_other in told)
+        told, struck, backs = ([one for lane in lanes for one in getattr(lane, name)] for name in ("told", "struck", "backs"))
+        self.passes.same(f"{ROUNDS} late cancels: no client that comes after is struck", (len(struck), struck[:3], [lane.fault for lane in lanes]), (0, [], [None] * len(lanes)))
+        self.passes.same("each client before it is struck or served", (len(told), [code for code, _ in told if code not in (None, CANCELLED)][:3]), (ROUNDS, []))
+        self.passes.same("each cancel's connection is closed with no byte", (len(backs), [back for back in backs if back != b""][:3]), (ROUNDS, []))
+        count, found = sum(code == CANCELLED for code, _ in told), sum(is_other for _, is_other in told)
         print(f"       {seconds:.0f} s: {count} struck, {found} found their client's link, {ROUNDS - found} came too late")
         self.passes.holds("there were both, early and late ones", min(count, ROUNDS - count) > ROUNDS // 100)
         if KIND == "pgsess":
@@ -364,14 +384,15 @@ class Show:
         self.nothing_lent(pooler, "after the race")
         pooler.stop()
 
-    def round(self, pooler, canceller):
-        """How the first client's statement ended, and those of the second, which asks on until the cancel is through."""
-        first = self.client(pooler)
+    def round(self, pooler, user, canceller, moment):
+        """How the first client's statement ended, whether the second has another session, and what came of the second's statements:
+        it asks on until the cancel is through."""
+        first = self.client(pooler, user)
         session = self.asked(first, "SELECT pg_backend_pid()")[1]
-        canceller.at(first.key, time.monotonic() + self.random.uniform(0, SPAN))
+        canceller.at(first.key, time.monotonic() + moment)
         first.send(query(f"SELECT pg_sleep({STATEMENT})"))
         second = Client(pooler.port)
-        second.send(startup("ann" if KIND == "pgsess" else "postgres", "shop"))
+        second.send(startup(user, "shop"))
         code = outcome(first)
         first.leave()
         second.until(b"Z")
@@ -380,7 +401,7 @@ class Show:
             ends.append(self.asked(second, f"SELECT pg_sleep({STATEMENT})"))
         ends.append(self.asked(second, "SELECT 7"))
         second.leave()
-        return (code if isinstance(code, str) else None, session != ends[0][1]), ends
+        return (code if isinstance(code, str) else None, session != ends[0][1]), [code for code, _ in ends if code]
 
     def asked(self, client, text):
         """The code of a statement's error, or its first value."""

@@ -126,6 +126,21 @@ fn asks<N: Naming, K: Ledgers, R: Wait + Clock + Drop>(
     }
 }
 
+/// The same, once the second client was welcomed; it is noted then.
+fn asks_in_time<N: Naming, K: Ledgers, R: Wait + Clock + Drop>(
+    rt: &R,
+    alloc: Global,
+    desk: &Desk<R, StrikableDial<R, N>, K>,
+    pass: Pass<K>,
+    cancel: Option<&'static [u8]>,
+    notes: &Notes,
+) -> Result<(Pass<K>, bool), AllocError> {
+    notes.wait_for_welcome(rt);
+    let asked = asks(alloc, desk, pass, cancel);
+    notes.answered.store(true, Ordering::SeqCst);
+    asked
+}
+
 /// The second client is welcomed; then somebody asks for the cancel; then the client asks: both passes, and whether each was given
 /// what it is to be given.
 fn is_cancelled<N: Naming + Send + Sync, K: Ledgers + Send + Sync, R: TestRuntime + Drop>(
@@ -151,10 +166,7 @@ fn is_cancelled<N: Naming + Send + Sync, K: Ledgers + Send + Sync, R: TestRuntim
             serve_as(alloc, desk, own, client, login, second, gate)
         },
         || -> Result<(Pass<K>, bool), AllocError> {
-            shared.wait_for_welcome(&rt);
-            let asked = asks(alloc, desk, other, cancel);
-            shared.answered.store(true, Ordering::SeqCst);
-            asked
+            asks_in_time(&rt, alloc, desk, other, cancel, shared)
         },
     );
     let (other, is_asked) = asked?;
@@ -165,7 +177,31 @@ fn is_cancelled<N: Naming + Send + Sync, K: Ledgers + Send + Sync, R: TestRuntim
     Ok((own, other, is_asked, client.given() == wanted.as_slice()))
 }
 
-/// What the workers make of a row over new ledgers, and where they depart from it first.
+/// The row's clients come one after the other: both passes, and who wasn't given what it is to be given.
+fn happens<N: Naming + Send + Sync, K: Ledgers + Send + Sync, R: TestRuntime + Drop>(
+    rt: R,
+    alloc: Global,
+    desk: &Desk<R, StrikableDial<R, N>, K>,
+    own: Pass<K>,
+    other: Pass<K>,
+    row: &Row,
+) -> Result<(Pass<K>, Pass<K>, Option<Departure>), AllocError> {
+    let own = match row.first {
+        Some(first) => is_served(alloc, desk, own, first)?.0,
+        None => own,
+    };
+    let (own, other, is_asked, is_answered) = is_cancelled(rt, alloc, desk, own, other, row)?;
+    let (own, is_served) = is_served(alloc, desk, own, word_of_third())?;
+    let departure = match (is_asked, is_answered, is_served) {
+        (false, _, _) => Some(Departure::Asking),
+        (_, false, _) => Some(Departure::Second),
+        (_, _, false) => Some(Departure::Third),
+        _ => None,
+    };
+    Ok((own, other, departure))
+}
+
+/// Where the workers depart from a row over new ledgers first.
 fn departure_from<N: Naming + Send + Sync, K: Ledgers + Send + Sync, R: TestRuntime + Drop>(
     rt: R,
     alloc: Global,
@@ -181,22 +217,11 @@ fn departure_from<N: Naming + Send + Sync, K: Ledgers + Send + Sync, R: TestRunt
     let dialer = StrikableDial::<R, N>::new(rt, alloc, catalogue, CUT);
     let limits = limits(alloc, 100, 1)?;
     let desk = Desk::<R, StrikableDial<R, N>, K>::new(rt, alloc, dialer, limits, blanks)?;
-    let mut own = desk.pass().ok_or("no pass")?;
+    let own = desk.pass().ok_or("no pass")?;
     let other = desk.pass().ok_or("no pass")?;
-    if let Some(first) = row.first {
-        let (pass, _) = is_served(alloc, &desk, own, first)?;
-        own = pass;
-    }
-    let (own, other, is_asked, is_answered) = is_cancelled(rt, alloc, &desk, own, other, row)?;
-    let (own, is_served) = is_served(alloc, &desk, own, word_of_third())?;
-    if !is_asked {
-        return Ok(Some(Departure::Asking));
-    }
-    if !is_answered {
-        return Ok(Some(Departure::Second));
-    }
-    if !is_served {
-        return Ok(Some(Departure::Third));
+    let (own, other, departure) = happens(rt, alloc, &desk, own, other, row)?;
+    if departure.is_some() {
+        return Ok(departure);
     }
     let mut own = own;
     if !has_links(&desk, alloc, &mut own, row)? {
