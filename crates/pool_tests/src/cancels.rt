@@ -16,11 +16,12 @@ use link_desk::desk::LinkDesk;
 use memory_dial::Naming;
 use memory_dial::strikable::StrikableDial;
 use memory_ends::memory_client::MemoryClient;
+use memory_ends::memory_server::MemoryServer;
 use message_view::KeyWord;
 use paced_client::PacedClient;
 use play_tests::files::{SHOP, catalogue};
 use pool_desk::desk::Desk;
-use server_end::gate::OpenGate;
+use server_end::gate::{Gate, OpenGate};
 use session_catalogue::Catalogue;
 use std::alloc::{AllocError, Global};
 use std::marker::Brand;
@@ -141,8 +142,27 @@ fn asks_in_time<N: Naming, K: Ledgers, R: Wait + Clock + Drop>(
     asked
 }
 
-/// The second client is welcomed; then somebody asks for the cancel; then the client asks: both passes, and whether each was given
-/// what it is to be given.
+/// The second client is welcomed, and asks once it is noted that somebody asked for a cancel: the pass, and whether it was given what
+/// it is to be given.
+fn asks_later<T: Gate<MemoryServer> + Drop, N: Naming, K: Ledgers, R: Wait + Clock + Drop>(
+    alloc: Global,
+    desk: &Desk<R, StrikableDial<R, N>, K>,
+    pass: Pass<K>,
+    row: &Row,
+    notes: &Notes,
+    gate: T,
+) -> Result<(Pass<K>, bool), AllocError> {
+    let own = row.second;
+    let client = HeldClient::new(alloc, QUERY, notes)?;
+    let login = login_as(alloc, SHOP, own)?;
+    let Some((client, pass)) = serve_as(alloc, desk, pass, client, login, own, gate) else {
+        return Err(AllocError);
+    };
+    let wanted = wanted(alloc, own, row.answer)?;
+    Ok((pass, client.given() == wanted.as_slice()))
+}
+
+/// The second client, and somebody who asks for a cancel meanwhile: both passes, and whether each was given what it is to be given.
 fn is_cancelled<N: Naming + Send + Sync, K: Ledgers + Send + Sync, R: TestRuntime + Drop>(
     rt: R,
     alloc: Global,
@@ -152,29 +172,24 @@ fn is_cancelled<N: Naming + Send + Sync, K: Ledgers + Send + Sync, R: TestRuntim
     row: &Row,
 ) -> Result<(Pass<K>, Pass<K>, bool, bool), AllocError> {
     let notes = Notes::new();
-    let shared = &notes;
     let gate = HoldingGate {
         rt: &rt,
-        notes: shared,
+        notes: &notes,
     };
-    let client = HeldClient::new(alloc, QUERY, shared)?;
-    let (second, cancel) = (row.second, row.cancel);
-    let login = login_as(alloc, SHOP, second)?;
-    let (served, asked) = join(
+    let shared = &notes;
+    let cancel = row.cancel;
+    let (answered, asked) = join(
         &rt,
-        || -> Option<(HeldClient<'_>, Pass<K>)> {
-            serve_as(alloc, desk, own, client, login, second, gate)
+        || -> Result<(Pass<K>, bool), AllocError> {
+            asks_later(alloc, desk, own, row, shared, gate)
         },
         || -> Result<(Pass<K>, bool), AllocError> {
             asks_in_time(&rt, alloc, desk, other, cancel, shared)
         },
     );
+    let (own, is_answered) = answered?;
     let (other, is_asked) = asked?;
-    let Some((client, own)) = served else {
-        return Err(AllocError);
-    };
-    let wanted = wanted(alloc, second, row.answer)?;
-    Ok((own, other, is_asked, client.given() == wanted.as_slice()))
+    Ok((own, other, is_asked, is_answered))
 }
 
 /// The row's clients come one after the other: both passes, and who wasn't given what it is to be given.
