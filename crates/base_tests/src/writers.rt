@@ -4,10 +4,10 @@ ghost use Rattle.std.specs.Prelude.{◌≤◌, IsOk};
 use bytes::BytesMut;
 use message_view::{
     Column, Severity, Status, put_authentication_ok, put_backend_key_data, put_bind_complete,
-    put_cleartext_password, put_close_complete, put_command_complete, put_data_row,
-    put_empty_query_response, put_error_response, put_md5_password, put_message, put_no_data,
-    put_notice_response, put_parameter_description, put_parameter_status, put_parse_complete,
-    put_password_message, put_portal_suspended, put_query, put_ready_for_query,
+    put_cancel_request, put_cleartext_password, put_close_complete, put_command_complete,
+    put_data_row, put_empty_query_response, put_error_response, put_md5_password, put_message,
+    put_no_data, put_notice_response, put_parameter_description, put_parameter_status,
+    put_parse_complete, put_password_message, put_portal_suspended, put_query, put_ready_for_query,
     put_row_description, put_startup_message,
 };
 use std::alloc::AllocError;
@@ -123,10 +123,11 @@ fn writes_what_a_client_sends(rt: HostRuntime) {
     let _ = put_startup_message(&mut out, &[(b"user", b"ann"), (b"database", b"shop")]);
     let _ = put_query(&mut out, b"");
     let _ = put_password_message(&mut out, b"a");
+    let _ = put_cancel_request(&mut out, 1, 2);
     assert!(rt;
         out.as_slice()
             == slice(
-                b"\0\0\0\x20\0\x03\0\0user\0ann\0database\0shop\0\0Q\0\0\0\x05\0p\0\0\0\x06a\0"
+                b"\0\0\0\x20\0\x03\0\0user\0ann\0database\0shop\0\0Q\0\0\0\x05\0p\0\0\0\x06a\0\0\0\0\x10\x04\xd2\x16\x2e\0\0\0\x01\0\0\0\x02"
             )
     );
 }
