@@ -1,6 +1,6 @@
 //! Passes: who made which decisions.
 ghost use Rattle.std.specs.Prelude.{◌≡◌, ℕ, ◌+◌, ◌≤◌, length, vec_len, false};
-ghost use Rattle.link_desk.specs.Passes.{new_holder, new_pass};
+ghost use Rattle.link_desk.specs.Passes.{new_holder, new_pass, striking};
 ghost use Rattle.desk_tallies.specs.Shares.{AtMost, by_class, of_each, sum_of, sum_over};
 
 use crate::ledgers::{Arrived, GivenBack, Granted, Ledgers, Left, Lost, Others};
@@ -108,6 +108,17 @@ impl<K: Ledgers> Pass<K> {
         self.holder
     }
 
+    /// The cancel that was found through it was sent.
+    pub fn strikes(&mut self)
+        ensures { self.new ≡ record self.old { holder = striking self.old.holder } }
+    {
+        self.holder = Holder {
+            found: None,
+            struck: self.holder.found,
+            ..self.holder
+        };
+    }
+
     /// Its shares: a part of each ledger, and what was made through it.
     fn into_shares(self) -> Shares<K>
         ensures parts { result.parts ≡ of_each 1 }
@@ -147,6 +158,8 @@ impl<K: Ledgers> Shares<K> {
                 lease: None,
                 release: None,
                 refused: None,
+                found: None,
+                struck: None,
                 last: None,
             },
             is_broken: false,

@@ -2,3 +2,4 @@ pub mod Passes
 pub mod Homes
 pub mod Refusing
 pub mod Counts
+pub mod Cancels

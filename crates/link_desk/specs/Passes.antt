@@ -24,6 +24,7 @@ use Rattle.link_desk.specs.declared.answers.Release.{Release}
 use Rattle.link_desk.specs.declared.answers.Release.TheVariants as release
 use Rattle.link_desk.specs.declared.answers.Cancelled.{Cancelled}
 use Rattle.link_desk.specs.declared.answers.Cancelled.TheVariants as cancelled
+use Rattle.link_desk.specs.declared.answers.Strike.{Strike}
 use Rattle.link_desk.specs.declared.answers.Gone.{Gone}
 use Rattle.link_desk.specs.declared.answers.Gone.TheVariants as gone
 use Rattle.link_desk.specs.declared.answers.Changed.{Changed}
@@ -135,7 +136,7 @@ after_change p changed.Last = broken p
 -- ---- what each call makes of its holder; what goes to the book is the holder's own
 
 abbrev pub new_holder : Holder
-new_holder = record { client = None; lease = None; release = None; refused = None; last = None }
+new_holder = record { client = None; lease = None; release = None; refused = None; found = None; struck = None; last = None }
 
 abbrev pub lease_at : Stage → LinkView → Lease
 lease_at stage l = record { number = l.number; born = l.born; stage = stage }
@@ -204,8 +205,21 @@ ends_by _ h = h
 abbrev pub released : Holder → Release → Holder
 released h r = record (ends_by r h) { release = Some r; last = of_lease call.EndLease h }
 
-abbrev pub cancelling : KeyView → Holder → Holder
-cancelling client h = record h { last = Some (call.Cancel client) }
+abbrev pub strike_of : Cancelled → Option Strike
+strike_of (cancelled.Strike strike) = Some strike
+strike_of _ = None
+
+-- what was found is to be sent, and none was sent yet
+abbrev pub cancelling : KeyView → Holder → Cancelled → Holder
+cancelling client h r = record h { found = strike_of r; struck = None; last = Some (call.Cancel client) }
+
+-- what was found was sent
+abbrev pub striking : Holder → Holder
+striking h = record h { found = None; struck = h.found }
+
+-- a cancel was asked for, and what was found was sent
+abbrev pub cancelled_by : KeyView → Holder → Cancelled → Holder
+cancelled_by client h r = record h { found = None; struck = strike_of r; last = Some (call.Cancel client) }
 
 -- by a link's return, its loss, or its start that failed
 abbrev pub without_lease : (ℕ → Call) → Holder → Holder

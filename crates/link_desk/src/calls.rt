@@ -1,6 +1,6 @@
 //! The calls that are made through a pass, and who holds it.
 
-use crate::answers::Release;
+use crate::answers::{Release, Strike};
 use message_view::{KeyView, Refusal};
 
 /// A call of a desk's: what it told the lease book.
@@ -68,6 +68,10 @@ pub struct Holder {
     pub release: Option<Release>,
     /// What the client that came last was refused by.
     pub refused: Option<Refusal>,
+    /// The cancel that was found last, until it is sent.
+    pub found: Option<Strike>,
+    /// That cancel, once it was sent.
+    pub struck: Option<Strike>,
     /// The last call that was made through the pass, but for a client's that waits on.
     pub last: Option<Call>,
 }

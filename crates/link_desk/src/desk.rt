@@ -3,17 +3,20 @@ ghost use Rattle.std.specs.Prelude.{◌≡◌, IfOk, IfSome, IsSome, None, Some,
 ghost use Rattle.std.specs.Arc.{arc_value};
 ghost use Rattle.book_model.specs.Book.{Book};
 ghost use Rattle.book_model.specs.Kept.{Kept};
+ghost use Rattle.book_model.specs.Outcomes.{apply};
+ghost use Rattle.book_model.specs.Outcomes.Event.{Cancel};
 ghost use Rattle.book_register.specs.Views.{view_of};
+ghost use Rattle.link_desk.specs.Cancels.{answer_to_cancel};
 ghost use Rattle.link_desk.specs.Counts.{AtMost, class_counts};
 ghost use Rattle.link_desk.specs.Homes.{IsAtHome, IsDialled, IsGrantAtHome};
 ghost use Rattle.link_desk.specs.declared.calls.Call.TheVariants.{GiveBack, Lost, StartFailed};
 ghost use Rattle.link_desk.specs.declared.calls.Call.TheVariants as call;
 ghost use Rattle.link_desk.specs.declared.calls.Stage.TheVariants.{Granted};
-ghost use Rattle.link_desk.specs.Passes.{after_arrival, after_asking, after_back, after_cancel, after_change, after_grant, after_keying, after_leaving, after_loss, after_release, arrived, asked_by, cancelling, ended_lease, is_open, keeps, keyed_lease, left, released, stage_of, taken, without_lease};
+ghost use Rattle.link_desk.specs.Passes.{after_arrival, after_asking, after_back, after_cancel, after_change, after_grant, after_keying, after_leaving, after_loss, after_release, arrived, asked_by, cancelling, ended_lease, is_open, keeps, keyed_lease, left, released, stage_of, striking, taken, without_lease};
 ghost use Rattle.link_desk.specs.Refusing.{MayArrive, MayAsk, MayTake};
 
 use crate::answers::{
-    Arrival, Asked, Back, Cancelled, Changed, Gone, Grant, Keying, Release, Strike,
+    Arrival, Asked, Back, Cancelled, Changed, Gone, Grant, Keying, Release,
 };
 use book_model::limits::Limits;
 use book_register::view::BookView;
@@ -84,11 +87,16 @@ pub trait LinkDesk {
 
     /// Finds the lease of the client of this key word, whatever client that is, for which somebody asks to have its statement cancelled.
     fn cancel(&self, pass: &mut Self::Pass, client: KeyView) -> Cancelled
+        ensures book { (b : Book) × (Kept b × (result ≡ answer_to_cancel (apply b (Cancel client)).reply)) }
         ensures told { told pass.new ≡ after_cancel (told pass.old) result }
-        ensures holder { holder pass.new ≡ cancelling client (holder pass.old) };
+        ensures holder { holder pass.new ≡ cancelling client (holder pass.old) result };
 
-    /// Sends a cancel on its way, and waits until the server has closed the connection on which it came, or for some seconds.
-    fn strike(&self, strike: &Strike);
+    /// Sends the cancel that was found on its way, and waits until the server has closed the connection on which it came, or for some
+    /// seconds.
+    fn strike(&self, pass: &mut Self::Pass)
+        requires found { IsSome (holder pass.old).found }
+        ensures told { told pass.new ≡ told pass.old }
+        ensures holder { holder pass.new ≡ striking (holder pass.old) };
 
     /// Takes the client's link back, clean, after its lease has ended without a cancel; or leaves it there to be closed.
     fn give_back(&self, pass: &mut Self::Pass, link: &mut Option<CleanLink<Self::End>>) -> Back

@@ -4,7 +4,7 @@ ghost use Rattle.std.specs.Arc.{arc_value};
 ghost use Rattle.book_model.specs.Book.{Book};
 ghost use Rattle.book_model.specs.Kept.{Kept};
 ghost use Rattle.book_register.specs.Views.{view_of};
-ghost use Rattle.lease_book.specs.Links.{IsTwice, handed, handed_back, plain, reply_of};
+ghost use Rattle.lease_book.specs.Links.{IsTwice, answered, handed, handed_back, plain, reply_of};
 ghost use Rattle.link_desk.specs.declared.calls.Call.TheVariants as call;
 ghost use Rattle.desk_tallies.specs.Homes.{IsAtHome};
 ghost use Rattle.desk_tallies.specs.Passes.{after_change, new_holder, new_pass};
@@ -162,6 +162,7 @@ impl<R: Wait + Clock, S: Outside, K: Ledgers> Desk<R, S, K> {
     fn hold(&self, pass: &mut Pass<K>, event: Event<S::End>) -> Reply<S::End>
         requires twice { IsTwice event }
         requires home { IfSome (brought event) (λ l. IsAtHome S.home l) }
+        ensures book { (b : Book) × (Kept b × (reply_of result ≡ (answered b event).reply)) }
         ensures number { pass.new.number ≡ pass.old.number }
         ensures told { Tells (plain event) (reply_of result) pass.old.told pass.new.told }
         ensures holder { pass.new.holder ≡ heard pass.old.holder (call_of event) result }
@@ -318,8 +319,12 @@ impl<R: Wait + Clock, S: Outside, K: Ledgers> LinkDesk for Desk<R, S, K> {
         }
     }
 
-    fn strike(&self, strike: &Strike) {
-        self.outside.strike(strike);
+    fn strike(&self, pass: &mut Pass<K>) {
+        let Some(strike) = pass.holder().found else {
+            unreachable!()
+        };
+        self.outside.strike(&strike);
+        pass.strikes();
     }
 
     fn give_back(&self, pass: &mut Pass<K>, link: &mut Option<CleanLink<S::End>>) -> Back {

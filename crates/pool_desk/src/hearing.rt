@@ -2,9 +2,9 @@
 ghost use Rattle.std.specs.Prelude.{◌≡◌};
 ghost use Rattle.desk_tallies.specs.Passes.{at_stage};
 ghost use Rattle.link_desk.specs.declared.calls.Stage.TheVariants.{Granted};
-ghost use Rattle.pool_desk.specs.Hears.{call_of, heard};
+ghost use Rattle.pool_desk.specs.Hears.{call_of, heard, strike_in};
 
-use desk_tallies::answers::Release;
+use desk_tallies::answers::{Release, Strike};
 use desk_tallies::calls::{Call, Holder, Lease, Stage};
 use lease_book::events::{Event, Reply};
 use server_end::ServerEnd;
@@ -77,6 +77,26 @@ fn released(holder: Holder, release: Release) -> Holder
     }
 }
 
+/// The cancel that is to be sent by this reply.
+fn strike_in<E: ServerEnd>(reply: &Reply<E>) -> Option<Strike>
+    ensures { result ≡ strike_in reply.now }
+{
+    match reply {
+        Reply::Strike {
+            number,
+            server,
+            host,
+            port,
+        } => Some(Strike {
+            link: *number,
+            server: *server,
+            host: *host,
+            port: *port,
+        }),
+        _ => None,
+    }
+}
+
 /// Who holds a pass after this call, by its reply: each call is the last, but for a client's that waits on.
 pub(crate) fn heard<E: ServerEnd>(holder: Holder, call: Call, reply: &Reply<E>) -> Holder
     ensures { result ≡ heard holder call reply.now }
@@ -105,6 +125,11 @@ pub(crate) fn heard<E: ServerEnd>(holder: Holder, call: Call, reply: &Reply<E>) 
         (Call::EndLease(_), Reply::Stranger(_)) => released(held, Release::Stranger),
         (Call::GiveBack(_) | Call::Lost(_) | Call::StartFailed(_), _) => Holder {
             lease: None,
+            ..held
+        },
+        (Call::Cancel(_), _) => Holder {
+            found: strike_in(reply),
+            struck: None,
             ..held
         },
         (Call::Leave(_), _) => Holder {

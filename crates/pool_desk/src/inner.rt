@@ -142,6 +142,7 @@ impl<S: Outside, K: Ledgers> Core<S, K> {
     pub fn apply(&mut self, pass: &mut Pass<K>, event: Event<S::End>) -> Reply<S::End>
         requires twice { IsTwice event }
         requires home { IfSome (brought event) (λ l. IsAtHome S.home l) }
+        ensures kept { Kept self.old.book.lists }
         ensures lists { self.new.book.lists ≡ (answered self.old.book.lists event).book }
         ensures history { self.new.book.history ≡ history_after self.old.book.lists pass.old.number event self.old.book.history }
         ensures reply { reply_of result ≡ (answered self.old.book.lists event).reply }

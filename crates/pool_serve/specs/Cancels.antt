@@ -6,7 +6,7 @@ use Rattle.link_desk.specs.declared.calls.Call.TheVariants as call
 use Rattle.link_desk.specs.declared.calls.Holder.{Holder}
 use Rattle.link_desk.specs.declared.calls.Stage.TheVariants.{Keyed}
 use Rattle.link_run.specs.Links.{LinkView}
-use Rattle.link_desk.specs.Passes.{PassOf, after_cancel, cancelling, granted_lease, lease_at}
+use Rattle.link_desk.specs.Passes.{PassOf, after_cancel, cancelled_by, granted_lease, lease_at}
 use Rattle.login_core.specs.Talk.End.{Stopped}
 use Rattle.login_core.specs.Dialogue.{Cancelling, login_among}
 use Rattle.login_core.specs.Logins.{LoginView, rows_of}
@@ -28,8 +28,8 @@ abbrev pub IsKeyed : Holder → LinkView → KeyWord → Option KeyView → Type
 IsKeyed h link word None = h.lease ≡ Some (granted_lease link)
 IsKeyed h link word (Some server) = IsFound h link word server
 
--- A client's bytes were a CancelRequest, and the desk was asked for the lease of that key word. The client was given its login's pieces
--- before that, and no byte more.
+-- A client's bytes were a CancelRequest: the desk was asked for the lease of that key word, and the cancel that it answered was sent. The
+-- client was given its login's pieces before that, and no byte more.
 pub record IsPassedOn (v : LoginView) (p q : PassOf) (h k : Holder) (after : ClientFacts) : Type 0 where
   pub key : KeyView
   pub heard : List ℕ
@@ -39,4 +39,4 @@ pub record IsPassedOn (v : LoginView) (p q : PassOf) (h k : Holder) (after : Cli
   pub given : after.tells ≡ true → after.given ≡ joined_pieces pieces
   pub answer : Cancelled
   pub told : q ≡ after_cancel p answer
-  pub holder : k ≡ cancelling key h
+  pub holder : k ≡ cancelled_by key h answer

@@ -3,11 +3,14 @@ use Rattle.std.specs.Prelude.{◌≡◌, Bool, true, List, Option}
 use Rattle.link_laws.specs.Standing.{ClientFacts}
 use Rattle.message_view.specs.declared.refusal.Refusal.{Refusal}
 use Rattle.link_start.specs.declared.start.StartCause.{StartCause}
+use Rattle.link_desk.specs.declared.answers.Cancelled.{Cancelled}
 use Rattle.link_desk.specs.declared.calls.Holder.{Holder}
 use Rattle.link_desk.specs.Homes.{HomeOf}
-use Rattle.link_desk.specs.Passes.{PassOf}
+use Rattle.link_desk.specs.Passes.{PassOf, after_cancel, cancelled_by}
 use Rattle.login_core.specs.Logins.{LoginView}
 use Rattle.login_run.specs.Laws.{AllowedBy, own}
+use Rattle.login_run.specs.declared.run.LoginTurn.{LoginTurn}
+use Rattle.login_run.specs.declared.run.LoginTurn.TheVariants as turn
 use Rattle.pool_serve.specs.Causes.{AtArrival, HasCause}
 use Rattle.pool_serve.specs.Endings.{HadLease, IsUnstarted, Traces, refusal_in}
 use Rattle.pool_serve.specs.Serving.{AreMarksOf, IsManaged, IsServed}
@@ -63,6 +66,11 @@ ServesAs home v c e = IsServed home v c (word_of e)
 pub record IsUntouched (p q : PassOf) (h k : Holder) : Type 0 where
   pub told : q ≡ p
   pub holder : k ≡ h
+
+-- by how its login stopped short of an arrival: what it asked to be cancelled was passed on, or the pass is as it was
+abbrev pub IsDismissed : LoginTurn → PassOf → PassOf → Holder → Holder → Type 0
+IsDismissed (turn.Cancel key) p q h k = (answer : Cancelled) × ((q ≡ after_cancel p answer) × (k ≡ cancelled_by key h answer))
+IsDismissed _ p q h k = IsUntouched p q h k
 
 -- Its time at the desk ended so, and it was told the last word of that.
 pub record IsOver (home : HomeOf) (v : LoginView) (p q : PassOf) (k : Holder) (after : ClientFacts) : Type 0 where

@@ -3,15 +3,15 @@ ghost use Rattle.std.specs.Prelude.{◌≡◌, ◌⊎◌, IsSome, [], None, fals
 ghost use Rattle.ini_config.specs.Bounds.{AreWithinBounds};
 ghost use Rattle.login_core.specs.Dialogue.{AtFirst};
 ghost use Rattle.login_core.specs.Logins.{AwaitsPacket};
-ghost use Rattle.login_run.specs.Runs.{Arrived, Console, IsAllGiven, IsSameLogin};
+ghost use Rattle.login_run.specs.Runs.{Arrived, Console, IsAllGiven, IsRun, IsSameLogin};
 ghost use Rattle.console_run.specs.Passing.{IsSameHolder};
-ghost use Rattle.link_desk.specs.Passes.{after_cancel, cancelling};
+ghost use Rattle.link_desk.specs.Passes.{after_cancel, cancelled_by};
 ghost use Rattle.pool_serve.specs.Cancels.{IsPassedOn};
 ghost use Rattle.pool_serve.specs.Causes.{AtArrival, AtAsking};
 ghost use Rattle.pool_serve.specs.Endings.{HasEnded, HasLeased, Traces, refusal_in};
 ghost use Rattle.pool_serve.specs.Serving.{HasStopped, IsLoggedIn, LetsIn};
 ghost use Rattle.pool_serve.specs.Shares.{Evens, Settles};
-ghost use Rattle.pool_serve.specs.Stays.{CameIn, IsAllowed, IsAtConsole, IsOver, IsUntouched, ServesAs};
+ghost use Rattle.pool_serve.specs.Stays.{CameIn, IsAllowed, IsAtConsole, IsDismissed, IsOver, IsUntouched, ServesAs};
 
 use crate::TURNS;
 use crate::ending::Ending;
@@ -72,13 +72,38 @@ fn converse<C: ClientEnd, E: ServerEnd, G: Gate<E>>(
 /// Has what the client of this key word is at cancelled, if it has a lease: the cancel goes to the server of its link.
 fn pass_on<D: LinkDesk>(desk: &D, pass: &mut D::Pass, client: KeyView) -> Cancelled
     ensures told { D.told pass.new ≡ after_cancel (D.told pass.old) result }
-    ensures holder { D.holder pass.new ≡ cancelling client (D.holder pass.old) }
+    ensures holder { D.holder pass.new ≡ cancelled_by client (D.holder pass.old) result }
 {
     let cancelled = desk.cancel(pass, client);
-    if let Cancelled::Strike(strike) = &cancelled {
-        desk.strike(strike);
+    match cancelled {
+        Cancelled::Strike(_) => desk.strike(pass),
+        Cancelled::Nobody | Cancelled::Last => {}
     }
     cancelled
+}
+
+/// Ends a login that comes to no arrival: what it asked to be cancelled is passed on, or the log is told why it is over.
+fn dismiss<C: ClientEnd, D: LinkDesk>(
+    desk: &D,
+    pass: D::Pass,
+    run: LoginRun<C>,
+    turn: LoginTurn,
+    visit: Visit,
+) -> (C, D::Pass)
+    ensures run { IsRun run }
+    ensures client { C.facts result.0 ≡ run.client }
+    ensures pass { IsDismissed turn (D.told pass) (D.told result.1) (D.holder pass) (D.holder result.1) }
+{
+    let mut pass = pass;
+    match turn {
+        LoginTurn::Cancel(key) => {
+            let cancelled = pass_on(desk, &mut pass, key);
+            note_cancel(desk, visit, cancelled);
+        }
+        _ => note_login(desk, &run, visit, None),
+    }
+    let (client, _, _) = run.finish();
+    (client, pass)
 }
 
 impl<'a, D: LinkDesk, G: Gate<D::End>> Worker<'a, D, G> {
@@ -226,8 +251,8 @@ impl<'a, D: LinkDesk, G: Gate<D::End>> Worker<'a, D, G> {
 /// which its link wasn't started, or the refusal that its relay's last answer tells. It is given whole, unless the client's end ended
 /// or faulted or took nothing for [`TURNS`] turns. No client is in the pass before, and none afterwards.
 ///
-/// A client whose first packet is a CancelRequest is given no byte: the desk is asked for the lease of the key word in it, and the server
-/// of that lease's link is sent a cancel. Who asks takes no place in the book.
+/// A client whose first packet is a CancelRequest is given no byte: the desk is asked for the lease of the key word in it, and the cancel
+/// that it answers is sent. Who asks takes no place in the book.
 ///
 /// The log is told of its refusal, of a start that failed and of a link that is lost; `visit` is what it knows the client by.
 pub fn serve<C: ClientEnd, D: LinkDesk, G: Gate<D::End> + Drop>(
@@ -262,18 +287,7 @@ pub fn serve<C: ClientEnd, D: LinkDesk, G: Gate<D::End> + Drop>(
     // a client that hasn't come yet takes no place in the book
     match converse(alloc, &mut run, &mut gate, None) {
         LoginTurn::Arrived => {}
-        LoginTurn::Cancel(key) => {
-            let mut pass = pass;
-            let cancelled = pass_on(desk, &mut pass, key);
-            note_cancel(desk, visit, cancelled);
-            let (client, _, _) = run.finish();
-            return (client, pass);
-        }
-        _ => {
-            note_login(desk, &run, visit, None);
-            let (client, _, _) = run.finish();
-            return (client, pass);
-        }
+        turn => return dismiss(desk, pass, run, turn, visit),
     }
     let mut worker = Worker {
         alloc,

@@ -97,8 +97,9 @@ fn cancels<R: Wait + Clock, K: Ledgers>(desk: &TestDesk<R, K>, pass: &mut Pass<K
         pid: number,
         secret: number,
     };
-    if let Cancelled::Strike(strike) = desk.cancel(pass, client) {
-        desk.strike(&strike);
+    match desk.cancel(pass, client) {
+        Cancelled::Strike(_) => desk.strike(pass),
+        Cancelled::Nobody | Cancelled::Last => {}
     }
 }
 

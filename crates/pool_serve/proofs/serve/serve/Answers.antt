@@ -8,25 +8,27 @@ use Rattle.pool_serve.specs.Serving.{AreMarksOf, LetsIn}
 use Rattle.pool_serve.specs.Stays.{ServesAs}
 use Rattle.pool_serve.specs.Words.{HasGiven, last_bytes}
 use Rattle.pool_serve.specs.declared.word.LastWord.{LastWord}
-use Rattle.link_desk.specs.declared.calls.Holder.{Holder}
-use Rattle.pool_serve.proofs.Cancelling.{cancelled_settles, passed_on}
+use Rattle.pool_serve.proofs.Cancelling.{dismissed_is_over, dismissed_keeps, dismissed_settles}
 use Rattle.pool_serve.proofs.Leases.{came_first}
 use Rattle.pool_serve.proofs.Logging.{run_ends}
 use Rattle.pool_serve.proofs.Managing.{same_serves, told_as}
 use Rattle.pool_serve.proofs.Telling.{untold_client}
 use Rattle.pool_serve.proofs.serve.serve.Goals as goal
 
-pub returns-in_default : goal.returns-in_default
-returns-in_default g c = record {
-  tells = ap (λ (x : ClientFacts). x.tells) c.finish-client-in_default.ensures.client ∙ (c.converse.ensures.login.tells ∙ ap (λ (x : ClientFacts). x.tells) c.new-run.ensures.client);
-  allowed = λ t l. inl
-      (subst (λ (v : LoginView). (marks : List Bool) × (AreMarksOf g.D.LinkDesk.home.strikable marks × AllowedBy (HasCause v (g.C.ClientEnd.facts c.finish-client-in_default.result.0).taken (g.D.LinkDesk.told c.args.pass) (g.D.LinkDesk.told c.args.pass)) (g.C.ClientEnd.facts c.finish-client-in_default.result.0).given (own g.D.LinkDesk.home.catalogue v marks (g.C.ClientEnd.facts c.finish-client-in_default.result.0).taken))) c.new-run.ensures.login
-      (untold_client g.D.LinkDesk.home c.new-run.result.login (g.C.ClientEnd.facts c.finish-client-in_default.result.0) (g.D.LinkDesk.told c.args.pass) (g.D.LinkDesk.told c.args.pass) (run_ends c.runs_are_allowed.ensures g.D.LinkDesk.home c.new-run.result c.converse.new.run (g.C.ClientEnd.facts c.finish-client-in_default.result.0) c.converse.ensures.login c.finish-client-in_default.ensures.run c.finish-client-in_default.ensures.client (ap (λ (x : ClientFacts). x.tells) c.new-run.ensures.client ∙ t))));
-  share = λ e. record { leases = refl; clients = refl };
-  free = c.requires.free;
-  none = c.requires.none;
-  over = inl (record { told = refl; holder = refl });
-}
+pub returns-in_turn : goal.returns-in_turn
+returns-in_turn g c =
+    let turn = c.converse.result in
+    let left = dismissed_keeps turn (g.D.LinkDesk.told c.args.pass) (g.D.LinkDesk.told c.dismiss.result.1) (g.D.LinkDesk.holder c.args.pass) (g.D.LinkDesk.holder c.dismiss.result.1) c.dismiss.ensures.pass in
+    record {
+      tells = ap (λ (x : ClientFacts). x.tells) c.dismiss.ensures.client ∙ (c.converse.ensures.login.tells ∙ ap (λ (x : ClientFacts). x.tells) c.new-run.ensures.client);
+      allowed = λ t l. inl
+          (subst (λ (v : LoginView). (marks : List Bool) × (AreMarksOf g.D.LinkDesk.home.strikable marks × AllowedBy (HasCause v (g.C.ClientEnd.facts c.dismiss.result.0).taken (g.D.LinkDesk.told c.args.pass) (g.D.LinkDesk.told c.dismiss.result.1)) (g.C.ClientEnd.facts c.dismiss.result.0).given (own g.D.LinkDesk.home.catalogue v marks (g.C.ClientEnd.facts c.dismiss.result.0).taken))) c.new-run.ensures.login
+          (untold_client g.D.LinkDesk.home c.new-run.result.login (g.C.ClientEnd.facts c.dismiss.result.0) (g.D.LinkDesk.told c.args.pass) (g.D.LinkDesk.told c.dismiss.result.1) (run_ends c.runs_are_allowed.ensures g.D.LinkDesk.home c.new-run.result c.converse.new.run (g.C.ClientEnd.facts c.dismiss.result.0) c.converse.ensures.login c.dismiss.ensures.run c.dismiss.ensures.client (ap (λ (x : ClientFacts). x.tells) c.new-run.ensures.client ∙ t))));
+      share = dismissed_settles turn _ _ _ _ c.dismiss.ensures.pass;
+      free = left.client ∙ c.requires.free;
+      none = left.lease ∙ c.requires.none;
+      over = dismissed_is_over c.cancelling_runs_have_asked.ensures c.args.login c.new-run.result c.converse.new.run turn _ _ _ _ _ c.new-run.ensures.login c.converse.ensures.login c.dismiss.ensures.run c.converse.ensures.stopped c.dismiss.ensures.client c.dismiss.ensures.pass;
+    }
 
 pub returns-clause-allowed : goal.returns-clause-allowed
 returns-clause-allowed g c = λ t l.
@@ -50,15 +52,3 @@ returns-clause-over g c = inr (inr (record {
   came = came_first _ c.args.login c.new-run.result c.converse.new.run _ c.admit-client.result.1 c.new-run.ensures.login c.converse.ensures.login c.admit-client.ensures.came;
   told = subst (λ (w : LastWord). HasGiven (g.C.ClientEnd.facts c.admit-client.result.0) (g.C.ClientEnd.facts c.tell.new.client) (last_bytes w)) c.into_word.ensures c.tell.ensures;
 }))
-
-pub returns-in-Cancel : goal.returns-in-Cancel
-returns-in-Cancel g c = record {
-  tells = ap (λ (x : ClientFacts). x.tells) c.finish-client.ensures.client ∙ (c.converse.ensures.login.tells ∙ ap (λ (x : ClientFacts). x.tells) c.new-run.ensures.client);
-  allowed = λ t l. inl
-      (subst (λ (v : LoginView). (marks : List Bool) × (AreMarksOf g.D.LinkDesk.home.strikable marks × AllowedBy (HasCause v (g.C.ClientEnd.facts c.finish-client.result.0).taken (g.D.LinkDesk.told c.args.pass) (g.D.LinkDesk.told c.pass_on-cancelled.new.pass)) (g.C.ClientEnd.facts c.finish-client.result.0).given (own g.D.LinkDesk.home.catalogue v marks (g.C.ClientEnd.facts c.finish-client.result.0).taken))) c.new-run.ensures.login
-      (untold_client g.D.LinkDesk.home c.new-run.result.login (g.C.ClientEnd.facts c.finish-client.result.0) (g.D.LinkDesk.told c.args.pass) (g.D.LinkDesk.told c.pass_on-cancelled.new.pass) (run_ends c.runs_are_allowed.ensures g.D.LinkDesk.home c.new-run.result c.converse.new.run (g.C.ClientEnd.facts c.finish-client.result.0) c.converse.ensures.login c.finish-client.ensures.run c.finish-client.ensures.client (ap (λ (x : ClientFacts). x.tells) c.new-run.ensures.client ∙ t))));
-  share = cancelled_settles (g.D.LinkDesk.told c.args.pass) _ c.pass_on-cancelled.result c.pass_on-cancelled.ensures.told;
-  free = ap (λ (h : Holder). h.client) c.pass_on-cancelled.ensures.holder ∙ c.requires.free;
-  none = ap (λ (h : Holder). h.lease) c.pass_on-cancelled.ensures.holder ∙ c.requires.none;
-  over = inr (inl (passed_on c.cancelling_runs_have_asked.ensures c.args.login c.new-run.result c.converse.new.run c.in-Cancel.key _ _ _ _ _ c.pass_on-cancelled.result c.new-run.ensures.login c.converse.ensures.login c.finish-client.ensures.run c.in-Cancel.ensures.stopped.0 c.finish-client.ensures.client c.pass_on-cancelled.ensures.told c.pass_on-cancelled.ensures.holder));
-}
