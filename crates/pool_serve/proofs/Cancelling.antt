@@ -57,7 +57,7 @@ untouched_settles p q h k u = subst (Settles p) (sym u.told) (λ x. record { lea
 -- ---- a login that comes to no arrival
 
 pub dismissed_settles : (t : LoginTurn) (p q : PassOf) (h k : Holder) → IsDismissed t p q h k → Settles p q
-dismissed_settles (turn.Cancel key) p q h k (answer, told, holder) = cancelled_settles p q answer told
+dismissed_settles (turn.Cancel key) p q h k (answer, (told, holder)) = cancelled_settles p q answer told
 dismissed_settles turn.Again p q h k u = untouched_settles p q h k u
 dismissed_settles turn.Wait p q h k u = untouched_settles p q h k u
 dismissed_settles turn.Arrived p q h k u = untouched_settles p q h k u
@@ -66,7 +66,7 @@ dismissed_settles turn.Console p q h k u = untouched_settles p q h k u
 dismissed_settles turn.Over p q h k u = untouched_settles p q h k u
 
 -- its client and its lease are those of before
-record KeepsFree (h k : Holder) : Type 0 where
+pub record KeepsFree (h k : Holder) : Type 0 where
   pub client : k.client ≡ h.client
   pub lease : k.lease ≡ h.lease
 
@@ -74,7 +74,7 @@ untouched_keeps : (p q : PassOf) (h k : Holder) → IsUntouched p q h k → Keep
 untouched_keeps p q h k u = record { client = ap (λ (x : Holder). x.client) u.holder; lease = ap (λ (x : Holder). x.lease) u.holder }
 
 pub dismissed_keeps : (t : LoginTurn) (p q : PassOf) (h k : Holder) → IsDismissed t p q h k → KeepsFree h k
-dismissed_keeps (turn.Cancel key) p q h k (answer, told, holder) = record { client = ap (λ (x : Holder). x.client) holder; lease = ap (λ (x : Holder). x.lease) holder }
+dismissed_keeps (turn.Cancel key) p q h k (answer, (told, holder)) = record { client = ap (λ (x : Holder). x.client) holder; lease = ap (λ (x : Holder). x.lease) holder }
 dismissed_keeps turn.Again p q h k u = untouched_keeps p q h k u
 dismissed_keeps turn.Wait p q h k u = untouched_keeps p q h k u
 dismissed_keeps turn.Arrived p q h k u = untouched_keeps p q h k u
@@ -84,7 +84,7 @@ dismissed_keeps turn.Over p q h k u = untouched_keeps p q h k u
 
 pub dismissed_is_over : {O : Type 0} → CancellingRunsHaveAsked → (v : LoginView) (first run : RunView) (t : LoginTurn) (after : ClientFacts) (p q : PassOf) (h k : Holder) → first.login ≡ v → IsSameLogin first run → IsRun run → HasStopped run t → after ≡ run.client → IsDismissed t p q h k
     → IsUntouched p q h k ⊎ IsPassedOn v p q h k after ⊎ O
-dismissed_is_over law v first run (turn.Cancel key) after p q h k is same i stopped e (answer, told, holder) = inr (inl (passed_on law v first run key after p q h k answer is same i stopped.0 e told holder))
+dismissed_is_over law v first run (turn.Cancel key) after p q h k is same i stopped e (answer, (told, holder)) = inr (inl (passed_on law v first run key after p q h k answer is same i stopped.0 e told holder))
 dismissed_is_over law v first run turn.Again after p q h k is same i stopped e u = inl u
 dismissed_is_over law v first run turn.Wait after p q h k is same i stopped e u = inl u
 dismissed_is_over law v first run turn.Arrived after p q h k is same i stopped e u = inl u

@@ -15,8 +15,8 @@ use Rattle.pool_serve.proofs.Managing.{same_serves, told_as}
 use Rattle.pool_serve.proofs.Telling.{untold_client}
 use Rattle.pool_serve.proofs.serve.serve.Goals as goal
 
-pub returns-in_turn : goal.returns-in_turn
-returns-in_turn g c =
+pub returns-in_default : goal.returns-in_default
+returns-in_default g c =
     let turn = c.converse.result in
     let left = dismissed_keeps turn (g.D.LinkDesk.told c.args.pass) (g.D.LinkDesk.told c.dismiss.result.1) (g.D.LinkDesk.holder c.args.pass) (g.D.LinkDesk.holder c.dismiss.result.1) c.dismiss.ensures.pass in
     record {
