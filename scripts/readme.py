@@ -33,10 +33,9 @@ class DefaultServer(Cluster):
         self.start()
 
     def put_first(self, line):
-        """Lets a line stand above all others of pg_hba.conf."""
+        """Lets a line stand above all others of pg_hba.conf. The server reads it again when it is told to."""
         file = self.data / "pg_hba.conf"
         file.write_text(line + "\n" + file.read_text())
-        self.place.run("pg_ctl", "-D", self.data, "-s", "reload")
 
 
 class Page:
@@ -110,9 +109,9 @@ class Walk:
 def pools(passes, page, walk):
     """The lines of "Pool your PostgreSQL"."""
     lines = page.block("Pool your PostgreSQL")
-    make_roles, hba, install, serve, client, console = lines
+    hba, make_roles, install, serve, client, console = lines
     passes.same("the page's six lines are those that this script knows",
-                [it.split()[0] for it in lines], ["psql", "#", "make", "pgsess", "psql", "psql"])
+                [it.split()[0] for it in lines], ["#", "psql", "make", "pgsess", "psql", "psql"])
     passes.same(install.split("  ")[0], walk.run(install).returncode, 0)
 
     passes.holds("the pool listens", walk.serve(serve))
@@ -121,12 +120,16 @@ def pools(passes, page, walk):
     passes.holds("before the server's two lines, the log says that it asks for SCRAM", until(lambda: wanted in walk.said(), 5), walk.said())
     walk.stop()
 
-    told = walk.run(make_roles)
-    passes.same("the roles and the database", (told.returncode, told.stdout.split()), (0, ["SET", "CREATE", "ROLE", "CREATE", "DATABASE"]))
+    named = walk.run(re.search(r'psql -c ".*?"', hba).group() + " -XAt").stdout.strip()
+    passes.same("the file that the page tells to change", named, str(walk.server.data / "pg_hba.conf"))
     walk.server.put_first(re.search(r"host .*", hba).group())
+    told = walk.run(make_roles)
+    passes.same("the roles, the database, and the file read again", (told.returncode, told.stdout.split()),
+                (0, ["SET", "CREATE", "ROLE", "CREATE", "DATABASE", "pg_reload_conf", "-" * 16, "t", "(1", "row)"]))
     passes.holds("the pool listens again", walk.serve(serve))
-    told = walk.run(client + " -XAt", "SELECT current_user, current_database()")
-    passes.same("a client of the pool", told.stdout.strip(), "ann|shop")
+    # the server reads its file some time after it was told to
+    holds = until(lambda: walk.run(client.split("#")[0] + " -XAt", "SELECT current_user, current_database()").stdout.strip() == "ann|shop", 10)
+    passes.holds("a client of the pool", holds, walk.said())
     told = walk.run(console)
     passes.holds("the console shows the pool", re.search(r"^ shop +\| ann ", told.stdout, re.M), told.stdout)
 
