@@ -5,7 +5,7 @@ Usage: readme.py PROGRAM
 
 The lines of "Pool your PostgreSQL" are taken from the page as they stand, but for the two ports and the folder of `make install`, since
 the usual ones may be taken here. `make demo` is run with PROGRAM, so that nothing is built for it. Every make target, command and file
-that the page names is looked for.
+that the page names is looked for, and whatever it and the other pages lead to.
 """
 import os
 import pathlib
@@ -58,6 +58,23 @@ class Page:
     def commands(self):
         row = re.search(r"^\| (`pgsess .*?) \|", self.text, re.M).group(1)
         return re.findall(r"`(?:pgsess )?([a-z]+)`", row)
+
+
+def anchors(text):
+    """The headings of a page, as links name them."""
+    headings = re.findall(r"^#+ (.*)$", re.sub(r"^```.*?^```", "", text, flags=re.M | re.S), re.M)
+    return {re.sub(r"[^\w\- ]", "", it.lower()).replace(" ", "-") for it in headings}
+
+
+def dead_links():
+    """Links of the pages, between each other, that lead nowhere."""
+    dead = []
+    for page in [*TOP.glob("*.md"), *TOP.glob("docs/*.md")]:
+        for name, anchor in re.findall(r"\]\(([^)#:]*)(?:#([^)]*))?\)", page.read_text()):
+            to = page.parent / name if name else page
+            if not to.exists() or anchor and anchor not in anchors(to.read_text()):
+                dead.append(f"{page.name}: {name}#{anchor}")
+    return dead
 
 
 class Walk:
@@ -144,6 +161,7 @@ def names(passes, page, program):
         passes.same(f"pgsess {command} --help", ran.returncode, 0)
     missing = [it for it in page.files() if not (TOP / it).exists()]
     passes.same("every file that the page leads to is there", missing, [])
+    passes.same("no page leads nowhere", dead_links(), [])
     size = (page.text.count("\n") <= MOST_LINES, len(page.text.encode()) <= MOST_BYTES)
     passes.same(f"the page has at most {MOST_LINES} lines and {MOST_BYTES} bytes", size, (True, True))
 
