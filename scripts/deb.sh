@@ -24,7 +24,7 @@ install -m 640 "$here/examples/pgsess.ini" "$tree/etc/pgsess/pgsess.ini"
 install -m 640 "$here/examples/users.txt" "$tree/etc/pgsess/users.txt"
 install -d -m 755 "$tree/DEBIAN"
 sed "s/@VERSION@/$version/; s/@SIZE@/$(du -sk "$tree" | cut -f1)/" "$here/packaging/debian/control" > "$tree/DEBIAN/control"
-install -m 755 "$here/packaging/debian/postinst" "$here/packaging/debian/prerm" "$tree/DEBIAN/"
+install -m 755 "$here/packaging/debian/postinst" "$here/packaging/debian/prerm" "$here/packaging/debian/postrm" "$tree/DEBIAN/"
 printf '%s\n' /etc/pgsess/pgsess.ini /etc/pgsess/users.txt > "$tree/DEBIAN/conffiles"
 mkdir -p "$folder"
 dpkg-deb --root-owner-group --build "$tree" "$folder/pgsess_${version}_amd64.deb" > /dev/null
