@@ -68,6 +68,7 @@ gate:
 	scripts/show.py $(program)
 	scripts/readme.py $(program)
 	scripts/packaging.sh $(program)
+	scripts/unit.py $(program)
 
 # the wrong versions of functions that aren't tried by the gate; CRATES names some crates. It is no part of `test`: on top of the
 # gate it would need each library built once more, which takes longer than all edits. Run it before a crate lands

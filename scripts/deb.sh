@@ -1,5 +1,6 @@
 #!/usr/bin/env bash
-# deb.sh PROGRAM FOLDER: makes a Debian package of a built program, with its unit, man pages, completion and examples, in that folder.
+# deb.sh PROGRAM FOLDER: makes a Debian package of a built program, with its unit, man pages, completion, examples and what operators read,
+# in that folder.
 set -eu
 program=$1 folder=$2
 here=$(cd "$(dirname "$0")/.." && pwd)
@@ -16,14 +17,14 @@ for page in pgsess.1 pgsess.ini.5; do
     chmod 644 "$tree/usr/share/man/man${page##*.}/$page.gz"
 done
 install -D -m 644 "$here/examples/catalogue.tsv" "$tree/usr/share/doc/pgsess/examples/catalogue.tsv"
-install -D -m 644 "$here/docs/OPERATING.md" "$tree/usr/share/doc/pgsess/OPERATING.md"
+install -m 644 "$here/docs/OPERATING.md" "$here/docs/MIGRATING.md" "$here/docs/SPEED.md" "$here/CHANGELOG.md" "$tree/usr/share/doc/pgsess/"
 # secrets are the service's alone
 install -d -m 750 "$tree/etc/pgsess"
 install -m 640 "$here/examples/pgsess.ini" "$tree/etc/pgsess/pgsess.ini"
 install -m 640 "$here/examples/users.txt" "$tree/etc/pgsess/users.txt"
 install -d -m 755 "$tree/DEBIAN"
 sed "s/@VERSION@/$version/; s/@SIZE@/$(du -sk "$tree" | cut -f1)/" "$here/packaging/debian/control" > "$tree/DEBIAN/control"
-install -m 755 "$here/packaging/debian/postinst" "$here/packaging/debian/prerm" "$tree/DEBIAN/"
+install -m 755 "$here/packaging/debian/postinst" "$here/packaging/debian/prerm" "$here/packaging/debian/postrm" "$tree/DEBIAN/"
 printf '%s\n' /etc/pgsess/pgsess.ini /etc/pgsess/users.txt > "$tree/DEBIAN/conffiles"
 mkdir -p "$folder"
 dpkg-deb --root-owner-group --build "$tree" "$folder/pgsess_${version}_amd64.deb" > /dev/null

@@ -28,6 +28,10 @@ check "the packed program is the built one" cmp "$program" "$work/root/usr/bin/p
 check "it runs" test "$("$work/root/usr/bin/pgsess" --version)" = "pgsess 1"
 check "settings and users are the service's alone" test "$(stat -c %a "$work/root/etc/pgsess" "$work/root/etc/pgsess/users.txt" | tr '\n' ' ')" = "750 640 "
 check "the packed settings are read" bash -c "'$program' serve --ini '$work/root/etc/pgsess/pgsess.ini' --users '$work/root/etc/pgsess/users.txt' --key-seed /dev/null 2>&1 | grep -qx 'pgsess: file /dev/null'"
+leads_nowhere() { # the files that the packed documents lead to and that aren't packed beside them
+    (cd "$work/root/usr/share/doc/pgsess" && grep -oh ']([^)#]*' *.md | sed 's/](//' | sort -u | while read -r file; do [ -z "$file" ] || [ -e "$file" ] || echo "$file"; done)
+}
+check "the packed documents lead to packed ones" silent leads_nowhere
 for page in 1:pgsess 5:pgsess.ini; do
     name=${page#*:}.${page%%:*}
     check "$name is packed" test -s "$work/root/usr/share/man/man${page%%:*}/$name.gz"

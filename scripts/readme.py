@@ -5,7 +5,7 @@ Usage: readme.py PROGRAM
 
 The lines of "Pool your PostgreSQL" are taken from the page as they stand, but for the two ports and the folder of `make install`, since
 the usual ones may be taken here. `make demo` is run with PROGRAM, so that nothing is built for it. Every make target, command and file
-that the page names is looked for.
+that the page names is looked for, and whatever it and the other pages lead to.
 """
 import os
 import pathlib
@@ -33,10 +33,9 @@ class DefaultServer(Cluster):
         self.start()
 
     def put_first(self, line):
-        """Lets a line stand above all others of pg_hba.conf."""
+        """Lets a line stand above all others of pg_hba.conf. The server reads it again when it is told to."""
         file = self.data / "pg_hba.conf"
         file.write_text(line + "\n" + file.read_text())
-        self.place.run("pg_ctl", "-D", self.data, "-s", "reload")
 
 
 class Page:
@@ -59,6 +58,23 @@ class Page:
     def commands(self):
         row = re.search(r"^\| (`pgsess .*?) \|", self.text, re.M).group(1)
         return re.findall(r"`(?:pgsess )?([a-z]+)`", row)
+
+
+def anchors(text):
+    """The headings of a page, as links name them."""
+    headings = re.findall(r"^#+ (.*)$", re.sub(r"^```.*?^```", "", text, flags=re.M | re.S), re.M)
+    return {re.sub(r"[^\w\- ]", "", it.lower()).replace(" ", "-") for it in headings}
+
+
+def dead_links():
+    """Links of the pages, between each other, that lead nowhere."""
+    dead = []
+    for page in [*TOP.glob("*.md"), *TOP.glob("docs/*.md")]:
+        for name, anchor in re.findall(r"\]\(([^)#:]*)(?:#([^)]*))?\)", page.read_text()):
+            to = page.parent / name if name else page
+            if not to.exists() or anchor and anchor not in anchors(to.read_text()):
+                dead.append(f"{page.name}: {name}#{anchor}")
+    return dead
 
 
 class Walk:
@@ -110,9 +126,9 @@ class Walk:
 def pools(passes, page, walk):
     """The lines of "Pool your PostgreSQL"."""
     lines = page.block("Pool your PostgreSQL")
-    make_roles, hba, install, serve, client, console = lines
+    hba, make_roles, install, serve, client, console = lines
     passes.same("the page's six lines are those that this script knows",
-                [it.split()[0] for it in lines], ["psql", "#", "make", "pgsess", "psql", "psql"])
+                [it.split()[0] for it in lines], ["#", "psql", "make", "pgsess", "psql", "psql"])
     passes.same(install.split("  ")[0], walk.run(install).returncode, 0)
 
     passes.holds("the pool listens", walk.serve(serve))
@@ -121,12 +137,16 @@ def pools(passes, page, walk):
     passes.holds("before the server's two lines, the log says that it asks for SCRAM", until(lambda: wanted in walk.said(), 5), walk.said())
     walk.stop()
 
-    told = walk.run(make_roles)
-    passes.same("the roles and the database", (told.returncode, told.stdout.split()), (0, ["SET", "CREATE", "ROLE", "CREATE", "DATABASE"]))
+    named = walk.run(re.search(r'psql -c ".*?"', hba).group() + " -XAt").stdout.strip()
+    passes.same("the file that the page tells to change", named, str(walk.server.data / "pg_hba.conf"))
     walk.server.put_first(re.search(r"host .*", hba).group())
+    told = walk.run(make_roles)
+    passes.same("the roles, the database, and the file read again", (told.returncode, told.stdout.split()),
+                (0, ["SET", "CREATE", "ROLE", "CREATE", "DATABASE", "pg_reload_conf", "-" * 16, "t", "(1", "row)"]))
     passes.holds("the pool listens again", walk.serve(serve))
-    told = walk.run(client + " -XAt", "SELECT current_user, current_database()")
-    passes.same("a client of the pool", told.stdout.strip(), "ann|shop")
+    # the server reads its file some time after it was told to
+    holds = until(lambda: walk.run(client.split("#")[0] + " -XAt", "SELECT current_user, current_database()").stdout.strip() == "ann|shop", 10)
+    passes.holds("a client of the pool", holds, walk.said())
     told = walk.run(console)
     passes.holds("the console shows the pool", re.search(r"^ shop +\| ann ", told.stdout, re.M), told.stdout)
 
@@ -141,6 +161,7 @@ def names(passes, page, program):
         passes.same(f"pgsess {command} --help", ran.returncode, 0)
     missing = [it for it in page.files() if not (TOP / it).exists()]
     passes.same("every file that the page leads to is there", missing, [])
+    passes.same("no page leads nowhere", dead_links(), [])
     size = (page.text.count("\n") <= MOST_LINES, len(page.text.encode()) <= MOST_BYTES)
     passes.same(f"the page has at most {MOST_LINES} lines and {MOST_BYTES} bytes", size, (True, True))
 
