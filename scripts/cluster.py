@@ -205,9 +205,10 @@ server_connect_timeout = 15
 
 
 class Pooler:
-    """A pooler in front of the server, with the settings of examples/pgsess.ini but for those that are named."""
+    """A pooler in front of the server, with the settings of examples/pgsess.ini but for those that are named. `more` has further
+    databases, each with its port."""
 
-    def __init__(self, place, cluster, program, kind="pgsess", auth="trust", size=20, clients=100, wait=120, closed=1):
+    def __init__(self, place, cluster, program, kind="pgsess", auth="trust", size=20, clients=100, wait=120, closed=1, links=1000, more=None):
         self.place, self.port, self.kind = place, free_port(), kind
         users = place.write("users.txt", "".join(f'"{name}" "{secret}"\n' for name, (_, secret) in USERS.items()))
         self.errors = open(place.folder / f"{kind}.err", "ab")
@@ -218,12 +219,14 @@ class Pooler:
             if not until(lambda: is_open(self.port), 5):
                 sys.exit(f"pgbouncer doesn't answer: {(place.folder / 'pgbouncer.err').read_text()!r}")
             return
+        rows = {"shop": (cluster.port, "shop"), "closed": (closed, "shop"), **{name: (port, name) for name, port in (more or {}).items()}}
         changes = {
-            r"^shop = .*": rf"shop = host={HERE} port={cluster.port} dbname=shop\nclosed = host={HERE} port={closed} dbname=shop",
+            r"^shop = .*": r"\n".join(f"{name} = host={HERE} port={port} dbname={dbname}" for name, (port, dbname) in rows.items()),
             "^listen_port = .*": f"listen_port = {self.port}",
             "^auth_type = .*": f"auth_type = {auth}",
             "^max_client_conn = .*": f"max_client_conn = {clients}",
             "^default_pool_size = .*": f"default_pool_size = {size}",
+            "^max_links = .*": f"max_links = {links}",
             "^query_wait_timeout = .*": f"query_wait_timeout = {wait}",
         }
         words = [part for old, new in changes.items() for part in ("-e", f"s/{old}/{new}/")]

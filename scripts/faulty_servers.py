@@ -1,0 +1,588 @@
+#!/usr/bin/env python3
+"""Servers over TCP that die, stall or speak wrongly at each byte, before `pgsess serve`.
+
+Usage: faulty_servers.py PROGRAM, at the top of the repository.
+
+A server of this script plays a conversation: its start (tests/rows/start.out), its answers to two statements and its answer to the reset. In each case it has one fault: at each byte it closes the connection, resets it, falls silent, or says 00 or ff
+instead; or at each border of its messages it says one of 33 faulty or strange ones. Others cut what they say in two at each byte, or say it
+byte by byte. Pools have one link. What the client of a case is given is told by a plain reader of the server's bytes (below): a front of the
+right answer, and perhaps one refusal. Then a second client of the same start key is given exact bytes: over the same connection where the
+link was to be kept, else over a new one. Meanwhile two clients of another server are served. At the end each link that isn't idle is
+closed, and every client's place is free.
+"""
+import collections
+import os
+import pathlib
+import signal
+import socket
+import struct
+import sys
+import threading
+import time
+from concurrent.futures import ThreadPoolExecutor
+
+from cluster import HERE, Passes, Place, Pooler, Stub, until
+from cursors import KEY
+from leases import FAILED, HEAD, UNREACHED, borders
+from logins import GIVEN, fatal
+from rows import CATALOGUE, ROWS, differs
+from wire import Client, Cut, Refused, message, query, startup
+
+SECONDS = 20
+LANES = 6
+# a start and a reset are given up after 600 turns of 100 ms without a byte
+GIVEN_UP = (50, 120)
+SLOWEST = 5.0
+# at rest: who accepts, the clock, the log
+THREADS = 3
+REST = 0.002
+LONGEST_REPLY, LONGEST_STATUS, LONGEST_FRAME = 65_536, 4_096, 2_147_483_647
+MALFORMED = fatal("08P01", "malformed server message")
+OK, TERMINATE, RESET = GIVEN["ok"], message(b"X"), query("DISCARD ALL")
+ASKED = [query("SET DateStyle TO 'SQL, DMY'"), query("SHOW DateStyle")]
+IDLE, TAG = message(b"Z", b"I"), message(b"C", b"DISCARD ALL\0")
+SERVER_KEY = (7).to_bytes(4, "big") + (8).to_bytes(4, "big")
+# how a server's part ends, if it doesn't go on
+CLOSED, CUT_OFF, SILENT = "closes the connection", "resets the connection", "falls silent"
+
+
+def status(name, value):
+    return message(b"S", name + b"\0" + value + b"\0")
+
+
+def authentication(number, rest=b""):
+    return message(b"R", number.to_bytes(4, "big") + rest)
+
+
+# what a server says to a start, to each of two statements, and to the reset (PostgreSQL manual, "Message Formats")
+WELCOME = (ROWS / "start.out").read_bytes()
+START = WELCOME[:KEY.start] + SERVER_KEY + WELCOME[KEY.stop:]
+SHOWN = (message(b"T", b"\0\1DateStyle\0" + bytes(6) + b"\0\0\0\x19" + b"\xff" * 6 + bytes(2)) + message(b"D", b"\0\1\0\0\0\x08SQL, DMY")
+         + message(b"C", b"SHOW\0") + IDLE)
+ANSWERS = [message(b"C", b"SET\0") + status(b"DateStyle", b"SQL, DMY") + IDLE, SHOWN]
+AFTER_RESET = TAG + status(b"DateStyle", b"ISO, MDY") + IDLE
+PARTS = [START, *ANSWERS, AFTER_RESET]
+NAMES = ["start", "first answer", "second answer", "reset"]
+IN_START, IN_RESET = 0, 3
+
+
+# what a server may say at a border that it shouldn't, or that nobody asked for
+STRANGE = {
+    "length 0": b"D\0\0\0\0",
+    "length 1": b"T\0\0\0\1",
+    "length 3": b"Z\0\0\0\3",
+    "length 2^31": b"D\x80\0\0\0",
+    "length 2^32 - 1": b"D\xff\xff\xff\xff",
+    "length 2^31 - 1": b"D\x7f\xff\xff\xff",
+    "length 65537": message(b"D", bytes(65_533)),
+    "half a head": b"D\0\0",
+    "type 00": b"\0\0\0\0\4",
+    "type ff": b"\xff\0\0\0\4",
+    "a client's message": query("SELECT 1"),
+    "authentication without a number": message(b"R", b"\0\0\0"),
+    "AuthenticationOk and a byte": authentication(0, b"\0"),
+    "a second AuthenticationOk": authentication(0),
+    "MD5 with a short salt": authentication(5, b"\1\2\3"),
+    "SASL": authentication(10, b"SCRAM-SHA-256\0\0"),
+    "a report of no name": message(b"S"),
+    "a report of an unknown name": status(b"unknown", b"1"),
+    "a report without its last zero": message(b"S", b"TimeZone\0UTC"),
+    "a report with a byte too many": message(b"S", b"TimeZone\0UTC\0\0"),
+    "a report too long": status(b"TimeZone", bytes([65]) * LONGEST_STATUS),
+    "a report of another value": status(b"TimeZone", b"A"),
+    "a key too short": message(b"K", bytes(4)),
+    "a key too long": message(b"K", bytes(12)),
+    "no status": message(b"Z"),
+    "two statuses": message(b"Z", b"II"),
+    "an unknown status": message(b"Z", b"X"),
+    "a block's status": message(b"Z", b"T"),
+    "one ReadyForQuery too many": message(b"Z", b"I"),
+    "an error": fatal("57P01", "terminating connection due to administrator command"),
+    "a notice": message(b"N", b"SNOTICE\0C00000\0Mhello\0\0"),
+    "another command's tag": message(b"C", b"SELECT 1\0"),
+    "an HTTP answer": b"HTTP/1.1 400 Bad Request\r\n\r\n",
+}
+
+
+# ---- a plain reader of a server's bytes
+
+def frames_of(data, longest):
+    """The whole messages that it begins with, what is left, and whether that begins with no lawful head."""
+    found, at = [], 0
+    while at + HEAD <= len(data):
+        length = int.from_bytes(data[at + 1:at + HEAD], "big")
+        if not 4 <= length <= longest:
+            return found, data[at:], True
+        if at + 1 + length > len(data):
+            break
+        found.append(data[at:at + 1 + length])
+        at += 1 + length
+    return found, data[at:], False
+
+
+def report_of(frame):
+    """The name and value of a ParameterStatus, or None."""
+    texts = frame[HEAD:].split(b"\0")
+    return tuple(texts[:2]) if len(texts) == 3 and not texts[2] else None
+
+
+# what a dialogue comes to where it isn't at its end: bytes are waited for, or what came doesn't belong there
+MORE, OTHER = "more", "other"
+
+
+def started(data):
+    """What a start comes to: the reports by their names, the server's own refusal, MORE or OTHER."""
+    found, rest, is_faulty = frames_of(data, LONGEST_REPLY)
+    is_in, is_readable, reports = False, True, {}
+    for number, frame in enumerate(found):
+        if frame[:1] == b"E":
+            return frame
+        if frame[:1] == b"N":
+            continue
+        if not is_in:
+            if frame != OK:
+                return OTHER
+            is_in = True
+        elif frame[:1] == b"S":
+            report = report_of(frame)
+            is_readable = is_readable and report is not None
+            reports.update([report] if report else [])
+        elif frame[:1] == b"K":
+            is_readable = is_readable and len(frame) == HEAD + 8
+        else:
+            is_last = frame == IDLE and number == len(found) - 1 and not rest
+            return reports if is_last and is_readable else OTHER
+    return OTHER if is_faulty else MORE
+
+
+def told_by(reports, frame):
+    """Whether a report can be read and is of a parameter that the start reported; its value is kept."""
+    report = report_of(frame) if len(frame) <= HEAD + LONGEST_STATUS else None
+    if report is None or report[0] not in reports:
+        return False
+    reports[report[0]] = report[1]
+    return True
+
+
+def is_clean(data, reports, first):
+    """Whether this answers a reset, after which all reports are the first ones; or MORE."""
+    found, rest, is_faulty = frames_of(data, LONGEST_REPLY)
+    wanted, known = [TAG, IDLE], True
+    for frame in found:
+        if wanted and frame[:1] in b"NS":
+            known = known and (frame[:1] == b"N" or told_by(reports, frame))
+        elif wanted and frame == wanted[0]:
+            del wanted[0]
+        else:
+            return False
+    if is_faulty or rest and not wanted:
+        return False
+    return MORE if wanted else known and reports == first
+
+
+class Relayed:
+    """What goes on to a client of what a server says: each message from its head on, but reports and ReadyForQuery only whole."""
+
+    def __init__(self, data):
+        self.size, self.frames, self.is_part, self.is_faulty = 0, [], False, False
+        while len(data) >= self.size + HEAD and not self.is_faulty:
+            kind, length = data[self.size:self.size + 1], int.from_bytes(data[self.size + 1:self.size + HEAD], "big")
+            frame = data[self.size:self.size + 1 + length]
+            self.is_faulty = not 4 <= length <= LONGEST_FRAME
+            is_whole = len(frame) == 1 + length
+            waits = kind == b"Z" and length == 5 or kind == b"S" and length <= 4 + LONGEST_STATUS
+            if self.is_faulty or waits and not is_whole:
+                break
+            self.size += len(frame)
+            self.is_part = not is_whole
+            self.frames.append(frame)
+            if self.is_part:
+                break
+
+    def is_settled(self, reports, asked):
+        """Whether so many messages were answered by as many ReadyForQuery, the last of them idle, and each report is known."""
+        ends = [frame for frame in self.frames if frame[:1] == b"Z"]
+        known = [told_by(reports, frame) for frame in self.frames if frame[:1] == b"S"]
+        lawful = all(len(frame) == HEAD + 1 and frame[HEAD:] in (b"I", b"T", b"E") for frame in ends)
+        return all(known) and lawful and len(ends) == asked and ends[-1] == IDLE
+
+
+class Wanted:
+    """What a client is to be given whose server says this to the start, to the statements and to the reset: all that it has after each
+    answer, whether it is cut off then, whether its link is kept, and where its key word stands. The server may close the connection after
+    one of them."""
+
+    def __init__(self, said, dies):
+        self.given, self.is_over, self.is_kept, self.key = [], True, False, KEY
+        reports = started(said[IN_START])
+        if not isinstance(reports, dict):
+            self.given = [OK + (reports if isinstance(reports, bytes) else UNREACHED)]
+            return
+        first, data = dict(reports), b""
+        head = OK + b"".join(status(*it) for it in reports.items()) + message(b"K", bytes(8))
+        self.key, welcome = slice(len(head) - 8, len(head)), head + IDLE
+        if dies == IN_START:
+            self.given = [welcome + FAILED]
+            return
+        self.given, is_settled = [welcome], True
+        for number in range(1, IN_RESET):
+            data += said[number]
+            relayed = Relayed(data)
+            refused = b""
+            if relayed.is_faulty:
+                refused = MALFORMED
+            elif dies == number:
+                refused = b"" if relayed.is_part else FAILED
+            self.given.append(welcome + data[:relayed.size] + refused)
+            if relayed.is_faulty or dies == number:
+                return
+            reports = dict(first)
+            is_settled = relayed.is_settled(reports, number) and relayed.size == len(data) and not relayed.is_part and is_settled
+        self.is_over = False
+        self.is_kept = is_settled and is_clean(said[IN_RESET], reports, first) is True
+
+
+# ---- the server
+
+Case = collections.namedtuple("Case", "group name part pieces ends")
+
+
+def connection_reset(it):
+    it.setsockopt(socket.SOL_SOCKET, socket.SO_LINGER, struct.pack("ii", 1, 0))
+    it.close()
+
+
+class Server:
+    """Plays the recorded conversation on each connection; on the first one of a start key that has a case, with its fault."""
+
+    def __init__(self):
+        self.listener = socket.create_server((HERE, 0), backlog=512)
+        self.port = self.listener.getsockname()[1]
+        self.lock, self.open, self.cases, self.counts, self.faults = threading.Lock(), 0, {}, collections.Counter(), []
+        threading.Thread(target=self.run, daemon=True).start()
+
+    def run(self):
+        while True:
+            it, _ = self.listener.accept()
+            it.setsockopt(socket.IPPROTO_TCP, socket.TCP_NODELAY, 1)
+            threading.Thread(target=self.serve, args=(it,), daemon=True).start()
+
+    def serve(self, it):
+        with self.lock:
+            self.open += 1
+        try:
+            self.converse(it)
+        except OSError:
+            pass
+        it.close()
+        with self.lock:
+            self.open -= 1
+
+    def converse(self, it):
+        first = packet(it, 0)
+        texts = first[8:].split(b"\0")
+        row, name = texts[3], texts[5]
+        if first != startup("ann", row.decode(), application_name=name.decode()):
+            self.faults.append(first)
+            return
+        with self.lock:
+            self.counts[name] += 1
+            case = self.cases.pop(name, None)
+        asked = [*ASKED, RESET]
+        number = IN_START
+        while self.say(it, number, case):
+            case = case if case and case.part > number else None
+            said = packet(it, 1)
+            if said in (b"", TERMINATE):
+                return
+            if said not in asked:
+                self.faults.append(said)
+                return
+            number = 1 + asked.index(said)
+
+    def say(self, it, number, case):
+        """Says a part of the conversation; whether it goes on then."""
+        if case is None or case.part != number:
+            it.sendall(PARTS[number])
+            return True
+        for piece in case.pieces:
+            if isinstance(piece, float):
+                time.sleep(piece)
+            else:
+                it.sendall(piece)
+        if case.ends == CUT_OFF:
+            connection_reset(it)
+        if case.ends == SILENT:
+            it.recv(1)
+        return case.ends is None
+
+
+def packet(it, before):
+    """A client's packet, whose length stands behind so many bytes; nothing where the connection ends first."""
+    head = exactly(it, before + 4)
+    rest = exactly(it, int.from_bytes(head[before:], "big") - 4) if head else b""
+    return head + rest
+
+
+def exactly(it, count):
+    got = b""
+    while len(got) < count:
+        piece = it.recv(count - len(got))
+        if not piece:
+            return b""
+        got += piece
+    return got
+
+
+# ---- the cases
+
+def cases_of(number):
+    """What is wrong, or cut, in this part of a conversation."""
+    data, name = PARTS[number], NAMES[number]
+    for size in range(len(data) + 1):
+        for end in (CLOSED, CUT_OFF):
+            yield Case(f"{name}: {end} after 0 to {len(data)} bytes", f"{size} bytes", number, [data[:size]], end)
+    for size in range(len(data)):
+        if number not in (IN_START, IN_RESET):
+            yield Case(f"{name}: {SILENT} after 0 to {len(data) - 1} bytes", f"{size} bytes", number, [data[:size]], SILENT)
+        for byte in (b"\0", b"\xff"):
+            if data[size:size + 1] != byte:
+                yield Case(f"{name}: each byte {byte.hex()}", f"byte {size}", number, [data[:size] + byte + data[size + 1:]], None)
+    for size in range(1, len(data)):
+        yield Case(f"{name}: cut in two at each byte", f"byte {size}", number, [data[:size], REST, data[size:]], None)
+    pieces = [piece for at in range(len(data)) for piece in (data[at:at + 1], REST / 10)]
+    yield Case(f"{name}: byte by byte", "", number, pieces, None)
+    for border in borders(data):
+        for kind, frame in STRANGE.items():
+            # a question is put in a segment of its own
+            parted = [REST] if frame[:1] == b"R" else []
+            pieces = [data[:border] + frame, *parted, data[border:]] if parted else [data[:border] + frame + data[border:]]
+            yield Case(f"{name}: {len(STRANGE)} strange messages at {len(borders(data))} borders", f"{kind} at {border}", number, pieces, None)
+
+
+def silent_cases():
+    """Those of starts and resets that are given up only after a minute."""
+    for number in (IN_START, IN_RESET):
+        data = PARTS[number]
+        for size in range(len(data)):
+            yield Case(f"{NAMES[number]}: {SILENT} after 0 to {len(data) - 1} bytes", f"{size} bytes", number, [data[:size]], SILENT)
+
+
+def said_in(case):
+    """The parts of the conversation as they are said in this case."""
+    said = [*PARTS]
+    said[case.part] = b"".join(piece for piece in case.pieces if isinstance(piece, bytes))
+    return said
+
+
+def ended(case):
+    """The case; where the other side would wait for more of a start or a reset, the server closes the connection."""
+    said = said_in(case)
+    waits = started(said[IN_START]) == MORE if case.part == IN_START else is_clean(said[IN_RESET], dict(REPORTS), REPORTS) == MORE
+    return case._replace(ends=CLOSED) if case.ends is None and case.part in (IN_START, IN_RESET) and waits else case
+
+
+REPORTS = started(START)
+RIGHT = Wanted(PARTS, None)
+
+
+# ---- the clients
+
+def received(it, size):
+    """So many bytes, or all that come before the connection is closed."""
+    got = b""
+    try:
+        while len(got) < size and (piece := it.recv(min(65536, size - len(got)))):
+            got += piece
+    except ConnectionResetError:
+        pass
+    return got
+
+
+class Bystander(threading.Thread):
+    """A client of another server, that asks and asks."""
+
+    def __init__(self, port, user):
+        super().__init__(daemon=True)
+        self.client, self.asked, self.longest, self.fault, self.ends = Client(port, user, "shop"), 0, 0.0, "", threading.Event()
+        self.start()
+
+    def run(self):
+        try:
+            while not self.ends.is_set():
+                began = time.monotonic()
+                rows = self.client.ask("SELECT name FROM city")
+                self.longest = max(self.longest, time.monotonic() - began)
+                if rows != [["Bern"], ["Oslo"], ["Nuuk"]]:
+                    self.fault = f"{rows}"
+                    return
+                self.asked += 1
+                time.sleep(0.01)
+            self.client.leave()
+        except (Cut, Refused, OSError) as error:
+            self.fault = repr(error)
+
+
+class Show:
+    def __init__(self, program):
+        self.passes, self.place, self.program = Passes("faulty servers"), Place("nobody"), program
+        self.lock, self.number, self.groups = threading.Lock(), 0, collections.defaultdict(list)
+
+    def given(self, row, name, wanted, stages, seconds=SECONDS):
+        """What a client is given that says its statements, each once it has all of the answer before, and leaves."""
+        got = b""
+        with socket.create_connection((HERE, self.pooler.port), seconds) as it:
+            try:
+                for asked, total in zip([startup("ann", row, application_name=name), *ASKED], wanted.given[:stages]):
+                    it.sendall(asked)
+                    got += received(it, len(total) - len(got))
+                    if len(got) < len(total):
+                        return got
+                if not wanted.is_over or len(wanted.given) > stages:
+                    it.sendall(TERMINATE)
+            except (BrokenPipeError, ConnectionResetError):
+                pass
+            return got + received(it, 1 << 20)
+
+    def differs(self, row, name, wanted, stages=None, seconds=SECONDS):
+        """What is wrong with what a client is given, but for its key word, which is its own."""
+        stages = stages or len(wanted.given)
+        given, whole, key = self.given(row, name, wanted, stages, seconds), wanted.given[stages - 1], wanted.key
+        if given[key] == SERVER_KEY:
+            return "it has the server's key word"
+        return differs(given[:key.start] + whole[key][:max(0, len(given) - key.start)] + given[key.stop:], whole)
+
+    def fault(self, case, row, seconds=SECONDS):
+        """What is wrong with a case."""
+        with self.lock:
+            self.number += 1
+            name = f"case{self.number}"
+        case, said = ended(case), said_in(case)
+        dies = case.part if case.ends in (CLOSED, CUT_OFF) else None
+        wanted = Wanted(said, dies)
+        stages = min(case.part + 1, len(wanted.given)) if case.ends == SILENT else len(wanted.given)
+        if case.ends == SILENT and case.part == IN_START:
+            wanted.given = [OK + UNREACHED]
+        self.server.cases[name.encode()] = case
+        if fault := self.differs(row, name, wanted, stages, seconds):
+            return fault
+        is_kept = wanted.is_kept and case.ends is None
+        if wanted.is_kept and case.part == IN_RESET and case.ends in (CLOSED, CUT_OFF):
+            # the link is idle, and its end gone: who gets it is told so
+            if fault := self.differs(row, name, Wanted(PARTS, IN_START)):
+                return f"over the link that ended: {fault}"
+        if fault := self.differs(row, name, Wanted([said[IN_START], *PARTS[1:]], None) if is_kept else RIGHT):
+            return f"the next client: {fault}"
+        counted, connections = self.server.counts[name.encode()], 1 if is_kept else 2
+        return "" if counted == connections else f"{counted} connections for {connections}"
+
+    def played(self, case, row, seconds=SECONDS):
+        try:
+            fault = self.fault(case, row, seconds)
+        except OSError as error:
+            fault = repr(error)
+        with self.lock:
+            self.groups[case.group].append(f"{case.name}: {fault}" if fault else "")
+
+    def given_up(self, case, row):
+        """A case that the pooler gives up after a minute."""
+        began = time.monotonic()
+        self.played(case, row, 2 * GIVEN_UP[1])
+        return time.monotonic() - began
+
+    def sweep(self, cases):
+        """All cases, over as many pools as there are lanes."""
+        cases = iter(cases)
+
+        def lane(number):
+            while True:
+                with self.lock:
+                    case = next(cases, None)
+                if case is None:
+                    return
+                self.played(case, f"lane{number}")
+
+        with ThreadPoolExecutor(LANES) as pool:
+            list(pool.map(lane, range(LANES)))
+
+    def all(self):
+        self.server, stub = Server(), Stub(self.place, self.program, pathlib.Path(CATALOGUE).read_bytes())
+        silent = list(silent_cases())
+        rows = [f"lane{number}" for number in range(LANES)] + [f"silent{number}" for number in range(len(silent))]
+        clients = len(rows) + 3
+        self.pooler = Pooler(self.place, stub, self.program, size=1, clients=clients, more={row: self.server.port for row in rows})
+        files = self.files_at_rest()
+        bystanders = [Bystander(self.pooler.port, user) for user in ("ann", "bc")]
+        began = time.monotonic()
+        with ThreadPoolExecutor(len(silent)) as pool:
+            waiting = [pool.submit(self.given_up, case, f"silent{number}") for number, case in enumerate(silent)]
+            self.sweep(case for number in range(len(PARTS)) for case in cases_of(number))
+            print(f"       swept in {time.monotonic() - began:.0f} s")
+            times = [it.result() for it in waiting]
+        for group, faults in self.groups.items():
+            failed = [fault for fault in faults if fault]
+            self.passes.tell(f"{group}: {len(faults)} cases", f"{len(failed)} failed, as {failed[:3]}" if failed else "")
+        self.passes.holds(f"{len(silent)} that fall silent are given up after {min(times):.0f} to {max(times):.0f} s", GIVEN_UP[0] < min(times) and max(times) < GIVEN_UP[1])
+        for it in bystanders:
+            it.ends.set()
+            it.join(SECONDS)
+        told = ", ".join(f"{it.asked} statements, each within {it.longest:.2f} s" for it in bystanders)
+        served = all(it.asked and it.longest < SLOWEST for it in bystanders)
+        self.passes.holds(f"two clients of another server are served meanwhile: {told}", served and not any(it.fault for it in bystanders), f"{[it.fault for it in bystanders]}")
+        self.passes.same("no server was sent anything else", self.server.faults[:3], [])
+        print(f"       {sum(map(len, self.groups.values()))} cases; {self.pooler.used():.0f} s of the pooler, {time.process_time():.0f} s of the script")
+        self.left(clients, files)
+
+    def files_at_rest(self):
+        """How many files the pooler has open once a client has come and gone."""
+        Client(self.pooler.port, "root", "pgbouncer").leave()
+        until(lambda: self.pooler.threads() == THREADS, 5)
+        return self.pooler.files()
+
+    def left(self, clients, files):
+        """Nothing is lost: each link is idle or closed, and as many clients find a place as may be there."""
+        console = Client(self.pooler.port, "root", "pgbouncer")
+
+        def figures():
+            return [[int(it) for it in row[2:6]] for row in console.ask("SHOW POOLS")]
+
+        is_idle = until(lambda: all(row[:3] == [0, 0, 0] for row in figures()), 10)
+        idle = sum(row[3] for row in figures())
+        self.passes.holds("each link is idle", is_idle, f"{[row for row in figures() if row[:3] != [0, 0, 0]][:3]}")
+        states = [row[1] for row in console.ask("SHOW CLIENTS")]
+        self.passes.same("nobody is there but who asks", states, ["login"])
+        console.leave()
+        # the two of the other server are idle as well
+        self.passes.holds("each other connection to a server is closed", until(lambda: self.server.open == idle - 2, 10), f"{self.server.open} for {idle - 2}")
+        self.passes.holds("no file is left open", until(lambda: self.pooler.files() == files + idle, 10), f"{self.pooler.files()} for {files + idle}")
+        all_of_them = [Client(self.pooler.port, "root", "pgbouncer") for _ in range(clients)]
+        try:
+            Client(self.pooler.port, "root", "pgbouncer")
+            refused = "none"
+        except Refused as error:
+            refused = error.code
+        self.passes.same(f"as many as may be there, {clients}, find a place, and no more", refused, "53300")
+        for client in all_of_them:
+            client.leave()
+        self.passes.holds("the pooler still runs", self.pooler.runs())
+        self.pooler.stop()
+
+
+def main():
+    if len(sys.argv) != 2:
+        sys.exit(__doc__)
+    signal.signal(signal.SIGTERM, lambda *_: sys.exit(1))
+    show, began = Show(os.path.abspath(sys.argv[1])), time.monotonic()
+    try:
+        show.all()
+    finally:
+        for pid in show.place.processes():
+            os.kill(pid, signal.SIGKILL)
+        until(lambda: not show.place.processes())
+        show.place.clear()
+    print(f"faulty servers: {time.monotonic() - began:.0f} s")
+    show.passes.end()
+
+
+if __name__ == "__main__":
+    main()
