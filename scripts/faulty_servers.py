@@ -3,12 +3,13 @@
 
 Usage: faulty_servers.py PROGRAM, at the top of the repository.
 
-A server of this script plays a conversation: its start (tests/rows/start.out), its answers to two statements and its answer to the reset. In each case it has one fault: at each byte it closes the connection, resets it, falls silent, or says 00 or ff
-instead; or at each border of its messages it says one of 33 faulty or strange ones. Others cut what they say in two at each byte, or say it
-byte by byte. Pools have one link. What the client of a case is given is told by a plain reader of the server's bytes (below): a front of the
-right answer, and perhaps one refusal. Then a second client of the same start key is given exact bytes: over the same connection where the
-link was to be kept, else over a new one. Meanwhile two clients of another server are served. At the end each link that isn't idle is
-closed, and every client's place is free.
+A server of this script plays a conversation: its start, its answers to two statements and its answer to the reset. In each case it has one
+fault: at each byte it closes the connection, resets it, falls silent, or says 00 or ff instead; or at each border of its messages it says
+one of 33 faulty or strange ones. Others cut what they say in two at each byte, or say it byte by byte. Pools have one link. What the client
+of a case is given is told by a plain reader of the server's bytes (plain_reader.py): a front of what the server said, and perhaps one
+refusal. Then a second client of the same start key is given exact bytes: over the same connection where the link was to be kept, else over
+a new one. Meanwhile two clients of another server are served. At the end each link that isn't idle is closed, and every client's place is
+free.
 """
 import collections
 import os
@@ -23,8 +24,9 @@ from concurrent.futures import ThreadPoolExecutor
 
 from cluster import HERE, Passes, Place, Pooler, Stub, until
 from cursors import KEY
-from leases import FAILED, HEAD, UNREACHED, borders
-from logins import GIVEN, fatal
+from leases import UNREACHED, borders
+from logins import fatal
+from plain_reader import IDLE, IN_RESET, IN_START, LONGEST_STATUS, MORE, OK, TAG, Wanted, is_clean, started, status
 from rows import CATALOGUE, ROWS, differs
 from wire import Client, Cut, Refused, message, query, startup
 
@@ -36,18 +38,11 @@ SLOWEST = 5.0
 # at rest: who accepts, the clock, the log
 THREADS = 3
 REST = 0.002
-LONGEST_REPLY, LONGEST_STATUS, LONGEST_FRAME = 65_536, 4_096, 2_147_483_647
-MALFORMED = fatal("08P01", "malformed server message")
-OK, TERMINATE, RESET = GIVEN["ok"], message(b"X"), query("DISCARD ALL")
+TERMINATE, RESET = message(b"X"), query("DISCARD ALL")
 ASKED = [query("SET DateStyle TO 'SQL, DMY'"), query("SHOW DateStyle")]
-IDLE, TAG = message(b"Z", b"I"), message(b"C", b"DISCARD ALL\0")
 SERVER_KEY = (7).to_bytes(4, "big") + (8).to_bytes(4, "big")
 # how a server's part ends, if it doesn't go on
 CLOSED, CUT_OFF, SILENT = "closes the connection", "resets the connection", "falls silent"
-
-
-def status(name, value):
-    return message(b"S", name + b"\0" + value + b"\0")
 
 
 def authentication(number, rest=b""):
@@ -63,7 +58,6 @@ ANSWERS = [message(b"C", b"SET\0") + status(b"DateStyle", b"SQL, DMY") + IDLE, S
 AFTER_RESET = TAG + status(b"DateStyle", b"ISO, MDY") + IDLE
 PARTS = [START, *ANSWERS, AFTER_RESET]
 NAMES = ["start", "first answer", "second answer", "reset"]
-IN_START, IN_RESET = 0, 3
 
 
 # what a server may say at a border that it shouldn't, or that nobody asked for
@@ -104,152 +98,9 @@ STRANGE = {
 }
 
 
-# ---- a plain reader of a server's bytes
-
-def frames_of(data, longest):
-    """The whole messages that it begins with, what is left, and whether that begins with no lawful head."""
-    found, at = [], 0
-    while at + HEAD <= len(data):
-        length = int.from_bytes(data[at + 1:at + HEAD], "big")
-        if not 4 <= length <= longest:
-            return found, data[at:], True
-        if at + 1 + length > len(data):
-            break
-        found.append(data[at:at + 1 + length])
-        at += 1 + length
-    return found, data[at:], False
-
-
-def report_of(frame):
-    """The name and value of a ParameterStatus, or None."""
-    texts = frame[HEAD:].split(b"\0")
-    return tuple(texts[:2]) if len(texts) == 3 and not texts[2] else None
-
-
-# what a dialogue comes to where it isn't at its end: bytes are waited for, or what came doesn't belong there
-MORE, OTHER = "more", "other"
-
-
-def started(data):
-    """What a start comes to: the reports by their names, the server's own refusal, MORE or OTHER."""
-    found, rest, is_faulty = frames_of(data, LONGEST_REPLY)
-    is_in, is_readable, reports = False, True, {}
-    for number, frame in enumerate(found):
-        if frame[:1] == b"E":
-            return frame
-        if frame[:1] == b"N":
-            continue
-        if not is_in:
-            if frame != OK:
-                return OTHER
-            is_in = True
-        elif frame[:1] == b"S":
-            report = report_of(frame)
-            is_readable = is_readable and report is not None
-            reports.update([report] if report else [])
-        elif frame[:1] == b"K":
-            is_readable = is_readable and len(frame) == HEAD + 8
-        else:
-            is_last = frame == IDLE and number == len(found) - 1 and not rest
-            return reports if is_last and is_readable else OTHER
-    return OTHER if is_faulty else MORE
-
-
-def told_by(reports, frame):
-    """Whether a report can be read and is of a parameter that the start reported; its value is kept."""
-    report = report_of(frame) if len(frame) <= HEAD + LONGEST_STATUS else None
-    if report is None or report[0] not in reports:
-        return False
-    reports[report[0]] = report[1]
-    return True
-
-
-def is_clean(data, reports, first):
-    """Whether this answers a reset, after which all reports are the first ones; or MORE."""
-    found, rest, is_faulty = frames_of(data, LONGEST_REPLY)
-    wanted, known = [TAG, IDLE], True
-    for frame in found:
-        if wanted and frame[:1] in b"NS":
-            known = known and (frame[:1] == b"N" or told_by(reports, frame))
-        elif wanted and frame == wanted[0]:
-            del wanted[0]
-        else:
-            return False
-    if is_faulty or rest and not wanted:
-        return False
-    return MORE if wanted else known and reports == first
-
-
-class Relayed:
-    """What goes on to a client of what a server says: each message from its head on, but reports and ReadyForQuery only whole."""
-
-    def __init__(self, data):
-        self.size, self.frames, self.is_part, self.is_faulty = 0, [], False, False
-        while len(data) >= self.size + HEAD and not self.is_faulty:
-            kind, length = data[self.size:self.size + 1], int.from_bytes(data[self.size + 1:self.size + HEAD], "big")
-            frame = data[self.size:self.size + 1 + length]
-            self.is_faulty = not 4 <= length <= LONGEST_FRAME
-            is_whole = len(frame) == 1 + length
-            waits = kind == b"Z" and length == 5 or kind == b"S" and length <= 4 + LONGEST_STATUS
-            if self.is_faulty or waits and not is_whole:
-                break
-            self.size += len(frame)
-            self.is_part = not is_whole
-            self.frames.append(frame)
-            if self.is_part:
-                break
-
-    def is_settled(self, reports, asked):
-        """Whether so many messages were answered by as many ReadyForQuery, the last of them idle, and each report is known."""
-        ends = [frame for frame in self.frames if frame[:1] == b"Z"]
-        known = [told_by(reports, frame) for frame in self.frames if frame[:1] == b"S"]
-        lawful = all(len(frame) == HEAD + 1 and frame[HEAD:] in (b"I", b"T", b"E") for frame in ends)
-        return all(known) and lawful and len(ends) == asked and ends[-1] == IDLE
-
-
-class Wanted:
-    """What a client is to be given whose server says this to the start, to the statements and to the reset: all that it has after each
-    answer, whether it is cut off then, whether its link is kept, and where its key word stands. The server may close the connection after
-    one of them."""
-
-    def __init__(self, said, dies):
-        self.given, self.is_over, self.is_kept, self.key = [], True, False, KEY
-        reports = started(said[IN_START])
-        if not isinstance(reports, dict):
-            self.given = [OK + (reports if isinstance(reports, bytes) else UNREACHED)]
-            return
-        first, data = dict(reports), b""
-        head = OK + b"".join(status(*it) for it in reports.items()) + message(b"K", bytes(8))
-        self.key, welcome = slice(len(head) - 8, len(head)), head + IDLE
-        if dies == IN_START:
-            self.given = [welcome + FAILED]
-            return
-        self.given, is_settled = [welcome], True
-        for number in range(1, IN_RESET):
-            data += said[number]
-            relayed = Relayed(data)
-            refused = b""
-            if relayed.is_faulty:
-                refused = MALFORMED
-            elif dies == number:
-                refused = b"" if relayed.is_part else FAILED
-            self.given.append(welcome + data[:relayed.size] + refused)
-            if relayed.is_faulty or dies == number:
-                return
-            reports = dict(first)
-            is_settled = relayed.is_settled(reports, number) and relayed.size == len(data) and not relayed.is_part and is_settled
-        self.is_over = False
-        self.is_kept = is_settled and is_clean(said[IN_RESET], reports, first) is True
-
-
 # ---- the server
 
 Case = collections.namedtuple("Case", "group name part pieces ends")
-
-
-def connection_reset(it):
-    it.setsockopt(socket.SOL_SOCKET, socket.SO_LINGER, struct.pack("ii", 1, 0))
-    it.close()
 
 
 class Server:
@@ -311,7 +162,7 @@ class Server:
             else:
                 it.sendall(piece)
         if case.ends == CUT_OFF:
-            connection_reset(it)
+            it.setsockopt(socket.SOL_SOCKET, socket.SO_LINGER, struct.pack("ii", 1, 0))
         if case.ends == SILENT:
             it.recv(1)
         return case.ends is None
@@ -355,8 +206,8 @@ def cases_of(number):
     for border in borders(data):
         for kind, frame in STRANGE.items():
             # a question is put in a segment of its own
-            parted = [REST] if frame[:1] == b"R" else []
-            pieces = [data[:border] + frame, *parted, data[border:]] if parted else [data[:border] + frame + data[border:]]
+            asks = frame[:1] == b"R"
+            pieces = [data[:border] + frame, REST, data[border:]] if asks else [data[:border] + frame + data[border:]]
             yield Case(f"{name}: {len(STRANGE)} strange messages at {len(borders(data))} borders", f"{kind} at {border}", number, pieces, None)
 
 

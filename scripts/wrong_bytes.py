@@ -16,10 +16,8 @@ import time
 from concurrent.futures import ThreadPoolExecutor
 
 from cluster import Passes, Place, Pooler, Stub, until
-from cursors import KEY
 from fuzz import Way, is_whole, played, rest_of
-from logins import GIVEN
-from rows import CATALOGUE, ROWS, START, alone, differs, fault_of, refusal, run
+from rows import CATALOGUE, ROWS, alone, differs, fault_of, refusal, run
 
 CONVERSATIONS = [
     "start", "set_show_discard", "bind_values", "temporary_table_and_statement", "names_of_another_session", "suspended_portal", "cursor_with_hold",
