@@ -20,14 +20,16 @@ import sys
 import time
 
 from cluster import HERE, TOP, USERS, Passes, Place, Pooler, Stub, until
-from leases import REFUSALS, borders
+from leases import borders, is_allowed
 from logins import GIVEN
 from rows import CATALOGUE, START, run
 from wire import cancel_request, fields, message, query, startup
 
-SECONDS = 5
-# who waits for a connection that nobody takes, while all growths are refused, waits no longer
+SECONDS = 20
+# a client to whom growths are refused waits no longer
 PATIENCE = 1.0
+# the pooler's query_wait_timeout
+LONGEST_WAIT = 5
 FOR_EVER = 1 << 62
 WAYS = {"one": 1, "four": 4, "all from one on": FOR_EVER}
 # each scenario refuses so many at least, and ends before so many
@@ -64,14 +66,14 @@ class Page:
 class Talker:
     """A client that says one message after the other, and keeps all that it is given."""
 
-    def __init__(self, port):
-        self.got = b""
+    def __init__(self, port, seconds):
+        self.got, self.seconds = b"", seconds
         self.socket = socket.create_connection((HERE, port), SECONDS)
         self.socket.setsockopt(socket.IPPROTO_TCP, socket.TCP_NODELAY, 1)
 
-    def hears(self, enough, seconds=PATIENCE):
+    def hears(self, enough):
         """Reads until it has enough, or all that comes before its connection is closed, or comes in time; whether it has enough."""
-        end = time.monotonic() + seconds
+        end = time.monotonic() + self.seconds
         while not enough(self.got):
             self.socket.settimeout(max(0.001, end - time.monotonic()))
             try:
@@ -101,9 +103,9 @@ class Talker:
             answer = md5_answer(user, USERS[user][0], self.got[len(ASKED):])
             self.says(message(b"p", answer), lambda got: len(got) >= len(ASKED) + 4 + len(OK))
 
-    def is_in(self, seconds=PATIENCE):
+    def is_in(self):
         """Whether it has a link, or the console."""
-        return self.hears(self.is_ready(1), seconds)
+        return self.hears(self.is_ready(1))
 
     def talks(self, said, first=1):
         for number, data in enumerate(said, first):
@@ -126,26 +128,20 @@ def frames_of(data):
     return [data[start:end] for start, end in zip(ends, ends[1:])]
 
 
+def plain_frame(frame):
+    """A message without what differs from client to client: key words and salts. Of a RELOAD that found no memory as if it had."""
+    if frame[:1] == b"K":
+        return frame[:5] + bytes(len(frame[5:]))
+    if frame[:len(ASKED)] == ASKED:
+        return ASKED + bytes(len(frame) - len(ASKED))
+    if frame[:1] == b"E" and fields(frame[5:]).get("C") == "22023":
+        return message(b"C", b"RELOAD\0")
+    return frame
+
+
 def plain(data):
-    """An answer without what differs from client to client: key words and salts. Of a RELOAD that found no memory as if it had."""
-    frames, rest = frames_of(data), data[borders(data)[-1]:]
-    for number, frame in enumerate([*frames, rest]):
-        if frame[:1] == b"K":
-            frame = frame[:5] + bytes(len(frame[5:]))
-        if frame[:9] == ASKED:
-            frame = frame[:9] + bytes(len(frame[9:]))
-        if frame[:1] == b"E" and fields(frame[5:]).get("C") == "22023":
-            frame = message(b"C", b"RELOAD\0")
-        if number < len(frames):
-            frames[number] = frame
-        else:
-            rest = frame
-    return b"".join(frames) + rest
-
-
-def is_allowed(whole, given):
-    """Whether it is a front of the whole answer, or some messages of it and one refusal."""
-    return whole.startswith(given) or any(given == whole[:end] + refusal for end in borders(whole) for refusal in REFUSALS)
+    ends = [*borders(data), len(data)]
+    return b"".join(plain_frame(data[start:end]) for start, end in zip(ends, ends[1:]))
 
 
 class Growths:
@@ -156,7 +152,7 @@ class Growths:
         self.pages = {name: Page(self.place, name) for name in ("serve", "stub")}
         words = {name: self.preloaded(program, library, name) for name in self.pages}
         self.stub = Stub(self.place, words["stub"], pathlib.Path(CATALOGUE).read_bytes())
-        self.pooler = Pooler(self.place, self.stub, words["serve"], size=1, clients=2, links=1, wait=SECONDS, auth=auth)
+        self.pooler = Pooler(self.place, self.stub, words["serve"], size=1, clients=2, links=1, wait=LONGEST_WAIT, auth=auth)
         self.exact = exact if auth == "trust" else ASKED + bytes(4) + exact
         self.fault_of_pair()
         self.files = self.files_now()
@@ -222,8 +218,8 @@ class Growths:
             one.talks(TALK)
         return one.leaves()
 
-    def talker(self):
-        return Talker(self.pooler.port)
+    def talker(self, seconds=PATIENCE):
+        return Talker(self.pooler.port, seconds)
 
     # ---- what is left
 
@@ -232,12 +228,12 @@ class Growths:
 
     def fault_of_pair(self):
         """What is wrong with what two clients are given, as many as may be there, of whom one waits for the other's link."""
-        first, second = self.talker(), self.talker()
+        first, second = self.talker(SECONDS), self.talker(SECONDS)
         first.comes("ann")
-        first.is_in(SECONDS)
+        first.is_in()
         second.comes("ann")
         for one in (first, second):
-            if one.is_in(SECONDS):
+            if one.is_in():
                 one.talks(TALK)
             one.leaves()
         self.is_at_rest()
@@ -304,7 +300,7 @@ class Sweep:
                 refused, fault = self.fault(first, count)
                 if fault:
                     faults.append(f"{way}, {first}: {fault}")
-                if not refused or len(faults) > MOST_TOLD:
+                if not refused or len(faults) == MOST_TOLD:
                     break
             if first <= FEWEST or first == MOST - 1:
                 faults.append(f"{way}: {first - 1} growths were refused")
@@ -340,6 +336,8 @@ def main():
             runs += sweep.runs
             passes.tell(f"{name}: {sweep.runs} runs with {sweep.refused} growths refused, of which {sweep.served} were served all the same "
                         f"({time.monotonic() - start:.0f} s)", f"{faults[:MOST_TOLD]}" if faults else "")
+            if faults:
+                break
     finally:
         for growths in made:
             growths.end()
