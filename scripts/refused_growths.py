@@ -278,7 +278,6 @@ class Sweep:
         if scenario == growths.cancel:
             alone = plain(growths.served("ann"))
             self.whole[0] = [alone, struck(alone)]
-        self.fault(FOR_EVER, 1)
 
     def fault(self, first, count):
         """What is wrong with a run, and how many growths were refused."""
@@ -288,12 +287,16 @@ class Sweep:
         self.refused += refused
         self.served += refused > 0 and all(it in whole for it, whole in zip(given, self.whole))
         for it, whole in zip(given, self.whole):
-            if not any(is_allowed(one, it) for one in whole):
+            # who is told nothing, as one that asks for a cancel, isn't told of a refusal either
+            if not any(is_allowed(one, it) if one else it == one for one in whole):
                 return refused, f"a client is given {it!r}"
         return refused, self.growths.fault_afterwards()
 
     def all(self):
         """The faults."""
+        _, fault = self.fault(FOR_EVER, 1)
+        if fault:
+            return [f"nothing refused: {fault}"]
         faults = []
         for way, count in WAYS.items():
             for first in range(1, MOST):
