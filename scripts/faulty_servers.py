@@ -5,15 +5,16 @@ Usage: faulty_servers.py PROGRAM, at the top of the repository.
 
 A server of this script plays a conversation: its start, its answers to two statements and its answer to the reset. In each case it has one
 fault: at each byte it closes the connection, resets it, falls silent, or says 00 or ff instead; or at each border of its messages it says
-one of 33 faulty or strange ones. Others cut what they say in two at each byte, or say it byte by byte. Pools have one link. What the client
-of a case is given is told by a plain reader of the server's bytes (plain_reader.py): a front of what the server said, and perhaps one
-refusal. Then a second client of the same start key is given exact bytes: over the same connection where the link was to be kept, else over
-a new one. Meanwhile two clients of another server are served. At the end each link that isn't idle is closed, and every client's place is
-free.
+one of 33 faulty or strange ones. Others cut what they say in two at each byte, say it byte by byte, or put long messages into it, by
+chance. Pools have one link. What the client of a case is given is told by a plain reader of the server's bytes (plain_reader.py): a front
+of what the server said, and perhaps one refusal. Then a second client of the same start key is given exact bytes: over the same connection
+where the link was to be kept, else over a new one. Meanwhile two clients of another server are served. At the end each link that isn't idle
+is closed, and every client's place is free.
 """
 import collections
 import os
 import pathlib
+import random
 import signal
 import socket
 import struct
@@ -38,6 +39,10 @@ SLOWEST = 5.0
 # at rest: who accepts, the clock, the log
 THREADS = 3
 REST = 0.002
+# answers with long messages, round the borders of the relay's buffers and of what goes on only whole
+LONG, SEED = 300, 20261127
+VALUES = [1, 100, 4_000, 4_086, 4_087, 4_088, 9_000]
+BODIES = [0, 1, 5, 100, 4_091, 8_180, 8_186, 8_187, 8_188, 8_192, 9_000, 16_384, 70_000]
 TERMINATE, RESET = message(b"X"), query("DISCARD ALL")
 ASKED = [query("SET DateStyle TO 'SQL, DMY'"), query("SHOW DateStyle")]
 SERVER_KEY = (7).to_bytes(4, "big") + (8).to_bytes(4, "big")
@@ -211,6 +216,26 @@ def cases_of(number):
             yield Case(f"{name}: {len(STRANGE)} strange messages at {len(borders(data))} borders", f"{kind} at {border}", number, [data[:border] + frame + rest], None)
 
 
+def long_cases():
+    """Answers with long messages among the others, by chance: cut in some places, and whole, with a byte of chance, or at their end early."""
+    chance = random.Random(SEED)
+    for number in range(LONG):
+        part = chance.randrange(IN_START + 1, IN_RESET)
+        border = chance.choice(borders(PARTS[part])[:-1])
+        more = [status(b"TimeZone", b"v" * chance.choice(VALUES)) for _ in range(chance.randrange(2))]
+        more += [message(chance.choice([b"D", b"N", b"A"]), chance.randbytes(chance.choice(BODIES))) for _ in range(chance.choice([1, 3, 8]))]
+        chance.shuffle(more)
+        data = PARTS[part][:border] + b"".join(more) + PARTS[part][border:]
+        at, way = chance.randrange(len(data)), chance.choice(["whole", "a byte of chance", CLOSED])
+        if way == CLOSED:
+            data = data[:at]
+        elif way != "whole":
+            data = data[:at] + chance.randbytes(1) + data[at + 1:]
+        cuts = sorted(chance.randrange(len(data) + 1) for _ in range(chance.choice([0, 1, 3, 8])))
+        pieces = [piece for start, end in zip([0, *cuts], [*cuts, len(data)]) for piece in (data[start:end], REST)]
+        yield Case(f"{LONG} answers with long messages", f"number {number}, {way} {at}", part, pieces, CLOSED if way == CLOSED else None)
+
+
 def silent_cases():
     """Those of starts and resets that are given up only after a minute."""
     for number in (IN_START, IN_RESET):
@@ -367,7 +392,7 @@ class Show:
         began = time.monotonic()
         with ThreadPoolExecutor(len(silent)) as pool:
             waiting = [pool.submit(self.given_up, case, f"silent{number}") for number, case in enumerate(silent)]
-            self.sweep(case for number in range(len(PARTS)) for case in cases_of(number))
+            self.sweep(case for cases in (*map(cases_of, range(len(PARTS))), long_cases()) for case in cases)
             print(f"       swept in {time.monotonic() - began:.0f} s")
             times = [it.result() for it in waiting]
         for group, faults in self.groups.items():
