@@ -4,6 +4,7 @@ import hashlib
 import os
 import pathlib
 import pwd
+import re
 import shutil
 import signal
 import socket
@@ -204,6 +205,10 @@ server_connect_timeout = 15
 """
 
 
+# what the log says at the end
+TOTALS = r"shut down: \d+ decisions, \d+ starts; (\d+) arrived, (\d+) granted, (\d+) given back, (\d+) lost, (\d+) left"
+
+
 class Pooler:
     """A pooler in front of the server, with the settings of examples/pgsess.ini but for those that are named. `more` has further
     databases, each with its port."""
@@ -259,6 +264,22 @@ class Pooler:
         """Its processor time so far, in seconds."""
         parts = pathlib.Path(f"/proc/{self.process.pid}/stat").read_text().rsplit(")", 1)[1].split()
         return (int(parts[11]) + int(parts[12])) / os.sysconf("SC_CLK_TCK")
+
+    def shut(self):
+        """Ends it by its console: what is wrong with how it ends, by its status and by what its log says that it counted."""
+        console = Client(self.port, "root", "pgbouncer", USERS["root"][0])
+        console.ask("SHUTDOWN")
+        console.leave()
+        try:
+            status = self.process.wait(SECONDS)
+        except subprocess.TimeoutExpired:
+            return "it doesn't end"
+        log = (self.place.folder / "pgsess.err").read_text()
+        told = re.search(TOTALS, log)
+        if status or not told:
+            return f"status {status}, {log[-200:]!r}"
+        arrived, granted, given_back, lost, left = map(int, told.groups())
+        return "" if (arrived, granted) == (left, given_back + lost) else f"{told[0]!r}"
 
     def stop(self):
         if self.runs():

@@ -440,7 +440,7 @@ class Show:
         self.passes.same(f"as many as may be there, {clients}, find a place, and no more", refused, "53300")
         for client in all_of_them:
             client.leave()
-        self.passes.holds("the pooler still runs", self.pooler.runs())
+        self.passes.tell("the pooler ends by SHUTDOWN: who arrived left, and each link that was lent came back or was lost", self.pooler.shut())
         self.pooler.stop()
 
 

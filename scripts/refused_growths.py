@@ -341,6 +341,8 @@ def main():
                         f"({time.monotonic() - start:.0f} s)", f"{faults[:MOST_TOLD]}" if faults else "")
             if faults:
                 break
+        else:
+            passes.same("the poolers end by SHUTDOWN: who arrived left, and each link that was lent came back or was lost", [it.pooler.shut() for it in made], ["", ""])
     finally:
         for growths in made:
             growths.end()
