@@ -23,13 +23,13 @@ import threading
 import time
 from concurrent.futures import ThreadPoolExecutor
 
-from cluster import HERE, Passes, Place, Pooler, Stub, until
+from cluster import HERE, USERS, Passes, Place, Pooler, Stub, until
 from cursors import KEY
 from leases import UNREACHED, borders
 from logins import fatal
 from plain_reader import IDLE, IN_RESET, IN_START, LONGEST_STATUS, MORE, OK, TAG, Wanted, is_clean, started, status
 from rows import CATALOGUE, ROWS, differs
-from wire import Client, Cut, Refused, message, query, startup
+from wire import Client, Cut, Refused, md5_answer, message, query, startup
 
 SECONDS = 20
 LANES = 6
@@ -54,6 +54,8 @@ def authentication(number, rest=b""):
     return message(b"R", number.to_bytes(4, "big") + rest)
 
 
+# before the start
+QUESTION, ASKS_PASSWORD, ASKS_DIGEST = -1, authentication(3), authentication(5, b"salt")
 # what a server says to a start, to each of two statements, and to the reset (PostgreSQL manual, "Message Formats")
 WELCOME = (ROWS / "start.out").read_bytes()
 START = WELCOME[:KEY.start] + SERVER_KEY + WELCOME[KEY.stop:]
@@ -145,6 +147,8 @@ class Server:
         with self.lock:
             self.counts[name] += 1
             case = self.cases.pop(name, None)
+        if case and case.part == QUESTION and not self.is_answered(it, case):
+            return
         wanted = [*ASKED, RESET]
         number = IN_START
         while self.say(it, number, case):
@@ -156,6 +160,18 @@ class Server:
                 self.faults.append(said)
                 return
             number = 1 + wanted.index(said)
+
+    def is_answered(self, it, case):
+        """Asks for ann's password, or for its digest; whether it is given."""
+        if not self.say(it, QUESTION, case):
+            return False
+        asked, (password, _) = text_of(case), USERS["ann"]
+        answer = password if asked == ASKS_PASSWORD else md5_answer("ann", password, asked[-4:])
+        said = packet(it, 1)
+        if said != message(b"p", answer.encode() + b"\0"):
+            self.faults.append(said)
+            return False
+        return True
 
     def say(self, it, number, case):
         """Says a part of the conversation; whether it goes on then."""
@@ -216,6 +232,23 @@ def cases_of(number):
             yield Case(f"{name}: {len(STRANGE)} strange messages at {len(borders(data))} borders", f"{kind} at {border}", number, [data[:border] + frame + rest], None)
 
 
+def question_cases():
+    """A start that begins with a question: at each byte the server closes the connection, says 00 or ff, or rests."""
+    for name, data in (("for a password", ASKS_PASSWORD), ("for its digest", ASKS_DIGEST)):
+        group = f"a question {name}: closed, wrong or cut at each byte"
+        for at in range(len(data)):
+            yield Case(group, f"closed after {at}", QUESTION, [data[:at]], CLOSED)
+            yield Case(group, f"cut after {at}", QUESTION, [data[:at], REST, data[at:]], None)
+            for byte in (b"\0", b"\xff"):
+                wrong = data[:at] + byte + data[at + 1:]
+                yield Case(group, f"byte {at} as {byte.hex()}", QUESTION, [wrong], None if is_question(wrong) else CLOSED)
+        yield Case(group, "closed behind it", QUESTION, [data], CLOSED)
+
+
+def is_question(data):
+    return data == ASKS_PASSWORD or data[:-4] == ASKS_DIGEST[:-4]
+
+
 def long_cases():
     """Answers with long messages among the others, by chance: cut in some places, and whole, with a byte of chance, or at their end early."""
     chance = random.Random(SEED)
@@ -244,10 +277,18 @@ def silent_cases():
             yield Case(f"{NAMES[number]}: {SILENT} after 0 to {len(data) - 1} bytes", f"{size} bytes", number, [data[:size]], SILENT)
 
 
+def text_of(case):
+    """What is said in it."""
+    return b"".join(piece for piece in case.pieces if isinstance(piece, bytes))
+
+
 def said_in(case):
-    """The parts of the conversation as they are said in this case."""
+    """The parts of the conversation as they are said in this case. A question that isn't one is followed by nothing."""
     said = [*PARTS]
-    said[case.part] = b"".join(piece for piece in case.pieces if isinstance(piece, bytes))
+    if case.part != QUESTION:
+        said[case.part] = text_of(case)
+    elif case.ends:
+        said[IN_START] = b""
     return said
 
 
@@ -392,7 +433,7 @@ class Show:
         began = time.monotonic()
         with ThreadPoolExecutor(len(silent)) as pool:
             waiting = [pool.submit(self.given_up, case, f"silent{number}") for number, case in enumerate(silent)]
-            self.sweep(case for cases in (*map(cases_of, range(len(PARTS))), long_cases()) for case in cases)
+            self.sweep(case for cases in (question_cases(), *map(cases_of, range(len(PARTS))), long_cases()) for case in cases)
             print(f"       swept in {time.monotonic() - began:.0f} s")
             times = [it.result() for it in waiting]
         for group, faults in self.groups.items():

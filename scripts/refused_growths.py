@@ -10,7 +10,6 @@ be cancelled. Each is given a front of what it is given otherwise, and perhaps o
 many as may be there, share the one link there may be: each is given exact bytes, and no file is left open.
 """
 import ctypes
-import hashlib
 import mmap
 import os
 import pathlib
@@ -23,7 +22,7 @@ from cluster import HERE, TOP, USERS, Passes, Place, Pooler, Stub, until
 from leases import borders, is_allowed
 from logins import GIVEN
 from rows import CATALOGUE, START, run
-from wire import cancel_request, fields, message, query, startup
+from wire import cancel_request, fields, md5_answer, message, query, startup
 
 SECONDS = 20
 # a client to whom growths are refused waits no longer
@@ -101,7 +100,7 @@ class Talker:
         self.says(startup(user, database), lambda got: len(got) >= len(OK))
         if self.got[:len(ASKED)] == ASKED and self.hears(lambda got: len(got) >= len(ASKED) + 4):
             answer = md5_answer(user, USERS[user][0], self.got[len(ASKED):])
-            self.says(message(b"p", answer), lambda got: len(got) >= len(ASKED) + 4 + len(OK))
+            self.says(message(b"p", answer.encode() + b"\0"), lambda got: len(got) >= len(ASKED) + 4 + len(OK))
 
     def is_in(self):
         """Whether it has a link, or the console."""
@@ -116,11 +115,6 @@ class Talker:
         self.says(TERMINATE, lambda _: False)
         self.socket.close()
         return self.got
-
-
-def md5_answer(user, password, salt):
-    inner = hashlib.md5((password + user).encode()).hexdigest()
-    return b"md5" + hashlib.md5(inner.encode() + salt).hexdigest().encode() + b"\0"
 
 
 def frames_of(data):
