@@ -26,7 +26,7 @@ from wire import cancel_request, fields, md5_answer, message, query, startup
 
 SECONDS = 20
 # a client to whom growths are refused waits no longer
-PATIENCE = 1.0
+PATIENCE = 5
 # the pooler's query_wait_timeout
 LONGEST_WAIT = 5
 FOR_EVER = 1 << 62
@@ -165,13 +165,13 @@ class Growths:
 
     def two_users(self, refuse):
         """The link of one takes the place of the other's."""
-        self.served("bc")
+        self.served("bc", SECONDS)
         refuse()
         return [self.served("ann")]
 
     def one_waits(self, refuse):
         """While another has the link."""
-        first, second = self.talker(), self.talker()
+        first, second = self.talker(SECONDS), self.talker()
         first.comes("ann")
         first.is_in()
         refuse()
@@ -192,7 +192,7 @@ class Growths:
 
     def cancel(self, refuse):
         """It comes between two statements, and strikes the second or none."""
-        one = self.talker()
+        one = self.talker(SECONDS)
         one.comes("ann")
         one.is_in()
         one.talks(TALK[:3])
@@ -204,9 +204,9 @@ class Growths:
         one.talks(TALK[3:], first=4)
         return [one.leaves(), asking.got]
 
-    def served(self, user):
+    def served(self, user, seconds=PATIENCE):
         """What a client is given that says all of its statements, if it gets a link."""
-        one = self.talker()
+        one = self.talker(seconds)
         one.comes(user)
         if one.is_in():
             one.talks(TALK)
@@ -270,7 +270,7 @@ class Sweep:
         self.refused = self.runs = self.served = 0
         self.whole = [[plain(given)] for given in scenario(lambda: None)]
         if scenario == growths.cancel:
-            alone = plain(growths.served("ann"))
+            alone = plain(growths.served("ann", SECONDS))
             self.whole[0] = [alone, struck(alone)]
 
     def fault(self, first, count):
