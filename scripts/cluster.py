@@ -4,6 +4,7 @@ import hashlib
 import os
 import pathlib
 import pwd
+import re
 import shutil
 import signal
 import socket
@@ -204,10 +205,15 @@ server_connect_timeout = 15
 """
 
 
-class Pooler:
-    """A pooler in front of the server, with the settings of examples/pgsess.ini but for those that are named."""
+# what the log says at the end
+TOTALS = r"shut down: \d+ decisions, \d+ starts; (\d+) arrived, (\d+) granted, (\d+) given back, (\d+) lost, (\d+) left"
 
-    def __init__(self, place, cluster, program, kind="pgsess", auth="trust", size=20, clients=100, wait=120, closed=1):
+
+class Pooler:
+    """A pooler in front of the server, with the settings of examples/pgsess.ini but for those that are named. `more` has further
+    databases, each with its port."""
+
+    def __init__(self, place, cluster, program, kind="pgsess", auth="trust", size=20, clients=100, wait=120, closed=1, links=1000, more=None):
         self.place, self.port, self.kind = place, free_port(), kind
         users = place.write("users.txt", "".join(f'"{name}" "{secret}"\n' for name, (_, secret) in USERS.items()))
         self.errors = open(place.folder / f"{kind}.err", "ab")
@@ -218,12 +224,14 @@ class Pooler:
             if not until(lambda: is_open(self.port), 5):
                 sys.exit(f"pgbouncer doesn't answer: {(place.folder / 'pgbouncer.err').read_text()!r}")
             return
+        rows = {"shop": (cluster.port, "shop"), "closed": (closed, "shop"), **{name: (port, name) for name, port in (more or {}).items()}}
         changes = {
-            r"^shop = .*": rf"shop = host={HERE} port={cluster.port} dbname=shop\nclosed = host={HERE} port={closed} dbname=shop",
+            r"^shop = .*": r"\n".join(f"{name} = host={HERE} port={port} dbname={dbname}" for name, (port, dbname) in rows.items()),
             "^listen_port = .*": f"listen_port = {self.port}",
             "^auth_type = .*": f"auth_type = {auth}",
             "^max_client_conn = .*": f"max_client_conn = {clients}",
             "^default_pool_size = .*": f"default_pool_size = {size}",
+            "^max_links = .*": f"max_links = {links}",
             "^query_wait_timeout = .*": f"query_wait_timeout = {wait}",
         }
         words = [part for old, new in changes.items() for part in ("-e", f"s/{old}/{new}/")]
@@ -256,6 +264,22 @@ class Pooler:
         """Its processor time so far, in seconds."""
         parts = pathlib.Path(f"/proc/{self.process.pid}/stat").read_text().rsplit(")", 1)[1].split()
         return (int(parts[11]) + int(parts[12])) / os.sysconf("SC_CLK_TCK")
+
+    def shut(self):
+        """Ends it by its console: what is wrong with how it ends, by its status and by what its log says that it counted."""
+        console = Client(self.port, "root", "pgbouncer", USERS["root"][0])
+        console.ask("SHUTDOWN")
+        console.leave()
+        try:
+            status = self.process.wait(SECONDS)
+        except subprocess.TimeoutExpired:
+            return "it doesn't end"
+        log = (self.place.folder / "pgsess.err").read_text()
+        told = re.search(TOTALS, log)
+        if status or not told:
+            return f"status {status}, {log[-200:]!r}"
+        arrived, granted, given_back, lost, left = map(int, told.groups())
+        return "" if (arrived, granted) == (left, given_back + lost) else f"{told[0]!r}"
 
     def stop(self):
         if self.runs():

@@ -1,13 +1,13 @@
 #!/usr/bin/env python3
 """Plays conversations by chance through `pgsess serve` with `pgsess stub` behind it, several clients at a time over two links.
 
-Usage: fuzz.py PROGRAM [SEED [COUNT]], at the top of the repository: those of so many seeds, from SEED on.
+Usage: fuzz.py PROGRAM TRIALS [SEED [COUNT]], at the top of the repository: those of so many seeds, from SEED on.
 
-Each client sends its conversation (talks.py) in pieces, with and without rests between them, and is given what `replay` answers to the
-same bytes, which is what a server started for it alone answers; but for its key word. A client that leaves, or sends what is no message,
-before it was answered is given a beginning of that, up to the end of a message, and the refusal if it is refused; and one that is cut
-off before it has read all any beginning. Where one fails, its seed is told, and what is left of its conversation once each message is
-dropped without which it still fails alone.
+Each client sends its conversation (talks.py) in pieces, with and without rests between them. Some are garbled: bytes of a message are
+others or missing, or garbage stands between two. Each is given what a session alone answers to the same bytes (`trials solo`), but for its
+key word. A client that leaves, or sends what is no message, before it was answered is given a beginning of that, up to the end of a
+message, and the refusal if it is refused; and one that is cut off before it has read all any beginning. Where one fails, its seed is told,
+and what is left of its conversation once each message is dropped without which it still fails alone.
 """
 import os
 import pathlib
@@ -23,11 +23,13 @@ import frames
 from cluster import HERE, Place, Pooler, Stub, until
 from conversations import without
 from cursors import KEY
-from rows import CATALOGUE, START, differs, fault_of, refusal, run
-from talks import TERMINATE, Talk
+from rows import CATALOGUE, START, alone, differs, refusal
+from talks import TERMINATE, Said, Talk
 from wire import Client
 
-SEED, COUNT = 1, 500
+SEED, COUNT = 1, 1_000
+# so many of them are garbled
+GARBLED = 0.3
 CLIENTS, LINKS = 8, 2
 # a client waits for others, but nobody for an event that the system has told already
 SECONDS = 8
@@ -80,9 +82,8 @@ def fault_of_front(got, wanted, refused, is_cut):
     return "" if is_cut and answer.startswith(got) else differs(got, wanted)
 
 
-def played(port, data, wanted, way, is_whole):
-    """What is wrong with what a client is given that says this behind its StartupMessage, or nothing."""
-    sent, refused = START + data, refusal(data)
+def played(port, sent, wanted, refused, way, is_whole):
+    """What is wrong with what a client is given that sends this, or nothing; `wanted` ends with what it is refused by, if it is."""
     try:
         with socket.create_connection((HERE, port), SECONDS) as it:
             it.setsockopt(socket.IPPROTO_TCP, socket.TCP_NODELAY, 1)
@@ -106,9 +107,33 @@ def played(port, data, wanted, way, is_whole):
         return ""
 
 
-def is_whole(talk):
+def garbled(said, chance):
+    """Some messages, of which some are garbled."""
+    made = [it.data for it in said]
+    for _ in range(chance.choice([1, 1, 2, 5])):
+        number = chance.randrange(len(made))
+        data, at = made[number], chance.randrange(max(1, len(made[number])))
+        made[number:number + 1] = chance.choice([
+            [data[:at] + chance.randbytes(1) + data[at + 1:]],
+            [data[:at] + bytes([data[at] ^ 1 << chance.randrange(8)]) + data[at + 1:]] if data else [data],
+            [data[:at] + data[at + 1:]],
+            [data[:at] + chance.randbytes(chance.choice([1, 4])) + data[at:]],
+            [data, chance.randbytes(chance.choice([1, 5, 40]))],
+            [data, data],
+        ])
+    return [Said(data, None) for data in made]
+
+
+def talk_of(seed):
+    """The conversation of a seed."""
+    talk, chance = Talk(seed), random.Random(f"garbled {seed}")
+    if chance.random() < GARBLED:
+        talk.said = garbled(talk.said, chance)
+    return talk
+
+
+def is_whole(data):
     """Whether its last message is, and none is a Terminate or a fault."""
-    data = b"".join(it.data for it in talk.said)
     while len(data) >= 5:
         length = int.from_bytes(data[1:5], "big")
         if data[:1] not in b"QPBEDCSHFpdcf" or not 4 <= length < 1 << 31 or length + 1 > len(data):
@@ -118,17 +143,18 @@ def is_whole(talk):
 
 
 class Fuzz:
-    def __init__(self, program, port):
-        self.program, self.port = program, port
+    def __init__(self, trials, port):
+        self.trials, self.port = trials, port
         self.lock, self.done, self.longest = threading.Lock(), 0, 0.0
 
     def fault(self, seed, talk):
         data = b"".join(it.data for it in talk.said)
-        answer = run([self.program, "replay"], START + data)
-        if fault := fault_of(answer):
-            return f"replay: {fault}"
+        wanted, fault = alone(self.trials, data)
+        if fault:
+            return fault
         began = time.monotonic()
-        fault = played(self.port, data, answer.stdout, Way(seed, len(START + data)), is_whole(talk))
+        sent = START + data
+        fault = played(self.port, sent, wanted, refusal(data), Way(seed, len(sent)), is_whole(data))
         with self.lock:
             self.done += 1
             self.longest = max(self.longest, time.monotonic() - began)
@@ -139,7 +165,8 @@ class Fuzz:
 
     def tell(self, seed, fault):
         print(f"FAILED seed {seed}: {fault}", flush=True)
-        talk, count = Talk(seed), len(Talk(seed).said)
+        talk = talk_of(seed)
+        size = count = len(talk.said)
         while count and self.fails_alone(seed, talk):
             at = 0
             while at < len(talk.said):
@@ -150,7 +177,7 @@ class Fuzz:
                     at += count
             count //= 2
         data = START + b"".join(it.data for it in talk.said)
-        print(f"{len(talk.said)} of its {len(Talk(seed).said)} messages: {self.fails_alone(seed, talk) or 'they pass alone'}\n{data.hex()}", flush=True)
+        print(f"{len(talk.said)} of its {size} messages: {self.fails_alone(seed, talk) or 'they pass alone'}\n{data.hex()}", flush=True)
         frames.show("client", data)
 
 
@@ -167,25 +194,26 @@ def rest_of(port):
 
 
 def main():
-    if not 2 <= len(sys.argv) <= 4:
+    if not 3 <= len(sys.argv) <= 5:
         sys.exit(__doc__)
-    program = str(pathlib.Path(sys.argv[1]).resolve())
-    seed, count = [*map(int, sys.argv[2:]), *[SEED, COUNT][len(sys.argv) - 2:]]
+    program, trials = (str(pathlib.Path(word).resolve()) for word in sys.argv[1:3])
+    seed, count = [*map(int, sys.argv[3:]), *[SEED, COUNT][len(sys.argv) - 3:]]
     place, pooler, failed, left = Place("nobody"), None, [], ""
     try:
         stub = Stub(place, program, pathlib.Path(CATALOGUE).read_bytes())
         pooler = Pooler(place, stub, program, size=LINKS)
-        fuzz, began = Fuzz(program, pooler.port), time.monotonic()
+        fuzz, began = Fuzz(trials, pooler.port), time.monotonic()
         with ThreadPoolExecutor(CLIENTS) as pool:
-            found = list(pool.map(lambda it: (it, fuzz.fault(it, Talk(it))), range(seed, seed + count)))
+            found = list(pool.map(lambda it: (it, fuzz.fault(it, talk_of(it))), range(seed, seed + count)))
         failed = [(it, fault) for it, fault in found if fault]
         for it, fault in failed[:MOST_TOLD]:
             fuzz.tell(it, fault)
         left = rest_of(pooler.port)
         if left:
             print(f"FAILED {left}")
-        print(f"fuzz: {count - len(failed)} passed, {len(failed) + bool(left)} failed (seeds {seed} to {seed + count - 1}; the longest took "
-              f"{fuzz.longest:.2f} s; {time.monotonic() - began:.0f} s)")
+        said = [b"".join(part.data for part in talk_of(it).said) for it in range(seed, seed + count)]
+        print(f"fuzz: {count - len(failed)} passed, {len(failed) + bool(left)} failed (seeds {seed} to {seed + count - 1}; {sum(map(bool, map(refusal, said)))} "
+              f"to be refused, {sum(map(is_whole, said))} whole; the longest took {fuzz.longest:.2f} s; {time.monotonic() - began:.0f} s)")
     finally:
         if pooler:
             pooler.stop()

@@ -1,22 +1,46 @@
-/* A preloaded library that refuses one allocation: from the program's main on, the call of malloc, calloc or realloc
-   whose number REFUSE_CALL names answers null. Where REFUSE_STRUCK names a file, it is made when that happens. */
+/* A preloaded library that refuses allocations: from the program's main on, the call of malloc, calloc or realloc
+   whose number REFUSE_CALL names answers null. Where REFUSE_STRUCK names a file, it is made when that happens.
+
+   Where REFUSE_PAGE names a file, its first 32 bytes are shared with whoever writes them while the program runs: four numbers of
+   eight bytes. While the first isn't 0, calls are counted in the third; of these the first-th and so many as the second says are
+   refused, which the fourth counts. */
 #define _GNU_SOURCE
 #include <dlfcn.h>
 #include <fcntl.h>
+#include <stdatomic.h>
 #include <stddef.h>
 #include <stdlib.h>
+#include <sys/mman.h>
 #include <unistd.h>
 
 extern void *__libc_malloc(size_t);
 extern void *__libc_calloc(size_t, size_t);
 extern void *__libc_realloc(void *, size_t);
 
+struct page {
+    _Atomic unsigned long first, count, calls, refused;
+};
+
+static struct page *page;
 static unsigned long refused, calls;
 static const char *struck;
 static int counting;
 static int (*real_main)(int, char **, char **);
 
+static int is_refused_by_page(void) {
+    unsigned long first = page->first;
+    if (!first)
+        return 0;
+    unsigned long call = ++page->calls;
+    if (call < first || call - first >= page->count)
+        return 0;
+    page->refused++;
+    return 1;
+}
+
 static int is_refused(void) {
+    if (page)
+        return is_refused_by_page();
     if (!counting || ++calls != refused)
         return 0;
     if (struck) {
@@ -31,10 +55,21 @@ void *malloc(size_t size) { return is_refused() ? NULL : __libc_malloc(size); }
 void *calloc(size_t count, size_t size) { return is_refused() ? NULL : __libc_calloc(count, size); }
 void *realloc(void *old, size_t size) { return is_refused() ? NULL : __libc_realloc(old, size); }
 
+static void share(const char *name) {
+    int file = name ? open(name, O_RDWR) : -1;
+    if (file < 0)
+        return;
+    void *shared = mmap(NULL, sizeof(struct page), PROT_READ | PROT_WRITE, MAP_SHARED, file, 0);
+    close(file);
+    if (shared != MAP_FAILED)
+        page = shared;
+}
+
 static int counted_main(int argc, char **argv, char **envp) {
     const char *number = getenv("REFUSE_CALL");
     refused = number ? strtoul(number, NULL, 10) : 0;
     struck = getenv("REFUSE_STRUCK");
+    share(getenv("REFUSE_PAGE"));
     unsetenv("REFUSE_CALL");
     counting = 1;
     int status = real_main(argc, argv, envp);

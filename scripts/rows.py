@@ -16,6 +16,8 @@ ROWS = pathlib.Path("tests/rows")
 CATALOGUE = str(ROWS / "catalogue.tsv")
 LONGEST_CUT = 200
 LONGEST_FRAME = 2_147_483_647
+# no conversation has a frame of this number
+NEVER = (1 << 64) - 1
 SECONDS = 60
 TERMINATE = ord("X")
 START = (ROWS / "start.in").read_bytes()
@@ -90,6 +92,14 @@ def refusal(data):
             return told
         data = b"" if kind == TERMINATE else data[1 + length:]
     return b""
+
+
+def alone(trials, data):
+    """What a client is given by a session alone that says this behind the plain login of ann; and what is wrong with the run."""
+    answer = run([trials, "solo", CATALOGUE, "ann", str(NEVER)], data)
+    if fault := fault_of(answer):
+        return b"", f"trials: {fault}"
+    return GIVEN["ok"] + bytes.fromhex(answer.stdout.decode()) + refusal(data), ""
 
 
 def beside_solo(trials, given, answers):

@@ -28,6 +28,12 @@ def cancel_request(key):
     return (16).to_bytes(4, "big") + CANCEL_REQUEST.to_bytes(4, "big") + key
 
 
+def md5_answer(user, password, salt):
+    """The text that answers a question for the MD5 digest of a password."""
+    inner = hashlib.md5((password + user).encode()).hexdigest()
+    return "md5" + hashlib.md5(inner.encode() + salt).hexdigest()
+
+
 def fields(body):
     """The fields of an ErrorResponse or a NoticeResponse."""
     return {part[:1].decode(): part[1:].decode() for part in body.split(b"\0") if part}
@@ -104,8 +110,7 @@ class Client:
             if asked == ASKS_CLEARTEXT:
                 answer = password
             else:
-                inner = hashlib.md5((password + user).encode()).hexdigest()
-                answer = "md5" + hashlib.md5(inner.encode() + body[4:8]).hexdigest()
+                answer = md5_answer(user, password, body[4:8])
             self.send(message(b"p", answer.encode() + b"\0"))
         self.until(b"Z")
 

@@ -1,0 +1,349 @@
+#!/usr/bin/env python3
+"""Refuses growths to `pgsess serve` and to `pgsess stub` while they run: each one in turn, in one process.
+
+Usage: refused_growths.py PROGRAM, at the top of the repository; it needs gcc.
+
+A preloaded library (scripts/refuse_growth.c) counts the calls of malloc, calloc and realloc of a scenario, and refuses the Nth, the Nth and
+three more, or all from the Nth on: for N from 1 on until none is left to refuse. A scenario is a few clients: one alone; one whose link
+takes the place of another user's; one that waits for a link; one that logs in by MD5; one of the console; and a client whose statement is to
+be cancelled. Each is given a front of what it is given otherwise, and perhaps one refusal. Then growths are had again, and two clients, as
+many as may be there, share the one link there may be: each is given exact bytes, and no file is left open.
+"""
+import ctypes
+import mmap
+import os
+import pathlib
+import signal
+import socket
+import sys
+import time
+
+from cluster import HERE, TOP, USERS, Passes, Place, Pooler, Stub, until
+from leases import borders, is_allowed
+from logins import GIVEN
+from rows import CATALOGUE, START, run
+from wire import cancel_request, fields, md5_answer, message, query, startup
+
+SECONDS = 20
+# a client to whom growths are refused waits no longer
+PATIENCE = 5
+# the pooler's query_wait_timeout
+LONGEST_WAIT = 5
+FOR_EVER = 1 << 62
+WAYS = {"one": 1, "four": 4, "all from one on": FOR_EVER}
+# each scenario refuses so many at least, and ends before so many
+FEWEST, MOST, MOST_TOLD = 5, 2_000, 3
+TERMINATE, OK = message(b"X"), GIVEN["ok"]
+# the question for the MD5 answer, whose salt stands behind it
+ASKED = GIVEN["md5"][:9]
+TALK = [query("SHOW application_name"), query("CREATE TEMP TABLE t (a text)"), query("SET application_name TO 'x'"), query("SELECT name FROM city")]
+CONSOLE = [query(text) for text in ("SHOW CONFIG", "SHOW POOLS", "RELOAD", "SHOW DATABASES")]
+THREADS = 3
+
+
+class Page:
+    """What the preloaded library shares."""
+
+    def __init__(self, place, name):
+        self.file = place.write(name, bytes(mmap.PAGESIZE))
+        self.file.chmod(0o666)
+        with open(self.file, "r+b") as file:
+            self.memory = mmap.mmap(file.fileno(), 32)
+        self.words = (ctypes.c_uint64 * 4).from_buffer(self.memory)
+
+    def refuse(self, first, count):
+        """From now on."""
+        self.words[1:4] = [count, 0, 0]
+        self.words[0] = first
+
+    def end(self):
+        """How many were refused."""
+        self.words[0] = 0
+        return self.words[3]
+
+
+class Talker:
+    """A client that says one message after the other, and keeps all that it is given."""
+
+    def __init__(self, port, seconds):
+        self.got, self.seconds = b"", seconds
+        self.socket = socket.create_connection((HERE, port), SECONDS)
+        self.socket.setsockopt(socket.IPPROTO_TCP, socket.TCP_NODELAY, 1)
+
+    def hears(self, enough):
+        """Reads until it has enough, or all that comes before its connection is closed, or comes in time; whether it has enough."""
+        end = time.monotonic() + self.seconds
+        while not enough(self.got):
+            self.socket.settimeout(max(0.001, end - time.monotonic()))
+            try:
+                piece = self.socket.recv(65536)
+            except OSError:
+                piece = b""
+            if not piece:
+                return False
+            self.got += piece
+        return True
+
+    def says(self, data, enough):
+        try:
+            self.socket.sendall(data)
+        except OSError:
+            pass
+        return self.hears(enough)
+
+    def is_ready(self, times):
+        """Whether it was told so often that the server is ready."""
+        return lambda got: sum(frame[:6] == b"Z\0\0\0\5I" for frame in frames_of(got)) >= times
+
+    def comes(self, user, database="shop"):
+        """Logs in, by MD5 where it is asked to."""
+        self.says(startup(user, database), lambda got: len(got) >= len(OK))
+        if self.got[:len(ASKED)] == ASKED and self.hears(lambda got: len(got) >= len(ASKED) + 4):
+            answer = md5_answer(user, USERS[user][0], self.got[len(ASKED):])
+            self.says(message(b"p", answer.encode() + b"\0"), lambda got: len(got) >= len(ASKED) + 4 + len(OK))
+
+    def is_in(self):
+        """Whether it has a link, or the console."""
+        return self.hears(self.is_ready(1))
+
+    def talks(self, said, first=1):
+        for number, data in enumerate(said, first):
+            if not self.says(data, self.is_ready(number + 1)):
+                return
+
+    def leaves(self):
+        self.says(TERMINATE, lambda _: False)
+        self.socket.close()
+        return self.got
+
+
+def frames_of(data):
+    ends = borders(data)
+    return [data[start:end] for start, end in zip(ends, ends[1:])]
+
+
+def plain_frame(frame):
+    """A message without what differs from client to client: key words and salts. Of a RELOAD that found no memory as if it had."""
+    if frame[:1] == b"K":
+        return frame[:5] + bytes(len(frame[5:]))
+    if frame[:len(ASKED)] == ASKED:
+        return ASKED + bytes(len(frame) - len(ASKED))
+    if frame[:1] == b"E" and fields(frame[5:]).get("C") == "22023":
+        return message(b"C", b"RELOAD\0")
+    return frame
+
+
+def plain(data):
+    ends = [*borders(data), len(data)]
+    return b"".join(plain_frame(data[start:end]) for start, end in zip(ends, ends[1:]))
+
+
+class Growths:
+    """A pooler and a stand-in server behind it, to which growths are refused; there may be one link, and two clients."""
+
+    def __init__(self, program, library, auth, exact):
+        self.place = Place("nobody")
+        self.pages = {name: Page(self.place, name) for name in ("serve", "stub")}
+        words = {name: self.preloaded(program, library, name) for name in self.pages}
+        self.stub = Stub(self.place, words["stub"], pathlib.Path(CATALOGUE).read_bytes())
+        self.pooler = Pooler(self.place, self.stub, words["serve"], size=1, clients=2, links=1, wait=LONGEST_WAIT, auth=auth)
+        self.exact = exact if auth == "trust" else ASKED + bytes(4) + exact
+        self.fault_of_pair()
+        self.files = self.files_now()
+
+    def preloaded(self, program, library, name):
+        """A program of this one that runs with the library and this page."""
+        script = self.place.write(f"{name}.sh", f"#!/bin/sh\nLD_PRELOAD={library} REFUSE_PAGE={self.pages[name].file} exec {program} \"$@\"\n")
+        script.chmod(0o755)
+        return script
+
+    # ---- scenarios: what each of their clients is given, once `refuse` is called
+
+    def one_client(self, refuse):
+        refuse()
+        return [self.served("ann")]
+
+    def two_users(self, refuse):
+        """The link of one takes the place of the other's."""
+        self.served("bc", SECONDS)
+        refuse()
+        return [self.served("ann")]
+
+    def one_waits(self, refuse):
+        """While another has the link."""
+        first, second = self.talker(SECONDS), self.talker()
+        first.comes("ann")
+        first.is_in()
+        refuse()
+        second.comes("ann")
+        first.talks(TALK)
+        given = first.leaves()
+        if second.is_in():
+            second.talks(TALK)
+        return [given, second.leaves()]
+
+    def console(self, refuse):
+        one = self.talker()
+        refuse()
+        one.comes("root", "pgbouncer")
+        if one.is_in():
+            one.talks(CONSOLE)
+        return [one.leaves()]
+
+    def cancel(self, refuse):
+        """It comes between two statements, and strikes the second or none."""
+        one = self.talker(SECONDS)
+        one.comes("ann")
+        one.is_in()
+        one.talks(TALK[:3])
+        refuse()
+        asking = self.talker()
+        key = next(frame[5:] for frame in frames_of(one.got) if frame[:1] == b"K")
+        asking.says(cancel_request(key), lambda _: False)
+        asking.socket.close()
+        one.talks(TALK[3:], first=4)
+        return [one.leaves(), asking.got]
+
+    def served(self, user, seconds=PATIENCE):
+        """What a client is given that says all of its statements, if it gets a link."""
+        one = self.talker(seconds)
+        one.comes(user)
+        if one.is_in():
+            one.talks(TALK)
+        return one.leaves()
+
+    def talker(self, seconds=PATIENCE):
+        return Talker(self.pooler.port, seconds)
+
+    # ---- what is left
+
+    def is_at_rest(self):
+        return until(lambda: self.pooler.threads() == THREADS, SECONDS)
+
+    def fault_of_pair(self):
+        """What is wrong with what two clients are given, as many as may be there, of whom one waits for the other's link."""
+        first, second = self.talker(SECONDS), self.talker(SECONDS)
+        first.comes("ann")
+        first.is_in()
+        second.comes("ann")
+        for one in (first, second):
+            if one.is_in():
+                one.talks(TALK)
+            one.leaves()
+        self.is_at_rest()
+        return next((f"a client afterwards is given {one.got[-300:]!r}" for one in (first, second) if plain(one.got) != self.exact), "")
+
+    def files_now(self):
+        return [len(os.listdir(f"/proc/{it.process.pid}/fd")) for it in (self.pooler, self.stub)]
+
+    def fault_afterwards(self):
+        """What is wrong once growths are had again."""
+        if not self.is_at_rest():
+            return f"{self.pooler.threads()} threads are left"
+        if fault := self.fault_of_pair():
+            return fault
+        if not until(lambda: self.files_now() == self.files, SECONDS):
+            return f"{self.files_now()} files for {self.files}"
+        return "" if self.pooler.runs() and self.stub.process.poll() is None else "it has ended"
+
+    def end(self):
+        self.pooler.stop()
+        for pid in self.place.processes():
+            os.kill(pid, signal.SIGKILL)
+        until(lambda: not self.place.processes())
+        self.place.clear()
+
+
+def struck(whole):
+    """The same, where the last statement was cancelled."""
+    frames = frames_of(whole)
+    last = max(number for number, frame in enumerate(frames[:-1]) if frame[:1] == b"Z")
+    error = message(b"E", b"SERROR\0VERROR\0C57014\0Mstatement was cancelled\0\0")
+    return b"".join(frames[:last + 1]) + error + message(b"Z", b"I")
+
+
+class Sweep:
+    """A scenario, of which each growth of this program is refused."""
+
+    def __init__(self, growths, of, scenario):
+        self.growths, self.page, self.scenario = growths, growths.pages[of], scenario
+        self.refused = self.runs = self.served = 0
+        self.whole = [[plain(given)] for given in scenario(lambda: None)]
+        if scenario == growths.cancel:
+            alone = plain(growths.served("ann", SECONDS))
+            self.whole[0] = [alone, struck(alone)]
+
+    def fault(self, first, count):
+        """What is wrong with a run, and how many growths were refused."""
+        given = [plain(it) for it in self.scenario(lambda: self.page.refuse(first, count))]
+        refused = self.page.end()
+        self.runs += refused > 0
+        self.refused += refused
+        self.served += refused > 0 and all(it in whole for it, whole in zip(given, self.whole))
+        for it, whole in zip(given, self.whole):
+            # who is told nothing, as one that asks for a cancel, isn't told of a refusal either
+            if not any(is_allowed(one, it) if one else it == one for one in whole):
+                return refused, f"a client is given {it!r}"
+        return refused, self.growths.fault_afterwards()
+
+    def all(self):
+        """The faults."""
+        _, fault = self.fault(FOR_EVER, 1)
+        if fault:
+            return [f"nothing refused: {fault}"]
+        faults = []
+        for way, count in WAYS.items():
+            for first in range(1, MOST):
+                refused, fault = self.fault(first, count)
+                if fault:
+                    faults.append(f"{way}, {first}: {fault}")
+                if not refused or len(faults) == MOST_TOLD:
+                    break
+            if first <= FEWEST or first == MOST - 1:
+                faults.append(f"{way}: {first - 1} growths were refused")
+        return faults
+
+
+def main():
+    if len(sys.argv) != 2:
+        sys.exit(__doc__)
+    signal.signal(signal.SIGTERM, lambda *_: sys.exit(1))
+    program, began, passes = os.path.abspath(sys.argv[1]), time.monotonic(), Passes("refused growths")
+    exact = plain(run([program, "replay"], START + b"".join(TALK)).stdout)
+    place, runs, made = Place("nobody"), 0, []
+    try:
+        library = place.folder / "refuse.so"
+        place.run("gcc", "-O1", "-shared", "-fPIC", "-o", library, TOP / "scripts/refuse_growth.c")
+        made = [Growths(program, library, auth, exact) for auth in ("trust", "md5")]
+        trust, md5 = made
+        sweeps = {
+            "serve, one client": (trust, "serve", trust.one_client),
+            "serve, a client by MD5": (md5, "serve", md5.one_client),
+            "serve, two users for one link": (trust, "serve", trust.two_users),
+            "serve, a client that waits": (trust, "serve", trust.one_waits),
+            "serve, the console": (trust, "serve", trust.console),
+            "serve, a cancel": (trust, "serve", trust.cancel),
+            "stub, one client": (trust, "stub", trust.one_client),
+            "stub, a cancel": (trust, "stub", trust.cancel),
+        }
+        for name, words in sweeps.items():
+            start = time.monotonic()
+            sweep = Sweep(*words)
+            faults = sweep.all()
+            runs += sweep.runs
+            passes.tell(f"{name}: {sweep.runs} runs with {sweep.refused} growths refused, of which {sweep.served} were served all the same "
+                        f"({time.monotonic() - start:.0f} s)", f"{faults[:MOST_TOLD]}" if faults else "")
+            if faults:
+                break
+        else:
+            passes.same("the poolers end by SHUTDOWN: who arrived left, and each link that was lent came back or was lost", [it.pooler.shut() for it in made], ["", ""])
+    finally:
+        for growths in made:
+            growths.end()
+        place.clear()
+    print(f"refused growths: {runs} runs, {time.monotonic() - began:.0f} s, {time.process_time():.0f} s of it the script's")
+    passes.end()
+
+
+if __name__ == "__main__":
+    main()
