@@ -15,9 +15,7 @@ ghost use Rattle.link_desk.specs.declared.calls.Stage.TheVariants.{Granted};
 ghost use Rattle.link_desk.specs.Passes.{after_arrival, after_asking, after_back, after_cancel, after_change, after_grant, after_keying, after_leaving, after_loss, after_release, arrived, asked_by, cancelling, ended_lease, is_open, keeps, keyed_lease, left, released, stage_of, striking, taken, without_lease};
 ghost use Rattle.link_desk.specs.Refusing.{MayArrive, MayAsk, MayTake};
 
-use crate::answers::{
-    Arrival, Asked, Back, Cancelled, Changed, Gone, Grant, Keying, Release,
-};
+use crate::answers::{Arrival, Asked, Back, Cancelled, Changed, Gone, Grant, Keying, Release};
 use book_model::limits::Limits;
 use book_register::view::BookView;
 use ini_config::DbRow;
