@@ -253,6 +253,10 @@ class Pooler:
     def threads(self):
         return len(os.listdir(f"/proc/{self.process.pid}/task"))
 
+    def maps(self):
+        """How many parts its memory has; a thread that nobody has joined keeps two."""
+        return len(pathlib.Path(f"/proc/{self.process.pid}/maps").read_text().splitlines())
+
     def resident(self):
         """Its memory, in kB."""
         for line in pathlib.Path(f"/proc/{self.process.pid}/status").read_text().splitlines():

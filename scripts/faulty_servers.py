@@ -38,6 +38,8 @@ GIVEN_UP = (50, 120)
 SLOWEST = 5.0
 # at rest: who accepts, the clock, the log
 THREADS = 3
+# its memory has at most so many parts after thousands of threads; each that was never joined would keep two
+MOST_MAPS = 1_500
 REST = 0.002
 # answers with long messages, round the borders of the relay's buffers and of what goes on only whole
 LONG, SEED = 300, 20261127
@@ -471,6 +473,9 @@ class Show:
         console.leave()
         # the two of the other server are idle as well
         self.passes.holds("each other connection to a server is closed", until(lambda: self.server.open == idle - 2, 10), f"{self.server.open} for {idle - 2}")
+        clients_came = sum(map(len, self.groups.values()))
+        maps = self.pooler.maps()
+        self.passes.holds(f"the memory of {clients_came} cases' threads is given back: {maps} parts of it", maps < MOST_MAPS < clients_came, f"{maps} parts")
         self.passes.holds("no file is left open", until(lambda: self.pooler.files() == files + idle, 10), f"{self.pooler.files()} for {files + idle}")
         all_of_them = [Client(self.pooler.port, "root", "pgbouncer") for _ in range(clients)]
         try:
