@@ -68,9 +68,9 @@ pub struct Holder {
     pub release: Option<Release>,
     /// What the client that came last was refused by.
     pub refused: Option<Refusal>,
-    /// The cancel that was found last, until it is sent.
+    /// The cancel that was found last, until the desk is told to send it.
     pub found: Option<Strike>,
-    /// That cancel, once it was sent.
+    /// That cancel, once the desk was told to.
     pub struck: Option<Strike>,
     /// The last call that was made through the pass, but for a client's that waits on.
     pub last: Option<Call>,

@@ -28,8 +28,8 @@ abbrev pub IsKeyed : Holder → LinkView → KeyWord → Option KeyView → Type
 IsKeyed h link word None = h.lease ≡ Some (granted_lease link)
 IsKeyed h link word (Some server) = IsFound h link word server
 
--- A client's bytes were a CancelRequest: the desk was asked for the lease of that key word, and the cancel that it answered was sent. The
--- client was given its login's pieces before that, and no byte more.
+-- A client's bytes were a CancelRequest: the desk was asked for the lease of that key word, and told to send the cancel that it answered.
+-- The client was given its login's pieces before that, and no byte more.
 pub record IsPassedOn (v : LoginView) (p q : PassOf) (h k : Holder) (after : ClientFacts) : Type 0 where
   pub key : KeyView
   pub heard : List ℕ

@@ -2,7 +2,7 @@
 use Rattle.std.proofs.Common.{◌≡◌, ◌⊎◌, inl, inr, ⊎_elim, ℕ, ◌==◌, Bool, true, false, List, [], ◌∷◌, ◌++◌, refl, sym, ap, ◌∙◌, Result, Ok, Err}
 use Rattle.std.specs.Prelude.{◌||◌, ◌&&◌, bytes_eq, if◌then◌else◌}
 use Rattle.std.specs.List.{AllByRecursion}
-use Rattle.std.proofs.lemmas.Bool.{eqb-true, true≢false}
+use Rattle.std.proofs.lemmas.Bool.{eqb-false, eqb-true, true≢false}
 use Rattle.std.proofs.lemmas.Slice.Eq.{bytes_eq-Decides}
 use Rattle.frame_view.specs.declared.server.TheConstants.{AUTHENTICATION, BACKEND_KEY_DATA, NOTICE_RESPONSE, PARAMETER_STATUS, READY_FOR_QUERY}
 use Rattle.frame_view.specs.Frames.{FrameOf}
@@ -15,7 +15,7 @@ use Rattle.link_start.specs.declared.start_reply.StartProgress.TheVariants.{Noth
 use Rattle.link_start.specs.declared.start_reply.Question.{Question}
 use Rattle.link_start.specs.declared.start_reply.Question.TheVariants.{Cleartext, Unknown}
 use Rattle.link_start.specs.StartReply.{answered, asked, asked_part, bare, heard_all, is_idle, is_welcome, only_let_in, refused, salted}
-use Rattle.wire_laws.specs.Starts.{IsAsking, IsNotice, IsOfWelcome, LetsIn, ReadyIsAnswer}
+use Rattle.wire_laws.specs.Starts.{Asks, IsAsking, IsNotice, IsOfWelcome, LetsIn, ReadyIsAnswer}
 
 or_parts : (a b : Bool) → (a || b) ≡ true → (a ≡ true) ⊎ (b ≡ true)
 or_parts true b e = inl refl
@@ -69,6 +69,22 @@ let_in_part (Err fault) e = absurd (let z : Other ≡ LetIn = e in cc)
 let_in_part (Ok x) e =
     let h = let_in_by x.0 x.1 (x.0 == ASKS_NOTHING) (x.0 == ASKS_CLEARTEXT) (x.0 == ASKS_MD5) refl e in
     λ i. Ok (h.0 i, h.1 i)
+
+-- a question isn't AuthenticationOk
+not_let_in : (q : Question) (kind : ℕ) (more : List ℕ) (a b c : Bool) → (if a then bare LetIn more else (if b then bare (Asked Cleartext) more else (if c then salted more else Asked (Unknown kind)))) ≡ Asked q → a ≡ false
+not_let_in q kind [] true b c e = absurd (let z : LetIn ≡ Asked q = e in cc)
+not_let_in q kind (x ∷ xs) true b c e = absurd (let z : Other ≡ Asked q = e in cc)
+not_let_in q kind more false b c e = refl
+
+asks_by : (q : Question) (f : FrameOf) (r : Result (ℕ × List ℕ) ViewFault) → authentication_of f.body ≡ r → f.kind ≡ AUTHENTICATION → asked_part r ≡ Asked q → Asks f
+asks_by q f (Err fault) is k e = absurd (let z : Other ≡ Asked q = e in cc)
+asks_by q f (Ok x) is k e = record {
+  kind = k;
+  number = x.0;
+  more = x.1;
+  body = is;
+  asks = eqb-false x.0 ASKS_NOTHING (not_let_in q x.0 x.1 (x.0 == ASKS_NOTHING) (x.0 == ASKS_CLEARTEXT) (x.0 == ASKS_MD5) e);
+}
 
 -- it says something, and never that all is ready
 says : StartProgress → Bool
@@ -197,7 +213,7 @@ opens_in (Asked q) f fs e k h =
       lets_in = r.lets_in;
       rest = r.rest;
       whole = ap (λ (x : List FrameOf). f ∷ x) r.whole;
-      is_asking = record { before = []; question = f ∷ []; after = r.notices; whole = refl; notices = (tt, r.are_notices); asks = inr (f, (k, refl)) };
+      is_asking = record { before = []; question = f ∷ []; after = r.notices; whole = refl; notices = (tt, r.are_notices); asks = inr (f, (asks_by q f (authentication_of f.body) refl k e, refl)) };
       is_let_in = r.is_let_in;
       goes_on = r.goes_on;
     }

@@ -1,5 +1,5 @@
 -- The grammar of the answer to a start (PostgreSQL manual, "Message Flow", "Start-up").
-use Rattle.std.specs.Prelude.{◌≡◌, ◌⊎◌, true, Ok, List, [], ◌∷◌, ◌++◌}
+use Rattle.std.specs.Prelude.{◌≡◌, ◌≢◌, ◌⊎◌, ℕ, true, Ok, List, [], ◌∷◌, ◌++◌}
 use Rattle.std.specs.List.{AllByRecursion}
 use Rattle.frame_view.specs.declared.server.TheConstants.{AUTHENTICATION, BACKEND_KEY_DATA, NOTICE_RESPONSE, PARAMETER_STATUS}
 use Rattle.frame_view.specs.Frames.{FrameOf}
@@ -15,6 +15,14 @@ IsNotice f = f.kind ≡ NOTICE_RESPONSE
 abbrev pub LetsIn : FrameOf → Type 0
 LetsIn f = (f.kind ≡ AUTHENTICATION) × (authentication_of f.body ≡ Ok (ASKS_NOTHING, []))
 
+-- any Authentication message but AuthenticationOk
+pub record Asks (f : FrameOf) : Type 0 where
+  pub kind : f.kind ≡ AUTHENTICATION
+  pub number : ℕ
+  pub more : List ℕ
+  pub body : authentication_of f.body ≡ Ok (number, more)
+  pub asks : number ≢ ASKS_NOTHING
+
 -- a notice, a report or the session's key
 abbrev pub IsOfWelcome : FrameOf → Type 0
 IsOfWelcome f = (f.kind ≡ NOTICE_RESPONSE) ⊎ ((f.kind ≡ PARAMETER_STATUS) ⊎ (f.kind ≡ BACKEND_KEY_DATA))
@@ -26,7 +34,7 @@ pub record IsAsking (frames : List FrameOf) : Type 0 where
   pub after : List FrameOf
   pub whole : frames ≡ before ++ (question ++ after)
   pub notices : AllByRecursion IsNotice before × AllByRecursion IsNotice after
-  pub asks : (question ≡ []) ⊎ ((f : FrameOf) × ((f.kind ≡ AUTHENTICATION) × (question ≡ f ∷ [])))
+  pub asks : (question ≡ []) ⊎ ((f : FrameOf) × (Asks f × (question ≡ f ∷ [])))
 
 -- The whole answer to a start that is let in: a question at most; AuthenticationOk; notices, reports and the session's key in any order;
 -- and the one ReadyForQuery, which tells of no block, at its end.
