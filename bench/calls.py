@@ -76,7 +76,7 @@ def main(program):
             client.leave()
 
         connect()
-        until(lambda: pooler.threads() <= 6, 5)
+        until(lambda: pooler.threads() <= 11, 5)
         counts = Counts(place, pooler.process.pid, lambda: [connect() for _ in range(CONNECTIONS)])
         each = counts.all() / CONNECTIONS
         print(f"a connection with one query: {each:.2f} calls, {counts.vain() / CONNECTIONS:.2f} of them in vain; {counts.calls}")

@@ -16,6 +16,8 @@ COUNTS = {"short": (2_000, 500, 500, 100), "full": (10_000, 1_000, 2_000, 1_000)
 LINKS = 4
 # a connection has a socket and what waits for it, and the pooler some files of its own
 FILES_EACH, FILES_MORE = 2, 100
+# so many threads that wait for a connection are kept
+MOST_WAITING = 8
 SLOWEST = 5.0
 SEED = 20261123
 
@@ -122,7 +124,8 @@ class Abuse:
         for step in (self.idles, self.half, self.rubbish, self.cut):
             step()
             # a link stays in the pool, and may be another one now
-            back = until(lambda: self.pooler.files() <= files + LINKS * FILES_EACH and self.pooler.threads() <= threads + 1, 20)
+            # threads beyond those that wait for a connection end after ten seconds
+            back = until(lambda: self.pooler.files() <= files + LINKS * FILES_EACH and self.pooler.threads() <= threads + MOST_WAITING, 30)
             self.passes.holds(f"{step.__name__}: no file and no thread is lost", back, f"{self.pooler.files()} files for {files}, {self.pooler.threads()} threads for {threads}")
             links = until(lambda: len(self.cluster.backends()) <= LINKS, 10)
             self.passes.holds(f"{step.__name__}: no more than {LINKS} sessions of the server", links, f"{len(self.cluster.backends())}")

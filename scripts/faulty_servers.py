@@ -36,8 +36,8 @@ LANES = 6
 # a start and a reset are given up after 600 turns of 100 ms without a byte
 GIVEN_UP = (50, 120)
 SLOWEST = 5.0
-# at rest: who accepts, the clock, the log
-THREADS = 3
+# at rest: who accepts, the clock, the log, and those that wait for a connection; others end after ten seconds
+MOST_THREADS = 3 + 8
 # its memory has at most so many parts after thousands of threads; each that was never joined would keep two
 MOST_MAPS = 1_500
 REST = 0.002
@@ -455,8 +455,16 @@ class Show:
     def files_at_rest(self):
         """How many files the pooler has open once a client has come and gone."""
         Client(self.pooler.port, "root", "pgbouncer").leave()
-        until(lambda: self.pooler.threads() == THREADS, 5)
-        return self.pooler.files()
+        until(lambda: self.pooler.threads() <= MOST_THREADS, 25)
+        counts = [0, -1]
+
+        def is_steady():
+            counts.append(self.pooler.files())
+            time.sleep(0.2)
+            return counts[-1] == counts[-2]
+
+        until(is_steady, 5)
+        return counts[-1]
 
     def left(self, clients, files):
         """Nothing is lost: each link is idle or closed, and as many clients find a place as may be there."""

@@ -38,7 +38,8 @@ TERMINATE, OK = message(b"X"), GIVEN["ok"]
 ASKED = GIVEN["md5"][:9]
 TALK = [query("SHOW application_name"), query("CREATE TEMP TABLE t (a text)"), query("SET application_name TO 'x'"), query("SELECT name FROM city")]
 CONSOLE = [query(text) for text in ("SHOW CONFIG", "SHOW POOLS", "RELOAD", "SHOW DATABASES")]
-THREADS = 3
+# at rest: who accepts, the clock, the log, and those that wait for a connection
+MOST_THREADS = 3 + 8
 
 
 class Page:
@@ -148,8 +149,9 @@ class Growths:
         self.stub = Stub(self.place, words["stub"], pathlib.Path(CATALOGUE).read_bytes())
         self.pooler = Pooler(self.place, self.stub, words["serve"], size=1, clients=2, links=1, wait=LONGEST_WAIT, auth=auth)
         self.exact = exact if auth == "trust" else ASKED + bytes(4) + exact
+        self.files = [FOR_EVER, FOR_EVER]
         self.fault_of_pair()
-        self.files = self.files_now()
+        self.files = self.steady_files()
 
     def preloaded(self, program, library, name):
         """A program of this one that runs with the library and this page."""
@@ -218,7 +220,8 @@ class Growths:
     # ---- what is left
 
     def is_at_rest(self):
-        return until(lambda: self.pooler.threads() == THREADS, SECONDS)
+        """Each connection is done: no more files are open than those of the one link."""
+        return until(lambda: all(now <= was for now, was in zip(self.files_now(), self.files)) and self.pooler.threads() <= MOST_THREADS, SECONDS)
 
     def fault_of_pair(self):
         """What is wrong with what two clients are given, as many as may be there, of whom one waits for the other's link."""
@@ -233,13 +236,25 @@ class Growths:
         self.is_at_rest()
         return next((f"a client afterwards is given {one.got[-300:]!r}" for one in (first, second) if plain(one.got) != self.exact), "")
 
+    def steady_files(self):
+        """How many files are open once none is closed any more."""
+        counts = [self.files_now()]
+
+        def is_steady():
+            time.sleep(0.3)
+            counts.append(self.files_now())
+            return counts[-1] == counts[-2]
+
+        until(is_steady, SECONDS)
+        return counts[-1]
+
     def files_now(self):
         return [len(os.listdir(f"/proc/{it.process.pid}/fd")) for it in (self.pooler, self.stub)]
 
     def fault_afterwards(self):
         """What is wrong once growths are had again."""
         if not self.is_at_rest():
-            return f"{self.pooler.threads()} threads are left"
+            return f"{self.pooler.threads()} threads are left, {self.files_now()} files for {self.files}"
         if fault := self.fault_of_pair():
             return fault
         if not until(lambda: self.files_now() == self.files, SECONDS):

@@ -151,7 +151,8 @@ impl Story {
     /// A link comes back.
     fn takes_back(&mut self, number: u64, whose: Whose, born: u64) -> Result<Told, AllocError> {
         let key = key_of(self.alloc, whose)?;
-        Ok(self.happens(Event::GiveBack(link(self.alloc, key, number, born))))
+        let link = link(self.alloc, key, number, born)?;
+        Ok(self.happens(Event::GiveBack(link)))
     }
 
     /// Other settings hold.

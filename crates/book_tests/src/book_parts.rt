@@ -1,10 +1,11 @@
 //! Keys, limits and links of the tests.
-ghost use Rattle.std.specs.Prelude.{◌≡◌, false};
+ghost use Rattle.std.specs.Prelude.{◌≡◌, false, IfOk};
 
 use book_model::limits::Limits;
 use book_model::rows::{Row, Rows};
 use link_run::links::{CleanLink, LinkParts};
 use memory_ends::gone_end::GoneEnd;
+use memory_start_laws::unfollowed_starts_are_clean;
 use param_track::Reported;
 use session_values::text::Text;
 use start_keys::StartKey;
@@ -146,19 +147,25 @@ pub fn limits(alloc: Global, settings: Settings) -> Result<Arc<Limits>, AllocErr
     Ok(Arc::new(alloc, limits)?)
 }
 
-/// A link of this key and number, begun in this second.
-pub fn link(alloc: Global, key: Arc<StartKey>, number: u64, born: u64) -> CleanLink<GoneEnd>
-    ensures number { result.number ≡ number }
-    ensures born { result.born ≡ born }
-    ensures silent { result.stands.follows ≡ false }
+/// A link of this key and number, begun in this second, whose server has gone since.
+pub fn link(
+    alloc: Global,
+    key: Arc<StartKey>,
+    number: u64,
+    born: u64,
+) -> Result<CleanLink<GoneEnd>, AllocError>
+    ensures number { IfOk result (λ l. l.number ≡ number) }
+    ensures born { IfOk result (λ l. l.born ≡ born) }
+    ensures silent { IfOk result (λ l. l.stands.follows ≡ false) }
 {
-    let lent = LinkParts {
-        end: GoneEnd,
+    unfollowed_starts_are_clean();
+    let parts = LinkParts {
+        end: GoneEnd::of(&key)?,
         key,
         number,
         born,
         server_key: None,
         reported: Reported::new(alloc),
     };
-    lent.clean()
+    Ok(parts.clean())
 }

@@ -277,7 +277,7 @@ fn gives_back<R: Wait + Clock, K: Ledgers>(
     else {
         return Ok(Says::Nobody);
     };
-    let mut back = Some(link(alloc, key, number, born));
+    let mut back = Some(link(alloc, key, number, born)?);
     let answer = desk.give_back(pass, &mut back);
     Ok(taken_back(answer, back))
 }

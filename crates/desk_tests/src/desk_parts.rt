@@ -20,7 +20,7 @@ impl Outside for Nowhere {
     ghost home = { unknown_home };
 
     fn dial(&self, _row: &DbRow) -> Option<GoneEnd> {
-        Some(GoneEnd)
+        Some(GoneEnd::new())
     }
 
     fn strike(&self, _strike: &Strike) {}

@@ -105,6 +105,7 @@ moves_both a b c p q g h x y =
       dead = λ d. y.dead (x.dead d);
       silent = λ d. silent_both p q g h (x.silent d) (y.silent (x.dead d));
       accepted = cc (x.accepted, y.accepted, append_assoc a.accepted p q);
+      given = cc (x.given, y.given, append_assoc a.given g h);
       noted = noted_as a c (marks_since a b ++ marks_since b c) n;
       unstruck = λ d. y.unstruck (x.dead d) ∙ x.unstruck d;
       served = λ f l. subst (λ (ms : List Bool). Served a (p ++ q) ms c (g ++ h)) e (served_both a b c p q g h (marks_since a b) (marks_since b c) x.server (x.served f (lives_before b c y.dead l)) (y.served (x.follows ∙ f) l));
@@ -122,6 +123,7 @@ moves_none a = record {
   dead = λ d. d;
   silent = λ d. (refl, refl);
   accepted = sym (append-nil a.accepted);
+  given = sym (append-nil a.given);
   noted = noted_as a a [] (sym (append-nil a.struck));
   unstruck = λ d. refl;
   served = λ f l. record { taken = []; lawful = tt; marks_are = sym (none_since a a refl); inbox = append-nil a.inbox; stage = refl; outbox = append-nil a.outbox };

@@ -9,7 +9,7 @@ use Rattle.message_view.specs.declared.kinds.TheConstants.{IDLE}
 use Rattle.session_run_laws.specs.Laws.{discard_all}
 use Rattle.session_run_laws.specs.Settling.{count, is_ready, last_status, IsAnswered}
 use Rattle.link_run.specs.declared.reply.Answered.TheVariants.{Nothing, Tag, All, Other}
-use Rattle.link_run.specs.Resets.{is_aside, is_tag, is_idle, answered_by_all, IsResetAnswer}
+use Rattle.link_run.specs.Dialogues.{is_aside, is_tag, is_idle, answered_by_all, IsResetAnswer}
 
 pub not_other : {A : Type 0} (fs : List FrameOf) → answered_by_all Other fs ≡ All → A
 not_other [] e = absurd cc

@@ -15,7 +15,7 @@ use Rattle.session_run_laws.specs.Laws.{IsReport, IsReportIf, with_report, repor
 use Rattle.session_run_laws.proofs.SessionsByName.{reports_are_read}
 use Rattle.param_track.specs.Kept.{Kept, has_name, is_at_start, is_one_other, kept_of}
 use Rattle.link_run.specs.Links.{reports_with, kept_by}
-use Rattle.link_run.specs.Resets.{names_kept, is_known, are_known}
+use Rattle.link_run.specs.Dialogues.{names_kept, is_known, are_known}
 use Rattle.link_run.proofs.Reporting.{told-frame}
 
 same_values : (v : Text) → bytes_eq v v ≡ true

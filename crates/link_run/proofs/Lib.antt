@@ -1,5 +1,6 @@
 pub mod Answering
 pub mod Knowing
+pub mod Receipts
 pub mod Reporting
 pub mod Resetting
 pub mod Told

@@ -1,5 +1,5 @@
 -- A reset's moves, and what its answer says of the session behind it.
-use Rattle.std.proofs.Common.{◌≡◌, ◌≢◌, ◌⊎◌, inl, inr, ◌<◌, length-append, length-take-le, ⊎_elim, ℕ, ◌+◌, ◌-◌, ◌≤◌, ◌==◌, Bool, true, false, List, [], ◌∷◌, ◌++◌, take, drop, length, refl, sym, ap, ap₂, ◌∙◌, append_assoc, append-nil, take-append-drop, drop-drop, arith, take_all, length-drop, subst, Result, Ok, Err, Option, ◌&&◌}
+use Rattle.std.proofs.Common.{◌≡◌, ◌⊎◌, inl, inr, ◌<◌, length-append, length-take-le, ⊎_elim, ℕ, ◌+◌, ◌-◌, ◌≤◌, ◌==◌, Bool, true, false, List, [], ◌∷◌, ◌++◌, take, drop, length, refl, sym, ap, ap₂, ◌∙◌, append_assoc, append-nil, take-append-drop, drop-drop, arith, take_all, length-drop, subst, Result, Ok, Err, Option, ◌&&◌}
 use Rattle.std.proofs.lemmas.Bool.{cases_Bool, eqb-false, eqb-true, true≢false}
 use Rattle.std.proofs.Math.Seq.{drop-length}
 use Rattle.std.specs.List.{flat_map, AllByRecursion}
@@ -10,7 +10,7 @@ use Rattle.frame_view.specs.declared.Frame.{Frame}
 use Rattle.frame_view.specs.declared.Step.{Step}
 use Rattle.frame_view.specs.declared.Step.TheVariants.{Whole}
 use Rattle.frame_view.specs.Answers.{Tells}
-use Rattle.frame_view.specs.Frames.{AreBytes, FrameOf, IsFrame, Cut, front, frames, spelling}
+use Rattle.frame_view.specs.Frames.{AreBytes, FrameOf, IsFrame, Cut, cut_after, front, frames, spelling}
 use Rattle.frame_view.proofs.Splitting.{frames-split, frames-stopped}
 use Rattle.message_view.specs.declared.views.KeyView.{KeyView}
 use Rattle.start_keys.specs.StartPairs.{Text}
@@ -36,10 +36,12 @@ use Rattle.server_end.specs.Moves.{faults_in, moved, waits_in, IsWithin}
 use Rattle.link_run.specs.declared.reset.ResetFault.{ResetFault}
 use Rattle.link_run.specs.declared.reset.ResetFault.TheVariants.{Lost, Unexpected, Changed, Memory, Turns}
 use Rattle.link_run.specs.declared.reply.Answered.{Answered}
-use Rattle.link_run.specs.declared.reply.Answered.TheVariants.{Nothing, All}
+use Rattle.link_run.specs.declared.reply.Answered.TheVariants.{Nothing, Tag, All}
 use Rattle.link_run.specs.declared.reply.TheConstants.{LONGEST_REPLY}
-use Rattle.link_run.specs.Links.{kept_by, after_frames, IsFreshLink, IsClean, IsRestingLink, IsUsed}
-use Rattle.link_run.specs.Resets.{answered_by_all, IsResetAnswer, are_known, at_rest, ResetView, reset_view, IsResetFrom, IsReset, IsAnsweredReset, IsResetDialogue, IsEndOver, FailsBy, MoveFailsBy, is_over, reads}
+use Rattle.link_run.specs.Links.{kept_by, after_frames, IsFreshLink, IsRestingLink}
+use Rattle.link_run.specs.Receipts.{by_reset, IsClean, IsUsed}
+use Rattle.link_run.specs.Dialogues.{answered_by_all, IsResetAnswer, are_known, IsResetDialogue}
+use Rattle.link_run.specs.Resets.{answer_in, at_rest, ResetView, reset_view, IsResetFrom, IsReset, IsAnsweredReset, IsEndOver, HasHeard, IsOther, IsUnexpected, IsChanged, IsUnfinished, FailsBy, FailsAtEnd, IsDisturbed, IsPacedToEnd, ReadsOnce, MoveFailsBy, is_over, reads}
 use Rattle.link_run.proofs.Answering.{asked, is_answered, not_other, some_answer}
 use Rattle.link_run.proofs.Knowing.{at_start_again, known_frames}
 use Rattle.link_run.proofs.Reporting.{told-frames}
@@ -84,15 +86,59 @@ read_on old new Ended into r s size i b e d o = absurd (true≢false o)
 read_on old new Fault into r s size i b e d o = absurd (true≢false o)
 
 -- a move's fault is the reset's
-pub fails_by : (start old now : Standing) (turns : ℕ) (cause : ResetFault) → start.faults ≤ old.faults → MoveFailsBy old now cause → FailsBy start now turns cause
-fails_by start old now turns Lost l f = ⊎_elim (λ d. inl d) (λ n. inr (omega (arith, l, n))) f
-fails_by start old now turns Unexpected l f = absurd f
-fails_by start old now turns Changed l f = absurd f
-fails_by start old now turns Memory l f = tt
-fails_by start old now turns Turns l f = absurd f
+pub fails_by : (kept : List Kept) (start old now : Standing) (turns : ℕ) (cause : ResetFault) → start.faults ≤ old.faults → MoveFailsBy old now cause → FailsBy kept start now turns cause
+fails_by kept start old now turns Lost l f = ⊎_elim (λ d. inl d) (λ n. inr (omega (arith, l, n))) f
+fails_by kept start old now turns Unexpected l f = absurd f
+fails_by kept start old now turns Changed l f = absurd f
+fails_by kept start old now turns Memory l f = tt
+fails_by kept start old now turns Turns l f = absurd f
 
-pub answer_fails_by : (start now : Standing) (turns : ℕ) (cause : ResetFault) → (cause ≡ Unexpected) ⊎ (cause ≡ Changed) → start.follows ≢ true → FailsBy start now turns cause
-answer_fails_by start now turns cause c n = ⊎_elim (λ e. subst (FailsBy start now turns) (sym e) (λ f. absurd (n f))) (λ e. subst (FailsBy start now turns) (sym e) n) c
+-- what was sent and what came says it
+heard_now : (start : Standing) (v : ResetView) (now : Standing) (Says : List ℕ → List ℕ → Type 0) → IsResetFrom start v → now ≡ v.link → Says v.unsent v.received → HasHeard start now Says
+heard_now start v now Says x same says = record {
+  sent = x.sent;
+  unsent = v.unsent;
+  received = v.received;
+  moves = subst (λ (l : Standing). Moves start x.sent l v.received) (sym same) x.moves;
+  all = x.all;
+  says = says;
+}
+
+-- of no byte
+pub reads_nothing : reads (answer_in []) ≡ Nothing
+unfolding cut_after
+reads_nothing = refl
+
+reads_all : (v : ResetView) → IsAnsweredReset v → reads (answer_in v.received) ≡ All
+reads_all v d = ap (λ (b : List ℕ). at_rest (answered_by_all Nothing (answer_in v.received).frames) (front Server LONGEST_REPLY b)) d.whole ∙ d.answer
+
+-- once the answer is whole
+pub ends_by : (start : Standing) (v : ResetView) (now : Standing) (turns : ℕ) (cause : ResetFault) → IsResetFrom start v → IsAnsweredReset v → FailsAtEnd v now cause → FailsBy v.reports start now turns cause
+ends_by start v now turns cause x d e = ⊎_elim
+    (λ u. subst (FailsBy v.reports start now turns) (sym u.0) (heard_now start v now (IsUnexpected v.reports) x e.stands (inr (reads_all v d, u.1)), λ f. absurd (e.unfollowed (x.moves.follows ∙ f))))
+    (λ w. subst (FailsBy v.reports start now turns) (sym w.0) (heard_now start v now (IsChanged v.reports) x e.stands (reads_all v d, w.1), λ f. e.unfollowed (x.moves.follows ∙ f)))
+    e.says
+
+-- where another answer came
+pub other_by : (start : Standing) (v : ResetView) (now : Standing) (turns : ℕ) → IsResetFrom start v → now ≡ v.link → IsOther v.unsent v.received → IsDisturbed start v.link → FailsBy v.reports start now turns Unexpected
+other_by start v now turns x same o d = (heard_now start v now (IsUnexpected v.reports) x same (inl o), subst (λ (l : Standing). IsDisturbed start l) (sym same) d)
+
+-- a read that came to something is the last
+pub paced_to_end : (start old now : Standing) (v w : ResetView) (counter then_at now_at : ℕ) → IsUnfinished v.received → IsAnsweredReset w → ReadsOnce v w → v.link.read_waits ≤ start.read_waits + counter → w.link.write_waits ≤ start.write_waits + (counter + 1) → now_at ≡ then_at + (counter + 1)
+    → now ≡ w.link → IsPacedToEnd start now then_at now_at
+paced_to_end start old now v w counter then_at now_at u d o r wr t same =
+    let n : w.link.read_waits ≤ v.link.read_waits = ⊎_elim (λ s. absurd (not_all v w u d s.0)) (λ e. omega (arith, e)) o in
+    record {
+      writes = (let e = ap (λ (l : Standing). l.write_waits) same in omega (arith, e, wr, t));
+      reads = (let e = ap (λ (l : Standing). l.read_waits) same in omega (arith, e, n, r, t));
+    }
+  where
+    all_is : (a : Answered) → a ≡ All → (a ≡ Nothing) ⊎ (a ≡ Tag) → ⊥
+    all_is a e (inl n) = let z : All ≡ Nothing = sym e ∙ n in cc
+    all_is a e (inr n) = let z : All ≡ Tag = sym e ∙ n in cc
+
+    not_all : (v w : ResetView) → IsUnfinished v.received → IsAnsweredReset w → w.received ≡ v.received → ⊥
+    not_all v w u d s = all_is (reads (answer_in v.received)) (ap (λ (b : List ℕ). reads (answer_in b)) (sym s) ∙ reads_all w d) u
 
 -- ---- the session behind it
 
@@ -207,7 +253,7 @@ module _ (start : Standing) (v : ResetView) (x : IsResetFrom start v) (d : IsAns
   began = sym x.moves.follows ∙ f
 
   rested : IsRestingLink start v.key v.reports
-  rested = x.used began (lived start v x d)
+  rested = x.used.rests began (lived start v x d)
 
   got : List FrameOf
   got = (frames Server LONGEST_REPLY v.received).frames
@@ -265,17 +311,25 @@ pub reset_knows : (v : ResetView) → IsReset v → IsAnsweredReset v → v.link
 unfolding got
 reset_knows v (start, x) d f = knows start v x d f
 
-pub reset_clean : (v : ResetView) → IsReset v → IsAnsweredReset v → IsClean v.link v.key (after_frames v.reports (frames Server LONGEST_REPLY v.received).frames)
-unfolding got
-reset_clean v (start, x) d f = fresh_link start v x d f
-
 -- the whole dialogue, whatever stands behind the end
-pub reset_dialogue : (start : Standing) (v : ResetView) (now : Standing) → now ≡ v.link → IsAnsweredReset v → IsResetFrom start v → IsResetDialogue start now
-reset_dialogue start v now same d x = record {
-  answer = (frames Server LONGEST_REPLY v.received).frames;
+pub reset_dialogue : (start : Standing) (v : ResetView) (now : Standing) (reports : List Kept) → now ≡ v.link → reports ≡ after_frames v.reports (answer_in v.received).frames → are_known v.reports (answer_in v.received).frames ≡ true → is_at_start reports ≡ true
+    → IsAnsweredReset v → IsResetFrom start v → IsResetDialogue start v.reports now reports
+reset_dialogue start v now reports same told known back d x = record {
+  answer = (answer_in v.received).frames;
   moves = subst (λ (b : List ℕ). Moves start (spelling discard_all) now b) (received_as v d) (subst (λ (b : List ℕ). Moves start b now v.received) (all_sent start v x d) (subst (λ (l : Standing). Moves start x.sent l v.received) (sym same) x.moves));
   each = (frames-split Server LONGEST_REPLY v.received d.bytes).each;
   whole = d.answer;
+  known = known;
+  told = told;
+  back = back;
+}
+
+-- it makes a used link clean
+pub reset_clean : (v : ResetView) (reports : List Kept) → IsReset v → IsAnsweredReset v → reports ≡ after_frames v.reports (answer_in v.received).frames → are_known v.reports (answer_in v.received).frames ≡ true → is_at_start reports ≡ true → IsClean v.link v.key reports
+unfolding got
+reset_clean v reports (start, x) d told known back = record {
+  came = by_reset x.used.came.came x.used.came.lease (reset_dialogue start v v.link reports refl told known back d x);
+  fresh = λ f. subst (IsFreshLink v.link v.key) (sym told) (fresh_link start v x d f);
 }
 
 -- ---- what is sent and received

@@ -28,7 +28,8 @@ use Rattle.server_end.proofs.Splits.{SplitsOff, split_whole}
 use Rattle.link_run.specs.declared.reply.Answered.{Answered}
 use Rattle.link_run.specs.declared.reply.Answered.TheVariants.{Nothing, Tag, All, Other}
 use Rattle.link_run.specs.declared.reply.TheConstants.{LONGEST_REPLY}
-use Rattle.link_run.specs.Resets.{answered_by, answered_by_all, IsResetAnswer, ResetsAreAnswered, at_rest, reads, ResetView, IsResetFrom, IsDisturbed}
+use Rattle.link_run.specs.Dialogues.{answered_by, answered_by_all, IsResetAnswer}
+use Rattle.link_run.specs.Resets.{ResetsAreAnswered, at_rest, reads, ResetView, IsResetFrom, IsDisturbed}
 use Rattle.link_run.proofs.Answering.{asked, all_ends, not_other, some_answer}
 use Rattle.link_run.proofs.Resetting.{all_client, fresh_of}
 
@@ -194,7 +195,7 @@ reset_answering v start x f none = by (cases_Bool start.lives)
     began = sym x.moves.follows ∙ f
 
     by : (start.lives ≡ true) ⊎ (start.lives ≡ false) → IsAnswering v
-    by (inl lives) = answering start v x (x.used began lives).stands none (x.moves.passed began lives)
+    by (inl lives) = answering start v x (x.used.rests began lives).stands none (x.moves.passed began lives)
     by (inr dead) = nothing_came v (x.moves.silent dead).1
 
 pub no_other : (v : ResetView) (bs : List ℕ) (a : Answered) → bs ≡ v.received → AreBytes bs → a ≡ reads (frames Server LONGEST_REPLY bs) → (start : Standing) (x : IsResetFrom start v) → a ≡ Other → v.link.follows ≡ true → was_struck start v.link ≡ false → ⊥

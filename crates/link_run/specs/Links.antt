@@ -1,5 +1,5 @@
 -- A link as contracts see it, and what it keeps of its server's reports.
-use Rattle.std.specs.Prelude.{◌≡◌, ℕ, true, Option, List, [], ◌∷◌, ◌++◌, map, Result, Ok, Err, ◌==◌, if◌then◌else◌}
+use Rattle.std.specs.Prelude.{◌≡◌, ℕ, Option, List, [], ◌∷◌, ◌++◌, map, Result, Ok, Err, ◌==◌, if◌then◌else◌}
 use Rattle.frame_view.specs.declared.server.TheConstants.{PARAMETER_STATUS}
 use Rattle.frame_view.specs.Frames.{FrameOf}
 use Rattle.message_view.specs.declared.ViewFault.{ViewFault}
@@ -65,15 +65,12 @@ abbrev pub after_frames : List Kept → List FrameOf → List Kept
 after_frames kept [] = kept
 after_frames kept (f ∷ fs) = after_frames (after_frame kept f) fs
 
--- ---- what the kinds of link keep, where their end follows
+-- ---- what the kinds of link stand in, where their end follows
 
 -- clean: the server opened the fresh session of its key and stands in it while it lives, and the link keeps its reports
 pub record IsFreshLink (at : Standing) (key : StartKeyOf) (reports : List Kept) : Type 0 where
   pub stands : IsFresh at key
   pub kept : reports ≡ kept_by stands.session.reported stands.session.reported
-
-abbrev pub IsClean : Standing → StartKeyOf → List Kept → Type 0
-IsClean at key reports = at.follows ≡ true → IsFreshLink at key reports
 
 -- used: it stands at rest, and the link keeps what the session that it began with reported, and has told the values of now
 pub record IsRestingLink (at : Standing) (key : StartKeyOf) (reports : List Kept) : Type 0 where
@@ -81,6 +78,3 @@ pub record IsRestingLink (at : Standing) (key : StartKeyOf) (reports : List Kept
   pub origin : State
   pub is_fresh : fresh at.server.catalogue key ≡ Ok origin
   pub kept : reports ≡ kept_by origin.reported stands.session.reported
-
-abbrev pub IsUsed : Standing → StartKeyOf → List Kept → Type 0
-IsUsed at key reports = at.follows ≡ true → at.lives ≡ true → IsRestingLink at key reports

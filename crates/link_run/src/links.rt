@@ -1,7 +1,7 @@
 //! Links to servers, as they are kept and handed on.
 ghost use Rattle.std.specs.Prelude.{◌≡◌};
 ghost use Rattle.std.specs.Arc.{arc_value};
-ghost use Rattle.link_run.specs.Links.{IsClean, IsUsed};
+ghost use Rattle.link_run.specs.Receipts.{IsClean, IsUsed};
 
 use message_view::KeyView;
 use param_track::{Reported, StartReport};
@@ -26,8 +26,9 @@ pub struct LinkParts<E: ServerEnd> {
     pub reported: Reported,
 }
 
-/// A link that nobody has used since its start or its reset: where its end follows, it stands in the fresh session of its key,
-/// with nothing under way.
+/// A link that nobody has used since its start or its reset. Over an end of any kind: all that went over it since it was begun was a
+/// start with its key, and then leases, each of which was settled and then reset. Where its end follows, it stands in the fresh session
+/// of its key, with nothing under way.
 pub struct CleanLink<E: ServerEnd> {
     link: LinkParts<E>,
 }
@@ -40,7 +41,8 @@ impl<E: ServerEnd> Drop for CleanLink<E> {
 
 impl<E: ServerEnd> Model for CleanLink<E> {
     ghost use Rattle.std.specs.Arc.{arc_value};
-    ghost use Rattle.link_run.specs.Links.{IsClean, LinkView};
+    ghost use Rattle.link_run.specs.Links.{LinkView};
+    ghost use Rattle.link_run.specs.Receipts.{IsClean};
 
     ghost Value = { LinkView };
 
@@ -49,8 +51,8 @@ impl<E: ServerEnd> Model for CleanLink<E> {
     ghost invariant = { λ l. IsClean (E.standing l.link.end) (arc_value l.link.key) l.link.reported };
 }
 
-/// A link that was used and is settled: where its end follows and lives, it stands at rest in a session of its key, with nothing
-/// under way. A reset makes it clean.
+/// A link that was used and is settled. Over an end of any kind: a lease went over a clean link, whose every message is answered. Where
+/// its end follows and lives, it stands at rest in a session of its key, with nothing under way. A reset makes it clean.
 pub struct UsedLink<E: ServerEnd> {
     link: LinkParts<E>,
 }
@@ -63,7 +65,8 @@ impl<E: ServerEnd> Drop for UsedLink<E> {
 
 impl<E: ServerEnd> Model for UsedLink<E> {
     ghost use Rattle.std.specs.Arc.{arc_value};
-    ghost use Rattle.link_run.specs.Links.{IsUsed, LinkView};
+    ghost use Rattle.link_run.specs.Links.{LinkView};
+    ghost use Rattle.link_run.specs.Receipts.{IsUsed};
 
     ghost Value = { LinkView };
 
@@ -104,14 +107,16 @@ impl<E: ServerEnd> CleanLink<E> {
 
     /// From here on the gate's turns tell of its end; nothing of it changes.
     pub fn watch<G: Gate<E>>(&mut self, gate: &mut G)
-        ensures { self.new ≡ self.old }
+        ensures same { self.new ≡ self.old }
+        ensures turns { G.turns gate.new ≡ G.turns gate.old }
     {
         gate.watch(&mut self.link.end);
     }
 
     /// From here on they don't; nothing of it changes.
     pub fn unwatch<G: Gate<E>>(&mut self, gate: &mut G)
-        ensures { self.new ≡ self.old }
+        ensures same { self.new ≡ self.old }
+        ensures turns { G.turns gate.new ≡ G.turns gate.old }
     {
         gate.unwatch(&mut self.link.end);
     }

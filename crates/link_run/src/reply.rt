@@ -6,7 +6,8 @@ ghost use Rattle.frame_view.specs.Frames.{AreBytes, front, frames};
 ghost use Rattle.frame_view.specs.declared.Side.TheVariants.{Server};
 ghost use Rattle.session_values.specs.Answers.{frame_of};
 ghost use Rattle.link_run.specs.Links.{after_frame, after_frames};
-ghost use Rattle.link_run.specs.Resets.{answered_by, are_known, at_rest, is_aside, is_idle, is_known, is_tag, reads};
+ghost use Rattle.link_run.specs.Dialogues.{answered_by, are_known, is_aside, is_idle, is_known, is_tag};
+ghost use Rattle.link_run.specs.Resets.{at_rest, reads};
 
 use frame_view::laws::are_bytes;
 use frame_view::server::{COMMAND_COMPLETE, NOTICE_RESPONSE, PARAMETER_STATUS, READY_FOR_QUERY};
@@ -53,6 +54,7 @@ impl Answered {
     pub(crate) fn before_end(self) -> Answered
         ensures early { result ≢ All }
         ensures other { result ≡ Other → (self ≡ All) ⊎ (self ≡ Other) }
+        ensures same { result ≢ Other → self ≡ result }
     {
         match self {
             Answered::Nothing => Answered::Nothing,

@@ -1,9 +1,10 @@
 //! The reset of a used link by `DISCARD ALL`.
-ghost use Rattle.std.specs.Prelude.{◌≡◌, ◌≢◌, ◌<◌, ◌⊎◌, false, true, IfErr, IfOk};
+ghost use Rattle.std.specs.Prelude.{◌≡◌, ◌≢◌, ◌+◌, ◌<◌, ◌≤◌, ◌⊎◌, false, true, IfErr, IfOk};
 ghost use Rattle.param_track.specs.Kept.{is_at_start};
-ghost use Rattle.link_run.specs.Resets.{EndsDialogue, IsAnsweredReset, IsDisturbedReset, IsResetDialogue, IsResetFrom, FailsBy, KeepsReset, MoveFailsBy, is_over, read_so_far};
-ghost use Rattle.link_run.specs.declared.reset.ResetFault.TheVariants.{Changed, Lost, Unexpected};
-ghost use Rattle.link_run.specs.declared.reply.Answered.TheVariants.{All, Other};
+ghost use Rattle.link_run.specs.Dialogues.{IsResetDialogue};
+ghost use Rattle.link_run.specs.Resets.{EndsDialogue, FailsAtEnd, FailsBy, IsAnsweredReset, IsDisturbedReset, IsOther, IsPaced, IsPacedToEnd, IsResetFrom, IsUnfinished, KeepsReset, MoveFailsBy, ReadsOnce, is_over, read_so_far};
+ghost use Rattle.link_run.specs.declared.reset.ResetFault.TheVariants.{Lost};
+ghost use Rattle.link_run.specs.declared.reply.Answered.TheVariants.{All, Nothing, Other, Tag};
 
 use crate::links::{CleanLink, LinkParts, UsedLink};
 use crate::reply::{Answered, read_reply, tell_reports};
@@ -90,8 +91,11 @@ impl<E: ServerEnd> Reset<E> {
         ensures number { result.number ≡ used.number }
         ensures born { result.born ≡ used.born }
         ensures server_key { result.server_key ≡ used.server_key }
+        ensures reports { result.reports ≡ used.reports }
         ensures from { IsResetFrom used.stands result }
         ensures reads { read_so_far result ≡ used.stands.read_waits }
+        ensures stands { result.link ≡ used.stands }
+        ensures none { IsUnfinished result.received }
     {
         Reset {
             link: used.lend(),
@@ -106,8 +110,11 @@ impl<E: ServerEnd> Reset<E> {
         ensures number { self.new.number ≡ self.old.number }
         ensures born { self.new.born ≡ self.old.born }
         ensures server_key { self.new.server_key ≡ self.old.server_key }
+        ensures reports { self.new.reports ≡ self.old.reports }
+        ensures received { self.new.received ≡ self.old.received }
         ensures keeps { KeepsReset self.old self.new }
-        ensures reads { read_so_far self.new ≡ read_so_far self.old }
+        ensures reads { self.new.link.read_waits ≡ self.old.link.read_waits }
+        ensures once { self.new.link.write_waits ≤ self.old.link.write_waits + 1 }
         ensures faults { IfErr result (MoveFailsBy self.old.link self.new.link) }
     {
         if self.sent == DISCARD_ALL.len() {
@@ -127,8 +134,11 @@ impl<E: ServerEnd> Reset<E> {
         ensures number { self.new.number ≡ self.old.number }
         ensures born { self.new.born ≡ self.old.born }
         ensures server_key { self.new.server_key ≡ self.old.server_key }
+        ensures reports { self.new.reports ≡ self.old.reports }
         ensures keeps { KeepsReset self.old self.new }
         ensures reads { IfOk result (λ _. read_so_far self.old < read_so_far self.new) }
+        ensures writes { self.new.link.write_waits ≡ self.old.link.write_waits }
+        ensures once { ReadsOnce self.old self.new }
         ensures faults { IfErr result (MoveFailsBy self.old.link self.new.link) }
     {
         let mut chunk = [0u8; CHUNK];
@@ -145,7 +155,9 @@ impl<E: ServerEnd> Reset<E> {
     /// How far the answer has come. It is whole only once all was sent and nothing stands behind it.
     fn read(&self) -> Answered
         ensures all { result ≡ All → IsAnsweredReset self.now }
-        ensures other { result ≡ Other → IsDisturbedReset self.now }
+        ensures other { result ≡ Other → IsOther self.now.unsent self.now.received }
+        ensures disturbed { result ≡ Other → IsDisturbedReset self.now }
+        ensures waits { (result ≡ Nothing) ⊎ (result ≡ Tag) → IsUnfinished self.now.received }
     {
         let (answered, is_all) = read_reply(self.reply.as_slice());
         if !is_all || self.sent < DISCARD_ALL.len() {
@@ -162,8 +174,9 @@ impl<E: ServerEnd> Reset<E> {
         ensures born { IfOk result (λ l. l.born ≡ self.born) }
         ensures server_key { IfOk result (λ l. l.server_key ≡ self.server_key) }
         ensures reports { IfOk result (λ l. is_at_start l.reports ≡ true) }
-        ensures whole { IfOk result (λ l. EndsDialogue self l.stands) }
-        ensures faults { IfErr result (λ d. ((d.cause ≡ Unexpected) ⊎ (d.cause ≡ Changed)) × (self.link.follows ≢ true)) }
+        ensures whole { IfOk result (λ l. EndsDialogue self l) }
+        ensures stands { IfOk result (λ l. l.stands ≡ self.link) }
+        ensures faults { IfErr result (λ d. FailsAtEnd self (E.standing d.end) d.cause) }
     {
         let Reset {
             mut link,
@@ -211,8 +224,9 @@ fn dispose<E: ServerEnd>(link: LinkParts<E>, cause: ResetFault) -> Disposed<E>
 /// `I`, each with notices and reports in any number before it, and nothing behind it (PostgreSQL manual, "DISCARD"). Each turn of
 /// the gate allows at most one write and then one read; nothing is read after the ReadyForQuery.
 ///
-/// Where it fails the end comes back with the cause. An end that follows the stand-in server gives Unexpected only where a cancel
-/// struck the reset, and never Changed; it is Turns only after so many reads.
+/// Where it fails the end comes back with the cause, which what came says: Unexpected and Changed are those of its bytes, and Turns comes
+/// only after so many reads of an answer that isn't whole, nor another one. An end that follows the stand-in server gives Unexpected only
+/// where a cancel struck the reset, and never Changed.
 pub fn reset_link<E: ServerEnd, G: Gate<E>>(
     alloc: Global,
     used: UsedLink<E>,
@@ -224,8 +238,11 @@ pub fn reset_link<E: ServerEnd, G: Gate<E>>(
     ensures born { IfOk result (λ l. l.born ≡ used.born) }
     ensures server_key { IfOk result (λ l. l.server_key ≡ used.server_key) }
     ensures reports { IfOk result (λ l. is_at_start l.reports ≡ true) }
-    ensures whole { IfOk result (λ l. IsResetDialogue used.stands l.stands) }
-    ensures faults { IfErr result (λ d. FailsBy used.stands (E.standing d.end) turns d.cause) }
+    ensures whole { IfOk result (λ l. IsResetDialogue used.stands used.reports l.stands l.reports) }
+    ensures faults { IfErr result (λ d. FailsBy used.reports used.stands (E.standing d.end) turns d.cause) }
+    ensures turns { G.turns gate.new ≤ G.turns gate.old + turns }
+    ensures paced { IfErr result (λ d. IsPaced used.stands (E.standing d.end) (G.turns gate.old) (G.turns gate.new)) }
+    ensures last { IfOk result (λ l. IsPacedToEnd used.stands l.stands (G.turns gate.old) (G.turns gate.new)) }
 {
     let mut reset = Reset::begin(alloc, used);
     for _ in 0..turns {

@@ -8,37 +8,44 @@ use Rattle.message_view.specs.declared.ViewFault.{ViewFault}
 use Rattle.message_view.specs.declared.kinds.TheConstants.{ASKS_NOTHING, ASKS_CLEARTEXT, ASKS_MD5}
 use Rattle.message_view.specs.Reading.{authentication_of}
 use Rattle.session_laws.specs.Laws.{has_ready}
+use Rattle.user_file.specs.declared.secrets.Secret.{Secret}
 use Rattle.link_start.specs.declared.start_reply.StartProgress.{StartProgress}
 use Rattle.link_start.specs.declared.start_reply.StartProgress.TheVariants.{Nothing, Asked, LetIn, Ready, Refused, Other}
 use Rattle.link_start.specs.declared.start_reply.Question.{Question}
 use Rattle.link_start.specs.declared.start_reply.Question.TheVariants.{Cleartext, Unknown}
-use Rattle.link_start.specs.StartReply.{bare, salted, asked_part, asked, only_let_in, answered, is_idle, is_welcome, heard_by, heard_all, error_in}
+use Rattle.link_start.specs.Questions.{can_answer}
+use Rattle.link_start.specs.StartReply.{bare, salted, asked_part, asked, only_let_in, answered, after_question, is_idle, is_welcome, heard_by, heard_all, error_in}
 use Rattle.link_start.specs.Starts.{IsError}
 
 -- ---- one after the other
 
-pub heard-append : (h : StartProgress) (xs ys : List FrameOf) → heard_all h (xs ++ ys) ≡ heard_all (heard_all h xs) ys
-heard-append h [] ys = refl
-heard-append h (x ∷ xs) ys = heard-append (heard_by h x) xs ys
+pub heard-append : (secret : Secret) (h : StartProgress) (xs ys : List FrameOf) → heard_all secret h (xs ++ ys) ≡ heard_all secret (heard_all secret h xs) ys
+heard-append secret h [] ys = refl
+heard-append secret h (x ∷ xs) ys = heard-append secret (heard_by secret h x) xs ys
 
-pub other_stays : (fs : List FrameOf) → heard_all Other fs ≡ Other
-other_stays [] = refl
-other_stays (f ∷ fs) = other_stays fs
+pub other_stays : (secret : Secret) (fs : List FrameOf) → heard_all secret Other fs ≡ Other
+other_stays secret [] = refl
+other_stays secret (f ∷ fs) = other_stays secret fs
 
-pub refused_stays : (fs : List FrameOf) → heard_all Refused fs ≡ Refused
-refused_stays [] = refl
-refused_stays (f ∷ fs) = refused_stays fs
+pub refused_stays : (secret : Secret) (fs : List FrameOf) → heard_all secret Refused fs ≡ Refused
+refused_stays secret [] = refl
+refused_stays secret (f ∷ fs) = refused_stays secret fs
 
-pub no_other : (got more : List FrameOf) → heard_all Nothing (got ++ more) ≢ Other → heard_all Nothing got ≢ Other
-no_other got more n e = n (heard-append Nothing got more ∙ ap (λ (h : StartProgress). heard_all h more) e ∙ other_stays more)
+-- a question that can't be answered stays what is heard
+pub unanswered_stays : (secret : Secret) (q : Question) (fs : List FrameOf) → can_answer secret q ≡ false → heard_all secret (Asked q) fs ≡ Asked q
+unanswered_stays secret q [] e = refl
+unanswered_stays secret q (f ∷ fs) e = ap (λ (b : Bool). heard_all secret (if b then after_question q f else Asked q) fs) e ∙ unanswered_stays secret q fs e
 
-pub still_refused : (got more : List FrameOf) → heard_all Nothing got ≡ Refused → heard_all Nothing (got ++ more) ≡ Refused
-still_refused got more e = heard-append Nothing got more ∙ ap (λ (h : StartProgress). heard_all h more) e ∙ refused_stays more
+pub no_other : (secret : Secret) (got more : List FrameOf) → heard_all secret Nothing (got ++ more) ≢ Other → heard_all secret Nothing got ≢ Other
+no_other secret got more n e = n (heard-append secret Nothing got more ∙ ap (λ (h : StartProgress). heard_all secret h more) e ∙ other_stays secret more)
+
+pub still_refused : (secret : Secret) (got more : List FrameOf) → heard_all secret Nothing got ≡ Refused → heard_all secret Nothing (got ++ more) ≡ Refused
+still_refused secret got more e = heard-append secret Nothing got more ∙ ap (λ (h : StartProgress). heard_all secret h more) e ∙ refused_stays secret more
 
 -- nothing follows ReadyForQuery
-pub ready_is_last : (got more : List FrameOf) → heard_all Nothing (got ++ more) ≢ Other → heard_all Nothing got ≡ Ready → more ≡ []
-ready_is_last got [] n e = refl
-ready_is_last got (m ∷ ms) n e = absurd (n (heard-append Nothing got (m ∷ ms) ∙ ap (λ (h : StartProgress). heard_all h (m ∷ ms)) e ∙ other_stays ms))
+pub ready_is_last : (secret : Secret) (got more : List FrameOf) → heard_all secret Nothing (got ++ more) ≢ Other → heard_all secret Nothing got ≡ Ready → more ≡ []
+ready_is_last secret got [] n e = refl
+ready_is_last secret got (m ∷ ms) n e = absurd (n (heard-append secret Nothing got (m ∷ ms) ∙ ap (λ (h : StartProgress). heard_all secret h (m ∷ ms)) e ∙ other_stays secret ms))
 
 -- ---- where an answer comes from
 
@@ -69,22 +76,22 @@ welcomed-past true b c = tt
 welcomed-past false true c = tt
 welcomed-past false false c = refused-past c
 
-past_goes : (h : StartProgress) (f : FrameOf) → IsPast h → IsPast (heard_by h f)
-past_goes Nothing f p = absurd p
-past_goes (Asked q) f p = absurd p
-past_goes LetIn f p = welcomed-past (is_welcome f.kind) (is_idle f) (f.kind == ERROR_RESPONSE)
-past_goes Ready f p = tt
-past_goes Refused f p = tt
-past_goes Other f p = tt
+past_goes : (secret : Secret) (h : StartProgress) (f : FrameOf) → IsPast h → IsPast (heard_by secret h f)
+past_goes secret Nothing f p = absurd p
+past_goes secret (Asked q) f p = absurd p
+past_goes secret LetIn f p = welcomed-past (is_welcome f.kind) (is_idle f) (f.kind == ERROR_RESPONSE)
+past_goes secret Ready f p = tt
+past_goes secret Refused f p = tt
+past_goes secret Other f p = tt
 
-pub never_asked : {A : Type 0} (h : StartProgress) (fs : List FrameOf) (q : Question) → IsPast h → heard_all h fs ≡ Asked q → A
-never_asked Nothing [] q p e = absurd p
-never_asked (Asked r) [] q p e = absurd p
-never_asked LetIn [] q p e = absurd cc
-never_asked Ready [] q p e = absurd cc
-never_asked Refused [] q p e = absurd cc
-never_asked Other [] q p e = absurd cc
-never_asked h (f ∷ fs) q p e = never_asked (heard_by h f) fs q (past_goes h f p) e
+pub never_asked : {A : Type 0} (secret : Secret) (h : StartProgress) (fs : List FrameOf) (q : Question) → IsPast h → heard_all secret h fs ≡ Asked q → A
+never_asked secret Nothing [] q p e = absurd p
+never_asked secret (Asked r) [] q p e = absurd p
+never_asked secret LetIn [] q p e = absurd cc
+never_asked secret Ready [] q p e = absurd cc
+never_asked secret Refused [] q p e = absurd cc
+never_asked secret Other [] q p e = absurd cc
+never_asked secret h (f ∷ fs) q p e = never_asked secret (heard_by secret h f) fs q (past_goes secret h f p) e
 
 only_let_in-past : (h : StartProgress) → IsPast (only_let_in h)
 only_let_in-past Nothing = tt
@@ -102,19 +109,21 @@ question_of Ready other = other
 question_of Refused other = other
 question_of Other other = other
 
-same_question : (p q : Question) → Asked p ≡ Asked q → p ≡ q
+pub same_question : (p q : Question) → Asked p ≡ Asked q → p ≡ q
 unfolding question_of
 same_question p q e = ap (λ (h : StartProgress). question_of h q) e
 
 -- a question stays the one that it is
-pub asked_stays : (p q : Question) (fs : List FrameOf) → heard_all (Asked p) fs ≡ Asked q → p ≡ q
-asked_stays p q [] e = same_question p q e
-asked_stays p q (f ∷ fs) e = by (λ h. asked_stays p q fs h) (f.kind == NOTICE_RESPONSE) (f.kind == AUTHENTICATION) (f.kind == ERROR_RESPONSE) e
+pub asked_stays : (secret : Secret) (p q : Question) (fs : List FrameOf) → heard_all secret (Asked p) fs ≡ Asked q → p ≡ q
+asked_stays secret p q [] e = same_question p q e
+asked_stays secret p q (f ∷ fs) e = by (λ h. asked_stays secret p q fs h) (can_answer secret p) (f.kind == NOTICE_RESPONSE) (f.kind == AUTHENTICATION) (f.kind == ERROR_RESPONSE) e
   where
-    by : (heard_all (Asked p) fs ≡ Asked q → p ≡ q) → (a b c : Bool) → heard_all (if a then Asked p else (if b then answered f.body else (if c then Refused else Other))) fs ≡ Asked q → p ≡ q
-    by go true b c h = go h
-    by go false true c h = never_asked (answered f.body) fs q (only_let_in-past (asked f.body)) h
-    by go false false c h = never_asked (if c then Refused else Other) fs q (refused-past c) h
+    by : (heard_all secret (Asked p) fs ≡ Asked q → p ≡ q) → (k a b c : Bool)
+        → heard_all secret (if k then (if a then Asked p else (if b then answered f.body else (if c then Refused else Other))) else Asked p) fs ≡ Asked q → p ≡ q
+    by go false a b c h = go h
+    by go true true b c h = go h
+    by go true false true c h = never_asked secret (answered f.body) fs q (only_let_in-past (asked f.body)) h
+    by go true false false c h = never_asked secret (if c then Refused else Other) fs q (refused-past c) h
 
 -- ---- ReadyForQuery, and errors
 
@@ -173,20 +182,21 @@ is_refused true e = refl
 is_refused false e = absurd cc
 
 -- ReadyForQuery comes of a frame of that type alone
-by_ready : (h : StartProgress) (f : FrameOf) → h ≢ Ready → heard_by h f ≡ Ready → (f.kind == READY_FOR_QUERY) ≡ true
-by_ready Nothing f n e = absurd (by (f.kind == NOTICE_RESPONSE) (f.kind == AUTHENTICATION) (f.kind == ERROR_RESPONSE) e)
+by_ready : (secret : Secret) (h : StartProgress) (f : FrameOf) → h ≢ Ready → heard_by secret h f ≡ Ready → (f.kind == READY_FOR_QUERY) ≡ true
+by_ready secret Nothing f n e = absurd (by (f.kind == NOTICE_RESPONSE) (f.kind == AUTHENTICATION) (f.kind == ERROR_RESPONSE) e)
   where
     by : (a b c : Bool) → (if a then Nothing else (if b then asked f.body else (if c then Refused else Other))) ≡ Ready → ⊥
     by true b c h = absurd cc
     by false true c h = not_ready (asked f.body) (asked-open (authentication_of f.body)) h
     by false false c h = from_refused c h
-by_ready (Asked q) f n e = absurd (by (f.kind == NOTICE_RESPONSE) (f.kind == AUTHENTICATION) (f.kind == ERROR_RESPONSE) e)
+by_ready secret (Asked q) f n e = absurd (by (can_answer secret q) (f.kind == NOTICE_RESPONSE) (f.kind == AUTHENTICATION) (f.kind == ERROR_RESPONSE) e)
   where
-    by : (a b c : Bool) → (if a then Asked q else (if b then answered f.body else (if c then Refused else Other))) ≡ Ready → ⊥
-    by true b c h = absurd cc
-    by false true c h = not_ready (answered f.body) (only-open (asked f.body)) h
-    by false false c h = from_refused c h
-by_ready LetIn f n e = by (is_welcome f.kind) (f.kind == READY_FOR_QUERY) (is_idle f) (f.kind == ERROR_RESPONSE) (λ k. idle_kind f k) e
+    by : (k a b c : Bool) → (if k then (if a then Asked q else (if b then answered f.body else (if c then Refused else Other))) else Asked q) ≡ Ready → ⊥
+    by false a b c h = absurd cc
+    by true true b c h = absurd cc
+    by true false true c h = not_ready (answered f.body) (only-open (asked f.body)) h
+    by true false false c h = from_refused c h
+by_ready secret LetIn f n e = by (is_welcome f.kind) (f.kind == READY_FOR_QUERY) (is_idle f) (f.kind == ERROR_RESPONSE) (λ k. idle_kind f k) e
   where
     idle_kind : (g : FrameOf) → is_idle g ≡ true → (g.kind == READY_FOR_QUERY) ≡ true
     idle_kind g k = first (g.kind == READY_FOR_QUERY) _ k
@@ -199,53 +209,54 @@ by_ready LetIn f n e = by (is_welcome f.kind) (f.kind == READY_FOR_QUERY) (is_id
     by true k i c go h = absurd cc
     by false k true c go h = go refl
     by false k false c go h = absurd (from_refused c h)
-by_ready Ready f n e = absurd (n refl)
-by_ready Refused f n e = absurd cc
-by_ready Other f n e = absurd cc
+by_ready secret Ready f n e = absurd (n refl)
+by_ready secret Refused f n e = absurd cc
+by_ready secret Other f n e = absurd cc
 
 -- and a refusal of an ErrorResponse
-by_refused : (h : StartProgress) (f : FrameOf) → h ≢ Refused → heard_by h f ≡ Refused → (f.kind == ERROR_RESPONSE) ≡ true
-by_refused Nothing f n e = by (f.kind == NOTICE_RESPONSE) (f.kind == AUTHENTICATION) (f.kind == ERROR_RESPONSE) e
+by_refused : (secret : Secret) (h : StartProgress) (f : FrameOf) → h ≢ Refused → heard_by secret h f ≡ Refused → (f.kind == ERROR_RESPONSE) ≡ true
+by_refused secret Nothing f n e = by (f.kind == NOTICE_RESPONSE) (f.kind == AUTHENTICATION) (f.kind == ERROR_RESPONSE) e
   where
     by : (a b c : Bool) → (if a then Nothing else (if b then asked f.body else (if c then Refused else Other))) ≡ Refused → c ≡ true
     by true b c h = absurd cc
     by false true c h = absurd (not_refused (asked f.body) (asked-open (authentication_of f.body)) h)
     by false false c h = is_refused c h
-by_refused (Asked q) f n e = by (f.kind == NOTICE_RESPONSE) (f.kind == AUTHENTICATION) (f.kind == ERROR_RESPONSE) e
+by_refused secret (Asked q) f n e = by (can_answer secret q) (f.kind == NOTICE_RESPONSE) (f.kind == AUTHENTICATION) (f.kind == ERROR_RESPONSE) e
   where
-    by : (a b c : Bool) → (if a then Asked q else (if b then answered f.body else (if c then Refused else Other))) ≡ Refused → c ≡ true
-    by true b c h = absurd cc
-    by false true c h = absurd (not_refused (answered f.body) (only-open (asked f.body)) h)
-    by false false c h = is_refused c h
-by_refused LetIn f n e = by (is_welcome f.kind) (is_idle f) (f.kind == ERROR_RESPONSE) e
+    by : (k a b c : Bool) → (if k then (if a then Asked q else (if b then answered f.body else (if c then Refused else Other))) else Asked q) ≡ Refused → c ≡ true
+    by false a b c h = absurd cc
+    by true true b c h = absurd cc
+    by true false true c h = absurd (not_refused (answered f.body) (only-open (asked f.body)) h)
+    by true false false c h = is_refused c h
+by_refused secret LetIn f n e = by (is_welcome f.kind) (is_idle f) (f.kind == ERROR_RESPONSE) e
   where
     by : (a b c : Bool) → (if a then LetIn else (if b then Ready else (if c then Refused else Other))) ≡ Refused → c ≡ true
     by true b c h = absurd cc
     by false true c h = absurd cc
     by false false c h = is_refused c h
-by_refused Ready f n e = absurd cc
-by_refused Refused f n e = absurd (n refl)
-by_refused Other f n e = absurd cc
+by_refused secret Ready f n e = absurd cc
+by_refused secret Refused f n e = absurd (n refl)
+by_refused secret Other f n e = absurd cc
 
-pub ready_came : (h : StartProgress) (fs : List FrameOf) → h ≢ Ready → heard_all h fs ≡ Ready → has_ready fs ≡ true
-ready_came h [] n e = absurd (n e)
-ready_came h (f ∷ fs) n e = by (λ k. ready_came (heard_by h f) fs (λ r. true≢false (sym (by_ready h f n r) ∙ k)) e) (f.kind == READY_FOR_QUERY) refl
+pub ready_came : (secret : Secret) (h : StartProgress) (fs : List FrameOf) → h ≢ Ready → heard_all secret h fs ≡ Ready → has_ready fs ≡ true
+ready_came secret h [] n e = absurd (n e)
+ready_came secret h (f ∷ fs) n e = by (λ k. ready_came secret (heard_by secret h f) fs (λ r. true≢false (sym (by_ready secret h f n r) ∙ k)) e) (f.kind == READY_FOR_QUERY) refl
   where
     by : ((f.kind == READY_FOR_QUERY) ≡ false → has_ready fs ≡ true) → (b : Bool) → (f.kind == READY_FOR_QUERY) ≡ b → (b || has_ready fs) ≡ true
     by go true k = refl
     by go false k = go k
 
-pub first_error : (h : StartProgress) (got more : List FrameOf) → h ≢ Refused → heard_all h got ≡ Refused → error_in (got ++ more) ≡ error_in got
-first_error h [] more n e = absurd (n e)
-first_error h (f ∷ fs) more n e = by (λ k. first_error (heard_by h f) fs more (λ r. true≢false (sym (by_refused h f n r) ∙ k)) e) (f.kind == ERROR_RESPONSE) refl
+pub first_error : (secret : Secret) (h : StartProgress) (got more : List FrameOf) → h ≢ Refused → heard_all secret h got ≡ Refused → error_in (got ++ more) ≡ error_in got
+first_error secret h [] more n e = absurd (n e)
+first_error secret h (f ∷ fs) more n e = by (λ k. first_error secret (heard_by secret h f) fs more (λ r. true≢false (sym (by_refused secret h f n r) ∙ k)) e) (f.kind == ERROR_RESPONSE) refl
   where
     by : ((f.kind == ERROR_RESPONSE) ≡ false → error_in (fs ++ more) ≡ error_in fs) → (b : Bool) → (f.kind == ERROR_RESPONSE) ≡ b → (if b then spelling f else error_in (fs ++ more)) ≡ (if b then spelling f else error_in fs)
     by go true k = refl
     by go false k = go k
 
-pub is_error : (h : StartProgress) (got : List FrameOf) → h ≢ Refused → heard_all h got ≡ Refused → IsError (error_in got)
-is_error h [] n e = absurd (n e)
-is_error h (f ∷ fs) n e = by (λ k. is_error (heard_by h f) fs (λ r. true≢false (sym (by_refused h f n r) ∙ k)) e) (f.kind == ERROR_RESPONSE) refl
+pub is_error : (secret : Secret) (h : StartProgress) (got : List FrameOf) → h ≢ Refused → heard_all secret h got ≡ Refused → IsError (error_in got)
+is_error secret h [] n e = absurd (n e)
+is_error secret h (f ∷ fs) n e = by (λ k. is_error secret (heard_by secret h f) fs (λ r. true≢false (sym (by_refused secret h f n r) ∙ k)) e) (f.kind == ERROR_RESPONSE) refl
   where
     by : ((f.kind == ERROR_RESPONSE) ≡ false → IsError (error_in fs)) → (b : Bool) → (f.kind == ERROR_RESPONSE) ≡ b → IsError (if b then spelling f else error_in fs)
     by go true k = record { frame = f; kind = eqb-true f.kind ERROR_RESPONSE k; whole = refl }

@@ -1,6 +1,8 @@
 mod Closing
 mod Reading
 mod Hearing
+mod Cutting
+mod Grammar
 mod Reporting
 mod Keying
 mod Telling

@@ -16,11 +16,12 @@ use Rattle.frame_view.proofs.Splitting.{frames-stopped}
 use Rattle.message_view.specs.declared.ViewFault.{ViewFault}
 use Rattle.message_view.specs.declared.views.KeyView.{KeyView}
 use Rattle.param_track.specs.Kept.{Kept}
+use Rattle.user_file.specs.declared.secrets.Secret.{Secret}
 use Rattle.link_start.specs.declared.start_reply.StartProgress.{StartProgress}
 use Rattle.link_start.specs.declared.start_reply.StartProgress.TheVariants.{Nothing}
 use Rattle.link_start.specs.declared.start_reply.ReportError.{ReportError}
 use Rattle.link_start.specs.declared.start_reply.ReportError.TheVariants.{Unexpected, Memory}
-use Rattle.link_start.specs.Starts.{with_zero}
+use Rattle.link_start.specs.Questions.{with_zero}
 use Rattle.link_start.specs.StartReply.{before, heard, heard_all, error_in, Takes, reported_by, reported_next, reported_all, keyed_by, keyed_next, keyed_all}
 
 stopped : (x : Step) (bytes : List ℕ) → ((frame : Frame) → x ≡ Whole frame → ⊥) → Tells x bytes (front Server 65536 bytes) → frames Server 65536 bytes ≡ record { frames = []; rest = bytes }
@@ -30,12 +31,12 @@ stopped x bytes n t = frames-stopped Server 65536 bytes (not_whole x bytes (fron
 pub rest_at : (at : ℕ) (bytes : List ℕ) → take (length bytes - at) (drop at bytes) ≡ drop at bytes
 rest_at at bytes = take_all (length bytes - at) (drop at bytes) (omega (arith, length-drop at bytes))
 
-pub heard_at : (x : Step) (at : ℕ) (bytes : List ℕ) (h : StartProgress) → ((frame : Frame) → x ≡ Whole frame → ⊥) → Tells x (drop at bytes) (front Server 65536 (drop at bytes))
-    → heard_all h (frames Server 65536 (drop at bytes)).frames ≡ heard_all Nothing (frames Server 65536 bytes).frames → (frames Server 65536 (drop at bytes)).rest ≡ (frames Server 65536 bytes).rest
-    → before h (drop at bytes) ≡ heard bytes
-heard_at x at bytes h n t e r =
+pub heard_at : (secret : Secret) (x : Step) (at : ℕ) (bytes : List ℕ) (h : StartProgress) → ((frame : Frame) → x ≡ Whole frame → ⊥) → Tells x (drop at bytes) (front Server 65536 (drop at bytes))
+    → heard_all secret h (frames Server 65536 (drop at bytes)).frames ≡ heard_all secret Nothing (frames Server 65536 bytes).frames → (frames Server 65536 (drop at bytes)).rest ≡ (frames Server 65536 bytes).rest
+    → before secret h (drop at bytes) ≡ heard secret bytes
+heard_at secret x at bytes h n t e r =
     let s = stopped x (drop at bytes) n t in
-    ap₂ (λ (k : StartProgress) (b : List ℕ). before k b) (ap (λ (c : Cut). heard_all h c.frames) (sym s) ∙ e) (ap (λ (c : Cut). c.rest) (sym s) ∙ r)
+    ap₂ (λ (k : StartProgress) (b : List ℕ). before secret k b) (ap (λ (c : Cut). heard_all secret h c.frames) (sym s) ∙ e) (ap (λ (c : Cut). c.rest) (sym s) ∙ r)
 
 pub error_at : (x : Step) (bytes whole : List ℕ) → ((frame : Frame) → x ≡ Whole frame → ⊥) → Tells x bytes (front Server 65536 bytes) → error_in (frames Server 65536 bytes).frames ≡ whole → [] ≡ whole
 error_at x bytes whole n t e = ap (λ (c : Cut). error_in c.frames) (sym (stopped x bytes n t)) ∙ e

@@ -18,6 +18,7 @@ use Rattle.session_values.specs.Lawful.{IsLawfulCatalogue}
 use Rattle.session_values.specs.Parameters.{reported_parameters}
 use Rattle.session_values.specs.State.{State, StartKeyOf, fresh, all_reports_from}
 use Rattle.session_values.specs.Service.{welcome}
+use Rattle.user_file.specs.declared.secrets.Secret.{Secret}
 use Rattle.session_laws.specs.Starts.{Welcomes}
 use Rattle.session_laws.proofs.ByName.{fresh_is_reached, welcome_is_read}
 use Rattle.link_laws.specs.Stages.{Server, Auth, NoAuth, Asks, Closed, let_in, wrong_password, opened, opens, is_answer}
@@ -28,25 +29,31 @@ use Rattle.link_run.specs.Links.{kept_by}
 use Rattle.link_start.specs.declared.start_reply.StartProgress.{StartProgress}
 use Rattle.link_start.specs.declared.start_reply.StartProgress.TheVariants.{Nothing, Asked, LetIn, Ready, Refused, Other}
 use Rattle.link_start.specs.declared.start_reply.Question.{Question}
-use Rattle.link_start.specs.StartReply.{heard_by, heard_all, error_in, reported_all}
+use Rattle.link_start.specs.Questions.{can_answer}
+use Rattle.link_start.specs.StartReply.{after_question, heard_by, heard_all, error_in, reported_all}
 use Rattle.link_start.specs.Starts.{AsksQuestion, IsLinkKey}
+use Rattle.link_start.proofs.Hearing.{unanswered_stays}
 use Rattle.link_start.proofs.Reporting.{welcome_reports}
 use Rattle.link_start.proofs.Keying.{TellsOwnKey, behind_none, welcome_tells_key}
 
 -- ---- a welcome, and what refuses
 
-welcome_heard : (ps : List Parameter) (vs : List Text) (pid secret : ℕ) → heard_all LetIn (all_reports_from ps vs ++ backend_key_data pid secret ∷ ready_for_query IDLE ∷ []) ≡ Ready
-welcome_heard [] vs pid secret = refl
-welcome_heard (p ∷ ps) [] pid secret = refl
-welcome_heard (p ∷ ps) (v ∷ vs) pid secret = welcome_heard ps vs pid secret
+welcome_heard : (secret : Secret) (ps : List Parameter) (vs : List Text) (pid key : ℕ) → heard_all secret LetIn (all_reports_from ps vs ++ backend_key_data pid key ∷ ready_for_query IDLE ∷ []) ≡ Ready
+welcome_heard secret [] vs pid key = refl
+welcome_heard secret (p ∷ ps) [] pid key = refl
+welcome_heard secret (p ∷ ps) (v ∷ vs) pid key = welcome_heard secret ps vs pid key
 
-pub let_in_heard : heard_by Nothing let_in ≡ LetIn
+pub let_in_heard : (secret : Secret) → heard_by secret Nothing let_in ≡ LetIn
 unfolding authentication_of int32_at
-let_in_heard = refl
+let_in_heard secret = refl
 
-let_in_after : (q : Question) → heard_by (Asked q) let_in ≡ LetIn
+-- behind a question that can be answered
+answerable_next : (secret : Secret) (q : Question) (f : FrameOf) → can_answer secret q ≡ true → heard_by secret (Asked q) f ≡ after_question q f
+answerable_next secret q f e = ap (λ (b : Bool). if b then after_question q f else Asked q) e
+
+let_in_after : (secret : Secret) (q : Question) → can_answer secret q ≡ true → heard_by secret (Asked q) let_in ≡ LetIn
 unfolding authentication_of int32_at
-let_in_after q = refl
+let_in_after secret q e = answerable_next secret q let_in e
 
 -- the session that was opened, and what its welcome reports
 pub record OpensReported (v : Server) (key : StartKeyOf) (replies : List FrameOf) : Type 0 where
@@ -61,74 +68,85 @@ pub record RefusedBy (refusal : Option FrameOf) (bytes : List ℕ) : Type 0 wher
   pub whole : bytes ≡ spelling frame
 
 -- replies of which each front is heard as a start: what the last says, and nothing else than a start's frames
-pub record IsHeard (v : Server) (key : StartKeyOf) (h : StartProgress) (replies : List FrameOf) (refusal : Option FrameOf) : Type 0 where
-  pub lawful : heard_all h replies ≢ Other
-  pub ready : heard_all h replies ≡ Ready → OpensReported v key replies
-  pub refused : heard_all h replies ≡ Refused → RefusedBy refusal (error_in replies)
+pub record IsHeard (secret : Secret) (v : Server) (key : StartKeyOf) (h : StartProgress) (replies : List FrameOf) (refusal : Option FrameOf) : Type 0 where
+  pub lawful : heard_all secret h replies ≢ Other
+  pub ready : heard_all secret h replies ≡ Ready → OpensReported v key replies
+  pub refused : heard_all secret h replies ≡ Refused → RefusedBy refusal (error_in replies)
 
-opened_heard : (v : Server) (key : StartKeyOf) (h : StartProgress) (r : Result State Cause) → heard_by h let_in ≡ LetIn → fresh v.catalogue key ≡ r → IsLawfulCatalogue v.catalogue → IsLinkKey key
-    → IsHeard v key h (opened v r).replies (start_error r)
-opened_heard v key h (Ok s) e f c k =
+opened_heard : (secret : Secret) (v : Server) (key : StartKeyOf) (h : StartProgress) (r : Result State Cause) → heard_by secret h let_in ≡ LetIn → fresh v.catalogue key ≡ r → IsLawfulCatalogue v.catalogue → IsLinkKey key
+    → IsHeard secret v key h (opened v r).replies (start_error r)
+opened_heard secret v key h (Ok s) e f c k =
     let w : Welcomes s v.pid v.secret = welcome_is_read v.catalogue key s v.pid v.secret (fresh_is_reached v.catalogue key s c k.0.lawful f) in
-    let is : heard_all h (opened v (Ok s)).replies ≡ Ready = ap (λ (x : StartProgress). heard_all x (welcome s v.pid v.secret)) e ∙ welcome_heard reported_parameters s.reported v.pid v.secret in
+    let is : heard_all secret h (opened v (Ok s)).replies ≡ Ready = ap (λ (x : StartProgress). heard_all secret x (welcome s v.pid v.secret)) e ∙ welcome_heard secret reported_parameters s.reported v.pid v.secret in
     record {
       lawful = λ o. let z : Ready ≡ Other = sym is ∙ o in cc;
       ready = λ _. record { session = s; is_fresh = f; reported = welcome_reports s v.pid v.secret w; keyed = behind_none v let_in (welcome s v.pid v.secret) refl (welcome_tells_key v s) };
       refused = λ o. absurd (let z : Ready ≡ Refused = sym is ∙ o in cc);
     }
-opened_heard v key h (Err c) e f l k =
-    let is : heard_all h (opened v (Err c)).replies ≡ Refused = ap (λ (x : StartProgress). heard_all x (fatal c ∷ [])) e in
+opened_heard secret v key h (Err c) e f l k =
+    let is : heard_all secret h (opened v (Err c)).replies ≡ Refused = ap (λ (x : StartProgress). heard_all secret x (fatal c ∷ [])) e in
     record {
       lawful = λ o. let z : Refused ≡ Other = sym is ∙ o in cc;
       ready = λ o. absurd (let z : Refused ≡ Ready = sym is ∙ o in cc);
       refused = λ _. record { frame = fatal c; is = refl; whole = refl };
     }
 
-wrong_heard : (v : Server) (key : StartKeyOf) (q : Question) → IsHeard v key (Asked q) (wrong_password ∷ []) (Some wrong_password)
-wrong_heard v key q = record {
-  lawful = λ o. let z : Refused ≡ Other = o in cc;
-  ready = λ o. absurd (let z : Refused ≡ Ready = o in cc);
-  refused = λ _. record { frame = wrong_password; is = refl; whole = refl };
+wrong_heard : (secret : Secret) (v : Server) (key : StartKeyOf) (q : Question) → can_answer secret q ≡ true → IsHeard secret v key (Asked q) (wrong_password ∷ []) (Some wrong_password)
+wrong_heard secret v key q e =
+    let is : heard_all secret (Asked q) (wrong_password ∷ []) ≡ Refused = answerable_next secret q wrong_password e in
+    record {
+      lawful = λ o. let z : Refused ≡ Other = sym is ∙ o in cc;
+      ready = λ o. absurd (let z : Refused ≡ Ready = sym is ∙ o in cc);
+      refused = λ _. record { frame = wrong_password; is = refl; whole = refl };
+    }
+
+-- whatever stands behind a question that can't be answered
+unanswered_heard : (secret : Secret) (v : Server) (key : StartKeyOf) (q : Question) (replies : List FrameOf) (refusal : Option FrameOf) → heard_all secret (Asked q) replies ≡ Asked q → IsHeard secret v key (Asked q) replies refusal
+unanswered_heard secret v key q replies refusal is = record {
+  lawful = λ o. let z : Asked q ≡ Other = sym is ∙ o in cc;
+  ready = λ o. absurd (let z : Asked q ≡ Ready = sym is ∙ o in cc);
+  refused = λ o. absurd (let z : Asked q ≡ Refused = sym is ∙ o in cc);
 }
 
 -- ---- all that is answered to a start
 
-and_none : (v : Server) (key : StartKeyOf) (h : StartProgress) (replies : List FrameOf) (refusal : Option FrameOf) → IsHeard v key h replies refusal → IsHeard v key h (replies ++ []) refusal
-and_none v key h replies refusal x = subst (λ (fs : List FrameOf). IsHeard v key h fs refusal) (sym (append-nil replies)) x
+and_none : (secret : Secret) (v : Server) (key : StartKeyOf) (h : StartProgress) (replies : List FrameOf) (refusal : Option FrameOf) → IsHeard secret v key h replies refusal → IsHeard secret v key h (replies ++ []) refusal
+and_none secret v key h replies refusal x = subst (λ (fs : List FrameOf). IsHeard secret v key h fs refusal) (sym (append-nil replies)) x
 
-answer_heard : (v : Server) (key : StartKeyOf) (q : Question) (right : Bool) → IsLawfulCatalogue v.catalogue → IsLinkKey key
-    → IsHeard v key (Asked q) ((if right then opens v (start_body key) else record { next = Closed; replies = wrong_password ∷ [] }).replies ++ []) (if right then start_error (fresh v.catalogue key) else Some wrong_password)
-answer_heard v key q true c k =
-    and_none v key (Asked q) (opens v (start_body key)).replies (start_error (fresh v.catalogue key))
-    (subst (λ (r : Result State Cause). IsHeard v key (Asked q) (opened v r).replies (start_error (fresh v.catalogue key))) (sym (starts_are_of_their_keys v.catalogue key k.0 k.1))
-    (opened_heard v key (Asked q) (fresh v.catalogue key) (let_in_after q) refl c k))
-answer_heard v key q false c k = wrong_heard v key q
+answer_heard : (secret : Secret) (v : Server) (key : StartKeyOf) (q : Question) (right : Bool) → IsLawfulCatalogue v.catalogue → IsLinkKey key → can_answer secret q ≡ true
+    → IsHeard secret v key (Asked q) ((if right then opens v (start_body key) else record { next = Closed; replies = wrong_password ∷ [] }).replies ++ []) (if right then start_error (fresh v.catalogue key) else Some wrong_password)
+answer_heard secret v key q true c k e =
+    and_none secret v key (Asked q) (opens v (start_body key)).replies (start_error (fresh v.catalogue key))
+    (subst (λ (r : Result State Cause). IsHeard secret v key (Asked q) (opened v r).replies (start_error (fresh v.catalogue key))) (sym (starts_are_of_their_keys v.catalogue key k.0 k.1))
+    (opened_heard secret v key (Asked q) (fresh v.catalogue key) (let_in_after secret q e) refl c k))
+answer_heard secret v key q false c k e = wrong_heard secret v key q e
 
 -- a question, and then what is answered to its answer
-after_question : (v : Server) (key : StartKeyOf) (kind : ℕ) (more : List ℕ) (q : Question) (replies : List FrameOf) (refusal : Option FrameOf) → heard_by Nothing (authentication kind more) ≡ Asked q
-    → IsHeard v key (Asked q) replies refusal → IsHeard v key Nothing (authentication kind more ∷ replies) refusal
-after_question v key kind more q replies refusal e x =
-    let is : heard_all Nothing (authentication kind more ∷ replies) ≡ heard_all (Asked q) replies = ap (λ (h : StartProgress). heard_all h replies) e in
+question_heard : (secret : Secret) (v : Server) (key : StartKeyOf) (kind : ℕ) (more : List ℕ) (q : Question) (replies : List FrameOf) (refusal : Option FrameOf) → heard_by secret Nothing (authentication kind more) ≡ Asked q
+    → (can_answer secret q ≡ true → IsHeard secret v key (Asked q) replies refusal) → IsHeard secret v key Nothing (authentication kind more ∷ replies) refusal
+question_heard secret v key kind more q replies refusal e x =
+    let y : IsHeard secret v key (Asked q) replies refusal = by (can_answer secret q) refl in
+    let is : heard_all secret Nothing (authentication kind more ∷ replies) ≡ heard_all secret (Asked q) replies = ap (λ (h : StartProgress). heard_all secret h replies) e in
     record {
-      lawful = λ o. x.lawful (sym is ∙ o);
-      ready = λ o. let y = x.ready (sym is ∙ o) in record { session = y.session; is_fresh = y.is_fresh; reported = y.reported; keyed = behind_none v (authentication kind more) replies refl y.keyed };
-      refused = λ o. let y = x.refused (sym is ∙ o) in record { frame = y.frame; is = y.is; whole = y.whole };
+      lawful = λ o. y.lawful (sym is ∙ o);
+      ready = λ o. let z = y.ready (sym is ∙ o) in record { session = z.session; is_fresh = z.is_fresh; reported = z.reported; keyed = behind_none v (authentication kind more) replies refl z.keyed };
+      refused = λ o. let z = y.refused (sym is ∙ o) in record { frame = z.frame; is = z.is; whole = z.whole };
     }
+  where
+    by : (b : Bool) → can_answer secret q ≡ b → IsHeard secret v key (Asked q) replies refusal
+    by true k = x k
+    by false k = unanswered_heard secret v key q replies refusal (unanswered_stays secret q replies k)
 
-pub replies_heard : (v : Server) (auth : Auth) (key : StartKeyOf) (answer : Option Text) → IsLawfulCatalogue v.catalogue → IsLinkKey key → AsksQuestion auth → IsToQuestion answer auth
-    → IsHeard v key Nothing (start_replies v auth key answer) (start_refusal v auth key answer)
-replies_heard v NoAuth key None c k a to =
-    and_none v key Nothing (opens v (start_body key)).replies (start_error (fresh v.catalogue key))
-    (subst (λ (r : Result State Cause). IsHeard v key Nothing (opened v r).replies (start_error (fresh v.catalogue key))) (sym (starts_are_of_their_keys v.catalogue key k.0 k.1))
-    (opened_heard v key Nothing (fresh v.catalogue key) let_in_heard refl c k))
-replies_heard v NoAuth key (Some answer) c k a to = absurd to
-replies_heard v (Asks kind more right) key None c k a to = after_question v key kind more a.question [] None a.is_read (record {
-  lawful = λ o. let z : Asked a.question ≡ Other = o in cc;
-  ready = λ o. absurd (let z : Asked a.question ≡ Ready = o in cc);
-  refused = λ o. absurd (let z : Asked a.question ≡ Refused = o in cc);
-})
-replies_heard v (Asks kind more right) key (Some answer) c k a to =
-    after_question v key kind more a.question _ _ a.is_read (answer_heard v key a.question (is_answer right (password_message answer)) c k)
+pub replies_heard : (secret : Secret) (v : Server) (auth : Auth) (key : StartKeyOf) (answer : Option Text) → IsLawfulCatalogue v.catalogue → IsLinkKey key → AsksQuestion auth → IsToQuestion answer auth
+    → IsHeard secret v key Nothing (start_replies v auth key answer) (start_refusal v auth key answer)
+replies_heard secret v NoAuth key None c k a to =
+    and_none secret v key Nothing (opens v (start_body key)).replies (start_error (fresh v.catalogue key))
+    (subst (λ (r : Result State Cause). IsHeard secret v key Nothing (opened v r).replies (start_error (fresh v.catalogue key))) (sym (starts_are_of_their_keys v.catalogue key k.0 k.1))
+    (opened_heard secret v key Nothing (fresh v.catalogue key) (let_in_heard secret) refl c k))
+replies_heard secret v NoAuth key (Some answer) c k a to = absurd to
+replies_heard secret v (Asks kind more right) key None c k a to = question_heard secret v key kind more a.question [] None a.is_read (λ _. unanswered_heard secret v key a.question [] None refl)
+replies_heard secret v (Asks kind more right) key (Some answer) c k a to =
+    question_heard secret v key kind more a.question _ _ a.is_read (answer_heard secret v key a.question (is_answer right (password_message answer)) c k)
 
 -- ---- the beginning of a frame
 

@@ -1,3 +1,4 @@
+pub mod Questions
 pub mod StartReply
 pub mod Starts
 pub mod Closes

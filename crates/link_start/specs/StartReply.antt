@@ -1,5 +1,5 @@
 -- What a server answers to a start, frame by frame (PostgreSQL manual, "Message Flow", "Start-up").
-use Rattle.std.specs.Prelude.{◌≡◌, ℕ, Bool, Result, Ok, Err, Option, Some, None, ◌||◌, ◌&&◌, ◌==◌, if◌then◌else◌, bytes_eq, List, [], ◌∷◌}
+use Rattle.std.specs.Prelude.{◌≡◌, ℕ, Bool, false, Result, Ok, Err, Option, Some, None, ◌||◌, ◌&&◌, ◌==◌, if◌then◌else◌, bytes_eq, List, [], ◌∷◌, ◌++◌}
 use Rattle.frame_view.specs.declared.Side.TheVariants.{Server}
 use Rattle.frame_view.specs.declared.server.TheConstants.{AUTHENTICATION, BACKEND_KEY_DATA, ERROR_RESPONSE, NOTICE_RESPONSE, PARAMETER_STATUS, READY_FOR_QUERY}
 use Rattle.frame_view.specs.Frames.{FrameOf, Cut, Front, AFrame, Lacks, Faulty, front, frames, spelling}
@@ -9,10 +9,14 @@ use Rattle.message_view.specs.declared.views.KeyView.{KeyView}
 use Rattle.message_view.specs.Reading.{authentication_of, key_of, status_of}
 use Rattle.param_track.specs.Kept.{Kept, fits, with_first}
 use Rattle.param_track.specs.Reports.{Report}
+use Rattle.user_file.specs.declared.secrets.Secret.{Secret}
+use Rattle.link_run.specs.Dialogues.{IsStartAnswer}
 use Rattle.link_run.specs.declared.reply.TheConstants.{LONGEST_REPLY}
 use Rattle.link_start.specs.declared.start_reply.StartProgress.{StartProgress}
 use Rattle.link_start.specs.declared.start_reply.StartProgress.TheVariants.{Nothing, Asked, LetIn, Ready, Refused, Other}
+use Rattle.link_start.specs.declared.start_reply.Question.{Question}
 use Rattle.link_start.specs.declared.start_reply.Question.TheVariants.{Cleartext, Md5, Unknown}
+use Rattle.link_start.specs.Questions.{can_answer}
 use Rattle.link_start.specs.declared.start_reply.ReportError.{ReportError}
 use Rattle.link_start.specs.declared.start_reply.ReportError.TheVariants.{Unexpected, Memory}
 
@@ -66,17 +70,22 @@ is_welcome kind = kind == NOTICE_RESPONSE || (kind == PARAMETER_STATUS || kind =
 abbrev pub welcomed : FrameOf → StartProgress
 welcomed f = if is_welcome f.kind then LetIn else (if is_idle f then Ready else refused f.kind)
 
-abbrev pub heard_by : StartProgress → FrameOf → StartProgress
-heard_by Nothing f = if f.kind == NOTICE_RESPONSE then Nothing else (if f.kind == AUTHENTICATION then asked f.body else refused f.kind)
-heard_by (Asked q) f = if f.kind == NOTICE_RESPONSE then Asked q else (if f.kind == AUTHENTICATION then answered f.body else refused f.kind)
-heard_by LetIn f = welcomed f
-heard_by Ready f = Other
-heard_by Refused f = Refused
-heard_by Other f = Other
+abbrev pub after_question : Question → FrameOf → StartProgress
+after_question q f = if f.kind == NOTICE_RESPONSE then Asked q else (if f.kind == AUTHENTICATION then answered f.body else refused f.kind)
 
-abbrev pub heard_all : StartProgress → List FrameOf → StartProgress
-heard_all h [] = h
-heard_all h (f ∷ fs) = heard_all (heard_by h f) fs
+-- What stands behind a question that this user can't answer doesn't matter, as behind an error: however the bytes are cut, it is the
+-- question that the start fails by.
+abbrev pub heard_by : Secret → StartProgress → FrameOf → StartProgress
+heard_by secret Nothing f = if f.kind == NOTICE_RESPONSE then Nothing else (if f.kind == AUTHENTICATION then asked f.body else refused f.kind)
+heard_by secret (Asked q) f = if can_answer secret q then after_question q f else Asked q
+heard_by secret LetIn f = welcomed f
+heard_by secret Ready f = Other
+heard_by secret Refused f = Refused
+heard_by secret Other f = Other
+
+abbrev pub heard_all : Secret → StartProgress → List FrameOf → StartProgress
+heard_all secret h [] = h
+heard_all secret h (f ∷ fs) = heard_all secret (heard_by secret h f) fs
 
 -- with these bytes behind, which are no whole frame: nothing may follow ReadyForQuery, and no faulty frame anything
 abbrev pub if_lawful : StartProgress → Front → StartProgress
@@ -84,19 +93,36 @@ if_lawful h (Faulty fault) = Other
 if_lawful h (AFrame kind body rest) = h
 if_lawful h (Lacks n) = h
 
-abbrev pub before : StartProgress → List ℕ → StartProgress
-before Refused rest = Refused
-before Ready rest = bare Ready rest
-before Nothing rest = if_lawful Nothing (front Server LONGEST_REPLY rest)
-before (Asked q) rest = if_lawful (Asked q) (front Server LONGEST_REPLY rest)
-before LetIn rest = if_lawful LetIn (front Server LONGEST_REPLY rest)
-before Other rest = Other
+abbrev pub before : Secret → StartProgress → List ℕ → StartProgress
+before secret Nothing rest = if_lawful Nothing (front Server LONGEST_REPLY rest)
+before secret (Asked q) rest = if can_answer secret q then if_lawful (Asked q) (front Server LONGEST_REPLY rest) else Asked q
+before secret LetIn rest = if_lawful LetIn (front Server LONGEST_REPLY rest)
+before secret Ready rest = bare Ready rest
+before secret Refused rest = Refused
+before secret Other rest = Other
 
-abbrev pub heard_cut : Cut → StartProgress
-heard_cut cut = before (heard_all Nothing cut.frames) cut.rest
+abbrev pub heard_cut : Secret → Cut → StartProgress
+heard_cut secret cut = before secret (heard_all secret Nothing cut.frames) cut.rest
 
-abbrev pub heard : List ℕ → StartProgress
-heard bytes = heard_cut (frames Server LONGEST_REPLY bytes)
+abbrev pub heard : Secret → List ℕ → StartProgress
+heard secret bytes = heard_cut secret (frames Server LONGEST_REPLY bytes)
+
+-- what a start fails by
+abbrev pub IsEnd : Secret → StartProgress → Type 0
+IsEnd secret Nothing = ⊥
+IsEnd secret (Asked q) = can_answer secret q ≡ false
+IsEnd secret LetIn = ⊥
+IsEnd secret Ready = ⊥
+IsEnd secret Refused = Unit {0}
+IsEnd secret Other = Unit {0}
+
+-- It is heard so whatever comes behind it: no cut of the bytes changes it.
+abbrev pub EndsAreHeard : Type 0
+EndsAreHeard = (secret : Secret) (bytes more : List ℕ) → IsEnd secret (heard secret bytes) → heard secret (bytes ++ more) ≡ heard secret bytes
+
+-- What is heard as a start, frame by frame and to its end, is an answer to a start by its grammar.
+abbrev pub ReadyIsAnswer : Type 0
+ReadyIsAnswer = (secret : Secret) (fs : List FrameOf) → heard_all secret Nothing fs ≡ Ready → IsStartAnswer fs
 
 -- ---- what is read in it
 

@@ -1,18 +1,16 @@
 -- The start of a link: what it may begin with, how far it has come, and what it ends with.
-use Rattle.std.specs.Prelude.{◌≡◌, ◌⊎◌, ℕ, ◌+◌, ◌^◌, ◌<◌, ◌≤◌, length, Bool, true, false, if◌then◌else◌, ◌==◌, Option, Some, None, List, []}
+use Rattle.std.specs.Prelude.{◌≡◌, ◌≢◌, ◌⊎◌, ℕ, ◌+◌, ◌^◌, ◌<◌, ◌≤◌, length, Bool, true, false, Err, Option, Some, None, List, []}
 use Rattle.std.specs.Borrow.{Bor}
-use Rattle.std.specs.List.{list_any}
 use Rattle.frame_view.specs.Frames.{FrameOf, frames, spelling}
 use Rattle.frame_view.specs.declared.Side.TheVariants.{Server}
 use Rattle.frame_view.specs.declared.server.TheConstants.{ERROR_RESPONSE}
+use Rattle.message_view.specs.declared.ViewFault.{ViewFault}
 use Rattle.message_view.specs.declared.views.KeyView.{KeyView}
 use Rattle.message_view.specs.Bodies.{Text}
 use Rattle.message_view.specs.Messages.{authentication}
 use Rattle.session_values.specs.Lawful.{IsClientKey}
 use Rattle.session_values.specs.State.{StartKeyOf, fresh}
 use Rattle.user_file.specs.declared.secrets.Secret.{Secret}
-use Rattle.user_file.specs.declared.secrets.Secret.TheVariants as secrets
-use Rattle.user_file.specs.Secrets.{answer}
 use Rattle.link_laws.specs.Stages.{Server as TheServer, Auth, NoAuth, Asks}
 use Rattle.link_laws.specs.Standing.{Standing, Moves}
 use Rattle.link_laws.specs.Dialogues.{IsNew, AsksInFrame, IsStarting, auth_of, start_error, start_refusal}
@@ -21,9 +19,9 @@ use Rattle.link_run.specs.declared.reply.TheConstants.{LONGEST_REPLY}
 use Rattle.link_start.specs.declared.start_reply.StartProgress.{StartProgress}
 use Rattle.link_start.specs.declared.start_reply.StartProgress.TheVariants as heard
 use Rattle.link_start.specs.declared.start_reply.Question.{Question}
-use Rattle.link_start.specs.declared.start_reply.Question.TheVariants.{Cleartext, Md5, Unknown}
 use Rattle.link_start.specs.declared.start.StartCause.{StartCause}
 use Rattle.link_start.specs.declared.start.StartCause.TheVariants.{Refused, Lost, Unanswerable, Unexpected, Memory, Turns}
+use Rattle.link_start.specs.Questions.{answer_to}
 use Rattle.link_start.specs.StartReply as spec
 
 -- ---- what a start may begin with
@@ -50,21 +48,7 @@ CanStart at = at.follows ≡ true → IsStartable at
 abbrev pub IsLinkKey : StartKeyOf → Type 0
 IsLinkKey key = IsClientKey key × (0 < length key.dbname)
 
--- ---- the answer to a question
-
-abbrev pub with_zero : Text → Bool
-with_zero t = list_any (λ b. b == 0) t
-
--- the password itself, where the secret keeps it and a message can spell it
-abbrev pub password_of : Secret → Option Text
-password_of (secrets.Plain password) = if with_zero password then None else Some password
-password_of (secrets.Md5 digits) = None
-
--- what this user answers; none where it can't
-abbrev pub answer_to : Secret → Text → Question → Option Text
-answer_to secret user Cleartext = password_of secret
-answer_to secret user (Md5 salt) = Some (answer secret user salt)
-answer_to secret user (Unknown kind) = None
+-- ---- the answer to a server's own question
 
 abbrev pub answer_heard : Secret → Text → StartProgress → Option Text
 answer_heard secret user (heard.Asked question) = answer_to secret user question
@@ -74,7 +58,7 @@ answer_heard secret user heard.Ready = None
 answer_heard secret user heard.Refused = None
 answer_heard secret user heard.Other = None
 
--- what it answers to such a server
+-- what this user answers to such a server
 abbrev pub own_answer : Secret → Text → Auth → Option Text
 own_answer secret user NoAuth = None
 own_answer secret user (Asks kind more right) = answer_heard secret user (spec.asked (authentication kind more).body)
@@ -85,6 +69,10 @@ abbrev pub IsLetIn : Standing → StartKeyOf → Secret → Type 0
 IsLetIn at key secret = start_refusal at.server (auth_of at.stage) key (own_answer secret key.user (auth_of at.stage)) ≡ start_error (fresh at.server.catalogue key)
 
 -- ---- a start under way
+
+-- the calls of an end that came to nothing
+abbrev pub waits_of : Standing → ℕ
+waits_of at = at.write_waits + at.read_waits
 
 pub record StartView : Type 0 where
   pub end : Standing
@@ -110,6 +98,7 @@ pub record IsUnderWay (began : Standing) (secret : Secret) (v : StartView) : Typ
   pub starting : IsStarting began v.key answer v.unsent v.end v.received
   pub own : began.follows ≡ true → IsOwn secret v.key.user (auth_of began.stage) answer
   pub unasked : v.answered ≡ false → answer ≡ None
+  pub asked : v.answered ≡ true → answer ≢ None
   pub faults : began.faults ≤ v.end.faults
 
 -- the end ended or faulted
@@ -122,25 +111,26 @@ IsSameStart old new = (new.key ≡ old.key) × (new.number ≡ old.number) × (n
 -- ---- what it ends with
 
 -- all was sent, and what was received ends with ReadyForQuery
-pub record IsWelcomed (v : StartView) : Type 0 where
+pub record IsWelcomed (secret : Secret) (v : StartView) : Type 0 where
   pub sent : v.unsent ≡ []
-  pub ready : spec.heard v.received ≡ heard.Ready
+  pub ready : spec.heard secret v.received ≡ heard.Ready
 
--- It was begun as it may be, and is welcomed.
-pub record IsDone (v : StartView) : Type 0 where
-  pub began : Standing
-  pub secret : Secret
+-- It was begun there as it may be, and is welcomed.
+pub record IsDoneFrom (began : Standing) (secret : Secret) (v : StartView) : Type 0 where
   pub can_start : CanStart began
   pub key : IsLinkKey v.key
   pub under_way : IsUnderWay began secret v
-  pub welcomed : IsWelcomed v
+  pub welcomed : IsWelcomed secret v
+
+abbrev pub IsDone : StartView → Type 0
+IsDone v = (began : Standing) × ((secret : Secret) × IsDoneFrom began secret v)
 
 -- A link comes of a whole dialogue alone, and keeps what was reported in it, and the key that it told.
 pub record IsStarted (began : Standing) (secret : Secret) (l : LinkView) : Type 0 where
   pub received : List ℕ
   pub answered : Bool
   pub under_way : IsUnderWay began secret (start_view l.stands l.key l.number l.born answered [] received)
-  pub ready : spec.heard received ≡ heard.Ready
+  pub ready : spec.heard secret received ≡ heard.Ready
   pub reports : spec.reported_all [] (frames Server LONGEST_REPLY received).frames ≡ Some l.reports
   pub tells_key : spec.TellsKey (frames Server LONGEST_REPLY received).frames l.server_key
 
@@ -174,30 +164,89 @@ IsEndCause old new (Unanswerable question) = ⊥
 IsEndCause old new Unexpected = ⊥
 IsEndCause old new Turns = ⊥
 
-abbrev pub IsCause : Standing → Standing → Secret → StartKeyOf → StartCause → Type 0
-IsCause began now secret key (Refused error) = IsError error × (began.follows ≡ true → IsRefusalOf began secret key error)
-IsCause began now secret key Lost = IsLost began now
-IsCause began now secret key (Unanswerable question) = (answer_to secret key.user question ≡ None) × (began.follows ≡ true → IsUnanswerable secret key.user (auth_of began.stage))
-IsCause began now secret key Unexpected = began.follows ≡ true → ⊥
-IsCause began now secret key Memory = Unit {0}
-IsCause began now secret key Turns = Unit {0}
-
--- So many turns were tried since then: in each of them a byte was sent or came, or a write or a read came to nothing at that time.
-pub record HasTried (began now : Standing) (turns : ℕ) : Type 0 where
+-- Since then some bytes were sent and these came, and what came says so.
+pub record CameAs (began now : Standing) (Says : List ℕ → Type 0) : Type 0 where
   pub sent : List ℕ
   pub received : List ℕ
   pub moves : Moves began sent now received
-  pub tries : turns + (began.write_waits + began.read_waits) ≤ now.write_waits + now.read_waits + (length sent + length received)
+  pub says : Says received
+
+abbrev pub answer_in : List ℕ → List FrameOf
+answer_in received = (frames Server LONGEST_REPLY received).frames
+
+-- the first ErrorResponse in it is this one
+abbrev pub IsErrorHeard : Secret → List ℕ → List ℕ → Type 0
+IsErrorHeard secret error received = (spec.heard secret received ≡ heard.Refused) × (error ≡ spec.error_in (answer_in received)) × IsError error
+
+-- it asks this, which this user can't answer
+abbrev pub IsUnanswerableHeard : Secret → Text → Question → List ℕ → Type 0
+IsUnanswerableHeard secret user question received = (spec.heard secret received ≡ heard.Asked question) × (answer_to secret user question ≡ None)
+
+-- something else; or a whole welcome of which a report can't be read, more than 64 names are reported, or the key can't be read
+abbrev pub IsUnexpectedHeard : Secret → List ℕ → Type 0
+IsUnexpectedHeard secret received =
+    (spec.heard secret received ≡ heard.Other) ⊎ ((spec.heard secret received ≡ heard.Ready) × ((spec.reported_all [] (answer_in received) ≡ None) ⊎ ((fault : ViewFault) × (spec.keyed_all None (answer_in received) ≡ Err fault))))
+
+-- By its cause: what came says it, over an end of any kind; and an end that follows refuses, or asks what can't be answered, only as its
+-- server does, and says nothing unexpected. Of memory no contract says why; of turns `HasTried` does.
+abbrev pub IsCause : Standing → Standing → Secret → StartKeyOf → StartCause → Type 0
+IsCause began now secret key (Refused error) = CameAs began now (IsErrorHeard secret error) × (began.follows ≡ true → IsRefusalOf began secret key error)
+IsCause began now secret key Lost = IsLost began now
+IsCause began now secret key (Unanswerable question) = CameAs began now (IsUnanswerableHeard secret key.user question) × (began.follows ≡ true → IsUnanswerable secret key.user (auth_of began.stage))
+IsCause began now secret key Unexpected = CameAs began now (IsUnexpectedHeard secret) × (began.follows ≡ true → ⊥)
+IsCause began now secret key Memory = Unit {0}
+IsCause began now secret key Turns = Unit {0}
+
+-- ---- how long it goes on
+
+-- More of the answer is to come: of a question only once it is answered.
+abbrev pub IsWaiting : StartProgress → Type 0 → Type 0
+IsWaiting heard.Nothing answered = Unit {0}
+IsWaiting (heard.Asked question) answered = answered
+IsWaiting heard.LetIn answered = Unit {0}
+IsWaiting heard.Ready answered = ⊥
+IsWaiting heard.Refused answered = ⊥
+IsWaiting heard.Other answered = ⊥
+
+-- So many turns were tried since then: in each of them a byte was sent or came, or a write or a read came to nothing at that time. And
+-- what came isn't the whole answer, nor does it say why the start should fail.
+pub record HasTried (began : Standing) (secret : Secret) (key : StartKeyOf) (now : Standing) (turns : ℕ) : Type 0 where
+  pub answer : Option Text
+  pub unsent : List ℕ
+  pub received : List ℕ
+  pub starting : IsStarting began key answer unsent now received
+  pub tries : turns + waits_of began ≤ waits_of now + (length starting.sent + length received)
+  pub waits : IsWaiting (spec.heard secret received) (answer ≢ None)
+
+-- By the gate's count of turns, then and now: at most one call that came to nothing in each turn taken.
+abbrev pub IsStartPaced : Standing → Standing → ℕ → ℕ → Type 0
+IsStartPaced began now then_at now_at = waits_of now + then_at ≤ waits_of began + now_at
+
+-- The last of them gave what was waited for: nothing is read behind it.
+abbrev pub IsStartPacedToEnd : Standing → Standing → ℕ → ℕ → Type 0
+IsStartPacedToEnd began now then_at now_at = waits_of now + then_at < waits_of began + now_at
 
 -- ---- what the code counts
 
 -- the bytes accepted and received, and the calls that came to nothing
 abbrev pub tried_so_far : StartView → ℕ
-tried_so_far v = v.end.write_waits + v.end.read_waits + (length v.end.accepted + length v.received)
+tried_so_far v = waits_of v.end + (length v.end.accepted + length v.received)
 
 -- before the first byte is received
 abbrev pub tried_before : Standing → ℕ
-tried_before at = at.write_waits + at.read_waits + length at.accepted
+tried_before at = waits_of at + length at.accepted
+
+-- more of the answer is to come
+abbrev pub IsWaitingStart : Secret → StartView → Type 0
+IsWaitingStart secret v = IsWaiting (spec.heard secret v.received) (v.answered ≡ true)
+
+-- a call that came to nothing leaves bytes that are to be sent
+abbrev pub WritesOnce : StartView → StartView → Type 0
+WritesOnce old new = (waits_of new.end ≤ waits_of old.end + 1) × (new.unsent ≡ [] → waits_of new.end ≡ waits_of old.end)
+
+-- or what was received as it was
+abbrev pub ReadsOnce : StartView → StartView → Type 0
+ReadsOnce old new = (waits_of new.end ≡ waits_of old.end) ⊎ ((waits_of new.end ≡ waits_of old.end + 1) × (new.received ≡ old.received))
 
 -- what is answered, as the code has it
 abbrev pub shown : Option (Bor (List ℕ)) → Option Text

@@ -2,7 +2,7 @@
 ghost use Rattle.link_start.specs.Closes.{IsOffered};
 
 use link_run::ServerEnd;
-use link_run::links::CleanLink;
+use link_run::links::{CleanLink, LinkParts};
 
 /// The message Terminate (PostgreSQL manual, "Message Flow", "Termination").
 static TERMINATE: [u8; 5] = *b"X\0\0\0\x04";
@@ -15,8 +15,18 @@ pub fn offer_terminate<E: ServerEnd>(end: &mut E)
     let _ = end.write_some(&TERMINATE);
 }
 
-/// Offers the link's server one Terminate, and drops its end, whatever came of it.
-pub fn close_link<E: ServerEnd>(link: CleanLink<E>) {
-    let mut lent = link.lend();
-    offer_terminate(&mut lent.end);
+/// Offers the link's server one Terminate, and hands its end back, whatever came of it.
+pub fn close_link<E: ServerEnd>(link: CleanLink<E>) -> E
+    ensures { IsOffered link.stands (E.standing result) }
+{
+    let LinkParts {
+        mut end,
+        key: _,
+        number: _,
+        born: _,
+        server_key: _,
+        reported: _,
+    } = link.lend();
+    offer_terminate(&mut end);
+    end
 }

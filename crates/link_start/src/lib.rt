@@ -3,6 +3,7 @@
 #![tactic(auto)]
 
 pub mod close;
+pub mod laws;
 mod messages;
 pub mod start;
 pub mod start_reply;

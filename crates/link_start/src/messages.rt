@@ -2,7 +2,8 @@
 ghost use Rattle.std.specs.Prelude.{◌≡◌, ◌+◌, ◌^◌, ◌<◌, IfOk, length};
 ghost use Rattle.frame_view.specs.Frames.{Start, first_spelling};
 ghost use Rattle.link_laws.specs.Starts.{start_body};
-ghost use Rattle.link_start.specs.Starts as spec;
+ghost use Rattle.link_start.specs.Questions as spec;
+ghost use Rattle.link_start.specs.Starts.{shown};
 
 use bytes::BytesMut;
 use memchr::memchr;
@@ -32,7 +33,7 @@ pub(crate) fn startup_message(alloc: Global, key: &StartKey) -> Result<BytesMut,
 /// The password itself, where the secret keeps it and a message can spell it.
 #[tactic(auto, using(crate::proofs::Reading::no_zero))]
 pub(crate) fn password_of(secret: &Secret) -> Option<&[u8]>
-    ensures { spec.shown result ≡ spec.password_of secret.now }
+    ensures { shown result ≡ spec.password_of secret.now }
 {
     match secret {
         Secret::Plain(password) => match memchr(0, password.as_bytes()) {

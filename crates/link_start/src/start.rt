@@ -1,5 +1,5 @@
 //! The start of a link over a server's end.
-ghost use Rattle.std.specs.Prelude.{◌≡◌, ◌≢◌, ◌<◌, ◌≤◌, [], false, IfErr, IfOk, OnOk, length, true};
+ghost use Rattle.std.specs.Prelude.{◌≡◌, ◌≢◌, ◌+◌, ◌<◌, ◌≤◌, [], false, IfErr, IfOk, OnOk, length, true};
 ghost use Rattle.frame_view.specs.Frames.{AreBytes, frames};
 ghost use Rattle.frame_view.specs.declared.Side.TheVariants.{Server};
 ghost use Rattle.link_run.specs.declared.reply.TheConstants.{LONGEST_REPLY};
@@ -7,11 +7,11 @@ ghost use Rattle.std.specs.Arc.{arc_value};
 ghost use Rattle.link_laws.specs.Standing.{Standing};
 ghost use Rattle.link_start.specs.StartReply.{error_in, heard};
 ghost use Rattle.link_start.specs.declared.start_reply.StartProgress.TheVariants.{Asked};
-ghost use Rattle.link_start.specs.declared.start.Progress.TheVariants.{Ready};
+ghost use Rattle.link_start.specs.declared.start.Progress.TheVariants.{More, Ready};
 ghost use Rattle.user_file.specs.declared.secrets.Secret.{Secret};
 ghost use Rattle.link_start.specs.declared.start.StartCause.TheVariants as causes;
 ghost use Rattle.link_start.specs.Refusing.{refusal_of};
-ghost use Rattle.link_start.specs.Starts.{CanStart, HasTried, IsCause, IsDone, IsEndCause, IsLinkKey, IsOwnKey, IsSameStart, IsStarted, IsUnderWay, IsWelcomed, tried_before, tried_so_far};
+ghost use Rattle.link_start.specs.Starts.{CanStart, HasTried, IsCause, IsDone, IsDoneFrom, IsEndCause, IsLinkKey, IsOwnKey, IsSameStart, IsStartPaced, IsStartPacedToEnd, IsStarted, IsUnderWay, IsWaitingStart, IsWelcomed, ReadsOnce, WritesOnce, tried_before, tried_so_far, waits_of};
 
 use crate::messages::{password_of, startup_message};
 use crate::start_reply::{
@@ -72,7 +72,7 @@ pub enum StartCause {
     /// The end faulted or ended.
     Lost,
     /// The server asks this, which is neither for a password nor for its MD5 digest; or for a password where the secret keeps only
-    /// its digest, or has a zero byte.
+    /// its digest, or has a zero byte. What stands behind it isn't looked at.
     Unanswerable(Question),
     /// Something else was answered, a report or the server's key can't be read, more than 64 names were reported, or a frame is
     /// longer than [`link_run::reply::LONGEST_REPLY`].
@@ -179,7 +179,10 @@ impl<E: ServerEnd> Start<E> {
         ensures under_way { IfOk result (λ s. (secret : Secret) → IsUnderWay (E.standing end) secret s) }
         ensures same { IfOk result (λ s. (s.key ≡ arc_value key) × (s.number ≡ number) × (s.born ≡ born)) }
         ensures tried { IfOk result (λ s. tried_so_far s ≡ tried_before (E.standing end)) }
+        ensures stands { IfOk result (λ s. s.end ≡ E.standing end) }
+        ensures waits { IfOk result (λ s. (secret : Secret) → IsWaitingStart secret s) }
         ensures memory { IfErr result (λ f. f.cause ≡ causes.Memory) }
+        ensures back { IfErr result (λ f. E.standing f.end ≡ E.standing end) }
     {
         let Ok(messages) = startup_message(alloc, &key) else {
             return Err(StartLinkFault {
@@ -203,6 +206,9 @@ impl<E: ServerEnd> Start<E> {
     fn send(&mut self) -> Result<(), StartCause>
         ensures under_way { (b : Standing) (s : Secret) → IsUnderWay b s self.old → OnOk result (IsUnderWay b s self.new) }
         ensures same { IsSameStart self.old self.new }
+        ensures received { self.new.received ≡ self.old.received }
+        ensures answered { self.new.answered ≡ self.old.answered }
+        ensures once { WritesOnce self.old self.new }
         ensures tried { tried_so_far self.old ≤ tried_so_far self.new }
         ensures wrote { IfOk result (λ _. 0 < length self.new.unsent → tried_so_far self.old < tried_so_far self.new) }
         ensures cause { IfErr result (λ c. IsEndCause self.old.end self.new.end c) }
@@ -223,6 +229,8 @@ impl<E: ServerEnd> Start<E> {
         ensures under_way { (b : Standing) (s : Secret) → IsUnderWay b s self.old → OnOk result (IsUnderWay b s self.new) }
         ensures same { IsSameStart self.old self.new }
         ensures unsent { self.new.unsent ≡ self.old.unsent }
+        ensures answered { self.new.answered ≡ self.old.answered }
+        ensures once { ReadsOnce self.old self.new }
         ensures tried { IfOk result (λ _. tried_so_far self.old < tried_so_far self.new) }
         ensures cause { IfErr result (λ c. IsEndCause self.old.end self.new.end c) }
     {
@@ -243,22 +251,23 @@ impl<E: ServerEnd> Start<E> {
         self.sent == self.messages.len()
     }
 
-    /// How far the server's answer has come.
-    fn read_start_reply(&self) -> StartProgress
-        ensures heard { result ≡ heard self.now.received }
+    /// How far the server's answer has come, for a user with this secret.
+    fn read_start_reply(&self, secret: &Secret) -> StartProgress
+        ensures heard { result ≡ heard secret.now self.now.received }
         ensures bytes { AreBytes self.now.received }
     {
-        read_start_reply(self.reply.as_slice())
+        read_start_reply(self.reply.as_slice(), secret)
     }
 
     /// Puts the answer to the server's question behind what is sent, once.
     fn answer(&mut self, question: Question, secret: &Secret) -> Result<(), StartCause>
-        requires asked { heard self.old.received ≡ Asked question }
+        requires asked { heard secret.now self.old.received ≡ Asked question }
         requires bytes { AreBytes self.old.received }
         ensures under_way { (b : Standing) → CanStart b → IsLinkKey self.old.key → IsUnderWay b secret.now self.old → OnOk result (IsUnderWay b secret.now self.new) }
         ensures same { IsSameStart self.old self.new }
         ensures end { self.new.end ≡ self.old.end }
         ensures received { self.new.received ≡ self.old.received }
+        ensures answered { OnOk result (self.new.answered ≡ true) }
         ensures no_turns { IfErr result (λ c. c ≢ causes.Turns) }
         ensures cause { (b : Standing) → CanStart b → IsLinkKey self.old.key → IsUnderWay b secret.now self.old → IfErr result (λ c. IsCause b self.new.end secret.now self.old.key c) }
     {
@@ -284,10 +293,14 @@ impl<E: ServerEnd> Start<E> {
 
     /// Writes at most once and, where all is sent, reads at most once.
     fn turn(&mut self, alloc: Global, secret: &Secret) -> Result<Progress, StartCause>
+        requires { IsWaitingStart secret.now self.old }
         ensures under_way { (b : Standing) → CanStart b → IsLinkKey self.old.key → IsUnderWay b secret.now self.old → OnOk result (IsUnderWay b secret.now self.new) }
         ensures same { IsSameStart self.old self.new }
-        ensures welcomed { IfOk result (λ p. p ≡ Ready → IsWelcomed self.new) }
+        ensures waits { IfOk result (λ p. p ≡ More → IsWaitingStart secret.now self.new) }
+        ensures welcomed { IfOk result (λ p. p ≡ Ready → IsWelcomed secret.now self.new) }
         ensures tried { IfOk result (λ _. tried_so_far self.old < tried_so_far self.new) }
+        ensures once { waits_of self.new.end ≤ waits_of self.old.end + 1 }
+        ensures last { IfOk result (λ p. p ≡ Ready → waits_of self.new.end ≡ waits_of self.old.end) }
         ensures no_turns { IfErr result (λ c. c ≢ causes.Turns) }
         ensures cause { (b : Standing) → CanStart b → IsLinkKey self.old.key → IsUnderWay b secret.now self.old → IfErr result (λ c. IsCause b self.new.end secret.now self.old.key c) }
     {
@@ -296,7 +309,7 @@ impl<E: ServerEnd> Start<E> {
             return Ok(Progress::More);
         }
         self.receive()?;
-        match self.read_start_reply() {
+        match self.read_start_reply(secret) {
             StartProgress::Ready => return Ok(Progress::Ready),
             StartProgress::Asked(question) => self.answer(question, secret)?,
             StartProgress::Refused => return Err(StartCause::Refused(self.take_error(alloc))),
@@ -319,13 +332,15 @@ impl<E: ServerEnd> Start<E> {
     /// The link, once its server's welcome came.
     fn finish(self, alloc: Global) -> Result<CleanLink<E>, StartLinkFault<E>>
         requires { IsDone self }
-        ensures started { (b : Standing) (s : Secret) → IsUnderWay b s self → IfOk result (λ l. IsStarted b s l) }
-        ensures own_key { (b : Standing) (s : Secret) → CanStart b → IsUnderWay b s self → b.follows ≡ true → IfOk result (λ l. IsOwnKey b.server l.server_key) }
+        ensures started { (b : Standing) (s : Secret) → IsDoneFrom b s self → IfOk result (λ l. IsStarted b s l) }
+        ensures own_key { (b : Standing) (s : Secret) → IsDoneFrom b s self → b.follows ≡ true → IfOk result (λ l. IsOwnKey b.server l.server_key) }
         ensures key { IfOk result (λ l. l.key ≡ self.key) }
         ensures number { IfOk result (λ l. l.number ≡ self.number) }
         ensures born { IfOk result (λ l. l.born ≡ self.born) }
+        ensures stands { IfOk result (λ l. l.stands ≡ self.end) }
+        ensures back { IfErr result (λ f. E.standing f.end ≡ self.end) }
         ensures no_turns { IfErr result (λ f. f.cause ≢ causes.Turns) }
-        ensures cause { (b : Standing) (s : Secret) → CanStart b → IsUnderWay b s self → IfErr result (λ f. IsCause b (E.standing f.end) s self.key f.cause) }
+        ensures cause { (b : Standing) (s : Secret) → IsDoneFrom b s self → IfErr result (λ f. IsCause b (E.standing f.end) s self.key f.cause) }
     {
         let Start {
             end,
@@ -390,7 +405,8 @@ impl<E: ServerEnd> Start<E> {
 ///
 /// `number` and `born` are kept in the link: its number, and the second in which it was begun. So is the server's key, that of the
 /// last BackendKeyData of the dialogue; where the end follows, those are the server's own words. Where it fails the end comes back
-/// with the cause; it is Turns only after so many turns.
+/// with the cause, which stands in the bytes that came: an ErrorResponse, a question that this user can't answer, or something else
+/// ends the start at once, however the bytes are cut. It is Turns only after so many turns in which none of these came.
 pub fn start_link<E: ServerEnd, G: Gate<E>>(
     alloc: Global,
     end: E,
@@ -409,7 +425,10 @@ pub fn start_link<E: ServerEnd, G: Gate<E>>(
     ensures number { IfOk result (λ l. l.number ≡ number) }
     ensures born { IfOk result (λ l. l.born ≡ born) }
     ensures cause { IfErr result (λ f. IsCause (E.standing end) (E.standing f.end) secret.now (arc_value key) f.cause) }
-    ensures turns { IfErr result (λ f. f.cause ≡ causes.Turns → HasTried (E.standing end) (E.standing f.end) turns) }
+    ensures turns { IfErr result (λ f. f.cause ≡ causes.Turns → HasTried (E.standing end) secret.now (arc_value key) (E.standing f.end) turns) }
+    ensures taken { G.turns gate.new ≤ G.turns gate.old + turns }
+    ensures paced { IfErr result (λ f. IsStartPaced (E.standing end) (E.standing f.end) (G.turns gate.old) (G.turns gate.new)) }
+    ensures last { IfOk result (λ l. IsStartPacedToEnd (E.standing end) l.stands (G.turns gate.old) (G.turns gate.new)) }
 {
     let mut start = Start::begin(alloc, end, key, number, born)?;
     for _ in 0..turns {

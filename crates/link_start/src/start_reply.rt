@@ -1,12 +1,14 @@
 //! What a server answers to a start, frame by frame.
 ghost use Rattle.std.specs.Prelude.{◌≡◌, [], ℕ, List, Ok, Err, None};
-ghost use Rattle.frame_view.specs.Frames.{AreBytes, frames};
+ghost use Rattle.frame_view.specs.Frames.{AreBytes, front, frames};
 ghost use Rattle.frame_view.specs.declared.Side.TheVariants.{Server};
 ghost use Rattle.link_run.specs.declared.reply.TheConstants.{LONGEST_REPLY};
 ghost use Rattle.session_values.specs.Answers.{frame_of};
+ghost use Rattle.link_start.specs.Questions.{can_answer};
 ghost use Rattle.link_start.specs.StartReply as spec;
 ghost use Rattle.link_start.specs.StartReply.{TakesReport, TakesReports, error_in, heard, heard_all, heard_by, keyed_all, keyed_by};
 
+use crate::messages::password_of;
 use frame_view::laws::are_bytes;
 use frame_view::server::{
     AUTHENTICATION, BACKEND_KEY_DATA, ERROR_RESPONSE, NOTICE_RESPONSE, PARAMETER_STATUS,
@@ -18,6 +20,7 @@ use message_view::kinds::{ASKS_CLEARTEXT, ASKS_MD5, ASKS_NOTHING};
 use message_view::{AuthView, KeyView, StatusView, ViewFault};
 use param_track::{ReportFault, Reported};
 use std::alloc::Global;
+use user_file::Secret;
 
 /// What a server asks of the user that starts a link.
 #[derive(Clone, Copy, Drop)]
@@ -26,7 +29,7 @@ pub enum Question {
     Cleartext,
     /// The digest of the password with this salt.
     Md5([u8; 4]),
-    /// Another one, of this number: 10 is SASL, as for SCRAM.
+    /// Another one, of this number, which no user can answer: 10 is SASL, as for SCRAM.
     Unknown(u32),
 }
 
@@ -130,55 +133,92 @@ fn welcomed(frame: Frame<'_>) -> StartProgress
     }
 }
 
+/// Behind a question that this user can answer.
+fn after_question(question: Question, frame: Frame<'_>) -> StartProgress
+    ensures { result ≡ spec.after_question question (frame_of frame.entry) }
+{
+    match frame.kind {
+        NOTICE_RESPONSE => StartProgress::Asked(question),
+        AUTHENTICATION => answered(frame.body),
+        kind => refused(kind),
+    }
+}
+
+fn can_answer(secret: &Secret, question: Question) -> bool
+    ensures { result ≡ can_answer secret.now question }
+{
+    match question {
+        Question::Cleartext => password_of(secret).is_some(),
+        Question::Md5(_) => true,
+        Question::Unknown(_) => false,
+    }
+}
+
 impl StartProgress {
-    fn by(self, frame: Frame<'_>) -> StartProgress
-        ensures { result ≡ heard_by self (frame_of frame.entry) }
+    fn by(self, frame: Frame<'_>, secret: &Secret) -> StartProgress
+        ensures { result ≡ heard_by secret.now self (frame_of frame.entry) }
     {
-        match (self, frame.kind) {
-            (StartProgress::Nothing | StartProgress::Asked(_), NOTICE_RESPONSE) => self,
-            (StartProgress::Nothing, AUTHENTICATION) => asked(frame.body),
-            (StartProgress::Asked(_), AUTHENTICATION) => answered(frame.body),
-            (StartProgress::Nothing | StartProgress::Asked(_), kind) => refused(kind),
-            (StartProgress::LetIn, _) => welcomed(frame),
-            (StartProgress::Refused, _) => StartProgress::Refused,
-            (StartProgress::Ready | StartProgress::Other, _) => StartProgress::Other,
+        match self {
+            StartProgress::Nothing => match frame.kind {
+                NOTICE_RESPONSE => StartProgress::Nothing,
+                AUTHENTICATION => asked(frame.body),
+                kind => refused(kind),
+            },
+            StartProgress::Asked(question) => {
+                if can_answer(secret, question) {
+                    after_question(question, frame)
+                } else {
+                    self
+                }
+            }
+            StartProgress::LetIn => welcomed(frame),
+            StartProgress::Refused => StartProgress::Refused,
+            StartProgress::Ready | StartProgress::Other => StartProgress::Other,
+        }
+    }
+
+    /// The same, where these bytes may be a beginning of the next frame.
+    fn if_lawful(self, rest: &[u8]) -> StartProgress
+        ensures { result ≡ spec.if_lawful self (front Server LONGEST_REPLY rest.now) }
+    {
+        match next_frame(rest, 0, LONGEST_REPLY, Side::Server) {
+            Step::Bad(_) => StartProgress::Other,
+            _ => self,
         }
     }
 
     /// The same, with these bytes behind it, which are no whole frame.
-    fn before(self, rest: &[u8]) -> StartProgress
-        ensures { result ≡ spec.before self rest.now }
+    fn before(self, rest: &[u8], secret: &Secret) -> StartProgress
+        ensures { result ≡ spec.before secret.now self rest.now }
     {
         match self {
-            StartProgress::Refused => StartProgress::Refused,
-            StartProgress::Ready => {
-                if rest.is_empty() {
-                    StartProgress::Ready
+            StartProgress::Nothing | StartProgress::LetIn => self.if_lawful(rest),
+            StartProgress::Asked(question) => {
+                if can_answer(secret, question) {
+                    self.if_lawful(rest)
                 } else {
-                    StartProgress::Other
+                    self
                 }
             }
-            heard => match next_frame(rest, 0, LONGEST_REPLY, Side::Server) {
-                Step::Bad(_) => StartProgress::Other,
-                _ => heard,
-            },
+            StartProgress::Ready => bare(StartProgress::Ready, rest),
+            StartProgress::Refused | StartProgress::Other => self,
         }
     }
 }
 
-/// How far these bytes have come.
-pub(crate) fn read_start_reply(reply: &[u8]) -> StartProgress
-    ensures heard { result ≡ heard reply.now }
+/// How far these bytes have come, for a user with this secret.
+pub(crate) fn read_start_reply(reply: &[u8], secret: &Secret) -> StartProgress
+    ensures heard { result ≡ heard secret.now reply.now }
     ensures bytes { AreBytes reply.now }
 {
     are_bytes(reply);
     let mut heard = StartProgress::Nothing;
     let mut at = 0;
     while let Step::Whole(frame) = next_frame(reply, at, LONGEST_REPLY, Side::Server) {
-        heard = heard.by(frame);
+        heard = heard.by(frame, secret);
         at += frame.whole.len();
     }
-    heard.before(&reply[at..])
+    heard.before(&reply[at..], secret)
 }
 
 /// The first ErrorResponse among the whole frames of these bytes; empty where there is none.

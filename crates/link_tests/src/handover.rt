@@ -35,7 +35,7 @@ fn second<E: ServerEnd>(alloc: Global, end: E, cut: usize) -> Result<MemoryClien
     let Returned::Used(link) = returned else {
         return Err("not used")?;
     };
-    let Ok(link) = reset_link(alloc, link, &mut OpenGate, 100) else {
+    let Ok(link) = reset_link(alloc, link, &mut OpenGate::new(), 100) else {
         return Err("not reset")?;
     };
     let (client, _) = lease(alloc, link, cut, 3, &[SECOND])?;

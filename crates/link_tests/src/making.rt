@@ -127,7 +127,16 @@ pub fn begin<E: ServerEnd>(
 {
     let secret = Secret::read(alloc, start.password)?;
     let key = key(alloc, start.is_there)?;
-    match start_link(alloc, end, key, &secret, 5, 9, &mut OpenGate, start.turns) {
+    match start_link(
+        alloc,
+        end,
+        key,
+        &secret,
+        5,
+        9,
+        &mut OpenGate::new(),
+        start.turns,
+    ) {
         Ok(link) => Ok(Ok(link)),
         Err(fault) => Ok(Err(fault.cause)),
     }

@@ -116,7 +116,7 @@ fn is_clean<E: ServerEnd>(alloc: Global, end: E) -> Result<bool, Fail>
     requires { CanStart (E.standing end) }
 {
     let (first, link) = used(alloc, end)?;
-    let Ok(link) = reset_link(alloc, link, &mut OpenGate, 20) else {
+    let Ok(link) = reset_link(alloc, link, &mut OpenGate::new(), 20) else {
         return Err("not reset")?;
     };
     let (second, _) = lease(alloc, link, 3, show())?;
@@ -138,7 +138,7 @@ fn fault<E: ServerEnd>(alloc: Global, end: E, turns: u32) -> Result<Option<Reset
     requires { CanStart (E.standing end) }
 {
     let (_, link) = used(alloc, end)?;
-    match reset_link(alloc, link, &mut OpenGate, turns) {
+    match reset_link(alloc, link, &mut OpenGate::new(), turns) {
         Ok(_) => Ok(None),
         Err(disposed) => Ok(Some(disposed.cause)),
     }

@@ -53,14 +53,14 @@ abbrev gone : Standing → ℕ → Standing
 gone a faults = failing_server (Failed faults) a
 
 moves_counted : (x a : Standing) (faults : ℕ) (new : Calls) (m : Moved) (bytes : List ℕ) → KeepsServer x a → Counts faults new m → Moves x [] (failing_server new a) (moved m bytes)
-moves_counted x a faults new Fault bytes k h = rw h.1 (moves_die x (gone a (faults + 1)) (record { follows = k.follows; server = k.server; accepted = k.accepted; struck = k.struck }) refl)
-moves_counted x a faults new Ended bytes k h = rw h.1 (moves_die x (gone a faults) (record { follows = k.follows; server = k.server; accepted = k.accepted; struck = k.struck }) refl)
+moves_counted x a faults new Fault bytes k h = rw h.1 (moves_die x (gone a (faults + 1)) (record { follows = k.follows; server = k.server; accepted = k.accepted; given = k.given; struck = k.struck }) refl)
+moves_counted x a faults new Ended bytes k h = rw h.1 (moves_die x (gone a faults) (record { follows = k.follows; server = k.server; accepted = k.accepted; given = k.given; struck = k.struck }) refl)
 moves_counted x a faults new NotNow bytes k h = absurd h
 moves_counted x a faults new (Count n) bytes k h = absurd h
 
 puts_counted : (x a : Standing) (faults : ℕ) (new : Calls) (m : Moved) (bytes : List ℕ) → KeepsServer x a → Counts faults new m → Moves x (moved m bytes) (failing_server new a) []
-puts_counted x a faults new Fault bytes k h = rw h.1 (moves_die x (gone a (faults + 1)) (record { follows = k.follows; server = k.server; accepted = k.accepted; struck = k.struck }) refl)
-puts_counted x a faults new Ended bytes k h = rw h.1 (moves_die x (gone a faults) (record { follows = k.follows; server = k.server; accepted = k.accepted; struck = k.struck }) refl)
+puts_counted x a faults new Fault bytes k h = rw h.1 (moves_die x (gone a (faults + 1)) (record { follows = k.follows; server = k.server; accepted = k.accepted; given = k.given; struck = k.struck }) refl)
+puts_counted x a faults new Ended bytes k h = rw h.1 (moves_die x (gone a faults) (record { follows = k.follows; server = k.server; accepted = k.accepted; given = k.given; struck = k.struck }) refl)
 puts_counted x a faults new NotNow bytes k h = absurd h
 puts_counted x a faults new (Count n) bytes k h = absurd h
 
@@ -82,15 +82,15 @@ failures x a faults new NotNow e r w h = absurd h
 failures x a faults new (Count n) e r w h = absurd h
 
 kept : (a : Standing) → KeepsServer a a
-kept a = record { follows = refl; server = refl; accepted = refl; struck = refl }
+kept a = record { follows = refl; server = refl; accepted = refl; given = refl; struck = refl }
 
 pub read_fails : (old new : Calls) (inner : ℕ) (a : Standing) (m : Moved) (bytes : List ℕ) → Fails old new inner (Some m) → Moves (failing_server old a) [] (failing_server new a) (moved m bytes)
 read_fails (Good n) new inner a m bytes h = moves_counted a a inner new m bytes (kept a) h.1
-read_fails (Failed f) new inner a m bytes h = moves_counted (gone a f) a f new m bytes (record { follows = refl; server = refl; accepted = refl; struck = refl }) h
+read_fails (Failed f) new inner a m bytes h = moves_counted (gone a f) a f new m bytes (record { follows = refl; server = refl; accepted = refl; given = refl; struck = refl }) h
 
 pub write_fails : (old new : Calls) (inner : ℕ) (a : Standing) (m : Moved) (bytes : List ℕ) → Fails old new inner (Some m) → Moves (failing_server old a) (moved m bytes) (failing_server new a) []
 write_fails (Good n) new inner a m bytes h = puts_counted a a inner new m bytes (kept a) h.1
-write_fails (Failed f) new inner a m bytes h = puts_counted (gone a f) a f new m bytes (record { follows = refl; server = refl; accepted = refl; struck = refl }) h
+write_fails (Failed f) new inner a m bytes h = puts_counted (gone a f) a f new m bytes (record { follows = refl; server = refl; accepted = refl; given = refl; struck = refl }) h
 
 counts_fail : (old new : Calls) (inner : ℕ) (a : Standing) (m : Moved) → inner ≡ a.faults → Fails old new inner (Some m) → Failures (failing_server old a) (failing_server new a) m
 counts_fail (Good n) new inner a m e h = failures a a inner new m (sym e) refl refl h.1

@@ -44,13 +44,13 @@ new_client input cut = client_view input 0 [] cut false 0 0
 abbrev pub with_facts : ClientOf → ClientFacts → ClientOf
 with_facts c facts = record c { facts = facts }
 
--- What a read comes to: at most `cut` bytes, to nothing only where all was read and more may be fed, and to the end only where
--- it has ended. It takes no memory.
-abbrev pub ReadsClient : ClientOf → ClientOf → Moved → Type 0
-ReadsClient old new (Count n) = (n ≤ old.cut) × (new ≡ record old { facts = new.facts; unread = drop n old.unread })
-ReadsClient old new NotNow = (old.unread ≡ []) × (old.hung_up ≡ false) × (new ≡ with_facts old new.facts)
-ReadsClient old new Ended = (old.facts.ended ≡ true) × (new ≡ old)
-ReadsClient old new Fault = ⊥
+-- What a read comes to, `got` being the bytes that it moved: at most `cut` bytes, the next of the input; to nothing only where all
+-- was read and more may be fed; and to the end only where it has ended. It takes no memory.
+abbrev pub ReadsClient : ClientOf → ClientOf → List ℕ → Moved → Type 0
+ReadsClient old new got (Count n) = (n ≤ old.cut) × (got ≡ take n old.unread) × (new ≡ record old { facts = new.facts; unread = drop n old.unread })
+ReadsClient old new got NotNow = (old.unread ≡ []) × (old.hung_up ≡ false) × (new ≡ with_facts old new.facts)
+ReadsClient old new got Ended = (old.facts.ended ≡ true) × (new ≡ old)
+ReadsClient old new got Fault = ⊥
 
 -- What a write comes to: a client that hung up still takes what it is given.
 abbrev pub WritesClient : ClientOf → ClientOf → Moved → Type 0

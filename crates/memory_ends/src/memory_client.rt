@@ -116,7 +116,7 @@ impl MemoryClient {
         requires { 0 < length into.old }
         ensures within { IsWithin result (length into.old) }
         ensures facts { ClientReads self.old.facts self.new.facts (moved result into.new) result }
-        ensures reads { ReadsClient self.old self.new result }
+        ensures reads { ReadsClient self.old self.new (moved result into.new) result }
     {
         if self.has_ended() {
             return Moved::Ended;

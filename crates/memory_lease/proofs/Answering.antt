@@ -72,7 +72,7 @@ follows_now : (began : Standing) (key : StartKeyOf) (word : KeyWord) (bytes out 
 follows_now began key word bytes out v at x = x.lease.moves.follows ∙ x.stands ∙ x.follows
 
 fresh_link : (began : Standing) (key : StartKeyOf) (word : KeyWord) (bytes out : List ℕ) (v : RelayView) (at : Place) → (x : IsServed began key word bytes out v at) → IsFreshLink at.stands v.key at.reports
-fresh_link began key word bytes out v at x = x.lease.clean (x.stands ∙ x.follows)
+fresh_link began key word bytes out v at x = x.lease.clean.fresh (x.stands ∙ x.follows)
 
 -- the bytes of a server's own answer
 own_joined : (cat : CatalogueOf) (key : StartKeyOf) (word : KeyWord) (bytes : List ℕ) → joined_pieces (own_pieces cat key word bytes) ≡ service cat key word.pid word.secret [] bytes

@@ -195,7 +195,8 @@ pub fn serve_alone(
 {
     are_bytes(bytes);
     let server = OwnServer::new(server);
-    let link = match start_link(alloc, server, key, secret, 0, 0, &mut OpenGate, START_TURNS) {
+    let mut gate = OpenGate::new();
+    let link = match start_link(alloc, server, key, secret, 0, 0, &mut gate, START_TURNS) {
         Ok(link) => link,
         Err(fault) => {
             let mut out = BytesMut::new(alloc);

@@ -277,7 +277,7 @@ impl MemoryPool {
             &unasked,
             number,
             born,
-            &mut OpenGate,
+            &mut OpenGate::new(),
             TURNS,
         )
     }
@@ -313,8 +313,9 @@ impl MemoryPool {
         ensures { self.new ≡ self.old }
     {
         match self.tell(Event::GiveBack(link)) {
-            Reply::Close(link) | Reply::Refuse(_, Some(link)) | Reply::Stranger(Some(link)) =>
-                close_link(link),
+            Reply::Close(link) | Reply::Refuse(_, Some(link)) | Reply::Stranger(Some(link)) => {
+                close_link(link);
+            }
             _ => {}
         }
     }
@@ -326,7 +327,7 @@ impl MemoryPool {
     {
         let lent = link.lend();
         let number = lent.number;
-        match reset_link(self.alloc, lent.used(), &mut OpenGate, TURNS) {
+        match reset_link(self.alloc, lent.used(), &mut OpenGate::new(), TURNS) {
             Ok(link) => self.give_back(link),
             Err(_) => self.lose(number),
         }
@@ -359,7 +360,9 @@ impl MemoryPool {
     {
         for _ in 0..u64::MAX {
             match self.tell(Event::Tick { now }) {
-                Reply::Close(link) => close_link(link),
+                Reply::Close(link) => {
+                    close_link(link);
+                }
                 _ => return,
             }
         }

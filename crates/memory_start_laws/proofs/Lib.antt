@@ -1,1 +1,2 @@
 mod Servers
+mod Unfollowed

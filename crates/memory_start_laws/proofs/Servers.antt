@@ -1,17 +1,13 @@
 -- A stand-in server in memory can be started.
-use Rattle.std.proofs.Common.{◌≡◌, ℕ, suc, zero, List, [], ◌∷◌, length, refl, arith}
+use Rattle.std.proofs.Common.{◌≡◌, ℕ, List, [], ◌∷◌, length, refl, arith}
 use Rattle.message_view.specs.Messages.{authentication}
 use Rattle.message_view.specs.Reading.{authentication_of, int32_at}
 use Rattle.message_view.specs.declared.kinds.TheConstants.{ASKS_CLEARTEXT, ASKS_MD5}
-use Rattle.session_values.specs.Lawful.{IsLawfulCatalogue}
-use Rattle.link_laws.specs.Stages.{Server}
-use Rattle.link_laws.specs.Dialogues.{AsksInFrame, IsNew, auth_of}
 use Rattle.memory_ends.specs.declared.memory_server.ServerAuth.TheVariants.{Trust, Plain, Md5}
-use Rattle.memory_ends.specs.Servers.{auth_of as memory_auth, new_server}
 use Rattle.link_start.specs.declared.start_reply.StartProgress.TheVariants.{Asked}
 use Rattle.link_start.specs.declared.start_reply.Question.TheVariants as question
 use Rattle.link_start.specs.StartReply.{asked}
-use Rattle.link_start.specs.Starts.{AsksQuestion, CanStart, IsQuestion}
+use Rattle.link_start.specs.Starts.{IsQuestion}
 use Rattle.memory_start_laws.specs.Starts.{MemoryServersCanStart}
 
 cleartext : asked (authentication ASKS_CLEARTEXT []).body ≡ Asked question.Cleartext

@@ -1,10 +1,14 @@
 -- Stand-in servers in memory, and the start of a link.
-use Rattle.std.specs.Prelude.{◌≡◌, ℕ, length, Option}
+use Rattle.std.specs.Prelude.{◌≡◌, ℕ, false, length, List, Option, Some}
 use Rattle.session_values.specs.Lawful.{IsLawfulCatalogue}
+use Rattle.session_values.specs.State.{StartKeyOf}
 use Rattle.link_laws.specs.Stages.{Server as TheServer}
+use Rattle.link_laws.specs.Standing.{Standing}
 use Rattle.memory_ends.specs.declared.memory_server.ServerAuth.{ServerAuth}
 use Rattle.memory_ends.specs.declared.memory_server.ServerAuth.TheVariants.{Trust, Plain, Md5}
+use Rattle.memory_ends.specs.Gone.{start_of, welcome_of}
 use Rattle.memory_ends.specs.Servers.{auth_of, new_server}
+use Rattle.link_run.specs.Receipts.{IsClean}
 use Rattle.link_start.specs.Starts.{CanStart}
 
 -- an MD5 question has a salt of four bytes
@@ -16,3 +20,8 @@ HasSalt (Md5 salt digest) = length salt ≡ 4
 -- A stand-in server in memory can be started.
 abbrev pub MemoryServersCanStart : Type 0
 MemoryServersCanStart = (v : TheServer) (auth : ServerAuth) (cut : ℕ) (left : Option ℕ) → IsLawfulCatalogue v.catalogue → HasSalt auth → CanStart (new_server v (auth_of auth) cut left).standing
+
+-- An end that follows nothing, and tells that it was sent the StartupMessage of the key and gave the shortest answer, makes a clean
+-- link: so tests have links that were never started.
+abbrev pub UnfollowedStartsAreClean : Type 0
+UnfollowedStartsAreClean = (key : StartKeyOf) (at : Standing) (reports : List _) → at.follows ≡ false → at.accepted ≡ start_of (Some key) → at.given ≡ welcome_of (Some key) → IsClean at key reports

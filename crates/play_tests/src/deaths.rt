@@ -1,9 +1,17 @@
 //! Clients whose servers die.
 use crate::files::START;
-use crate::play_parts::{CUTS, LET_IN, given, greeted, played};
+use crate::links::{FOUND, LOOKS, MARKED, MARKS};
+use crate::play_parts::{CUTS, LET_IN, given, greeted, links, played};
 use message_view::{Refusal, refusal_bytes};
-use play::Act;
+use play::{Act, Played};
+use std::alloc::{AllocError, Global};
 use std::test::Fail;
+
+/// How many bytes a server gives in its start; and to the reset behind those marks: CommandComplete, the report of DateStyle, and
+/// ReadyForQuery.
+const STARTED: u64 = 260;
+
+const RESET: u64 = 47;
 
 const CITIES: &[u8] = b"Q\0\0\0\x17SELECT * FROM city\0";
 
@@ -45,5 +53,44 @@ fn a_client_whose_link_cannot_be_started(rt: HostRuntime) -> Result<(), Fail> {
     let acts = [Act::ServersDieAfter(100), Act::Come, Act::Send(1, START)];
     let played = played(rt.alloc(), b"", 7, &acts)?;
     assert!(rt; given(&played, 1) == refused.as_slice());
+    Ok(())
+}
+
+/// A client leaves its marks and goes, and its server dies once so many bytes of its reset were read; then another client comes.
+fn dies_in_reset(alloc: Global, count: u64) -> Result<Played, AllocError> {
+    let acts = [
+        Act::ServersDieAfter(STARTED + MARKED.len() as u64 + count),
+        Act::Come,
+        Act::Send(1, START),
+        Act::Send(1, MARKS),
+        Act::Go(1),
+        Act::ServersDieAfter(1_000_000),
+        Act::Come,
+        Act::Send(2, START),
+        Act::Send(2, LOOKS),
+    ];
+    played(alloc, b"", 7, &acts)
+}
+
+/// The next client finds nothing of the one before, over a link of its own, wherever the reset's answer ends.
+#[test]
+fn a_server_dies_in_its_reset(rt: HostRuntime) -> Result<(), Fail> {
+    let found = greeted(rt.alloc(), b"", 2, FOUND)?;
+    for count in 0..RESET {
+        let played = dies_in_reset(rt.alloc(), count)?;
+        assert!(rt; given(&played, 2) == found.as_slice());
+        assert!(rt; links(&played, 2) == [2].as_slice());
+    }
+    Ok(())
+}
+
+/// Behind the whole answer the link is clean, and lent; its client is refused then.
+#[test]
+fn a_server_dies_behind_its_reset(rt: HostRuntime) -> Result<(), Fail> {
+    let mut refused = greeted(rt.alloc(), b"", 2, b"")?;
+    refused.extend_from_slice(refusal_bytes(Refusal::ServerFailed))?;
+    let played = dies_in_reset(rt.alloc(), RESET)?;
+    assert!(rt; given(&played, 2) == refused.as_slice());
+    assert!(rt; links(&played, 2) == [1].as_slice());
     Ok(())
 }

@@ -6,17 +6,17 @@ use std::alloc::{AllocError, Global};
 use std::test::Fail;
 
 /// A setting, a temporary table and a prepared statement.
-const MARKS: &[u8] =
+pub(crate) const MARKS: &[u8] =
     b"Q\0\0\0\x20SET DateStyle TO 'SQL, DMY'\0Q\0\0\0\x21CREATE TEMP TABLE t (a text)\0P\0\0\0\x16s\0SHOW TimeZone\0\0\0S\0\0\0\x04";
 
-const MARKED: &[u8] =
+pub(crate) const MARKED: &[u8] =
     b"C\0\0\0\x08SET\0S\0\0\0\x17DateStyle\0SQL, DMY\0Z\0\0\0\x05IC\0\0\0\x11CREATE TABLE\0Z\0\0\0\x05I1\0\0\0\x04Z\0\0\0\x05I";
 
 /// Another client asks for the name, the table and the statement.
-const LOOKS: &[u8] =
+pub(crate) const LOOKS: &[u8] =
     b"Q\0\0\0\x1aSHOW application_name\0Q\0\0\0\x14SELECT * FROM t\0B\0\0\0\x0d\0s\0\0\0\0\0\0\0S\0\0\0\x04";
 
-const FOUND: &[u8] =
+pub(crate) const FOUND: &[u8] =
     b"T\0\0\0\x29\0\x01application_name\0\0\0\0\0\0\0\0\0\0\x19\xff\xff\xff\xff\xff\xff\0\0D\0\0\0\x0a\0\x01\0\0\0\0C\0\0\0\x09SHOW\0Z\0\0\0\x05IE\0\0\0\x33SERROR\0VERROR\0C42P01\0Mrelation does not exist\0\0Z\0\0\0\x05IE\0\0\0\x3dSERROR\0VERROR\0C26000\0Mprepared statement does not exist\0\0Z\0\0\0\x05I";
 
 /// A client sets its name, resets it, and asks for it.

@@ -175,7 +175,9 @@ impl<R: PoolRuntime, F: Source, K: Ledgers> Pool<R, F, K> {
         for _ in rt.forever() {
             match self.desk.tick(&mut pass.pass, now) {
                 Ticked::Done => return true,
-                Ticked::Close(link) => close_link(link),
+                Ticked::Close(link) => {
+                    close_link(link);
+                }
                 Ticked::Last => return false,
             }
         }
@@ -259,6 +261,41 @@ fn visit_of<R: Clock>(rt: &R, peer: Peer) -> Visit {
     }
 }
 
+/// A connection that is to be served, and what its thread needs for that.
+struct Connection<R: PoolRuntime, F: Source, K: Ledgers> {
+    rt: R,
+    pool: Arc<Pool<R, F, K>>,
+    word: KeyWord,
+    client: TcpEnd,
+    visit: Visit,
+}
+
+impl<R: PoolRuntime, F: Source, K: Ledgers> Drop for Connection<R, F, K> {
+    fn drop(self) {
+        let Connection {
+            rt: _,
+            pool: _,
+            word: _,
+            client: _,
+            visit: _,
+        } = self;
+    }
+}
+
+impl<R: PoolRuntime, F: Source, K: Ledgers> Connection<R, F, K> {
+    /// Serves it to its end.
+    fn attend(self) {
+        let Connection {
+            rt,
+            pool,
+            word,
+            client,
+            visit,
+        } = self;
+        pool.attend(rt, word, client, visit);
+    }
+}
+
 /// Serves one connection on a thread of its own.
 fn start_worker<
     R: PoolRuntime + 'static,
@@ -266,14 +303,24 @@ fn start_worker<
     K: Ledgers + Send + Sync + 'static,
 >(
     rt: R,
-    workers: &mut Workers,
+    workers: &mut Workers<Connection<R, F, K>>,
     pool: &Arc<Pool<R, F, K>>,
     word: KeyWord,
     client: TcpEnd,
     visit: Visit,
 ) -> Result<(), AllocError> {
     let pool = Arc::try_clone(pool)?;
-    workers.start(rt, move || pool.attend(rt, word, client, visit))
+    workers.start(
+        rt,
+        Connection {
+            rt,
+            pool,
+            word,
+            client,
+            visit,
+        },
+        |connection: Connection<R, F, K>| connection.attend(),
+    )
 }
 
 /// Accepts connections, each served on a thread of its own: as many as `count` says, and then no more; or until the desk lets no
@@ -285,7 +332,7 @@ fn accept_all<
 >(
     rt: R,
     acceptor: &mut Acceptor,
-    workers: &mut Workers,
+    workers: &mut Workers<Connection<R, F, K>>,
     pool: &Arc<Pool<R, F, K>>,
     seed: [u8; 32],
     count: Option<u64>,
@@ -348,7 +395,7 @@ fn serve_all<
     let log = Arc::new(alloc, log)?;
     log.listening(settings.listen_addr(), settings.listen_port());
     let mut acceptor = Acceptor::new(&rt, alloc, listener)?;
-    let mut workers = Workers::new(alloc)?;
+    let mut workers = Workers::<Connection<R, F, K>>::new(alloc)?;
     let pool = Pool::<R, F, K>::open(rt, alloc, settings, users, source, &log, blanks)?;
     let pool = Arc::new(alloc, pool)?;
     let shared = Arc::try_clone(&pool)?;
@@ -367,7 +414,8 @@ fn serve_all<
 /// Serves the connections of a listener, each on a thread of its own, over links of one desk: as many as `count` says, and then no
 /// more, or until the console ends it. It returns when the last is done, with what was decided; without it where a worker's share is
 /// missing, or memory was refused then. A thread more tells the desk the seconds, and closes the links that are idle or old; and one
-/// writes the log to `out`. Nobody waits for that, but for a second at the end.
+/// writes the log to `out`. Nobody waits for that, but for a second at the end. A thread whose connection is done serves a later one
+/// ([`Workers`]).
 ///
 /// A connection for which there is no thread, no poll, no pass or no memory is closed, and the others go on. The error is that the
 /// system has no poll for the listener or no thread for the clock or the log, or that an allocation failed before the first connection.

@@ -1,5 +1,5 @@
 -- How a client's time at the desk ends.
-use Rattle.std.proofs.Common.{◌≡◌, inl, inr, ℕ, refl, sym, ap, ◌∙◌, arith, subst, None}
+use Rattle.std.proofs.Common.{◌≡◌, inl, inr, ℕ, refl, sym, ◌∙◌, arith, subst, None}
 use Rattle.std.specs.Arc.{arc_value}
 use Rattle.link_laws.specs.Standing.{ClientFacts}
 use Rattle.link_run.specs.Links.{LinkView}

@@ -7,7 +7,7 @@ use Rattle.message_view.specs.Refusals.{joined_pieces}
 use Rattle.ini_config.specs.declared.option_values.Settings.{Settings}
 use Rattle.link_laws.specs.Standing.{ClientFacts}
 use Rattle.login_core.specs.Talk.End.{Passed as PassedWith}
-use Rattle.login_core.specs.Dialogue.{Dialogue, Rows, ToConsole, login_among}
+use Rattle.login_core.specs.Dialogue.{Rows, ToConsole, login_among}
 use Rattle.login_core.specs.Logins.{LoginView, rows_of}
 use Rattle.login_run.specs.declared.said.Said.{Said}
 use Rattle.login_run.specs.declared.said.Said.TheVariants as said

@@ -6,7 +6,9 @@ use Rattle.user_file.specs.declared.user_table.UserRow.{UserRow}
 use Rattle.message_view.specs.declared.refusal.Refusal.{Refusal}
 use Rattle.link_laws.specs.Standing.{ClientFacts, Standing}
 use Rattle.link_run.specs.Links.{LinkView}
-use Rattle.link_start.specs.Starts.{IsCause}
+use Rattle.link_start.specs.Starts.{HasTried, IsCause}
+use Rattle.link_start.specs.declared.start.StartCause.TheVariants.{Turns}
+use Rattle.pool_serve.specs.declared.TheConstants.{TURNS}
 use Rattle.link_start.specs.declared.start.StartCause.{StartCause}
 use Rattle.link_desk.specs.declared.calls.Call.TheVariants as call
 use Rattle.link_desk.specs.declared.calls.Holder.{Holder}
@@ -83,7 +85,7 @@ HasRelayed link g before after (ending.Relayed r) = IsRelayed link g before afte
 HasRelayed link g before after ending.Memory = after ≡ before
 HasRelayed link g before after other = ⊥
 
--- a start over an end of its row's server failed so
+-- A start over an end of its row's server failed so: it is told that its turns were used up only after all of them.
 pub record IsUnstarted (home : HomeOf) (g : LoggedIn) (cause : StartCause) : Type 0 where
   pub row : DbRow
   pub user : UserRow
@@ -93,6 +95,7 @@ pub record IsUnstarted (home : HomeOf) (g : LoggedIn) (cause : StartCause) : Typ
   pub now : Standing
   pub dialled : IsDialled home row began
   pub is_cause : IsCause began now user.secret (arc_value g.key) cause
+  pub tried : cause ≡ Turns → HasTried began user.secret (arc_value g.key) now TURNS
 
 abbrev pub IsUnopened : HomeOf → LoggedIn → Ending → Type 0
 IsUnopened home g ending.Unreached = Unit {0}

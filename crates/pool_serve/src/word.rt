@@ -1,6 +1,7 @@
 //! The last word to a client.
-ghost use Rattle.std.specs.Prelude.{◌≡◌};
+ghost use Rattle.std.specs.Prelude.{◌≡◌, ◌+◌, ◌≤◌};
 ghost use Rattle.pool_serve.specs.Words.{HasGiven, last_bytes, last_of, or_nothing};
+ghost use Rattle.pool_serve.specs.declared.TheConstants.{TURNS};
 
 use crate::TURNS;
 use link_start::start::{StartCause, StartError, StartRefusal};
@@ -17,9 +18,11 @@ pub(crate) enum LastWord {
     Error(StartError),
 }
 
-/// Gives a client these bytes, in at most so many turns; the gate's turns are taken where it takes none.
+/// Gives a client these bytes, in at most so many tries; one turn of the gate is taken for each that came to nothing.
 fn give<C: ClientEnd, E: ServerEnd, G: Gate<E>>(client: &mut C, bytes: &[u8], gate: &mut G)
-    ensures { HasGiven (C.facts client.old) (C.facts client.new) bytes.now }
+    ensures given { HasGiven (C.facts client.old) (C.facts client.new) bytes.now }
+    ensures taken { G.turns gate.new ≤ G.turns gate.old + TURNS }
+    ensures paced { (C.facts client.new).write_waits + G.turns gate.old ≡ (C.facts client.old).write_waits + G.turns gate.new }
 {
     let mut sent = 0;
     for _ in 0..TURNS {
@@ -69,7 +72,9 @@ impl LastWord {
 
     /// Tells the client.
     pub(crate) fn tell<C: ClientEnd, E: ServerEnd, G: Gate<E>>(&self, client: &mut C, gate: &mut G)
-        ensures { HasGiven (C.facts client.old) (C.facts client.new) (last_bytes self.now) }
+        ensures given { HasGiven (C.facts client.old) (C.facts client.new) (last_bytes self.now) }
+        ensures taken { G.turns gate.new ≤ G.turns gate.old + TURNS }
+        ensures paced { (C.facts client.new).write_waits + G.turns gate.old ≡ (C.facts client.old).write_waits + G.turns gate.new }
     {
         give(client, self.as_bytes(), gate);
     }

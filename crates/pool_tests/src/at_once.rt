@@ -15,7 +15,7 @@ use memory_ends::memory_server::MemoryServer;
 use paced_client::PacedClient;
 use play_tests::files::catalogue;
 use pool_desk::desk::Desk;
-use server_end::gate::{Gate, OpenGate};
+use server_end::gate::{Gate, OpenGate, TurnCount};
 use session_catalogue::Catalogue;
 use std::alloc::{AllocError, Global};
 use std::marker::Brand;
@@ -80,6 +80,7 @@ fn at_once<N: Naming + Send + Sync, K: Ledgers + Send + Sync, R: TestRuntime>(
     let gate = HoldingGate {
         rt: &rt,
         notes: &notes,
+        turns: TurnCount::new(),
     };
     let first = One {
         alloc,
@@ -97,7 +98,7 @@ fn at_once<N: Naming + Send + Sync, K: Ledgers + Send + Sync, R: TestRuntime>(
     let (first, second) = join(
         &rt,
         || -> Result<usize, AllocError> { served(shared, first_pass, first, gate) },
-        || -> Result<usize, AllocError> { served(shared, second_pass, second, OpenGate) },
+        || -> Result<usize, AllocError> { served(shared, second_pass, second, OpenGate::new()) },
     );
     second?;
     Ok((notes.are_in_time(), first?))

@@ -21,7 +21,7 @@ use message_view::KeyWord;
 use paced_client::PacedClient;
 use play_tests::files::{SHOP, catalogue};
 use pool_desk::desk::Desk;
-use server_end::gate::{Gate, OpenGate};
+use server_end::gate::{Gate, OpenGate, TurnCount};
 use session_catalogue::Catalogue;
 use std::alloc::{AllocError, Global};
 use std::marker::Brand;
@@ -98,7 +98,8 @@ fn is_served<N: Naming, K: Ledgers, R: Wait + Clock + Drop>(
 ) -> Result<(Pass<K>, bool), AllocError> {
     let client = PacedClient::new(alloc, COMES_AND_ASKS, CUT)?;
     let login = login_as(alloc, SHOP, own)?;
-    let Some((client, pass)) = serve_as(alloc, desk, pass, client, login, own, OpenGate) else {
+    let Some((client, pass)) = serve_as(alloc, desk, pass, client, login, own, OpenGate::new())
+    else {
         return Err(AllocError);
     };
     let wanted = wanted(alloc, own, SERVED)?;
@@ -118,7 +119,7 @@ fn asks<N: Naming, K: Ledgers, R: Wait + Clock + Drop>(
     let own = word(9, 9);
     let client = MemoryClient::new(alloc, cancel, CUT)?;
     let login = login_as(alloc, SHOP, own)?;
-    match serve_as(alloc, desk, pass, client, login, own, OpenGate) {
+    match serve_as(alloc, desk, pass, client, login, own, OpenGate::new()) {
         Some((client, pass)) => {
             let is_free = is_free(&pass);
             Ok((pass, client.given().is_empty() && is_free))
@@ -175,6 +176,7 @@ fn is_cancelled<N: Naming + Send + Sync, K: Ledgers + Send + Sync, R: TestRuntim
     let gate = HoldingGate {
         rt: &rt,
         notes: &notes,
+        turns: TurnCount::new(),
     };
     let shared = &notes;
     let cancel = row.cancel;

@@ -3,7 +3,7 @@ ghost use Rattle.std.specs.Prelude.{◌≡◌, true};
 ghost use Rattle.server_end.specs.Moves.{ClientReads, ClientWrites, IsWithin, moved};
 
 use paced_client::PacedClient;
-use server_end::gate::{Gate, Ready};
+use server_end::gate::{Gate, Ready, TurnCount};
 use server_end::{ClientEnd, Moved, ServerEnd};
 use std::rt::Clock;
 use std::sync::atomic::{AtomicBool, Ordering};
@@ -86,11 +86,15 @@ impl Notes {
 pub(crate) struct HoldingGate<'a, R: Clock> {
     pub rt: &'a R,
     pub notes: &'a Notes,
+    pub turns: TurnCount,
 }
 
 impl<'a, R: Clock> HoldingGate<'a, R> {
-    /// Waits for the other client.
+    /// Waits for the other client, once its own was welcomed.
     fn hold(&self) {
+        if !self.notes.welcomed.load(Ordering::SeqCst) {
+            return;
+        }
         for _ in 0..60_000u32 {
             if self.notes.answered.load(Ordering::SeqCst) {
                 return;
@@ -102,13 +106,24 @@ impl<'a, R: Clock> HoldingGate<'a, R> {
 }
 
 impl<'a, R: Clock, E: ServerEnd> Gate<E> for HoldingGate<'a, R> {
+    ghost turns = { λ g. g.turns };
+
     fn turn(&mut self) -> Ready {
-        if self.notes.welcomed.load(Ordering::SeqCst) {
-            self.hold();
-        }
+        self.turns.count();
+        self.hold();
         Ready {
             client: true,
             server: true,
         }
+    }
+
+    fn turn_of_client(&mut self) {
+        self.turns.count();
+        self.hold();
+    }
+
+    fn turn_of_link(&mut self) {
+        self.turns.count();
+        self.hold();
     }
 }

@@ -87,8 +87,10 @@ fn both<N: Naming, K: Ledgers, R: Wait + Clock + Drop>(
     let dialer = MemoryDial::<N>::new(alloc, catalogue, word(7), CUT);
     let desk = Desk::<R, MemoryDial<N>, K>::new(rt, alloc, dialer, limits, blanks)?;
     let pass = desk.pass().ok_or("no pass")?;
-    let (first, pass) = serve_by(alloc, &desk, pass, first, one, 1, OpenGate).ok_or("held")?;
-    let (second, pass) = serve_by(alloc, &desk, pass, second, two, 2, OpenGate).ok_or("held")?;
+    let (first, pass) = serve_by(alloc, &desk, pass, first, one, 1, OpenGate::new()).ok_or("held")?;
+    let (second, pass) = serve_by(alloc, &desk, pass, second, two, 2, OpenGate::new()).ok_or(
+        "held",
+    )?;
     let mut pass = pass;
     let view = desk.view(alloc, &mut pass)?;
     let mut passes = Vec::new(alloc);

@@ -39,7 +39,7 @@ impl<C: ClientEnd, E: ServerEnd> Relay<C, E> {
         if !self.may_write_link(ready) {
             return Moved::NotNow;
         }
-        self.write_link(ready)
+        self.write_link()
     }
 
     /// Writes to the client: first its welcome.
@@ -51,9 +51,9 @@ impl<C: ClientEnd, E: ServerEnd> Relay<C, E> {
             return Moved::NotNow;
         }
         if self.welcome_is_empty() {
-            return self.write_client(ready);
+            return self.write_client();
         }
-        self.write_welcome(ready)
+        self.write_welcome()
     }
 
     /// Whether the client is read: no end is over, and its frames go on.
@@ -118,13 +118,12 @@ impl<C: ClientEnd, E: ServerEnd> Relay<C, E> {
         moved
     }
 
-    /// One write to the link, of all that is held for it.
-    fn write_link(&mut self, ready: bool) -> Moved
+    /// One write to the link, which is ready, of all that is held for it.
+    fn write_link(&mut self) -> Moved
         requires { is_empty self.old.to_link.held ≡ false }
         ensures keeps { Keeps self.old self.new }
-        ensures steps { WritesLink ready self.old self.new result }
+        ensures steps { WritesLink true self.old self.new result }
     {
-        let _ = ready;
         let held = self.to_link.held();
         let moved = self.link.end.write_some(held);
         self.to_link.wrote(count_moved(moved));
@@ -132,14 +131,13 @@ impl<C: ClientEnd, E: ServerEnd> Relay<C, E> {
         moved
     }
 
-    /// One write to the client, of all that is held for it.
-    fn write_client(&mut self, ready: bool) -> Moved
+    /// One write to the client, which is ready, of all that is held for it.
+    fn write_client(&mut self) -> Moved
         requires welcome { is_empty self.old.greeting ≡ true }
         requires held { is_empty self.old.to_client.held ≡ false }
         ensures keeps { Keeps self.old self.new }
-        ensures steps { WritesClient ready self.old self.new result }
+        ensures steps { WritesClient true self.old self.new result }
     {
-        let _ = ready;
         let held = self.to_client.held();
         let moved = self.client.write_some(held);
         self.to_client.wrote(count_moved(moved));
@@ -147,13 +145,12 @@ impl<C: ClientEnd, E: ServerEnd> Relay<C, E> {
         moved
     }
 
-    /// One write to the client, of its welcome.
-    fn write_welcome(&mut self, ready: bool) -> Moved
+    /// One write to the client, which is ready, of its welcome.
+    fn write_welcome(&mut self) -> Moved
         requires { is_empty self.old.greeting ≡ false }
         ensures keeps { Keeps self.old self.new }
-        ensures steps { WritesClient ready self.old self.new result }
+        ensures steps { WritesClient true self.old self.new result }
     {
-        let _ = ready;
         let unsent = rest_of(self.welcome.as_slice(), self.greeted);
         let moved = self.client.write_some(unsent);
         self.greeted += count_moved(moved);

@@ -1,5 +1,5 @@
 //! One lease: a client's end, a link, and the bytes between them.
-ghost use Rattle.std.specs.Prelude.{◌≡◌, ◌≤◌, ◌<◌, ◌+◌, ◌&&◌, ◌⊎◌, drop, length, true, false, IfErr, IfOk, Some};
+ghost use Rattle.std.specs.Prelude.{◌≡◌, ◌≢◌, ◌≤◌, ◌<◌, ◌+◌, ◌&&◌, ◌⊎◌, drop, length, true, false, IfErr, IfOk, Some};
 ghost use Rattle.frame_view.specs.declared.frames.TheConstants.{LONGEST_FRAME};
 
 use crate::answers::phase_after;
@@ -92,7 +92,7 @@ impl<C: ClientEnd, E: ServerEnd> Relay<C, E> {
     ghost use Rattle.relay_laws.specs.Leases.{Place, place, IsLease, IsExact, IsAllowed, Keeps, relay_verdict, at_border};
     ghost use Rattle.relay_laws.specs.Answers.{EndsByClient, RefusedBy, AtBorder, IsCut, judged, phase_after};
     ghost use Rattle.relay_core.specs.Returns.{IsReturned, is_clear};
-    ghost use Rattle.relay_laws.specs.Steps.{bytes_moved, HoldsAll, Waits};
+    ghost use Rattle.relay_laws.specs.Steps.{bytes_moved, HoldsAll, IsOnce, LeavesSides, Waits};
     ghost use Rattle.relay_laws.specs.declared.Next.TheVariants.{Again, Wait, ClientDone, Refuse, Closed};
     ghost use Rattle.relay_laws.specs.declared.Phase.TheVariants.{Running, Done, Shut};
     ghost use Rattle.message_view.specs.declared.refusal.Refusal.{Refusal};
@@ -146,13 +146,15 @@ impl<C: ClientEnd, E: ServerEnd> Relay<C, E> {
         })
     }
 
-    /// Moves bytes: each end that is ready is read once and written once at most. It waits for nobody.
+    /// Moves bytes: each end that is ready is read once and written once at most, and one that isn't is left as it is. It waits for
+    /// nobody.
     ///
     /// Again: a byte was read or written. Wait: none was, since each end that is ready answered NotNow, or may not be read, or
     /// has no room for what would be read, or nothing that may go on is held for it. ClientDone: the client sent Terminate or its
-    /// input ended, and all that may go on is written to the link; or its end faulted or takes nothing more. Refuse: at a
-    /// border of the frames that the client was given, its next frame is malformed or too long, or the server's is malformed,
-    /// or the server's end faulted or ended. Closed: the server's end faulted or ended inside a frame that was given in part.
+    /// input ended, and all that may go on is written to the link; or its end takes nothing more, or it faulted, which is answered
+    /// at once. Refuse: at a border of the frames that the client was given, its next frame is malformed or too long, or the
+    /// server's is malformed, or the server's end faulted or ended. Closed: the server's end faulted or ended inside a frame that
+    /// was given in part.
     ///
     /// After ClientDone it answers ClientDone, after Refuse or Closed it answers Closed, and moves nothing.
     pub fn pump(&mut self, ready: Ready) -> Next
@@ -166,6 +168,9 @@ impl<C: ClientEnd, E: ServerEnd> Relay<C, E> {
         ensures again { result ≡ Again → self.old.client.tells ≡ true → bytes_moved self.old < bytes_moved self.new }
         ensures none { result ≡ Wait → self.old.client.tells ≡ true → bytes_moved self.new ≡ bytes_moved self.old }
         ensures waits { result ≡ Wait → Waits ready.client ready.server self.old self.new }
+        ensures sides { LeavesSides ready.client ready.server self.old self.new }
+        ensures once { IsOnce self.old self.new }
+        ensures client_fault { result ≢ ClientDone → self.new.client.faults ≡ self.old.client.faults }
         ensures holds_all { self.old.phase ≡ Running → HoldsAll self.new }
         ensures after_done { self.old.phase ≡ Done → (result ≡ ClientDone) × (self.new ≡ self.old) }
         ensures after_shut { self.old.phase ≡ Shut → (result ≡ Closed) × (self.new ≡ self.old) }
@@ -245,6 +250,9 @@ impl<C: ClientEnd, E: ServerEnd> Relay<C, E> {
         ensures again { result ≡ Again → self.old.client.tells ≡ true → bytes_moved self.old < bytes_moved self.new }
         ensures none { result ≡ Wait → self.old.client.tells ≡ true → bytes_moved self.new ≡ bytes_moved self.old }
         ensures waits { result ≡ Wait → Waits ready.client ready.server self.old self.new }
+        ensures sides { LeavesSides ready.client ready.server self.old self.new }
+        ensures once { IsOnce self.old self.new }
+        ensures client_fault { result ≢ ClientDone → self.new.client.faults ≡ self.old.client.faults }
         ensures holds_all { HoldsAll self.new }
     {
         let next = self.run(ready);
@@ -259,6 +267,9 @@ impl<C: ClientEnd, E: ServerEnd> Relay<C, E> {
         ensures again { result ≡ Again → self.old.client.tells ≡ true → bytes_moved self.old < bytes_moved self.new }
         ensures none { result ≡ Wait → self.old.client.tells ≡ true → bytes_moved self.new ≡ bytes_moved self.old }
         ensures waits { result ≡ Wait → Waits ready.client ready.server self.old self.new }
+        ensures sides { LeavesSides ready.client ready.server self.old self.new }
+        ensures once { IsOnce self.old self.new }
+        ensures client_fault { result ≢ ClientDone → self.new.client.faults ≡ self.old.client.faults }
         ensures holds_all { HoldsAll self.new }
     {
         let read = self.from_client(ready.client);

@@ -1,5 +1,5 @@
 -- The beginning of a lease.
-use Rattle.std.proofs.Common.{◌≡◌, ◌≢◌, ℕ, ◌≤◌, arith, true, false, List, Option, [], Result, Ok, refl, sym, ap, ◌∙◌, append-nil, subst, ◌-◌}
+use Rattle.std.proofs.Common.{◌≡◌, ℕ, ◌≤◌, arith, false, List, Option, [], Result, Ok, refl, sym, ap, ◌∙◌, append-nil, subst}
 use Rattle.std.specs.List.{flat_map}
 use Rattle.std.proofs.lemmas.Bool.{false≢true}
 use Rattle.disposal.specs.Tallies.{Tells}
@@ -15,12 +15,13 @@ use Rattle.session_values.specs.Service.{welcome}
 use Rattle.link_run.proofs.Reporting.{welcome_is}
 use Rattle.link_laws.specs.Standing.{Standing, ClientFacts}
 use Rattle.link_laws.proofs.Both.{moves_none}
-use Rattle.link_run.specs.Links.{LinkView, IsClean}
+use Rattle.link_run.specs.Links.{LinkView}
+use Rattle.link_run.specs.Receipts.{IsClean}
 use Rattle.param_track.specs.Kept.{Kept}
 use Rattle.relay_laws.specs.Verdicts.{Told}
 use Rattle.relay_laws.proofs.Settling.{tells_none}
 use Rattle.relay_laws.specs.declared.Phase.{Phase}
-use Rattle.relay_flow.specs.Flows.{FlowView, came, IsEmptyFlow}
+use Rattle.relay_flow.specs.Flows.{FlowView, IsEmptyFlow}
 use Rattle.relay_laws.specs.Leases.{relay_view, place, IsLease, IsFlow, IsGreeting, greeting_of, flags_of}
 use Rattle.relay_laws.proofs.Flowing.{no_opens}
 
@@ -38,7 +39,7 @@ same_session r s t e d = cc
 -- what a clean link's reports tell a client is the welcome of its fresh session
 clean_greets : (l : Standing) (k : StartKeyOf) (ks : List Kept) (w : KeyWord) → IsClean l k ks → IsGreeting l k w (greeting_of ks w)
 clean_greets l k ks w c f s e =
-    let x = c f in
+    let x = c.fresh f in
     let z : State = x.stands.session in
     ap (λ (kept : List Kept). greeting_of kept w) x.kept ∙ ap (flat_map spelling) (welcome_is z w.pid w.secret)
     ∙ ap (λ (t : State). flat_map spelling (welcome t w.pid w.secret)) (same_session (fresh l.server.catalogue k) z s x.stands.is_fresh e)

@@ -37,7 +37,7 @@ lease_of p v x = record {
 pub under_way : (p : Place) (v : RelayView) (x : IsLease p v) → p.stands.follows ≡ true → IsUnderWay (lease_of p v x)
 unfolding lease_of
 under_way p v x f =
-    let c = (x.clean f).stands in
+    let c = (x.clean.fresh f).stands in
     record {
       clean = c;
       moves = x.moves;

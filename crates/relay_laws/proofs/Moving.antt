@@ -1,5 +1,5 @@
 -- What reads and writes of the ends do to a lease.
-use Rattle.std.proofs.Common.{◌≡◌, ◌≢◌, ℕ, ◌+◌, ◌≤◌, inl, inr, ⊎_elim, length, arith, Bool, true, false, List, Option, [], ◌∷◌, ◌++◌, refl, sym, ap, ap₂, ◌∙◌, append_assoc, subst, take, drop, ◌-◌, take-append-drop, length-take-le, length-append, ◌<◌}
+use Rattle.std.proofs.Common.{◌≡◌, ℕ, ◌+◌, ◌≤◌, inl, inr, ⊎_elim, length, arith, Bool, true, false, List, Option, [], ◌∷◌, ◌++◌, refl, sym, ap, ap₂, ◌∙◌, append_assoc, subst, take, drop, take-append-drop, length-take-le, length-append, ◌<◌}
 use Rattle.std.specs.Prelude.{◌||◌}
 use Rattle.std.specs.List.{flat_map}
 use Rattle.std.proofs.lemmas.Bool.{true≢false, false≢true}

@@ -16,7 +16,7 @@ use Rattle.session_values.specs.State.{StartKeyOf}
 use Rattle.link_laws.specs.Standing.{Standing, ClientFacts}
 use Rattle.session_values.proofs.Alls.{all-append}
 use Rattle.link_run.specs.Links.{told_by}
-use Rattle.link_run.specs.Resets.{names_kept}
+use Rattle.link_run.specs.Dialogues.{names_kept}
 use Rattle.param_track.specs.Kept.{Kept}
 use Rattle.message_view.specs.Reading.{status_of}
 use Rattle.frame_view.specs.declared.server.TheConstants.{PARAMETER_STATUS}
@@ -28,7 +28,7 @@ use Rattle.relay_flow.specs.Parts.{Opens, Spells, is_foreign}
 use Rattle.relay_flow.specs.declared.flow.Passed.{Passed}
 use Rattle.relay_laws.specs.declared.Flags.{Flags}
 use Rattle.relay_laws.specs.declared.Phase.{Phase}
-use Rattle.relay_flow.specs.Flows.{FlowView, came, Passes, Stays, is_open, last_body}
+use Rattle.relay_flow.specs.Flows.{FlowView, Passes, Stays, is_open, last_body}
 use Rattle.relay_laws.specs.Leases.{RelayView, relay_view, Place, IsLease, IsForwarded}
 use Rattle.relay_laws.proofs.Flowing.{flow_open, flow_stays, no_opens, same_went, stay_opens}
 

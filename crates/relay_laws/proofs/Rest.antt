@@ -14,11 +14,13 @@ use Rattle.session_values.specs.Step.{run_frames}
 use Rattle.session_laws.proofs.ByName.{fresh_is_reached, fresh_is_at_rest}
 use Rattle.link_laws.specs.Stages as stages
 use Rattle.link_laws.specs.Stages.{Stage, Before, Asked, Open, Closed, Packet, packets_bytes, packets_marks, after, answers, MayTakeAll}
-use Rattle.link_laws.specs.Standing.{Served, marks_since}
+use Rattle.link_laws.specs.Standing.{Moves, Served, marks_since}
 use Rattle.link_laws.proofs.Both.{lives_before}
 use Rattle.link_laws.proofs.InSession.{InSession, in_session}
 use Rattle.link_laws.specs.Links.{IsFresh, IsIdle, IsResting}
-use Rattle.link_run.specs.Links.{IsClean, IsUsed, IsRestingLink, after_frames, kept_by}
+use Rattle.link_run.specs.Links.{IsFreshLink, IsRestingLink, after_frames, kept_by}
+use Rattle.link_run.specs.Receipts.{HasSettled, IsClean, IsUsed}
+use Rattle.link_run.proofs.Receipts.{untouched_is_clean}
 use Rattle.link_run.proofs.Reporting.{told-frames}
 use Rattle.link_laws.proofs.Splits.{SplitsOff, split_whole}
 use Rattle.session_run_laws.proofs.ByName.{run_replies_are_frames, run_reports_tell_values}
@@ -72,7 +74,7 @@ idle_still p v x s m d e =
 
 pub fresh_still : (p : Place) (v : RelayView) (x : IsLease p v) → p.stands.follows ≡ true → x.sent ≡ [] → IsFresh v.link v.key
 fresh_still p v x f e =
-    let c : IsFresh p.stands v.key = (x.clean f).stands in
+    let c : IsFresh p.stands v.key = (x.clean.fresh f).stands in
     let cat : CatalogueOf = p.stands.server.catalogue in
     let same : cat ≡ v.link.server.catalogue = ap (λ (y : stages.Server). y.catalogue) (sym x.moves.server) in
     record {
@@ -87,22 +89,18 @@ fresh_still p v x f e =
 none_kept : (p : Place) (v : RelayView) (x : IsLease p v) → x.received ≡ [] → v.told.reports ≡ p.reports
 none_kept p v x e = x.tally.keeps ∙ ap (all_kept p.reports) (nothing x.arrived (x.front ++ v.to_client.part) (sym e ∙ x.comes.whole)).0
 
+untouched : (p : Place) (v : RelayView) (x : IsLease p v) → (x.sent ≡ []) × (x.received ≡ []) → Moves p.stands [] v.link []
+untouched p v x e = subst (λ (put : List ℕ). Moves p.stands put v.link []) e.0 (subst (λ (got : List ℕ). Moves p.stands x.sent v.link got) e.1 x.moves)
+
+untouched_fresh : (p : Place) (v : RelayView) (x : IsLease p v) → p.stands.follows ≡ true → (x.sent ≡ []) × (x.received ≡ []) → IsFreshLink v.link v.key v.told.reports
+unfolding fresh_still
+untouched_fresh p v x f e = record { stands = fresh_still p v x f e.0; kept = none_kept p v x e.1 ∙ (x.clean.fresh f).kept }
+
 pub lease_clean : (p : Place) (v : RelayView) → IsLease p v → v.flags.touched ≡ false → IsClean v.link v.key v.told.reports
-lease_clean p v x e f =
-    let g : p.stands.follows ≡ true = sym x.moves.follows ∙ f in
-    let c : IsFresh p.stands v.key = (x.clean g).stands in
-    let cat : CatalogueOf = p.stands.server.catalogue in
-    let same : cat ≡ v.link.server.catalogue = ap (λ (y : stages.Server). y.catalogue) (sym x.moves.server) in
-    record {
-      stands = record {
-        session = c.session;
-        is_fresh = subst (λ (y : CatalogueOf). fresh y v.key ≡ Ok c.session) same c.is_fresh;
-        lawful = subst IsLawfulCatalogue same c.lawful;
-        lawful_key = c.lawful_key;
-        idle = λ n. idle_still p v x c.session (x.moves.served g n) (c.idle (lives_before p.stands v.link x.moves.dead n)) (x.says.untouched e).0;
-      };
-      kept = none_kept p v x (x.says.untouched e).1 ∙ (x.clean g).kept;
-    }
+lease_clean p v x e = record {
+  came = untouched_is_clean v.key p.stands v.link x.clean.came (untouched p v x (x.says.untouched e));
+  fresh = λ f. untouched_fresh p v x (sym x.moves.follows ∙ f) (x.says.untouched e);
+}
 
 -- ---- a link that settled is at rest
 
@@ -147,9 +145,9 @@ same_state : (s t : State) → Open s ≡ Open t → s ≡ t
 unfolding state_in
 same_state s t e = ap (state_in s) e
 
-reported_now : (p : Place) (v : RelayView) (x : IsLease p v) (f : p.stands.follows ≡ true) → v.link.lives ≡ true → x.received ≡ flat_map spelling x.arrived → (r : IsResting v.link v.key) → r.session.reported ≡ after_replies (x.clean f).stands.session.reported x.arrived
+reported_now : (p : Place) (v : RelayView) (x : IsLease p v) (f : p.stands.follows ≡ true) → v.link.lives ≡ true → x.received ≡ flat_map spelling x.arrived → (r : IsResting v.link v.key) → r.session.reported ≡ after_replies (x.clean.fresh f).stands.session.reported x.arrived
 reported_now p v x f n w r =
-    let c : IsFresh p.stands v.key = (x.clean f).stands in
+    let c : IsFresh p.stands v.key = (x.clean.fresh f).stands in
     let cat : CatalogueOf = p.stands.server.catalogue in
     let s : State = c.session in
     let m : Served p.stands x.sent (marks_since p.stands v.link) v.link x.received = x.moves.served f n in
@@ -168,30 +166,60 @@ reported_now p v x f n w r =
 
 kept_now : (p : Place) (v : RelayView) (x : IsLease p v) (f : p.stands.follows ≡ true) → v.link.lives ≡ true → x.received ≡ flat_map spelling x.arrived → v.told.reports ≡ after_frames p.reports x.arrived → IsResting v.link v.key → IsRestingLink v.link v.key v.told.reports
 kept_now p v x f n w k r =
-    let c : IsFresh p.stands v.key = (x.clean f).stands in
+    let c : IsFresh p.stands v.key = (x.clean.fresh f).stands in
     let same : p.stands.server.catalogue ≡ v.link.server.catalogue = ap (λ (y : stages.Server). y.catalogue) (sym x.moves.server) in
     let s : State = c.session in
     record {
       stands = r;
       origin = s;
       is_fresh = subst (λ (y : CatalogueOf). fresh y v.key ≡ Ok s) same c.is_fresh;
-      kept = k ∙ ap (λ (ks : List Kept). after_frames ks x.arrived) (x.clean f).kept ∙ told-frames s.reported s.reported x.arrived ∙ ap (kept_by s.reported) (sym (reported_now p v x f n w r));
+      kept = k ∙ ap (λ (ks : List Kept). after_frames ks x.arrived) (x.clean.fresh f).kept ∙ told-frames s.reported s.reported x.arrived ∙ ap (kept_by s.reported) (sym (reported_now p v x f n w r));
     }
 
-pub lease_used : (p : Place) (v : RelayView) → SettledExactly → IsLease p v → relay_verdict v ≡ Settled → IsUsed v.link v.key v.told.reports
-lease_used p v law x e f n =
-    let g : p.stands.follows ≡ true = sym x.moves.follows ∙ f in
-    let q = settled_by (verdict_of v.told.tally) (is_faulty v.to_client.ends) (at_border v) e in
-    let b = and_parts (is_empty v.to_link.held && (v.to_link.rest == 0)) (is_empty v.to_client.part && (v.to_client.rest == 0)) q.1 in
+-- ---- what a settled lease was
+
+-- all that went over the link were whole frames, each way
+record IsWhole (p : Place) (v : RelayView) (x : IsLease p v) : Type 0 where
+  held : v.to_link.held ≡ []
+  tail : x.tail ≡ []
+  sent : x.sent ≡ flat_map spelling x.forwarded
+  received : x.received ≡ flat_map spelling x.arrived
+
+whole_at : (p : Place) (v : RelayView) (x : IsLease p v) → at_border v ≡ true → IsWhole p v x
+whole_at p v x e =
+    let b = and_parts (is_empty v.to_link.held && (v.to_link.rest == 0)) (is_empty v.to_client.part && (v.to_client.rest == 0)) e in
     let bl = and_parts (is_empty v.to_link.held) (v.to_link.rest == 0) b.0 in
     let bc = and_parts (is_empty v.to_client.part) (v.to_client.rest == 0) b.1 in
     let h : v.to_link.held ≡ [] = empty_is v.to_link.held bl.0 in
     let t : x.tail ≡ [] = x.goes.opens.border (eqb-true v.to_link.rest 0 bl.1) in
-    let fr : x.front ≡ [] = x.comes.opens.border (eqb-true v.to_client.rest 0 bc.1) in
-    let r : x.received ≡ flat_map spelling x.arrived = x.comes.whole ∙ ap₂ (λ (a c : List ℕ). flat_map spelling x.arrived ++ (a ++ c)) fr (empty_is v.to_client.part bc.0) ∙ append-nil (flat_map spelling x.arrived) in
-    let sent : x.sent ≡ flat_map spelling x.forwarded = sym (append-nil x.sent) ∙ ap (λ (a : List ℕ). x.sent ++ a) (sym h) ∙ x.goes.on_way ∙ ap (λ (a : List ℕ). flat_map spelling x.forwarded ++ a) t ∙ append-nil (flat_map spelling x.forwarded) in
-    let z : Answered p.reports v.told x.forwarded x.arrived = answered_by p.reports v.told x.forwarded x.arrived law x.tally q.0 in
-    kept_now p v x g n r z.keeps (⊎_elim
-    (λ none. rests_fresh p v x g n (sent ∙ ap (flat_map spelling) none))
-    (λ a. rests_answered p v x g n h t r a)
-    z.answers)
+    let f : x.front ≡ [] = x.comes.opens.border (eqb-true v.to_client.rest 0 bc.1) in
+    record {
+      held = h;
+      tail = t;
+      sent = sym (append-nil x.sent) ∙ ap (λ (a : List ℕ). x.sent ++ a) (sym h) ∙ x.goes.on_way ∙ ap (λ (a : List ℕ). flat_map spelling x.forwarded ++ a) t ∙ append-nil (flat_map spelling x.forwarded);
+      received = x.comes.whole ∙ ap₂ (λ (a c : List ℕ). flat_map spelling x.arrived ++ (a ++ c)) f (empty_is v.to_client.part bc.0) ∙ append-nil (flat_map spelling x.arrived);
+    }
+
+has_settled : (p : Place) (v : RelayView) (x : IsLease p v) → IsWhole p v x → Answered p.reports v.told x.forwarded x.arrived → HasSettled p.stands v.link
+has_settled p v x w a = record {
+  sent = x.forwarded;
+  received = x.arrived;
+  moves = subst (λ (put : List ℕ). Moves p.stands put v.link (flat_map spelling x.arrived)) w.sent (subst (λ (got : List ℕ). Moves p.stands x.sent v.link got) w.received x.moves);
+  answered = a.answers;
+}
+
+rests : (p : Place) (v : RelayView) (x : IsLease p v) → IsWhole p v x → Answered p.reports v.told x.forwarded x.arrived → p.stands.follows ≡ true → v.link.lives ≡ true → IsRestingLink v.link v.key v.told.reports
+rests p v x w a f n = kept_now p v x f n w.received a.keeps (⊎_elim
+    (λ none. rests_fresh p v x f n (w.sent ∙ ap (flat_map spelling) none))
+    (λ all. rests_answered p v x f n w.held w.tail w.received all)
+    a.answers)
+
+pub lease_used : (p : Place) (v : RelayView) → SettledExactly → IsLease p v → relay_verdict v ≡ Settled → IsUsed v.link v.key v.told.reports
+lease_used p v law x e =
+    let q = settled_by (verdict_of v.told.tally) (is_faulty v.to_client.ends) (at_border v) e in
+    let w : IsWhole p v x = whole_at p v x q.1 in
+    let a : Answered p.reports v.told x.forwarded x.arrived = answered_by p.reports v.told x.forwarded x.arrived law x.tally q.0 in
+    record {
+      came = record { clean = p.stands; came = x.clean.came; lease = has_settled p v x w a };
+      rests = λ f n. rests p v x w a (sym x.moves.follows ∙ f) n;
+    }

@@ -1,5 +1,5 @@
 -- What each move counts, and why a pump waits.
-use Rattle.std.proofs.Common.{◌≡◌, ◌≢◌, ℕ, ◌+◌, ◌<◌, Bool, true, false, List, Option, [], ◌∷◌, ◌++◌, length, refl, sym, ap, ap₂, ◌∙◌, arith, length-append, subst, drop}
+use Rattle.std.proofs.Common.{◌≡◌, ◌≢◌, ℕ, ◌+◌, ◌<◌, ◌≤◌, Bool, true, false, cond, List, Option, [], ◌∷◌, ◌++◌, length, refl, sym, ap, ap₂, ◌∙◌, arith, length-append, subst, drop}
 use Rattle.std.specs.Prelude.{◌||◌, ◌&&◌, ◌==◌, not}
 use Rattle.std.proofs.lemmas.Bool.{true≢false, false≢true}
 use Rattle.relay_laws.specs.Verdicts.{Told}
@@ -8,17 +8,17 @@ use Rattle.message_view.specs.declared.views.KeyView.{KeyView}
 use Rattle.session_values.specs.State.{StartKeyOf}
 use Rattle.server_end.specs.declared.Moved.{Moved}
 use Rattle.server_end.specs.declared.Moved.TheVariants.{Count, NotNow, Ended, Fault}
-use Rattle.server_end.specs.Moves.{waits_in}
+use Rattle.server_end.specs.Moves.{faults_in, waits_in}
 use Rattle.link_laws.specs.Standing.{Standing, ClientFacts, Moves}
 use Rattle.server_end.specs.Moves.{CountsRead, CountsWrite, ClientReads, ClientWrites}
 use Rattle.relay_laws.specs.declared.Flags.{Flags}
 use Rattle.relay_laws.specs.declared.Phase.{Phase}
 use Rattle.relay_laws.specs.declared.Next.{Next}
-use Rattle.relay_laws.specs.declared.Next.TheVariants.{Again, Wait}
+use Rattle.relay_laws.specs.declared.Next.TheVariants.{Again, Wait, ClientDone}
 use Rattle.relay_flow.specs.Flows.{FlowView, SameCursor, came, count_of, Fills, IsPositive, is_faulty, is_last_end, is_open, is_empty}
 use Rattle.relay_laws.specs.Leases.{RelayView, relay_view, any_over, is_end, is_fault, link_moved, client_read, client_wrote}
-use Rattle.relay_laws.specs.Answers.{is_quiet, judged}
-use Rattle.relay_laws.specs.Steps.{bytes_moved, Adds, HasRoom, over_in, Kept, may_read_client, may_read_link, may_write_link, may_write_client, IsStuck, IsStuckClient, HoldsAll, OnlyToLink, OnlyToClient, ReadsClient, WritesLink, ReadsLink, WritesClient, Waits}
+use Rattle.relay_laws.specs.Answers.{is_quiet, judged, moved_or, quiet_next}
+use Rattle.relay_laws.specs.Steps.{bytes_moved, Adds, HasRoom, over_in, Kept, may_read_client, may_read_link, may_write_link, may_write_client, IsStuck, IsStuckClient, HoldsAll, OnlyToLink, OnlyToClient, ReadsClient, WritesLink, ReadsLink, WritesClient, LeavesSides, IsOnce, Waits}
 use Rattle.relay_laws.proofs.Moving.{Writes, Gives}
 use Rattle.relay_laws.proofs.Judging.{means}
 
@@ -40,6 +40,13 @@ any_kept f g k e =
 
 kept_same : (f : Flags) → Kept f f
 kept_same f = record { client = λ h. h; input = λ h. h; link = λ h. h }
+
+both_of : (a b : Bool) → (a && b) ≡ true → (a ≡ true) × (b ≡ true)
+both_of true b e = (refl, e)
+both_of false b e = absurd (false≢true e)
+
+is_ready : (ready more : Bool) → (ready && more) ≡ true → ready ≡ true
+is_ready ready more e = (both_of ready more e).0
 
 first_false : (a b c : Bool) → c ≡ (a || b) → c ≡ false → a ≡ false
 first_false a b c e h = (or_false a b (sym e ∙ h)).0
@@ -83,10 +90,28 @@ kept_wrote f g m e = record {
 over_wrote : (f g : Flags) (m : Moved) → g ≡ client_wrote f m → g.client_over ≡ false → over_in m ≡ false
 over_wrote f g m e h = second_false f.client_over (over_in m) g.client_over (ap (λ (x : Flags). x.client_over) e) h
 
+unfaulted_read : (f g : Flags) (m : Moved) → g ≡ client_read f m → g.client_over ≡ false → is_fault m ≡ false
+unfaulted_read f g m e h = second_false f.client_over (is_fault m) g.client_over (ap (λ (x : Flags). x.client_over) e) h
+
+unfaulted_wrote : (f g : Flags) (m : Moved) → g ≡ client_wrote f m → g.client_over ≡ false → is_fault m ≡ false
+unfaulted_wrote f g m e h = (or_false (is_end m) (is_fault m) (over_wrote f g m e h)).1
+
 -- ---- counts
 
 grown : (a b c : List ℕ) (n : ℕ) → a ≡ b ++ c → length c ≡ n → length a ≡ length b + n
 grown a b c n e l = ap length e ∙ length-append b c ∙ ap (λ (k : ℕ). length b + k) l
+
+at_most_one : (m : Moved) (a b : ℕ) → a ≡ b + waits_in m → a ≤ b + 1
+at_most_one (Count n) a b e = omega (arith, e)
+at_most_one NotNow a b e = omega (arith, e)
+at_most_one Ended a b e = omega (arith, e)
+at_most_one Fault a b e = omega (arith, e)
+
+faultless : (m : Moved) (a b : ℕ) → a ≡ b + faults_in m → is_fault m ≡ false → a ≡ b
+faultless (Count n) a b e h = omega (arith, e)
+faultless NotNow a b e h = omega (arith, e)
+faultless Ended a b e h = omega (arith, e)
+faultless Fault a b e h = absurd (true≢false h)
 
 one_wait : (m : Moved) (a b : ℕ) → a ≡ b + waits_in m → m ≡ NotNow → a ≡ b + 1
 one_wait m a b e h = e ∙ ap (λ (k : Moved). b + waits_in k) h
@@ -104,9 +129,9 @@ none_left held [] rest m e l h = sym e
 none_left held (b ∷ put) rest m e l h = absurd (omega (arith, l, ap count_of h))
 
 pub steps_read_client : (ready : Bool) (v : RelayView) (cf cg : ClientFacts) (l : Standing) (k : StartKeyOf) (n b : ℕ) (sk : Option KeyView) (w : KeyWord) (gr : List ℕ) (tl tn tm tc : FlowView) (t : Told) (fs fz : Flags) (ph : Phase) (r : Moved)
-    → relay_view cf l k n b sk w gr tl tc t fs ph ≡ v → IsPositive r → Fills tn tm r → ClientReads cf cg (came tn tm) r → fz ≡ client_read fs r
+    → may_read_client ready v ≡ true → relay_view cf l k n b sk w gr tl tc t fs ph ≡ v → IsPositive r → Fills tn tm r → ClientReads cf cg (came tn tm) r → fz ≡ client_read fs r
     → ReadsClient ready v (relay_view cg l k n b sk w gr tm tc t fz ph) r
-steps_read_client ready v cf cg l k n b sk w gr tl tn tm tc t fs fz ph r e i f y q =
+steps_read_client ready v cf cg l k n b sk w gr tl tn tm tc t fs fz ph r o e i f y q =
     subst (λ (u : RelayView). ReadsClient ready u (relay_view cg l k n b sk w gr tm tc t fz ph) r) e (record {
       positive = i;
       adds = record {
@@ -117,9 +142,12 @@ steps_read_client ready v cf cg l k n b sk w gr tl tn tm tc t fs fz ph r e i f y
       link = refl;
       greeting = refl;
       to_client = refl;
+      untouched = λ h. absurd (true≢false (sym (is_ready ready _ o) ∙ h));
       writes = y.write_waits;
+      once = at_most_one r cg.read_waits cf.read_waits y.read_waits;
       kept = kept_read fs fz r q;
       over = over_read fs fz r q;
+      unfaulted = λ h. faultless r cg.faults cf.faults y.faults (unfaulted_read fs fz r q h);
       reads = λ x z h. one_wait r cg.read_waits cf.read_waits y.read_waits h;
     })
 
@@ -131,9 +159,12 @@ no_read_client ready v w c l g d f never = record {
   link = l;
   greeting = g;
   to_client = d;
+  untouched = λ h. c;
   writes = ap (λ (x : ClientFacts). x.write_waits) c;
+  once = omega (arith, ap (λ (x : ClientFacts). x.read_waits) c);
   kept = subst (Kept v.flags) (sym f) (kept_same v.flags);
   over = λ h. refl;
+  unfaulted = λ h. ap (λ (x : ClientFacts). x.faults) c;
   reads = λ x z h. absurd (never x z);
 }
   where
@@ -141,9 +172,9 @@ no_read_client ready v w c l g d f never = record {
     same_moved c l g d = rw (c, l, g, d) (omega arith)
 
 pub steps_read_link : (ready : Bool) (v : RelayView) (cf : ClientFacts) (l m : Standing) (k : StartKeyOf) (n b : ℕ) (sk : Option KeyView) (w : KeyWord) (gr : List ℕ) (tl tc tn td : FlowView) (t : Told) (fs fz : Flags) (ph : Phase) (r : Moved)
-    → relay_view cf l k n b sk w gr tl tc t fs ph ≡ v → IsPositive r → tn.held ≡ tc.held → tn.part ≡ tc.part → Fills tn td r → Moves l [] m (came tn td) → CountsRead l m r → fz ≡ link_moved fs r
+    → may_read_link ready v ≡ true → relay_view cf l k n b sk w gr tl tc t fs ph ≡ v → IsPositive r → tn.held ≡ tc.held → tn.part ≡ tc.part → Fills tn td r → Moves l [] m (came tn td) → CountsRead l m r → fz ≡ link_moved fs r
     → ReadsLink ready v (relay_view cf m k n b sk w gr tl td t fz ph) r
-steps_read_link ready v cf l m k n b sk w gr tl tc tn td t fs fz ph r e i h p f y z q =
+steps_read_link ready v cf l m k n b sk w gr tl tc tn td t fs fz ph r o e i h p f y z q =
     subst (λ (u : RelayView). ReadsLink ready u (relay_view cf m k n b sk w gr tl td t fz ph) r) e (record {
       positive = i;
       adds = record {
@@ -157,7 +188,9 @@ steps_read_link ready v cf l m k n b sk w gr tl tc tn td t fs fz ph r e i h p f 
       client = refl;
       greeting = refl;
       to_link = refl;
+      untouched = λ h. absurd (true≢false (sym (is_ready ready _ o) ∙ h));
       writes = z.write_waits;
+      once = at_most_one r m.read_waits l.read_waits z.read_waits;
       kept = kept_link fs fz r q;
       over = over_any_link fs fz r q;
       reads = λ x c h. one_wait r m.read_waits l.read_waits z.read_waits h;
@@ -170,17 +203,19 @@ no_read_link ready v w c l g d h p f never = record {
   client = c;
   greeting = g;
   to_link = d;
+  untouched = λ x. l;
   writes = ap (λ (x : Standing). x.write_waits) l;
+  once = omega (arith, ap (λ (x : Standing). x.read_waits) l);
   kept = subst (Kept v.flags) (sym f) (kept_same v.flags);
   over = λ x. refl;
   reads = λ x z y. absurd (never x z);
 }
 
-pub steps_write_link : (ready : Bool) (v : RelayView) (cf : ClientFacts) (l m : Standing) (k : StartKeyOf) (n b : ℕ) (sk : Option KeyView) (w : KeyWord) (gr : List ℕ) (tl tm tc : FlowView) (t : Told) (fs fz : Flags) (ph : Phase) (put : List ℕ) (r : Moved)
+pub steps_write_link : (v : RelayView) (cf : ClientFacts) (l m : Standing) (k : StartKeyOf) (n b : ℕ) (sk : Option KeyView) (w : KeyWord) (gr : List ℕ) (tl tm tc : FlowView) (t : Told) (fs fz : Flags) (ph : Phase) (put : List ℕ) (r : Moved)
     → relay_view cf l k n b sk w gr tl tc t fs ph ≡ v → IsPositive r → Writes tl tm put r → Moves l put m [] → CountsWrite l m r → fz ≡ link_moved fs r
-    → WritesLink ready v (relay_view cf m k n b sk w gr tm tc t fz ph) r
-steps_write_link ready v cf l m k n b sk w gr tl tm tc t fs fz ph put r e i f y z q =
-    subst (λ (u : RelayView). WritesLink ready u (relay_view cf m k n b sk w gr tm tc t fz ph) r) e (record {
+    → WritesLink true v (relay_view cf m k n b sk w gr tm tc t fz ph) r
+steps_write_link v cf l m k n b sk w gr tl tm tc t fs fz ph put r e i f y z q =
+    subst (λ (u : RelayView). WritesLink true u (relay_view cf m k n b sk w gr tm tc t fz ph) r) e (record {
       positive = i;
       adds = record {
         adds = λ _. let a : length m.accepted ≡ length l.accepted + count_of r = grown m.accepted l.accepted put (count_of r) y.accepted f.count in omega (arith, a);
@@ -191,7 +226,9 @@ steps_write_link ready v cf l m k n b sk w gr tl tm tc t fs fz ph put r e i f y 
       to_client = refl;
       ends = f.cursor.ends;
       stuck = same_stuck tl tm f.cursor f.part;
+      untouched = λ h. absurd (true≢false h);
       reads = z.read_waits;
+      once = at_most_one r m.write_waits l.write_waits z.write_waits;
       kept = kept_link fs fz r q;
       over = over_link fs fz r q;
       still = none_left tl.held put tm.held r f.held f.count;
@@ -207,18 +244,20 @@ no_write_link ready v never = record {
   to_client = refl;
   ends = refl;
   stuck = λ s. s;
+  untouched = λ h. refl;
   reads = refl;
+  once = omega arith;
   kept = kept_same v.flags;
   over = λ x. refl;
   still = λ x. refl;
   writes = λ x h. absurd (false≢true (sym never ∙ x));
 }
 
-pub steps_write_client : (ready : Bool) (v : RelayView) (cf cg : ClientFacts) (l : Standing) (k : StartKeyOf) (n b : ℕ) (sk : Option KeyView) (w : KeyWord) (gr : List ℕ) (tl tc td : FlowView) (t : Told) (fs fz : Flags) (ph : Phase) (put : List ℕ) (r : Moved)
+pub steps_write_client : (v : RelayView) (cf cg : ClientFacts) (l : Standing) (k : StartKeyOf) (n b : ℕ) (sk : Option KeyView) (w : KeyWord) (gr : List ℕ) (tl tc td : FlowView) (t : Told) (fs fz : Flags) (ph : Phase) (put : List ℕ) (r : Moved)
     → relay_view cf l k n b sk w gr tl tc t fs ph ≡ v → IsPositive r → Writes tc td put r → ClientWrites cf cg put r → fz ≡ client_wrote fs r
-    → WritesClient ready v (relay_view cg l k n b sk w gr tl td t fz ph) r
-steps_write_client ready v cf cg l k n b sk w gr tl tc td t fs fz ph put r e i f y q =
-    subst (λ (u : RelayView). WritesClient ready u (relay_view cg l k n b sk w gr tl td t fz ph) r) e (record {
+    → WritesClient true v (relay_view cg l k n b sk w gr tl td t fz ph) r
+steps_write_client v cf cg l k n b sk w gr tl tc td t fs fz ph put r e i f y q =
+    subst (λ (u : RelayView). WritesClient true u (relay_view cg l k n b sk w gr tl td t fz ph) r) e (record {
       positive = i;
       adds = record {
         adds = λ z. let a : length cg.given ≡ length cf.given + count_of r = grown cg.given cf.given put (count_of r) (y.given z) f.count in
@@ -231,18 +270,21 @@ steps_write_client ready v cf cg l k n b sk w gr tl tc td t fs fz ph put r e i f
       link = refl;
       to_link = refl;
       stuck = λ s o. same_stuck tc td f.cursor f.part (s (ap (λ (x : ℕ). is_faulty tl.ends && (x == 0)) (sym f.cursor.rest) ∙ o));
+      untouched = λ h. absurd (true≢false h);
       reads = y.read_waits;
+      once = at_most_one r cg.write_waits cf.write_waits y.write_waits;
       kept = kept_wrote fs fz r q;
       over = over_wrote fs fz r q;
+      unfaulted = λ h. faultless r cg.faults cf.faults y.faults (unfaulted_wrote fs fz r q h);
       still = λ h. ap (λ (x : List ℕ). is_empty gr && is_empty x) (none_left tc.held put td.held r f.held f.count h);
       writes = λ x h. one_wait r cg.write_waits cf.write_waits y.write_waits h;
     })
 
-pub steps_write_welcome : (ready : Bool) (v : RelayView) (cf cg : ClientFacts) (l : Standing) (k : StartKeyOf) (n b : ℕ) (sk : Option KeyView) (w : KeyWord) (gr gs : List ℕ) (tl tc : FlowView) (t : Told) (fs fz : Flags) (ph : Phase) (put : List ℕ) (r : Moved)
+pub steps_write_welcome : (v : RelayView) (cf cg : ClientFacts) (l : Standing) (k : StartKeyOf) (n b : ℕ) (sk : Option KeyView) (w : KeyWord) (gr gs : List ℕ) (tl tc : FlowView) (t : Told) (fs fz : Flags) (ph : Phase) (put : List ℕ) (r : Moved)
     → relay_view cf l k n b sk w gr tl tc t fs ph ≡ v → IsPositive r → Gives gr gs put r → ClientWrites cf cg put r → fz ≡ client_wrote fs r
-    → WritesClient ready v (relay_view cg l k n b sk w gs tl tc t fz ph) r
-steps_write_welcome ready v cf cg l k n b sk w gr gs tl tc t fs fz ph put r e i f y q =
-    subst (λ (u : RelayView). WritesClient ready u (relay_view cg l k n b sk w gs tl tc t fz ph) r) e (record {
+    → WritesClient true v (relay_view cg l k n b sk w gs tl tc t fz ph) r
+steps_write_welcome v cf cg l k n b sk w gr gs tl tc t fs fz ph put r e i f y q =
+    subst (λ (u : RelayView). WritesClient true u (relay_view cg l k n b sk w gs tl tc t fz ph) r) e (record {
       positive = i;
       adds = record {
         adds = λ z. let a : length cg.given ≡ length cf.given + count_of r = grown cg.given cf.given put (count_of r) (y.given z) f.count in
@@ -254,9 +296,12 @@ steps_write_welcome ready v cf cg l k n b sk w gr gs tl tc t fs fz ph put r e i 
       link = refl;
       to_link = refl;
       stuck = λ s. s;
+      untouched = λ h. absurd (true≢false h);
       reads = y.read_waits;
+      once = at_most_one r cg.write_waits cf.write_waits y.write_waits;
       kept = kept_wrote fs fz r q;
       over = over_wrote fs fz r q;
+      unfaulted = λ h. faultless r cg.faults cf.faults y.faults (unfaulted_wrote fs fz r q h);
       still = λ h. ap (λ (x : List ℕ). is_empty x && is_empty tc.held) (none_left gr put gs r f.both f.count h);
       writes = λ x h. one_wait r cg.write_waits cf.write_waits y.write_waits h;
     })
@@ -268,12 +313,22 @@ no_write_client ready v never = record {
   link = refl;
   to_link = refl;
   stuck = λ s. s;
+  untouched = λ h. refl;
   reads = refl;
+  once = omega arith;
   kept = kept_same v.flags;
   over = λ x. refl;
+  unfaulted = λ h. refl;
   still = λ x. refl;
   writes = λ x h. absurd (false≢true (sym never ∙ x));
 }
+
+-- where the side is ready
+pub ready_link : (ready : Bool) (v w : RelayView) (m : Moved) → may_write_link ready v ≡ true → WritesLink true v w m → WritesLink ready v w m
+ready_link ready v w m e = subst (λ (r : Bool). WritesLink r v w m) (sym (is_ready ready _ e))
+
+pub ready_client : (ready : Bool) (v w : RelayView) (m : Moved) → may_write_client ready v ≡ true → WritesClient true v w m → WritesClient ready v w m
+ready_client ready v w m e = subst (λ (r : Bool). WritesClient r v w m) (sym (is_ready ready _ e))
 
 -- ---- then what goes on
 
@@ -284,9 +339,12 @@ reads_then_link r u v w m x o = record {
   link = o.link ∙ x.link;
   greeting = o.greeting ∙ x.greeting;
   to_client = o.to_client ∙ x.to_client;
+  untouched = λ h. o.client ∙ x.untouched h;
   writes = ap (λ (c : ClientFacts). c.write_waits) o.client ∙ x.writes;
+  once = omega (arith, ap (λ (c : ClientFacts). c.read_waits) o.client, x.once);
   kept = subst (Kept u.flags) (sym o.flags) x.kept;
   over = λ h. x.over (ap any_over (sym o.flags) ∙ h);
+  unfaulted = λ h. ap (λ (c : ClientFacts). c.faults) o.client ∙ x.unfaulted (ap (λ (f : Flags). f.client_over) (sym o.flags) ∙ h);
   reads = λ a b h. ap (λ (c : ClientFacts). c.read_waits) o.client ∙ x.reads a b h;
 }
 
@@ -297,7 +355,9 @@ reads_then_client r u v w m x o = record {
   client = o.client ∙ x.client;
   greeting = o.greeting ∙ x.greeting;
   to_link = o.to_link ∙ x.to_link;
+  untouched = λ h. o.link ∙ x.untouched h;
   writes = ap (λ (c : Standing). c.write_waits) o.link ∙ x.writes;
+  once = omega (arith, ap (λ (c : Standing). c.read_waits) o.link, x.once);
   kept = subst (Kept u.flags) (sym o.flags) x.kept;
   over = λ h. x.over (ap any_over (sym o.flags) ∙ h);
   reads = λ a b h. ap (λ (c : Standing). c.read_waits) o.link ∙ x.reads a b h;
@@ -366,6 +426,28 @@ module _ (cr sr : Bool) (v a b c w : RelayView) (m n o p : Moved) (x : ReadsClie
             ∙ ap (λ (k : ℕ). k + 1) (ap (λ (q : Standing). q.write_waits) x.link);
       }
 
+  pub sides_all : LeavesSides cr sr v w
+  sides_all = (
+    λ h. u.untouched h ∙ (z.client ∙ (y.client ∙ x.untouched h)),
+    λ h. u.link ∙ (z.untouched h ∙ (y.untouched h ∙ x.link)),
+  )
+
+  pub once_all : IsOnce v w
+  once_all =
+      let ca : b.client ≡ a.client = y.client in
+      let cb : c.client ≡ b.client = z.client in (
+        omega (arith, u.reads, ap (λ (q : ClientFacts). q.read_waits) cb, ap (λ (q : ClientFacts). q.read_waits) ca, x.once),
+        omega (arith, u.once, ap (λ (q : ClientFacts). q.write_waits) cb, ap (λ (q : ClientFacts). q.write_waits) ca, x.writes),
+        omega (arith, ap (λ (q : Standing). q.read_waits) u.link, z.once, y.reads, ap (λ (q : Standing). q.read_waits) x.link),
+        omega (arith, ap (λ (q : Standing). q.write_waits) u.link, z.writes, y.once, ap (λ (q : Standing). q.write_waits) x.link),
+      )
+
+  pub unfaulted_all : w.flags.client_over ≡ false → w.client.faults ≡ v.client.faults
+  unfaulted_all h =
+      let hc : c.flags.client_over ≡ false = u.kept.client h in
+      let ha : a.flags.client_over ≡ false = y.kept.client (z.kept.client hc) in
+      u.unfaulted h ∙ (ap (λ (q : ClientFacts). q.faults) (z.client ∙ y.client) ∙ x.unfaulted ha)
+
   pub holds_all : IsStuck a.to_link → IsStuckClient c → HoldsAll w
   holds_all s t = (subst IsStuck (sym (u.to_link ∙ z.to_link)) (y.stuck s), u.stuck t)
 
@@ -387,6 +469,14 @@ waits_by none cr sr v w n sum e zero all h =
     let m = means none w Wait (sym h ∙ e) in
     all (zero m.0) ((or_false w.flags.client_over (is_empty w.to_link.held && (w.flags.input_over || is_last_end w.to_link.ends)) m.1).0)
 
+-- an answer other than ClientDone says that the client isn't over
+pub faults_by : (none : Bool) (v w : RelayView) (n : Next) → n ≡ judged none w → (w.flags.client_over ≡ false → w.client.faults ≡ v.client.faults) → n ≢ ClientDone → w.client.faults ≡ v.client.faults
+faults_by none v w n e kept other = by w.flags.client_over refl
+  where
+    by : (b : Bool) → w.flags.client_over ≡ b → w.client.faults ≡ v.client.faults
+    by true o = absurd (other (e ∙ ap (λ (d : Bool). cond (d || (is_empty w.to_link.held && (w.flags.input_over || is_last_end w.to_link.ends))) ClientDone (cond (is_quiet w) (quiet_next none w) (moved_or none))) o))
+    by false o = kept o
+
 pub waits_phase : (cr sr : Bool) (v : RelayView) (cf : ClientFacts) (l : Standing) (k : StartKeyOf) (n b : ℕ) (sk : Option KeyView) (w : KeyWord) (gr : List ℕ) (tl tc : FlowView) (t : Told) (fs : Flags) (ph pi : Phase) → Waits cr sr v (relay_view cf l k n b sk w gr tl tc t fs ph) → Waits cr sr v (relay_view cf l k n b sk w gr tl tc t fs pi)
 waits_phase cr sr v cf l k n b sk w gr tl tc t fs ph pi x = record { client_read = x.client_read; client_write = x.client_write; link_read = x.link_read; link_write = x.link_write }
 
@@ -394,10 +484,6 @@ waits_phase cr sr v cf l k n b sk w gr tl tc t fs ph pi x = record { client_read
 not_true : (a : Bool) → not a ≡ true → a ≡ false
 not_true true e = absurd (false≢true e)
 not_true false e = refl
-
-both_of : (a b : Bool) → (a && b) ≡ true → (a ≡ true) × (b ≡ true)
-both_of true b e = (refl, e)
-both_of false b e = absurd (false≢true e)
 
 pub held_for_link : (ready : Bool) (v : RelayView) → may_write_link ready v ≡ true → is_empty v.to_link.held ≡ false
 held_for_link ready v e =

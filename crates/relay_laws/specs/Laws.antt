@@ -1,7 +1,7 @@
 -- What a lease under way says. Each law is the whole contract of a function of src/lib.rt.
 use Rattle.std.specs.Prelude.{◌≡◌, true, false}
 use Rattle.disposal.specs.declared.Verdict.TheVariants.{Settled}
-use Rattle.link_run.specs.Links.{IsClean, IsUsed}
+use Rattle.link_run.specs.Receipts.{IsClean, IsUsed}
 use Rattle.relay_laws.specs.Leases.{RelayView, Place, IsLease, IsExact, IsAllowed, relay_verdict}
 
 abbrev pub LeasesAreExact : Type 0

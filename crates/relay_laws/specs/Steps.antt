@@ -1,5 +1,5 @@
 -- What each move of bytes does to the ends, and why a pump waits.
-use Rattle.std.specs.Prelude.{◌≡◌, ◌≢◌, ℕ, ◌+◌, ◌<◌, Bool, true, false, ◌&&◌, ◌||◌, not, ◌==◌, [], length}
+use Rattle.std.specs.Prelude.{◌≡◌, ◌≢◌, ℕ, ◌+◌, ◌<◌, ◌≤◌, Bool, true, false, ◌&&◌, ◌||◌, not, ◌==◌, [], length}
 use Rattle.server_end.specs.declared.Moved.{Moved}
 use Rattle.server_end.specs.declared.Moved.TheVariants.{NotNow}
 use Rattle.relay_laws.specs.declared.Flags.{Flags}
@@ -77,9 +77,12 @@ pub record ReadsClient (ready : Bool) (v w : RelayView) (m : Moved) : Type 0 whe
   pub link : w.link ≡ v.link
   pub greeting : w.greeting ≡ v.greeting
   pub to_client : w.to_client ≡ v.to_client
+  pub untouched : ready ≡ false → w.client ≡ v.client
   pub writes : w.client.write_waits ≡ v.client.write_waits
+  pub once : w.client.read_waits ≤ v.client.read_waits + 1
   pub kept : Kept v.flags w.flags
   pub over : any_over w.flags ≡ false → over_in m ≡ false
+  pub unfaulted : w.flags.client_over ≡ false → w.client.faults ≡ v.client.faults
   pub reads : may_read_client ready v ≡ true → HasRoom v.to_link → m ≡ NotNow → w.client.read_waits ≡ v.client.read_waits + 1
 
 pub record WritesLink (ready : Bool) (v w : RelayView) (m : Moved) : Type 0 where
@@ -90,7 +93,9 @@ pub record WritesLink (ready : Bool) (v w : RelayView) (m : Moved) : Type 0 wher
   pub to_client : w.to_client ≡ v.to_client
   pub ends : w.to_link.ends ≡ v.to_link.ends
   pub stuck : IsStuck v.to_link → IsStuck w.to_link
+  pub untouched : ready ≡ false → w.link ≡ v.link
   pub reads : w.link.read_waits ≡ v.link.read_waits
+  pub once : w.link.write_waits ≤ v.link.write_waits + 1
   pub kept : Kept v.flags w.flags
   pub over : w.flags.link_over ≡ false → over_in m ≡ false
   pub still : m ≡ NotNow → w.to_link.held ≡ v.to_link.held
@@ -102,7 +107,9 @@ pub record ReadsLink (ready : Bool) (v w : RelayView) (m : Moved) : Type 0 where
   pub client : w.client ≡ v.client
   pub greeting : w.greeting ≡ v.greeting
   pub to_link : w.to_link ≡ v.to_link
+  pub untouched : ready ≡ false → w.link ≡ v.link
   pub writes : w.link.write_waits ≡ v.link.write_waits
+  pub once : w.link.read_waits ≤ v.link.read_waits + 1
   pub kept : Kept v.flags w.flags
   pub over : any_over w.flags ≡ false → over_in m ≡ false
   pub reads : may_read_link ready v ≡ true → HasRoom v.to_client → m ≡ NotNow → w.link.read_waits ≡ v.link.read_waits + 1
@@ -113,11 +120,24 @@ pub record WritesClient (ready : Bool) (v w : RelayView) (m : Moved) : Type 0 wh
   pub link : w.link ≡ v.link
   pub to_link : w.to_link ≡ v.to_link
   pub stuck : IsStuckClient v → IsStuckClient w
+  pub untouched : ready ≡ false → w.client ≡ v.client
   pub reads : w.client.read_waits ≡ v.client.read_waits
+  pub once : w.client.write_waits ≤ v.client.write_waits + 1
   pub kept : Kept v.flags w.flags
   pub over : w.flags.client_over ≡ false → over_in m ≡ false
+  pub unfaulted : w.flags.client_over ≡ false → w.client.faults ≡ v.client.faults
   pub still : m ≡ NotNow → is_quiet w ≡ is_quiet v
   pub writes : may_write_client ready v ≡ true → m ≡ NotNow → w.client.write_waits ≡ v.client.write_waits + 1
+
+-- a side that wasn't ready is as it was
+abbrev pub LeavesSides : Bool → Bool → RelayView → RelayView → Type 0
+LeavesSides client server v w = (client ≡ false → w.client ≡ v.client) × (server ≡ false → w.link ≡ v.link)
+
+-- each end was read once and written once at most
+abbrev pub IsOnce : RelayView → RelayView → Type 0
+IsOnce v w =
+    (w.client.read_waits ≤ v.client.read_waits + 1) × (w.client.write_waits ≤ v.client.write_waits + 1)
+    × (w.link.read_waits ≤ v.link.read_waits + 1) × (w.link.write_waits ≤ v.link.write_waits + 1)
 
 -- Why nothing moved: each end that was ready answered NotNow to a read, where it may be read and there is room, and to a
 -- write, where something that may go on is held for it.

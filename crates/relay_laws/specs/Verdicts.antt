@@ -8,7 +8,7 @@ use Rattle.disposal.specs.Traffics.{Sent, SendBegins, SendEnds, Got, GetBegins, 
 use Rattle.disposal.specs.Tallies.{Tally, Tells, send_begun, send_ended, got_begun, got_ended, got_broken}
 use Rattle.param_track.specs.Kept.{Kept}
 use Rattle.link_run.specs.Links.{after_frame}
-use Rattle.link_run.specs.Resets.{is_known}
+use Rattle.link_run.specs.Dialogues.{is_known}
 use Rattle.relay_flow.specs.Parts.{is_foreign, status_in}
 use Rattle.relay_flow.specs.Flows.{FlowView, last_body}
 use Rattle.relay_flow.specs.declared.flow.Passed.{Passed}

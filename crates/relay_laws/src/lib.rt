@@ -69,7 +69,7 @@ pub fn untouched_links_are_clean()
     ensures { UntouchedLinksAreClean }
 {}
 
-/// A link on which the verdict is Settled is at rest.
+/// Over a link on which the verdict is Settled a settled lease went, and where its end follows it is at rest.
 pub fn settled_links_are_used()
     ensures { SettledLinksAreUsed }
 {

@@ -1,4 +1,4 @@
-//! Threads that each do one job.
+//! Threads that do jobs, and are kept for the next ones.
 use std::rt::Clock;
 use std::sync::Arc;
 use std::sync::atomic::{AtomicU64, Ordering};
@@ -7,27 +7,38 @@ use std::thread::sleep;
 use std::time::Duration;
 use worker_threads::Workers;
 
-// More jobs than places: those that are done make room.
+/// Adds a number.
+#[derive(Drop)]
+struct Adds {
+    total: Arc<AtomicU64>,
+    amount: u64,
+}
+
+impl Adds {
+    fn add(self) {
+        let Adds { total, amount } = self;
+        total.fetch_add(amount, Ordering::SeqCst);
+    }
+}
+
+// More jobs than threads: those that are done take the next.
 #[test]
 fn every_job_is_done_once(rt: HostRuntime) -> Result<(), Fail> {
-    let total = Arc::new(rt.alloc(), AtomicU64::new(0))?;
-    let mut workers = Workers::new(rt.alloc())?;
-    for job in 1..=200u64 {
-        let shared = Arc::try_clone(&total)?;
-        workers.start(rt, move || {
-            shared.fetch_add(job, Ordering::SeqCst);
-        })?;
+    let sum = Arc::new(rt.alloc(), AtomicU64::new(0))?;
+    let mut workers = Workers::<Adds>::new(rt.alloc())?;
+    for amount in 1..=200u64 {
+        let total = Arc::try_clone(&sum)?;
+        workers.start(rt, Adds { total, amount }, |job: Adds| job.add())?;
     }
     workers.join_all(&rt);
-    assert!(rt; total.load(Ordering::SeqCst) == 20_100);
+    assert!(rt; sum.load(Ordering::SeqCst) == 20_100);
     Ok(())
 }
 
-/// Waits until so many have begun, for at most 20,000 sleeps of 1 ms.
-fn meets(rt: &impl Clock, begun: &AtomicU64, all: u64) -> bool {
-    begun.fetch_add(1, Ordering::SeqCst);
+/// Waits until so many have come, for at most 20,000 sleeps of 1 ms.
+fn comes_to(rt: &impl Clock, count: &AtomicU64, all: u64) -> bool {
     for _ in 0..20_000u32 {
-        if begun.load(Ordering::SeqCst) >= all {
+        if count.load(Ordering::SeqCst) >= all {
             return true;
         }
         sleep(rt, Duration::from_millis(1));
@@ -35,21 +46,55 @@ fn meets(rt: &impl Clock, begun: &AtomicU64, all: u64) -> bool {
     false
 }
 
-// Twenty jobs each of which waits for all others: none is left out, at whatever place it is at work.
+/// Waits for all others of its kind.
+#[derive(Drop)]
+struct Meets<R: Drop> {
+    rt: R,
+    begun: Arc<AtomicU64>,
+    met: Arc<AtomicU64>,
+    all: u64,
+}
+
+impl<R: Clock + Drop> Meets<R> {
+    fn meet(self) {
+        let Meets {
+            rt,
+            begun,
+            met,
+            all,
+        } = self;
+        begun.fetch_add(1, Ordering::SeqCst);
+        if comes_to(&rt, &begun, all) {
+            met.fetch_add(1, Ordering::SeqCst);
+        }
+    }
+}
+
+// Twenty jobs each of which waits for all others: none is left out. In the first round each has a new thread, and later mostly one of
+// the round before.
 #[test]
 fn jobs_are_done_at_once(rt: HostRuntime) -> Result<(), Fail> {
-    let begun = Arc::new(rt.alloc(), AtomicU64::new(0))?;
     let met = Arc::new(rt.alloc(), AtomicU64::new(0))?;
-    let mut workers = Workers::new(rt.alloc())?;
-    for _ in 0..20u32 {
-        let (begun, met) = (Arc::try_clone(&begun)?, Arc::try_clone(&met)?);
-        workers.start(rt, move || {
-            if meets(&rt, &begun, 20) {
-                met.fetch_add(1, Ordering::SeqCst);
-            }
-        })?;
+    let mut workers = Workers::<Meets<HostRuntime>>::new(rt.alloc())?;
+    for round in 1..=20u64 {
+        let begun = Arc::new(rt.alloc(), AtomicU64::new(0))?;
+        for _ in 0..20u32 {
+            let (begun, met) = (Arc::try_clone(&begun)?, Arc::try_clone(&met)?);
+            let all = 20;
+            workers.start(
+                rt,
+                Meets {
+                    rt,
+                    begun,
+                    met,
+                    all,
+                },
+                |job: Meets<HostRuntime>| job.meet(),
+            )?;
+        }
+        assert!(rt; comes_to(&rt, &met, round.saturating_mul(20)));
     }
     workers.join_all(&rt);
-    assert!(rt; met.load(Ordering::SeqCst) == 20);
+    assert!(rt; met.load(Ordering::SeqCst) == 400);
     Ok(())
 }

@@ -2,6 +2,7 @@
 #![tactic(auto)]
 
 pub mod gate;
+pub mod transcript;
 
 ghost use Rattle.std.specs.Prelude.{◌≡◌, ◌<◌, ◌≤◌, [], drop, length};
 ghost use Rattle.link_laws.specs.Standing.{Standing, Moves, ClientFacts};

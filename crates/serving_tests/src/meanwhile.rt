@@ -9,7 +9,7 @@ use message_view::KeyView;
 use pool_desk::answers::Changed;
 use pool_desk::desk::Desk;
 use pool_tests::worker_parts::{TestRuntime, key, limits};
-use server_end::gate::{Gate, Ready};
+use server_end::gate::{Gate, Ready, TurnCount};
 use std::alloc::{AllocError, Global};
 use std::rt::Clock;
 use std::sync::atomic::{AtomicBool, Ordering};
@@ -214,6 +214,7 @@ pub(crate) struct TurnedGate<'a, R: Clock + Drop> {
     pub is_of_lease: bool,
     /// Its client is seen to have gone.
     pub goes: bool,
+    pub turns: TurnCount,
 }
 
 impl<'a, R: Clock + Drop> TurnedGate<'a, R> {
@@ -224,7 +225,10 @@ impl<'a, R: Clock + Drop> TurnedGate<'a, R> {
 }
 
 impl<'a, R: Clock + Drop> Gate<TestServer> for TurnedGate<'a, R> {
+    ghost turns = { λ g. g.turns };
+
     fn turn(&mut self) -> Ready {
+        self.turns.count();
         self.hold();
         Ready {
             client: true,
@@ -233,12 +237,14 @@ impl<'a, R: Clock + Drop> Gate<TestServer> for TurnedGate<'a, R> {
     }
 
     fn turn_of_client(&mut self) {
+        self.turns.count();
         if !self.is_of_lease {
             self.hold();
         }
     }
 
     fn turn_of_link(&mut self) {
+        self.turns.count();
         if !self.is_of_lease {
             self.hold();
         }

@@ -9,6 +9,7 @@ use memory_ends::memory_server::{MemoryServer, ServerAuth};
 use pool_desk::answers::Strike;
 use pool_desk::outside::Outside;
 use pool_tests::worker_parts::{CUT, WELCOME, word};
+use server_end::transcript::Transcript;
 use server_end::{Moved, ServerEnd};
 use session_catalogue::Catalogue;
 use std::alloc::{AllocError, Global};
@@ -61,6 +62,8 @@ pub(crate) struct TestServer {
     words: &'static [u8],
     after: u64,
     seen: Arc<Seen>,
+    /// All that it gave, those words too.
+    given: Transcript,
 }
 
 impl TestServer {
@@ -79,12 +82,13 @@ impl TestServer {
         requires words { 0 < length self.old.words.now }
         requires lives { self.old.server.standing.lives ≡ true }
         ensures within { IsWithin result (length into.old) }
-        ensures moves { Moves (unfollowed self.old.server.standing) [] (unfollowed self.new.server.standing) (moved result into.new) }
-        ensures counts { CountsRead (unfollowed self.old.server.standing) (unfollowed self.new.server.standing) result }
+        ensures moves { Moves (unfollowed self.old.server.standing self.old.given.bytes) [] (unfollowed self.new.server.standing self.new.given.bytes) (moved result into.new) }
+        ensures counts { CountsRead (unfollowed self.old.server.standing self.old.given.bytes) (unfollowed self.new.server.standing self.new.given.bytes) result }
     {
         let count = self.words.len().min(into.len());
         into[..count].copy_from_slice(&self.words[..count]);
         self.words = &self.words[count..];
+        self.given.note(&into[..count]);
         Moved::Count(count)
     }
 }
@@ -92,21 +96,22 @@ impl TestServer {
 impl ServerEnd for TestServer {
     ghost use Rattle.serving_tests.specs.Ends.{unfollowed};
 
-    ghost standing = { λ s. unfollowed s.server.standing };
+    ghost standing = { λ s. unfollowed s.server.standing s.given.bytes };
 
-    #[tactic(auto, using(crate::proofs::Ends::unfollowed_moves, crate::proofs::Ends::unfollowed_reads))]
+    #[tactic(auto, using(crate::proofs::Ends::none_given, crate::proofs::Ends::unfollowed_moves, crate::proofs::Ends::unfollowed_reads))]
     fn read_some(&mut self, into: &mut [u8]) -> Moved {
         if self.speaks() {
             return self.speak(into);
         }
         let moved = self.server.read(into);
         if let Moved::Count(count) = moved {
+            self.given.note(&into[..count]);
             self.after = self.after.saturating_sub(count as u64);
         }
         moved
     }
 
-    #[tactic(auto, using(crate::proofs::Ends::unfollowed_moves, crate::proofs::Ends::unfollowed_writes))]
+    #[tactic(auto, using(crate::proofs::Ends::unfollowed_takes, crate::proofs::Ends::unfollowed_writes))]
     fn write_some(&mut self, from: &[u8]) -> Moved {
         self.seen.note(from);
         self.server.write(from)
@@ -215,6 +220,7 @@ impl Outside for Servers {
             words,
             after,
             seen: self.seen().ok()?,
+            given: Transcript::new(),
         })
     }
 

@@ -17,6 +17,7 @@ use link_desk::desk::LinkDesk;
 use play_tests::files::catalogue;
 use pool_desk::desk::Desk;
 use pool_tests::worker_parts::{CUT, TestRuntime, limits, login_by, serve_by};
+use server_end::gate::TurnCount;
 use std::alloc::{AllocError, Global};
 use std::marker::Brand;
 use std::sync::atomic::Ordering;
@@ -61,6 +62,7 @@ fn served_once<R: TestRuntime, K: Ledgers + Send + Sync>(
         notes: shared,
         is_of_lease: matches!(row.moment, Moment::AtLease),
         goes,
+        turns: TurnCount::new(),
     };
     let login = login_by(alloc, client.under.settings(), number)?;
     let guest = Guest::new(alloc, client.talk, CUT)?;

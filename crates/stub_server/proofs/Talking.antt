@@ -221,8 +221,8 @@ fault_ends grows h left fault bytes items out some same t =
 
 -- ---- frames
 
-abbrev standing : Server → stages.Stage → List ℕ → List Bool → Standing
-standing v s inbox marks = record { follows = true; lives = true; server = v; stage = s; inbox = inbox; outbox = []; accepted = []; struck = marks; faults = 0; read_waits = 0; write_waits = 0 }
+abbrev standing : Server → stages.Stage → List ℕ → List ℕ → List Bool → Standing
+standing v s inbox given marks = record { follows = true; lives = true; server = v; stage = s; inbox = inbox; outbox = []; accepted = []; given = given; struck = marks; faults = 0; read_waits = 0; write_waits = 0 }
 
 -- a frame that was taken leaves the future as it was, by its mark
 hears_frame : FuturesStay → (v : Server) (s next : State) (m : Bool) (items rest out replied : List ℕ) (later : List Bool) (more : List ℕ) → server.Takes v (Open s) (Open next) items rest out replied [] (m ∷ [])
@@ -232,19 +232,20 @@ hears_frame stay v s next m items rest out replied later more x =
     let marks : packet_marks x.packet ++ [] ≡ m ∷ [] = append-nil (packet_marks x.packet) ∙ sym x.marks in
     let inbox : items ++ [] ≡ (packet_bytes x.packet ++ []) ++ rest = append-nil items ∙ x.front ∙ ap (λ (b : List ℕ). b ++ rest) (sym (append-nil (packet_bytes x.packet))) in
     let outbox : flat_map spelling ((serve v (Open s) x.packet).replies ++ []) ≡ f ++ [] = ap (flat_map spelling) (append-nil (serve v (Open s) x.packet).replies) ∙ sym (append-nil f) in
-    let moves : Moves (standing v (Open s) items []) [] (standing v (Open next) rest (m ∷ [])) f = record {
+    let moves : Moves (standing v (Open s) items [] []) [] (standing v (Open next) rest f (m ∷ [])) f = record {
       follows = refl;
       server = refl;
       dead = λ d. absurd (true≢false d);
       silent = λ d. absurd (true≢false d);
       accepted = refl;
+      given = refl;
       noted = refl;
       unstruck = λ d. absurd (true≢false d);
       served = λ w l. record { taken = x.packet ∷ []; lawful = (x.lawful, tt); marks_are = marks; inbox = inbox; stage = x.stage; outbox = outbox };
       passed = λ w l. record { taken = x.packet ∷ []; lawful = (x.lawful, tt); marks_are = marks; left = rest; lost = []; inbox = inbox; outbox = outbox };
     } in
     ap (λ (b : List ℕ). b ++ replies_open v (Open next) later (rest ++ more)) x.replies ∙ append_assoc out f (replies_open v (Open next) later (rest ++ more))
-    ∙ ap (λ (b : List ℕ). out ++ b) (sym (stay (standing v (Open s) items []) (standing v (Open next) rest (m ∷ [])) [] f more later moves refl refl))
+    ∙ ap (λ (b : List ℕ). out ++ b) (sym (stay (standing v (Open s) items [] []) (standing v (Open next) rest f (m ∷ [])) [] f more later moves refl refl))
 
 -- what no cancel reaches isn't struck
 lawful_mark : (v : Server) (s : State) (m : Bool) (f : FrameOf) → (m ≡ true → can_strike v s f ≡ true) → AreMarksOf v (m ∷ [])

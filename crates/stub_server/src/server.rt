@@ -83,6 +83,30 @@ fn attend<R: Net + Clock + Wait + Copy + Drop>(
     drop(client);
 }
 
+/// A connection that is to be served, and what its thread needs for that.
+#[derive(Drop)]
+struct Connection<R: Drop> {
+    rt: R,
+    alloc: Global,
+    stub: Arc<Stub>,
+    own: KeyWord,
+    client: TcpEnd,
+}
+
+impl<R: Net + Clock + Wait + Copy + Drop> Connection<R> {
+    /// Serves it to its end.
+    fn serve(self) {
+        let Connection {
+            rt,
+            alloc,
+            stub,
+            own,
+            client,
+        } = self;
+        attend(rt, alloc, stub, own, client);
+    }
+}
+
 /// The key word of a connection: its number as pid and secret. Numbers count from 1.
 pub fn key_word(number: u32) -> KeyWord
     ensures { result ≡ record { pid = number; secret = number; salt = 0 ∷ 0 ∷ 0 ∷ 0 ∷ [] } }
@@ -120,7 +144,7 @@ pub fn stub_on<
     };
     let stub = Arc::new(alloc, stub)?;
     let mut acceptor = Acceptor::new(&rt, alloc, listener)?;
-    let mut workers = Workers::new(alloc)?;
+    let mut workers = Workers::<Connection<R>>::new(alloc)?;
     let mut accepted: u32 = 0;
     for _ in rt.forever() {
         if count == Some(accepted) {
@@ -132,7 +156,17 @@ pub fn stub_on<
         accepted = accepted.wrapping_add(1);
         let own = key_word(accepted);
         // a thread that can't be started closes this connection alone
-        let _ = workers.start(rt, move || attend(rt, alloc, stub, own, client));
+        let _ = workers.start(
+            rt,
+            Connection {
+                rt,
+                alloc,
+                stub,
+                own,
+                client,
+            },
+            |connection: Connection<R>| connection.serve(),
+        );
     }
     workers.join_all(&rt);
     Ok(())

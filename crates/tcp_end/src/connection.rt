@@ -1,14 +1,14 @@
 //! A TCP connection as an end of a lease: a server's or a client's.
 ghost use Rattle.std.specs.Prelude.{◌≡◌, ◌≢◌, ◌<◌, length, true, false, IfOk};
-ghost use Rattle.server_end.specs.Moves.{IsWithin};
-ghost use Rattle.tcp_end.specs.Connections.{Reads, Sends, has_ended, is_broken, new_connection};
+ghost use Rattle.server_end.specs.Moves.{ClientWrites, IsWithin, moved};
+ghost use Rattle.tcp_end.specs.Connections.{Reads, Sends, facts_of, has_ended, is_broken, new_connection};
 ghost use Rattle.tcp_end.specs.Connections as spec;
 ghost use Rattle.server_end.specs.declared.Moved.TheVariants.{Ended};
 
-use crate::accepted::Accepted;
 use crate::notes::Notes;
 use mio::net::TcpStream;
 use mio::{Interest, Poll, Token};
+use server_end::transcript::Transcript;
 use server_end::{ClientEnd, Moved, ServerEnd};
 use std::alloc::{AllocError, Global};
 use std::io;
@@ -17,15 +17,16 @@ use std::marker::Model;
 use std::sync::Arc;
 
 /// A TCP connection. While a gate minds it, it answers [`Moved::NotNow`] without a call of the system where the last read has emptied
-/// its socket, or the last write filled it, until the gate has seen an event. A read of none of the peer's bytes, when it has sent its last, is the end of its input: no further read is
-/// tried, and a server's end isn't written to either. After a fault, or at the last count that a number of eight bytes has,
-/// nothing is tried any more.
+/// its socket, or the last write filled it, until the gate has seen an event. A read of none of the peer's bytes, when it has sent
+/// its last, is the end of its input: no further read is tried, and a server's end isn't written to either. After a fault, or at the
+/// last count that a number of eight bytes has, nothing is tried any more.
 ///
-/// Nothing is claimed of what the peer is or does: as a server's end it follows no server, and as a client's it doesn't tell its
-/// bytes.
+/// Nothing is claimed of what the peer is or does: as a server's end it follows no server, though it tells what it accepted and what
+/// it gave, and as a client's it doesn't tell its bytes.
 pub struct TcpEnd {
     stream: TcpStream,
-    accepted: Accepted,
+    accepted: Transcript,
+    given: Transcript,
     /// The peer has sent its last byte.
     input_ended: bool,
     faults: u64,
@@ -40,6 +41,7 @@ impl Drop for TcpEnd {
         let TcpEnd {
             stream: _,
             accepted: _,
+            given: _,
             input_ended: _,
             faults: _,
             read_waits: _,
@@ -56,6 +58,7 @@ impl Model for TcpEnd {
 
     ghost view = { λ e. record {
       accepted = e.accepted.bytes;
+      given = e.given.bytes;
       input_ended = e.input_ended;
       faults = e.faults;
       read_waits = e.read_waits;
@@ -104,7 +107,8 @@ impl TcpEnd {
         let _ = stream.set_nodelay(true);
         Ok(TcpEnd {
             stream,
-            accepted: Accepted::new(),
+            accepted: Transcript::new(),
+            given: Transcript::new(),
             input_ended: false,
             faults: 0,
             read_waits: 0,
@@ -181,14 +185,14 @@ impl TcpEnd {
     fn read(&mut self, into: &mut [u8]) -> Moved
         requires { 0 < length into.old }
         ensures within { IsWithin result (length into.old) }
-        ensures reads { Reads self.old self.new result }
+        ensures reads { Reads self.old self.new into.new result }
     {
         if self.has_ended() {
             return Moved::Ended;
         }
         let moved = self.try_read(into);
         match moved {
-            Moved::Count(_) => {}
+            Moved::Count(count) => self.given.note(&into[..count]),
             Moved::NotNow => self.read_waits += 1,
             Moved::Ended => self.input_ended = true,
             Moved::Fault => self.faults += 1,
@@ -248,7 +252,13 @@ impl ClientEnd for TcpEnd {
         self.read(into)
     }
 
-    fn write_some(&mut self, from: &[u8]) -> Moved {
+    /// An end whose input has ended is still written to.
+    fn write_some(&mut self, from: &[u8]) -> Moved
+        requires { 0 < length from.now }
+        ensures within { IsWithin result (length from.now) }
+        ensures writes { ClientWrites (facts_of self.old) (facts_of self.new) (moved result from.now) result }
+        ensures still { is_broken self.old ≡ false → result ≢ Ended }
+    {
         if self.is_broken() {
             return Moved::Ended;
         }

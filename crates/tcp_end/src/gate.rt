@@ -1,10 +1,10 @@
 //! The gate of a worker whose ends are TCP connections.
-ghost use Rattle.std.specs.Prelude.{◌≡◌, true, IfOk};
+ghost use Rattle.std.specs.Prelude.{◌≡◌, ◌+◌, true, IfOk};
 
 use crate::connection::TcpEnd;
 use crate::notes::Notes;
 use mio::{Events, Poll, Token};
-use server_end::gate::{Gate, Ready};
+use server_end::gate::{Gate, Ready, TurnCount};
 use std::alloc::Global;
 use std::io;
 use std::net::Net;
@@ -45,6 +45,7 @@ pub struct TcpGate<R: Clock> {
     is_at_link: bool,
     /// The client has sent its last byte.
     client_has_left: bool,
+    turns: TurnCount,
 }
 
 impl<R: Clock + Drop> Drop for TcpGate<R> {
@@ -57,6 +58,7 @@ impl<R: Clock + Drop> Drop for TcpGate<R> {
             link: _,
             is_at_link: _,
             client_has_left: _,
+            turns: _,
         } = self;
     }
 }
@@ -79,6 +81,7 @@ impl<R: Clock + Net + Drop> TcpGate<R> {
             link: None,
             is_at_link: false,
             client_has_left: false,
+            turns: TurnCount::new(),
         })
     }
 }
@@ -97,7 +100,9 @@ impl<R: Clock> TcpGate<R> {
 
     /// Whether something may be due to be said over the link: nothing was tried since a turn of another kind, or what was read last
     /// calls for an answer.
-    fn link_may_be_due(&mut self) -> bool {
+    fn link_may_be_due(&mut self) -> bool
+        ensures { self.new.turns ≡ self.old.turns }
+    {
         let is_first = !self.is_at_link;
         self.is_at_link = true;
         let has_spoken = match &self.link {
@@ -123,7 +128,9 @@ impl<R: Clock> TcpGate<R> {
 
     /// Waits for an event, or for so long; whether the link had one, or none came. The system tells each of a client's but once, so
     /// it is noted here.
-    fn wait(&mut self, longest: Duration) -> bool {
+    fn wait(&mut self, longest: Duration) -> bool
+        ensures { self.new.turns ≡ self.old.turns }
+    {
         let _ = self.poll.poll(&mut self.events, Some(longest));
         if self.events.is_empty() {
             self.open_both();
@@ -145,9 +152,13 @@ impl<R: Clock> TcpGate<R> {
 }
 
 impl<R: Clock> Gate<TcpEnd> for TcpGate<R> {
+    ghost turns = { λ g. g.turns };
+
     fn turn(&mut self) -> Ready
-        ensures { (result.client ≡ true) × (result.server ≡ true) }
+        ensures both { (result.client ≡ true) × (result.server ≡ true) }
+        ensures counts { self.new.turns ≡ self.old.turns + 1 }
     {
+        self.turns.count();
         self.is_at_link = false;
         let client = self.client_may_have_more();
         let link = self.link_may_have_more();
@@ -161,6 +172,7 @@ impl<R: Clock> Gate<TcpEnd> for TcpGate<R> {
     }
 
     fn turn_of_client(&mut self) {
+        self.turns.count();
         self.is_at_link = false;
         if !self.client_may_have_more() {
             self.wait(longest_turn());
@@ -168,6 +180,7 @@ impl<R: Clock> Gate<TcpEnd> for TcpGate<R> {
     }
 
     fn turn_of_link(&mut self) {
+        self.turns.count();
         let may_have_more = self.link_may_have_more();
         if self.link_may_be_due() || may_have_more {
             return;

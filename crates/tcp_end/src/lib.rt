@@ -9,7 +9,6 @@
 //! names both sides, and nothing is claimed of edges: after a wait without one both ends are tried again.
 #![tactic(auto)]
 
-mod accepted;
 pub mod acceptor;
 pub mod connection;
 pub mod dial;

@@ -3,13 +3,13 @@ ghost use Rattle.std.specs.Prelude.{◌<◌};
 ghost use Rattle.lease_book.specs.Links.{IsTwice};
 
 use crate::keys::{key, row};
+use crate::links::gone_link;
 use book_model::limits::Limits;
 use book_model::rows::Rows;
 use lease_book::book::Book;
 use lease_book::events::{Event, Reply};
-use link_run::links::{CleanLink, LinkParts};
+use link_run::links::CleanLink;
 use memory_ends::gone_end::GoneEnd;
-use param_track::Reported;
 use start_keys::StartKey;
 use std::alloc::{AllocError, Global};
 use std::collections::VecDeque;
@@ -148,15 +148,9 @@ impl Bench {
 
     /// A link of this number is started for the client.
     fn starts(&mut self, client: Client, number: u64, born: u64) -> Result<(), AllocError> {
-        let lent = LinkParts {
-            end: GoneEnd,
-            key: self.key_of(client.key)?,
-            number,
-            born,
-            server_key: None,
-            reported: Reported::new(self.alloc),
-        };
-        self.has(client, lent.clean())
+        let key = self.key_of(client.key)?;
+        let link = gone_link(self.alloc, key, number, born)?;
+        self.has(client, link)
     }
 
     /// The first client of a pool takes its link, if it may have one.

@@ -9,6 +9,7 @@ mod job;
 mod keys;
 mod lease;
 mod lines;
+mod links;
 mod login;
 mod relay;
 mod rows;

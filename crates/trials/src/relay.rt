@@ -2,10 +2,9 @@
 ghost use Rattle.std.specs.Prelude.{◌≤◌};
 
 use crate::keys::key;
-use crate::rows::{Counter, RowServer};
-use link_run::links::LinkParts;
+use crate::links::row_link;
+use crate::rows::Counter;
 use message_view::KeyWord;
-use param_track::Reported;
 use relay_core::relay::Relay;
 use relay_laws::Next;
 use server_end::gate::Ready;
@@ -18,20 +17,13 @@ const LIMIT: u32 = 2_147_483_647;
 pub fn relayed(alloc: Global, size: u32, total: u64) -> Result<u64, AllocError>
     requires { 11 ≤ size }
 {
-    let link = LinkParts {
-        end: RowServer::new(alloc, size, total)?,
-        key: key(alloc, b"bench", 0, 0)?,
-        number: 1,
-        born: 0,
-        server_key: None,
-        reported: Reported::new(alloc),
-    };
+    let link = row_link(alloc, key(alloc, b"bench", 0, 0)?, size, total)?;
     let word = KeyWord {
         pid: 1,
         secret: 2,
         salt: [0; 4],
     };
-    let Ok(mut relay) = Relay::begin(alloc, Counter::new(), link.clean(), word, LIMIT) else {
+    let Ok(mut relay) = Relay::begin(alloc, Counter::new(), link, word, LIMIT) else {
         return Err(AllocError);
     };
     let ready = Ready {

@@ -1,19 +1,38 @@
 //! Ends that cost next to nothing: a server that sends rows of one size, and a client that counts what it is given.
-ghost use Rattle.std.specs.Prelude.{◌≤◌};
+ghost use Rattle.std.specs.Prelude.{◌≡◌, ◌≤◌, [], IfOk};
+ghost use Rattle.std.specs.Arc.{arc_value};
 
+use server_end::transcript::Transcript;
 use server_end::{ClientEnd, Moved, ServerEnd};
+use start_keys::StartKey;
 use std::alloc::{AllocError, Global};
+use std::sync::Arc;
 
 /// Rows are kept ready for a read in a page of at least so many bytes, or of one row where that is longer.
 const PAGE: usize = 65_536;
 
-/// A server that sends the same rows again and again, at least so many bytes in all, whatever it is sent. It follows no session.
-#[derive(Drop)]
+/// A server that sends the same rows again and again, at least so many bytes in all, whatever it is sent. It follows no session, and
+/// tells that one of its key was started on it before.
 pub struct RowServer {
+    key: Arc<StartKey>,
     page: Vec<u8>,
     at: usize,
     left: u64,
-    accepted: Vec<u8>,
+    accepted: Transcript,
+    given: Transcript,
+}
+
+impl Drop for RowServer {
+    fn drop(self) {
+        let RowServer {
+            key: _,
+            page: _,
+            at: _,
+            left: _,
+            accepted: _,
+            given: _,
+        } = self;
+    }
 }
 
 /// Adds a DataRow of one value, so many bytes in all.
@@ -32,8 +51,16 @@ fn put_row(page: &mut Vec<u8>, size: u32) -> Result<(), AllocError>
 
 impl RowServer {
     /// A server of rows of this size, 11 or more.
-    pub fn new(alloc: Global, size: u32, total: u64) -> Result<RowServer, AllocError>
+    pub fn new(
+        alloc: Global,
+        key: &Arc<StartKey>,
+        size: u32,
+        total: u64,
+    ) -> Result<RowServer, AllocError>
         requires { 11 ≤ size }
+        ensures key { IfOk result (λ s. arc_value s.key ≡ arc_value key.now) }
+        ensures accepted { IfOk result (λ s. s.accepted.bytes ≡ []) }
+        ensures given { IfOk result (λ s. s.given.bytes ≡ []) }
     {
         let mut page = Vec::new(alloc);
         for _ in 0..PAGE {
@@ -43,19 +70,22 @@ impl RowServer {
             put_row(&mut page, size)?;
         }
         Ok(RowServer {
+            key: Arc::try_clone(key)?,
             page,
             at: 0,
             left: total,
-            accepted: Vec::new(alloc),
+            accepted: Transcript::new(),
+            given: Transcript::new(),
         })
     }
 }
 
 impl ServerEnd for RowServer {
     ghost use Rattle.std.specs.Prelude.{nat_lt, false, []};
+    ghost use Rattle.std.specs.Arc.{arc_value};
     ghost use Rattle.trials.specs.Ends.{row_standing};
 
-    ghost standing = { λ s. row_standing s.left s.accepted.items };
+    ghost standing = { λ s. row_standing (arc_value s.key) s.left s.accepted.bytes s.given.bytes };
 
     fn read_some(&mut self, into: &mut [u8]) -> Moved {
         if self.left == 0 {
@@ -70,6 +100,7 @@ impl ServerEnd for RowServer {
             return Moved::Ended;
         }
         into[..count].copy_from_slice(&self.page[self.at..self.at + count]);
+        self.given.note(&into[..count]);
         self.at += count;
         if self.at == self.page.len() {
             self.left = self.left.saturating_sub(self.page.len() as u64);
@@ -78,10 +109,10 @@ impl ServerEnd for RowServer {
     }
 
     fn write_some(&mut self, from: &[u8]) -> Moved {
-        if self.left == 0 || self.accepted.extend_from_slice(from).is_err() {
-            self.left = 0;
+        if self.left == 0 {
             return Moved::Ended;
         }
+        self.accepted.note(from);
         Moved::Count(from.len())
     }
 

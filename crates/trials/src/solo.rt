@@ -1,9 +1,11 @@
 //! `trials solo`: what a session alone answers to each front of a client's bytes, or to each frame of a client that a cancel strikes.
+//! What is refused for want of memory is asked once more, since nothing has changed then: so a run in which a growth is refused tells
+//! whether that is so.
 use crate::KEY_WORD;
 use crate::input::read_input;
 use crate::lines::put_hex_line;
 use bytes::BytesMut;
-use frame_view::{LONGEST_FRAME, Side, Step, next_frame};
+use frame_view::{Frame, LONGEST_FRAME, Side, Step, next_frame};
 use pool_app::fault::AppFault;
 use pool_app::files::read_catalogue;
 use session_machine::{Catalogue, Session, StartKey, Text, solo_bytes};
@@ -25,6 +27,42 @@ fn key_of(alloc: Global, user: &[u8]) -> Result<StartKey, AllocError> {
     })
 }
 
+/// Appends what a session alone answers to these bytes.
+fn put_answer(
+    alloc: Global,
+    catalogue: &Catalogue,
+    key: &StartKey,
+    bytes: &[u8],
+    replies: &mut BytesMut,
+) -> Result<(), AllocError> {
+    match solo_bytes(alloc, catalogue, key, KEY_WORD, bytes, replies) {
+        Ok(()) => Ok(()),
+        Err(_) => solo_bytes(alloc, catalogue, key, KEY_WORD, bytes, replies),
+    }
+}
+
+/// Appends what the session answers to this frame.
+fn put_replies(
+    alloc: Global,
+    catalogue: &Catalogue,
+    session: &mut Session,
+    frame: Frame<'_>,
+    replies: &mut BytesMut,
+) -> Result<(), AllocError> {
+    match session.step(alloc, catalogue, frame, replies) {
+        Ok(()) => Ok(()),
+        Err(_) => session.step(alloc, catalogue, frame, replies),
+    }
+}
+
+/// Appends the session's welcome.
+fn put_welcome(alloc: Global, session: &Session, welcome: &mut BytesMut) -> Result<(), AllocError> {
+    match session.put_welcome(alloc, KEY_WORD, welcome) {
+        Ok(()) => Ok(()),
+        Err(_) => session.put_welcome(alloc, KEY_WORD, welcome),
+    }
+}
+
 /// A line for each front of the bytes, the empty one first.
 fn lines_of(
     alloc: Global,
@@ -36,14 +74,7 @@ fn lines_of(
     let mut lines = Vec::new(alloc);
     for size in 0..=bytes.len() {
         let mut replies = BytesMut::new(alloc);
-        solo_bytes(
-            alloc,
-            catalogue,
-            &key,
-            KEY_WORD,
-            &bytes[..size],
-            &mut replies,
-        )?;
+        put_answer(alloc, catalogue, &key, &bytes[..size], &mut replies)?;
         put_hex_line(alloc, replies.as_slice(), &mut lines)?;
     }
     Ok(lines)
@@ -67,7 +98,7 @@ fn put_frame_lines(
             session.strike();
         }
         let mut replies = BytesMut::new(alloc);
-        session.step(alloc, catalogue, frame, &mut replies)?;
+        put_replies(alloc, catalogue, session, frame, &mut replies)?;
         put_hex_line(alloc, replies.as_slice(), lines)?;
         rest = &rest[frame.whole.len().min(rest.len())..];
     }
@@ -86,7 +117,7 @@ fn cancelled_lines(
     let mut lines = Vec::new(alloc);
     if let Ok(mut session) = Session::start(alloc, catalogue, &key)? {
         let mut welcome = BytesMut::new(alloc);
-        session.put_welcome(alloc, KEY_WORD, &mut welcome)?;
+        put_welcome(alloc, &session, &mut welcome)?;
         put_hex_line(alloc, welcome.as_slice(), &mut lines)?;
         put_frame_lines(alloc, catalogue, &mut session, cancelled, bytes, &mut lines)?;
     }

@@ -2,14 +2,12 @@
 ghost use Rattle.lease_book.specs.Links.{IsTwice};
 
 use crate::keys::{key, row};
+use crate::links::gone_link;
 use book_model::limits::Limits;
 use book_model::rows::Rows;
 use lease_book::book::Book;
 use lease_book::events::{Event, Reply};
-use link_run::links::{CleanLink, LinkParts};
 use memory_ends::gone_end::GoneEnd;
-use param_track::Reported;
-use start_keys::StartKey;
 use std::alloc::{AllocError, Global};
 use std::sync::Arc;
 
@@ -51,19 +49,6 @@ impl Bench {
         self.book.apply(0, event)
     }
 
-    /// The link of this number and second of birth, for this key.
-    fn link(&self, key: Arc<StartKey>, number: u64, born: u64) -> CleanLink<GoneEnd> {
-        let lent = LinkParts {
-            end: GoneEnd,
-            key,
-            number,
-            born,
-            server_key: None,
-            reported: Reported::new(self.alloc),
-        };
-        lent.clean()
-    }
-
     /// A client of this database row comes, has a link for a key of its own, gives it back and goes.
     fn leaves_link(&mut self, own: u64, row: u64) -> Result<(), AllocError> {
         let Reply::Client(client) = self.happens(Event::Arrive) else {
@@ -76,7 +61,7 @@ impl Bench {
         let Reply::Start { number, born, .. } = self.happens(Event::Take { client }) else {
             return Err(AllocError);
         };
-        let link = self.link(of_link, number, born);
+        let link = gone_link(self.alloc, of_link, number, born)?;
         drop(self.happens(Event::GiveBack(link)));
         drop(self.happens(Event::Leave { client }));
         Ok(())

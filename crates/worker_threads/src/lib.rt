@@ -1,49 +1,99 @@
-//! Threads that each do one job.
+//! Threads that do jobs, and are kept for the next ones.
 #![tactic(auto)]
 
+mod board;
+
+use crate::board::Board;
 use std::alloc::{AllocError, Global};
-use std::sync::{Arc, Mutex, Wait};
+use std::rt::Clock;
+use std::sync::{Arc, Condvar, CondvarTimeouts, Mutex, Wait};
 use std::thread;
 use std::thread::{JoinHandle, Threads};
+use std::time::Duration;
 
-/// The places of the threads whose jobs are done.
-#[derive(Drop)]
-struct Done {
-    places: Vec<usize>,
+/// As long as a thread waits for a job before it may end.
+fn longest_wait() -> Duration {
+    Duration::from_secs(10)
 }
 
-/// Threads that each do one job. Those that are done are joined when the next one starts, so that what is kept is as much as were
-/// ever at work at once.
+/// What the threads share with their owner.
 #[derive(Drop)]
-pub struct Workers {
-    at_work: Vec<Option<JoinHandle<()>>>,
-    /// The places of `at_work` where none is.
+struct Shared<J> {
+    board: Mutex<Board<J>>,
+    /// A job came, or none will any more.
+    bell: Condvar,
+}
+
+impl<J: Drop> Shared<J> {
+    /// Leaves the job to a thread that waits; the job again where none does.
+    fn leave<R: Wait>(&self, rt: &R, job: J) -> Option<J> {
+        let kept = self.board.lock(rt).leave(job);
+        if kept.is_none() {
+            self.bell.notify_one();
+        }
+        kept
+    }
+
+    /// The next job of the thread at this place; none where it is to end.
+    fn next<R: Wait + Clock>(&self, rt: &R, place: usize) -> Option<J> {
+        let mut board = self.board.lock(rt);
+        board.begin_wait();
+        let mut has_waited = false;
+        for _ in rt.forever() {
+            if let Some(job) = board.take() {
+                return Some(job);
+            }
+            if board.lets_go(has_waited, place) {
+                return None;
+            }
+            let (again, waited) = self.bell.wait_timeout(rt, board, longest_wait());
+            board = again;
+            has_waited = waited.timed_out();
+        }
+        unreachable!()
+    }
+
+    /// No job comes any more: who waits ends.
+    fn close<R: Wait>(&self, rt: &R) {
+        self.board.lock(rt).close();
+        self.bell.notify_all();
+    }
+}
+
+/// Threads that do jobs. One that is done waits for the next job, and another is started only where none waits, so that there are
+/// never more than jobs were to be done at once. Of those that have waited for ten seconds all but eight end; they are joined when the
+/// next job comes. Where the workers are let go without [`Workers::join_all`], their threads wait until the program ends.
+#[derive(Drop)]
+pub struct Workers<J> {
+    shared: Arc<Shared<J>>,
+    threads: Vec<Option<JoinHandle<()>>>,
+    /// The places of `threads` where none is.
     free: Vec<usize>,
-    done: Arc<Mutex<Done>>,
 }
 
-impl Workers {
-    /// None is at work yet. The only error is that an allocation failed.
-    pub fn new(alloc: Global) -> Result<Workers, AllocError> {
-        let done = Done {
-            places: Vec::new(alloc),
+impl<J: Drop> Workers<J> {
+    /// No thread was started yet. The only error is that an allocation failed.
+    pub fn new(alloc: Global) -> Result<Workers<J>, AllocError> {
+        let shared = Shared {
+            board: Mutex::new(Board::new(alloc)),
+            bell: Condvar::new(),
         };
         Ok(Workers {
-            at_work: Vec::new(alloc),
+            shared: Arc::new(alloc, shared)?,
+            threads: Vec::new(alloc),
             free: Vec::new(alloc),
-            done: Arc::new(alloc, Mutex::new(done))?,
         })
     }
 
-    /// Joins those that are done.
-    fn join_done<R: Threads + Wait>(&mut self, rt: &R) {
-        for _ in 0..self.at_work.len() {
-            let Some(place) = self.done.lock(rt).places.pop() else {
+    /// Joins the threads that have ended.
+    fn join_ended<R: Threads + Wait>(&mut self, rt: &R) {
+        for _ in 0..self.threads.len() {
+            let Some(place) = self.shared.board.lock(rt).ended() else {
                 return;
             };
-            if place < self.at_work.len() {
-                if let Some(worker) = self.at_work[place].take() {
-                    worker.join(rt);
+            if place < self.threads.len() {
+                if let Some(thread) = self.threads[place].take() {
+                    thread.join(rt);
                 }
                 // there is room: it was reserved with the place
                 let _ = self.free.push(place);
@@ -51,68 +101,105 @@ impl Workers {
         }
     }
 
-    /// A place where none is at work, with room for it among those that are done and those that are free.
+    /// A place where no thread is, with room for it among those that have ended and those that are free.
     fn free_place<R: Wait>(&mut self, rt: &R) -> Result<usize, AllocError> {
         if let Some(place) = self.free.pop() {
             return Ok(place);
         }
-        let place = self.at_work.len();
-        self.done.lock(rt).places.reserve(place + 1)?;
+        let place = self.threads.len();
+        self.shared.board.lock(rt).make_room(place + 1)?;
         self.free.reserve(place + 1)?;
-        self.at_work.push(None)?;
+        self.threads.push(None)?;
         Ok(place)
     }
 
-    /// Starts a thread that does the job. The error is that the system has no more threads, or that an allocation failed; the job
-    /// is then dropped, and isn't done.
-    pub fn start<R: Threads + Wait + Copy + Send + 'static, J: FnOnce() + Send + Drop + 'static>(
-        &mut self,
-        rt: R,
-        job: J,
-    ) -> Result<(), AllocError>
-        requires { J.pre job }
-    {
-        self.join_done(&rt);
-        let place = self.free_place(&rt)?;
-        let Ok(worker) = spawned(rt, &self.done, place, job) else {
-            // there is room: it was reserved with the place
-            let _ = self.free.push(place);
-            return Err(AllocError);
-        };
-        if place < self.at_work.len() {
-            self.at_work[place] = Some(worker);
-        }
-        Ok(())
-    }
-
-    /// Waits until all are done.
-    pub fn join_all<R: Threads>(self, rt: &R) {
-        for worker in self.at_work {
-            if let Some(worker) = worker {
-                worker.join(rt);
+    /// Waits until all jobs are done, and all threads have ended.
+    pub fn join_all<R: Threads + Wait>(self, rt: &R) {
+        self.shared.close(rt);
+        for thread in self.threads {
+            if let Some(thread) = thread {
+                thread.join(rt);
             }
         }
     }
 }
 
-/// A thread that does the job, and then tells its place as done.
-fn spawned<R: Threads + Wait + Copy + Send + 'static, J: FnOnce() + Send + Drop + 'static>(
+impl<J: Drop + Send + 'static> Workers<J> {
+    /// Has the job done by a thread that waits for one, or by a new one where none does: that one does by `serve` this job and those
+    /// that are left to it later. The error is that the system has no more threads, or that an allocation failed; the job is then
+    /// dropped, and isn't done.
+    pub fn start<
+        R: Threads + Wait + Clock + Copy + Send + 'static,
+        S: Fn(J) + Copy + Send + Drop + 'static,
+    >(&mut self, rt: R, job: J, serve: S) -> Result<(), AllocError>
+        requires { S.IsAlwaysCallable serve }
+    {
+        self.join_ended(&rt);
+        match self.shared.leave(&rt, job) {
+            Some(job) => self.start_thread(rt, job, serve),
+            None => Ok(()),
+        }
+    }
+
+    /// Starts a thread whose first job is this.
+    fn start_thread<
+        R: Threads + Wait + Clock + Copy + Send + 'static,
+        S: Fn(J) + Copy + Send + Drop + 'static,
+    >(&mut self, rt: R, job: J, serve: S) -> Result<(), AllocError>
+        requires { S.IsAlwaysCallable serve }
+    {
+        let place = self.free_place(&rt)?;
+        let Ok(thread) = spawned(rt, &self.shared, place, job, serve) else {
+            // there is room: it was reserved with the place
+            let _ = self.free.push(place);
+            return Err(AllocError);
+        };
+        if place < self.threads.len() {
+            self.threads[place] = Some(thread);
+        }
+        Ok(())
+    }
+}
+
+/// The thread at this place, whose first job is this.
+fn spawned<
+    R: Threads + Wait + Clock + Copy + Send + 'static,
+    J: Drop + Send + 'static,
+    S: Fn(J) + Copy + Send + Drop + 'static,
+>(
     rt: R,
-    done: &Arc<Mutex<Done>>,
+    shared: &Arc<Shared<J>>,
     place: usize,
-    job: J,
+    first: J,
+    serve: S,
 ) -> Result<JoinHandle<()>, AllocError>
-    requires { J.pre job }
+    requires { S.IsAlwaysCallable serve }
 {
-    let done = Arc::try_clone(done)?;
-    let worker = thread::spawn(
+    let shared = Arc::try_clone(shared)?;
+    let thread = thread::spawn(
         &rt,
         move || -> ()
-            requires { J.pre job }
-        {
-            job();
-            let _ = done.lock(&rt).places.push(place);
-        },
+            requires { S.IsAlwaysCallable serve }
+        { work(&rt, &shared, place, first, serve) },
     )?;
-    Ok(worker)
+    Ok(thread)
+}
+
+/// Does this job, and then the next ones.
+fn work<R: Wait + Clock, J: Drop, S: Fn(J)>(
+    rt: &R,
+    shared: &Shared<J>,
+    place: usize,
+    first: J,
+    serve: S,
+)
+    requires { S.IsAlwaysCallable serve }
+{
+    serve(first);
+    for _ in rt.forever() {
+        match shared.next(rt, place) {
+            Some(job) => serve(job),
+            None => return,
+        }
+    }
 }

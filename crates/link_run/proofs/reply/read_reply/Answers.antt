@@ -2,7 +2,8 @@ use Rattle.std.proofs.Common.{arith, sym, ap, ◌∙◌, ◌+◌, ℕ, List, len
 use Rattle.frame_view.specs.declared.Side.TheVariants.{Server}
 use Rattle.frame_view.specs.Frames.{Cut, front, frames}
 use Rattle.link_run.specs.declared.reply.Answered.{Answered}
-use Rattle.link_run.specs.Resets.{answered_by_all, at_rest}
+use Rattle.link_run.specs.Dialogues.{answered_by_all}
+use Rattle.link_run.specs.Resets.{at_rest}
 use Rattle.frame_view.proofs.Taking.{taken_at}
 use Rattle.link_run.proofs.Resetting.{all_read, all_unsent, nothing_behind, some_behind}
 use Rattle.link_run.specs.declared.reply.TheConstants.{LONGEST_REPLY}

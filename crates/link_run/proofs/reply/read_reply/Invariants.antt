@@ -1,7 +1,7 @@
 use Rattle.std.proofs.Common.{◌≡◌, ◌≤◌, ◌-◌, length, drop}
 use Rattle.frame_view.specs.Frames.{frames}
 use Rattle.frame_view.specs.declared.Side.TheVariants.{Server}
-use Rattle.link_run.specs.Resets.{answered_by_all}
+use Rattle.link_run.specs.Dialogues.{answered_by_all}
 use Rattle.link_run.specs.declared.reply.Answered.TheVariants.{Nothing}
 use Rattle.link_run.specs.declared.reply.TheConstants.{LONGEST_REPLY}
 use Rattle.link_run.proofs.reply.read_reply.Given as goal

@@ -5,7 +5,7 @@ use Rattle.frame_view.proofs.Taking.{taken_at}
 use Rattle.param_track.specs.Kept.{Kept}
 use Rattle.link_run.specs.declared.reply.TheConstants.{LONGEST_REPLY}
 use Rattle.link_run.specs.Links.{after_frames}
-use Rattle.link_run.specs.Resets.{are_known}
+use Rattle.link_run.specs.Dialogues.{are_known}
 use Rattle.link_run.proofs.Resetting.{all_told, all_known, and_assoc}
 use Rattle.link_run.proofs.reply.tell_reports.Goals as goal
 

@@ -2,7 +2,7 @@ use Rattle.std.proofs.Common.{◌≡◌, ◌≤◌, ◌-◌, ◌&&◌, length, d
 use Rattle.frame_view.specs.Frames.{frames}
 use Rattle.frame_view.specs.declared.Side.TheVariants.{Server}
 use Rattle.link_run.specs.Links.{after_frames}
-use Rattle.link_run.specs.Resets.{are_known}
+use Rattle.link_run.specs.Dialogues.{are_known}
 use Rattle.link_run.specs.declared.reply.TheConstants.{LONGEST_REPLY}
 use Rattle.link_run.proofs.reply.tell_reports.Given as goal
 

@@ -1,19 +1,25 @@
 use Rattle.std.proofs.Common.{arith, sym, ◌∙◌, subst}
 use Rattle.std.specs.Prelude.{IfErr}
+use Rattle.std.specs.Arc.{arc_value}
 use Rattle.session_values.specs.State.{StartKeyOf}
 use Rattle.link_laws.specs.Standing.{Standing}
 use Rattle.link_start.specs.declared.start.StartCause.{StartCause}
-use Rattle.link_start.specs.Starts.{IsCause, IsLinkKey}
+use Rattle.link_start.specs.Starts.{HasTried, IsCause, IsLinkKey}
+use Rattle.link_start.proofs.Starting.{done_from, has_tried}
 use Rattle.link_start.proofs.start.start_link.Goals as goal
 
 pub returns-in-Ok-Ready-clause-started : goal.returns-in-Ok-Ready-clause-started
 returns-in-Ok-Ready-clause-started g c =
-    c.finish.ensures.started _ _ (c.in-Ok-Ready.ensures.under_way _ c.requires.can_start (subst (λ (k : StartKeyOf). IsLinkKey k) (sym c.loop.invariant.key) c.requires.key) c.loop.invariant.under_way)
+    c.finish.ensures.started _ _ (done_from _ _ _ _ _ c.requires.can_start c.requires.key c.loop.invariant.key c.in-Ok-Ready.ensures.same.0 c.loop.invariant.under_way (c.in-Ok-Ready.ensures.under_way _) (c.in-Ok-Ready.ensures.welcomed c.in-Ok-Ready.field-0-is))
+
+pub returns-in-Ok-Ready-clause-own_key : goal.returns-in-Ok-Ready-clause-own_key
+returns-in-Ok-Ready-clause-own_key g c =
+    c.finish.ensures.own_key _ _ (done_from _ c.args.secret.now _ _ _ c.requires.can_start c.requires.key c.loop.invariant.key c.in-Ok-Ready.ensures.same.0 c.loop.invariant.under_way (c.in-Ok-Ready.ensures.under_way _) (c.in-Ok-Ready.ensures.welcomed c.in-Ok-Ready.field-0-is))
 
 pub returns-in-Ok-Ready-clause-cause : goal.returns-in-Ok-Ready-clause-cause
 returns-in-Ok-Ready-clause-cause g c =
     subst (λ (k : StartKeyOf). IfErr c.finish.result (λ f. IsCause (g.E.ServerEnd.standing c.args.end) (g.E.ServerEnd.standing f.end) c.args.secret.now k f.cause)) (c.in-Ok-Ready.ensures.same.0 ∙ c.loop.invariant.key)
-    (c.finish.ensures.cause _ _ c.requires.can_start (c.in-Ok-Ready.ensures.under_way _ c.requires.can_start (subst (λ (k : StartKeyOf). IsLinkKey k) (sym c.loop.invariant.key) c.requires.key) c.loop.invariant.under_way))
+    (c.finish.ensures.cause _ _ (done_from _ _ _ _ _ c.requires.can_start c.requires.key c.loop.invariant.key c.in-Ok-Ready.ensures.same.0 c.loop.invariant.under_way (c.in-Ok-Ready.ensures.under_way _) (c.in-Ok-Ready.ensures.welcomed c.in-Ok-Ready.field-0-is)))
 
 pub returns-in-Err-clause-cause : goal.returns-in-Err-clause-cause
 returns-in-Err-clause-cause g c =
@@ -22,6 +28,12 @@ returns-in-Err-clause-cause g c =
     (subst (λ (cause : StartCause). IsCause (g.E.ServerEnd.standing c.args.end) c.turn.new.self.end c.args.secret.now c.loop.start.key cause) (sym c.fail.ensures.cause)
     (c.in-Err.ensures.cause _ c.requires.can_start (subst (λ (k : StartKeyOf). IsLinkKey k) (sym c.loop.invariant.key) c.requires.key) c.loop.invariant.under_way)))
 
+pub returns-clause-turns : goal.returns-clause-turns
+returns-clause-turns g c = λ _.
+    subst (λ (s : Standing). HasTried (g.E.ServerEnd.standing c.args.end) c.args.secret.now (arc_value c.args.key) s c.args.turns) (sym c.fail-2.ensures.end)
+    (subst (λ (k : StartKeyOf). HasTried (g.E.ServerEnd.standing c.args.end) c.args.secret.now k c.loop.start.end c.args.turns) c.loop.invariant.key
+    (has_tried _ _ c.loop.start _ c.loop.invariant.under_way (omega (arith, c.loop.invariant.tried, c.loop-test.false)) c.loop.invariant.waits))
+
 pub loop-preserved : goal.loop-preserved
 loop-preserved g c = record {
   under_way = c.in-Ok-More.ensures.under_way _ c.requires.can_start (subst (λ (k : StartKeyOf). IsLinkKey k) (sym c.loop.invariant.key) c.requires.key) c.loop.invariant.under_way;
@@ -29,14 +41,13 @@ loop-preserved g c = record {
   number = c.in-Ok-More.ensures.same.1 ∙ c.loop.invariant.number;
   born = c.in-Ok-More.ensures.same.2 ∙ c.loop.invariant.born;
   tried = omega (arith, c.in-Ok-More.ensures.tried, c.loop.invariant.tried);
+  waits = c.in-Ok-More.ensures.waits c.in-Ok-More.field-0-is;
+  turns = omega (arith, c.turn_of_link.ensures, c.loop.invariant.turns);
+  paced = omega (arith, c.in-Ok-More.ensures.once, c.loop.invariant.paced);
 }
 
 pub finish-requires : goal.finish-requires
-finish-requires g c = record {
-  began = g.E.ServerEnd.standing c.args.end;
-  secret = c.args.secret.now;
-  can_start = c.requires.can_start;
-  key = subst (λ (k : StartKeyOf). IsLinkKey k) (sym (c.in-Ok-Ready.ensures.same.0 ∙ c.loop.invariant.key)) c.requires.key;
-  under_way = c.in-Ok-Ready.ensures.under_way _ c.requires.can_start (subst (λ (k : StartKeyOf). IsLinkKey k) (sym c.loop.invariant.key) c.requires.key) c.loop.invariant.under_way;
-  welcomed = c.in-Ok-Ready.ensures.welcomed c.in-Ok-Ready.field-0-is;
-}
+finish-requires g c = (
+  g.E.ServerEnd.standing c.args.end,
+  (c.args.secret.now, done_from _ _ _ _ _ c.requires.can_start c.requires.key c.loop.invariant.key c.in-Ok-Ready.ensures.same.0 c.loop.invariant.under_way (c.in-Ok-Ready.ensures.under_way _) (c.in-Ok-Ready.ensures.welcomed c.in-Ok-Ready.field-0-is)),
+)

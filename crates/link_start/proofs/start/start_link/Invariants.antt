@@ -1,6 +1,6 @@
 use Rattle.std.proofs.Common.{◌≡◌, ◌+◌, ◌≤◌}
 use Rattle.std.specs.Arc.{arc_value}
-use Rattle.link_start.specs.Starts.{IsUnderWay, tried_before, tried_so_far}
+use Rattle.link_start.specs.Starts.{IsUnderWay, IsWaitingStart, tried_before, tried_so_far, waits_of}
 use Rattle.link_start.proofs.start.start_link.Given as goal
 
 abbrev pub invariant-loop : goal.invariant-loop
@@ -10,4 +10,7 @@ invariant-loop g l = record {
   number : l.start.number ≡ l.fn.number;
   born : l.start.born ≡ l.fn.born;
   tried : l.counter + tried_before (g.E.ServerEnd.standing l.fn.end) ≤ tried_so_far l.start;
+  waits : IsWaitingStart l.secret l.start;
+  turns : g.G.Gate.turns l.gate ≡ g.G.Gate.turns l.fn.gate + l.counter;
+  paced : waits_of l.start.end ≤ waits_of (g.E.ServerEnd.standing l.fn.end) + l.counter;
 }

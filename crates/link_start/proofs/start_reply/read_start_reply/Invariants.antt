@@ -9,7 +9,7 @@ use Rattle.link_start.proofs.start_reply.read_start_reply.Given as goal
 abbrev pub invariant-loop-frame : goal.invariant-loop-frame
 invariant-loop-frame l = record {
   within : l.at ≤ length l.reply;
-  so_far : heard_all l.heard (frames Server LONGEST_REPLY (drop l.at l.reply)).frames ≡ heard_all Nothing (frames Server LONGEST_REPLY l.reply).frames;
+  so_far : heard_all l.secret l.heard (frames Server LONGEST_REPLY (drop l.at l.reply)).frames ≡ heard_all l.secret Nothing (frames Server LONGEST_REPLY l.reply).frames;
   rest : (frames Server LONGEST_REPLY (drop l.at l.reply)).rest ≡ (frames Server LONGEST_REPLY l.reply).rest;
 }
 

@@ -1,4 +1,4 @@
-use Rattle.std.proofs.Common.{Bool, List, inl, inr, refl, sym, ap, ◌∙◌, subst}
+use Rattle.std.proofs.Common.{Bool, List, inl, inr, sym, ap, ◌∙◌, subst}
 use Rattle.user_file.specs.declared.user_table.UserRow.{UserRow}
 use Rattle.link_laws.specs.Standing.{ClientFacts}
 use Rattle.login_core.specs.Logins.{LoginView}
@@ -37,7 +37,7 @@ returns-clause-allowed g c = λ t l.
     let tells = c.converse.ensures.login.tells ∙ (ap (λ (x : ClientFacts). x.tells) c.new-run.ensures.client ∙ t) in
     let lets = subst (λ (u : List UserRow). LetsIn g.D.LinkDesk.home u) (sym (c.converse.ensures.login.users ∙ ap (λ (x : LoginView). x.users) c.new-run.ensures.login)) l in
     told_as g.D.LinkDesk.home c.args.login client (g.C.ClientEnd.facts c.tell.new.client) (g.D.LinkDesk.told c.args.pass) (g.D.LinkDesk.told c.admit-client.new.self.pass) end
-    (subst (λ (w : LastWord). HasGiven client (g.C.ClientEnd.facts c.tell.new.client) (last_bytes w)) c.into_word.ensures c.tell.ensures)
+    (subst (λ (w : LastWord). HasGiven client (g.C.ClientEnd.facts c.tell.new.client) (last_bytes w)) c.into_word.ensures c.tell.ensures.given)
     (c.admit-client.ensures.tells ∙ tells)
     (came_first _ c.args.login c.new-run.result c.converse.new.run _ end c.new-run.ensures.login c.converse.ensures.login c.admit-client.ensures.came)
     c.admit-client.ensures.traces
@@ -50,5 +50,5 @@ returns-clause-over g c = inr (inr (record {
   traces = c.admit-client.ensures.traces;
   refused = c.admit-client.ensures.refused;
   came = came_first _ c.args.login c.new-run.result c.converse.new.run _ c.admit-client.result.1 c.new-run.ensures.login c.converse.ensures.login c.admit-client.ensures.came;
-  told = subst (λ (w : LastWord). HasGiven (g.C.ClientEnd.facts c.admit-client.result.0) (g.C.ClientEnd.facts c.tell.new.client) (last_bytes w)) c.into_word.ensures c.tell.ensures;
+  told = subst (λ (w : LastWord). HasGiven (g.C.ClientEnd.facts c.admit-client.result.0) (g.C.ClientEnd.facts c.tell.new.client) (last_bytes w)) c.into_word.ensures c.tell.ensures.given;
 }))

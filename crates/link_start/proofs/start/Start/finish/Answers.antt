@@ -6,8 +6,8 @@ use Rattle.message_view.specs.declared.views.KeyView.{KeyView}
 use Rattle.param_track.specs.Kept.{Kept}
 use Rattle.link_start.specs.declared.start_reply.ReportError.{ReportError}
 use Rattle.link_start.specs.StartReply.{Takes, reported_all, keyed_all}
-use Rattle.link_start.specs.Starts.{StartView, IsDone, IsOwnKey}
-use Rattle.link_start.proofs.Starting.{started_clean, never_unreported, never_unkeyed, own_key}
+use Rattle.link_start.specs.Starts.{StartView, IsDone, IsDoneFrom, IsOwnKey}
+use Rattle.link_start.proofs.Starting.{started_clean, unreported_cause, unkeyed_cause, own_key}
 use Rattle.link_start.proofs.start.Start.finish.Goals as goal
 
 abbrev reported : List Kept → List ℕ → Option (List Kept)
@@ -22,19 +22,18 @@ clean-requires g c =
     (ap₂ reported (sym c.new-reported.ensures) (sym c.as_slice-2.ensures) ∙ c.in-Ok-take_reports.ensures.taken)
 
 pub returns-in_default-clause-cause : goal.returns-in_default-clause-cause
-returns-in_default-clause-cause g c = λ b s can x f.
-    let received = c.as_slice.ensures ∙ ap (λ (v : StartView). v.received) c.self.view_is in
-    never_unkeyed b s c.args.self c.key_told.result can c.requires.key x f (subst AreBytes received c.key_told.ensures.bytes) c.requires.welcomed c.in_default.not-Ok (c.key_told.ensures.key ∙ ap keyed received)
+returns-in_default-clause-cause g c = λ b s d.
+    let y = subst (λ (v : StartView). IsDoneFrom b s v) (sym c.self.view_is) d in
+    unkeyed_cause b s _ c.key_told.result y (subst AreBytes c.as_slice.ensures c.key_told.ensures.bytes) c.in_default.not-Ok (c.key_told.ensures.key ∙ ap keyed c.as_slice.ensures)
 
 pub returns-in-Ok-take_reports-clause-own_key : goal.returns-in-Ok-take_reports-clause-own_key
-returns-in-Ok-take_reports-clause-own_key g c = λ b s can x f.
+returns-in-Ok-take_reports-clause-own_key g c = λ b s d f.
     let received = c.as_slice.ensures ∙ ap (λ (v : StartView). v.received) c.self.view_is in
-    subst (IsOwnKey b.server) (sym c.clean.ensures.server_key)
-    (own_key b s c.args.self c.in-Ok.server_key can c.requires.key x f (subst AreBytes received c.key_told.ensures.bytes) c.requires.welcomed (ap keyed (sym received) ∙ sym c.in-Ok.ensures.key))
+    subst (IsOwnKey b.server) (sym c.clean.ensures.server_key) (own_key b s c.args.self c.in-Ok.server_key d f (subst AreBytes received c.key_told.ensures.bytes) (ap keyed (sym received) ∙ sym c.in-Ok.ensures.key))
 
 pub returns-in-Err-Unexpected-clause-cause : goal.returns-in-Err-Unexpected-clause-cause
-returns-in-Err-Unexpected-clause-cause g c = λ b s can x f.
-    let received = c.as_slice-2.ensures ∙ ap (λ (v : StartView). v.received) c.self.view_is in
-    never_unreported b s c.args.self can c.requires.key x f (subst AreBytes received c.in-Err-Unexpected.ensures.bytes) c.requires.welcomed
-    (ap₂ reported (sym c.new-reported.ensures) (sym received)
+returns-in-Err-Unexpected-clause-cause g c = λ b s d.
+    let y = subst (λ (v : StartView). IsDoneFrom b s v) (sym c.self.view_is) d in
+    unreported_cause b s _ y (subst AreBytes c.as_slice-2.ensures c.in-Err-Unexpected.ensures.bytes)
+    (ap₂ reported (sym c.new-reported.ensures) (sym c.as_slice-2.ensures)
     ∙ subst (λ (u : ReportError). Takes (reported c.new-reported.result c.as_slice-2.result.now) c.take_reports.new.reported (Err u)) c.in-Err-Unexpected.field-0-is c.in-Err-Unexpected.ensures.taken)

@@ -1,10 +1,8 @@
-use Rattle.std.proofs.Common.{ℕ, List, sym, ◌∙◌, subst}
-use Rattle.frame_view.specs.declared.Side.TheVariants.{Server}
-use Rattle.frame_view.specs.Frames.{frames}
-use Rattle.session_values.specs.State.{StartKeyOf}
-use Rattle.link_start.specs.StartReply.{error_in}
-use Rattle.link_start.specs.Starts.{IsLinkKey, IsError, IsRefusalOf, IsCause}
-use Rattle.link_start.proofs.Starting.{error_is, refusal_is, never_unexpected, end_cause, handed_on}
+use Rattle.std.proofs.Common.{sym, ◌∙◌, subst}
+use Rattle.link_laws.specs.Standing.{Standing}
+use Rattle.link_start.specs.declared.start.StartCause.TheVariants as causes
+use Rattle.link_start.specs.Starts.{IsLinkKey, IsCause}
+use Rattle.link_start.proofs.Starting.{caused, end_cause, handed_on, other_cause, refused_cause}
 use Rattle.link_start.proofs.start.Start.turn.Goals as goal
 
 pub returns-in_err-receive-clause-cause : goal.returns-in_err-receive-clause-cause
@@ -16,14 +14,11 @@ pub returns-in-Refused-clause-cause : goal.returns-in-Refused-clause-cause
 returns-in-Refused-clause-cause g c = λ b can k x.
     let y = c.in_ok-receive.ensures.under_way b _ (c.in_ok-send.ensures.under_way b _ x) in
     let same = c.in_ok-receive.ensures.same.0 ∙ c.in_ok-send.ensures.same.0 in
-    let e = sym c.in-Refused.ensures.heard in (
-      subst IsError (sym c.take_error.ensures.error) (error_is _ e),
-      λ f. subst (λ (bytes : List ℕ). IsRefusalOf b c.args.secret.now c.args.self.now.key bytes) (sym c.take_error.ensures.error)
-          (subst (λ (key : StartKeyOf). IsRefusalOf b c.args.secret.now key (error_in (frames Server 65536 c.receive.new.self.received).frames)) same (refusal_is b _ _ can (subst IsLinkKey (sym same) k) y f c.read_start_reply.ensures.bytes e)),
-    )
+    subst (λ (s : Standing). IsCause b s c.args.secret.now c.args.self.now.key (causes.Refused c.take_error.result)) (sym c.take_error.ensures.end)
+    (caused b c.receive.new.self.end c.args.secret.now c.receive.new.self.key c.args.self.now.key (causes.Refused c.take_error.result) same (refused_cause b c.args.secret.now _ c.take_error.result can (subst IsLinkKey (sym same) k) y c.read_start_reply.ensures.bytes (sym c.in-Refused.ensures.heard) c.take_error.ensures.error))
 
 pub returns-in-Other-clause-cause : goal.returns-in-Other-clause-cause
-returns-in-Other-clause-cause g c = λ b can k x f.
+returns-in-Other-clause-cause g c = λ b can k x.
     let y = c.in_ok-receive.ensures.under_way b _ (c.in_ok-send.ensures.under_way b _ x) in
     let same = c.in_ok-receive.ensures.same.0 ∙ c.in_ok-send.ensures.same.0 in
-    never_unexpected b _ _ can (subst IsLinkKey (sym same) k) y f c.read_start_reply.ensures.bytes (sym c.in-Other.ensures.heard)
+    caused b c.receive.new.self.end c.args.secret.now c.receive.new.self.key c.args.self.now.key causes.Unexpected same (other_cause b c.args.secret.now _ can (subst IsLinkKey (sym same) k) y c.read_start_reply.ensures.bytes (sym c.in-Other.ensures.heard))

@@ -8,10 +8,10 @@ use Rattle.pool_serve.proofs.Telling.{nothing_more, none_ends}
 use Rattle.pool_serve.proofs.worker.Worker.over_lent.Goals as goal
 
 pub over_link-requires-clause-home : goal.over_link-requires-clause-home
-over_link-requires-clause-home g c = subst (λ (x : LinkView). IsAtHome g.D.LinkDesk.home x) (sym c.watch.ensures) c.requires.home
+over_link-requires-clause-home g c = subst (λ (x : LinkView). IsAtHome g.D.LinkDesk.home x) (sym c.watch.ensures.same) c.requires.home
 
 pub over_link-requires-clause-key : goal.over_link-requires-clause-key
-over_link-requires-clause-key g c = ap (λ (x : LinkView). x.key) c.watch.ensures ∙ (same_keys-one c.args.link.key (arc_value c.args.logged_in.now.key)).0 (sym c.is_for.ensures ∙ c.if-not-is_for.false)
+over_link-requires-clause-key g c = ap (λ (x : LinkView). x.key) c.watch.ensures.same ∙ (same_keys-one c.args.link.key (arc_value c.args.logged_in.now.key)).0 (sym c.is_for.ensures ∙ c.if-not-is_for.false)
 
 pub returns-then-not-is_for-clause-ended : goal.returns-then-not-is_for-clause-ended
 returns-then-not-is_for-clause-ended g c = record {

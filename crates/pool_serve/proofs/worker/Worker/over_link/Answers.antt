@@ -1,6 +1,5 @@
 use Rattle.std.proofs.Common.{[], inl, refl}
 use Rattle.message_view.specs.declared.refusal.Refusal.TheVariants.{LastDecision}
-use Rattle.link_desk.specs.Passes.{PassOf}
 use Rattle.pool_serve.specs.Serving.{owed}
 use Rattle.pool_serve.proofs.Freeing.{still_broken}
 use Rattle.pool_serve.proofs.Telling.{nothing_more, none_ends, refusal_ends}

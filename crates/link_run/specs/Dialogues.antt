@@ -1,0 +1,111 @@
+-- The dialogues that make a link clean: the answer to a start, and a reset by DISCARD ALL
+-- (PostgreSQL manual, "Message Flow", "Start-up"; "DISCARD").
+use Rattle.std.specs.Prelude.{◌≡◌, ◌⊎◌, ℕ, Bool, true, false, Result, Ok, Err, ◌||◌, ◌&&◌, ◌==◌, if◌then◌else◌, bytes_eq, codes, List, [], ◌∷◌, ◌++◌, length}
+use Rattle.std.specs.List.{flat_map, AllByRecursion}
+use Rattle.frame_view.specs.declared.Side.TheVariants.{Server}
+use Rattle.frame_view.specs.declared.server.TheConstants.{AUTHENTICATION, BACKEND_KEY_DATA, COMMAND_COMPLETE, NOTICE_RESPONSE, PARAMETER_STATUS, READY_FOR_QUERY}
+use Rattle.frame_view.specs.Frames.{FrameOf, IsFrame, spelling}
+use Rattle.message_view.specs.declared.kinds.TheConstants.{ASKS_NOTHING, ASKS_CLEARTEXT, ASKS_MD5, IDLE}
+use Rattle.message_view.specs.Bodies.{text}
+use Rattle.message_view.specs.Messages.{ready_for_query}
+use Rattle.message_view.specs.declared.ViewFault.{ViewFault}
+use Rattle.message_view.specs.Reading.{authentication_of, status_of}
+use Rattle.start_keys.specs.StartPairs.{Text}
+use Rattle.param_track.specs.Kept.{Kept, has_name, is_at_start}
+use Rattle.session_run_laws.specs.Laws.{discard_all}
+use Rattle.server_end.specs.Standing.{Standing, Moves}
+use Rattle.link_run.specs.Links.{after_frame, after_frames}
+use Rattle.link_run.specs.declared.reply.Answered.{Answered}
+use Rattle.link_run.specs.declared.reply.Answered.TheVariants.{Nothing, Tag, All, Other}
+use Rattle.link_run.specs.declared.reply.TheConstants.{LONGEST_REPLY}
+
+-- ---- the answer to a start
+
+abbrev pub IsNotice : FrameOf → Type 0
+IsNotice f = f.kind ≡ NOTICE_RESPONSE
+
+abbrev pub LetsIn : FrameOf → Type 0
+LetsIn f = (f.kind ≡ AUTHENTICATION) × (authentication_of f.body ≡ Ok (ASKS_NOTHING, []))
+
+-- AuthenticationCleartextPassword, with nothing behind its number, or AuthenticationMD5Password, with its salt of four bytes
+pub record Asks (f : FrameOf) : Type 0 where
+  pub kind : f.kind ≡ AUTHENTICATION
+  pub number : ℕ
+  pub more : List ℕ
+  pub body : authentication_of f.body ≡ Ok (number, more)
+  pub asks : ((number ≡ ASKS_CLEARTEXT) × (more ≡ [])) ⊎ ((number ≡ ASKS_MD5) × (length more ≡ 4))
+
+-- a notice, a report or the session's key
+abbrev pub IsOfWelcome : FrameOf → Type 0
+IsOfWelcome f = (f.kind ≡ NOTICE_RESPONSE) ⊎ ((f.kind ≡ PARAMETER_STATUS) ⊎ (f.kind ≡ BACKEND_KEY_DATA))
+
+-- a question at most, with notices round it
+pub record IsAsking (frames : List FrameOf) : Type 0 where
+  pub before : List FrameOf
+  pub question : List FrameOf
+  pub after : List FrameOf
+  pub whole : frames ≡ before ++ (question ++ after)
+  pub notices : AllByRecursion IsNotice before × AllByRecursion IsNotice after
+  pub asks : (question ≡ []) ⊎ ((f : FrameOf) × (Asks f × (question ≡ f ∷ [])))
+
+-- The whole answer to a start that is let in: a question at most; AuthenticationOk; notices, reports and the session's key in any order;
+-- and the one ReadyForQuery, which tells of no block, at its end.
+pub record IsStartAnswer (replies : List FrameOf) : Type 0 where
+  pub asking : List FrameOf
+  pub lets_in : FrameOf
+  pub welcome : List FrameOf
+  pub whole : replies ≡ asking ++ (lets_in ∷ (welcome ++ ready_for_query IDLE ∷ []))
+  pub is_asking : IsAsking asking
+  pub is_let_in : LetsIn lets_in
+  pub is_welcome : AllByRecursion IsOfWelcome welcome
+
+-- ---- the answer to a reset
+
+-- notices and reports stand anywhere before the end
+abbrev pub is_aside : ℕ → Bool
+is_aside kind = kind == NOTICE_RESPONSE || kind == PARAMETER_STATUS
+
+abbrev pub is_tag : FrameOf → Bool
+is_tag f = f.kind == COMMAND_COMPLETE && bytes_eq f.body (text (codes "DISCARD ALL"))
+
+abbrev pub is_idle : FrameOf → Bool
+is_idle f = f.kind == READY_FOR_QUERY && bytes_eq f.body (IDLE ∷ [])
+
+-- how far the answer has come with one frame more: its CommandComplete, then ReadyForQuery, and nothing after it
+abbrev pub answered_by : Answered → FrameOf → Answered
+answered_by Nothing f = if is_aside f.kind then Nothing else (if is_tag f then Tag else Other)
+answered_by Tag f = if is_aside f.kind then Tag else (if is_idle f then All else Other)
+answered_by All f = Other
+answered_by Other f = Other
+
+abbrev pub answered_by_all : Answered → List FrameOf → Answered
+answered_by_all a [] = a
+answered_by_all a (f ∷ fs) = answered_by_all (answered_by a f) fs
+
+-- the whole answer to a reset
+abbrev pub IsResetAnswer : List FrameOf → Type 0
+IsResetAnswer fs = answered_by_all Nothing fs ≡ All
+
+-- a ParameterStatus can be read, and names a parameter that is kept
+abbrev pub names_kept : List Kept → Result (Text × Text) ViewFault → Bool
+names_kept kept (Ok report) = has_name kept report.0
+names_kept kept (Err fault) = false
+
+abbrev pub is_known : List Kept → FrameOf → Bool
+is_known kept f = if f.kind == PARAMETER_STATUS then names_kept kept (status_of f.body) else true
+
+abbrev pub are_known : List Kept → List FrameOf → Bool
+are_known kept [] = true
+are_known kept (f ∷ fs) = is_known kept f && are_known (after_frame kept f) fs
+
+-- The whole dialogue of a reset of a link that keeps `kept`, from where it stood to where it stands and what it keeps then: the Query,
+-- no byte more or less, and the whole frames of its answer, and nothing behind them. Each report of the answer is of a name that the
+-- link keeps, and is kept; after it the values are those of the start.
+pub record IsResetDialogue (start : Standing) (kept : List Kept) (now : Standing) (reports : List Kept) : Type 0 where
+  pub answer : List FrameOf
+  pub moves : Moves start (spelling discard_all) now (flat_map spelling answer)
+  pub each : AllByRecursion (IsFrame Server LONGEST_REPLY) answer
+  pub whole : IsResetAnswer answer
+  pub known : are_known kept answer ≡ true
+  pub told : reports ≡ after_frames kept answer
+  pub back : is_at_start reports ≡ true
