@@ -3,7 +3,8 @@
 # until none is left to refuse. Each run must end with status 1 and the line `pgsess: memory` alone, or with status 0 and
 # the whole answer. Where a file's line can't be kept, `serve` and `stub` may name it, as in `pgsess: C8 line 7`; they are run at a
 # port that another has, so that what they end with is `pgsess: port N` and status 3.
-# Logins with a password are tried likewise through `trials login`.
+# Logins with a password are tried likewise through `trials login`; and steps of a session through `trials solo`, which asks once more
+# for what is refused: so a growth that is refused there leaves no trace, and the answer is the whole one.
 set -euo pipefail
 cd "$(dirname "$0")/.."
 program=$(realpath "${1:-crates/pgsess/out/pgsess}")
@@ -44,6 +45,9 @@ holds() {
     esac
 }
 
+# so many runs of a sweep at least give the whole answer though a call is refused
+fewest=0
+
 # sweep NAME ANSWER LINES INPUT PROGRAM WORD.. : each call refused in turn
 sweep() {
     local name=$1 answer=$2 lines=$3 input=$4 number=0 told=0 faults=0 status
@@ -59,7 +63,7 @@ sweep() {
         [ -e "$work/struck" ] || break
         [ "$status" -eq 1 ] && told=$((told + 1))
     done
-    if [ "$faults" -eq 0 ] && [ "$status" -eq "$whole" ]; then
+    if [ "$faults" -eq 0 ] && [ "$status" -eq "$whole" ] && [ $((number - 1 - told)) -ge "$fewest" ]; then
         passed=$((passed + 1))
         echo "ok     $name: $((number - 1)) calls refused, $told told, $((number - 1 - told)) answered all the same"
     else
@@ -95,6 +99,15 @@ for login in plain_behind_encryption md5; do
     sweep "login of $login" "$work/answer" 'trials: memory' "tests/logins/$login.in" \
         "$trials" login "tests/logins/${login%%_*}.ini" tests/logins/users.txt 0
 done
+
+fewest=5
+for row in set_show_discard temporary_table_and_statement cursor_with_hold bind_values; do
+    tail -c +33 "tests/rows/$row.in" >"$work/frames"
+    # what is answered where nothing is refused; no cancel comes
+    "$trials" solo tests/rows/catalogue.tsv ann 1000 <"$work/frames" >"$work/answer"
+    sweep "steps of $row" "$work/answer" 'trials: memory' "$work/frames" "$trials" solo tests/rows/catalogue.tsv ann 1000
+done
+fewest=0
 
 echo "refuse-growth: $passed passed, $failed failed"
 [ "$failed" -eq 0 ]
