@@ -166,13 +166,13 @@ fn whole(alloc: Global, talk: Talk) -> Result<Vec<u8>, Fail> {
 /// How many runs over a server that fails at its call 1, 2, .. came to each of the first three outcomes, until one met no fault.
 fn server_faults(alloc: Global, talk: Talk) -> Result<[u64; 3], Fail> {
     let whole = whole(alloc, talk)?;
-    let mut counts = [0, 0, 0];
+    let mut counts = [0u64, 0, 0];
     for call in 1..MOST_CALLS {
         let end = FailingEnd::new(server(alloc, ServerAuth::Trust, CUT, None)?, call);
         match run(alloc, end, talk, whole.as_slice())? {
-            Outcome::NotStarted => counts[0] += 1,
-            Outcome::LostInLease => counts[1] += 1,
-            Outcome::NotReset => counts[2] += 1,
+            Outcome::NotStarted => counts[0] = counts[0].saturating_add(1),
+            Outcome::LostInLease => counts[1] = counts[1].saturating_add(1),
+            Outcome::NotReset => counts[2] = counts[2].saturating_add(1),
             Outcome::Clean => return Ok(counts),
             Outcome::Wrong => return Err("a fault came to something else")?,
         }
@@ -190,7 +190,9 @@ fn a_server_fails_at_each_of_its_calls(rt: HostRuntime) -> Result<(), Fail> {
 }
 
 /// Whether the next client of a link finds nothing of a client that failed at this call; whether it failed at all.
-fn next_finds_nothing(alloc: Global, talk: Talk, call: u64) -> Result<(bool, bool), Fail> {
+fn next_finds_nothing(alloc: Global, talk: Talk, call: u64) -> Result<(bool, bool), Fail>
+    requires { 0 < call }
+{
     let Ok(link) = begin(alloc, server(alloc, ServerAuth::Trust, CUT, None)?, SHOP)? else {
         return Err("not started")?;
     };
@@ -212,7 +214,7 @@ fn next_finds_nothing(alloc: Global, talk: Talk, call: u64) -> Result<(bool, boo
 
 #[test]
 fn a_client_fails_at_each_of_its_calls(rt: HostRuntime) -> Result<(), Fail> {
-    let mut faults = 0;
+    let mut faults: u64 = 0;
     for talk in TALKS {
         for call in 1..MOST_CALLS {
             let (is_clean, fails) = next_finds_nothing(rt.alloc(), talk, call)?;
@@ -220,7 +222,7 @@ fn a_client_fails_at_each_of_its_calls(rt: HostRuntime) -> Result<(), Fail> {
             if !fails {
                 break;
             }
-            faults += 1;
+            faults = faults.saturating_add(1);
         }
     }
     assert!(rt; faults > 40 && faults < MOST_CALLS);

@@ -58,8 +58,9 @@ fn a_client_whose_link_cannot_be_started(rt: HostRuntime) -> Result<(), Fail> {
 
 /// A client leaves its marks and goes, and its server dies once so many bytes of its reset were read; then another client comes.
 fn dies_in_reset(alloc: Global, count: u64) -> Result<Played, AllocError> {
+    let answered = STARTED + MARKED.len() as u64;
     let acts = [
-        Act::ServersDieAfter(STARTED + MARKED.len() as u64 + count),
+        Act::ServersDieAfter(answered.saturating_add(count)),
         Act::Come,
         Act::Send(1, START),
         Act::Send(1, MARKS),
