@@ -21,7 +21,7 @@ QUERIES, CONNECTIONS = 500, 100
 # a read, a write and a wait for each of the two messages; and what the acceptor and the clock do meanwhile
 MOST_A_QUERY = 6.2
 MOST_VAIN_A_QUERY = 0.02
-MOST_A_CONNECTION = 48.0
+MOST_A_CONNECTION = 34.0
 
 
 class Counts:
