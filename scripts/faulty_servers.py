@@ -229,9 +229,11 @@ def cases_of(number):
     yield Case(f"{name}: byte by byte", "", number, pieces, None)
     for border in borders(data):
         for kind, frame in STRANGE.items():
-            # who asks a question waits for its answer
-            rest = b"" if frame[:1] == b"R" and number == IN_START else data[border:]
-            yield Case(f"{name}: {len(STRANGE)} strange messages at {len(borders(data))} borders", f"{kind} at {border}", number, [data[:border] + frame + rest], None)
+            group = f"{name}: {len(STRANGE)} strange messages at {len(borders(data))} borders"
+            yield Case(group, f"{kind} at {border}", number, [data[:border] + frame + data[border:]], None)
+            if frame[:1] == b"R" and number == IN_START:
+                # a server that asks a question may wait for its answer, or not
+                yield Case(group, f"{kind} at {border}, with nothing behind it", number, [data[:border] + frame], None)
 
 
 def question_cases():
