@@ -119,7 +119,10 @@ class Abuse:
     def all(self):
         self.cluster = Cluster(self.place)
         self.pooler = Pooler(self.place, self.cluster, self.program, KIND, auth="md5", size=LINKS, clients=100 if KIND == "pgsess" else 20_000)
+        threads = self.pooler.threads()
         self.serves("at first")
+        more = self.pooler.threads() - threads
+        self.passes.holds("clients one after another: a thread that is done serves the next", more <= MOST_WAITING, f"{more} threads more")
         files, threads = self.pooler.files(), self.pooler.threads()
         for step in (self.idles, self.half, self.rubbish, self.cut):
             step()
