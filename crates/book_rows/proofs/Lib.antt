@@ -1,3 +1,3 @@
-pub mod Marks
+pub mod PoolHashes
 pub mod Places
 pub mod Indexing

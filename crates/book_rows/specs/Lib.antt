@@ -1,4 +1,4 @@
-pub mod Marks
+pub mod PoolHashes
 pub mod Places
 pub mod Waiting
 pub mod Index

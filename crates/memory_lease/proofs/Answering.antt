@@ -354,7 +354,7 @@ pub unstarted : (dies : Option ℕ) (start : Standing) (first_own server : OwnOf
     → IsCause first_own.standing server.standing secret key c → (c ≡ cause.Turns → HasTried first_own.standing secret key server.standing turns) → old ≡ [] → TellsCause c server old new → IsAnswer dies limit bytes new (own_pieces start.server.catalogue key word bytes)
 unstarted dies start first_own server secret key word limit turns bytes old new c o f l x h n t =
     unstarted_by dies (marked dies start) server.standing secret key word limit turns bytes old new start.accepted c server f refl l (subst (λ (y : OwnOf). IsCause y.standing server.standing secret key c) o x)
-        (λ e. subst (λ (y : OwnOf). HasTried y.standing secret key server.standing turns) o (h e)) refl n t
+    (λ e. subst (λ (y : OwnOf). HasTried y.standing secret key server.standing turns) o (h e)) refl n t
 
 -- a start may begin as one of the server alone
 pub can_start : (dies : Option ℕ) (start : Standing) (first_own : OwnOf) → first_own ≡ own_server dies start → IsStartable start → CanStart first_own.standing

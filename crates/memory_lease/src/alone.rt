@@ -59,10 +59,7 @@ impl From<AllocError> for ServeError {
 
 /// What a client is told whose link wasn't started: the server's own words, or that a server which died could not be reached. One that
 /// still waits is handed back.
-fn put_unstarted(
-    fault: StartLinkFault<OwnServer>,
-    out: &mut BytesMut,
-) -> Result<(), ServeError>
+fn put_unstarted(fault: StartLinkFault<OwnServer>, out: &mut BytesMut) -> Result<(), ServeError>
     ensures told { OnOk result (TellsCause fault.cause fault.end out.old.items out.new.items) }
     ensures unstarted { IfErr result (IsHandedBack fault.cause fault.end) }
 {
@@ -115,7 +112,7 @@ enum Ending {
 }
 
 /// Pumps until the lease ends, or nothing moves any more: the server's side alone until nothing moves there, and then both.
-fn converse<C: ClientEnd, E: ServerEnd>(relay: &mut Relay<C, E>) -> Ending
+fn pump_to_end<C: ClientEnd, E: ServerEnd>(relay: &mut Relay<C, E>) -> Ending
     requires { relay.old.phase ≡ Running }
     ensures keeps { Keeps relay.old relay.new }
     ensures ending { IsEnding relay.old relay.new result }
@@ -218,7 +215,7 @@ pub fn serve_alone(
     };
     let client = PatientClient::new(alloc, bytes, cut);
     let mut relay = begin_lease(alloc, client, link, word, limit)?;
-    let ending = converse(&mut relay);
+    let ending = pump_to_end(&mut relay);
     let clear = relay.is_clear();
     let (client, link) = relay.close();
     let mut out = client.into_given()?;

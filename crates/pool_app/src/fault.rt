@@ -45,13 +45,13 @@ fn ini_code(cause: ini_config::Cause) -> &'static str
     }
 }
 
-fn users_code(cause: user_file::Cause) -> &'static str
+fn users_code(cause: user_file::UserCause) -> &'static str
     ensures { result.now ≡ spec.users_code cause }
 {
     match cause {
-        user_file::Cause::BadQuoting => "U1",
-        user_file::Cause::NameTwice => "U2",
-        user_file::Cause::Memory => "U3",
+        user_file::UserCause::BadQuoting => "U1",
+        user_file::UserCause::NameTwice => "U2",
+        user_file::UserCause::Memory => "U3",
     }
 }
 

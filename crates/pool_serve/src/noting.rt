@@ -9,7 +9,7 @@ use link_start::start::StartCause;
 use link_start::start_reply::Question;
 use log_lines::notes::{Client, Loss, Note, Server, Unstarted, Visit};
 use login_core::Failure;
-use login_run::{LoginRun, Said};
+use login_run::{LoginReply, LoginRun};
 use message_view::Refusal;
 use relay_core::relay::Cause;
 use server_end::ClientEnd;
@@ -43,15 +43,15 @@ pub(crate) fn own_key<C: ClientEnd>(run: &LoginRun<C>) -> Option<Arc<StartKey>> 
 }
 
 /// How a login ended that goes no further; nothing, where its client went.
-fn login_note<'a>(said: Said, parameter: Option<&'a [u8]>) -> Option<Note<'a>> {
+fn login_note<'a>(said: LoginReply, parameter: Option<&'a [u8]>) -> Option<Note<'a>> {
     match (said, parameter) {
-        (Said::Refusal(Refusal::UnsupportedParameter), Some(name)) => Some(
+        (LoginReply::Refusal(Refusal::UnsupportedParameter), Some(name)) => Some(
             Note::UnsupportedParameter(name),
         ),
-        (Said::Refusal(refusal), _) => Some(Note::Refused(refusal)),
-        (Said::Failure(Failure::WrongPassword), _) => Some(Note::WrongPassword),
-        (Said::Failure(Failure::NoDatabase), _) => Some(Note::NoDatabase),
-        (Said::Nothing | Said::Question(_) | Said::LetIn, _) => None,
+        (LoginReply::Refusal(refusal), _) => Some(Note::Refused(refusal)),
+        (LoginReply::Failure(Failure::WrongPassword), _) => Some(Note::WrongPassword),
+        (LoginReply::Failure(Failure::NoDatabase), _) => Some(Note::NoDatabase),
+        (LoginReply::Nothing | LoginReply::Question(_) | LoginReply::LetIn, _) => None,
     }
 }
 

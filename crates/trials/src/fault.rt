@@ -4,7 +4,7 @@ use ini_config::Cause as IniCause;
 use pool_app::fault::AppFault;
 use session_machine::CatalogueCause;
 use std::io;
-use user_file::Cause as UsersCause;
+use user_file::UserCause as UsersCause;
 
 /// Whether it is out of memory, wherever that came.
 fn is_memory(fault: &AppFault<'_>) -> bool {
