@@ -211,9 +211,9 @@ TOTALS = r"shut down: \d+ decisions, \d+ starts; (\d+) arrived, (\d+) granted, (
 
 class Pooler:
     """A pooler in front of the server, with the settings of examples/pgsess.ini but for those that are named. `more` has further
-    databases, each with its port."""
+    databases, each with its port; `untracked` names a startup parameter that isn't followed, but dropped."""
 
-    def __init__(self, place, cluster, program, kind="pgsess", auth="trust", size=20, clients=100, wait=120, closed=1, links=1000, more=None):
+    def __init__(self, place, cluster, program, kind="pgsess", auth="trust", size=20, clients=100, wait=120, closed=1, links=1000, more=None, untracked=""):
         self.place, self.port, self.kind = place, free_port(), kind
         users = place.write("users.txt", "".join(f'"{name}" "{secret}"\n' for name, (_, secret) in USERS.items()))
         self.errors = open(place.folder / f"{kind}.err", "ab")
@@ -233,6 +233,8 @@ class Pooler:
             "^default_pool_size = .*": f"default_pool_size = {size}",
             "^max_links = .*": f"max_links = {links}",
             "^query_wait_timeout = .*": f"query_wait_timeout = {wait}",
+            "^untrack_parameters =.*": f"untrack_parameters = {untracked}",
+            "^ignore_startup_parameters = .*": f"ignore_startup_parameters = options,{untracked}",
         }
         words = [part for old, new in changes.items() for part in ("-e", f"s/{old}/{new}/")]
         settings = subprocess.run(["sed", *words, TOP / "examples/pgsess.ini"], capture_output=True, check=True).stdout

@@ -179,6 +179,20 @@ class Show:
         self.passes.holds("no more than 4 sessions were opened", 1 <= opened <= 4, f"{opened} were")
         pooler.stop()
 
+    def names(self):
+        """Clients that differ in their application_name alone, one after another over one link: each has it and a session of its own; where
+        it isn't followed they share a session, which has the server's default of it."""
+        for untracked, wanted in (("", (2, ["one", "two"])), ("application_name", (1, ["", ""]))):
+            pooler = self.pooler(size=1, untracked=untracked)
+            seen = []
+            for name in ("one", "two"):
+                client = self.client(pooler, application_name=name)
+                seen += client.ask("SELECT pg_backend_pid(), current_setting('application_name')")
+                client.leave()
+            told = len({process for process, _ in seen}), [name for _, name in seen]
+            self.passes.same(f"clients of different names, untracked: {untracked or 'nothing'}", told, wanted)
+            pooler.stop()
+
     # ---- d. servers that go
 
     def serves_again(self, pooler, name):
@@ -328,6 +342,8 @@ class Show:
         self.bulk()
         self.isolation()
         self.few_links()
+        if KIND == "pgsess":
+            self.names()
         self.killed()
         self.refusals()
         self.cluster.stop()

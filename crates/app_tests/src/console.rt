@@ -249,7 +249,7 @@ fn one_pool(rt: HostRuntime) -> Result<(), Fail> {
 }
 
 /// What an empty file says.
-const DEFAULTS: [&[u8]; 15] = [
+const DEFAULTS: [&[u8]; 16] = [
     b"D\0\0\0\x22\0\x02\0\0\0\x0blisten_addr\0\0\0\x09127.0.0.1",
     b"D\0\0\0\x1d\0\x02\0\0\0\x0blisten_port\0\0\0\x046432",
     b"D\0\0\0\x1a\0\x02\0\0\0\x09auth_type\0\0\0\x03md5",
@@ -265,10 +265,11 @@ const DEFAULTS: [&[u8]; 15] = [
     b"D\0\0\0\x27\0\x02\0\0\0\x0fmax_packet_size\0\0\0\x0a2147483647",
     b"D\0\0\0\x27\0\x02\0\0\0\x19ignore_startup_parameters\0\0\0\0",
     b"D\0\0\0\x31\0\x02\0\0\0\x16track_extra_parameters\0\0\0\x0dIntervalStyle",
+    b"D\0\0\0\x20\0\x02\0\0\0\x12untrack_parameters\0\0\0\0",
 ];
 
 /// What the next one says.
-const CHANGED: [&[u8]; 15] = [
+const CHANGED: [&[u8]; 16] = [
     b"D\0\0\0\x20\0\x02\0\0\0\x0blisten_addr\0\0\0\x070.0.0.0",
     b"D\0\0\0\x1a\0\x02\0\0\0\x0blisten_port\0\0\0\x011",
     b"D\0\0\0\x1c\0\x02\0\0\0\x09auth_type\0\0\0\x05plain",
@@ -284,10 +285,11 @@ const CHANGED: [&[u8]; 15] = [
     b"D\0\0\0\x21\0\x02\0\0\0\x0fmax_packet_size\0\0\0\x041024",
     b"D\0\0\0\x41\0\x02\0\0\0\x19ignore_startup_parameters\0\0\0\x1aextra_float_digits,Options",
     b"D\0\0\0\x24\0\x02\0\0\0\x16track_extra_parameters\0\0\0\0",
+    b"D\0\0\0\x39\0\x02\0\0\0\x12untrack_parameters\0\0\0\x19TimeZone,application_name",
 ];
 
 const FILE: &[u8] =
-    b"[pgbouncer]\nlisten_addr = *\nlisten_port = 00001\nauth_type = plain\nadmin_users = root , ,\"a b\",\xe9\npool_mode=session\nserver_reset_query = Discard All\nmax_client_conn = 10000\ndefault_pool_size = 3\nmax_links = 4\nquery_wait_timeout = 0\nserver_lifetime = 005\nserver_idle_timeout = 2147483647\nmax_packet_size = 1024\nignore_startup_parameters = extra_float_digits,  Options\ntrack_extra_parameters =\nverbose = 2\n";
+    b"[pgbouncer]\nlisten_addr = *\nlisten_port = 00001\nauth_type = plain\nadmin_users = root , ,\"a b\",\xe9\npool_mode=session\nserver_reset_query = Discard All\nmax_client_conn = 10000\ndefault_pool_size = 3\nmax_links = 4\nquery_wait_timeout = 0\nserver_lifetime = 005\nserver_idle_timeout = 2147483647\nmax_packet_size = 1024\nignore_startup_parameters = extra_float_digits,  Options\ntrack_extra_parameters =\nuntrack_parameters = TimeZone, application_name\nverbose = 2\n";
 
 #[test]
 fn settings(rt: HostRuntime) -> Result<(), Fail> {

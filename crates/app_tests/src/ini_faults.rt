@@ -71,6 +71,21 @@ fn faults_of_keys(rt: HostRuntime) -> Result<(), Fail> {
         (b"[pgbouncer]\nlisten_addr = 1.2.3.04", Cause::BadValue, 2),
         (b"[pgbouncer]\nmax_links = 10001", Cause::BadValue, 2),
         (b"[pgbouncer]\nserver_lifetime = -1", Cause::BadValue, 2),
+        (
+            b"[pgbouncer]\nlogfile = a\nuntrack_parameters = TimeZone, IntervalStyle",
+            Cause::BadValue,
+            3,
+        ),
+        (
+            b"[pgbouncer]\nuntrack_parameters = time zone",
+            Cause::BadValue,
+            2,
+        ),
+        (
+            b"[pgbouncer]\nuntrack_parameters =\nuntrack_parameters =",
+            Cause::KeyTwice,
+            3,
+        ),
     ];
     check(&rt, rt.alloc(), rows)
 }

@@ -64,7 +64,7 @@ fn pool_sizes(rt: HostRuntime) -> Result<(), Fail> {
 }
 
 const EVERY_KEY: &[u8] =
-    b"[pgbouncer]\nlisten_addr = *\nlisten_port = 1\nauth_type = plain\nadmin_users = root , ,Ann\npool_mode=session\nserver_reset_query = Discard All\nmax_client_conn = 10000\ndefault_pool_size = 3\nmax_links = 4\nquery_wait_timeout = 0\nserver_lifetime = 5\nserver_idle_timeout = 2147483647\nmax_packet_size = 1024\nignore_startup_parameters = extra_float_digits,Options\ntrack_extra_parameters = search_path\nverbose = 2\n[users]\n";
+    b"[pgbouncer]\nlisten_addr = *\nlisten_port = 1\nauth_type = plain\nadmin_users = root , ,Ann\npool_mode=session\nserver_reset_query = Discard All\nmax_client_conn = 10000\ndefault_pool_size = 3\nmax_links = 4\nquery_wait_timeout = 0\nserver_lifetime = 5\nserver_idle_timeout = 2147483647\nmax_packet_size = 1024\nignore_startup_parameters = extra_float_digits,Options\ntrack_extra_parameters = search_path\nuntrack_parameters = TimeZone, application_name,\nverbose = 2\n[users]\n";
 
 /// The settings that are read as a number each.
 fn numbers(settings: &Settings) -> [u32; 8] {
@@ -132,42 +132,50 @@ fn settings_of_the_log(rt: HostRuntime) -> Result<(), Fail> {
     Ok(())
 }
 
-/// How many names each of the three lists has.
-fn lengths(settings: &Settings) -> [usize; 3] {
+/// How many names each of the four lists has.
+fn lengths(settings: &Settings) -> [usize; 4] {
     [
         settings.admin_users().len(),
         settings.ignore_startup_parameters().len(),
         settings.track_extra_parameters().len(),
+        settings.untrack_parameters().len(),
     ]
 }
 
 #[test]
 fn settings_of_names(rt: HostRuntime) -> Result<(), Fail> {
-    for (text, expected) in [(b"".as_slice(), [0, 0, 1]), (EVERY_KEY, [2, 2, 1])] {
+    let files: [(&[u8], [usize; 4]); 3] = [
+        (b"", [0, 0, 1, 0]),
+        (EVERY_KEY, [2, 2, 1, 2]),
+        (b"[pgbouncer]\nuntrack_parameters = ,\n", [0, 0, 1, 0]),
+    ];
+    for (text, expected) in files {
         let settings = read_settings(rt.alloc(), text)?;
         assert!(rt; lengths(&settings) == expected);
     }
     Ok(())
 }
 
-/// Whether a name is an administrator's, a dropped parameter's, a followed one's.
-fn roles(settings: &Settings, name: &[u8]) -> [bool; 3] {
+/// Whether a name is an administrator's, a dropped parameter's, an extra one's that is followed, an untracked one's.
+fn roles(settings: &Settings, name: &[u8]) -> [bool; 4] {
     [
         settings.is_admin(name),
         settings.ignores(name),
         settings.tracks(name),
+        settings.untracks(name),
     ]
 }
 
 #[test]
 fn names_are_found(rt: HostRuntime) -> Result<(), Fail> {
     let settings = read_settings(rt.alloc(), EVERY_KEY)?;
-    let rows: [(&[u8], [bool; 3]); 5] = [
-        (b"Ann", [true, false, false]),
-        (b"ann", [false, false, false]),
-        (b"options", [false, true, false]),
-        (b"Search_Path", [false, false, true]),
-        (b"IntervalStyle", [false, false, false]),
+    let rows: [(&[u8], [bool; 4]); 6] = [
+        (b"Ann", [true, false, false, false]),
+        (b"ann", [false, false, false, false]),
+        (b"options", [false, true, false, false]),
+        (b"Search_Path", [false, false, true, false]),
+        (b"IntervalStyle", [false, false, false, false]),
+        (b"Application_Name", [false, false, false, true]),
     ];
     for (name, expected) in rows {
         assert!(rt; roles(&settings, name) == expected);

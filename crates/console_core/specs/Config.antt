@@ -47,4 +47,5 @@ config s =
     ∷ setting (codes "max_packet_size") (decimal s.max_packet_size)
     ∷ setting (codes "ignore_startup_parameters") (joined s.ignore_startup_parameters)
     ∷ setting (codes "track_extra_parameters") (joined s.track_extra_parameters)
+    ∷ setting (codes "untrack_parameters") (joined s.untrack_parameters)
     ∷ []

@@ -33,7 +33,7 @@ fn auth_name(auth_type: AuthType) -> &'static [u8]
 }
 
 /// The settings.
-fn settings_of(s: &Settings) -> [Setting<'_>; 15]
+fn settings_of(s: &Settings) -> [Setting<'_>; 16]
     ensures { map setting_view result ≡ spec.config s.now }
 {
     [
@@ -58,6 +58,7 @@ fn settings_of(s: &Settings) -> [Setting<'_>; 15]
             "track_extra_parameters",
             Value::Names(&s.track_extra_parameters),
         ),
+        ("untrack_parameters", Value::Names(&s.untrack_parameters)),
     ]
 }
 

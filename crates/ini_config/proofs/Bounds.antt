@@ -165,6 +165,7 @@ change-keeps key.IgnoreStartupParameters text s h = made _ h.rows h.listen_port 
 change-keeps key.TrackExtraParameters text s h = made _ h.rows h.listen_port h.max_client_conn h.default_pool_size h.max_links h.query_wait_timeout h.server_lifetime h.server_idle_timeout h.max_packet_size
 change-keeps key.LogConnections text s h = made _ h.rows h.listen_port h.max_client_conn h.default_pool_size h.max_links h.query_wait_timeout h.server_lifetime h.server_idle_timeout h.max_packet_size
 change-keeps key.LogDisconnections text s h = made _ h.rows h.listen_port h.max_client_conn h.default_pool_size h.max_links h.query_wait_timeout h.server_lifetime h.server_idle_timeout h.max_packet_size
+change-keeps key.UntrackParameters text s h = mapped s _ _ (λ n e. made _ h.rows h.listen_port h.max_client_conn h.default_pool_size h.max_links h.query_wait_timeout h.server_lifetime h.server_idle_timeout h.max_packet_size)
 change-keeps key.Unused text s h = h
 
 -- ---- lines

@@ -1,7 +1,7 @@
 -- The keys of the section [pgbouncer] (PgBouncer manual, "Generic settings" and after).
 use Rattle.std.specs.Prelude.{ℕ, Bool, false, List, [], ◌∷◌, if◌then◌else◌, Option, Some, None, option_map, bytes_eq, codes}
 use Rattle.std.specs.Str.{str_eq_ignore_ascii_case}
-use Rattle.std.specs.List.{list_any, find}
+use Rattle.std.specs.List.{list_any, list_all, find}
 use Rattle.ini_config.specs.Values.{number_between, listen_address, names}
 use Rattle.ini_config.specs.declared.faults.Cause.{Cause}
 use Rattle.ini_config.specs.declared.faults.Cause.TheVariants as cause
@@ -27,7 +27,8 @@ served =
     ∷ (codes "query_wait_timeout", key.QueryWaitTimeout) ∷ (codes "server_lifetime", key.ServerLifetime)
     ∷ (codes "server_idle_timeout", key.ServerIdleTimeout) ∷ (codes "max_packet_size", key.MaxPacketSize)
     ∷ (codes "ignore_startup_parameters", key.IgnoreStartupParameters) ∷ (codes "track_extra_parameters", key.TrackExtraParameters)
-    ∷ (codes "log_connections", key.LogConnections) ∷ (codes "log_disconnections", key.LogDisconnections) ∷ []
+    ∷ (codes "log_connections", key.LogConnections) ∷ (codes "log_disconnections", key.LogDisconnections)
+    ∷ (codes "untrack_parameters", key.UntrackParameters) ∷ []
 
 -- keys of PgBouncer that are read, with any value, and not used
 abbrev pub unused : List Text
@@ -62,6 +63,18 @@ seconds text = number_between 0 2147483647 text
 abbrev pub is_one : Text → Bool
 is_one text = bytes_eq text (codes "1")
 
+-- the startup parameters that are followed, unless they are untracked
+abbrev pub always_followed : List Text
+always_followed = codes "client_encoding" ∷ codes "datestyle" ∷ codes "timezone" ∷ codes "standard_conforming_strings" ∷ codes "application_name" ∷ []
+
+-- without regard to the case of ASCII letters
+abbrev pub has_folded : List Text → Text → Bool
+has_folded list name = list_any (λ n. str_eq_ignore_ascii_case n name) list
+
+-- names of these alone
+unfoldable pub untracked : Text → Option (List Text)
+untracked text = if list_all (has_folded always_followed) (names text) then Some (names text) else None
+
 -- what a key's value makes of the settings; none where it isn't a value of the key
 unfoldable pub change_of : Key → Text → Option (Settings → Settings)
 change_of key.ListenAddr text = option_map (λ a s. record s { listen_addr = a }) (listen_address text)
@@ -81,6 +94,7 @@ change_of key.IgnoreStartupParameters text = Some (λ s. record s { ignore_start
 change_of key.TrackExtraParameters text = Some (λ s. record s { track_extra_parameters = names text })
 change_of key.LogConnections text = Some (λ s. record s { log_connections = is_one text })
 change_of key.LogDisconnections text = Some (λ s. record s { log_disconnections = is_one text })
+change_of key.UntrackParameters text = option_map (λ n s. record s { untrack_parameters = n }) (untracked text)
 change_of key.Unused text = Some (λ s. s)
 
 -- what a value asks for that isn't served
@@ -108,6 +122,7 @@ defaults = record {
   track_extra_parameters = codes "IntervalStyle" ∷ [];
   log_connections = false;
   log_disconnections = false;
+  untrack_parameters = [];
 }
 
 -- ---- what the lists of names are for
@@ -116,15 +131,15 @@ defaults = record {
 abbrev pub is_admin : Settings → Text → Bool
 is_admin s user = list_any (λ n. bytes_eq n user) s.admin_users
 
--- startup parameters, without regard to the case of ASCII letters
-abbrev pub has_folded : List Text → Text → Bool
-has_folded list name = list_any (λ n. str_eq_ignore_ascii_case n name) list
-
+-- startup parameters
 abbrev pub ignores : Settings → Text → Bool
 ignores s name = has_folded s.ignore_startup_parameters name
 
 abbrev pub tracks : Settings → Text → Bool
 tracks s name = has_folded s.track_extra_parameters name
+
+abbrev pub untracks : Settings → Text → Bool
+untracks s name = has_folded s.untrack_parameters name
 
 -- ---- the same of a value that was read
 
@@ -144,4 +159,5 @@ changed_by (setting.IgnoreStartupParameters text) s = record s { ignore_startup_
 changed_by (setting.TrackExtraParameters text) s = record s { track_extra_parameters = names text.now }
 changed_by (setting.LogConnections b) s = record s { log_connections = b }
 changed_by (setting.LogDisconnections b) s = record s { log_disconnections = b }
+changed_by (setting.UntrackParameters text) s = record s { untrack_parameters = names text.now }
 changed_by setting.Nothing s = s

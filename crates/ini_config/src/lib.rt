@@ -1,6 +1,7 @@
 //! The settings file of the pooler: an ini file as PgBouncer has it, read whole or refused by the first faulty line.
 #![tactic(auto)]
 
+mod always_followed;
 mod database_rows;
 mod database_values;
 mod faults;
@@ -14,6 +15,7 @@ mod row_table;
 mod seen_keys;
 mod values;
 
+pub use always_followed::is_always_followed;
 pub use database_rows::DbRow;
 pub use faults::{Cause, IniFault};
 pub use name_lists::Names;

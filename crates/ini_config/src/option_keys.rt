@@ -3,6 +3,7 @@ ghost use Rattle.std.specs.Prelude.{◌≡◌, option_map, bytes_eq};
 ghost use Rattle.std.specs.List.{find, list_any};
 ghost use Rattle.ini_config.specs.OptionValues as spec;
 
+use crate::always_followed::untracked;
 use crate::faults::Cause;
 use crate::option_values::AuthType;
 use crate::values::{listen_address, number, port};
@@ -27,6 +28,7 @@ pub(crate) enum Key {
     TrackExtraParameters,
     LogConnections,
     LogDisconnections,
+    UntrackParameters,
     /// A key of PgBouncer that is read, with any value, and not used.
     Unused,
 }
@@ -49,10 +51,11 @@ pub(crate) enum Setting<'a> {
     TrackExtraParameters(&'a [u8]),
     LogConnections(bool),
     LogDisconnections(bool),
+    UntrackParameters(&'a [u8]),
     Nothing,
 }
 
-static SERVED: [(&str, Key); 17] = [
+static SERVED: [(&str, Key); 18] = [
     ("listen_addr", Key::ListenAddr),
     ("listen_port", Key::ListenPort),
     ("auth_type", Key::AuthType),
@@ -70,6 +73,7 @@ static SERVED: [(&str, Key); 17] = [
     ("track_extra_parameters", Key::TrackExtraParameters),
     ("log_connections", Key::LogConnections),
     ("log_disconnections", Key::LogDisconnections),
+    ("untrack_parameters", Key::UntrackParameters),
 ];
 
 static UNUSED: [&str; 18] = [
@@ -185,6 +189,7 @@ pub(crate) fn read_setting(key: Key, value: &[u8]) -> Option<Setting<'_>>
         Key::TrackExtraParameters => Some(Setting::TrackExtraParameters(value)),
         Key::LogConnections => Some(Setting::LogConnections(is_one(value))),
         Key::LogDisconnections => Some(Setting::LogDisconnections(is_one(value))),
+        Key::UntrackParameters => Some(Setting::UntrackParameters(untracked(value)?)),
     }
 }
 

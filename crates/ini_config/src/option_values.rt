@@ -40,6 +40,7 @@ pub struct Settings {
     pub track_extra_parameters: Names,
     pub log_connections: bool,
     pub log_disconnections: bool,
+    pub untrack_parameters: Names,
 }
 
 impl Drop for Settings {
@@ -61,6 +62,7 @@ impl Drop for Settings {
             track_extra_parameters: _,
             log_connections: _,
             log_disconnections: _,
+            untrack_parameters: _,
         } = self;
     }
 }
@@ -88,6 +90,7 @@ impl Settings {
             track_extra_parameters,
             log_connections: false,
             log_disconnections: false,
+            untrack_parameters: Names::new(alloc),
         })
     }
 
@@ -116,6 +119,7 @@ impl Settings {
             }
             Setting::LogConnections(is_on) => self.log_connections = is_on,
             Setting::LogDisconnections(is_on) => self.log_disconnections = is_on,
+            Setting::UntrackParameters(text) => self.untrack_parameters = Names::read(alloc, text)?,
             Setting::Nothing => {}
         }
         Ok(())
@@ -154,6 +158,13 @@ impl Settings {
         ensures { result ≡ spec.tracks self.now name.now }
     {
         self.track_extra_parameters.has_folded(name)
+    }
+
+    /// Whether `untrack_parameters` names this startup parameter. The case of ASCII letters doesn't count.
+    pub fn untracks(&self, name: &[u8]) -> bool
+        ensures { result ≡ spec.untracks self.now name.now }
+    {
+        self.untrack_parameters.has_folded(name)
     }
 
     /// The address that the pooler listens on; 0.0.0.0 means all.
@@ -254,7 +265,7 @@ impl Settings {
         &self.ignore_startup_parameters
     }
 
-    /// The startup parameters that are followed beside the five that always are.
+    /// The startup parameters that are followed beside the five that are by default.
     pub fn track_extra_parameters(&self) -> &Names
         ensures { result.now ≡ self.now.track_extra_parameters }
     {
@@ -273,5 +284,12 @@ impl Settings {
         ensures { result ≡ self.now.log_disconnections }
     {
         self.log_disconnections
+    }
+
+    /// Which of the five startup parameters that are followed by default aren't.
+    pub fn untrack_parameters(&self) -> &Names
+        ensures { result.now ≡ self.now.untrack_parameters }
+    {
+        &self.untrack_parameters
     }
 }

@@ -1,3 +1,4 @@
 pub mod Following
 pub mod Reporting
 pub mod Telling
+mod Untracking

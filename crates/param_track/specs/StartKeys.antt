@@ -1,12 +1,13 @@
 -- Which start key a client's StartupMessage gives under the settings (PostgreSQL manual,
 -- "StartupMessage"; PgBouncer manual, "ignore_startup_parameters" and "track_extra_parameters").
-use Rattle.std.specs.Prelude.{◌≡◌, ℕ, List, [], ◌∷◌, ◌++◌, length, fold, Option, Some, None, option_map, Result, Ok, Err, Bool, true, false, ◌==◌, ◌&&◌, ◌||◌, not, if◌then◌else◌, bytes_eq, codes}
+use Rattle.std.specs.Prelude.{◌≡◌, List, [], ◌++◌, length, filter, fold, Option, Some, None, option_map, Result, Ok, Err, Bool, true, false, ◌==◌, ◌&&◌, ◌||◌, not, if◌then◌else◌, codes}
 use Rattle.std.specs.Str.{str_eq_ignore_ascii_case}
 use Rattle.std.specs.List.{list_any, find}
 use Rattle.std.specs.Option.{option_or}
 use Rattle.ini_config.specs.declared.database_rows.DbRow.{DbRow}
 use Rattle.ini_config.specs.declared.option_values.Settings.{Settings}
-use Rattle.ini_config.specs.OptionValues.{has_folded}
+pub use Rattle.ini_config.specs.OptionValues.{always_followed}
+use Rattle.ini_config.specs.OptionValues.{has_folded, untracks}
 use Rattle.ini_config.specs.Tables.{row_named}
 use Rattle.start_keys.specs.Lawful.{is_identity}
 use Rattle.start_keys.specs.State.{StartKeyOf}
@@ -24,11 +25,13 @@ pub record Names : Type 0 where
   pub followed : List Text
   pub ignored : List Text
 
-abbrev pub always_followed : List Text
-always_followed = codes "client_encoding" ∷ codes "datestyle" ∷ codes "timezone" ∷ codes "standard_conforming_strings" ∷ codes "application_name" ∷ []
+-- those that are followed where nothing is said of them, but the untracked
+unfoldable pub still_followed : Settings → List Text
+still_followed s = filter (λ name. not (untracks s name)) always_followed
 
+-- a name that is both untracked and an extra one is followed
 abbrev pub names_of : Settings → Names
-names_of s = record { followed = always_followed ++ s.track_extra_parameters; ignored = s.ignore_startup_parameters }
+names_of s = record { followed = still_followed s ++ s.track_extra_parameters; ignored = s.ignore_startup_parameters }
 
 abbrev pub folds_to_identity : Text → Bool
 folds_to_identity name = str_eq_ignore_ascii_case name (codes "user") || str_eq_ignore_ascii_case name (codes "database")

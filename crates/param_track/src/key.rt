@@ -80,9 +80,10 @@ fn refusal(settings: &Settings, start: &StartupView<'_>) -> Option<StartFault>
 /// The start key that a StartupMessage gives under the settings.
 ///
 /// Names of parameters are folded to lower case (ASCII), and of equal names the last counts. Followed are `client_encoding`,
-/// `datestyle`, `timezone`, `standard_conforming_strings`, `application_name` and those that `track_extra_parameters` names;
-/// others are dropped where `ignore_startup_parameters` names them. `user` and `database` are matched exactly, and no name that
-/// folds to one of them is followed. A database that is missing or empty is that of the user's name.
+/// `datestyle`, `timezone`, `standard_conforming_strings` and `application_name`, but those that `untrack_parameters` names, and
+/// all that `track_extra_parameters` names; others are dropped where `ignore_startup_parameters` names them. `user` and `database`
+/// are matched exactly, and no name that folds to one of them is followed. A database that is missing or empty is that of the
+/// user's name.
 ///
 /// [`StartFault::NoUser`], [`StartFault::UnsupportedParameter`] and [`StartFault::Replication`], the first that holds in this
 /// order; [`StartFault::Memory`] only where none of them does.

@@ -1,23 +1,12 @@
 //! What becomes of each pair of a StartupMessage.
 ghost use Rattle.std.specs.Prelude.{◌≡◌, option_map};
-ghost use Rattle.std.specs.List.{list_any};
-ghost use Rattle.std.specs.Str.{str_eq_ignore_ascii_case};
 ghost use Rattle.ini_config.specs.OptionValues.{has_folded};
 ghost use Rattle.message_view.specs.Left.{pairs_left};
 ghost use Rattle.param_track.specs.StartKeys as spec;
 
-use ini_config::Settings;
+use ini_config::{Settings, is_always_followed};
 use message_view::StartupView;
 use start_keys::pairs::{is_identity, next_pair};
-
-/// The parameters that are followed under any settings.
-static ALWAYS_FOLLOWED: [&str; 5] = [
-    "client_encoding",
-    "datestyle",
-    "timezone",
-    "standard_conforming_strings",
-    "application_name",
-];
 
 /// What a pair's name makes of it.
 #[derive(Clone, Copy, PartialEq, Eq)]
@@ -39,17 +28,12 @@ fn folds_to_identity(name: &[u8]) -> bool
     name.eq_ignore_ascii_case(b"user") || name.eq_ignore_ascii_case(b"database")
 }
 
-/// Whether the name is in the list, without regard to the case of ASCII letters.
-fn has_name(list: &[&str], name: &[u8]) -> bool
-    ensures { result ≡ list_any (λ n. str_eq_ignore_ascii_case n.now name.now) list.now }
+/// Whether the parameter is followed where nothing is said of it, and the settings don't untrack it.
+#[tactic(auto, using(crate::proofs::Untracking::still_named))]
+fn is_still_followed(settings: &Settings, name: &[u8]) -> bool
+    ensures { result ≡ has_folded (spec.still_followed settings.now) name.now }
 {
-    list.iter().any(|candidate| candidate.as_bytes().eq_ignore_ascii_case(name))
-}
-
-fn is_always_followed(name: &[u8]) -> bool
-    ensures { result ≡ has_folded spec.always_followed name.now }
-{
-    has_name(ALWAYS_FOLLOWED.as_slice(), name)
+    is_always_followed(name) && !settings.untracks(name)
 }
 
 /// Whether it is the parameter `replication`, and not ignored.
@@ -59,10 +43,11 @@ fn is_replication(settings: &Settings, name: &[u8]) -> bool
     name.eq_ignore_ascii_case(b"replication") && !settings.ignores(name)
 }
 
+#[tactic(auto, using(crate::proofs::Untracking::followed_named))]
 fn is_followed(settings: &Settings, name: &[u8]) -> bool
     ensures { result ≡ spec.is_followed (spec.names_of settings.now) name.now }
 {
-    !folds_to_identity(name) && (is_always_followed(name) || settings.tracks(name))
+    !folds_to_identity(name) && (is_still_followed(settings, name) || settings.tracks(name))
 }
 
 /// What the settings make of a pair of this name.

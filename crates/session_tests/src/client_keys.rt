@@ -109,6 +109,38 @@ fn replication_that_is_both(rt: HostRuntime) -> Result<(), Fail> {
     Ok(())
 }
 
+/// A client with a name of its own.
+const NAMED: &[u8] = b"user\0ann\0timezone\0UTC\0Application_Name\0one\0\0";
+
+#[test]
+fn untracked_and_ignored_is_dropped(rt: HostRuntime) -> Result<(), Fail> {
+    let dropped =
+        b"[pgbouncer]\nuntrack_parameters = Application_Name\nignore_startup_parameters = application_name\n";
+    let one = key(rt.alloc(), dropped, NAMED)??;
+    assert!(rt; has_parameters(&one, &[(b"timezone", b"UTC")]));
+    let other = b"user\0ann\0application_name\0another\0timezone\0UTC\0\0";
+    let other = key(rt.alloc(), dropped, other)??;
+    assert!(rt; one == other);
+    Ok(())
+}
+
+#[test]
+fn untracked_alone_is_refused(rt: HostRuntime) -> Result<(), Fail> {
+    let untracked = b"[pgbouncer]\nuntrack_parameters = application_name\n";
+    let told = fault(rt.alloc(), untracked, NAMED)?;
+    assert!(rt; told == Some(StartFault::UnsupportedParameter));
+    Ok(())
+}
+
+#[test]
+fn untracked_and_extra_is_followed(rt: HostRuntime) -> Result<(), Fail> {
+    let both =
+        b"[pgbouncer]\nuntrack_parameters = timezone, application_name\ntrack_extra_parameters = TimeZone\nignore_startup_parameters = application_name\n";
+    let key = key(rt.alloc(), both, NAMED)??;
+    assert!(rt; has_parameters(&key, &[(b"timezone", b"UTC")]));
+    Ok(())
+}
+
 #[test]
 fn folded_to_identity_is_dropped(rt: HostRuntime) -> Result<(), Fail> {
     let key = key(rt.alloc(), SETTINGS, b"user\0ann\0DataBase\0news\0\0")??;
