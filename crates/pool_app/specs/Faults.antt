@@ -1,7 +1,7 @@
 -- The line that tells a fault, and the status of the program after it.
 use Rattle.std.specs.Prelude.{ℕ, List, ◌++◌, codes, decimal}
-use Rattle.ini_config.specs.declared.faults.Cause.{Cause as IniCause}
-use Rattle.ini_config.specs.declared.faults.Cause.TheVariants as ini
+use Rattle.ini_config.specs.declared.faults.IniCause.{IniCause}
+use Rattle.ini_config.specs.declared.faults.IniCause.TheVariants as ini
 use Rattle.user_file.specs.declared.faults.UserCause.{UserCause}
 use Rattle.user_file.specs.declared.faults.UserCause.TheVariants as users
 use Rattle.session_catalogue.specs.CatalogueCodes.{code_of}

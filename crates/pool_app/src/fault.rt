@@ -30,18 +30,18 @@ pub enum AppFault<'a> {
     Totals,
 }
 
-fn ini_code(cause: ini_config::Cause) -> &'static str
+fn ini_code(cause: ini_config::IniCause) -> &'static str
     ensures { result.now ≡ spec.ini_code cause }
 {
     match cause {
-        ini_config::Cause::UnknownSection => "C1",
-        ini_config::Cause::UnknownKey => "C2",
-        ini_config::Cause::BadValue => "C3",
-        ini_config::Cause::KeyTwice => "C4",
-        ini_config::Cause::PoolMode => "C5",
-        ini_config::Cause::ResetQuery => "C6",
-        ini_config::Cause::NotALine => "C7",
-        ini_config::Cause::Memory => "C8",
+        ini_config::IniCause::UnknownSection => "C1",
+        ini_config::IniCause::UnknownKey => "C2",
+        ini_config::IniCause::BadValue => "C3",
+        ini_config::IniCause::KeyTwice => "C4",
+        ini_config::IniCause::PoolMode => "C5",
+        ini_config::IniCause::ResetQuery => "C6",
+        ini_config::IniCause::NotALine => "C7",
+        ini_config::IniCause::Memory => "C8",
     }
 }
 

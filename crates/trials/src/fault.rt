@@ -1,6 +1,6 @@
 //! The faults that end a trial, as it tells them.
 
-use ini_config::Cause as IniCause;
+use ini_config::IniCause as IniCause;
 use pool_app::fault::AppFault;
 use session_machine::CatalogueCause;
 use std::io;
