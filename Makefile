@@ -65,6 +65,7 @@ gate:
 	scripts/welcomes.sh $(program)
 	scripts/cursors.sh $(program)
 	scripts/postgres.sh $(program)
+	scripts/calls.py $(program)
 	scripts/cancels.sh $(program)
 	scripts/console.sh $(program)
 	scripts/abuse.sh $(program)
@@ -91,7 +92,7 @@ deb: build/pgsess
 
 # all run; the status says whether a bound was missed
 bench: build/pgsess $(trials)
-	@status=0; bench/replay.sh build/pgsess || status=$$?; bench/tables.sh build/pgsess || status=$$?; bench/relay.sh $(trials) || status=$$?; bench/book.sh $(trials) || status=$$?; bench/calls.py build/pgsess || status=$$?; bench/pool.sh build/pgsess || status=$$?; exit $$status
+	@status=0; bench/replay.sh build/pgsess || status=$$?; bench/tables.sh build/pgsess || status=$$?; bench/relay.sh $(trials) || status=$$?; bench/book.sh $(trials) || status=$$?; scripts/calls.py build/pgsess || status=$$?; bench/pool.sh build/pgsess || status=$$?; exit $$status
 
 clean:
 	rm -rf build crates/*/out

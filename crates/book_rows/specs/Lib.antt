@@ -2,3 +2,4 @@ pub mod PoolHashes
 pub mod Places
 pub mod Waiting
 pub mod Index
+pub mod ShortNames

@@ -5,6 +5,7 @@ ghost use Rattle.start_keys.specs.Keys.{same_key};
 ghost use Rattle.book_model.specs.Book as book;
 ghost use Rattle.book_rows.specs.PoolHashes.{pool_hash_of};
 
+use crate::short_names::ShortName;
 use start_keys::StartKey;
 use std::hash::{FoldHasher, Hasher};
 use std::marker::Model;
@@ -27,11 +28,13 @@ fn is_same_pool(left: &StartKey, right: &StartKey) -> bool
     left.row == right.row && left.user == right.user
 }
 
-/// A start key with its pool's number, which tells most pools apart before their names are compared.
+/// A start key with its pool's number, which tells most pools apart before their names are compared; and with these, where they are
+/// short, so that a walk over many keys of one pool needn't follow each to its key.
 #[derive(Clone)]
 pub struct PoolKey {
     key: Arc<StartKey>,
     pool_hash: u64,
+    name: Option<ShortName>,
 }
 
 impl Drop for PoolKey {
@@ -39,21 +42,23 @@ impl Drop for PoolKey {
         let PoolKey {
             key: _,
             pool_hash: _,
+            name: _,
         } = self;
     }
 }
 
 impl Model for PoolKey {
-    ghost use Rattle.std.specs.Prelude.{◌≡◌};
+    ghost use Rattle.std.specs.Prelude.{◌≡◌, IfSome};
     ghost use Rattle.std.specs.Arc.{arc_value};
     ghost use Rattle.session_values.specs.State.{StartKeyOf};
     ghost use Rattle.book_rows.specs.PoolHashes.{pool_hash_of};
+    ghost use Rattle.book_rows.specs.ShortNames.{IsNameOf};
 
     ghost Value = { StartKeyOf };
 
     ghost view = { λ k. arc_value k.key };
 
-    ghost invariant = { λ k. k.pool_hash ≡ pool_hash_of (arc_value k.key) };
+    ghost invariant = { λ k. (k.pool_hash ≡ pool_hash_of (arc_value k.key)) × IfSome k.name (IsNameOf (arc_value k.key)) };
 }
 
 impl PoolKey {
@@ -62,7 +67,12 @@ impl PoolKey {
         ensures { result ≡ arc_value key }
     {
         let pool_hash = pool_hash(&key);
-        PoolKey { key, pool_hash }
+        let name = ShortName::of(&key);
+        PoolKey {
+            key,
+            pool_hash,
+            name,
+        }
     }
 
     /// The key.
@@ -77,7 +87,17 @@ impl PoolKey {
     pub fn is_in_pool_of(&self, other: &PoolKey) -> bool
         ensures { result ≡ book.same_pool self.now other.now }
     {
-        self.pool_hash == other.pool_hash && is_same_pool(&self.key, &other.key)
+        self.pool_hash == other.pool_hash && self.is_named_as(other)
+    }
+
+    /// Whether both names are equal.
+    fn is_named_as(&self, other: &PoolKey) -> bool
+        ensures { result ≡ book.same_pool self.now other.now }
+    {
+        match (&self.name, &other.name) {
+            (Some(name), Some(others)) => name.is(others),
+            _ => is_same_pool(&self.key, &other.key),
+        }
     }
 
     /// Whether the keys are equal.
