@@ -11,7 +11,7 @@ use std::marker::Model;
 const LONGEST: usize = 30;
 
 /// The names of a pool's database row and of its user, one behind the other.
-#[derive(Clone, Copy, Drop)]
+#[derive(Clone, Drop)]
 pub(crate) struct ShortName {
     bytes: [u8; LONGEST],
     /// So many bytes are the row's name.
@@ -54,7 +54,6 @@ impl ShortName {
     }
 
     /// Whether they are names of one pool.
-    #[tactic(auto, using(crate::proofs::ShortNames::same_names))]
     pub(crate) fn is(&self, other: &ShortName) -> bool
         ensures { (left right : StartKeyOf) → IsNameOf left self.now → IsNameOf right other.now → result ≡ same_pool left right }
     {
