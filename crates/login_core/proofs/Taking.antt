@@ -1,5 +1,5 @@
 -- Bytes taken into the buffer.
-use Rattle.std.proofs.Common.{◌≡◌, inl, inr, ℕ, ◌+◌, ◌≤◌, List, [], ◌∷◌, ◌++◌, length, take, refl, sym, ap, arith, ◌∙◌, subst, Bool, true, false, append_assoc, append-nil, length-append, length-take}
+use Rattle.std.proofs.Common.{◌≡◌, inl, inr, ℕ, ◌≤◌, List, [], ◌∷◌, ◌++◌, length, take, refl, sym, ap, arith, ◌∙◌, subst, Bool, true, false, append_assoc, append-nil, length-take}
 use Rattle.message_view.specs.declared.KeyWord.{KeyWord}
 use Rattle.ini_config.specs.declared.option_values.Settings.{Settings}
 use Rattle.user_file.specs.declared.user_table.UserRow.{UserRow}
@@ -35,22 +35,11 @@ module _ (grow : PacketsGrow) where
   within : (h : Awaiting) (held piece : List ℕ) (w u : ℕ) → w ≡ missing h held → u ≤ w → length (take u piece) ≤ missing h held
   within h held piece w u e l = omega (arith, e, l, length-take u piece)
 
-  pub taken_fits : (h : Awaiting) (held piece now : List ℕ) (w u : ℕ) → Fits h held → w ≡ missing h held → u ≤ w → now ≡ held ++ take u piece → Fits h now
+  taken_fits : (h : Awaiting) (held piece now : List ℕ) (w u : ℕ) → Fits h held → w ≡ missing h held → u ≤ w → now ≡ held ++ take u piece → Fits h now
   taken_fits h held piece now w u f e l n = subst (λ (x : List ℕ). Fits h x) (sym n) (fits_more h held (take u piece) f (within h held piece w u e l))
 
-room_by : (c : Cut Packet Reason) (here spare used : ℕ) → FitsCut c here → 10001 ≤ here + spare → used ≤ missing_of c → used ≤ spare
-room_by (Whole p rest) here spare used f r u = omega (arith, u)
-room_by (Need m) here spare used f r u = let g : here + m ≤ 10001 = f in omega (arith, g, r, u)
-room_by (Bad r) here spare used f q u = omega (arith, u)
-
--- there is room for what is missing
-pub room_for : (h : Awaiting) (held : List ℕ) (spare used : ℕ) → Fits h held → 10001 ≤ length held + spare → used ≤ missing h held → used ≤ spare
-room_for (AwaitsPacket s) held spare used f r u = room_by (packet s held) (length held) spare used f r u
-room_for (Arriving k) held spare used f r u = omega (arith, u)
-room_for Over held spare used f r u = omega (arith, u)
-
-pub taken_room : (held bytes now : List ℕ) (spare left : ℕ) → 10001 ≤ length held + spare → left + length bytes ≡ spare → now ≡ held ++ bytes → 10001 ≤ length now + left
-taken_room held bytes now spare left h e n = omega (arith, h, e, ap length n, length-append held bytes)
+  pub held_fits : (h from : Awaiting) (held piece now read : List ℕ) (w u : ℕ) → from ≡ h → read ≡ now → Fits h held → w ≡ missing h held → u ≤ w → now ≡ held ++ take u piece → Fits from read
+  held_fits h from held piece now read w u a r f e l n = subst (λ (x : Awaiting). Fits x read) (sym a) (subst (λ (x : List ℕ). Fits h x) (sym r) (taken_fits h held piece now w u f e l n))
 
 -- ---- what is still said
 
@@ -73,7 +62,7 @@ or_changed (step.Cancel pid secret) A B C D f g a = f a
 or_changed step.Left A B C D f g a = f a
 
 -- a step on the bytes that were taken
-pub heard_after : (old mid new : LoginView) (bytes : List ℕ) (s : LoginStep) → length bytes ≤ missing old.awaiting old.held → mid ≡ with_held old (old.held ++ bytes) → StepMeans mid [] s new → StepMeans old bytes s new
+heard_after : (old mid new : LoginView) (bytes : List ℕ) (s : LoginStep) → length bytes ≤ missing old.awaiting old.held → mid ≡ with_held old (old.held ++ bytes) → StepMeans mid [] s new → StepMeans old bytes s new
 heard_after old mid new bytes s l e h = from (subst (λ (v : LoginView). StepMeans v [] s new) e h)
   where
     from : StepMeans (with_held old (old.held ++ bytes)) [] s new → StepMeans old bytes s new
@@ -88,7 +77,7 @@ heard_after old mid new bytes s l e h = from (subst (λ (v : LoginView). StepMea
       word = x.word;
     }
 
-pub turned_heard : (settings : Settings) (users : List UserRow) (word : KeyWord) (h : Awaiting) (held : List ℕ) (s : LoginStep) (to : Awaiting) (left : List ℕ) (old : LoginView) →
+turned_heard : (settings : Settings) (users : List UserRow) (word : KeyWord) (h : Awaiting) (held : List ℕ) (s : LoginStep) (to : Awaiting) (left : List ℕ) (old : LoginView) →
     login_view settings users word h held ≡ old → StepIs (row_in settings users) word h held s to left → StepMeans old [] s (login_view settings users word to left)
 turned_heard settings users word h held s to left old e t =
     subst (λ (v : LoginView). StepMeans v [] s (login_view settings users word to left)) e
@@ -99,6 +88,20 @@ turned_heard settings users word h held s to left old e t =
       users = refl;
       word = refl;
     })
+
+-- a step on what is held with the bytes that were taken, as far as those that were missing are there
+pub heard : (settings : Settings) (users : List UserRow) (word : KeyWord) (h from to : Awaiting) (held piece now read left end : List ℕ) (w u : ℕ) (s : LoginStep) (old : LoginView) →
+    login_view settings users word h held ≡ old → w ≡ missing h held → u ≤ w → now ≡ held ++ take u piece → from ≡ h → read ≡ now → left ≡ end →
+    StepIs (row_in settings users) word from read s to left → StepMeans old (take u piece) s (login_view settings users word to end)
+heard settings users word h from to held piece now read left end w u s old e m l n a r x t =
+    let step : StepIs (row_in settings users) word h now s to end =
+    subst (λ (k : Awaiting). StepIs (row_in settings users) word k now s to end) a
+    (subst (λ (b : List ℕ). StepIs (row_in settings users) word from b s to end) r (subst (λ (b : List ℕ). StepIs (row_in settings users) word from read s to b) x t)) in
+    subst (λ (v : LoginView). StepMeans v (take u piece) s (login_view settings users word to end)) e
+    (heard_after (login_view settings users word h held) (login_view settings users word h now) (login_view settings users word to end) (take u piece) s
+    (omega (arith, m, l, length-take u piece))
+    (ap (login_view settings users word h) n)
+    (turned_heard settings users word h now s to end (login_view settings users word h now) refl step))
 
 pub left_if : (s : LoginStep) (b : Bool) (held : List ℕ) → IsMore b s → b ≡ true → left_after s held ≡ held
 left_if step.More b held m e = refl

@@ -1,11 +1,11 @@
 //! One step of the dialogue, from the bytes that are held.
-ghost use Rattle.std.specs.Prelude.{◌≡◌, []};
+ghost use Rattle.std.specs.Prelude.{◌≡◌, ℕ, List, []};
 ghost use Rattle.std.specs.Arc.{arc_value};
 ghost use Rattle.message_view.specs.Reading.{startup_of};
 ghost use Rattle.login_core.specs.Dialogue as login;
 ghost use Rattle.login_core.specs.Dialogue.{AtFirst, Asked};
 ghost use Rattle.login_core.specs.declared.steps.LoginStep.TheVariants.{Left};
-ghost use Rattle.login_core.specs.Logins.{ArrivesOnce, Begun, Decides, Fits, AwaitsPacket, Arriving, IsBeforeArrival, Over, StartMeans, StepIs, awaiting_of, left_after, rows_under, verdict_of};
+ghost use Rattle.login_core.specs.Logins.{ArrivesOnce, Begun, Decides, Fits, AwaitsPacket, Arriving, IsBeforeArrival, Over, StartMeans, StepIs, awaiting_of, left_after, missing, rows_under, verdict_of};
 
 use crate::laws::packets_grow;
 use crate::steps::{Failure, LoginStep, Question};
@@ -24,6 +24,15 @@ use user_file::Users;
 
 /// The greatest length of a message in the login.
 pub(crate) const LONGEST_MESSAGE: u32 = 10_000;
+
+/// The bytes of a first packet that tell its length and what it asks for.
+pub(crate) const FIRST_HEAD: usize = 8;
+
+/// The bytes of a message that tell its type and its length.
+const HEAD: usize = 5;
+
+/// What a client is told of a packet that can't be read, or isn't its turn to send.
+const MALFORMED: Refusal = Refusal::MalformedClientMessage;
 
 /// What decides about a client.
 pub(crate) struct Rules {
@@ -115,6 +124,9 @@ fn md5_question(salt: [u8; 4]) -> [u8; 13]
     frame
 }
 
+/// What a call answers, where the login then stands, and how many bytes are then known to be missing.
+type Turned = (LoginStep, Place, usize);
+
 impl Rules {
     /// The key of a StartupMessage, from what follows its code.
     fn begin(&self, alloc: Global, text: &[u8]) -> Result<Arc<StartKey>, Refusal>
@@ -195,124 +207,113 @@ impl Rules {
     }
 
     /// A client's StartupMessage.
-    fn on_startup_message(&self, alloc: Global, text: &[u8]) -> (LoginStep, Place)
+    fn on_startup_message(&self, alloc: Global, text: &[u8]) -> Turned
         ensures means { StartMeans (login.key_of (rows_under self.now) (startup_of text.now)) result.0 (awaiting_of result.1) }
         ensures once { IsBeforeArrival result.0 }
+        ensures lacks { (held : List ℕ) → result.2 ≡ missing (awaiting_of result.1) (left_after result.0 held) }
     {
         match self.begin(alloc, text) {
             Ok(key) => match Arc::try_clone(&key) {
-                Ok(copy) => (LoginStep::Arrived(copy), Place::Arriving(key)),
-                Err(_) => (LoginStep::Refused(Refusal::OutOfMemory), Place::Over),
+                Ok(copy) => (LoginStep::Arrived(copy), Place::Arriving(key), 0),
+                Err(_) => (LoginStep::Refused(Refusal::OutOfMemory), Place::Over, 0),
             },
-            Err(refusal) => (LoginStep::Refused(refusal), Place::Over),
+            Err(refusal) => (LoginStep::Refused(refusal), Place::Over, 0),
         }
     }
 
-    fn on_first_packet(
-        &self,
-        alloc: Global,
-        held: &[u8],
-        tls: bool,
-        gss: bool,
-    ) -> (LoginStep, Place)
+    fn on_first_packet(&self, alloc: Global, held: &[u8], tls: bool, gss: bool) -> Turned
         requires { Fits (AwaitsPacket (AtFirst tls gss)) held.now }
         ensures step { StepIs (rows_under self.now) self.now.word (AwaitsPacket (AtFirst tls gss)) held.now result.0 (awaiting_of result.1) (left_after result.0 held.now) }
         ensures once { ArrivesOnce (AwaitsPacket (AtFirst tls gss)) result.0 }
+        ensures lacks { result.2 ≡ missing (awaiting_of result.1) (left_after result.0 held.now) }
     {
         packets_grow();
         match first_packet(held) {
             FirstStep::Startup(text) => self.on_startup_message(alloc, text),
-            FirstStep::Cancel { pid, secret } => (LoginStep::Cancel { pid, secret }, Place::Over),
+            FirstStep::Cancel { pid, secret } => (
+                LoginStep::Cancel { pid, secret },
+                Place::Over,
+                0,
+            ),
             FirstStep::Tls => {
                 if tls {
-                    return (
-                        LoginStep::Refused(Refusal::MalformedClientMessage),
-                        Place::Over,
-                    );
+                    return (LoginStep::Refused(MALFORMED), Place::Over, 0);
                 }
                 (
                     LoginStep::Ask(Question::Encryption),
                     Place::First { tls: true, gss },
+                    FIRST_HEAD,
                 )
             }
             FirstStep::Gss => {
                 if gss {
-                    return (
-                        LoginStep::Refused(Refusal::MalformedClientMessage),
-                        Place::Over,
-                    );
+                    return (LoginStep::Refused(MALFORMED), Place::Over, 0);
                 }
                 (
                     LoginStep::Ask(Question::Encryption),
                     Place::First { tls, gss: true },
+                    FIRST_HEAD,
                 )
             }
-            FirstStep::Need(_) => (LoginStep::More, Place::First { tls, gss }),
-            FirstStep::Bad(fault) => (LoginStep::Refused(refusal_of(fault)), Place::Over),
+            FirstStep::Need(count) => (LoginStep::More, Place::First { tls, gss }, count),
+            FirstStep::Bad(fault) => (LoginStep::Refused(refusal_of(fault)), Place::Over, 0),
         }
     }
 
     /// The client has arrived, and is asked, or judged at once.
-    fn go_on(&self, key: Arc<StartKey>) -> (LoginStep, Place)
+    fn go_on(&self, key: Arc<StartKey>) -> Turned
         ensures once { ArrivesOnce (Arriving (arc_value key)) result.0 }
         ensures step { StepIs (rows_under self.now) self.now.word (Arriving (arc_value key)) [] result.0 (awaiting_of result.1) [] }
+        ensures lacks { result.2 ≡ missing (awaiting_of result.1) [] }
     {
         match self.auth_type(&key) {
-            AuthType::Trust => (self.judged(key, b""), Place::Over),
-            AuthType::Plain => (LoginStep::Ask(Question::Cleartext), Place::Asked(key)),
+            AuthType::Trust => (self.judged(key, b""), Place::Over, 0),
+            AuthType::Plain => (LoginStep::Ask(Question::Cleartext), Place::Asked(key), HEAD),
             AuthType::Md5 => (
                 LoginStep::Ask(Question::Md5(md5_question(self.word.salt))),
                 Place::Asked(key),
+                HEAD,
             ),
         }
     }
 
-    fn on_password_message(&self, held: &[u8], key: Arc<StartKey>) -> (LoginStep, Place)
+    fn on_password_message(&self, held: &[u8], key: Arc<StartKey>) -> Turned
         requires { Fits (AwaitsPacket (Asked (arc_value key))) held.now }
         ensures step { StepIs (rows_under self.now) self.now.word (AwaitsPacket (Asked (arc_value key))) held.now result.0 (awaiting_of result.1) (left_after result.0 held.now) }
         ensures once { ArrivesOnce (AwaitsPacket (Asked (arc_value key))) result.0 }
+        ensures lacks { result.2 ≡ missing (awaiting_of result.1) (left_after result.0 held.now) }
     {
         packets_grow();
         let frame = match next_frame(held, 0, LONGEST_MESSAGE, Side::Client) {
             Step::Whole(frame) => frame,
-            Step::Need(_) => return (LoginStep::More, Place::Asked(key)),
-            Step::Bad(_) => {
-                return (
-                    LoginStep::Refused(Refusal::MalformedClientMessage),
-                    Place::Over,
-                );
-            }
+            Step::Need(count) => return (LoginStep::More, Place::Asked(key), count),
+            Step::Bad(_) => return (LoginStep::Refused(MALFORMED), Place::Over, 0),
         };
         if frame.kind == TERMINATE {
-            return (LoginStep::Left, Place::Over);
+            return (LoginStep::Left, Place::Over, 0);
         }
         if frame.kind != PASSWORD_MESSAGE {
-            return (
-                LoginStep::Refused(Refusal::MalformedClientMessage),
-                Place::Over,
-            );
+            return (LoginStep::Refused(MALFORMED), Place::Over, 0);
         }
         match PasswordView::read(frame.body) {
-            Ok(view) => (self.judged(key, view.password), Place::Over),
-            Err(_) => (
-                LoginStep::Refused(Refusal::MalformedClientMessage),
-                Place::Over,
-            ),
+            Ok(view) => (self.judged(key, view.password), Place::Over, 0),
+            Err(_) => (LoginStep::Refused(MALFORMED), Place::Over, 0),
         }
     }
 
-    /// One step from what is held, and the place that it leads to.
-    pub(crate) fn turn(&self, alloc: Global, held: &[u8], place: Place) -> (LoginStep, Place)
+    /// One step from what is held, and what it leads to.
+    pub(crate) fn turn(&self, alloc: Global, held: &[u8], place: Place) -> Turned
         requires { Fits (awaiting_of place) held.now }
         ensures step { StepIs (rows_under self.now) self.now.word (awaiting_of place) held.now result.0 (awaiting_of result.1) (left_after result.0 held.now) }
         ensures once { ArrivesOnce (awaiting_of place) result.0 }
         ensures over { awaiting_of place ≡ Over → result.0 ≡ Left }
+        ensures lacks { result.2 ≡ missing (awaiting_of result.1) (left_after result.0 held.now) }
     {
         match place {
             Place::First { tls, gss } => self.on_first_packet(alloc, held, tls, gss),
             Place::Arriving(key) => self.go_on(key),
             Place::Asked(key) => self.on_password_message(held, key),
-            Place::Over => (LoginStep::Left, Place::Over),
+            Place::Over => (LoginStep::Left, Place::Over, 0),
         }
     }
 }

@@ -1,15 +1,14 @@
 //! A client's login, fed with its bytes in any cuts.
-ghost use Rattle.std.specs.Prelude.{◌≡◌, ◌<◌, ◌≤◌, ◌+◌, ◌++◌, [], length, take, min, IfOk, false};
+ghost use Rattle.std.specs.Prelude.{◌≡◌, ◌<◌, ◌≤◌, ◌+◌, [], length, take, min, IfOk, false};
 ghost use Rattle.std.specs.Arc.{arc_value};
 ghost use Rattle.login_core.specs.Dialogue.{AtFirst};
-ghost use Rattle.login_core.specs.Logins.{ArrivesOnce, StepMeans, AwaitsPacket, Over, awaiting_of, login_view, missing, with_held};
+ghost use Rattle.login_core.specs.Logins.{ArrivesOnce, StepMeans, AwaitsPacket, Over, awaiting_of, login_view, missing};
 ghost use Rattle.login_core.specs.declared.steps.LoginStep.TheVariants.{Left};
 
-use crate::dialogue::{LONGEST_MESSAGE, Place, Rules, note_unsupported};
+use crate::dialogue::{FIRST_HEAD, LONGEST_MESSAGE, Place, Rules, note_unsupported};
 use crate::laws::packets_grow;
 use crate::steps::LoginStep;
 use bytes::BytesMut;
-use frame_view::{FirstStep, Side, Step, first_packet, next_frame};
 use ini_config::Settings;
 use message_view::KeyWord;
 use start_keys::text::Text;
@@ -29,6 +28,8 @@ pub struct Login {
     rules: Rules,
     place: Place,
     held: BytesMut,
+    /// The bytes that are known to be missing from the packet that it waits for.
+    lacking: usize,
     unsupported: Option<Text>,
 }
 
@@ -38,21 +39,22 @@ impl Drop for Login {
             rules: _,
             place: _,
             held: _,
+            lacking: _,
             unsupported: _,
         } = self;
     }
 }
 
 impl Model for Login {
-    ghost use Rattle.std.specs.Prelude.{◌≤◌, ◌+◌, length};
+    ghost use Rattle.std.specs.Prelude.{◌≡◌, ◌≤◌, ◌+◌, length};
     ghost use Rattle.std.specs.Arc.{arc_value};
-    ghost use Rattle.login_core.specs.Logins.{LoginView, login_view, awaiting_of, Fits};
+    ghost use Rattle.login_core.specs.Logins.{LoginView, login_view, awaiting_of, missing, Fits};
 
     ghost Value = { LoginView };
 
     ghost view = { λ l. login_view (arc_value l.rules.settings) (arc_value l.rules.users) l.rules.word (awaiting_of l.place) l.held.items };
 
-    ghost invariant = { λ l. Fits (awaiting_of l.place) l.held.items × (10001 ≤ length l.held.items + l.held.spare) };
+    ghost invariant = { λ l. Fits (awaiting_of l.place) l.held.items × (10001 ≤ length l.held.items + l.held.spare) × (l.lacking ≡ missing (awaiting_of l.place) l.held.items) };
 }
 
 impl Login {
@@ -76,6 +78,7 @@ impl Login {
                 gss: false,
             },
             held: BytesMut::with_capacity(alloc, LONGEST_PACKET)?,
+            lacking: FIRST_HEAD,
             unsupported: None,
         })
     }
@@ -108,55 +111,7 @@ impl Login {
     pub fn wants(&self) -> usize
         ensures { result ≡ missing self.now.awaiting self.now.held }
     {
-        match &self.place {
-            Place::First { .. } => match first_packet(self.held.as_slice()) {
-                FirstStep::Need(count) => count,
-                _ => 0,
-            },
-            Place::Asked(_) => match next_frame(
-                self.held.as_slice(),
-                0,
-                LONGEST_MESSAGE,
-                Side::Client,
-            ) {
-                Step::Need(count) => count,
-                _ => 0,
-            },
-            Place::Arriving(_) | Place::Over => 0,
-        }
-    }
-
-    /// Takes what is known to be missing, as far as it is there.
-    fn take_in(&mut self, piece: &[u8]) -> usize
-        ensures used { result ≡ min (missing self.old.awaiting self.old.held) (length piece.now) }
-        ensures held { self.new ≡ with_held self.old (self.old.held ++ take result piece.now) }
-    {
-        packets_grow();
-        let used = self.wants().min(piece.len());
-        self.held.extend_reserved(&piece[..used]);
-        used
-    }
-
-    fn turn(&mut self, alloc: Global) -> LoginStep
-        ensures means { StepMeans self.old [] result self.new }
-        ensures once { ArrivesOnce self.old.awaiting result }
-        ensures over { self.old.awaiting ≡ Over → result ≡ Left }
-    {
-        let place = mem::replace(&mut self.place, Place::Over);
-        let (step, next) = self.rules.turn(alloc, self.held.as_slice(), place);
-        self.place = next;
-        if step.is_more() {
-            return step;
-        }
-        note_unsupported(
-            alloc,
-            &self.rules.settings,
-            self.held.as_slice(),
-            &step,
-            &mut self.unsupported,
-        );
-        self.held.clear();
-        step
+        self.lacking
     }
 
     /// Takes bytes of the client, never past the packet that it waits for, and tells how many, and what follows.
@@ -171,7 +126,24 @@ impl Login {
         ensures once { ArrivesOnce self.old.awaiting result.1 }
         ensures over { self.old.awaiting ≡ Over → (result.0 ≡ 0) × (result.1 ≡ Left) }
     {
-        let used = self.take_in(piece);
-        (used, self.turn(alloc))
+        packets_grow();
+        let used = self.lacking.min(piece.len());
+        self.held.extend_reserved(&piece[..used]);
+        let place = mem::replace(&mut self.place, Place::Over);
+        let (step, next, lacking) = self.rules.turn(alloc, self.held.as_slice(), place);
+        self.place = next;
+        self.lacking = lacking;
+        if step.is_more() {
+            return (used, step);
+        }
+        note_unsupported(
+            alloc,
+            &self.rules.settings,
+            self.held.as_slice(),
+            &step,
+            &mut self.unsupported,
+        );
+        self.held.clear();
+        (used, step)
     }
 }
