@@ -19,7 +19,7 @@ use Rattle.link_run.specs.declared.reply.TheConstants.{LONGEST_REPLY}
 use Rattle.link_start.specs.declared.start_reply.StartProgress.{StartProgress}
 use Rattle.link_start.specs.declared.start_reply.StartProgress.TheVariants as heard
 use Rattle.link_start.specs.declared.start_reply.Question.{Question}
-use Rattle.link_start.specs.declared.start.TheConstants.{LONGEST_WELCOME}
+use Rattle.link_start.specs.declared.start.TheConstants.{CHUNK, LONGEST_WELCOME}
 use Rattle.link_start.specs.declared.start.StartCause.{StartCause}
 use Rattle.link_start.specs.declared.start.StartCause.TheVariants.{Refused, Lost, Unanswerable, Unexpected, Memory, Turns}
 use Rattle.link_start.specs.Questions.{answer_to}
@@ -233,6 +233,10 @@ moved_of at = length at.accepted + length at.given
 -- By the gate's count of turns, then and now: no more were taken than so many, and one for each byte that was moved.
 abbrev pub TakesTurns : Standing → Standing → ℕ → ℕ → ℕ → Type 0
 TakesTurns began now then_at now_at turns = now_at + moved_of began ≤ then_at + turns + moved_of now
+
+-- What came since then is at most the longest welcome, and one read more.
+abbrev pub IsBounded : Standing → Standing → Type 0
+IsBounded began now = length now.given ≤ length began.given + (LONGEST_WELCOME + CHUNK)
 
 -- At most one call that came to nothing in each turn taken.
 abbrev pub IsStartPaced : Standing → Standing → ℕ → ℕ → Type 0

@@ -1,5 +1,5 @@
 //! The start of a link over a server's end.
-ghost use Rattle.std.specs.Prelude.{◌≡◌, ◌≢◌, ◌+◌, ◌<◌, ◌≤◌, [], false, if◌then◌else◌, IfErr, IfOk, OnOk, length, true};
+ghost use Rattle.std.specs.Prelude.{◌≡◌, ◌≢◌, ◌+◌, ◌<◌, ◌≤◌, [], false, if◌then◌else◌, IfErr, IfOk, MatchResult, OnOk, length, true};
 ghost use Rattle.frame_view.specs.Frames.{AreBytes, frames};
 ghost use Rattle.frame_view.specs.declared.Side.TheVariants.{Server};
 ghost use Rattle.link_run.specs.declared.reply.TheConstants.{LONGEST_REPLY};
@@ -11,7 +11,7 @@ ghost use Rattle.link_start.specs.declared.start.Progress.TheVariants as progres
 ghost use Rattle.user_file.specs.declared.secrets.Secret.{Secret};
 ghost use Rattle.link_start.specs.declared.start.StartCause.TheVariants as causes;
 ghost use Rattle.link_start.specs.Refusing.{refusal_of};
-ghost use Rattle.link_start.specs.Starts.{CanStart, CountsOn, HasTried, IsCause, IsDone, IsDoneFrom, IsEndCause, IsLinkKey, IsOwnKey, IsSameStart, IsStartPaced, IsStartPacedToEnd, IsStarted, IsUnderWay, IsWaitingStart, IsWelcomed, ReadsOnce, TakesTurns, WritesOnce, bytes_left, moved_of, waits_of};
+ghost use Rattle.link_start.specs.Starts.{CanStart, CountsOn, HasTried, IsBounded, IsCause, IsDone, IsDoneFrom, IsEndCause, IsLinkKey, IsOwnKey, IsSameStart, IsStartPaced, IsStartPacedToEnd, IsStarted, IsUnderWay, IsWaitingStart, IsWelcomed, ReadsOnce, TakesTurns, WritesOnce, bytes_left, moved_of, waits_of};
 
 use crate::messages::{password_of, startup_message};
 use crate::start_reply::{
@@ -225,6 +225,7 @@ impl<E: ServerEnd> Start<E> {
         ensures answered { self.new.answered ≡ self.old.answered }
         ensures once { WritesOnce self.old self.new }
         ensures counts { CountsOn self.old self.new }
+        ensures given { self.new.end.given ≡ self.old.end.given }
         ensures left { bytes_left self.new ≤ bytes_left self.old }
         ensures moved { IfOk result (λ m. m ≡ true → moved_of self.old.end < moved_of self.new.end) }
         ensures fewer { IfOk result (λ m. m ≡ true → bytes_left self.new < bytes_left self.old) }
@@ -252,6 +253,7 @@ impl<E: ServerEnd> Start<E> {
         ensures answered { self.new.answered ≡ self.old.answered }
         ensures once { ReadsOnce self.old self.new }
         ensures counts { CountsOn self.old self.new }
+        ensures given { length self.new.end.given ≤ length self.old.end.given + CHUNK }
         ensures left { bytes_left self.new ≤ bytes_left self.old }
         ensures moved { IfOk result (λ m. m ≡ true → moved_of self.old.end < moved_of self.new.end) }
         ensures fewer { IfOk result (λ m. m ≡ true → length self.new.received ≤ LONGEST_WELCOME → bytes_left self.new < bytes_left self.old) }
@@ -360,6 +362,8 @@ impl<E: ServerEnd> Start<E> {
         ensures waits { IfOk result (λ p. p ≢ progress.Ready → IsWaitingStart secret.now self.new) }
         ensures welcomed { IfOk result (λ p. p ≡ progress.Ready → IsWelcomed secret.now self.new) }
         ensures counts { CountsOn self.old self.new }
+        ensures given { length self.new.end.given ≤ length self.old.end.given + CHUNK }
+        ensures short { IfOk result (λ p. p ≢ progress.Ready → length self.old.received ≤ LONGEST_WELCOME → length self.new.received ≤ LONGEST_WELCOME) }
         ensures left { OnOk result (bytes_left self.new ≤ bytes_left self.old) }
         ensures moved { IfOk result (λ p. p ≡ progress.Moved → moved_of self.old.end < moved_of self.new.end) }
         ensures fewer { IfOk result (λ p. p ≡ progress.Moved → bytes_left self.new < bytes_left self.old) }
@@ -495,8 +499,8 @@ pub fn start_link<E: ServerEnd, G: Gate<E>>(
     ensures born { IfOk result (λ l. l.born ≡ born) }
     ensures cause { IfErr result (λ f. IsCause (E.standing end) (E.standing f.end) secret.now (arc_value key) f.cause) }
     ensures turns { IfErr result (λ f. f.cause ≡ causes.Turns → HasTried (E.standing end) secret.now (arc_value key) (E.standing f.end) turns) }
-    ensures taken { IfOk result (λ l. TakesTurns (E.standing end) l.stands (G.turns gate.old) (G.turns gate.new) turns) }
-    ensures taken_in_vain { IfErr result (λ f. TakesTurns (E.standing end) (E.standing f.end) (G.turns gate.old) (G.turns gate.new) turns) }
+    ensures taken { MatchResult result (λ l. TakesTurns (E.standing end) l.stands (G.turns gate.old) (G.turns gate.new) turns) (λ f. TakesTurns (E.standing end) (E.standing f.end) (G.turns gate.old) (G.turns gate.new) turns) }
+    ensures bounded { MatchResult result (λ l. IsBounded (E.standing end) l.stands) (λ f. IsBounded (E.standing end) (E.standing f.end)) }
     ensures paced { IfErr result (λ f. IsStartPaced (E.standing end) (E.standing f.end) (G.turns gate.old) (G.turns gate.new)) }
     ensures last { IfOk result (λ l. IsStartPacedToEnd (E.standing end) l.stands (G.turns gate.old) (G.turns gate.new)) }
 {
