@@ -5,7 +5,7 @@ use Rattle.frame_view.proofs.Cuts.{front-spelled}
 use Rattle.frame_view.proofs.Splitting.{frames-stopped}
 use Rattle.frame_view.proofs.Taking.{not_whole, taken}
 use Rattle.frame_view.specs.Answers.{Tells}
-use Rattle.frame_view.specs.Frames.{AreBytes, FrameOf, Front, AFrame, Lacks, Faulty, Cut, before, front, frames, spelling}
+use Rattle.frame_view.specs.Frames.{AreBytes, Front, AFrame, Lacks, Faulty, Cut, before, front, frames, spelling}
 use Rattle.frame_view.specs.declared.Frame.{Frame}
 use Rattle.frame_view.specs.declared.Side.TheVariants.{Server}
 use Rattle.frame_view.specs.declared.Step.{Step}
