@@ -195,6 +195,7 @@ impl<E: ServerEnd> Start<E> {
         ensures under_way { IfOk result (λ s. (secret : Secret) → IsUnderWay (E.standing end) secret s) }
         ensures same { IfOk result (λ s. (s.key ≡ arc_value key) × (s.number ≡ number) × (s.born ≡ born)) }
         ensures stands { IfOk result (λ s. s.end ≡ E.standing end) }
+        ensures none { IfOk result (λ s. length s.received ≡ 0) }
         ensures waits { IfOk result (λ s. (secret : Secret) → IsWaitingStart secret s) }
         ensures memory { IfErr result (λ f. f.cause ≡ causes.Memory) }
         ensures back { IfErr result (λ f. E.standing f.end ≡ E.standing end) }
