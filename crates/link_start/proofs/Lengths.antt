@@ -1,17 +1,17 @@
 -- How long a server's answer to a start is.
-use Rattle.std.proofs.Common.{◌≡◌, ℕ, ◌+◌, ◌*◌, ◌≤◌, Bool, true, false, List, [], ◌∷◌, ◌++◌, length, arith, length-append, Result, Ok, Err, Option, Some, None}
+use Rattle.std.proofs.Common.{ℕ, ◌+◌, ◌*◌, ◌≤◌, Bool, true, false, List, [], ◌∷◌, ◌++◌, length, arith, length-append, Result, Ok, Err, Option, Some, None}
 use Rattle.std.specs.Prelude.{if◌then◌else◌}
 use Rattle.std.specs.List.{flat_map, AllByRecursion}
 use Rattle.std.specs.Int.{w32, to_be_bytes}
 use Rattle.frame_view.specs.Frames.{FrameOf, spelling}
 use Rattle.message_view.specs.Bodies.{Text}
-use Rattle.message_view.specs.Messages.{authentication, backend_key_data, password_message, ready_for_query}
+use Rattle.message_view.specs.Messages.{backend_key_data, password_message, ready_for_query}
 use Rattle.message_view.specs.declared.kinds.TheConstants.{IDLE}
 use Rattle.session_values.specs.declared.cause.Cause.{Cause}
 use Rattle.session_values.specs.declared.parameter.Parameter.{Parameter}
 use Rattle.session_values.specs.Parameters.{reported_parameters}
 use Rattle.session_values.specs.State.{State, StartKeyOf, all_reports_from}
-use Rattle.link_laws.specs.Stages.{Server, Auth, NoAuth, Asks, Turn, Closed, wrong_password, opened, opens, is_answer}
+use Rattle.link_laws.specs.Stages.{Server, Auth, NoAuth, Asks, Closed, wrong_password, opened, opens, is_answer}
 use Rattle.link_laws.specs.Starts.{start_body}
 use Rattle.link_laws.specs.Dialogues.{start_replies, IsToQuestion, IsShortReply}
 use Rattle.link_start.specs.declared.start.TheConstants.{LONGEST_WELCOME}

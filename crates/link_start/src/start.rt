@@ -180,7 +180,11 @@ impl Progress {
     fn by(moved: bool) -> Progress
         ensures { result ≡ (if moved then progress.Moved else progress.Idle) }
     {
-        if moved { Progress::Moved } else { Progress::Idle }
+        if moved {
+            Progress::Moved
+        } else {
+            Progress::Idle
+        }
     }
 }
 
