@@ -5,6 +5,7 @@ use Rattle.std.specs.Borrow.{Bor}
 use Rattle.std.specs.Result.{IsErrAnd}
 use Rattle.std.specs.List.{flat_map, AllByRecursion}
 use Rattle.std.proofs.lemmas.Bool.{true≢false}
+use Rattle.std.proofs.lemmas.Grind.{flat_map-append}
 use Rattle.std.proofs.lemmas.Option.{same_Some}
 use Rattle.frame_view.specs.declared.Side.TheVariants.{Server as FromServer}
 use Rattle.frame_view.specs.Frames.{AreBytes, Cut, FrameOf, Front, AFrame, Lacks, Faulty, Start, Splits, first_spelling, front, frames, spelling}
@@ -29,16 +30,18 @@ use Rattle.link_run.specs.Receipts.{HasStarted, IsClean, by_start}
 use Rattle.link_start.specs.declared.start_reply.StartProgress.{StartProgress}
 use Rattle.link_start.specs.declared.start_reply.StartProgress.TheVariants.{Nothing, Asked, LetIn, Ready, Refused, Other}
 use Rattle.link_start.specs.declared.start_reply.Question.{Question}
+use Rattle.link_start.specs.declared.start.TheConstants.{LONGEST_WELCOME}
 use Rattle.link_start.specs.declared.start.StartCause.{StartCause}
 use Rattle.link_start.specs.declared.start.StartCause.TheVariants.{Lost, Unanswerable, Unexpected, Memory, Turns}
 use Rattle.link_start.specs.declared.start.StartCause.TheVariants as causes
 use Rattle.link_start.specs.Questions.{answer_to, can_answer}
 use Rattle.link_start.specs.StartReply.{asked, bare, before, if_lawful, heard, heard_by, heard_all, heard_cut, error_in, reported_all, TellsKey, keyed_all}
-use Rattle.link_start.specs.Starts.{IsStartable, CanStart, IsLinkKey, answer_heard, own_answer, AsksQuestion, StartView, start_view, waits_of, IsOwn, IsUnderWay, IsWelcomed, IsDone, IsDoneFrom, IsOwnKey, IsError, IsRefusalOf, IsUnanswerable, IsEndCause, CameAs, IsErrorHeard, IsUnanswerableHeard, IsUnexpectedHeard, IsCause, IsWaiting, IsWaitingStart, HasTried, ReadsOnce, tried_before, tried_so_far, shown}
+use Rattle.link_start.specs.Starts.{IsStartable, CanStart, IsLinkKey, answer_heard, own_answer, AsksQuestion, StartView, start_view, waits_of, IsOwn, IsUnderWay, IsWelcomed, IsDone, IsDoneFrom, IsOwnKey, IsError, IsRefusalOf, IsUnanswerable, IsEndCause, CameAs, IsErrorHeard, IsUnanswerableHeard, IsUnexpectedHeard, IsCause, IsWaiting, IsWaitingStart, HasTried, ReadsOnce, shown}
 use Rattle.link_start.proofs.Grammar.{start_answer}
 use Rattle.link_start.proofs.Hearing.{no_other, still_refused, ready_is_last, never_asked, asked_stays, ready_came, first_error, is_error}
 use Rattle.link_start.proofs.Keying.{TellsOwnKey}
 use Rattle.link_start.proofs.Telling.{OpensReported, RefusedBy, IsHeard, replies_heard, let_in_heard, not_faulty}
+use Rattle.link_start.proofs.Lengths.{replies_are_short}
 
 -- ---- moves
 
@@ -294,6 +297,17 @@ module _ (began : Standing) (secret : Secret) (v : StartView) (c : CanStart bega
   unfolding got tail
   never_unexpected e = lawful_before (heard_all secret Nothing got) refl e
 
+  -- what came is a beginning of all that it answers
+  answers_more : v.received ++ told.lost ≡ flat_map spelling replies
+  unfolding got tail
+  answers_more =
+      ap (λ (bs : List ℕ). bs ++ told.lost) split.whole ∙ append_assoc (flat_map spelling got) tail told.lost
+      ∙ ap (λ (bs : List ℕ). flat_map spelling got ++ bs) told.bytes ∙ sym (flat_map-append spelling got told.more) ∙ ap (flat_map spelling) (sym told.frames)
+
+  pub never_too_long : length v.received ≤ LONGEST_WELCOME
+  unfolding replies auth
+  never_too_long = omega (arith, length-append v.received told.lost, ap length answers_more, replies_are_short began.server auth v.key x.answer to shorts)
+
   question_is : (q : Question) → heard secret v.received ≡ Asked q → IsThat (auth_of began.stage) q
   unfolding got tail replies auth
   question_is q e = that_is secret began.server auth v.key x.answer got told.more q can.question to (sym told.frames) (before_is secret (heard_all secret Nothing got) (Asked q) tail e (λ z. cc))
@@ -375,7 +389,7 @@ never_unkeyed began secret v fault d f bytes e =
 
 -- a whole welcome with a report that can't be kept, or a key that can't be read
 pub unreported_cause : (began : Standing) (secret : Secret) (v : StartView) → IsDoneFrom began secret v → AreBytes v.received → reported_all [] (frames FromServer 65536 v.received).frames ≡ None → IsCause began v.end secret v.key Unexpected
-unreported_cause began secret v d bytes e = (came_as began secret v (IsUnexpectedHeard secret) d.under_way (inr (d.welcomed.ready, inl e)), λ f. never_unreported began secret v d f bytes e)
+unreported_cause began secret v d bytes e = (came_as began secret v (IsUnexpectedHeard secret) d.under_way (inr (inl (d.welcomed.ready, inl e))), λ f. never_unreported began secret v d f bytes e)
 
 fault_in : (r : Result (Option KeyView) ViewFault) → ((key : Option KeyView) → r ≡ Ok key → ⊥) → (fault : ViewFault) × (r ≡ Err fault)
 fault_in (Ok key) n = absurd (n key refl)
@@ -385,7 +399,7 @@ pub unkeyed_cause : (began : Standing) (secret : Secret) (v : StartView) (r : Re
     → r ≡ keyed_all None (frames FromServer 65536 v.received).frames → IsCause began v.end secret v.key Unexpected
 unkeyed_cause began secret v r d bytes n e =
     let y = fault_in r n in
-    (came_as began secret v (IsUnexpectedHeard secret) d.under_way (inr (d.welcomed.ready, inr (y.0, sym e ∙ y.1))), λ f. never_unkeyed began secret v y.0 d f bytes (sym e ∙ y.1))
+    (came_as began secret v (IsUnexpectedHeard secret) d.under_way (inr (inl (d.welcomed.ready, inr (y.0, sym e ∙ y.1)))), λ f. never_unkeyed began secret v y.0 d f bytes (sym e ∙ y.1))
 
 some_key : (k l : Option KeyView) (r : Result (Option KeyView) ViewFault) → r ≡ Ok k → r ≡ Ok l → k ≡ l
 some_key k l r e d = cc
@@ -430,18 +444,23 @@ still_waits Ready A B f w = w
 still_waits Refused A B f w = w
 still_waits Other A B f w = w
 
-pub has_tried : (began : Standing) (secret : Secret) (v : StartView) (turns : ℕ) → IsUnderWay began secret v → turns + tried_before began ≤ tried_so_far v → IsWaitingStart secret v → HasTried began secret v.key v.end turns
-has_tried began secret v turns x t w =
-    let s = x.starting in
-    let all : length v.end.accepted ≡ length began.accepted + length s.sent = ap length s.moves.accepted ∙ length-append began.accepted s.sent in
-    record {
-      answer = x.answer;
-      unsent = v.unsent;
-      received = v.received;
-      starting = s;
-      tries = omega (arith, t, all);
-      waits = still_waits (heard secret v.received) (v.answered ≡ true) (x.answer ≢ None) x.asked w;
-    }
+pub has_tried : (began : Standing) (secret : Secret) (v : StartView) (turns : ℕ) → IsUnderWay began secret v → turns + waits_of began ≤ waits_of v.end → IsWaitingStart secret v → HasTried began secret v.key v.end turns
+has_tried began secret v turns x t w = record {
+  answer = x.answer;
+  unsent = v.unsent;
+  received = v.received;
+  starting = x.starting;
+  tries = t;
+  waits = still_waits (heard secret v.received) (v.answered ≡ true) (x.answer ≢ None) x.asked w;
+}
+
+-- more came than any start's answer has, and more of it is to come
+pub long_cause : (began : Standing) (secret : Secret) (v : StartView) → CanStart began → IsLinkKey v.key → IsUnderWay began secret v → AreBytes v.received → LONGEST_WELCOME < length v.received → IsWaitingStart secret v
+    → IsCause began v.end secret v.key Unexpected
+long_cause began secret v c k x bytes l w = (
+  came_as began secret v (IsUnexpectedHeard secret) x (inr (inr (l, still_waits (heard secret v.received) (v.answered ≡ true) (Unit {0}) (λ _. tt) w))),
+  λ f. let short = never_too_long began secret v c k x f bytes in omega (arith, l, short),
+)
 
 -- before the first byte
 pub waits_first : (secret : Secret) (received : List ℕ) → received ≡ [] → IsWaiting (heard secret received) (false ≡ true)
@@ -483,7 +502,12 @@ start_heard began l m secret k n b a u r t y e h x = start_got began l m secret 
 -- ---- why an end is lost
 
 pub end_cause : (began now : Standing) (secret : Secret) (key : StartKeyOf) (v : StartView) (cause : StartCause) → IsUnderWay began secret v → IsEndCause v.end now cause → IsCause began now secret key cause
-end_cause began now secret key v Lost x e = ⊎_elim (λ d. inl d) (λ l. inr (omega (arith, l, x.faults))) e
+end_cause began now secret key v Lost x e = record {
+  sent = x.starting.sent;
+  received = v.received ++ [];
+  moves = moves_got began v.end now x.starting.sent v.received [] x.starting.moves e.0;
+  says = ⊎_elim (λ d. inl d) (λ l. inr (omega (arith, l, x.faults))) e.1;
+}
 end_cause began now secret key v Memory x e = tt
 end_cause began now secret key v (causes.Refused error) x e = absurd e
 end_cause began now secret key v (Unanswerable question) x e = absurd e

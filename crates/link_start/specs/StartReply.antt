@@ -116,7 +116,7 @@ IsEnd secret Ready = ⊥
 IsEnd secret Refused = Unit {0}
 IsEnd secret Other = Unit {0}
 
--- It is heard so whatever comes behind it: no cut of the bytes changes it.
+-- A cause that came stays one, whatever comes behind it, wherever the bytes are cut.
 abbrev pub EndsAreHeard : Type 0
 EndsAreHeard = (secret : Secret) (bytes more : List ℕ) → IsEnd secret (heard secret bytes) → heard secret (bytes ++ more) ≡ heard secret bytes
 
