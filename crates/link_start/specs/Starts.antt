@@ -18,7 +18,7 @@ use Rattle.link_run.specs.Links.{LinkView}
 use Rattle.link_run.specs.declared.reply.TheConstants.{LONGEST_REPLY}
 use Rattle.link_start.specs.declared.start_reply.StartProgress.{StartProgress}
 use Rattle.link_start.specs.declared.start_reply.StartProgress.TheVariants as heard
-use Rattle.link_start.specs.declared.start_reply.Question.{Question}
+use Rattle.link_start.specs.declared.start_reply.ServerQuestion.{ServerQuestion}
 use Rattle.link_start.specs.declared.start.TheConstants.{CHUNK, LONGEST_WELCOME}
 use Rattle.link_start.specs.declared.start.StartCause.{StartCause}
 use Rattle.link_start.specs.declared.start.StartCause.TheVariants.{Refused, Lost, Unanswerable, Unexpected, Memory, Turns}
@@ -29,7 +29,7 @@ use Rattle.link_start.specs.StartReply as spec
 
 -- the question is one, alone in its frame
 pub record IsQuestion (kind : ℕ) (more : List ℕ) : Type 0 where
-  pub question : Question
+  pub question : ServerQuestion
   pub is_read : spec.asked (authentication kind more).body ≡ heard.Asked question
 
 abbrev pub AsksQuestion : Auth → Type 0
@@ -94,7 +94,7 @@ IsOwn secret user auth None = Unit {0}
 IsOwn secret user auth (Some text) = own_answer secret user auth ≡ Some text
 
 -- Since its server was new it was sent the StartupMessage of the key, and this user's own answer to its question.
-pub record IsUnderWay (began : Standing) (secret : Secret) (v : StartView) : Type 0 where
+pub record IsStartUnderWay (began : Standing) (secret : Secret) (v : StartView) : Type 0 where
   pub answer : Option Text
   pub starting : IsStarting began v.key answer v.unsent v.end v.received
   pub own : began.follows ≡ true → IsOwn secret v.key.user (auth_of began.stage) answer
@@ -120,7 +120,7 @@ pub record IsWelcomed (secret : Secret) (v : StartView) : Type 0 where
 pub record IsDoneFrom (began : Standing) (secret : Secret) (v : StartView) : Type 0 where
   pub can_start : CanStart began
   pub key : IsLinkKey v.key
-  pub under_way : IsUnderWay began secret v
+  pub under_way : IsStartUnderWay began secret v
   pub welcomed : IsWelcomed secret v
 
 abbrev pub IsDone : StartView → Type 0
@@ -130,7 +130,7 @@ IsDone v = (began : Standing) × ((secret : Secret) × IsDoneFrom began secret v
 pub record IsStarted (began : Standing) (secret : Secret) (l : LinkView) : Type 0 where
   pub received : List ℕ
   pub answered : Bool
-  pub under_way : IsUnderWay began secret (start_view l.stands l.key l.number l.born answered [] received)
+  pub under_way : IsStartUnderWay began secret (start_view l.stands l.key l.number l.born answered [] received)
   pub ready : spec.heard secret received ≡ heard.Ready
   pub reports : spec.reported_all [] (frames Server LONGEST_REPLY received).frames ≡ Some l.reports
   pub tells_key : spec.TellsKey (frames Server LONGEST_REPLY received).frames l.server_key
@@ -180,7 +180,7 @@ abbrev pub IsErrorHeard : Secret → List ℕ → List ℕ → Type 0
 IsErrorHeard secret error received = (spec.heard secret received ≡ heard.Refused) × (error ≡ spec.error_in (answer_in received)) × IsError error
 
 -- it asks this, which this user can't answer
-abbrev pub IsUnanswerableHeard : Secret → Text → Question → List ℕ → Type 0
+abbrev pub IsUnanswerableHeard : Secret → Text → ServerQuestion → List ℕ → Type 0
 IsUnanswerableHeard secret user question received = (spec.heard secret received ≡ heard.Asked question) × (answer_to secret user question ≡ None)
 
 -- More of the answer is to come: of a question only once it is answered.
@@ -206,13 +206,13 @@ IsUnexpectedHeard secret received = (spec.heard secret received ≡ heard.Other)
 
 -- By its cause: what came says it, over an end of any kind; and an end that follows refuses, or asks what can't be answered, only as its
 -- server does, and says nothing unexpected. Of memory no contract says why; of turns `HasTried` does.
-abbrev pub IsCause : Standing → Standing → Secret → StartKeyOf → StartCause → Type 0
-IsCause began now secret key (Refused error) = CameAs began now (IsErrorHeard secret error) × (began.follows ≡ true → IsRefusalOf began secret key error)
-IsCause began now secret key Lost = CameAs began now (λ _. IsLost began now)
-IsCause began now secret key (Unanswerable question) = CameAs began now (IsUnanswerableHeard secret key.user question) × (began.follows ≡ true → IsUnanswerable secret key.user (auth_of began.stage))
-IsCause began now secret key Unexpected = CameAs began now (IsUnexpectedHeard secret) × (began.follows ≡ true → ⊥)
-IsCause began now secret key Memory = Unit {0}
-IsCause began now secret key Turns = Unit {0}
+abbrev pub IsStartCause : Standing → Standing → Secret → StartKeyOf → StartCause → Type 0
+IsStartCause began now secret key (Refused error) = CameAs began now (IsErrorHeard secret error) × (began.follows ≡ true → IsRefusalOf began secret key error)
+IsStartCause began now secret key Lost = CameAs began now (λ _. IsLost began now)
+IsStartCause began now secret key (Unanswerable question) = CameAs began now (IsUnanswerableHeard secret key.user question) × (began.follows ≡ true → IsUnanswerable secret key.user (auth_of began.stage))
+IsStartCause began now secret key Unexpected = CameAs began now (IsUnexpectedHeard secret) × (began.follows ≡ true → ⊥)
+IsStartCause began now secret key Memory = Unit {0}
+IsStartCause began now secret key Turns = Unit {0}
 
 -- ---- how long it goes on
 

@@ -11,11 +11,11 @@ ghost use Rattle.link_start.specs.declared.start.Progress.TheVariants as progres
 ghost use Rattle.user_file.specs.declared.secrets.Secret.{Secret};
 ghost use Rattle.link_start.specs.declared.start.StartCause.TheVariants as causes;
 ghost use Rattle.link_start.specs.Refusing.{refusal_of};
-ghost use Rattle.link_start.specs.Starts.{CanStart, CountsOn, HasTried, IsBounded, IsCause, IsDone, IsDoneFrom, IsEndCause, IsLinkKey, IsOwnKey, IsSameStart, IsStartPaced, IsStartPacedToEnd, IsStarted, IsUnderWay, IsWaitingStart, IsWelcomed, ReadsOnce, TakesTurns, WritesOnce, bytes_left, moved_of, waits_of};
+ghost use Rattle.link_start.specs.Starts.{CanStart, CountsOn, HasTried, IsBounded, IsStartCause, IsDone, IsDoneFrom, IsEndCause, IsLinkKey, IsOwnKey, IsSameStart, IsStartPaced, IsStartPacedToEnd, IsStarted, IsStartUnderWay, IsWaitingStart, IsWelcomed, ReadsOnce, TakesTurns, WritesOnce, bytes_left, moved_of, waits_of};
 
 use crate::messages::{password_of, startup_message};
 use crate::start_reply::{
-    Question, ReportError, StartProgress, error_in, key_told, read_start_reply, take_reports,
+    ReportError, ServerQuestion, StartProgress, error_in, key_told, read_start_reply, take_reports,
 };
 use bytes::BytesMut;
 use link_run::gate::Gate;
@@ -77,7 +77,7 @@ pub enum StartCause {
     Lost,
     /// The server asks this, which is neither for a password nor for its MD5 digest; or for a password where the secret keeps only
     /// its digest, or has a zero byte. What stands behind it isn't looked at.
-    Unanswerable(Question),
+    Unanswerable(ServerQuestion),
     /// Something else was answered, a report or the server's key can't be read, more than 64 names were reported, a frame is longer
     /// than [`link_run::reply::LONGEST_REPLY`], or more than [`LONGEST_WELCOME`] bytes came and the answer isn't whole.
     Unexpected,
@@ -196,7 +196,7 @@ impl<E: ServerEnd> Start<E> {
         number: u64,
         born: u64,
     ) -> Result<Start<E>, StartLinkFault<E>>
-        ensures under_way { IfOk result (λ s. (secret : Secret) → IsUnderWay (E.standing end) secret s) }
+        ensures under_way { IfOk result (λ s. (secret : Secret) → IsStartUnderWay (E.standing end) secret s) }
         ensures same { IfOk result (λ s. (s.key ≡ arc_value key) × (s.number ≡ number) × (s.born ≡ born)) }
         ensures stands { IfOk result (λ s. s.end ≡ E.standing end) }
         ensures none { IfOk result (λ s. length s.received ≡ 0) }
@@ -224,7 +224,7 @@ impl<E: ServerEnd> Start<E> {
 
     /// Writes once, if something is left to be sent; whether bytes went.
     fn send(&mut self) -> Result<bool, StartCause>
-        ensures under_way { (b : Standing) (s : Secret) → IsUnderWay b s self.old → OnOk result (IsUnderWay b s self.new) }
+        ensures under_way { (b : Standing) (s : Secret) → IsStartUnderWay b s self.old → OnOk result (IsStartUnderWay b s self.new) }
         ensures same { IsSameStart self.old self.new }
         ensures received { self.new.received ≡ self.old.received }
         ensures answered { self.new.answered ≡ self.old.answered }
@@ -252,7 +252,7 @@ impl<E: ServerEnd> Start<E> {
 
     /// Reads once; whether bytes came. The room comes first: a refused growth after the read would lose bytes.
     fn receive(&mut self) -> Result<bool, StartCause>
-        ensures under_way { (b : Standing) (s : Secret) → IsUnderWay b s self.old → OnOk result (IsUnderWay b s self.new) }
+        ensures under_way { (b : Standing) (s : Secret) → IsStartUnderWay b s self.old → OnOk result (IsStartUnderWay b s self.new) }
         ensures same { IsSameStart self.old self.new }
         ensures unsent { self.new.unsent ≡ self.old.unsent }
         ensures answered { self.new.answered ≡ self.old.answered }
@@ -301,33 +301,33 @@ impl<E: ServerEnd> Start<E> {
     }
 
     /// Puts the answer to the server's question behind what is sent, once.
-    fn answer(&mut self, question: Question, secret: &Secret) -> Result<(), StartCause>
+    fn answer(&mut self, question: ServerQuestion, secret: &Secret) -> Result<(), StartCause>
         requires asked { heard secret.now self.old.received ≡ came.Asked question }
         requires bytes { AreBytes self.old.received }
-        ensures under_way { (b : Standing) → CanStart b → IsLinkKey self.old.key → IsUnderWay b secret.now self.old → OnOk result (IsUnderWay b secret.now self.new) }
+        ensures under_way { (b : Standing) → CanStart b → IsLinkKey self.old.key → IsStartUnderWay b secret.now self.old → OnOk result (IsStartUnderWay b secret.now self.new) }
         ensures same { IsSameStart self.old self.new }
         ensures end { self.new.end ≡ self.old.end }
         ensures received { self.new.received ≡ self.old.received }
         ensures answered { OnOk result (self.new.answered ≡ true) }
         ensures left { OnOk result (bytes_left self.new ≤ bytes_left self.old) }
         ensures no_turns { IfErr result (λ c. c ≢ causes.Turns) }
-        ensures cause { (b : Standing) → CanStart b → IsLinkKey self.old.key → IsUnderWay b secret.now self.old → IfErr result (λ c. IsCause b self.new.end secret.now self.old.key c) }
+        ensures cause { (b : Standing) → CanStart b → IsLinkKey self.old.key → IsStartUnderWay b secret.now self.old → IfErr result (λ c. IsStartCause b self.new.end secret.now self.old.key c) }
     {
         if self.answered {
             return Ok(());
         }
         match question {
-            Question::Cleartext => {
+            ServerQuestion::Cleartext => {
                 let Some(password) = password_of(secret) else {
                     return Err(StartCause::Unanswerable(question));
                 };
                 put_password_message(&mut self.messages, password)?;
             }
-            Question::Md5(salt) => {
+            ServerQuestion::Md5(salt) => {
                 let digest = secret.answer(self.key.user.as_slice(), salt);
                 put_password_message(&mut self.messages, &digest)?;
             }
-            Question::Unknown(_) => return Err(StartCause::Unanswerable(question)),
+            ServerQuestion::Unknown(_) => return Err(StartCause::Unanswerable(question)),
         }
         self.answered = true;
         Ok(())
@@ -335,7 +335,7 @@ impl<E: ServerEnd> Start<E> {
 
     /// What came so far: whether it is the whole welcome. A question is answered, once.
     fn hear(&mut self, alloc: Global, secret: &Secret) -> Result<bool, StartCause>
-        ensures under_way { (b : Standing) → CanStart b → IsLinkKey self.old.key → IsUnderWay b secret.now self.old → OnOk result (IsUnderWay b secret.now self.new) }
+        ensures under_way { (b : Standing) → CanStart b → IsLinkKey self.old.key → IsStartUnderWay b secret.now self.old → OnOk result (IsStartUnderWay b secret.now self.new) }
         ensures same { IsSameStart self.old self.new }
         ensures end { self.new.end ≡ self.old.end }
         ensures received { OnOk result (self.new.received ≡ self.old.received) }
@@ -345,7 +345,7 @@ impl<E: ServerEnd> Start<E> {
         ensures ready { IfOk result (λ r. r ≡ true → heard secret.now self.old.received ≡ came.Ready) }
         ensures unsent { IfOk result (λ r. r ≡ true → self.new.unsent ≡ self.old.unsent) }
         ensures no_turns { IfErr result (λ c. c ≢ causes.Turns) }
-        ensures cause { (b : Standing) → CanStart b → IsLinkKey self.old.key → IsUnderWay b secret.now self.old → IfErr result (λ c. IsCause b self.new.end secret.now self.old.key c) }
+        ensures cause { (b : Standing) → CanStart b → IsLinkKey self.old.key → IsStartUnderWay b secret.now self.old → IfErr result (λ c. IsStartCause b self.new.end secret.now self.old.key c) }
     {
         match self.read_start_reply(secret) {
             StartProgress::Ready => Ok(true),
@@ -362,7 +362,7 @@ impl<E: ServerEnd> Start<E> {
     /// Writes at most once and, where all is sent, reads at most once.
     fn turn(&mut self, alloc: Global, secret: &Secret) -> Result<Progress, StartCause>
         requires { IsWaitingStart secret.now self.old }
-        ensures under_way { (b : Standing) → CanStart b → IsLinkKey self.old.key → IsUnderWay b secret.now self.old → OnOk result (IsUnderWay b secret.now self.new) }
+        ensures under_way { (b : Standing) → CanStart b → IsLinkKey self.old.key → IsStartUnderWay b secret.now self.old → OnOk result (IsStartUnderWay b secret.now self.new) }
         ensures same { IsSameStart self.old self.new }
         ensures waits { IfOk result (λ p. p ≢ progress.Ready → IsWaitingStart secret.now self.new) }
         ensures welcomed { IfOk result (λ p. p ≡ progress.Ready → IsWelcomed secret.now self.new) }
@@ -376,7 +376,7 @@ impl<E: ServerEnd> Start<E> {
         ensures once { waits_of self.new.end ≤ waits_of self.old.end + 1 }
         ensures last { IfOk result (λ p. p ≡ progress.Ready → waits_of self.new.end ≡ waits_of self.old.end) }
         ensures no_turns { IfErr result (λ c. c ≢ causes.Turns) }
-        ensures cause { (b : Standing) → CanStart b → IsLinkKey self.old.key → IsUnderWay b secret.now self.old → IfErr result (λ c. IsCause b self.new.end secret.now self.old.key c) }
+        ensures cause { (b : Standing) → CanStart b → IsLinkKey self.old.key → IsStartUnderWay b secret.now self.old → IfErr result (λ c. IsStartCause b self.new.end secret.now self.old.key c) }
     {
         let wrote = self.send()?;
         if !self.is_sent() {
@@ -413,7 +413,7 @@ impl<E: ServerEnd> Start<E> {
         ensures stands { IfOk result (λ l. l.stands ≡ self.end) }
         ensures back { IfErr result (λ f. E.standing f.end ≡ self.end) }
         ensures no_turns { IfErr result (λ f. f.cause ≢ causes.Turns) }
-        ensures cause { (b : Standing) (s : Secret) → IsDoneFrom b s self → IfErr result (λ f. IsCause b (E.standing f.end) s self.key f.cause) }
+        ensures cause { (b : Standing) (s : Secret) → IsDoneFrom b s self → IfErr result (λ f. IsStartCause b (E.standing f.end) s self.key f.cause) }
     {
         let Start {
             end,
@@ -502,7 +502,7 @@ pub fn start_link<E: ServerEnd, G: Gate<E>>(
     ensures key { IfOk result (λ l. l.key ≡ arc_value key) }
     ensures number { IfOk result (λ l. l.number ≡ number) }
     ensures born { IfOk result (λ l. l.born ≡ born) }
-    ensures cause { IfErr result (λ f. IsCause (E.standing end) (E.standing f.end) secret.now (arc_value key) f.cause) }
+    ensures cause { IfErr result (λ f. IsStartCause (E.standing end) (E.standing f.end) secret.now (arc_value key) f.cause) }
     ensures turns { IfErr result (λ f. f.cause ≡ causes.Turns → HasTried (E.standing end) secret.now (arc_value key) (E.standing f.end) turns) }
     ensures taken { MatchResult result (λ l. TakesTurns (E.standing end) l.stands (G.turns gate.old) (G.turns gate.new) turns) (λ f. TakesTurns (E.standing end) (E.standing f.end) (G.turns gate.old) (G.turns gate.new) turns) }
     ensures bounded { MatchResult result (λ l. IsBounded (E.standing end) l.stands) (λ f. IsBounded (E.standing end) (E.standing f.end)) }

@@ -24,7 +24,7 @@ use user_file::Secret;
 
 /// What a server asks of the user that starts a link.
 #[derive(Clone, Copy, Drop)]
-pub enum Question {
+pub enum ServerQuestion {
     /// The password, as it is.
     Cleartext,
     /// The digest of the password with this salt.
@@ -39,7 +39,7 @@ pub enum StartProgress {
     /// Nothing of it.
     Nothing,
     /// A question.
-    Asked(Question),
+    Asked(ServerQuestion),
     /// AuthenticationOk: ReadyForQuery is waited for.
     LetIn,
     /// ReadyForQuery: nothing may follow.
@@ -65,7 +65,7 @@ fn salted(more: &[u8]) -> StartProgress
     ensures { result ≡ spec.salted more.now }
 {
     match more {
-        [a, b, c, d] => StartProgress::Asked(Question::Md5([*a, *b, *c, *d])),
+        [a, b, c, d] => StartProgress::Asked(ServerQuestion::Md5([*a, *b, *c, *d])),
         _ => StartProgress::Other,
     }
 }
@@ -75,9 +75,9 @@ fn asked_by(kind: u32, more: &[u8]) -> StartProgress
 {
     match kind {
         ASKS_NOTHING => bare(StartProgress::LetIn, more),
-        ASKS_CLEARTEXT => bare(StartProgress::Asked(Question::Cleartext), more),
+        ASKS_CLEARTEXT => bare(StartProgress::Asked(ServerQuestion::Cleartext), more),
         ASKS_MD5 => salted(more),
-        kind => StartProgress::Asked(Question::Unknown(kind)),
+        kind => StartProgress::Asked(ServerQuestion::Unknown(kind)),
     }
 }
 
@@ -134,7 +134,7 @@ fn welcomed(frame: Frame<'_>) -> StartProgress
 }
 
 /// Behind a question that this user can answer.
-fn after_question(question: Question, frame: Frame<'_>) -> StartProgress
+fn after_question(question: ServerQuestion, frame: Frame<'_>) -> StartProgress
     ensures { result ≡ spec.after_question question (frame_of frame.entry) }
 {
     match frame.kind {
@@ -144,13 +144,13 @@ fn after_question(question: Question, frame: Frame<'_>) -> StartProgress
     }
 }
 
-fn can_answer(secret: &Secret, question: Question) -> bool
+fn can_answer(secret: &Secret, question: ServerQuestion) -> bool
     ensures { result ≡ can_answer secret.now question }
 {
     match question {
-        Question::Cleartext => password_of(secret).is_some(),
-        Question::Md5(_) => true,
-        Question::Unknown(_) => false,
+        ServerQuestion::Cleartext => password_of(secret).is_some(),
+        ServerQuestion::Md5(_) => true,
+        ServerQuestion::Unknown(_) => false,
     }
 }
 

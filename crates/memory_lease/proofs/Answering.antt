@@ -23,7 +23,7 @@ use Rattle.link_laws.specs.Stages as stages
 use Rattle.link_laws.specs.Dialogues.{start_error}
 use Rattle.link_laws.proofs.Splits.{SplitsOff, same_back, split_whole}
 use Rattle.link_start.specs.Links.{LinkView, IsFreshLink}
-use Rattle.link_start.specs.Starts.{CanStart, HasTried, IsCause, IsLetIn, IsStartable, IsStarted, IsRefusalOf}
+use Rattle.link_start.specs.Starts.{CanStart, HasTried, IsStartCause, IsLetIn, IsStartable, IsStarted, IsRefusalOf}
 use Rattle.link_start.specs.declared.start.StartCause.{StartCause}
 use Rattle.link_start.specs.declared.start.StartCause.TheVariants as cause
 use Rattle.message_view.specs.declared.refusal.Refusal.TheVariants.{ServerNotReached}
@@ -340,7 +340,7 @@ told_first dies limit bytes old new pieces n e d = inr (record {
 })
 
 unstarted_by : (dies : Option ℕ) (began now : Standing) (secret : Secret) (key : StartKeyOf) (word : KeyWord) (limit turns : ℕ) (bytes old new rest : List ℕ) (c : StartCause) (server : OwnOf) → began.follows ≡ true → began.accepted ≡ mark dies ∷ rest → IsLetIn began key secret
-    → IsCause began now secret key c → (c ≡ cause.Turns → HasTried began secret key now turns) → server.standing ≡ now → old ≡ [] → TellsCause c server old new → IsAnswer dies limit bytes new (own_pieces began.server.catalogue key word bytes)
+    → IsStartCause began now secret key c → (c ≡ cause.Turns → HasTried began secret key now turns) → server.standing ≡ now → old ≡ [] → TellsCause c server old new → IsAnswer dies limit bytes new (own_pieces began.server.catalogue key word bytes)
 unstarted_by dies began now secret key word limit turns bytes old new rest (cause.Refused error) server f a l x h s n t = refused_start dies began secret key word limit bytes new error l (x.1 f) (t ∙ ap (λ (o : List ℕ). o ++ error) n)
 unstarted_by dies began now secret key word limit turns bytes old new rest cause.Lost server f a l x h s n t = told_first dies limit bytes old new _ n t.1.0 (dies_by dies began now x.sent x.received rest server a x.moves s t.1.1)
 unstarted_by dies began now secret key word limit turns bytes old new rest (cause.Unanswerable question) server f a l x h s n t = told_first dies limit bytes old new _ n t.1.0 (dies_by dies began now x.0.sent x.0.received rest server a x.0.moves s t.1.1)
@@ -351,9 +351,9 @@ unstarted_by dies began now secret key word limit turns bytes old new rest cause
 
 -- what a client is told whose link wasn't started
 pub unstarted : (dies : Option ℕ) (start : Standing) (first_own server : OwnOf) (secret : Secret) (key : StartKeyOf) (word : KeyWord) (limit turns : ℕ) (bytes old new : List ℕ) (c : StartCause) → first_own ≡ own_server dies start → start.follows ≡ true → IsLetIn start key secret
-    → IsCause first_own.standing server.standing secret key c → (c ≡ cause.Turns → HasTried first_own.standing secret key server.standing turns) → old ≡ [] → TellsCause c server old new → IsAnswer dies limit bytes new (own_pieces start.server.catalogue key word bytes)
+    → IsStartCause first_own.standing server.standing secret key c → (c ≡ cause.Turns → HasTried first_own.standing secret key server.standing turns) → old ≡ [] → TellsCause c server old new → IsAnswer dies limit bytes new (own_pieces start.server.catalogue key word bytes)
 unstarted dies start first_own server secret key word limit turns bytes old new c o f l x h n t =
-    unstarted_by dies (marked dies start) server.standing secret key word limit turns bytes old new start.accepted c server f refl l (subst (λ (y : OwnOf). IsCause y.standing server.standing secret key c) o x)
+    unstarted_by dies (marked dies start) server.standing secret key word limit turns bytes old new start.accepted c server f refl l (subst (λ (y : OwnOf). IsStartCause y.standing server.standing secret key c) o x)
     (λ e. subst (λ (y : OwnOf). HasTried y.standing secret key server.standing turns) o (h e)) refl n t
 
 -- a start may begin as one of the server alone

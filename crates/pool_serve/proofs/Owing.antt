@@ -15,7 +15,7 @@ use Rattle.link_laws.specs.Standing.{ClientFacts, Standing}
 use Rattle.link_laws.specs.Dialogues.{start_error}
 use Rattle.link_run.specs.Links.{LinkView}
 use Rattle.link_desk.specs.Homes.{HomeOf, IsAtHome}
-use Rattle.link_start.specs.Starts.{IsCause, IsLetIn, IsRefusalOf}
+use Rattle.link_start.specs.Starts.{IsStartCause, IsLetIn, IsRefusalOf}
 use Rattle.link_start.specs.declared.start.StartCause.{StartCause}
 use Rattle.link_start.specs.declared.start.StartCause.TheVariants as cause
 use Rattle.login_core.specs.Talk.End.{Passed}
@@ -53,7 +53,7 @@ refused_start began secret key word error l x =
     let one : service_pieces began.server.catalogue key word [] [] ≡ spelling x.frame ∷ [] = fresh_error (fresh began.server.catalogue key) x.frame began.server.catalogue word (client_frames []) (sym l ∙ x.refusal) in
     record { more = []; both = append-nil error ∙ (x.whole ∙ (sym (append-nil (spelling x.frame)) ∙ ap joined_pieces (sym one))) }
 
-unstarted_at : (began now : Standing) (secret : Secret) (key : StartKeyOf) (word : KeyWord) (c : StartCause) → began.follows ≡ true → IsLetIn began key secret → IsCause began now secret key c → MayEnd [] (service_pieces began.server.catalogue key word [] []) (last_of c)
+unstarted_at : (began now : Standing) (secret : Secret) (key : StartKeyOf) (word : KeyWord) (c : StartCause) → began.follows ≡ true → IsLetIn began key secret → IsStartCause began now secret key c → MayEnd [] (service_pieces began.server.catalogue key word [] []) (last_of c)
 unstarted_at began now secret key word (cause.Refused error) f l x = refused_start began secret key word error l (x.1 f)
 unstarted_at began now secret key word cause.Memory f l x = refusal_ends (service_pieces began.server.catalogue key word [] []) OutOfMemory
 unstarted_at began now secret key word cause.Lost f l x = refusal_ends (service_pieces began.server.catalogue key word [] []) ServerNotReached
@@ -61,7 +61,7 @@ unstarted_at began now secret key word (cause.Unanswerable question) f l x = ref
 unstarted_at began now secret key word cause.Unexpected f l x = refusal_ends (service_pieces began.server.catalogue key word [] []) ServerNotReached
 unstarted_at began now secret key word cause.Turns f l x = refusal_ends (service_pieces began.server.catalogue key word [] []) ServerNotReached
 
-pub unstarted : (cat : CatalogueOf) (began now : Standing) (secret : Secret) (key : StartKeyOf) (word : KeyWord) (c : StartCause) (last : FinalMessage) → last ≡ last_of c → began.server.catalogue ≡ cat → began.follows ≡ true → IsLetIn began key secret → IsCause began now secret key c → MayEnd [] (service_pieces cat key word [] []) last
+pub unstarted : (cat : CatalogueOf) (began now : Standing) (secret : Secret) (key : StartKeyOf) (word : KeyWord) (c : StartCause) (last : FinalMessage) → last ≡ last_of c → began.server.catalogue ≡ cat → began.follows ≡ true → IsLetIn began key secret → IsStartCause began now secret key c → MayEnd [] (service_pieces cat key word [] []) last
 unstarted cat began now secret key word c last e h f l x =
     subst (λ (w : FinalMessage). MayEnd [] (service_pieces cat key word [] []) w) (sym e) (subst (λ (d : CatalogueOf). MayEnd [] (service_pieces d key word [] []) (last_of c)) h (unstarted_at began now secret key word c f l x))
 

@@ -6,7 +6,7 @@ use disposal::Verdict;
 use link_desk::answers::Cancelled;
 use link_desk::desk::LinkDesk;
 use link_start::start::StartCause;
-use link_start::start_reply::Question;
+use link_start::start_reply::ServerQuestion;
 use log_lines::notes::{Client, Loss, Note, Server, Unstarted, Visit};
 use login_core::Failure;
 use login_run::{LoginReply, LoginRun};
@@ -86,11 +86,11 @@ pub(crate) fn note_end<D: LinkDesk>(desk: &D, client: &Client<'_>, last: Option<
 }
 
 /// The authentication that a question asks for, by the protocol's number.
-fn number_of(question: Question) -> u32 {
+fn number_of(question: ServerQuestion) -> u32 {
     match question {
-        Question::Cleartext => 3,
-        Question::Md5(_) => 5,
-        Question::Unknown(number) => number,
+        ServerQuestion::Cleartext => 3,
+        ServerQuestion::Md5(_) => 5,
+        ServerQuestion::Unknown(number) => number,
     }
 }
 

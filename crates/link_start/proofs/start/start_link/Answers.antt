@@ -5,7 +5,7 @@ use Rattle.session_values.specs.State.{StartKeyOf}
 use Rattle.link_laws.specs.Standing.{Standing}
 use Rattle.link_start.specs.declared.start.Progress.TheVariants.{Idle, Moved, Ready}
 use Rattle.link_start.specs.declared.start.StartCause.{StartCause}
-use Rattle.link_start.specs.Starts.{HasTried, IsCause, IsLinkKey}
+use Rattle.link_start.specs.Starts.{HasTried, IsStartCause, IsLinkKey}
 use Rattle.link_start.proofs.Starting.{done_from, has_tried}
 use Rattle.link_start.proofs.start.start_link.Goals as goal
 
@@ -19,14 +19,14 @@ returns-in-Ok-Ready-clause-own_key g c =
 
 pub returns-in-Ok-Ready-clause-cause : goal.returns-in-Ok-Ready-clause-cause
 returns-in-Ok-Ready-clause-cause g c =
-    subst (λ (k : StartKeyOf). IfErr c.finish.result (λ f. IsCause (g.E.ServerEnd.standing c.args.end) (g.E.ServerEnd.standing f.end) c.args.secret.now k f.cause)) (c.in-Ok-Ready.ensures.same.0 ∙ c.loop-left.invariant.key)
+    subst (λ (k : StartKeyOf). IfErr c.finish.result (λ f. IsStartCause (g.E.ServerEnd.standing c.args.end) (g.E.ServerEnd.standing f.end) c.args.secret.now k f.cause)) (c.in-Ok-Ready.ensures.same.0 ∙ c.loop-left.invariant.key)
     (c.finish.ensures.cause _ _ (done_from _ _ _ _ _ c.requires.can_start c.requires.key c.loop-left.invariant.key c.in-Ok-Ready.ensures.same.0 c.loop-left.invariant.under_way (c.in-Ok-Ready.ensures.under_way _) (c.in-Ok-Ready.ensures.welcomed c.in-Ok-Ready.field-0-is)))
 
 pub returns-in-Err-clause-cause : goal.returns-in-Err-clause-cause
 returns-in-Err-clause-cause g c =
-    subst (λ (k : StartKeyOf). IsCause (g.E.ServerEnd.standing c.args.end) (g.E.ServerEnd.standing c.fail.result.end) c.args.secret.now k c.fail.result.cause) c.loop-left.invariant.key
-    (subst (λ (s : Standing). IsCause (g.E.ServerEnd.standing c.args.end) s c.args.secret.now c.loop-left.start.key c.fail.result.cause) (sym c.fail.ensures.end)
-    (subst (λ (cause : StartCause). IsCause (g.E.ServerEnd.standing c.args.end) c.turn.new.self.end c.args.secret.now c.loop-left.start.key cause) (sym c.fail.ensures.cause)
+    subst (λ (k : StartKeyOf). IsStartCause (g.E.ServerEnd.standing c.args.end) (g.E.ServerEnd.standing c.fail.result.end) c.args.secret.now k c.fail.result.cause) c.loop-left.invariant.key
+    (subst (λ (s : Standing). IsStartCause (g.E.ServerEnd.standing c.args.end) s c.args.secret.now c.loop-left.start.key c.fail.result.cause) (sym c.fail.ensures.end)
+    (subst (λ (cause : StartCause). IsStartCause (g.E.ServerEnd.standing c.args.end) c.turn.new.self.end c.args.secret.now c.loop-left.start.key cause) (sym c.fail.ensures.cause)
     (c.in-Err.ensures.cause _ c.requires.can_start (subst (λ (k : StartKeyOf). IsLinkKey k) (sym c.loop-left.invariant.key) c.requires.key) c.loop-left.invariant.under_way)))
 
 pub returns-clause-turns : goal.returns-clause-turns

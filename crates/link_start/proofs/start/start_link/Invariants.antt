@@ -1,12 +1,12 @@
 use Rattle.std.proofs.Common.{◌≡◌, ◌+◌, ◌≤◌, length}
 use Rattle.std.specs.Arc.{arc_value}
 use Rattle.link_start.specs.declared.start.TheConstants.{LONGEST_WELCOME}
-use Rattle.link_start.specs.Starts.{IsUnderWay, IsWaitingStart, bytes_left, moved_of, waits_of}
+use Rattle.link_start.specs.Starts.{IsStartUnderWay, IsWaitingStart, bytes_left, moved_of, waits_of}
 use Rattle.link_start.proofs.start.start_link.Given as goal
 
 abbrev pub invariant-loop-left : goal.invariant-loop-left
 invariant-loop-left g l = record {
-  under_way : IsUnderWay (g.E.ServerEnd.standing l.fn.end) l.secret l.start;
+  under_way : IsStartUnderWay (g.E.ServerEnd.standing l.fn.end) l.secret l.start;
   key : l.start.key ≡ arc_value l.fn.key;
   number : l.start.number ≡ l.fn.number;
   born : l.start.born ≡ l.fn.born;

@@ -1,18 +1,18 @@
 use Rattle.std.proofs.Common.{sym, ◌∙◌, subst}
 use Rattle.frame_view.specs.Frames.{AreBytes}
 use Rattle.link_start.specs.declared.start.StartCause.TheVariants as causes
-use Rattle.link_start.specs.Starts.{IsLinkKey, IsCause}
+use Rattle.link_start.specs.Starts.{IsLinkKey, IsStartCause}
 use Rattle.link_start.proofs.Starting.{caused, end_cause, handed_on, long_cause}
 use Rattle.link_start.proofs.start.Start.turn.Goals as goal
 
 pub returns-in_err-wrote-clause-cause : goal.returns-in_err-wrote-clause-cause
 returns-in_err-wrote-clause-cause g c = λ b can k x.
-    handed_on (λ cause. IsCause b c.send.new.self.end c.args.secret.now c.args.self.now.key cause) _ _ c.from_residual.ensures.1
+    handed_on (λ cause. IsStartCause b c.send.new.self.end c.args.secret.now c.args.self.now.key cause) _ _ c.from_residual.ensures.1
     (end_cause b c.send.new.self.end c.args.secret.now c.args.self.now.key c.args.self.now _ x c.in_err-wrote.ensures.cause)
 
 pub returns-in_err-read-clause-cause : goal.returns-in_err-read-clause-cause
 returns-in_err-read-clause-cause g c = λ b can k x.
-    handed_on (λ cause. IsCause b c.receive.new.self.end c.args.secret.now c.args.self.now.key cause) _ _ c.from_residual-in_err-read.ensures.1
+    handed_on (λ cause. IsStartCause b c.receive.new.self.end c.args.secret.now c.args.self.now.key cause) _ _ c.from_residual-in_err-read.ensures.1
     (end_cause b c.receive.new.self.end c.args.secret.now c.args.self.now.key c.send.new.self _ (c.in_ok-wrote.ensures.under_way b _ x) c.in_err-read.ensures.cause)
 
 pub returns-then-is_too_long-clause-cause : goal.returns-then-is_too_long-clause-cause
