@@ -92,7 +92,7 @@ impl<C: ClientEnd, E: ServerEnd> Relay<C, E> {
     ghost use Rattle.relay_laws.specs.Leases.{Place, place, IsLease, IsExact, IsAllowed, Keeps, relay_verdict, at_border};
     ghost use Rattle.relay_laws.specs.Answers.{EndsByClient, RefusedBy, AtBorder, IsCut, judged, phase_after};
     ghost use Rattle.relay_core.specs.Returns.{IsReturned, is_clear};
-    ghost use Rattle.relay_laws.specs.Steps.{bytes_moved, HoldsAll, IsOnce, LeavesSides, Waits};
+    ghost use Rattle.relay_laws.specs.Steps.{bytes_moved, HoldsAll, IsOnce, LeavesSides, StopsLink, Waits};
     ghost use Rattle.relay_laws.specs.declared.Next.TheVariants.{Again, Wait, ClientDone, Refuse, Closed};
     ghost use Rattle.relay_laws.specs.declared.Phase.TheVariants.{Running, Done, Shut};
     ghost use Rattle.message_view.specs.declared.refusal.Refusal.{Refusal};
@@ -147,7 +147,8 @@ impl<C: ClientEnd, E: ServerEnd> Relay<C, E> {
     }
 
     /// Moves bytes: each end that is ready is read once and written once at most, and one that isn't is left as it is. It waits for
-    /// nobody.
+    /// nobody. Behind a fault of the client's bytes nothing more is written to the server's end, and once that faulted or ended it is
+    /// left as it is.
     ///
     /// Again: a byte was read or written. Wait: none was, since each end that is ready answered NotNow, or may not be read, or
     /// has no room for what would be read, or nothing that may go on is held for it. ClientDone: the client sent Terminate or its
@@ -169,6 +170,7 @@ impl<C: ClientEnd, E: ServerEnd> Relay<C, E> {
         ensures none { result ≡ Wait → self.old.client.tells ≡ true → bytes_moved self.new ≡ bytes_moved self.old }
         ensures waits { result ≡ Wait → Waits ready.client ready.server self.old self.new }
         ensures sides { LeavesSides ready.client ready.server self.old self.new }
+        ensures stops { StopsLink self.old self.new }
         ensures once { IsOnce self.old self.new }
         ensures client_fault { result ≢ ClientDone → self.new.client.faults ≡ self.old.client.faults }
         ensures holds_all { self.old.phase ≡ Running → HoldsAll self.new }
@@ -251,6 +253,7 @@ impl<C: ClientEnd, E: ServerEnd> Relay<C, E> {
         ensures none { result ≡ Wait → self.old.client.tells ≡ true → bytes_moved self.new ≡ bytes_moved self.old }
         ensures waits { result ≡ Wait → Waits ready.client ready.server self.old self.new }
         ensures sides { LeavesSides ready.client ready.server self.old self.new }
+        ensures stops { StopsLink self.old self.new }
         ensures once { IsOnce self.old self.new }
         ensures client_fault { result ≢ ClientDone → self.new.client.faults ≡ self.old.client.faults }
         ensures holds_all { HoldsAll self.new }
@@ -268,6 +271,7 @@ impl<C: ClientEnd, E: ServerEnd> Relay<C, E> {
         ensures none { result ≡ Wait → self.old.client.tells ≡ true → bytes_moved self.new ≡ bytes_moved self.old }
         ensures waits { result ≡ Wait → Waits ready.client ready.server self.old self.new }
         ensures sides { LeavesSides ready.client ready.server self.old self.new }
+        ensures stops { StopsLink self.old self.new }
         ensures once { IsOnce self.old self.new }
         ensures client_fault { result ≢ ClientDone → self.new.client.faults ≡ self.old.client.faults }
         ensures holds_all { HoldsAll self.new }
