@@ -1,5 +1,5 @@
 //! A server that says what it is told to, and a link over it.
-ghost use Rattle.std.specs.Prelude.{◌≡◌, ◌<◌, [], IfOk};
+ghost use Rattle.std.specs.Prelude.{◌≡◌, [], IfOk};
 ghost use Rattle.std.specs.Arc.{arc_value};
 
 use crate::making::key;
@@ -9,7 +9,7 @@ use param_track::Reported;
 use server_end::transcript::Transcript;
 use server_end::{Moved, ServerEnd};
 use start_keys::StartKey;
-use std::alloc::Global;
+use std::alloc::{AllocError, Global};
 use std::sync::Arc;
 use std::test::Fail;
 
@@ -32,6 +32,22 @@ impl Drop for SayingEnd {
             accepted: _,
             given: _,
         } = self;
+    }
+}
+
+impl SayingEnd {
+    fn new(key: &Arc<StartKey>, words: &'static [u8], cut: usize) -> Result<SayingEnd, AllocError>
+        ensures key { IfOk result (λ s. arc_value s.key ≡ arc_value key.now) }
+        ensures accepted { IfOk result (λ s. s.accepted.bytes ≡ []) }
+        ensures given { IfOk result (λ s. s.given.bytes ≡ []) }
+    {
+        Ok(SayingEnd {
+            key: Arc::try_clone(key)?,
+            words,
+            cut,
+            accepted: Transcript::new(),
+            given: Transcript::new(),
+        })
     }
 }
 
@@ -78,15 +94,8 @@ pub fn saying_link(
 ) -> Result<CleanLink<SayingEnd>, Fail> {
     unfollowed_starts_are_clean();
     let key = key(alloc, true)?;
-    let end = SayingEnd {
-        key: Arc::try_clone(&key)?,
-        words,
-        cut,
-        accepted: Transcript::new(),
-        given: Transcript::new(),
-    };
     let parts = LinkParts {
-        end,
+        end: SayingEnd::new(&key, words, cut)?,
         key,
         number: 1,
         born: 0,

@@ -41,6 +41,25 @@ fn comes(book: &mut Book<GoneEnd>, key: &Arc<StartKey>) -> Result<u64, AllocErro
     Ok(client)
 }
 
+/// A link of this key, number and second of birth, whose server has gone since.
+fn gone_link(
+    alloc: Global,
+    key: Arc<StartKey>,
+    number: u64,
+    born: u64,
+) -> Result<CleanLink<GoneEnd>, AllocError> {
+    unfollowed_starts_are_clean();
+    let parts = LinkParts {
+        end: GoneEnd::of(&key)?,
+        key,
+        number,
+        born,
+        server_key: None,
+        reported: Reported::new(alloc),
+    };
+    Ok(parts.clean())
+}
+
 /// A link of this key that is started for the client.
 fn started(
     alloc: Global,
@@ -48,19 +67,10 @@ fn started(
     key: &Arc<StartKey>,
     client: u64,
 ) -> Result<CleanLink<GoneEnd>, AllocError> {
-    unfollowed_starts_are_clean();
     let Reply::Start { number, born, .. } = happens(book, Event::Take { client }) else {
         return Err(AllocError);
     };
-    let parts = LinkParts {
-        end: GoneEnd::of(key)?,
-        key: Arc::try_clone(key)?,
-        number,
-        born,
-        server_key: None,
-        reported: Reported::new(alloc),
-    };
-    Ok(parts.clean())
+    gone_link(alloc, Arc::try_clone(key)?, number, born)
 }
 
 /// A book with a client that has a link, one that waits, and a link that lies idle.

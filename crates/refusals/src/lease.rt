@@ -27,23 +27,26 @@ fn is_untouched(client: &MemoryClient) -> bool {
     client.taken().is_empty() && client.given().is_empty() && client.faults() == 0
 }
 
-/// A lease of this link to this client, which begins once more with what is handed back.
+/// A lease of this link to this client, which begins once more with what is handed back; none, which is told, where that fails too.
 fn begun<E: ServerEnd>(
     alloc: Global,
     client: MemoryClient,
     link: CleanLink<E>,
     out: &mut Vec<u8>,
-) -> Result<Relay<MemoryClient, E>, AllocError> {
+) -> Result<Option<Relay<MemoryClient, E>>, AllocError> {
     let number = link.number();
     let (client, link) = match Relay::begin(alloc, client, link, KEY_WORD, LIMIT) {
-        Ok(relay) => return Ok(relay),
+        Ok(relay) => return Ok(Some(relay)),
         Err(back) => back,
     };
     let is_back = is_untouched(&client) && link.number() == number;
     put_unless(is_back, b"a lease hands other ends back", out)?;
     match Relay::begin(alloc, client, link, KEY_WORD, LIMIT) {
-        Ok(relay) => Ok(relay),
-        Err(_) => Err(AllocError),
+        Ok(relay) => Ok(Some(relay)),
+        Err(_) => {
+            put_unless(false, b"a lease isn't begun twice", out)?;
+            Ok(None)
+        }
     }
 }
 
@@ -62,6 +65,15 @@ pub fn pumped<E: ServerEnd>(relay: Relay<MemoryClient, E>) -> (MemoryClient, Ret
     relay.close()
 }
 
+/// How many faults the end of a link has counted.
+fn faults_of<E: ServerEnd>(link: Returned<E>) -> u64 {
+    match link {
+        Returned::Unused(link) => link.lend().end.faults(),
+        Returned::Used(link) => link.lend().end.faults(),
+        Returned::Gone(parts, _) => parts.end.faults(),
+    }
+}
+
 /// Appends what a client is given over this link. An end of it may be refused memory meanwhile, which isn't asked again.
 fn put_lease<E: ServerEnd>(
     alloc: Global,
@@ -69,11 +81,11 @@ fn put_lease<E: ServerEnd>(
     out: &mut Vec<u8>,
 ) -> Result<(), AllocError> {
     let client = MemoryClient::new(alloc, TALK, CUT)?;
-    let relay = begun(alloc, client, link, out)?;
-    let (client, Returned::Used(link)) = pumped(relay) else {
-        return Err(AllocError);
+    let Some(relay) = begun(alloc, client, link, out)? else {
+        return Ok(());
     };
-    if client.faults() > 0 || link.lend().end.faults() > 0 {
+    let (client, link) = pumped(relay);
+    if client.faults() > 0 || faults_of(link) > 0 {
         return Err(AllocError);
     }
     put_bytes(alloc, b"given", client.given(), out)

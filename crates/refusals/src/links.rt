@@ -98,11 +98,13 @@ fn put_start<E: ServerEnd>(
     requires first { CanStart (E.standing end) }
     requires next { CanStart (E.standing next) }
 {
-    let link = match started(alloc, end, out)? {
-        Some(link) => link,
-        None => link(alloc, next, out)?,
-    };
-    put_link(alloc, &link, out)
+    if let Some(link) = started(alloc, end, out)? {
+        return put_link(alloc, &link, out);
+    }
+    match started(alloc, next, out)? {
+        Some(link) => put_link(alloc, &link, out),
+        None => put_unless(false, b"a start fails twice", out),
+    }
 }
 
 /// The start of a link.
@@ -180,7 +182,7 @@ fn put_reset<E: ServerEnd>(
     let second = used(alloc, next, out)?;
     match reset(alloc, second, out)? {
         Some(link) => put_link(alloc, &link, out),
-        None => Err(AllocError),
+        None => put_unless(false, b"a reset fails twice", out),
     }
 }
 

@@ -49,14 +49,11 @@ pub fn server(alloc: Global) -> Result<MemoryServer, AllocError>
 {
     memory_servers_can_start();
     let catalogue = catalogue(alloc)?;
-    MemoryServer::new(
-        alloc,
-        catalogue,
-        ServerAuth::Plain(PASSWORD),
-        KEY_WORD,
-        CUT,
-        None,
-    )
+    let auth = ServerAuth::Plain(PASSWORD);
+    match MemoryServer::new(alloc, catalogue, auth, KEY_WORD, CUT, None) {
+        Ok(server) => Ok(server),
+        Err(_) => Err(AllocError),
+    }
 }
 
 /// The database shop, for pools of two links.
