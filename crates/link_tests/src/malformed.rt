@@ -4,7 +4,7 @@ use crate::saying_end::saying_link;
 use disposal::Verdict;
 use memory_ends::memory_client::MemoryClient;
 use message_view::{KeyWord, Refusal};
-use relay_core::relay::{Cause, Relay, Returned};
+use relay_core::relay::{GoneCause, Relay, Returned};
 use relay_laws::Next;
 use server_end::gate::Ready;
 use std::alloc::Global;
@@ -77,7 +77,7 @@ fn is_broken(alloc: Global, said: Said, sent: &[u8], cut: usize) -> Result<bool,
         }
     }
     let (client, link) = relay.close();
-    let is_gone = matches!(link, Returned::Gone(_, Cause::Left(Verdict::Broken)));
+    let is_gone = matches!(link, Returned::Gone(_, GoneCause::Left(Verdict::Broken)));
     let is_refused = next == Next::Refuse(Refusal::MalformedServerMessage);
     let is_given = match client.given().strip_prefix(WELCOME) {
         Some(given) => given.len() == said.goes_on && TAG.starts_with(given),

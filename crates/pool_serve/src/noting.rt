@@ -11,7 +11,7 @@ use log_lines::notes::{Client, Loss, Note, Server, Unstarted, Visit};
 use login_core::Failure;
 use login_run::{LoginReply, LoginRun};
 use message_view::Refusal;
-use relay_core::relay::Cause;
+use relay_core::relay::GoneCause;
 use server_end::ClientEnd;
 use start_keys::StartKey;
 use std::sync::Arc;
@@ -132,11 +132,11 @@ pub(crate) fn ending_note<'a>(logged_in: &LoggedIn, ending: &'a Ending) -> Optio
 }
 
 /// Why a link is closed after its lease.
-pub(crate) fn loss_of(cause: Cause) -> Loss {
+pub(crate) fn loss_of(cause: GoneCause) -> Loss {
     match cause {
-        Cause::Lost => Loss::Ended,
-        Cause::Left(Verdict::InBlock) => Loss::InBlock,
-        Cause::Left(Verdict::Broken) => Loss::Foreign,
-        Cause::Left(_) => Loss::Unanswered,
+        GoneCause::Lost => Loss::Ended,
+        GoneCause::Left(Verdict::InBlock) => Loss::InBlock,
+        GoneCause::Left(Verdict::Broken) => Loss::Foreign,
+        GoneCause::Left(_) => Loss::Unanswered,
     }
 }
