@@ -11,6 +11,8 @@ DESTDIR ?=
 
 program := crates/pgsess/out/pgsess
 trials := crates/trials/out/trials
+refusals := crates/refusals/out/refusals
+message_parts := crates/message_parts/out/message_parts
 sources := crates.txt $(shell find crates -name out -prune -o -name must-fail -prune -o \( -name '*.rt' -o -name '*.antt' \) -print)
 
 # the program, as `rt ci` or an earlier build left it; else proved and built now
@@ -25,6 +27,18 @@ $(trials): $(sources)
 	@scripts/prove.py trials solo "$(CURDIR)/tests/rows/catalogue.tsv" ann
 	@touch $(trials)
 	@echo "built $(trials) ($$(date +%T))"
+
+# the tool that asks once more for what is refused, likewise
+$(refusals): $(sources)
+	@scripts/prove.py refusals login
+	@touch $(refusals)
+	@echo "built $(refusals) ($$(date +%T))"
+
+# and the one that tells the parts of messages
+$(message_parts): $(sources)
+	@scripts/prove.py message_parts first
+	@touch $(message_parts)
+	@echo "built $(message_parts) ($$(date +%T))"
 
 build/pgsess: $(program)
 	@mkdir -p build
@@ -50,7 +64,7 @@ test:
 # crate's takes, and would let that crate wait until nothing else runs; so it is told how many checks run side by side
 gate:
 	RT_JOBS=$$(scripts/jobs.sh) rt ci
-	@$(MAKE) --no-print-directory $(program) $(trials)
+	@$(MAKE) --no-print-directory $(program) $(trials) $(refusals) $(message_parts)
 	scripts/rows.sh $(program) $(trials)
 	scripts/leases.sh $(trials)
 	scripts/conversations.sh $(program) $(trials)
@@ -58,13 +72,15 @@ gate:
 	scripts/wrong_bytes.sh $(program) $(trials)
 	scripts/logins.sh $(trials)
 	scripts/clients.sh $(trials)
-	scripts/refuse-growth.sh $(program) $(trials)
+	scripts/views.sh $(message_parts)
+	scripts/refuse-growth.sh $(program) $(trials) $(refusals)
 	scripts/refused_growths.sh $(program)
 	scripts/faulty_servers.sh $(program)
 	PGSESS=$(program) scripts/cli.sh
 	scripts/welcomes.sh $(program)
 	scripts/cursors.sh $(program)
 	scripts/postgres.sh $(program)
+	scripts/calls.py $(program)
 	scripts/cancels.sh $(program)
 	scripts/console.sh $(program)
 	scripts/abuse.sh $(program)
@@ -91,7 +107,7 @@ deb: build/pgsess
 
 # all run; the status says whether a bound was missed
 bench: build/pgsess $(trials)
-	@status=0; bench/replay.sh build/pgsess || status=$$?; bench/tables.sh build/pgsess || status=$$?; bench/relay.sh $(trials) || status=$$?; bench/book.sh $(trials) || status=$$?; bench/calls.py build/pgsess || status=$$?; bench/pool.sh build/pgsess || status=$$?; exit $$status
+	@status=0; bench/replay.sh build/pgsess || status=$$?; bench/tables.sh build/pgsess || status=$$?; bench/relay.sh $(trials) || status=$$?; bench/book.sh $(trials) || status=$$?; scripts/calls.py build/pgsess || status=$$?; bench/pool.sh build/pgsess || status=$$?; exit $$status
 
 clean:
 	rm -rf build crates/*/out

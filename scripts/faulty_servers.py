@@ -67,6 +67,7 @@ ANSWERS = [message(b"C", b"SET\0") + status(b"DateStyle", b"SQL, DMY") + IDLE, S
 AFTER_RESET = TAG + status(b"DateStyle", b"ISO, MDY") + IDLE
 PARTS = [START, *ANSWERS, AFTER_RESET]
 NAMES = ["start", "first answer", "second answer", "reset"]
+LONG_NOTICE = message(b"N", b"SNOTICE\0C00000\0M" + b"hello " * 50 + b"\0\0")
 
 
 # what a server may say at a border that it shouldn't, or that nobody asked for
@@ -227,6 +228,10 @@ def cases_of(number):
         yield Case(f"{name}: cut in two at each byte", f"byte {size}", number, [data[:size], REST, data[size:]], None)
     pieces = [piece for at in range(len(data)) for piece in (data[at:at + 1], REST / 10)]
     yield Case(f"{name}: byte by byte", "", number, pieces, None)
+    if number == IN_START:
+        # more bytes than a start has turns to wait for
+        long = data[:borders(data)[1]] + LONG_NOTICE * 4 + data[borders(data)[1]:]
+        yield Case(f"{name}: {len(long)} bytes, byte by byte", "", number, [piece for at in range(len(long)) for piece in (long[at:at + 1], REST / 10)], None)
     for border in borders(data):
         for kind, frame in STRANGE.items():
             group = f"{name}: {len(STRANGE)} strange messages at {len(borders(data))} borders"

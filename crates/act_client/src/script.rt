@@ -16,7 +16,7 @@ pub enum Act<'a> {
     Send(u32, &'a [u8]),
     /// This client hangs up.
     Go(u32),
-    /// It is this second.
+    /// The clock has reached this second.
     Tick(u64),
     /// Each server that is started from here on dies once so many bytes were read from it.
     ServersDieAfter(u64),

@@ -1,17 +1,17 @@
 //! Faults of the settings file and the lines that they are told with.
-use ini_config::{Cause, IniFault, read_settings};
+use ini_config::{IniCause, IniFault, read_settings};
 use std::alloc::Global;
 use std::process::Abort;
 use std::test::Fail;
 
-fn fault(alloc: Global, text: &[u8]) -> Option<(Cause, usize)> {
+fn fault(alloc: Global, text: &[u8]) -> Option<(IniCause, usize)> {
     match read_settings(alloc, text) {
         Ok(_) => None,
         Err(fault) => Some((fault.cause, fault.line)),
     }
 }
 
-fn check<A: Abort>(rt: &A, alloc: Global, rows: &[(&[u8], Cause, usize)]) -> Result<(), Fail> {
+fn check<A: Abort>(rt: &A, alloc: Global, rows: &[(&[u8], IniCause, usize)]) -> Result<(), Fail> {
     for (text, cause, line) in rows {
         assert!(rt; fault(alloc, text) == Some((*cause, *line)));
     }
@@ -20,70 +20,82 @@ fn check<A: Abort>(rt: &A, alloc: Global, rows: &[(&[u8], Cause, usize)]) -> Res
 
 #[test]
 fn faults_of_lines(rt: HostRuntime) -> Result<(), Fail> {
-    let rows: &[(&[u8], Cause, usize)] = &[
-        (b"%include x", Cause::NotALine, 1),
-        (b"[pgbouncer]\n%include x", Cause::NotALine, 2),
-        (b"[PgBouncer]", Cause::UnknownSection, 1),
-        (b"[ users ]", Cause::UnknownSection, 1),
-        (b"\n; c\n# c\n[users]\nann = x", Cause::UnknownSection, 5),
-        (b"[peers]\nwords", Cause::UnknownSection, 2),
-        (b"listen_port = 1", Cause::NotALine, 1),
-        (b"[pgbouncer]\n[x", Cause::NotALine, 2),
-        (b"[pgbouncer]\n[x = y", Cause::UnknownKey, 2),
-        (b"[pgbouncer]\n= x", Cause::UnknownKey, 2),
-        (b"[pgbouncer]\nListen_port = 1", Cause::UnknownKey, 2),
+    let rows: &[(&[u8], IniCause, usize)] = &[
+        (b"%include x", IniCause::NotALine, 1),
+        (b"[pgbouncer]\n%include x", IniCause::NotALine, 2),
+        (b"[PgBouncer]", IniCause::UnknownSection, 1),
+        (b"[ users ]", IniCause::UnknownSection, 1),
+        (b"\n; c\n# c\n[users]\nann = x", IniCause::UnknownSection, 5),
+        (b"[peers]\nwords", IniCause::UnknownSection, 2),
+        (b"listen_port = 1", IniCause::NotALine, 1),
+        (b"[pgbouncer]\n[x", IniCause::NotALine, 2),
+        (b"[pgbouncer]\n[x = y", IniCause::UnknownKey, 2),
+        (b"[pgbouncer]\n= x", IniCause::UnknownKey, 2),
+        (b"[pgbouncer]\nListen_port = 1", IniCause::UnknownKey, 2),
     ];
     check(&rt, rt.alloc(), rows)
 }
 
 #[test]
 fn faults_of_keys(rt: HostRuntime) -> Result<(), Fail> {
-    let rows: &[(&[u8], Cause, usize)] = &[
-        (b"[pgbouncer]\npool_mode = transaction", Cause::PoolMode, 2),
-        (b"[pgbouncer]\nlisten_port = 70000", Cause::BadValue, 2),
+    let rows: &[(&[u8], IniCause, usize)] = &[
+        (
+            b"[pgbouncer]\npool_mode = transaction",
+            IniCause::PoolMode,
+            2,
+        ),
+        (b"[pgbouncer]\nlisten_port = 70000", IniCause::BadValue, 2),
         (
             b"[pgbouncer]\nlisten_port = 1\nlisten_port = 2",
-            Cause::KeyTwice,
+            IniCause::KeyTwice,
             3,
         ),
-        (b"[pgbouncer]\nauth_type = MD5", Cause::BadValue, 2),
+        (b"[pgbouncer]\nauth_type = MD5", IniCause::BadValue, 2),
         (
             b"[pgbouncer]\nlisten_port = 1\nlisten_port = 0",
-            Cause::BadValue,
+            IniCause::BadValue,
             3,
         ),
         (
             b"[pgbouncer]\npool_mode = session\npool_mode = statement",
-            Cause::KeyTwice,
+            IniCause::KeyTwice,
             3,
         ),
         (
             b"[pgbouncer]\nserver_reset_query = DISCARD  ALL",
-            Cause::ResetQuery,
+            IniCause::ResetQuery,
             2,
         ),
         (
             b"[pgbouncer]\nlogfile = a\n[databases]\n[pgbouncer]\nlogfile = b",
-            Cause::KeyTwice,
+            IniCause::KeyTwice,
             5,
         ),
-        (b"[pgbouncer]\nmax_packet_size = 1023", Cause::BadValue, 2),
-        (b"[pgbouncer]\nlisten_addr = 1.2.3.04", Cause::BadValue, 2),
-        (b"[pgbouncer]\nmax_links = 10001", Cause::BadValue, 2),
-        (b"[pgbouncer]\nserver_lifetime = -1", Cause::BadValue, 2),
+        (
+            b"[pgbouncer]\nmax_packet_size = 1023",
+            IniCause::BadValue,
+            2,
+        ),
+        (
+            b"[pgbouncer]\nlisten_addr = 1.2.3.04",
+            IniCause::BadValue,
+            2,
+        ),
+        (b"[pgbouncer]\nmax_links = 10001", IniCause::BadValue, 2),
+        (b"[pgbouncer]\nserver_lifetime = -1", IniCause::BadValue, 2),
         (
             b"[pgbouncer]\nlogfile = a\nuntrack_parameters = TimeZone, IntervalStyle",
-            Cause::BadValue,
+            IniCause::BadValue,
             3,
         ),
         (
             b"[pgbouncer]\nuntrack_parameters = time zone",
-            Cause::BadValue,
+            IniCause::BadValue,
             2,
         ),
         (
             b"[pgbouncer]\nuntrack_parameters =\nuntrack_parameters =",
-            Cause::KeyTwice,
+            IniCause::KeyTwice,
             3,
         ),
     ];
@@ -92,28 +104,28 @@ fn faults_of_keys(rt: HostRuntime) -> Result<(), Fail> {
 
 #[test]
 fn faults_of_rows(rt: HostRuntime) -> Result<(), Fail> {
-    let rows: &[(&[u8], Cause, usize)] = &[
-        (b"[databases]\nshop = port=1", Cause::BadValue, 2),
+    let rows: &[(&[u8], IniCause, usize)] = &[
+        (b"[databases]\nshop = port=1", IniCause::BadValue, 2),
         (
             b"[databases]\npgbouncer = host=127.0.0.1",
-            Cause::BadValue,
+            IniCause::BadValue,
             2,
         ),
-        (b"[databases]\n* = host=127.0.0.1", Cause::BadValue, 2),
+        (b"[databases]\n* = host=127.0.0.1", IniCause::BadValue, 2),
         (
             b"[databases]\na = host=127.0.0.1 password='x'",
-            Cause::BadValue,
+            IniCause::BadValue,
             2,
         ),
-        (b"[databases]\na = host='127.0.0.1'", Cause::BadValue, 2),
+        (b"[databases]\na = host='127.0.0.1'", IniCause::BadValue, 2),
         (
             b"[databases]\na = host=127.0.0.1 host=127.0.0.1",
-            Cause::BadValue,
+            IniCause::BadValue,
             2,
         ),
         (
             b"[databases]\na = host=127.0.0.1 dbname=",
-            Cause::BadValue,
+            IniCause::BadValue,
             2,
         ),
     ];
@@ -122,21 +134,21 @@ fn faults_of_rows(rt: HostRuntime) -> Result<(), Fail> {
 
 #[test]
 fn faults_of_names_and_separators(rt: HostRuntime) -> Result<(), Fail> {
-    let rows: &[(&[u8], Cause, usize)] = &[
-        (b"[databases]\n= host=127.0.0.1", Cause::BadValue, 2),
+    let rows: &[(&[u8], IniCause, usize)] = &[
+        (b"[databases]\n= host=127.0.0.1", IniCause::BadValue, 2),
         (
             b"[databases]\na = host=127.0.0.1\nb = host=127.0.0.1\na = host=127.0.0.1",
-            Cause::KeyTwice,
+            IniCause::KeyTwice,
             4,
         ),
         (
             b"[databases]\na = host=127.0.0.1\na = host=x",
-            Cause::BadValue,
+            IniCause::BadValue,
             3,
         ),
         (
             b"[databases]\na = host=127.0.0.1\tport=1",
-            Cause::BadValue,
+            IniCause::BadValue,
             2,
         ),
     ];
@@ -146,14 +158,14 @@ fn faults_of_names_and_separators(rt: HostRuntime) -> Result<(), Fail> {
 #[test]
 fn a_fault_shows_as_code_and_line(rt: HostRuntime) -> Result<(), Fail> {
     let shown = [
-        (Cause::UnknownSection, "C1 line 7"),
-        (Cause::UnknownKey, "C2 line 7"),
-        (Cause::BadValue, "C3 line 7"),
-        (Cause::KeyTwice, "C4 line 7"),
-        (Cause::PoolMode, "C5 line 7"),
-        (Cause::ResetQuery, "C6 line 7"),
-        (Cause::NotALine, "C7 line 7"),
-        (Cause::Memory, "C8 line 7"),
+        (IniCause::UnknownSection, "C1 line 7"),
+        (IniCause::UnknownKey, "C2 line 7"),
+        (IniCause::BadValue, "C3 line 7"),
+        (IniCause::KeyTwice, "C4 line 7"),
+        (IniCause::PoolMode, "C5 line 7"),
+        (IniCause::ResetQuery, "C6 line 7"),
+        (IniCause::NotALine, "C7 line 7"),
+        (IniCause::Memory, "C8 line 7"),
     ];
     for (cause, text) in shown {
         let fault = IniFault { cause, line: 7 };

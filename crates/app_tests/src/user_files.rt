@@ -2,9 +2,9 @@
 use std::alloc::Global;
 use std::fmt::Debug;
 use std::test::Fail;
-use user_file::{Cause, Secret, UserFault, UserRow, Users, read_users};
+use user_file::{Secret, UserCause, UserFault, UserRow, Users, read_users};
 
-fn fault(alloc: Global, text: &[u8]) -> Option<(Cause, usize)> {
+fn fault(alloc: Global, text: &[u8]) -> Option<(UserCause, usize)> {
     match read_users(alloc, text) {
         Ok(_) => None,
         Err(fault) => Some((fault.cause, fault.line)),
@@ -13,19 +13,19 @@ fn fault(alloc: Global, text: &[u8]) -> Option<(Cause, usize)> {
 
 #[test]
 fn faults_and_their_lines(rt: HostRuntime) -> Result<(), Fail> {
-    let rows: [(&[u8], Cause, usize); 12] = [
-        (b"\"x\" \"y\"\n\"a\" \"b", Cause::BadQuoting, 2),
-        (b"\"a\" \"b", Cause::BadQuoting, 1),
-        (b"\"a\"", Cause::BadQuoting, 1),
-        (b"\"a\" ", Cause::BadQuoting, 1),
-        (b"a \"b\"", Cause::BadQuoting, 1),
-        (b"\"a\" b", Cause::BadQuoting, 1),
-        (b"\"\" \"b\"", Cause::BadQuoting, 1),
-        (b"\"a\"\"b\"", Cause::BadQuoting, 1),
-        (b"\"a\"x\"b\"", Cause::BadQuoting, 1),
-        (b"\"a\" \"x\"\n\n; c\n\"a\" \"y\"", Cause::NameTwice, 4),
-        (b"\"a\"\"\" \"x\"\n\"a\"\"\" \"y\"", Cause::NameTwice, 2),
-        (b"\"a\" \"x\"\n\"a\" \"y", Cause::BadQuoting, 2),
+    let rows: [(&[u8], UserCause, usize); 12] = [
+        (b"\"x\" \"y\"\n\"a\" \"b", UserCause::BadQuoting, 2),
+        (b"\"a\" \"b", UserCause::BadQuoting, 1),
+        (b"\"a\"", UserCause::BadQuoting, 1),
+        (b"\"a\" ", UserCause::BadQuoting, 1),
+        (b"a \"b\"", UserCause::BadQuoting, 1),
+        (b"\"a\" b", UserCause::BadQuoting, 1),
+        (b"\"\" \"b\"", UserCause::BadQuoting, 1),
+        (b"\"a\"\"b\"", UserCause::BadQuoting, 1),
+        (b"\"a\"x\"b\"", UserCause::BadQuoting, 1),
+        (b"\"a\" \"x\"\n\n; c\n\"a\" \"y\"", UserCause::NameTwice, 4),
+        (b"\"a\"\"\" \"x\"\n\"a\"\"\" \"y\"", UserCause::NameTwice, 2),
+        (b"\"a\" \"x\"\n\"a\" \"y", UserCause::BadQuoting, 2),
     ];
     for (text, cause, line) in rows {
         assert!(rt; fault(rt.alloc(), text) == Some((cause, line)));
@@ -96,9 +96,9 @@ fn secrets_show_their_kind_alone(rt: HostRuntime) -> Result<(), Fail> {
 #[test]
 fn a_fault_shows_as_code_and_line(rt: HostRuntime) -> Result<(), Fail> {
     let rows = [
-        (Cause::BadQuoting, "U1 line 7"),
-        (Cause::NameTwice, "U2 line 7"),
-        (Cause::Memory, "U3 line 7"),
+        (UserCause::BadQuoting, "U1 line 7"),
+        (UserCause::NameTwice, "U2 line 7"),
+        (UserCause::Memory, "U3 line 7"),
     ];
     for (cause, text) in rows {
         let fault = UserFault { cause, line: 7 };

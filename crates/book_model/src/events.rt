@@ -35,7 +35,7 @@ pub enum Event {
     Leave {
         client: u64,
     },
-    /// It is this second.
+    /// The clock has reached this second.
     Tick {
         now: u64,
     },

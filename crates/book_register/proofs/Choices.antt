@@ -8,7 +8,7 @@ use Rattle.book_model.specs.Outcomes.{Answer, evicts, grants, starts}
 use Rattle.book_register.specs.Choices.{Chooses, eviction_of}
 use Rattle.book_rows.specs.Places.{IsLast}
 use Rattle.book_rows.proofs.Places.{found, not_found}
-use Rattle.book_register.specs.declared.board.Choice.TheVariants.{Lend, Start}
+use Rattle.book_register.specs.declared.book_state.Choice.TheVariants.{Lend, Start}
 
 pub lend_chosen : (b : Book) (t : Ticket) (place : ℕ) → IsLast (λ l. same_key l.key t.key) b.idle (Some place) → Chooses b t (Lend place)
 lend_chosen b t place h = (h.0, λ link at. ap (grants b t) (h.1 ∙ at))

@@ -10,7 +10,7 @@ use Rattle.book_model.specs.Outcomes.{Answer, grants, has_waited, lends, loses_t
 use Rattle.book_model.specs.declared.events.Reply.{Reply}
 use Rattle.book_model.specs.declared.events.Reply.TheVariants.{Queued, Refuse, Stranger}
 use Rattle.book_register.specs.Choices.{Chooses, Gives}
-use Rattle.book_register.specs.declared.board.Choice.TheVariants.{Lend, Start, Evict, Wait}
+use Rattle.book_register.specs.declared.book_state.Choice.TheVariants.{Lend, Start, Evict, Wait}
 use Rattle.book_model.specs.Kept.{KeptClients, KeptLinks}
 use Rattle.book_rows.proofs.Places.{at_place, found, get_is, not_found}
 

@@ -3,8 +3,8 @@ use Rattle.std.specs.Prelude.{◌≡◌, ◌<◌, ℕ, suc, Option, Some, None, 
 use Rattle.book_model.specs.Book.{Book, Link, Ticket, latest_of, without}
 use Rattle.book_model.specs.Outcomes.{Answer, grants, lends, starts, waits}
 use Rattle.book_model.specs.declared.events.Reply.{Reply}
-use Rattle.book_register.specs.declared.board.Choice.{Choice}
-use Rattle.book_register.specs.declared.board.Choice.TheVariants.{Lend, Start, Evict, Wait}
+use Rattle.book_register.specs.declared.book_state.Choice.{Choice}
+use Rattle.book_register.specs.declared.book_state.Choice.TheVariants.{Lend, Start, Evict, Wait}
 
 abbrev pub eviction_of : Option ℕ → Choice
 eviction_of None = Wait

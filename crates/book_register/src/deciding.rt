@@ -9,7 +9,7 @@ ghost use Rattle.book_model.specs.declared.counts.Kind.TheVariants.{Ticking};
 ghost use Rattle.book_register.specs.Kinds.{kind_in, kinds_of};
 ghost use Rattle.book_model.specs.Kept.{Kept, total};
 
-use crate::board::Board;
+use crate::book_state::BookState;
 use book_model::counts::{Counts, Kind};
 use book_model::events::{Event, Reply};
 use message_view::Refusal;
@@ -86,7 +86,7 @@ fn ticking(is_later: bool) -> Option<Kind>
     if is_later { Some(Kind::Ticking) } else { None }
 }
 
-impl Board {
+impl BookState {
     /// What an event makes of the lists, and its reply. It takes no memory.
     pub fn apply(&mut self, event: Event) -> Reply
         requires kept { Kept self.old }

@@ -9,7 +9,7 @@ ghost use Rattle.book_register.specs.Views.{view_of, waiting_at};
 ghost use Rattle.book_register.specs.Waking.{is_full, waiting_behind, waiting_for};
 ghost use Rattle.book_model.specs.Kept.{FitsLimits, Kept, KeptLimits};
 
-use crate::board::Board;
+use crate::book_state::BookState;
 use crate::view::{BookView, Waiting};
 use book_model::counts::Counts;
 use book_model::events::{Event, Reply};
@@ -25,7 +25,7 @@ use std::sync::Arc;
 
 /// The lists of the lease book, with room for all that they may hold.
 pub struct Lists {
-    board: Board,
+    board: BookState,
 }
 
 impl Drop for Lists {
@@ -90,10 +90,10 @@ fn all_ticks(decisions: u64) -> Counts
 }
 
 /// Empty lists, with all the room.
-fn empty_board(alloc: Global, limits: Arc<Limits>, decisions: u64) -> Result<Board, AllocError>
+fn empty_board(alloc: Global, limits: Arc<Limits>, decisions: u64) -> Result<BookState, AllocError>
     ensures { IfOk result (λ b. b ≡ counted_book (arc_value limits) decisions) }
 {
-    Ok(Board {
+    Ok(BookState {
         clients: Clients::new(alloc)?,
         tickets: Tickets::new(alloc)?,
         lent: Links::new(alloc)?,

@@ -4,7 +4,7 @@ ghost use Rattle.book_model.specs.Book as book;
 ghost use Rattle.book_register.specs.Views.{view_of, waiting_at};
 ghost use Rattle.book_register.specs.Waking.{waiting_behind, waiting_for};
 
-use crate::board::Board;
+use crate::book_state::BookState;
 use book_model::counts::Counts;
 use book_model::limits::Limits;
 use book_rows::clients::Client;
@@ -96,7 +96,7 @@ pub struct Waiting {
     pub first_of_pool: bool,
 }
 
-impl Board {
+impl BookState {
     /// The lists as they are now.
     pub fn view(&self, alloc: Global) -> Result<BookView, AllocError>
         ensures { IfOk result (λ v. v ≡ view_of self.now) }

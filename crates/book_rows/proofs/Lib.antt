@@ -1,3 +1,4 @@
-pub mod Marks
+pub mod PoolHashes
 pub mod Places
 pub mod Indexing
+pub mod ShortNames

@@ -1,4 +1,5 @@
-pub mod Marks
+pub mod PoolHashes
 pub mod Places
 pub mod Waiting
 pub mod Index
+pub mod ShortNames

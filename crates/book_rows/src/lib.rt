@@ -7,4 +7,5 @@ pub mod index;
 pub mod leases;
 pub mod links;
 pub mod pools;
+mod short_names;
 pub mod tickets;

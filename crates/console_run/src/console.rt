@@ -15,7 +15,7 @@ use server_end::gate::Gate;
 use std::alloc::Global;
 
 /// Greets the client and answers its messages; by what it is refused, if it is.
-fn converse<C: ClientEnd, D: LinkDesk, G: Gate<D::End>>(
+fn drive_console<C: ClientEnd, D: LinkDesk, G: Gate<D::End>>(
     console: &Console<'_, D>,
     pass: &mut D::Pass,
     talk: &mut Talk<C>,
@@ -67,6 +67,6 @@ pub fn serve_console<C: ClientEnd, D: LinkDesk, G: Gate<D::End>>(
         settings,
         who,
     };
-    let last = converse(&console, pass, &mut talk, gate);
+    let last = drive_console(&console, pass, &mut talk, gate);
     (talk.finish(), last)
 }

@@ -3,8 +3,8 @@ use Rattle.std.specs.Prelude.{ℕ, Bool, false, List, [], ◌∷◌, if◌then�
 use Rattle.std.specs.Str.{str_eq_ignore_ascii_case}
 use Rattle.std.specs.List.{list_any, list_all, find}
 use Rattle.ini_config.specs.Values.{number_between, listen_address, names}
-use Rattle.ini_config.specs.declared.faults.Cause.{Cause}
-use Rattle.ini_config.specs.declared.faults.Cause.TheVariants as cause
+use Rattle.ini_config.specs.declared.faults.IniCause.{IniCause}
+use Rattle.ini_config.specs.declared.faults.IniCause.TheVariants as cause
 use Rattle.ini_config.specs.declared.option_keys.Key.{Key}
 use Rattle.ini_config.specs.declared.option_keys.Key.TheVariants as key
 use Rattle.ini_config.specs.declared.option_keys.Setting.{Setting}
@@ -98,7 +98,7 @@ change_of key.UntrackParameters text = option_map (λ n s. record s { untrack_pa
 change_of key.Unused text = Some (λ s. s)
 
 -- what a value asks for that isn't served
-unfoldable pub refusal : Key → Text → Option Cause
+unfoldable pub refusal : Key → Text → Option IniCause
 refusal key.PoolMode text = if bytes_eq text (codes "session") then None else Some cause.PoolMode
 refusal key.ServerResetQuery text = if str_eq_ignore_ascii_case text (codes "discard all") then None else Some cause.ResetQuery
 refusal other text = None

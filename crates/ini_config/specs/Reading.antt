@@ -7,8 +7,8 @@ use Rattle.ini_config.specs.Lines.{Said, Nothing, Opens, OpensUnknown, Gives, Un
 use Rattle.ini_config.specs.OptionValues.{Text, key_named, change_of, refusal, defaults}
 use Rattle.ini_config.specs.Tables.{row_named}
 use Rattle.ini_config.specs.declared.database_rows.DbRow.{DbRow}
-use Rattle.ini_config.specs.declared.faults.Cause.{Cause}
-use Rattle.ini_config.specs.declared.faults.Cause.TheVariants as cause
+use Rattle.ini_config.specs.declared.faults.IniCause.{IniCause}
+use Rattle.ini_config.specs.declared.faults.IniCause.TheVariants as cause
 use Rattle.ini_config.specs.declared.faults.IniFault.{IniFault}
 use Rattle.ini_config.specs.declared.lines.Section.{Section}
 use Rattle.ini_config.specs.declared.lines.Section.TheVariants.{Preamble, Databases, Pgbouncer, Users, Peers}
@@ -59,48 +59,48 @@ empty_file = record { section = Preamble; keys = []; settings = defaults }
 
 -- ---- the fault of a line after what was read before it: of several the first of the list of causes
 
-abbrev pub twice_or : List DbRow → Text → Option DbRow → Option Cause
+abbrev pub twice_or : List DbRow → Text → Option DbRow → Option IniCause
 twice_or rows name None = Some cause.BadValue
 twice_or rows name (Some row) = if is_some (row_named name rows) then Some cause.KeyTwice else None
 
-unfoldable pub row_fault : Reading → Text → Text → Option Cause
+unfoldable pub row_fault : Reading → Text → Text → Option IniCause
 row_fault r name value = twice_or r.settings.rows name (row_of name value)
 
-abbrev pub value_fault : List Text → Text → Key → Text → Option (Settings → Settings) → Option Cause
+abbrev pub value_fault : List Text → Text → Key → Text → Option (Settings → Settings) → Option IniCause
 value_fault keys name key value None = Some cause.BadValue
 value_fault keys name key value (Some f) = if list_any (bytes_eq name) keys then Some cause.KeyTwice else refusal key value
 
-abbrev pub key_fault : List Text → Text → Option Key → Text → Option Cause
+abbrev pub key_fault : List Text → Text → Option Key → Text → Option IniCause
 key_fault keys name None value = Some cause.UnknownKey
 key_fault keys name (Some key) value = value_fault keys name key value (change_of key value)
 
-unfoldable pub option_fault : Reading → Text → Text → Option Cause
+unfoldable pub option_fault : Reading → Text → Text → Option IniCause
 option_fault r name value = key_fault r.keys name (key_named name) value
 
 -- a line that says something and begins no section, in [users] or [peers]; a pair before any section
-abbrev pub pair_fault_in : Section → Reading → Text → Text → Option Cause
+abbrev pub pair_fault_in : Section → Reading → Text → Text → Option IniCause
 pair_fault_in Databases r name value = row_fault r name value
 pair_fault_in Pgbouncer r name value = option_fault r name value
 pair_fault_in Preamble r name value = Some cause.NotALine
 pair_fault_in Users r name value = Some cause.UnknownSection
 pair_fault_in Peers r name value = Some cause.UnknownSection
 
-abbrev pub pair_fault : Reading → Text → Text → Option Cause
+abbrev pub pair_fault : Reading → Text → Text → Option IniCause
 pair_fault r name value = pair_fault_in r.section r name value
 
-abbrev pub other_fault : Section → Cause
+abbrev pub other_fault : Section → IniCause
 other_fault Users = cause.UnknownSection
 other_fault Peers = cause.UnknownSection
 other_fault other = cause.NotALine
 
-abbrev pub said_fault : Reading → Said → Option Cause
+abbrev pub said_fault : Reading → Said → Option IniCause
 said_fault r Nothing = None
 said_fault r (Opens section) = None
 said_fault r OpensUnknown = Some cause.UnknownSection
 said_fault r (Gives name value) = pair_fault r name value
 said_fault r Unreadable = Some (other_fault r.section)
 
-abbrev pub fault_of : Reading → Text → Option Cause
+abbrev pub fault_of : Reading → Text → Option IniCause
 fault_of r line = said_fault r (said line)
 
 -- ---- the whole file

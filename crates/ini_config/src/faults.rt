@@ -3,7 +3,7 @@ use thiserror::Error;
 
 /// What is wrong with a line. Where one line has several faults, the first of this list is reported.
 #[derive(Clone, Copy, Debug, PartialEq, Eq, Error)]
-pub enum Cause {
+pub enum IniCause {
     /// A header of a section that isn't `databases`, `pgbouncer`, `users` or `peers`, or a line within the last two.
     #[error("C1")]
     UnknownSection,
@@ -36,7 +36,7 @@ pub enum Cause {
 #[derive(Clone, Copy, Debug, PartialEq, Eq, Error)]
 #[error("{cause} line {line}")]
 pub struct IniFault {
-    pub cause: Cause,
+    pub cause: IniCause,
     /// Counted from 1; 0 where no memory was left for the defaults.
     pub line: usize,
 }

@@ -17,7 +17,7 @@ mod values;
 
 pub use always_followed::is_always_followed;
 pub use database_rows::DbRow;
-pub use faults::{Cause, IniFault};
+pub use faults::{IniCause, IniFault};
 pub use name_lists::Names;
 pub use option_values::{AuthType, Settings};
 pub use reading::read_settings;

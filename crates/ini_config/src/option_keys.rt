@@ -4,7 +4,7 @@ ghost use Rattle.std.specs.List.{find, list_any};
 ghost use Rattle.ini_config.specs.OptionValues as spec;
 
 use crate::always_followed::untracked;
-use crate::faults::Cause;
+use crate::faults::IniCause;
 use crate::option_values::AuthType;
 use crate::values::{listen_address, number, port};
 
@@ -195,7 +195,7 @@ pub(crate) fn read_setting(key: Key, value: &[u8]) -> Option<Setting<'_>>
 
 /// What a value asks for that isn't served: another way of pooling, another reset query.
 #[tactic(auto, unfolding(crate::specs::OptionValues::refusal))]
-pub(crate) fn refusal(key: Key, value: &[u8]) -> Option<Cause>
+pub(crate) fn refusal(key: Key, value: &[u8]) -> Option<IniCause>
     ensures { result ≡ spec.refusal key value.now }
 {
     match key {
@@ -203,13 +203,13 @@ pub(crate) fn refusal(key: Key, value: &[u8]) -> Option<Cause>
             if value == b"session".as_slice() {
                 return None;
             }
-            Some(Cause::PoolMode)
+            Some(IniCause::PoolMode)
         }
         Key::ServerResetQuery => {
             if value.eq_ignore_ascii_case(b"discard all") {
                 return None;
             }
-            Some(Cause::ResetQuery)
+            Some(IniCause::ResetQuery)
         }
         _ => None,
     }

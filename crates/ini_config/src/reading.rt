@@ -5,7 +5,7 @@ ghost use Rattle.text_lines.specs.Lines.{lines as lines_of_file};
 ghost use Rattle.ini_config.specs.Reading as spec;
 
 use crate::database_values::read_row;
-use crate::faults::{Cause, IniFault};
+use crate::faults::{IniCause, IniFault};
 use crate::lines::{Line, Section, read_line};
 use crate::option_keys::{key_named, read_setting, refusal};
 use crate::option_values::Settings;
@@ -25,60 +25,65 @@ pub(crate) struct Reading<'a> {
 impl<'a> Reading<'a> {
     /// Takes a line of the section `[databases]`.
     #[tactic(auto, unfolding(crate::specs::Reading::row_fault, crate::specs::Reading::with_row))]
-    fn take_row(&mut self, alloc: Global, name: &'a [u8], value: &'a [u8]) -> Result<(), Cause>
-        ensures { Took Cause.Memory (spec.row_fault self.old name.entry.now value.entry.now) (spec.with_row self.old name.entry.now value.entry.now) self.new result }
+    fn take_row(&mut self, alloc: Global, name: &'a [u8], value: &'a [u8]) -> Result<(), IniCause>
+        ensures { Took IniCause.Memory (spec.row_fault self.old name.entry.now value.entry.now) (spec.with_row self.old name.entry.now value.entry.now) self.new result }
     {
         let Some(row) = read_row(name, value) else {
-            return Err(Cause::BadValue);
+            return Err(IniCause::BadValue);
         };
         if self.settings.rows.get(name).is_some() {
-            return Err(Cause::KeyTwice);
+            return Err(IniCause::KeyTwice);
         }
-        let row = row.copy(alloc).map_err(|_| Cause::Memory)?;
+        let row = row.copy(alloc).map_err(|_| IniCause::Memory)?;
         self.settings
             .rows
             .add(alloc, row)
-            .map_err(|_| Cause::Memory)
+            .map_err(|_| IniCause::Memory)
     }
 
     /// Takes a line of the section `[pgbouncer]`.
     #[tactic(auto, unfolding(crate::specs::Reading::option_fault, crate::specs::Reading::with_option))]
-    fn take_option(&mut self, alloc: Global, name: &'a [u8], value: &'a [u8]) -> Result<(), Cause>
-        ensures { Took Cause.Memory (spec.option_fault self.old name.entry.now value.entry.now) (spec.with_option self.old name.entry.now value.entry.now) self.new result }
+    fn take_option(
+        &mut self,
+        alloc: Global,
+        name: &'a [u8],
+        value: &'a [u8],
+    ) -> Result<(), IniCause>
+        ensures { Took IniCause.Memory (spec.option_fault self.old name.entry.now value.entry.now) (spec.with_option self.old name.entry.now value.entry.now) self.new result }
     {
         let Some(key) = key_named(name) else {
-            return Err(Cause::UnknownKey);
+            return Err(IniCause::UnknownKey);
         };
         let Some(setting) = read_setting(key, value) else {
-            return Err(Cause::BadValue);
+            return Err(IniCause::BadValue);
         };
         if self.keys.has(name) {
-            return Err(Cause::KeyTwice);
+            return Err(IniCause::KeyTwice);
         }
         if let Some(cause) = refusal(key, value) {
             return Err(cause);
         }
-        self.keys.add(name).map_err(|_| Cause::Memory)?;
+        self.keys.add(name).map_err(|_| IniCause::Memory)?;
         self.settings
             .apply(alloc, setting)
-            .map_err(|_| Cause::Memory)
+            .map_err(|_| IniCause::Memory)
     }
 
     /// Takes a key and its value.
-    fn take_pair(&mut self, alloc: Global, name: &'a [u8], value: &'a [u8]) -> Result<(), Cause>
-        ensures { Took Cause.Memory (spec.pair_fault self.old name.entry.now value.entry.now) (spec.with_pair self.old name.entry.now value.entry.now) self.new result }
+    fn take_pair(&mut self, alloc: Global, name: &'a [u8], value: &'a [u8]) -> Result<(), IniCause>
+        ensures { Took IniCause.Memory (spec.pair_fault self.old name.entry.now value.entry.now) (spec.with_pair self.old name.entry.now value.entry.now) self.new result }
     {
         match self.section {
             Section::Databases => self.take_row(alloc, name, value),
             Section::Pgbouncer => self.take_option(alloc, name, value),
-            Section::Preamble => Err(Cause::NotALine),
-            Section::Users | Section::Peers => Err(Cause::UnknownSection),
+            Section::Preamble => Err(IniCause::NotALine),
+            Section::Users | Section::Peers => Err(IniCause::UnknownSection),
         }
     }
 
     /// Takes a trimmed line, or reports its first fault. Out of memory comes after all others.
-    fn take_line(&mut self, alloc: Global, line: &'a [u8]) -> Result<(), Cause>
-        ensures { TookLine Cause.Memory (spec.keeps line.entry.now) (spec.fault_of self.old line.entry.now) (spec.with_line self.old line.entry.now) self.new result }
+    fn take_line(&mut self, alloc: Global, line: &'a [u8]) -> Result<(), IniCause>
+        ensures { TookLine IniCause.Memory (spec.keeps line.entry.now) (spec.fault_of self.old line.entry.now) (spec.with_line self.old line.entry.now) self.new result }
     {
         match read_line(line) {
             Line::Ignored => Ok(()),
@@ -86,7 +91,7 @@ impl<'a> Reading<'a> {
                 self.section = section;
                 Ok(())
             }
-            Line::UnknownHeader => Err(Cause::UnknownSection),
+            Line::UnknownHeader => Err(IniCause::UnknownSection),
             Line::Pair(name, value) => self.take_pair(alloc, name, value),
             Line::Other => Err(other_fault(self.section)),
         }
@@ -94,12 +99,12 @@ impl<'a> Reading<'a> {
 }
 
 /// The fault of a line that is neither a header nor a pair.
-fn other_fault(section: Section) -> Cause
+fn other_fault(section: Section) -> IniCause
     ensures { result ≡ spec.other_fault section }
 {
     match section {
-        Section::Users | Section::Peers => Cause::UnknownSection,
-        _ => Cause::NotALine,
+        Section::Users | Section::Peers => IniCause::UnknownSection,
+        _ => IniCause::NotALine,
     }
 }
 
@@ -119,7 +124,7 @@ pub fn read_settings(alloc: Global, text: &[u8]) -> Result<Settings, IniFault>
         },
         Err(_) => {
             return Err(IniFault {
-                cause: Cause::Memory,
+                cause: IniCause::Memory,
                 line: 0,
             });
         }

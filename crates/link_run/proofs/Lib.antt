@@ -1,4 +1,5 @@
 pub mod Answering
+pub mod Cutting
 pub mod Knowing
 pub mod Receipts
 pub mod Reporting

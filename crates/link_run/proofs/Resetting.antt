@@ -1,17 +1,11 @@
 -- A reset's moves, and what its answer says of the session behind it.
-use Rattle.std.proofs.Common.{◌≡◌, ◌⊎◌, inl, inr, ◌<◌, length-append, length-take-le, ⊎_elim, ℕ, ◌+◌, ◌-◌, ◌≤◌, ◌==◌, Bool, true, false, List, [], ◌∷◌, ◌++◌, take, drop, length, refl, sym, ap, ap₂, ◌∙◌, append_assoc, append-nil, take-append-drop, drop-drop, arith, take_all, length-drop, subst, Result, Ok, Err, Option, ◌&&◌}
-use Rattle.std.proofs.lemmas.Bool.{cases_Bool, eqb-false, eqb-true, true≢false}
-use Rattle.std.proofs.Math.Seq.{drop-length}
+use Rattle.std.proofs.Common.{◌≡◌, ◌⊎◌, inl, inr, ◌<◌, length-append, length-take-le, ⊎_elim, ℕ, ◌+◌, ◌-◌, ◌≤◌, Bool, true, false, List, [], ◌∷◌, ◌++◌, take, drop, length, refl, sym, ap, ap₂, ◌∙◌, append_assoc, append-nil, take-append-drop, drop-drop, arith, take_all, length-drop, subst, Result, Ok, Err, Option}
+use Rattle.std.proofs.lemmas.Bool.{cases_Bool, true≢false}
 use Rattle.std.specs.List.{flat_map, AllByRecursion}
-use Rattle.frame_view.proofs.Taking.{not_whole}
 use Rattle.frame_view.specs.declared.Side.TheVariants.{Client, Server}
 use Rattle.frame_view.specs.declared.frames.TheConstants.{LONGEST_FRAME}
-use Rattle.frame_view.specs.declared.Frame.{Frame}
-use Rattle.frame_view.specs.declared.Step.{Step}
-use Rattle.frame_view.specs.declared.Step.TheVariants.{Whole}
-use Rattle.frame_view.specs.Answers.{Tells}
 use Rattle.frame_view.specs.Frames.{AreBytes, FrameOf, IsFrame, Cut, cut_after, front, frames, spelling}
-use Rattle.frame_view.proofs.Splitting.{frames-split, frames-stopped}
+use Rattle.frame_view.proofs.Splitting.{frames-split}
 use Rattle.message_view.specs.declared.views.KeyView.{KeyView}
 use Rattle.start_keys.specs.StartPairs.{Text}
 use Rattle.session_values.specs.Parameters.{reported_parameters}
@@ -349,49 +343,10 @@ all_unsent n b = take_all (length b - n) (drop n b) (omega (arith, length-drop n
 pub within_unsent : (n c : ℕ) (b r : List ℕ) → r ≡ drop n b → c ≤ length r → n ≤ length b → n + c ≤ length b
 within_unsent n c b r e h l = omega (arith, h, ap length e, length-drop n b, l)
 
--- ---- the frames of an answer, one after the other
-
-stopped : (x : Step) (bytes : List ℕ) → ((frame : Frame) → x ≡ Whole frame → ⊥) → Tells x bytes (front Server LONGEST_REPLY bytes) → frames Server LONGEST_REPLY bytes ≡ record { frames = []; rest = bytes }
-stopped x bytes n t = frames-stopped Server LONGEST_REPLY bytes (not_whole x bytes (front Server LONGEST_REPLY bytes) n t)
-
-pub all_answered : (x : Step) (bytes : List ℕ) (h total : Answered) → ((frame : Frame) → x ≡ Whole frame → ⊥) → Tells x bytes (front Server LONGEST_REPLY bytes) → answered_by_all h (frames Server LONGEST_REPLY bytes).frames ≡ total → h ≡ total
-all_answered x bytes h total n t e = ap (λ (c : Cut). answered_by_all h c.frames) (sym (stopped x bytes n t)) ∙ e
-
--- what stands behind the frames counts too
-pub all_read : (x : Step) (bytes : List ℕ) (h : Answered) (cut : Cut) → ((frame : Frame) → x ≡ Whole frame → ⊥) → Tells x bytes (front Server LONGEST_REPLY bytes)
-    → answered_by_all h (frames Server LONGEST_REPLY bytes).frames ≡ answered_by_all Nothing cut.frames → (frames Server LONGEST_REPLY bytes).rest ≡ cut.rest → at_rest h (front Server LONGEST_REPLY bytes) ≡ reads cut
-all_read x bytes h cut n t e r =
-    ap₂ (λ (a : Answered) (b : List ℕ). at_rest a (front Server LONGEST_REPLY b)) (all_answered x bytes h _ n t e) (sym (ap (λ (c : Cut). c.rest) (stopped x bytes n t)) ∙ r)
+-- ---- the whole answer
 
 whole_read : (cut : Cut) → cut.rest ≡ [] → reads cut ≡ answered_by_all Nothing cut.frames
 whole_read cut e = ap (λ (b : List ℕ). at_rest (answered_by_all Nothing cut.frames) (front Server LONGEST_REPLY b)) e
-
--- where no whole frame stands, all reports are told, and all that were told were known
-pub all_told : (x : Step) (bytes : List ℕ) (kept total : List Kept) → ((frame : Frame) → x ≡ Whole frame → ⊥) → Tells x bytes (front Server LONGEST_REPLY bytes) → after_frames kept (frames Server LONGEST_REPLY bytes).frames ≡ total → kept ≡ total
-all_told x bytes kept total n t e = ap (λ (c : Cut). after_frames kept c.frames) (sym (stopped x bytes n t)) ∙ e
-
-and_true : (b : Bool) → b ≡ (b && true)
-and_true true = refl
-and_true false = refl
-
-pub all_known : (x : Step) (bytes : List ℕ) (kept : List Kept) (known total : Bool) → ((frame : Frame) → x ≡ Whole frame → ⊥) → Tells x bytes (front Server LONGEST_REPLY bytes) → (known && are_known kept (frames Server LONGEST_REPLY bytes).frames) ≡ total → known ≡ total
-all_known x bytes kept known total n t e = and_true known ∙ ap (λ (c : Cut). known && are_known kept c.frames) (sym (stopped x bytes n t)) ∙ e
-
-pub and_assoc : (a b c : Bool) → ((a && b) && c) ≡ (a && (b && c))
-and_assoc true b c = refl
-and_assoc false b c = refl
-
-drop_all : (n : ℕ) (bs : List ℕ) → (n == length bs) ≡ true → drop n bs ≡ []
-drop_all n bs e = ap (λ (k : ℕ). drop k bs) (eqb-true n (length bs) e) ∙ drop-length bs
-
-pub nothing_behind : (x : Step) (n : ℕ) (bytes rest : List ℕ) → ((frame : Frame) → x ≡ Whole frame → ⊥) → Tells x (drop n bytes) (front Server LONGEST_REPLY (drop n bytes)) → (frames Server LONGEST_REPLY (drop n bytes)).rest ≡ rest → (n == length bytes) ≡ true → rest ≡ []
-nothing_behind x n bytes rest m t e h = sym e ∙ ap (λ (c : Cut). c.rest) (stopped x (drop n bytes) m t) ∙ drop_all n bytes h
-
--- bytes behind the place where no whole frame stands are a rest
-pub some_behind : (x : Step) (n : ℕ) (bytes rest : List ℕ) → n ≤ length bytes → ((frame : Frame) → x ≡ Whole frame → ⊥) → Tells x (drop n bytes) (front Server LONGEST_REPLY (drop n bytes)) → (frames Server LONGEST_REPLY (drop n bytes)).rest ≡ rest → (n == length bytes) ≡ false → rest ≡ [] → ⊥
-some_behind x n bytes rest w m t e h z =
-    let d : drop n bytes ≡ [] = sym (ap (λ (c : Cut). c.rest) (stopped x (drop n bytes) m t)) ∙ e ∙ z in
-    eqb-false n (length bytes) h (omega (arith, w, ap length d, length-drop n bytes))
 
 pub answered : (v : ResetView) (bs : List ℕ) (a : Answered) (all : Bool) → bs ≡ v.received → AreBytes bs → a ≡ reads (frames Server LONGEST_REPLY bs) → (all ≡ true → (frames Server LONGEST_REPLY bs).rest ≡ []) → a ≡ All → all ≡ true → v.unsent ≡ [] → IsAnsweredReset v
 answered v bs a all same b e r d t u = record {

@@ -1,12 +1,14 @@
 //! What a server answers to a reset, frame by frame.
-ghost use Rattle.std.specs.Prelude.{◌≡◌, ◌≢◌, ◌⊎◌, [], false, true};
+ghost use Rattle.std.specs.Prelude.{◌≡◌, ◌≢◌, ◌⊎◌, [], ◌∷◌, false, true, IfSome};
+ghost use Rattle.std.specs.Option.{IfNone};
 ghost use Rattle.link_run.specs.declared.reply.TheConstants.{LONGEST_REPLY};
 ghost use Rattle.link_run.specs.declared.reply.Answered.TheVariants.{All, Other};
-ghost use Rattle.frame_view.specs.Frames.{AreBytes, front, frames};
+ghost use Rattle.frame_view.specs.Frames.{AreBytes, front, frames, spelling};
 ghost use Rattle.frame_view.specs.declared.Side.TheVariants.{Server};
 ghost use Rattle.session_values.specs.Answers.{frame_of};
 ghost use Rattle.link_run.specs.Links.{after_frame, after_frames};
 ghost use Rattle.link_run.specs.Dialogues.{answered_by, are_known, is_aside, is_idle, is_known, is_tag};
+ghost use Rattle.link_run.specs.Replies.{frames_left, rest_left};
 ghost use Rattle.link_run.specs.Resets.{at_rest, reads};
 
 use frame_view::laws::are_bytes;
@@ -17,6 +19,63 @@ use param_track::Reported;
 
 /// The greatest length of a frame in a start or a reset.
 pub const LONGEST_REPLY: u32 = 65_536;
+
+/// The whole frames at the front of an answer, one after the other.
+#[derive(Clone, Copy, Drop)]
+pub struct ReplyFrames<'a> {
+    rest: &'a [u8],
+}
+
+impl<'a> ReplyFrames<'a> {
+    /// All of them.
+    pub fn of(reply: &'a [u8]) -> ReplyFrames<'a>
+        ensures { result.rest.now ≡ reply.now }
+    {
+        ReplyFrames { rest: reply }
+    }
+
+    /// The bytes that aren't cut yet.
+    pub fn rest(&self) -> &'a [u8]
+        ensures { result.now ≡ self.now.rest.now }
+    {
+        self.rest
+    }
+
+    /// Cuts the next of them; where there is none, no whole frame stands at the front of the rest.
+    #[tactic(auto, using(crate::proofs::Cutting::frame_is_first, crate::proofs::Cutting::rest_is_last, crate::proofs::Cutting::no_frame, crate::proofs::Cutting::all_is_rest, crate::proofs::Cutting::whole_is_spelling, crate::proofs::Cutting::rest_are_bytes))]
+    pub fn cut(&mut self) -> Option<Frame<'a>>
+        ensures first { IfSome result (λ f. frames_left self.old ≡ frame_of f ∷ frames_left self.new) }
+        ensures none { IfNone result ((frames_left self.old ≡ []) × (frames_left self.new ≡ [])) }
+        ensures rest { rest_left self.new ≡ rest_left self.old }
+        ensures last { IfNone result (rest_left self.new ≡ self.new.rest.now) }
+        ensures whole { IfSome result (λ f. AreBytes self.old.rest.now → f.whole.now ≡ spelling (frame_of f)) }
+        ensures bytes { AreBytes self.old.rest.now → AreBytes self.new.rest.now }
+    {
+        match next_frame(self.rest, 0, LONGEST_REPLY, Side::Server) {
+            Step::Whole(frame) => {
+                self.rest = &self.rest[frame.whole.len()..];
+                Some(frame)
+            }
+            Step::Need(_) | Step::Bad(_) => None,
+        }
+    }
+}
+
+impl<'a> Iterator for ReplyFrames<'a> {
+    ghost use Rattle.std.specs.Iterator.{YieldsFirstBy, item_count};
+    ghost use Rattle.session_values.specs.Answers.{frame_of};
+    ghost use Rattle.link_run.specs.Replies.{frames_left};
+
+    type Item = Frame<'a>;
+
+    ghost next_gives = { YieldsFirstBy frame_of frames_left };
+
+    ghost remaining = { item_count frames_left };
+
+    fn next(&mut self) -> Option<Frame<'a>> {
+        self.cut()
+    }
+}
 
 /// How far a reset's answer has come.
 #[derive(Clone, Copy, Drop)]
@@ -112,12 +171,11 @@ pub(crate) fn read_reply(reply: &[u8]) -> (Answered, bool)
 {
     are_bytes(reply);
     let mut answered = Answered::Nothing;
-    let mut at = 0;
-    while let Step::Whole(frame) = next_frame(reply, at, LONGEST_REPLY, Side::Server) {
+    let mut frames = ReplyFrames::of(reply);
+    while let Some(frame) = frames.cut() {
         answered = answered.by(frame);
-        at += frame.whole.len();
     }
-    (answered.at_rest(&reply[at..]), at == reply.len())
+    (answered.at_rest(frames.rest()), frames.rest().is_empty())
 }
 
 /// Keeps the report of a ParameterStatus; `false`: it can't be read, or the start didn't report its name.
@@ -141,10 +199,8 @@ pub(crate) fn tell_reports(reply: &[u8], reported: &mut Reported) -> bool
     ensures told { reported.new ≡ after_frames reported.old (frames Server LONGEST_REPLY reply.now).frames }
 {
     let mut known = true;
-    let mut at = 0;
-    while let Step::Whole(frame) = next_frame(reply, at, LONGEST_REPLY, Side::Server) {
+    for frame in ReplyFrames::of(reply) {
         known &= tell_report(frame, reported);
-        at += frame.whole.len();
     }
     known
 }

@@ -222,7 +222,8 @@ fn dispose<E: ServerEnd>(link: LinkParts<E>, cause: ResetFault) -> Disposed<E>
 
 /// Brings a used link back to its login: sends the Query `DISCARD ALL`, and reads CommandComplete `DISCARD ALL` and ReadyForQuery
 /// `I`, each with notices and reports in any number before it, and nothing behind it (PostgreSQL manual, "DISCARD"). Each turn of
-/// the gate allows at most one write and then one read; nothing is read after the ReadyForQuery.
+/// the gate allows at most one write and then one read; nothing is read after the ReadyForQuery. Each turn counts, also one in which
+/// bytes came: the answer is short, those two messages and a report of each parameter that changes.
 ///
 /// Where it fails the end comes back with the cause, which what came says: Unexpected and Changed are those of its bytes, and Turns comes
 /// only after so many reads of an answer that isn't whole, nor another one. An end that follows the stand-in server gives Unexpected only

@@ -14,8 +14,8 @@ use Rattle.user_file.specs.declared.secrets.Secret.{Secret}
 use Rattle.link_run.specs.Dialogues.{Asks, IsAsking, IsNotice, IsOfWelcome, LetsIn}
 use Rattle.link_start.specs.declared.start_reply.StartProgress.{StartProgress}
 use Rattle.link_start.specs.declared.start_reply.StartProgress.TheVariants.{Nothing, Asked, LetIn, Ready, Refused, Other}
-use Rattle.link_start.specs.declared.start_reply.Question.{Question}
-use Rattle.link_start.specs.declared.start_reply.Question.TheVariants.{Cleartext, Unknown}
+use Rattle.link_start.specs.declared.start_reply.ServerQuestion.{ServerQuestion}
+use Rattle.link_start.specs.declared.start_reply.ServerQuestion.TheVariants.{Cleartext, Unknown}
 use Rattle.link_start.specs.Questions.{can_answer}
 use Rattle.link_start.specs.StartReply.{answered, asked, asked_part, bare, heard_all, is_idle, is_welcome, only_let_in, refused, salted, ReadyIsAnswer}
 use Rattle.link_start.proofs.Hearing.{other_stays, refused_stays, same_question, unanswered_stays}
@@ -40,11 +40,11 @@ ready_last : (secret : Secret) (fs : List FrameOf) → heard_all secret Ready fs
 ready_last secret [] e = refl
 ready_last secret (f ∷ fs) e = absurd (other_never secret fs e)
 
-unanswered_never : (secret : Secret) (q : Question) (fs : List FrameOf) → can_answer secret q ≡ false → heard_all secret (Asked q) fs ≡ Ready → ⊥
+unanswered_never : (secret : Secret) (q : ServerQuestion) (fs : List FrameOf) → can_answer secret q ≡ false → heard_all secret (Asked q) fs ≡ Ready → ⊥
 unanswered_never secret q fs n e = let z : Asked q ≡ Ready = sym (unanswered_stays secret q fs n) ∙ e in cc
 
 -- it went on behind a question: so that can be answered
-answerable : (secret : Secret) (q : Question) (fs : List FrameOf) → heard_all secret (Asked q) fs ≡ Ready → can_answer secret q ≡ true
+answerable : (secret : Secret) (q : ServerQuestion) (fs : List FrameOf) → heard_all secret (Asked q) fs ≡ Ready → can_answer secret q ≡ true
 answerable secret q fs e = by (can_answer secret q) refl
   where
     by : (b : Bool) → can_answer secret q ≡ b → b ≡ true
@@ -80,7 +80,7 @@ let_in_part (Ok x) e =
 abbrev IsKnown : ℕ → List ℕ → Type 0
 IsKnown kind more = ((kind ≡ ASKS_CLEARTEXT) × (more ≡ [])) ⊎ ((kind ≡ ASKS_MD5) × (length more ≡ 4))
 
-salted_four : (q : Question) (more : List ℕ) → salted more ≡ Asked q → length more ≡ 4
+salted_four : (q : ServerQuestion) (more : List ℕ) → salted more ≡ Asked q → length more ≡ 4
 salted_four q [] e = absurd (let z : Other ≡ Asked q = e in cc)
 salted_four q (a ∷ []) e = absurd (let z : Other ≡ Asked q = e in cc)
 salted_four q (a ∷ b ∷ []) e = absurd (let z : Other ≡ Asked q = e in cc)
@@ -88,7 +88,7 @@ salted_four q (a ∷ b ∷ c ∷ []) e = absurd (let z : Other ≡ Asked q = e i
 salted_four q (a ∷ b ∷ c ∷ d ∷ []) e = refl
 salted_four q (a ∷ b ∷ c ∷ d ∷ x ∷ xs) e = absurd (let z : Other ≡ Asked q = e in cc)
 
-known_by : (secret : Secret) (q : Question) (kind : ℕ) (more : List ℕ) (a b c : Bool) → (kind == ASKS_CLEARTEXT) ≡ b → (kind == ASKS_MD5) ≡ c → can_answer secret q ≡ true
+known_by : (secret : Secret) (q : ServerQuestion) (kind : ℕ) (more : List ℕ) (a b c : Bool) → (kind == ASKS_CLEARTEXT) ≡ b → (kind == ASKS_MD5) ≡ c → can_answer secret q ≡ true
     → (if a then bare LetIn more else (if b then bare (Asked Cleartext) more else (if c then salted more else Asked (Unknown kind)))) ≡ Asked q → IsKnown kind more
 known_by secret q kind [] true b c eb ec k e = absurd (let z : LetIn ≡ Asked q = e in cc)
 known_by secret q kind (x ∷ xs) true b c eb ec k e = absurd (let z : Other ≡ Asked q = e in cc)
@@ -97,7 +97,7 @@ known_by secret q kind (x ∷ xs) false true c eb ec k e = absurd (let z : Other
 known_by secret q kind more false false true eb ec k e = inr (eqb-true kind ASKS_MD5 ec, salted_four q more e)
 known_by secret q kind more false false false eb ec k e = absurd (true≢false (sym k ∙ ap (can_answer secret) (sym (same_question (Unknown kind) q e))))
 
-asks_by : (secret : Secret) (q : Question) (f : FrameOf) (r : Result (ℕ × List ℕ) ViewFault) → authentication_of f.body ≡ r → f.kind ≡ AUTHENTICATION → can_answer secret q ≡ true → asked_part r ≡ Asked q → Asks f
+asks_by : (secret : Secret) (q : ServerQuestion) (f : FrameOf) (r : Result (ℕ × List ℕ) ViewFault) → authentication_of f.body ≡ r → f.kind ≡ AUTHENTICATION → can_answer secret q ≡ true → asked_part r ≡ Asked q → Asks f
 asks_by secret q f (Err fault) is k can e = absurd (let z : Other ≡ Asked q = e in cc)
 asks_by secret q f (Ok x) is k can e = record {
   kind = k;
@@ -194,7 +194,7 @@ enters_in secret Ready f fs e k h = absurd (other_never secret fs h)
 enters_in secret Refused f fs e k h = absurd (other_never secret fs h)
 enters_in secret Other f fs e k h = absurd (other_never secret fs h)
 
-enters_by : (secret : Secret) (q : Question) (f : FrameOf) (fs : List FrameOf) (c n a : Bool) → can_answer secret q ≡ c → (f.kind == NOTICE_RESPONSE) ≡ n → (f.kind == AUTHENTICATION) ≡ a → (heard_all secret (Asked q) fs ≡ Ready → Enters secret fs)
+enters_by : (secret : Secret) (q : ServerQuestion) (f : FrameOf) (fs : List FrameOf) (c n a : Bool) → can_answer secret q ≡ c → (f.kind == NOTICE_RESPONSE) ≡ n → (f.kind == AUTHENTICATION) ≡ a → (heard_all secret (Asked q) fs ≡ Ready → Enters secret fs)
     → heard_all secret (if c then (if n then Asked q else (if a then answered f.body else refused f.kind)) else Asked q) fs ≡ Ready → Enters secret (f ∷ fs)
 enters_by secret q f fs false n a ec en ea go e = absurd (unanswered_never secret q fs ec e)
 enters_by secret q f fs true true a ec en ea go e =
@@ -203,7 +203,7 @@ enters_by secret q f fs true true a ec en ea go e =
 enters_by secret q f fs true false true ec en ea go e = enters_in secret (asked f.body) f fs refl (eqb-true f.kind AUTHENTICATION ea) e
 enters_by secret q f fs true false false ec en ea go e = absurd (refused_never secret f.kind fs e)
 
-enters_of : (secret : Secret) (q : Question) (fs : List FrameOf) → heard_all secret (Asked q) fs ≡ Ready → Enters secret fs
+enters_of : (secret : Secret) (q : ServerQuestion) (fs : List FrameOf) → heard_all secret (Asked q) fs ≡ Ready → Enters secret fs
 enters_of secret q [] e = absurd (let z : Asked q ≡ Ready = e in cc)
 enters_of secret q (f ∷ fs) e = enters_by secret q f fs (can_answer secret q) (f.kind == NOTICE_RESPONSE) (f.kind == AUTHENTICATION) refl refl refl (enters_of secret q fs) e
 

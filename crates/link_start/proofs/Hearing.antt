@@ -11,8 +11,8 @@ use Rattle.session_laws.specs.Laws.{has_ready}
 use Rattle.user_file.specs.declared.secrets.Secret.{Secret}
 use Rattle.link_start.specs.declared.start_reply.StartProgress.{StartProgress}
 use Rattle.link_start.specs.declared.start_reply.StartProgress.TheVariants.{Nothing, Asked, LetIn, Ready, Refused, Other}
-use Rattle.link_start.specs.declared.start_reply.Question.{Question}
-use Rattle.link_start.specs.declared.start_reply.Question.TheVariants.{Cleartext, Unknown}
+use Rattle.link_start.specs.declared.start_reply.ServerQuestion.{ServerQuestion}
+use Rattle.link_start.specs.declared.start_reply.ServerQuestion.TheVariants.{Cleartext, Unknown}
 use Rattle.link_start.specs.Questions.{can_answer}
 use Rattle.link_start.specs.StartReply.{bare, salted, asked_part, asked, only_let_in, answered, after_question, is_idle, is_welcome, heard_by, heard_all, error_in}
 use Rattle.link_start.specs.Starts.{IsError}
@@ -32,7 +32,7 @@ refused_stays secret [] = refl
 refused_stays secret (f ∷ fs) = refused_stays secret fs
 
 -- a question that can't be answered stays what is heard
-pub unanswered_stays : (secret : Secret) (q : Question) (fs : List FrameOf) → can_answer secret q ≡ false → heard_all secret (Asked q) fs ≡ Asked q
+pub unanswered_stays : (secret : Secret) (q : ServerQuestion) (fs : List FrameOf) → can_answer secret q ≡ false → heard_all secret (Asked q) fs ≡ Asked q
 unanswered_stays secret q [] e = refl
 unanswered_stays secret q (f ∷ fs) e = ap (λ (b : Bool). heard_all secret (if b then after_question q f else Asked q) fs) e ∙ unanswered_stays secret q fs e
 
@@ -84,7 +84,7 @@ past_goes secret Ready f p = tt
 past_goes secret Refused f p = tt
 past_goes secret Other f p = tt
 
-pub never_asked : {A : Type 0} (secret : Secret) (h : StartProgress) (fs : List FrameOf) (q : Question) → IsPast h → heard_all secret h fs ≡ Asked q → A
+pub never_asked : {A : Type 0} (secret : Secret) (h : StartProgress) (fs : List FrameOf) (q : ServerQuestion) → IsPast h → heard_all secret h fs ≡ Asked q → A
 never_asked secret Nothing [] q p e = absurd p
 never_asked secret (Asked r) [] q p e = absurd p
 never_asked secret LetIn [] q p e = absurd cc
@@ -101,7 +101,7 @@ only_let_in-past Ready = tt
 only_let_in-past Refused = tt
 only_let_in-past Other = tt
 
-question_of : StartProgress → Question → Question
+question_of : StartProgress → ServerQuestion → ServerQuestion
 question_of (Asked q) other = q
 question_of Nothing other = other
 question_of LetIn other = other
@@ -109,12 +109,12 @@ question_of Ready other = other
 question_of Refused other = other
 question_of Other other = other
 
-pub same_question : (p q : Question) → Asked p ≡ Asked q → p ≡ q
+pub same_question : (p q : ServerQuestion) → Asked p ≡ Asked q → p ≡ q
 unfolding question_of
 same_question p q e = ap (λ (h : StartProgress). question_of h q) e
 
 -- a question stays the one that it is
-pub asked_stays : (secret : Secret) (p q : Question) (fs : List FrameOf) → heard_all secret (Asked p) fs ≡ Asked q → p ≡ q
+pub asked_stays : (secret : Secret) (p q : ServerQuestion) (fs : List FrameOf) → heard_all secret (Asked p) fs ≡ Asked q → p ≡ q
 asked_stays secret p q [] e = same_question p q e
 asked_stays secret p q (f ∷ fs) e = by (λ h. asked_stays secret p q fs h) (can_answer secret p) (f.kind == NOTICE_RESPONSE) (f.kind == AUTHENTICATION) (f.kind == ERROR_RESPONSE) e
   where

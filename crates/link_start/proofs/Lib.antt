@@ -6,4 +6,5 @@ mod Grammar
 mod Reporting
 mod Keying
 mod Telling
+mod Lengths
 mod Starting

@@ -5,6 +5,7 @@ use Rattle.std.specs.Borrow.{Bor}
 use Rattle.std.specs.Result.{IsErrAnd}
 use Rattle.std.specs.List.{flat_map, AllByRecursion}
 use Rattle.std.proofs.lemmas.Bool.{true≢false}
+use Rattle.std.proofs.lemmas.Grind.{flat_map-append}
 use Rattle.std.proofs.lemmas.Option.{same_Some}
 use Rattle.frame_view.specs.declared.Side.TheVariants.{Server as FromServer}
 use Rattle.frame_view.specs.Frames.{AreBytes, Cut, FrameOf, Front, AFrame, Lacks, Faulty, Start, Splits, first_spelling, front, frames, spelling}
@@ -28,21 +29,23 @@ use Rattle.link_run.specs.Links.{kept_by}
 use Rattle.link_run.specs.Receipts.{HasStarted, IsClean, by_start}
 use Rattle.link_start.specs.declared.start_reply.StartProgress.{StartProgress}
 use Rattle.link_start.specs.declared.start_reply.StartProgress.TheVariants.{Nothing, Asked, LetIn, Ready, Refused, Other}
-use Rattle.link_start.specs.declared.start_reply.Question.{Question}
+use Rattle.link_start.specs.declared.start_reply.ServerQuestion.{ServerQuestion}
+use Rattle.link_start.specs.declared.start.TheConstants.{LONGEST_WELCOME}
 use Rattle.link_start.specs.declared.start.StartCause.{StartCause}
 use Rattle.link_start.specs.declared.start.StartCause.TheVariants.{Lost, Unanswerable, Unexpected, Memory, Turns}
 use Rattle.link_start.specs.declared.start.StartCause.TheVariants as causes
 use Rattle.link_start.specs.Questions.{answer_to, can_answer}
 use Rattle.link_start.specs.StartReply.{asked, bare, before, if_lawful, heard, heard_by, heard_all, heard_cut, error_in, reported_all, TellsKey, keyed_all}
-use Rattle.link_start.specs.Starts.{IsStartable, CanStart, IsLinkKey, answer_heard, own_answer, AsksQuestion, StartView, start_view, waits_of, IsOwn, IsUnderWay, IsWelcomed, IsDone, IsDoneFrom, IsOwnKey, IsError, IsRefusalOf, IsUnanswerable, IsEndCause, CameAs, IsErrorHeard, IsUnanswerableHeard, IsUnexpectedHeard, IsCause, IsWaiting, IsWaitingStart, HasTried, ReadsOnce, tried_before, tried_so_far, shown}
+use Rattle.link_start.specs.Starts.{IsStartable, CanStart, IsLinkKey, answer_heard, own_answer, AsksQuestion, StartView, start_view, waits_of, IsOwn, IsStartUnderWay, IsWelcomed, IsDone, IsDoneFrom, IsOwnKey, IsError, IsRefusalOf, IsUnanswerable, IsEndCause, CameAs, IsErrorHeard, IsUnanswerableHeard, IsUnexpectedHeard, IsStartCause, IsWaiting, IsWaitingStart, HasTried, ReadsOnce, shown}
 use Rattle.link_start.proofs.Grammar.{start_answer}
 use Rattle.link_start.proofs.Hearing.{no_other, still_refused, ready_is_last, never_asked, asked_stays, ready_came, first_error, is_error}
 use Rattle.link_start.proofs.Keying.{TellsOwnKey}
 use Rattle.link_start.proofs.Telling.{OpensReported, RefusedBy, IsHeard, replies_heard, let_in_heard, not_faulty}
+use Rattle.link_start.proofs.Lengths.{replies_are_short}
 
 -- ---- moves
 
-pub start_begun : (l : Standing) (secret : Secret) (k : StartKeyOf) (n b : ℕ) (u r : List ℕ) → u ≡ first_spelling (Start (start_body k)) → r ≡ [] → 8 + length (start_body k) < 2 ^ 32 → IsUnderWay l secret (start_view l k n b false u r)
+pub start_begun : (l : Standing) (secret : Secret) (k : StartKeyOf) (n b : ℕ) (u r : List ℕ) → u ≡ first_spelling (Start (start_body k)) → r ≡ [] → 8 + length (start_body k) < 2 ^ 32 → IsStartUnderWay l secret (start_view l k n b false u r)
 start_begun l secret k n b u r e d h = record {
   answer = None;
   starting = record { sent = []; moves = rw d (moves_none l); all = e ∙ sym (append-nil (first_spelling (Start (start_body k)))); fits = (h, tt); to_question = λ _. tt };
@@ -53,7 +56,7 @@ start_begun l secret k n b u r e d h = record {
 }
 
 pub start_sent : (began l m : Standing) (secret : Secret) (k : StartKeyOf) (n b : ℕ) (a : Bool) (put u w r : List ℕ) → Moves l put m [] → u ≡ put ++ w → l.faults ≤ m.faults
-    → IsUnderWay began secret (start_view l k n b a u r) → IsUnderWay began secret (start_view m k n b a w r)
+    → IsStartUnderWay began secret (start_view l k n b a u r) → IsStartUnderWay began secret (start_view m k n b a w r)
 start_sent began l m secret k n b a put u w r y e h x =
     let s = x.starting in
     record {
@@ -72,7 +75,7 @@ start_sent began l m secret k n b a put u w r y e h x =
     }
 
 pub start_got : (began l m : Standing) (secret : Secret) (k : StartKeyOf) (n b : ℕ) (a : Bool) (got u r t : List ℕ) → Moves l [] m got → t ≡ r ++ got → l.faults ≤ m.faults
-    → IsUnderWay began secret (start_view l k n b a u r) → IsUnderWay began secret (start_view m k n b a u t)
+    → IsStartUnderWay began secret (start_view l k n b a u r) → IsStartUnderWay began secret (start_view m k n b a u t)
 start_got began l m secret k n b a got u r t y e h x =
     let s = x.starting in
     record {
@@ -90,7 +93,7 @@ to_asked secret user text (Asks kind more right) e = tt
 
 pub start_answered : (began l : Standing) (secret : Secret) (k : StartKeyOf) (n b : ℕ) (a : Bool) (u w r : List ℕ) (text : Text) → a ≡ false → w ≡ u ++ spelling (password_message text) → 4 + length (password_message text).body < 2 ^ 32
     → (began.follows ≡ true → own_answer secret k.user (auth_of began.stage) ≡ Some text)
-    → IsUnderWay began secret (start_view l k n b a u r) → IsUnderWay began secret (start_view l k n b true w r)
+    → IsStartUnderWay began secret (start_view l k n b a u r) → IsStartUnderWay began secret (start_view l k n b true w r)
 start_answered began l secret k n b a u w r text z e h own x =
     let s : IsStarting began k None u l r = subst (λ (o : Option Text). IsStarting began k o u l r) (x.unasked z) x.starting in
     record {
@@ -147,40 +150,40 @@ nothing_in (x ∷ a) b h = absurd cc
 
 -- ---- the server's own question
 
-abbrev IsThat : Auth → Question → Type 0
+abbrev IsThat : Auth → ServerQuestion → Type 0
 IsThat NoAuth q = ⊥
 IsThat (Asks kind more right) q = asked (authentication kind more).body ≡ Asked q
 
 first_is : (g f : FrameOf) (xs ys : List FrameOf) → g ∷ xs ≡ f ∷ ys → g ≡ f
 first_is g f xs ys e = cc
 
-let_in_first : {A : Type 0} (secret : Secret) (got more rest : List FrameOf) (q : Question) → got ++ more ≡ let_in ∷ rest → heard_all secret Nothing got ≡ Asked q → A
+let_in_first : {A : Type 0} (secret : Secret) (got more rest : List FrameOf) (q : ServerQuestion) → got ++ more ≡ let_in ∷ rest → heard_all secret Nothing got ≡ Asked q → A
 let_in_first secret [] more rest q e h = absurd cc
 let_in_first secret (g ∷ got) more rest q e h =
     never_asked secret LetIn got q tt (ap (λ (x : StartProgress). heard_all secret x got) (sym (ap (heard_by secret Nothing) (first_is g let_in (got ++ more) rest e) ∙ let_in_heard secret)) ∙ h)
 
-question_first : (secret : Secret) (kind : ℕ) (text : List ℕ) (got more rest : List FrameOf) (p q : Question) → heard_by secret Nothing (authentication kind text) ≡ Asked p → got ++ more ≡ authentication kind text ∷ rest
+question_first : (secret : Secret) (kind : ℕ) (text : List ℕ) (got more rest : List FrameOf) (p q : ServerQuestion) → heard_by secret Nothing (authentication kind text) ≡ Asked p → got ++ more ≡ authentication kind text ∷ rest
     → heard_all secret Nothing got ≡ Asked q → p ≡ q
 question_first secret kind text [] more rest p q a e h = absurd cc
 question_first secret kind text (g ∷ got) more rest p q a e h =
     asked_stays secret p q got (ap (λ (x : StartProgress). heard_all secret x got) (sym (ap (heard_by secret Nothing) (first_is g (authentication kind text) (got ++ more) rest e) ∙ a)) ∙ h)
 
-not_asked : {A : Type 0} (secret : Secret) (v : Server) (r : Result State Cause) (got more : List FrameOf) (q : Question) → got ++ more ≡ (opened v r).replies ++ [] → heard_all secret Nothing got ≡ Asked q → A
+not_asked : {A : Type 0} (secret : Secret) (v : Server) (r : Result State Cause) (got more : List FrameOf) (q : ServerQuestion) → got ++ more ≡ (opened v r).replies ++ [] → heard_all secret Nothing got ≡ Asked q → A
 not_asked secret v (Ok s) got more q e h = let_in_first secret got more _ q e h
 not_asked secret v (Err c) got more q e h = let_in_first secret got more _ q e h
 
-that_is : (secret : Secret) (v : Server) (auth : Auth) (key : StartKeyOf) (answer : Option Text) (got more : List FrameOf) (q : Question) → AsksQuestion auth → IsToQuestion answer auth → got ++ more ≡ start_replies v auth key answer
+that_is : (secret : Secret) (v : Server) (auth : Auth) (key : StartKeyOf) (answer : Option Text) (got more : List FrameOf) (q : ServerQuestion) → AsksQuestion auth → IsToQuestion answer auth → got ++ more ≡ start_replies v auth key answer
     → heard_all secret Nothing got ≡ Asked q → IsThat auth q
 that_is secret v NoAuth key None got more q a to e h = not_asked secret v (started_by v.catalogue (start_body key)) got more q e h
 that_is secret v NoAuth key (Some answer) got more q a to e h = absurd to
 that_is secret v (Asks kind text right) key None got more q a to e h = a.is_read ∙ ap Asked (question_first secret kind text got more [] a.question q a.is_read e h)
 that_is secret v (Asks kind text right) key (Some answer) got more q a to e h = a.is_read ∙ ap Asked (question_first secret kind text got more _ a.question q a.is_read e h)
 
-pub that_answer : (secret : Secret) (user : Text) (auth : Auth) (q : Question) → IsThat auth q → own_answer secret user auth ≡ answer_to secret user q
+pub that_answer : (secret : Secret) (user : Text) (auth : Auth) (q : ServerQuestion) → IsThat auth q → own_answer secret user auth ≡ answer_to secret user q
 that_answer secret user NoAuth q t = absurd t
 that_answer secret user (Asks kind more right) q t = ap (answer_heard secret user) t
 
-unanswerable : (secret : Secret) (user : Text) (auth : Auth) (q : Question) → IsThat auth q → answer_to secret user q ≡ None → IsUnanswerable secret user auth
+unanswerable : (secret : Secret) (user : Text) (auth : Auth) (q : ServerQuestion) → IsThat auth q → answer_to secret user q ≡ None → IsUnanswerable secret user auth
 unanswerable secret user NoAuth q t e = absurd t
 unanswerable secret user (Asks kind more right) q t e = that_answer secret user (Asks kind more right) q t ∙ e
 
@@ -193,7 +196,7 @@ own_refusal v (Asks kind more right) key secret (Some answer) f o to e = ap (sta
 
 -- ---- what came over an end of any kind
 
-pub came_as : (began : Standing) (secret : Secret) (v : StartView) (Says : List ℕ → Type 0) → IsUnderWay began secret v → Says v.received → CameAs began v.end Says
+pub came_as : (began : Standing) (secret : Secret) (v : StartView) (Says : List ℕ → Type 0) → IsStartUnderWay began secret v → Says v.received → CameAs began v.end Says
 came_as began secret v Says x says = record { sent = x.starting.sent; received = v.received; moves = x.starting.moves; says = says }
 
 -- a whole welcome: its frames say so, and nothing stands behind them
@@ -210,7 +213,7 @@ whole_frames secret v bytes w =
 all_sent : (began now : Standing) (key : StartKeyOf) (answer : Option Text) (unsent received : List ℕ) (s : IsStarting began key answer unsent now received) → unsent ≡ [] → s.sent ≡ packets_bytes (start_packets key answer)
 all_sent began now key answer unsent received s none = sym (append-nil s.sent) ∙ ap (λ (bs : List ℕ). s.sent ++ bs) (sym none) ∙ s.all
 
-pub has_started : (began : Standing) (secret : Secret) (v : StartView) → AreBytes v.received → IsUnderWay began secret v → IsWelcomed secret v → HasStarted v.key v.end
+pub has_started : (began : Standing) (secret : Secret) (v : StartView) → AreBytes v.received → IsStartUnderWay began secret v → IsWelcomed secret v → HasStarted v.key v.end
 has_started began secret v bytes x w =
     let s = x.starting in
     record {
@@ -224,7 +227,7 @@ has_started began secret v bytes x w =
 
 -- ---- what a server that follows has said
 
-module _ (began : Standing) (secret : Secret) (v : StartView) (c : CanStart began) (k : IsLinkKey v.key) (x : IsUnderWay began secret v) (f : began.follows ≡ true) (bytes : AreBytes v.received) where
+module _ (began : Standing) (secret : Secret) (v : StartView) (c : CanStart began) (k : IsLinkKey v.key) (x : IsStartUnderWay began secret v) (f : began.follows ≡ true) (bytes : AreBytes v.received) where
   auth : Auth
   auth = auth_of began.stage
 
@@ -294,14 +297,25 @@ module _ (began : Standing) (secret : Secret) (v : StartView) (c : CanStart bega
   unfolding got tail
   never_unexpected e = lawful_before (heard_all secret Nothing got) refl e
 
-  question_is : (q : Question) → heard secret v.received ≡ Asked q → IsThat (auth_of began.stage) q
+  -- what came is a beginning of all that it answers
+  answers_more : v.received ++ told.lost ≡ flat_map spelling replies
+  unfolding got tail
+  answers_more =
+      ap (λ (bs : List ℕ). bs ++ told.lost) split.whole ∙ append_assoc (flat_map spelling got) tail told.lost
+      ∙ ap (λ (bs : List ℕ). flat_map spelling got ++ bs) told.bytes ∙ sym (flat_map-append spelling got told.more) ∙ ap (flat_map spelling) (sym told.frames)
+
+  pub never_too_long : length v.received ≤ LONGEST_WELCOME
+  unfolding replies auth
+  never_too_long = omega (arith, length-append v.received told.lost, ap length answers_more, replies_are_short began.server auth v.key x.answer to shorts)
+
+  question_is : (q : ServerQuestion) → heard secret v.received ≡ Asked q → IsThat (auth_of began.stage) q
   unfolding got tail replies auth
   question_is q e = that_is secret began.server auth v.key x.answer got told.more q can.question to (sym told.frames) (before_is secret (heard_all secret Nothing got) (Asked q) tail e (λ z. cc))
 
-  pub own_answer_is : (q : Question) → heard secret v.received ≡ Asked q → own_answer secret v.key.user (auth_of began.stage) ≡ answer_to secret v.key.user q
+  pub own_answer_is : (q : ServerQuestion) → heard secret v.received ≡ Asked q → own_answer secret v.key.user (auth_of began.stage) ≡ answer_to secret v.key.user q
   own_answer_is q e = that_answer secret v.key.user (auth_of began.stage) q (question_is q e)
 
-  pub has_no_answer : (q : Question) → heard secret v.received ≡ Asked q → answer_to secret v.key.user q ≡ None → IsUnanswerable secret v.key.user (auth_of began.stage)
+  pub has_no_answer : (q : ServerQuestion) → heard secret v.received ≡ Asked q → answer_to secret v.key.user q ≡ None → IsUnanswerable secret v.key.user (auth_of began.stage)
   has_no_answer q e n = unanswerable secret v.key.user (auth_of began.stage) q (question_is q e) n
 
   pub refusal_is : heard secret v.received ≡ Refused → IsRefusalOf began secret v.key (error_in (frames FromServer 65536 v.received).frames)
@@ -374,18 +388,18 @@ never_unkeyed began secret v fault d f bytes e =
     cc
 
 -- a whole welcome with a report that can't be kept, or a key that can't be read
-pub unreported_cause : (began : Standing) (secret : Secret) (v : StartView) → IsDoneFrom began secret v → AreBytes v.received → reported_all [] (frames FromServer 65536 v.received).frames ≡ None → IsCause began v.end secret v.key Unexpected
-unreported_cause began secret v d bytes e = (came_as began secret v (IsUnexpectedHeard secret) d.under_way (inr (d.welcomed.ready, inl e)), λ f. never_unreported began secret v d f bytes e)
+pub unreported_cause : (began : Standing) (secret : Secret) (v : StartView) → IsDoneFrom began secret v → AreBytes v.received → reported_all [] (frames FromServer 65536 v.received).frames ≡ None → IsStartCause began v.end secret v.key Unexpected
+unreported_cause began secret v d bytes e = (came_as began secret v (IsUnexpectedHeard secret) d.under_way (inr (inl (d.welcomed.ready, inl e))), λ f. never_unreported began secret v d f bytes e)
 
 fault_in : (r : Result (Option KeyView) ViewFault) → ((key : Option KeyView) → r ≡ Ok key → ⊥) → (fault : ViewFault) × (r ≡ Err fault)
 fault_in (Ok key) n = absurd (n key refl)
 fault_in (Err fault) n = (fault, refl)
 
 pub unkeyed_cause : (began : Standing) (secret : Secret) (v : StartView) (r : Result (Option KeyView) ViewFault) → IsDoneFrom began secret v → AreBytes v.received → ((key : Option KeyView) → r ≡ Ok key → ⊥)
-    → r ≡ keyed_all None (frames FromServer 65536 v.received).frames → IsCause began v.end secret v.key Unexpected
+    → r ≡ keyed_all None (frames FromServer 65536 v.received).frames → IsStartCause began v.end secret v.key Unexpected
 unkeyed_cause began secret v r d bytes n e =
     let y = fault_in r n in
-    (came_as began secret v (IsUnexpectedHeard secret) d.under_way (inr (d.welcomed.ready, inr (y.0, sym e ∙ y.1))), λ f. never_unkeyed began secret v y.0 d f bytes (sym e ∙ y.1))
+    (came_as began secret v (IsUnexpectedHeard secret) d.under_way (inr (inl (d.welcomed.ready, inr (y.0, sym e ∙ y.1)))), λ f. never_unkeyed began secret v y.0 d f bytes (sym e ∙ y.1))
 
 some_key : (k l : Option KeyView) (r : Result (Option KeyView) ViewFault) → r ≡ Ok k → r ≡ Ok l → k ≡ l
 some_key k l r e d = cc
@@ -395,8 +409,8 @@ own_key began secret v key d f bytes t =
     let y = key_is began secret v d.can_start d.key d.under_way f bytes d.welcomed in
     subst (IsOwnKey began.server) (some_key y.key key _ y.told t) y.own
 
-pub done_from : (began : Standing) (secret : Secret) (key : StartKeyOf) (v w : StartView) → CanStart began → IsLinkKey key → v.key ≡ key → w.key ≡ v.key → IsUnderWay began secret v
-    → (CanStart began → IsLinkKey v.key → IsUnderWay began secret v → IsUnderWay began secret w) → IsWelcomed secret w → IsDoneFrom began secret w
+pub done_from : (began : Standing) (secret : Secret) (key : StartKeyOf) (v w : StartView) → CanStart began → IsLinkKey key → v.key ≡ key → w.key ≡ v.key → IsStartUnderWay began secret v
+    → (CanStart began → IsLinkKey v.key → IsStartUnderWay began secret v → IsStartUnderWay began secret w) → IsWelcomed secret w → IsDoneFrom began secret w
 done_from began secret key v w can k e same x go welcomed = record { can_start = can; key = subst IsLinkKey (sym (same ∙ e)) k; under_way = go can (subst IsLinkKey (sym e) k) x; welcomed = welcomed }
 
 -- ---- why it ends, by what was heard
@@ -406,18 +420,18 @@ error_is secret received e =
     let got = (frames FromServer 65536 received).frames in
     is_error secret Nothing got (λ z. cc) (before_is secret (heard_all secret Nothing got) Refused (frames FromServer 65536 received).rest e (λ z. cc))
 
-pub refused_cause : (began : Standing) (secret : Secret) (v : StartView) (error : List ℕ) → CanStart began → IsLinkKey v.key → IsUnderWay began secret v → AreBytes v.received → heard secret v.received ≡ Refused
-    → error ≡ error_in (frames FromServer 65536 v.received).frames → IsCause began v.end secret v.key (causes.Refused error)
+pub refused_cause : (began : Standing) (secret : Secret) (v : StartView) (error : List ℕ) → CanStart began → IsLinkKey v.key → IsStartUnderWay began secret v → AreBytes v.received → heard secret v.received ≡ Refused
+    → error ≡ error_in (frames FromServer 65536 v.received).frames → IsStartCause began v.end secret v.key (causes.Refused error)
 refused_cause began secret v error c k x bytes h e = (
   came_as began secret v (IsErrorHeard secret error) x (h, e, subst IsError (sym e) (error_is secret v.received h)),
   λ f. subst (IsRefusalOf began secret v.key) (sym e) (refusal_is began secret v c k x f bytes h),
 )
 
-pub unanswerable_cause : (began : Standing) (secret : Secret) (v : StartView) (q : Question) → CanStart began → IsLinkKey v.key → IsUnderWay began secret v → AreBytes v.received → heard secret v.received ≡ Asked q → answer_to secret v.key.user q ≡ None
-    → IsCause began v.end secret v.key (Unanswerable q)
+pub unanswerable_cause : (began : Standing) (secret : Secret) (v : StartView) (q : ServerQuestion) → CanStart began → IsLinkKey v.key → IsStartUnderWay began secret v → AreBytes v.received → heard secret v.received ≡ Asked q → answer_to secret v.key.user q ≡ None
+    → IsStartCause began v.end secret v.key (Unanswerable q)
 unanswerable_cause began secret v q c k x bytes h n = (came_as began secret v (IsUnanswerableHeard secret v.key.user q) x (h, n), λ f. has_no_answer began secret v c k x f bytes q h n)
 
-pub other_cause : (began : Standing) (secret : Secret) (v : StartView) → CanStart began → IsLinkKey v.key → IsUnderWay began secret v → AreBytes v.received → heard secret v.received ≡ Other → IsCause began v.end secret v.key Unexpected
+pub other_cause : (began : Standing) (secret : Secret) (v : StartView) → CanStart began → IsLinkKey v.key → IsStartUnderWay began secret v → AreBytes v.received → heard secret v.received ≡ Other → IsStartCause began v.end secret v.key Unexpected
 other_cause began secret v c k x bytes h = (came_as began secret v (IsUnexpectedHeard secret) x (inl h), λ f. never_unexpected began secret v c k x f bytes h)
 
 -- ---- how long it goes on
@@ -430,18 +444,23 @@ still_waits Ready A B f w = w
 still_waits Refused A B f w = w
 still_waits Other A B f w = w
 
-pub has_tried : (began : Standing) (secret : Secret) (v : StartView) (turns : ℕ) → IsUnderWay began secret v → turns + tried_before began ≤ tried_so_far v → IsWaitingStart secret v → HasTried began secret v.key v.end turns
-has_tried began secret v turns x t w =
-    let s = x.starting in
-    let all : length v.end.accepted ≡ length began.accepted + length s.sent = ap length s.moves.accepted ∙ length-append began.accepted s.sent in
-    record {
-      answer = x.answer;
-      unsent = v.unsent;
-      received = v.received;
-      starting = s;
-      tries = omega (arith, t, all);
-      waits = still_waits (heard secret v.received) (v.answered ≡ true) (x.answer ≢ None) x.asked w;
-    }
+pub has_tried : (began : Standing) (secret : Secret) (v : StartView) (turns : ℕ) → IsStartUnderWay began secret v → turns + waits_of began ≤ waits_of v.end → IsWaitingStart secret v → HasTried began secret v.key v.end turns
+has_tried began secret v turns x t w = record {
+  answer = x.answer;
+  unsent = v.unsent;
+  received = v.received;
+  starting = x.starting;
+  tries = t;
+  waits = still_waits (heard secret v.received) (v.answered ≡ true) (x.answer ≢ None) x.asked w;
+}
+
+-- more came than any start's answer has, and more of it is to come
+pub long_cause : (began : Standing) (secret : Secret) (v : StartView) → CanStart began → IsLinkKey v.key → IsStartUnderWay began secret v → AreBytes v.received → LONGEST_WELCOME < length v.received → IsWaitingStart secret v
+    → IsStartCause began v.end secret v.key Unexpected
+long_cause began secret v c k x bytes l w = (
+  came_as began secret v (IsUnexpectedHeard secret) x (inr (inr (l, still_waits (heard secret v.received) (v.answered ≡ true) (Unit {0}) (λ _. tt) w))),
+  λ f. let short = never_too_long began secret v c k x f bytes in omega (arith, l, short),
+)
 
 -- before the first byte
 pub waits_first : (secret : Secret) (received : List ℕ) → received ≡ [] → IsWaiting (heard secret received) (false ≡ true)
@@ -473,17 +492,22 @@ read_gave secret v w x (inr same) e = absurd (waits_no_more (heard secret v.rece
 -- ---- small moves
 
 pub start_unsent : (began l m : Standing) (secret : Secret) (k : StartKeyOf) (n b : ℕ) (a : Bool) (u r : List ℕ) → Moves l [] m [] → l.faults ≤ m.faults
-    → IsUnderWay began secret (start_view l k n b a u r) → IsUnderWay began secret (start_view m k n b a u r)
+    → IsStartUnderWay began secret (start_view l k n b a u r) → IsStartUnderWay began secret (start_view m k n b a u r)
 start_unsent began l m secret k n b a u r y h x = start_sent began l m secret k n b a [] u u r y refl h x
 
 pub start_heard : (began l m : Standing) (secret : Secret) (k : StartKeyOf) (n b : ℕ) (a : Bool) (u r t : List ℕ) → Moves l [] m [] → t ≡ r → l.faults ≤ m.faults
-    → IsUnderWay began secret (start_view l k n b a u r) → IsUnderWay began secret (start_view m k n b a u t)
+    → IsStartUnderWay began secret (start_view l k n b a u r) → IsStartUnderWay began secret (start_view m k n b a u t)
 start_heard began l m secret k n b a u r t y e h x = start_got began l m secret k n b a [] u r t y (e ∙ sym (append-nil r)) h x
 
 -- ---- why an end is lost
 
-pub end_cause : (began now : Standing) (secret : Secret) (key : StartKeyOf) (v : StartView) (cause : StartCause) → IsUnderWay began secret v → IsEndCause v.end now cause → IsCause began now secret key cause
-end_cause began now secret key v Lost x e = ⊎_elim (λ d. inl d) (λ l. inr (omega (arith, l, x.faults))) e
+pub end_cause : (began now : Standing) (secret : Secret) (key : StartKeyOf) (v : StartView) (cause : StartCause) → IsStartUnderWay began secret v → IsEndCause v.end now cause → IsStartCause began now secret key cause
+end_cause began now secret key v Lost x e = record {
+  sent = x.starting.sent;
+  received = v.received ++ [];
+  moves = moves_got began v.end now x.starting.sent v.received [] x.starting.moves e.0;
+  says = ⊎_elim (λ d. inl d) (λ l. inr (omega (arith, l, x.faults))) e.1;
+}
 end_cause began now secret key v Memory x e = tt
 end_cause began now secret key v (causes.Refused error) x e = absurd e
 end_cause began now secret key v (Unanswerable question) x e = absurd e
@@ -496,8 +520,8 @@ handed_on P (Ok x) cause e p = tt
 handed_on P (Err other) cause e p = subst P (sym e) p
 
 -- the same, of an equal key
-pub caused : (began now : Standing) (secret : Secret) (key other : StartKeyOf) (cause : StartCause) → key ≡ other → IsCause began now secret key cause → IsCause began now secret other cause
-caused began now secret key other cause e x = subst (λ (k : StartKeyOf). IsCause began now secret k cause) e x
+pub caused : (began now : Standing) (secret : Secret) (key other : StartKeyOf) (cause : StartCause) → key ≡ other → IsStartCause began now secret key cause → IsStartCause began now secret other cause
+caused began now secret key other cause e x = subst (λ (k : StartKeyOf). IsStartCause began now secret k cause) e x
 
 -- the answer of a user that may have none
 pub none_shown : (p : Option (Bor (List ℕ))) (other : Option Text) → ((t : Bor (List ℕ)) → p ≡ Some t → ⊥) → shown p ≡ other → other ≡ None

@@ -28,7 +28,7 @@ use Rattle.link_laws.proofs.ByName.{starts_are_of_their_keys}
 use Rattle.link_run.specs.Links.{kept_by}
 use Rattle.link_start.specs.declared.start_reply.StartProgress.{StartProgress}
 use Rattle.link_start.specs.declared.start_reply.StartProgress.TheVariants.{Nothing, Asked, LetIn, Ready, Refused, Other}
-use Rattle.link_start.specs.declared.start_reply.Question.{Question}
+use Rattle.link_start.specs.declared.start_reply.ServerQuestion.{ServerQuestion}
 use Rattle.link_start.specs.Questions.{can_answer}
 use Rattle.link_start.specs.StartReply.{after_question, heard_by, heard_all, error_in, reported_all}
 use Rattle.link_start.specs.Starts.{AsksQuestion, IsLinkKey}
@@ -48,10 +48,10 @@ unfolding authentication_of int32_at
 let_in_heard secret = refl
 
 -- behind a question that can be answered
-answerable_next : (secret : Secret) (q : Question) (f : FrameOf) → can_answer secret q ≡ true → heard_by secret (Asked q) f ≡ after_question q f
+answerable_next : (secret : Secret) (q : ServerQuestion) (f : FrameOf) → can_answer secret q ≡ true → heard_by secret (Asked q) f ≡ after_question q f
 answerable_next secret q f e = ap (λ (b : Bool). if b then after_question q f else Asked q) e
 
-let_in_after : (secret : Secret) (q : Question) → can_answer secret q ≡ true → heard_by secret (Asked q) let_in ≡ LetIn
+let_in_after : (secret : Secret) (q : ServerQuestion) → can_answer secret q ≡ true → heard_by secret (Asked q) let_in ≡ LetIn
 unfolding authentication_of int32_at
 let_in_after secret q e = answerable_next secret q let_in e
 
@@ -91,7 +91,7 @@ opened_heard secret v key h (Err c) e f l k =
       refused = λ _. record { frame = fatal c; is = refl; whole = refl };
     }
 
-wrong_heard : (secret : Secret) (v : Server) (key : StartKeyOf) (q : Question) → can_answer secret q ≡ true → IsHeard secret v key (Asked q) (wrong_password ∷ []) (Some wrong_password)
+wrong_heard : (secret : Secret) (v : Server) (key : StartKeyOf) (q : ServerQuestion) → can_answer secret q ≡ true → IsHeard secret v key (Asked q) (wrong_password ∷ []) (Some wrong_password)
 wrong_heard secret v key q e =
     let is : heard_all secret (Asked q) (wrong_password ∷ []) ≡ Refused = answerable_next secret q wrong_password e in
     record {
@@ -101,7 +101,7 @@ wrong_heard secret v key q e =
     }
 
 -- whatever stands behind a question that can't be answered
-unanswered_heard : (secret : Secret) (v : Server) (key : StartKeyOf) (q : Question) (replies : List FrameOf) (refusal : Option FrameOf) → heard_all secret (Asked q) replies ≡ Asked q → IsHeard secret v key (Asked q) replies refusal
+unanswered_heard : (secret : Secret) (v : Server) (key : StartKeyOf) (q : ServerQuestion) (replies : List FrameOf) (refusal : Option FrameOf) → heard_all secret (Asked q) replies ≡ Asked q → IsHeard secret v key (Asked q) replies refusal
 unanswered_heard secret v key q replies refusal is = record {
   lawful = λ o. let z : Asked q ≡ Other = sym is ∙ o in cc;
   ready = λ o. absurd (let z : Asked q ≡ Ready = sym is ∙ o in cc);
@@ -113,7 +113,7 @@ unanswered_heard secret v key q replies refusal is = record {
 and_none : (secret : Secret) (v : Server) (key : StartKeyOf) (h : StartProgress) (replies : List FrameOf) (refusal : Option FrameOf) → IsHeard secret v key h replies refusal → IsHeard secret v key h (replies ++ []) refusal
 and_none secret v key h replies refusal x = subst (λ (fs : List FrameOf). IsHeard secret v key h fs refusal) (sym (append-nil replies)) x
 
-answer_heard : (secret : Secret) (v : Server) (key : StartKeyOf) (q : Question) (right : Bool) → IsLawfulCatalogue v.catalogue → IsLinkKey key → can_answer secret q ≡ true
+answer_heard : (secret : Secret) (v : Server) (key : StartKeyOf) (q : ServerQuestion) (right : Bool) → IsLawfulCatalogue v.catalogue → IsLinkKey key → can_answer secret q ≡ true
     → IsHeard secret v key (Asked q) ((if right then opens v (start_body key) else record { next = Closed; replies = wrong_password ∷ [] }).replies ++ []) (if right then start_error (fresh v.catalogue key) else Some wrong_password)
 answer_heard secret v key q true c k e =
     and_none secret v key (Asked q) (opens v (start_body key)).replies (start_error (fresh v.catalogue key))
@@ -122,7 +122,7 @@ answer_heard secret v key q true c k e =
 answer_heard secret v key q false c k e = wrong_heard secret v key q e
 
 -- a question, and then what is answered to its answer
-question_heard : (secret : Secret) (v : Server) (key : StartKeyOf) (kind : ℕ) (more : List ℕ) (q : Question) (replies : List FrameOf) (refusal : Option FrameOf) → heard_by secret Nothing (authentication kind more) ≡ Asked q
+question_heard : (secret : Secret) (v : Server) (key : StartKeyOf) (kind : ℕ) (more : List ℕ) (q : ServerQuestion) (replies : List FrameOf) (refusal : Option FrameOf) → heard_by secret Nothing (authentication kind more) ≡ Asked q
     → (can_answer secret q ≡ true → IsHeard secret v key (Asked q) replies refusal) → IsHeard secret v key Nothing (authentication kind more ∷ replies) refusal
 question_heard secret v key kind more q replies refusal e x =
     let y : IsHeard secret v key (Asked q) replies refusal = by (can_answer secret q) refl in

@@ -5,8 +5,8 @@ use Rattle.message_view.specs.Bodies.{Text}
 use Rattle.user_file.specs.declared.secrets.Secret.{Secret}
 use Rattle.user_file.specs.declared.secrets.Secret.TheVariants as secrets
 use Rattle.user_file.specs.Secrets.{answer}
-use Rattle.link_start.specs.declared.start_reply.Question.{Question}
-use Rattle.link_start.specs.declared.start_reply.Question.TheVariants.{Cleartext, Md5, Unknown}
+use Rattle.link_start.specs.declared.start_reply.ServerQuestion.{ServerQuestion}
+use Rattle.link_start.specs.declared.start_reply.ServerQuestion.TheVariants.{Cleartext, Md5, Unknown}
 
 abbrev pub with_zero : Text → Bool
 with_zero t = list_any (λ b. b == 0) t
@@ -17,12 +17,12 @@ password_of (secrets.Plain password) = if with_zero password then None else Some
 password_of (secrets.Md5 digits) = None
 
 -- what this user answers; none where it can't
-abbrev pub answer_to : Secret → Text → Question → Option Text
+abbrev pub answer_to : Secret → Text → ServerQuestion → Option Text
 answer_to secret user Cleartext = password_of secret
 answer_to secret user (Md5 salt) = Some (answer secret user salt)
 answer_to secret user (Unknown kind) = None
 
-abbrev pub can_answer : Secret → Question → Bool
+abbrev pub can_answer : Secret → ServerQuestion → Bool
 can_answer secret Cleartext = is_some (password_of secret)
 can_answer secret (Md5 salt) = true
 can_answer secret (Unknown kind) = false

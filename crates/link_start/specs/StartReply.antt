@@ -14,8 +14,8 @@ use Rattle.link_run.specs.Dialogues.{IsStartAnswer}
 use Rattle.link_run.specs.declared.reply.TheConstants.{LONGEST_REPLY}
 use Rattle.link_start.specs.declared.start_reply.StartProgress.{StartProgress}
 use Rattle.link_start.specs.declared.start_reply.StartProgress.TheVariants.{Nothing, Asked, LetIn, Ready, Refused, Other}
-use Rattle.link_start.specs.declared.start_reply.Question.{Question}
-use Rattle.link_start.specs.declared.start_reply.Question.TheVariants.{Cleartext, Md5, Unknown}
+use Rattle.link_start.specs.declared.start_reply.ServerQuestion.{ServerQuestion}
+use Rattle.link_start.specs.declared.start_reply.ServerQuestion.TheVariants.{Cleartext, Md5, Unknown}
 use Rattle.link_start.specs.Questions.{can_answer}
 use Rattle.link_start.specs.declared.start_reply.ReportError.{ReportError}
 use Rattle.link_start.specs.declared.start_reply.ReportError.TheVariants.{Unexpected, Memory}
@@ -70,7 +70,7 @@ is_welcome kind = kind == NOTICE_RESPONSE || (kind == PARAMETER_STATUS || kind =
 abbrev pub welcomed : FrameOf → StartProgress
 welcomed f = if is_welcome f.kind then LetIn else (if is_idle f then Ready else refused f.kind)
 
-abbrev pub after_question : Question → FrameOf → StartProgress
+abbrev pub after_question : ServerQuestion → FrameOf → StartProgress
 after_question q f = if f.kind == NOTICE_RESPONSE then Asked q else (if f.kind == AUTHENTICATION then answered f.body else refused f.kind)
 
 -- What stands behind a question that this user can't answer doesn't matter, as behind an error: however the bytes are cut, it is the
@@ -116,7 +116,7 @@ IsEnd secret Ready = ⊥
 IsEnd secret Refused = Unit {0}
 IsEnd secret Other = Unit {0}
 
--- It is heard so whatever comes behind it: no cut of the bytes changes it.
+-- A cause that came stays one, whatever comes behind it, wherever the bytes are cut.
 abbrev pub EndsAreHeard : Type 0
 EndsAreHeard = (secret : Secret) (bytes more : List ℕ) → IsEnd secret (heard secret bytes) → heard secret (bytes ++ more) ≡ heard secret bytes
 

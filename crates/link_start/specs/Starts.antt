@@ -1,5 +1,5 @@
 -- The start of a link: what it may begin with, how far it has come, and what it ends with.
-use Rattle.std.specs.Prelude.{◌≡◌, ◌≢◌, ◌⊎◌, ℕ, ◌+◌, ◌^◌, ◌<◌, ◌≤◌, length, Bool, true, false, Err, Option, Some, None, List, []}
+use Rattle.std.specs.Prelude.{◌≡◌, ◌≢◌, ◌⊎◌, ℕ, ◌+◌, ◌-◌, ◌^◌, ◌<◌, ◌≤◌, length, Bool, true, false, if◌then◌else◌, Err, Option, Some, None, List, []}
 use Rattle.std.specs.Borrow.{Bor}
 use Rattle.frame_view.specs.Frames.{FrameOf, frames, spelling}
 use Rattle.frame_view.specs.declared.Side.TheVariants.{Server}
@@ -18,7 +18,8 @@ use Rattle.link_run.specs.Links.{LinkView}
 use Rattle.link_run.specs.declared.reply.TheConstants.{LONGEST_REPLY}
 use Rattle.link_start.specs.declared.start_reply.StartProgress.{StartProgress}
 use Rattle.link_start.specs.declared.start_reply.StartProgress.TheVariants as heard
-use Rattle.link_start.specs.declared.start_reply.Question.{Question}
+use Rattle.link_start.specs.declared.start_reply.ServerQuestion.{ServerQuestion}
+use Rattle.link_start.specs.declared.start.TheConstants.{CHUNK, LONGEST_WELCOME}
 use Rattle.link_start.specs.declared.start.StartCause.{StartCause}
 use Rattle.link_start.specs.declared.start.StartCause.TheVariants.{Refused, Lost, Unanswerable, Unexpected, Memory, Turns}
 use Rattle.link_start.specs.Questions.{answer_to}
@@ -28,7 +29,7 @@ use Rattle.link_start.specs.StartReply as spec
 
 -- the question is one, alone in its frame
 pub record IsQuestion (kind : ℕ) (more : List ℕ) : Type 0 where
-  pub question : Question
+  pub question : ServerQuestion
   pub is_read : spec.asked (authentication kind more).body ≡ heard.Asked question
 
 abbrev pub AsksQuestion : Auth → Type 0
@@ -93,7 +94,7 @@ IsOwn secret user auth None = Unit {0}
 IsOwn secret user auth (Some text) = own_answer secret user auth ≡ Some text
 
 -- Since its server was new it was sent the StartupMessage of the key, and this user's own answer to its question.
-pub record IsUnderWay (began : Standing) (secret : Secret) (v : StartView) : Type 0 where
+pub record IsStartUnderWay (began : Standing) (secret : Secret) (v : StartView) : Type 0 where
   pub answer : Option Text
   pub starting : IsStarting began v.key answer v.unsent v.end v.received
   pub own : began.follows ≡ true → IsOwn secret v.key.user (auth_of began.stage) answer
@@ -119,7 +120,7 @@ pub record IsWelcomed (secret : Secret) (v : StartView) : Type 0 where
 pub record IsDoneFrom (began : Standing) (secret : Secret) (v : StartView) : Type 0 where
   pub can_start : CanStart began
   pub key : IsLinkKey v.key
-  pub under_way : IsUnderWay began secret v
+  pub under_way : IsStartUnderWay began secret v
   pub welcomed : IsWelcomed secret v
 
 abbrev pub IsDone : StartView → Type 0
@@ -129,7 +130,7 @@ IsDone v = (began : Standing) × ((secret : Secret) × IsDoneFrom began secret v
 pub record IsStarted (began : Standing) (secret : Secret) (l : LinkView) : Type 0 where
   pub received : List ℕ
   pub answered : Bool
-  pub under_way : IsUnderWay began secret (start_view l.stands l.key l.number l.born answered [] received)
+  pub under_way : IsStartUnderWay began secret (start_view l.stands l.key l.number l.born answered [] received)
   pub ready : spec.heard secret received ≡ heard.Ready
   pub reports : spec.reported_all [] (frames Server LONGEST_REPLY received).frames ≡ Some l.reports
   pub tells_key : spec.TellsKey (frames Server LONGEST_REPLY received).frames l.server_key
@@ -155,9 +156,9 @@ abbrev pub IsUnanswerable : Secret → Text → Auth → Type 0
 IsUnanswerable secret user NoAuth = ⊥
 IsUnanswerable secret user (Asks kind more right) = own_answer secret user (Asks kind more right) ≡ None
 
--- why an end isn't read or written
+-- why an end isn't read or written: it is lost, and the call moved nothing
 abbrev pub IsEndCause : Standing → Standing → StartCause → Type 0
-IsEndCause old new Lost = IsLost old new
+IsEndCause old new Lost = Moves old [] new [] × IsLost old new
 IsEndCause old new Memory = Unit {0}
 IsEndCause old new (Refused error) = ⊥
 IsEndCause old new (Unanswerable question) = ⊥
@@ -179,25 +180,8 @@ abbrev pub IsErrorHeard : Secret → List ℕ → List ℕ → Type 0
 IsErrorHeard secret error received = (spec.heard secret received ≡ heard.Refused) × (error ≡ spec.error_in (answer_in received)) × IsError error
 
 -- it asks this, which this user can't answer
-abbrev pub IsUnanswerableHeard : Secret → Text → Question → List ℕ → Type 0
+abbrev pub IsUnanswerableHeard : Secret → Text → ServerQuestion → List ℕ → Type 0
 IsUnanswerableHeard secret user question received = (spec.heard secret received ≡ heard.Asked question) × (answer_to secret user question ≡ None)
-
--- something else; or a whole welcome of which a report can't be read, more than 64 names are reported, or the key can't be read
-abbrev pub IsUnexpectedHeard : Secret → List ℕ → Type 0
-IsUnexpectedHeard secret received =
-    (spec.heard secret received ≡ heard.Other) ⊎ ((spec.heard secret received ≡ heard.Ready) × ((spec.reported_all [] (answer_in received) ≡ None) ⊎ ((fault : ViewFault) × (spec.keyed_all None (answer_in received) ≡ Err fault))))
-
--- By its cause: what came says it, over an end of any kind; and an end that follows refuses, or asks what can't be answered, only as its
--- server does, and says nothing unexpected. Of memory no contract says why; of turns `HasTried` does.
-abbrev pub IsCause : Standing → Standing → Secret → StartKeyOf → StartCause → Type 0
-IsCause began now secret key (Refused error) = CameAs began now (IsErrorHeard secret error) × (began.follows ≡ true → IsRefusalOf began secret key error)
-IsCause began now secret key Lost = IsLost began now
-IsCause began now secret key (Unanswerable question) = CameAs began now (IsUnanswerableHeard secret key.user question) × (began.follows ≡ true → IsUnanswerable secret key.user (auth_of began.stage))
-IsCause began now secret key Unexpected = CameAs began now (IsUnexpectedHeard secret) × (began.follows ≡ true → ⊥)
-IsCause began now secret key Memory = Unit {0}
-IsCause began now secret key Turns = Unit {0}
-
--- ---- how long it goes on
 
 -- More of the answer is to come: of a question only once it is answered.
 abbrev pub IsWaiting : StartProgress → Type 0 → Type 0
@@ -208,17 +192,53 @@ IsWaiting heard.Ready answered = ⊥
 IsWaiting heard.Refused answered = ⊥
 IsWaiting heard.Other answered = ⊥
 
--- So many turns were tried since then: in each of them a byte was sent or came, or a write or a read came to nothing at that time. And
--- what came isn't the whole answer, nor does it say why the start should fail.
+-- a report can't be read, more than 64 names are reported, or the key can't be read
+abbrev pub IsUnreadable : List ℕ → Type 0
+IsUnreadable received = (spec.reported_all [] (answer_in received) ≡ None) ⊎ ((fault : ViewFault) × (spec.keyed_all None (answer_in received) ≡ Err fault))
+
+-- more bytes than a welcome has, and more of the answer is to come
+abbrev pub IsTooLong : Secret → List ℕ → Type 0
+IsTooLong secret received = (LONGEST_WELCOME < length received) × IsWaiting (spec.heard secret received) (Unit {0})
+
+-- something else; or a whole welcome that can't be read; or one that is too long
+abbrev pub IsUnexpectedHeard : Secret → List ℕ → Type 0
+IsUnexpectedHeard secret received = (spec.heard secret received ≡ heard.Other) ⊎ (((spec.heard secret received ≡ heard.Ready) × IsUnreadable received) ⊎ IsTooLong secret received)
+
+-- By its cause: what came says it, over an end of any kind; and an end that follows refuses, or asks what can't be answered, only as its
+-- server does, and says nothing unexpected. Of memory no contract says why; of turns `HasTried` does.
+abbrev pub IsStartCause : Standing → Standing → Secret → StartKeyOf → StartCause → Type 0
+IsStartCause began now secret key (Refused error) = CameAs began now (IsErrorHeard secret error) × (began.follows ≡ true → IsRefusalOf began secret key error)
+IsStartCause began now secret key Lost = CameAs began now (λ _. IsLost began now)
+IsStartCause began now secret key (Unanswerable question) = CameAs began now (IsUnanswerableHeard secret key.user question) × (began.follows ≡ true → IsUnanswerable secret key.user (auth_of began.stage))
+IsStartCause began now secret key Unexpected = CameAs began now (IsUnexpectedHeard secret) × (began.follows ≡ true → ⊥)
+IsStartCause began now secret key Memory = Unit {0}
+IsStartCause began now secret key Turns = Unit {0}
+
+-- ---- how long it goes on
+
+-- So many turns were tried in vain since then: in each of them a write or a read came to nothing at that time. And what came isn't the
+-- whole answer, nor does it say why the start should fail.
 pub record HasTried (began : Standing) (secret : Secret) (key : StartKeyOf) (now : Standing) (turns : ℕ) : Type 0 where
   pub answer : Option Text
   pub unsent : List ℕ
   pub received : List ℕ
   pub starting : IsStarting began key answer unsent now received
-  pub tries : turns + waits_of began ≤ waits_of now + (length starting.sent + length received)
+  pub tries : turns + waits_of began ≤ waits_of now
   pub waits : IsWaiting (spec.heard secret received) (answer ≢ None)
 
--- By the gate's count of turns, then and now: at most one call that came to nothing in each turn taken.
+-- the bytes that an end accepted and gave
+abbrev pub moved_of : Standing → ℕ
+moved_of at = length at.accepted + length at.given
+
+-- By the gate's count of turns, then and now: no more were taken than so many, and one for each byte that was moved.
+abbrev pub TakesTurns : Standing → Standing → ℕ → ℕ → ℕ → Type 0
+TakesTurns began now then_at now_at turns = now_at + moved_of began ≤ then_at + turns + moved_of now
+
+-- What came since then is at most the longest welcome, and one read more.
+abbrev pub IsBounded : Standing → Standing → Type 0
+IsBounded began now = length now.given ≤ length began.given + (LONGEST_WELCOME + CHUNK)
+
+-- At most one call that came to nothing in each turn taken.
 abbrev pub IsStartPaced : Standing → Standing → ℕ → ℕ → Type 0
 IsStartPaced began now then_at now_at = waits_of now + then_at ≤ waits_of began + now_at
 
@@ -228,13 +248,13 @@ IsStartPacedToEnd began now then_at now_at = waits_of now + then_at < waits_of b
 
 -- ---- what the code counts
 
--- the bytes accepted and received, and the calls that came to nothing
-abbrev pub tried_so_far : StartView → ℕ
-tried_so_far v = waits_of v.end + (length v.end.accepted + length v.received)
+-- How many bytes may still be moved, at most: those up to the longest welcome, those unsent, and those of an answer until it is given.
+abbrev pub bytes_left : StartView → ℕ
+bytes_left v = (LONGEST_WELCOME - length v.received) + (length v.unsent + (if v.answered then 0 else 2 ^ 33))
 
--- before the first byte is received
-abbrev pub tried_before : Standing → ℕ
-tried_before at = waits_of at + length at.accepted
+-- whatever comes of a call, no count falls
+abbrev pub CountsOn : StartView → StartView → Type 0
+CountsOn old new = (waits_of old.end ≤ waits_of new.end) × (moved_of old.end ≤ moved_of new.end)
 
 -- more of the answer is to come
 abbrev pub IsWaitingStart : Secret → StartView → Type 0

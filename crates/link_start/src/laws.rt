@@ -10,7 +10,7 @@ pub fn ready_is_answer()
 {}
 
 /// What a start fails by, an ErrorResponse, a question that this user can't answer or something else, is heard so whatever comes
-/// behind it: how a server's bytes are cut changes no cause.
+/// behind it: a cause that came stays one, wherever a server's bytes are cut.
 pub fn ends_are_heard()
     ensures { EndsAreHeard }
 {}

@@ -1,21 +1,21 @@
 //! The start of a link over a server's end.
-ghost use Rattle.std.specs.Prelude.{◌≡◌, ◌≢◌, ◌+◌, ◌<◌, ◌≤◌, [], false, IfErr, IfOk, OnOk, length, true};
+ghost use Rattle.std.specs.Prelude.{◌≡◌, ◌≢◌, ◌+◌, ◌<◌, ◌≤◌, [], false, if◌then◌else◌, IfErr, IfOk, MatchResult, OnOk, length, true};
 ghost use Rattle.frame_view.specs.Frames.{AreBytes, frames};
 ghost use Rattle.frame_view.specs.declared.Side.TheVariants.{Server};
 ghost use Rattle.link_run.specs.declared.reply.TheConstants.{LONGEST_REPLY};
 ghost use Rattle.std.specs.Arc.{arc_value};
 ghost use Rattle.link_laws.specs.Standing.{Standing};
 ghost use Rattle.link_start.specs.StartReply.{error_in, heard};
-ghost use Rattle.link_start.specs.declared.start_reply.StartProgress.TheVariants.{Asked};
-ghost use Rattle.link_start.specs.declared.start.Progress.TheVariants.{More, Ready};
+ghost use Rattle.link_start.specs.declared.start_reply.StartProgress.TheVariants as came;
+ghost use Rattle.link_start.specs.declared.start.Progress.TheVariants as progress;
 ghost use Rattle.user_file.specs.declared.secrets.Secret.{Secret};
 ghost use Rattle.link_start.specs.declared.start.StartCause.TheVariants as causes;
 ghost use Rattle.link_start.specs.Refusing.{refusal_of};
-ghost use Rattle.link_start.specs.Starts.{CanStart, HasTried, IsCause, IsDone, IsDoneFrom, IsEndCause, IsLinkKey, IsOwnKey, IsSameStart, IsStartPaced, IsStartPacedToEnd, IsStarted, IsUnderWay, IsWaitingStart, IsWelcomed, ReadsOnce, WritesOnce, tried_before, tried_so_far, waits_of};
+ghost use Rattle.link_start.specs.Starts.{CanStart, CountsOn, HasTried, IsBounded, IsStartCause, IsDone, IsDoneFrom, IsEndCause, IsLinkKey, IsOwnKey, IsSameStart, IsStartPaced, IsStartPacedToEnd, IsStarted, IsStartUnderWay, IsWaitingStart, IsWelcomed, ReadsOnce, TakesTurns, WritesOnce, bytes_left, moved_of, waits_of};
 
 use crate::messages::{password_of, startup_message};
 use crate::start_reply::{
-    Question, ReportError, StartProgress, error_in, key_told, read_start_reply, take_reports,
+    ReportError, ServerQuestion, StartProgress, error_in, key_told, read_start_reply, take_reports,
 };
 use bytes::BytesMut;
 use link_run::gate::Gate;
@@ -31,6 +31,10 @@ use user_file::Secret;
 
 /// The bytes that a turn reads at most.
 const CHUNK: usize = 256;
+
+/// The bytes of a server's answer to a start after which no more is waited for. A welcome has at most some hundred thousand: a question,
+/// AuthenticationOk, a report of each parameter and the key are a frame each, of at most [`link_run::reply::LONGEST_REPLY`].
+pub const LONGEST_WELCOME: usize = 1_048_576;
 
 /// The ErrorResponse by which a server refused a start.
 pub struct StartError {
@@ -73,13 +77,13 @@ pub enum StartCause {
     Lost,
     /// The server asks this, which is neither for a password nor for its MD5 digest; or for a password where the secret keeps only
     /// its digest, or has a zero byte. What stands behind it isn't looked at.
-    Unanswerable(Question),
-    /// Something else was answered, a report or the server's key can't be read, more than 64 names were reported, or a frame is
-    /// longer than [`link_run::reply::LONGEST_REPLY`].
+    Unanswerable(ServerQuestion),
+    /// Something else was answered, a report or the server's key can't be read, more than 64 names were reported, a frame is longer
+    /// than [`link_run::reply::LONGEST_REPLY`], or more than [`LONGEST_WELCOME`] bytes came and the answer isn't whole.
     Unexpected,
     /// An allocation failed, or the key has no StartupMessage of the greatest length.
     Memory,
-    /// The turns are used up.
+    /// The turns are used up: in so many of them nothing moved.
     Turns,
 }
 
@@ -164,8 +168,24 @@ impl<E: ServerEnd> Model for Start<E> {
 /// What a turn came to.
 #[derive(Clone, Copy)]
 enum Progress {
-    More,
+    /// Nothing moved.
+    Idle,
+    /// Bytes moved, and more are to come.
+    Moved,
+    /// The welcome is whole.
     Ready,
+}
+
+impl Progress {
+    fn by(moved: bool) -> Progress
+        ensures { result ≡ (if moved then progress.Moved else progress.Idle) }
+    {
+        if moved {
+            Progress::Moved
+        } else {
+            Progress::Idle
+        }
+    }
 }
 
 impl<E: ServerEnd> Start<E> {
@@ -176,10 +196,10 @@ impl<E: ServerEnd> Start<E> {
         number: u64,
         born: u64,
     ) -> Result<Start<E>, StartLinkFault<E>>
-        ensures under_way { IfOk result (λ s. (secret : Secret) → IsUnderWay (E.standing end) secret s) }
+        ensures under_way { IfOk result (λ s. (secret : Secret) → IsStartUnderWay (E.standing end) secret s) }
         ensures same { IfOk result (λ s. (s.key ≡ arc_value key) × (s.number ≡ number) × (s.born ≡ born)) }
-        ensures tried { IfOk result (λ s. tried_so_far s ≡ tried_before (E.standing end)) }
         ensures stands { IfOk result (λ s. s.end ≡ E.standing end) }
+        ensures none { IfOk result (λ s. length s.received ≡ 0) }
         ensures waits { IfOk result (λ s. (secret : Secret) → IsWaitingStart secret s) }
         ensures memory { IfErr result (λ f. f.cause ≡ causes.Memory) }
         ensures back { IfErr result (λ f. E.standing f.end ≡ E.standing end) }
@@ -202,46 +222,59 @@ impl<E: ServerEnd> Start<E> {
         })
     }
 
-    /// Writes once, if something is left to be sent.
-    fn send(&mut self) -> Result<(), StartCause>
-        ensures under_way { (b : Standing) (s : Secret) → IsUnderWay b s self.old → OnOk result (IsUnderWay b s self.new) }
+    /// Writes once, if something is left to be sent; whether bytes went.
+    fn send(&mut self) -> Result<bool, StartCause>
+        ensures under_way { (b : Standing) (s : Secret) → IsStartUnderWay b s self.old → OnOk result (IsStartUnderWay b s self.new) }
         ensures same { IsSameStart self.old self.new }
         ensures received { self.new.received ≡ self.old.received }
         ensures answered { self.new.answered ≡ self.old.answered }
         ensures once { WritesOnce self.old self.new }
-        ensures tried { tried_so_far self.old ≤ tried_so_far self.new }
-        ensures wrote { IfOk result (λ _. 0 < length self.new.unsent → tried_so_far self.old < tried_so_far self.new) }
+        ensures counts { CountsOn self.old self.new }
+        ensures given { self.new.end.given ≡ self.old.end.given }
+        ensures left { bytes_left self.new ≤ bytes_left self.old }
+        ensures moved { IfOk result (λ m. m ≡ true → moved_of self.old.end < moved_of self.new.end) }
+        ensures fewer { IfOk result (λ m. m ≡ true → bytes_left self.new < bytes_left self.old) }
+        ensures idle { IfOk result (λ m. m ≡ false → 0 < length self.new.unsent → waits_of self.old.end < waits_of self.new.end) }
         ensures cause { IfErr result (λ c. IsEndCause self.old.end self.new.end c) }
     {
         if self.sent == self.messages.len() {
-            return Ok(());
+            return Ok(false);
         }
         match self.end.write_some(&self.messages.as_slice()[self.sent..]) {
-            Moved::Count(count) => self.sent += count,
-            Moved::NotNow => {}
-            Moved::Ended | Moved::Fault => return Err(StartCause::Lost),
+            Moved::Count(count) => {
+                self.sent += count;
+                Ok(true)
+            }
+            Moved::NotNow => Ok(false),
+            Moved::Ended | Moved::Fault => Err(StartCause::Lost),
         }
-        Ok(())
     }
 
-    /// Reads once. The room comes first: a refused growth after the read would lose bytes.
-    fn receive(&mut self) -> Result<(), StartCause>
-        ensures under_way { (b : Standing) (s : Secret) → IsUnderWay b s self.old → OnOk result (IsUnderWay b s self.new) }
+    /// Reads once; whether bytes came. The room comes first: a refused growth after the read would lose bytes.
+    fn receive(&mut self) -> Result<bool, StartCause>
+        ensures under_way { (b : Standing) (s : Secret) → IsStartUnderWay b s self.old → OnOk result (IsStartUnderWay b s self.new) }
         ensures same { IsSameStart self.old self.new }
         ensures unsent { self.new.unsent ≡ self.old.unsent }
         ensures answered { self.new.answered ≡ self.old.answered }
         ensures once { ReadsOnce self.old self.new }
-        ensures tried { IfOk result (λ _. tried_so_far self.old < tried_so_far self.new) }
+        ensures counts { CountsOn self.old self.new }
+        ensures given { length self.new.end.given ≤ length self.old.end.given + CHUNK }
+        ensures left { bytes_left self.new ≤ bytes_left self.old }
+        ensures moved { IfOk result (λ m. m ≡ true → moved_of self.old.end < moved_of self.new.end) }
+        ensures fewer { IfOk result (λ m. m ≡ true → length self.new.received ≤ LONGEST_WELCOME → bytes_left self.new < bytes_left self.old) }
+        ensures idle { IfOk result (λ m. m ≡ false → waits_of self.old.end < waits_of self.new.end) }
         ensures cause { IfErr result (λ c. IsEndCause self.old.end self.new.end c) }
     {
         let mut chunk = [0u8; CHUNK];
         self.reply.reserve(CHUNK)?;
         match self.end.read_some(&mut chunk) {
-            Moved::Count(count) => self.reply.extend_reserved(&chunk[..count]),
-            Moved::NotNow => {}
-            Moved::Ended | Moved::Fault => return Err(StartCause::Lost),
+            Moved::Count(count) => {
+                self.reply.extend_reserved(&chunk[..count]);
+                Ok(true)
+            }
+            Moved::NotNow => Ok(false),
+            Moved::Ended | Moved::Fault => Err(StartCause::Lost),
         }
-        Ok(())
     }
 
     fn is_sent(&self) -> bool
@@ -249,6 +282,14 @@ impl<E: ServerEnd> Start<E> {
         ensures some { result ≡ false → 0 < length self.now.unsent }
     {
         self.sent == self.messages.len()
+    }
+
+    /// More came than a welcome has.
+    fn is_too_long(&self) -> bool
+        ensures long { result ≡ true → LONGEST_WELCOME < length self.now.received }
+        ensures short { result ≡ false → length self.now.received ≤ LONGEST_WELCOME }
+    {
+        self.reply.len() > LONGEST_WELCOME
     }
 
     /// How far the server's answer has come, for a user with this secret.
@@ -260,63 +301,95 @@ impl<E: ServerEnd> Start<E> {
     }
 
     /// Puts the answer to the server's question behind what is sent, once.
-    fn answer(&mut self, question: Question, secret: &Secret) -> Result<(), StartCause>
-        requires asked { heard secret.now self.old.received ≡ Asked question }
+    fn answer(&mut self, question: ServerQuestion, secret: &Secret) -> Result<(), StartCause>
+        requires asked { heard secret.now self.old.received ≡ came.Asked question }
         requires bytes { AreBytes self.old.received }
-        ensures under_way { (b : Standing) → CanStart b → IsLinkKey self.old.key → IsUnderWay b secret.now self.old → OnOk result (IsUnderWay b secret.now self.new) }
+        ensures under_way { (b : Standing) → CanStart b → IsLinkKey self.old.key → IsStartUnderWay b secret.now self.old → OnOk result (IsStartUnderWay b secret.now self.new) }
         ensures same { IsSameStart self.old self.new }
         ensures end { self.new.end ≡ self.old.end }
         ensures received { self.new.received ≡ self.old.received }
         ensures answered { OnOk result (self.new.answered ≡ true) }
+        ensures left { OnOk result (bytes_left self.new ≤ bytes_left self.old) }
         ensures no_turns { IfErr result (λ c. c ≢ causes.Turns) }
-        ensures cause { (b : Standing) → CanStart b → IsLinkKey self.old.key → IsUnderWay b secret.now self.old → IfErr result (λ c. IsCause b self.new.end secret.now self.old.key c) }
+        ensures cause { (b : Standing) → CanStart b → IsLinkKey self.old.key → IsStartUnderWay b secret.now self.old → IfErr result (λ c. IsStartCause b self.new.end secret.now self.old.key c) }
     {
         if self.answered {
             return Ok(());
         }
         match question {
-            Question::Cleartext => {
+            ServerQuestion::Cleartext => {
                 let Some(password) = password_of(secret) else {
                     return Err(StartCause::Unanswerable(question));
                 };
                 put_password_message(&mut self.messages, password)?;
             }
-            Question::Md5(salt) => {
+            ServerQuestion::Md5(salt) => {
                 let digest = secret.answer(self.key.user.as_slice(), salt);
                 put_password_message(&mut self.messages, &digest)?;
             }
-            Question::Unknown(_) => return Err(StartCause::Unanswerable(question)),
+            ServerQuestion::Unknown(_) => return Err(StartCause::Unanswerable(question)),
         }
         self.answered = true;
         Ok(())
     }
 
+    /// What came so far: whether it is the whole welcome. A question is answered, once.
+    fn hear(&mut self, alloc: Global, secret: &Secret) -> Result<bool, StartCause>
+        ensures under_way { (b : Standing) → CanStart b → IsLinkKey self.old.key → IsStartUnderWay b secret.now self.old → OnOk result (IsStartUnderWay b secret.now self.new) }
+        ensures same { IsSameStart self.old self.new }
+        ensures end { self.new.end ≡ self.old.end }
+        ensures received { OnOk result (self.new.received ≡ self.old.received) }
+        ensures bytes { AreBytes self.old.received }
+        ensures left { OnOk result (bytes_left self.new ≤ bytes_left self.old) }
+        ensures waits { IfOk result (λ r. r ≡ false → IsWaitingStart secret.now self.new) }
+        ensures ready { IfOk result (λ r. r ≡ true → heard secret.now self.old.received ≡ came.Ready) }
+        ensures unsent { IfOk result (λ r. r ≡ true → self.new.unsent ≡ self.old.unsent) }
+        ensures no_turns { IfErr result (λ c. c ≢ causes.Turns) }
+        ensures cause { (b : Standing) → CanStart b → IsLinkKey self.old.key → IsStartUnderWay b secret.now self.old → IfErr result (λ c. IsStartCause b self.new.end secret.now self.old.key c) }
+    {
+        match self.read_start_reply(secret) {
+            StartProgress::Ready => Ok(true),
+            StartProgress::Asked(question) => {
+                self.answer(question, secret)?;
+                Ok(false)
+            }
+            StartProgress::Refused => Err(StartCause::Refused(self.take_error(alloc))),
+            StartProgress::Other => Err(StartCause::Unexpected),
+            StartProgress::Nothing | StartProgress::LetIn => Ok(false),
+        }
+    }
+
     /// Writes at most once and, where all is sent, reads at most once.
     fn turn(&mut self, alloc: Global, secret: &Secret) -> Result<Progress, StartCause>
         requires { IsWaitingStart secret.now self.old }
-        ensures under_way { (b : Standing) → CanStart b → IsLinkKey self.old.key → IsUnderWay b secret.now self.old → OnOk result (IsUnderWay b secret.now self.new) }
+        ensures under_way { (b : Standing) → CanStart b → IsLinkKey self.old.key → IsStartUnderWay b secret.now self.old → OnOk result (IsStartUnderWay b secret.now self.new) }
         ensures same { IsSameStart self.old self.new }
-        ensures waits { IfOk result (λ p. p ≡ More → IsWaitingStart secret.now self.new) }
-        ensures welcomed { IfOk result (λ p. p ≡ Ready → IsWelcomed secret.now self.new) }
-        ensures tried { IfOk result (λ _. tried_so_far self.old < tried_so_far self.new) }
+        ensures waits { IfOk result (λ p. p ≢ progress.Ready → IsWaitingStart secret.now self.new) }
+        ensures welcomed { IfOk result (λ p. p ≡ progress.Ready → IsWelcomed secret.now self.new) }
+        ensures counts { CountsOn self.old self.new }
+        ensures given { length self.new.end.given ≤ length self.old.end.given + CHUNK }
+        ensures short { IfOk result (λ p. p ≢ progress.Ready → length self.old.received ≤ LONGEST_WELCOME → length self.new.received ≤ LONGEST_WELCOME) }
+        ensures left { OnOk result (bytes_left self.new ≤ bytes_left self.old) }
+        ensures moved { IfOk result (λ p. p ≡ progress.Moved → moved_of self.old.end < moved_of self.new.end) }
+        ensures fewer { IfOk result (λ p. p ≡ progress.Moved → bytes_left self.new < bytes_left self.old) }
+        ensures idle { IfOk result (λ p. p ≡ progress.Idle → waits_of self.old.end < waits_of self.new.end) }
         ensures once { waits_of self.new.end ≤ waits_of self.old.end + 1 }
-        ensures last { IfOk result (λ p. p ≡ Ready → waits_of self.new.end ≡ waits_of self.old.end) }
+        ensures last { IfOk result (λ p. p ≡ progress.Ready → waits_of self.new.end ≡ waits_of self.old.end) }
         ensures no_turns { IfErr result (λ c. c ≢ causes.Turns) }
-        ensures cause { (b : Standing) → CanStart b → IsLinkKey self.old.key → IsUnderWay b secret.now self.old → IfErr result (λ c. IsCause b self.new.end secret.now self.old.key c) }
+        ensures cause { (b : Standing) → CanStart b → IsLinkKey self.old.key → IsStartUnderWay b secret.now self.old → IfErr result (λ c. IsStartCause b self.new.end secret.now self.old.key c) }
     {
-        self.send()?;
+        let wrote = self.send()?;
         if !self.is_sent() {
-            return Ok(Progress::More);
+            return Ok(Progress::by(wrote));
         }
-        self.receive()?;
-        match self.read_start_reply(secret) {
-            StartProgress::Ready => return Ok(Progress::Ready),
-            StartProgress::Asked(question) => self.answer(question, secret)?,
-            StartProgress::Refused => return Err(StartCause::Refused(self.take_error(alloc))),
-            StartProgress::Other => return Err(StartCause::Unexpected),
-            StartProgress::Nothing | StartProgress::LetIn => {}
+        let read = self.receive()?;
+        if self.hear(alloc, secret)? {
+            return Ok(Progress::Ready);
         }
-        Ok(Progress::More)
+        if self.is_too_long() {
+            return Err(StartCause::Unexpected);
+        }
+        Ok(Progress::by(wrote || read))
     }
 
     fn take_error(&mut self, alloc: Global) -> StartError
@@ -340,7 +413,7 @@ impl<E: ServerEnd> Start<E> {
         ensures stands { IfOk result (λ l. l.stands ≡ self.end) }
         ensures back { IfErr result (λ f. E.standing f.end ≡ self.end) }
         ensures no_turns { IfErr result (λ f. f.cause ≢ causes.Turns) }
-        ensures cause { (b : Standing) (s : Secret) → IsDoneFrom b s self → IfErr result (λ f. IsCause b (E.standing f.end) s self.key f.cause) }
+        ensures cause { (b : Standing) (s : Secret) → IsDoneFrom b s self → IfErr result (λ f. IsStartCause b (E.standing f.end) s self.key f.cause) }
     {
         let Start {
             end,
@@ -403,10 +476,15 @@ impl<E: ServerEnd> Start<E> {
 /// (PostgreSQL manual, "Message Flow", "Start-up"). Each turn of the gate allows at most one write and then one read; nothing is
 /// read before all was sent, nor after the ReadyForQuery.
 ///
+/// Turns are for waiting: only one in which no byte was sent and none came counts against `turns`, so an answer that comes byte by byte
+/// uses up none. The answer has its own bound: once more than [`LONGEST_WELCOME`] bytes came and it isn't whole, the start fails by
+/// Unexpected.
+///
 /// `number` and `born` are kept in the link: its number, and the second in which it was begun. So is the server's key, that of the
 /// last BackendKeyData of the dialogue; where the end follows, those are the server's own words. Where it fails the end comes back
 /// with the cause, which stands in the bytes that came: an ErrorResponse, a question that this user can't answer, or something else
-/// ends the start at once, however the bytes are cut. It is Turns only after so many turns in which none of these came.
+/// ends the start at once, and a cause that came stays one, whatever comes behind it, wherever the bytes are cut. It is Turns only after
+/// so many turns in which nothing moved, and none of these came.
 pub fn start_link<E: ServerEnd, G: Gate<E>>(
     alloc: Global,
     end: E,
@@ -424,17 +502,20 @@ pub fn start_link<E: ServerEnd, G: Gate<E>>(
     ensures key { IfOk result (λ l. l.key ≡ arc_value key) }
     ensures number { IfOk result (λ l. l.number ≡ number) }
     ensures born { IfOk result (λ l. l.born ≡ born) }
-    ensures cause { IfErr result (λ f. IsCause (E.standing end) (E.standing f.end) secret.now (arc_value key) f.cause) }
+    ensures cause { IfErr result (λ f. IsStartCause (E.standing end) (E.standing f.end) secret.now (arc_value key) f.cause) }
     ensures turns { IfErr result (λ f. f.cause ≡ causes.Turns → HasTried (E.standing end) secret.now (arc_value key) (E.standing f.end) turns) }
-    ensures taken { G.turns gate.new ≤ G.turns gate.old + turns }
+    ensures taken { MatchResult result (λ l. TakesTurns (E.standing end) l.stands (G.turns gate.old) (G.turns gate.new) turns) (λ f. TakesTurns (E.standing end) (E.standing f.end) (G.turns gate.old) (G.turns gate.new) turns) }
+    ensures bounded { MatchResult result (λ l. IsBounded (E.standing end) l.stands) (λ f. IsBounded (E.standing end) (E.standing f.end)) }
     ensures paced { IfErr result (λ f. IsStartPaced (E.standing end) (E.standing f.end) (G.turns gate.old) (G.turns gate.new)) }
     ensures last { IfOk result (λ l. IsStartPacedToEnd (E.standing end) l.stands (G.turns gate.old) (G.turns gate.new)) }
 {
     let mut start = Start::begin(alloc, end, key, number, born)?;
-    for _ in 0..turns {
+    let mut left = turns;
+    while left > 0 {
         gate.turn_of_link();
         match start.turn(alloc, secret) {
-            Ok(Progress::More) => {}
+            Ok(Progress::Idle) => left -= 1,
+            Ok(Progress::Moved) => {}
             Ok(Progress::Ready) => return start.finish(alloc),
             Err(cause) => return Err(start.fail(cause)),
         }

@@ -15,7 +15,7 @@ use frame_view::server::{
     READY_FOR_QUERY,
 };
 use frame_view::{Frame, Side, Step, next_frame};
-use link_run::reply::LONGEST_REPLY;
+use link_run::reply::{LONGEST_REPLY, ReplyFrames};
 use message_view::kinds::{ASKS_CLEARTEXT, ASKS_MD5, ASKS_NOTHING};
 use message_view::{AuthView, KeyView, StatusView, ViewFault};
 use param_track::{ReportFault, Reported};
@@ -24,7 +24,7 @@ use user_file::Secret;
 
 /// What a server asks of the user that starts a link.
 #[derive(Clone, Copy, Drop)]
-pub enum Question {
+pub enum ServerQuestion {
     /// The password, as it is.
     Cleartext,
     /// The digest of the password with this salt.
@@ -39,7 +39,7 @@ pub enum StartProgress {
     /// Nothing of it.
     Nothing,
     /// A question.
-    Asked(Question),
+    Asked(ServerQuestion),
     /// AuthenticationOk: ReadyForQuery is waited for.
     LetIn,
     /// ReadyForQuery: nothing may follow.
@@ -65,7 +65,7 @@ fn salted(more: &[u8]) -> StartProgress
     ensures { result ≡ spec.salted more.now }
 {
     match more {
-        [a, b, c, d] => StartProgress::Asked(Question::Md5([*a, *b, *c, *d])),
+        [a, b, c, d] => StartProgress::Asked(ServerQuestion::Md5([*a, *b, *c, *d])),
         _ => StartProgress::Other,
     }
 }
@@ -75,9 +75,9 @@ fn asked_by(kind: u32, more: &[u8]) -> StartProgress
 {
     match kind {
         ASKS_NOTHING => bare(StartProgress::LetIn, more),
-        ASKS_CLEARTEXT => bare(StartProgress::Asked(Question::Cleartext), more),
+        ASKS_CLEARTEXT => bare(StartProgress::Asked(ServerQuestion::Cleartext), more),
         ASKS_MD5 => salted(more),
-        kind => StartProgress::Asked(Question::Unknown(kind)),
+        kind => StartProgress::Asked(ServerQuestion::Unknown(kind)),
     }
 }
 
@@ -134,7 +134,7 @@ fn welcomed(frame: Frame<'_>) -> StartProgress
 }
 
 /// Behind a question that this user can answer.
-fn after_question(question: Question, frame: Frame<'_>) -> StartProgress
+fn after_question(question: ServerQuestion, frame: Frame<'_>) -> StartProgress
     ensures { result ≡ spec.after_question question (frame_of frame.entry) }
 {
     match frame.kind {
@@ -144,13 +144,13 @@ fn after_question(question: Question, frame: Frame<'_>) -> StartProgress
     }
 }
 
-fn can_answer(secret: &Secret, question: Question) -> bool
+fn can_answer(secret: &Secret, question: ServerQuestion) -> bool
     ensures { result ≡ can_answer secret.now question }
 {
     match question {
-        Question::Cleartext => password_of(secret).is_some(),
-        Question::Md5(_) => true,
-        Question::Unknown(_) => false,
+        ServerQuestion::Cleartext => password_of(secret).is_some(),
+        ServerQuestion::Md5(_) => true,
+        ServerQuestion::Unknown(_) => false,
     }
 }
 
@@ -213,12 +213,11 @@ pub(crate) fn read_start_reply(reply: &[u8], secret: &Secret) -> StartProgress
 {
     are_bytes(reply);
     let mut heard = StartProgress::Nothing;
-    let mut at = 0;
-    while let Step::Whole(frame) = next_frame(reply, at, LONGEST_REPLY, Side::Server) {
+    let mut frames = ReplyFrames::of(reply);
+    while let Some(frame) = frames.cut() {
         heard = heard.by(frame, secret);
-        at += frame.whole.len();
     }
-    heard.before(&reply[at..], secret)
+    heard.before(frames.rest(), secret)
 }
 
 /// The first ErrorResponse among the whole frames of these bytes; empty where there is none.
@@ -226,12 +225,11 @@ pub(crate) fn error_in(reply: &[u8]) -> &[u8]
     ensures { result.now ≡ error_in (frames Server LONGEST_REPLY reply.now).frames }
 {
     are_bytes(reply);
-    let mut at = 0;
-    while let Step::Whole(frame) = next_frame(reply, at, LONGEST_REPLY, Side::Server) {
+    let mut frames = ReplyFrames::of(reply);
+    while let Some(frame) = frames.cut() {
         if frame.kind == ERROR_RESPONSE {
             return frame.whole;
         }
-        at += frame.whole.len();
     }
     b""
 }
@@ -272,12 +270,8 @@ pub(crate) fn take_reports(
     ensures bytes { AreBytes reply.now }
 {
     are_bytes(reply);
-    let mut at = 0;
-    while let Step::Whole(frame) = next_frame(reply, at, LONGEST_REPLY, Side::Server) {
-        match take_report(alloc, frame, reported) {
-            Ok(()) => at += frame.whole.len(),
-            Err(untaken) => return Err(untaken),
-        }
+    for frame in ReplyFrames::of(reply) {
+        take_report(alloc, frame, reported)?;
     }
     Ok(())
 }
@@ -302,13 +296,8 @@ pub(crate) fn key_told(reply: &[u8]) -> Result<Option<KeyView>, ViewFault>
 {
     are_bytes(reply);
     let mut key = None;
-    let mut at = 0;
-    while let Step::Whole(frame) = next_frame(reply, at, LONGEST_REPLY, Side::Server) {
-        match keyed_by(key, frame) {
-            Ok(told) => key = told,
-            Err(fault) => return Err(fault),
-        }
-        at += frame.whole.len();
+    for frame in ReplyFrames::of(reply) {
+        key = keyed_by(key, frame)?;
     }
     Ok(key)
 }

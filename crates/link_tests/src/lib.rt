@@ -13,7 +13,11 @@ mod limits;
 #[cfg(test)]
 mod making;
 #[cfg(test)]
+mod malformed;
+#[cfg(test)]
 mod resets;
+#[cfg(test)]
+mod saying_end;
 #[cfg(test)]
 mod services;
 #[cfg(test)]

@@ -50,7 +50,7 @@ fn key_of(alloc: Global, dbname: &'static [u8]) -> Result<StartKey, AllocError>
 
 #[tactic(auto, using(crate::proofs::Keys::is_link_key))]
 /// The key of ann on shop, or on a database that isn't there.
-fn key(alloc: Global, is_there: bool) -> Result<Arc<StartKey>, Fail>
+pub fn key(alloc: Global, is_there: bool) -> Result<Arc<StartKey>, Fail>
     ensures { IfOk result (λ k. IsLinkKey (arc_value k)) }
 {
     let dbname: &'static [u8] = if is_there { b"shop" } else { b"nowhere" };

@@ -126,14 +126,15 @@ fn a_digest_is_no_password(rt: HostRuntime) -> Result<(), Fail> {
     Ok(())
 }
 
-/// Three reads of 100 bytes are the welcome of 260: the first turn sends and reads.
+/// Turns are for waiting: a welcome of 260 bytes that comes byte by byte uses up none of them.
 #[test]
-fn turns_are_used_up(rt: HostRuntime) -> Result<(), Fail> {
+fn only_idle_turns_are_used_up(rt: HostRuntime) -> Result<(), Fail> {
     let alloc = rt.alloc();
-    let started = asked(alloc, ServerAuth::Trust, Start { turns: 2, ..SHOP })?;
+    let started = asked(alloc, ServerAuth::Trust, Start { turns: 0, ..SHOP })?;
     assert!(rt; matches!(started, Err(StartCause::Turns)));
-    let started = asked(alloc, ServerAuth::Trust, Start { turns: 3, ..SHOP })?;
-    assert!(rt; started.is_ok());
+    let bytewise = server(alloc, ServerAuth::Trust, 1, None)?;
+    let started = told(alloc, bytewise, Start { turns: 1, ..SHOP })?;
+    assert!(rt; started.is_ok_and(|told| told == BEGUN));
     Ok(())
 }
 

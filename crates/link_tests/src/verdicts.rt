@@ -9,7 +9,7 @@ use link_run::links::CleanLink;
 use memory_ends::memory_client::MemoryClient;
 use memory_ends::memory_server::ServerAuth;
 use message_view::KeyWord;
-use relay_core::relay::{Cause, Relay, Returned};
+use relay_core::relay::{GoneCause, Relay, Returned};
 use relay_laws::Next;
 use server_end::ServerEnd;
 use server_end::gate::Ready;
@@ -32,7 +32,7 @@ const ERROR: &[u8] = b"E\0\0\0\x28SERROR\0VERROR\0C42601\0Msyntax error\0\0";
 enum Fate {
     Unused,
     Used,
-    Gone(Cause),
+    Gone(GoneCause),
 }
 
 /// A lease of the link to a client of this pid that sends these messages at once, over an end that moves so many bytes a call, until
@@ -108,7 +108,7 @@ fn a_link_is_unused_or_used(rt: HostRuntime) -> Result<(), Fail> {
 
 #[test]
 fn a_block_is_left_open(rt: HostRuntime) -> Result<(), Fail> {
-    let in_block = Fate::Gone(Cause::Left(Verdict::InBlock));
+    let in_block = Fate::Gone(GoneCause::Left(Verdict::InBlock));
     assert!(rt; left(rt.alloc(), &[b"Q\0\0\0\x0aBEGIN\0"], b"Z\0\0\0\x05T")? == (in_block, true));
     Ok(())
 }
@@ -118,7 +118,7 @@ fn a_block_is_left_open(rt: HostRuntime) -> Result<(), Fail> {
 #[test]
 fn a_skipped_query_is_unanswered(rt: HostRuntime) -> Result<(), Fail> {
     let alloc = rt.alloc();
-    let unanswered = Fate::Gone(Cause::Left(Verdict::Unanswered));
+    let unanswered = Fate::Gone(GoneCause::Left(Verdict::Unanswered));
     assert!(rt; left(alloc, &[REFUSED, SHOW], ERROR)? == (unanswered, true));
     let idle = left(
         alloc,

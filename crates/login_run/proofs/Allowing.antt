@@ -9,8 +9,8 @@ use Rattle.login_core.specs.Dialogue.{Dialogue, ToLink, login_among}
 use Rattle.login_core.specs.Laws.{LoginIsOfItsRow}
 use Rattle.login_core.specs.Logins.{LoginView, rows_of}
 use Rattle.login_core.specs.Solo.{after_in, service_pieces}
-use Rattle.login_run.specs.declared.said.Said.{Said}
-use Rattle.login_run.specs.declared.said.Said.TheVariants as said
+use Rattle.login_run.specs.declared.login_reply.LoginReply.{LoginReply}
+use Rattle.login_run.specs.declared.login_reply.LoginReply.TheVariants as said
 use Rattle.login_run.specs.Runs.{PhaseOf, Passed, RunView, said_bytes, said_pieces, IsPiece, IsBegun, HasEnded, IsCutOff, StandsAt, Runs, Awaits}
 use Rattle.login_run.specs.Laws.{own, AllowedBy, CancellingRunsHaveAsked, IsRefusedByLogin, RunsAreAllowed, RunsStandAtPieces, PassedRunsAreLetIn, PassedRunsHavePassed}
 use Rattle.login_run.proofs.Running.{joined_said, settled, stands_begun, stands_cut}
@@ -39,7 +39,7 @@ begun_own law catalogue v marks bytes pieces b =
     }
 
 -- a part of the last piece
-part_allowed : (given : List ℕ) (done : List (List ℕ)) (s : Said) (sent : ℕ) (all : List (List ℕ)) → IsPiece s → given ≡ joined_pieces done ++ take sent (said_bytes s) → Continues (done ++ said_pieces s) all → Begins given (joined_pieces all)
+part_allowed : (given : List ℕ) (done : List (List ℕ)) (s : LoginReply) (sent : ℕ) (all : List (List ℕ)) → IsPiece s → given ≡ joined_pieces done ++ take sent (said_bytes s) → Continues (done ++ said_pieces s) all → Begins given (joined_pieces all)
 part_allowed given done s sent all p g c = record {
   more = drop sent (said_bytes s) ++ joined_pieces c.more;
   both =
@@ -71,7 +71,7 @@ refused_by : (v : LoginView) (taken : List ℕ) (pieces : List (List ℕ)) (r : 
 refused_by v taken pieces r (inl h) = inl (ap (λ (l : List ℕ). (login_among (rows_of v) v.word l).ended) (sym (append-nil taken)) ∙ ap (λ (d : Dialogue). d.ended) (h []))
 refused_by v taken pieces r (inr h) = inr h.0
 
-said_allowed : (v : LoginView) (taken given : List ℕ) (done : List (List ℕ)) (s : Said) (sent : ℕ) (all : List (List ℕ)) → given ≡ joined_pieces done ++ take sent (said_bytes s) → Continues (done ++ said_pieces s) all → IsCutOff (rows_of v) v.word taken (done ++ said_pieces s) s
+said_allowed : (v : LoginView) (taken given : List ℕ) (done : List (List ℕ)) (s : LoginReply) (sent : ℕ) (all : List (List ℕ)) → given ≡ joined_pieces done ++ take sent (said_bytes s) → Continues (done ++ said_pieces s) all → IsCutOff (rows_of v) v.word taken (done ++ said_pieces s) s
     → AllowedBy (IsRefusedByLogin v taken) given all
 said_allowed v taken given done said.Nothing sent all g c h = inl (part_allowed given done said.Nothing sent all tt g c)
 said_allowed v taken given done (said.Question q) sent all g c h = inl (part_allowed given done (said.Question q) sent all tt g c)
@@ -131,10 +131,10 @@ passed_passed v key x e =
 -- ---- a client that asks to cancel
 
 -- nothing was said last, so all of it was given
-none_left : (given : List ℕ) (done : List (List ℕ)) (s : Said) (sent : ℕ) → s ≡ said.Nothing → given ≡ joined_pieces done ++ take sent (said_bytes s) → given ≡ joined_pieces (done ++ said_pieces s)
+none_left : (given : List ℕ) (done : List (List ℕ)) (s : LoginReply) (sent : ℕ) → s ≡ said.Nothing → given ≡ joined_pieces done ++ take sent (said_bytes s) → given ≡ joined_pieces (done ++ said_pieces s)
 none_left given done s sent n g =
-    g ∙ (ap (λ (r : Said). joined_pieces done ++ take sent (said_bytes r)) n ∙ (ap (λ (l : List ℕ). joined_pieces done ++ l) (none_of sent) ∙ (append-nil (joined_pieces done)
-    ∙ (ap joined_pieces (sym (append-nil done)) ∙ ap (λ (r : Said). joined_pieces (done ++ said_pieces r)) (sym n)))))
+    g ∙ (ap (λ (r : LoginReply). joined_pieces done ++ take sent (said_bytes r)) n ∙ (ap (λ (l : List ℕ). joined_pieces done ++ l) (none_of sent) ∙ (append-nil (joined_pieces done)
+    ∙ (ap joined_pieces (sym (append-nil done)) ∙ ap (λ (r : LoginReply). joined_pieces (done ++ said_pieces r)) (sym n)))))
   where
     none_of : (n : ℕ) → take {A = ℕ} n [] ≡ []
     none_of n = take_all {A = ℕ} n [] (omega arith)

@@ -18,8 +18,8 @@ use Rattle.login_core.specs.Talk.End.{Stopped as StoppedFor}
 use Rattle.login_core.specs.Dialogue.{Rows, Dialogue, Way, Reason, Refused as RefusedBy, AtFirst, row_in, login_among}
 use Rattle.login_core.specs.Logins.{Awaiting, AwaitsPacket, Arriving, LoginView, login_view, rows_of, goes_on, Tells, StepMeans, missing}
 use Rattle.login_core.specs.Laws.{waits, arrived, asks, NewTells, StepsTell, StepsSay}
-use Rattle.login_run.specs.declared.said.Said.{Said}
-use Rattle.login_run.specs.declared.said.Said.TheVariants as said
+use Rattle.login_run.specs.declared.login_reply.LoginReply.{LoginReply}
+use Rattle.login_run.specs.declared.login_reply.LoginReply.TheVariants as said
 use Rattle.login_run.specs.Runs.{PhaseOf, Talking, Arrived, Passed, Console, Cancelling, Stopped, Gone, RunView, run_view, said_bytes, said_pieces, IsPiece, phase_after, said_after, IsBegun, HasEnded, IsStopped, IsCutOff, StandsAt, Runs, Awaits, IsArriving, IsAllGiven, IsRun}
 
 -- ---- the login's first pieces
@@ -33,7 +33,7 @@ module _ (rows : Rows) (word : KeyWord) where
   ended_begun : (taken : List ℕ) (pieces : List (List ℕ)) (ended : List ℕ → End Way Reason) → HasEnded rows word taken pieces ended → IsBegun rows word taken pieces
   ended_begun taken pieces ended h = λ more. ([], append-nil pieces ∙ sym (ap (λ (d : Dialogue). d.pieces) (h more)))
 
-  stopped_begun : (taken : List ℕ) (pieces : List (List ℕ)) (s : Said) → IsStopped rows word taken pieces s → IsBegun rows word taken pieces
+  stopped_begun : (taken : List ℕ) (pieces : List (List ℕ)) (s : LoginReply) → IsStopped rows word taken pieces s → IsBegun rows word taken pieces
   stopped_begun taken pieces said.Nothing h = ended_begun taken pieces _ h
   stopped_begun taken pieces (said.Question q) h = absurd h
   stopped_begun taken pieces said.LetIn h = absurd h
@@ -41,21 +41,21 @@ module _ (rows : Rows) (word : KeyWord) where
   stopped_begun taken pieces (said.Refusal r) (inl h) = ended_begun taken pieces _ h
   stopped_begun taken pieces (said.Refusal r) (inr h) = h.1
 
-  cut_begun : (taken : List ℕ) (pieces : List (List ℕ)) (s : Said) → IsCutOff rows word taken pieces s → IsBegun rows word taken pieces
+  cut_begun : (taken : List ℕ) (pieces : List (List ℕ)) (s : LoginReply) → IsCutOff rows word taken pieces s → IsBegun rows word taken pieces
   cut_begun taken pieces said.Nothing h = h
   cut_begun taken pieces (said.Question q) h = h
   cut_begun taken pieces said.LetIn h = h
   cut_begun taken pieces (said.Failure f) h = h
   cut_begun taken pieces (said.Refusal r) h = stopped_begun taken pieces (said.Refusal r) h
 
-  begun_cut : (taken : List ℕ) (pieces : List (List ℕ)) (s : Said) → IsPiece s → IsBegun rows word taken pieces → IsCutOff rows word taken pieces s
+  begun_cut : (taken : List ℕ) (pieces : List (List ℕ)) (s : LoginReply) → IsPiece s → IsBegun rows word taken pieces → IsCutOff rows word taken pieces s
   begun_cut taken pieces said.Nothing p h = h
   begun_cut taken pieces (said.Question q) p h = h
   begun_cut taken pieces said.LetIn p h = h
   begun_cut taken pieces (said.Failure f) p h = h
   begun_cut taken pieces (said.Refusal r) p h = absurd p
 
-  stopped_cut : (taken : List ℕ) (pieces : List (List ℕ)) (s : Said) → IsStopped rows word taken pieces s → IsCutOff rows word taken pieces s
+  stopped_cut : (taken : List ℕ) (pieces : List (List ℕ)) (s : LoginReply) → IsStopped rows word taken pieces s → IsCutOff rows word taken pieces s
   stopped_cut taken pieces said.Nothing h = stopped_begun taken pieces said.Nothing h
   stopped_cut taken pieces (said.Question q) h = absurd h
   stopped_cut taken pieces said.LetIn h = absurd h
@@ -65,7 +65,7 @@ module _ (rows : Rows) (word : KeyWord) where
 tells_begun : (v : LoginView) (taken : List ℕ) (pieces : List (List ℕ)) → Tells v taken pieces → IsBegun (rows_of v) v.word taken pieces
 tells_begun v taken pieces t = λ more. ((goes_on v more).pieces, sym (ap (λ (d : Dialogue). d.pieces) (t more)))
 
-pub stands_begun : (p : PhaseOf) (s : Said) (v : LoginView) (taken : List ℕ) (pieces : List (List ℕ)) → StandsAt p s v taken pieces → IsBegun (rows_of v) v.word taken pieces
+pub stands_begun : (p : PhaseOf) (s : LoginReply) (v : LoginView) (taken : List ℕ) (pieces : List (List ℕ)) → StandsAt p s v taken pieces → IsBegun (rows_of v) v.word taken pieces
 stands_begun Talking s v taken pieces h = tells_begun v taken pieces h
 stands_begun Arrived s v taken pieces h = tells_begun v taken pieces h
 stands_begun (Passed key) s v taken pieces h = ended_begun (rows_of v) v.word taken pieces _ h
@@ -75,7 +75,7 @@ stands_begun Stopped s v taken pieces h = stopped_begun (rows_of v) v.word taken
 stands_begun Gone s v taken pieces h = cut_begun (rows_of v) v.word taken pieces s h
 
 -- wherever it stands, a refusal that was said keeps its cause
-pub stands_cut : (p : PhaseOf) (s : Said) (v : LoginView) (taken : List ℕ) (pieces : List (List ℕ)) → Awaits p s v → StandsAt p s v taken pieces → IsCutOff (rows_of v) v.word taken pieces s
+pub stands_cut : (p : PhaseOf) (s : LoginReply) (v : LoginView) (taken : List ℕ) (pieces : List (List ℕ)) → Awaits p s v → StandsAt p s v taken pieces → IsCutOff (rows_of v) v.word taken pieces s
 stands_cut Talking s v taken pieces a h = begun_cut (rows_of v) v.word taken pieces s a.0 (stands_begun Talking s v taken pieces h)
 stands_cut Arrived s v taken pieces a h = begun_cut (rows_of v) v.word taken pieces s a.0 (stands_begun Arrived s v taken pieces h)
 stands_cut (Passed key) s v taken pieces a h = begun_cut (rows_of v) v.word taken pieces s a (stands_begun (Passed key) s v taken pieces h)
@@ -138,7 +138,7 @@ heard_awaits old new bytes step.Left h = tt
 
 -- ---- what was said and given
 
-pub joined_said : (s : Said) → IsPiece s → joined_pieces (said_pieces s) ≡ said_bytes s
+pub joined_said : (s : LoginReply) → IsPiece s → joined_pieces (said_pieces s) ≡ said_bytes s
 joined_said said.Nothing p = refl
 joined_said (said.Question q) p = append-nil _
 joined_said said.LetIn p = append-nil _
@@ -146,7 +146,7 @@ joined_said (said.Failure f) p = append-nil _
 joined_said (said.Refusal r) p = absurd p
 
 -- a piece that was given to the last byte is done
-pub settled : (given : List ℕ) (done : List (List ℕ)) (s : Said) (sent : ℕ) → IsPiece s → sent ≡ length (said_bytes s) → given ≡ joined_pieces done ++ take sent (said_bytes s) → given ≡ joined_pieces (done ++ said_pieces s)
+pub settled : (given : List ℕ) (done : List (List ℕ)) (s : LoginReply) (sent : ℕ) → IsPiece s → sent ≡ length (said_bytes s) → given ≡ joined_pieces done ++ take sent (said_bytes s) → given ≡ joined_pieces (done ++ said_pieces s)
 settled given done s sent p n g =
     g
     ∙ (ap (λ (l : List ℕ). joined_pieces done ++ l) (take_all sent (said_bytes s) (omega (arith, n)) ∙ sym (joined_said s p))
@@ -166,7 +166,7 @@ new_run law c v h e t g = (omega arith, (tt, new_awaits v h e), record { heard =
 
 -- ---- a write
 
-wrote_runs : (c d : ClientFacts) (v : LoginView) (p : PhaseOf) (s : Said) (sent more : ℕ) (put : List ℕ) (m : Moved) → take (sent + more) (said_bytes s) ≡ take sent (said_bytes s) ++ put → ClientWrites c d put m → Runs (run_view c v p s sent) → Runs (run_view d v p s (sent + more))
+wrote_runs : (c d : ClientFacts) (v : LoginView) (p : PhaseOf) (s : LoginReply) (sent more : ℕ) (put : List ℕ) (m : Moved) → take (sent + more) (said_bytes s) ≡ take sent (said_bytes s) ++ put → ClientWrites c d put m → Runs (run_view c v p s sent) → Runs (run_view d v p s (sent + more))
 wrote_runs c d v p s sent more put m e k x = record {
   heard = x.heard;
   done = x.done;
@@ -177,7 +177,7 @@ wrote_runs c d v p s sent more put m e k x = record {
       ∙ (ap (λ (l : List ℕ). l ++ put) (x.given (sym k.tells ∙ tells)) ∙ (append_assoc (joined_pieces x.done) (take sent (said_bytes s)) put ∙ ap (λ (l : List ℕ). joined_pieces x.done ++ l) (sym e)));
 }
 
-pub wrote_some : (c d : ClientFacts) (v : LoginView) (p : PhaseOf) (s : Said) (sent n : ℕ) (unsent : List ℕ) (m : Moved) → unsent ≡ drop sent (said_bytes s) → n ≤ length unsent → sent < length (said_bytes s) → ClientWrites c d (take n unsent) m → IsRun (run_view c v p s sent) → IsRun (run_view d v p s (sent + n))
+pub wrote_some : (c d : ClientFacts) (v : LoginView) (p : PhaseOf) (s : LoginReply) (sent n : ℕ) (unsent : List ℕ) (m : Moved) → unsent ≡ drop sent (said_bytes s) → n ≤ length unsent → sent < length (said_bytes s) → ClientWrites c d (take n unsent) m → IsRun (run_view c v p s sent) → IsRun (run_view d v p s (sent + n))
 wrote_some c d v p s sent n unsent m e w l k x = (
   omega (arith, ap (λ (u : List ℕ). length u) e, w, l, length-drop sent (said_bytes s)),
   x.1,
@@ -185,7 +185,7 @@ wrote_some c d v p s sent n unsent m e w l k x = (
 )
 
 -- the client's end was called to no avail
-idle_runs : (c d : ClientFacts) (v : LoginView) (p : PhaseOf) (s : Said) (sent : ℕ) → d.tells ≡ c.tells → (c.tells ≡ true → d.taken ≡ c.taken) → (c.tells ≡ true → d.given ≡ c.given) → Runs (run_view c v p s sent) → Runs (run_view d v p s sent)
+idle_runs : (c d : ClientFacts) (v : LoginView) (p : PhaseOf) (s : LoginReply) (sent : ℕ) → d.tells ≡ c.tells → (c.tells ≡ true → d.taken ≡ c.taken) → (c.tells ≡ true → d.given ≡ c.given) → Runs (run_view c v p s sent) → Runs (run_view d v p s sent)
 idle_runs c d v p s sent same t g x = record {
   heard = x.heard;
   done = x.done;
@@ -194,23 +194,23 @@ idle_runs c d v p s sent same t g x = record {
   given = λ tells. g (sym same ∙ tells) ∙ x.given (sym same ∙ tells);
 }
 
-pub wrote_none : (c d : ClientFacts) (v : LoginView) (p : PhaseOf) (s : Said) (sent : ℕ) (m : Moved) → ClientWrites c d [] m → IsRun (run_view c v p s sent) → IsRun (run_view d v p s sent)
+pub wrote_none : (c d : ClientFacts) (v : LoginView) (p : PhaseOf) (s : LoginReply) (sent : ℕ) (m : Moved) → ClientWrites c d [] m → IsRun (run_view c v p s sent) → IsRun (run_view d v p s sent)
 wrote_none c d v p s sent m k x = (x.0, x.1, idle_runs c d v p s sent k.tells k.taken (λ tells. k.given tells ∙ append-nil c.given) x.2)
 
-pub gone_run : (c : ClientFacts) (v : LoginView) (p : PhaseOf) (s : Said) (sent : ℕ) → IsRun (run_view c v p s sent) → IsRun (run_view c v Gone s sent)
+pub gone_run : (c : ClientFacts) (v : LoginView) (p : PhaseOf) (s : LoginReply) (sent : ℕ) → IsRun (run_view c v p s sent) → IsRun (run_view c v Gone s sent)
 gone_run c v p s sent x = (x.0, tt, record { heard = x.2.heard; done = x.2.done; stands = stands_cut p s v x.2.heard (x.2.done ++ said_pieces s) x.1 x.2.stands; taken = x.2.taken; given = x.2.given })
 
 none_moved : (m : Moved) (bytes : List ℕ) → (m ≡ Ended) ⊎ (m ≡ Fault) → moved m bytes ≡ []
 none_moved m bytes (inl e) = ap (λ (n : Moved). moved n bytes) e
 none_moved m bytes (inr e) = ap (λ (n : Moved). moved n bytes) e
 
-pub wrote_last : (c d : ClientFacts) (v : LoginView) (p : PhaseOf) (s : Said) (sent : ℕ) (bytes : List ℕ) (m : Moved) → (m ≡ Ended) ⊎ (m ≡ Fault) → ClientWrites c d (moved m bytes) m → IsRun (run_view c v p s sent) → IsRun (run_view d v Gone s sent)
+pub wrote_last : (c d : ClientFacts) (v : LoginView) (p : PhaseOf) (s : LoginReply) (sent : ℕ) (bytes : List ℕ) (m : Moved) → (m ≡ Ended) ⊎ (m ≡ Fault) → ClientWrites c d (moved m bytes) m → IsRun (run_view c v p s sent) → IsRun (run_view d v Gone s sent)
 wrote_last c d v p s sent bytes m e k x = gone_run d v p s sent (wrote_none c d v p s sent m (subst (λ (l : List ℕ). ClientWrites c d l m) (none_moved m bytes e) k) x)
 
 -- ---- a read
 
 -- the last piece is done, and the next is to come
-done_run : (c : ClientFacts) (v : LoginView) (s : Said) (sent : ℕ) → sent ≡ length (said_bytes s) → IsRun (run_view c v Talking s sent) → IsRun (run_view c v Talking said.Nothing 0)
+done_run : (c : ClientFacts) (v : LoginView) (s : LoginReply) (sent : ℕ) → sent ≡ length (said_bytes s) → IsRun (run_view c v Talking s sent) → IsRun (run_view c v Talking said.Nothing 0)
 done_run c v s sent n x = (
   omega arith,
   (tt, x.1.1),
@@ -223,33 +223,33 @@ done_run c v s sent n x = (
   },
 )
 
-read_none : (c d : ClientFacts) (v : LoginView) (s : Said) (sent : ℕ) (m : Moved) → ClientReads c d [] m → IsRun (run_view c v Talking s sent) → IsRun (run_view d v Talking s sent)
+read_none : (c d : ClientFacts) (v : LoginView) (s : LoginReply) (sent : ℕ) (m : Moved) → ClientReads c d [] m → IsRun (run_view c v Talking s sent) → IsRun (run_view d v Talking s sent)
 read_none c d v s sent m k x = (x.0, x.1, idle_runs c d v Talking s sent k.tells (λ tells. k.taken tells ∙ append-nil c.taken) k.given x.2)
 
-idle_run : (c d : ClientFacts) (v : LoginView) (s : Said) (sent : ℕ) (m : Moved) → sent ≡ length (said_bytes s) → ClientReads c d [] m → IsRun (run_view c v Talking s sent) → IsRun (run_view d v Talking said.Nothing 0)
+idle_run : (c d : ClientFacts) (v : LoginView) (s : LoginReply) (sent : ℕ) (m : Moved) → sent ≡ length (said_bytes s) → ClientReads c d [] m → IsRun (run_view c v Talking s sent) → IsRun (run_view d v Talking said.Nothing 0)
 idle_run c d v s sent m n k x = done_run d v s sent n (read_none c d v s sent m k x)
 
 -- what the caller knows of it: it talks, and all was given
-at_talking : (c : ClientFacts) (v : LoginView) (p : PhaseOf) (s : Said) (sent : ℕ) (w : RunView) → run_view c v p s sent ≡ w → w.phase ≡ Talking → p ≡ Talking
+at_talking : (c : ClientFacts) (v : LoginView) (p : PhaseOf) (s : LoginReply) (sent : ℕ) (w : RunView) → run_view c v p s sent ≡ w → w.phase ≡ Talking → p ≡ Talking
 at_talking c v p s sent w e t = ap (λ (x : RunView). x.phase) e ∙ t
 
-pub all_given : (c : ClientFacts) (v : LoginView) (p : PhaseOf) (s : Said) (sent : ℕ) (w : RunView) → run_view c v p s sent ≡ w → IsAllGiven w → sent ≡ length (said_bytes s)
+pub all_given : (c : ClientFacts) (v : LoginView) (p : PhaseOf) (s : LoginReply) (sent : ℕ) (w : RunView) → run_view c v p s sent ≡ w → IsAllGiven w → sent ≡ length (said_bytes s)
 all_given c v p s sent w e n = subst IsAllGiven (sym e) n
 
-talks : (c : ClientFacts) (v : LoginView) (p : PhaseOf) (s : Said) (sent : ℕ) (w : RunView) → run_view c v p s sent ≡ w → w.phase ≡ Talking → IsRun (run_view c v p s sent) → IsRun (run_view c v Talking s sent)
+talks : (c : ClientFacts) (v : LoginView) (p : PhaseOf) (s : LoginReply) (sent : ℕ) (w : RunView) → run_view c v p s sent ≡ w → w.phase ≡ Talking → IsRun (run_view c v p s sent) → IsRun (run_view c v Talking s sent)
 talks c v p s sent w e t x = subst (λ (q : PhaseOf). IsRun (run_view c v q s sent)) (at_talking c v p s sent w e t) x
 
-pub read_idle : (c d : ClientFacts) (v : LoginView) (p : PhaseOf) (s : Said) (sent : ℕ) (w : RunView) (m : Moved) → run_view c v p s sent ≡ w → w.phase ≡ Talking → IsAllGiven w → ClientReads c d [] m → IsRun (run_view c v p s sent) → IsRun (run_view d v p said.Nothing 0)
+pub read_idle : (c d : ClientFacts) (v : LoginView) (p : PhaseOf) (s : LoginReply) (sent : ℕ) (w : RunView) (m : Moved) → run_view c v p s sent ≡ w → w.phase ≡ Talking → IsAllGiven w → ClientReads c d [] m → IsRun (run_view c v p s sent) → IsRun (run_view d v p said.Nothing 0)
 read_idle c d v p s sent w m e t n k x =
     subst (λ (q : PhaseOf). IsRun (run_view d v q said.Nothing 0)) (sym (at_talking c v p s sent w e t)) (idle_run c d v s sent m (all_given c v p s sent w e n) k (talks c v p s sent w e t x))
 
-pub read_last : (c d : ClientFacts) (v : LoginView) (p : PhaseOf) (s : Said) (sent : ℕ) (w : RunView) (bytes : List ℕ) (m : Moved) → run_view c v p s sent ≡ w → w.phase ≡ Talking → IsAllGiven w → (m ≡ Ended) ⊎ (m ≡ Fault) → ClientReads c d (moved m bytes) m → IsRun (run_view c v p s sent)
+pub read_last : (c d : ClientFacts) (v : LoginView) (p : PhaseOf) (s : LoginReply) (sent : ℕ) (w : RunView) (bytes : List ℕ) (m : Moved) → run_view c v p s sent ≡ w → w.phase ≡ Talking → IsAllGiven w → (m ≡ Ended) ⊎ (m ≡ Fault) → ClientReads c d (moved m bytes) m → IsRun (run_view c v p s sent)
     → IsRun (run_view d v Gone said.Nothing 0)
 read_last c d v p s sent w bytes m e t n o k x =
     gone_run d v Talking said.Nothing 0 (idle_run c d v s sent m (all_given c v p s sent w e n) (subst (λ (l : List ℕ). ClientReads c d l m) (none_moved m bytes o) k) (talks c v p s sent w e t x))
 
 -- bytes that a login heard, which had told these pieces
-heard_runs : StepsTell → StepsSay → (c d : ClientFacts) (v w : LoginView) (s : Said) (sent : ℕ) (got : List ℕ) (step : LoginStep) (heard : List ℕ) (done : List (List ℕ)) → Tells v heard (done ++ said_pieces s) → StepMeans v got step w
+heard_runs : StepsTell → StepsSay → (c d : ClientFacts) (v w : LoginView) (s : LoginReply) (sent : ℕ) (got : List ℕ) (step : LoginStep) (heard : List ℕ) (done : List (List ℕ)) → Tells v heard (done ++ said_pieces s) → StepMeans v got step w
     → (d.tells ≡ true → d.taken ≡ heard ++ got) → (d.tells ≡ true → d.given ≡ joined_pieces (done ++ said_pieces s)) → Runs (run_view d w (phase_after step) (said_after step) 0)
 heard_runs tell say c d v w s sent got step heard done t h taken given = record {
   heard = heard ++ got;
@@ -259,7 +259,7 @@ heard_runs tell say c d v w s sent got step heard done t h taken given = record 
   given = λ tells. given tells ∙ sym (append-nil (joined_pieces (done ++ said_pieces s)));
 }
 
-read_on : StepsTell → StepsSay → (c d : ClientFacts) (v w : LoginView) (s : Said) (sent : ℕ) (got : List ℕ) (m : Moved) (step : LoginStep) → sent ≡ length (said_bytes s) → ClientReads c d got m → StepMeans v got step w → IsRun (run_view c v Talking s sent)
+read_on : StepsTell → StepsSay → (c d : ClientFacts) (v w : LoginView) (s : LoginReply) (sent : ℕ) (got : List ℕ) (m : Moved) (step : LoginStep) → sent ≡ length (said_bytes s) → ClientReads c d got m → StepMeans v got step w → IsRun (run_view c v Talking s sent)
     → IsRun (run_view d w (phase_after step) (said_after step) 0)
 read_on tell say c d v w s sent got m step n k h x = (
   omega arith,
@@ -269,10 +269,10 @@ read_on tell say c d v w s sent got m step n k h x = (
       (λ tells. k.given (sym k.tells ∙ tells) ∙ settled c.given x.2.done s sent x.1.0 n (x.2.given (sym k.tells ∙ tells))),
 )
 
-after_step : (c : ClientFacts) (v : LoginView) (step : LoginStep) (p : PhaseOf) (s : Said) → p ≡ phase_after step → s ≡ said_after step → IsRun (run_view c v (phase_after step) (said_after step) 0) → IsRun (run_view c v p s 0)
+after_step : (c : ClientFacts) (v : LoginView) (step : LoginStep) (p : PhaseOf) (s : LoginReply) → p ≡ phase_after step → s ≡ said_after step → IsRun (run_view c v (phase_after step) (said_after step) 0) → IsRun (run_view c v p s 0)
 after_step c v step p s e f x = rw (e, f) x
 
-pub read_some : StepsTell → StepsSay → (c d : ClientFacts) (v w : LoginView) (p : PhaseOf) (s : Said) (sent : ℕ) (u : RunView) (got heard : List ℕ) (m : Moved) (step : LoginStep) (q : PhaseOf) (r : Said) → run_view c v p s sent ≡ u → u.phase ≡ Talking → IsAllGiven u
+pub read_some : StepsTell → StepsSay → (c d : ClientFacts) (v w : LoginView) (p : PhaseOf) (s : LoginReply) (sent : ℕ) (u : RunView) (got heard : List ℕ) (m : Moved) (step : LoginStep) (q : PhaseOf) (r : LoginReply) → run_view c v p s sent ≡ u → u.phase ≡ Talking → IsAllGiven u
     → q ≡ phase_after step → r ≡ said_after step → heard ≡ got → ClientReads c d got m → StepMeans v heard step w → IsRun (run_view c v p s sent) → IsRun (run_view d w q r 0)
 read_some tell say c d v w p s sent u got heard m step q r e t n eq er same k h x =
     after_step d w step q r eq er (read_on tell say c d v w s sent got m step (all_given c v p s sent u e n) k (subst (λ (l : List ℕ). StepMeans v l step w) same h) (talks c v p s sent u e t x))
@@ -283,10 +283,10 @@ all_used used count missing chunk e l = take_all used (take count chunk) (omega 
 
 -- ---- a client that has arrived
 
-arrives : (c : ClientFacts) (v : LoginView) (p : PhaseOf) (s : Said) (sent : ℕ) (w : RunView) → run_view c v p s sent ≡ w → w.phase ≡ Arrived → IsRun (run_view c v p s sent) → IsRun (run_view c v Arrived s sent)
+arrives : (c : ClientFacts) (v : LoginView) (p : PhaseOf) (s : LoginReply) (sent : ℕ) (w : RunView) → run_view c v p s sent ≡ w → w.phase ≡ Arrived → IsRun (run_view c v p s sent) → IsRun (run_view c v Arrived s sent)
 arrives c v p s sent w e t x = subst (λ (q : PhaseOf). IsRun (run_view c v q s sent)) (ap (λ (y : RunView). y.phase) e ∙ t) x
 
-go_on : StepsTell → StepsSay → (c : ClientFacts) (v w : LoginView) (s : Said) (sent : ℕ) (step : LoginStep) → sent ≡ length (said_bytes s) → StepMeans v [] step w → IsRun (run_view c v Arrived s sent) → IsRun (run_view c w (phase_after step) (said_after step) 0)
+go_on : StepsTell → StepsSay → (c : ClientFacts) (v w : LoginView) (s : LoginReply) (sent : ℕ) (step : LoginStep) → sent ≡ length (said_bytes s) → StepMeans v [] step w → IsRun (run_view c v Arrived s sent) → IsRun (run_view c w (phase_after step) (said_after step) 0)
 go_on tell say c v w s sent step n h x = (
   omega arith,
   heard_awaits v w [] step h,
@@ -298,7 +298,7 @@ go_on tell say c v w s sent step n h x = (
 nothing_of : (n : ℕ) → take {A = ℕ} n [] ≡ []
 nothing_of n = take_all {A = ℕ} n [] (omega arith)
 
-pub went_on : StepsTell → StepsSay → (c : ClientFacts) (v w : LoginView) (p : PhaseOf) (s : Said) (sent used : ℕ) (u : RunView) (step : LoginStep) (q : PhaseOf) (r : Said) → run_view c v p s sent ≡ u → u.phase ≡ Arrived → IsAllGiven u → q ≡ phase_after step → r ≡ said_after step → StepMeans v (take used []) step w
+pub went_on : StepsTell → StepsSay → (c : ClientFacts) (v w : LoginView) (p : PhaseOf) (s : LoginReply) (sent used : ℕ) (u : RunView) (step : LoginStep) (q : PhaseOf) (r : LoginReply) → run_view c v p s sent ≡ u → u.phase ≡ Arrived → IsAllGiven u → q ≡ phase_after step → r ≡ said_after step → StepMeans v (take used []) step w
     → IsRun (run_view c v p s sent) → IsRun (run_view c w q r 0)
 went_on tell say c v w p s sent used u step q r e t n eq er h x =
     after_step c w step q r eq er (go_on tell say c v w s sent step (all_given c v p s sent u e n) (subst (λ (l : List ℕ). StepMeans v l step w) (nothing_of used) h) (arrives c v p s sent u e t x))

@@ -14,8 +14,8 @@ use Rattle.login_core.specs.Talk.{End}
 use Rattle.login_core.specs.Talk.End.{Passed as PassedWith, Stopped as StoppedFor}
 use Rattle.login_core.specs.Dialogue.{Rows, Way, ToLink, ToConsole, Reason, Refused as RefusedBy, Failed, Left, Cancelling as CancellingOf, ok, login_among}
 use Rattle.login_core.specs.Logins.{Awaiting, Arriving, LoginView, rows_of, Tells, missing, question_bytes, failure_bytes}
-use Rattle.login_run.specs.declared.said.Said.{Said}
-use Rattle.login_run.specs.declared.said.Said.TheVariants as said
+use Rattle.login_run.specs.declared.login_reply.LoginReply.{LoginReply}
+use Rattle.login_run.specs.declared.login_reply.LoginReply.TheVariants as said
 use Rattle.login_run.specs.declared.run.Phase.{Phase}
 use Rattle.login_run.specs.declared.run.Phase.TheVariants as phase
 use Rattle.login_run.specs.declared.run.LoginTurn.{LoginTurn}
@@ -36,10 +36,10 @@ pub record RunView : Type 0 where
   pub login : LoginView
   pub phase : PhaseOf
   -- what was said last, and how many of its bytes the client was given
-  pub said : Said
+  pub said : LoginReply
   pub sent : ℕ
 
-abbrev pub run_view : ClientFacts → LoginView → PhaseOf → Said → ℕ → RunView
+abbrev pub run_view : ClientFacts → LoginView → PhaseOf → LoginReply → ℕ → RunView
 run_view client login phase said sent = record { client = client; login = login; phase = phase; said = said; sent = sent }
 
 abbrev pub phase_of : Phase → PhaseOf
@@ -57,7 +57,7 @@ has_gone _ = false
 
 -- ---- what is said
 
-abbrev pub said_bytes : Said → List ℕ
+abbrev pub said_bytes : LoginReply → List ℕ
 said_bytes said.Nothing = []
 said_bytes (said.Question q) = question_bytes q
 said_bytes said.LetIn = ok
@@ -65,14 +65,14 @@ said_bytes (said.Failure f) = failure_bytes f
 said_bytes (said.Refusal r) = refusal r
 
 -- a refusal is none of the login's pieces
-abbrev pub said_pieces : Said → List (List ℕ)
+abbrev pub said_pieces : LoginReply → List (List ℕ)
 said_pieces said.Nothing = []
 said_pieces (said.Question q) = question_bytes q ∷ []
 said_pieces said.LetIn = ok ∷ []
 said_pieces (said.Failure f) = failure_bytes f ∷ []
 said_pieces (said.Refusal r) = []
 
-abbrev pub IsPiece : Said → Type 0
+abbrev pub IsPiece : LoginReply → Type 0
 IsPiece (said.Refusal r) = ⊥
 IsPiece _ = Unit {0}
 
@@ -88,7 +88,7 @@ phase_after (step.Failed f) = Stopped
 phase_after (step.Cancel pid secret) = Cancelling (record { pid = pid; secret = secret })
 phase_after step.Left = Stopped
 
-abbrev pub said_after : LoginStep → Said
+abbrev pub said_after : LoginStep → LoginReply
 said_after step.More = said.Nothing
 said_after (step.Ask q) = said.Question q
 said_after (step.Arrived key) = said.Nothing
@@ -110,7 +110,7 @@ abbrev pub HasEnded : Rows → KeyWord → List ℕ → List (List ℕ) → (Lis
 HasEnded rows word taken pieces ended = (more : List ℕ) → login_among rows word (taken ++ more) ≡ record { pieces = pieces; ended = ended more }
 
 -- by its last word; or there was no memory for a start key
-abbrev pub IsStopped : Rows → KeyWord → List ℕ → List (List ℕ) → Said → Type 0
+abbrev pub IsStopped : Rows → KeyWord → List ℕ → List (List ℕ) → LoginReply → Type 0
 IsStopped rows word taken pieces said.Nothing = HasEnded rows word taken pieces (λ more. StoppedFor Left)
 IsStopped rows word taken pieces (said.Question q) = ⊥
 IsStopped rows word taken pieces said.LetIn = ⊥
@@ -119,12 +119,12 @@ IsStopped rows word taken pieces (said.Refusal r) =
     HasEnded rows word taken pieces (λ more. StoppedFor (RefusedBy r)) ⊎ ((r ≡ OutOfMemory) × IsBegun rows word taken pieces)
 
 -- a login whose client's end is over: a refusal that was said keeps its cause
-abbrev pub IsCutOff : Rows → KeyWord → List ℕ → List (List ℕ) → Said → Type 0
+abbrev pub IsCutOff : Rows → KeyWord → List ℕ → List (List ℕ) → LoginReply → Type 0
 IsCutOff rows word taken pieces (said.Refusal r) = IsStopped rows word taken pieces (said.Refusal r)
 IsCutOff rows word taken pieces _ = IsBegun rows word taken pieces
 
 -- where the login stands that has taken these bytes and said these pieces
-abbrev pub StandsAt : PhaseOf → Said → LoginView → List ℕ → List (List ℕ) → Type 0
+abbrev pub StandsAt : PhaseOf → LoginReply → LoginView → List ℕ → List (List ℕ) → Type 0
 StandsAt Talking s v taken pieces = Tells v taken pieces
 StandsAt Arrived s v taken pieces = Tells v taken pieces
 StandsAt (Passed key) s v taken pieces = HasEnded (rows_of v) v.word taken pieces (λ more. PassedWith (ToLink key) more)
@@ -147,7 +147,7 @@ IsArriving (Arriving key) = Unit {0}
 IsArriving _ = ⊥
 
 -- what a phase says of the login
-abbrev pub Awaits : PhaseOf → Said → LoginView → Type 0
+abbrev pub Awaits : PhaseOf → LoginReply → LoginView → Type 0
 Awaits Talking s v = IsPiece s × (0 < missing v.awaiting v.held)
 Awaits Arrived s v = IsPiece s × IsArriving v.awaiting
 Awaits (Passed key) s v = IsPiece s

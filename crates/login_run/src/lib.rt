@@ -2,8 +2,8 @@
 #![tactic(auto)]
 
 pub mod laws;
+mod login_reply;
 pub mod run;
-mod said;
 
+pub use login_reply::LoginReply;
 pub use run::{LoginRun, LoginTurn, Phase};
-pub use said::Said;

@@ -7,7 +7,7 @@ ghost use Rattle.login_core.specs.Logins.{AwaitsPacket};
 ghost use Rattle.login_run.specs.Runs as spec;
 ghost use Rattle.login_run.specs.Runs.{IsRun, IsSameLogin, IsAllGiven, HasTurned, HasRead, HasWritten, said_bytes};
 
-use crate::said::Said;
+use crate::login_reply::LoginReply;
 use login_core::laws::{new_tells, steps_say, steps_tell};
 use login_core::{Login, LoginStep};
 use message_view::KeyView;
@@ -66,7 +66,7 @@ pub struct LoginRun<C: ClientEnd> {
     client: C,
     login: Login,
     phase: Phase,
-    said: Said,
+    said: LoginReply,
     sent: usize,
     key: Option<Arc<StartKey>>,
 }
@@ -95,23 +95,23 @@ impl<C: ClientEnd> Model for LoginRun<C> {
 }
 
 /// What a step of the login leads to, and what is said at it.
-fn after(step: LoginStep) -> (Phase, Said)
+fn after(step: LoginStep) -> (Phase, LoginReply)
     ensures phase { spec.phase_of result.0 ≡ spec.phase_after step }
     ensures said { result.1 ≡ spec.said_after step }
 {
     match step {
-        LoginStep::More => (Phase::Talking, Said::Nothing),
-        LoginStep::Ask(question) => (Phase::Talking, Said::Question(question)),
-        LoginStep::Arrived(_) => (Phase::Arrived, Said::Nothing),
-        LoginStep::Passed(key) => (Phase::Passed(key), Said::LetIn),
-        LoginStep::Console => (Phase::Console, Said::Nothing),
-        LoginStep::Refused(refusal) => (Phase::Stopped, Said::Refusal(refusal)),
-        LoginStep::Failed(failure) => (Phase::Stopped, Said::Failure(failure)),
+        LoginStep::More => (Phase::Talking, LoginReply::Nothing),
+        LoginStep::Ask(question) => (Phase::Talking, LoginReply::Question(question)),
+        LoginStep::Arrived(_) => (Phase::Arrived, LoginReply::Nothing),
+        LoginStep::Passed(key) => (Phase::Passed(key), LoginReply::LetIn),
+        LoginStep::Console => (Phase::Console, LoginReply::Nothing),
+        LoginStep::Refused(refusal) => (Phase::Stopped, LoginReply::Refusal(refusal)),
+        LoginStep::Failed(failure) => (Phase::Stopped, LoginReply::Failure(failure)),
         LoginStep::Cancel { pid, secret } => (
             Phase::Cancelling(KeyView { pid, secret }),
-            Said::Nothing,
+            LoginReply::Nothing,
         ),
-        LoginStep::Left => (Phase::Stopped, Said::Nothing),
+        LoginStep::Left => (Phase::Stopped, LoginReply::Nothing),
     }
 }
 
@@ -148,7 +148,7 @@ impl<C: ClientEnd> LoginRun<C> {
             client,
             login,
             phase: Phase::Talking,
-            said: Said::Nothing,
+            said: LoginReply::Nothing,
             sent: 0,
             key: None,
         }
@@ -213,7 +213,7 @@ impl<C: ClientEnd> LoginRun<C> {
         let mut chunk = [0u8; CHUNK];
         let wanted = self.login.wants().min(CHUNK);
         let moved = read_at_most(&mut self.client, &mut chunk, wanted);
-        self.said = Said::Nothing;
+        self.said = LoginReply::Nothing;
         self.sent = 0;
         match moved {
             Moved::Count(count) => {
@@ -253,7 +253,7 @@ impl<C: ClientEnd> LoginRun<C> {
     }
 
     /// What the client was given last, or is to be given.
-    pub fn said(&self) -> Said
+    pub fn said(&self) -> LoginReply
         ensures { result ≡ self.now.said }
     {
         self.said

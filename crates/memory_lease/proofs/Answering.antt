@@ -18,12 +18,12 @@ use Rattle.session_laws.specs.Laws.{Reaches}
 use Rattle.session_laws.proofs.ByName.{fresh_is_reached}
 use Rattle.session_run_laws.proofs.ByName.{client_frames_are_sent, run_replies_are_frames}
 use Rattle.user_file.specs.declared.secrets.Secret.{Secret}
-use Rattle.link_laws.specs.Standing.{ClientFacts, Standing}
+use Rattle.link_laws.specs.Standing.{ClientFacts, Moves, Standing}
 use Rattle.link_laws.specs.Stages as stages
 use Rattle.link_laws.specs.Dialogues.{start_error}
 use Rattle.link_laws.proofs.Splits.{SplitsOff, same_back, split_whole}
 use Rattle.link_start.specs.Links.{LinkView, IsFreshLink}
-use Rattle.link_start.specs.Starts.{CanStart, IsCause, IsLetIn, IsStartable, IsStarted, IsRefusalOf}
+use Rattle.link_start.specs.Starts.{CanStart, HasTried, IsStartCause, IsLetIn, IsStartable, IsStarted, IsRefusalOf}
 use Rattle.link_start.specs.declared.start.StartCause.{StartCause}
 use Rattle.link_start.specs.declared.start.StartCause.TheVariants as cause
 use Rattle.message_view.specs.declared.refusal.Refusal.TheVariants.{ServerNotReached}
@@ -38,7 +38,7 @@ use Rattle.memory_ends.specs.Servers.{has_some}
 use Rattle.memory_lease.specs.Answers.{IsAnswer, IsGiven as IsGivenOf, IsRefusedAt, MayDie, own_pieces}
 use Rattle.memory_lease.specs.declared.alone.Ending.{Ending}
 use Rattle.memory_lease.specs.declared.alone.Ending.TheVariants.{Done, Refused, Cut}
-use Rattle.memory_lease.specs.Held.{IsAtEnd, IsEnding, IsPut, TellsCause, TellsEnding}
+use Rattle.memory_lease.specs.Held.{HasDied, IsAtEnd, IsEnding, IsPut, TellsCause, TellsEnding}
 use Rattle.memory_lease.specs.Own.{IsMarked, OwnOf, mark, marked, own_server}
 use Rattle.memory_ends.specs.Clients.{given_with}
 use Rattle.memory_lease.specs.Patient.{PatientOf, IsGiven, new_patient}
@@ -321,23 +321,40 @@ refused_start dies began secret key word limit bytes out error l x e =
 
 -- ---- a start that fails otherwise
 
-refused_first : (dies : Option ℕ) (limit : ℕ) (bytes out : List ℕ) (pieces : List (List ℕ)) → out ≡ [] ++ refusal ServerNotReached → IsAnswer dies limit bytes out pieces
-refused_first dies limit bytes out pieces e = inr (record { at = record { given = []; kept = pieces; pieces_are = refl; cause = ServerNotReached; out_is = e }; because = refl })
+-- a server that died is one that may die
+may_die : (dies left : Option ℕ) → mark left ≡ mark dies → has_some left ≡ false → MayDie dies
+may_die (Some n) left e h = tt
+may_die None (Some m) e h = absurd (omega (arith, e))
+may_die None None e h = absurd (true≢false h)
 
-unstarted_by : (dies : Option ℕ) (began now : Standing) (secret : Secret) (key : StartKeyOf) (word : KeyWord) (limit : ℕ) (bytes old new : List ℕ) (c : StartCause) → began.follows ≡ true → IsLetIn began key secret → IsCause began now secret key c → old ≡ [] → TellsCause c old new
-    → IsAnswer dies limit bytes new (own_pieces began.server.catalogue key word bytes)
-unstarted_by dies began now secret key word limit bytes old new (cause.Refused error) f l x n t = refused_start dies began secret key word limit bytes new error l (x.1 f) (t ∙ ap (λ (o : List ℕ). o ++ error) n)
-unstarted_by dies began now secret key word limit bytes old new cause.Lost f l x n t = refused_first dies limit bytes new _ (t.1 ∙ ap (λ (o : List ℕ). o ++ refusal ServerNotReached) n)
-unstarted_by dies began now secret key word limit bytes old new (cause.Unanswerable question) f l x n t = refused_first dies limit bytes new _ (t.1 ∙ ap (λ (o : List ℕ). o ++ refusal ServerNotReached) n)
-unstarted_by dies began now secret key word limit bytes old new cause.Unexpected f l x n t = refused_first dies limit bytes new _ (t.1 ∙ ap (λ (o : List ℕ). o ++ refusal ServerNotReached) n)
-unstarted_by dies began now secret key word limit bytes old new cause.Turns f l x n t = refused_first dies limit bytes new _ (t.1 ∙ ap (λ (o : List ℕ). o ++ refusal ServerNotReached) n)
-unstarted_by dies began now secret key word limit bytes old new cause.Memory f l x n t = absurd (t.0 refl)
+dies_by : (dies : Option ℕ) (began now : Standing) (sent got rest : List ℕ) (server : OwnOf) → began.accepted ≡ mark dies ∷ rest → Moves began sent now got → server.standing ≡ now → HasDied server → MayDie dies
+dies_by dies began now sent got rest server e m s d =
+    let both : mark server.left ∷ d.marked.0 ≡ mark dies ∷ (rest ++ sent) = sym d.marked.1 ∙ (ap (λ (t : Standing). t.accepted) s ∙ (m.accepted ∙ ap (λ (t : List ℕ). t ++ sent) e)) in
+    let same : mark server.left ≡ mark dies = cc in
+    may_die dies server.left same d.left
+
+told_first : (dies : Option ℕ) (limit : ℕ) (bytes old new : List ℕ) (pieces : List (List ℕ)) → old ≡ [] → new ≡ old ++ refusal ServerNotReached → MayDie dies → IsAnswer dies limit bytes new pieces
+told_first dies limit bytes old new pieces n e d = inr (record {
+  at = record { given = []; kept = pieces; pieces_are = refl; cause = ServerNotReached; out_is = e ∙ ap (λ (o : List ℕ). o ++ refusal ServerNotReached) n };
+  because = (refl, d);
+})
+
+unstarted_by : (dies : Option ℕ) (began now : Standing) (secret : Secret) (key : StartKeyOf) (word : KeyWord) (limit turns : ℕ) (bytes old new rest : List ℕ) (c : StartCause) (server : OwnOf) → began.follows ≡ true → began.accepted ≡ mark dies ∷ rest → IsLetIn began key secret
+    → IsStartCause began now secret key c → (c ≡ cause.Turns → HasTried began secret key now turns) → server.standing ≡ now → old ≡ [] → TellsCause c server old new → IsAnswer dies limit bytes new (own_pieces began.server.catalogue key word bytes)
+unstarted_by dies began now secret key word limit turns bytes old new rest (cause.Refused error) server f a l x h s n t = refused_start dies began secret key word limit bytes new error l (x.1 f) (t ∙ ap (λ (o : List ℕ). o ++ error) n)
+unstarted_by dies began now secret key word limit turns bytes old new rest cause.Lost server f a l x h s n t = told_first dies limit bytes old new _ n t.1.0 (dies_by dies began now x.sent x.received rest server a x.moves s t.1.1)
+unstarted_by dies began now secret key word limit turns bytes old new rest (cause.Unanswerable question) server f a l x h s n t = told_first dies limit bytes old new _ n t.1.0 (dies_by dies began now x.0.sent x.0.received rest server a x.0.moves s t.1.1)
+unstarted_by dies began now secret key word limit turns bytes old new rest cause.Unexpected server f a l x h s n t = told_first dies limit bytes old new _ n t.1.0 (dies_by dies began now x.0.sent x.0.received rest server a x.0.moves s t.1.1)
+unstarted_by dies began now secret key word limit turns bytes old new rest cause.Turns server f a l x h s n t =
+    told_first dies limit bytes old new _ n t.1.0 (dies_by dies began now (h refl).starting.sent (h refl).received rest server a (h refl).starting.moves s t.1.1)
+unstarted_by dies began now secret key word limit turns bytes old new rest cause.Memory server f a l x h s n t = absurd (t.0 refl)
 
 -- what a client is told whose link wasn't started
-pub unstarted : (dies : Option ℕ) (start now : Standing) (first_own : OwnOf) (secret : Secret) (key : StartKeyOf) (word : KeyWord) (limit : ℕ) (bytes old new : List ℕ) (c : StartCause) → first_own ≡ own_server dies start → start.follows ≡ true → IsLetIn start key secret
-    → IsCause first_own.standing now secret key c → old ≡ [] → TellsCause c old new → IsAnswer dies limit bytes new (own_pieces start.server.catalogue key word bytes)
-unstarted dies start now first_own secret key word limit bytes old new c o f l x n t =
-    unstarted_by dies (marked dies start) now secret key word limit bytes old new c f l (subst (λ (y : OwnOf). IsCause y.standing now secret key c) o x) n t
+pub unstarted : (dies : Option ℕ) (start : Standing) (first_own server : OwnOf) (secret : Secret) (key : StartKeyOf) (word : KeyWord) (limit turns : ℕ) (bytes old new : List ℕ) (c : StartCause) → first_own ≡ own_server dies start → start.follows ≡ true → IsLetIn start key secret
+    → IsStartCause first_own.standing server.standing secret key c → (c ≡ cause.Turns → HasTried first_own.standing secret key server.standing turns) → old ≡ [] → TellsCause c server old new → IsAnswer dies limit bytes new (own_pieces start.server.catalogue key word bytes)
+unstarted dies start first_own server secret key word limit turns bytes old new c o f l x h n t =
+    unstarted_by dies (marked dies start) server.standing secret key word limit turns bytes old new start.accepted c server f refl l (subst (λ (y : OwnOf). IsStartCause y.standing server.standing secret key c) o x)
+    (λ e. subst (λ (y : OwnOf). HasTried y.standing secret key server.standing turns) o (h e)) refl n t
 
 -- a start may begin as one of the server alone
 pub can_start : (dies : Option ℕ) (start : Standing) (first_own : OwnOf) → first_own ≡ own_server dies start → IsStartable start → CanStart first_own.standing

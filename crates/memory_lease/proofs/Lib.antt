@@ -4,3 +4,4 @@ pub mod Rest
 pub mod Whole
 pub mod Answering
 mod Ending
+mod Unstarted

@@ -15,7 +15,7 @@ use Rattle.relay_flow.specs.Parts.{is_stuck}
 use Rattle.relay_flow.specs.declared.flow.Ends.{Ends}
 use Rattle.relay_flow.specs.declared.flow.Ends.TheVariants.{Open, Last, Faulty}
 use Rattle.relay_flow.specs.Flows.{AtTerminate, IsEndedBy, is_empty, is_faulty, is_open}
-use Rattle.relay_core.specs.Leases.{RelayView, Place, IsExact, IsForwarded, IsLease}
+use Rattle.relay_core.specs.Leases.{RelayView, Place, IsRelayExact, IsForwarded, IsLease}
 use Rattle.relay_core.proofs.Exact.{spared_service, lease_exact}
 use Rattle.relay_core.proofs.Flowing.{empty_is}
 use Rattle.relay_core.specs.Answers.{is_quiet}
@@ -120,9 +120,9 @@ all_or_last bytes some p (inl f) = inl (sym (f some p))
 all_or_last bytes some p (inr a) = inr a
 
 pub all_given : (p : Place) (v : RelayView) (bytes : List ℕ) → IsLease p v → v.client.tells ≡ true → v.link.follows ≡ true → v.link.lives ≡ true → p.stands.server.strikable ≡ false → p.taken ≡ [] → AreBytes bytes → Clear v → IsStuck v.to_link → future v.link [] ≡ [] → IsOver bytes v
-    → (e : IsExact p v) × (e.since ≡ service p.stands.server.catalogue v.key v.word.pid v.word.secret [] bytes)
+    → (e : IsRelayExact p v) × (e.since ≡ service p.stands.server.catalogue v.key v.word.pid v.word.secret [] bytes)
 all_given p v bytes x t f l sp n fit c stuck silent over =
-    let e : IsExact p v = lease_exact p v x t f l in
+    let e : IsRelayExact p v = lease_exact p v x t f l in
     let fs : List ℕ = flat_map spelling e.forwarded in
     let side : v.to_link.side ≡ Client = x.goes.flow.side_is in
     let took : v.client.taken ≡ fs ++ (e.tail ++ v.to_link.part) = e.taken ∙ ap (λ (a : List ℕ). a ++ (fs ++ (e.tail ++ v.to_link.part))) n in

@@ -1,14 +1,17 @@
--- A lease that comes to no end.
-use Rattle.std.specs.Prelude.{◌≡◌, ◌⊎◌, ℕ, true, List, ◌++◌, Option}
+-- A link that isn't started while its server lives, and a lease that comes to no end.
+use Rattle.std.specs.Prelude.{◌≡◌, ◌⊎◌, ◌+◌, ◌≤◌, ℕ, true, List, ◌++◌, Option}
 use Rattle.message_view.specs.Bodies.{Text}
 use Rattle.message_view.specs.Refusals.{Begins}
 use Rattle.session_values.specs.State.{StartKeyOf}
 use Rattle.link_laws.specs.Stages.{packets_bytes}
 use Rattle.link_laws.specs.Standing.{Standing}
-use Rattle.link_laws.specs.Dialogues.{start_packets}
+use Rattle.link_laws.specs.Dialogues.{auth_of, start_packets}
+use Rattle.link_start.specs.Starts.{IsUnanswerable, waits_of}
+use Rattle.user_file.specs.declared.secrets.Secret.{Secret}
 use Rattle.memory_ends.specs.Servers.{LAST_COUNT}
 use Rattle.memory_lease.specs.declared.alone.ServeError.{ServeError}
-use Rattle.memory_lease.specs.declared.alone.ServeError.TheVariants.{Memory, Unended}
+use Rattle.memory_lease.specs.declared.alone.ServeError.TheVariants.{Memory, Unended, Unstarted}
+use Rattle.memory_lease.specs.declared.alone.TheConstants.{START_TURNS}
 
 -- the server lives; or it was read in vain as often as is counted
 abbrev pub StillWaits : Standing → Type 0
@@ -22,7 +25,14 @@ pub record IsUnended (began : Standing) (key : StartKeyOf) (bytes : List ℕ) (n
   pub accepted : now.accepted ≡ (began.accepted ++ packets_bytes (start_packets key answer)) ++ over
   pub own : Begins over bytes
 
+-- It still waits, and no link was started over it: it asks what this user can't answer, or so many turns were waited in vain, or it was
+-- read in vain as often as is counted.
+pub record IsUnstarted (began : Standing) (secret : Secret) (key : StartKeyOf) (now : Standing) : Type 0 where
+  pub waits : StillWaits now
+  pub because : IsUnanswerable secret key.user (auth_of began.stage) ⊎ ((START_TURNS + waits_of began ≤ waits_of now) ⊎ (now.read_waits ≡ LAST_COUNT))
+
 -- That memory was refused no contract can say.
-abbrev pub IsUnserved : Standing → StartKeyOf → List ℕ → ServeError → Type 0
-IsUnserved began key bytes Memory = Unit {0}
-IsUnserved began key bytes (Unended server) = IsUnended began key bytes server.standing
+abbrev pub IsUnserved : Standing → Secret → StartKeyOf → List ℕ → ServeError → Type 0
+IsUnserved began secret key bytes Memory = Unit {0}
+IsUnserved began secret key bytes (Unstarted server) = IsUnstarted began secret key server.standing
+IsUnserved began secret key bytes (Unended server) = IsUnended began key bytes server.standing

@@ -8,7 +8,7 @@ ghost use Rattle.relay_core.specs.Returns.{IsReturned};
 ghost use Rattle.relay_core.specs.Leases.{IsLease, Keeps, RelayView, place};
 ghost use Rattle.relay_core.specs.declared.Phase.TheVariants.{Running};
 ghost use Rattle.memory_lease.specs.Answers.{IsAnswer, own_pieces};
-ghost use Rattle.memory_lease.specs.Held.{IsEnding, TellsCause, TellsEnding};
+ghost use Rattle.memory_lease.specs.Held.{IsEnding, IsHandedBack, TellsCause, TellsEnding};
 ghost use Rattle.memory_lease.specs.Unended.{IsUnserved, StillWaits};
 ghost use Rattle.memory_lease.specs.declared.alone.ServeError.TheVariants as serve_error;
 
@@ -41,6 +41,9 @@ const MOST_WAITS: u32 = 4;
 pub enum ServeError {
     /// An allocation failed.
     Memory,
+    /// No link was started while its server lives: it asks what this user can't answer, or the turns were waited in vain. Or the
+    /// server is at the last count of its waits, 18,446,744,073,709,551,615. The server is handed back.
+    Unstarted(MemoryServer),
     /// The lease came to no end while its server lives: it ended with something on its way, nothing moved any more, or its turns were
     /// used up. Or the server is at the last count of its waits, 18,446,744,073,709,551,615. The server is handed back.
     Unended(MemoryServer),
@@ -54,19 +57,25 @@ impl From<AllocError> for ServeError {
     }
 }
 
-/// What a client is told whose link wasn't started.
-fn put_unstarted(fault: StartLinkFault<OwnServer>, out: &mut BytesMut) -> Result<(), AllocError>
-    ensures { OnOk result (TellsCause fault.cause out.old.items out.new.items) }
+/// What a client is told whose link wasn't started: the server's own words, or that a server which died could not be reached. One that
+/// still waits is handed back.
+fn put_unstarted(fault: StartLinkFault<OwnServer>, out: &mut BytesMut) -> Result<(), ServeError>
+    ensures told { OnOk result (TellsCause fault.cause fault.end out.old.items out.new.items) }
+    ensures unstarted { IfErr result (IsHandedBack fault.cause fault.end) }
 {
     let StartLinkFault { end, cause } = fault;
-    if end.faults() > 0 {
-        return Err(AllocError);
+    if end.is_faulty() {
+        return Err(ServeError::Memory);
     }
     match cause.into_refusal() {
-        StartRefusal::Error(error) => out.extend_from_slice(error.as_bytes()),
-        StartRefusal::Refusal(Refusal::OutOfMemory) => Err(AllocError),
-        StartRefusal::Refusal(refusal) => out.extend_from_slice(refusal_bytes(refusal)),
+        StartRefusal::Error(error) => out.extend_from_slice(error.as_bytes())?,
+        StartRefusal::Refusal(Refusal::OutOfMemory) => return Err(ServeError::Memory),
+        StartRefusal::Refusal(refusal) if end.has_died() => {
+            out.extend_from_slice(refusal_bytes(refusal))?;
+        }
+        StartRefusal::Refusal(_) => return Err(ServeError::Unstarted(end.into_server())),
     }
+    Ok(())
 }
 
 /// The lease of a link to a client begins. The only error is that memory was refused.
@@ -103,7 +112,7 @@ enum Ending {
 }
 
 /// Pumps until the lease ends, or nothing moves any more: the server's side alone until nothing moves there, and then both.
-fn converse<C: ClientEnd, E: ServerEnd>(relay: &mut Relay<C, E>) -> Ending
+fn pump_to_end<C: ClientEnd, E: ServerEnd>(relay: &mut Relay<C, E>) -> Ending
     requires { relay.old.phase ≡ Running }
     ensures keeps { Keeps relay.old relay.new }
     ensures ending { IsEnding relay.old relay.new result }
@@ -165,13 +174,13 @@ fn put_ending(
 /// reaches, and answers what the client was given.
 ///
 /// The client sends a frame only once it was given the answers to those before, and hangs up behind its last byte. A start that the
-/// server refuses is answered by the server's error alone; any other fault of a start by the refusal P7. Over its link the client is
+/// server refuses is answered by the server's error alone; one in which the server died by the refusal P7. Over its link the client is
 /// refused by P3 or P10 for a faulty message of its own, by P11 where the server's next message is above the limit, and by P6 where
 /// the server died. A client that isn't refused is answered all, unless its server may die. `word` is what the client's
 /// BackendKeyData has, `limit` the greatest length of a frame both ways, and a call of the client moves at most `cut` bytes.
 ///
-/// It fails only where memory is refused, or where the lease comes to no end, and then its server was started with this key and
-/// accepted a beginning of the client's bytes.
+/// It fails only where memory is refused; where no link was started though the server lives; or where the lease comes to no end, and then
+/// its server was started with this key and accepted a beginning of the client's bytes.
 pub fn serve_alone(
     alloc: Global,
     server: MemoryServer,
@@ -191,7 +200,7 @@ pub fn serve_alone(
     requires low { 4 ≤ limit }
     requires high { limit ≤ LONGEST_FRAME }
     ensures answer { IfOk result (λ out. IsAnswer server.left limit bytes.now out.items (own_pieces server.standing.server.catalogue (arc_value key) word bytes.now)) }
-    ensures unended { IfErr result (IsUnserved server.standing (arc_value key) bytes.now) }
+    ensures unserved { IfErr result (IsUnserved server.standing secret.now (arc_value key) bytes.now) }
 {
     are_bytes(bytes);
     let server = OwnServer::new(server);
@@ -206,7 +215,7 @@ pub fn serve_alone(
     };
     let client = PatientClient::new(alloc, bytes, cut);
     let mut relay = begin_lease(alloc, client, link, word, limit)?;
-    let ending = converse(&mut relay);
+    let ending = pump_to_end(&mut relay);
     let clear = relay.is_clear();
     let (client, link) = relay.close();
     let mut out = client.into_given()?;

@@ -5,6 +5,7 @@ ghost use Rattle.link_laws.specs.Standing.{Moves};
 ghost use Rattle.server_end.specs.Moves.{CountsRead, CountsWrite, IsWithin, moved};
 ghost use Rattle.memory_ends.specs.Servers.{LAST_COUNT, has_some};
 ghost use Rattle.memory_lease.specs.Own.{IsMarked, own_server};
+ghost use Rattle.memory_lease.specs.Unended.{StillWaits};
 
 use memory_ends::memory_server::MemoryServer;
 use server_end::{Moved, ServerEnd};
@@ -77,6 +78,14 @@ impl OwnServer {
         ensures lives { result ≡ false → self.now.standing.faults ≡ 0 → self.now.standing.lives ≡ has_some self.now.left }
     {
         !self.server.lives() && self.server.waits().0 == u64::MAX
+    }
+
+    /// Whether it died of the bytes that were read from it. Else, without a fault, it still waits.
+    pub(crate) fn has_died(&self) -> bool
+        ensures died { result ≡ true → self.now.standing.faults ≡ 0 → has_some self.now.left ≡ false }
+        ensures waits { result ≡ false → StillWaits self.now.standing }
+    {
+        !self.lives() && !self.is_counted_out()
     }
 
     /// The server itself.

@@ -8,7 +8,7 @@ use Rattle.link_laws.specs.Dialogues.{auth_of, start_error, start_refusal}
 use Rattle.link_laws.specs.Stages.{Auth, NoAuth, Server}
 use Rattle.link_laws.specs.Standing.{Standing}
 use Rattle.link_run.specs.Links.{LinkView}
-use Rattle.link_start.specs.Starts.{IsCause, IsRefusalOf, IsStarted, own_answer}
+use Rattle.link_start.specs.Starts.{IsStartCause, IsRefusalOf, IsStarted, own_answer}
 use Rattle.link_start.specs.declared.start.StartCause.{StartCause}
 use Rattle.link_start.specs.declared.start.StartCause.TheVariants as cause
 use Rattle.memory_pool.specs.declared.answers.Taken.{Taken}
@@ -35,7 +35,7 @@ refused_so cat began secret key error n x = record {
   whole = x.whole;
 }
 
-pub unstarted : (cat : CatalogueOf) (began now : Standing) (secret : Secret) (key : StartKeyOf) (c : StartCause) → IsNewServer cat began → IsCause began now secret key c → IsUnstarted cat key c
+pub unstarted : (cat : CatalogueOf) (began now : Standing) (secret : Secret) (key : StartKeyOf) (c : StartCause) → IsNewServer cat began → IsStartCause began now secret key c → IsUnstarted cat key c
 unstarted cat began now secret key (cause.Refused error) n x = refused_so cat began secret key error n (x.1 n.home.follows)
 unstarted cat began now secret key cause.Lost n x = tt
 unstarted cat began now secret key (cause.Unanswerable question) n x = tt

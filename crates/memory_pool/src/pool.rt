@@ -354,7 +354,7 @@ impl MemoryPool {
         self.dies_after = Some(after);
     }
 
-    /// It is this second: each link that is due is closed.
+    /// The clock has reached this second: each link that is due is closed.
     pub fn tick(&mut self, now: u64)
         ensures { self.new ≡ self.old }
     {

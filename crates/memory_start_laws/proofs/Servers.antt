@@ -5,7 +5,7 @@ use Rattle.message_view.specs.Reading.{authentication_of, int32_at}
 use Rattle.message_view.specs.declared.kinds.TheConstants.{ASKS_CLEARTEXT, ASKS_MD5}
 use Rattle.memory_ends.specs.declared.memory_server.ServerAuth.TheVariants.{Trust, Plain, Md5}
 use Rattle.link_start.specs.declared.start_reply.StartProgress.TheVariants.{Asked}
-use Rattle.link_start.specs.declared.start_reply.Question.TheVariants as question
+use Rattle.link_start.specs.declared.start_reply.ServerQuestion.TheVariants as question
 use Rattle.link_start.specs.StartReply.{asked}
 use Rattle.link_start.specs.Starts.{IsQuestion}
 use Rattle.memory_start_laws.specs.Starts.{MemoryServersCanStart}

@@ -1,9 +1,9 @@
 -- The line that tells a fault, and the status of the program after it.
 use Rattle.std.specs.Prelude.{ℕ, List, ◌++◌, codes, decimal}
-use Rattle.ini_config.specs.declared.faults.Cause.{Cause as IniCause}
-use Rattle.ini_config.specs.declared.faults.Cause.TheVariants as ini
-use Rattle.user_file.specs.declared.faults.Cause.{Cause as UsersCause}
-use Rattle.user_file.specs.declared.faults.Cause.TheVariants as users
+use Rattle.ini_config.specs.declared.faults.IniCause.{IniCause}
+use Rattle.ini_config.specs.declared.faults.IniCause.TheVariants as ini
+use Rattle.user_file.specs.declared.faults.UserCause.{UserCause}
+use Rattle.user_file.specs.declared.faults.UserCause.TheVariants as users
 use Rattle.session_catalogue.specs.CatalogueCodes.{code_of}
 use Rattle.pool_app.specs.declared.fault.AppFault.{AppFault}
 use Rattle.pool_app.specs.declared.fault.AppFault.TheVariants.{File, Ini, Users, Catalogue, Stdin, Stdout, Memory, Port, Totals}
@@ -21,7 +21,7 @@ ini_code ini.ResetQuery = codes "C6"
 ini_code ini.NotALine = codes "C7"
 ini_code ini.Memory = codes "C8"
 
-abbrev pub users_code : UsersCause → Text
+abbrev pub users_code : UserCause → Text
 users_code users.BadQuoting = codes "U1"
 users_code users.NameTwice = codes "U2"
 users_code users.Memory = codes "U3"

@@ -30,28 +30,28 @@ pub enum AppFault<'a> {
     Totals,
 }
 
-fn ini_code(cause: ini_config::Cause) -> &'static str
+fn ini_code(cause: ini_config::IniCause) -> &'static str
     ensures { result.now ≡ spec.ini_code cause }
 {
     match cause {
-        ini_config::Cause::UnknownSection => "C1",
-        ini_config::Cause::UnknownKey => "C2",
-        ini_config::Cause::BadValue => "C3",
-        ini_config::Cause::KeyTwice => "C4",
-        ini_config::Cause::PoolMode => "C5",
-        ini_config::Cause::ResetQuery => "C6",
-        ini_config::Cause::NotALine => "C7",
-        ini_config::Cause::Memory => "C8",
+        ini_config::IniCause::UnknownSection => "C1",
+        ini_config::IniCause::UnknownKey => "C2",
+        ini_config::IniCause::BadValue => "C3",
+        ini_config::IniCause::KeyTwice => "C4",
+        ini_config::IniCause::PoolMode => "C5",
+        ini_config::IniCause::ResetQuery => "C6",
+        ini_config::IniCause::NotALine => "C7",
+        ini_config::IniCause::Memory => "C8",
     }
 }
 
-fn users_code(cause: user_file::Cause) -> &'static str
+fn users_code(cause: user_file::UserCause) -> &'static str
     ensures { result.now ≡ spec.users_code cause }
 {
     match cause {
-        user_file::Cause::BadQuoting => "U1",
-        user_file::Cause::NameTwice => "U2",
-        user_file::Cause::Memory => "U3",
+        user_file::UserCause::BadQuoting => "U1",
+        user_file::UserCause::NameTwice => "U2",
+        user_file::UserCause::Memory => "U3",
     }
 }
 

@@ -184,7 +184,7 @@ impl<R: Wait + Clock, S: Outside, K: Ledgers> Desk<R, S, K> {
         self.core.lock(&self.rt).is_shut()
     }
 
-    /// It is this second.
+    /// The clock has reached this second.
     pub fn tick(&self, pass: &mut Pass<K>, now: u64) -> Ticked<S::End>
         ensures told { AfterTick result pass.old.told pass.new.told }
         ensures holder { pass.new.holder ≡ record pass.old.holder { last = Some (call.Tick now) } }

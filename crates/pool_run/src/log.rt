@@ -76,7 +76,7 @@ impl<R: Wait + Clock> PoolLog<R> {
         self.unserved.lock(&self.rt).add();
     }
 
-    /// It is this second: tells of connections that weren't served.
+    /// The clock has reached this second: tells of connections that weren't served.
     pub(crate) fn tell_unserved(&self, second: u64) {
         let due = self.unserved.lock(&self.rt).due(second);
         if let Some(count) = due {

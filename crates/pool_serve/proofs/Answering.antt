@@ -34,7 +34,7 @@ use Rattle.relay_laws.specs.Answers.{AtBorder, RefusedBy}
 use Rattle.pool_serve.specs.Words.{or_nothing}
 use Rattle.pool_serve.specs.Serving.{AreMarksOf, Serves}
 use Rattle.pool_serve.proofs.Causing.{relay_fault}
-use Rattle.pool_serve.specs.declared.word.LastWord.TheVariants as last
+use Rattle.pool_serve.specs.declared.word.FinalMessage.TheVariants as last
 
 -- ---- the service of more bytes
 

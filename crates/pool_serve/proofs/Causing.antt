@@ -22,7 +22,7 @@ use Rattle.relay_laws.specs.Faults.{IsAtFault}
 use Rattle.relay_laws.proofs.Faults.{client_fault}
 use Rattle.pool_serve.specs.declared.ending.Ending.{Ending}
 use Rattle.pool_serve.specs.declared.ending.Ending.TheVariants as ending
-use Rattle.pool_serve.specs.declared.word.LastWord.TheVariants as last
+use Rattle.pool_serve.specs.declared.word.FinalMessage.TheVariants as last
 use Rattle.pool_serve.specs.Words.{last_of, or_nothing, word_of}
 use Rattle.pool_serve.specs.Shares as shares
 use Rattle.pool_serve.specs.Causes.{HadLink, HadNone, HasFault, HasLost, IsFaulty, IsFaultyWord, IsTurnedAway, Since, AtArrival, AtAsking, AtLease, AtWait, of_wait, HasTrace, WordHasTrace}

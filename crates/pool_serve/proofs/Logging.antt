@@ -22,8 +22,8 @@ use Rattle.login_run.specs.Laws.{AllowedBy, IsAtPiece, PassedRunsAreLetIn, Passe
 use Rattle.link_desk.specs.Homes.{HomeOf}
 use Rattle.link_desk.specs.Refusing.{RefusesArrival}
 use Rattle.pool_serve.specs.declared.logged_in.LoggedIn.{LoggedIn}
-use Rattle.pool_serve.specs.declared.word.LastWord.{LastWord}
-use Rattle.pool_serve.specs.declared.word.LastWord.TheVariants as last
+use Rattle.pool_serve.specs.declared.word.FinalMessage.{FinalMessage}
+use Rattle.pool_serve.specs.declared.word.FinalMessage.TheVariants as last
 use Rattle.pool_serve.specs.Causes.{HasFault}
 use Rattle.pool_serve.specs.Serving.{IsLoggedIn, IsServed, IsServedUnder, MayEnd, Serves, limit_of, owed}
 use Rattle.pool_serve.proofs.Causing.{arrival_fault}
@@ -52,7 +52,7 @@ same_fault old new taken r s h =
     subst (λ (x : Settings). HasFault (rows_of old.login) old.login.word x.max_packet_size taken r) s.settings
     (subst (λ (k : KeyWord). HasFault (rows_of old.login) k new.login.settings.max_packet_size taken r) s.word (subst (λ (rows : Rows). HasFault rows new.login.word new.login.settings.max_packet_size taken r) (same_rows old new s) h))
 
-same_under : (marks : List Bool) (catalogue : Address → CatalogueOf) (old new : RunView) (c : ClientFacts) (word : LastWord) → IsSameLogin old new → IsServedUnder marks catalogue new.login c word → IsServedUnder marks catalogue old.login c word
+same_under : (marks : List Bool) (catalogue : Address → CatalogueOf) (old new : RunView) (c : ClientFacts) (word : FinalMessage) → IsSameLogin old new → IsServedUnder marks catalogue new.login c word → IsServedUnder marks catalogue old.login c word
 unfolding row_in owes
 same_under marks catalogue old new c last.Nothing s h = subst (λ (k : KeyWord). AtLogin marks catalogue (rows_of old.login) k c) s.word (subst (λ (rows : Rows). AtLogin marks catalogue rows new.login.word c) (same_rows old new s) h)
 same_under marks catalogue old new c (last.Refusal r) s h = (
@@ -62,7 +62,7 @@ same_under marks catalogue old new c (last.Refusal r) s h = (
 same_under marks catalogue old new c (last.Error error) s h =
     subst (λ (ps : List (List ℕ)). MayEnd c.given ps (last.Error error)) (same_owed catalogue old.login new.login marks c.taken s.settings s.users s.word) h
 
-pub same_served : (home : HomeOf) (old new : RunView) (c : ClientFacts) (word : LastWord) → IsSameLogin old new → IsServed home new.login c word → IsServed home old.login c word
+pub same_served : (home : HomeOf) (old new : RunView) (c : ClientFacts) (word : FinalMessage) → IsSameLogin old new → IsServed home new.login c word → IsServed home old.login c word
 same_served home old new c word s h = (h.0, (h.1.0, same_under h.0 home.catalogue old new c word s h.1.1))
 
 -- ---- a login that leads nowhere
@@ -105,7 +105,7 @@ is_logged_in bounded keys rows passed v g x e l b =
       settings = subst (λ (w : LoginView). AreWithinBounds w.settings) (sym l) b;
     }
 
-pub logged_in_ends : PassedRunsAreLetIn → (home : HomeOf) (old new : RunView) (g : LoggedIn) (before after : ClientFacts) (word : LastWord) → IsSameLogin old new → IsRun new → new.phase ≡ Passed (arc_value g.key) → IsAllGiven new → before ≡ new.client → g.word ≡ new.login.word → g.login ≡ new.login → old.client.tells ≡ true
+pub logged_in_ends : PassedRunsAreLetIn → (home : HomeOf) (old new : RunView) (g : LoggedIn) (before after : ClientFacts) (word : FinalMessage) → IsSameLogin old new → IsRun new → new.phase ≡ Passed (arc_value g.key) → IsAllGiven new → before ≡ new.client → g.word ≡ new.login.word → g.login ≡ new.login → old.client.tells ≡ true
     → Serves (limit_of g) home.strikable before after (owed home.catalogue g) word → IsServed home old.login after word
 logged_in_ends law home old new g before after word s x p n e w l t m =
     same_served home old new after word s (behind_login home new g before after word e w l (law new home.catalogue (arc_value g.key) x (s.tells ∙ t) p n) m)

@@ -9,8 +9,8 @@ use Rattle.link_laws.specs.Standing.{ClientFacts}
 use Rattle.login_core.specs.Talk.End.{Passed as PassedWith}
 use Rattle.login_core.specs.Dialogue.{Rows, ToConsole, login_among}
 use Rattle.login_core.specs.Logins.{LoginView, rows_of}
-use Rattle.login_run.specs.declared.said.Said.{Said}
-use Rattle.login_run.specs.declared.said.Said.TheVariants as said
+use Rattle.login_run.specs.declared.login_reply.LoginReply.{LoginReply}
+use Rattle.login_run.specs.declared.login_reply.LoginReply.TheVariants as said
 use Rattle.login_run.specs.Runs.{Awaits, Console, IsAllGiven, IsPiece, IsRun, IsSameLogin, PhaseOf, RunView, StandsAt, said_bytes, said_pieces}
 use Rattle.link_desk.specs.Passes.{PassOf}
 use Rattle.console_run.specs.Passing.{Manages, Pass}
@@ -50,14 +50,14 @@ manages_evens p q m = record { stay = record { arrived = m.arrived; left = m.lef
 
 -- ---- its login
 
-said_joined : (s : Said) → IsPiece s → joined_pieces (said_pieces s) ≡ said_bytes s
+said_joined : (s : LoginReply) → IsPiece s → joined_pieces (said_pieces s) ≡ said_bytes s
 said_joined said.Nothing p = refl
 said_joined (said.Question q) p = append-nil _
 said_joined said.LetIn p = append-nil _
 said_joined (said.Failure f) p = append-nil _
 said_joined (said.Refusal r) p = absurd p
 
-pieces_joined : (done : List (List ℕ)) (s : Said) (sent : ℕ) → IsPiece s → sent ≡ length (said_bytes s) → joined_pieces done ++ take sent (said_bytes s) ≡ joined_pieces (done ++ said_pieces s)
+pieces_joined : (done : List (List ℕ)) (s : LoginReply) (sent : ℕ) → IsPiece s → sent ≡ length (said_bytes s) → joined_pieces done ++ take sent (said_bytes s) ≡ joined_pieces (done ++ said_pieces s)
 pieces_joined done s sent p e =
     ap (λ (l : List ℕ). joined_pieces done ++ l) (ap (λ (n : ℕ). take n (said_bytes s)) e ∙ (take_all (length (said_bytes s)) (said_bytes s) (omega arith) ∙ sym (said_joined s p)))
     ∙ sym (flat_map-append (λ (b : List ℕ). b) done (said_pieces s))

@@ -15,7 +15,7 @@ use Rattle.link_laws.specs.Standing.{ClientFacts, Standing}
 use Rattle.link_laws.specs.Dialogues.{start_error}
 use Rattle.link_run.specs.Links.{LinkView}
 use Rattle.link_desk.specs.Homes.{HomeOf, IsAtHome}
-use Rattle.link_start.specs.Starts.{IsCause, IsLetIn, IsRefusalOf}
+use Rattle.link_start.specs.Starts.{IsStartCause, IsLetIn, IsRefusalOf}
 use Rattle.link_start.specs.declared.start.StartCause.{StartCause}
 use Rattle.link_start.specs.declared.start.StartCause.TheVariants as cause
 use Rattle.login_core.specs.Talk.End.{Passed}
@@ -25,8 +25,8 @@ use Rattle.login_core.specs.Solo.{service_pieces}
 use Rattle.login_run.specs.Runs.{RunView}
 use Rattle.login_run.specs.Laws as runs
 use Rattle.pool_serve.specs.declared.logged_in.LoggedIn.{LoggedIn}
-use Rattle.pool_serve.specs.declared.word.LastWord.{LastWord}
-use Rattle.pool_serve.specs.declared.word.LastWord.TheVariants as last
+use Rattle.pool_serve.specs.declared.word.FinalMessage.{FinalMessage}
+use Rattle.pool_serve.specs.declared.word.FinalMessage.TheVariants as last
 use Rattle.pool_serve.specs.Words.{last_of}
 use Rattle.pool_serve.specs.Causes.{HasFault, IsFaulty, IsFaultyWord}
 use Rattle.pool_serve.specs.Serving.{IsServed, IsServedUnder, MayEnd, Serves, limit_of, owed}
@@ -34,7 +34,7 @@ use Rattle.pool_serve.proofs.Telling.{behind, refusal_ends}
 
 -- ---- over a link of its key, with the catalogue of its address
 
-pub over_link : (home : HomeOf) (limit : ℕ) (before after : ClientFacts) (g : LoggedIn) (link : LinkView) (word : LastWord) → IsAtHome home link → link.stands.follows ≡ true → link.key ≡ arc_value g.key
+pub over_link : (home : HomeOf) (limit : ℕ) (before after : ClientFacts) (g : LoggedIn) (link : LinkView) (word : FinalMessage) → IsAtHome home link → link.stands.follows ≡ true → link.key ≡ arc_value g.key
     → Serves limit link.stands.server.strikable before after (service_pieces link.stands.server.catalogue link.key g.word) word → Serves limit home.strikable before after (owed home.catalogue g) word
 over_link home limit before after g link word h f k s =
     let same : link.stands.server.catalogue ≡ home.catalogue (address_of (arc_value g.key)) = h.catalogue f ∙ ap (λ (x : StartKeyOf). home.catalogue (address_of x)) k in
@@ -53,7 +53,7 @@ refused_start began secret key word error l x =
     let one : service_pieces began.server.catalogue key word [] [] ≡ spelling x.frame ∷ [] = fresh_error (fresh began.server.catalogue key) x.frame began.server.catalogue word (client_frames []) (sym l ∙ x.refusal) in
     record { more = []; both = append-nil error ∙ (x.whole ∙ (sym (append-nil (spelling x.frame)) ∙ ap joined_pieces (sym one))) }
 
-unstarted_at : (began now : Standing) (secret : Secret) (key : StartKeyOf) (word : KeyWord) (c : StartCause) → began.follows ≡ true → IsLetIn began key secret → IsCause began now secret key c → MayEnd [] (service_pieces began.server.catalogue key word [] []) (last_of c)
+unstarted_at : (began now : Standing) (secret : Secret) (key : StartKeyOf) (word : KeyWord) (c : StartCause) → began.follows ≡ true → IsLetIn began key secret → IsStartCause began now secret key c → MayEnd [] (service_pieces began.server.catalogue key word [] []) (last_of c)
 unstarted_at began now secret key word (cause.Refused error) f l x = refused_start began secret key word error l (x.1 f)
 unstarted_at began now secret key word cause.Memory f l x = refusal_ends (service_pieces began.server.catalogue key word [] []) OutOfMemory
 unstarted_at began now secret key word cause.Lost f l x = refusal_ends (service_pieces began.server.catalogue key word [] []) ServerNotReached
@@ -61,9 +61,9 @@ unstarted_at began now secret key word (cause.Unanswerable question) f l x = ref
 unstarted_at began now secret key word cause.Unexpected f l x = refusal_ends (service_pieces began.server.catalogue key word [] []) ServerNotReached
 unstarted_at began now secret key word cause.Turns f l x = refusal_ends (service_pieces began.server.catalogue key word [] []) ServerNotReached
 
-pub unstarted : (cat : CatalogueOf) (began now : Standing) (secret : Secret) (key : StartKeyOf) (word : KeyWord) (c : StartCause) (last : LastWord) → last ≡ last_of c → began.server.catalogue ≡ cat → began.follows ≡ true → IsLetIn began key secret → IsCause began now secret key c → MayEnd [] (service_pieces cat key word [] []) last
+pub unstarted : (cat : CatalogueOf) (began now : Standing) (secret : Secret) (key : StartKeyOf) (word : KeyWord) (c : StartCause) (last : FinalMessage) → last ≡ last_of c → began.server.catalogue ≡ cat → began.follows ≡ true → IsLetIn began key secret → IsStartCause began now secret key c → MayEnd [] (service_pieces cat key word [] []) last
 unstarted cat began now secret key word c last e h f l x =
-    subst (λ (w : LastWord). MayEnd [] (service_pieces cat key word [] []) w) (sym e) (subst (λ (d : CatalogueOf). MayEnd [] (service_pieces d key word [] []) (last_of c)) h (unstarted_at began now secret key word c f l x))
+    subst (λ (w : FinalMessage). MayEnd [] (service_pieces cat key word [] []) w) (sym e) (subst (λ (d : CatalogueOf). MayEnd [] (service_pieces d key word [] []) (last_of c)) h (unstarted_at began now secret key word c f l x))
 
 -- ---- behind a login that let it in
 
@@ -81,13 +81,13 @@ fault_behind v key limit taken took OutOfMemory e x = tt
 fault_behind v key limit taken took MalformedServerMessage e x = tt
 fault_behind v key limit taken took LastDecision e x = tt
 
-ends_served : (catalogue : Address → CatalogueOf) (v : LoginView) (key : StartKeyOf) (c : ClientFacts) (marks : List Bool) (took : List ℕ) (word : LastWord) → (login_among (rows_of v) v.word c.taken).ended ≡ Passed (ToLink key) took → IsFaultyWord v.settings.max_packet_size took word
+ends_served : (catalogue : Address → CatalogueOf) (v : LoginView) (key : StartKeyOf) (c : ClientFacts) (marks : List Bool) (took : List ℕ) (word : FinalMessage) → (login_among (rows_of v) v.word c.taken).ended ≡ Passed (ToLink key) took → IsFaultyWord v.settings.max_packet_size took word
     → MayEnd c.given (runs.own catalogue v marks c.taken) word → IsServedUnder marks catalogue v c word
 ends_served catalogue v key c marks took last.Nothing e x m = inl m
 ends_served catalogue v key c marks took (last.Refusal r) e x m = (m, fault_behind v key v.settings.max_packet_size c.taken took r e x)
 ends_served catalogue v key c marks took (last.Error error) e x m = m
 
-pub behind_login : (home : HomeOf) (v : RunView) (g : LoggedIn) (before after : ClientFacts) (word : LastWord) → before ≡ v.client → g.word ≡ v.login.word → g.login ≡ v.login → runs.IsLetIn home.catalogue v (arc_value g.key) → Serves (limit_of g) home.strikable before after (owed home.catalogue g) word
+pub behind_login : (home : HomeOf) (v : RunView) (g : LoggedIn) (before after : ClientFacts) (word : FinalMessage) → before ≡ v.client → g.word ≡ v.login.word → g.login ≡ v.login → runs.IsLetIn home.catalogue v (arc_value g.key) → Serves (limit_of g) home.strikable before after (owed home.catalogue g) word
     → IsServed home v.login after word
 behind_login home v g before after word e w l x s =
     let taken : after.taken ≡ v.client.taken ++ s.took = s.taken ∙ ap (λ (c : ClientFacts). c.taken ++ s.took) e in

@@ -11,8 +11,8 @@ use Rattle.pool_serve.specs.Words.{HasGiven, last_bytes}
 use Rattle.pool_serve.specs.Causes.{AtArrival, HasCause, IsFaultyWord, WordHasTrace}
 use Rattle.link_desk.specs.Homes.{HomeOf}
 use Rattle.pool_serve.specs.Serving.{AreMarksOf, IsServed, IsServedUnder, MayEnd, Serves}
-use Rattle.pool_serve.specs.declared.word.LastWord.{LastWord}
-use Rattle.pool_serve.specs.declared.word.LastWord.TheVariants as last
+use Rattle.pool_serve.specs.declared.word.FinalMessage.{FinalMessage}
+use Rattle.pool_serve.specs.declared.word.FinalMessage.TheVariants as last
 
 by_login : (v : LoginView) (p q : PassOf) (taken out : List ℕ) (pieces : List (List ℕ)) → AllowedBy (IsRefusedByLogin v taken) out pieces → AllowedBy (HasCause v taken p q) out pieces
 by_login v p q taken out pieces (inl b) = inl b
@@ -23,7 +23,7 @@ pub untold_client : (home : HomeOf) (v : LoginView) (c : ClientFacts) (p q : Pas
 untold_client home v c p q a = (a.0, (a.1.0, by_login v p q c.taken c.given (own home.catalogue v a.0 c.taken) a.1.1))
 
 -- a beginning of the last word behind what was given
-told_allowed : (catalogue : Address → CatalogueOf) (v : LoginView) (c : ClientFacts) (p q : PassOf) (marks : List Bool) (word : LastWord) (n : ℕ) → WordHasTrace AtArrival p q word → IsServedUnder marks catalogue v c word
+told_allowed : (catalogue : Address → CatalogueOf) (v : LoginView) (c : ClientFacts) (p q : PassOf) (marks : List Bool) (word : FinalMessage) (n : ℕ) → WordHasTrace AtArrival p q word → IsServedUnder marks catalogue v c word
     → AllowedBy (HasCause v c.taken p q) (c.given ++ take n (last_bytes word)) (own catalogue v marks c.taken)
 told_allowed catalogue v c p q marks last.Nothing n w a =
     subst (λ (l : List ℕ). AllowedBy (HasCause v c.taken p q) l (own catalogue v marks c.taken)) (sym (ap (λ (l : List ℕ). c.given ++ l) (take_all n [] (omega arith)) ∙ append-nil c.given)) (by_login v p q c.taken c.given (own catalogue v marks c.taken) a)
@@ -48,7 +48,7 @@ told_allowed catalogue v c p q marks (last.Error error) n w a = inl (record {
 })
 
 -- a client that was told its last word
-pub told_client : (home : HomeOf) (v : LoginView) (before after : ClientFacts) (p q : PassOf) (word : LastWord) → HasGiven before after (last_bytes word) → before.tells ≡ true → WordHasTrace AtArrival p q word → IsServed home v before word
+pub told_client : (home : HomeOf) (v : LoginView) (before after : ClientFacts) (p q : PassOf) (word : FinalMessage) → HasGiven before after (last_bytes word) → before.tells ≡ true → WordHasTrace AtArrival p q word → IsServed home v before word
     → (marks : List Bool) × (AreMarksOf home.strikable marks × AllowedBy (HasCause v after.taken p q) after.given (own home.catalogue v marks after.taken))
 told_client home v before after p q word h t w a = (
   a.0,
@@ -64,7 +64,7 @@ told_client home v before after p q word h t w a = (
 joined_both : (ps qs : List (List ℕ)) → joined_pieces (ps ++ qs) ≡ joined_pieces ps ++ joined_pieces qs
 joined_both ps qs = flat_map-append (λ (p : List ℕ). p) ps qs
 
-pub behind : (ps qs : List (List ℕ)) (out more : List ℕ) (word : LastWord) → out ≡ joined_pieces ps ++ more → MayEnd more qs word → MayEnd out (ps ++ qs) word
+pub behind : (ps qs : List (List ℕ)) (out more : List ℕ) (word : FinalMessage) → out ≡ joined_pieces ps ++ more → MayEnd more qs word → MayEnd out (ps ++ qs) word
 behind ps qs out more last.Nothing e m = record {
   more = m.more;
   both = ap (λ (o : List ℕ). o ++ m.more) e ∙ (append_assoc (joined_pieces ps) more m.more ∙ (ap (λ (l : List ℕ). joined_pieces ps ++ l) m.both ∙ sym (joined_both ps qs)));
@@ -85,7 +85,7 @@ behind ps qs out more (last.Error error) e m = record {
 
 -- ---- where nothing was taken or given since
 
-pub nothing_more : (limit : ℕ) (strikable : Bool) (c : ClientFacts) (owed : List Bool → List ℕ → List (List ℕ)) (word : LastWord) → IsFaultyWord limit [] word → MayEnd [] (owed [] []) word → Serves limit strikable c c owed word
+pub nothing_more : (limit : ℕ) (strikable : Bool) (c : ClientFacts) (owed : List Bool → List ℕ → List (List ℕ)) (word : FinalMessage) → IsFaultyWord limit [] word → MayEnd [] (owed [] []) word → Serves limit strikable c c owed word
 nothing_more limit strikable c owed word f m = record { marks = []; are_marks = λ e. refl; took = []; gave = []; taken = sym (append-nil c.taken); given = sym (append-nil c.given); ends = m; fault = f }
 
 pub none_ends : (pieces : List (List ℕ)) → MayEnd [] pieces last.Nothing

@@ -10,8 +10,8 @@ use Rattle.login_core.specs.Talk.End.{Passed}
 use Rattle.login_core.specs.Dialogue.{Rows, ToLink, login_among}
 use Rattle.login_core.specs.Logins.{LoginView, rows_of}
 use Rattle.login_run.specs.Laws.{IsRefusedByLogin}
-use Rattle.pool_serve.specs.declared.word.LastWord.{LastWord}
-use Rattle.pool_serve.specs.declared.word.LastWord.TheVariants as last
+use Rattle.pool_serve.specs.declared.word.FinalMessage.{FinalMessage}
+use Rattle.pool_serve.specs.declared.word.FinalMessage.TheVariants as last
 
 -- ---- what the desk decided, as the pass tells it; where a call was answered by the last decision or as strange, not all was counted
 
@@ -66,7 +66,7 @@ HasTrace since p q OutOfMemory = Unit {0}
 HasTrace since p q other = ⊥
 
 -- and of each last word; a server's own error comes of a start that failed
-abbrev pub WordHasTrace : Since → PassOf → PassOf → LastWord → Type 0
+abbrev pub WordHasTrace : Since → PassOf → PassOf → FinalMessage → Type 0
 WordHasTrace since p q last.Nothing = Unit {0}
 WordHasTrace since p q (last.Refusal r) = HasTrace since p q r
 WordHasTrace since p q (last.Error error) = HadLink since p q × HasLost p q
@@ -79,7 +79,7 @@ IsFaulty limit bytes MalformedClientMessage = IsAtFault limit bytes MalformedCli
 IsFaulty limit bytes ClientMessageTooLong = IsAtFault limit bytes ClientMessageTooLong
 IsFaulty limit bytes other = Unit {0}
 
-abbrev pub IsFaultyWord : ℕ → List ℕ → LastWord → Type 0
+abbrev pub IsFaultyWord : ℕ → List ℕ → FinalMessage → Type 0
 IsFaultyWord limit bytes (last.Refusal r) = IsFaulty limit bytes r
 IsFaultyWord limit bytes other = Unit {0}
 

@@ -6,7 +6,7 @@ use Rattle.user_file.specs.declared.user_table.UserRow.{UserRow}
 use Rattle.message_view.specs.declared.refusal.Refusal.{Refusal}
 use Rattle.link_laws.specs.Standing.{ClientFacts, Standing}
 use Rattle.link_run.specs.Links.{LinkView}
-use Rattle.link_start.specs.Starts.{HasTried, IsCause}
+use Rattle.link_start.specs.Starts.{HasTried, IsStartCause}
 use Rattle.link_start.specs.declared.start.StartCause.TheVariants.{Turns}
 use Rattle.pool_serve.specs.declared.TheConstants.{TURNS}
 use Rattle.link_start.specs.declared.start.StartCause.{StartCause}
@@ -94,7 +94,7 @@ pub record IsUnstarted (home : HomeOf) (g : LoggedIn) (cause : StartCause) : Typ
   pub began : Standing
   pub now : Standing
   pub dialled : IsDialled home row began
-  pub is_cause : IsCause began now user.secret (arc_value g.key) cause
+  pub is_cause : IsStartCause began now user.secret (arc_value g.key) cause
   pub tried : cause ≡ Turns → HasTried began user.secret (arc_value g.key) now TURNS
 
 abbrev pub IsUnopened : HomeOf → LoggedIn → Ending → Type 0

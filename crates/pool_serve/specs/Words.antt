@@ -12,28 +12,28 @@ use Rattle.login_run.specs.Runs.{IsClientOver}
 use Rattle.pool_serve.specs.declared.TheConstants.{TURNS}
 use Rattle.pool_serve.specs.declared.ending.Ending.{Ending}
 use Rattle.pool_serve.specs.declared.ending.Ending.TheVariants as ending
-use Rattle.pool_serve.specs.declared.word.LastWord.{LastWord}
-use Rattle.pool_serve.specs.declared.word.LastWord.TheVariants as last
+use Rattle.pool_serve.specs.declared.word.FinalMessage.{FinalMessage}
+use Rattle.pool_serve.specs.declared.word.FinalMessage.TheVariants as last
 
-abbrev pub last_bytes : LastWord → List ℕ
+abbrev pub last_bytes : FinalMessage → List ℕ
 last_bytes last.Nothing = []
 last_bytes (last.Refusal r) = refusal r
 last_bytes (last.Error error) = error
 
-abbrev pub or_nothing : Option Refusal → LastWord
+abbrev pub or_nothing : Option Refusal → FinalMessage
 or_nothing None = last.Nothing
 or_nothing (Some r) = last.Refusal r
 
-abbrev pub word_told : StartRefusal → LastWord
+abbrev pub word_told : StartRefusal → FinalMessage
 word_told (told.Error error) = last.Error error
 word_told (told.Refusal r) = last.Refusal r
 
 -- what a client is told whose link wasn't started
-abbrev pub last_of : StartCause → LastWord
+abbrev pub last_of : StartCause → FinalMessage
 last_of cause = word_told (refusal_of cause)
 
 -- what a client is told last whose time at the desk ended so
-abbrev pub word_of : Ending → LastWord
+abbrev pub word_of : Ending → FinalMessage
 word_of ending.Left = last.Nothing
 word_of (ending.Refused r) = last.Refusal r
 word_of ending.Memory = last.Refusal OutOfMemory

@@ -2,7 +2,7 @@
 ghost use Rattle.std.specs.Prelude.{◌≡◌};
 ghost use Rattle.pool_serve.specs.Words.{word_of};
 
-use crate::word::LastWord;
+use crate::word::FinalMessage;
 use link_start::start::StartCause;
 use message_view::Refusal;
 
@@ -31,17 +31,17 @@ pub(crate) enum Ending {
 
 impl Ending {
     /// What the client is told last.
-    pub(crate) fn into_word(self) -> LastWord
+    pub(crate) fn into_word(self) -> FinalMessage
         ensures { result ≡ word_of self }
     {
         match self {
-            Ending::Left | Ending::Strange => LastWord::Nothing,
-            Ending::Refused(refusal) => LastWord::Refusal(refusal),
-            Ending::Memory => LastWord::Refusal(Refusal::OutOfMemory),
-            Ending::Last => LastWord::Refusal(Refusal::LastDecision),
-            Ending::Unreached => LastWord::Refusal(Refusal::ServerNotReached),
-            Ending::Unstarted(cause) => LastWord::of_start(cause),
-            Ending::Relayed(refusal) | Ending::Managed(refusal) => LastWord::of(refusal),
+            Ending::Left | Ending::Strange => FinalMessage::Nothing,
+            Ending::Refused(refusal) => FinalMessage::Refusal(refusal),
+            Ending::Memory => FinalMessage::Refusal(Refusal::OutOfMemory),
+            Ending::Last => FinalMessage::Refusal(Refusal::LastDecision),
+            Ending::Unreached => FinalMessage::Refusal(Refusal::ServerNotReached),
+            Ending::Unstarted(cause) => FinalMessage::of_start(cause),
+            Ending::Relayed(refusal) | Ending::Managed(refusal) => FinalMessage::of(refusal),
         }
     }
 }

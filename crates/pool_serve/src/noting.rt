@@ -6,12 +6,12 @@ use disposal::Verdict;
 use link_desk::answers::Cancelled;
 use link_desk::desk::LinkDesk;
 use link_start::start::StartCause;
-use link_start::start_reply::Question;
+use link_start::start_reply::ServerQuestion;
 use log_lines::notes::{Client, Loss, Note, Server, Unstarted, Visit};
 use login_core::Failure;
-use login_run::{LoginRun, Said};
+use login_run::{LoginReply, LoginRun};
 use message_view::Refusal;
-use relay_core::relay::Cause;
+use relay_core::relay::GoneCause;
 use server_end::ClientEnd;
 use start_keys::StartKey;
 use std::sync::Arc;
@@ -43,15 +43,15 @@ pub(crate) fn own_key<C: ClientEnd>(run: &LoginRun<C>) -> Option<Arc<StartKey>> 
 }
 
 /// How a login ended that goes no further; nothing, where its client went.
-fn login_note<'a>(said: Said, parameter: Option<&'a [u8]>) -> Option<Note<'a>> {
+fn login_note<'a>(said: LoginReply, parameter: Option<&'a [u8]>) -> Option<Note<'a>> {
     match (said, parameter) {
-        (Said::Refusal(Refusal::UnsupportedParameter), Some(name)) => Some(
+        (LoginReply::Refusal(Refusal::UnsupportedParameter), Some(name)) => Some(
             Note::UnsupportedParameter(name),
         ),
-        (Said::Refusal(refusal), _) => Some(Note::Refused(refusal)),
-        (Said::Failure(Failure::WrongPassword), _) => Some(Note::WrongPassword),
-        (Said::Failure(Failure::NoDatabase), _) => Some(Note::NoDatabase),
-        (Said::Nothing | Said::Question(_) | Said::LetIn, _) => None,
+        (LoginReply::Refusal(refusal), _) => Some(Note::Refused(refusal)),
+        (LoginReply::Failure(Failure::WrongPassword), _) => Some(Note::WrongPassword),
+        (LoginReply::Failure(Failure::NoDatabase), _) => Some(Note::NoDatabase),
+        (LoginReply::Nothing | LoginReply::Question(_) | LoginReply::LetIn, _) => None,
     }
 }
 
@@ -86,11 +86,11 @@ pub(crate) fn note_end<D: LinkDesk>(desk: &D, client: &Client<'_>, last: Option<
 }
 
 /// The authentication that a question asks for, by the protocol's number.
-fn number_of(question: Question) -> u32 {
+fn number_of(question: ServerQuestion) -> u32 {
     match question {
-        Question::Cleartext => 3,
-        Question::Md5(_) => 5,
-        Question::Unknown(number) => number,
+        ServerQuestion::Cleartext => 3,
+        ServerQuestion::Md5(_) => 5,
+        ServerQuestion::Unknown(number) => number,
     }
 }
 
@@ -132,11 +132,11 @@ pub(crate) fn ending_note<'a>(logged_in: &LoggedIn, ending: &'a Ending) -> Optio
 }
 
 /// Why a link is closed after its lease.
-pub(crate) fn loss_of(cause: Cause) -> Loss {
+pub(crate) fn loss_of(cause: GoneCause) -> Loss {
     match cause {
-        Cause::Lost => Loss::Ended,
-        Cause::Left(Verdict::InBlock) => Loss::InBlock,
-        Cause::Left(Verdict::Broken) => Loss::Foreign,
-        Cause::Left(_) => Loss::Unanswered,
+        GoneCause::Lost => Loss::Ended,
+        GoneCause::Left(Verdict::InBlock) => Loss::InBlock,
+        GoneCause::Left(Verdict::Broken) => Loss::Foreign,
+        GoneCause::Left(_) => Loss::Unanswered,
     }
 }

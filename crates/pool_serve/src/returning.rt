@@ -17,14 +17,14 @@ use link_run::links::{CleanLink, UsedLink};
 use link_run::reset::reset_link;
 use link_start::close::{close_link, offer_terminate};
 use log_lines::notes::{Loss, Note};
-use relay_core::relay::{Cause, Returned};
+use relay_core::relay::{GoneCause, Returned};
 use server_end::gate::Gate;
 
 /// Whether whole messages went over the link, so that its server reads a Terminate as one.
-fn is_at_border(cause: Cause) -> bool {
+fn is_at_border(cause: GoneCause) -> bool {
     matches!(
         cause,
-        Cause::Left(Verdict::Unanswered) | Cause::Left(Verdict::InBlock)
+        GoneCause::Left(Verdict::Unanswered) | GoneCause::Left(Verdict::InBlock)
     )
 }
 

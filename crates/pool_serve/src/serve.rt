@@ -38,7 +38,7 @@ use std::alloc::Global;
 
 /// Goes on with a login until it has arrived, is let in or is over; or until nothing has moved for so many turns of the client, if
 /// `most` says how many. A turn is taken only where nothing moved.
-fn converse<C: ClientEnd, E: ServerEnd, G: Gate<E>>(
+fn drive_login<C: ClientEnd, E: ServerEnd, G: Gate<E>>(
     alloc: Global,
     run: &mut LoginRun<C>,
     gate: &mut G,
@@ -139,7 +139,7 @@ impl<'a, D: LinkDesk, G: Gate<D::End>> Worker<'a, D, G> {
     }
 
     /// Serves the client that has arrived. One whose dialogue doesn't go on for [`TURNS`] turns is closed.
-    fn attend<C: ClientEnd>(&mut self, run: LoginRun<C>, word: KeyWord) -> (C, Ending)
+    fn serve_arrived<C: ClientEnd>(&mut self, run: LoginRun<C>, word: KeyWord) -> (C, Ending)
         requires settings { AreWithinBounds run.login.settings }
         requires word { run.login.word ≡ word }
         requires here { IsSome (D.holder self.old.pass).client }
@@ -159,7 +159,7 @@ impl<'a, D: LinkDesk, G: Gate<D::End>> Worker<'a, D, G> {
         passed_runs_are_let_in();
         passed_runs_have_passed();
         let mut run = run;
-        match converse(self.alloc, &mut run, &mut self.gate, Some(TURNS)) {
+        match drive_login(self.alloc, &mut run, &mut self.gate, Some(TURNS)) {
             LoginTurn::Passed => {}
             LoginTurn::Console => return self.manage(run, word),
             _ => {
@@ -217,7 +217,7 @@ impl<'a, D: LinkDesk, G: Gate<D::End>> Worker<'a, D, G> {
                 self.number = Some(number);
                 let mut run = run;
                 run.go_on(self.alloc);
-                let served = self.attend(run, word);
+                let served = self.serve_arrived(run, word);
                 self.desk.leave(&mut self.pass);
                 served
             }
@@ -285,7 +285,7 @@ pub fn serve<C: ClientEnd, D: LinkDesk, G: Gate<D::End> + Drop>(
     let mut gate = gate;
     let mut run = LoginRun::new(client, login);
     // a client that hasn't come yet takes no place in the book
-    match converse(alloc, &mut run, &mut gate, None) {
+    match drive_login(alloc, &mut run, &mut gate, None) {
         LoginTurn::Arrived => {}
         turn => return dismiss(desk, pass, run, turn, visit),
     }

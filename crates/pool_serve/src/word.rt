@@ -11,7 +11,7 @@ use server_end::{ClientEnd, Moved, ServerEnd, rest_of};
 
 /// What a client is told last.
 #[derive(Drop)]
-pub(crate) enum LastWord {
+pub(crate) enum FinalMessage {
     Nothing,
     Refusal(Refusal),
     /// The ErrorResponse by which a server refused the start of the client's link.
@@ -39,24 +39,24 @@ fn give<C: ClientEnd, E: ServerEnd, G: Gate<E>>(client: &mut C, bytes: &[u8], ga
     }
 }
 
-impl LastWord {
+impl FinalMessage {
     /// The refusal, if there is one.
-    pub(crate) fn of(refusal: Option<Refusal>) -> LastWord
+    pub(crate) fn of(refusal: Option<Refusal>) -> FinalMessage
         ensures { result ≡ or_nothing refusal }
     {
         match refusal {
-            Some(refusal) => LastWord::Refusal(refusal),
-            None => LastWord::Nothing,
+            Some(refusal) => FinalMessage::Refusal(refusal),
+            None => FinalMessage::Nothing,
         }
     }
 
     /// What a client is told whose link wasn't started.
-    pub(crate) fn of_start(cause: StartCause) -> LastWord
+    pub(crate) fn of_start(cause: StartCause) -> FinalMessage
         ensures { result ≡ last_of cause }
     {
         match cause.into_refusal() {
-            StartRefusal::Error(error) => LastWord::Error(error),
-            StartRefusal::Refusal(refusal) => LastWord::Refusal(refusal),
+            StartRefusal::Error(error) => FinalMessage::Error(error),
+            StartRefusal::Refusal(refusal) => FinalMessage::Refusal(refusal),
         }
     }
 
@@ -64,9 +64,9 @@ impl LastWord {
         ensures { result.now ≡ last_bytes self.now }
     {
         match self {
-            LastWord::Nothing => b"",
-            LastWord::Refusal(refusal) => refusal_bytes(*refusal),
-            LastWord::Error(error) => error.as_bytes(),
+            FinalMessage::Nothing => b"",
+            FinalMessage::Refusal(refusal) => refusal_bytes(*refusal),
+            FinalMessage::Error(error) => error.as_bytes(),
         }
     }
 

@@ -6,6 +6,10 @@ mod at_once;
 #[cfg(test)]
 mod cancels;
 #[cfg(test)]
+mod failing_ends;
+#[cfg(test)]
+mod failures;
+#[cfg(test)]
 mod held_client;
 #[cfg(test)]
 mod noted_ends;

@@ -24,11 +24,11 @@ use std::sync::{Arc, Wait};
 use std::test::Fail;
 
 /// Ann's StartupMessage for the database shop, `SET DateStyle TO 'SQL, DMY'`, `CREATE TEMP TABLE t (a text)`, Parse of `s`, Sync.
-const FIRST: &[u8] =
+pub(crate) const FIRST: &[u8] =
     b"\0\0\0\x20\0\x03\0\0user\0ann\0database\0shop\0\0Q\0\0\0\x20SET DateStyle TO 'SQL, DMY'\0Q\0\0\0\x21CREATE TEMP TABLE t (a text)\0P\0\0\0\x16s\0SHOW TimeZone\0\0\0S\0\0\0\x04";
 
 /// The same StartupMessage, `SHOW application_name`, `SELECT * FROM t`, Bind of `s`, Sync.
-const SECOND: &[u8] =
+pub(crate) const SECOND: &[u8] =
     b"\0\0\0\x20\0\x03\0\0user\0ann\0database\0shop\0\0Q\0\0\0\x1aSHOW application_name\0Q\0\0\0\x14SELECT * FROM t\0B\0\0\0\x0d\0s\0\0\0\0\0\0\0S\0\0\0\x04";
 
 /// AuthenticationOk and nine reports.
@@ -41,11 +41,11 @@ const KEY: &[u8] = b"K\0\0\0\x0c";
 const READY: &[u8] = b"Z\0\0\0\x05I";
 
 /// `SET` with the report of DateStyle, `CREATE TABLE`, ParseComplete.
-const FIRST_ANSWERS: &[u8] =
+pub(crate) const FIRST_ANSWERS: &[u8] =
     b"C\0\0\0\x08SET\0S\0\0\0\x17DateStyle\0SQL, DMY\0Z\0\0\0\x05IC\0\0\0\x11CREATE TABLE\0Z\0\0\0\x05I1\0\0\0\x04Z\0\0\0\x05I";
 
 /// The name is empty as at the beginning, and neither the table nor the statement is there.
-const SECOND_ANSWERS: &[u8] =
+pub(crate) const SECOND_ANSWERS: &[u8] =
     b"T\0\0\0\x29\0\x01application_name\0\0\0\0\0\0\0\0\0\0\x19\xff\xff\xff\xff\xff\xff\0\0D\0\0\0\x0a\0\x01\0\0\0\0C\0\0\0\x09SHOW\0Z\0\0\0\x05IE\0\0\0\x33SERROR\0VERROR\0C42P01\0Mrelation does not exist\0\0Z\0\0\0\x05IE\0\0\0\x3dSERROR\0VERROR\0C26000\0Mprepared statement does not exist\0\0Z\0\0\0\x05I";
 
 /// All that the client with this key word is to be given: its welcome, and these answers.

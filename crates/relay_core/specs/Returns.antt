@@ -8,8 +8,8 @@ use Rattle.link_run.specs.declared.links.LinkParts.{LinkParts}
 use Rattle.relay_laws.specs.Leases.{RelayView, relay_verdict}
 use Rattle.relay_flow.specs.Flows.{is_empty, is_faulty}
 use Rattle.relay_laws.specs.Answers.{is_quiet}
-use Rattle.relay_core.specs.declared.relay.Cause.{Cause}
-use Rattle.relay_core.specs.declared.relay.Cause.TheVariants.{Left, Lost}
+use Rattle.relay_core.specs.declared.relay.GoneCause.{GoneCause}
+use Rattle.relay_core.specs.declared.relay.GoneCause.TheVariants.{Left, Lost}
 use Rattle.relay_core.specs.declared.relay.Returned.{Returned}
 use Rattle.relay_core.specs.declared.relay.Returned.TheVariants.{Unused, Used, Gone}
 
@@ -36,11 +36,11 @@ pub record IsThatLent {E : Type 0} (standing : E → Standing) (v : RelayView) (
   pub reports : l.reported ≡ v.told.reports
 
 -- the cause is the verdict; where nothing went over the link, its end is lost
-abbrev pub IsCause : RelayView → Cause → Type 0
-IsCause v (Left verdict) = (v.flags.touched ≡ true) × (verdict ≡ relay_verdict v) × (verdict ≢ Settled)
-IsCause v Lost = (v.flags.touched ≡ false) × (v.flags.link_over ≡ true)
+abbrev pub IsGoneCause : RelayView → GoneCause → Type 0
+IsGoneCause v (Left verdict) = (v.flags.touched ≡ true) × (verdict ≡ relay_verdict v) × (verdict ≢ Settled)
+IsGoneCause v Lost = (v.flags.touched ≡ false) × (v.flags.link_over ≡ true)
 
 abbrev pub IsReturned : {E : Type 0} → (E → Standing) → RelayView → Returned E → Type 0
 IsReturned standing v (Unused l) = (v.flags.touched ≡ false) × (v.flags.link_over ≡ false) × IsThatLink v l
 IsReturned standing v (Used l) = (v.flags.touched ≡ true) × (relay_verdict v ≡ Settled) × IsThatLink v l
-IsReturned standing v (Gone l cause) = IsThatLent standing v l × IsCause v cause
+IsReturned standing v (Gone l cause) = IsThatLent standing v l × IsGoneCause v cause

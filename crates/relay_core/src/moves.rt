@@ -120,7 +120,7 @@ impl<C: ClientEnd, E: ServerEnd> Relay<C, E> {
 
     /// One write to the link, which is ready, of all that is held for it.
     fn write_link(&mut self) -> Moved
-        requires { is_empty self.old.to_link.held ≡ false }
+        requires { may_write_link true self.old ≡ true }
         ensures keeps { Keeps self.old self.new }
         ensures steps { WritesLink true self.old self.new result }
     {

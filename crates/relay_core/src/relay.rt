@@ -21,7 +21,7 @@ use std::marker::Model;
 
 /// Why a link can't be used again.
 #[derive(Clone, Copy, PartialEq, Eq, Drop)]
-pub enum Cause {
+pub enum GoneCause {
     /// Bytes went over it, and the verdict on them isn't Settled.
     Left(Verdict),
     /// Nothing went over it, and its end faulted or ended.
@@ -36,7 +36,7 @@ pub enum Returned<E: ServerEnd> {
     /// Bytes went over it, and the verdict on them is Settled: a reset makes it clean.
     Used(UsedLink<E>),
     /// Neither: the link taken apart, and why.
-    Gone(LinkParts<E>, Cause),
+    Gone(LinkParts<E>, GoneCause),
 }
 
 /// A client's end, a link, and the bytes between them.
@@ -89,10 +89,10 @@ impl<C: ClientEnd, E: ServerEnd> Model for Relay<C, E> {
 
 impl<C: ClientEnd, E: ServerEnd> Relay<C, E> {
     ghost use Rattle.std.specs.Prelude.{Bool};
-    ghost use Rattle.relay_laws.specs.Leases.{Place, place, IsLease, IsExact, IsAllowed, Keeps, relay_verdict, at_border};
+    ghost use Rattle.relay_laws.specs.Leases.{Place, place, IsLease, IsRelayExact, IsAllowed, Keeps, relay_verdict, at_border};
     ghost use Rattle.relay_laws.specs.Answers.{EndsByClient, RefusedBy, AtBorder, IsCut, judged, phase_after};
     ghost use Rattle.relay_core.specs.Returns.{IsReturned, is_clear};
-    ghost use Rattle.relay_laws.specs.Steps.{bytes_moved, HoldsAll, IsOnce, LeavesSides, Waits};
+    ghost use Rattle.relay_laws.specs.Steps.{bytes_moved, HoldsAll, IsOnce, LeavesSides, StopsLink, Waits};
     ghost use Rattle.relay_laws.specs.declared.Next.TheVariants.{Again, Wait, ClientDone, Refuse, Closed};
     ghost use Rattle.relay_laws.specs.declared.Phase.TheVariants.{Running, Done, Shut};
     ghost use Rattle.message_view.specs.declared.refusal.Refusal.{Refusal};
@@ -147,7 +147,8 @@ impl<C: ClientEnd, E: ServerEnd> Relay<C, E> {
     }
 
     /// Moves bytes: each end that is ready is read once and written once at most, and one that isn't is left as it is. It waits for
-    /// nobody.
+    /// nobody. Behind a fault of the client's bytes nothing more is written to the server's end, and once that faulted or ended it is
+    /// left as it is.
     ///
     /// Again: a byte was read or written. Wait: none was, since each end that is ready answered NotNow, or may not be read, or
     /// has no room for what would be read, or nothing that may go on is held for it. ClientDone: the client sent Terminate or its
@@ -159,7 +160,7 @@ impl<C: ClientEnd, E: ServerEnd> Relay<C, E> {
     /// After ClientDone it answers ClientDone, after Refuse or Closed it answers Closed, and moves nothing.
     pub fn pump(&mut self, ready: Ready) -> Next
         ensures lease { Keeps self.old self.new }
-        ensures exact { (p : Place) → IsLease p self.old → self.new.client.tells ≡ true → self.new.link.follows ≡ true → self.new.link.lives ≡ true → IsExact p self.new }
+        ensures exact { (p : Place) → IsLease p self.old → self.new.client.tells ≡ true → self.new.link.follows ≡ true → self.new.link.lives ≡ true → IsRelayExact p self.new }
         ensures allowed { (p : Place) → IsLease p self.old → self.new.client.tells ≡ true → self.new.link.follows ≡ true → IsAllowed p self.new }
         ensures judged { self.old.phase ≡ Running → (none : Bool) × (result ≡ judged none self.new) }
         ensures done { (p : Place) → IsLease p self.old → self.old.phase ≡ Running → result ≡ ClientDone → EndsByClient p self.new }
@@ -169,6 +170,7 @@ impl<C: ClientEnd, E: ServerEnd> Relay<C, E> {
         ensures none { result ≡ Wait → self.old.client.tells ≡ true → bytes_moved self.new ≡ bytes_moved self.old }
         ensures waits { result ≡ Wait → Waits ready.client ready.server self.old self.new }
         ensures sides { LeavesSides ready.client ready.server self.old self.new }
+        ensures stops { StopsLink self.old self.new }
         ensures once { IsOnce self.old self.new }
         ensures client_fault { result ≢ ClientDone → self.new.client.faults ≡ self.old.client.faults }
         ensures holds_all { self.old.phase ≡ Running → HoldsAll self.new }
@@ -212,14 +214,14 @@ impl<C: ClientEnd, E: ServerEnd> Relay<C, E> {
         } = self;
         if !flags.touched {
             if flags.link_over {
-                return (client, Returned::Gone(link, Cause::Lost));
+                return (client, Returned::Gone(link, GoneCause::Lost));
             }
             return (client, Returned::Unused(link.clean()));
         }
         if is_settled(verdict) {
             return (client, Returned::Used(link.used()));
         }
-        (client, Returned::Gone(link, Cause::Left(verdict)))
+        (client, Returned::Gone(link, GoneCause::Left(verdict)))
     }
 
     /// The verdict on what went over the link.
@@ -251,6 +253,7 @@ impl<C: ClientEnd, E: ServerEnd> Relay<C, E> {
         ensures none { result ≡ Wait → self.old.client.tells ≡ true → bytes_moved self.new ≡ bytes_moved self.old }
         ensures waits { result ≡ Wait → Waits ready.client ready.server self.old self.new }
         ensures sides { LeavesSides ready.client ready.server self.old self.new }
+        ensures stops { StopsLink self.old self.new }
         ensures once { IsOnce self.old self.new }
         ensures client_fault { result ≢ ClientDone → self.new.client.faults ≡ self.old.client.faults }
         ensures holds_all { HoldsAll self.new }
@@ -268,6 +271,7 @@ impl<C: ClientEnd, E: ServerEnd> Relay<C, E> {
         ensures none { result ≡ Wait → self.old.client.tells ≡ true → bytes_moved self.new ≡ bytes_moved self.old }
         ensures waits { result ≡ Wait → Waits ready.client ready.server self.old self.new }
         ensures sides { LeavesSides ready.client ready.server self.old self.new }
+        ensures stops { StopsLink self.old self.new }
         ensures once { IsOnce self.old self.new }
         ensures client_fault { result ≢ ClientDone → self.new.client.faults ≡ self.old.client.faults }
         ensures holds_all { HoldsAll self.new }

@@ -1,20 +1,13 @@
 -- How far a cursor goes.
-use Rattle.std.proofs.Common.{◌≡◌, ℕ, zero, suc, ◌+◌, ◌-◌, ◌<◌, ◌≤◌, ◌^◌, Bool, true, false, List, [], ◌∷◌, ◌++◌, length, take, drop, refl, sym, ap, ap₂, ◌∙◌, arith, append_assoc, length-append, length-take-le, take_all, subst, IsTrue, get_or, eq-eqb}
-use Rattle.std.specs.Prelude.{if◌then◌else◌, nat_lt, nat_le, not, ◌&&◌, ◌||◌, ◌==◌, Option, Some, None}
+use Rattle.std.proofs.Common.{◌≡◌, ℕ, zero, suc, ◌+◌, ◌-◌, ◌<◌, ◌≤◌, ◌^◌, Bool, true, false, List, [], ◌∷◌, ◌++◌, length, take, refl, sym, ap, ap₂, ◌∙◌, arith, append_assoc, length-append, length-take-le, take_all, subst, IsTrue, eq-eqb}
+use Rattle.std.specs.Prelude.{if◌then◌else◌, nat_lt, nat_le, not, ◌&&◌, ◌||◌, ◌==◌, slice_index, slice_range, Option, Some, None}
 use Rattle.std.specs.Int.{w32, to_be_bytes}
-use Rattle.std.proofs.lemmas.Bool.{true≢false, eqb-true, leb-true, leb-false, ltb-true, ltb-false, lt-ltb, le-ltb}
-use Rattle.std.proofs.Math.Seq.{take-append_seam}
+use Rattle.std.proofs.lemmas.Bool.{true≢false, eqb-true, leb-true, leb-false, ltb-false, lt-ltb, le-ltb}
 use Rattle.frame_view.specs.declared.Side.{Side}
-use Rattle.frame_view.specs.declared.Frame.{Frame}
-use Rattle.frame_view.specs.declared.Step.TheVariants.{Whole, Need}
 use Rattle.frame_view.specs.declared.Side.TheVariants.{Server}
-use Rattle.frame_view.specs.declared.FrameFault.{FrameFault}
 use Rattle.frame_view.specs.declared.FrameFault.TheVariants.{UnknownType, TooShort, TooLong}
-use Rattle.frame_view.specs.Answers.{Tells}
-use Rattle.frame_view.specs.Frames.{AreBytes, FrameOf, is_type, spelling, Front, AFrame, Lacks, Faulty, front, with_body, at_head, head_fault, number, Stops}
-use Rattle.frame_view.specs.Laws.{FrontIsSpelled}
+use Rattle.frame_view.specs.Frames.{AreBytes, FrameOf, is_type, Front, front, with_body, at_head, head_fault, number, Stops}
 use Rattle.frame_view.proofs.FourBytes.{bytes-number, number-bytes}
-use Rattle.frame_view.proofs.Taking.{taken}
 use Rattle.frame_view.specs.declared.server.TheConstants.{READY_FOR_QUERY, PARAMETER_STATUS}
 use Rattle.relay_flow.specs.declared.parts.Advance.{Advance}
 use Rattle.relay_flow.specs.declared.parts.TheConstants.{READY_LENGTH, LONGEST_STATUS}
@@ -121,56 +114,84 @@ module _ (side : Side) (limit : ℕ) (part : List ℕ) (kind rest count : ℕ) (
   pub body_goes : (foreign : Bool) → foreign ≡ is_foreign_in_parts side kind → 0 < count → 0 < rest → Advances side limit part kind rest (advance count kind (rest - count) None foreign)
   body_goes foreign e some h = subst (λ (o : Bool). Advances side limit part kind rest (advance count kind (rest - count) None o)) (sym e) (body_advances some h)
 
--- ---- a whole frame from a border
-
-same_length : (xs ys a b : List ℕ) → length xs ≡ length ys → xs ++ a ≡ ys ++ b → xs ≡ ys
-same_length xs ys a b l e = sym (take-append_seam xs a) ∙ ap₂ (λ (n : ℕ) (t : List ℕ). take n t) l e ∙ take-append_seam ys b
-
-whole_is : (side : Side) (limit : ℕ) (frame : Frame) (part : List ℕ) (f : Front) → FrontIsSpelled → AreBytes part → front side limit part ≡ f → Tells (Whole frame) part f → (status : Option ℕ) (foreign : Bool) → status ≡ status_in (a_frame frame.kind frame.body.now) → foreign ≡ is_foreign (a_frame frame.kind frame.body.now)
-    → Spells side limit (take (length frame.whole.now) part) frame.kind status foreign
-whole_is side limit frame part (AFrame k body rest) law bytes e t status foreign i j =
-    let s = law side limit part k body rest bytes e in
-    let f : FrameOf = record { kind = k; body = body } in
-    let w : frame.whole.now ++ rest ≡ spelling f ++ rest = t.whole_is ∙ s.0 in
-    let l : length frame.whole.now ≡ length (spelling f) = omega (arith, ap length w, length-append frame.whole.now rest, length-append (spelling f) rest) in
-    record {
-      frame = f;
-      is_frame = s.1;
-      kind_is = sym t.kind_is;
-      status_is = λ h. i ∙ ap₂ (λ (x : ℕ) (y : List ℕ). status_in (a_frame x y)) t.kind_is t.body_is;
-      foreign_is = λ h. j ∙ ap₂ (λ (x : ℕ) (y : List ℕ). is_foreign (a_frame x y)) t.kind_is t.body_is;
-      spelled = ap (λ (x : List ℕ). take (length frame.whole.now) x) (sym t.whole_is) ∙ take-append_seam frame.whole.now rest ∙ same_length frame.whole.now (spelling f) rest rest l w;
-    }
-whole_is side limit frame part (Lacks n) law bytes e t status foreign i j = absurd t
-whole_is side limit frame part (Faulty x) law bytes e t status foreign i j = absurd t
-
-pub whole_advances : (side : Side) (limit : ℕ) (frame : Frame) (part : List ℕ) (kind : ℕ) (status : Option ℕ) (foreign : Bool) → FrontIsSpelled → AreBytes part → Tells (Whole frame) part (front side limit part) → status ≡ status_in (a_frame frame.kind frame.body.now) → foreign ≡ is_foreign (a_frame frame.kind frame.body.now)
-    → Advances side limit part kind 0 (advance (length frame.whole.now) frame.kind 0 status foreign)
-whole_advances side limit frame part kind status foreign law bytes t i j =
-    let k = taken side limit frame part t in
-    let s = whole_is side limit frame part (front side limit part) law bytes refl t status foreign i j in
-    record {
-      some = omega (arith, k.some);
-      within = k.within;
-      at_once = λ s k f. refl;
-      opens = λ more tail o. absurd (omega (arith, more));
-      spells = λ e tail o. subst (λ (b : List ℕ). Spells side limit (b ++ take (length frame.whole.now) part) frame.kind status foreign) (sym (o.border refl)) s;
-    }
-
--- ---- an unfinished frame from a border
-
--- the front of a head with or without a fault, where its body is or isn't there
-abbrev fronted : ℕ → ℕ → List ℕ → Bool → Option FrameFault → Front
-fronted kind len rest short None = if short then Lacks (len - 4 - length rest) else AFrame kind (take (len - 4) rest) (drop (len - 4) rest)
-fronted kind len rest short (Some fault) = Faulty fault
+-- ---- a head at a border
 
 -- the front of bytes with this head
 abbrev headed : Side → ℕ → ℕ → ℕ → List ℕ → Front
 headed side limit kind len rest = with_body (at_head (head_fault side limit kind len) kind len rest)
 
-same_front : (side : Side) (limit kind len : ℕ) (rest : List ℕ) (f : Option FrameFault) → head_fault side limit kind len ≡ f → headed side limit kind len rest ≡ fronted kind len rest (nat_lt (length rest) (len - 4)) f
-same_front side limit kind len rest None e = ap (λ (x : Option FrameFault). with_body (at_head x kind len rest)) e
-same_front side limit kind len rest (Some fault) e = ap (λ (x : Option FrameFault). with_body (at_head x kind len rest)) e
+-- a head's five bytes, and what follows them
+pub record Heads (part : List ℕ) (kind len : ℕ) : Type 0 where
+  pub a : ℕ
+  pub b : ℕ
+  pub c : ℕ
+  pub d : ℕ
+  pub rest : List ℕ
+  pub is : part ≡ kind ∷ a ∷ b ∷ c ∷ d ∷ rest
+  pub number_is : len ≡ number a b c d
+
+pub heads : (part : List ℕ) (kind len : ℕ) → 5 ≤ length part → kind ≡ slice_index part 0 → len ≡ number (slice_index part 1) (slice_index part 2) (slice_index part 3) (slice_index part 4) → Heads part kind len
+heads (k ∷ a ∷ b ∷ c ∷ d ∷ rest) kind len h e n = record { a = a; b = b; c = c; d = d; rest = rest; is = ap (λ (x : ℕ). x ∷ a ∷ b ∷ c ∷ d ∷ rest) (sym e); number_is = n }
+heads [] kind len h e n = absurd (omega (arith, h))
+heads (_ ∷ []) kind len h e n = absurd (omega (arith, h))
+heads (_ ∷ _ ∷ []) kind len h e n = absurd (omega (arith, h))
+heads (_ ∷ _ ∷ _ ∷ []) kind len h e n = absurd (omega (arith, h))
+heads (_ ∷ _ ∷ _ ∷ _ ∷ []) kind len h e n = absurd (omega (arith, h))
+
+-- a head without fault
+record Lawful (side : Side) (limit kind len : ℕ) : Type 0 where
+  of_type : IsTrue (is_type side kind)
+  least : 4 ≤ len
+  most : len ≤ limit
+
+lawful_by : (side : Side) (limit kind len : ℕ) (t s l : Bool) → is_type side kind ≡ t → nat_lt len 4 ≡ s → nat_lt limit len ≡ l → (if t then (if s then Some TooShort else (if l then Some TooLong else None)) else Some UnknownType) ≡ None → Lawful side limit kind len
+lawful_by side limit kind len true false false a b c e = record { of_type = a; least = ltb-false len 4 b; most = ltb-false limit len c }
+lawful_by side limit kind len true false true a b c e = absurd cc
+lawful_by side limit kind len true true l a b c e = absurd cc
+lawful_by side limit kind len false s l a b c e = absurd cc
+
+lawful : (side : Side) (limit kind len : ℕ) → head_fault side limit kind len ≡ None → Lawful side limit kind len
+lawful side limit kind len e = lawful_by side limit kind len (is_type side kind) (nat_lt len 4) (nat_lt limit len) refl refl refl e
+
+-- ---- a whole frame from a border
+
+whole_spells : (side : Side) (limit k a b c d : ℕ) (rest : List ℕ) (len : ℕ) (status : Option ℕ) (foreign : Bool) → AreBytes (k ∷ a ∷ b ∷ c ∷ d ∷ rest) → Lawful side limit k len → len ≡ number a b c d → len + 1 ≤ length (k ∷ a ∷ b ∷ c ∷ d ∷ rest)
+    → status ≡ status_in (a_frame k (take (len + 1 - 5) rest)) → foreign ≡ is_foreign (a_frame k (take (len + 1 - 5) rest)) → Spells side limit (take (len + 1) (k ∷ a ∷ b ∷ c ∷ d ∷ rest)) k status foreign
+whole_spells side limit k a b c d rest len status foreign bytes x e w i j =
+    let low : 4 ≤ len = x.least in
+    let body : List ℕ = take (len + 1 - 5) rest in
+    let l : length body ≡ len + 1 - 5 = length-take-le (len + 1 - 5) rest (omega (arith, w)) in
+    let four : to_be_bytes w32 (4 + length body) ≡ a ∷ b ∷ c ∷ d ∷ [] = bytes-number (4 + length body) a b c d (omega (arith, l, low, e)) (bytes 1) (bytes 2) (bytes 3) (bytes 4) in
+    let n : len + 1 ≡ suc (suc (suc (suc (suc (len + 1 - 5))))) = omega (arith, low) in
+    record {
+      frame = a_frame k body;
+      is_frame = record { of_type = x.of_type; size = omega (arith, l, low, x.most) };
+      kind_is = refl;
+      status_is = λ _. i;
+      foreign_is = λ _. j;
+      spelled = ap (λ (m : ℕ). take m (k ∷ a ∷ b ∷ c ∷ d ∷ rest)) n ∙ ap (λ (t : List ℕ). k ∷ t ++ body) (sym four);
+    }
+
+whole_advances : (side : Side) (limit kind k a b c d : ℕ) (rest : List ℕ) (len : ℕ) (status : Option ℕ) (foreign : Bool) → AreBytes (k ∷ a ∷ b ∷ c ∷ d ∷ rest) → Lawful side limit k len → len ≡ number a b c d → len + 1 ≤ length (k ∷ a ∷ b ∷ c ∷ d ∷ rest)
+    → status ≡ status_in (a_frame k (take (len + 1 - 5) rest)) → foreign ≡ is_foreign (a_frame k (take (len + 1 - 5) rest)) → Advances side limit (k ∷ a ∷ b ∷ c ∷ d ∷ rest) kind 0 (advance (len + 1) k 0 status foreign)
+whole_advances side limit kind k a b c d rest len status foreign bytes x e w i j =
+    let s = whole_spells side limit k a b c d rest len status foreign bytes x e w i j in
+    record {
+      some = omega arith;
+      within = w;
+      at_once = λ s k f. refl;
+      opens = λ more tail o. absurd (omega (arith, more));
+      spells = λ e tail o. subst (λ (t : List ℕ). Spells side limit (t ++ take (len + 1) (k ∷ a ∷ b ∷ c ∷ d ∷ rest)) k status foreign) (sym (o.border refl)) s;
+    }
+
+pub whole_goes : (side : Side) (limit : ℕ) (part : List ℕ) (kind k len : ℕ) (status : Option ℕ) (foreign : Bool) (h : Heads part k len) → AreBytes part → head_fault side limit k len ≡ None → len + 1 ≤ length part
+    → status ≡ status_in (a_frame k (slice_range part 5 (len + 1))) → foreign ≡ is_foreign (a_frame k (slice_range part 5 (len + 1))) → Advances side limit part kind 0 (advance (len + 1) k 0 status foreign)
+whole_goes side limit part kind k len status foreign h bytes e w i j =
+    let P : List ℕ → Type 0 = λ p. AreBytes p → len + 1 ≤ length p → status ≡ status_in (a_frame k (slice_range p 5 (len + 1))) → foreign ≡ is_foreign (a_frame k (slice_range p 5 (len + 1))) → Advances side limit p kind 0 (advance (len + 1) k 0 status foreign) in
+    let all : P (k ∷ h.a ∷ h.b ∷ h.c ∷ h.d ∷ h.rest) = λ bytes w i j. whole_advances side limit kind k h.a h.b h.c h.d h.rest len status foreign bytes (lawful side limit k len e) h.number_is w i j in
+    subst P (sym h.is) all bytes w i j
+
+-- ---- an unfinished frame from a border
 
 record Lacking (side : Side) (limit kind len : ℕ) (rest : List ℕ) (m : ℕ) : Type 0 where
   of_type : IsTrue (is_type side kind)
@@ -178,31 +199,6 @@ record Lacking (side : Side) (limit kind len : ℕ) (rest : List ℕ) (m : ℕ) 
   most : len ≤ limit
   lacks : length rest + m ≡ len - 4
   some : 0 < m
-
-lack_in : Front → ℕ
-lack_in (Lacks n) = n
-lack_in (AFrame k body rest) = 0
-lack_in (Faulty f) = 0
-
-module _ (side : Side) (limit kind len : ℕ) (rest : List ℕ) (m : ℕ) where
-  lacking_by : (t s l w : Bool) → is_type side kind ≡ t → nat_lt len 4 ≡ s → nat_lt limit len ≡ l → nat_lt (length rest) (len - 4) ≡ w
-      → fronted kind len rest w (if t then (if s then Some TooShort else (if l then Some TooLong else None)) else Some UnknownType) ≡ Lacks m
-      → Lacking side limit kind len rest m
-  unfolding lack_in
-  lacking_by true false false true a b c d e =
-      let x : len - 4 - length rest ≡ m = ap lack_in e in
-      let h : length rest < len - 4 = ltb-true (length rest) (len - 4) d in
-      record { of_type = a; least = ltb-false len 4 b; most = ltb-false limit len c; lacks = omega (arith, x, h); some = omega (arith, x, h) }
-  lacking_by true false false false a b c d e = absurd cc
-  lacking_by true false true w a b c d e = absurd cc
-  lacking_by true true l w a b c d e = absurd cc
-  lacking_by false s l w a b c d e = absurd cc
-
-  lacking_from : fronted kind len rest (nat_lt (length rest) (len - 4)) (head_fault side limit kind len) ≡ Lacks m → Lacking side limit kind len rest m
-  lacking_from e = lacking_by (is_type side kind) (nat_lt len 4) (nat_lt limit len) (nat_lt (length rest) (len - 4)) refl refl refl refl e
-
-  lacking : headed side limit kind len rest ≡ Lacks m → Lacking side limit kind len rest m
-  lacking e = lacking_from (sym (same_front side limit kind len rest _ refl) ∙ e)
 
 head_advances : (side : Side) (limit kind k a b c d : ℕ) (rest : List ℕ) (m : ℕ) → AreBytes (k ∷ a ∷ b ∷ c ∷ d ∷ rest) → Lacking side limit k (number a b c d) rest m → goes_whole side k (4 + (length rest + m)) ≡ false
     → Advances side limit (k ∷ a ∷ b ∷ c ∷ d ∷ rest) kind 0 (advance (length (k ∷ a ∷ b ∷ c ∷ d ∷ rest)) k m None false)
@@ -228,22 +224,22 @@ head_advances side limit kind k a b c d rest m bytes x g =
       spells = λ e tail o. absurd (omega (arith, e, x.some));
     }
 
-pub part_advances : (side : Side) (limit kind m : ℕ) (part : List ℕ) → AreBytes part → front side limit part ≡ Lacks m → 5 ≤ length part → goes_whole side (get_or part 0 0) (length part - 1 + m) ≡ false
-    → Advances side limit part kind 0 (advance (length part) (get_or part 0 0) m None false)
-part_advances side limit kind m (k ∷ a ∷ b ∷ c ∷ d ∷ rest) bytes e h g =
-    let n : length (k ∷ a ∷ b ∷ c ∷ d ∷ rest) - 1 + m ≡ 4 + (length rest + m) = omega arith in
-    head_advances side limit kind k a b c d rest m bytes (lacking side limit k (number a b c d) rest m e) (ap (goes_whole side k) (sym n) ∙ g)
-part_advances side limit kind m [] bytes e h g = absurd (omega arith)
-part_advances side limit kind m (_ ∷ []) bytes e h g = absurd (omega arith)
-part_advances side limit kind m (_ ∷ _ ∷ []) bytes e h g = absurd (omega arith)
-part_advances side limit kind m (_ ∷ _ ∷ _ ∷ []) bytes e h g = absurd (omega arith)
-part_advances side limit kind m (_ ∷ _ ∷ _ ∷ _ ∷ []) bytes e h g = absurd (omega arith)
-
--- what `Need` tells
-pub needed : (side : Side) (limit n : ℕ) (part : List ℕ) (f : Front) → Tells (Need n) part f → f ≡ Lacks n
-needed side limit n part (Lacks m) t = ap Lacks (sym t.0)
-needed side limit n part (AFrame k body rest) t = absurd t
-needed side limit n part (Faulty x) t = absurd t
+pub part_goes : (side : Side) (limit : ℕ) (part : List ℕ) (kind k len : ℕ) (h : Heads part k len) → AreBytes part → head_fault side limit k len ≡ None → length part < len + 1 → goes_whole side k (len + 1 - 1) ≡ false → Advances side limit part kind 0 (advance (length part) k (len + 1 - length part) None false)
+part_goes side limit part kind k len h bytes e short g =
+    let P : List ℕ → Type 0 = λ p. AreBytes p → length p < len + 1 → Advances side limit p kind 0 (advance (length p) k (len + 1 - length p) None false) in
+    let all : P (k ∷ h.a ∷ h.b ∷ h.c ∷ h.d ∷ h.rest) = λ bytes short.
+    let m : ℕ = len + 1 - length (k ∷ h.a ∷ h.b ∷ h.c ∷ h.d ∷ h.rest) in
+    let x = lawful side limit k len e in
+    let low : 4 ≤ len = x.least in
+    let n : len + 1 - 1 ≡ 4 + (length h.rest + m) = omega (arith, short, low) in
+    head_advances side limit kind k h.a h.b h.c h.d h.rest m bytes (record {
+      of_type = x.of_type;
+      least = omega (arith, low, h.number_is);
+      most = omega (arith, x.most, h.number_is);
+      lacks = omega (arith, short, low, h.number_is);
+      some = omega (arith, short);
+    }) (ap (goes_whole side k) (sym n) ∙ g) in
+    subst P (sym h.is) all bytes short
 
 -- ---- no whole frame stands at the front of one that went on in part
 

@@ -269,6 +269,7 @@ impl Flow {
     }
 
     /// From a frame's border.
+    #[inline(always)]
     fn next_head(&self) -> Ahead
         requires { self.now.rest ≡ 0 }
         ensures { IsAhead self.now result }
@@ -287,6 +288,7 @@ impl Flow {
     }
 
     /// From inside a frame.
+    #[inline(always)]
     fn next_body(&self) -> Ahead
         requires { 0 < self.now.rest }
         ensures { IsAhead self.now result }
@@ -299,6 +301,7 @@ impl Flow {
     }
 
     /// What stands next.
+    #[inline(always)]
     fn next(&self) -> Ahead
         ensures ahead { IsAhead self.now result }
         ensures bytes { AreBytes self.now.part }
@@ -311,6 +314,7 @@ impl Flow {
     }
 
     /// Lets bytes of one frame go on, as many as may, and tells of them. None where none may; it says then what stands next.
+    #[inline(always)]
     pub fn pass_some(&mut self) -> Option<Passed>
         requires { is_open self.old.ends ≡ true }
         ensures { MatchOption result (Stays self.old self.new) (Passes self.old self.new) }

@@ -3,12 +3,14 @@
 //! A frame goes on from its fifth byte on, when its head is known to be lawful (PostgreSQL manual, "Message Formats").
 //! A server's ReadyForQuery and ParameterStatus go on only whole, since what they say is read.
 
-ghost use Rattle.std.specs.Prelude.{◌≡◌, ◌<◌, ◌≤◌, ◌^◌, true, IfSome};
+ghost use Rattle.std.specs.Prelude.{◌≡◌, ◌<◌, ◌≤◌, length, slice_index, IfSome};
+ghost use Rattle.frame_view.specs.Frames.{number};
 ghost use Rattle.relay_flow.specs.Parts.{goes_whole, status_in, is_foreign, is_foreign_in_parts, GoesOn, GoesOnInside};
 
-use frame_view::laws::{are_bytes, front_grows, front_is_spelled};
+use byteorder::{BigEndian, ByteOrder};
+use frame_view::laws::are_bytes;
 use frame_view::server::{PARAMETER_STATUS, READY_FOR_QUERY};
-use frame_view::{Frame, FrameFault, Side, Step, next_frame};
+use frame_view::{FrameFault, Head, Side, head_fault};
 
 /// How far a cursor goes: over `count` bytes of one frame.
 #[derive(Clone, Copy, Drop)]
@@ -46,24 +48,24 @@ fn goes_on_whole(side: Side, kind: u8, length: usize) -> bool
 }
 
 /// The status that a ReadyForQuery tells.
-fn status_of(frame: Frame<'_>) -> Option<u8>
-    ensures { result ≡ status_in (record { kind = frame.entry.kind; body = frame.entry.body.now }) }
+fn status_of(kind: u8, body: &[u8]) -> Option<u8>
+    ensures { result ≡ status_in (record { kind = kind; body = body.now }) }
 {
-    if frame.kind != READY_FOR_QUERY {
+    if kind != READY_FOR_QUERY {
         return None;
     }
-    match frame.body {
+    match body {
         [status] => Some(*status),
         _ => None,
     }
 }
 
 /// Whether it is a server's frame that no session sends.
-fn is_foreign(frame: Frame<'_>) -> bool
-    ensures { result ≡ is_foreign (record { kind = frame.entry.kind; body = frame.entry.body.now }) }
+fn is_foreign(kind: u8, body: &[u8]) -> bool
+    ensures { result ≡ is_foreign (record { kind = kind; body = body.now }) }
 {
-    (frame.kind == READY_FOR_QUERY && frame.body.len() != 1)
-        || (frame.kind == PARAMETER_STATUS && frame.body.len() > LONGEST_STATUS)
+    (kind == READY_FOR_QUERY && body.len() != 1)
+        || (kind == PARAMETER_STATUS && body.len() > LONGEST_STATUS)
 }
 
 /// The same of a frame that goes on in parts: none of these is whole at once.
@@ -78,6 +80,7 @@ fn is_foreign_in_parts(side: Side, kind: u8) -> bool
 
 /// From inside a frame of this type of which `rest` bytes are to come: over those that are there, up to its end. None where
 /// none is there.
+#[inline(always)]
 pub fn body_next(part: &[u8], kind: u8, rest: usize, side: Side, limit: u32) -> Option<Advance>
     requires { 0 < rest }
     ensures goes_on { GoesOnInside side limit part.now kind rest result }
@@ -96,8 +99,21 @@ pub fn body_next(part: &[u8], kind: u8, rest: usize, side: Side, limit: u32) -> 
     })
 }
 
+/// The head that stands at the front.
+fn head_in(part: &[u8]) -> Head
+    requires { HEAD ≤ length part.now }
+    ensures kind { result.kind ≡ slice_index part.now 0 }
+    ensures length { result.length ≡ number (slice_index part.now 1) (slice_index part.now 2) (slice_index part.now 3) (slice_index part.now 4) }
+{
+    Head {
+        kind: part[0],
+        length: BigEndian::read_u32(&part[1..]),
+    }
+}
+
 /// From a frame's border: over the whole frame, or over the beginning of one that goes on in parts. None where its head
 /// isn't there yet, or it goes on only whole and isn't yet. The fault where no lawful frame under the limit stands next.
+#[inline(always)]
 pub fn head_next(
     part: &[u8],
     kind: u8,
@@ -107,33 +123,33 @@ pub fn head_next(
     requires { 4 ≤ limit }
     ensures { GoesOn side limit part.now kind result }
 {
-    front_grows();
-    front_is_spelled();
     are_bytes(part);
-    match next_frame(part, 0, limit, side) {
-        Step::Whole(frame) => Ok(Some(Advance {
-            count: frame.whole.len(),
-            kind: frame.kind,
-            rest: 0,
-            status: status_of(frame),
-            is_foreign: is_foreign(frame),
-        })),
-        Step::Need(missing) => {
-            if part.len() < HEAD {
-                return Ok(None);
-            }
-            let length = part.len() - 1 + missing;
-            if goes_on_whole(side, part[0], length) {
-                return Ok(None);
-            }
-            Ok(Some(Advance {
-                count: part.len(),
-                kind: part[0],
-                rest: missing,
-                status: None,
-                is_foreign: false,
-            }))
-        }
-        Step::Bad(fault) => Err(fault),
+    if part.len() < HEAD {
+        return Ok(None);
     }
+    let head = head_in(part);
+    if let Some(fault) = head_fault(head.kind, head.length, limit, side) {
+        return Err(fault);
+    }
+    let end = head.length as usize + 1;
+    if end <= part.len() {
+        let body = &part[HEAD..end];
+        return Ok(Some(Advance {
+            count: end,
+            kind: head.kind,
+            rest: 0,
+            status: status_of(head.kind, body),
+            is_foreign: is_foreign(head.kind, body),
+        }));
+    }
+    if goes_on_whole(side, head.kind, end - 1) {
+        return Ok(None);
+    }
+    Ok(Some(Advance {
+        count: part.len(),
+        kind: head.kind,
+        rest: end - part.len(),
+        status: None,
+        is_foreign: false,
+    }))
 }

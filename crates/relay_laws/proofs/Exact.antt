@@ -13,7 +13,7 @@ use Rattle.session_run_laws.proofs.Service.{service_unmarked}
 use Rattle.session_values.specs.State.{CatalogueOf, StartKeyOf}
 use Rattle.session_values.specs.Service.{service}
 use Rattle.relay_flow.proofs.Parting.{opens_stops}
-use Rattle.relay_laws.specs.Leases.{RelayView, Place, IsLease, IsForwarded, IsExact, IsAllowed}
+use Rattle.relay_laws.specs.Leases.{RelayView, Place, IsLease, IsForwarded, IsRelayExact, IsAllowed}
 
 pub all-sent : (limit : ℕ) (fs : List FrameOf) → AllByRecursion (IsForwarded limit) fs → AllByRecursion IsSent fs
 all-sent limit [] h = tt
@@ -47,7 +47,7 @@ under_way p v x f =
       out = x.comes.out ∙ ap (λ (g : List ℕ). g ++ x.received) (x.greets f c.session c.is_fresh);
     }
 
-equation : (p : Place) (v : RelayView) (x : IsLease p v) → p.stands.follows ≡ true → v.link.lives ≡ true → lease.IsExact (lease_of p v x)
+equation : (p : Place) (v : RelayView) (x : IsLease p v) → p.stands.follows ≡ true → v.link.lives ≡ true → lease.IsRelayExact (lease_of p v x)
 unfolding lease_of
 equation p v x f n = leases_are_exact (lease_of p v x) (under_way p v x f) f n
 
@@ -55,7 +55,7 @@ front_of : (p : Place) (v : RelayView) (x : IsLease p v) → p.stands.follows �
 unfolding lease_of
 front_of p v x f = leases_are_fronts (lease_of p v x) (under_way p v x f) f
 
-pub lease_exact : (p : Place) (v : RelayView) → IsLease p v → v.client.tells ≡ true → v.link.follows ≡ true → v.link.lives ≡ true → IsExact p v
+pub lease_exact : (p : Place) (v : RelayView) → IsLease p v → v.client.tells ≡ true → v.link.follows ≡ true → v.link.lives ≡ true → IsRelayExact p v
 unfolding lease_of
 lease_exact p v x t f l = record {
   forwarded = x.forwarded;
@@ -93,5 +93,5 @@ pub spared_service : (p : Place) (v : RelayView) → IsLease p v → p.stands.fo
 spared_service p v x f e cat key pid secret bytes = service_unmarked cat key pid secret (marks_since p.stands v.link) bytes (spared_are_unstruck p.stands v.link x.sent x.received x.moves f e)
 
 -- with what held when it began
-pub lease_turn : (p : Place) (v : RelayView) → IsLease p v → p.told ≡ true → p.stands.follows ≡ true → (v.client.tells ≡ true → v.link.follows ≡ true → v.link.lives ≡ true → IsExact p v) → v.link.lives ≡ true → IsExact p v
+pub lease_turn : (p : Place) (v : RelayView) → IsLease p v → p.told ≡ true → p.stands.follows ≡ true → (v.client.tells ≡ true → v.link.follows ≡ true → v.link.lives ≡ true → IsRelayExact p v) → v.link.lives ≡ true → IsRelayExact p v
 lease_turn p v x t f e l = e (x.told ∙ t) (x.moves.follows ∙ f) l

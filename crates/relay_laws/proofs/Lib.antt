@@ -1,5 +1,6 @@
 pub mod Settling
 pub mod Flowing
+pub mod Sides
 pub mod Moving
 pub mod Passing
 pub mod Beginning

@@ -20,6 +20,7 @@ use Rattle.relay_laws.specs.declared.Phase.{Phase}
 use Rattle.relay_flow.specs.Flows.{FlowView, SameCursor, came, count_of, Fills, IsPositive, is_open}
 use Rattle.relay_laws.specs.Leases.{relay_view, Place, IsLease, IsClientOver, IsLinkOver, is_end, is_fault, counts, link_moved, client_read, client_wrote}
 use Rattle.relay_laws.proofs.Flowing.{at_end, flow_open, flow_same, same_opens, same_went}
+use Rattle.relay_laws.proofs.Sides.{link_side, client_side}
 
 -- ---- what the ends answered
 
@@ -100,60 +101,26 @@ positive_of Fault n w = tt
 pub lease_room_link : (p : Place) (cf : ClientFacts) (l : Standing) (k : StartKeyOf) (n : ℕ) (b : ℕ) (sk : Option KeyView) (w : KeyWord) (gr : List ℕ) (tl : FlowView) (tm : FlowView) (tc : FlowView) (t : Told) (fs : Flags) (ph : Phase)
     → tm.held ≡ tl.held → tm.part ≡ tl.part → SameCursor tl tm
     → IsLease p (relay_view cf l k n b sk w gr tl tc t fs ph) → IsLease p (relay_view cf l k n b sk w gr tm tc t fs ph)
-lease_room_link p cf l k n b sk w gr tl tm tc t fs ph h e s x = record {
-  sent = x.sent;
-  received = x.received;
-  since = x.since;
-  forwarded = x.forwarded;
-  arrived = x.arrived;
-  tail = x.tail;
-  front = x.front;
-  clean = x.clean;
-  greets = x.greets;
-  same = (x.same.0, x.same.1, x.same.2, x.same.3, s.limit ∙ x.same.4, x.same.5, x.same.6);
-  told = x.told;
-  moves = x.moves;
-  goes = record {
-    flow = flow_same Client tl tm s e x.goes.flow;
-    opens = same_opens x.tail tl tm s x.goes.opens;
-    tail_bytes = x.goes.tail_bytes;
-    went = same_went x.forwarded tl.limit tm.limit s.limit x.goes.went;
-    on_way = rw h x.goes.on_way;
-    taken = λ z. rw e (x.goes.taken z);
-  };
-  comes = x.comes;
-  tally = x.tally;
-  says = x.says;
-}
+lease_room_link p cf l k n b sk w gr tl tm tc t fs ph h e s x = link_side p cf l k n b sk w gr tl tc t fs ph x tm t x.forwarded x.tail s.limit (record {
+  flow = flow_same Client tl tm s e x.goes.flow;
+  opens = same_opens x.tail tl tm s x.goes.opens;
+  tail_bytes = x.goes.tail_bytes;
+  went = same_went x.forwarded tl.limit tm.limit s.limit x.goes.went;
+  on_way = rw h x.goes.on_way;
+  taken = λ z. rw e (x.goes.taken z);
+}) x.tally
 
 pub lease_room_client : (p : Place) (cf : ClientFacts) (l : Standing) (k : StartKeyOf) (n : ℕ) (b : ℕ) (sk : Option KeyView) (w : KeyWord) (gr : List ℕ) (tl : FlowView) (tc : FlowView) (td : FlowView) (t : Told) (fs : Flags) (ph : Phase)
     → td.held ≡ tc.held → td.part ≡ tc.part → SameCursor tc td
     → IsLease p (relay_view cf l k n b sk w gr tl tc t fs ph) → IsLease p (relay_view cf l k n b sk w gr tl td t fs ph)
-lease_room_client p cf l k n b sk w gr tl tc td t fs ph h e s x = record {
-  sent = x.sent;
-  received = x.received;
-  since = x.since;
-  forwarded = x.forwarded;
-  arrived = x.arrived;
-  tail = x.tail;
-  front = x.front;
-  clean = x.clean;
-  greets = x.greets;
-  same = (x.same.0, x.same.1, x.same.2, x.same.3, x.same.4, s.limit ∙ x.same.5, x.same.6);
-  told = x.told;
-  moves = x.moves;
-  goes = x.goes;
-  comes = record {
-    flow = flow_same Server tc td s e x.comes.flow;
-    opens = same_opens x.front tc td s x.comes.opens;
-    came = x.comes.came;
-    given = x.comes.given;
-    out = rw (h, e) x.comes.out;
-    whole = rw e x.comes.whole;
-  };
-  tally = x.tally;
-  says = x.says;
-}
+lease_room_client p cf l k n b sk w gr tl tc td t fs ph h e s x = client_side p cf l k n b sk w gr tl tc t fs ph x td t x.arrived x.front s.limit (record {
+  flow = flow_same Server tc td s e x.comes.flow;
+  opens = same_opens x.front tc td s x.comes.opens;
+  came = x.comes.came;
+  given = x.comes.given;
+  out = rw (h, e) x.comes.out;
+  whole = rw e x.comes.whole;
+}) x.tally
 
 pub lease_read_link : (p : Place) (cf : ClientFacts) (l : Standing) (m : Standing) (k : StartKeyOf) (n : ℕ) (b : ℕ) (sk : Option KeyView) (w : KeyWord) (gr : List ℕ) (tl : FlowView) (tc : FlowView) (td : FlowView) (t : Told) (fs : Flags) (fz : Flags) (ph : Phase) (r : Moved)
     → is_open tc.ends ≡ true → IsPositive r → Fills tc td r → Moves l [] m (came tc td) → CountsRead l m r → fz ≡ link_moved fs r

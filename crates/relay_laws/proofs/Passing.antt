@@ -31,6 +31,7 @@ use Rattle.relay_laws.specs.declared.Phase.{Phase}
 use Rattle.relay_flow.specs.Flows.{FlowView, Passes, Stays, is_open, last_body}
 use Rattle.relay_laws.specs.Leases.{RelayView, relay_view, Place, IsLease, IsForwarded}
 use Rattle.relay_laws.proofs.Flowing.{flow_open, flow_stays, no_opens, same_went, stay_opens}
+use Rattle.relay_laws.proofs.Sides.{link_side, client_side}
 
 -- ---- the frames that went on
 
@@ -119,180 +120,78 @@ more_frames fs f = flat_map-append spelling fs (f ∷ []) ∙ ap (λ (b : List �
 pub lease_stays_link : (p : Place) (cf : ClientFacts) (l : Standing) (k : StartKeyOf) (n : ℕ) (b : ℕ) (sk : Option KeyView) (w : KeyWord) (gr : List ℕ) (tl : FlowView) (tm : FlowView) (tc : FlowView) (t : Told) (fs : Flags) (ph : Phase)
     → Stays tl tm
     → IsLease p (relay_view cf l k n b sk w gr tl tc t fs ph) → IsLease p (relay_view cf l k n b sk w gr tm tc t fs ph)
-lease_stays_link p cf l k n b sk w gr tl tm tc t fs ph y x = record {
-  sent = x.sent;
-  received = x.received;
-  since = x.since;
-  forwarded = x.forwarded;
-  arrived = x.arrived;
-  tail = x.tail;
-  front = x.front;
-  clean = x.clean;
-  greets = x.greets;
-  same = (x.same.0, x.same.1, x.same.2, x.same.3, y.limit ∙ x.same.4, x.same.5, x.same.6);
-  told = x.told;
-  moves = x.moves;
-  goes = record {
-    flow = flow_stays Client tl tm y x.goes.flow;
-    opens = stay_opens x.tail tl tm y x.goes.opens;
-    tail_bytes = x.goes.tail_bytes;
-    went = same_went x.forwarded tl.limit tm.limit y.limit x.goes.went;
-    on_way = rw y.held x.goes.on_way;
-    taken = λ z. rw y.part (x.goes.taken z);
-  };
-  comes = x.comes;
-  tally = x.tally;
-  says = x.says;
-}
+lease_stays_link p cf l k n b sk w gr tl tm tc t fs ph y x = link_side p cf l k n b sk w gr tl tc t fs ph x tm t x.forwarded x.tail y.limit (record {
+  flow = flow_stays Client tl tm y x.goes.flow;
+  opens = stay_opens x.tail tl tm y x.goes.opens;
+  tail_bytes = x.goes.tail_bytes;
+  went = same_went x.forwarded tl.limit tm.limit y.limit x.goes.went;
+  on_way = rw y.held x.goes.on_way;
+  taken = λ z. rw y.part (x.goes.taken z);
+}) x.tally
 
 pub lease_stays_client : (p : Place) (cf : ClientFacts) (l : Standing) (k : StartKeyOf) (n : ℕ) (b : ℕ) (sk : Option KeyView) (w : KeyWord) (gr : List ℕ) (tl : FlowView) (tc : FlowView) (td : FlowView) (t : Told) (fs : Flags) (ph : Phase)
     → Stays tc td
     → IsLease p (relay_view cf l k n b sk w gr tl tc t fs ph) → IsLease p (relay_view cf l k n b sk w gr tl td t fs ph)
-lease_stays_client p cf l k n b sk w gr tl tc td t fs ph y x = record {
-  sent = x.sent;
-  received = x.received;
-  since = x.since;
-  forwarded = x.forwarded;
-  arrived = x.arrived;
-  tail = x.tail;
-  front = x.front;
-  clean = x.clean;
-  greets = x.greets;
-  same = (x.same.0, x.same.1, x.same.2, x.same.3, x.same.4, y.limit ∙ x.same.5, x.same.6);
-  told = x.told;
-  moves = x.moves;
-  goes = x.goes;
-  comes = record {
-    flow = flow_stays Server tc td y x.comes.flow;
-    opens = stay_opens x.front tc td y x.comes.opens;
-    came = x.comes.came;
-    given = x.comes.given;
-    out = rw (y.held, y.part) x.comes.out;
-    whole = rw y.part x.comes.whole;
-  };
-  tally = x.tally;
-  says = x.says;
-}
+lease_stays_client p cf l k n b sk w gr tl tc td t fs ph y x = client_side p cf l k n b sk w gr tl tc t fs ph x td t x.arrived x.front y.limit (record {
+  flow = flow_stays Server tc td y x.comes.flow;
+  opens = stay_opens x.front tc td y x.comes.opens;
+  came = x.comes.came;
+  given = x.comes.given;
+  out = rw (y.held, y.part) x.comes.out;
+  whole = rw y.part x.comes.whole;
+}) x.tally
 
 pub lease_part_link : (p : Place) (cf : ClientFacts) (l : Standing) (k : StartKeyOf) (n : ℕ) (b : ℕ) (sk : Option KeyView) (w : KeyWord) (gr : List ℕ) (tl : FlowView) (tm : FlowView) (tc : FlowView) (t : Told) (fs : Flags) (ph : Phase) (ps : Passed)
     → is_open tl.ends ≡ true → Passes tl tm ps → ps.whole ≡ false
     → IsLease p (relay_view cf l k n b sk w gr tl tc t fs ph) → IsLease p (relay_view cf l k n b sk w gr tm tc t fs ph)
-lease_part_link p cf l k n b sk w gr tl tm tc t fs ph ps o y h x = record {
-  sent = x.sent;
-  received = x.received;
-  since = x.since;
-  forwarded = x.forwarded;
-  arrived = x.arrived;
-  tail = x.tail ++ y.bytes;
-  front = x.front;
-  clean = x.clean;
-  greets = x.greets;
-  same = (x.same.0, x.same.1, x.same.2, x.same.3, y.limit ∙ x.same.4, x.same.5, x.same.6);
-  told = x.told;
-  moves = x.moves;
-  goes = record {
-    flow = flow_open Client tl tm y.side y.limit y.ends o x.goes.flow;
-    opens = rw (y.side, y.limit) (y.opens h x.tail x.goes.opens);
-    tail_bytes = bytes_both x.tail y.bytes x.goes.tail_bytes y.are_bytes;
-    went = same_went x.forwarded tl.limit tm.limit y.limit x.goes.went;
-    on_way = cc (x.goes.on_way, y.held, append_assoc x.sent tl.held y.bytes, append_assoc (flat_map spelling x.forwarded) x.tail y.bytes);
-    taken = λ z. cc (x.goes.taken z, y.part, append_assoc x.tail y.bytes tm.part);
-  };
-  comes = x.comes;
-  tally = x.tally;
-  says = x.says;
-}
+lease_part_link p cf l k n b sk w gr tl tm tc t fs ph ps o y h x = link_side p cf l k n b sk w gr tl tc t fs ph x tm t x.forwarded (x.tail ++ y.bytes) y.limit (record {
+  flow = flow_open Client tl tm y.side y.limit y.ends o x.goes.flow;
+  opens = rw (y.side, y.limit) (y.opens h x.tail x.goes.opens);
+  tail_bytes = bytes_both x.tail y.bytes x.goes.tail_bytes y.are_bytes;
+  went = same_went x.forwarded tl.limit tm.limit y.limit x.goes.went;
+  on_way = cc (x.goes.on_way, y.held, append_assoc x.sent tl.held y.bytes, append_assoc (flat_map spelling x.forwarded) x.tail y.bytes);
+  taken = λ z. cc (x.goes.taken z, y.part, append_assoc x.tail y.bytes tm.part);
+}) x.tally
 
 pub lease_whole_link : (p : Place) (cf : ClientFacts) (l : Standing) (k : StartKeyOf) (n : ℕ) (b : ℕ) (sk : Option KeyView) (w : KeyWord) (gr : List ℕ) (tl : FlowView) (tm : FlowView) (tc : FlowView) (t : Told) (u : Told) (fs : Flags) (ph : Phase) (ps : Passed)
     → CallsTell → is_open tl.ends ≡ true → Passes tl tm ps → ps.whole ≡ true → u.tally ≡ told_sent ps.kind t.tally → u.reports ≡ t.reports
     → IsLease p (relay_view cf l k n b sk w gr tl tc t fs ph) → IsLease p (relay_view cf l k n b sk w gr tm tc u fs ph)
 lease_whole_link p cf l k n b sk w gr tl tm tc t u fs ph ps law o y h e r x =
     let s : Spells tl.side tl.limit (x.tail ++ y.bytes) ps.kind ps.status ps.is_foreign = y.spells h x.tail x.goes.opens in
-    record {
-      sent = x.sent;
-      received = x.received;
-      since = x.since;
-      forwarded = x.forwarded ++ s.frame ∷ [];
-      arrived = x.arrived;
-      tail = [];
-      front = x.front;
-      clean = x.clean;
-      greets = x.greets;
-      same = (x.same.0, x.same.1, x.same.2, x.same.3, y.limit ∙ x.same.4, x.same.5, x.same.6);
-      told = x.told;
-      moves = x.moves;
-      goes = record {
-        flow = flow_open Client tl tm y.side y.limit y.ends o x.goes.flow;
-        opens = no_opens tm (y.border h);
-        tail_bytes = λ i. omega arith;
-        went = all-append (IsForwarded tm.limit) x.forwarded (s.frame ∷ []) (same_went x.forwarded tl.limit tm.limit y.limit x.goes.went) (forwarded tl.limit tm.limit tl.side (x.tail ++ y.bytes) ps.kind ps.status ps.is_foreign s x.goes.flow.side_is y.limit x.goes.flow.high (bytes_both x.tail y.bytes x.goes.tail_bytes y.are_bytes) y.goes_on, tt);
-        on_way = cc (x.goes.on_way, y.held, append_assoc x.sent tl.held y.bytes, append_assoc (flat_map spelling x.forwarded) x.tail y.bytes, s.spelled, more_frames x.forwarded s.frame, append-nil (flat_map spelling (x.forwarded ++ s.frame ∷ [])));
-        taken = λ z. cc (x.goes.taken z, y.part, append_assoc x.tail y.bytes tm.part, append_assoc (flat_map spelling x.forwarded) (spelling s.frame) tm.part, s.spelled, more_frames x.forwarded s.frame);
-      };
-      comes = x.comes;
-      tally = tells_sent p.reports t u ps.kind s.frame x.forwarded x.arrived law e r s.kind_is x.tally;
-      says = x.says;
-    }
+    link_side p cf l k n b sk w gr tl tc t fs ph x tm u (x.forwarded ++ s.frame ∷ []) [] y.limit (record {
+      flow = flow_open Client tl tm y.side y.limit y.ends o x.goes.flow;
+      opens = no_opens tm (y.border h);
+      tail_bytes = λ i. omega arith;
+      went = all-append (IsForwarded tm.limit) x.forwarded (s.frame ∷ []) (same_went x.forwarded tl.limit tm.limit y.limit x.goes.went) (forwarded tl.limit tm.limit tl.side (x.tail ++ y.bytes) ps.kind ps.status ps.is_foreign s x.goes.flow.side_is y.limit x.goes.flow.high (bytes_both x.tail y.bytes x.goes.tail_bytes y.are_bytes) y.goes_on, tt);
+      on_way = cc (x.goes.on_way, y.held, append_assoc x.sent tl.held y.bytes, append_assoc (flat_map spelling x.forwarded) x.tail y.bytes, s.spelled, more_frames x.forwarded s.frame, append-nil (flat_map spelling (x.forwarded ++ s.frame ∷ [])));
+      taken = λ z. cc (x.goes.taken z, y.part, append_assoc x.tail y.bytes tm.part, append_assoc (flat_map spelling x.forwarded) (spelling s.frame) tm.part, s.spelled, more_frames x.forwarded s.frame);
+    }) (tells_sent p.reports t u ps.kind s.frame x.forwarded x.arrived law e r s.kind_is x.tally)
 
 pub lease_part_client : (p : Place) (cf : ClientFacts) (l : Standing) (k : StartKeyOf) (n : ℕ) (b : ℕ) (sk : Option KeyView) (w : KeyWord) (gr : List ℕ) (tl : FlowView) (tc : FlowView) (td : FlowView) (t : Told) (fs : Flags) (ph : Phase) (ps : Passed)
     → is_open tc.ends ≡ true → Passes tc td ps → ps.whole ≡ false
     → IsLease p (relay_view cf l k n b sk w gr tl tc t fs ph) → IsLease p (relay_view cf l k n b sk w gr tl td t fs ph)
-lease_part_client p cf l k n b sk w gr tl tc td t fs ph ps o y h x = record {
-  sent = x.sent;
-  received = x.received;
-  since = x.since;
-  forwarded = x.forwarded;
-  arrived = x.arrived;
-  tail = x.tail;
-  front = x.front ++ y.bytes;
-  clean = x.clean;
-  greets = x.greets;
-  same = (x.same.0, x.same.1, x.same.2, x.same.3, x.same.4, y.limit ∙ x.same.5, x.same.6);
-  told = x.told;
-  moves = x.moves;
-  goes = x.goes;
-  comes = record {
-    flow = flow_open Server tc td y.side y.limit y.ends o x.comes.flow;
-    opens = rw (y.side, y.limit) (y.opens h x.front x.comes.opens);
-    came = x.comes.came;
-    given = x.comes.given;
-    out = cc (x.comes.out, y.held, y.part, append_assoc tc.held y.bytes td.part);
-    whole = cc (x.comes.whole, y.part, append_assoc x.front y.bytes td.part);
-  };
-  tally = x.tally;
-  says = x.says;
-}
+lease_part_client p cf l k n b sk w gr tl tc td t fs ph ps o y h x = client_side p cf l k n b sk w gr tl tc t fs ph x td t x.arrived (x.front ++ y.bytes) y.limit (record {
+  flow = flow_open Server tc td y.side y.limit y.ends o x.comes.flow;
+  opens = rw (y.side, y.limit) (y.opens h x.front x.comes.opens);
+  came = x.comes.came;
+  given = x.comes.given;
+  out = cc (x.comes.out, y.held, y.part, append_assoc tc.held y.bytes td.part);
+  whole = cc (x.comes.whole, y.part, append_assoc x.front y.bytes td.part);
+}) x.tally
 
 pub lease_whole_client : (p : Place) (cf : ClientFacts) (l : Standing) (k : StartKeyOf) (n : ℕ) (b : ℕ) (sk : Option KeyView) (w : KeyWord) (gr : List ℕ) (tl : FlowView) (tc : FlowView) (td : FlowView) (t : Told) (u : Told) (fs : Flags) (ph : Phase) (ps : Passed) (own : Bool)
     → CallsTell → is_open tc.ends ≡ true → Passes tc td ps → ps.whole ≡ true → u.tally ≡ told_arrived ps own t.tally → IsRead t.reports u.reports own td ps
     → IsLease p (relay_view cf l k n b sk w gr tl tc t fs ph) → IsLease p (relay_view cf l k n b sk w gr tl td u fs ph)
 lease_whole_client p cf l k n b sk w gr tl tc td t u fs ph ps own law o y h e r x =
     let s : Spells tc.side tc.limit (x.front ++ y.bytes) ps.kind ps.status ps.is_foreign = y.spells h x.front x.comes.opens in
-    record {
-      sent = x.sent;
-      received = x.received;
-      since = x.since;
-      forwarded = x.forwarded;
-      arrived = x.arrived ++ s.frame ∷ [];
-      tail = x.tail;
-      front = [];
-      clean = x.clean;
-      greets = x.greets;
-      same = (x.same.0, x.same.1, x.same.2, x.same.3, x.same.4, y.limit ∙ x.same.5, x.same.6);
-      told = x.told;
-      moves = x.moves;
-      goes = x.goes;
-      comes = record {
-        flow = flow_open Server tc td y.side y.limit y.ends o x.comes.flow;
-        opens = no_opens td (y.border h);
-        came = all-append (IsFrame Server LONGEST_FRAME) x.arrived (s.frame ∷ []) x.comes.came (arrived tc.limit tc.side (x.front ++ y.bytes) ps.kind ps.status ps.is_foreign s x.comes.flow.side_is x.comes.flow.high, tt);
-        given = x.comes.given;
-        out = cc (x.comes.out, y.held, y.part, append_assoc tc.held y.bytes td.part);
-        whole = cc (x.comes.whole, y.part, append_assoc x.front y.bytes td.part, append_assoc (flat_map spelling x.arrived) (spelling s.frame) td.part, s.spelled, more_frames x.arrived s.frame);
-      };
-      tally = tells_arrived p.reports t u ps own s.frame x.forwarded x.arrived law (arrives_by t u tc td ps own x.front y s x.comes.flow.side_is x.comes.opens e r) x.tally;
-      says = x.says;
-    }
+    client_side p cf l k n b sk w gr tl tc t fs ph x td u (x.arrived ++ s.frame ∷ []) [] y.limit (record {
+      flow = flow_open Server tc td y.side y.limit y.ends o x.comes.flow;
+      opens = no_opens td (y.border h);
+      came = all-append (IsFrame Server LONGEST_FRAME) x.arrived (s.frame ∷ []) x.comes.came (arrived tc.limit tc.side (x.front ++ y.bytes) ps.kind ps.status ps.is_foreign s x.comes.flow.side_is x.comes.flow.high, tt);
+      given = x.comes.given;
+      out = cc (x.comes.out, y.held, y.part, append_assoc tc.held y.bytes td.part);
+      whole = cc (x.comes.whole, y.part, append_assoc x.front y.bytes td.part, append_assoc (flat_map spelling x.arrived) (spelling s.frame) td.part, s.spelled, more_frames x.arrived s.frame);
+    }) (tells_arrived p.reports t u ps own s.frame x.forwarded x.arrived law (arrives_by t u tc td ps own x.front y s x.comes.flow.side_is x.comes.opens e r) x.tally)
 
 pub lease_may_end : (p : Place) (v : RelayView) (td : FlowView) (ps : Passed) (own : Bool) (after : List Kept) → IsLease p v → Passes v.to_client td ps → ps.whole ≡ true → IsRead v.told.reports after own td ps → may_end ps.status (begun_arrived ps own v.told.tally) ≡ true
 lease_may_end p v td ps own after x y h r =

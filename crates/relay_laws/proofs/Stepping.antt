@@ -1,5 +1,5 @@
 -- What each move counts, and why a pump waits.
-use Rattle.std.proofs.Common.{◌≡◌, ◌≢◌, ℕ, ◌+◌, ◌<◌, ◌≤◌, Bool, true, false, cond, List, Option, [], ◌∷◌, ◌++◌, length, refl, sym, ap, ap₂, ◌∙◌, arith, length-append, subst, drop}
+use Rattle.std.proofs.Common.{◌≡◌, ◌≢◌, ℕ, ◌+◌, ◌<◌, ◌≤◌, Bool, true, false, cond, List, Option, [], ◌∷◌, ◌++◌, length, refl, sym, ap, ap₂, ◌∙◌, arith, length-append, append-nil, subst, drop}
 use Rattle.std.specs.Prelude.{◌||◌, ◌&&◌, ◌==◌, not}
 use Rattle.std.proofs.lemmas.Bool.{true≢false, false≢true}
 use Rattle.relay_laws.specs.Verdicts.{Told}
@@ -18,7 +18,7 @@ use Rattle.relay_laws.specs.declared.Next.TheVariants.{Again, Wait, ClientDone}
 use Rattle.relay_flow.specs.Flows.{FlowView, SameCursor, came, count_of, Fills, IsPositive, is_faulty, is_last_end, is_open, is_empty}
 use Rattle.relay_laws.specs.Leases.{RelayView, relay_view, any_over, is_end, is_fault, link_moved, client_read, client_wrote}
 use Rattle.relay_laws.specs.Answers.{is_quiet, judged, moved_or, quiet_next}
-use Rattle.relay_laws.specs.Steps.{bytes_moved, Adds, HasRoom, over_in, Kept, may_read_client, may_read_link, may_write_link, may_write_client, IsStuck, IsStuckClient, HoldsAll, OnlyToLink, OnlyToClient, ReadsClient, WritesLink, ReadsLink, WritesClient, LeavesSides, IsOnce, Waits}
+use Rattle.relay_laws.specs.Steps.{bytes_moved, Adds, HasRoom, over_in, Kept, may_read_client, may_read_link, may_write_link, may_write_client, IsStuck, IsStuckClient, HoldsAll, OnlyToLink, OnlyToClient, ReadsClient, WritesLink, ReadsLink, WritesClient, LeavesSides, StopsLink, IsOnce, Waits}
 use Rattle.relay_laws.proofs.Moving.{Writes, Gives}
 use Rattle.relay_laws.proofs.Judging.{means}
 
@@ -188,7 +188,8 @@ steps_read_link ready v cf l m k n b sk w gr tl tc tn td t fs fz ph r o e i h p 
       client = refl;
       greeting = refl;
       to_link = refl;
-      untouched = λ h. absurd (true≢false (sym (is_ready ready _ o) ∙ h));
+      untouched = λ h. absurd (true≢false (sym (ap (may_read_link ready) e ∙ o) ∙ h));
+      accepted = y.accepted ∙ append-nil l.accepted;
       writes = z.write_waits;
       once = at_most_one r m.read_waits l.read_waits z.read_waits;
       kept = kept_link fs fz r q;
@@ -204,6 +205,7 @@ no_read_link ready v w c l g d h p f never = record {
   greeting = g;
   to_link = d;
   untouched = λ x. l;
+  accepted = ap (λ (x : Standing). x.accepted) l;
   writes = ap (λ (x : Standing). x.write_waits) l;
   once = omega (arith, ap (λ (x : Standing). x.read_waits) l);
   kept = subst (Kept v.flags) (sym f) (kept_same v.flags);
@@ -212,9 +214,9 @@ no_read_link ready v w c l g d h p f never = record {
 }
 
 pub steps_write_link : (v : RelayView) (cf : ClientFacts) (l m : Standing) (k : StartKeyOf) (n b : ℕ) (sk : Option KeyView) (w : KeyWord) (gr : List ℕ) (tl tm tc : FlowView) (t : Told) (fs fz : Flags) (ph : Phase) (put : List ℕ) (r : Moved)
-    → relay_view cf l k n b sk w gr tl tc t fs ph ≡ v → IsPositive r → Writes tl tm put r → Moves l put m [] → CountsWrite l m r → fz ≡ link_moved fs r
+    → may_write_link true v ≡ true → relay_view cf l k n b sk w gr tl tc t fs ph ≡ v → IsPositive r → Writes tl tm put r → Moves l put m [] → CountsWrite l m r → fz ≡ link_moved fs r
     → WritesLink true v (relay_view cf m k n b sk w gr tm tc t fz ph) r
-steps_write_link v cf l m k n b sk w gr tl tm tc t fs fz ph put r e i f y z q =
+steps_write_link v cf l m k n b sk w gr tl tm tc t fs fz ph put r o e i f y z q =
     subst (λ (u : RelayView). WritesLink true u (relay_view cf m k n b sk w gr tm tc t fz ph) r) e (record {
       positive = i;
       adds = record {
@@ -226,7 +228,7 @@ steps_write_link v cf l m k n b sk w gr tl tm tc t fs fz ph put r e i f y z q =
       to_client = refl;
       ends = f.cursor.ends;
       stuck = same_stuck tl tm f.cursor f.part;
-      untouched = λ h. absurd (true≢false h);
+      untouched = λ h. absurd (true≢false (sym (ap (may_write_link true) e ∙ o) ∙ h));
       reads = z.read_waits;
       once = at_most_one r m.write_waits l.write_waits z.write_waits;
       kept = kept_link fs fz r q;
@@ -356,6 +358,7 @@ reads_then_client r u v w m x o = record {
   greeting = o.greeting ∙ x.greeting;
   to_link = o.to_link ∙ x.to_link;
   untouched = λ h. o.link ∙ x.untouched h;
+  accepted = ap (λ (c : Standing). c.accepted) o.link ∙ x.accepted;
   writes = ap (λ (c : Standing). c.write_waits) o.link ∙ x.writes;
   once = omega (arith, ap (λ (c : Standing). c.read_waits) o.link, x.once);
   kept = subst (Kept u.flags) (sym o.flags) x.kept;
@@ -386,6 +389,37 @@ some_held (b ∷ bytes) h = by (length (b ∷ bytes) == 0) refl
     by : (x : Bool) → (length (b ∷ bytes) == 0) ≡ x → (length (b ∷ bytes) == 0) ≡ false
     by true e = absurd (omega (arith, Rattle.std.proofs.Common.eqb-true (length (b ∷ bytes)) 0 e))
     by false e = e
+
+and_false : (a : Bool) → (a && false) ≡ false
+and_false true = refl
+and_false false = refl
+
+not_ready : (ready more : Bool) → ready ≡ false → (ready && more) ≡ false
+not_ready true more e = absurd (true≢false e)
+not_ready false more e = refl
+
+over_stays : (f g : Flags) → Kept f g → f.link_over ≡ true → g.link_over ≡ true
+over_stays f g k h = by g.link_over refl
+  where
+    by : (o : Bool) → g.link_over ≡ o → g.link_over ≡ true
+    by true e = e
+    by false e = absurd (true≢false (sym h ∙ k.link e))
+
+any_by_link : (f : Flags) → f.link_over ≡ true → any_over f ≡ true
+any_by_link f h = or_true f.client_over (f.input_over || f.link_over) (or_true f.input_over f.link_over h)
+  where
+    or_true : (a b : Bool) → b ≡ true → (a || b) ≡ true
+    or_true true b e = refl
+    or_true false b e = e
+
+no_write_over : (ready : Bool) (v : RelayView) → v.flags.link_over ≡ true → may_write_link ready v ≡ false
+no_write_over ready v h = ap (λ (o : Bool). ready && (not o && (not (is_faulty v.to_link.ends) && not (is_empty v.to_link.held)))) h ∙ and_false ready
+
+no_write_faulty : (ready : Bool) (v : RelayView) → is_faulty v.to_link.ends ≡ true → may_write_link ready v ≡ false
+no_write_faulty ready v h = ap (λ (f : Bool). ready && (not v.flags.link_over && (not f && not (is_empty v.to_link.held)))) h ∙ (ap (λ (o : Bool). ready && o) (and_false (not v.flags.link_over)) ∙ and_false ready)
+
+no_read_over : (ready : Bool) (v : RelayView) → v.flags.link_over ≡ true → may_read_link ready v ≡ false
+no_read_over ready v h = ap (λ (o : Bool). ready && (not o && (is_open v.to_client.ends && is_empty v.greeting))) (any_by_link v.flags h) ∙ and_false ready
 
 module _ (cr sr : Bool) (v a b c w : RelayView) (m n o p : Moved) (x : ReadsClient cr v a m) (y : WritesLink sr a b n) (z : ReadsLink sr b c o) (u : WritesClient cr c w p) where
   pub moved_all : v.client.tells ≡ true → bytes_moved w ≡ bytes_moved v + (count_of m + (count_of n + (count_of o + count_of p)))
@@ -429,7 +463,18 @@ module _ (cr sr : Bool) (v a b c w : RelayView) (m n o p : Moved) (x : ReadsClie
   pub sides_all : LeavesSides cr sr v w
   sides_all = (
     λ h. u.untouched h ∙ (z.client ∙ (y.client ∙ x.untouched h)),
-    λ h. u.link ∙ (z.untouched h ∙ (y.untouched h ∙ x.link)),
+    λ h. u.link ∙ (z.untouched (not_ready sr (not (any_over b.flags) && (is_open b.to_client.ends && is_empty b.greeting)) h) ∙ (y.untouched (not_ready sr (not a.flags.link_over && (not (is_faulty a.to_link.ends) && not (is_empty a.to_link.held))) h) ∙ x.link)),
+  )
+
+  pub stops_all : StopsLink v w
+  stops_all = (
+    λ h.
+        let e : is_faulty a.to_link.ends ≡ true = ap is_faulty (sym y.ends) ∙ (ap (λ (q : FlowView). is_faulty q.ends) (sym (u.to_link ∙ z.to_link)) ∙ h) in
+        ap (λ (q : Standing). q.accepted) u.link ∙ z.accepted ∙ ap (λ (q : Standing). q.accepted) (y.untouched (no_write_faulty sr a e) ∙ x.link),
+    λ h.
+        let ha : a.flags.link_over ≡ true = over_stays v.flags a.flags x.kept h in
+        let hb : b.flags.link_over ≡ true = over_stays a.flags b.flags y.kept ha in
+        u.link ∙ (z.untouched (no_read_over sr b hb) ∙ (y.untouched (no_write_over sr a ha) ∙ x.link)),
   )
 
   pub once_all : IsOnce v w
@@ -491,6 +536,9 @@ held_for_link ready v e =
     let b = both_of (not v.flags.link_over) _ a.1 in
     let c = both_of (not (is_faulty v.to_link.ends)) _ b.1 in
     not_true (is_empty v.to_link.held) c.1
+
+pub ready_to_write : (ready : Bool) (v : RelayView) → may_write_link ready v ≡ true → may_write_link true v ≡ true
+ready_to_write ready v e = (both_of ready _ e).1
 
 pub held_for_client : (ready : Bool) (v : RelayView) → may_write_client ready v ≡ true → is_empty v.greeting ≡ true → is_empty v.to_client.held ≡ false
 held_for_client ready v e h =

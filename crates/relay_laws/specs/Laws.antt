@@ -2,10 +2,10 @@
 use Rattle.std.specs.Prelude.{◌≡◌, true, false}
 use Rattle.disposal.specs.declared.Verdict.TheVariants.{Settled}
 use Rattle.link_run.specs.Receipts.{IsClean, IsUsed}
-use Rattle.relay_laws.specs.Leases.{RelayView, Place, IsLease, IsExact, IsAllowed, relay_verdict}
+use Rattle.relay_laws.specs.Leases.{RelayView, Place, IsLease, IsRelayExact, IsAllowed, relay_verdict}
 
 abbrev pub LeasesAreExact : Type 0
-LeasesAreExact = (p : Place) (v : RelayView) → IsLease p v → v.client.tells ≡ true → v.link.follows ≡ true → v.link.lives ≡ true → IsExact p v
+LeasesAreExact = (p : Place) (v : RelayView) → IsLease p v → v.client.tells ≡ true → v.link.follows ≡ true → v.link.lives ≡ true → IsRelayExact p v
 
 abbrev pub LeasesAreAllowed : Type 0
 LeasesAreAllowed = (p : Place) (v : RelayView) → IsLease p v → v.client.tells ≡ true → v.link.follows ≡ true → IsAllowed p v

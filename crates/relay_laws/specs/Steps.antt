@@ -93,7 +93,7 @@ pub record WritesLink (ready : Bool) (v w : RelayView) (m : Moved) : Type 0 wher
   pub to_client : w.to_client ≡ v.to_client
   pub ends : w.to_link.ends ≡ v.to_link.ends
   pub stuck : IsStuck v.to_link → IsStuck w.to_link
-  pub untouched : ready ≡ false → w.link ≡ v.link
+  pub untouched : may_write_link ready v ≡ false → w.link ≡ v.link
   pub reads : w.link.read_waits ≡ v.link.read_waits
   pub once : w.link.write_waits ≤ v.link.write_waits + 1
   pub kept : Kept v.flags w.flags
@@ -107,7 +107,8 @@ pub record ReadsLink (ready : Bool) (v w : RelayView) (m : Moved) : Type 0 where
   pub client : w.client ≡ v.client
   pub greeting : w.greeting ≡ v.greeting
   pub to_link : w.to_link ≡ v.to_link
-  pub untouched : ready ≡ false → w.link ≡ v.link
+  pub untouched : may_read_link ready v ≡ false → w.link ≡ v.link
+  pub accepted : w.link.accepted ≡ v.link.accepted
   pub writes : w.link.write_waits ≡ v.link.write_waits
   pub once : w.link.read_waits ≤ v.link.read_waits + 1
   pub kept : Kept v.flags w.flags
@@ -133,7 +134,11 @@ pub record WritesClient (ready : Bool) (v w : RelayView) (m : Moved) : Type 0 wh
 abbrev pub LeavesSides : Bool → Bool → RelayView → RelayView → Type 0
 LeavesSides client server v w = (client ≡ false → w.client ≡ v.client) × (server ≡ false → w.link ≡ v.link)
 
--- each end was read once and written once at most
+-- behind a fault of the client's bytes nothing more is written to the link, and over its end nothing moves once that is over
+abbrev pub StopsLink : RelayView → RelayView → Type 0
+StopsLink v w = (is_faulty w.to_link.ends ≡ true → w.link.accepted ≡ v.link.accepted) × (v.flags.link_over ≡ true → w.link ≡ v.link)
+
+-- of each end at most one read and one write came to nothing
 abbrev pub IsOnce : RelayView → RelayView → Type 0
 IsOnce v w =
     (w.client.read_waits ≤ v.client.read_waits + 1) × (w.client.write_waits ≤ v.client.write_waits + 1)

@@ -26,7 +26,7 @@ use Rattle.memory_lease.specs.Answers.{IsAllowed, IsAnswer, IsGiven}
 use Rattle.session_values.specs.Service.{client_frames, served, service}
 use Rattle.memory_lease.proofs.Causes.{was_allowed}
 use Rattle.session_run_laws.proofs.Pieces.{pieces_join}
-use Rattle.replay_run.specs.Replay.{Follows, IsAnswered, IsReply, WritesReply, standing_catalogue, standing_row, standing_rows, standing_settings, standing_users, standing_word}
+use Rattle.replay_run.specs.Replay.{Follows, AnswersLogin, IsReply, WritesReply, standing_catalogue, standing_row, standing_rows, standing_settings, standing_users, standing_word}
 use Rattle.replay_run.specs.Told.{Adds, HasLinkKey, IsKeyed, IsPastArrival, Says, WantsMemory, silence, is_end}
 
 -- ---- nothing comes
@@ -245,7 +245,7 @@ follows_allowed dies cat (Stopped Failed) more f = none_allowed dies more f
 follows_allowed dies cat (Stopped Left) more f = none_allowed dies more f
 follows_allowed dies cat (Stopped (Cancelling key)) more f = none_allowed dies more f
 
-reply_of : (dies : Option ℕ) (bytes out : List ℕ) → IsAnswered dies standing_catalogue (login (standing_row bytes) standing_word bytes) out → IsReply dies bytes out
+reply_of : (dies : Option ℕ) (bytes out : List ℕ) → AnswersLogin dies standing_catalogue (login (standing_row bytes) standing_word bytes) out → IsReply dies bytes out
 reply_of dies bytes out x = record {
   login = x;
   allowed = prefixed dies (login (standing_row bytes) standing_word bytes).pieces _ x.more out x.out_is (follows_allowed dies standing_catalogue (login (standing_row bytes) standing_word bytes).ended x.more x.follows);
@@ -260,7 +260,7 @@ nothing_given dies cat v bytes out k e =
     let silent_then : goes_on v bytes ≡ silence = ap (goes_on v) (no_bytes bytes (eqb-true (length bytes) 0 (sym e))) ∙ silent v k in
     record {
       given = [];
-      answered = subst (λ (d : Dialogue). IsAnswered dies cat d []) (sym silent_then) (record { more = []; follows = refl; out_is = refl });
+      answered = subst (λ (d : Dialogue). AnswersLogin dies cat d []) (sym silent_then) (record { more = []; follows = refl; out_is = refl });
       both = sym (append-nil out);
     }
 
@@ -269,7 +269,7 @@ pub all_given : LoginIsOfItsRow → (dies : Option ℕ) (cat : CatalogueOf) (v :
 all_given law dies cat v bytes start out n c l x =
     let given : out ≡ x.given = x.both ∙ ap (λ (s : List ℕ). s ++ x.given) n in
     let of_row : goes_on v bytes ≡ login (standing_row bytes) standing_word bytes = ap (λ (w : LoginView). goes_on w bytes) l ∙ law standing_rows standing_word bytes in
-    reply_of dies bytes out (subst (λ (d : Dialogue). IsAnswered dies standing_catalogue d out) of_row (subst (λ (k : CatalogueOf). IsAnswered dies k (goes_on v bytes) out) c (subst (IsAnswered dies cat (goes_on v bytes)) (sym given) x.answered)))
+    reply_of dies bytes out (subst (λ (d : Dialogue). AnswersLogin dies standing_catalogue d out) of_row (subst (λ (k : CatalogueOf). AnswersLogin dies k (goes_on v bytes) out) c (subst (AnswersLogin dies cat (goes_on v bytes)) (sym given) x.answered)))
 
 -- an answer that was added to the output
 pub writes_reply : (before after_it : Option (List ℕ)) (bytes out : List ℕ) → IsReply None bytes out → Appends before after_it out → WritesReply before after_it bytes

@@ -10,7 +10,7 @@ use Rattle.login_core.specs.Talk.{End}
 use Rattle.login_core.specs.Talk.End.{Unfinished, Passed, Stopped}
 use Rattle.login_core.specs.Dialogue.{Dialogue, Reason, ToConsole, ToLink, Way}
 use Rattle.login_core.specs.Logins.{LoginView, goes_on, after, missing}
-use Rattle.replay_run.specs.Replay.{IsAnswered}
+use Rattle.replay_run.specs.Replay.{AnswersLogin}
 
 -- nothing is said, and the login isn't over
 abbrev pub silence : Dialogue
@@ -51,7 +51,7 @@ IsPastArrival step.Left v = Unit {0}
 -- what may be answered to what the login says was added
 pub record Adds (dies : Option ℕ) (cat : CatalogueOf) (said : Dialogue) (before after : List ℕ) : Type 0 where
   pub given : List ℕ
-  pub answered : IsAnswered dies cat said given
+  pub answered : AnswersLogin dies cat said given
   pub both : after ≡ before ++ given
 
 -- the key with which a login passes can start a link

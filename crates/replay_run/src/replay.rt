@@ -43,8 +43,8 @@ const SERVER_WORD: KeyWord = KeyWord {
 /// The bytes that a call of an end moves at most in `replay`.
 const CUT: usize = 8_192;
 
-/// What a client is answered whose lease comes to no end ([`ServeError::Unended`]). No test has met one, and that there is none isn't
-/// proved.
+/// What a client is answered who has no link though its server lives, or whose lease comes to no end ([`ServeError::Unstarted`],
+/// [`ServeError::Unended`]). No test has met one, and that there is none isn't proved.
 #[derive(Clone, Copy, Drop)]
 pub enum Unended {
     /// All that a session of its own answers, without a link: it is owed nothing else.
@@ -125,7 +125,7 @@ fn served(
     ) {
         Ok(answer) => Ok(answer),
         Err(ServeError::Memory) => Err(AllocError),
-        Err(ServeError::Unended(_)) => match service.unended {
+        Err(ServeError::Unstarted(_) | ServeError::Unended(_)) => match service.unended {
             Unended::BySession => answered_by_session(alloc, service, key, rest),
             Unended::Failed => Err(AllocError),
         },

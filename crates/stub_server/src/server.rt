@@ -50,7 +50,7 @@ impl Stub {
 
 /// Serves one connection to its end, and strikes the connection that it asks to cancel, if one is served with that key. One that
 /// can't be watched, since the system has no more polls, is closed, and so is one for which there is no memory.
-fn attend<R: Net + Clock + Wait + Copy + Drop>(
+fn serve_connection<R: Net + Clock + Wait + Copy + Drop>(
     rt: R,
     alloc: Global,
     stub: Arc<Stub>,
@@ -103,7 +103,7 @@ impl<R: Net + Clock + Wait + Copy + Drop> Connection<R> {
             own,
             client,
         } = self;
-        attend(rt, alloc, stub, own, client);
+        serve_connection(rt, alloc, stub, own, client);
     }
 }
 

@@ -3,7 +3,7 @@ ghost use Rattle.std.specs.Prelude.{◌≡◌, ◌<◌, ◌≤◌, false, length
 ghost use Rattle.std.specs.Arc.{arc_value};
 ghost use Rattle.link_laws.specs.Stages.{opens};
 ghost use Rattle.session_values.specs.Extended.{is_there};
-ghost use Rattle.stub_server.specs.Talks.{Gives, Hears, IsAnswered, IsSilent, IsTurn, Takes, TakesOne, ending_asked, ending_of, new_talk, server_of, talk_of};
+ghost use Rattle.stub_server.specs.Talks.{Gives, Hears, LeavesNothing, IsSilent, IsTurn, Takes, TakesOne, ending_asked, ending_of, new_talk, server_of, talk_of};
 ghost use Rattle.stub_server.specs.Talks as spec;
 ghost use Rattle.stub_server.specs.declared.talk.Stage.TheVariants.{Serves, Waits};
 
@@ -321,7 +321,7 @@ impl Talk {
     /// These bytes of the client came: every whole packet is answered. After an error the talk is of no use.
     pub(crate) fn hear(&mut self, bytes: &[u8]) -> Result<(), AllocError>
         ensures hears { OnOk result (Hears self.old self.new bytes.now) }
-        ensures answered { OnOk result (IsAnswered self.new) }
+        ensures answered { OnOk result (LeavesNothing self.new) }
     {
         self.inbox.extend_from_slice(bytes)?;
         self.answer_all()

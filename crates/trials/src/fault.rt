@@ -1,10 +1,10 @@
 //! The faults that end a trial, as it tells them.
 
-use ini_config::Cause as IniCause;
+use ini_config::IniCause as IniCause;
 use pool_app::fault::AppFault;
 use session_machine::CatalogueCause;
 use std::io;
-use user_file::Cause as UsersCause;
+use user_file::UserCause as UsersCause;
 
 /// Whether it is out of memory, wherever that came.
 fn is_memory(fault: &AppFault<'_>) -> bool {

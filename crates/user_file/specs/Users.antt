@@ -5,8 +5,8 @@ use Rattle.text_lines.specs.Files.{IsFaultless, IsReported, said_by}
 use Rattle.text_lines.specs.Lines.{is_ignored}
 use Rattle.user_file.specs.Fields.{fields, unquoted}
 use Rattle.user_file.specs.Secrets.{Text, secret_of}
-use Rattle.user_file.specs.declared.faults.Cause.{Cause}
-use Rattle.user_file.specs.declared.faults.Cause.TheVariants.{BadQuoting, NameTwice, Memory}
+use Rattle.user_file.specs.declared.faults.UserCause.{UserCause}
+use Rattle.user_file.specs.declared.faults.UserCause.TheVariants.{BadQuoting, NameTwice, Memory}
 use Rattle.user_file.specs.declared.faults.UserFault.{UserFault}
 use Rattle.user_file.specs.declared.user_table.UserRow.{UserRow}
 
@@ -30,11 +30,11 @@ abbrev pub with_line : List UserRow → Text → List UserRow
 with_line users line = if is_ignored line then users else add_user users (user_of line)
 
 -- and its fault after them
-abbrev pub user_fault : List UserRow → Option UserRow → Option Cause
+abbrev pub user_fault : List UserRow → Option UserRow → Option UserCause
 user_fault users None = Some BadQuoting
 user_fault users (Some user) = if is_some (user_named user.name users) then Some NameTwice else None
 
-abbrev pub fault_of : List UserRow → Text → Option Cause
+abbrev pub fault_of : List UserRow → Text → Option UserCause
 fault_of users line = if is_ignored line then None else user_fault users (user_of line)
 
 -- a line has something to keep
@@ -47,7 +47,7 @@ IsReadOf lines (Ok users) = IsFaultless with_line fault_of [] lines × (users �
 IsReadOf lines (Err f) = IsReported with_line fault_of [] Memory keeps lines f.cause f.line
 
 -- a new name of a field is its text, or why there is none
-abbrev pub IsNewName : List UserRow → Text → Result Text Cause → Type 0
+abbrev pub IsNewName : List UserRow → Text → Result Text UserCause → Type 0
 IsNewName users field (Ok name) = (name ≡ unquoted field) × (user_named name users ≡ None)
 IsNewName users field (Err NameTwice) = is_some (user_named (unquoted field) users) ≡ true
 IsNewName users field (Err c) = (user_named (unquoted field) users ≡ None) × (c ≡ Memory)

@@ -3,7 +3,7 @@ use thiserror::Error;
 
 /// What is wrong with a line. Where one line has several faults, the first of this list is reported.
 #[derive(Clone, Copy, Debug, PartialEq, Eq, Error)]
-pub enum Cause {
+pub enum UserCause {
     /// The line doesn't begin with two quoted fields, or its name is empty.
     #[error("U1")]
     BadQuoting,
@@ -21,7 +21,7 @@ pub enum Cause {
 #[derive(Clone, Copy, Debug, PartialEq, Eq, Error)]
 #[error("{cause} line {line}")]
 pub struct UserFault {
-    pub cause: Cause,
+    pub cause: UserCause,
     /// Counted from 1.
     pub line: usize,
 }

@@ -7,7 +7,7 @@ mod reading;
 mod secrets;
 mod user_table;
 
-pub use faults::{Cause, UserFault};
+pub use faults::{UserCause, UserFault};
 pub use reading::read_users;
 pub use secrets::Secret;
 pub use user_table::{UserRow, Users};

@@ -6,7 +6,7 @@ ghost use Rattle.user_file.specs.Fields as fields_spec;
 ghost use Rattle.user_file.specs.Secrets as secrets_spec;
 ghost use Rattle.user_file.specs.Users as spec;
 
-use crate::faults::{Cause, UserFault};
+use crate::faults::{UserCause, UserFault};
 use crate::fields::{fields, unquoted};
 use crate::secrets::Secret;
 use crate::user_table::{UserRow, Users};
@@ -15,18 +15,18 @@ use std::alloc::{AllocError, Global};
 use text_lines::{Text, is_ignored, trimmed};
 
 /// The text of a name's field, if no user has that name yet. Where there is no memory for it, the field is compared with each name.
-fn new_name(users: &Users, alloc: Global, field: &[u8]) -> Result<Text, Cause>
+fn new_name(users: &Users, alloc: Global, field: &[u8]) -> Result<Text, UserCause>
     ensures { spec.IsNewName users.now field.now result }
 {
     let Ok(name) = unquoted(alloc, field) else {
         return Err(if users.has_field(field) {
-            Cause::NameTwice
+            UserCause::NameTwice
         } else {
-            Cause::Memory
+            UserCause::Memory
         });
     };
     if users.row(name.as_slice()).is_some() {
-        return Err(Cause::NameTwice);
+        return Err(UserCause::NameTwice);
     }
     Ok(Text::from_vec(name))
 }
@@ -41,20 +41,20 @@ fn secret_of(alloc: Global, field: &[u8]) -> Result<Secret, AllocError>
 
 /// Takes a trimmed line, or reports its first fault. Out of memory comes after all others.
 #[tactic(auto, unfolding(crate::specs::Users::user_of))]
-fn take_line(users: &mut Users, alloc: Global, line: &[u8]) -> Result<(), Cause>
-    ensures { TookLine Cause.Memory (spec.keeps line.now) (spec.fault_of users.old line.now) (spec.with_line users.old line.now) users.new result }
+fn take_line(users: &mut Users, alloc: Global, line: &[u8]) -> Result<(), UserCause>
+    ensures { TookLine UserCause.Memory (spec.keeps line.now) (spec.fault_of users.old line.now) (spec.with_line users.old line.now) users.new result }
 {
     if is_ignored(line) {
         return Ok(());
     }
     let Some((name, secret)) = fields(line) else {
-        return Err(Cause::BadQuoting);
+        return Err(UserCause::BadQuoting);
     };
     let name = new_name(users, alloc, name)?;
-    let secret = secret_of(alloc, secret).map_err(|_| Cause::Memory)?;
+    let secret = secret_of(alloc, secret).map_err(|_| UserCause::Memory)?;
     users
         .add(alloc, UserRow { name, secret })
-        .map_err(|_| Cause::Memory)
+        .map_err(|_| UserCause::Memory)
 }
 
 /// The users of a file, or its first faulty line.

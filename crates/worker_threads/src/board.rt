@@ -1,5 +1,5 @@
 //! What threads and their owner tell one another.
-ghost use Rattle.std.specs.Prelude.{◌≡◌, ◌≤◌, ◌<◌, ◌+◌, ◌-◌, if◌then◌else◌, ◌++◌, ◌∷◌, [], ◌||◌, ◌&&◌, true, nat_lt, MatchOption, vec_len};
+ghost use Rattle.std.specs.Prelude.{◌≡◌, ◌≤◌, ◌<◌, ◌+◌, ◌-◌, if◌then◌else◌, ◌++◌, ◌∷◌, [], ◌||◌, ◌&&◌, ◌⊎◌, true, nat_lt, MatchOption, OnOk, OnSome, vec_capacity, vec_len};
 ghost use Rattle.worker_threads.specs.declared.board.TheConstants.{KEPT};
 
 use std::alloc::{AllocError, Global};
@@ -32,10 +32,11 @@ impl<J: Drop> Board<J> {
         }
     }
 
-    /// Leaves the job to a thread that waits and to which none was left. The job again where there is no such thread, or an
-    /// allocation failed.
+    /// Leaves the job to a thread that waits and to which none was left. The job again where there is no such thread, or no room for
+    /// it and an allocation failed.
     pub(crate) fn leave(&mut self, job: J) -> Option<J>
         ensures left { MatchOption result (self.new.jobs.items ≡ self.old.jobs.items ++ job ∷ []) (λ kept. (kept ≡ job) × (self.new.jobs.items ≡ self.old.jobs.items)) }
+        ensures kept { OnSome result ((self.old.waiting ≤ vec_len self.old.jobs) ⊎ (vec_capacity self.old.jobs ≤ vec_len self.old.jobs)) }
         ensures waiting { self.new.waiting ≡ self.old.waiting }
     {
         if self.jobs.len() >= self.waiting {
@@ -89,12 +90,14 @@ impl<J: Drop> Board<J> {
         self.ended.pop()
     }
 
-    /// Makes room for so many places of threads that have ended. The only error is that an allocation failed.
+    /// Makes room for so many places of threads that have ended, and a job for each. The only error is that an allocation failed.
     pub(crate) fn make_room(&mut self, places: usize) -> Result<(), AllocError>
+        ensures room { OnOk result ((places ≤ vec_capacity self.new.jobs) × (places ≤ vec_capacity self.new.ended)) }
         ensures jobs { self.new.jobs.items ≡ self.old.jobs.items }
         ensures waiting { self.new.waiting ≡ self.old.waiting }
     {
         self.ended.reserve(places)?;
+        self.jobs.reserve(places)?;
         Ok(())
     }
 

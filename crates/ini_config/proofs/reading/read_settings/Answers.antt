@@ -5,7 +5,7 @@ use Rattle.text_lines.specs.Files.{TookLine}
 use Rattle.text_lines.specs.Lines.{lines, raw_lines, trimmed}
 use Rattle.text_lines.proofs.SoFar.{ReadUpTo, at_start, at_end, taken, refused}
 use Rattle.ini_config.specs.Reading.{with_line, fault_of, empty_file, keeps}
-use Rattle.ini_config.specs.declared.faults.Cause.TheVariants as cause
+use Rattle.ini_config.specs.declared.faults.IniCause.TheVariants as cause
 use Rattle.ini_config.specs.declared.lines.Section.TheVariants.{Preamble}
 use Rattle.ini_config.proofs.reading.read_settings.Goals as goal
 

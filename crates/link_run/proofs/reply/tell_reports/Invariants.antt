@@ -1,17 +1,14 @@
-use Rattle.std.proofs.Common.{◌≡◌, ◌≤◌, ◌-◌, ◌&&◌, length, drop}
+use Rattle.std.proofs.Common.{◌≡◌, ◌&&◌}
 use Rattle.frame_view.specs.Frames.{frames}
 use Rattle.frame_view.specs.declared.Side.TheVariants.{Server}
 use Rattle.link_run.specs.Links.{after_frames}
 use Rattle.link_run.specs.Dialogues.{are_known}
+use Rattle.link_run.specs.Replies.{frames_left}
 use Rattle.link_run.specs.declared.reply.TheConstants.{LONGEST_REPLY}
 use Rattle.link_run.proofs.reply.tell_reports.Given as goal
 
 abbrev pub invariant-loop-frame : goal.invariant-loop-frame
 invariant-loop-frame l = record {
-  within : l.at ≤ length l.reply;
-  told : after_frames l.reported (frames Server LONGEST_REPLY (drop l.at l.reply)).frames ≡ after_frames l.fn.reported (frames Server LONGEST_REPLY l.reply).frames;
-  known : (l.known && are_known l.reported (frames Server LONGEST_REPLY (drop l.at l.reply)).frames) ≡ are_known l.fn.reported (frames Server LONGEST_REPLY l.reply).frames;
+  told : after_frames l.reported (frames_left l.frame-iterator) ≡ after_frames l.fn.reported (frames Server LONGEST_REPLY l.reply).frames;
+  known : (l.known && are_known l.reported (frames_left l.frame-iterator)) ≡ are_known l.fn.reported (frames Server LONGEST_REPLY l.reply).frames;
 }
-
-abbrev pub decreases-loop-frame : goal.decreases-loop-frame
-decreases-loop-frame l = length l.reply - l.at

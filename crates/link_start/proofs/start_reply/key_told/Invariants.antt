@@ -1,15 +1,10 @@
-use Rattle.std.proofs.Common.{◌≡◌, ◌≤◌, ◌-◌, length, drop, None}
+use Rattle.std.proofs.Common.{◌≡◌, None}
 use Rattle.frame_view.specs.Frames.{frames}
 use Rattle.frame_view.specs.declared.Side.TheVariants.{Server}
+use Rattle.link_run.specs.Replies.{frames_left}
 use Rattle.link_run.specs.declared.reply.TheConstants.{LONGEST_REPLY}
 use Rattle.link_start.specs.StartReply.{keyed_all}
 use Rattle.link_start.proofs.start_reply.key_told.Given as goal
 
 abbrev pub invariant-loop-frame : goal.invariant-loop-frame
-invariant-loop-frame l = record {
-  within : l.at ≤ length l.reply;
-  so_far : keyed_all l.key (frames Server LONGEST_REPLY (drop l.at l.reply)).frames ≡ keyed_all None (frames Server LONGEST_REPLY l.reply).frames;
-}
-
-abbrev pub decreases-loop-frame : goal.decreases-loop-frame
-decreases-loop-frame l = length l.reply - l.at
+invariant-loop-frame l = keyed_all l.key (frames_left l.frame-iterator) ≡ keyed_all None (frames Server LONGEST_REPLY l.reply).frames

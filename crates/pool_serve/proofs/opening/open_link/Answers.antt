@@ -3,7 +3,7 @@ use Rattle.std.specs.Arc.{arc_value}
 use Rattle.session_values.specs.State.{StartKeyOf, address_of}
 use Rattle.link_laws.specs.Standing.{Standing}
 use Rattle.link_desk.specs.Homes.{IsDialled}
-use Rattle.link_start.specs.Starts.{HasTried, IsCause}
+use Rattle.link_start.specs.Starts.{HasTried, IsStartCause}
 use Rattle.pool_serve.specs.declared.TheConstants.{TURNS}
 use Rattle.pool_serve.proofs.Homing.{row_address, started_home}
 use Rattle.pool_serve.proofs.Owing.{unstarted}
@@ -27,7 +27,7 @@ returns-in-Err-clause-told g c = λ lets.
     (dialled.catalogue (dialled.follows lets.follow) ∙ ap g.D.LinkDesk.home.catalogue (row_address c.args.logged_in.now.login.settings.rows c.in-Some.row.now key c.in-Some.ensures c.requires.logged_in.row))
     (dialled.follows lets.follow)
     (dialled.lets_in key user.secret (lets.accept key.user user (sym c.in-Some-user_of.ensures)))
-    (subst (λ (k : StartKeyOf). IsCause (g.D.End.ServerEnd.standing end) (g.D.End.ServerEnd.standing c.in-Err.fault.end) user.secret k c.in-Err.fault.cause) c.in-Ok.ensures c.in-Err.ensures.cause)
+    (subst (λ (k : StartKeyOf). IsStartCause (g.D.End.ServerEnd.standing end) (g.D.End.ServerEnd.standing c.in-Err.fault.end) user.secret k c.in-Err.fault.cause) c.in-Ok.ensures c.in-Err.ensures.cause)
 
 pub returns-in-Err-clause-why : goal.returns-in-Err-clause-why
 returns-in-Err-clause-why g c =
@@ -40,6 +40,6 @@ returns-in-Err-clause-why g c =
       began = g.D.End.ServerEnd.standing end;
       now = g.D.End.ServerEnd.standing c.in-Err.fault.end;
       dialled = subst (λ (s : Standing). IsDialled g.D.LinkDesk.home c.in-Some.row.now s) (sym c.watch.ensures.stands) c.in-Some-dial.ensures;
-      is_cause = subst (λ (k : StartKeyOf). IsCause (g.D.End.ServerEnd.standing end) (g.D.End.ServerEnd.standing c.in-Err.fault.end) c.in-Some-user_of.user.now.secret k c.in-Err.fault.cause) c.in-Ok.ensures c.in-Err.ensures.cause;
+      is_cause = subst (λ (k : StartKeyOf). IsStartCause (g.D.End.ServerEnd.standing end) (g.D.End.ServerEnd.standing c.in-Err.fault.end) c.in-Some-user_of.user.now.secret k c.in-Err.fault.cause) c.in-Ok.ensures c.in-Err.ensures.cause;
       tried = λ e. subst (λ (k : StartKeyOf). HasTried (g.D.End.ServerEnd.standing end) c.in-Some-user_of.user.now.secret k (g.D.End.ServerEnd.standing c.in-Err.fault.end) TURNS) c.in-Ok.ensures (c.in-Err.ensures.turns e);
     }

@@ -5,7 +5,7 @@ use Rattle.text_lines.specs.Files.{TookLine}
 use Rattle.text_lines.specs.Lines.{lines, raw_lines, trimmed}
 use Rattle.text_lines.proofs.SoFar.{ReadUpTo, at_start, at_end, taken, refused}
 use Rattle.user_file.specs.Users.{with_line, fault_of, keeps}
-use Rattle.user_file.specs.declared.faults.Cause.TheVariants.{Memory}
+use Rattle.user_file.specs.declared.faults.UserCause.TheVariants.{Memory}
 use Rattle.user_file.proofs.reading.read_users.Goals as goal
 
 pub loop-line-init : goal.loop-line-init

@@ -9,7 +9,7 @@ use Rattle.user_file.specs.Secrets.{answer}
 use Rattle.link_start.specs.Questions.{answer_to}
 use Rattle.link_start.specs.StartReply.{heard}
 use Rattle.link_start.specs.declared.start_reply.StartProgress.TheVariants.{Asked}
-use Rattle.link_start.specs.Starts.{StartView, IsUnderWay, IsLinkKey, own_answer}
+use Rattle.link_start.specs.Starts.{StartView, IsStartUnderWay, IsLinkKey, own_answer}
 use Rattle.link_start.proofs.Starting.{none_shown, own_answer_is, start_answered, unanswerable_cause}
 use Rattle.link_start.proofs.start.Start.answer.Goals.{in-Cleartext+in-Some+in_ok-put_password_message-in-Cleartext, in-Md5+in_ok-put_password_message-in-Md5}
 use Rattle.link_start.proofs.start.Start.answer.Goals as goal
@@ -26,7 +26,7 @@ returns-in-Unknown-clause-cause g c = λ b can k x.
 
 pub returns-clause-under_way : goal.returns-clause-under_way
 returns-clause-under_way g c = λ b can k x.
-    let y = subst (λ (v : StartView). IsUnderWay b c.args.secret.now v) (sym c.self.view_is) x in
+    let y = subst (λ (v : StartView). IsStartUnderWay b c.args.secret.now v) (sym c.self.view_is) x in
     let own : b.follows ≡ true → own_answer c.args.secret.now (arc_value c.self.inside.key).user (auth_of b.stage) ≡ answer_to c.args.secret.now (arc_value c.self.inside.key).user c.args.question = λ f. own_answer_is b c.args.secret.now _ can (subst (λ (v : StartView). IsLinkKey v.key) (sym c.self.view_is) k) y f (subst (λ (v : StartView). AreBytes v.received) (sym c.self.view_is) c.requires.bytes)
     c.args.question (subst (λ (v : StartView). heard c.args.secret.now v.received ≡ Asked c.args.question) (sym c.self.view_is) c.requires.asked) in
     elim c.match-question.branch [

@@ -1,24 +1,25 @@
 use Rattle.std.proofs.Common.{sym, ◌∙◌, subst}
-use Rattle.link_laws.specs.Standing.{Standing}
+use Rattle.frame_view.specs.Frames.{AreBytes}
 use Rattle.link_start.specs.declared.start.StartCause.TheVariants as causes
-use Rattle.link_start.specs.Starts.{IsLinkKey, IsCause}
-use Rattle.link_start.proofs.Starting.{caused, end_cause, handed_on, other_cause, refused_cause}
+use Rattle.link_start.specs.Starts.{IsLinkKey, IsStartCause}
+use Rattle.link_start.proofs.Starting.{caused, end_cause, handed_on, long_cause}
 use Rattle.link_start.proofs.start.Start.turn.Goals as goal
 
-pub returns-in_err-receive-clause-cause : goal.returns-in_err-receive-clause-cause
-returns-in_err-receive-clause-cause g c = λ b can k x.
-    handed_on (λ cause. IsCause b c.receive.new.self.end c.args.secret.now c.args.self.now.key cause) _ _ c.from_residual-in_err-receive.ensures.1
-    (end_cause b c.receive.new.self.end c.args.secret.now c.args.self.now.key c.send.new.self _ (c.in_ok-send.ensures.under_way b _ x) c.in_err-receive.ensures.cause)
+pub returns-in_err-wrote-clause-cause : goal.returns-in_err-wrote-clause-cause
+returns-in_err-wrote-clause-cause g c = λ b can k x.
+    handed_on (λ cause. IsStartCause b c.send.new.self.end c.args.secret.now c.args.self.now.key cause) _ _ c.from_residual.ensures.1
+    (end_cause b c.send.new.self.end c.args.secret.now c.args.self.now.key c.args.self.now _ x c.in_err-wrote.ensures.cause)
 
-pub returns-in-Refused-clause-cause : goal.returns-in-Refused-clause-cause
-returns-in-Refused-clause-cause g c = λ b can k x.
-    let y = c.in_ok-receive.ensures.under_way b _ (c.in_ok-send.ensures.under_way b _ x) in
-    let same = c.in_ok-receive.ensures.same.0 ∙ c.in_ok-send.ensures.same.0 in
-    subst (λ (s : Standing). IsCause b s c.args.secret.now c.args.self.now.key (causes.Refused c.take_error.result)) (sym c.take_error.ensures.end)
-    (caused b c.receive.new.self.end c.args.secret.now c.receive.new.self.key c.args.self.now.key (causes.Refused c.take_error.result) same (refused_cause b c.args.secret.now _ c.take_error.result can (subst IsLinkKey (sym same) k) y c.read_start_reply.ensures.bytes (sym c.in-Refused.ensures.heard) c.take_error.ensures.error))
+pub returns-in_err-read-clause-cause : goal.returns-in_err-read-clause-cause
+returns-in_err-read-clause-cause g c = λ b can k x.
+    handed_on (λ cause. IsStartCause b c.receive.new.self.end c.args.secret.now c.args.self.now.key cause) _ _ c.from_residual-in_err-read.ensures.1
+    (end_cause b c.receive.new.self.end c.args.secret.now c.args.self.now.key c.send.new.self _ (c.in_ok-wrote.ensures.under_way b _ x) c.in_err-read.ensures.cause)
 
-pub returns-in-Other-clause-cause : goal.returns-in-Other-clause-cause
-returns-in-Other-clause-cause g c = λ b can k x.
-    let y = c.in_ok-receive.ensures.under_way b _ (c.in_ok-send.ensures.under_way b _ x) in
-    let same = c.in_ok-receive.ensures.same.0 ∙ c.in_ok-send.ensures.same.0 in
-    caused b c.receive.new.self.end c.args.secret.now c.receive.new.self.key c.args.self.now.key causes.Unexpected same (other_cause b c.args.secret.now _ can (subst IsLinkKey (sym same) k) y c.read_start_reply.ensures.bytes (sym c.in-Other.ensures.heard))
+pub returns-then-is_too_long-clause-cause : goal.returns-then-is_too_long-clause-cause
+returns-then-is_too_long-clause-cause g c = λ b can k x.
+    let y = c.in_ok-read.ensures.under_way b _ (c.in_ok-wrote.ensures.under_way b _ x) in
+    let same = c.in_ok-read.ensures.same.0 ∙ c.in_ok-wrote.ensures.same.0 in
+    let same_now = c.in_ok-hear.ensures.same.0 ∙ same in
+    caused b c.hear.new.self.end c.args.secret.now c.hear.new.self.key c.args.self.now.key causes.Unexpected same_now
+    (long_cause b c.args.secret.now c.hear.new.self can (subst IsLinkKey (sym same_now) k) (c.in_ok-hear.ensures.under_way b can (subst IsLinkKey (sym same) k) y)
+    (subst AreBytes (sym c.in_ok-hear.ensures.received) c.in_ok-hear.ensures.bytes) (c.is_too_long.ensures.long c.if-is_too_long.true) (c.in_ok-hear.ensures.waits c.if-branch.false))

@@ -9,18 +9,18 @@ use Rattle.pool_serve.proofs.Managing.{same_serves}
 use Rattle.pool_serve.proofs.worker.Worker.admit.Goals as goal
 
 pub returns-in-Client-clause-came : goal.returns-in-Client-clause-came
-returns-in-Client-clause-came g c = same_came _ c.args.run c.go_on.new.self _ c.attend-served.result.1 c.go_on.ensures.login c.attend-served.ensures.came
+returns-in-Client-clause-came g c = same_came _ c.args.run c.go_on.new.self _ c.serve_arrived-served.result.1 c.go_on.ensures.login c.serve_arrived-served.ensures.came
 
 pub returns-in-Client-clause-serves : goal.returns-in-Client-clause-serves
 returns-in-Client-clause-serves g c = λ t l.
-    same_serves g.D.LinkDesk.home c.args.run c.go_on.new.self (g.C.ClientEnd.facts c.attend-served.result.0) c.attend-served.result.1 c.go_on.ensures.login
-    (c.attend-served.ensures.serves (ap (λ (x : ClientFacts). x.tells) c.go_on.ensures.client ∙ t) (subst (λ (u : List UserRow). LetsIn g.D.LinkDesk.home u) (sym c.go_on.ensures.login.users) l))
+    same_serves g.D.LinkDesk.home c.args.run c.go_on.new.self (g.C.ClientEnd.facts c.serve_arrived-served.result.0) c.serve_arrived-served.result.1 c.go_on.ensures.login
+    (c.serve_arrived-served.ensures.serves (ap (λ (x : ClientFacts). x.tells) c.go_on.ensures.client ∙ t) (subst (λ (u : List UserRow). LetsIn g.D.LinkDesk.home u) (sym c.go_on.ensures.login.users) l))
 
 pub returns-in-Refused-clause-serves : goal.returns-in-Refused-clause-serves
 returns-in-Refused-clause-serves g c = λ t l. arrival_ends c.runs_stand_at_pieces.ensures g.D.LinkDesk.home c.args.run (g.C.ClientEnd.facts c.finish-client.result.0) c.in-Refused.refusal c.in-Refused.ensures.refused c.requires.arrived c.requires.given c.finish-client.ensures.run c.finish-client.ensures.client t
 
 pub returns-in-Client-clause-traces : goal.returns-in-Client-clause-traces
-returns-in-Client-clause-traces g c = stay_traces _ _ _ _ c.leave.result c.attend-served.result.1 c.in-Client.ensures.told c.leave.ensures.told c.attend-served.ensures.traces
+returns-in-Client-clause-traces g c = stay_traces _ _ _ _ c.leave.result c.serve_arrived-served.result.1 c.in-Client.ensures.told c.leave.ensures.told c.serve_arrived-served.ensures.traces
 
 pub returns-in-Refused-clause-traces : goal.returns-in-Refused-clause-traces
 returns-in-Refused-clause-traces g c = arrival_traces _ _ c.in-Refused.refusal c.in-Refused.ensures.told c.in-Refused.ensures.refused

@@ -1,0 +1,128 @@
+//! A lease book. Its making and its view are asked again; its events take no memory.
+ghost use Rattle.lease_book.specs.Links.{IsTwice};
+
+use crate::making::{key, limits};
+use crate::told::{put_numbers, put_unless};
+use book_register::view::BookView;
+use lease_book::book::Book;
+use lease_book::events::{Event, Reply};
+use link_run::links::{CleanLink, LinkParts};
+use memory_ends::gone_end::GoneEnd;
+use memory_start_laws::unfollowed_starts_are_clean;
+use param_track::Reported;
+use start_keys::StartKey;
+use std::alloc::{AllocError, Global};
+use std::sync::Arc;
+
+/// An empty book.
+fn empty(alloc: Global) -> Result<Book<GoneEnd>, AllocError> {
+    let limits = limits(alloc)?;
+    let again = Arc::try_clone(&limits)?;
+    match Book::new(alloc, limits) {
+        Ok(book) => Ok(book),
+        Err(_) => Book::new(alloc, again),
+    }
+}
+
+fn happens(book: &mut Book<GoneEnd>, event: Event<GoneEnd>) -> Reply<GoneEnd>
+    requires { IsTwice event }
+{
+    book.apply(0, event)
+}
+
+/// A client comes and asks for a link of this key; its number.
+fn comes(book: &mut Book<GoneEnd>, key: &Arc<StartKey>) -> Result<u64, AllocError> {
+    let Reply::Client(client) = happens(book, Event::Arrive) else {
+        return Err(AllocError);
+    };
+    let again = Arc::try_clone(key)?;
+    let key = Arc::try_clone(key)?;
+    drop(happens(book, Event::Ask { client, key, again }));
+    Ok(client)
+}
+
+/// A link of this key, number and second of birth, whose server has gone since.
+fn gone_link(
+    alloc: Global,
+    key: Arc<StartKey>,
+    number: u64,
+    born: u64,
+) -> Result<CleanLink<GoneEnd>, AllocError> {
+    unfollowed_starts_are_clean();
+    let parts = LinkParts {
+        end: GoneEnd::of(&key)?,
+        key,
+        number,
+        born,
+        server_key: None,
+        reported: Reported::new(alloc),
+    };
+    Ok(parts.clean())
+}
+
+/// A link of this key that is started for the client.
+fn started(
+    alloc: Global,
+    book: &mut Book<GoneEnd>,
+    key: &Arc<StartKey>,
+    client: u64,
+) -> Result<CleanLink<GoneEnd>, AllocError> {
+    let Reply::Start { number, born, .. } = happens(book, Event::Take { client }) else {
+        return Err(AllocError);
+    };
+    gone_link(alloc, Arc::try_clone(key)?, number, born)
+}
+
+/// A book with a client that has a link, one that waits, and a link that lies idle.
+pub fn filled(alloc: Global) -> Result<Book<GoneEnd>, AllocError> {
+    let mut book = empty(alloc)?;
+    let key = key(alloc)?;
+    let first = comes(&mut book, &key)?;
+    let second = comes(&mut book, &key)?;
+    let of_first = started(alloc, &mut book, &key, first)?;
+    let _ = started(alloc, &mut book, &key, second)?;
+    comes(&mut book, &key)?;
+    drop(happens(&mut book, Event::GiveBack(of_first)));
+    drop(happens(&mut book, Event::Leave { client: first }));
+    Ok(book)
+}
+
+/// The book as it is, where memory was refused once too.
+pub fn view_of(
+    alloc: Global,
+    book: &Book<GoneEnd>,
+    out: &mut Vec<u8>,
+) -> Result<BookView, AllocError> {
+    let decisions = book.decisions();
+    match book.view(alloc) {
+        Ok(view) => Ok(view),
+        Err(_) => {
+            put_unless(
+                book.decisions() == decisions,
+                b"a view changes the book",
+                out,
+            )?;
+            book.view(alloc)
+        }
+    }
+}
+
+/// Appends how many there are of what a book shows.
+pub fn put_view(view: &BookView, out: &mut Vec<u8>) -> Result<(), AllocError> {
+    let counts = [
+        view.clients.len() as u64,
+        view.tickets.len() as u64,
+        view.lent.len() as u64,
+        view.idle.len() as u64,
+        view.decisions,
+        view.starts,
+    ];
+    put_numbers(b"view", &counts, out)
+}
+
+/// A book and its view.
+pub fn told(alloc: Global, out: &mut Vec<u8>) -> Result<(), AllocError> {
+    let book = filled(alloc)?;
+    let view = view_of(alloc, &book, out)?;
+    put_view(&view, out)
+}

@@ -1,0 +1,121 @@
+#!/usr/bin/env python3
+"""Counts the system's calls that a query and a connection cost the pooler, in front of a PostgreSQL server, by strace.
+
+Usage: calls.py PROGRAM
+
+The counts are bounds: no try that comes to nothing belongs to a query, and what a query and a connection may cost is said below. Where
+one process may not trace another nothing is counted, and that is said.
+"""
+import os
+import pathlib
+import re
+import signal
+import subprocess
+import sys
+import time
+
+from cluster import Cluster, Passes, Place, Pooler, need, set_up, until
+from wire import Client
+
+QUERIES, CONNECTIONS = 500, 100
+# seconds in which nothing is asked
+IDLE = 3
+# a read, a write and a wait for each of the two messages
+MOST_A_QUERY = 6.2
+MOST_VAIN_A_QUERY = 0.02
+MOST_A_CONNECTION = 34.0
+
+
+def may_trace():
+    """Whether strace may attach to a process that is no child of its own."""
+    sleeper = subprocess.Popen(["sleep", "30"])
+    try:
+        tracer = subprocess.Popen(["strace", "-p", str(sleeper.pid)], stderr=subprocess.PIPE, text=True)
+        first = tracer.stderr.readline()
+        tracer.terminate()
+        tracer.wait(30)
+        return "attached" in first
+    finally:
+        sleeper.kill()
+        sleeper.wait()
+
+
+class Counts:
+    """What the pooler called while something was done."""
+
+    def __init__(self, place, pid, work):
+        file = place.folder / "calls"
+        tracer = subprocess.Popen(["strace", "-f", "-c", "-U", "name,calls,errors", "-p", str(pid), "-o", str(file)], stderr=subprocess.PIPE, text=True)
+        for line in tracer.stderr:
+            if "attached" in line:
+                break
+        time.sleep(0.5)
+        began = time.monotonic()
+        work()
+        self.seconds = time.monotonic() - began
+        tracer.send_signal(signal.SIGINT)
+        tracer.stderr.read()
+        tracer.wait(30)
+        self.calls, self.errors = {}, {}
+        for line in file.read_text().splitlines():
+            row = re.fullmatch(r"(\w+)\s+(\d+)(?:\s+(\d+))?\s*", line)
+            if row and row.group(1) != "total":
+                self.calls[row.group(1)] = int(row.group(2))
+                self.errors[row.group(1)] = int(row.group(3) or 0)
+
+    def all(self, idle=None):
+        """How many calls; without those that an idle pooler makes in that time."""
+        idle_calls = idle.all() / idle.seconds * self.seconds if idle else 0
+        return sum(self.calls.values()) - idle_calls
+
+    def vain(self):
+        """Reads and writes that came to nothing."""
+        return sum(self.errors.get(it, 0) for it in ["read", "recvfrom", "write", "sendto"])
+
+
+def main(program):
+    set_up()
+    need(["strace"], ["strace"])
+    if not may_trace():
+        print("calls: nothing was counted: one process may not trace another here")
+        return
+    passes, place, pooler = Passes("calls"), Place(), None
+    try:
+        cluster = Cluster(place)
+        pooler = Pooler(place, cluster, os.path.abspath(program))
+
+        client = Client(pooler.port, "ann")
+        client.ask("SELECT 1")
+        idle = Counts(place, pooler.process.pid, lambda: time.sleep(IDLE))
+        counts = Counts(place, pooler.process.pid, lambda: [client.ask("SELECT 1") for _ in range(QUERIES)])
+        client.leave()
+        each, vain = counts.all(idle) / QUERIES, counts.vain() / QUERIES
+        print(f"a query: {each:.2f} calls, {vain:.3f} of them in vain; {counts.calls}")
+        passes.holds(f"a query costs at most {MOST_A_QUERY} calls", each <= MOST_A_QUERY, f"{each:.2f}")
+        passes.holds("none of its reads and writes is in vain", vain <= MOST_VAIN_A_QUERY, f"{vain:.3f}")
+
+        def connect():
+            client = Client(pooler.port, "ann")
+            client.ask("SELECT 1")
+            client.leave()
+
+        connect()
+        until(lambda: pooler.threads() <= 11, 5)
+        counts = Counts(place, pooler.process.pid, lambda: [connect() for _ in range(CONNECTIONS)])
+        each = counts.all(idle) / CONNECTIONS
+        print(f"a connection with one query: {each:.2f} calls, {counts.vain() / CONNECTIONS:.2f} of them in vain; {counts.calls}")
+        passes.holds(f"a connection with one query costs at most {MOST_A_CONNECTION} calls", each <= MOST_A_CONNECTION, f"{each:.2f}")
+    finally:
+        if pooler:
+            pooler.stop()
+        for pid in place.processes():
+            os.kill(pid, signal.SIGKILL)
+        until(lambda: not place.processes())
+        place.clear()
+    passes.end()
+
+
+if __name__ == "__main__":
+    if len(sys.argv) != 2:
+        sys.exit(__doc__)
+    main(pathlib.Path(sys.argv[1]))
