@@ -47,7 +47,7 @@ under_way p v x f =
       out = x.comes.out ∙ ap (λ (g : List ℕ). g ++ x.received) (x.greets f c.session c.is_fresh);
     }
 
-equation : (p : Place) (v : RelayView) (x : IsLease p v) → p.stands.follows ≡ true → v.link.lives ≡ true → lease.IsRelayExact (lease_of p v x)
+equation : (p : Place) (v : RelayView) (x : IsLease p v) → p.stands.follows ≡ true → v.link.lives ≡ true → lease.IsExact (lease_of p v x)
 unfolding lease_of
 equation p v x f n = leases_are_exact (lease_of p v x) (under_way p v x f) f n
 
