@@ -136,7 +136,8 @@ def line(kind, data):
     return "".join(" " + shown(it) for it in parts) + " ."
 
 
-# messages that no conversation of the tests has: values of both formats, null and empty ones, types, limits, questions
+# messages that no conversation of the tests has: values of both formats, null and empty ones, types, limits, questions, and the lengths
+# of a value next to null, the least and the greatest
 MORE = [
     (("client", b"B"), b"p\0s\0\0\2\0\1\0\0\0\3\xff\xff\xff\xff\0\0\0\0\0\0\0\2ab\0\1\0\1"),
     (("client", b"P"), b"s\0SELECT $1\0\0\2\0\0\0\x17\0\0\0\x19"),
@@ -152,6 +153,9 @@ MORE = [
     (("server", b"Z"), b"E"),
     (("server", b"D"), b"\0\3\xff\xff\xff\xff\0\0\0\0\0\0\0\2ab"),
     (("server", b"T"), b"\0\2a\0\0\0\0\1\0\2\0\0\0\x19\xff\xff\xff\xff\xff\xff\0\0b\0\0\0\0\0\0\0\0\0\0\x17\0\4\0\0\0\7\0\1"),
+    (("server", b"D"), b"\0\1\xff\xff\xff\xfe"),
+    (("server", b"D"), b"\0\1\x80\0\0\0"),
+    (("server", b"D"), b"\0\1\x7f\xff\xff\xff"),
     (("server", b"N"), b"SNOTICE\0VNOTICE\0C00000\0Mhello\0\0"),
 ]
 

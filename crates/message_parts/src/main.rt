@@ -69,12 +69,12 @@ fn job(rt: &HostRuntime) -> Result<(), Fault> {
 }
 
 fn main(rt: HostRuntime) -> ExitCode {
-    let told = match job(&rt) {
+    let (told, status) = match job(&rt) {
         Ok(()) => return ExitCode::SUCCESS,
-        Err(Fault::Usage) => USAGE,
-        Err(Fault::Memory) => "message_parts: memory",
-        Err(Fault::Io) => "message_parts: standard streams",
+        Err(Fault::Usage) => (USAGE, 2),
+        Err(Fault::Memory) => ("message_parts: memory", 1),
+        Err(Fault::Io) => ("message_parts: standard streams", 1),
     };
     let _ = eprintln!(rt; "{}", told);
-    ExitCode::from(1)
+    ExitCode::from(status)
 }
