@@ -121,8 +121,9 @@ fn used<E: ServerEnd>(alloc: Global, end: E, out: &mut Vec<u8>) -> Result<UsedLi
     let Ok(relay) = Relay::begin(alloc, client, link, KEY_WORD, LIMIT) else {
         return Err(AllocError);
     };
-    match pumped(relay) {
-        (_, Returned::Used(link)) => Ok(link),
+    let (_, returned) = pumped(relay);
+    match returned {
+        Returned::Used(link) => Ok(link),
         _ => Err(AllocError),
     }
 }

@@ -1,7 +1,8 @@
 //! A key, a server and the limits of a book.
-ghost use Rattle.std.specs.Prelude.{◌≡◌, IfOk};
+ghost use Rattle.std.specs.Prelude.{◌≡◌, true, IfOk};
 ghost use Rattle.std.specs.Arc.{arc_value};
 ghost use Rattle.link_start.specs.Starts.{CanStart, IsLinkKey};
+ghost use Rattle.memory_start_laws.specs.Starts.{HasSalt};
 ghost use Rattle.refusals.specs.Keys.{anns_key};
 
 use crate::KEY_WORD;
@@ -43,17 +44,24 @@ pub fn key(alloc: Global) -> Result<Arc<StartKey>, AllocError>
     Ok(Arc::new(alloc, key)?)
 }
 
-/// A server that waits for a StartupMessage, and asks for Ann's password.
-pub fn server(alloc: Global) -> Result<MemoryServer, AllocError>
-    ensures { IfOk result (λ s. CanStart s.standing) }
+/// A server that waits for a StartupMessage and asks this.
+fn asking(alloc: Global, auth: ServerAuth<'_>) -> Result<MemoryServer, AllocError>
+    requires { HasSalt auth }
+    ensures can_start { IfOk result (λ s. CanStart s.standing) }
+    ensures strikable { IfOk result (λ s. s.standing.server.strikable ≡ true) }
 {
     memory_servers_can_start();
     let catalogue = catalogue(alloc)?;
-    let auth = ServerAuth::Plain(PASSWORD);
-    match MemoryServer::new(alloc, catalogue, auth, KEY_WORD, CUT, None) {
-        Ok(server) => Ok(server),
-        Err(_) => Err(AllocError),
-    }
+    let server = MemoryServer::new(alloc, catalogue, auth, KEY_WORD, CUT, None)?;
+    Ok(server)
+}
+
+/// One that asks for Ann's password.
+pub fn server(alloc: Global) -> Result<MemoryServer, AllocError>
+    ensures can_start { IfOk result (λ s. CanStart s.standing) }
+    ensures strikable { IfOk result (λ s. s.standing.server.strikable ≡ true) }
+{
+    asking(alloc, ServerAuth::Plain(PASSWORD))
 }
 
 /// The database shop, for pools of two links.
