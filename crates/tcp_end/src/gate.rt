@@ -33,8 +33,8 @@ fn longest_rest() -> Duration {
 /// Where a worker waits for the bytes of its client, and of its link while that is watched. A turn of the client or of the link alone
 /// waits for at most 100 ms, since so many turns are a time; any other for at most ten seconds, so that a client that says nothing
 /// costs next to nothing. It doesn't wait where the last read of an end that it minds, since the turn before, may have left more; it
-/// names both sides. Nor does a turn of the link alone where something may be due to be said: in the first such turn, and after a read
-/// that came to something.
+/// names both sides. Nor does a turn of the link alone where something may be due to be said: in the first such turn, and after the first
+/// read behind a write that came to something.
 pub struct TcpGate<R: Clock> {
     rt: R,
     poll: Poll,
@@ -98,8 +98,8 @@ impl<R: Clock> TcpGate<R> {
         }
     }
 
-    /// Whether something may be due to be said over the link: nothing was tried since a turn of another kind, or what was read last
-    /// calls for an answer.
+    /// Whether something may be due to be said over the link: nothing was tried since a turn of another kind, or what was read last, the
+    /// first since something was written, calls for an answer.
     fn link_may_be_due(&mut self) -> bool
         ensures { self.new.turns ≡ self.old.turns }
     {

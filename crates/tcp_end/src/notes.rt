@@ -15,6 +15,8 @@ pub(crate) struct Notes {
     may_have_more: AtomicBool,
     /// The last read came to something, which may call for an answer.
     has_spoken: AtomicBool,
+    /// Something was written since a read was last taken for what may call for an answer.
+    was_written: AtomicBool,
     /// There is nothing to read until the gate sees an event.
     is_empty: AtomicBool,
     /// There is no room to write until the gate sees an event.
@@ -29,6 +31,7 @@ impl Drop for Notes {
             is_minded: _,
             may_have_more: _,
             has_spoken: _,
+            was_written: _,
             is_empty: _,
             is_full: _,
             is_closing: _,
@@ -59,6 +62,7 @@ impl Notes {
             is_minded: AtomicBool::new(false),
             may_have_more: AtomicBool::new(true),
             has_spoken: AtomicBool::new(false),
+            was_written: AtomicBool::new(false),
             is_empty: AtomicBool::new(false),
             is_full: AtomicBool::new(false),
             is_closing: AtomicBool::new(false),
@@ -83,6 +87,7 @@ impl Notes {
     /// A write of so many bytes was answered so.
     pub(crate) fn wrote(&self, answer: &io::Result<usize>, bytes: usize) {
         set(&self.is_full, is_exhausted(answer, bytes));
+        set(&self.was_written, true);
     }
 
     /// Whether a read would come to nothing.
@@ -100,9 +105,11 @@ impl Notes {
         self.may_have_more.swap(false, Ordering::SeqCst)
     }
 
-    /// Whether the last read came to something; asked once.
+    /// Whether the last read came to something, the first one behind a write; asked once. Further bytes of one answer call for nothing
+    /// that the first ones didn't.
     pub(crate) fn take_spoken(&self) -> bool {
         self.has_spoken.swap(false, Ordering::SeqCst)
+            && self.was_written.swap(false, Ordering::SeqCst)
     }
 
     /// There may be bytes again.
