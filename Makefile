@@ -80,7 +80,7 @@ gate:
 	scripts/welcomes.sh $(program)
 	scripts/cursors.sh $(program)
 	scripts/postgres.sh $(program)
-	scripts/calls.py $(program)
+	scripts/calls.py $(program) 40
 	scripts/cancels.sh $(program)
 	scripts/console.sh $(program)
 	scripts/abuse.sh $(program)
