@@ -111,7 +111,7 @@ impl Source for Elsewhere {
 }
 
 /// A pool under these options, over servers at this port, and then over those of the source; and its own port. It ends with the last of
-/// so many clients, or at SHUTDOWN.
+/// so many clients, or at SHUTDOWN; without a total where its settings or users can't be read.
 pub fn start_pool_of<
     R: Threads
         + Wait
@@ -125,26 +125,21 @@ pub fn start_pool_of<
     rt: R,
     alloc: Global,
     server: u16,
-    options: &str,
+    options: &'static str,
     source: Elsewhere,
     count: Option<u64>,
 ) -> Result<(JoinHandle<Option<Totals>>, u16), Fail> {
     let (listener, port) = listen(&rt)?;
-    let settings = settings(alloc, server, options).ok_or("no settings")?;
-    let users = users(alloc).ok_or("no users")?;
-    let pool = thread::spawn(
-        &rt,
-        move || -> Option<Totals>
-            requires { AreWithinBounds settings }
-        {
-            let log = io::sink();
-            serve_on(
-                rt, alloc, listener, settings, users, source, log, [0; 32], count,
-            )
-            .ok()
-            .flatten()
-        },
-    )?;
+    let pool = thread::spawn(&rt, move || -> Option<Totals> {
+        let settings = settings(alloc, server, options)?;
+        let users = users(alloc)?;
+        let log = io::sink();
+        serve_on(
+            rt, alloc, listener, settings, users, source, log, [0; 32], count,
+        )
+        .ok()
+        .flatten()
+    })?;
     Ok((pool, port))
 }
 
@@ -162,7 +157,7 @@ pub fn start_pool<
     rt: R,
     alloc: Global,
     server: u16,
-    options: &str,
+    options: &'static str,
     count: u64,
 ) -> Result<(JoinHandle<Option<Totals>>, u16), Fail> {
     let source = Elsewhere {

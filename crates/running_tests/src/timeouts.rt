@@ -118,7 +118,7 @@ fn closed_after<
         + Send
         + Sync
         + 'static,
->(rt: R, alloc: Global, options: &str, count: u32) -> Result<(bool, u64), Fail> {
+>(rt: R, alloc: Global, options: &'static str, count: u32) -> Result<(bool, u64), Fail> {
     let (stub, server) = start_stub(rt, alloc, count)?;
     let (pool, port) = start_pool(rt, alloc, server, options, u64::from(count) + 1)?;
     let mut streams = Vec::new(alloc);
