@@ -5,7 +5,8 @@
 //!   | written  | may go on    | may not yet  | free         |
 //! ```
 //!
-//! What is read comes at `fill`. A cursor moves `pass` on over bytes that may go on. What is written goes at `start`.
+//! What is read comes at `fill`. A cursor moves `pass` on over bytes that may go on. What is written goes at `start`. The functions by
+//! which it moves are written into their callers (`inline(always)`), since each row of a result costs a step of it.
 ghost use Rattle.std.specs.Prelude.{◌≡◌, ◌+◌, ◌-◌, ◌<◌, ◌≤◌, [], drop, length, true, false, IfOk, MatchOption, ◌≢◌};
 ghost use Rattle.frame_view.specs.Frames.{AreBytes};
 ghost use Rattle.frame_view.specs.declared.Side.TheVariants.{Client};

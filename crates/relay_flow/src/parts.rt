@@ -2,6 +2,9 @@
 //!
 //! A frame goes on from its fifth byte on, when its head is known to be lawful (PostgreSQL manual, "Message Formats").
 //! A server's ReadyForQuery and ParameterStatus go on only whole, since what they say is read.
+//!
+//! Each row of a result comes this way, so what is on it is written into its caller (`inline(always)`): as calls it would cost a short
+//! row up to twice its instructions.
 
 ghost use Rattle.std.specs.Prelude.{◌≡◌, ◌<◌, ◌≤◌, length, slice_index, IfSome};
 ghost use Rattle.frame_view.specs.Frames.{number};
