@@ -38,6 +38,8 @@ impl<J: Drop> Board<J> {
         ensures left { MatchOption result (self.new.jobs.items ≡ self.old.jobs.items ++ job ∷ []) (λ kept. (kept ≡ job) × (self.new.jobs.items ≡ self.old.jobs.items)) }
         ensures kept { OnSome result ((self.old.waiting ≤ vec_len self.old.jobs) ⊎ (vec_capacity self.old.jobs ≤ vec_len self.old.jobs)) }
         ensures waiting { self.new.waiting ≡ self.old.waiting }
+        ensures ended { self.new.ended.items ≡ self.old.ended.items }
+        ensures closed { self.new.is_closed ≡ self.old.is_closed }
     {
         if self.jobs.len() >= self.waiting {
             return Some(job);
@@ -52,6 +54,8 @@ impl<J: Drop> Board<J> {
     pub(crate) fn begin_wait(&mut self)
         ensures jobs { self.new.jobs.items ≡ self.old.jobs.items }
         ensures waiting { self.old.waiting < usize.MAX → self.new.waiting ≡ self.old.waiting + 1 }
+        ensures ended { self.new.ended.items ≡ self.old.ended.items }
+        ensures closed { self.new.is_closed ≡ self.old.is_closed }
     {
         self.waiting = self.waiting.saturating_add(1);
     }
@@ -60,6 +64,8 @@ impl<J: Drop> Board<J> {
     pub(crate) fn take(&mut self) -> Option<J>
         ensures jobs { MatchOption result ((self.old.jobs.items ≡ []) × (self.new.jobs.items ≡ [])) (λ job. self.old.jobs.items ≡ self.new.jobs.items ++ job ∷ []) }
         ensures waiting { MatchOption result (self.new.waiting ≡ self.old.waiting) (λ _. self.old.waiting ≡ self.new.waiting + 1) }
+        ensures ended { self.new.ended.items ≡ self.old.ended.items }
+        ensures closed { self.new.is_closed ≡ self.old.is_closed }
     {
         let job = self.jobs.pop()?;
         self.waiting -= 1;
@@ -72,6 +78,8 @@ impl<J: Drop> Board<J> {
         ensures ends { result ≡ (self.old.is_closed || (has_waited && nat_lt KEPT self.old.waiting)) }
         ensures jobs { self.new.jobs.items ≡ [] }
         ensures waiting { self.new.waiting ≡ (if result then self.old.waiting - 1 else self.old.waiting) }
+        ensures ended { vec_len self.old.ended < vec_capacity self.old.ended → self.new.ended.items ≡ (if result then self.old.ended.items ++ place ∷ [] else self.old.ended.items) }
+        ensures closed { self.new.is_closed ≡ self.old.is_closed }
     {
         let ends = self.is_closed || (has_waited && self.waiting > KEPT);
         if ends {
@@ -84,8 +92,10 @@ impl<J: Drop> Board<J> {
 
     /// The place of a thread that has ended, told once.
     pub(crate) fn ended(&mut self) -> Option<usize>
+        ensures place { MatchOption result ((self.old.ended.items ≡ []) × (self.new.ended.items ≡ [])) (λ place. self.old.ended.items ≡ self.new.ended.items ++ place ∷ []) }
         ensures jobs { self.new.jobs.items ≡ self.old.jobs.items }
         ensures waiting { self.new.waiting ≡ self.old.waiting }
+        ensures closed { self.new.is_closed ≡ self.old.is_closed }
     {
         self.ended.pop()
     }
@@ -95,6 +105,8 @@ impl<J: Drop> Board<J> {
         ensures room { OnOk result ((places ≤ vec_capacity self.new.jobs) × (places ≤ vec_capacity self.new.ended)) }
         ensures jobs { self.new.jobs.items ≡ self.old.jobs.items }
         ensures waiting { self.new.waiting ≡ self.old.waiting }
+        ensures ended { self.new.ended.items ≡ self.old.ended.items }
+        ensures closed { self.new.is_closed ≡ self.old.is_closed }
     {
         self.ended.reserve(places)?;
         self.jobs.reserve(places)?;
@@ -104,6 +116,8 @@ impl<J: Drop> Board<J> {
     /// No job comes any more: who finds none ends.
     pub(crate) fn close(&mut self)
         ensures jobs { self.new.jobs.items ≡ self.old.jobs.items }
+        ensures waiting { self.new.waiting ≡ self.old.waiting }
+        ensures ended { self.new.ended.items ≡ self.old.ended.items }
         ensures closed { self.new.is_closed ≡ true }
     {
         self.is_closed = true;
