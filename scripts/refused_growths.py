@@ -103,6 +103,14 @@ class Talker:
             answer = md5_answer(user, USERS[user][0], self.got[len(ASKED):])
             self.says(message(b"p", answer.encode() + b"\0"), lambda got: len(got) >= len(ASKED) + 4 + len(OK))
 
+    def asks(self, user, by_md5):
+        """Logs in where another has the link. AuthenticationOk comes with what follows it, so it isn't waited for."""
+        self.says(startup(user, "shop"), lambda got: not by_md5 or len(got) >= len(ASKED) + 4)
+        if by_md5:
+            answer = md5_answer(user, USERS[user][0], self.got[len(ASKED):])
+            self.says(message(b"p", answer.encode() + b"\0"), lambda _: True)
+        time.sleep(0.1)
+
     def is_in(self):
         """Whether it has a link, or the console."""
         return self.hears(self.is_ready(1))
@@ -148,7 +156,8 @@ class Growths:
         words = {name: self.preloaded(program, library, name) for name in self.pages}
         self.stub = Stub(self.place, words["stub"], pathlib.Path(CATALOGUE).read_bytes())
         self.pooler = Pooler(self.place, self.stub, words["serve"], size=1, clients=2, links=1, wait=LONGEST_WAIT, auth=auth)
-        self.exact = exact if auth == "trust" else ASKED + bytes(4) + exact
+        self.by_md5 = auth == "md5"
+        self.exact = ASKED + bytes(4) + exact if self.by_md5 else exact
         self.files = [FOR_EVER, FOR_EVER]
         self.fault_of_pair()
         self.files = self.steady_files()
@@ -177,7 +186,7 @@ class Growths:
         first.comes("ann")
         first.is_in()
         refuse()
-        second.comes("ann")
+        second.asks("ann", self.by_md5)
         first.talks(TALK)
         given = first.leaves()
         if second.is_in():
@@ -228,7 +237,7 @@ class Growths:
         first, second = self.talker(SECONDS), self.talker(SECONDS)
         first.comes("ann")
         first.is_in()
-        second.comes("ann")
+        second.asks("ann", self.by_md5)
         for one in (first, second):
             if one.is_in():
                 one.talks(TALK)

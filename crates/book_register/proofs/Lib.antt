@@ -4,4 +4,3 @@ pub mod Takes
 pub mod Returns
 pub mod Decisions
 pub mod Beginnings
-pub mod Waking

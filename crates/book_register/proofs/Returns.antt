@@ -1,12 +1,14 @@
 -- What a GiveBack and a Tick give, case by case; `before` is the book as its fields stand.
-use Rattle.std.proofs.Common.{◌≡◌, ℕ, Bool, true, false, List, [], ◌∷◌, ◌++◌, Option, None, Some, cond, sym, ap, ◌∙◌, subst, get_or}
-use Rattle.std.specs.Prelude.{position, find, slice_get, nat_lt, ◌||◌}
+use Rattle.std.proofs.Common.{◌≡◌, ℕ, Bool, true, false, List, [], ◌∷◌, ◌++◌, Option, None, Some, cond, sym, ap, ◌∙◌, subst}
+use Rattle.std.specs.Prelude.{find, nat_lt, ◌||◌}
 use Rattle.book_model.specs.Book.{Book, Link, is_link, without, without_lease, without_number}
 use Rattle.book_model.specs.Outcomes.{Answer, at_clock, closes, gives_back, is_crowded, is_old, is_stale, loses}
 use Rattle.book_model.specs.declared.events.Reply.{Reply}
 use Rattle.book_model.specs.declared.events.Reply.TheVariants.{Close, Done, Stranger}
 use Rattle.book_register.specs.Choices.{Gives}
-use Rattle.book_rows.proofs.Places.{at_place, found, not_found}
+use Rattle.book_rows.specs.Numbered.{number_of}
+use Rattle.book_register.proofs.Choices.{known, unknown}
+use Rattle.book_register.proofs.Takes.{link_bears}
 
 abbrev kept_back : Book → Link → Answer
 kept_back b l = record { book = record (loses b l.number) { idle = b.idle ++ record l { since = b.clock } ∷ [] }; reply = Done }
@@ -14,18 +16,12 @@ kept_back b l = record { book = record (loses b l.number) { idle = b.idle ++ rec
 abbrev closed_back : Book → Link → Answer
 closed_back b l = record { book = loses b l.number; reply = Close l.number }
 
-back_by : (before b after : Book) (n place : ℕ) (x y : Link) (reply : Reply) (closing : Bool) → before ≡ b → position (is_link n) b.lent ≡ Some place → slice_get before.lent place ≡ Some x → y ≡ get_or before.lent place y → (is_old b y || is_crowded b y) ≡ closing → Gives after reply (cond closing (closed_back before x) (kept_back before x)) → Gives after reply (gives_back b (find (is_link n) b.lent))
-back_by before b after n place x y reply closing e f taken read test given =
-    let at : find (is_link n) b.lent ≡ Some y = at_place (is_link n) b.lent place y f (read ∙ ap (λ (v : Book). get_or v.lent place y) e) in
-    let there : find (is_link n) b.lent ≡ Some x = (found (is_link n) b.lent place f).1 ∙ (ap (λ (v : Book). slice_get v.lent place) (sym e) ∙ taken) in
-    let same : x ≡ y = one x y (find (is_link n) b.lent) there at in
-    let tested : (is_old b x || is_crowded b x) ≡ closing = subst (λ (l : Link). (is_old b l || is_crowded b l) ≡ closing) (sym same) test in
+back_by : (before b after : Book) (n : ℕ) (x : Link) (reply : Reply) (closing : Bool) → before ≡ b → find (is_link n) before.lent ≡ Some x → (is_old b x || is_crowded b x) ≡ closing → Gives after reply (cond closing (closed_back before x) (kept_back before x)) → Gives after reply (gives_back b (find (is_link n) b.lent))
+back_by before b after n x reply closing e f test given =
+    let there : find (is_link n) b.lent ≡ Some x = ap (λ (v : Book). find (is_link n) v.lent) (sym e) ∙ f in
     let whole : gives_back b (find (is_link n) b.lent) ≡ cond closing (closed_back before x) (kept_back before x) =
-    ap (gives_back b) there ∙ (ap (λ (v : Bool). cond {A = Answer} v (closed_back b x) (kept_back b x)) tested ∙ ap (λ (v : Book). cond {A = Answer} closing (closed_back v x) (kept_back v x)) (sym e)) in
+    ap (gives_back b) there ∙ (ap (λ (v : Bool). cond {A = Answer} v (closed_back b x) (kept_back b x)) test ∙ ap (λ (v : Book). cond {A = Answer} closing (closed_back v x) (kept_back v x)) (sym e)) in
     (given.0 ∙ ap (λ (a : Answer). a.book) (sym whole), given.1 ∙ ap (λ (a : Answer). a.reply) (sym whole))
-  where
-    one : (u v : Link) (o : Option Link) → o ≡ Some u → o ≡ Some v → u ≡ v
-    one u v o p q = cc
 
 -- nothing is known of a link's lease any more
 abbrev forgotten : Book → ℕ → Book
@@ -34,27 +30,35 @@ forgotten b n = record b { keyed = without_lease n b.keyed; marked = without_num
 lost_is : (before mid : Book) (m : ℕ) (x : Link) (links : List Link) → links ≡ without x.number before.lent → m ≡ x.number → mid ≡ forgotten (record before { lent = links }) m → mid ≡ loses before x.number
 lost_is before mid m x links el em done = done ∙ (ap (λ (n : ℕ). forgotten (record before { lent = links }) n) em ∙ ap (λ (ls : List Link). forgotten (record before { lent = ls }) x.number) el)
 
-pub closing_done : (before b after : Book) (n place m : ℕ) (x y : Link) (links : List Link) → before ≡ b → position (is_link n) b.lent ≡ Some place → slice_get before.lent place ≡ Some x → y ≡ get_or before.lent place y → (is_old b y || is_crowded b y) ≡ true → links ≡ without x.number before.lent → m ≡ x.number → after ≡ forgotten (record before { lent = links }) m → Gives after (Close m) (gives_back b (find (is_link n) b.lent))
-closing_done before b after n place m x y links e f taken read test el em done = back_by before b after n place x y (Close m) true e f taken read test (lost_is before after m x links el em done, ap Close em)
+pub closing_done : (before b after : Book) (n : ℕ) (x : Link) (links : List Link) → before ≡ b → find (is_link n) before.lent ≡ Some x → (is_old b x || is_crowded b x) ≡ true → links ≡ without n before.lent → after ≡ forgotten (record before { lent = links }) n → Gives after (Close n) (gives_back b (find (is_link n) b.lent))
+closing_done before b after n x links e f test el done =
+    let own : n ≡ x.number = sym (link_bears n before.lent x f) in
+    back_by before b after n x (Close n) true e f test (lost_is before after n x links (el ∙ ap (λ (m : ℕ). without m before.lent) own) own done, ap Close own)
 
-pub keeping_done : (before b mid after : Book) (n place m : ℕ) (x y : Link) (links : List Link) (reply : Reply) → before ≡ b → position (is_link n) b.lent ≡ Some place → slice_get before.lent place ≡ Some x → y ≡ get_or before.lent place y → (is_old b y || is_crowded b y) ≡ false → links ≡ without x.number before.lent → m ≡ x.number → mid ≡ forgotten (record before { lent = links }) m → after ≡ record mid { idle = mid.idle ++ record x { since = mid.clock } ∷ [] } → reply ≡ Done → Gives after reply (gives_back b (find (is_link n) b.lent))
-keeping_done before b mid after n place m x y links reply e f taken read test el em lost done replied =
-    back_by before b after n place x y reply false e f taken read test (done ∙ ap (λ (v : Book). record v { idle = v.idle ++ record x { since = v.clock } ∷ [] }) (lost_is before mid m x links el em lost), replied)
+pub keeping_done : (before b mid after : Book) (n : ℕ) (x y : Link) (links : List Link) (reply : Reply) → before ≡ b → find (is_link n) before.lent ≡ Some x → find (is_link n) before.lent ≡ Some y → (is_old b x || is_crowded b x) ≡ false → links ≡ without n before.lent → mid ≡ forgotten (record before { lent = links }) n → after ≡ record mid { idle = mid.idle ++ record y { since = mid.clock } ∷ [] } → reply ≡ Done → Gives after reply (gives_back b (find (is_link n) b.lent))
+keeping_done before b mid after n x y links reply e f g test el lost done replied =
+    let own : n ≡ x.number = sym (link_bears n before.lent x f) in
+    let same : y ≡ x = one y x (find (is_link n) before.lent) g f in
+    back_by before b after n x reply false e f test (done ∙ (ap (λ (l : Link). record mid { idle = mid.idle ++ record l { since = mid.clock } ∷ [] }) same ∙ ap (λ (v : Book). record v { idle = v.idle ++ record x { since = v.clock } ∷ [] }) (lost_is before mid n x links (el ∙ ap (λ (m : ℕ). without m before.lent) own) own lost)), replied)
+  where
+    one : (u v : Link) (o : Option Link) → o ≡ Some u → o ≡ Some v → u ≡ v
+    one u v o p q = cc
 
-pub no_link : (b : Book) (n : ℕ) → position (is_link n) b.lent ≡ None → Gives b Stranger (gives_back b (find (is_link n) b.lent))
+pub no_link : (b : Book) (n : ℕ) → find (is_link n) b.lent ≡ None → Gives b Stranger (gives_back b (find (is_link n) b.lent))
 no_link b n e =
-    let whole : gives_back b (find (is_link n) b.lent) ≡ gives_back b None = ap (gives_back b) (not_found (is_link n) b.lent e) in
+    let whole : gives_back b (find (is_link n) b.lent) ≡ gives_back b None = ap (gives_back b) e in
     (ap (λ (a : Answer). a.book) (sym whole), ap (λ (a : Answer). a.reply) (sym whole))
 
-pub stale_gone : (before b : Book) (place m : ℕ) (x : Link) (links : List Link) → before ≡ b → position (is_stale b) b.idle ≡ Some place → slice_get before.idle place ≡ Some x → links ≡ without x.number before.idle → m ≡ x.number → Gives (record before { idle = links }) (Close m) (closes b (find (is_stale b) b.idle))
-stale_gone before b place m x links e f taken el em =
-    let there : find (is_stale b) b.idle ≡ Some x = (found (is_stale b) b.idle place f).1 ∙ (ap (λ (v : Book). slice_get v.idle place) (sym e) ∙ taken) in
-    let whole : closes b (find (is_stale b) b.idle) ≡ closes before (Some x) = ap (closes b) there ∙ ap (λ (v : Book). closes v (Some x)) (sym e) in
-    (ap (λ (ls : List Link). record before { idle = ls }) el ∙ ap (λ (a : Answer). a.book) (sym whole), ap Close em ∙ ap (λ (a : Answer). a.reply) (sym whole))
+pub stale_gone : (before b : Book) (n : ℕ) (links : List Link) → before ≡ b → Some n ≡ number_of (find (is_stale b) b.idle) → links ≡ without n before.idle → Gives (record before { idle = links }) (Close n) (closes b (find (is_stale b) b.idle))
+stale_gone before b n links e f el =
+    let k = known (find (is_stale b) b.idle) n f in
+    let own : n ≡ k.0.number = sym k.2 in
+    let whole : closes b (find (is_stale b) b.idle) ≡ closes before (Some k.0) = ap (closes b) k.1 ∙ ap (λ (v : Book). closes v (Some k.0)) (sym e) in
+    (ap (λ (ls : List Link). record before { idle = ls }) (el ∙ ap (λ (m : ℕ). without m before.idle) own) ∙ ap (λ (a : Answer). a.book) (sym whole), ap Close own ∙ ap (λ (a : Answer). a.reply) (sym whole))
 
-pub none_stale : (b : Book) → position (is_stale b) b.idle ≡ None → Gives b Done (closes b (find (is_stale b) b.idle))
+pub none_stale : (b : Book) → None ≡ number_of (find (is_stale b) b.idle) → Gives b Done (closes b (find (is_stale b) b.idle))
 none_stale b e =
-    let whole : closes b (find (is_stale b) b.idle) ≡ closes b None = ap (closes b) (not_found (is_stale b) b.idle e) in
+    let whole : closes b (find (is_stale b) b.idle) ≡ closes b None = ap (closes b) (unknown (find (is_stale b) b.idle) e) in
     (ap (λ (a : Answer). a.book) (sym whole), ap (λ (a : Answer). a.reply) (sym whole))
 
 pub tick_done : (before b after : Book) (clock now : ℕ) (reply : Reply) → before ≡ b → clock ≡ cond (nat_lt before.clock now) now before.clock → Gives after reply (closes (record before { clock = clock }) (find (is_stale (record before { clock = clock })) before.idle)) → Gives after reply (closes (at_clock b now) (find (is_stale (at_clock b now)) b.idle))

@@ -1,6 +1,5 @@
 -- What a Cancel and the end of a lease give, case by case.
-use Rattle.std.proofs.Common.{◌≡◌, ℕ, ◌≤◌, ◌<◌, true, not, List, Option, None, Some, length, count_by, find, refl, sym, ap, ◌∙◌, subst, arith, get_or, eq-eqb}
-use Rattle.std.specs.Prelude.{position}
+use Rattle.std.proofs.Common.{◌≡◌, ℕ, ◌≤◌, ◌<◌, true, not, List, Option, None, Some, length, count_by, find, refl, sym, ap, ◌∙◌, subst, arith, eq-eqb}
 use Rattle.std.specs.List.{list_any}
 use Rattle.message_view.specs.declared.views.KeyView.{KeyView}
 use Rattle.session_values.specs.State.{StartKeyOf}
@@ -12,7 +11,6 @@ use Rattle.book_model.specs.declared.events.Reply.TheVariants.{Strike, Nobody}
 use Rattle.book_model.specs.declared.limits.TheConstants.{MOST_LINKS}
 use Rattle.book_model.proofs.KeepingLists.{any_counts, fewer_left, found_any, left_out, longer}
 use Rattle.book_register.specs.Striking.{strike_of}
-use Rattle.book_rows.proofs.Places.{at_place, not_found}
 
 -- ---- each lease, mark and end stands once
 
@@ -47,16 +45,15 @@ struck_by : (b : Book) (lease : Lease) (port : ℕ) (host : Option (List ℕ)) �
 struck_by b lease port None = refl
 struck_by b lease port (Some host) = refl
 
--- by the place of its link; `before` is the book as its fields stand, and `link` what the lease says
-pub struck_at : (before b : Book) (lease : Lease) (link place : ℕ) (x : Link) (key : StartKeyOf) (reply : Reply) → before ≡ b → link ≡ lease.link → position (is_link link) before.lent ≡ Some place → x ≡ get_or before.lent place x → key ≡ x.key → reply ≡ strike_of lease key.port key.host → reply ≡ (strikes_at b lease (find (is_link lease.link) b.lent)).reply
-struck_at before b lease link place x key reply e same at read is replied =
-    let found : find (is_link link) before.lent ≡ Some x = at_place (is_link link) before.lent place x at read in
+-- `before` is the book as its fields stand, and `link` what the lease says
+pub struck_at : (before b : Book) (lease : Lease) (link : ℕ) (x : Link) (key : StartKeyOf) (reply : Reply) → before ≡ b → link ≡ lease.link → find (is_link link) before.lent ≡ Some x → key ≡ x.key → reply ≡ strike_of lease key.port key.host → reply ≡ (strikes_at b lease (find (is_link lease.link) b.lent)).reply
+struck_at before b lease link x key reply e same found is replied =
     let here : find (is_link lease.link) b.lent ≡ Some x = sym (ap (λ (v : Book). find (is_link link) v.lent) e ∙ ap (λ (n : ℕ). find (is_link n) b.lent) same) ∙ found in
     replied ∙ (ap (λ (k : StartKeyOf). strike_of lease k.port k.host) is ∙ sym (ap (λ (o : Option Link). (strikes_at b lease o).reply) here ∙ struck_by b lease x.key.port x.key.host))
 
-pub struck_nowhere : (before b : Book) (lease : Lease) (link : ℕ) → before ≡ b → link ≡ lease.link → position (is_link link) before.lent ≡ None → Nobody ≡ (strikes_at b lease (find (is_link lease.link) b.lent)).reply
+pub struck_nowhere : (before b : Book) (lease : Lease) (link : ℕ) → before ≡ b → link ≡ lease.link → find (is_link link) before.lent ≡ None → Nobody ≡ (strikes_at b lease (find (is_link lease.link) b.lent)).reply
 struck_nowhere before b lease link e same at =
-    let here : find (is_link lease.link) b.lent ≡ None = sym (ap (λ (v : Book). find (is_link link) v.lent) e ∙ ap (λ (n : ℕ). find (is_link n) b.lent) same) ∙ not_found (is_link link) before.lent at in
+    let here : find (is_link lease.link) b.lent ≡ None = sym (ap (λ (v : Book). find (is_link link) v.lent) e ∙ ap (λ (n : ℕ). find (is_link n) b.lent) same) ∙ at in
     sym (ap (λ (o : Option Link). (strikes_at b lease o).reply) here)
 
 -- what a Cancel that is answered so leaves

@@ -1,6 +1,6 @@
 //! The lists of the lease book, and what an event makes of them, in the definition's order and words. Between the steps of an event they
 //! needn't be in order: a list is changed before the counts rise.
-ghost use Rattle.std.specs.Prelude.{◌≡◌, ◌<◌, ◌≤◌, suc, ◌+◌, ◌++◌, ◌==◌, ◌&&◌, ◌||◌, [], ◌∷◌, Some, None, true, false, nat_lt, not, cond, count_by, ℕ, find, position, slice_get, length};
+ghost use Rattle.std.specs.Prelude.{◌≡◌, ◌<◌, ◌≤◌, suc, ◌+◌, ◌++◌, ◌==◌, ◌&&◌, ◌||◌, [], ◌∷◌, Some, None, true, false, nat_lt, not, cond, count_by, ℕ, find, length, option_copied};
 ghost use Rattle.std.specs.Arc.{arc_value};
 ghost use Rattle.std.specs.List.{list_any};
 ghost use Rattle.start_keys.specs.Keys.{same_key};
@@ -11,6 +11,8 @@ ghost use Rattle.book_model.specs.declared.events.Reply.TheVariants.{Done, Refus
 ghost use Rattle.book_model.specs.declared.limits.TheConstants.{MOST_LINKS};
 ghost use Rattle.book_register.specs.Choices.{Chooses, Gives, eviction_of};
 ghost use Rattle.book_register.specs.Striking.{strike_of};
+ghost use Rattle.book_rows.specs.Numbered.{number_of};
+ghost use Rattle.book_rows.specs.Places.{passes};
 ghost use Rattle.book_model.specs.Kept.{Kept};
 
 use book_model::counts::Counts;
@@ -18,11 +20,12 @@ use book_model::events::{ClientState, Event, Reply};
 use book_model::limits::Limits;
 use book_rows::clients::{Client, Clients};
 use book_rows::leases::{Lease, Leases, Numbers};
-use book_rows::links::{Link, Links};
+use book_rows::links::{Link, Links, number_in};
 use book_rows::pools::PoolKey;
 use book_rows::tickets::{Ticket, Tickets};
 use message_view::{KeyView, Refusal};
 use start_keys::StartKey;
+use std::collections::VecDeque;
 use std::marker::Model;
 use std::sync::Arc;
 
@@ -156,7 +159,7 @@ impl BookState {
         ensures reply { result ≡ (outcome.leaves self.old client).reply }
     {
         self.clients.remove(client);
-        self.tickets.remove(client);
+        drop(self.tickets.take_out(client));
         Reply::Done
     }
 
@@ -168,7 +171,7 @@ impl BookState {
         ensures reply { result ≡ Done }
     {
         self.forgets(link);
-        self.lent.remove(link);
+        drop(self.lent.take_out(link));
         self.losses += 1;
         Reply::Done
     }
@@ -255,16 +258,16 @@ impl BookState {
     /// What the first ticket of its pool is answered.
     #[tactic(auto, using(crate::proofs::Choices::lend_chosen))]
     fn choice(&self, ticket: &Ticket) -> Choice
+        requires once { (n : ℕ) → count_by (book.is_link n) self.now.idle ≤ 1 }
         ensures { Chooses self.now ticket.now result }
     {
-        match self.idle.last_of_key(ticket.key.key()) {
-            Some(place) => Choice::Lend(place),
+        match self.idle.last_of_key(&ticket.key) {
+            Some(number) => Choice::Lend(number),
             None => self.room_for(ticket),
         }
     }
 
     /// What it is answered where no idle link is of its key.
-    #[tactic(auto, using(crate::proofs::Choices::start_chosen, crate::proofs::Choices::book_full, crate::proofs::Choices::pool_full))]
     fn room_for(&self, ticket: &Ticket) -> Choice
         requires { book.latest_of ticket.now.key self.now.idle ≡ None }
         ensures { Chooses self.now ticket.now result }
@@ -322,18 +325,6 @@ impl BookState {
         }
     }
 
-    /// A client takes its link, if it may have one now.
-    pub fn takes(&mut self, client: u64) -> Reply
-        requires kept { Kept self.old }
-        requires more { self.old.decisions < outcome.last_decision }
-        ensures { Gives self.new result (outcome.takes self.old (find (book.is_of client) self.old.tickets)) }
-    {
-        match self.tickets.place_of(client) {
-            Some(place) => self.takes_by(place, client),
-            None => Reply::Stranger,
-        }
-    }
-
     /// Whether a ticket waits on that so many of its pool stand before.
     fn must_wait(&self, before: usize) -> bool
         ensures { result ≡ (self.now.is_paused || not (before == 0)) }
@@ -341,25 +332,26 @@ impl BookState {
         self.is_paused || before != 0
     }
 
-    /// The client takes its link by its ticket, which is at this place.
-    fn takes_by(&mut self, place: usize, client: u64) -> Reply
-        requires found { position (book.is_of client) self.old.tickets ≡ Some place }
+    /// A client takes its link, if it may have one now.
+    pub fn takes(&mut self, client: u64) -> Reply
         requires kept { Kept self.old }
         requires more { self.old.decisions < outcome.last_decision }
         ensures { Gives self.new result (outcome.takes self.old (find (book.is_of client) self.old.tickets)) }
     {
-        let ticket = self.tickets.at(place);
+        let Some(ticket) = self.tickets.get(client) else {
+            return Reply::Stranger;
+        };
         if self.is_shut {
             return self.loses_ticket(client, Refusal::ShuttingDown);
         }
         if self.has_waited(ticket) {
             return self.loses_ticket(client, Refusal::WaitedTooLong);
         }
-        let before = self.tickets.waiting_before(place, &ticket.key, client);
+        let before = self.tickets.waiting_before(&ticket.key, client);
         if self.must_wait(before) {
             return Reply::Queued(before as u64);
         }
-        self.grants(place)
+        self.grants(client)
     }
 
     /// The client's ticket goes.
@@ -368,34 +360,37 @@ impl BookState {
         ensures book { self.new ≡ record self.old { tickets = book.without_ticket client self.old.tickets } }
         ensures reply { result ≡ Refuse refusal }
     {
-        self.tickets.remove(client);
+        drop(self.tickets.take_out(client));
         Reply::Refuse(refusal)
     }
 
-    /// What the first ticket of its pool gets, which is at this place.
-    fn grants(&mut self, place: usize) -> Reply
-        requires bound { place < length self.old.tickets }
-        requires first { (t : TicketRow) → slice_get self.old.tickets place ≡ Some t → book.waiting_before t.key t.client self.old.tickets ≡ 0 }
+    /// What the client gets by its ticket, which is the first of its pool.
+    fn grants(&mut self, client: u64) -> Reply
+        requires first { (t : TicketRow) → find (book.is_of client) self.old.tickets ≡ Some t → book.waiting_before t.key t.client self.old.tickets ≡ 0 }
         requires kept { Kept self.old }
         requires more { self.old.decisions < outcome.last_decision }
-        ensures { (t : TicketRow) → slice_get self.old.tickets place ≡ Some t → Gives self.new result (outcome.grants self.old t (book.latest_of t.key self.old.idle)) }
+        ensures { (t : TicketRow) → find (book.is_of client) self.old.tickets ≡ Some t → Gives self.new result (outcome.grants self.old t (book.latest_of t.key self.old.idle)) }
     {
-        let ticket = self.tickets.at(place);
-        match self.choice(ticket) {
-            Choice::Lend(idle) => {
-                let ticket = self.tickets.take_out(place);
-                let link = self.idle.take_out(idle);
-                self.lends(ticket, link)
-            }
-            Choice::Start => {
-                let ticket = self.tickets.take_out(place);
-                self.starts(ticket, None)
-            }
+        let Some(ticket) = self.tickets.get(client) else {
+            return Reply::Stranger;
+        };
+        let choice = self.choice(ticket);
+        if let Choice::Wait = choice {
+            return Reply::Queued(0);
+        }
+        let Some(ticket) = self.tickets.take_out(client) else {
+            return Reply::Stranger;
+        };
+        match choice {
+            Choice::Lend(idle) => match self.idle.take_out(idle) {
+                Some(link) => self.lends(ticket, link),
+                None => Reply::Stranger,
+            },
+            Choice::Start => self.starts(ticket, None),
             Choice::Evict(idle) => {
-                let ticket = self.tickets.take_out(place);
-                let old = self.idle.take_out(idle);
+                drop(self.idle.take_out(idle));
                 self.evictions += 1;
-                self.starts(ticket, Some(old.number))
+                self.starts(ticket, Some(idle))
             }
             Choice::Wait => Reply::Queued(0),
         }
@@ -406,8 +401,17 @@ impl BookState {
         requires kept { Kept self.old }
         ensures { Gives self.new result (outcome.gives_back self.old (find (book.is_link number) self.old.lent)) }
     {
-        match self.lent.place_of(number) {
-            Some(place) => self.takes_back(place, number),
+        let Some(link) = self.lent.get(number) else {
+            return Reply::Stranger;
+        };
+        let closes = self.closes(link);
+        let link = self.lent.take_out(number);
+        self.forgets(number);
+        if closes {
+            return Reply::Close(number);
+        }
+        match link {
+            Some(link) => self.keeps(link),
             None => Reply::Stranger,
         }
     }
@@ -417,22 +421,6 @@ impl BookState {
         ensures { result ≡ (outcome.is_old self.now link.now || outcome.is_crowded self.now link.now) }
     {
         self.is_old(link) || self.is_crowded(link)
-    }
-
-    /// The link comes back that is lent at this place.
-    fn takes_back(&mut self, place: usize, number: u64) -> Reply
-        requires found { position (book.is_link number) self.old.lent ≡ Some place }
-        requires kept { Kept self.old }
-        ensures { Gives self.new result (outcome.gives_back self.old (find (book.is_link number) self.old.lent)) }
-    {
-        let link = self.lent.at(place);
-        let closes = self.closes(link);
-        let link = self.lent.take_out(place);
-        self.forgets(link.number);
-        if closes {
-            return Reply::Close(link.number);
-        }
-        self.keeps(link)
     }
 
     /// The link, which has been taken out, lies idle from now on.
@@ -461,9 +449,9 @@ impl BookState {
         ensures { Gives self.new result (outcome.closes self.old (find (outcome.is_stale self.old) self.old.idle)) }
     {
         match self.first_stale() {
-            Some(place) => {
-                let link = self.idle.take_out(place);
-                Reply::Close(link.number)
+            Some(number) => {
+                drop(self.idle.take_out(number));
+                Reply::Close(number)
             }
             None => Reply::Done,
         }
@@ -497,6 +485,7 @@ impl BookState {
 
     /// What a Cancel of the client is answered.
     fn strike(&self, client: KeyView) -> Reply
+        requires once { (n : ℕ) → count_by (book.is_link n) self.now.lent ≤ 1 }
         ensures { result ≡ (outcome.cancels self.now (find (book.is_of_client client) self.now.keyed)).reply }
     {
         match self.keyed.of_client(client) {
@@ -507,10 +496,11 @@ impl BookState {
 
     /// What a Cancel of this lease's client is answered.
     fn strike_at(&self, lease: &Lease) -> Reply
+        requires once { (n : ℕ) → count_by (book.is_link n) self.now.lent ≤ 1 }
         ensures { result ≡ (outcome.strikes_at self.now lease.now (find (book.is_link lease.now.link) self.now.lent)).reply }
     {
-        match self.lent.place_of(lease.link) {
-            Some(place) => strike_by(lease, self.lent.at(place).key.key()),
+        match self.lent.get(lease.link) {
+            Some(link) => strike_by(lease, link.key.key()),
             None => Reply::Nobody,
         }
     }
@@ -574,11 +564,28 @@ impl BookState {
         Reply::Done
     }
 
-    /// Where the first idle link stands that is to be closed.
-    fn first_stale(&self) -> Option<usize>
-        ensures { result ≡ position (outcome.is_stale self.now) self.now.idle }
+    /// Whether an idle link that is to be closed is in the slot.
+    fn has_stale(&self, slot: &Option<Link>) -> bool
+        ensures { result ≡ passes (outcome.is_stale self.now) slot.now }
     {
-        self.idle.as_slice().iter().position(|l| self.is_stale(l))
+        match slot {
+            Some(link) => self.is_stale(link),
+            None => false,
+        }
+    }
+
+    /// The first slot of an idle link that is to be closed.
+    fn stale_slot<'a>(&self, slots: &'a VecDeque<Option<Link>>) -> Option<&'a Option<Link>>
+        ensures { option_copied result ≡ find (λ s. passes (outcome.is_stale self.now) s) slots.now.items }
+    {
+        slots.iter().find(|s| self.has_stale(s))
+    }
+
+    /// The first idle link that is to be closed.
+    fn first_stale(&self) -> Option<u64>
+        ensures { result ≡ number_of (find (outcome.is_stale self.now) self.now.idle) }
+    {
+        number_in(self.stale_slot(self.idle.slots()))
     }
 }
 
@@ -604,20 +611,21 @@ fn later(clock: u64, now: u64) -> u64
     if clock < now { now } else { clock }
 }
 
-/// What the first ticket of its pool is answered; links by their places among the idle ones.
+/// What the first ticket of its pool is answered; links by their numbers.
+#[derive(Clone, Copy, Drop)]
 enum Choice {
-    Lend(usize),
+    Lend(u64),
     Start,
-    Evict(usize),
+    Evict(u64),
     Wait,
 }
 
 /// To close this link for another's start; to wait, where there is none.
-fn eviction(place: Option<usize>) -> Choice
-    ensures { result ≡ eviction_of place }
+fn eviction(link: Option<u64>) -> Choice
+    ensures { result ≡ eviction_of link }
 {
-    match place {
-        Some(place) => Choice::Evict(place),
+    match link {
+        Some(number) => Choice::Evict(number),
         None => Choice::Wait,
     }
 }

@@ -5,12 +5,12 @@ ghost use Rattle.book_model.specs.Book.{empty_book, is_link, no_counts};
 ghost use Rattle.book_model.specs.Events.{event_of};
 ghost use Rattle.book_model.specs.Outcomes.{apply, is_started_as};
 ghost use Rattle.book_register.specs.Counted.{counted_book};
-ghost use Rattle.book_register.specs.Views.{view_of, waiting_at};
+ghost use Rattle.book_register.specs.Views.{view_of};
 ghost use Rattle.book_register.specs.Waking.{is_full, waiting_behind, waiting_for};
 ghost use Rattle.book_model.specs.Kept.{FitsLimits, Kept, KeptLimits};
 
 use crate::book_state::BookState;
-use crate::view::{BookView, Waiting};
+use crate::view::BookView;
 use book_model::counts::Counts;
 use book_model::events::{Event, Reply};
 use book_model::limits::Limits;
@@ -165,7 +165,7 @@ impl Lists {
     pub fn is_lent_as(&self, number: u64, key: &StartKey, born: u64) -> bool
         ensures { result ≡ is_started_as key.now born (find (is_link number) self.now.lent) }
     {
-        self.board.lent.has_as(number, key, born)
+        self.board.is_lent_as(number, key, born)
     }
 
     /// Whether no client is let in any more.
@@ -191,11 +191,10 @@ impl Lists {
         self.board.view(alloc)
     }
 
-    /// Who waits with the ticket at this place, places counted from 0 in the order of the Asks; none, where there are so few.
-    pub fn ticket(&self, at: usize) -> Option<Waiting>
-        ensures { result ≡ waiting_at self.now.tickets at }
-    {
-        self.board.ticket(at)
+    /// Who may be woken where any pool may have a link: by places from 0 on, those who have waited longest in their pools, in no order,
+    /// or all who wait, where no index tells them. `None` behind the last place; a place may have nobody.
+    pub fn first_at(&self, at: usize) -> Option<Option<u64>> {
+        self.board.first_at(at)
     }
 
     /// Who has waited longest in the pool for which this client waits, but for itself; nobody where it doesn't wait.

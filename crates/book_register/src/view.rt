@@ -1,7 +1,8 @@
 //! What a book shows of itself.
-ghost use Rattle.std.specs.Prelude.{◌≡◌, ◌≤◌, ℕ, IfOk, count_by};
+ghost use Rattle.std.specs.Prelude.{◌≡◌, ◌≤◌, ℕ, IfOk, count_by, find};
+ghost use Rattle.book_model.specs.Outcomes.{is_started_as};
 ghost use Rattle.book_model.specs.Book as book;
-ghost use Rattle.book_register.specs.Views.{view_of, waiting_at};
+ghost use Rattle.book_register.specs.Views.{view_of};
 ghost use Rattle.book_register.specs.Waking.{waiting_behind, waiting_for};
 
 use crate::book_state::BookState;
@@ -10,6 +11,7 @@ use book_model::limits::Limits;
 use book_rows::clients::Client;
 use book_rows::links::Link;
 use book_rows::tickets::Ticket;
+use start_keys::StartKey;
 use std::alloc::{AllocError, Global};
 use std::marker::Model;
 use std::sync::Arc;
@@ -89,13 +91,6 @@ impl Model for BookView {
     } };
 }
 
-/// A client that waits, and whether no other of its pool has waited longer.
-#[derive(Clone, Copy, PartialEq, Eq, Drop)]
-pub struct Waiting {
-    pub client: u64,
-    pub first_of_pool: bool,
-}
-
 impl BookState {
     /// The lists as they are now.
     pub fn view(&self, alloc: Global) -> Result<BookView, AllocError>
@@ -119,38 +114,38 @@ impl BookState {
         })
     }
 
-    /// Who waits with the ticket at this place; none, where there are so few.
-    pub fn ticket(&self, at: usize) -> Option<Waiting>
-        ensures { result ≡ waiting_at self.now.tickets at }
+    /// Whether a link of this number is lent, and was started for an equal key at this second.
+    pub fn is_lent_as(&self, number: u64, key: &StartKey, born: u64) -> bool
+        requires once { (n : ℕ) → count_by (book.is_link n) self.now.lent ≤ 1 }
+        ensures { result ≡ is_started_as key.now born (find (book.is_link number) self.now.lent) }
     {
-        let ticket = self.tickets.get(at)?;
-        Some(Waiting {
-            client: ticket.client,
-            first_of_pool: !self.tickets.has_before(at, &ticket.key),
-        })
+        self.lent.has_as(number, key, born)
+    }
+
+    /// Who may be woken where any pool may have a link: by places from 0 on, those who have waited longest in their pools, in no order,
+    /// or all who wait, where no index tells them. `None` behind the last place; a place may have nobody.
+    pub fn first_at(&self, at: usize) -> Option<Option<u64>> {
+        self.tickets.first_at(at)
     }
 
     /// Who has waited longest in the pool for which this client waits, but for itself; nobody where it doesn't wait.
-    #[tactic(auto, using(crate::proofs::Waking::behind_nobody))]
     pub fn waiting_behind(&self, client: u64) -> Option<u64>
         requires once { (n : ℕ) → count_by (book.is_of n) self.now.tickets ≤ 1 }
         ensures { result ≡ waiting_behind self.now client }
     {
-        match self.tickets.place_of(client) {
-            Some(place) => self
-                .tickets
-                .longest_waiting_but(client, &self.tickets.at(place).key),
+        match self.tickets.get(client) {
+            Some(ticket) => self.tickets.longest_waiting_but(client, &ticket.key),
             None => None,
         }
     }
 
     /// Who has waited longest in the pool of this lent link; nobody where it isn't lent.
-    #[tactic(auto, using(crate::proofs::Waking::for_nothing))]
     pub fn waiting_for(&self, link: u64) -> Option<u64>
+        requires once { (n : ℕ) → count_by (book.is_link n) self.now.lent ≤ 1 }
         ensures { result ≡ waiting_for self.now link }
     {
-        match self.lent.place_of(link) {
-            Some(place) => self.tickets.longest_waiting(&self.lent.at(place).key),
+        match self.lent.get(link) {
+            Some(link) => self.tickets.longest_waiting(&link.key),
             None => None,
         }
     }

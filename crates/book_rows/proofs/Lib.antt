@@ -1,4 +1,6 @@
 pub mod PoolHashes
 pub mod Places
+pub mod Pooling
+pub mod Numbering
 pub mod Indexing
 pub mod ShortNames

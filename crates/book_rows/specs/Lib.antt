@@ -3,3 +3,5 @@ pub mod Places
 pub mod Waiting
 pub mod Index
 pub mod ShortNames
+pub mod PoolIndex
+pub mod Numbered

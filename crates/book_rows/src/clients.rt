@@ -1,15 +1,13 @@
 //! The clients that are there.
-ghost use Rattle.std.specs.Prelude.{◌≡◌, ◌<◌, ◌≤◌, ◌++◌, ◌∷◌, [], ℕ, IfOk, count_by, length, position, slice_get};
+ghost use Rattle.std.specs.Prelude.{◌≡◌, ◌<◌, ◌≤◌, ◌++◌, ◌∷◌, [], ℕ, IfOk, count_by, length};
 ghost use Rattle.std.specs.List.{list_any};
 ghost use Rattle.book_model.specs.Book as book;
 ghost use Rattle.book_model.specs.Outcomes.{in_state};
 ghost use Rattle.book_model.specs.declared.limits.TheConstants.{MOST_CLIENTS};
-ghost use Rattle.book_rows.specs.Places.{passes};
 
+use crate::numbered::{Numbered, NumberedRows};
 use book_model::events::ClientState;
-use book_model::limits::MOST_CLIENTS;
 use std::alloc::{AllocError, Global};
-use std::collections::VecDeque;
 use std::marker::Model;
 
 /// A client that is there.
@@ -27,18 +25,17 @@ impl Model for Client {
     ghost view = { λ c. record { number = c.number; state = c.state } };
 }
 
-impl Client {
-    /// Whether it has this number.
-    fn is(&self, number: u64) -> bool
-        ensures { result ≡ book.is_client number self.now }
-    {
-        self.number == number
+impl Numbered for Client {
+    ghost number = { λ c. c.number };
+
+    fn number(&self) -> u64 {
+        self.number
     }
 }
 
 /// The clients in the order in which they came, with room for the most that there can be.
 pub struct Clients {
-    rows: VecDeque<Client>,
+    rows: NumberedRows<Client>,
 }
 
 impl Drop for Clients {
@@ -48,16 +45,12 @@ impl Drop for Clients {
 }
 
 impl Model for Clients {
-    ghost use Rattle.std.specs.Prelude.{◌≤◌, List};
-    ghost use Rattle.std.specs.VecDeque.{deque_capacity};
+    ghost use Rattle.std.specs.Prelude.{List};
     ghost use Rattle.book_model.specs.Book.{Client as ClientRow};
-    ghost use Rattle.book_model.specs.declared.limits.TheConstants.{MOST_CLIENTS};
 
     ghost Value = { List ClientRow };
 
-    ghost view = { λ c. c.rows.items };
-
-    ghost invariant = { λ c. MOST_CLIENTS ≤ deque_capacity c.rows };
+    ghost view = { λ c. c.rows };
 }
 
 impl Clients {
@@ -65,7 +58,7 @@ impl Clients {
     pub fn new(alloc: Global) -> Result<Clients, AllocError>
         ensures { IfOk result (λ c. c ≡ []) }
     {
-        let rows = VecDeque::with_capacity(alloc, MOST_CLIENTS as usize)?;
+        let rows = NumberedRows::new(alloc)?;
         Ok(Clients { rows })
     }
 
@@ -80,41 +73,16 @@ impl Clients {
     pub fn copied(&self, alloc: Global) -> Result<Vec<Client>, AllocError>
         ensures { IfOk result (λ v. v.items ≡ self.now) }
     {
-        let (front, back) = self.rows.as_slices();
-        let mut rows = Vec::from_clones(alloc, front)?;
-        rows.extend_with_clones(back)?;
-        Ok(rows)
-    }
-
-    /// Whether the client stands at this place.
-    fn stands_at(&self, place: usize, number: u64) -> bool
-        ensures { result ≡ passes (book.is_client number) (slice_get self.now place) }
-    {
-        match self.rows.get(place) {
-            Some(client) => client.is(number),
-            None => false,
-        }
-    }
-
-    /// Where the client stands: by their numbers, which rise as they come.
-    fn place_of(&self, number: u64) -> Option<usize>
-        requires once { (n : ℕ) → count_by (book.is_client n) self.now ≤ 1 }
-        ensures { result ≡ position (book.is_client number) self.now }
-    {
-        let place = self.rows.partition_point(|c| c.number < number);
-        if self.stands_at(place, number) {
-            return Some(place);
-        }
-        self.rows.iter().position(|c| c.is(number))
+        self.rows.copied(alloc)
     }
 
     /// Whether the client is there.
-    #[tactic(auto, using(crate::proofs::Places::is_there))]
+    #[tactic(auto, using(crate::proofs::Numbering::is_there))]
     pub fn has(&self, number: u64) -> bool
         requires once { (n : ℕ) → count_by (book.is_client n) self.now ≤ 1 }
         ensures { result ≡ list_any (book.is_client number) self.now }
     {
-        self.place_of(number).is_some()
+        self.rows.get(number).is_some()
     }
 
     /// A client comes.
@@ -122,7 +90,7 @@ impl Clients {
         requires { length self.old < MOST_CLIENTS }
         ensures { self.new ≡ self.old ++ client ∷ [] }
     {
-        self.rows.push_back_reserved(client);
+        self.rows.push(client);
     }
 
     /// The client goes.
@@ -130,18 +98,15 @@ impl Clients {
         requires once { (n : ℕ) → count_by (book.is_client n) self.old ≤ 1 }
         ensures { self.new ≡ book.without_client number self.old }
     {
-        if let Some(place) = self.place_of(number) {
-            drop(self.rows.remove(place));
-        }
+        drop(self.rows.take(number));
     }
 
     /// The client is in this state from now on.
+    #[tactic(auto, using(crate::proofs::Numbering::state_put))]
     pub fn put_in_state(&mut self, state: ClientState, number: u64)
         requires once { (n : ℕ) → count_by (book.is_client n) self.old ≤ 1 }
         ensures { self.new ≡ in_state state number self.old }
     {
-        if let Some(place) = self.place_of(number) {
-            self.rows[place].state = state;
-        }
+        self.rows.replace(Client { number, state });
     }
 }

@@ -6,6 +6,8 @@ pub mod clients;
 pub mod index;
 pub mod leases;
 pub mod links;
+pub mod numbered;
+mod pool_index;
 pub mod pools;
 mod short_names;
 pub mod tickets;

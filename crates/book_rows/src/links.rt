@@ -1,16 +1,19 @@
 //! The links that are lent, or idle.
-ghost use Rattle.std.specs.Prelude.{◌≡◌, ◌<◌, ◌≤◌, ◌^◌, ◌++◌, ◌∷◌, [], ℕ, true, Some, IfOk, count_by, find, length, position, slice_get, slice_index_or};
+ghost use Rattle.std.specs.Prelude.{◌≡◌, ◌<◌, ◌≤◌, ◌^◌, ◌++◌, ◌∷◌, [], ℕ, true, Some, IfOk, count_by, find, is_some, length, option_copied};
 ghost use Rattle.std.specs.List.{list_any};
 ghost use Rattle.start_keys.specs.Keys.{same_key};
 ghost use Rattle.book_model.specs.Book as book;
 ghost use Rattle.book_model.specs.Outcomes.{is_started_as};
 ghost use Rattle.book_model.specs.declared.limits.TheConstants.{MOST_LINKS};
-ghost use Rattle.book_rows.specs.Places.{IsLast};
+ghost use Rattle.book_rows.specs.Numbered.{last_with, number_in, number_of, rows_in};
+ghost use Rattle.book_rows.specs.Places.{passes};
 
+use crate::numbered::{Numbered, NumberedRows};
+use crate::pool_index::{PoolIndex, list, unlist};
 use crate::pools::PoolKey;
-use book_model::limits::MOST_LINKS;
 use start_keys::StartKey;
 use std::alloc::{AllocError, Global};
+use std::collections::VecDeque;
 use std::marker::Model;
 
 /// A link that is lent or idle: when it was started, and when it came back last.
@@ -30,57 +33,128 @@ impl Model for Link {
     ghost view = { λ l. record { number = l.number; key = l.key; born = l.born; since = l.since } };
 }
 
-impl Link {
-    /// Whether it has this number.
-    fn is(&self, number: u64) -> bool
-        ensures { result ≡ book.is_link number self.now }
-    {
-        self.number == number
-    }
+impl Numbered for Link {
+    ghost number = { λ l. l.number };
 
+    fn number(&self) -> u64 {
+        self.number
+    }
+}
+
+impl Link {
     /// Whether it was started for an equal key.
-    fn is_of_key(&self, key: &StartKey) -> bool
+    fn is_of_key(&self, key: &PoolKey) -> bool
         ensures { result ≡ same_key self.now.key key.now }
     {
-        self.key.is(key)
-    }
-
-    /// Whether it is of this key's pool.
-    fn is_in_pool(&self, pool: &PoolKey) -> bool
-        ensures { result ≡ book.in_pool pool.now self.now }
-    {
-        self.key.is_in_pool_of(pool)
+        self.key.is_key_of(key)
     }
 
     /// Whether it was started for an equal key, at this second.
     fn was_started_as(&self, key: &StartKey, born: u64) -> bool
         ensures { result ≡ is_started_as key.now born (Some self.now) }
     {
-        self.is_of_key(key) && self.born == born
+        self.key.is(key) && self.born == born
     }
 }
 
-/// Links in the order in which they were lent, or came back, with room for the most that there can be.
+/// Whether a link of this pool is in the slot.
+fn is_in_pool(slot: &Option<Link>, pool: &PoolKey) -> bool
+    ensures { result ≡ passes (book.in_pool pool.now) slot.now }
+{
+    match slot {
+        Some(link) => link.key.is_in_pool_of(pool),
+        None => false,
+    }
+}
+
+/// The number of the link in the slot.
+pub fn number_in(slot: Option<&Option<Link>>) -> Option<u64>
+    ensures { result ≡ number_in (option_copied slot.entry) }
+{
+    match slot {
+        Some(Some(link)) => Some(link.number),
+        _ => None,
+    }
+}
+
+// ---- what an index tells, where it was given up: by a walk
+
+#[tactic(auto, using(crate::proofs::Numbering::counted_slots))]
+fn count_in(slots: &VecDeque<Option<Link>>, pool: &PoolKey) -> usize
+    ensures { result ≡ count_by (book.in_pool pool.now) (rows_in slots.now.items) }
+{
+    slots.iter().filter(|s| is_in_pool(s, pool)).count()
+}
+
+fn slot_in<'a>(slots: &'a VecDeque<Option<Link>>, pool: &PoolKey) -> Option<&'a Option<Link>>
+    ensures { option_copied result ≡ find (λ s. passes (book.in_pool pool.now) s) slots.now.items }
+{
+    slots.iter().find(|s| is_in_pool(s, pool))
+}
+
+fn first_in(slots: &VecDeque<Option<Link>>, pool: &PoolKey) -> Option<u64>
+    ensures { result ≡ number_of (find (book.in_pool pool.now) (rows_in slots.now.items)) }
+{
+    number_in(slot_in(slots, pool))
+}
+
+/// The first slot that isn't empty.
+fn full_slot(slots: &VecDeque<Option<Link>>) -> Option<&Option<Link>>
+    ensures { option_copied result ≡ find is_some slots.now.items }
+{
+    slots.iter().find(|s| s.is_some())
+}
+
+/// The link in the slot, where it is of this key, or else the last one before.
+fn last_with(slot: &Option<Link>, key: &PoolKey, last: Option<u64>) -> Option<u64>
+    ensures { result ≡ last_with key.now slot.now last }
+{
+    match slot {
+        Some(link) => {
+            if link.is_of_key(key) {
+                Some(link.number)
+            } else {
+                last
+            }
+        }
+        None => last,
+    }
+}
+
+/// The last link of this key.
+fn last_in(slots: &VecDeque<Option<Link>>, key: &PoolKey) -> Option<u64>
+    ensures { result ≡ number_of (book.latest_of key.now (rows_in slots.now.items)) }
+{
+    let mut last = None;
+    'slots: for place in 0..slots.len() {
+        last = last_with(&slots[place], key, last);
+    }
+    last
+}
+
+/// Links in the order in which they were lent, or came back, with room for the most that there can be, and an index of them by pool until
+/// one finds no room in it.
 pub struct Links {
-    rows: Vec<Link>,
+    rows: NumberedRows<Link>,
+    pools: Option<PoolIndex>,
 }
 
 impl Drop for Links {
     fn drop(self) {
-        let Links { rows: _ } = self;
+        let Links { rows: _, pools: _ } = self;
     }
 }
 
 impl Model for Links {
-    ghost use Rattle.std.specs.Prelude.{◌≤◌, List, vec_capacity};
+    ghost use Rattle.std.specs.Prelude.{List};
     ghost use Rattle.book_model.specs.Book.{Link as LinkRow};
-    ghost use Rattle.book_model.specs.declared.limits.TheConstants.{MOST_LINKS};
+    ghost use Rattle.book_rows.specs.PoolIndex.{ListsIfAny};
 
     ghost Value = { List LinkRow };
 
-    ghost view = { λ l. l.rows.items };
+    ghost view = { λ l. l.rows };
 
-    ghost invariant = { λ l. MOST_LINKS ≤ vec_capacity l.rows };
+    ghost invariant = { λ l. ListsIfAny (λ (r : LinkRow). r.number) (λ r. r.key) l.pools l.rows };
 }
 
 impl Links {
@@ -88,8 +162,9 @@ impl Links {
     pub fn new(alloc: Global) -> Result<Links, AllocError>
         ensures { IfOk result (λ l. l ≡ []) }
     {
-        let rows = Vec::with_capacity(alloc, MOST_LINKS as usize)?;
-        Ok(Links { rows })
+        let rows = NumberedRows::new(alloc)?;
+        let pools = Some(PoolIndex::new(alloc));
+        Ok(Links { rows, pools })
     }
 
     /// How many there are.
@@ -104,75 +179,72 @@ impl Links {
     pub fn copied(&self, alloc: Global) -> Result<Vec<Link>, AllocError>
         ensures { IfOk result (λ v. v.items ≡ self.now) }
     {
-        Vec::from_clones(alloc, &self.rows)
+        self.rows.copied(alloc)
     }
 
-    /// The links.
-    pub fn as_slice(&self) -> &[Link]
-        ensures { result.now ≡ self.now }
+    /// The links, each in a slot, of which some are empty.
+    pub fn slots(&self) -> &VecDeque<Option<Link>>
+        ensures { rows_in result.now.items ≡ self.now }
     {
-        &self.rows
+        self.rows.slots()
     }
 
-    /// The link at this place.
-    pub fn at(&self, place: usize) -> &Link
-        requires { place < length self.now }
-        ensures { result.now ≡ slice_index_or self.now place result.now }
+    /// The link of this number.
+    pub fn get(&self, number: u64) -> Option<&Link>
+        requires once { (n : ℕ) → count_by (book.is_link n) self.now ≤ 1 }
+        ensures { option_copied result ≡ find (book.is_link number) self.now }
     {
-        &self.rows[place]
-    }
-
-    /// Where the link stands.
-    pub fn place_of(&self, number: u64) -> Option<usize>
-        ensures { result ≡ position (book.is_link number) self.now }
-    {
-        self.rows.iter().position(|l| l.is(number))
+        self.rows.get(number)
     }
 
     /// Whether the link is there.
+    #[tactic(auto, using(crate::proofs::Numbering::is_there))]
     pub fn has(&self, number: u64) -> bool
+        requires once { (n : ℕ) → count_by (book.is_link n) self.now ≤ 1 }
         ensures { result ≡ list_any (book.is_link number) self.now }
     {
-        self.rows.iter().any(|l| l.is(number))
+        self.rows.get(number).is_some()
     }
 
-    /// Whether the link of this number is there, and was started for an equal key at this second.
-    #[tactic(auto, using(crate::proofs::Places::started_at, crate::proofs::Places::started_nowhere))]
+    /// Whether the link is there, and was started for an equal key at this second.
     pub fn has_as(&self, number: u64, key: &StartKey, born: u64) -> bool
+        requires once { (n : ℕ) → count_by (book.is_link n) self.now ≤ 1 }
         ensures { result ≡ is_started_as key.now born (find (book.is_link number) self.now) }
     {
-        match self.place_of(number) {
-            Some(place) => self.rows[place].was_started_as(key, born),
+        match self.rows.get(number) {
+            Some(link) => link.was_started_as(key, born),
             None => false,
         }
     }
 
-    /// Where the first link stands.
-    #[tactic(auto, using(crate::proofs::Places::first_is))]
-    pub fn first(&self) -> Option<usize>
-        ensures { result ≡ position (λ l. true) self.now }
+    /// The first link.
+    #[tactic(auto, using(crate::proofs::Numbering::first_number))]
+    pub fn first(&self) -> Option<u64>
+        ensures { result ≡ number_of (find (λ l. true) self.now) }
     {
-        if self.rows.is_empty() { None } else { Some(0) }
+        number_in(full_slot(self.rows.slots()))
     }
 
-    /// Where the first link of this pool stands.
-    pub fn first_of_pool(&self, pool: &PoolKey) -> Option<usize>
-        ensures { result ≡ position (book.in_pool pool.now) self.now }
+    /// The first link of this pool.
+    pub fn first_of_pool(&self, pool: &PoolKey) -> Option<u64>
+        ensures { result ≡ number_of (find (book.in_pool pool.now) self.now) }
     {
-        self.rows.iter().position(|l| l.is_in_pool(pool))
-    }
-
-    /// Where the last link of this key stands.
-    pub fn last_of_key(&self, key: &StartKey) -> Option<usize>
-        ensures { IsLast (λ l. same_key l.key key.now) self.now result }
-    {
-        let mut last = None;
-        for (place, link) in self.rows.iter().enumerate() {
-            if link.is_of_key(key) {
-                last = Some(place);
-            }
+        match &self.pools {
+            Some(index) => index.first(pool),
+            None => first_in(self.rows.slots(), pool),
         }
-        last
+    }
+
+    /// The last link of this key.
+    #[tactic(auto, using(crate::proofs::Pooling::no_last))]
+    pub fn last_of_key(&self, key: &PoolKey) -> Option<u64>
+        ensures { result ≡ number_of (book.latest_of key.now self.now) }
+    {
+        // mostly none of the pool is idle where clients wait
+        if self.count_of_pool(key) == 0 {
+            return None;
+        }
+        last_in(self.rows.slots(), key)
     }
 
     /// How many links are of this pool.
@@ -180,34 +252,34 @@ impl Links {
         ensures count { result ≡ count_by (book.in_pool pool.now) self.now }
         ensures fits { result < 2 ^ 63 }
     {
-        self.rows.iter().filter(|l| l.is_in_pool(pool)).count()
+        match &self.pools {
+            Some(index) => index.count(pool),
+            None => count_in(self.rows.slots(), pool),
+        }
     }
 
     /// A link more.
+    #[tactic(auto, using(crate::proofs::Pooling::listed_more))]
     pub fn push(&mut self, link: Link)
         requires { length self.old < MOST_LINKS }
         ensures { self.new ≡ self.old ++ link ∷ [] }
     {
-        self.rows.push_reserved(link);
+        list(&mut self.pools, &link.key, link.number);
+        self.rows.push(link);
     }
 
-    /// Takes the link at this place out.
-    pub fn take_out(&mut self, place: usize) -> Link
-        requires bound { place < length self.old }
+    /// The link is there no more: it, if it was there.
+    pub fn take_out(&mut self, number: u64) -> Option<Link>
         requires once { (n : ℕ) → count_by (book.is_link n) self.old ≤ 1 }
-        ensures link { slice_get self.old place ≡ Some result }
-        ensures rest { self.new ≡ book.without result.number self.old }
+        ensures link { result ≡ find (book.is_link number) self.old }
+        ensures rest { self.new ≡ book.without number self.old }
     {
-        self.rows.remove(place)
-    }
-
-    /// The link is there no more.
-    pub fn remove(&mut self, number: u64)
-        requires once { (n : ℕ) → count_by (book.is_link n) self.old ≤ 1 }
-        ensures { self.new ≡ book.without number self.old }
-    {
-        if let Some(place) = self.place_of(number) {
-            drop(self.rows.remove(place));
+        match self.rows.take(number) {
+            Some(link) => {
+                unlist(&mut self.pools, &link.key, number);
+                Some(link)
+            }
+            None => None,
         }
     }
 }

@@ -82,6 +82,13 @@ impl PoolKey {
         &self.key
     }
 
+    /// A number that the keys of a pool share, and hardly ever those of two.
+    pub(crate) fn hash(&self) -> u64
+        ensures { result ≡ pool_hash_of self.now }
+    {
+        self.pool_hash
+    }
+
     /// Whether the other key is of the same pool.
     #[tactic(auto, using(crate::proofs::PoolHashes::unlike))]
     pub fn is_in_pool_of(&self, other: &PoolKey) -> bool
@@ -98,6 +105,14 @@ impl PoolKey {
             (Some(name), Some(others)) => name.is(others),
             _ => is_same_pool(&self.key, &other.key),
         }
+    }
+
+    /// Whether the other key is equal, which its pool decides mostly.
+    #[tactic(auto, using(crate::proofs::PoolHashes::other_pool))]
+    pub fn is_key_of(&self, other: &PoolKey) -> bool
+        ensures { result ≡ same_key self.now other.now }
+    {
+        self.is_in_pool_of(other) && *self.key == *other.key
     }
 
     /// Whether the keys are equal.

@@ -1,13 +1,16 @@
 //! The tickets of the clients that wait.
-ghost use Rattle.std.specs.Prelude.{◌≡◌, ◌<◌, ◌≤◌, ◌++◌, ◌∷◌, ◌&&◌, [], ℕ, None, Some, IfOk, MatchOption, count_by, find, length, not, position, slice_get, slice_index_or, take};
+ghost use Rattle.std.specs.Prelude.{◌≡◌, ◌<◌, ◌≤◌, ◌++◌, ◌∷◌, ◌&&◌, [], ℕ, Some, IfOk, count_by, find, length, not, option_copied, position, true};
 ghost use Rattle.std.specs.List.{list_any};
 ghost use Rattle.book_model.specs.Book as book;
+ghost use Rattle.book_model.specs.Book.{Ticket as TicketRow};
 ghost use Rattle.book_model.specs.declared.limits.TheConstants.{MOST_CLIENTS};
+ghost use Rattle.book_rows.specs.Numbered.{client_in, rows_in};
 ghost use Rattle.book_rows.specs.Places.{passes};
 ghost use Rattle.book_rows.specs.Waiting.{longest_waiting, longest_waiting_but};
 
+use crate::numbered::{Numbered, NumberedRows};
+use crate::pool_index::{PoolIndex, list, unlist};
 use crate::pools::PoolKey;
-use book_model::limits::MOST_CLIENTS;
 use std::alloc::{AllocError, Global};
 use std::collections::VecDeque;
 use std::marker::Model;
@@ -28,44 +31,120 @@ impl Model for Ticket {
     ghost view = { λ t. record { client = t.client; key = t.key; since = t.since } };
 }
 
-impl Ticket {
-    /// Whether this client waits with it.
-    fn is_of(&self, client: u64) -> bool
-        ensures { result ≡ book.is_of client self.now }
-    {
-        self.client == client
-    }
+impl Numbered for Ticket {
+    ghost number = { λ t. t.client };
 
-    /// Whether it waits for a link of this key's pool.
-    fn is_in_pool(&self, pool: &PoolKey) -> bool
-        ensures { result ≡ book.same_pool self.now.key pool.now }
-    {
-        self.key.is_in_pool_of(pool)
+    fn number(&self) -> u64 {
+        self.client
     }
 }
 
-/// The tickets in the order of the Asks, with room for one of each client.
+/// Whether a ticket for a link of this pool is in the slot.
+fn is_for(slot: &Option<Ticket>, pool: &PoolKey) -> bool
+    ensures { result ≡ passes (λ t. book.same_pool t.key pool.now) slot.now }
+{
+    match slot {
+        Some(ticket) => ticket.key.is_in_pool_of(pool),
+        None => false,
+    }
+}
+
+/// Whether the client's ticket is in the slot.
+fn is_of(slot: &Option<Ticket>, client: u64) -> bool
+    ensures { result ≡ passes (book.is_of client) slot.now }
+{
+    match slot {
+        Some(ticket) => ticket.client == client,
+        None => false,
+    }
+}
+
+/// Whose ticket is in the slot.
+fn client_of(slot: Option<&Option<Ticket>>) -> Option<u64>
+    ensures { result ≡ client_in (option_copied slot.entry) }
+{
+    match slot {
+        Some(Some(ticket)) => Some(ticket.client),
+        _ => None,
+    }
+}
+
+// ---- what an index tells, where it was given up: by a walk
+
+#[tactic(auto, using(crate::proofs::Numbering::counted_slots))]
+fn waiting_in(slots: &VecDeque<Option<Ticket>>, pool: &PoolKey) -> usize
+    ensures { result ≡ count_by (λ t. book.same_pool t.key pool.now) (rows_in slots.now.items) }
+{
+    slots.iter().filter(|s| is_for(s, pool)).count()
+}
+
+fn place_in(slots: &VecDeque<Option<Ticket>>, client: u64) -> Option<usize>
+    ensures { result ≡ position (λ s. passes (book.is_of client) s) slots.now.items }
+{
+    slots.iter().position(|s| is_of(s, client))
+}
+
+#[tactic(auto, using(crate::proofs::Numbering::before_place))]
+fn waiting_before_in(slots: &VecDeque<Option<Ticket>>, pool: &PoolKey, client: u64) -> usize
+    requires { list_any (book.is_of client) (rows_in slots.now.items) ≡ true }
+    ensures { result ≡ book.waiting_before pool.now client (rows_in slots.now.items) }
+{
+    let Some(place) = place_in(slots, client) else {
+        unreachable!()
+    };
+    slots.range(..place).filter(|s| is_for(s, pool)).count()
+}
+
+fn slot_for<'a>(slots: &'a VecDeque<Option<Ticket>>, pool: &PoolKey) -> Option<&'a Option<Ticket>>
+    ensures { option_copied result ≡ find (λ s. passes (λ t. book.same_pool t.key pool.now) s) slots.now.items }
+{
+    slots.iter().find(|s| is_for(s, pool))
+}
+
+fn longest_in(slots: &VecDeque<Option<Ticket>>, pool: &PoolKey) -> Option<u64>
+    ensures { result ≡ longest_waiting pool.now (rows_in slots.now.items) }
+{
+    client_of(slot_for(slots, pool))
+}
+
+fn other_slot_for<'a>(
+    slots: &'a VecDeque<Option<Ticket>>,
+    pool: &PoolKey,
+    client: u64,
+) -> Option<&'a Option<Ticket>>
+    ensures { option_copied result ≡ find (λ s. passes (λ t. book.same_pool t.key pool.now) s && not (passes (book.is_of client) s)) slots.now.items }
+{
+    slots.iter().find(|s| is_for(s, pool) && !is_of(s, client))
+}
+
+fn longest_but_in(slots: &VecDeque<Option<Ticket>>, pool: &PoolKey, client: u64) -> Option<u64>
+    ensures { result ≡ longest_waiting_but client pool.now (rows_in slots.now.items) }
+{
+    client_of(other_slot_for(slots, pool, client))
+}
+
+/// The tickets in the order of the Asks, with room for one of each client, and an index of them by pool until one finds no room in it.
 pub struct Tickets {
-    rows: VecDeque<Ticket>,
+    rows: NumberedRows<Ticket>,
+    pools: Option<PoolIndex>,
 }
 
 impl Drop for Tickets {
     fn drop(self) {
-        let Tickets { rows: _ } = self;
+        let Tickets { rows: _, pools: _ } = self;
     }
 }
 
 impl Model for Tickets {
-    ghost use Rattle.std.specs.Prelude.{◌≤◌, List};
-    ghost use Rattle.std.specs.VecDeque.{deque_capacity};
+    ghost use Rattle.std.specs.Prelude.{List};
     ghost use Rattle.book_model.specs.Book.{Ticket as TicketRow};
-    ghost use Rattle.book_model.specs.declared.limits.TheConstants.{MOST_CLIENTS};
+    ghost use Rattle.book_rows.specs.PoolIndex.{ListsIfAny};
 
     ghost Value = { List TicketRow };
 
-    ghost view = { λ t. t.rows.items };
+    ghost view = { λ t. t.rows };
 
-    ghost invariant = { λ t. MOST_CLIENTS ≤ deque_capacity t.rows };
+    ghost invariant = { λ t. ListsIfAny (λ (r : TicketRow). r.client) (λ r. r.key) t.pools t.rows };
 }
 
 impl Tickets {
@@ -73,140 +152,113 @@ impl Tickets {
     pub fn new(alloc: Global) -> Result<Tickets, AllocError>
         ensures { IfOk result (λ t. t ≡ []) }
     {
-        let rows = VecDeque::with_capacity(alloc, MOST_CLIENTS as usize)?;
-        Ok(Tickets { rows })
+        let rows = NumberedRows::new(alloc)?;
+        let pools = Some(PoolIndex::new(alloc));
+        Ok(Tickets { rows, pools })
     }
 
     /// The tickets, in rows of the holder's own.
     pub fn copied(&self, alloc: Global) -> Result<Vec<Ticket>, AllocError>
         ensures { IfOk result (λ v. v.items ≡ self.now) }
     {
-        let (front, back) = self.rows.as_slices();
-        let mut rows = Vec::from_clones(alloc, front)?;
-        rows.extend_with_clones(back)?;
-        Ok(rows)
+        self.rows.copied(alloc)
     }
 
-    /// The ticket at this place.
-    pub fn at(&self, place: usize) -> &Ticket
-        requires { place < length self.now }
-        ensures { result.now ≡ slice_index_or self.now place result.now }
-    {
-        &self.rows[place]
-    }
-
-    /// The ticket at this place, where there are so many.
-    pub fn get(&self, place: usize) -> Option<&Ticket>
-        ensures { MatchOption result (slice_get self.now place ≡ None) (λ t. slice_get self.now place ≡ Some t.now) }
-    {
-        self.rows.get(place)
-    }
-
-    /// Whether there are so many tickets, and the one at this place is the client's.
-    fn stands_at(&self, place: usize, client: u64) -> bool
-        ensures { result ≡ passes (book.is_of client) (slice_get self.now place) }
-    {
-        match self.rows.get(place) {
-            Some(ticket) => ticket.is_of(client),
-            None => false,
-        }
-    }
-
-    /// Where the client's ticket stands: most often by the clients' numbers, since who came first mostly asks first.
-    pub fn place_of(&self, client: u64) -> Option<usize>
+    /// The client's ticket.
+    pub fn get(&self, client: u64) -> Option<&Ticket>
         requires once { (n : ℕ) → count_by (book.is_of n) self.now ≤ 1 }
-        ensures { result ≡ position (book.is_of client) self.now }
+        ensures { option_copied result ≡ find (book.is_of client) self.now }
     {
-        let place = self.rows.partition_point(|t| t.client < client);
-        if self.stands_at(place, client) {
-            return Some(place);
-        }
-        self.rows.iter().position(|t| t.is_of(client))
+        self.rows.get(client)
     }
 
     /// Whether the client has a ticket.
-    #[tactic(auto, using(crate::proofs::Places::is_there))]
+    #[tactic(auto, using(crate::proofs::Numbering::is_there))]
     pub fn has(&self, client: u64) -> bool
         requires once { (n : ℕ) → count_by (book.is_of n) self.now ≤ 1 }
         ensures { result ≡ list_any (book.is_of client) self.now }
     {
-        self.place_of(client).is_some()
+        self.rows.get(client).is_some()
     }
 
     /// How many tickets are of this pool.
     pub fn waiting(&self, pool: &PoolKey) -> usize
         ensures { result ≡ count_by (λ t. book.same_pool t.key pool.now) self.now }
     {
-        self.rows.iter().filter(|t| t.is_in_pool(pool)).count()
+        match &self.pools {
+            Some(index) => index.count(pool),
+            None => waiting_in(self.rows.slots(), pool),
+        }
     }
 
-    /// How many tickets of this pool stand before the client's, which is at this place.
-    #[tactic(auto, using(crate::proofs::Places::waiting_before_is))]
-    pub fn waiting_before(&self, place: usize, pool: &PoolKey, client: u64) -> usize
-        requires { position (book.is_of client) self.now ≡ Some place }
+    /// How many tickets of this pool stand before the client's, which is there.
+    pub fn waiting_before(&self, pool: &PoolKey, client: u64) -> usize
+        requires once { (n : ℕ) → count_by (book.is_of n) self.now ≤ 1 }
+        requires there { list_any (book.is_of client) self.now ≡ true }
         ensures { result ≡ book.waiting_before pool.now client self.now }
     {
-        self.rows
-            .range(..place)
-            .filter(|t| t.is_in_pool(pool))
-            .count()
-    }
-
-    /// Whether a ticket of this pool stands before this place.
-    pub fn has_before(&self, place: usize, pool: &PoolKey) -> bool
-        requires { place ≤ length self.now }
-        ensures { result ≡ list_any (λ t. book.same_pool t.key pool.now) (take place self.now) }
-    {
-        self.rows.range(..place).any(|t| t.is_in_pool(pool))
+        if let Some(index) = &self.pools {
+            if let Some(before) = index.place_of(pool, client) {
+                return before;
+            }
+        }
+        waiting_before_in(self.rows.slots(), pool, client)
     }
 
     /// Who has waited longest for a link of this pool.
     pub fn longest_waiting(&self, pool: &PoolKey) -> Option<u64>
         ensures { result ≡ longest_waiting pool.now self.now }
     {
-        let first = self.rows.iter().find(|t| t.is_in_pool(pool))?;
-        Some(first.client)
+        match &self.pools {
+            Some(index) => index.first(pool),
+            None => longest_in(self.rows.slots(), pool),
+        }
     }
 
     /// The same, but for this client.
     pub fn longest_waiting_but(&self, client: u64, pool: &PoolKey) -> Option<u64>
         ensures { result ≡ longest_waiting_but client pool.now self.now }
     {
-        let first = self
-            .rows
-            .iter()
-            .find(|t| t.is_in_pool(pool) && !t.is_of(client))?;
-        Some(first.client)
+        match &self.pools {
+            Some(index) => index.first_but(pool, client),
+            None => longest_but_in(self.rows.slots(), pool, client),
+        }
+    }
+
+    /// Who may be woken where any pool may have a link: by places from 0 on, those who have waited longest in their pools, in no order,
+    /// or all who wait, where the index was given up. `None` behind the last place; a place may have nobody.
+    pub fn first_at(&self, at: usize) -> Option<Option<u64>> {
+        match &self.pools {
+            Some(index) => index.first_at(at),
+            None => {
+                let slot = self.rows.slots().get(at)?;
+                Some(client_of(Some(slot)))
+            }
+        }
     }
 
     /// A client waits.
+    #[tactic(auto, using(crate::proofs::Pooling::listed_more))]
     pub fn push(&mut self, ticket: Ticket)
         requires { length self.old < MOST_CLIENTS }
         ensures { self.new ≡ self.old ++ ticket ∷ [] }
     {
-        self.rows.push_back_reserved(ticket);
+        list(&mut self.pools, &ticket.key, ticket.client);
+        self.rows.push(ticket);
     }
 
-    /// Takes the ticket at this place out.
-    pub fn take_out(&mut self, place: usize) -> Ticket
-        requires bound { place < length self.old }
+    /// The client waits no more: its ticket, if it had one.
+    pub fn take_out(&mut self, client: u64) -> Option<Ticket>
         requires once { (n : ℕ) → count_by (book.is_of n) self.old ≤ 1 }
-        ensures ticket { slice_get self.old place ≡ Some result }
-        ensures rest { self.new ≡ book.without_ticket result.client self.old }
+        ensures ticket { result ≡ find (book.is_of client) self.old }
+        ensures rest { self.new ≡ book.without_ticket client self.old }
     {
-        match self.rows.remove(place) {
-            Some(ticket) => ticket,
-            None => unreachable!(),
-        }
-    }
-
-    /// The client waits no more.
-    pub fn remove(&mut self, client: u64)
-        requires once { (n : ℕ) → count_by (book.is_of n) self.old ≤ 1 }
-        ensures { self.new ≡ book.without_ticket client self.old }
-    {
-        if let Some(place) = self.place_of(client) {
-            drop(self.rows.remove(place));
+        match self.rows.take(client) {
+            Some(ticket) => {
+                unlist(&mut self.pools, &ticket.key, client);
+                Some(ticket)
+            }
+            None => None,
         }
     }
 }

@@ -3,7 +3,6 @@ ghost use Rattle.lease_book.specs.Links.{IsTwice};
 
 use crate::book_parts::{Settings, Whose, key_of, limits, link};
 use book_model::events::ClientState;
-use book_register::view::Waiting;
 use book_rows::clients::Client;
 use lease_book::book::Book;
 use lease_book::events::{Event, Reply};
@@ -246,9 +245,17 @@ impl Story {
         self.book.kept()
     }
 
-    /// Who waits with the ticket at this place.
-    pub(crate) fn ticket(&self, at: usize) -> Option<Waiting> {
-        self.book.ticket(at)
+    /// Who may be woken where any pool may have a link, in no order.
+    pub(crate) fn firsts(&self) -> Result<Vec<u64>, AllocError> {
+        let mut firsts = Vec::new(self.alloc);
+        for at in 0..usize::MAX {
+            match self.book.first_at(at) {
+                Some(Some(client)) => firsts.push(client)?,
+                Some(None) => {}
+                None => break,
+            }
+        }
+        Ok(firsts)
     }
 
     /// All decisions, and those that were a Keyed, a Cancel or an end of a lease.

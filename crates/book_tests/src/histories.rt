@@ -2,7 +2,6 @@
 use crate::acts::{Act, Story, Told, surprise};
 use crate::book_parts::{Settings, Whose};
 use book_model::events::ClientState;
-use book_register::view::Waiting;
 use message_view::Refusal;
 use std::test::Fail;
 
@@ -121,14 +120,13 @@ fn the_first_of_each_pool_may_have_a_link(rt: HostRuntime) -> Result<(), Fail> {
     for act in acts {
         let _ = story.play(act)?;
     }
-    let waits = [(2, true), (1, false), (3, true)];
-    for (at, (client, first_of_pool)) in waits.into_iter().enumerate() {
-        let waiting = Waiting {
-            client,
-            first_of_pool,
-        };
-        assert!(rt; story.ticket(at) == Some(waiting));
-    }
-    assert!(rt; story.ticket(3).is_none());
+    let mut firsts = story.firsts()?;
+    firsts.sort();
+    assert!(rt; firsts.as_slice() == [2, 3]);
+    // the next of the pool is first once the first has gone
+    let _ = story.play(Act::Leave(2))?;
+    let mut firsts = story.firsts()?;
+    firsts.sort();
+    assert!(rt; firsts.as_slice() == [1, 3]);
     Ok(())
 }

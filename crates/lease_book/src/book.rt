@@ -7,7 +7,7 @@ ghost use Rattle.book_model.specs.Outcomes.{apply, apply_return, is_started_as};
 ghost use Rattle.book_model.specs.Outcomes.Event.{GiveBack};
 ghost use Rattle.book_model.specs.Kept.{total};
 ghost use Rattle.book_register.specs.Counted.{counted_book};
-ghost use Rattle.book_register.specs.Views.{view_of, waiting_at};
+ghost use Rattle.book_register.specs.Views.{view_of};
 ghost use Rattle.book_register.specs.Waking.{is_full, waiting_behind, waiting_for};
 ghost use Rattle.book_model.specs.Replay.{noted_of};
 ghost use Rattle.lease_book.specs.Links.{answered, brings_nothing, found, goes_out, handed, handed_after, handed_back, history_after, idle_after, idle_with, is_done, is_return, IsTwice, left, may_hand_back, number_of, plain, reply_of};
@@ -18,7 +18,7 @@ use crate::idle::IdleLinks;
 use book_model::counts::Counts;
 use book_model::events as lists;
 use book_model::limits::Limits;
-use book_register::view::{BookView, Waiting};
+use book_register::view::BookView;
 use link_run::links::CleanLink;
 use server_end::ServerEnd;
 use std::alloc::{AllocError, Global};
@@ -226,12 +226,10 @@ impl<E: ServerEnd> Book<E> {
         self.register.lists().view(alloc)
     }
 
-    /// Who waits with the ticket at this place, places counted from 0 in the order of the Asks, and whether it is the first of its
-    /// pool: no other may have a link before. None, where there are so few.
-    pub fn ticket(&self, at: usize) -> Option<Waiting>
-        ensures { result ≡ waiting_at self.now.lists.tickets at }
-    {
-        self.register.lists().ticket(at)
+    /// Who may be woken where any pool may have a link: by places from 0 on, those who have waited longest in their pools, in no order,
+    /// or all who wait, where no index tells them. `None` behind the last place; a place may have nobody.
+    pub fn first_at(&self, at: usize) -> Option<Option<u64>> {
+        self.register.lists().first_at(at)
     }
 
     /// Who has waited longest in the pool for which this client waits, but for itself; nobody where it doesn't wait.

@@ -7,7 +7,6 @@ ghost use Rattle.lease_book.specs.Links.{plain};
 use crate::bells::{BELLS, Chosen, choose};
 use crate::inner::Core;
 use crate::outside::Outside;
-use book_model::limits::MOST_CLIENTS;
 use desk_tallies::ledgers::Ledgers;
 use lease_book::events::Event;
 
@@ -70,10 +69,10 @@ impl<S: Outside, K: Ledgers> Core<S, K> {
     /// The bells of those that have waited longest in each pool.
     pub fn first_of_each(&self) -> Chosen {
         let mut chosen = [false; BELLS as usize];
-        for at in 0..MOST_CLIENTS as usize {
-            match self.book.ticket(at) {
-                Some(waiting) if waiting.first_of_pool => choose(&mut chosen, waiting.client),
-                Some(_) => {}
+        for at in 0..usize::MAX {
+            match self.book.first_at(at) {
+                Some(Some(client)) => choose(&mut chosen, client),
+                Some(None) => {}
                 None => break,
             }
         }

@@ -2,6 +2,8 @@
 use crate::pairs::{HERE, listen, pair};
 use server_end::{ClientEnd, Moved, ServerEnd};
 use std::test::Fail;
+use std::thread::sleep;
+use std::time::Duration;
 use tcp_end::connection::TcpEnd;
 use tcp_end::dial::dial;
 
@@ -23,6 +25,20 @@ fn read_after(end: &mut TcpEnd, first: Moved) -> Moved {
     first
 }
 
+/// AuthenticationOk.
+const AUTHENTICATION_OK: &[u8] = b"R\0\0\0\x08\0\0\0\0";
+
+/// Reads once into this room, once there is something; at most a million times.
+fn read_whole(end: &mut TcpEnd, room: &mut [u8]) -> Moved {
+    for _ in 0..1_000_000u32 {
+        let moved = ServerEnd::read_some(end, room);
+        if moved != Moved::NotNow {
+            return moved;
+        }
+    }
+    Moved::NotNow
+}
+
 /// What may go to another thread, as an end does with its link.
 fn sent<T: Send>(value: T) -> T {
     value
@@ -36,6 +52,38 @@ fn bytes_go_both_ways(rt: HostRuntime) -> Result<(), Fail> {
     assert!(rt; read_after(&mut near, Moved::NotNow) == Moved::Count(4));
     assert!(rt; read(&mut near) == (Moved::Count(1), [b')', 0, 0, 0]));
     assert!(rt; ServerEnd::waits(&near).1 == 0);
+    Ok(())
+}
+
+// It is in front of what follows it, in one call, and nothing of it comes before.
+#[test]
+fn authentication_ok_waits_for_what_follows(rt: HostRuntime) -> Result<(), Fail> {
+    let (mut near, mut far) = pair(&rt)?;
+    let mut room = [0u8; 64];
+    assert!(rt; ClientEnd::write_some(&mut far, AUTHENTICATION_OK) == Moved::Count(9));
+    assert!(rt; ClientEnd::read_some(&mut far, &mut room) == Moved::NotNow);
+    sleep(&rt, Duration::from_millis(100));
+    assert!(rt; read(&mut near).0 == Moved::NotNow);
+    assert!(rt; ClientEnd::write_some(&mut far, b"Z(49)") == Moved::Count(5));
+    assert!(rt; read_whole(&mut near, &mut room) == Moved::Count(14));
+    assert!(rt; room.starts_with(b"R\0\0\0\x08\0\0\0\0Z(49)"));
+    assert!(rt; ClientEnd::waits(&far) == (1, 0));
+    Ok(())
+}
+
+// What doesn't fit behind it is for the next call; the first AuthenticationOk alone waits, and none of a server's end does.
+#[test]
+fn authentication_ok_waits_once(rt: HostRuntime) -> Result<(), Fail> {
+    let (mut near, mut far) = pair(&rt)?;
+    let mut room = [0u8; 1024];
+    assert!(rt; ClientEnd::write_some(&mut far, AUTHENTICATION_OK) == Moved::Count(9));
+    assert!(rt; ClientEnd::write_some(&mut far, &[7; 600]) == Moved::Count(503));
+    assert!(rt; read_whole(&mut near, &mut room) == Moved::Count(512));
+    assert!(rt; room.starts_with(b"R\0\0\0\x08\0\0\0\0\x07\x07"));
+    assert!(rt; ClientEnd::write_some(&mut far, AUTHENTICATION_OK) == Moved::Count(9));
+    assert!(rt; read_whole(&mut near, &mut room) == Moved::Count(9));
+    assert!(rt; ServerEnd::write_some(&mut near, AUTHENTICATION_OK) == Moved::Count(9));
+    assert!(rt; read_whole(&mut far, &mut room) == Moved::Count(9));
     Ok(())
 }
 

@@ -14,7 +14,7 @@ use std::time::{Duration, Instant};
 /// Ann's StartupMessage for the database shop.
 const START: &[u8] = b"\0\0\0\x20\0\x03\0\0user\0ann\0database\0shop\0\0";
 
-/// AuthenticationOk, which a client is given before its link is there.
+/// AuthenticationOk, with which the welcome begins.
 const AUTHENTICATION_OK: &[u8] = b"R\0\0\0\x08\0\0\0\0";
 
 /// More seconds than a timeout of one second takes, and fewer than one of ten.
@@ -58,15 +58,14 @@ fn a_client_that_goes_waits_no_longer(rt: HostRuntime) -> Result<(), Fail> {
     let (pool, port) = start_pool(rt, rt.alloc(), server, options, 3)?;
     let mut first = connect(&rt, port, START)?;
     read(rt.alloc(), &mut first, WELCOME)?;
-    let mut second = connect(&rt, port, START)?;
-    read(rt.alloc(), &mut second, AUTHENTICATION_OK.len())?;
+    let second = connect(&rt, port, START)?;
+    sleep(&rt, Duration::from_millis(500));
     drop(second);
     sleep(&rt, Duration::from_millis(2_500));
     let mut third = connect(&rt, port, START)?;
-    let begun = read(rt.alloc(), &mut third, AUTHENTICATION_OK.len())?;
-    assert!(rt; begun.as_slice() == AUTHENTICATION_OK);
+    sleep(&rt, Duration::from_millis(500));
     assert!(rt; leave(rt.alloc(), first)?.is_empty());
-    read(rt.alloc(), &mut third, WELCOME - AUTHENTICATION_OK.len())?;
+    assert!(rt; read(rt.alloc(), &mut third, WELCOME)?.starts_with(AUTHENTICATION_OK));
     assert!(rt; leave(rt.alloc(), third)?.is_empty());
     assert!(rt; pool.join(&rt).is_some() && stub.join(&rt));
     Ok(())

@@ -5,6 +5,7 @@ ghost use Rattle.tcp_end.specs.Connections.{Reads, Sends, facts_of, has_ended, i
 ghost use Rattle.tcp_end.specs.Connections as spec;
 ghost use Rattle.server_end.specs.declared.Moved.TheVariants.{Ended};
 
+use crate::deferred::{Deferred, PACKET};
 use crate::notes::Notes;
 use mio::net::TcpStream;
 use mio::{Interest, Poll, Token};
@@ -21,6 +22,12 @@ use std::sync::Arc;
 /// its last, is the end of its input: no further read is tried, and a server's end isn't written to either. After a fault, or at the
 /// last count that a number of eight bytes has, nothing is tried any more.
 ///
+/// A client's end takes the first AuthenticationOk that it is given in one write without a call of the system, and holds it: it goes out in
+/// one call with the next bytes that are given, in front of them. No event and no read sends it. So a client that waits for a link is told
+/// nothing meanwhile, and gets AuthenticationOk with its welcome or with its refusal, as PgBouncer gives both at once. What is held when
+/// the end is dropped, or when the peer has gone, is lost. A write that sends no more than what is held comes to nothing for its own
+/// bytes. A server's end holds nothing.
+///
 /// Nothing is claimed of what the peer is or does: as a server's end it follows no server, though it tells what it accepted and what
 /// it gave, and as a client's it doesn't tell its bytes.
 pub struct TcpEnd {
@@ -32,6 +39,8 @@ pub struct TcpEnd {
     faults: u64,
     read_waits: u64,
     write_waits: u64,
+    /// Nothing at a server's end.
+    deferred: Deferred,
     /// Its gate has them too.
     notes: Arc<Notes>,
 }
@@ -46,6 +55,7 @@ impl Drop for TcpEnd {
             faults: _,
             read_waits: _,
             write_waits: _,
+            deferred: _,
             notes: _,
         } = self;
     }
@@ -98,6 +108,20 @@ fn write_outcome(answer: io::Result<usize>) -> Moved
     }
 }
 
+/// Writes once to a stream, where it may come to something.
+fn write_once(stream: &mut TcpStream, notes: &Notes, from: &[u8]) -> Moved
+    requires { 0 < length from.now }
+    ensures within { IsWithin result (length from.now) }
+    ensures some { result ≢ Ended }
+{
+    if notes.is_full() {
+        return Moved::NotNow;
+    }
+    let answer = stream.write(from);
+    notes.wrote(&answer, from.len());
+    write_outcome(answer)
+}
+
 impl TcpEnd {
     /// The end of a connection that is there, as one that was accepted. Its small packets are sent at once (TCP_NODELAY); that
     /// they can't is ignored. The only error is that an allocation failed, which closes the connection.
@@ -113,6 +137,7 @@ impl TcpEnd {
             faults: 0,
             read_waits: 0,
             write_waits: 0,
+            deferred: Deferred::new(),
             notes: Arc::new(alloc, Notes::new())?,
         })
     }
@@ -166,19 +191,30 @@ impl TcpEnd {
         read_outcome(answer)
     }
 
-    /// Writes once to the stream, where it may come to something.
+    /// Writes once to the stream, where it may come to something; behind what is held.
     fn try_write(&mut self, from: &[u8]) -> Moved
         requires { 0 < length from.now }
         ensures within { IsWithin result (length from.now) }
         ensures some { result ≢ Ended }
         ensures same { self.new ≡ self.old }
     {
-        if self.notes.is_full() {
-            return Moved::NotNow;
+        if self.deferred.is_empty() {
+            return write_once(&mut self.stream, &self.notes, from);
         }
-        let answer = self.stream.write(from);
-        self.notes.wrote(&answer, from.len());
-        write_outcome(answer)
+        self.try_write_packet(from)
+    }
+
+    /// Writes once to the stream what is held, and behind it as many of these bytes as have room.
+    fn try_write_packet(&mut self, from: &[u8]) -> Moved
+        requires { 0 < length from.now }
+        ensures within { IsWithin result (length from.now) }
+        ensures some { result ≢ Ended }
+        ensures same { self.new ≡ self.old }
+    {
+        let mut packet = [0u8; PACKET];
+        let count = self.deferred.fill(&mut packet, from);
+        let moved = write_once(&mut self.stream, &self.notes, &packet[..count]);
+        self.deferred.wrote(moved)
     }
 
     /// Reads once, for either kind of end.
@@ -215,6 +251,20 @@ impl TcpEnd {
             Moved::Fault => self.faults += 1,
         }
         moved
+    }
+
+    /// Writes once to a client, to a stream that isn't broken. AuthenticationOk waits for what follows it.
+    fn write_or_hold(&mut self, from: &[u8]) -> Moved
+        requires bytes { 0 < length from.now }
+        requires whole { is_broken self.old ≡ false }
+        ensures within { IsWithin result (length from.now) }
+        ensures sends { Sends self.old self.new from.now result }
+    {
+        if self.deferred.take(from) {
+            self.accepted.note(from);
+            return Moved::Count(from.len());
+        }
+        self.write(from)
     }
 }
 
@@ -262,7 +312,7 @@ impl ClientEnd for TcpEnd {
         if self.is_broken() {
             return Moved::Ended;
         }
-        self.write(from)
+        self.write_or_hold(from)
     }
 
     fn faults(&self) -> u64 {

@@ -11,6 +11,7 @@
 
 pub mod acceptor;
 pub mod connection;
+mod deferred;
 pub mod dial;
 pub mod gate;
 pub mod message;

@@ -7,5 +7,5 @@ use Rattle.book_register.proofs.book_state.BookState.leaves.Goals as goal
 pub remove-requires : goal.remove-requires
 remove-requires c = let P : Book → Type 0 = λ b. (n : ℕ) → count_by (is_client n) b.clients ≤ 1 in record { once = subst P (sym c.self.view_is) c.requires.kept.clients.once }
 
-pub remove-requires-2 : goal.remove-requires-2
-remove-requires-2 c = let P : Book → Type 0 = λ b. (n : ℕ) → count_by (is_of n) b.tickets ≤ 1 in record { once = subst P (sym c.self.view_is) (one_ticket _ _ _ c.requires.kept.clients) }
+pub take_out-requires : goal.take_out-requires
+take_out-requires c = let P : Book → Type 0 = λ b. (n : ℕ) → count_by (is_of n) b.tickets ≤ 1 in record { once = subst P (sym c.self.view_is) (one_ticket _ _ _ c.requires.kept.clients) }

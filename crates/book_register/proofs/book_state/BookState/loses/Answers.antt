@@ -14,8 +14,8 @@ forgets-requires-clause-marked c = one_mark c.args.self.now c.requires.kept
 pub forgets-requires-clause-ended : goal.forgets-requires-clause-ended
 forgets-requires-clause-ended c = one_end c.args.self.now c.requires.kept
 
-pub remove-requires : goal.remove-requires
-remove-requires c =
+pub take_out-requires : goal.take_out-requires
+take_out-requires c =
     let P : Book → Type 0 = λ b. (n : ℕ) → count_by (is_link n) b.lent ≤ 1 in
     let once : P c.args.self.now = one_lent _ _ _ c.requires.kept.links in
     record { once = subst P (sym c.self.view_is) (subst P (sym c.forgets.ensures) once) }

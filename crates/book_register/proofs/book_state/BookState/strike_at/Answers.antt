@@ -1,10 +1,7 @@
-use Rattle.std.proofs.Common.{sym, ap, ◌∙◌}
-use Rattle.book_model.specs.Book.{Lease, Link}
-use Rattle.book_register.proofs.Striking.{struck_at, struck_nowhere}
+use Rattle.std.proofs.Common.{ℕ, ◌≤◌, sym, subst}
+use Rattle.std.specs.Prelude.{count_by}
+use Rattle.book_model.specs.Book.{Book, is_link}
 use Rattle.book_register.proofs.book_state.BookState.strike_at.Goals as goal
 
-pub returns-in-Some : goal.returns-in-Some
-returns-in-Some c = struck_at _ c.args.self.now c.args.lease.now _ c.in-Some.place c.at.result.now _ _ c.self.view_is (ap (λ (l : Lease). l.link) c.lease.view_is) (sym c.place_of.ensures ∙ c.in-Some.is) c.at.ensures (c.key.ensures ∙ ap (λ (l : Link). l.key) c.behind-self.view_is) c.strike_by.ensures
-
-pub returns-in-None : goal.returns-in-None
-returns-in-None c = struck_nowhere _ c.args.self.now c.args.lease.now _ c.self.view_is (ap (λ (l : Lease). l.link) c.lease.view_is) (sym c.place_of.ensures ∙ c.in-None.is)
+pub get-requires : goal.get-requires
+get-requires c = let P : Book → Type 0 = λ b. (n : ℕ) → count_by (is_link n) b.lent ≤ 1 in record { once = subst P (sym c.self.view_is) c.requires.once }

@@ -1,14 +1,7 @@
-use Rattle.std.proofs.Common.{◌≡◌, Some, List, rules, sym, ◌∙◌, ap}
-use Rattle.std.specs.Prelude.{position, remove}
+use Rattle.std.proofs.Common.{◌≤◌, ℕ, List, sym, subst}
+use Rattle.std.specs.Prelude.{count_by}
 use Rattle.book_model.specs.Book.{Client, is_client}
-use Rattle.book_rows.proofs.Places.{removed_none, removed_one}
 use Rattle.book_rows.proofs.clients.Clients.remove.Goals as goal
 
-pub returns-in-Some : goal.returns-in-Some
-returns-in-Some c =
-    let at : position (is_client c.args.number) c.args.self.now ≡ Some c.in-Some.place = sym c.place_of.ensures ∙ c.in-Some.is in
-    let gone : c.remove.new.self.items ≡ remove c.self.inside.rows.items c.in-Some.place = search rules in
-    gone ∙ (ap (λ (xs : List Client). remove xs c.in-Some.place) c.self.view_is ∙ removed_one (is_client c.args.number) c.args.self.now c.in-Some.place at (c.requires.once c.args.number))
-
-pub returns-in_default : goal.returns-in_default
-returns-in_default c = removed_none (is_client c.args.number) c.args.self.now (sym c.place_of.ensures ∙ search rules)
+pub take-requires : goal.take-requires
+take-requires c = let P : List Client → Type 0 = λ rows. (n : ℕ) → count_by (is_client n) rows ≤ 1 in record { once = subst P (sym c.self.view_is) c.requires.once }

@@ -1,15 +1,35 @@
-use Rattle.std.proofs.Common.{◌≡◌, ◌∙◌, ap, sym, true, refl, rules, get_or, List}
-use Rattle.std.specs.Prelude.{remove}
-use Rattle.std.proofs.lemmas.Bool.{eq-eqb}
+use Rattle.std.proofs.Common.{◌≡◌, ◌≤◌, ℕ, None, List, ap, sym, subst, ◌∙◌}
+use Rattle.std.specs.Prelude.{count_by, find}
+use Rattle.session_values.specs.State.{StartKeyOf}
 use Rattle.book_model.specs.Book.{Ticket, is_of}
-use Rattle.book_rows.proofs.Places.{remove_one}
+use Rattle.book_rows.specs.PoolIndex.{Follows, ListsIfAny, TakesRow}
+use Rattle.book_rows.proofs.Pooling.{listed_less, listed_once, listed_still}
 use Rattle.book_rows.proofs.tickets.Tickets.take_out.Goals as goal
 
-pub returns-clause-rest : goal.returns-clause-rest
-returns-clause-rest c =
-    let it : Ticket = c.in-Some.ticket in
-    let read : it ≡ get_or c.self.inside.rows.items c.args.place it = search rules in
-    let gone : c.remove.new.self.items ≡ remove c.self.inside.rows.items c.args.place = search rules in
-    let is : it ≡ get_or c.args.self.now c.args.place it = read ∙ ap (λ (xs : List Ticket). get_or xs c.args.place it) c.self.view_is in
-    let passes : is_of it.client (get_or c.args.self.now c.args.place it) ≡ true = ap (λ (t : Ticket). is_of it.client t) (sym is) ∙ eq-eqb it.client it.client refl in
-    gone ∙ (ap (λ (xs : List Ticket). remove xs c.args.place) c.self.view_is ∙ remove_one (is_of it.client) c.args.self.now c.args.place it c.requires.bound passes (c.requires.once it.client))
+abbrev own : Ticket → ℕ
+own row = row.client
+
+abbrev key : Ticket → StartKeyOf
+key row = row.key
+
+pub take-requires : goal.take-requires
+take-requires c = let P : List Ticket → Type 0 = λ rows. (n : ℕ) → count_by (is_of n) rows ≤ 1 in record { once = subst P (sym c.self.view_is) c.requires.once }
+
+pub invariant_of-self-in-None : goal.invariant_of-self-in-None
+invariant_of-self-in-None c =
+    let none : find (is_of c.args.client) c.self.inside.rows ≡ None = sym c.take.ensures.row ∙ c.in-None.is in
+    subst (λ (rows : List Ticket). ListsIfAny own key c.self.inside.pools rows) (sym c.take.ensures.rest) (listed_still own key c.self.inside.pools c.self.inside.rows c.args.client none c.self.invariant)
+
+pub unlist-requires : goal.unlist-requires
+unlist-requires c =
+    let P : List Ticket → Type 0 = λ rows. (n : ℕ) → count_by (is_of n) rows ≤ 1 in
+    let once : P c.self.inside.rows = subst P (sym c.self.view_is) c.requires.once in
+    record { once = listed_once own key c.self.inside.pools c.self.inside.rows c.args.client c.ticket.inside.key c.self.invariant (once c.args.client) }
+
+pub invariant_of-self : goal.invariant_of-self
+invariant_of-self c =
+    let P : List Ticket → Type 0 = λ rows. (n : ℕ) → count_by (is_of n) rows ≤ 1 in
+    let once : P c.self.inside.rows = subst P (sym c.self.view_is) c.requires.once in
+    let there = sym c.take.ensures.row ∙ c.in-Some.is in
+    let taken = subst (λ (k : StartKeyOf). Follows (TakesRow k c.args.client) c.self.inside.pools c.unlist.new.index) (ap key c.ticket.view_is) c.unlist.ensures in
+    subst (λ (rows : List Ticket). ListsIfAny own key c.unlist.new.index rows) (sym c.take.ensures.rest) (listed_less own key c.self.inside.pools c.unlist.new.index c.self.inside.rows c.args.client _ taken there (once c.args.client) c.self.invariant)

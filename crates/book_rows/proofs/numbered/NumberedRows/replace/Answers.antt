@@ -1,0 +1,22 @@
+use Rattle.std.proofs.Common.{◌≡◌, ◌≤◌, ◌<◌, ℕ, rules, sym, ◌∙◌, ap, subst, List, cond, map, arith}
+use Rattle.std.specs.Prelude.{count_by, length}
+use Rattle.book_rows.specs.Numbered.{bears, filled, rows_in}
+use Rattle.book_rows.proofs.Numbering.{as_long_filled, as_many, put_row}
+use Rattle.book_rows.proofs.numbered.NumberedRows.replace.Goals as goal
+
+pub invariant_of-self : goal.invariant_of-self
+invariant_of-self g c =
+    let slots = c.put_at.ensures.slots in
+    let found = c.slot_of-place.ensures in
+    let long : length (filled c.self.inside.slots.items c.slot_of-place.result c.args.row) ≡ length c.self.inside.slots.items = as_long_filled c.self.inside.slots.items c.slot_of-place.result c.args.row in
+    let many : length (rows_in (filled c.self.inside.slots.items c.slot_of-place.result c.args.row)) ≡ length (rows_in c.self.inside.slots.items) = as_many g.T.Numbered.number c.number-number.result c.self.inside.slots.items c.slot_of-place.result c.args.row found in
+    let at = c.self.invariant in
+    (search (rules, at, c.put_at.ensures.capacity), subst (λ (s : List _). length s < _) (sym slots) (omega (arith, long, at.1)), at.2 ∙ (sym many ∙ ap (λ (s : List _). length (rows_in s)) (sym slots)), at.3)
+
+pub returns : goal.returns
+returns g c =
+    let once : count_by (bears g.T.Numbered.number c.number-number.result) (rows_in c.self.inside.slots.items) ≤ 1 = subst (λ (rows : List g.row.T.Denot). count_by (bears g.T.Numbered.number c.number-number.result) rows ≤ 1) (sym c.self.view_is) (c.requires.once c.number-number.result) in
+    let put = put_row g.T.Numbered.number c.number-number.result c.self.inside.slots.items c.slot_of-place.result c.args.row c.slot_of-place.ensures once in
+    let same = ap (λ (rows : List g.row.T.Denot). map (λ r. cond (bears g.T.Numbered.number c.number-number.result r) c.args.row r) rows) c.self.view_is in
+    let own = ap (λ (n : ℕ). map (λ r. cond (bears g.T.Numbered.number n r) c.args.row r) c.args.self.now) c.number-number.ensures in
+    ap rows_in c.put_at.ensures.slots ∙ (put ∙ (same ∙ own))

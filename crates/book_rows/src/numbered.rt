@@ -1,0 +1,289 @@
+//! Rows that bear numbers, in the order in which they came. A row is mostly found at once, and goes without a move of the others: its slot
+//! stays empty, until the slots are used up.
+ghost use Rattle.std.specs.Prelude.{◌≡◌, ◌<◌, ◌≤◌, ◌++◌, ◌∷◌, [], ℕ, IfOk, OnOk, cond, count_by, filter, find, length, map, not, option_copied, position};
+ghost use Rattle.std.specs.VecDeque.{deque_capacity};
+ghost use Rattle.book_rows.specs.Numbered.{HasSlot, bears, emptied, filled, row_at, rows_in};
+ghost use Rattle.book_rows.specs.Places.{passes};
+ghost use Rattle.book_rows.specs.declared.numbered.TheConstants.{ROWS, SLOTS};
+
+use std::alloc::{AllocError, Global};
+use std::collections::VecDeque;
+use std::marker::Model;
+
+/// The most rows that there can be.
+pub const ROWS: usize = 10_000;
+
+/// So many slots are there: the more, the less often the empty ones are given up.
+const SLOTS: usize = 16_384;
+
+/// A row that bears a number of its own.
+pub trait Numbered: Drop {
+    ghost number: { Self → ℕ };
+
+    fn number(&self) -> u64
+        ensures { result ≡ number self.now };
+}
+
+/// Whether a row of this number is in the slot.
+fn is_in<T: Numbered>(slot: &Option<T>, number: u64) -> bool
+    ensures { result ≡ passes (bears T.number number) slot.now }
+{
+    match slot {
+        Some(row) => row.number() == number,
+        None => false,
+    }
+}
+
+/// The first slot of a row of this number.
+fn first_slot_of<T: Numbered>(slots: &VecDeque<Option<T>>, number: u64) -> Option<usize>
+    ensures { result ≡ position (λ s. passes (bears T.number number) s) slots.now.items }
+{
+    slots.iter().position(|s| is_in(s, number))
+}
+
+/// The slot of the row of this number: the one that is likely, or else another one.
+#[tactic(auto, using(crate::proofs::Numbering::by_position))]
+fn slot_of<T: Numbered>(slots: &VecDeque<Option<T>>, likely: usize, number: u64) -> Option<usize>
+    ensures { HasSlot T.number number slots.now.items result }
+{
+    if let Some(slot) = slots.get(likely) {
+        if is_in(slot, number) {
+            return Some(likely);
+        }
+    }
+    first_slot_of(slots, number)
+}
+
+/// The row in this slot.
+fn row_at<T>(slots: &VecDeque<Option<T>>, place: Option<usize>) -> Option<&T>
+    ensures { option_copied result ≡ row_at slots.now.items place }
+{
+    slots.get(place?)?.as_ref()
+}
+
+/// Takes the row out of this slot.
+fn take_at<T: Drop>(slots: &mut VecDeque<Option<T>>, place: Option<usize>) -> Option<T>
+    ensures row { result ≡ row_at slots.old.items place }
+    ensures rest { slots.new.items ≡ emptied slots.old.items place }
+    ensures capacity { deque_capacity slots.new ≡ deque_capacity slots.old }
+{
+    slots.get_mut(place?)?.take()
+}
+
+/// Puts a row into this slot.
+fn put_at<T: Drop>(slots: &mut VecDeque<Option<T>>, place: Option<usize>, row: T)
+    ensures slots { slots.new.items ≡ filled slots.old.items place row }
+    ensures capacity { deque_capacity slots.new ≡ deque_capacity slots.old }
+{
+    if let Some(place) = place {
+        if let Some(slot) = slots.get_mut(place) {
+            *slot = Some(row);
+        }
+    }
+}
+
+/// All empty slots go.
+fn close_up<T: Drop>(slots: &mut VecDeque<Option<T>>)
+    ensures rows { rows_in slots.new.items ≡ rows_in slots.old.items }
+    ensures all { length slots.new.items ≡ length (rows_in slots.old.items) }
+    ensures capacity { deque_capacity slots.new ≡ deque_capacity slots.old }
+{
+    slots.retain(|s| s.is_some());
+}
+
+/// A row more, behind all others. Whether all empty slots went, since they were used up.
+#[tactic(auto, using(crate::proofs::Numbering::one_behind, crate::proofs::Numbering::one_longer))]
+fn push_slot<T: Drop>(slots: &mut VecDeque<Option<T>>, row: T) -> bool
+    requires within { length slots.old.items < SLOTS }
+    requires room { SLOTS ≤ deque_capacity slots.old }
+    requires fits { length (rows_in slots.old.items) < ROWS }
+    ensures rows { rows_in slots.new.items ≡ rows_in slots.old.items ++ row ∷ [] }
+    ensures within { length slots.new.items < SLOTS }
+    ensures room { SLOTS ≤ deque_capacity slots.new }
+{
+    slots.push_back_reserved(Some(row));
+    let is_full = slots.len() == SLOTS;
+    if is_full {
+        close_up(slots);
+    }
+    is_full
+}
+
+/// Notes where each row is.
+fn note_all<T: Numbered>(slots: &VecDeque<Option<T>>, likely: &mut [usize])
+    requires { length likely.old ≡ SLOTS }
+    ensures { length likely.new ≡ SLOTS }
+{
+    'slots: for place in 0..slots.len() {
+        if let Some(Some(row)) = slots.get(place) {
+            likely[(row.number() % SLOTS as u64) as usize] = place;
+        }
+    }
+}
+
+/// Rows that bear numbers, in the order in which they came, with room for the most that there can be.
+pub struct NumberedRows<T> {
+    slots: VecDeque<Option<T>>,
+    /// How many slots aren't empty.
+    len: usize,
+    /// So many slots have gone at the front.
+    gone: usize,
+    /// For the remainder of each number by `SLOTS`: where a row of such a number came last, counted with the slots that have gone. Where
+    /// it has gone since, another such row may still be there, which is then looked for.
+    likely: Vec<usize>,
+}
+
+impl<T: Drop> Drop for NumberedRows<T> {
+    fn drop(self) {
+        let NumberedRows {
+            slots: _,
+            len: _,
+            gone: _,
+            likely: _,
+        } = self;
+    }
+}
+
+impl<T> Model for NumberedRows<T> {
+    ghost use Rattle.std.specs.Prelude.{◌≡◌, ◌<◌, ◌≤◌, List, length};
+    ghost use Rattle.std.specs.VecDeque.{deque_capacity};
+    ghost use Rattle.book_rows.specs.Numbered.{rows_in};
+    ghost use Rattle.book_rows.specs.declared.numbered.TheConstants.{SLOTS};
+
+    ghost Value = { List T };
+
+    ghost view = { λ r. rows_in r.slots.items };
+
+    ghost invariant = { λ r. (SLOTS ≤ deque_capacity r.slots) × (length r.slots.items < SLOTS) × (r.len ≡ length (rows_in r.slots.items)) × (length r.likely.items ≡ SLOTS) };
+}
+
+impl<T: Numbered> NumberedRows<T> {
+    /// No rows, with all the room.
+    pub fn new(alloc: Global) -> Result<NumberedRows<T>, AllocError>
+        ensures { IfOk result (λ r. r ≡ []) }
+    {
+        let slots = VecDeque::with_capacity(alloc, SLOTS)?;
+        let likely = vec![in alloc; 0usize; SLOTS]?;
+        Ok(NumberedRows {
+            slots,
+            len: 0,
+            gone: 0,
+            likely,
+        })
+    }
+
+    /// How many there are.
+    #[tactic(auto, using(crate::proofs::Numbering::fewer_rows))]
+    pub fn len(&self) -> usize
+        ensures count { result ≡ length self.now }
+        ensures fits { result < SLOTS }
+    {
+        self.len
+    }
+
+    /// The slots.
+    pub(crate) fn slots(&self) -> &VecDeque<Option<T>>
+        ensures rows { rows_in result.now.items ≡ self.now }
+        ensures fits { length result.now.items < SLOTS }
+    {
+        &self.slots
+    }
+
+    /// Where the row of this number may be.
+    fn likely(&self, number: u64) -> usize {
+        let came = self.likely[(number % SLOTS as u64) as usize];
+        came.wrapping_sub(self.gone)
+    }
+
+    /// The row of this number.
+    #[tactic(auto, using(crate::proofs::Numbering::found_row))]
+    pub fn get(&self, number: u64) -> Option<&T>
+        requires once { (n : ℕ) → count_by (bears T.number n) self.now ≤ 1 }
+        ensures { option_copied result ≡ find (bears T.number number) self.now }
+    {
+        let place = slot_of(&self.slots, self.likely(number), number);
+        row_at(&self.slots, place)
+    }
+
+    /// A row more, behind all others.
+    #[tactic(auto, using(crate::proofs::Numbering::one_longer))]
+    pub fn push(&mut self, row: T)
+        requires { length self.old < ROWS }
+        ensures { self.new ≡ self.old ++ row ∷ [] }
+    {
+        let at = (row.number() % SLOTS as u64) as usize;
+        self.likely[at] = self.gone.wrapping_add(self.slots.len());
+        self.len += 1;
+        if push_slot(&mut self.slots, row) {
+            self.gone = 0;
+            note_all(&self.slots, &mut self.likely);
+        }
+    }
+
+    /// Puts a row in the place of the one of its number.
+    #[tactic(auto, using(crate::proofs::Numbering::put_row, crate::proofs::Numbering::as_many))]
+    pub fn replace(&mut self, row: T)
+        requires once { (n : ℕ) → count_by (bears T.number n) self.old ≤ 1 }
+        ensures { self.new ≡ map (λ r. cond (bears T.number (T.number row) r) row r) self.old }
+    {
+        let number = row.number();
+        let place = slot_of(&self.slots, self.likely(number), number);
+        put_at(&mut self.slots, place, row);
+    }
+
+    /// Takes the row of this number out.
+    #[tactic(auto, using(crate::proofs::Numbering::found_row, crate::proofs::Numbering::taken_row, crate::proofs::Numbering::one_fewer))]
+    pub fn take(&mut self, number: u64) -> Option<T>
+        requires once { (n : ℕ) → count_by (bears T.number n) self.old ≤ 1 }
+        ensures row { result ≡ find (bears T.number number) self.old }
+        ensures rest { self.new ≡ filter (λ row. not (bears T.number number row)) self.old }
+    {
+        let place = slot_of(&self.slots, self.likely(number), number);
+        let row = take_at(&mut self.slots, place)?;
+        self.len -= 1;
+        // twice, so that there are ever fewer of them at the front
+        self.drop_empty();
+        self.drop_empty();
+        Some(row)
+    }
+
+    /// An empty slot at the front goes.
+    fn drop_empty(&mut self)
+        ensures { self.new ≡ self.old }
+    {
+        if let Some(None) = self.slots.front() {
+            let _ = self.slots.pop_front();
+            self.gone = self.gone.wrapping_add(1);
+        }
+    }
+}
+
+/// Adds a clone of the row in the slot, if there is one.
+fn add_clone<T: Clone>(rows: &mut Vec<T>, slot: &Option<T>) -> Result<(), AllocError>
+    ensures { OnOk result (((x y : T) → T.is_clone x y → y ≡ x) → rows.new.items ≡ rows.old.items ++ rows_in (slot.now ∷ [])) }
+{
+    match slot {
+        Some(row) => Ok(rows.push(row.clone()?)?),
+        None => Ok(()),
+    }
+}
+
+/// The rows in these slots, each cloned.
+fn cloned<T: Clone>(alloc: Global, slots: &VecDeque<Option<T>>) -> Result<Vec<T>, AllocError>
+    ensures { IfOk result (λ v. ((x y : T) → T.is_clone x y → y ≡ x) → v.items ≡ rows_in slots.now.items) }
+{
+    let mut rows = Vec::new(alloc);
+    'slots: for place in 0..slots.len() {
+        add_clone(&mut rows, &slots[place])?;
+    }
+    Ok(rows)
+}
+
+impl<T: Numbered + Clone> NumberedRows<T> {
+    /// The rows, each cloned, in a list of the holder's own.
+    pub fn copied(&self, alloc: Global) -> Result<Vec<T>, AllocError>
+        ensures { IfOk result (λ v. ((x y : T) → T.is_clone x y → y ≡ x) → v.items ≡ self.now) }
+    {
+        cloned(alloc, &self.slots)
+    }
+}
