@@ -1,4 +1,4 @@
-//! `trials book`: clients that come to a lease book of 1,000 links and 500 start keys of 100 pools, and go.
+//! `trials book`: clients that come to a lease book of 1,000 links and some pools, of one start key each, and go.
 ghost use Rattle.std.specs.Prelude.{◌<◌};
 ghost use Rattle.lease_book.specs.Links.{IsTwice};
 
@@ -15,16 +15,10 @@ use std::alloc::{AllocError, Global};
 use std::collections::VecDeque;
 use std::sync::Arc;
 
-/// How many pools there are, of 10 links each, and how many keys of them.
-const POOLS: u64 = 100;
-
-const KEYS: u64 = 500;
-
-/// A client, its key and its pool.
+/// A client, and its pool.
 #[derive(Clone, Copy, Drop)]
 struct Client {
     number: u64,
-    key: u64,
     pool: u64,
 }
 
@@ -35,7 +29,7 @@ struct Lease {
     client: Client,
 }
 
-/// The book, the clients that wait in each pool, and the lent links.
+/// The book, the key of each pool and the clients that wait in it, and the lent links.
 #[derive(Drop)]
 struct Bench {
     alloc: Global,
@@ -64,32 +58,32 @@ fn limits(alloc: Global) -> Result<Arc<Limits>, AllocError> {
     Ok(Arc::new(alloc, limits)?)
 }
 
-/// The keys.
-fn keys(alloc: Global) -> Result<Vec<Arc<StartKey>>, AllocError> {
+/// The key of each of so many pools.
+fn keys(alloc: Global, pools: u64) -> Result<Vec<Arc<StartKey>>, AllocError> {
     let mut keys = Vec::new(alloc);
-    for number in 0..KEYS {
-        keys.push(key(alloc, b"bench", number, number % POOLS)?)?;
+    for pool in 0..pools {
+        keys.push(key(alloc, b"bench", pool, pool)?)?;
     }
     Ok(keys)
 }
 
-/// No clients yet, in each pool.
-fn nobody(alloc: Global) -> Result<Vec<VecDeque<Client>>, AllocError> {
+/// No clients yet, in each of so many pools.
+fn nobody(alloc: Global, pools: u64) -> Result<Vec<VecDeque<Client>>, AllocError> {
     let mut waiting = Vec::new(alloc);
-    for _ in 0..POOLS {
+    for _ in 0..pools {
         waiting.push(VecDeque::new(alloc))?;
     }
     Ok(waiting)
 }
 
 impl Bench {
-    /// An empty book.
-    fn new(alloc: Global) -> Result<Bench, AllocError> {
+    /// An empty book for so many pools.
+    fn new(alloc: Global, pools: u64) -> Result<Bench, AllocError> {
         Ok(Bench {
             alloc,
             book: Book::new(alloc, limits(alloc)?)?,
-            keys: keys(alloc)?,
-            waiting: nobody(alloc)?,
+            keys: keys(alloc, pools)?,
+            waiting: nobody(alloc, pools)?,
             leases: Vec::new(alloc),
             events: 0,
             random: 1,
@@ -111,9 +105,9 @@ impl Bench {
         self.book.apply(0, event)
     }
 
-    /// The key of this number.
-    fn key_of(&self, number: u64) -> Result<Arc<StartKey>, AllocError> {
-        match self.keys.get(number as usize) {
+    /// The key of this pool.
+    fn key_of(&self, pool: u64) -> Result<Arc<StartKey>, AllocError> {
+        match self.keys.get(pool as usize) {
             Some(key) => Arc::try_clone(key),
             None => Err(AllocError),
         }
@@ -148,7 +142,7 @@ impl Bench {
 
     /// A link of this number is started for the client.
     fn starts(&mut self, client: Client, number: u64, born: u64) -> Result<(), AllocError> {
-        let key = self.key_of(client.key)?;
+        let key = self.key_of(client.pool)?;
         let link = gone_link(self.alloc, key, number, born)?;
         self.has(client, link)
     }
@@ -173,10 +167,10 @@ impl Bench {
         let Reply::Client(number) = self.happens(Event::Arrive) else {
             return Err(AllocError);
         };
-        let key = self.draw() % KEYS;
-        let pool = key % POOLS;
-        self.waits(Client { number, key, pool })?;
-        let key = self.key_of(key)?;
+        let drawn = self.draw();
+        let pool = drawn.checked_rem(self.keys.len() as u64).unwrap_or(0);
+        self.waits(Client { number, pool })?;
+        let key = self.key_of(pool)?;
         let again = Arc::try_clone(&key)?;
         let ask = Event::Ask {
             client: number,
@@ -213,9 +207,9 @@ impl Bench {
     }
 }
 
-/// The clients come, and go and come; how many events there were.
-pub fn events(alloc: Global, clients: u64, events: u64) -> Result<u64, AllocError> {
-    let mut bench = Bench::new(alloc)?;
+/// The clients of so many pools come, and go and come; how many events there were.
+pub fn events(alloc: Global, clients: u64, pools: u64, events: u64) -> Result<u64, AllocError> {
+    let mut bench = Bench::new(alloc, pools)?;
     for _ in 0..clients {
         bench.comes()?;
     }

@@ -2,7 +2,7 @@
 
 /// The line that a wrong command line is answered by.
 pub const USAGE: &str =
-    "usage: trials login INI USERS CUT | trials solo CATALOGUE USER [CANCELLED] | trials lease CUT [DIES_AFTER] (a client's bytes on standard input) | trials relay SIZE TOTAL | trials book CLIENTS EVENTS | trials ticks LINKS ROWS SECONDS";
+    "usage: trials login INI USERS CUT | trials solo CATALOGUE USER [CANCELLED] | trials lease CUT [DIES_AFTER] (a client's bytes on standard input) | trials relay SIZE TOTAL | trials book CLIENTS POOLS EVENTS | trials ticks LINKS ROWS SECONDS";
 
 /// What a command line asks for.
 #[derive(Clone, Copy, Drop)]
@@ -31,9 +31,11 @@ pub enum Job<'a> {
         size: u32,
         total: u64,
     },
-    /// How many events there were at a lease book to which so many clients come, and then come and go until there were so many more.
+    /// How many events there were at a lease book to which so many clients of so many pools come, and then come and go until there were
+    /// so many more.
     Book {
         clients: u64,
+        pools: u64,
         events: u64,
     },
     /// In how many of so many seconds a lease book closes none of so many idle links, under so many database rows.
@@ -83,9 +85,10 @@ pub fn job_of<'a>(words: &'a [String]) -> Option<Job<'a>> {
             size: words[2].parse::<u32>().ok()?,
             total: words[3].parse::<u64>().ok()?,
         }),
-        "book" if words.len() == 4 => Some(Job::Book {
+        "book" if words.len() == 5 => Some(Job::Book {
             clients: words[2].parse::<u64>().ok()?,
-            events: words[3].parse::<u64>().ok()?,
+            pools: words[3].parse::<u64>().ok()?,
+            events: words[4].parse::<u64>().ok()?,
         }),
         "ticks" if words.len() == 5 => Some(Job::Ticks {
             links: words[2].parse::<u64>().ok()?,

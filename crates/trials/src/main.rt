@@ -58,7 +58,11 @@ fn answer<'a, R: Files + Input>(
         } => solo::answer(rt, alloc, catalogue, user, cancelled),
         Job::Lease { cut, dies_after } => lease::answer(rt, alloc, cut, dies_after),
         Job::Relay { size, total } => line_of(alloc, relay::relayed(alloc, size.max(11), total)),
-        Job::Book { clients, events } => line_of(alloc, book::events(alloc, clients, events)),
+        Job::Book {
+            clients,
+            pools,
+            events,
+        } => line_of(alloc, book::events(alloc, clients, pools, events)),
         Job::Ticks {
             links,
             rows,
