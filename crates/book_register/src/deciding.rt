@@ -87,7 +87,7 @@ fn ticking(is_later: bool) -> Option<Kind>
 }
 
 impl BookState {
-    /// What an event makes of the lists, and its reply. It takes no memory.
+    /// What an event makes of the lists, and its reply. It needs no memory.
     pub fn apply(&mut self, event: Event) -> Reply
         requires kept { Kept self.old }
         ensures { Gives self.new result (outcome.apply self.old (event_of event)) }

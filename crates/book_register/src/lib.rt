@@ -1,4 +1,5 @@
-//! The register of the lease book: its lists, and what each event makes of them. It takes no memory after it was made.
+//! The register of the lease book: its lists, and what each event makes of them. After it was made it needs no
+//! memory: only its indexes by pool may take some, and are given up where they can't.
 #![tactic(auto)]
 
 mod book_state;

@@ -151,7 +151,7 @@ impl Lists {
         self.board.decisions
     }
 
-    /// What an event makes of the lists, and its reply. It takes no memory.
+    /// What an event makes of the lists, and its reply. It needs no memory.
     pub fn apply(&mut self, event: Event) -> Reply
         ensures kept { Kept self.new }
         ensures book { self.new ≡ (apply self.old (event_of event)).book }

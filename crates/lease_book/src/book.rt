@@ -287,7 +287,7 @@ impl<E: ServerEnd> Book<E> {
         back_with(told, link)
     }
 
-    /// What an event makes of the book, and its reply. It takes no memory.
+    /// What an event makes of the book, and its reply. It needs no memory.
     pub fn apply(&mut self, pass: u64, event: Event<E>) -> Reply<E>
         requires { IsTwice event }
         ensures lists { self.new.lists ≡ (answered self.old.lists event).book }

@@ -6,7 +6,7 @@ use server_end::ServerEnd;
 use start_keys::StartKey;
 use std::sync::Arc;
 
-/// What happens to the book. Seconds are those of the pooler's clock. The book takes no memory, so what it keeps twice comes twice.
+/// What happens to the book. Seconds are those of the pooler's clock. The book needs no memory, so what it keeps twice comes twice.
 #[derive(Drop)]
 pub enum Event<E: ServerEnd> {
     /// A client has come.

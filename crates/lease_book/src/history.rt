@@ -71,7 +71,7 @@ impl History {
         Ok(History { base, kept })
     }
 
-    /// Keeps a decision, and takes no memory: the oldest of more than 256 goes into the base.
+    /// Keeps a decision, and needs no memory: the oldest of more than 256 goes into the base.
     fn note(&mut self, decision: Decision)
         ensures { self.new ≡ noted self.old decision }
     {
@@ -154,7 +154,7 @@ impl Register {
         (self.history.base.decisions(), self.history.kept.len())
     }
 
-    /// What a link that is given back makes of the lists, by what it was started as, and the reply. It takes no memory.
+    /// What a link that is given back makes of the lists, by what it was started as, and the reply. It needs no memory.
     #[tactic(auto, using(crate::proofs::Returns::return_last, crate::proofs::Returns::return_strange, crate::proofs::Returns::return_own, crate::proofs::Returns::noted_none))]
     pub fn give_back(&mut self, pass: u64, number: u64, key: &StartKey, born: u64) -> Reply
         ensures kept { Kept self.old.lists → Kept self.new.lists }
@@ -172,7 +172,7 @@ impl Register {
         self.apply(pass, event, Event::GiveBack { link: number })
     }
 
-    /// What an event makes of the lists, and its reply. A decision is kept. It takes no memory, so the event comes twice: for
+    /// What an event makes of the lists, and its reply. A decision is kept. It needs no memory, so the event comes twice: for
     /// the lists, and for its decision.
     #[tactic(auto, using(crate::proofs::Kept::leads_on, crate::proofs::Kept::leads_still, crate::proofs::Kept::noted_on, crate::proofs::Kept::noted_still))]
     pub fn apply(&mut self, pass: u64, event: Event, again: Event) -> Reply
