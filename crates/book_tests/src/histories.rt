@@ -121,12 +121,12 @@ fn the_first_of_each_pool_may_have_a_link(rt: HostRuntime) -> Result<(), Fail> {
         let _ = story.play(act)?;
     }
     let mut firsts = story.firsts()?;
-    firsts.sort();
+    firsts.sort()?;
     assert!(rt; firsts.as_slice() == [2, 3].as_slice());
     // the next of the pool is first once the first has gone
     let _ = story.play(Act::Leave(2))?;
     let mut firsts = story.firsts()?;
-    firsts.sort();
+    firsts.sort()?;
     assert!(rt; firsts.as_slice() == [1, 3].as_slice());
     Ok(())
 }
