@@ -28,15 +28,22 @@ fn read_after(end: &mut TcpEnd, first: Moved) -> Moved {
 /// AuthenticationOk.
 const AUTHENTICATION_OK: &[u8] = b"R\0\0\0\x08\0\0\0\0";
 
-/// Reads once into this room, once there is something; at most a million times.
-fn read_whole(end: &mut TcpEnd, room: &mut [u8]) -> Moved {
+/// The same, into room for a thousand bytes.
+fn read_many<E: ServerEnd>(end: &mut E) -> (Moved, [u8; 1024]) {
+    let mut room = [0u8; 1024];
+    let moved = end.read_some(&mut room);
+    (moved, room)
+}
+
+/// Reads once, once there is something; at most a million times.
+fn read_whole(end: &mut TcpEnd) -> (Moved, [u8; 1024]) {
     for _ in 0..1_000_000u32 {
-        let moved = ServerEnd::read_some(end, room);
+        let (moved, room) = read_many(end);
         if moved != Moved::NotNow {
-            return moved;
+            return (moved, room);
         }
     }
-    Moved::NotNow
+    (Moved::NotNow, [0; 1024])
 }
 
 /// What may go to another thread, as an end does with its link.
@@ -65,8 +72,9 @@ fn authentication_ok_waits_for_what_follows(rt: HostRuntime) -> Result<(), Fail>
     sleep(&rt, Duration::from_millis(100));
     assert!(rt; read(&mut near).0 == Moved::NotNow);
     assert!(rt; ClientEnd::write_some(&mut far, b"Z(49)") == Moved::Count(5));
-    assert!(rt; read_whole(&mut near, &mut room) == Moved::Count(14));
-    assert!(rt; room.starts_with(b"R\0\0\0\x08\0\0\0\0Z(49)"));
+    let (moved, came) = read_whole(&mut near);
+    assert!(rt; moved == Moved::Count(14));
+    assert!(rt; came.starts_with(b"R\0\0\0\x08\0\0\0\0Z(49)"));
     assert!(rt; ClientEnd::waits(&far) == (1, 0));
     Ok(())
 }
@@ -75,15 +83,15 @@ fn authentication_ok_waits_for_what_follows(rt: HostRuntime) -> Result<(), Fail>
 #[test]
 fn authentication_ok_waits_once(rt: HostRuntime) -> Result<(), Fail> {
     let (mut near, mut far) = pair(&rt)?;
-    let mut room = [0u8; 1024];
     assert!(rt; ClientEnd::write_some(&mut far, AUTHENTICATION_OK) == Moved::Count(9));
     assert!(rt; ClientEnd::write_some(&mut far, &[7; 600]) == Moved::Count(503));
-    assert!(rt; read_whole(&mut near, &mut room) == Moved::Count(512));
-    assert!(rt; room.starts_with(b"R\0\0\0\x08\0\0\0\0\x07\x07"));
+    let (moved, came) = read_whole(&mut near);
+    assert!(rt; moved == Moved::Count(512));
+    assert!(rt; came.starts_with(b"R\0\0\0\x08\0\0\0\0\x07\x07"));
     assert!(rt; ClientEnd::write_some(&mut far, AUTHENTICATION_OK) == Moved::Count(9));
-    assert!(rt; read_whole(&mut near, &mut room) == Moved::Count(9));
+    assert!(rt; read_whole(&mut near).0 == Moved::Count(9));
     assert!(rt; ServerEnd::write_some(&mut near, AUTHENTICATION_OK) == Moved::Count(9));
-    assert!(rt; read_whole(&mut far, &mut room) == Moved::Count(9));
+    assert!(rt; read_whole(&mut far).0 == Moved::Count(9));
     Ok(())
 }
 
