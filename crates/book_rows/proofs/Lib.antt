@@ -3,4 +3,5 @@ pub mod Places
 pub mod Pooling
 pub mod Numbering
 pub mod Indexing
+pub mod Lasts
 pub mod ShortNames

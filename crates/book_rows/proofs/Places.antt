@@ -49,7 +49,7 @@ without_none p (x ∷ xs) h =
 at_least_one : {A : Type 0} (p : A → Bool) (xs : List A) (i : ℕ) (d : A) → i < length xs → p (get_or xs i d) ≡ true → 1 ≤ count_by p xs
 at_least_one p xs i d h e = subst (λ (b : Bool). one b ≤ count_by p xs) e (get_or-le-sum_by (λ y. cond (p y) 1 0) xs i d h)
 
-one_more : {A : Type 0} (p : A → Bool) (x : A) (xs : List A) (b : Bool) → p x ≡ b → 1 ≤ count_by p xs → count_by p (x ∷ xs) ≤ 1 → (b ≡ false) × (count_by p xs ≤ 1)
+pub one_more : {A : Type 0} (p : A → Bool) (x : A) (xs : List A) (b : Bool) → p x ≡ b → 1 ≤ count_by p xs → count_by p (x ∷ xs) ≤ 1 → (b ≡ false) × (count_by p xs ≤ 1)
 one_more p x xs b e l h = let counted : count_by p (x ∷ xs) ≡ one b + count_by p xs = subst (λ (v : Bool). count_by p (x ∷ xs) ≡ one v + count_by p xs) e (count-cons p x xs) in of b counted
   where
     of : (v : Bool) → count_by p (x ∷ xs) ≡ one v + count_by p xs → (v ≡ false) × (count_by p xs ≤ 1)

@@ -2,10 +2,8 @@
 use Rattle.std.proofs.Common.{◌≡◌, ℕ, ◌+◌, ◌≤◌, ◌<◌, Bool, true, false, List, [], ◌∷◌, ◌++◌, length, Option, None, Some, cond, refl, sym, ap, ◌∙◌, subst, arith, map, rules}
 use Rattle.std.specs.Prelude.{position, find, filter, not, count_by, slice_get, ◌&&◌, IfSome}
 use Rattle.session_values.specs.State.{StartKeyOf}
-use Rattle.start_keys.specs.Keys.{same_key}
-use Rattle.book_model.specs.Book.{Link, Ticket, find_last, in_pool, is_number, is_of, latest_of, or_else, same_pool, waiting_before, without_number}
+use Rattle.book_model.specs.Book.{Link, Ticket, in_pool, is_number, is_of, same_pool, waiting_before, without_number}
 use Rattle.book_rows.specs.Numbered.{number_of}
-use Rattle.book_rows.proofs.PoolHashes.{other_pool}
 use Rattle.book_rows.specs.PoolIndex.{AddsRow, Follows, Groups, Lists, ListsIfAny, TakesRow, listed, numbers_of}
 use Rattle.book_rows.specs.Waiting.{client_of, longest_waiting, longest_waiting_but}
 use Rattle.std.specs.List.{prefix_len}
@@ -244,10 +242,10 @@ stands_behind o groups tickets n place pool is a once e =
 
 -- ---- the links, by their numbers
 
-abbrev link_number : Link → ℕ
+abbrev pub link_number : Link → ℕ
 link_number l = l.number
 
-abbrev key_of : Link → StartKeyOf
+abbrev pub key_of : Link → StartKeyOf
 key_of l = l.key
 
 link_step : (p : Link → Bool) (l : Link) (ls : List Link) (b : Bool) → slice_get (map link_number (filter p ls)) 0 ≡ number_of (find p ls)
@@ -267,13 +265,3 @@ links_counted o groups links pool e a = counted link_number key_of groups links 
 
 pub waiting : (o : Option Groups) (groups : Groups) (tickets : List Ticket) (pool : StartKeyOf) → o ≡ Some groups → ListsIfAny client pool_of o tickets → length (listed groups pool) ≡ count_by (λ t. same_pool t.key pool) tickets
 waiting o groups tickets pool e a = counted client pool_of groups tickets pool (given client pool_of o groups tickets e a)
-
--- no link of the pool, none of the key
-pub no_last : (key : StartKeyOf) (links : List Link) → count_by (in_pool key) links ≡ 0 → None ≡ number_of (latest_of key links)
-no_last key links h = ap number_of (sym (none_last links h))
-  where
-    none_last : (ls : List Link) → count_by (in_pool key) ls ≡ 0 → find_last (λ l. same_key l.key key) ls ≡ None
-    none_last [] e = refl
-    none_last (l ∷ ls) e =
-        let at = none_here (in_pool key) l ls (in_pool key l) refl e in
-        ap (λ (o : Option Link). or_else o (cond (same_key l.key key) (Some l) None)) (none_last ls at.1) ∙ ap (λ (b : Bool). cond {A = Option Link} b (Some l) None) (other_pool l.key key at.0)

@@ -1,5 +1,5 @@
 -- Rows that bear numbers, in slots of which some are empty.
-use Rattle.std.specs.Prelude.{◌≡◌, ◌==◌, ℕ, Bool, true, cond, List, Option, Some, None, count_by, slice_get, slice_set}
+use Rattle.std.specs.Prelude.{◌≡◌, ◌==◌, ℕ, Bool, true, false, cond, List, Option, Some, None, count_by, slice_get, slice_set}
 use Rattle.std.specs.List.{filter_map}
 use Rattle.session_values.specs.State.{StartKeyOf}
 use Rattle.start_keys.specs.Keys.{same_key}
@@ -54,3 +54,8 @@ client_in slot = client_of (row_of slot)
 abbrev pub last_with : StartKeyOf → Option Link → Option ℕ → Option ℕ
 last_with key None last = last
 last_with key (Some link) last = cond (same_key link.key key) (Some link.number) last
+
+-- whether a link is there, and of this key
+abbrev pub is_of_key : StartKeyOf → Option Link → Bool
+is_of_key key None = false
+is_of_key key (Some link) = same_key link.key key

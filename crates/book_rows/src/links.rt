@@ -5,7 +5,7 @@ ghost use Rattle.start_keys.specs.Keys.{same_key};
 ghost use Rattle.book_model.specs.Book as book;
 ghost use Rattle.book_model.specs.Outcomes.{is_started_as};
 ghost use Rattle.book_model.specs.declared.limits.TheConstants.{MOST_LINKS};
-ghost use Rattle.book_rows.specs.Numbered.{last_with, number_in, number_of, rows_in};
+ghost use Rattle.book_rows.specs.Numbered.{is_of_key, last_with, number_in, number_of, rows_in};
 ghost use Rattle.book_rows.specs.Places.{passes};
 
 use crate::numbered::{Numbered, NumberedRows};
@@ -132,6 +132,33 @@ fn last_in(slots: &VecDeque<Option<Link>>, key: &PoolKey) -> Option<u64>
     last
 }
 
+// ---- what it tells
+
+/// Whether the link of this number is there, and of this key.
+fn is_of_key_at(rows: &NumberedRows<Link>, number: u64, key: &PoolKey) -> bool
+    requires once { (n : ℕ) → count_by (book.is_link n) rows.now ≤ 1 }
+    ensures { result ≡ is_of_key key.now (find (book.is_link number) rows.now) }
+{
+    match rows.get(number) {
+        Some(link) => link.is_of_key(key),
+        None => false,
+    }
+}
+
+/// The last of these links that is of this key.
+fn last_listed(rows: &NumberedRows<Link>, numbers: &VecDeque<u64>, key: &PoolKey) -> Option<u64>
+    requires once { (n : ℕ) → count_by (book.is_link n) rows.now ≤ 1 }
+    ensures { result ≡ book.find_last (λ n. is_of_key key.now (find (book.is_link n) rows.now)) numbers.now.items }
+{
+    'back: for behind in 0..numbers.len() {
+        let number = numbers[numbers.len() - 1 - behind];
+        if is_of_key_at(rows, number, key) {
+            return Some(number);
+        }
+    }
+    None
+}
+
 /// Links in the order in which they were lent, or came back, with room for the most that there can be, and an index of them by pool until
 /// one finds no room in it.
 pub struct Links {
@@ -236,15 +263,17 @@ impl Links {
     }
 
     /// The last link of this key.
-    #[tactic(auto, using(crate::proofs::Pooling::no_last))]
     pub fn last_of_key(&self, key: &PoolKey) -> Option<u64>
+        requires once { (n : ℕ) → count_by (book.is_link n) self.now ≤ 1 }
         ensures { result ≡ number_of (book.latest_of key.now self.now) }
     {
-        // mostly none of the pool is idle where clients wait
-        if self.count_of_pool(key) == 0 {
-            return None;
+        match &self.pools {
+            Some(index) => match index.numbers(key) {
+                Some(numbers) => last_listed(&self.rows, numbers, key),
+                None => None,
+            },
+            None => last_in(self.rows.slots(), key),
         }
-        last_in(self.rows.slots(), key)
     }
 
     /// How many links are of this pool.

@@ -6,6 +6,7 @@ ghost use Rattle.book_rows.specs.Numbered.{HasSlot, bears, emptied, filled, row_
 ghost use Rattle.book_rows.specs.Places.{passes};
 ghost use Rattle.book_rows.specs.declared.numbered.TheConstants.{ROWS, SLOTS};
 
+use indexmap::IndexMap;
 use std::alloc::{AllocError, Global};
 use std::collections::VecDeque;
 use std::marker::Model;
@@ -110,13 +111,10 @@ fn push_slot<T: Drop>(slots: &mut VecDeque<Option<T>>, row: T) -> bool
 }
 
 /// Notes where each row is.
-fn note_all<T: Numbered>(slots: &VecDeque<Option<T>>, likely: &mut [usize])
-    requires { length likely.old ≡ SLOTS }
-    ensures { length likely.new ≡ SLOTS }
-{
-    'slots: for place in 0..slots.len() {
+fn note_all<T: Numbered>(slots: &VecDeque<Option<T>>, noted: &mut IndexMap<u64, usize>) {
+    for place in 0..slots.len() {
         if let Some(Some(row)) = slots.get(place) {
-            likely[(row.number() % SLOTS as u64) as usize] = place;
+            let _ = noted.insert(row.number(), place);
         }
     }
 }
@@ -128,9 +126,9 @@ pub struct NumberedRows<T> {
     len: usize,
     /// So many slots have gone at the front.
     gone: usize,
-    /// For the remainder of each number by `SLOTS`: where a row of such a number came last, counted with the slots that have gone. Where
-    /// it has gone since, another such row may still be there, which is then looked for.
-    likely: Vec<usize>,
+    /// Where each row stands, counted with the slots that have gone. What is noted is looked at, so nothing need be proved of it: a row
+    /// of which it isn't true, or nothing is noted, is looked for.
+    noted: IndexMap<u64, usize>,
 }
 
 impl<T: Drop> Drop for NumberedRows<T> {
@@ -139,7 +137,7 @@ impl<T: Drop> Drop for NumberedRows<T> {
             slots: _,
             len: _,
             gone: _,
-            likely: _,
+            noted: _,
         } = self;
     }
 }
@@ -154,7 +152,7 @@ impl<T> Model for NumberedRows<T> {
 
     ghost view = { λ r. rows_in r.slots.items };
 
-    ghost invariant = { λ r. (SLOTS ≤ deque_capacity r.slots) × (length r.slots.items < SLOTS) × (r.len ≡ length (rows_in r.slots.items)) × (length r.likely.items ≡ SLOTS) };
+    ghost invariant = { λ r. (SLOTS ≤ deque_capacity r.slots) × (length r.slots.items < SLOTS) × (r.len ≡ length (rows_in r.slots.items)) };
 }
 
 impl<T: Numbered> NumberedRows<T> {
@@ -163,12 +161,12 @@ impl<T: Numbered> NumberedRows<T> {
         ensures { IfOk result (λ r. r ≡ []) }
     {
         let slots = VecDeque::with_capacity(alloc, SLOTS)?;
-        let likely = vec![in alloc; 0usize; SLOTS]?;
+        let noted = IndexMap::with_capacity(alloc, ROWS)?;
         Ok(NumberedRows {
             slots,
             len: 0,
             gone: 0,
-            likely,
+            noted,
         })
     }
 
@@ -189,10 +187,12 @@ impl<T: Numbered> NumberedRows<T> {
         &self.slots
     }
 
-    /// Where the row of this number may be.
+    /// Where the row of this number is likely to be.
     fn likely(&self, number: u64) -> usize {
-        let came = self.likely[(number % SLOTS as u64) as usize];
-        came.wrapping_sub(self.gone)
+        match self.noted.get(&number) {
+            Some(came) => came.wrapping_sub(self.gone),
+            None => 0,
+        }
     }
 
     /// The row of this number.
@@ -211,12 +211,12 @@ impl<T: Numbered> NumberedRows<T> {
         requires { length self.old < ROWS }
         ensures { self.new ≡ self.old ++ row ∷ [] }
     {
-        let at = (row.number() % SLOTS as u64) as usize;
-        self.likely[at] = self.gone.wrapping_add(self.slots.len());
+        let came = self.gone.wrapping_add(self.slots.len());
+        let _ = self.noted.insert(row.number(), came);
         self.len += 1;
         if push_slot(&mut self.slots, row) {
             self.gone = 0;
-            note_all(&self.slots, &mut self.likely);
+            note_all(&self.slots, &mut self.noted);
         }
     }
 
@@ -240,6 +240,7 @@ impl<T: Numbered> NumberedRows<T> {
     {
         let place = slot_of(&self.slots, self.likely(number), number);
         let row = take_at(&mut self.slots, place)?;
+        let _ = self.noted.swap_remove(&number);
         self.len -= 1;
         // twice, so that there are ever fewer of them at the front
         self.drop_empty();

@@ -96,6 +96,13 @@ impl PoolIndex {
         }
     }
 
+    /// The rows of this pool, in the list's order; nothing where there are none.
+    pub fn numbers(&self, pool: &PoolKey) -> Option<&VecDeque<u64>>
+        ensures { MatchOption result (listed self.now pool.now ≡ []) (λ numbers. listed self.now pool.now ≡ numbers.now.items) }
+    {
+        Some(&self.group(pool)?.numbers)
+    }
+
     /// How many rows are of this pool.
     pub fn count(&self, pool: &PoolKey) -> usize
         ensures count { result ≡ length (listed self.now pool.now) }

@@ -11,7 +11,7 @@ invariant_of-self g c =
     let long : length (filled c.self.inside.slots.items c.slot_of-place.result c.args.row) ≡ length c.self.inside.slots.items = as_long_filled c.self.inside.slots.items c.slot_of-place.result c.args.row in
     let many : length (rows_in (filled c.self.inside.slots.items c.slot_of-place.result c.args.row)) ≡ length (rows_in c.self.inside.slots.items) = as_many g.T.Numbered.number c.number-number.result c.self.inside.slots.items c.slot_of-place.result c.args.row found in
     let at = c.self.invariant in
-    (search (rules, at, c.put_at.ensures.capacity), subst (λ (s : List _). length s < _) (sym slots) (omega (arith, long, at.1)), at.2 ∙ (sym many ∙ ap (λ (s : List _). length (rows_in s)) (sym slots)), at.3)
+    (search (rules, at, c.put_at.ensures.capacity), subst (λ (s : List _). length s < _) (sym slots) (omega (arith, long, at.1)), at.2 ∙ (sym many ∙ ap (λ (s : List _). length (rows_in s)) (sym slots)))
 
 pub returns : goal.returns
 returns g c =

@@ -11,7 +11,7 @@ invariant_of-self-2 g c =
     let long : length (emptied c.self.inside.slots.items c.slot_of-place.result) ≡ length c.self.inside.slots.items = as_long c.self.inside.slots.items c.slot_of-place.result in
     let rest = c.take_at.ensures.rest in
     let at = c.self.invariant in
-    (search (rules, at, c.take_at.ensures.capacity), subst (λ (slots : List _). length slots < _) (sym rest) (omega (arith, long, at.1)), omega (arith, fewer, at.2) ∙ ap (λ (slots : List _). length (rows_in slots)) (sym rest), at.3)
+    (search (rules, at, c.take_at.ensures.capacity), subst (λ (slots : List _). length slots < _) (sym rest) (omega (arith, long, at.1)), omega (arith, fewer, at.2) ∙ ap (λ (slots : List _). length (rows_in slots)) (sym rest))
 
 pub returns-clause-row : goal.returns-clause-row
 returns-clause-row g c =
