@@ -4,3 +4,4 @@ pub mod Pooling
 pub mod Numbering
 pub mod Indexing
 pub mod ShortNames
+pub mod Telling

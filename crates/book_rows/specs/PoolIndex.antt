@@ -1,5 +1,6 @@
 -- An index by pool: which rows of a list are of each pool, by the rows' numbers.
-use Rattle.std.specs.Prelude.{◌≡◌, ℕ, List, [], ◌∷◌, ◌++◌, Option, Some, None, cond, filter, map, nat_eq}
+use Rattle.std.specs.Prelude.{◌≡◌, ℕ, List, [], ◌∷◌, ◌++◌, Option, Some, None, cond, filter, map, nat_eq, slice_get}
+use Rattle.std.specs.List.{filter_map}
 use Rattle.std.specs.Map.{lookup}
 use Rattle.session_values.specs.State.{StartKeyOf}
 use Rattle.book_model.specs.Book.{same_pool, without_number}
@@ -17,6 +18,10 @@ in_group pool (Some group) = cond (same_pool group.pool pool) group.numbers []
 -- what the groups, each under its pool's hash, list of a pool
 abbrev pub listed : List (ℕ × Group) → StartKeyOf → List ℕ
 listed groups pool = in_group pool (lookup (nat_eq (pool_hash_of pool)) groups)
+
+-- the first row of each of these groups' pools, as they are listed
+abbrev pub firsts_in : List (ℕ × Group) → List Group → List ℕ
+firsts_in groups told = filter_map (λ group. slice_get (listed groups group.pool) 0) told
 
 -- the rows of a pool, by their numbers
 abbrev pub numbers_of : {A : Type 0} → (A → ℕ) → (A → StartKeyOf) → StartKeyOf → List A → List ℕ
