@@ -1,7 +1,8 @@
 //! Who may be woken where any pool may have a link.
-ghost use Rattle.std.specs.Prelude.{◌≡◌};
+ghost use Rattle.std.specs.Prelude.{◌≡◌, nat_eq};
 ghost use Rattle.std.specs.Iterator.{YieldsFirst};
-ghost use Rattle.std.specs.Map.{values_of};
+ghost use Rattle.std.specs.List.{IsDistinct};
+ghost use Rattle.std.specs.Map.{keys_of};
 ghost use Rattle.std.specs.VecDeque.Iter.{deque_iter_rest};
 ghost use Rattle.book_rows.specs.Telling.{clients_in};
 ghost use Rattle.book_rows.specs.PoolIndex.{firsts_in};
@@ -56,7 +57,8 @@ fn next_client(slots: &mut Iter<'_, Option<Ticket>>) -> Option<u64>
 impl<'a> Firsts<'a> {
     /// Those who wait first of their pools.
     pub(crate) fn by_pool(index: &'a PoolIndex) -> Firsts<'a>
-        ensures { result ≡ firsts_in index.now (values_of index.now) }
+        ensures told { result ≡ firsts_in index.now }
+        ensures once { IsDistinct nat_eq (keys_of index.now) }
     {
         Firsts {
             walk: Walk::Pools(index.firsts()),

@@ -2,16 +2,17 @@
 //! without a walk over the list.
 ghost use Rattle.std.specs.Prelude.{◌≡◌, ◌<◌, ◌≤◌, ◌^◌, ◌++◌, ◌∷◌, [], ℕ, None, IfSome, MatchOption, OnSome, cond, count_by, find, length, nat_eq, not, option_copied, position, slice_get, true};
 ghost use Rattle.std.specs.Iterator.{YieldsFirst};
-ghost use Rattle.std.specs.Map.{lookup, values_of};
+ghost use Rattle.std.specs.List.{IsDistinct};
+ghost use Rattle.std.specs.Map.{keys_of, lookup};
 ghost use Rattle.book_model.specs.Book as book;
 ghost use Rattle.book_model.specs.Book.{same_pool};
 ghost use Rattle.book_rows.specs.PoolHashes.{pool_hash_of};
-ghost use Rattle.book_rows.specs.PoolIndex.{AddsRow, Follows, TakesRow, firsts_in, listed};
+ghost use Rattle.book_rows.specs.PoolIndex.{AddsRow, Follows, TakesRow, first_of, firsts_in, listed};
 ghost use Rattle.session_values.specs.State.{StartKeyOf};
 
 use crate::pools::PoolKey;
 use indexmap::IndexMap;
-use indexmap::map::Values;
+use indexmap::map::Iter;
 use std::alloc::Global;
 use std::collections::VecDeque;
 use std::marker::Model;
@@ -118,11 +119,11 @@ impl PoolIndex {
 
     /// The first row of each pool, in no order.
     pub fn firsts(&self) -> PoolFirsts<'_>
-        ensures { result ≡ firsts_in self.now (values_of self.now) }
+        ensures told { result ≡ firsts_in self.now }
+        ensures once { IsDistinct nat_eq (keys_of self.now) }
     {
         PoolFirsts {
-            index: self,
-            groups: self.groups.values(),
+            groups: self.groups.iter(),
         }
     }
 
@@ -202,12 +203,23 @@ impl PoolIndex {
     }
 }
 
-/// The first row of one of these groups' pools, as the index lists them: so a group that it wouldn't find tells nothing of its own.
-fn next_first(index: &PoolIndex, groups: &mut Values<'_, u64, Group>) -> Option<u64>
-    ensures { YieldsFirst (firsts_in index.now) groups.old result groups.new }
+/// The first row of a group that is under its pool's hash, as each is; so nobody is told for a pool of which the index lists others.
+fn first_of(hash: u64, group: &Group) -> Option<u64>
+    ensures { result ≡ first_of (hash, group.now) }
 {
-    while let Some(group) = groups.next() {
-        if let Some(first) = index.first(&group.pool) {
+    if hash == group.pool.hash() {
+        group.numbers.front().copied()
+    } else {
+        None
+    }
+}
+
+/// The first row of the next group that has one.
+fn next_first(groups: &mut Iter<'_, u64, Group>) -> Option<u64>
+    ensures { YieldsFirst firsts_in groups.old result groups.new }
+{
+    while let Some((hash, group)) = groups.next() {
+        if let Some(first) = first_of(*hash, group) {
             return Some(first);
         }
     }
@@ -217,8 +229,7 @@ fn next_first(index: &PoolIndex, groups: &mut Values<'_, u64, Group>) -> Option<
 /// The first rows of pools that are still to be told, in no order.
 #[derive(Drop)]
 pub struct PoolFirsts<'a> {
-    index: &'a PoolIndex,
-    groups: Values<'a, u64, Group>,
+    groups: Iter<'a, u64, Group>,
 }
 
 impl<'a> Model for PoolFirsts<'a> {
@@ -227,7 +238,7 @@ impl<'a> Model for PoolFirsts<'a> {
 
     ghost Value = { List ℕ };
 
-    ghost view = { λ f. firsts_in f.index.now f.groups };
+    ghost view = { λ f. firsts_in f.groups };
 }
 
 impl<'a> Iterator for PoolFirsts<'a> {
@@ -240,7 +251,7 @@ impl<'a> Iterator for PoolFirsts<'a> {
     ghost remaining = { item_count (λ told. told) };
 
     fn next(&mut self) -> Option<u64> {
-        next_first(self.index, &mut self.groups)
+        next_first(&mut self.groups)
     }
 }
 
