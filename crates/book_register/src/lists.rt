@@ -8,6 +8,7 @@ ghost use Rattle.book_register.specs.Counted.{counted_book};
 ghost use Rattle.book_register.specs.Views.{view_of};
 ghost use Rattle.book_register.specs.Waking.{is_full, waiting_behind, waiting_for};
 ghost use Rattle.book_model.specs.Kept.{FitsLimits, Kept, KeptLimits};
+ghost use Rattle.book_rows.specs.Waiting.{TellsFirsts, TellsWaiting};
 
 use crate::book_state::BookState;
 use crate::view::BookView;
@@ -15,6 +16,7 @@ use book_model::counts::Counts;
 use book_model::events::{Event, Reply};
 use book_model::limits::Limits;
 use book_rows::clients::Clients;
+use book_rows::firsts::Firsts;
 use book_rows::leases::{Leases, Numbers};
 use book_rows::links::Links;
 use book_rows::tickets::Tickets;
@@ -191,10 +193,13 @@ impl Lists {
         self.board.view(alloc)
     }
 
-    /// Who may be woken where any pool may have a link: by places from 0 on, those who have waited longest in their pools, in no order,
-    /// or all who wait, where no index tells them. `None` behind the last place; a place may have nobody.
-    pub fn first_at(&self, at: usize) -> Option<Option<u64>> {
-        self.board.first_at(at)
+    /// Who may be woken where any pool may have a link: those who have waited longest in their pools, in no order, or all who wait, where
+    /// no index tells them.
+    pub fn firsts(&self) -> Firsts<'_>
+        ensures all { TellsFirsts result self.now.tickets }
+        ensures only { TellsWaiting result self.now.tickets }
+    {
+        self.board.firsts()
     }
 
     /// Who has waited longest in the pool for which this client waits, but for itself; nobody where it doesn't wait.

@@ -4,11 +4,13 @@ ghost use Rattle.book_model.specs.Outcomes.{is_started_as};
 ghost use Rattle.book_model.specs.Book as book;
 ghost use Rattle.book_register.specs.Views.{view_of};
 ghost use Rattle.book_register.specs.Waking.{waiting_behind, waiting_for};
+ghost use Rattle.book_rows.specs.Waiting.{TellsFirsts, TellsWaiting};
 
 use crate::book_state::BookState;
 use book_model::counts::Counts;
 use book_model::limits::Limits;
 use book_rows::clients::Client;
+use book_rows::firsts::Firsts;
 use book_rows::links::Link;
 use book_rows::tickets::Ticket;
 use start_keys::StartKey;
@@ -122,10 +124,13 @@ impl BookState {
         self.lent.has_as(number, key, born)
     }
 
-    /// Who may be woken where any pool may have a link: by places from 0 on, those who have waited longest in their pools, in no order,
-    /// or all who wait, where no index tells them. `None` behind the last place; a place may have nobody.
-    pub fn first_at(&self, at: usize) -> Option<Option<u64>> {
-        self.tickets.first_at(at)
+    /// Who may be woken where any pool may have a link: those who have waited longest in their pools, in no order, or all who wait, where
+    /// no index tells them.
+    pub fn firsts(&self) -> Firsts<'_>
+        ensures all { TellsFirsts result self.now.tickets }
+        ensures only { TellsWaiting result self.now.tickets }
+    {
+        self.tickets.firsts()
     }
 
     /// Who has waited longest in the pool for which this client waits, but for itself; nobody where it doesn't wait.

@@ -5,3 +5,4 @@ pub mod Numbering
 pub mod Indexing
 pub mod Lasts
 pub mod ShortNames
+pub mod Telling

@@ -5,3 +5,4 @@ pub mod Index
 pub mod ShortNames
 pub mod PoolIndex
 pub mod Numbered
+pub mod Telling

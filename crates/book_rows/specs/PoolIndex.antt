@@ -1,5 +1,6 @@
 -- An index by pool: which rows of a list are of each pool, by the rows' numbers.
-use Rattle.std.specs.Prelude.{◌≡◌, ℕ, List, [], ◌∷◌, ◌++◌, Option, Some, None, cond, filter, map, nat_eq}
+use Rattle.std.specs.Prelude.{◌≡◌, ◌==◌, ℕ, List, [], ◌∷◌, ◌++◌, Option, Some, None, cond, filter, map, nat_eq, slice_get}
+use Rattle.std.specs.List.{filter_map}
 use Rattle.std.specs.Map.{lookup}
 use Rattle.session_values.specs.State.{StartKeyOf}
 use Rattle.book_model.specs.Book.{same_pool, without_number}
@@ -17,6 +18,14 @@ in_group pool (Some group) = cond (same_pool group.pool pool) group.numbers []
 -- what the groups, each under its pool's hash, list of a pool
 abbrev pub listed : List (ℕ × Group) → StartKeyOf → List ℕ
 listed groups pool = in_group pool (lookup (nat_eq (pool_hash_of pool)) groups)
+
+-- the first row of a group that is under its pool's hash
+abbrev pub first_of : ℕ × Group → Option ℕ
+first_of e = cond (e.0 == pool_hash_of e.1.pool) (slice_get e.1.numbers 0) None
+
+-- of each of these groups
+abbrev pub firsts_in : List (ℕ × Group) → List ℕ
+firsts_in groups = filter_map first_of groups
 
 -- the rows of a pool, by their numbers
 abbrev pub numbers_of : {A : Type 0} → (A → ℕ) → (A → StartKeyOf) → StartKeyOf → List A → List ℕ

@@ -3,6 +3,7 @@
 #![tactic(auto)]
 
 pub mod clients;
+pub mod firsts;
 pub mod index;
 pub mod leases;
 pub mod links;

@@ -1,15 +1,18 @@
 //! An index by pool: which rows of a list are of each pool, by the rows' numbers, so that they are counted and the first is found
 //! without a walk over the list.
 ghost use Rattle.std.specs.Prelude.{◌≡◌, ◌<◌, ◌≤◌, ◌^◌, ◌++◌, ◌∷◌, [], ℕ, None, IfSome, MatchOption, OnSome, cond, count_by, find, length, nat_eq, not, option_copied, position, slice_get, true};
-ghost use Rattle.std.specs.Map.{lookup};
+ghost use Rattle.std.specs.Iterator.{YieldsFirst};
+ghost use Rattle.std.specs.List.{IsDistinct};
+ghost use Rattle.std.specs.Map.{keys_of, lookup};
 ghost use Rattle.book_model.specs.Book as book;
 ghost use Rattle.book_model.specs.Book.{same_pool};
 ghost use Rattle.book_rows.specs.PoolHashes.{pool_hash_of};
-ghost use Rattle.book_rows.specs.PoolIndex.{AddsRow, Follows, TakesRow, listed};
+ghost use Rattle.book_rows.specs.PoolIndex.{AddsRow, Follows, TakesRow, first_of, firsts_in, listed};
 ghost use Rattle.session_values.specs.State.{StartKeyOf};
 
 use crate::pools::PoolKey;
 use indexmap::IndexMap;
+use indexmap::map::Iter;
 use std::alloc::Global;
 use std::collections::VecDeque;
 use std::marker::Model;
@@ -121,10 +124,14 @@ impl PoolIndex {
         self.group(pool)?.numbers.front().copied()
     }
 
-    /// The first row of one of the pools, which stand in no order; `None` behind the last.
-    pub fn first_at(&self, at: usize) -> Option<Option<u64>> {
-        let (_, group) = self.groups.get_index(at)?;
-        Some(group.numbers.front().copied())
+    /// The first row of each pool, in no order.
+    pub fn firsts(&self) -> PoolFirsts<'_>
+        ensures told { result ≡ firsts_in self.now }
+        ensures once { IsDistinct nat_eq (keys_of self.now) }
+    {
+        PoolFirsts {
+            groups: self.groups.iter(),
+        }
     }
 
     /// The first row of this pool but for one.
@@ -200,6 +207,58 @@ impl PoolIndex {
                 group.remove(number);
             }
         }
+    }
+}
+
+/// The first row of a group that is under its pool's hash, as each is; so nobody is told for a pool of which the index lists others.
+fn first_of(hash: u64, group: &Group) -> Option<u64>
+    ensures { result ≡ first_of (hash, group.now) }
+{
+    if hash == group.pool.hash() {
+        group.numbers.front().copied()
+    } else {
+        None
+    }
+}
+
+/// The first row of the next group that has one.
+fn next_first(groups: &mut Iter<'_, u64, Group>) -> Option<u64>
+    ensures { YieldsFirst firsts_in groups.old result groups.new }
+{
+    while let Some((hash, group)) = groups.next() {
+        if let Some(first) = first_of(*hash, group) {
+            return Some(first);
+        }
+    }
+    None
+}
+
+/// The first rows of pools that are still to be told, in no order.
+#[derive(Drop)]
+pub struct PoolFirsts<'a> {
+    groups: Iter<'a, u64, Group>,
+}
+
+impl<'a> Model for PoolFirsts<'a> {
+    ghost use Rattle.std.specs.Prelude.{ℕ, List};
+    ghost use Rattle.book_rows.specs.PoolIndex.{firsts_in};
+
+    ghost Value = { List ℕ };
+
+    ghost view = { λ f. firsts_in f.groups };
+}
+
+impl<'a> Iterator for PoolFirsts<'a> {
+    ghost use Rattle.std.specs.Iterator.{YieldsFirst, item_count};
+
+    type Item = u64;
+
+    ghost next_gives = { YieldsFirst (λ told. told) };
+
+    ghost remaining = { item_count (λ told. told) };
+
+    fn next(&mut self) -> Option<u64> {
+        next_first(&mut self.groups)
     }
 }
 

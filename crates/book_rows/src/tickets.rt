@@ -6,8 +6,9 @@ ghost use Rattle.book_model.specs.Book.{Ticket as TicketRow};
 ghost use Rattle.book_model.specs.declared.limits.TheConstants.{MOST_CLIENTS};
 ghost use Rattle.book_rows.specs.Numbered.{client_in, rows_in};
 ghost use Rattle.book_rows.specs.Places.{passes};
-ghost use Rattle.book_rows.specs.Waiting.{longest_waiting, longest_waiting_but};
+ghost use Rattle.book_rows.specs.Waiting.{TellsFirsts, TellsWaiting, longest_waiting, longest_waiting_but};
 
+use crate::firsts::Firsts;
 use crate::numbered::{Numbered, NumberedRows};
 use crate::pool_index::{PoolIndex, list, unlist};
 use crate::pools::PoolKey;
@@ -225,15 +226,15 @@ impl Tickets {
         }
     }
 
-    /// Who may be woken where any pool may have a link: by places from 0 on, those who have waited longest in their pools, in no order,
-    /// or all who wait, where the index was given up. `None` behind the last place; a place may have nobody.
-    pub fn first_at(&self, at: usize) -> Option<Option<u64>> {
+    /// Who may be woken where any pool may have a link: those who have waited longest in their pools, in no order, or all who wait, where
+    /// the index was given up.
+    pub fn firsts(&self) -> Firsts<'_>
+        ensures all { TellsFirsts result self.now }
+        ensures only { TellsWaiting result self.now }
+    {
         match &self.pools {
-            Some(index) => index.first_at(at),
-            None => {
-                let slot = self.rows.slots().get(at)?;
-                Some(client_of(Some(slot)))
-            }
+            Some(index) => Firsts::by_pool(index),
+            None => Firsts::of_all(self.rows.slots()),
         }
     }
 

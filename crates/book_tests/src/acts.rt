@@ -248,12 +248,8 @@ impl Story {
     /// Who may be woken where any pool may have a link, in no order.
     pub(crate) fn firsts(&self) -> Result<Vec<u64>, AllocError> {
         let mut firsts = Vec::new(self.alloc);
-        for at in 0..usize::MAX {
-            match self.book.first_at(at) {
-                Some(Some(client)) => firsts.push(client)?,
-                Some(None) => {}
-                None => break,
-            }
+        for client in self.book.firsts() {
+            firsts.push(client)?;
         }
         Ok(firsts)
     }

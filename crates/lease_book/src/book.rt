@@ -9,6 +9,7 @@ ghost use Rattle.book_model.specs.Kept.{total};
 ghost use Rattle.book_register.specs.Counted.{counted_book};
 ghost use Rattle.book_register.specs.Views.{view_of};
 ghost use Rattle.book_register.specs.Waking.{is_full, waiting_behind, waiting_for};
+ghost use Rattle.book_rows.specs.Waiting.{TellsFirsts, TellsWaiting};
 ghost use Rattle.book_model.specs.Replay.{noted_of};
 ghost use Rattle.lease_book.specs.Links.{answered, brings_nothing, found, goes_out, handed, handed_after, handed_back, history_after, idle_after, idle_with, is_done, is_return, IsTwice, left, may_hand_back, number_of, plain, reply_of};
 
@@ -19,6 +20,7 @@ use book_model::counts::Counts;
 use book_model::events as lists;
 use book_model::limits::Limits;
 use book_register::view::BookView;
+use book_rows::firsts::Firsts;
 use link_run::links::CleanLink;
 use server_end::ServerEnd;
 use std::alloc::{AllocError, Global};
@@ -226,10 +228,13 @@ impl<E: ServerEnd> Book<E> {
         self.register.lists().view(alloc)
     }
 
-    /// Who may be woken where any pool may have a link: by places from 0 on, those who have waited longest in their pools, in no order,
-    /// or all who wait, where no index tells them. `None` behind the last place; a place may have nobody.
-    pub fn first_at(&self, at: usize) -> Option<Option<u64>> {
-        self.register.lists().first_at(at)
+    /// Who may be woken where any pool may have a link: those who have waited longest in their pools, in no order, or all who wait, where
+    /// no index tells them.
+    pub fn firsts(&self) -> Firsts<'_>
+        ensures all { TellsFirsts result self.now.lists.tickets }
+        ensures only { TellsWaiting result self.now.lists.tickets }
+    {
+        self.register.lists().firsts()
     }
 
     /// Who has waited longest in the pool for which this client waits, but for itself; nobody where it doesn't wait.

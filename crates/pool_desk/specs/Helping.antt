@@ -1,9 +1,12 @@
 -- Whom a decision may help.
-use Rattle.std.specs.Prelude.{ℕ, Option, Some, None, cond}
+use Rattle.std.specs.Prelude.{◌≡◌, ◌%◌, ℕ, Bool, List, Option, Some, None, IfSome, cond, slice_get, true}
+use Rattle.session_values.specs.State.{StartKeyOf}
 use Rattle.book_model.specs.Book.{Book}
 use Rattle.book_model.specs.Outcomes.{Event}
 use Rattle.book_model.specs.Outcomes.Event.{Arrive, Ask, Take, GiveBack, Lost, StartFailed, Leave, Keyed, Cancel, EndLease}
 use Rattle.book_register.specs.Waking.{is_full, waiting_behind, waiting_for}
+use Rattle.book_rows.specs.Waiting.{longest_waiting}
+use Rattle.pool_desk.specs.declared.bells.TheConstants.{BELLS}
 use Rattle.pool_desk.specs.declared.helping.Helps.{Helps}
 use Rattle.pool_desk.specs.declared.helping.Helps.TheVariants as helps
 
@@ -31,3 +34,11 @@ helped_by b (Keyed link client server) = helps.Nobody
 helped_by b (Cancel client) = helps.Nobody
 helped_by b (EndLease link) = helps.Nobody
 helped_by b _ = helps.All
+
+-- this client's bell is among the chosen
+abbrev pub IsChosen : List Bool → ℕ → Type 0
+IsChosen chosen client = slice_get chosen (client % BELLS) ≡ Some true
+
+-- the bell of who has waited longest in a pool is among them, whatever the pool
+abbrev pub ChoosesFirsts : Book → List Bool → Type 0
+ChoosesFirsts b chosen = (pool : StartKeyOf) → IfSome (longest_waiting pool b.tickets) (IsChosen chosen)

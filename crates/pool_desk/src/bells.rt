@@ -1,5 +1,5 @@
 //! Bells by which waiting clients are woken. Nothing is proved of who wakes when.
-ghost use Rattle.std.specs.Prelude.{◌≡◌, vec_len};
+ghost use Rattle.std.specs.Prelude.{◌≡◌, ◌%◌, slice_set, true, vec_len};
 ghost use Rattle.pool_desk.specs.declared.bells.TheConstants.{BELLS};
 
 use std::alloc::{AllocError, Global};
@@ -12,7 +12,9 @@ pub const BELLS: u64 = 1024;
 pub type Chosen = [bool; BELLS as usize];
 
 /// Chooses the bell of this client too.
-pub fn choose(chosen: &mut Chosen, client: u64) {
+pub fn choose(chosen: &mut Chosen, client: u64)
+    ensures { chosen.new ≡ slice_set chosen.old (client % BELLS) true }
+{
     chosen[(client % BELLS) as usize] = true;
 }
 

@@ -1,12 +1,15 @@
-//! Which of the clients that wait a decision may help. That nobody is forgotten is shown by tests.
-ghost use Rattle.std.specs.Prelude.{◌≡◌};
+//! Which of the clients that wait a decision may help. That they are enough is shown by tests.
+ghost use Rattle.std.specs.Prelude.{◌≡◌, ℕ, true};
+ghost use Rattle.std.specs.List.{list_any};
+ghost use Rattle.book_model.specs.Book.{is_number};
 ghost use Rattle.book_register.specs.Waking.{waiting_behind};
-ghost use Rattle.pool_desk.specs.Helping.{helped_behind, helped_by, helped_by_link};
+ghost use Rattle.pool_desk.specs.Helping.{ChoosesFirsts, IsChosen, helped_behind, helped_by, helped_by_link};
 ghost use Rattle.lease_book.specs.Links.{plain};
 
 use crate::bells::{BELLS, Chosen, choose};
 use crate::inner::Core;
 use crate::outside::Outside;
+use book_rows::firsts::Firsts;
 use desk_tallies::ledgers::Ledgers;
 use lease_book::events::Event;
 
@@ -67,15 +70,20 @@ impl<S: Outside, K: Ledgers> Core<S, K> {
     }
 
     /// The bells of those that have waited longest in each pool.
-    pub fn first_of_each(&self) -> Chosen {
-        let mut chosen = [false; BELLS as usize];
-        for at in 0..usize::MAX {
-            match self.book.first_at(at) {
-                Some(Some(client)) => choose(&mut chosen, client),
-                Some(None) => {}
-                None => break,
-            }
-        }
-        chosen
+    pub fn first_of_each(&self) -> Chosen
+        ensures { ChoosesFirsts self.now.book.lists result }
+    {
+        bells_of(self.book.firsts())
     }
+}
+
+/// The bells of these clients.
+fn bells_of(clients: Firsts<'_>) -> Chosen
+    ensures { (client : ℕ) → list_any (is_number client) clients ≡ true → IsChosen result client }
+{
+    let mut chosen = [false; BELLS as usize];
+    for client in clients {
+        choose(&mut chosen, client);
+    }
+    chosen
 }
