@@ -80,6 +80,22 @@ fn an_end_behind_bytes_is_seen(rt: HostRuntime) -> Result<(), Fail> {
     Ok(())
 }
 
+// As long as bytes that were read ahead are left, no turn waits for more; waiting, the hundred would take ten seconds.
+#[test]
+fn bytes_read_ahead_need_no_wait(rt: HostRuntime) -> Result<(), Fail> {
+    let (mut client, mut near) = pair(&rt)?;
+    let mut gate = TcpGate::new(rt, rt.alloc(), &mut client)?;
+    assert!(rt; ServerEnd::write_some(&mut near, &[7; 100]) == Moved::Count(100));
+    Gate::<TcpEnd>::turn_of_client(&mut gate);
+    let start = Instant::now(&rt)?;
+    for _ in 0..100 {
+        assert!(rt; ClientEnd::read_some(&mut client, &mut [0; 1]) == Moved::Count(1));
+        Gate::<TcpEnd>::turn_of_client(&mut gate);
+    }
+    assert!(rt; start.elapsed(&rt)?.as_millis() < 2_500);
+    Ok(())
+}
+
 #[test]
 fn an_end_after_bytes_is_seen(rt: HostRuntime) -> Result<(), Fail> {
     let (mut client, mut near) = pair(&rt)?;

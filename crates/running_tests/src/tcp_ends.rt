@@ -95,6 +95,55 @@ fn authentication_ok_waits_once(rt: HostRuntime) -> Result<(), Fail> {
     Ok(())
 }
 
+/// Reads into room for so many bytes once there is something, at most a million times; and whether what came is as much of these.
+fn reads(end: &mut TcpEnd, room: usize, bytes: &[u8]) -> (Moved, bool) {
+    let mut came = [0u8; 64];
+    for _ in 0..1_000_000u32 {
+        match ClientEnd::read_some(end, &mut came[..room]) {
+            Moved::NotNow => {}
+            Moved::Count(count) => return (Moved::Count(count), came[..count] == bytes[..count]),
+            moved => return (moved, false),
+        }
+    }
+    (Moved::NotNow, false)
+}
+
+/// A packet of sixty bytes, no two of them the same.
+fn packet() -> [u8; 60] {
+    let mut bytes = [0u8; 60];
+    for at in 0..60u8 {
+        bytes[at as usize] = at + 1;
+    }
+    bytes
+}
+
+// One call of the system reads both parts: the second needs none.
+#[test]
+fn a_packet_is_read_in_two_parts(rt: HostRuntime) -> Result<(), Fail> {
+    let (mut near, mut far) = pair(&rt)?;
+    let packet = packet();
+    assert!(rt; ServerEnd::write_some(&mut near, &packet) == Moved::Count(60));
+    assert!(rt; reads(&mut far, 8, &packet) == (Moved::Count(8), true));
+    assert!(rt; reads(&mut far, 52, &packet[8..]) == (Moved::Count(52), true));
+    assert!(rt; ClientEnd::read_some(&mut far, &mut [0; 8]) == Moved::NotNow);
+    Ok(())
+}
+
+// Its last part is short; and the end of the input stands behind all of it.
+#[test]
+fn an_end_of_input_is_behind_all_bytes(rt: HostRuntime) -> Result<(), Fail> {
+    let (mut near, mut far) = pair(&rt)?;
+    let packet = packet();
+    assert!(rt; ServerEnd::write_some(&mut near, &packet) == Moved::Count(60));
+    drop(near);
+    for part in 0..7usize {
+        assert!(rt; reads(&mut far, 8, &packet[8 * part..]) == (Moved::Count(8), true));
+    }
+    assert!(rt; reads(&mut far, 8, &packet[56..]) == (Moved::Count(4), true));
+    assert!(rt; reads(&mut far, 8, &[]).0 == Moved::Ended);
+    Ok(())
+}
+
 #[test]
 fn waits_are_counted(rt: HostRuntime) -> Result<(), Fail> {
     let (mut near, _far) = pair(&rt)?;

@@ -1,3 +1,4 @@
 pub mod Connections
 pub mod Deferring
+pub mod Reading
 pub mod Turns

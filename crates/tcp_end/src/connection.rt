@@ -1,10 +1,13 @@
 //! A TCP connection as an end of a lease: a server's or a client's.
-ghost use Rattle.std.specs.Prelude.{◌≡◌, ◌≢◌, ◌<◌, length, true, false, IfOk};
+ghost use Rattle.std.specs.Prelude.{◌≡◌, ◌≢◌, ◌<◌, List, ℕ, Option, [], length, true, false, IfOk};
+ghost use Rattle.std.specs.Io.KnownBytes.{Consumes};
 ghost use Rattle.server_end.specs.Moves.{ClientWrites, IsWithin, moved};
 ghost use Rattle.tcp_end.specs.Connections.{Reads, Sends, facts_of, has_ended, is_broken, new_connection};
 ghost use Rattle.tcp_end.specs.Connections as spec;
+ghost use Rattle.tcp_end.specs.Reading.{IsFilled, to_come};
 ghost use Rattle.server_end.specs.declared.Moved.TheVariants.{Ended};
 
+use crate::ahead::{AHEAD, Ahead};
 use crate::deferred::{Deferred, PACKET};
 use crate::notes::Notes;
 use mio::net::TcpStream;
@@ -28,6 +31,10 @@ use std::sync::Arc;
 /// the end is dropped, or when the peer has gone, is lost. A write that sends no more than what is held comes to nothing for its own
 /// bytes. A server's end holds nothing.
 ///
+/// A client's end reads ahead: a read into fewer than 512 bytes' room asks the system for 512, is given its share of what came, and the
+/// reads behind it are given the rest without a call of the system. A read into more room is made straight into it once nothing is left of
+/// that. So a packet that is read in pieces costs one call. A server's end reads nothing ahead.
+///
 /// Nothing is claimed of what the peer is or does: as a server's end it follows no server, though it tells what it accepted and what
 /// it gave, and as a client's it doesn't tell its bytes.
 pub struct TcpEnd {
@@ -41,6 +48,8 @@ pub struct TcpEnd {
     write_waits: u64,
     /// Nothing at a server's end.
     deferred: Deferred,
+    /// The same.
+    ahead: Ahead,
     /// Its gate has them too.
     notes: Arc<Notes>,
 }
@@ -56,6 +65,7 @@ impl Drop for TcpEnd {
             read_waits: _,
             write_waits: _,
             deferred: _,
+            ahead: _,
             notes: _,
         } = self;
     }
@@ -108,6 +118,72 @@ fn write_outcome(answer: io::Result<usize>) -> Moved
     }
 }
 
+/// Reads once of a stream, where it may come to something.
+fn read_once<R: Read>(stream: &mut R, notes: &Notes, into: &mut [u8]) -> Moved
+    requires { 0 < length into.old }
+    ensures within { IsWithin result (length into.old) }
+    ensures bytes { Consumes (R.remaining stream.old) (R.remaining stream.new) (moved result into.new) }
+{
+    if notes.is_empty() {
+        return Moved::NotNow;
+    }
+    let room = into.len();
+    let answer = stream.read(into);
+    notes.read(&answer, room);
+    read_outcome(answer)
+}
+
+/// Reads once of a stream ahead, where it may come to something.
+fn fill_once<R: Read>(stream: &mut R, notes: &Notes, ahead: &mut Ahead) -> Moved
+    requires { ahead.old ≡ [] }
+    ensures filled { IsFilled result ahead.new }
+    ensures bytes { Consumes (R.remaining stream.old) (R.remaining stream.new) ahead.new }
+{
+    if notes.is_empty() {
+        return Moved::NotNow;
+    }
+    let answer = ahead.fill(stream);
+    notes.read(&answer, AHEAD);
+    read_outcome(answer)
+}
+
+/// Gives of what was read ahead.
+fn give(notes: &Notes, ahead: &mut Ahead, into: &mut [u8]) -> Moved
+    requires some { 0 < length ahead.old }
+    requires room { 0 < length into.old }
+    ensures within { IsWithin result (length into.old) }
+    ensures bytes { (rest : Option (List ℕ)) → Consumes (to_come ahead.old rest) (to_come ahead.new rest) (moved result into.new) }
+{
+    let count = ahead.give(into);
+    notes.gave(!ahead.is_empty());
+    Moved::Count(count)
+}
+
+/// Reads once: what was read ahead, while there is some. Else of the stream, where it may come to something: ahead for a slice of
+/// fewer than `least` bytes, and straight into any other.
+fn read_by<R: Read>(
+    stream: &mut R,
+    notes: &Notes,
+    ahead: &mut Ahead,
+    into: &mut [u8],
+    least: usize,
+) -> Moved
+    requires { 0 < length into.old }
+    ensures within { IsWithin result (length into.old) }
+    ensures bytes { Consumes (to_come ahead.old (R.remaining stream.old)) (to_come ahead.new (R.remaining stream.new)) (moved result into.new) }
+{
+    if !ahead.is_empty() {
+        return give(notes, ahead, into);
+    }
+    if least <= into.len() {
+        return read_once(stream, notes, into);
+    }
+    match fill_once(stream, notes, ahead) {
+        Moved::Count(_) => give(notes, ahead, into),
+        none => none,
+    }
+}
+
 /// Writes once to a stream, where it may come to something.
 fn write_once(stream: &mut TcpStream, notes: &Notes, from: &[u8]) -> Moved
     requires { 0 < length from.now }
@@ -138,6 +214,7 @@ impl TcpEnd {
             read_waits: 0,
             write_waits: 0,
             deferred: Deferred::new(),
+            ahead: Ahead::new(),
             notes: Arc::new(alloc, Notes::new())?,
         })
     }
@@ -176,19 +253,13 @@ impl TcpEnd {
         self.input_ended || self.is_broken()
     }
 
-    /// Reads once of the stream, where it may come to something.
-    fn try_read(&mut self, into: &mut [u8]) -> Moved
+    /// Reads once, where it may come to something; ahead for a slice of fewer than `least` bytes.
+    fn try_read(&mut self, into: &mut [u8], least: usize) -> Moved
         requires { 0 < length into.old }
         ensures within { IsWithin result (length into.old) }
         ensures same { self.new ≡ self.old }
     {
-        if self.notes.is_empty() {
-            return Moved::NotNow;
-        }
-        let room = into.len();
-        let answer = self.stream.read(into);
-        self.notes.read(&answer, room);
-        read_outcome(answer)
+        read_by(&mut self.stream, &self.notes, &mut self.ahead, into, least)
     }
 
     /// Writes once to the stream, where it may come to something; behind what is held.
@@ -217,8 +288,8 @@ impl TcpEnd {
         self.deferred.wrote(moved)
     }
 
-    /// Reads once, for either kind of end.
-    fn read(&mut self, into: &mut [u8]) -> Moved
+    /// Reads once, for either kind of end; ahead for a slice of fewer than `least` bytes.
+    fn read(&mut self, into: &mut [u8], least: usize) -> Moved
         requires { 0 < length into.old }
         ensures within { IsWithin result (length into.old) }
         ensures reads { Reads self.old self.new into.new result }
@@ -226,7 +297,7 @@ impl TcpEnd {
         if self.has_ended() {
             return Moved::Ended;
         }
-        let moved = self.try_read(into);
+        let moved = self.try_read(into, least);
         match moved {
             Moved::Count(count) => self.given.note(&into[..count]),
             Moved::NotNow => self.read_waits += 1,
@@ -274,7 +345,7 @@ impl ServerEnd for TcpEnd {
     ghost standing = { λ e. standing_of e };
 
     fn read_some(&mut self, into: &mut [u8]) -> Moved {
-        self.read(into)
+        self.read(into, 0)
     }
 
     fn write_some(&mut self, from: &[u8]) -> Moved {
@@ -299,7 +370,7 @@ impl ClientEnd for TcpEnd {
     ghost facts = { λ e. facts_of e };
 
     fn read_some(&mut self, into: &mut [u8]) -> Moved {
-        self.read(into)
+        self.read(into, AHEAD)
     }
 
     /// An end whose input has ended is still written to.

@@ -10,6 +10,7 @@
 #![tactic(auto)]
 
 pub mod acceptor;
+mod ahead;
 pub mod connection;
 mod deferred;
 pub mod dial;

@@ -84,6 +84,11 @@ impl Notes {
         set(&self.has_spoken, answer.is_ok());
     }
 
+    /// A read was given bytes that were read ahead, and perhaps some are left of them.
+    pub(crate) fn gave(&self, is_left: bool) {
+        set(&self.may_have_more, is_left || !self.is_empty());
+    }
+
     /// A write of so many bytes was answered so.
     pub(crate) fn wrote(&self, answer: &io::Result<usize>, bytes: usize) {
         set(&self.is_full, is_exhausted(answer, bytes));
