@@ -1,4 +1,4 @@
-use Rattle.std.proofs.Common.{◌≡◌, ◌≤◌, [], ℕ, Bool, List, ap, ◌∙◌, sym, subst}
+use Rattle.std.proofs.Common.{◌≤◌, ℕ, List, ap, ◌∙◌, sym, subst}
 use Rattle.std.specs.Prelude.{count_by, find}
 use Rattle.book_model.specs.Book.{Link, find_last, is_link, latest_of}
 use Rattle.book_rows.specs.Numbered.{is_of_key, number_of}
