@@ -1,4 +1,6 @@
 //! What reads and writes of an end come to.
+ghost use Rattle.std.specs.Prelude.{◌<◌, ◌≤◌};
+
 use crate::pairs::{HERE, listen, pair};
 use server_end::{ClientEnd, Moved, ServerEnd};
 use std::test::Fail;
@@ -95,13 +97,16 @@ fn authentication_ok_waits_once(rt: HostRuntime) -> Result<(), Fail> {
     Ok(())
 }
 
-/// Reads into room for so many bytes once there is something, at most a million times; and whether what came is as much of these.
-fn reads(end: &mut TcpEnd, room: usize, bytes: &[u8]) -> (Moved, bool) {
+/// Reads into room for so many bytes once there is something, at most a million times; and whether these begin with what came.
+fn reads(end: &mut TcpEnd, room: usize, bytes: &[u8]) -> (Moved, bool)
+    requires some { 0 < room }
+    requires fits { room ≤ 64 }
+{
     let mut came = [0u8; 64];
     for _ in 0..1_000_000u32 {
         match ClientEnd::read_some(end, &mut came[..room]) {
             Moved::NotNow => {}
-            Moved::Count(count) => return (Moved::Count(count), came[..count] == bytes[..count]),
+            Moved::Count(count) => return (Moved::Count(count), bytes.starts_with(&came[..count])),
             moved => return (moved, false),
         }
     }

@@ -6,7 +6,8 @@
 //! finds that there may be more since its last turn doesn't wait at this turn; otherwise the next bytes make an edge, and the wait ends
 //! there. Each turn forgets that note, so no two turns in a row go without a wait unless bytes were read between them. A peer that has
 //! sent its last byte, or a socket with an error, makes its edge but once, so from then on reads are tried in any case. A turn always
-//! names both sides, and nothing is claimed of edges: after a wait without one both ends are tried again.
+//! names both sides, and nothing is claimed of edges: after a wait without one both ends are tried again. Bytes that a client's end has
+//! read ahead are as bytes that its socket still has, of which an event told before.
 #![tactic(auto)]
 
 pub mod acceptor;
