@@ -1,6 +1,6 @@
 -- Whose bells are chosen.
-use Rattle.std.proofs.Common.{◌≡◌, ◌⊎◌, ◌==◌, ◌<◌, ◌%◌, ◌||◌, ℕ, zero, suc, Bool, true, false, List, [], ◌∷◌, Option, None, Some, length, refl, sym, ap, ◌∙◌, subst, inl, inr, arith, eqb-true}
-use Rattle.std.specs.Prelude.{IfSome, slice_get, slice_set}
+use Rattle.std.proofs.Common.{◌≡◌, ◌⊎◌, ◌<◌, ◌%◌, ◌||◌, ℕ, zero, suc, Bool, true, List, [], ◌∷◌, Some, length, refl, sym, ap, ◌∙◌, inl, inr, arith, eqb-true}
+use Rattle.std.specs.Prelude.{false, slice_get, slice_set}
 use Rattle.std.specs.List.{list_any}
 use Rattle.book_model.specs.Book.{is_number}
 use Rattle.pool_desk.specs.Helping.{IsChosen}
@@ -44,7 +44,3 @@ all_chosen clients left chosen e to n there = of (to n there)
     of : (list_any (is_number n) left ≡ true) ⊎ IsChosen chosen n → IsChosen chosen n
     of (inl q) = let none = sym (ap (λ (ns : List ℕ). list_any (is_number n) ns) e) ∙ q in absurd (cc)
     of (inr q) = q
-
-pub if_some : {P Q : ℕ → Type 0} (o : Option ℕ) → ((n : ℕ) → P n → Q n) → IfSome o P → IfSome o Q
-if_some None f h = _
-if_some (Some n) f h = f n h
