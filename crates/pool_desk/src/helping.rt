@@ -78,8 +78,9 @@ impl<S: Outside, K: Ledgers> Core<S, K> {
 }
 
 /// The bells of these clients.
+#[tactic(auto, using(crate::proofs::Choosing::one_chosen, crate::proofs::Choosing::all_chosen))]
 fn bells_of(clients: Firsts<'_>) -> Chosen
-    ensures { (client : ℕ) → list_any (is_number client) clients ≡ true → IsChosen result client }
+    ensures { (client : ℕ) → list_any (is_number client) clients.entry ≡ true → IsChosen result client }
 {
     let mut chosen = [false; BELLS as usize];
     for client in clients {
