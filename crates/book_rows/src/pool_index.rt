@@ -1,6 +1,6 @@
 //! An index by pool: which rows of a list are of each pool, by the rows' numbers, so that they are counted and the first is found
 //! without a walk over the list.
-ghost use Rattle.std.specs.Prelude.{◌≡◌, ◌<◌, ◌≤◌, ◌^◌, ◌++◌, ◌∷◌, [], ℕ, None, IfSome, MatchOption, OnSome, cond, count_by, find, length, nat_eq, not, option_copied, position, slice_get, true};
+ghost use Rattle.std.specs.Prelude.{◌≡◌, ◌<◌, ◌≤◌, ◌^◌, ◌++◌, ◌∷◌, [], ℕ, None, IfSome, MatchOption, OnSome, cond, count_by, find, is_some, length, nat_eq, not, option_copied, position, slice_get, true};
 ghost use Rattle.std.specs.Iterator.{YieldsFirst};
 ghost use Rattle.std.specs.List.{IsDistinct};
 ghost use Rattle.std.specs.Map.{keys_of, lookup};
@@ -273,10 +273,11 @@ pub fn list(index: &mut Option<PoolIndex>, pool: &PoolKey, number: u64)
     }
 }
 
-/// Lists a row less of this pool.
+/// Lists a row less of this pool. It is never given up for that.
 pub fn unlist(index: &mut Option<PoolIndex>, pool: &PoolKey, number: u64)
     requires once { IfSome index.old (λ groups. count_by (book.is_number number) (listed groups pool.now) ≤ 1) }
-    ensures { Follows (TakesRow pool.now number) index.old index.new }
+    ensures row { Follows (TakesRow pool.now number) index.old index.new }
+    ensures kept { is_some index.new ≡ is_some index.old }
 {
     if let Some(groups) = index {
         groups.remove(pool, number);

@@ -31,5 +31,5 @@ invariant_of-self c =
     let P : List Link → Type 0 = λ rows. (n : ℕ) → count_by (is_link n) rows ≤ 1 in
     let once : P c.self.inside.rows = subst P (sym c.self.view_is) c.requires.once in
     let there = sym c.take.ensures.row ∙ c.in-Some.is in
-    let taken = subst (λ (k : StartKeyOf). Follows (TakesRow k c.args.number) c.self.inside.pools c.unlist.new.index) (ap key c.link.view_is) c.unlist.ensures in
+    let taken = subst (λ (k : StartKeyOf). Follows (TakesRow k c.args.number) c.self.inside.pools c.unlist.new.index) (ap key c.link.view_is) c.unlist.ensures.row in
     subst (λ (rows : List Link). ListsIfAny own key c.unlist.new.index rows) (sym c.take.ensures.rest) (listed_less own key c.self.inside.pools c.unlist.new.index c.self.inside.rows c.args.number _ taken there (once c.args.number) c.self.invariant)
