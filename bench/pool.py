@@ -1,5 +1,6 @@
 #!/usr/bin/env python3
-"""pgbench through pgsess, through PgBouncer with equal settings, and over PostgreSQL directly, in turn.
+"""pgbench through pgsess, through PgBouncer with equal settings, and over PostgreSQL directly, in turn; and at last beside connections that
+send nothing.
 
 Usage: pool.py PROGRAM [ROUNDS [SECONDS]]: so many rounds (5), each measurement of so many seconds (2). What is printed is the median
 of the rounds, and the least and the greatest.
@@ -24,6 +25,12 @@ QUERIES = (1, 8, 32)
 # bytes of a row, and rows
 BULK = ((1_048_576, 500), (90, 3_000_000), (1, 10_000_000))
 IDLE = (0, 1_000, 4_000)
+# clients that each have an application name of their own
+NAMES = 64
+# connections that send nothing, and the clients that are served beside them
+SILENT, SERVED = 10_000, 100
+# the files of a connection, and those that the others need
+FILES_EACH, FILES_MORE = 2, 1_000
 LINKS = 40
 MOST_CLIENTS = 10_000
 # a row of COPY: type, length, value, end of line
@@ -40,6 +47,7 @@ class Bench:
         for kind in kinds:
             self.poolers[kind] = Pooler(self.place, self.cluster, program, kind, auth="md5", size=LINKS, clients=MOST_CLIENTS, wait=0)
         self.ports = {**{kind: it.port for kind, it in self.poolers.items()}, "directly": self.cluster.port}
+        self.untracked = Pooler(self.place, self.cluster, program, auth="md5", size=LINKS, clients=MOST_CLIENTS, wait=0, untracked="application_name")
         self.pgbench(self.cluster.port, "-i", "-q", "-s", "10", timed=False)
         self.found = {}
 
@@ -65,6 +73,16 @@ class Bench:
             file.unlink()
         return sorted(times)[len(times) * 99 // 100]
 
+    def names(self, port):
+        """Connects a second of clients that each have an application name of their own."""
+        words = ["pgbench", "-n", "-S", "-C", "-c", "1", "-T", str(self.seconds)]
+        running = []
+        for name in range(NAMES):
+            own = {**self.environment(port), "PGAPPNAME": f"service {name}"}
+            running.append(subprocess.Popen(words, env=own, stdout=subprocess.PIPE, stderr=subprocess.DEVNULL, text=True))
+        rates = [re.search(r"^tps = ([\d.]+)", it.communicate()[0], re.MULTILINE) for it in running]
+        return sum(float(it[1]) for it in rates) if all(rates) else None
+
     def bulk(self, port, size, rows):
         """Seconds for a gigabyte of rows, all of its bytes counted."""
         begin = time.monotonic()
@@ -87,6 +105,8 @@ class Bench:
         for clients in CONNECTS:
             for kind, port in self.ports.items():
                 self.note(f"connects a second, {clients} clients", kind, self.pgbench(port, "-C", "-c", str(clients), "-j", str(clients)))
+        for kind, port in {**self.ports, "pgsess": self.untracked.port}.items():
+            self.note(f"connects a second, {NAMES} clients of as many application names", kind, self.names(port))
         for manner in ("simple", "prepared"):
             for clients in QUERIES:
                 for kind, port in self.ports.items():
@@ -119,6 +139,23 @@ class Bench:
                 client.socket.close()
             until(lambda: pooler.files() < 200, 20)
 
+    def silent(self):
+        """Queries a second without connections that send nothing, and beside them."""
+        words = ["-M", "simple", "-c", str(SERVED), "-j", "4"]
+        count = min(SILENT, (resource.getrlimit(resource.RLIMIT_NOFILE)[1] - FILES_MORE) // FILES_EACH)
+        for kind, pooler in self.poolers.items():
+            alone = self.pgbench(pooler.port, *words)
+            clients = [Client(pooler.port) for _ in range(count)]
+            time.sleep(1)
+            before = pooler.used()
+            time.sleep(self.seconds)
+            idle = (pooler.used() - before) / self.seconds
+            beside = self.pgbench(pooler.port, *words)
+            print(f"{count} silent connections at {kind}: {100 * idle:.1f} per cent of a processor; {SERVED} others have {beside:.0f} queries a second, {beside / alone:.2f} times as many as without them")
+            for client in clients:
+                client.socket.close()
+            until(lambda: pooler.files() < 200, 20)
+
     def tell(self):
         for name, kinds in self.found.items():
             shown = [f"{kind} {number(statistics.median(values))} ({number(min(values))} to {number(max(values))})" for kind, values in kinds.items()]
@@ -132,7 +169,8 @@ class Bench:
             print(f"round {count + 1} of {self.rounds}", flush=True)
             self.measure()
         self.tell()
-        for pooler in self.poolers.values():
+        self.silent()
+        for pooler in [*self.poolers.values(), self.untracked]:
             pooler.stop()
         self.cluster.stop()
 
