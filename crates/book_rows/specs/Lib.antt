@@ -5,4 +5,5 @@ pub mod Index
 pub mod ShortNames
 pub mod PoolIndex
 pub mod Numbered
+pub mod RowNotes
 pub mod Telling

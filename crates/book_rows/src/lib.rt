@@ -10,5 +10,6 @@ pub mod links;
 pub mod numbered;
 mod pool_index;
 pub mod pools;
+mod row_notes;
 mod short_names;
 pub mod tickets;

@@ -4,9 +4,11 @@ ghost use Rattle.std.specs.Prelude.{◌≡◌, ◌<◌, ◌≤◌, ◌++◌, ◌
 ghost use Rattle.std.specs.VecDeque.{deque_capacity};
 ghost use Rattle.book_rows.specs.Numbered.{HasSlot, bears, emptied, filled, row_at, rows_in};
 ghost use Rattle.book_rows.specs.Places.{passes};
+ghost use Rattle.book_rows.specs.RowNotes.{AllNoted, noted};
 ghost use Rattle.book_rows.specs.declared.numbered.TheConstants.{ROWS, SLOTS};
+ghost use Rattle.book_rows.specs.declared.row_notes.Noted.TheVariants.{Nowhere};
 
-use indexmap::IndexMap;
+use crate::row_notes::{Noted, RowNotes};
 use std::alloc::{AllocError, Global};
 use std::collections::VecDeque;
 use std::marker::Model;
@@ -42,17 +44,35 @@ fn first_slot_of<T: Numbered>(slots: &VecDeque<Option<T>>, number: u64) -> Optio
     slots.iter().position(|s| is_in(s, number))
 }
 
-/// The slot of the row of this number: the one that is likely, or else another one.
+/// The slot of the row of this number: this one, or else another one.
 #[tactic(auto, using(crate::proofs::Numbering::by_position))]
-fn slot_of<T: Numbered>(slots: &VecDeque<Option<T>>, likely: usize, number: u64) -> Option<usize>
+fn slot_by<T: Numbered>(slots: &VecDeque<Option<T>>, place: usize, number: u64) -> Option<usize>
     ensures { HasSlot T.number number slots.now.items result }
 {
-    if let Some(slot) = slots.get(likely) {
+    if let Some(slot) = slots.get(place) {
         if is_in(slot, number) {
-            return Some(likely);
+            return Some(place);
         }
     }
     first_slot_of(slots, number)
+}
+
+/// The slot of the row of this number, by what is noted of it; so many slots have gone at the front.
+#[tactic(auto, using(crate::proofs::Numbering::by_position))]
+fn slot_of<T: Numbered>(
+    slots: &VecDeque<Option<T>>,
+    notes: &RowNotes,
+    gone: usize,
+    number: u64,
+) -> Option<usize>
+    requires { AllNoted T.number notes.now (rows_in slots.now.items) }
+    ensures { HasSlot T.number number slots.now.items result }
+{
+    match notes.of(number) {
+        Noted::At(came) => slot_by(slots, came.wrapping_sub(gone), number),
+        Noted::Nowhere => None,
+        Noted::Unknown => first_slot_of(slots, number),
+    }
 }
 
 /// The row in this slot.
@@ -110,49 +130,60 @@ fn push_slot<T: Drop>(slots: &mut VecDeque<Option<T>>, row: T) -> bool
     is_full
 }
 
-/// Notes where each row is.
-fn note_all<T: Numbered>(slots: &VecDeque<Option<T>>, noted: &mut IndexMap<u64, usize>) {
-    for place in 0..slots.len() {
-        if let Some(Some(row)) = slots.get(place) {
-            let _ = noted.insert(row.number(), place);
-        }
+/// Notes where the row in this slot is, if there is one.
+fn note_slot<T: Numbered>(slot: &Option<T>, place: usize, notes: &mut RowNotes)
+    ensures { (n : ℕ) → noted notes.new n ≡ Nowhere → noted notes.old n ≡ Nowhere }
+{
+    if let Some(row) = slot {
+        notes.note(row.number(), place);
+    }
+}
+
+/// Notes anew where each row is.
+fn note_all<T: Numbered>(slots: &VecDeque<Option<T>>, notes: &mut RowNotes)
+    requires { AllNoted T.number notes.old (rows_in slots.now.items) }
+    ensures { AllNoted T.number notes.new (rows_in slots.now.items) }
+{
+    'slots: for place in 0..slots.len() {
+        note_slot(&slots[place], place, notes);
     }
 }
 
 /// Rows that bear numbers, in the order in which they came, with room for the most that there can be.
-pub struct NumberedRows<T> {
+pub struct NumberedRows<T: Numbered> {
     slots: VecDeque<Option<T>>,
     /// How many slots aren't empty.
     len: usize,
     /// So many slots have gone at the front.
     gone: usize,
-    /// Where each row stands, counted with the slots that have gone. What is noted is looked at, so nothing need be proved of it: a row
-    /// of which it isn't true, or nothing is noted, is looked for.
-    noted: IndexMap<u64, usize>,
+    /// Where each row stands, counted with the slots that have gone. That no row bears a number is taken from its note; a place is looked
+    /// at, so that a row of which it isn't true is found all the same.
+    notes: RowNotes,
 }
 
-impl<T: Drop> Drop for NumberedRows<T> {
+impl<T: Numbered> Drop for NumberedRows<T> {
     fn drop(self) {
         let NumberedRows {
             slots: _,
             len: _,
             gone: _,
-            noted: _,
+            notes: _,
         } = self;
     }
 }
 
-impl<T> Model for NumberedRows<T> {
+impl<T: Numbered> Model for NumberedRows<T> {
     ghost use Rattle.std.specs.Prelude.{◌≡◌, ◌<◌, ◌≤◌, List, length};
     ghost use Rattle.std.specs.VecDeque.{deque_capacity};
     ghost use Rattle.book_rows.specs.Numbered.{rows_in};
+    ghost use Rattle.book_rows.specs.RowNotes.{AllNoted};
     ghost use Rattle.book_rows.specs.declared.numbered.TheConstants.{SLOTS};
 
     ghost Value = { List T };
 
     ghost view = { λ r. rows_in r.slots.items };
 
-    ghost invariant = { λ r. (SLOTS ≤ deque_capacity r.slots) × (length r.slots.items < SLOTS) × (r.len ≡ length (rows_in r.slots.items)) };
+    ghost invariant = { λ r. (SLOTS ≤ deque_capacity r.slots) × (length r.slots.items < SLOTS) × (r.len ≡ length (rows_in r.slots.items)) × AllNoted T.number r.notes (rows_in r.slots.items) };
 }
 
 impl<T: Numbered> NumberedRows<T> {
@@ -161,12 +192,12 @@ impl<T: Numbered> NumberedRows<T> {
         ensures { IfOk result (λ r. r ≡ []) }
     {
         let slots = VecDeque::with_capacity(alloc, SLOTS)?;
-        let noted = IndexMap::with_capacity(alloc, ROWS)?;
+        let notes = RowNotes::new(alloc, ROWS)?;
         Ok(NumberedRows {
             slots,
             len: 0,
             gone: 0,
-            noted,
+            notes,
         })
     }
 
@@ -187,21 +218,13 @@ impl<T: Numbered> NumberedRows<T> {
         &self.slots
     }
 
-    /// Where the row of this number is likely to be.
-    fn likely(&self, number: u64) -> usize {
-        match self.noted.get(&number) {
-            Some(came) => came.wrapping_sub(self.gone),
-            None => 0,
-        }
-    }
-
     /// The row of this number.
     #[tactic(auto, using(crate::proofs::Numbering::found_row))]
     pub fn get(&self, number: u64) -> Option<&T>
         requires once { (n : ℕ) → count_by (bears T.number n) self.now ≤ 1 }
         ensures { option_copied result ≡ find (bears T.number number) self.now }
     {
-        let place = slot_of(&self.slots, self.likely(number), number);
+        let place = slot_of(&self.slots, &self.notes, self.gone, number);
         row_at(&self.slots, place)
     }
 
@@ -212,11 +235,11 @@ impl<T: Numbered> NumberedRows<T> {
         ensures { self.new ≡ self.old ++ row ∷ [] }
     {
         let came = self.gone.wrapping_add(self.slots.len());
-        let _ = self.noted.insert(row.number(), came);
+        self.notes.note(row.number(), came);
         self.len += 1;
         if push_slot(&mut self.slots, row) {
             self.gone = 0;
-            note_all(&self.slots, &mut self.noted);
+            note_all(&self.slots, &mut self.notes);
         }
     }
 
@@ -227,7 +250,7 @@ impl<T: Numbered> NumberedRows<T> {
         ensures { self.new ≡ map (λ r. cond (bears T.number (T.number row) r) row r) self.old }
     {
         let number = row.number();
-        let place = slot_of(&self.slots, self.likely(number), number);
+        let place = slot_of(&self.slots, &self.notes, self.gone, number);
         put_at(&mut self.slots, place, row);
     }
 
@@ -238,9 +261,9 @@ impl<T: Numbered> NumberedRows<T> {
         ensures row { result ≡ find (bears T.number number) self.old }
         ensures rest { self.new ≡ filter (λ row. not (bears T.number number row)) self.old }
     {
-        let place = slot_of(&self.slots, self.likely(number), number);
+        let place = slot_of(&self.slots, &self.notes, self.gone, number);
         let row = take_at(&mut self.slots, place)?;
-        let _ = self.noted.swap_remove(&number);
+        self.notes.forget(number);
         self.len -= 1;
         // twice, so that there are ever fewer of them at the front
         self.drop_empty();

@@ -1,6 +1,8 @@
 use Rattle.std.proofs.Common.{◌≡◌, ◌≤◌, ◌<◌, ℕ, rules, sym, ◌∙◌, ap, subst, List, cond, map, arith}
 use Rattle.std.specs.Prelude.{count_by, length}
 use Rattle.book_rows.specs.Numbered.{bears, filled, rows_in}
+use Rattle.book_rows.specs.RowNotes.{AllNoted}
+use Rattle.book_rows.proofs.Noting.{noted_still}
 use Rattle.book_rows.proofs.Numbering.{as_long_filled, as_many, put_row}
 use Rattle.book_rows.proofs.numbered.NumberedRows.replace.Goals as goal
 
@@ -10,8 +12,10 @@ invariant_of-self g c =
     let found = c.slot_of-place.ensures in
     let long : length (filled c.self.inside.slots.items c.slot_of-place.result c.args.row) ≡ length c.self.inside.slots.items = as_long_filled c.self.inside.slots.items c.slot_of-place.result c.args.row in
     let many : length (rows_in (filled c.self.inside.slots.items c.slot_of-place.result c.args.row)) ≡ length (rows_in c.self.inside.slots.items) = as_many g.T.Numbered.number c.number-number.result c.self.inside.slots.items c.slot_of-place.result c.args.row found in
+    let once : count_by (bears g.T.Numbered.number c.number-number.result) (rows_in c.self.inside.slots.items) ≤ 1 = subst (λ (rows : List g.row.T.Denot). count_by (bears g.T.Numbered.number c.number-number.result) rows ≤ 1) (sym c.self.view_is) (c.requires.once c.number-number.result) in
+    let put = ap rows_in slots ∙ (put_row g.T.Numbered.number c.number-number.result c.self.inside.slots.items c.slot_of-place.result c.args.row found once ∙ ap (λ (n : ℕ). map (λ r. cond (bears g.T.Numbered.number n r) c.args.row r) (rows_in c.self.inside.slots.items)) c.number-number.ensures) in
     let at = c.self.invariant in
-    (search (rules, at, c.put_at.ensures.capacity), subst (λ (s : List _). length s < _) (sym slots) (omega (arith, long, at.1)), at.2 ∙ (sym many ∙ ap (λ (s : List _). length (rows_in s)) (sym slots)))
+    (search (rules, at, c.put_at.ensures.capacity), subst (λ (s : List _). length s < _) (sym slots) (omega (arith, long, at.1)), at.2 ∙ (sym many ∙ ap (λ (s : List _). length (rows_in s)) (sym slots)), subst (λ (rows : List g.row.T.Denot). AllNoted g.T.Numbered.number c.self.inside.notes rows) (sym put) (noted_still g.T.Numbered.number c.self.inside.notes (rows_in c.self.inside.slots.items) c.args.row at.3))
 
 pub returns : goal.returns
 returns g c =
