@@ -11,6 +11,7 @@ ghost use Rattle.std.specs.Prelude.{◌≡◌, ◌+◌, ◌≤◌, ◌++◌, [],
 ghost use Rattle.std.specs.Io.KnownBytes.{Consumes};
 ghost use Rattle.tcp_end.specs.Reading as spec;
 
+use std::alloc::{AllocError, Global};
 use std::io;
 use std::io::Read;
 use std::marker::Model;
@@ -20,7 +21,8 @@ pub(crate) const AHEAD: usize = 512;
 
 /// Bytes that were read of a stream, and are still to be given.
 pub(crate) struct Ahead {
-    bytes: [u8; AHEAD],
+    /// Room for all, allocated: an end moves through many frames of its thread's stack, where an array would take its room in each.
+    bytes: Vec<u8>,
     /// They are those from here ..
     start: usize,
     /// .. to here.
@@ -38,24 +40,25 @@ impl Drop for Ahead {
 }
 
 impl Model for Ahead {
-    ghost use Rattle.std.specs.Prelude.{List, ℕ, ◌≤◌, drop, take};
+    ghost use Rattle.std.specs.Prelude.{◌≡◌, List, ℕ, ◌≤◌, drop, length, take};
 
     ghost Value = { List ℕ };
 
-    ghost view = { λ a. drop a.start (take a.end a.bytes) };
+    ghost view = { λ a. drop a.start (take a.end a.bytes.items) };
 
-    ghost invariant = { λ a. (a.start ≤ a.end) × (a.end ≤ 512) };
+    ghost invariant = { λ a. (a.start ≤ a.end) × (a.end ≤ 512) × (length a.bytes.items ≡ 512) };
 }
 
 impl Ahead {
-    pub(crate) fn new() -> Ahead
-        ensures { result ≡ [] }
+    /// None, with the room. The only error is that an allocation failed.
+    pub(crate) fn new(alloc: Global) -> Result<Ahead, AllocError>
+        ensures { IfOk result (λ a. a ≡ []) }
     {
-        Ahead {
-            bytes: [0; AHEAD],
+        Ok(Ahead {
+            bytes: vec![in alloc; 0u8; AHEAD]?,
             start: 0,
             end: 0,
-        }
+        })
     }
 
     /// Whether all were given.

@@ -214,7 +214,7 @@ impl TcpEnd {
             read_waits: 0,
             write_waits: 0,
             deferred: Deferred::new(),
-            ahead: Ahead::new(),
+            ahead: Ahead::new(alloc)?,
             notes: Arc::new(alloc, Notes::new())?,
         })
     }
