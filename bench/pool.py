@@ -104,7 +104,11 @@ class Bench:
         # thread's clients would wait for a link that another client of the same thread holds. So each client has a thread of its own.
         for clients in CONNECTS:
             for kind, port in self.ports.items():
-                self.note(f"connects a second, {clients} clients", kind, self.pgbench(port, "-C", "-c", str(clients), "-j", str(clients)))
+                before, rate = self.used(kind), self.pgbench(port, "-C", "-c", str(clients), "-j", str(clients))
+                self.note(f"connects a second, {clients} clients", kind, rate)
+                if before is not None and rate:
+                    used = (self.used(kind) - before) * 1e6 / (rate * self.seconds)
+                    self.note(f"us of the pooler's processor a connect, {clients} clients", kind, used)
         for kind, port in {**self.ports, "pgsess": self.untracked.port}.items():
             self.note(f"connects a second, {NAMES} clients of as many application names", kind, self.names(port))
         for manner in ("simple", "prepared"):
@@ -140,8 +144,8 @@ class Bench:
             until(lambda: pooler.files() < 200, 20)
 
     def silent(self):
-        """Queries a second without connections that send nothing, and beside them."""
-        words = ["-M", "simple", "-c", str(SERVED), "-j", "4"]
+        """Connects a second without connections that send nothing, and beside them."""
+        words = ["-C", "-c", str(SERVED), "-j", str(SERVED)]
         count = min(SILENT, (resource.getrlimit(resource.RLIMIT_NOFILE)[1] - FILES_MORE) // FILES_EACH)
         for kind, pooler in self.poolers.items():
             alone = self.pgbench(pooler.port, *words)
@@ -151,7 +155,7 @@ class Bench:
             time.sleep(self.seconds)
             idle = (pooler.used() - before) / self.seconds
             beside = self.pgbench(pooler.port, *words)
-            print(f"{count} silent connections at {kind}: {100 * idle:.1f} per cent of a processor; {SERVED} others have {beside:.0f} queries a second, {beside / alone:.2f} times as many as without them")
+            print(f"{count} silent connections at {kind}: {100 * idle:.1f} per cent of a processor; {SERVED} others connect {beside:.0f} times a second, {beside / alone:.2f} times as often as without them")
             for client in clients:
                 client.socket.close()
             until(lambda: pooler.files() < 200, 20)
