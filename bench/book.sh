@@ -1,8 +1,7 @@
 #!/usr/bin/env bash
 # book.sh TRIALS [EVENTS]: what an event of the lease book costs with 100 clients of one pool, and with 10,000 clients of 500 pools, of whom
-# 9,000 wait: in processor time, and in instructions where valgrind is there. The bounds: with 10,000 clients at most 3 us, and at most 1.5
-# times as many instructions; by the clock it takes longer, since so many rows aren't in the nearest caches. And what a second costs with
-# 10,000 idle links under 10,000 database rows: at most 5 ms.
+# 9,000 wait: in processor time, and in instructions where valgrind is there. The bounds: with 10,000 clients at most 1.5 times as much by
+# each, and at most 3 us. And what a second costs with 10,000 idle links under 10,000 database rows: at most 5 ms.
 set -euo pipefail
 cd "$(dirname "$0")/.."
 exec python3 - "$1" "${2:-500000}" <<'END'
@@ -36,8 +35,8 @@ def an_event(cost, clients, pools, events):
 
 
 few, many = (min(an_event(seconds, *crowd, events) for _ in range(3)) * 1e6 for crowd in (FEW, MANY))
-print(f"an event with 100 clients of one pool {few:.2f} us, with 10,000 of 500 pools {many:.2f} us: {many / few:.2f} times (wanted: at most 3 us)")
-met = many <= 3
+print(f"an event with 100 clients of one pool {few:.2f} us, with 10,000 of 500 pools {many:.2f} us: {many / few:.2f} times (wanted: at most 1.5, and 3 us)")
+met = many <= 1.5 * few and many <= 3
 if shutil.which("valgrind"):
     few, many = (an_event(instructions, *crowd, events // 50) for crowd in (FEW, MANY))
     print(f"in instructions {few:.0f} and {many:.0f}: {many / few:.2f} times (wanted: at most 1.5)")
