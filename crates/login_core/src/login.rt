@@ -1,5 +1,5 @@
 //! A client's login, fed with its bytes in any cuts.
-ghost use Rattle.std.specs.Prelude.{◌≡◌, ◌<◌, ◌≤◌, ◌+◌, [], length, take, min, IfOk, false};
+ghost use Rattle.std.specs.Prelude.{◌≡◌, ◌<◌, ◌≤◌, ◌+◌, ◌++◌, [], length, take, min, IfOk, false, vec_capacity};
 ghost use Rattle.std.specs.Arc.{arc_value};
 ghost use Rattle.login_core.specs.Dialogue.{AtFirst};
 ghost use Rattle.login_core.specs.Logins.{ArrivesOnce, StepMeans, AwaitsPacket, Over, awaiting_of, login_view, missing};
@@ -8,7 +8,6 @@ ghost use Rattle.login_core.specs.declared.steps.LoginStep.TheVariants.{Left};
 use crate::dialogue::{FIRST_HEAD, LONGEST_MESSAGE, Place, Rules, note_unsupported};
 use crate::laws::packets_grow;
 use crate::steps::LoginStep;
-use bytes::BytesMut;
 use ini_config::Settings;
 use message_view::KeyWord;
 use start_keys::text::Text;
@@ -27,7 +26,8 @@ const LONGEST_PACKET: usize = LONGEST_MESSAGE as usize + 1;
 pub struct Login {
     rules: Rules,
     place: Place,
-    held: BytesMut,
+    /// Room for its longest packet, of which no byte is touched before it comes: few packets have more than some hundred.
+    held: Vec<u8>,
     /// The bytes that are known to be missing from the packet that it waits for.
     lacking: usize,
     unsupported: Option<Text>,
@@ -46,7 +46,7 @@ impl Drop for Login {
 }
 
 impl Model for Login {
-    ghost use Rattle.std.specs.Prelude.{◌≡◌, ◌≤◌, ◌+◌, length};
+    ghost use Rattle.std.specs.Prelude.{◌≡◌, ◌≤◌, vec_capacity};
     ghost use Rattle.std.specs.Arc.{arc_value};
     ghost use Rattle.login_core.specs.Logins.{LoginView, login_view, awaiting_of, missing, Fits};
 
@@ -54,7 +54,17 @@ impl Model for Login {
 
     ghost view = { λ l. login_view (arc_value l.rules.settings) (arc_value l.rules.users) l.rules.word (awaiting_of l.place) l.held.items };
 
-    ghost invariant = { λ l. Fits (awaiting_of l.place) l.held.items × (10001 ≤ length l.held.items + l.held.spare) × (l.lacking ≡ missing (awaiting_of l.place) l.held.items) };
+    ghost invariant = { λ l. Fits (awaiting_of l.place) l.held.items × (10001 ≤ vec_capacity l.held) × (l.lacking ≡ missing (awaiting_of l.place) l.held.items) };
+}
+
+/// Puts bytes behind those that are held, for which there is room.
+fn hold(held: &mut Vec<u8>, bytes: &[u8])
+    requires room { length held.old.items + length bytes.now ≤ vec_capacity held.old }
+    ensures items { held.new.items ≡ held.old.items ++ bytes.now }
+    ensures capacity { vec_capacity held.old ≤ vec_capacity held.new }
+{
+    // it fails only where room is missing
+    let _ = held.extend_from_slice(bytes);
 }
 
 impl Login {
@@ -77,7 +87,7 @@ impl Login {
                 tls: false,
                 gss: false,
             },
-            held: BytesMut::with_capacity(alloc, LONGEST_PACKET)?,
+            held: Vec::with_capacity(alloc, LONGEST_PACKET)?,
             lacking: FIRST_HEAD,
             unsupported: None,
         })
@@ -128,7 +138,7 @@ impl Login {
     {
         packets_grow();
         let used = self.lacking.min(piece.len());
-        self.held.extend_reserved(&piece[..used]);
+        hold(&mut self.held, &piece[..used]);
         let place = mem::replace(&mut self.place, Place::Over);
         let (step, next, lacking) = self.rules.turn(alloc, self.held.as_slice(), place);
         self.place = next;

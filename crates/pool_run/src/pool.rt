@@ -36,7 +36,7 @@ use std::time::{Duration, Instant};
 use std::{io, thread};
 use tcp_end::acceptor::{Acceptor, Peer, Turn};
 use tcp_end::connection::TcpEnd;
-use tcp_end::gate::TcpGate;
+use tcp_end::gate::{GatePoll, TcpGate};
 use user_file::Users;
 use worker_threads::Workers;
 
@@ -140,26 +140,36 @@ impl<R: PoolRuntime, F: Source, K: Ledgers> Pool<R, F, K> {
     }
 
     /// What the worker of a connection needs; `None` where there is no poll, no memory or no pass for it.
-    fn equip(
+    fn equip<'a>(
         &self,
         rt: R,
         word: KeyWord,
         client: &mut TcpEnd,
-    ) -> Option<(TcpGate<R>, Login, FreePass<K>)>
+        kept: &'a mut Option<GatePoll>,
+    ) -> Option<(TcpGate<'a, R>, Login, FreePass<K>)>
         ensures client { client.new ≡ client.old }
         ensures login { IfSome result (λ e. IsNewLogin word e.1) }
     {
-        let gate = TcpGate::new(rt, self.alloc, client).ok()?;
+        let poll = GatePoll::of_thread(&rt, self.alloc, kept).ok()?;
+        let gate = TcpGate::new(rt, poll, client).ok()?;
         let login = self.keeper.login(word).ok()?;
         // last, since a pass that is dropped is lost
         let pass = self.pass(&rt)?;
         Some((gate, login, pass))
     }
 
-    /// Serves one connection to its end. One for which there is no poll, no pass or no memory is closed.
-    fn attend(&self, rt: R, word: KeyWord, client: TcpEnd, visit: Visit) {
+    /// Serves one connection to its end, with the poll that its thread keeps. One for which there is no poll, no pass or no memory is
+    /// closed.
+    fn attend(
+        &self,
+        rt: R,
+        word: KeyWord,
+        client: TcpEnd,
+        visit: Visit,
+        kept: &mut Option<GatePoll>,
+    ) {
         let mut client = client;
-        match self.equip(rt, word, &mut client) {
+        match self.equip(rt, word, &mut client, kept) {
             Some((gate, login, FreePass { pass })) => {
                 let (_, pass) = serve(
                     self.alloc, &self.desk, pass, client, login, word, gate, visit,
@@ -283,8 +293,8 @@ impl<R: PoolRuntime, F: Source, K: Ledgers> Drop for Connection<R, F, K> {
 }
 
 impl<R: PoolRuntime, F: Source, K: Ledgers> Connection<R, F, K> {
-    /// Serves it to its end.
-    fn attend(self) {
+    /// Serves it to its end, with the poll that its thread keeps.
+    fn attend(self, kept: &mut Option<GatePoll>) {
         let Connection {
             rt,
             pool,
@@ -292,7 +302,7 @@ impl<R: PoolRuntime, F: Source, K: Ledgers> Connection<R, F, K> {
             client,
             visit,
         } = self;
-        pool.attend(rt, word, client, visit);
+        pool.attend(rt, word, client, visit, kept);
     }
 }
 
@@ -319,7 +329,7 @@ fn start_worker<
             client,
             visit,
         },
-        |connection: Connection<R, F, K>| connection.attend(),
+        |kept: &mut Option<GatePoll>, connection: Connection<R, F, K>| connection.attend(kept),
     )
 }
 

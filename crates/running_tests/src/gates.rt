@@ -7,11 +7,12 @@ use std::test::Fail;
 use std::thread::{join, sleep};
 use std::time::{Duration, Instant};
 use tcp_end::connection::TcpEnd;
-use tcp_end::gate::TcpGate;
+use tcp_end::gate::{GatePoll, TcpGate};
 
 /// How many turns of an idle client take a second: each is followed by a read of both ends.
 fn idle_turns(rt: &HostRuntime, client: &mut TcpEnd, link: &mut TcpEnd) -> Result<u32, Fail> {
-    let mut gate = TcpGate::new(*rt, rt.alloc(), client)?;
+    let mut poll = GatePoll::new(rt, rt.alloc())?;
+    let mut gate = TcpGate::new(*rt, &mut poll, client)?;
     gate.watch(link);
     let start = Instant::now(rt)?;
     for turns in 0..1_000_000u32 {
@@ -46,7 +47,8 @@ fn speaks_late<R: Clock>(rt: &R, far: &mut TcpEnd) -> Moved {
 fn an_idle_lease_sleeps(rt: HostRuntime) -> Result<(), Fail> {
     let (mut client, _near) = pair(&rt)?;
     let (mut link, mut far) = pair(&rt)?;
-    let mut gate = TcpGate::new(rt, rt.alloc(), &mut client)?;
+    let mut poll = GatePoll::new(&rt, rt.alloc())?;
+    let mut gate = TcpGate::new(rt, &mut poll, &mut client)?;
     gate.watch(&mut link);
     let (turns, _) = join(
         &rt,
@@ -58,7 +60,7 @@ fn an_idle_lease_sleeps(rt: HostRuntime) -> Result<(), Fail> {
 }
 
 /// Reads into four bytes' room, and once more after a turn at most.
-fn read_twice(gate: &mut TcpGate<HostRuntime>, client: &mut TcpEnd) -> (Moved, Moved) {
+fn read_twice(gate: &mut TcpGate<'_, HostRuntime>, client: &mut TcpEnd) -> (Moved, Moved) {
     let first = ClientEnd::read_some(client, &mut [0; 4]);
     let second = ClientEnd::read_some(client, &mut [0; 4]);
     if second == Moved::NotNow {
@@ -72,7 +74,8 @@ fn read_twice(gate: &mut TcpGate<HostRuntime>, client: &mut TcpEnd) -> (Moved, M
 #[test]
 fn an_end_behind_bytes_is_seen(rt: HostRuntime) -> Result<(), Fail> {
     let (mut client, mut near) = pair(&rt)?;
-    let mut gate = TcpGate::new(rt, rt.alloc(), &mut client)?;
+    let mut poll = GatePoll::new(&rt, rt.alloc())?;
+    let mut gate = TcpGate::new(rt, &mut poll, &mut client)?;
     assert!(rt; ClientEnd::write_some(&mut near, b"Q") == Moved::Count(1));
     drop(near);
     assert!(rt; is_seen_to_go(&rt, &mut gate));
@@ -84,7 +87,8 @@ fn an_end_behind_bytes_is_seen(rt: HostRuntime) -> Result<(), Fail> {
 #[test]
 fn bytes_read_ahead_need_no_wait(rt: HostRuntime) -> Result<(), Fail> {
     let (mut client, mut near) = pair(&rt)?;
-    let mut gate = TcpGate::new(rt, rt.alloc(), &mut client)?;
+    let mut poll = GatePoll::new(&rt, rt.alloc())?;
+    let mut gate = TcpGate::new(rt, &mut poll, &mut client)?;
     assert!(rt; ServerEnd::write_some(&mut near, &[7; 100]) == Moved::Count(100));
     Gate::<TcpEnd>::turn_of_client(&mut gate);
     let start = Instant::now(&rt)?;
@@ -99,7 +103,8 @@ fn bytes_read_ahead_need_no_wait(rt: HostRuntime) -> Result<(), Fail> {
 #[test]
 fn an_end_after_bytes_is_seen(rt: HostRuntime) -> Result<(), Fail> {
     let (mut client, mut near) = pair(&rt)?;
-    let mut gate = TcpGate::new(rt, rt.alloc(), &mut client)?;
+    let mut poll = GatePoll::new(&rt, rt.alloc())?;
+    let mut gate = TcpGate::new(rt, &mut poll, &mut client)?;
     assert!(rt; ClientEnd::write_some(&mut near, b"Q") == Moved::Count(1));
     Gate::<TcpEnd>::turn_of_client(&mut gate);
     assert!(rt; ClientEnd::read_some(&mut client, &mut [0; 4]) == Moved::Count(1));
@@ -109,7 +114,7 @@ fn an_end_after_bytes_is_seen(rt: HostRuntime) -> Result<(), Fail> {
 }
 
 /// Reads one byte once it is there; how many turns that took.
-fn read_by_turns<R: Clock>(gate: &mut TcpGate<R>, link: &mut TcpEnd) -> u32 {
+fn read_by_turns<R: Clock>(gate: &mut TcpGate<'_, R>, link: &mut TcpEnd) -> u32 {
     for turns in 1..1000u32 {
         gate.turn();
         if ServerEnd::read_some(link, &mut [0; 1]) == Moved::Count(1) {
@@ -124,7 +129,8 @@ fn read_by_turns<R: Clock>(gate: &mut TcpGate<R>, link: &mut TcpEnd) -> u32 {
 fn bytes_end_a_wait(rt: HostRuntime) -> Result<(), Fail> {
     let (mut client, _near) = pair(&rt)?;
     let (mut link, mut far) = pair(&rt)?;
-    let mut gate = TcpGate::new(rt, rt.alloc(), &mut client)?;
+    let mut poll = GatePoll::new(&rt, rt.alloc())?;
+    let mut gate = TcpGate::new(rt, &mut poll, &mut client)?;
     gate.watch(&mut link);
     let start = Instant::now(&rt)?;
     for _ in 0..200 {
@@ -140,7 +146,8 @@ fn bytes_end_a_wait(rt: HostRuntime) -> Result<(), Fail> {
 fn bytes_that_are_there_need_no_wait(rt: HostRuntime) -> Result<(), Fail> {
     let (mut client, _near) = pair(&rt)?;
     let (mut link, mut far) = pair(&rt)?;
-    let mut gate = TcpGate::new(rt, rt.alloc(), &mut client)?;
+    let mut poll = GatePoll::new(&rt, rt.alloc())?;
+    let mut gate = TcpGate::new(rt, &mut poll, &mut client)?;
     gate.watch(&mut link);
     assert!(rt; ServerEnd::write_some(&mut far, &[7; 10_000]) == Moved::Count(10_000));
     let mut turns = 0u32;
@@ -159,7 +166,8 @@ fn link_turns(
     near: &mut TcpEnd,
     link: &mut TcpEnd,
 ) -> Result<u128, Fail> {
-    let mut gate = TcpGate::new(*rt, rt.alloc(), client)?;
+    let mut poll = GatePoll::new(rt, rt.alloc())?;
+    let mut gate = TcpGate::new(*rt, &mut poll, client)?;
     gate.watch(link);
     let start = Instant::now(rt)?;
     for _ in 0..12 {
@@ -182,7 +190,7 @@ fn what_a_client_sends_ends_no_turn_of_the_link(rt: HostRuntime) -> Result<(), F
 }
 
 /// Whether the client is seen to have gone within a second.
-fn is_seen_to_go(rt: &HostRuntime, gate: &mut TcpGate<HostRuntime>) -> bool {
+fn is_seen_to_go(rt: &HostRuntime, gate: &mut TcpGate<'_, HostRuntime>) -> bool {
     for _ in 0..1_000u32 {
         if Gate::<TcpEnd>::client_has_left(gate) {
             return true;
@@ -196,11 +204,48 @@ fn is_seen_to_go(rt: &HostRuntime, gate: &mut TcpGate<HostRuntime>) -> bool {
 #[test]
 fn a_client_that_goes_is_seen(rt: HostRuntime) -> Result<(), Fail> {
     let (mut client, mut near) = pair(&rt)?;
-    let mut gate = TcpGate::new(rt, rt.alloc(), &mut client)?;
+    let mut poll = GatePoll::new(&rt, rt.alloc())?;
+    let mut gate = TcpGate::new(rt, &mut poll, &mut client)?;
     assert!(rt; ClientEnd::write_some(&mut near, b"Q") == Moved::Count(1));
     assert!(rt; !Gate::<TcpEnd>::client_has_left(&mut gate));
     drop(near);
     assert!(rt; is_seen_to_go(&rt, &mut gate));
     assert!(rt; ClientEnd::read_some(&mut client, &mut [0; 4]) == Moved::Count(1));
+    Ok(())
+}
+
+// Each gate finds what comes to its own client, and the byte that the client before left unread is none of it.
+#[test]
+fn gates_follow_one_another_over_one_poll(rt: HostRuntime) -> Result<(), Fail> {
+    let mut poll = GatePoll::new(&rt, rt.alloc())?;
+    for _ in 0..20 {
+        let (mut client, mut near) = pair(&rt)?;
+        let mut gate = TcpGate::new(rt, &mut poll, &mut client)?;
+        assert!(rt; ClientEnd::read_some(&mut client, &mut [0; 1]) == Moved::NotNow);
+        assert!(rt; !Gate::<TcpEnd>::client_has_left(&mut gate));
+        assert!(rt; ClientEnd::write_some(&mut near, b"QX") == Moved::Count(2));
+        Gate::<TcpEnd>::turn_of_client(&mut gate);
+        assert!(rt; ClientEnd::read_some(&mut client, &mut [0; 1]) == Moved::Count(1));
+        drop(near);
+        assert!(rt; is_seen_to_go(&rt, &mut gate));
+    }
+    Ok(())
+}
+
+// Each gate finds what comes to its own client, and nothing of the clients before.
+#[test]
+fn gates_follow_one_another_over_one_poll(rt: HostRuntime) -> Result<(), Fail> {
+    let mut poll = GatePoll::new(&rt, rt.alloc())?;
+    for _ in 0..20u32 {
+        let (mut client, mut near) = pair(&rt)?;
+        let mut gate = TcpGate::new(rt, &mut poll, &mut client)?;
+        assert!(rt; ClientEnd::read_some(&mut client, &mut [0; 1]) == Moved::NotNow);
+        assert!(rt; !Gate::<TcpEnd>::client_has_left(&mut gate));
+        assert!(rt; ClientEnd::write_some(&mut near, b"Q") == Moved::Count(1));
+        Gate::<TcpEnd>::turn_of_client(&mut gate);
+        assert!(rt; ClientEnd::read_some(&mut client, &mut [0; 1]) == Moved::Count(1));
+        drop(near);
+        assert!(rt; is_seen_to_go(&rt, &mut gate));
+    }
     Ok(())
 }

@@ -28,10 +28,49 @@ fn every_job_is_done_once(rt: HostRuntime) -> Result<(), Fail> {
     let mut workers = Workers::<Adds>::new(rt.alloc())?;
     for amount in 1..=200u64 {
         let total = Arc::try_clone(&sum)?;
-        workers.start(rt, Adds { total, amount }, |job: Adds| job.add())?;
+        workers.start(rt, Adds { total, amount }, |_: &mut Option<u8>, job: Adds| job.add())?;
     }
     workers.join_all(&rt);
     assert!(rt; sum.load(Ordering::SeqCst) == 20_100);
+    Ok(())
+}
+
+/// Counts what it finds kept.
+#[derive(Drop)]
+struct Finds {
+    first: Arc<AtomicU64>,
+    later: Arc<AtomicU64>,
+}
+
+impl Finds {
+    fn find(self, kept: &mut Option<u8>) {
+        let count = match kept {
+            None => &self.first,
+            Some(_) => &self.later,
+        };
+        count.fetch_add(1, Ordering::SeqCst);
+        *kept = Some(7);
+    }
+}
+
+// A thread finds nothing at its first job, and at each later one what it kept.
+#[test]
+fn a_thread_keeps_what_it_has(rt: HostRuntime) -> Result<(), Fail> {
+    let first = Arc::new(rt.alloc(), AtomicU64::new(0))?;
+    let later = Arc::new(rt.alloc(), AtomicU64::new(0))?;
+    let mut workers = Workers::<Finds>::new(rt.alloc())?;
+    for _ in 0..20u32 {
+        let (first, later) = (Arc::try_clone(&first)?, Arc::try_clone(&later)?);
+        workers.start(
+            rt,
+            Finds { first, later },
+            |kept: &mut Option<u8>, job: Finds| job.find(kept),
+        )?;
+        sleep(&rt, Duration::from_millis(20));
+    }
+    workers.join_all(&rt);
+    assert!(rt; first.load(Ordering::SeqCst) + later.load(Ordering::SeqCst) == 20);
+    assert!(rt; first.load(Ordering::SeqCst) < 10);
     Ok(())
 }
 
@@ -89,7 +128,7 @@ fn jobs_are_done_at_once(rt: HostRuntime) -> Result<(), Fail> {
                     met,
                     all,
                 },
-                |job: Meets<HostRuntime>| job.meet(),
+                |_: &mut Option<u8>, job: Meets<HostRuntime>| job.meet(),
             )?;
         }
         assert!(rt; comes_to(&rt, &met, round.saturating_mul(20)));

@@ -17,7 +17,7 @@ use std::thread::Threads;
 use std::{io, net};
 use tcp_end::acceptor::{Acceptor, Turn};
 use tcp_end::connection::TcpEnd;
-use tcp_end::gate::TcpGate;
+use tcp_end::gate::{GatePoll, TcpGate};
 use worker_threads::Workers;
 
 /// What the connections of a listener share.
@@ -56,9 +56,13 @@ fn serve_connection<R: Net + Clock + Wait + Copy + Drop>(
     stub: Arc<Stub>,
     own: KeyWord,
     client: TcpEnd,
+    kept: &mut Option<GatePoll>,
 ) {
     let mut client = client;
-    let Ok(mut gate) = TcpGate::new(rt, alloc, &mut client) else {
+    let Ok(poll) = GatePoll::of_thread(&rt, alloc, kept) else {
+        return;
+    };
+    let Ok(mut gate) = TcpGate::new(rt, poll, &mut client) else {
         return;
     };
     let Ok(catalogue) = Arc::try_clone(&stub.catalogue) else {
@@ -67,7 +71,7 @@ fn serve_connection<R: Net + Clock + Wait + Copy + Drop>(
     let Ok(flag) = stub.open(&rt, alloc, own) else {
         return;
     };
-    let (client, ending) = serve_client::<TcpEnd, TcpEnd, TcpGate<R>>(
+    let (client, ending) = serve_client::<TcpEnd, TcpEnd, TcpGate<'_, R>>(
         alloc,
         catalogue,
         own,
@@ -94,8 +98,8 @@ struct Connection<R: Drop> {
 }
 
 impl<R: Net + Clock + Wait + Copy + Drop> Connection<R> {
-    /// Serves it to its end.
-    fn serve(self) {
+    /// Serves it to its end, with the poll that its thread keeps.
+    fn serve(self, kept: &mut Option<GatePoll>) {
         let Connection {
             rt,
             alloc,
@@ -103,7 +107,7 @@ impl<R: Net + Clock + Wait + Copy + Drop> Connection<R> {
             own,
             client,
         } = self;
-        serve_connection(rt, alloc, stub, own, client);
+        serve_connection(rt, alloc, stub, own, client, kept);
     }
 }
 
@@ -165,7 +169,7 @@ pub fn stub_on<
                 own,
                 client,
             },
-            |connection: Connection<R>| connection.serve(),
+            |kept: &mut Option<GatePoll>, connection: Connection<R>| connection.serve(kept),
         );
     }
     workers.join_all(&rt);

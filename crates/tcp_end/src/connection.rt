@@ -1,22 +1,17 @@
 //! A TCP connection as an end of a lease: a server's or a client's.
-ghost use Rattle.std.specs.Prelude.{◌≡◌, ◌≢◌, ◌<◌, List, ℕ, Option, [], length, true, false, IfOk};
-ghost use Rattle.std.specs.Io.KnownBytes.{Consumes};
+ghost use Rattle.std.specs.Prelude.{◌≡◌, ◌≢◌, ◌<◌, length, false, IfOk};
 ghost use Rattle.server_end.specs.Moves.{ClientWrites, IsWithin, moved};
 ghost use Rattle.tcp_end.specs.Connections.{Reads, Sends, facts_of, has_ended, is_broken, new_connection};
-ghost use Rattle.tcp_end.specs.Connections as spec;
-ghost use Rattle.tcp_end.specs.Reading.{IsFilled, to_come};
 ghost use Rattle.server_end.specs.declared.Moved.TheVariants.{Ended};
 
-use crate::ahead::{AHEAD, Ahead};
-use crate::deferred::{Deferred, PACKET};
+use crate::ahead::AHEAD;
 use crate::notes::Notes;
+use crate::socket::Socket;
 use mio::net::TcpStream;
-use mio::{Interest, Poll, Token};
+use mio::{Poll, Token};
 use server_end::transcript::Transcript;
 use server_end::{ClientEnd, Moved, ServerEnd};
 use std::alloc::{AllocError, Global};
-use std::io;
-use std::io::{ErrorKind, Read, Write};
 use std::marker::Model;
 use std::sync::Arc;
 
@@ -38,7 +33,8 @@ use std::sync::Arc;
 /// Nothing is claimed of what the peer is or does: as a server's end it follows no server, though it tells what it accepted and what
 /// it gave, and as a client's it doesn't tell its bytes.
 pub struct TcpEnd {
-    stream: TcpStream,
+    /// Allocated: an end moves through many frames of its thread's stack, where each byte of it would take its room in each.
+    socket: Box<Socket>,
     accepted: Transcript,
     given: Transcript,
     /// The peer has sent its last byte.
@@ -46,27 +42,18 @@ pub struct TcpEnd {
     faults: u64,
     read_waits: u64,
     write_waits: u64,
-    /// Nothing at a server's end.
-    deferred: Deferred,
-    /// The same.
-    ahead: Ahead,
-    /// Its gate has them too.
-    notes: Arc<Notes>,
 }
 
 impl Drop for TcpEnd {
     fn drop(self) {
         let TcpEnd {
-            stream: _,
+            socket: _,
             accepted: _,
             given: _,
             input_ended: _,
             faults: _,
             read_waits: _,
             write_waits: _,
-            deferred: _,
-            ahead: _,
-            notes: _,
         } = self;
     }
 }
@@ -86,118 +73,6 @@ impl Model for TcpEnd {
     } };
 }
 
-/// What an error of a stream is for its end.
-fn stopped(kind: ErrorKind) -> Moved
-    ensures { result ≡ spec.stopped kind }
-{
-    match kind {
-        ErrorKind::WouldBlock | ErrorKind::Interrupted => Moved::NotNow,
-        _ => Moved::Fault,
-    }
-}
-
-/// What a read of a stream is for its end. It was given room, so none at all is the end of the input.
-fn read_outcome(answer: io::Result<usize>) -> Moved
-    ensures { result ≡ spec.read_outcome answer }
-{
-    match answer {
-        Ok(0) => Moved::Ended,
-        Ok(count) => Moved::Count(count),
-        Err(error) => stopped(error.kind()),
-    }
-}
-
-/// What a write to a stream is for its end. It was given bytes, so a stream that takes none is broken.
-fn write_outcome(answer: io::Result<usize>) -> Moved
-    ensures { result ≡ spec.write_outcome answer }
-{
-    match answer {
-        Ok(0) => Moved::Fault,
-        Ok(count) => Moved::Count(count),
-        Err(error) => stopped(error.kind()),
-    }
-}
-
-/// Reads once of a stream, where it may come to something.
-fn read_once<R: Read>(stream: &mut R, notes: &Notes, into: &mut [u8]) -> Moved
-    requires { 0 < length into.old }
-    ensures within { IsWithin result (length into.old) }
-    ensures bytes { Consumes (R.remaining stream.old) (R.remaining stream.new) (moved result into.new) }
-{
-    if notes.is_empty() {
-        return Moved::NotNow;
-    }
-    let room = into.len();
-    let answer = stream.read(into);
-    notes.read(&answer, room);
-    read_outcome(answer)
-}
-
-/// Reads once of a stream ahead, where it may come to something.
-fn fill_once<R: Read>(stream: &mut R, notes: &Notes, ahead: &mut Ahead) -> Moved
-    requires { ahead.old ≡ [] }
-    ensures filled { IsFilled result ahead.new }
-    ensures bytes { Consumes (R.remaining stream.old) (R.remaining stream.new) ahead.new }
-{
-    if notes.is_empty() {
-        return Moved::NotNow;
-    }
-    let answer = ahead.fill(stream);
-    notes.read(&answer, AHEAD);
-    read_outcome(answer)
-}
-
-/// Gives of what was read ahead.
-fn give(notes: &Notes, ahead: &mut Ahead, into: &mut [u8]) -> Moved
-    requires some { 0 < length ahead.old }
-    requires room { 0 < length into.old }
-    ensures within { IsWithin result (length into.old) }
-    ensures bytes { (rest : Option (List ℕ)) → Consumes (to_come ahead.old rest) (to_come ahead.new rest) (moved result into.new) }
-{
-    let count = ahead.give(into);
-    notes.gave(!ahead.is_empty());
-    Moved::Count(count)
-}
-
-/// Reads once: what was read ahead, while there is some. Else of the stream, where it may come to something: ahead for a slice of
-/// fewer than `least` bytes, and straight into any other.
-fn read_by<R: Read>(
-    stream: &mut R,
-    notes: &Notes,
-    ahead: &mut Ahead,
-    into: &mut [u8],
-    least: usize,
-) -> Moved
-    requires { 0 < length into.old }
-    ensures within { IsWithin result (length into.old) }
-    ensures bytes { Consumes (to_come ahead.old (R.remaining stream.old)) (to_come ahead.new (R.remaining stream.new)) (moved result into.new) }
-{
-    if !ahead.is_empty() {
-        return give(notes, ahead, into);
-    }
-    if least <= into.len() {
-        return read_once(stream, notes, into);
-    }
-    match fill_once(stream, notes, ahead) {
-        Moved::Count(_) => give(notes, ahead, into),
-        none => none,
-    }
-}
-
-/// Writes once to a stream, where it may come to something.
-fn write_once(stream: &mut TcpStream, notes: &Notes, from: &[u8]) -> Moved
-    requires { 0 < length from.now }
-    ensures within { IsWithin result (length from.now) }
-    ensures some { result ≢ Ended }
-{
-    if notes.is_full() {
-        return Moved::NotNow;
-    }
-    let answer = stream.write(from);
-    notes.wrote(&answer, from.len());
-    write_outcome(answer)
-}
-
 impl TcpEnd {
     /// The end of a connection that is there, as one that was accepted. Its small packets are sent at once (TCP_NODELAY); that
     /// they can't is ignored. The only error is that an allocation failed, which closes the connection.
@@ -206,16 +81,13 @@ impl TcpEnd {
     {
         let _ = stream.set_nodelay(true);
         Ok(TcpEnd {
-            stream,
+            socket: Box::new(alloc, Socket::new(alloc, stream)?)?,
             accepted: Transcript::new(),
             given: Transcript::new(),
             input_ended: false,
             faults: 0,
             read_waits: 0,
             write_waits: 0,
-            deferred: Deferred::new(),
-            ahead: Ahead::new(alloc)?,
-            notes: Arc::new(alloc, Notes::new())?,
         })
     }
 
@@ -223,22 +95,19 @@ impl TcpEnd {
     pub(crate) fn register(&mut self, poll: &Poll, token: Token)
         ensures { self.new ≡ self.old }
     {
-        let both = Interest::READABLE | Interest::WRITABLE;
-        let registered = poll.registry().register(&mut self.stream, token, both);
-        self.notes.mind(registered.is_ok());
+        self.socket.register(poll, token);
     }
 
     /// Has the poll tell of it no more.
     pub(crate) fn deregister(&mut self, poll: &Poll)
         ensures { self.new ≡ self.old }
     {
-        let _ = poll.registry().deregister(&mut self.stream);
-        self.notes.mind(false);
+        self.socket.deregister(poll);
     }
 
     /// Its notes, for its gate.
     pub(crate) fn notes(&self) -> Result<Arc<Notes>, AllocError> {
-        Arc::try_clone(&self.notes)
+        self.socket.notes()
     }
 
     fn is_broken(&self) -> bool
@@ -253,41 +122,6 @@ impl TcpEnd {
         self.input_ended || self.is_broken()
     }
 
-    /// Reads once, where it may come to something; ahead for a slice of fewer than `least` bytes.
-    fn try_read(&mut self, into: &mut [u8], least: usize) -> Moved
-        requires { 0 < length into.old }
-        ensures within { IsWithin result (length into.old) }
-        ensures same { self.new ≡ self.old }
-    {
-        read_by(&mut self.stream, &self.notes, &mut self.ahead, into, least)
-    }
-
-    /// Writes once to the stream, where it may come to something; behind what is held.
-    fn try_write(&mut self, from: &[u8]) -> Moved
-        requires { 0 < length from.now }
-        ensures within { IsWithin result (length from.now) }
-        ensures some { result ≢ Ended }
-        ensures same { self.new ≡ self.old }
-    {
-        if self.deferred.is_empty() {
-            return write_once(&mut self.stream, &self.notes, from);
-        }
-        self.try_write_packet(from)
-    }
-
-    /// Writes once to the stream what is held, and behind it as many of these bytes as have room.
-    fn try_write_packet(&mut self, from: &[u8]) -> Moved
-        requires { 0 < length from.now }
-        ensures within { IsWithin result (length from.now) }
-        ensures some { result ≢ Ended }
-        ensures same { self.new ≡ self.old }
-    {
-        let mut packet = [0u8; PACKET];
-        let count = self.deferred.fill(&mut packet, from);
-        let moved = write_once(&mut self.stream, &self.notes, &packet[..count]);
-        self.deferred.wrote(moved)
-    }
-
     /// Reads once, for either kind of end; ahead for a slice of fewer than `least` bytes.
     fn read(&mut self, into: &mut [u8], least: usize) -> Moved
         requires { 0 < length into.old }
@@ -297,7 +131,7 @@ impl TcpEnd {
         if self.has_ended() {
             return Moved::Ended;
         }
-        let moved = self.try_read(into, least);
+        let moved = self.socket.read(into, least);
         match moved {
             Moved::Count(count) => self.given.note(&into[..count]),
             Moved::NotNow => self.read_waits += 1,
@@ -314,7 +148,7 @@ impl TcpEnd {
         ensures within { IsWithin result (length from.now) }
         ensures sends { Sends self.old self.new from.now result }
     {
-        let moved = self.try_write(from);
+        let moved = self.socket.write(from);
         match moved {
             Moved::Count(count) => self.accepted.note(&from[..count]),
             Moved::NotNow => self.write_waits += 1,
@@ -331,7 +165,7 @@ impl TcpEnd {
         ensures within { IsWithin result (length from.now) }
         ensures sends { Sends self.old self.new from.now result }
     {
-        if self.deferred.take(from) {
+        if self.socket.defer(from) {
             self.accepted.note(from);
             return Moved::Count(from.len());
         }

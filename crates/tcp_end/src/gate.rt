@@ -5,7 +5,7 @@ use crate::connection::TcpEnd;
 use crate::notes::Notes;
 use mio::{Events, Poll, Token};
 use server_end::gate::{Gate, Ready, TurnCount};
-use std::alloc::Global;
+use std::alloc::{AllocError, Global};
 use std::io;
 use std::net::Net;
 use std::rt::Clock;
@@ -30,15 +30,85 @@ fn longest_rest() -> Duration {
     Duration::from_secs(10)
 }
 
+/// A poll, and the room for what it tells. A thread keeps it from one gate to the next. The ends of the gate before are closed by then, or
+/// watched no more: what comes of another would be taken for what comes of the next gate's own.
+pub struct GatePoll {
+    poll: Poll,
+    events: Events<Global>,
+}
+
+impl Drop for GatePoll {
+    fn drop(self) {
+        let GatePoll { poll: _, events: _ } = self;
+    }
+}
+
+impl GatePoll {
+    /// One that minds nothing yet. The error is that the system has no more polls, or that an allocation failed.
+    pub fn new<R: Net>(rt: &R, alloc: Global) -> io::Result<GatePoll> {
+        Ok(GatePoll {
+            poll: Poll::new(rt)?,
+            events: Events::with_capacity(alloc, MOST_EVENTS)?,
+        })
+    }
+
+    /// The one that a thread keeps; a new one, where it has none yet. The errors are those of `new`.
+    pub fn of_thread<'a, R: Net>(
+        rt: &R,
+        alloc: Global,
+        kept: &'a mut Option<GatePoll>,
+    ) -> io::Result<&'a mut GatePoll> {
+        match kept {
+            Some(poll) => Ok(poll),
+            None => Ok(kept.insert(GatePoll::new(rt, alloc)?)),
+        }
+    }
+
+    /// Waits for an event, or for so long. That the poll can't is as if none came.
+    fn wait(&mut self, longest: Duration) {
+        let _ = self.poll.poll(&mut self.events, Some(longest));
+    }
+
+    /// What came while it waited, if anything did. The system tells each event of a client's but once, so it is noted here.
+    fn seen(&self, client: &Notes, link: &Option<Arc<Notes>>) -> Option<Seen> {
+        if self.events.is_empty() {
+            return None;
+        }
+        let mut seen = Seen {
+            client_has_left: false,
+            is_for_link: false,
+        };
+        for event in self.events.iter() {
+            if event.token() == CLIENT {
+                client.saw(event);
+                client.expect_more();
+                seen.client_has_left = event.is_read_closed();
+            } else if let Some(link) = link {
+                link.saw(event);
+                seen.is_for_link = true;
+            }
+        }
+        Some(seen)
+    }
+}
+
+/// What the events of a wait tell.
+#[derive(Clone, Copy, Drop)]
+struct Seen {
+    /// The client has sent its last byte.
+    client_has_left: bool,
+    /// The link had one.
+    is_for_link: bool,
+}
+
 /// Where a worker waits for the bytes of its client, and of its link while that is watched. A turn of the client or of the link alone
 /// waits for at most 100 ms, since so many turns are a time; any other for at most ten seconds, so that a client that says nothing
 /// costs next to nothing. It doesn't wait where the last read of an end that it minds, since the turn before, may have left more; it
 /// names both sides. Nor does a turn of the link alone where something may be due to be said: in the first such turn, and after the first
 /// read behind a write that came to something.
-pub struct TcpGate<R: Clock> {
+pub struct TcpGate<'a, R: Clock> {
     rt: R,
-    poll: Poll,
-    events: Events<Global>,
+    poll: &'a mut GatePoll,
     client: Arc<Notes>,
     link: Option<Arc<Notes>>,
     /// The last turn was one of the link alone.
@@ -48,12 +118,11 @@ pub struct TcpGate<R: Clock> {
     turns: TurnCount,
 }
 
-impl<R: Clock + Drop> Drop for TcpGate<R> {
+impl<'a, R: Clock + Drop> Drop for TcpGate<'a, R> {
     fn drop(self) {
         let TcpGate {
             rt: _,
             poll: _,
-            events: _,
             client: _,
             link: _,
             is_at_link: _,
@@ -63,20 +132,21 @@ impl<R: Clock + Drop> Drop for TcpGate<R> {
     }
 }
 
-impl<R: Clock + Net + Drop> TcpGate<R> {
-    /// The gate of the worker of this client. That the client's connection can't be watched is ignored: its bytes are then found
-    /// when a turn is over. The error is that the system has no more polls, or that an allocation failed.
-    pub fn new(rt: R, alloc: Global, client: &mut TcpEnd) -> io::Result<TcpGate<R>>
+impl<'a, R: Clock + Drop> TcpGate<'a, R> {
+    /// The gate of the worker of this client, over this poll. That the client's connection can't be watched is ignored: its bytes are
+    /// then found when a turn is over. The error is that an allocation failed.
+    pub fn new(
+        rt: R,
+        poll: &'a mut GatePoll,
+        client: &mut TcpEnd,
+    ) -> Result<TcpGate<'a, R>, AllocError>
         ensures { client.new ≡ client.old }
     {
-        let poll = Poll::new(&rt)?;
-        let events = Events::with_capacity(alloc, MOST_EVENTS)?;
         let notes = client.notes()?;
-        client.register(&poll, CLIENT);
+        client.register(&poll.poll, CLIENT);
         Ok(TcpGate {
             rt,
             poll,
-            events,
             client: notes,
             link: None,
             is_at_link: false,
@@ -86,7 +156,7 @@ impl<R: Clock + Net + Drop> TcpGate<R> {
     }
 }
 
-impl<R: Clock> TcpGate<R> {
+impl<'a, R: Clock> TcpGate<'a, R> {
     fn client_may_have_more(&self) -> bool {
         self.client.take_more()
     }
@@ -126,32 +196,21 @@ impl<R: Clock> TcpGate<R> {
         }
     }
 
-    /// Waits for an event, or for so long; whether the link had one, or none came. The system tells each of a client's but once, so
-    /// it is noted here.
+    /// Waits for an event, or for so long; whether the link had one, or none came.
     fn wait(&mut self, longest: Duration) -> bool
         ensures { self.new.turns ≡ self.old.turns }
     {
-        let _ = self.poll.poll(&mut self.events, Some(longest));
-        if self.events.is_empty() {
+        self.poll.wait(longest);
+        let Some(seen) = self.poll.seen(&self.client, &self.link) else {
             self.open_both();
             return true;
-        }
-        let mut is_for_link = false;
-        for event in self.events.iter() {
-            if event.token() == CLIENT {
-                self.client.saw(event);
-                self.client.expect_more();
-                self.client_has_left = self.client_has_left || event.is_read_closed();
-            } else if let Some(link) = &self.link {
-                link.saw(event);
-                is_for_link = true;
-            }
-        }
-        is_for_link
+        };
+        self.client_has_left = self.client_has_left || seen.client_has_left;
+        seen.is_for_link
     }
 }
 
-impl<R: Clock> Gate<TcpEnd> for TcpGate<R> {
+impl<'a, R: Clock> Gate<TcpEnd> for TcpGate<'a, R> {
     ghost turns = { λ g. g.turns };
 
     fn turn(&mut self) -> Ready
@@ -203,12 +262,12 @@ impl<R: Clock> Gate<TcpEnd> for TcpGate<R> {
     }
 
     fn watch(&mut self, end: &mut TcpEnd) {
-        end.register(&self.poll, LINK);
+        end.register(&self.poll.poll, LINK);
         self.link = end.notes().ok();
     }
 
     fn unwatch(&mut self, end: &mut TcpEnd) {
-        end.deregister(&self.poll);
+        end.deregister(&self.poll.poll);
         self.link = None;
     }
 }

@@ -18,3 +18,4 @@ pub mod dial;
 pub mod gate;
 pub mod message;
 mod notes;
+mod socket;

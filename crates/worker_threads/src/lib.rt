@@ -61,8 +61,9 @@ impl<J: Drop> Shared<J> {
 }
 
 /// Threads that do jobs. One that is done waits for the next job, and another is started only where none waits, so that there are
-/// never more than jobs were to be done at once. Of those that have waited for ten seconds all but eight end; they are joined when the
-/// next job comes. Where the workers are let go without [`Workers::join_all`], their threads wait until the program ends.
+/// never more than jobs were to be done at once. What a thread has of its own it keeps from one job to the next. Of those that have waited
+/// for ten seconds all but eight end; they are joined when the next job comes. Where the workers are let go without
+/// [`Workers::join_all`], their threads wait until the program ends.
 #[derive(Drop)]
 pub struct Workers<J> {
     shared: Arc<Shared<J>>,
@@ -126,17 +127,18 @@ impl<J: Drop> Workers<J> {
 
 impl<J: Drop + Send + 'static> Workers<J> {
     /// Has the job done by a thread that waits for one, or by a new one where none does: that one does by `serve` this job and those
-    /// that are left to it later. The error is that the system has no more threads, or that an allocation failed; the job is then
-    /// dropped, and isn't done.
+    /// that are left to it later, with what it keeps, which is nothing at first. The error is that the system has no more threads, or that
+    /// an allocation failed; the job is then dropped, and isn't done.
     pub fn start<
         R: Threads + Wait + Clock + Copy + Send + 'static,
-        S: Fn(J) + Copy + Send + Drop + 'static,
+        T: Drop + Send + 'static,
+        S: Fn(&mut Option<T>, J) + Copy + Send + Drop + 'static,
     >(&mut self, rt: R, job: J, serve: S) -> Result<(), AllocError>
         requires { S.IsAlwaysCallable serve }
     {
         self.join_ended(&rt);
         match self.shared.leave(&rt, job) {
-            Some(job) => self.start_thread(rt, job, serve),
+            Some(job) => self.start_thread::<R, T, S>(rt, job, serve),
             None => Ok(()),
         }
     }
@@ -144,12 +146,13 @@ impl<J: Drop + Send + 'static> Workers<J> {
     /// Starts a thread whose first job is this.
     fn start_thread<
         R: Threads + Wait + Clock + Copy + Send + 'static,
-        S: Fn(J) + Copy + Send + Drop + 'static,
+        T: Drop + Send + 'static,
+        S: Fn(&mut Option<T>, J) + Copy + Send + Drop + 'static,
     >(&mut self, rt: R, job: J, serve: S) -> Result<(), AllocError>
         requires { S.IsAlwaysCallable serve }
     {
         let place = self.free_place(&rt)?;
-        let Ok(thread) = spawned(rt, &self.shared, place, job, serve) else {
+        let Ok(thread) = spawned::<R, J, T, S>(rt, &self.shared, place, job, serve) else {
             // there is room: it was reserved with the place
             let _ = self.free.push(place);
             return Err(AllocError);
@@ -165,7 +168,8 @@ impl<J: Drop + Send + 'static> Workers<J> {
 fn spawned<
     R: Threads + Wait + Clock + Copy + Send + 'static,
     J: Drop + Send + 'static,
-    S: Fn(J) + Copy + Send + Drop + 'static,
+    T: Drop + Send + 'static,
+    S: Fn(&mut Option<T>, J) + Copy + Send + Drop + 'static,
 >(
     rt: R,
     shared: &Arc<Shared<J>>,
@@ -180,13 +184,13 @@ fn spawned<
         &rt,
         move || -> ()
             requires { S.IsAlwaysCallable serve }
-        { work(&rt, &shared, place, first, serve) },
+        { work::<R, J, T, S>(&rt, &shared, place, first, serve) },
     )?;
     Ok(thread)
 }
 
 /// Does this job, and then the next ones.
-fn work<R: Wait + Clock, J: Drop, S: Fn(J)>(
+fn work<R: Wait + Clock, J: Drop, T: Drop, S: Fn(&mut Option<T>, J)>(
     rt: &R,
     shared: &Shared<J>,
     place: usize,
@@ -195,10 +199,11 @@ fn work<R: Wait + Clock, J: Drop, S: Fn(J)>(
 )
     requires { S.IsAlwaysCallable serve }
 {
-    serve(first);
+    let mut kept = None::<T>;
+    serve(&mut kept, first);
     for _ in rt.forever() {
         match shared.next(rt, place) {
-            Some(job) => serve(job),
+            Some(job) => serve(&mut kept, job),
             None => return,
         }
     }

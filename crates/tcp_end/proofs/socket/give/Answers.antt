@@ -1,6 +1,6 @@
 use Rattle.std.proofs.Common.{length}
 use Rattle.tcp_end.proofs.Giving.{given}
-use Rattle.tcp_end.proofs.connection.give.Goals as goal
+use Rattle.tcp_end.proofs.socket.give.Goals as goal
 
 pub returns-clause-bytes : goal.returns-clause-bytes
 returns-clause-bytes c =
