@@ -140,6 +140,8 @@ impl<R: PoolRuntime, F: Source, K: Ledgers> Pool<R, F, K> {
     }
 
     /// What the worker of a connection needs; `None` where there is no poll, no memory or no pass for it.
+    // written into no caller: the stack of a thread would have room for what it moves as long as its client is served
+    #[inline(never)]
     fn equip<'a>(
         &self,
         rt: R,

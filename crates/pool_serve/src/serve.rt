@@ -38,6 +38,8 @@ use std::alloc::Global;
 
 /// Goes on with a login until it has arrived, is let in or is over; or until nothing has moved for so many turns of the client, if
 /// `most` says how many. A turn is taken only where nothing moved.
+// written into no caller: the stack of a thread would have room for it as long as its client is served
+#[inline(never)]
 fn drive_login<C: ClientEnd, E: ServerEnd, G: Gate<E>>(
     alloc: Global,
     run: &mut LoginRun<C>,
@@ -83,6 +85,8 @@ fn pass_on<D: LinkDesk>(desk: &D, pass: &mut D::Pass, client: KeyView) -> Cancel
 }
 
 /// Ends a login that comes to no arrival: what it asked to be cancelled is passed on, or the log is told why it is over.
+// for the same reason as `drive_login`
+#[inline(never)]
 fn dismiss<C: ClientEnd, D: LinkDesk>(
     desk: &D,
     pass: D::Pass,
@@ -108,6 +112,8 @@ fn dismiss<C: ClientEnd, D: LinkDesk>(
 
 impl<'a, D: LinkDesk, G: Gate<D::End>> Worker<'a, D, G> {
     /// Serves a client of the console, which is through its login.
+    // for the same reason as `drive_login`: a client that logs in waits without it
+    #[inline(never)]
     fn manage<C: ClientEnd>(&mut self, run: LoginRun<C>, word: KeyWord) -> (C, Ending)
         requires console { run.phase ≡ Console }
         requires given { IsAllGiven run }
@@ -176,6 +182,8 @@ impl<'a, D: LinkDesk, G: Gate<D::End>> Worker<'a, D, G> {
     }
 
     /// Serves a client that is through its login, and tells the log how it came and went.
+    // likewise
+    #[inline(never)]
     fn host<C: ClientEnd>(&mut self, client: C, logged_in: &LoggedIn) -> (C, Ending)
         requires logged_in { IsLoggedIn logged_in.now }
         requires here { IsSome (D.holder self.old.pass).client }

@@ -26,7 +26,7 @@ fn idle_turns(rt: &HostRuntime, client: &mut TcpEnd, link: &mut TcpEnd) -> Resul
     Ok(1_000_000)
 }
 
-// The first two are taken at once: by what a new end notes, and by the events of its registration.
+// The first is taken at once, by what a new end notes.
 #[test]
 fn an_idle_client_has_ten_turns_a_second(rt: HostRuntime) -> Result<(), Fail> {
     let (mut client, _near) = pair(&rt)?;
@@ -178,7 +178,7 @@ fn link_turns(
     Ok(start.elapsed(rt)?.as_millis())
 }
 
-// The first two are taken at once, as above; the others wait for 100 ms each.
+// The first is taken at once; the others wait for 100 ms each.
 #[test]
 fn what_a_client_sends_ends_no_turn_of_the_link(rt: HostRuntime) -> Result<(), Fail> {
     let (mut client, mut near) = pair(&rt)?;
@@ -232,20 +232,60 @@ fn gates_follow_one_another_over_one_poll(rt: HostRuntime) -> Result<(), Fail> {
     Ok(())
 }
 
-// Each gate finds what comes to its own client, and nothing of the clients before.
-#[test]
-fn gates_follow_one_another_over_one_poll(rt: HostRuntime) -> Result<(), Fail> {
-    let mut poll = GatePoll::new(&rt, rt.alloc())?;
-    for _ in 0..20u32 {
-        let (mut client, mut near) = pair(&rt)?;
-        let mut gate = TcpGate::new(rt, &mut poll, &mut client)?;
-        assert!(rt; ClientEnd::read_some(&mut client, &mut [0; 1]) == Moved::NotNow);
-        assert!(rt; !Gate::<TcpEnd>::client_has_left(&mut gate));
-        assert!(rt; ClientEnd::write_some(&mut near, b"Q") == Moved::Count(1));
-        Gate::<TcpEnd>::turn_of_client(&mut gate);
-        assert!(rt; ClientEnd::read_some(&mut client, &mut [0; 1]) == Moved::Count(1));
-        drop(near);
-        assert!(rt; is_seen_to_go(&rt, &mut gate));
+/// Writes until nothing more is taken.
+fn fill(client: &mut TcpEnd) -> bool {
+    for _ in 0..100_000u32 {
+        match ClientEnd::write_some(client, &[7; 4096]) {
+            Moved::Count(_) => {}
+            other => return other == Moved::NotNow,
+        }
     }
+    false
+}
+
+/// How many turns it takes until a byte more is taken.
+fn turns_until_room<R: Clock>(gate: &mut TcpGate<'_, R>, client: &mut TcpEnd) -> u32 {
+    for turns in 0..1000u32 {
+        if ClientEnd::write_some(client, &[7; 1]) == Moved::Count(1) {
+            return turns;
+        }
+        Gate::<TcpEnd>::turn(gate);
+    }
+    1000
+}
+
+/// Reads, after a while, all that comes until nothing has come for a while.
+fn reads_late<R: Clock>(rt: &R, near: &mut TcpEnd) -> u32 {
+    let mut idle = 0u32;
+    for _ in 0..1_000_000u32 {
+        if idle == 100 {
+            return idle;
+        }
+        match ServerEnd::read_some(near, &mut [0; 4096]) {
+            Moved::Count(_) => {}
+            _ => {
+                idle = idle.saturating_add(1);
+                sleep(rt, Duration::from_millis(5));
+            }
+        }
+    }
+    idle
+}
+
+// A gate asks its poll for room only once a write has found too little. Were it never told, a turn would take ten seconds.
+#[test]
+fn room_ends_a_wait(rt: HostRuntime) -> Result<(), Fail> {
+    let (mut client, mut near) = pair(&rt)?;
+    let mut poll = GatePoll::new(&rt, rt.alloc())?;
+    let mut gate = TcpGate::new(rt, &mut poll, &mut client)?;
+    assert!(rt; fill(&mut client));
+    let start = Instant::now(&rt)?;
+    let (turns, _) = join(
+        &rt,
+        || -> u32 { turns_until_room(&mut gate, &mut client) },
+        || -> u32 { reads_late(&rt, &mut near) },
+    );
+    assert!(rt; turns < 1000);
+    assert!(rt; start.elapsed(&rt)?.as_millis() < 5_000);
     Ok(())
 }

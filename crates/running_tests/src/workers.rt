@@ -28,7 +28,11 @@ fn every_job_is_done_once(rt: HostRuntime) -> Result<(), Fail> {
     let mut workers = Workers::<Adds>::new(rt.alloc())?;
     for amount in 1..=200u64 {
         let total = Arc::try_clone(&sum)?;
-        workers.start(rt, Adds { total, amount }, |_: &mut Option<u8>, job: Adds| job.add())?;
+        workers.start(
+            rt,
+            Adds { total, amount },
+            |_: &mut Option<u8>, job: Adds| job.add(),
+        )?;
     }
     workers.join_all(&rt);
     assert!(rt; sum.load(Ordering::SeqCst) == 20_100);

@@ -5,15 +5,14 @@ ghost use Rattle.tcp_end.specs.Connections.{Reads, Sends, facts_of, has_ended, i
 ghost use Rattle.server_end.specs.declared.Moved.TheVariants.{Ended};
 
 use crate::ahead::AHEAD;
-use crate::notes::Notes;
 use crate::socket::Socket;
+use crate::watched::Watched;
 use mio::net::TcpStream;
 use mio::{Poll, Token};
 use server_end::transcript::Transcript;
 use server_end::{ClientEnd, Moved, ServerEnd};
 use std::alloc::{AllocError, Global};
 use std::marker::Model;
-use std::sync::Arc;
 
 /// A TCP connection. While a gate minds it, it answers [`Moved::NotNow`] without a call of the system where the last read has emptied
 /// its socket, or the last write filled it, until the gate has seen an event. A read of none of the peer's bytes, when it has sent
@@ -91,11 +90,12 @@ impl TcpEnd {
         })
     }
 
-    /// Has the poll tell of this connection. That it can't is ignored.
-    pub(crate) fn register(&mut self, poll: &Poll, token: Token)
+    /// Has the poll tell of this connection under this token; what its gate keeps of it. That the poll can't is ignored. The error is that
+    /// an allocation failed.
+    pub(crate) fn watched(&mut self, poll: &Poll, token: Token) -> Result<Watched, AllocError>
         ensures { self.new ≡ self.old }
     {
-        self.socket.register(poll, token);
+        self.socket.watched(poll, token)
     }
 
     /// Has the poll tell of it no more.
@@ -103,11 +103,6 @@ impl TcpEnd {
         ensures { self.new ≡ self.old }
     {
         self.socket.deregister(poll);
-    }
-
-    /// Its notes, for its gate.
-    pub(crate) fn notes(&self) -> Result<Arc<Notes>, AllocError> {
-        self.socket.notes()
     }
 
     fn is_broken(&self) -> bool

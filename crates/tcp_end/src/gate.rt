@@ -2,14 +2,13 @@
 ghost use Rattle.std.specs.Prelude.{◌≡◌, ◌+◌, true, IfOk};
 
 use crate::connection::TcpEnd;
-use crate::notes::Notes;
+use crate::watched::Watched;
 use mio::{Events, Poll, Token};
 use server_end::gate::{Gate, Ready, TurnCount};
 use std::alloc::{AllocError, Global};
 use std::io;
 use std::net::Net;
 use std::rt::Clock;
-use std::sync::Arc;
 use std::time::{Duration, Instant};
 
 /// The client's connection among those of a poll, and the link's.
@@ -64,13 +63,21 @@ impl GatePoll {
         }
     }
 
+    /// Tells of room from now on at each end that has found too little.
+    fn ask_for_room(&self, client: &Watched, link: &Option<Watched>) {
+        client.ask_for_room(&self.poll);
+        if let Some(link) = link {
+            link.ask_for_room(&self.poll);
+        }
+    }
+
     /// Waits for an event, or for so long. That the poll can't is as if none came.
     fn wait(&mut self, longest: Duration) {
         let _ = self.poll.poll(&mut self.events, Some(longest));
     }
 
     /// What came while it waited, if anything did. The system tells each event of a client's but once, so it is noted here.
-    fn seen(&self, client: &Notes, link: &Option<Arc<Notes>>) -> Option<Seen> {
+    fn seen(&self, client: &Watched, link: &Option<Watched>) -> Option<Seen> {
         if self.events.is_empty() {
             return None;
         }
@@ -79,13 +86,11 @@ impl GatePoll {
             is_for_link: false,
         };
         for event in self.events.iter() {
-            if event.token() == CLIENT {
-                client.saw(event);
-                client.expect_more();
+            if client.saw(event) {
+                client.notes().expect_more();
                 seen.client_has_left = event.is_read_closed();
             } else if let Some(link) = link {
-                link.saw(event);
-                seen.is_for_link = true;
+                seen.is_for_link = link.saw(event);
             }
         }
         Some(seen)
@@ -109,8 +114,8 @@ struct Seen {
 pub struct TcpGate<'a, R: Clock> {
     rt: R,
     poll: &'a mut GatePoll,
-    client: Arc<Notes>,
-    link: Option<Arc<Notes>>,
+    client: Watched,
+    link: Option<Watched>,
     /// The last turn was one of the link alone.
     is_at_link: bool,
     /// The client has sent its last byte.
@@ -142,12 +147,11 @@ impl<'a, R: Clock + Drop> TcpGate<'a, R> {
     ) -> Result<TcpGate<'a, R>, AllocError>
         ensures { client.new ≡ client.old }
     {
-        let notes = client.notes()?;
-        client.register(&poll.poll, CLIENT);
+        let client = client.watched(&poll.poll, CLIENT)?;
         Ok(TcpGate {
             rt,
             poll,
-            client: notes,
+            client,
             link: None,
             is_at_link: false,
             client_has_left: false,
@@ -158,12 +162,12 @@ impl<'a, R: Clock + Drop> TcpGate<'a, R> {
 
 impl<'a, R: Clock> TcpGate<'a, R> {
     fn client_may_have_more(&self) -> bool {
-        self.client.take_more()
+        self.client.notes().take_more()
     }
 
     fn link_may_have_more(&self) -> bool {
         match &self.link {
-            Some(notes) => notes.take_more(),
+            Some(link) => link.notes().take_more(),
             None => false,
         }
     }
@@ -176,7 +180,7 @@ impl<'a, R: Clock> TcpGate<'a, R> {
         let is_first = !self.is_at_link;
         self.is_at_link = true;
         let has_spoken = match &self.link {
-            Some(notes) => notes.take_spoken(),
+            Some(link) => link.notes().take_spoken(),
             None => false,
         };
         is_first || has_spoken
@@ -190,9 +194,9 @@ impl<'a, R: Clock> TcpGate<'a, R> {
 
     /// No event came: both ends are tried again, as if one had.
     fn open_both(&self) {
-        self.client.open();
+        self.client.notes().open();
         if let Some(link) = &self.link {
-            link.open();
+            link.notes().open();
         }
     }
 
@@ -200,6 +204,7 @@ impl<'a, R: Clock> TcpGate<'a, R> {
     fn wait(&mut self, longest: Duration) -> bool
         ensures { self.new.turns ≡ self.old.turns }
     {
+        self.poll.ask_for_room(&self.client, &self.link);
         self.poll.wait(longest);
         let Some(seen) = self.poll.seen(&self.client, &self.link) else {
             self.open_both();
@@ -262,8 +267,11 @@ impl<'a, R: Clock> Gate<TcpEnd> for TcpGate<'a, R> {
     }
 
     fn watch(&mut self, end: &mut TcpEnd) {
-        end.register(&self.poll.poll, LINK);
-        self.link = end.notes().ok();
+        self.link = end.watched(&self.poll.poll, LINK).ok();
+        // a client that comes has mostly spoken already, and a link that is lent has not: the poll tells of what is there
+        if let Some(link) = &self.link {
+            link.notes().await_event();
+        }
     }
 
     fn unwatch(&mut self, end: &mut TcpEnd) {

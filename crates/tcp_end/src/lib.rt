@@ -7,7 +7,8 @@
 //! there. Each turn forgets that note, so no two turns in a row go without a wait unless bytes were read between them. A peer that has
 //! sent its last byte, or a socket with an error, makes its edge but once, so from then on reads are tried in any case. A turn always
 //! names both sides, and nothing is claimed of edges: after a wait without one both ends are tried again. Bytes that a client's end has
-//! read ahead are as bytes that its socket still has, of which an event told before.
+//! read ahead are as bytes that its socket still has, of which an event told before. The system is asked to tell of room to write only once
+//! a write has found too little: a socket nearly always has room, and told so it would end a wait for bytes that haven't come.
 #![tactic(auto)]
 
 pub mod acceptor;
@@ -19,3 +20,4 @@ pub mod gate;
 pub mod message;
 mod notes;
 mod socket;
+mod watched;

@@ -21,6 +21,8 @@ pub(crate) struct Notes {
     is_empty: AtomicBool,
     /// There is no room to write until the gate sees an event.
     is_full: AtomicBool,
+    /// The poll tells of room to write.
+    asks_for_room: AtomicBool,
     /// The peer has sent its last byte, or the socket has an error: no event says so again, so reads are tried until they find it.
     is_closing: AtomicBool,
 }
@@ -34,6 +36,7 @@ impl Drop for Notes {
             was_written: _,
             is_empty: _,
             is_full: _,
+            asks_for_room: _,
             is_closing: _,
         } = self;
     }
@@ -65,6 +68,7 @@ impl Notes {
             was_written: AtomicBool::new(false),
             is_empty: AtomicBool::new(false),
             is_full: AtomicBool::new(false),
+            asks_for_room: AtomicBool::new(false),
             is_closing: AtomicBool::new(false),
         }
     }
@@ -72,8 +76,16 @@ impl Notes {
     /// A gate minds the connection from now on, or doesn't. What it doesn't mind is always tried.
     pub(crate) fn mind(&self, is_minded: bool) {
         set(&self.is_minded, is_minded);
+        set(&self.asks_for_room, false);
         set(&self.may_have_more, true);
         self.open();
+    }
+
+    /// There is nothing to read until the gate sees an event, which a poll tells at once where something is there when it begins to mind.
+    pub(crate) fn await_event(&self) {
+        let is_minded = get(&self.is_minded);
+        set(&self.is_empty, is_minded);
+        set(&self.may_have_more, !is_minded);
     }
 
     /// A read into a slice of this length was answered so.
@@ -103,6 +115,16 @@ impl Notes {
     /// Whether a write would.
     pub(crate) fn is_full(&self) -> bool {
         get(&self.is_minded) && get(&self.is_full)
+    }
+
+    /// Whether a write found too little room, and the poll doesn't tell of it yet.
+    pub(crate) fn wants_room(&self) -> bool {
+        self.is_full() && !get(&self.asks_for_room)
+    }
+
+    /// The poll tells of room from now on, where it could be asked.
+    pub(crate) fn asked_for_room(&self, was_asked: bool) {
+        set(&self.asks_for_room, was_asked);
     }
 
     /// Whether the last read may have left more; asked once.

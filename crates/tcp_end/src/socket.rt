@@ -9,12 +9,14 @@ ghost use Rattle.server_end.specs.declared.Moved.TheVariants.{Ended};
 use crate::ahead::{AHEAD, Ahead};
 use crate::deferred::{Deferred, PACKET};
 use crate::notes::Notes;
+use crate::watched::Watched;
 use mio::net::TcpStream;
 use mio::{Interest, Poll, Token};
 use server_end::Moved;
 use std::alloc::{AllocError, Global};
 use std::io;
 use std::io::{ErrorKind, Read, Write};
+use std::os::fd::AsRawFd;
 use std::sync::Arc;
 
 /// The socket of a connection.
@@ -162,22 +164,21 @@ impl Socket {
         })
     }
 
-    /// Has the poll tell of it. That it can't is ignored.
-    pub(crate) fn register(&mut self, poll: &Poll, token: Token) {
-        let both = Interest::READABLE | Interest::WRITABLE;
-        let registered = poll.registry().register(&mut self.stream, token, both);
-        self.notes.mind(registered.is_ok());
+    /// Has the poll tell of what comes under this token; what a gate keeps of it. That the poll can't is ignored. The error is that an
+    /// allocation failed.
+    pub(crate) fn watched(&mut self, poll: &Poll, token: Token) -> Result<Watched, AllocError> {
+        let notes = Arc::try_clone(&self.notes)?;
+        let registered = poll
+            .registry()
+            .register(&mut self.stream, token, Interest::READABLE);
+        notes.mind(registered.is_ok());
+        Ok(Watched::new(notes, self.stream.as_raw_fd(), token))
     }
 
     /// Has the poll tell of it no more.
     pub(crate) fn deregister(&mut self, poll: &Poll) {
         let _ = poll.registry().deregister(&mut self.stream);
         self.notes.mind(false);
-    }
-
-    /// Its notes, for its gate.
-    pub(crate) fn notes(&self) -> Result<Arc<Notes>, AllocError> {
-        Arc::try_clone(&self.notes)
     }
 
     /// Holds these bytes, where they are the first AuthenticationOk; whether they are.
