@@ -48,11 +48,12 @@ struct Finds {
 
 impl Finds {
     fn find(self, kept: &mut Option<u8>) {
-        let count = match kept {
-            None => &self.first,
-            Some(_) => &self.later,
-        };
-        count.fetch_add(1, Ordering::SeqCst);
+        let Finds { first, later } = self;
+        if kept.is_none() {
+            first.fetch_add(1, Ordering::SeqCst);
+        } else {
+            later.fetch_add(1, Ordering::SeqCst);
+        }
         *kept = Some(7);
     }
 }
