@@ -74,7 +74,10 @@ fn a_thread_keeps_what_it_has(rt: HostRuntime) -> Result<(), Fail> {
         sleep(&rt, Duration::from_millis(20));
     }
     workers.join_all(&rt);
-    assert!(rt; first.load(Ordering::SeqCst) + later.load(Ordering::SeqCst) == 20);
+    let found = first
+        .load(Ordering::SeqCst)
+        .saturating_add(later.load(Ordering::SeqCst));
+    assert!(rt; found == 20);
     assert!(rt; first.load(Ordering::SeqCst) < 10);
     Ok(())
 }
