@@ -128,7 +128,7 @@ class Abuse:
             step()
             # a link stays in the pool, and may be another one now
             # threads beyond those that wait for a connection end after ten seconds
-            back = until(lambda: self.pooler.files() <= files + LINKS * FILES_EACH and self.pooler.threads() <= threads + MOST_WAITING, 30)
+            back = until(lambda: self.pooler.files() <= files + LINKS and self.pooler.has_its_polls() and self.pooler.threads() <= threads + MOST_WAITING, 30)
             self.passes.holds(f"{step.__name__}: no file and no thread is lost", back, f"{self.pooler.files()} files for {files}, {self.pooler.threads()} threads for {threads}")
             links = until(lambda: len(self.cluster.backends()) <= LINKS, 10)
             self.passes.holds(f"{step.__name__}: no more than {LINKS} sessions of the server", links, f"{len(self.cluster.backends())}")

@@ -19,6 +19,8 @@ TOP = pathlib.Path(__file__).resolve().parent.parent
 HERE = "127.0.0.1"
 PACKAGES = ["postgresql", "postgresql-client"]
 SECONDS = 60
+# what a poll is called among a process's files
+POLL = "anon_inode:[eventpoll]"
 # name, password, and the secret of the pooler's user file
 USERS = {
     "ann": ("secret", "secret"),
@@ -209,6 +211,17 @@ server_connect_timeout = 15
 TOTALS = r"shut down: \d+ decisions, \d+ starts; (\d+) arrived, (\d+) granted, (\d+) given back, (\d+) lost, (\d+) left"
 
 
+def files_of(pid):
+    """What each file is that a process has open."""
+    files = []
+    for name in os.listdir(f"/proc/{pid}/fd"):
+        try:
+            files.append(os.readlink(f"/proc/{pid}/fd/{name}"))
+        except FileNotFoundError:
+            pass  # it was closed meanwhile
+    return files
+
+
 class Pooler:
     """A pooler in front of the server, with the settings of examples/pgsess.ini but for those that are named. `more` has further
     databases, each with its port; `untracked` names a startup parameter that isn't followed, but dropped."""
@@ -249,8 +262,12 @@ class Pooler:
         return self.process.poll() is None
 
     def files(self):
-        """How many files it has open."""
-        return len(os.listdir(f"/proc/{self.process.pid}/fd"))
+        """How many files it has open, but for polls: a thread keeps its own while it waits for a connection."""
+        return sum(file != POLL for file in files_of(self.process.pid))
+
+    def has_its_polls(self):
+        """No thread has more than one poll."""
+        return files_of(self.process.pid).count(POLL) <= self.threads()
 
     def threads(self):
         return len(os.listdir(f"/proc/{self.process.pid}/task"))

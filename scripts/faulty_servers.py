@@ -492,6 +492,7 @@ class Show:
         maps = self.pooler.maps()
         self.passes.holds(f"the memory of {clients_came} cases' threads is given back: {maps} parts of it", maps < MOST_MAPS < clients_came, f"{maps} parts")
         self.passes.holds("no file is left open", until(lambda: self.pooler.files() == files + idle, 10), f"{self.pooler.files()} for {files + idle}")
+        self.passes.holds("no thread has more than one poll", self.pooler.has_its_polls(), f"{self.pooler.threads()} threads")
         all_of_them = [Client(self.pooler.port, "root", "pgbouncer") for _ in range(clients)]
         try:
             Client(self.pooler.port, "root", "pgbouncer")

@@ -7,7 +7,7 @@ A preloaded library (scripts/refuse_growth.c) counts the calls of malloc, calloc
 three more, or all from the Nth on: for N from 1 on until none is left to refuse. A scenario is a few clients: one alone; one whose link
 takes the place of another user's; one that waits for a link; one that logs in by MD5; one of the console; and a client whose statement is to
 be cancelled. Each is given a front of what it is given otherwise, and perhaps one refusal. Then growths are had again, and two clients, as
-many as may be there, share the one link there may be: each is given exact bytes, and no file is left open.
+many as may be there, share the one link there may be: each is given exact bytes, and no file is left open but the poll of each thread that is kept.
 """
 import ctypes
 import mmap
@@ -18,7 +18,7 @@ import socket
 import sys
 import time
 
-from cluster import HERE, TOP, USERS, Passes, Place, Pooler, Stub, until
+from cluster import HERE, POLL, TOP, USERS, Passes, Place, Pooler, Stub, files_of, until
 from leases import borders, is_allowed
 from logins import GIVEN
 from rows import CATALOGUE, START, run
@@ -229,8 +229,12 @@ class Growths:
     # ---- what is left
 
     def is_at_rest(self):
-        """Each connection is done: no more files are open than those of the one link."""
-        return until(lambda: all(now <= was for now, was in zip(self.files_now(), self.files)) and self.pooler.threads() <= MOST_THREADS, SECONDS)
+        """Each connection is done: no more files are open than those of the one link, and a poll for each thread that is kept."""
+        return until(lambda: all(now <= was for now, was in zip(self.files_now(), self.files)) and self.has_its_polls() and self.pooler.threads() <= MOST_THREADS, SECONDS)
+
+    def has_its_polls(self):
+        """No thread has more than one."""
+        return all(files_of(it.process.pid).count(POLL) <= len(os.listdir(f"/proc/{it.process.pid}/task")) for it in (self.pooler, self.stub))
 
     def fault_of_pair(self):
         """What is wrong with what two clients are given, as many as may be there, of whom one waits for the other's link."""
@@ -258,7 +262,8 @@ class Growths:
         return counts[-1]
 
     def files_now(self):
-        return [len(os.listdir(f"/proc/{it.process.pid}/fd")) for it in (self.pooler, self.stub)]
+        """But for polls."""
+        return [sum(file != POLL for file in files_of(it.process.pid)) for it in (self.pooler, self.stub)]
 
     def fault_afterwards(self):
         """What is wrong once growths are had again."""
