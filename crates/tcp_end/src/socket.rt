@@ -1,9 +1,10 @@
 //! The socket of a connection, and what is kept beside it so that the system isn't called in vain.
-ghost use Rattle.std.specs.Prelude.{◌≡◌, ◌≢◌, ◌<◌, List, ℕ, Option, [], length};
+ghost use Rattle.std.specs.Prelude.{◌≡◌, ◌≢◌, ◌<◌, List, ℕ, Option, [], length, true};
 ghost use Rattle.std.specs.Io.KnownBytes.{Consumes};
 ghost use Rattle.server_end.specs.Moves.{IsWithin, moved};
 ghost use Rattle.tcp_end.specs.Connections as spec;
 ghost use Rattle.tcp_end.specs.Reading.{IsFilled, to_come};
+ghost use Rattle.tcp_end.specs.declared.deferred.TheConstants.{AUTHENTICATION_OK};
 ghost use Rattle.server_end.specs.declared.Moved.TheVariants.{Ended};
 
 use crate::ahead::{AHEAD, Ahead};
@@ -182,7 +183,9 @@ impl Socket {
     }
 
     /// Holds these bytes, where they are the first AuthenticationOk; whether they are.
-    pub(crate) fn defer(&mut self, from: &[u8]) -> bool {
+    pub(crate) fn defer(&mut self, from: &[u8]) -> bool
+        ensures { result ≡ true → from.now ≡ AUTHENTICATION_OK }
+    {
         self.deferred.take(from)
     }
 
