@@ -1,5 +1,5 @@
 //! The gate of a worker whose ends are TCP connections.
-ghost use Rattle.std.specs.Prelude.{◌≡◌, ◌+◌, true, IfOk};
+ghost use Rattle.std.specs.Prelude.{◌≡◌, ◌+◌, true};
 
 use crate::connection::TcpEnd;
 use crate::watched::Watched;
