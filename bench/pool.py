@@ -22,8 +22,8 @@ from wire import Client, startup
 
 CONNECTS = (1, 8, 32, 100, 400)
 QUERIES = (1, 8, 32)
-# bytes of a row, and rows
-BULK = ((1_048_576, 500), (90, 3_000_000), (1, 10_000_000))
+# bytes of a row, rows, and COPY's format: for long rows in text PostgreSQL looks at each byte, and is slower than any pooler
+BULK = ((1_048_576, 500, "binary"), (1_048_576, 500, "text"), (90, 3_000_000, "text"), (1, 10_000_000, "text"))
 IDLE = (0, 1_000, 4_000)
 # clients that each have an application name of their own
 NAMES = 64
@@ -33,8 +33,8 @@ SILENT, SERVED = 10_000, 100
 FILES_EACH, FILES_MORE = 2, 1_000
 LINKS = 40
 MOST_CLIENTS = 10_000
-# a row of COPY: type, length, value, end of line
-ROW_MORE = 6
+# what a row has more than its value: type and length, and an end of line, or how many fields there are and the field's length
+ROW_MORE = {"text": 6, "binary": 11}
 GIGABYTE = 1e9
 
 
@@ -83,12 +83,12 @@ class Bench:
         rates = [re.search(r"^tps = ([\d.]+)", it.communicate()[0], re.MULTILINE) for it in running]
         return sum(float(it[1]) for it in rates) if all(rates) else None
 
-    def bulk(self, port, size, rows):
-        """Seconds for a gigabyte of rows, all of its bytes counted."""
+    def bulk(self, port, size, rows, form):
+        """Seconds of these rows."""
         begin = time.monotonic()
-        text = f"COPY (SELECT repeat('x', {size}) FROM generate_series(1, {rows})) TO STDOUT"
+        text = f"COPY (SELECT repeat('x', {size}) FROM generate_series(1, {rows})) TO STDOUT (FORMAT {form})"
         subprocess.run(["psql", "-X", "-q", "-c", text], env=self.environment(port), stdout=subprocess.DEVNULL, check=True)
-        return (time.monotonic() - begin) * GIGABYTE / (rows * (size + ROW_MORE))
+        return time.monotonic() - begin
 
     def used(self, kind):
         """Seconds of the pooler's processor so far."""
@@ -117,13 +117,14 @@ class Bench:
                     self.note(f"{manner} queries a second, {clients} clients", kind, self.pgbench(port, "-M", manner, "-c", str(clients), "-j", str(min(clients, 4))))
         for kind, port in self.ports.items():
             self.note("us of a simple query, 99 of 100, 1 client", kind, self.slowest(port))
-        for size, rows in BULK:
+        for size, rows, form in BULK:
+            # all bytes are counted
+            gigabytes = rows * (size + ROW_MORE[form]) / GIGABYTE
             for kind, port in self.ports.items():
                 before = self.used(kind)
-                self.note(f"s/GB, rows of {size} bytes", kind, self.bulk(port, size, rows))
+                self.note(f"s/GB, rows of {size} bytes in {form}", kind, self.bulk(port, size, rows, form) / gigabytes)
                 if before is not None:
-                    used = (self.used(kind) - before) * GIGABYTE / (rows * (size + ROW_MORE))
-                    self.note(f"s/GB of the pooler's processor, rows of {size} bytes", kind, used)
+                    self.note(f"s/GB of the pooler's processor, rows of {size} bytes in {form}", kind, (self.used(kind) - before) / gigabytes)
 
     def idle(self):
         """Memory a client that has sent its StartupMessage and waits."""
