@@ -6,7 +6,7 @@ use Rattle.book_model.specs.Book.{Book, Link, Ticket, find_last, in_pool, is_lin
 use Rattle.book_model.specs.Outcomes.{Answer, evicts, grants, starts}
 use Rattle.book_register.specs.Choices.{Chooses, eviction_of}
 use Rattle.book_rows.specs.Numbered.{number_of}
-use Rattle.book_rows.proofs.Places.{count-cons}
+use Rattle.numbered_rows.proofs.Places.{count-cons}
 use Rattle.book_register.specs.declared.book_state.Choice.TheVariants.{Lend, Start}
 
 -- ---- a link by its number

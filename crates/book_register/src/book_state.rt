@@ -12,7 +12,7 @@ ghost use Rattle.book_model.specs.declared.limits.TheConstants.{MOST_LINKS};
 ghost use Rattle.book_register.specs.Choices.{Chooses, Gives, eviction_of};
 ghost use Rattle.book_register.specs.Striking.{strike_of};
 ghost use Rattle.book_rows.specs.Numbered.{number_of};
-ghost use Rattle.book_rows.specs.Places.{passes};
+ghost use Rattle.numbered_rows.specs.Places.{passes};
 ghost use Rattle.book_model.specs.Kept.{Kept};
 
 use book_model::counts::Counts;

@@ -10,7 +10,7 @@ use Rattle.book_model.specs.Book.{Lease, is_of_client}
 use Rattle.book_model.specs.declared.limits.TheConstants.{MOST_LINKS}
 use Rattle.book_rows.specs.Index.{Tells, is_at, place_of, with_one_less, with_one_more}
 use Rattle.book_rows.specs.declared.index.TheConstants.{PLACES}
-use Rattle.book_rows.proofs.Places.{count-cons}
+use Rattle.numbered_rows.proofs.Places.{count-cons}
 
 within : (word : KeyView) → place_of word < PLACES
 within word = omega arith

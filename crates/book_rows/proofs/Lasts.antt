@@ -1,12 +1,12 @@
 -- The last link of a key, by the numbers of its pool's links from the back.
-use Rattle.std.proofs.Common.{get_or, ◌≡◌, ℕ, suc, zero, ◌+◌, ◌≤◌, ◌<◌, ◌==◌, Bool, true, false, List, [], ◌∷◌, length, drop, Option, None, Some, cond, refl, sym, ap, ◌∙◌, subst, arith, map, eq-eqb}
+use Rattle.std.proofs.Common.{get_or, ◌≡◌, ℕ, suc, zero, ◌+◌, ◌≤◌, ◌<◌, Bool, true, false, List, [], ◌∷◌, length, drop, Option, None, Some, cond, refl, sym, ap, ◌∙◌, subst, arith, map, eq-eqb}
 use Rattle.std.specs.Prelude.{find, filter, count_by}
 use Rattle.session_values.specs.State.{StartKeyOf}
 use Rattle.start_keys.specs.Keys.{same_key}
 use Rattle.book_model.specs.Book.{Link, find_last, in_pool, is_link, latest_of, or_else}
 use Rattle.book_rows.specs.Numbered.{is_of_key, number_of}
 use Rattle.book_rows.specs.PoolIndex.{Groups, ListsIfAny, listed}
-use Rattle.book_rows.proofs.Places.{count-cons, one_more}
+use Rattle.numbered_rows.proofs.Places.{count-cons, one_more}
 use Rattle.book_rows.proofs.PoolHashes.{other_pool}
 use Rattle.book_rows.proofs.Pooling.{given, key_of, link_number}
 

@@ -1,8 +1,6 @@
 pub mod PoolHashes
-pub mod Places
 pub mod Pooling
 pub mod Numbering
-pub mod Noting
 pub mod Indexing
 pub mod Lasts
 pub mod ShortNames

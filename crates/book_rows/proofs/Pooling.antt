@@ -7,7 +7,7 @@ use Rattle.book_rows.specs.Numbered.{number_of}
 use Rattle.book_rows.specs.PoolIndex.{AddsRow, Follows, Groups, Lists, ListsIfAny, TakesRow, listed, numbers_of}
 use Rattle.book_rows.specs.Waiting.{client_of, longest_waiting, longest_waiting_but}
 use Rattle.std.specs.List.{prefix_len}
-use Rattle.book_rows.proofs.Places.{count-cons, none_here, place_in, without_none}
+use Rattle.numbered_rows.proofs.Places.{count-cons, none_here, place_in, without_none}
 
 -- ---- filters
 

@@ -8,7 +8,7 @@ use Rattle.std.proofs.lemmas.Bool.{true≢false}
 use Rattle.session_values.specs.State.{StartKeyOf}
 use Rattle.book_model.specs.Book.{Ticket, is_number, is_of, same_pool}
 use Rattle.book_rows.specs.Telling.{clients_in}
-use Rattle.book_rows.specs.Numbered.{rows_in}
+use Rattle.numbered_rows.specs.Numbered.{rows_in}
 use Rattle.book_rows.specs.PoolHashes.{pool_hash_of}
 use Rattle.book_rows.specs.PoolIndex.{Group, Groups, ListsIfAny, first_of, firsts_in, in_group, listed}
 use Rattle.book_rows.specs.Waiting.{TellsFirsts, TellsWaiting, client_of, longest_waiting}

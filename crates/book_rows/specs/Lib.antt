@@ -1,9 +1,7 @@
 pub mod PoolHashes
-pub mod Places
 pub mod Waiting
 pub mod Index
 pub mod ShortNames
 pub mod PoolIndex
 pub mod Numbered
-pub mod RowNotes
 pub mod Telling

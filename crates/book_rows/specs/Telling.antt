@@ -2,7 +2,7 @@
 use Rattle.std.specs.Prelude.{ℕ, List, Option, map}
 use Rattle.std.specs.VecDeque.Iter.{deque_iter_rest}
 use Rattle.book_model.specs.Book.{Ticket}
-use Rattle.book_rows.specs.Numbered.{rows_in}
+use Rattle.numbered_rows.specs.Numbered.{rows_in}
 use Rattle.book_rows.specs.declared.firsts.Walk.{Walk}
 use Rattle.book_rows.specs.declared.firsts.Walk.TheVariants.{Pools, Slots}
 

@@ -5,7 +5,7 @@ ghost use Rattle.book_model.specs.Book as book;
 ghost use Rattle.book_model.specs.Outcomes.{in_state};
 ghost use Rattle.book_model.specs.declared.limits.TheConstants.{MOST_CLIENTS};
 
-use crate::numbered::{Numbered, NumberedRows};
+use numbered_rows::numbered::{Numbered, NumberedRows};
 use book_model::events::ClientState;
 use std::alloc::{AllocError, Global};
 use std::marker::Model;
@@ -77,7 +77,7 @@ impl Clients {
     }
 
     /// Whether the client is there.
-    #[tactic(auto, using(crate::proofs::Numbering::is_there))]
+    #[tactic(auto, using(numbered_rows::proofs::Numbering::is_there))]
     pub fn has(&self, number: u64) -> bool
         requires once { (n : ℕ) → count_by (book.is_client n) self.now ≤ 1 }
         ensures { result ≡ list_any (book.is_client number) self.now }

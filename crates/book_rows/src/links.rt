@@ -5,10 +5,11 @@ ghost use Rattle.start_keys.specs.Keys.{same_key};
 ghost use Rattle.book_model.specs.Book as book;
 ghost use Rattle.book_model.specs.Outcomes.{is_started_as};
 ghost use Rattle.book_model.specs.declared.limits.TheConstants.{MOST_LINKS};
-ghost use Rattle.book_rows.specs.Numbered.{is_of_key, last_with, number_in, number_of, rows_in};
-ghost use Rattle.book_rows.specs.Places.{passes};
+ghost use Rattle.numbered_rows.specs.Numbered.{rows_in};
+ghost use Rattle.book_rows.specs.Numbered.{is_of_key, last_with, number_in, number_of};
+ghost use Rattle.numbered_rows.specs.Places.{passes};
 
-use crate::numbered::{Numbered, NumberedRows};
+use numbered_rows::numbered::{Numbered, NumberedRows};
 use crate::pool_index::{PoolIndex, list, unlist};
 use crate::pools::PoolKey;
 use start_keys::StartKey;
@@ -79,7 +80,7 @@ pub fn number_in(slot: Option<&Option<Link>>) -> Option<u64>
 
 // ---- what an index tells, where it was given up: by a walk
 
-#[tactic(auto, using(crate::proofs::Numbering::counted_slots))]
+#[tactic(auto, using(numbered_rows::proofs::Numbering::counted_slots))]
 fn count_in(slots: &VecDeque<Option<Link>>, pool: &PoolKey) -> usize
     ensures { result ≡ count_by (book.in_pool pool.now) (rows_in slots.now.items) }
 {
@@ -225,7 +226,7 @@ impl Links {
     }
 
     /// Whether the link is there.
-    #[tactic(auto, using(crate::proofs::Numbering::is_there))]
+    #[tactic(auto, using(numbered_rows::proofs::Numbering::is_there))]
     pub fn has(&self, number: u64) -> bool
         requires once { (n : ℕ) → count_by (book.is_link n) self.now ≤ 1 }
         ensures { result ≡ list_any (book.is_link number) self.now }

@@ -4,12 +4,13 @@ ghost use Rattle.std.specs.List.{list_any};
 ghost use Rattle.book_model.specs.Book as book;
 ghost use Rattle.book_model.specs.Book.{Ticket as TicketRow};
 ghost use Rattle.book_model.specs.declared.limits.TheConstants.{MOST_CLIENTS};
-ghost use Rattle.book_rows.specs.Numbered.{client_in, rows_in};
-ghost use Rattle.book_rows.specs.Places.{passes};
+ghost use Rattle.numbered_rows.specs.Numbered.{rows_in};
+ghost use Rattle.book_rows.specs.Numbered.{client_in};
+ghost use Rattle.numbered_rows.specs.Places.{passes};
 ghost use Rattle.book_rows.specs.Waiting.{TellsFirsts, TellsWaiting, longest_waiting, longest_waiting_but};
 
 use crate::firsts::Firsts;
-use crate::numbered::{Numbered, NumberedRows};
+use numbered_rows::numbered::{Numbered, NumberedRows};
 use crate::pool_index::{PoolIndex, list, unlist};
 use crate::pools::PoolKey;
 use std::alloc::{AllocError, Global};
@@ -72,7 +73,7 @@ fn client_of(slot: Option<&Option<Ticket>>) -> Option<u64>
 
 // ---- what an index tells, where it was given up: by a walk
 
-#[tactic(auto, using(crate::proofs::Numbering::counted_slots))]
+#[tactic(auto, using(numbered_rows::proofs::Numbering::counted_slots))]
 fn waiting_in(slots: &VecDeque<Option<Ticket>>, pool: &PoolKey) -> usize
     ensures { result ≡ count_by (λ t. book.same_pool t.key pool.now) (rows_in slots.now.items) }
 {
@@ -174,7 +175,7 @@ impl Tickets {
     }
 
     /// Whether the client has a ticket.
-    #[tactic(auto, using(crate::proofs::Numbering::is_there))]
+    #[tactic(auto, using(numbered_rows::proofs::Numbering::is_there))]
     pub fn has(&self, client: u64) -> bool
         requires once { (n : ℕ) → count_by (book.is_of n) self.now ≤ 1 }
         ensures { result ≡ list_any (book.is_of client) self.now }

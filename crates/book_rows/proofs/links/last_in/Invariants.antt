@@ -1,6 +1,7 @@
 use Rattle.std.proofs.Common.{◌≡◌, take}
 use Rattle.book_model.specs.Book.{latest_of}
-use Rattle.book_rows.specs.Numbered.{number_of, rows_in}
+use Rattle.numbered_rows.specs.Numbered.{rows_in}
+use Rattle.book_rows.specs.Numbered.{number_of}
 use Rattle.book_rows.proofs.links.last_in.Given as goal
 
 abbrev pub invariant-slots : goal.invariant-slots

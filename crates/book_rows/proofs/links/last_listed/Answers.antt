@@ -1,4 +1,4 @@
-use Rattle.std.proofs.Common.{◌≡◌, ◌+◌, ◌-◌, ◌<◌, ℕ, Bool, true, suc, None, drop, length, get_or, sym, ◌∙◌, subst, arith, rules}
+use Rattle.std.proofs.Common.{◌≡◌, ◌-◌, ◌<◌, ℕ, Bool, true, suc, None, drop, length, get_or, sym, ◌∙◌, subst, arith, rules}
 use Rattle.std.specs.Prelude.{find}
 use Rattle.book_model.specs.Book.{find_last, is_link}
 use Rattle.book_rows.specs.Numbered.{is_of_key}

@@ -4,7 +4,7 @@ use Rattle.message_view.specs.declared.views.KeyView.{KeyView}
 use Rattle.book_model.specs.Book.{Lease, is_of_link}
 use Rattle.book_rows.specs.Index.{Tells, place_of, with_one_less}
 use Rattle.book_rows.proofs.Indexing.{one_less_told}
-use Rattle.book_rows.proofs.Places.{found_within, removed_none, removed_one}
+use Rattle.numbered_rows.proofs.Places.{found_within, removed_none, removed_one}
 use Rattle.book_rows.proofs.leases.Leases.remove.Goals as goal
 
 pub invariant_of-self : goal.invariant_of-self

@@ -1,7 +1,7 @@
 use Rattle.std.proofs.Common.{◌≡◌, ℕ, Some, List, rules, sym, ◌∙◌, ap}
 use Rattle.std.specs.Prelude.{position, remove}
 use Rattle.book_model.specs.Book.{is_number}
-use Rattle.book_rows.proofs.Places.{removed_none, removed_one}
+use Rattle.numbered_rows.proofs.Places.{removed_none, removed_one}
 use Rattle.book_rows.proofs.leases.Numbers.remove.Goals as goal
 
 pub returns-in-Some : goal.returns-in-Some

@@ -1,8 +1,8 @@
 use Rattle.std.proofs.Common.{ap, ◌∙◌, arith}
 use Rattle.std.specs.Prelude.{count_by}
 use Rattle.book_model.specs.Book.{in_pool}
-use Rattle.book_rows.specs.Numbered.{rows_in}
-use Rattle.book_rows.proofs.Numbering.{count_most, fewer_rows}
+use Rattle.numbered_rows.specs.Numbered.{rows_in}
+use Rattle.numbered_rows.proofs.Numbering.{count_most, fewer_rows}
 use Rattle.book_rows.proofs.Pooling.{links_counted}
 use Rattle.book_rows.proofs.links.Links.count_of_pool.Goals as goal
 

@@ -1,7 +1,7 @@
 use Rattle.std.proofs.Common.{◌≤◌, ℕ, List, ap, sym, subst, rules}
 use Rattle.std.specs.Prelude.{count_by, find}
 use Rattle.book_model.specs.Book.{Link, is_link}
-use Rattle.book_rows.proofs.Numbering.{is_there}
+use Rattle.numbered_rows.proofs.Numbering.{is_there}
 use Rattle.book_rows.proofs.links.Links.has.Goals as goal
 
 pub get-requires : goal.get-requires

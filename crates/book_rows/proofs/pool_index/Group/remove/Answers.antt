@@ -2,7 +2,7 @@ use Rattle.std.proofs.Common.{◌≡◌, Some, rules, sym, ◌∙◌, ap}
 use Rattle.std.specs.Prelude.{position, remove}
 use Rattle.book_model.specs.Book.{is_number, without_number}
 use Rattle.book_rows.specs.PoolIndex.{Group}
-use Rattle.book_rows.proofs.Places.{removed_none, removed_one}
+use Rattle.numbered_rows.proofs.Places.{removed_none, removed_one}
 use Rattle.book_rows.proofs.pool_index.Group.remove.Goals as goal
 
 pub returns-in-Some : goal.returns-in-Some

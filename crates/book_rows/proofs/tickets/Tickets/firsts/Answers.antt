@@ -1,6 +1,6 @@
 use Rattle.std.proofs.Common.{List, ℕ, sym, subst, ◌∙◌}
 use Rattle.book_model.specs.Book.{Ticket}
-use Rattle.book_rows.specs.Numbered.{rows_in}
+use Rattle.numbered_rows.specs.Numbered.{rows_in}
 use Rattle.book_rows.specs.Waiting.{TellsFirsts, TellsWaiting}
 use Rattle.book_rows.proofs.Telling.{pools_first, pools_waiting, slots_first, slots_waiting}
 use Rattle.book_rows.proofs.tickets.Tickets.firsts.Goals as goal

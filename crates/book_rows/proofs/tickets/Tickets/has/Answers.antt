@@ -1,7 +1,7 @@
 use Rattle.std.proofs.Common.{◌≤◌, ℕ, List, ap, sym, subst, rules}
 use Rattle.std.specs.Prelude.{count_by, find}
 use Rattle.book_model.specs.Book.{Ticket, is_of}
-use Rattle.book_rows.proofs.Numbering.{is_there}
+use Rattle.numbered_rows.proofs.Numbering.{is_there}
 use Rattle.book_rows.proofs.tickets.Tickets.has.Goals as goal
 
 pub get-requires : goal.get-requires

@@ -2,11 +2,11 @@
 //! stays empty, until the slots are used up.
 ghost use Rattle.std.specs.Prelude.{◌≡◌, ◌<◌, ◌≤◌, ◌++◌, ◌∷◌, [], ℕ, IfOk, OnOk, cond, count_by, filter, find, length, map, not, option_copied, position};
 ghost use Rattle.std.specs.VecDeque.{deque_capacity};
-ghost use Rattle.book_rows.specs.Numbered.{HasSlot, bears, emptied, filled, row_at, rows_in};
-ghost use Rattle.book_rows.specs.Places.{passes};
-ghost use Rattle.book_rows.specs.RowNotes.{AllNoted, noted};
-ghost use Rattle.book_rows.specs.declared.numbered.TheConstants.{ROWS, SLOTS};
-ghost use Rattle.book_rows.specs.declared.row_notes.Noted.TheVariants.{Nowhere};
+ghost use Rattle.numbered_rows.specs.Numbered.{HasSlot, bears, emptied, filled, row_at, rows_in};
+ghost use Rattle.numbered_rows.specs.Places.{passes};
+ghost use Rattle.numbered_rows.specs.RowNotes.{AllNoted, noted};
+ghost use Rattle.numbered_rows.specs.declared.numbered.TheConstants.{ROWS, SLOTS};
+ghost use Rattle.numbered_rows.specs.declared.row_notes.Noted.TheVariants.{Nowhere};
 
 use crate::row_notes::{Noted, RowNotes};
 use std::alloc::{AllocError, Global};
@@ -175,9 +175,9 @@ impl<T: Numbered> Drop for NumberedRows<T> {
 impl<T: Numbered> Model for NumberedRows<T> {
     ghost use Rattle.std.specs.Prelude.{◌≡◌, ◌<◌, ◌≤◌, List, length};
     ghost use Rattle.std.specs.VecDeque.{deque_capacity};
-    ghost use Rattle.book_rows.specs.Numbered.{rows_in};
-    ghost use Rattle.book_rows.specs.RowNotes.{AllNoted};
-    ghost use Rattle.book_rows.specs.declared.numbered.TheConstants.{SLOTS};
+    ghost use Rattle.numbered_rows.specs.Numbered.{rows_in};
+    ghost use Rattle.numbered_rows.specs.RowNotes.{AllNoted};
+    ghost use Rattle.numbered_rows.specs.declared.numbered.TheConstants.{SLOTS};
 
     ghost Value = { List T };
 
@@ -211,7 +211,7 @@ impl<T: Numbered> NumberedRows<T> {
     }
 
     /// The slots.
-    pub(crate) fn slots(&self) -> &VecDeque<Option<T>>
+    pub fn slots(&self) -> &VecDeque<Option<T>>
         ensures rows { rows_in result.now.items ≡ self.now }
         ensures fits { length result.now.items < SLOTS }
     {

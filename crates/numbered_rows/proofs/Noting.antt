@@ -2,10 +2,10 @@
 use Rattle.std.proofs.Common.{◌≡◌, ℕ, ◌+◌, ◌==◌, Bool, true, false, List, [], ◌∷◌, cond, refl, sym, ap, ◌∙◌, subst, arith, map}
 use Rattle.std.specs.Prelude.{count_by, filter, nat_eq, not}
 use Rattle.std.proofs.lemmas.Bool.{eqb-true}
-use Rattle.book_rows.specs.Numbered.{bears}
-use Rattle.book_rows.specs.RowNotes.{AllNoted, NotesOf, noted}
-use Rattle.book_rows.specs.declared.row_notes.Noted.TheVariants.{Nowhere}
-use Rattle.book_rows.proofs.Places.{count-cons, none_here}
+use Rattle.numbered_rows.specs.Numbered.{bears}
+use Rattle.numbered_rows.specs.RowNotes.{AllNoted, NotesOf, noted}
+use Rattle.numbered_rows.specs.declared.row_notes.Noted.TheVariants.{Nowhere}
+use Rattle.numbered_rows.proofs.Places.{count-cons, none_here}
 
 module _ {A : Type 0} (number : A → ℕ) where
   passed_over : (p : A → Bool) (x : A) (xs : List A) → p x ≡ false → count_by p (x ∷ xs) ≡ count_by p xs

@@ -1,7 +1,7 @@
 //! Where rows stand, noted by their numbers, so that a row is found at once, or known to be none.
 ghost use Rattle.std.specs.Prelude.{◌≡◌, ℕ, IfOk, false, nat_eq, true};
-ghost use Rattle.book_rows.specs.RowNotes.{noted};
-ghost use Rattle.book_rows.specs.declared.row_notes.Noted.TheVariants.{Nowhere};
+ghost use Rattle.numbered_rows.specs.RowNotes.{noted};
+ghost use Rattle.numbered_rows.specs.declared.row_notes.Noted.TheVariants.{Nowhere};
 
 use indexmap::IndexMap;
 use std::alloc::{AllocError, Global};
@@ -35,7 +35,7 @@ impl Drop for RowNotes {
 }
 
 impl Model for RowNotes {
-    ghost use Rattle.book_rows.specs.RowNotes.{NotesOf};
+    ghost use Rattle.numbered_rows.specs.RowNotes.{NotesOf};
 
     ghost Value = { NotesOf };
 

@@ -1,10 +1,10 @@
 use Rattle.std.proofs.Common.{◌≡◌, ◌≤◌, ◌<◌, ◌+◌, rules, sym, ◌∙◌, ap, subst, List, Some, arith}
 use Rattle.std.specs.Prelude.{count_by, find, filter, not, length}
-use Rattle.book_rows.specs.Numbered.{bears, emptied, row_at, rows_in}
-use Rattle.book_rows.specs.RowNotes.{AllNoted}
-use Rattle.book_rows.proofs.Noting.{noted_less}
-use Rattle.book_rows.proofs.Numbering.{as_long, found_row, one_fewer, taken_row}
-use Rattle.book_rows.proofs.numbered.NumberedRows.take.Goals as goal
+use Rattle.numbered_rows.specs.Numbered.{bears, emptied, row_at, rows_in}
+use Rattle.numbered_rows.specs.RowNotes.{AllNoted}
+use Rattle.numbered_rows.proofs.Noting.{noted_less}
+use Rattle.numbered_rows.proofs.Numbering.{as_long, found_row, one_fewer, taken_row}
+use Rattle.numbered_rows.proofs.numbered.NumberedRows.take.Goals as goal
 
 pub invariant_of-self-2 : goal.invariant_of-self-2
 invariant_of-self-2 g c =

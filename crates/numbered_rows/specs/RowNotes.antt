@@ -1,9 +1,9 @@
 -- Where rows stand, noted by their numbers.
 use Rattle.std.specs.Prelude.{◌≡◌, ℕ, Bool, true, false, List, Option, Some, None, count_by, nat_eq}
 use Rattle.std.specs.Map.{lookup}
-use Rattle.book_rows.specs.Numbered.{bears}
-use Rattle.book_rows.specs.declared.row_notes.Noted.{Noted}
-use Rattle.book_rows.specs.declared.row_notes.Noted.TheVariants.{At, Nowhere, Unknown}
+use Rattle.numbered_rows.specs.Numbered.{bears}
+use Rattle.numbered_rows.specs.declared.row_notes.Noted.{Noted}
+use Rattle.numbered_rows.specs.declared.row_notes.Noted.TheVariants.{At, Nowhere, Unknown}
 
 pub record NotesOf : Type 0 where
   -- no row was left out

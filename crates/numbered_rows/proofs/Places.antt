@@ -8,7 +8,6 @@ use Rattle.std.proofs.Math.Dec.{ltb}
 use Rattle.std.proofs.lemmas.Bool.Decides.{nat_tests}
 use Rattle.std.proofs.lemmas.Grind.{common_steps}
 use Rattle.std.proofs.lemmas.List.Folds.{find_at}
-use Rattle.book_model.specs.Book.{find_last, or_else}
 
 -- ---- counts
 
@@ -68,19 +67,7 @@ remove_one p (x ∷ xs) (suc i) d h e o =
     let at : (p x ≡ false) × (count_by p xs ≤ 1) = one_more p x xs (p x) refl (at_least_one p xs i d within e) o in
     sym (subst (λ (b : Bool). cond (not b) (x ∷ filter (λ y. not (p y)) xs) (filter (λ y. not (p y)) xs) ≡ x ∷ remove xs i) (sym at.0) (ap (λ ys. x ∷ ys) (sym (remove_one p xs i d within e at.1))))
 
--- ---- the last that passes
-
-or_else_none : {A : Type 0} (o : Option A) → or_else None o ≡ or_else o None
-or_else_none None = refl
-or_else_none (Some y) = refl
-
-or_else_assoc : {A : Type 0} (o p q : Option A) → or_else (or_else o p) q ≡ or_else o (or_else p q)
-or_else_assoc None p q = refl
-or_else_assoc (Some z) p q = refl
-
-pub last_of_one_more : {A : Type 0} (p : A → Bool) (xs : List A) (x : A) → find_last p (xs ++ x ∷ []) ≡ or_else (cond (p x) (Some x) None) (find_last p xs)
-last_of_one_more p [] x = or_else_none (cond (p x) (Some x) None)
-last_of_one_more p (y ∷ xs) x = ap (λ o. or_else o (cond (p y) (Some y) None)) (last_of_one_more p xs x) ∙ or_else_assoc (cond (p x) (Some x) None) (find_last p xs) (cond (p y) (Some y) None)
+-- ---- a place more
 
 pub more_taken : {A : Type 0} (xs : List A) (i : ℕ) (d : A) → i < length xs → take (i + 1) xs ≡ take i xs ++ get_or xs i d ∷ []
 more_taken xs i d h = grind (arith, common_steps)
@@ -133,7 +120,7 @@ removed_one p (x ∷ xs) i e o = let at = position-Some p (x ∷ xs) i x e in re
 pub removed_none : {A : Type 0} (p : A → Bool) (xs : List A) → position p xs ≡ None → xs ≡ filter (λ x. not (p x)) xs
 removed_none p xs e = sym (without_none p xs (none_counted p xs e))
 
--- ---- a link that was started as this
+-- ---- what is found by its place
 
 nowhere : {A : Type 0} (xs : List A) (i : ℕ) → length xs ≤ i → slice_get xs i ≡ None
 nowhere [] i h = refl
@@ -144,7 +131,6 @@ beyond : (n len : ℕ) (b : Bool) → ltb n len ≡ b → cond b (Some n) None �
 beyond n len true e h = cc
 beyond n len false e h = grind (arith, nat_tests)
 
--- what is found by its place
 pub found : {A : Type 0} (p : A → Bool) (xs : List A) (i : ℕ) → position p xs ≡ Some i → (i < length xs) × (find p xs ≡ slice_get xs i)
 found p xs i e =
     let at : (i ≡ position_or_len p xs) × (position_or_len p xs < length xs) = place_in _ _ i _ refl e in

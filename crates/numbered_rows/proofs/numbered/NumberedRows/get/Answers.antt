@@ -1,8 +1,8 @@
 use Rattle.std.proofs.Common.{◌≤◌, sym, ◌∙◌, ap, subst, List}
 use Rattle.std.specs.Prelude.{count_by, find}
-use Rattle.book_rows.specs.Numbered.{bears, rows_in}
-use Rattle.book_rows.proofs.Numbering.{found_row}
-use Rattle.book_rows.proofs.numbered.NumberedRows.get.Goals as goal
+use Rattle.numbered_rows.specs.Numbered.{bears, rows_in}
+use Rattle.numbered_rows.proofs.Numbering.{found_row}
+use Rattle.numbered_rows.proofs.numbered.NumberedRows.get.Goals as goal
 
 pub returns : goal.returns
 returns g c =

@@ -1,10 +1,10 @@
 use Rattle.std.proofs.Common.{◌≡◌, ◌≤◌, ◌<◌, ℕ, rules, sym, ◌∙◌, ap, subst, List, cond, map, arith}
 use Rattle.std.specs.Prelude.{count_by, length}
-use Rattle.book_rows.specs.Numbered.{bears, filled, rows_in}
-use Rattle.book_rows.specs.RowNotes.{AllNoted}
-use Rattle.book_rows.proofs.Noting.{noted_still}
-use Rattle.book_rows.proofs.Numbering.{as_long_filled, as_many, put_row}
-use Rattle.book_rows.proofs.numbered.NumberedRows.replace.Goals as goal
+use Rattle.numbered_rows.specs.Numbered.{bears, filled, rows_in}
+use Rattle.numbered_rows.specs.RowNotes.{AllNoted}
+use Rattle.numbered_rows.proofs.Noting.{noted_still}
+use Rattle.numbered_rows.proofs.Numbering.{as_long_filled, as_many, put_row}
+use Rattle.numbered_rows.proofs.numbered.NumberedRows.replace.Goals as goal
 
 pub invariant_of-self : goal.invariant_of-self
 invariant_of-self g c =

@@ -1,7 +1,7 @@
 use Rattle.std.proofs.Common.{◌≡◌, ◌<◌, ◌++◌, ◌∷◌, [], ap, sym, ◌∙◌, length, rules}
-use Rattle.book_rows.specs.Numbered.{rows_in}
-use Rattle.book_rows.proofs.Numbering.{one_walked}
-use Rattle.book_rows.proofs.numbered.cloned.Goals as goal
+use Rattle.numbered_rows.specs.Numbered.{rows_in}
+use Rattle.numbered_rows.proofs.Numbering.{one_walked}
+use Rattle.numbered_rows.proofs.numbered.cloned.Goals as goal
 
 pub slots-preserved : goal.slots-preserved
 slots-preserved g c = λ equal.
