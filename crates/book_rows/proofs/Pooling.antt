@@ -4,7 +4,8 @@ use Rattle.std.specs.Prelude.{position, find, filter, not, count_by, slice_get, 
 use Rattle.session_values.specs.State.{StartKeyOf}
 use Rattle.book_model.specs.Book.{Link, Ticket, in_pool, is_number, is_of, same_pool, waiting_before, without_number}
 use Rattle.book_rows.specs.Numbered.{number_of}
-use Rattle.book_rows.specs.PoolIndex.{AddsRow, Follows, Groups, Lists, ListsIfAny, TakesRow, listed, numbers_of}
+use Rattle.book_rows.specs.PoolIndex.{AddsRow, Groups, Lists, ListsIfAny, TakesRow, listed, numbers_of}
+use Rattle.numbered_rows.specs.Indexes.{Follows}
 use Rattle.book_rows.specs.Waiting.{client_of, longest_waiting, longest_waiting_but}
 use Rattle.std.specs.List.{prefix_len}
 use Rattle.numbered_rows.proofs.Places.{count-cons, none_here, place_in, without_none}

@@ -47,12 +47,6 @@ AddsRow pool number old new = (other : StartKeyOf) → listed new other ≡ cond
 abbrev pub TakesRow : StartKeyOf → ℕ → Groups → Groups → Type 0
 TakesRow pool number old new = (other : StartKeyOf) → listed new other ≡ cond (same_pool pool other) (without_number number (listed old other)) (listed old other)
 
--- the index changes so, or is given up, and then for good
-abbrev pub Follows : (Groups → Groups → Type 0) → Option Groups → Option Groups → Type 0
-Follows changes old None = Unit {0}
-Follows changes None (Some new) = ⊥
-Follows changes (Some old) (Some new) = changes old new
-
 -- one that wasn't given up lists the rows of each pool
 abbrev pub ListsIfAny : {A : Type 0} → (A → ℕ) → (A → StartKeyOf) → Option Groups → List A → Type 0
 ListsIfAny number key None rows = Unit {0}

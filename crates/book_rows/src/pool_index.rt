@@ -7,7 +7,8 @@ ghost use Rattle.std.specs.Map.{keys_of, lookup};
 ghost use Rattle.book_model.specs.Book as book;
 ghost use Rattle.book_model.specs.Book.{same_pool};
 ghost use Rattle.book_rows.specs.PoolHashes.{pool_hash_of};
-ghost use Rattle.book_rows.specs.PoolIndex.{AddsRow, Follows, TakesRow, first_of, firsts_in, listed};
+ghost use Rattle.book_rows.specs.PoolIndex.{AddsRow, TakesRow, first_of, firsts_in, listed};
+ghost use Rattle.numbered_rows.specs.Indexes.{Follows};
 ghost use Rattle.session_values.specs.State.{StartKeyOf};
 
 use crate::pools::PoolKey;

@@ -225,12 +225,12 @@ count_most p (x ∷ xs) = most (p x) (count-cons p x xs) (count_most p xs)
 
 -- ---- a slot more of those that are walked over
 
-rows-append : {A : Type 0} (xs ys : List (Option A)) → rows_in (xs ++ ys) ≡ rows_in xs ++ rows_in ys
+pub rows-append : {A : Type 0} (xs ys : List (Option A)) → rows_in (xs ++ ys) ≡ rows_in xs ++ rows_in ys
 rows-append [] ys = refl
 rows-append (None ∷ xs) ys = rows-append xs ys
 rows-append (Some x ∷ xs) ys = ap (λ zs. x ∷ zs) (rows-append xs ys)
 
-slot_taken : {A : Type 0} (slots : List (Option A)) (place : ℕ) (slot : Option A) → slot ≡ get_or slots place slot → place < length slots → take (place + 1) slots ≡ take place slots ++ slot ∷ []
+pub slot_taken : {A : Type 0} (slots : List (Option A)) (place : ℕ) (slot : Option A) → slot ≡ get_or slots place slot → place < length slots → take (place + 1) slots ≡ take place slots ++ slot ∷ []
 slot_taken slots place slot e within = more_taken slots place slot within ∙ ap (λ s. take place slots ++ s ∷ []) (sym e)
 
 pub one_walked : {A : Type 0} (slots : List (Option A)) (place : ℕ) (slot : Option A) → slot ≡ get_or slots place slot → place < length slots → rows_in (take (place + 1) slots) ≡ rows_in (take place slots) ++ rows_in (slot ∷ [])

@@ -1,14 +1,13 @@
 //! Rows that bear numbers, in the order in which they came. A row is mostly found at once, and goes without a move of the others: its slot
 //! stays empty, until the slots are used up.
-ghost use Rattle.std.specs.Prelude.{◌≡◌, ◌<◌, ◌≤◌, ◌++◌, ◌∷◌, [], ℕ, IfOk, OnOk, cond, count_by, filter, find, length, map, not, option_copied, position};
+ghost use Rattle.std.specs.Prelude.{◌≡◌, ◌<◌, ◌≤◌, ◌++◌, ◌∷◌, [], ℕ, IfOk, List, OnOk, Option, cond, count_by, filter, find, length, map, not, option_copied, position};
 ghost use Rattle.std.specs.VecDeque.{deque_capacity};
 ghost use Rattle.numbered_rows.specs.Numbered.{HasSlot, bears, emptied, filled, row_at, rows_in};
 ghost use Rattle.numbered_rows.specs.Places.{passes};
-ghost use Rattle.numbered_rows.specs.RowNotes.{AllNoted, noted};
+ghost use Rattle.numbered_rows.specs.RowNotes.{AreNotedIfAny};
 ghost use Rattle.numbered_rows.specs.declared.numbered.TheConstants.{ROWS, SLOTS};
-ghost use Rattle.numbered_rows.specs.declared.row_notes.Noted.TheVariants.{Nowhere};
 
-use crate::row_notes::{Noted, RowNotes};
+use crate::row_notes::{RowNotes, forget, forget_all, note};
 use std::alloc::{AllocError, Global};
 use std::collections::VecDeque;
 use std::marker::Model;
@@ -18,6 +17,9 @@ pub const ROWS: usize = 10_000;
 
 /// So many slots are there: the more, the less often the empty ones are given up.
 const SLOTS: usize = 16_384;
+
+/// So many slots go at the front at most, until they are counted anew: a place that is counted with them fits.
+const MOST_GONE: usize = 1_000_000_000_000;
 
 /// A row that bears a number of its own.
 pub trait Numbered: Drop {
@@ -44,34 +46,21 @@ fn first_slot_of<T: Numbered>(slots: &VecDeque<Option<T>>, number: u64) -> Optio
     slots.iter().position(|s| is_in(s, number))
 }
 
-/// The slot of the row of this number: this one, or else another one.
-#[tactic(auto, using(crate::proofs::Numbering::by_position))]
-fn slot_by<T: Numbered>(slots: &VecDeque<Option<T>>, place: usize, number: u64) -> Option<usize>
-    ensures { HasSlot T.number number slots.now.items result }
-{
-    if let Some(slot) = slots.get(place) {
-        if is_in(slot, number) {
-            return Some(place);
-        }
-    }
-    first_slot_of(slots, number)
-}
-
-/// The slot of the row of this number, by what is noted of it; so many slots have gone at the front.
+/// The slot of the row of this number, by what is noted of it, where so many slots have gone at the front; by a walk where the notes were
+/// given up.
 #[tactic(auto, using(crate::proofs::Numbering::by_position))]
 fn slot_of<T: Numbered>(
     slots: &VecDeque<Option<T>>,
-    notes: &RowNotes,
+    notes: &Option<RowNotes>,
     gone: usize,
     number: u64,
 ) -> Option<usize>
-    requires { AllNoted T.number notes.now (rows_in slots.now.items) }
+    requires { AreNotedIfAny T.number notes.now gone slots.now.items }
     ensures { HasSlot T.number number slots.now.items result }
 {
-    match notes.of(number) {
-        Noted::At(came) => slot_by(slots, came.wrapping_sub(gone), number),
-        Noted::Nowhere => None,
-        Noted::Unknown => first_slot_of(slots, number),
+    match notes {
+        Some(notes) => notes.slot(number, gone),
+        None => first_slot_of(slots, number),
     }
 }
 
@@ -112,40 +101,24 @@ fn close_up<T: Drop>(slots: &mut VecDeque<Option<T>>)
     slots.retain(|s| s.is_some());
 }
 
-/// A row more, behind all others. Whether all empty slots went, since they were used up.
-#[tactic(auto, using(crate::proofs::Numbering::one_behind, crate::proofs::Numbering::one_longer))]
-fn push_slot<T: Drop>(slots: &mut VecDeque<Option<T>>, row: T) -> bool
-    requires within { length slots.old.items < SLOTS }
-    requires room { SLOTS ≤ deque_capacity slots.old }
-    requires fits { length (rows_in slots.old.items) < ROWS }
-    ensures rows { rows_in slots.new.items ≡ rows_in slots.old.items ++ row ∷ [] }
-    ensures within { length slots.new.items < SLOTS }
-    ensures room { SLOTS ≤ deque_capacity slots.new }
-{
-    slots.push_back_reserved(Some(row));
-    let is_full = slots.len() == SLOTS;
-    if is_full {
-        close_up(slots);
-    }
-    is_full
-}
-
-/// Notes where the row in this slot is, if there is one.
-fn note_slot<T: Numbered>(slot: &Option<T>, place: usize, notes: &mut RowNotes)
-    ensures { (n : ℕ) → noted notes.new n ≡ Nowhere → noted notes.old n ≡ Nowhere }
+/// Notes that the row in this slot came to it, if there is one.
+#[tactic(auto, using(crate::proofs::Noting::noted_first, crate::proofs::Noting::noted_none))]
+fn note_slot<T: Numbered>(notes: &mut Option<RowNotes>, slot: &Option<T>, place: usize)
+    ensures { (slots : List (Option T)) → length slots ≡ place → AreNotedIfAny T.number notes.old 0 slots → AreNotedIfAny T.number notes.new 0 (slots ++ slot.now ∷ []) }
 {
     if let Some(row) = slot {
-        notes.note(row.number(), place);
+        note(notes, row.number(), place);
     }
 }
 
 /// Notes anew where each row is.
-fn note_all<T: Numbered>(slots: &VecDeque<Option<T>>, notes: &mut RowNotes)
-    requires { AllNoted T.number notes.old (rows_in slots.now.items) }
-    ensures { AllNoted T.number notes.new (rows_in slots.now.items) }
+#[tactic(auto, using(crate::proofs::Noting::noted_anew))]
+fn note_all<T: Numbered>(notes: &mut Option<RowNotes>, slots: &VecDeque<Option<T>>)
+    ensures { AreNotedIfAny T.number notes.new 0 slots.now.items }
 {
+    forget_all(notes);
     'slots: for place in 0..slots.len() {
-        note_slot(&slots[place], place, notes);
+        note_slot(notes, &slots[place], place);
     }
 }
 
@@ -156,9 +129,8 @@ pub struct NumberedRows<T: Numbered> {
     len: usize,
     /// So many slots have gone at the front.
     gone: usize,
-    /// Where each row stands, counted with the slots that have gone. That no row bears a number is taken from its note; a place is looked
-    /// at, so that a row of which it isn't true is found all the same.
-    notes: RowNotes,
+    /// Where each row stands, counted with the slots that have gone, until there is no room for a note.
+    notes: Option<RowNotes>,
 }
 
 impl<T: Numbered> Drop for NumberedRows<T> {
@@ -176,14 +148,14 @@ impl<T: Numbered> Model for NumberedRows<T> {
     ghost use Rattle.std.specs.Prelude.{◌≡◌, ◌<◌, ◌≤◌, List, length};
     ghost use Rattle.std.specs.VecDeque.{deque_capacity};
     ghost use Rattle.numbered_rows.specs.Numbered.{rows_in};
-    ghost use Rattle.numbered_rows.specs.RowNotes.{AllNoted};
-    ghost use Rattle.numbered_rows.specs.declared.numbered.TheConstants.{SLOTS};
+    ghost use Rattle.numbered_rows.specs.RowNotes.{AreNotedIfAny};
+    ghost use Rattle.numbered_rows.specs.declared.numbered.TheConstants.{MOST_GONE, SLOTS};
 
     ghost Value = { List T };
 
     ghost view = { λ r. rows_in r.slots.items };
 
-    ghost invariant = { λ r. (SLOTS ≤ deque_capacity r.slots) × (length r.slots.items < SLOTS) × (r.len ≡ length (rows_in r.slots.items)) × AllNoted T.number r.notes (rows_in r.slots.items) };
+    ghost invariant = { λ r. (SLOTS ≤ deque_capacity r.slots) × (length r.slots.items < SLOTS) × (r.len ≡ length (rows_in r.slots.items)) × (r.gone ≤ MOST_GONE) × AreNotedIfAny T.number r.notes r.gone r.slots.items };
 }
 
 impl<T: Numbered> NumberedRows<T> {
@@ -192,7 +164,7 @@ impl<T: Numbered> NumberedRows<T> {
         ensures { IfOk result (λ r. r ≡ []) }
     {
         let slots = VecDeque::with_capacity(alloc, SLOTS)?;
-        let notes = RowNotes::new(alloc, ROWS)?;
+        let notes = Some(RowNotes::new(alloc, ROWS)?);
         Ok(NumberedRows {
             slots,
             len: 0,
@@ -228,18 +200,20 @@ impl<T: Numbered> NumberedRows<T> {
         row_at(&self.slots, place)
     }
 
-    /// A row more, behind all others.
-    #[tactic(auto, using(crate::proofs::Numbering::one_longer))]
+    /// A row more, behind all others. Where the slots are used up, all empty ones go.
+    #[tactic(auto, using(crate::proofs::Noting::noted_more, crate::proofs::Numbering::one_behind))]
     pub fn push(&mut self, row: T)
         requires { length self.old < ROWS }
         ensures { self.new ≡ self.old ++ row ∷ [] }
     {
-        let came = self.gone.wrapping_add(self.slots.len());
-        self.notes.note(row.number(), came);
+        let place = self.gone + self.slots.len();
+        note(&mut self.notes, row.number(), place);
         self.len += 1;
-        if push_slot(&mut self.slots, row) {
+        self.slots.push_back_reserved(Some(row));
+        if self.slots.len() == SLOTS {
+            close_up(&mut self.slots);
             self.gone = 0;
-            note_all(&self.slots, &mut self.notes);
+            note_all(&mut self.notes, &self.slots);
         }
     }
 
@@ -263,7 +237,7 @@ impl<T: Numbered> NumberedRows<T> {
     {
         let place = slot_of(&self.slots, &self.notes, self.gone, number);
         let row = take_at(&mut self.slots, place)?;
-        self.notes.forget(number);
+        forget(&mut self.notes, number);
         self.len -= 1;
         // twice, so that there are ever fewer of them at the front
         self.drop_empty();
@@ -272,12 +246,16 @@ impl<T: Numbered> NumberedRows<T> {
     }
 
     /// An empty slot at the front goes.
+    #[tactic(auto, using(crate::proofs::Noting::noted_front))]
     fn drop_empty(&mut self)
         ensures { self.new ≡ self.old }
     {
+        if self.gone == MOST_GONE {
+            return;
+        }
         if let Some(None) = self.slots.front() {
             let _ = self.slots.pop_front();
-            self.gone = self.gone.wrapping_add(1);
+            self.gone += 1;
         }
     }
 }

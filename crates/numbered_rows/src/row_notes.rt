@@ -1,82 +1,97 @@
 //! Where rows stand, noted by their numbers, so that a row is found at once, or known to be none.
-ghost use Rattle.std.specs.Prelude.{◌≡◌, ℕ, IfOk, false, nat_eq, true};
-ghost use Rattle.numbered_rows.specs.RowNotes.{noted};
-ghost use Rattle.numbered_rows.specs.declared.row_notes.Noted.TheVariants.{Nowhere};
+ghost use Rattle.std.specs.Prelude.{◌≡◌, [], ℕ, IfOk, OnSome, None, Some, cond, nat_eq};
+ghost use Rattle.std.specs.Map.{lookup};
+ghost use Rattle.numbered_rows.specs.RowNotes.{Forgets, Notes, noted};
+ghost use Rattle.numbered_rows.specs.Indexes.{Follows};
 
 use indexmap::IndexMap;
 use std::alloc::{AllocError, Global};
 use std::marker::Model;
 
-/// What is noted of a number.
-#[derive(Clone, Copy, Drop)]
-pub(crate) enum Noted {
-    /// Its row came to this place.
-    At(usize),
-    /// No row bears it.
-    Nowhere,
-    /// Nothing, since there was no room for a note of each row.
-    Unknown,
-}
-
-/// The places of rows, by their numbers.
+/// The places to which rows came, by their numbers.
 pub(crate) struct RowNotes {
     places: IndexMap<u64, usize>,
-    /// No row was left out.
-    are_all: bool,
 }
 
 impl Drop for RowNotes {
     fn drop(self) {
-        let RowNotes {
-            places: _,
-            are_all: _,
-        } = self;
+        let RowNotes { places: _ } = self;
     }
 }
 
 impl Model for RowNotes {
-    ghost use Rattle.numbered_rows.specs.RowNotes.{NotesOf};
+    ghost use Rattle.std.specs.Prelude.{ℕ, List};
 
-    ghost Value = { NotesOf };
+    ghost Value = { List (ℕ × ℕ) };
 
-    ghost view = { λ n. record { all = n.are_all; places = n.places.entries } };
+    ghost view = { λ n. n.places.entries };
 }
 
 impl RowNotes {
     /// Of no row, with room for so many.
     pub(crate) fn new(alloc: Global, rows: usize) -> Result<RowNotes, AllocError>
-        ensures { IfOk result (λ notes. (n : ℕ) → noted notes n ≡ Nowhere) }
+        ensures { IfOk result (λ notes. notes ≡ []) }
     {
         Ok(RowNotes {
             places: IndexMap::with_capacity(alloc, rows)?,
-            are_all: true,
         })
     }
 
-    /// What is noted of this number.
-    pub(crate) fn of(&self, number: u64) -> Noted
-        ensures { result ≡ noted self.now number }
+    /// The slot of the row of this number, where so many slots have gone at the front; none where no row bears it.
+    pub(crate) fn slot(&self, number: u64, gone: usize) -> Option<usize>
+        ensures { result ≡ noted self.now gone number }
     {
-        match self.places.get(&number) {
-            Some(place) => Noted::At(*place),
-            None if self.are_all => Noted::Nowhere,
-            None => Noted::Unknown,
-        }
+        Some(self.places.get(&number)?.saturating_sub(gone))
     }
 
-    /// The row of this number came to this place.
-    pub(crate) fn note(&mut self, number: u64, place: usize)
-        ensures { (n : ℕ) → noted self.new n ≡ Nowhere → (noted self.old n ≡ Nowhere) × (nat_eq number n ≡ false) }
+    /// The row of this number came to this place. `None`: there is no room for a note.
+    fn add(&mut self, number: u64, place: usize) -> Option<()>
+        ensures { OnSome result (Notes number place self.old self.new) }
     {
-        if self.places.insert(number, place).is_err() {
-            self.are_all = false;
-        }
+        let _ = self.places.insert(number, place).ok()?;
+        Some(())
     }
 
     /// The row of this number went.
-    pub(crate) fn forget(&mut self, number: u64)
-        ensures { (n : ℕ) → noted self.new n ≡ Nowhere → nat_eq number n ≡ false → noted self.old n ≡ Nowhere }
+    fn remove(&mut self, number: u64)
+        ensures { Forgets number self.old self.new }
     {
         let _ = self.places.swap_remove(&number);
+    }
+
+    /// All rows went.
+    fn clear(&mut self)
+        ensures { self.new ≡ [] }
+    {
+        self.places.clear();
+    }
+}
+
+/// Notes that the row of this number came to this place, or gives the notes up where there is no room for it.
+pub(crate) fn note(notes: &mut Option<RowNotes>, number: u64, place: usize)
+    ensures { Follows (Notes number place) notes.old notes.new }
+{
+    if let Some(places) = notes {
+        if places.add(number, place).is_none() {
+            *notes = None;
+        }
+    }
+}
+
+/// Notes that the row of this number went.
+pub(crate) fn forget(notes: &mut Option<RowNotes>, number: u64)
+    ensures { Follows (Forgets number) notes.old notes.new }
+{
+    if let Some(places) = notes {
+        places.remove(number);
+    }
+}
+
+/// Notes that all rows went.
+pub(crate) fn forget_all(notes: &mut Option<RowNotes>)
+    ensures { Follows (λ old new. new ≡ []) notes.old notes.new }
+{
+    if let Some(places) = notes {
+        places.clear();
     }
 }

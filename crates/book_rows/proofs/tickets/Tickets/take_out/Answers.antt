@@ -2,7 +2,8 @@ use Rattle.std.proofs.Common.{◌≡◌, ◌≤◌, ℕ, None, List, ap, sym, su
 use Rattle.std.specs.Prelude.{count_by, find}
 use Rattle.session_values.specs.State.{StartKeyOf}
 use Rattle.book_model.specs.Book.{Ticket, is_of}
-use Rattle.book_rows.specs.PoolIndex.{Follows, ListsIfAny, TakesRow}
+use Rattle.book_rows.specs.PoolIndex.{ListsIfAny, TakesRow}
+use Rattle.numbered_rows.specs.Indexes.{Follows}
 use Rattle.book_rows.proofs.Pooling.{listed_less, listed_once, listed_still}
 use Rattle.book_rows.proofs.tickets.Tickets.take_out.Goals as goal
 

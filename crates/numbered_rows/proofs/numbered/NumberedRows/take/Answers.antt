@@ -1,8 +1,8 @@
 use Rattle.std.proofs.Common.{◌≡◌, ◌≤◌, ◌<◌, ◌+◌, rules, sym, ◌∙◌, ap, subst, List, Some, arith}
 use Rattle.std.specs.Prelude.{count_by, find, filter, not, length}
 use Rattle.numbered_rows.specs.Numbered.{bears, emptied, row_at, rows_in}
-use Rattle.numbered_rows.specs.RowNotes.{AllNoted}
-use Rattle.numbered_rows.proofs.Noting.{noted_less}
+use Rattle.numbered_rows.specs.RowNotes.{AreNotedIfAny}
+use Rattle.numbered_rows.proofs.Noting.{noted_taken}
 use Rattle.numbered_rows.proofs.Numbering.{as_long, found_row, one_fewer, taken_row}
 use Rattle.numbered_rows.proofs.numbered.NumberedRows.take.Goals as goal
 
@@ -13,9 +13,8 @@ invariant_of-self-2 g c =
     let long : length (emptied c.self.inside.slots.items c.slot_of-place.result) ≡ length c.self.inside.slots.items = as_long c.self.inside.slots.items c.slot_of-place.result in
     let rest = c.take_at.ensures.rest in
     let once : count_by (bears g.T.Numbered.number c.args.number) (rows_in c.self.inside.slots.items) ≤ 1 = subst (λ (rows : List g.row.T.Denot). count_by (bears g.T.Numbered.number c.args.number) rows ≤ 1) (sym c.self.view_is) (c.requires.once c.args.number) in
-    let less = ap rows_in rest ∙ taken_row g.T.Numbered.number c.args.number c.self.inside.slots.items c.slot_of-place.result c.slot_of-place.ensures once in
     let at = c.self.invariant in
-    (search (rules, at, c.take_at.ensures.capacity), subst (λ (slots : List _). length slots < _) (sym rest) (omega (arith, long, at.1)), omega (arith, fewer, at.2) ∙ ap (λ (slots : List _). length (rows_in slots)) (sym rest), subst (λ (rows : List g.row.T.Denot). AllNoted g.T.Numbered.number c.forget.new.self rows) (sym less) (noted_less g.T.Numbered.number c.self.inside.notes c.forget.new.self (rows_in c.self.inside.slots.items) c.args.number c.forget.ensures at.3))
+    (search (rules, at, c.take_at.ensures.capacity), subst (λ (slots : List _). length slots < _) (sym rest) (omega (arith, long, at.1)), omega (arith, fewer, at.2) ∙ ap (λ (slots : List _). length (rows_in slots)) (sym rest), at.3, subst (λ (slots : List _). AreNotedIfAny g.T.Numbered.number c.forget.new.notes c.self.inside.gone slots) (sym rest) (noted_taken g.T.Numbered.number c.self.inside.notes c.forget.new.notes c.self.inside.gone c.self.inside.slots.items c.args.number c.slot_of-place.result c.in_ok-row.row c.forget.ensures there c.slot_of-place.ensures once at.4))
 
 pub returns-clause-row : goal.returns-clause-row
 returns-clause-row g c =
