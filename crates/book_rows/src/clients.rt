@@ -5,8 +5,8 @@ ghost use Rattle.book_model.specs.Book as book;
 ghost use Rattle.book_model.specs.Outcomes.{in_state};
 ghost use Rattle.book_model.specs.declared.limits.TheConstants.{MOST_CLIENTS};
 
-use numbered_rows::numbered::{Numbered, NumberedRows};
 use book_model::events::ClientState;
+use numbered_rows::numbered::{Numbered, NumberedRows};
 use std::alloc::{AllocError, Global};
 use std::marker::Model;
 

@@ -9,9 +9,9 @@ ghost use Rattle.numbered_rows.specs.Numbered.{rows_in};
 ghost use Rattle.book_rows.specs.Numbered.{is_of_key, last_with, number_in, number_of};
 ghost use Rattle.numbered_rows.specs.Places.{passes};
 
-use numbered_rows::numbered::{Numbered, NumberedRows};
 use crate::pool_index::{PoolIndex, list, unlist};
 use crate::pools::PoolKey;
+use numbered_rows::numbered::{Numbered, NumberedRows};
 use start_keys::StartKey;
 use std::alloc::{AllocError, Global};
 use std::collections::VecDeque;

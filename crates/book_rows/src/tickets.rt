@@ -10,9 +10,9 @@ ghost use Rattle.numbered_rows.specs.Places.{passes};
 ghost use Rattle.book_rows.specs.Waiting.{TellsFirsts, TellsWaiting, longest_waiting, longest_waiting_but};
 
 use crate::firsts::Firsts;
-use numbered_rows::numbered::{Numbered, NumberedRows};
 use crate::pool_index::{PoolIndex, list, unlist};
 use crate::pools::PoolKey;
+use numbered_rows::numbered::{Numbered, NumberedRows};
 use std::alloc::{AllocError, Global};
 use std::collections::VecDeque;
 use std::marker::Model;
