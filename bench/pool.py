@@ -22,7 +22,7 @@ from wire import Client, startup
 
 CONNECTS = (1, 8, 32, 100, 400)
 QUERIES = (1, 8, 32)
-# bytes of a row, rows, and COPY's format: for long rows in text PostgreSQL looks at each byte, and is slower than any pooler
+# bytes of a row, rows, and COPY's format: in text PostgreSQL looks at each byte of a row, and hides what a pooler costs
 BULK = ((1_048_576, 500, "binary"), (1_048_576, 500, "text"), (90, 3_000_000, "text"), (1, 10_000_000, "text"))
 IDLE = (0, 1_000, 4_000)
 # clients that each have an application name of their own
