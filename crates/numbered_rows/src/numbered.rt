@@ -1,5 +1,5 @@
-//! Rows that bear numbers, in the order in which they came. A row is mostly found at once, and goes without a move of the others: its slot
-//! stays empty, until the slots are used up.
+//! Rows that bear numbers, in the order in which they came. A row is found at once, unless there was no room to note where one stands, and
+//! goes without a move of the others: its slot stays empty, until the slots are used up.
 ghost use Rattle.std.specs.Prelude.{◌≡◌, ◌<◌, ◌≤◌, ◌++◌, ◌∷◌, [], ℕ, IfOk, List, OnOk, Option, cond, count_by, filter, find, length, map, not, option_copied, position};
 ghost use Rattle.std.specs.VecDeque.{deque_capacity};
 ghost use Rattle.numbered_rows.specs.Numbered.{HasSlot, bears, emptied, filled, row_at, rows_in};

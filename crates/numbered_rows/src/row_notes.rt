@@ -1,6 +1,5 @@
 //! Where rows stand, noted by their numbers, so that a row is found at once, or known to be none.
-ghost use Rattle.std.specs.Prelude.{◌≡◌, [], ℕ, IfOk, OnSome, None, Some, cond, nat_eq};
-ghost use Rattle.std.specs.Map.{lookup};
+ghost use Rattle.std.specs.Prelude.{◌≡◌, [], ℕ, IfOk, OnSome, is_some};
 ghost use Rattle.numbered_rows.specs.RowNotes.{Forgets, Notes, noted};
 ghost use Rattle.numbered_rows.specs.Indexes.{Follows};
 
@@ -78,18 +77,20 @@ pub(crate) fn note(notes: &mut Option<RowNotes>, number: u64, place: usize)
     }
 }
 
-/// Notes that the row of this number went.
+/// Notes that the row of this number went. The notes are never given up for that.
 pub(crate) fn forget(notes: &mut Option<RowNotes>, number: u64)
-    ensures { Follows (Forgets number) notes.old notes.new }
+    ensures forgets { Follows (Forgets number) notes.old notes.new }
+    ensures kept { is_some notes.new ≡ is_some notes.old }
 {
     if let Some(places) = notes {
         places.remove(number);
     }
 }
 
-/// Notes that all rows went.
+/// Notes that all rows went. The notes are never given up for that.
 pub(crate) fn forget_all(notes: &mut Option<RowNotes>)
-    ensures { Follows (λ old new. new ≡ []) notes.old notes.new }
+    ensures forgets { Follows (λ old new. new ≡ []) notes.old notes.new }
+    ensures kept { is_some notes.new ≡ is_some notes.old }
 {
     if let Some(places) = notes {
         places.clear();

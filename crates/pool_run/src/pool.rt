@@ -26,6 +26,7 @@ use mio::net::TcpListener;
 use pool_desk::answers::Ticked;
 use pool_desk::desk::Desk;
 use pool_serve::serve::serve;
+use relay_flow::buffers::Buffers;
 use std::alloc::{AllocError, Global};
 use std::io::Write;
 use std::marker::Brand;
@@ -54,6 +55,13 @@ struct Free<K: Ledgers> {
     passes: Vec<FreePass<K>>,
     /// So many were cut off in all, and there is room for so many.
     cut: usize,
+}
+
+/// What a thread keeps from one connection to the next.
+#[derive(Drop)]
+struct Belongings {
+    poll: Option<GatePoll>,
+    buffers: Option<Buffers>,
 }
 
 /// What all threads of a pool share.
@@ -160,7 +168,7 @@ impl<R: PoolRuntime, F: Source, K: Ledgers> Pool<R, F, K> {
         Some((gate, login, pass))
     }
 
-    /// Serves one connection to its end, with the poll that its thread keeps. One for which there is no poll, no pass or no memory is
+    /// Serves one connection to its end, with what its thread keeps. One for which there is no poll, no pass or no memory is
     /// closed.
     fn attend(
         &self,
@@ -168,13 +176,14 @@ impl<R: PoolRuntime, F: Source, K: Ledgers> Pool<R, F, K> {
         word: KeyWord,
         client: TcpEnd,
         visit: Visit,
-        kept: &mut Option<GatePoll>,
+        kept: &mut Belongings,
     ) {
         let mut client = client;
-        match self.equip(rt, word, &mut client, kept) {
+        let Belongings { poll, buffers } = kept;
+        match self.equip(rt, word, &mut client, poll) {
             Some((gate, login, FreePass { pass })) => {
                 let (_, pass) = serve(
-                    self.alloc, &self.desk, pass, client, login, word, gate, visit,
+                    self.alloc, &self.desk, pass, client, login, word, gate, visit, buffers,
                 );
                 self.give_back(&rt, FreePass { pass });
             }
@@ -295,8 +304,8 @@ impl<R: PoolRuntime, F: Source, K: Ledgers> Drop for Connection<R, F, K> {
 }
 
 impl<R: PoolRuntime, F: Source, K: Ledgers> Connection<R, F, K> {
-    /// Serves it to its end, with the poll that its thread keeps.
-    fn attend(self, kept: &mut Option<GatePoll>) {
+    /// Serves it to its end, with what its thread keeps.
+    fn attend(self, kept: &mut Option<Belongings>) {
         let Connection {
             rt,
             pool,
@@ -304,6 +313,10 @@ impl<R: PoolRuntime, F: Source, K: Ledgers> Connection<R, F, K> {
             client,
             visit,
         } = self;
+        let kept = kept.get_or_insert(Belongings {
+            poll: None,
+            buffers: None,
+        });
         pool.attend(rt, word, client, visit, kept);
     }
 }
@@ -331,7 +344,7 @@ fn start_worker<
             client,
             visit,
         },
-        |kept: &mut Option<GatePoll>, connection: Connection<R, F, K>| connection.attend(kept),
+        |kept: &mut Option<Belongings>, connection: Connection<R, F, K>| connection.attend(kept),
     )
 }
 

@@ -81,7 +81,14 @@ impl<'a, D: LinkDesk, G: Gate<D::End>> Worker<'a, D, G> {
         service_is_its_pieces();
         let number = link.number();
         let limit = logged_in.login.settings().max_packet_size();
-        let mut relay = match Relay::begin(self.alloc, client, link, logged_in.word, limit) {
+        let mut relay = match Relay::begin_over(
+            self.alloc,
+            client,
+            link,
+            logged_in.word,
+            limit,
+            self.kept,
+        ) {
             Ok(relay) => relay,
             Err((client, link)) => {
                 self.give_back_unused(logged_in, link);
@@ -89,7 +96,7 @@ impl<'a, D: LinkDesk, G: Gate<D::End>> Worker<'a, D, G> {
             }
         };
         let refusal = pumped(&mut relay, &mut self.gate);
-        let (client, link) = relay.close();
+        let (client, link) = relay.close_over(self.kept);
         self.hand_back(logged_in, number, link);
         (client, Ending::Relayed(refusal))
     }

@@ -32,6 +32,7 @@ use login_run::laws::{
 };
 use login_run::{LoginRun, LoginTurn};
 use message_view::{KeyView, KeyWord};
+use relay_flow::buffers::Buffers;
 use server_end::gate::Gate;
 use server_end::{ClientEnd, ServerEnd};
 use std::alloc::Global;
@@ -243,7 +244,7 @@ impl<'a, D: LinkDesk, G: Gate<D::End>> Worker<'a, D, G> {
 /// lost, before the client is told why it is refused. Answers the client's end and the pass.
 ///
 /// `login` was made with the key word `word`, under settings within their bounds, and has taken no byte; where the client tells,
-/// none was taken from it or given to it. Only the desk and the gate wait: a turn of the gate is taken where nothing moved.
+/// none was taken from it or given to it. The buffers of its lease are those that are kept, or new ones, which are kept then. Only the desk and the gate wait: a turn of the gate is taken where nothing moved.
 ///
 /// Where the client tells, and the desk's home follows and lets its user in, what it was given is allowed for what a server
 /// started for it alone answers, over the catalogue of its row, where cancels struck some of its frames or none (only the link's
@@ -272,6 +273,7 @@ pub fn serve<C: ClientEnd, D: LinkDesk, G: Gate<D::End> + Drop>(
     word: KeyWord,
     gate: G,
     visit: Visit,
+    kept: &mut Option<Buffers>,
 ) -> (C, D::Pass)
     requires awaiting { login.awaiting ≡ AwaitsPacket (AtFirst false false) }
     requires held { login.held ≡ [] }
@@ -302,6 +304,7 @@ pub fn serve<C: ClientEnd, D: LinkDesk, G: Gate<D::End> + Drop>(
         desk,
         pass,
         gate,
+        kept,
         visit,
         number: None,
     };
@@ -312,6 +315,7 @@ pub fn serve<C: ClientEnd, D: LinkDesk, G: Gate<D::End> + Drop>(
         desk: _,
         pass,
         gate: _,
+        kept: _,
         visit: _,
         number: _,
     } = worker;

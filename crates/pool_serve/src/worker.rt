@@ -4,14 +4,17 @@ use crate::logged_in::LoggedIn;
 use crate::noting::named;
 use link_desk::desk::LinkDesk;
 use log_lines::notes::{Note, Visit};
+use relay_flow::buffers::Buffers;
 use std::alloc::Global;
 
-/// What serves a client at a desk: the client's pass, the gate where it waits for bytes, and what the log knows it by.
+/// What serves a client at a desk: the client's pass, the gate where it waits for bytes, the buffers that its thread keeps, and what the
+/// log knows it by.
 pub(crate) struct Worker<'a, D: LinkDesk, G> {
     pub alloc: Global,
     pub desk: &'a D,
     pub pass: D::Pass,
     pub gate: G,
+    pub kept: &'a mut Option<Buffers>,
     pub visit: Visit,
     /// In the lease book, once it has arrived.
     pub number: Option<u64>,

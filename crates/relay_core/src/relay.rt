@@ -1,5 +1,5 @@
 //! One lease: a client's end, a link, and the bytes between them.
-ghost use Rattle.std.specs.Prelude.{◌≡◌, ◌≢◌, ◌≤◌, ◌<◌, ◌+◌, ◌&&◌, ◌⊎◌, drop, length, true, false, IfErr, IfOk, Some};
+ghost use Rattle.std.specs.Prelude.{◌≡◌, ◌≢◌, ◌≤◌, ◌<◌, ◌+◌, ◌&&◌, ◌⊎◌, drop, length, true, false, IfErr, IfOk, IsSome, Some};
 ghost use Rattle.frame_view.specs.declared.frames.TheConstants.{LONGEST_FRAME};
 
 use crate::answers::phase_after;
@@ -12,6 +12,7 @@ use frame_view::Side;
 use link_run::links::{CleanLink, LinkParts, UsedLink};
 use link_run::welcome::welcome_over;
 use message_view::KeyWord;
+use relay_flow::buffers::Buffers;
 use relay_flow::flow::Flow;
 use relay_laws::{Flags, Next, Phase};
 use server_end::gate::Ready;
@@ -97,11 +98,7 @@ impl<C: ClientEnd, E: ServerEnd> Relay<C, E> {
     ghost use Rattle.relay_laws.specs.declared.Phase.TheVariants.{Running, Done, Shut};
     ghost use Rattle.message_view.specs.declared.refusal.Refusal.{Refusal};
 
-    /// The lease of a link to a client begins. The client is to be given the link's welcome first, with the client's own key
-    /// word ([`welcome_over`]). `limit` is the greatest length of a frame, both ways (at least 4).
-    ///
-    /// Memory for the welcome and both buffers is taken here, and none later. Where there is none, or the link has no welcome,
-    /// both ends are handed back as they were.
+    /// The lease of a link to a client begins, with buffers of its own, as [`Relay::begin_over`] says. Memory for them is taken here too.
     pub fn begin(
         alloc: Global,
         client: C,
@@ -117,24 +114,45 @@ impl<C: ClientEnd, E: ServerEnd> Relay<C, E> {
         ensures phase { IfOk result (λ r. r.phase ≡ Running) }
         ensures back { IfErr result (λ p. (p.0 ≡ client) × (p.1 ≡ link)) }
     {
+        Relay::begin_over(alloc, client, link, word, limit, &mut None)
+    }
+
+    /// The lease of a link to a client begins, in the buffers that are kept, or in new ones where none are. The client is to be given the
+    /// link's welcome first, with the client's own key word ([`welcome_over`]). `limit` is the greatest length of a frame, both ways (at
+    /// least 4).
+    ///
+    /// Memory for the welcome, and for buffers where none are kept, is taken here, and none later. Where there is none, or the link has
+    /// no welcome, both ends are handed back as they were.
+    pub fn begin_over(
+        alloc: Global,
+        client: C,
+        link: CleanLink<E>,
+        word: KeyWord,
+        limit: u32,
+        kept: &mut Option<Buffers>,
+    ) -> Result<Relay<C, E>, (C, CleanLink<E>)>
+        requires low { 4 ≤ limit }
+        requires high { limit ≤ LONGEST_FRAME }
+        ensures begun { IfOk result (IsLease (place (C.facts client) link word limit)) }
+        ensures client { IfOk result (λ r. r.client ≡ C.facts client) }
+        ensures link { IfOk result (λ r. r.link ≡ link.stands) }
+        ensures phase { IfOk result (λ r. r.phase ≡ Running) }
+        ensures back { IfErr result (λ p. (p.0 ≡ client) × (p.1 ≡ link)) }
+    {
         let Ok(welcome) = welcome_over(alloc, &link, word) else {
             return Err((client, link));
         };
-        let link = link.lend();
-        let Ok(to_link) = Flow::new(alloc, Side::Client, limit) else {
-            return Err((client, link.clean()));
-        };
-        let Ok(to_client) = Flow::new(alloc, Side::Server, limit) else {
-            return Err((client, link.clean()));
+        let Ok(Buffers { to_link, to_client }) = Buffers::take_or_new(alloc, kept) else {
+            return Err((client, link));
         };
         Ok(Relay {
             client,
-            link,
+            link: link.lend(),
             word,
             welcome,
             greeted: 0,
-            to_link,
-            to_client,
+            to_link: Flow::new(to_link, Side::Client, limit),
+            to_client: Flow::new(to_client, Side::Server, limit),
             traffic: Traffic::new(),
             flags: Flags {
                 touched: false,
@@ -198,6 +216,15 @@ impl<C: ClientEnd, E: ServerEnd> Relay<C, E> {
         ensures client { C.facts result.0 ≡ self.client }
         ensures link { IsReturned E.standing self result.1 }
     {
+        self.close_over(&mut None)
+    }
+
+    /// The same; its buffers are kept.
+    pub fn close_over(self, kept: &mut Option<Buffers>) -> (C, Returned<E>)
+        ensures client { C.facts result.0 ≡ self.client }
+        ensures link { IsReturned E.standing self result.1 }
+        ensures kept { IsSome kept.new }
+    {
         settled_exactly();
         let verdict = self.verdict();
         let Relay {
@@ -206,12 +233,16 @@ impl<C: ClientEnd, E: ServerEnd> Relay<C, E> {
             word: _,
             welcome: _,
             greeted: _,
-            to_link: _,
-            to_client: _,
+            to_link,
+            to_client,
             traffic: _,
             flags,
             phase: _,
         } = self;
+        *kept = Some(Buffers {
+            to_link: to_link.into_buffer(),
+            to_client: to_client.into_buffer(),
+        });
         if !flags.touched {
             if flags.link_over {
                 return (client, Returned::Gone(link, GoneCause::Lost));

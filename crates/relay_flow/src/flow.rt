@@ -7,7 +7,7 @@
 //!
 //! What is read comes at `fill`. A cursor moves `pass` on over bytes that may go on. What is written goes at `start`. The functions by
 //! which it moves are written into their callers (`inline(always)`), since each row of a result costs a step of it.
-ghost use Rattle.std.specs.Prelude.{◌≡◌, ◌+◌, ◌-◌, ◌<◌, ◌≤◌, [], drop, length, true, false, IfOk, MatchOption, ◌≢◌};
+ghost use Rattle.std.specs.Prelude.{◌≡◌, ◌+◌, ◌-◌, ◌<◌, ◌≤◌, [], drop, length, true, false, MatchOption, ◌≢◌};
 ghost use Rattle.frame_view.specs.Frames.{AreBytes};
 ghost use Rattle.frame_view.specs.declared.Side.TheVariants.{Client};
 ghost use Rattle.server_end.specs.Moves.{ClientReads, CountsRead};
@@ -17,16 +17,17 @@ ghost use Rattle.relay_flow.specs.declared.flow.Ends.TheVariants.{Open};
 ghost use Rattle.frame_view.specs.declared.client.TheConstants.{TERMINATE};
 ghost use Rattle.relay_flow.specs.declared.flow.TheConstants.{ROOM};
 
+use crate::buffers::Buffer;
 use crate::parts::{Advance, body_next, head_next};
 use frame_view::client::TERMINATE;
 use frame_view::laws::are_bytes;
 use frame_view::{FrameFault, Side};
 use server_end::{ClientEnd, Moved, ServerEnd};
-use std::alloc::{AllocError, Global};
 use std::marker::Model;
 
-/// How many bytes a flow has room for.
-pub const ROOM: usize = 8192;
+/// How many bytes a flow has room for. A call of the system costs as much as some kilobytes that it moves: with a fourth of this room a
+/// row of a megabyte took a third longer, and with twice as much it was no faster.
+pub const ROOM: usize = 32_768;
 
 /// What stands behind the bytes that may go on.
 #[derive(Clone, Copy, Drop)]
@@ -39,7 +40,7 @@ pub enum Ends {
     Faulty(FrameFault),
 }
 
-/// The buffer of one direction. Contracts see of it the bytes that are held and may go on, the part behind them that may
+/// One direction. Contracts see of it the bytes that are held and may go on, the part behind them that may
 /// not yet, the free room, and the cursor.
 pub struct Flow {
     bytes: Vec<u8>,
@@ -118,13 +119,13 @@ fn is_last(side: Side, kind: u8) -> bool
 }
 
 impl Flow {
-    /// An empty buffer for the frames of this side, none of a length above `limit`. AllocError where there is no memory.
-    pub fn new(alloc: Global, side: Side, limit: u32) -> Result<Flow, AllocError>
+    /// An empty one for the frames of this side, none of a length above `limit`, in this buffer.
+    pub fn new(buffer: Buffer, side: Side, limit: u32) -> Flow
         requires { 4 ≤ limit }
-        ensures { IfOk result (IsEmptyFlow side limit) }
+        ensures { IsEmptyFlow side limit result }
     {
-        Ok(Flow {
-            bytes: vec![in alloc; 0u8; ROOM]?,
+        Flow {
+            bytes: buffer.into_bytes(),
             start: 0,
             pass: 0,
             fill: 0,
@@ -133,7 +134,23 @@ impl Flow {
             side,
             limit,
             ends: Ends::Open,
-        })
+        }
+    }
+
+    /// Its buffer, once nothing is on its way any more.
+    pub fn into_buffer(self) -> Buffer {
+        let Flow {
+            bytes,
+            start: _,
+            pass: _,
+            fill: _,
+            kind: _,
+            rest: _,
+            side: _,
+            limit: _,
+            ends: _,
+        } = self;
+        Buffer::of(bytes)
     }
 
     /// What stands behind the bytes that may go on.

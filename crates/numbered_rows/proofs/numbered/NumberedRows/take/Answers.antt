@@ -14,7 +14,7 @@ invariant_of-self-2 g c =
     let rest = c.take_at.ensures.rest in
     let once : count_by (bears g.T.Numbered.number c.args.number) (rows_in c.self.inside.slots.items) ≤ 1 = subst (λ (rows : List g.row.T.Denot). count_by (bears g.T.Numbered.number c.args.number) rows ≤ 1) (sym c.self.view_is) (c.requires.once c.args.number) in
     let at = c.self.invariant in
-    (search (rules, at, c.take_at.ensures.capacity), subst (λ (slots : List _). length slots < _) (sym rest) (omega (arith, long, at.1)), omega (arith, fewer, at.2) ∙ ap (λ (slots : List _). length (rows_in slots)) (sym rest), at.3, subst (λ (slots : List _). AreNotedIfAny g.T.Numbered.number c.forget.new.notes c.self.inside.gone slots) (sym rest) (noted_taken g.T.Numbered.number c.self.inside.notes c.forget.new.notes c.self.inside.gone c.self.inside.slots.items c.args.number c.slot_of-place.result c.in_ok-row.row c.forget.ensures there c.slot_of-place.ensures once at.4))
+    (search (rules, at, c.take_at.ensures.capacity), subst (λ (slots : List _). length slots < _) (sym rest) (omega (arith, long, at.1)), omega (arith, fewer, at.2) ∙ ap (λ (slots : List _). length (rows_in slots)) (sym rest), at.3, subst (λ (slots : List _). AreNotedIfAny g.T.Numbered.number c.forget.new.notes c.self.inside.gone slots) (sym rest) (noted_taken g.T.Numbered.number c.self.inside.notes c.forget.new.notes c.self.inside.gone c.self.inside.slots.items c.args.number c.slot_of-place.result c.in_ok-row.row c.forget.ensures.forgets there c.slot_of-place.ensures once at.4))
 
 pub returns-clause-row : goal.returns-clause-row
 returns-clause-row g c =
