@@ -1,5 +1,5 @@
 //! Where the bytes of a lease stand on their way.
-ghost use Rattle.std.specs.Prelude.{◌≡◌, IfSome, None, Ok};
+ghost use Rattle.std.specs.Prelude.{◌≡◌, IfSome, None, Ok, length};
 
 use crate::flow::ROOM;
 use std::alloc::{AllocError, Global};
