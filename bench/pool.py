@@ -22,8 +22,9 @@ from wire import Client, startup
 
 CONNECTS = (1, 8, 32, 100, 400)
 QUERIES = (1, 8, 32)
-# bytes of a row, rows, and COPY's format: in text PostgreSQL looks at each byte of a row, and hides what a pooler costs
-BULK = ((1_048_576, 500, "binary"), (1_048_576, 500, "text"), (90, 3_000_000, "text"), (1, 10_000_000, "text"))
+# bytes of a row, rows, COPY's format, and clients at once. In text PostgreSQL looks at each byte of a row; and one client's short rows
+# are the work of one server, beside which no pooler's is seen: where each processor has a client, that of all counts.
+BULK = ((1_048_576, 500, "binary", 1), (1_048_576, 500, "text", 1), (90, 3_000_000, "text", 1), (1, 10_000_000, "text", 1), (1, 3_000_000, "text", 4))
 IDLE = (0, 1_000, 4_000)
 # clients that each have an application name of their own
 NAMES = 64
@@ -83,11 +84,14 @@ class Bench:
         rates = [re.search(r"^tps = ([\d.]+)", it.communicate()[0], re.MULTILINE) for it in running]
         return sum(float(it[1]) for it in rates) if all(rates) else None
 
-    def bulk(self, port, size, rows, form):
-        """Seconds of these rows."""
+    def bulk(self, port, size, rows, form, clients):
+        """Seconds of these rows, which each of so many clients reads."""
         begin = time.monotonic()
         text = f"COPY (SELECT repeat('x', {size}) FROM generate_series(1, {rows})) TO STDOUT (FORMAT {form})"
-        subprocess.run(["psql", "-X", "-q", "-c", text], env=self.environment(port), stdout=subprocess.DEVNULL, check=True)
+        words = ["psql", "-X", "-q", "-c", text]
+        running = [subprocess.Popen(words, env=self.environment(port), stdout=subprocess.DEVNULL) for _ in range(clients)]
+        if any([it.wait() for it in running]):
+            sys.exit(f"{' '.join(words)}: refused at port {port}")
         return time.monotonic() - begin
 
     def used(self, kind):
@@ -117,14 +121,15 @@ class Bench:
                     self.note(f"{manner} queries a second, {clients} clients", kind, self.pgbench(port, "-M", manner, "-c", str(clients), "-j", str(min(clients, 4))))
         for kind, port in self.ports.items():
             self.note("us of a simple query, 99 of 100, 1 client", kind, self.slowest(port))
-        for size, rows, form in BULK:
+        for size, rows, form, clients in BULK:
             # all bytes are counted
-            gigabytes = rows * (size + ROW_MORE[form]) / GIGABYTE
+            gigabytes = clients * rows * (size + ROW_MORE[form]) / GIGABYTE
+            name = f"rows of {size} bytes in {form}" + (f", {clients} clients" if clients > 1 else "")
             for kind, port in self.ports.items():
                 before = self.used(kind)
-                self.note(f"s/GB, rows of {size} bytes in {form}", kind, self.bulk(port, size, rows, form) / gigabytes)
+                self.note(f"s/GB, {name}", kind, self.bulk(port, size, rows, form, clients) / gigabytes)
                 if before is not None:
-                    self.note(f"s/GB of the pooler's processor, rows of {size} bytes in {form}", kind, (self.used(kind) - before) / gigabytes)
+                    self.note(f"s/GB of the pooler's processor, {name}", kind, (self.used(kind) - before) / gigabytes)
 
     def idle(self):
         """Memory a client that has sent its StartupMessage and waits."""
