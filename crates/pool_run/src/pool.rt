@@ -170,14 +170,7 @@ impl<R: PoolRuntime, F: Source, K: Ledgers> Pool<R, F, K> {
 
     /// Serves one connection to its end, with what its thread keeps. One for which there is no poll, no pass or no memory is
     /// closed.
-    fn attend(
-        &self,
-        rt: R,
-        word: KeyWord,
-        client: TcpEnd,
-        visit: Visit,
-        kept: &mut Belongings,
-    ) {
+    fn attend(&self, rt: R, word: KeyWord, client: TcpEnd, visit: Visit, kept: &mut Belongings) {
         let mut client = client;
         let Belongings { poll, buffers } = kept;
         match self.equip(rt, word, &mut client, poll) {
