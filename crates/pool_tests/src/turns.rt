@@ -1,11 +1,11 @@
-//! Two clients one after the other, over one link.
+//! Two clients one after the other, over one link, in the same buffers.
 ghost use Rattle.std.specs.Prelude.{◌≡◌};
 ghost use Rattle.std.specs.Arc.{arc_value};
 ghost use Rattle.desk_tallies.specs.declared.passes.TheConstants.{ALL_PARTS};
 ghost use Rattle.desk_tallies.specs.Shares.{names_of, of_each, parts_of};
 ghost use Rattle.memory_dial.specs.Homes.{IsEverywhere};
 
-use crate::worker_parts::{CUT, limits, login, serve_by, word};
+use crate::worker_parts::{CUT, limits, login, serve_in, word};
 use desk_tallies::ledgers::Ledgers;
 use desk_tallies::passes::Totals;
 use desk_tallies::tallies::Blanks;
@@ -66,6 +66,8 @@ struct Story {
     starts: u64,
     reuses: u64,
     totals: Totals,
+    /// The buffers of the last lease are kept.
+    are_kept: bool,
 }
 
 /// Both clients, one after the other.
@@ -87,8 +89,13 @@ fn both<N: Naming, K: Ledgers, R: Wait + Clock + Drop>(
     let dialer = MemoryDial::<N>::new(alloc, catalogue, word(7), CUT);
     let desk = Desk::<R, MemoryDial<N>, K>::new(rt, alloc, dialer, limits, blanks)?;
     let pass = desk.pass().ok_or("no pass")?;
-    let (first, pass) = serve_by(alloc, &desk, pass, first, one, 1, OpenGate::new()).ok_or("held")?;
-    let (second, pass) = serve_by(alloc, &desk, pass, second, two, 2, OpenGate::new()).ok_or(
+    let mut kept = None;
+    let gate = OpenGate::new();
+    let (first, pass) = serve_in(alloc, &desk, pass, first, one, word(1), gate, &mut kept).ok_or(
+        "held",
+    )?;
+    let gate = OpenGate::new();
+    let (second, pass) = serve_in(alloc, &desk, pass, second, two, word(2), gate, &mut kept).ok_or(
         "held",
     )?;
     let mut pass = pass;
@@ -102,6 +109,7 @@ fn both<N: Naming, K: Ledgers, R: Wait + Clock + Drop>(
         starts: view.starts,
         reuses: view.reuses,
         totals,
+        are_kept: kept.is_some(),
     })
 }
 
@@ -128,5 +136,6 @@ fn a_link_comes_back_as_it_was(rt: HostRuntime) -> Result<(), Fail> {
     assert!(rt; story.second.given() == second.as_slice());
     assert!(rt; (story.starts, story.reuses) == (1, 1));
     assert!(rt; story.totals == made);
+    assert!(rt; story.are_kept);
     Ok(())
 }

@@ -18,6 +18,7 @@ use play_tests::files::{SHOP, settings_of, users};
 use pool_desk::desk::Desk;
 use pool_desk::outside::Outside;
 use pool_serve::serve::serve;
+use relay_flow::buffers::Buffers;
 use server_end::ClientEnd;
 use server_end::gate::Gate;
 use session_values::text::Text;
@@ -144,7 +145,32 @@ pub fn is_free<K: Ledgers>(pass: &Pass<K>) -> bool
     )
 }
 
-/// Serves a client of this key word by this desk, and hands back its end and the pass; `None` where somebody holds the pass.
+/// Serves a client of this key word by this desk, in the buffers that are kept or in new ones, and hands back its end and the pass; `None`
+/// where somebody holds the pass.
+pub fn serve_in<C: ClientEnd, R: Wait + Clock, S: Outside, T: Gate<S::End> + Drop, K: Ledgers>(
+    alloc: Global,
+    desk: &Desk<R, S, K>,
+    pass: Pass<K>,
+    client: C,
+    login: Login,
+    word: KeyWord,
+    gate: T,
+    kept: &mut Option<Buffers>,
+) -> Option<(C, Pass<K>)>
+    requires awaiting { login.awaiting ≡ AwaitsPacket (AtFirst false false) }
+    requires held { login.held ≡ [] }
+    requires word { login.word ≡ word }
+    requires settings { AreWithinBounds login.settings }
+    requires taken { (C.facts client).tells ≡ true → (C.facts client).taken ≡ [] }
+    requires given { (C.facts client).tells ≡ true → (C.facts client).given ≡ [] }
+{
+    if !is_free(&pass) {
+        return None;
+    }
+    Some(serve(alloc, desk, pass, client, login, word, gate, VISIT, kept))
+}
+
+/// The same in buffers of its own.
 pub fn serve_as<C: ClientEnd, R: Wait + Clock, S: Outside, T: Gate<S::End> + Drop, K: Ledgers>(
     alloc: Global,
     desk: &Desk<R, S, K>,
@@ -161,10 +187,7 @@ pub fn serve_as<C: ClientEnd, R: Wait + Clock, S: Outside, T: Gate<S::End> + Dro
     requires taken { (C.facts client).tells ≡ true → (C.facts client).taken ≡ [] }
     requires given { (C.facts client).tells ≡ true → (C.facts client).given ≡ [] }
 {
-    if !is_free(&pass) {
-        return None;
-    }
-    Some(serve(alloc, desk, pass, client, login, word, gate, VISIT))
+    serve_in(alloc, desk, pass, client, login, word, gate, &mut None)
 }
 
 /// The same of the client with this number.
