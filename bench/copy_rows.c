@@ -6,7 +6,7 @@
 #include <stdlib.h>
 #include <string.h>
 
-enum { PAGE = 65536, BUFFER = 32768, HEAD = 5 };
+enum { PAGE = 65536, BUFFER = 8192, HEAD = 5 };
 
 static uint64_t left_of_frame, head_len;
 static unsigned char head[HEAD];

@@ -3,3 +3,4 @@ pub mod Homes
 pub mod Refusing
 pub mod Counts
 pub mod Cancels
+pub mod Grants

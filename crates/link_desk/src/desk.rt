@@ -4,10 +4,11 @@ ghost use Rattle.std.specs.Arc.{arc_value};
 ghost use Rattle.book_model.specs.Book.{Book};
 ghost use Rattle.book_model.specs.Kept.{Kept};
 ghost use Rattle.book_model.specs.Outcomes.{apply};
-ghost use Rattle.book_model.specs.Outcomes.Event.{Cancel};
+ghost use Rattle.book_model.specs.Outcomes.Event.{Cancel, Take};
 ghost use Rattle.book_register.specs.Views.{view_of};
 ghost use Rattle.link_desk.specs.Cancels.{answer_to_cancel};
 ghost use Rattle.link_desk.specs.Counts.{AtMost, class_counts};
+ghost use Rattle.link_desk.specs.Grants.{IsAnswerToTake};
 ghost use Rattle.link_desk.specs.Homes.{IsAtHome, IsDialled, IsGrantAtHome};
 ghost use Rattle.link_desk.specs.declared.calls.Call.TheVariants.{GiveBack, Lost, StartFailed};
 ghost use Rattle.link_desk.specs.declared.calls.Call.TheVariants as call;
@@ -66,6 +67,7 @@ pub trait LinkDesk {
     fn take(&self, pass: &mut Self::Pass) -> Grant<Self::End>
         requires here { IsSome (holder pass.old).client }
         requires none { (holder pass.old).lease ≡ None }
+        ensures book { IfSome (holder pass.old).client (λ client. (b : Book) × (Kept b × IsAnswerToTake (apply b (Take client)).reply result)) }
         ensures told { told pass.new ≡ after_grant (told pass.old) result }
         ensures holder { holder pass.new ≡ taken (holder pass.old) result }
         ensures refused { MayTake result }

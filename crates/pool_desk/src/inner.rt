@@ -4,8 +4,12 @@ ghost use Rattle.std.specs.Prelude.{◌≡◌, ◌<◌, ◌≤◌, ◌^◌, ◌|
 ghost use Rattle.std.specs.Arc.{arc_value};
 ghost use Rattle.book_model.specs.Book.{empty_book};
 ghost use Rattle.book_model.specs.Kept.{FitsLimits, Kept, KeptLimits, total};
+ghost use Rattle.book_model.specs.Outcomes.{apply};
+ghost use Rattle.book_model.specs.Outcomes.Event.{Take};
+ghost use Rattle.book_model.specs.Replay.{noted_of};
 ghost use Rattle.book_register.specs.Views.{view_of};
-ghost use Rattle.lease_book.specs.Links.{IsTwice, answered, handed, handed_after, history_after, idle_after, plain, reply_of};
+ghost use Rattle.lease_book.specs.Links.{IsTwice, answered, found, goes_out, handed, handed_after, history_after, idle_after, left, plain, reply_of};
+ghost use Rattle.desk_tallies.specs.Grants.{IsAnswerToTake, link_in};
 ghost use Rattle.desk_tallies.specs.Homes.{IsAtHome, IsGrantAtHome};
 ghost use Rattle.desk_tallies.specs.Passes.{after_grant, new_holder, new_pass, taken};
 ghost use Rattle.desk_tallies.specs.Refusing.{MayTake};
@@ -166,6 +170,14 @@ impl<S: Outside, K: Ledgers> Core<S, K> {
     /// What the pass's client, of this number, is granted.
     pub fn take(&mut self, pass: &mut Pass<K>, client: u64) -> Grant<S::End>
         requires own { pass.old.holder.client ≡ Some client }
+        ensures kept { Kept self.old.book.lists }
+        ensures lists { self.new.book.lists ≡ (apply self.old.book.lists (Take client)).book }
+        ensures history { self.new.book.history ≡ noted_of self.old.book.lists pass.old.number (Take client) self.old.book.history }
+        ensures idle { self.new.book.idle ≡ left (goes_out (apply self.old.book.lists (Take client)).reply) self.old.book.idle }
+        ensures answer { IsAnswerToTake (apply self.old.book.lists (Take client)).reply result }
+        ensures link { link_in result ≡ found (goes_out (apply self.old.book.lists (Take client)).reply) self.old.book.idle }
+        ensures given { self.new.given ≡ self.old.given }
+        ensures number { pass.new.number ≡ pass.old.number }
         ensures told { pass.new.told ≡ after_grant pass.old.told result }
         ensures holder { pass.new.holder ≡ taken pass.old.holder result }
         ensures refused { MayTake result }

@@ -63,7 +63,7 @@ pub struct Buffers {
 
 impl Buffers {
     /// New ones. AllocError where there is no memory.
-    pub fn new(alloc: Global) -> Result<Buffers, AllocError> {
+    fn new(alloc: Global) -> Result<Buffers, AllocError> {
         Ok(Buffers {
             to_link: Buffer::new(alloc)?,
             to_client: Buffer::new(alloc)?,

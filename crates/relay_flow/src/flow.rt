@@ -25,9 +25,8 @@ use frame_view::{FrameFault, Side};
 use server_end::{ClientEnd, Moved, ServerEnd};
 use std::marker::Model;
 
-/// How many bytes a flow has room for. A call of the system costs as much as some kilobytes that it moves: with a fourth of this room a
-/// row of a megabyte took a third longer, and with twice as much it was no faster.
-pub const ROOM: usize = 32_768;
+/// How many bytes a flow has room for.
+pub const ROOM: usize = 8_192;
 
 /// What stands behind the bytes that may go on.
 #[derive(Clone, Copy, Drop)]

@@ -25,7 +25,7 @@ whole_is_short Server kind len e = ⊎_elim
     (λ status. leb-true len 4100 status)
     (either (kind == READY_FOR_QUERY) (len == 5) (kind == PARAMETER_STATUS) (nat_le len 4100) e)
 
-stuck_is_short : (side : Side) (x : Front) (part : List ℕ) → is_stuck side x part ≡ true → length part < 32768
+stuck_is_short : (side : Side) (x : Front) (part : List ℕ) → is_stuck side x part ≡ true → length part < 8192
 stuck_is_short side (AFrame kind body rest) part e = absurd (false≢true e)
 stuck_is_short side (Faulty fault) part e = absurd (false≢true e)
 stuck_is_short side (Lacks n) [] e = omega arith

@@ -10,7 +10,7 @@ use Rattle.param_track.specs.declared.reported.TheConstants.{MOST_NAMES}
 -- a buffer's bytes each way; a head, a ReadyForQuery's length, and the longest body of a ParameterStatus that goes on whole; the longest
 -- frame that answers a start or a reset; and the names that a start may report
 pub record AreSizes : Type 0 where
-  pub room : ROOM ≡ 32768
+  pub room : ROOM ≡ 8192
   pub head : HEAD ≡ 5
   pub ready : READY_LENGTH ≡ 5
   pub status : LONGEST_STATUS ≡ 4096
