@@ -8,7 +8,7 @@ ghost use Rattle.memory_dial.specs.Homes.{IsEverywhere};
 use crate::held_client::HeldClient;
 use crate::noted_ends::{HoldingGate, Notes};
 use crate::turns::wanted;
-use crate::worker_parts::{CUT, TestRuntime, is_free, limits, login_as, serve_as};
+use crate::worker_parts::{CUT, TestRuntime, is_free, limits, login_as, serve_in};
 use desk_tallies::ledgers::Ledgers;
 use desk_tallies::passes::{Pass, Totals};
 use desk_tallies::tallies::Blanks;
@@ -98,7 +98,7 @@ fn is_served<N: Naming, K: Ledgers, R: Wait + Clock + Drop>(
 ) -> Result<(Pass<K>, bool), AllocError> {
     let client = PacedClient::new(alloc, COMES_AND_ASKS, CUT)?;
     let login = login_as(alloc, SHOP, own)?;
-    let Some((client, pass)) = serve_as(alloc, desk, pass, client, login, own, OpenGate::new())
+    let Some((client, pass)) = serve_in(alloc, desk, pass, client, login, own, OpenGate::new(), &mut None)
     else {
         return Err(AllocError);
     };
@@ -119,7 +119,7 @@ fn asks<N: Naming, K: Ledgers, R: Wait + Clock + Drop>(
     let own = word(9, 9);
     let client = MemoryClient::new(alloc, cancel, CUT)?;
     let login = login_as(alloc, SHOP, own)?;
-    match serve_as(alloc, desk, pass, client, login, own, OpenGate::new()) {
+    match serve_in(alloc, desk, pass, client, login, own, OpenGate::new(), &mut None) {
         Some((client, pass)) => {
             let is_free = is_free(&pass);
             Ok((pass, client.given().is_empty() && is_free))
@@ -156,7 +156,7 @@ fn asks_later<T: Gate<MemoryServer> + Drop, N: Naming, K: Ledgers, R: Wait + Clo
     let own = row.second;
     let client = HeldClient::new(alloc, QUERY, notes)?;
     let login = login_as(alloc, SHOP, own)?;
-    let Some((client, pass)) = serve_as(alloc, desk, pass, client, login, own, gate) else {
+    let Some((client, pass)) = serve_in(alloc, desk, pass, client, login, own, gate, &mut None) else {
         return Err(AllocError);
     };
     let wanted = wanted(alloc, own, row.answer)?;

@@ -170,26 +170,6 @@ pub fn serve_in<C: ClientEnd, R: Wait + Clock, S: Outside, T: Gate<S::End> + Dro
     Some(serve(alloc, desk, pass, client, login, word, gate, VISIT, kept))
 }
 
-/// The same in buffers of its own.
-pub fn serve_as<C: ClientEnd, R: Wait + Clock, S: Outside, T: Gate<S::End> + Drop, K: Ledgers>(
-    alloc: Global,
-    desk: &Desk<R, S, K>,
-    pass: Pass<K>,
-    client: C,
-    login: Login,
-    word: KeyWord,
-    gate: T,
-) -> Option<(C, Pass<K>)>
-    requires awaiting { login.awaiting ≡ AwaitsPacket (AtFirst false false) }
-    requires held { login.held ≡ [] }
-    requires word { login.word ≡ word }
-    requires settings { AreWithinBounds login.settings }
-    requires taken { (C.facts client).tells ≡ true → (C.facts client).taken ≡ [] }
-    requires given { (C.facts client).tells ≡ true → (C.facts client).given ≡ [] }
-{
-    serve_in(alloc, desk, pass, client, login, word, gate, &mut None)
-}
-
 /// The same of the client with this number.
 pub fn serve_by<C: ClientEnd, R: Wait + Clock, S: Outside, T: Gate<S::End> + Drop, K: Ledgers>(
     alloc: Global,
@@ -207,5 +187,14 @@ pub fn serve_by<C: ClientEnd, R: Wait + Clock, S: Outside, T: Gate<S::End> + Dro
     requires taken { (C.facts client).tells ≡ true → (C.facts client).taken ≡ [] }
     requires given { (C.facts client).tells ≡ true → (C.facts client).given ≡ [] }
 {
-    serve_as(alloc, desk, pass, client, login, word(number), gate)
+    serve_in(
+        alloc,
+        desk,
+        pass,
+        client,
+        login,
+        word(number),
+        gate,
+        &mut None,
+    )
 }

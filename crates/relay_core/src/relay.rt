@@ -1,5 +1,5 @@
 //! One lease: a client's end, a link, and the bytes between them.
-ghost use Rattle.std.specs.Prelude.{◌≡◌, ◌≢◌, ◌≤◌, ◌<◌, ◌+◌, ◌&&◌, ◌⊎◌, drop, length, true, false, IfErr, IfOk, IsSome, Some};
+ghost use Rattle.std.specs.Prelude.{◌≡◌, ◌≢◌, ◌≤◌, ◌<◌, ◌+◌, ◌&&◌, ◌⊎◌, drop, length, true, false, IfErr, IfOk, IsSome, None, Some};
 ghost use Rattle.frame_view.specs.declared.frames.TheConstants.{LONGEST_FRAME};
 
 use crate::answers::phase_after;
@@ -117,9 +117,9 @@ impl<C: ClientEnd, E: ServerEnd> Relay<C, E> {
         Relay::begin_over(alloc, client, link, word, limit, &mut None)
     }
 
-    /// The lease of a link to a client begins, in the buffers that are kept, or in new ones where none are. The client is to be given the
-    /// link's welcome first, with the client's own key word ([`welcome_over`]). `limit` is the greatest length of a frame, both ways (at
-    /// least 4).
+    /// The lease of a link to a client begins, in the buffers that are kept, or in new ones where none are; none are kept any more. The
+    /// client is to be given the link's welcome first, with the client's own key word ([`welcome_over`]). `limit` is the greatest length
+    /// of a frame, both ways (at least 4).
     ///
     /// Memory for the welcome, and for buffers where none are kept, is taken here, and none later. Where there is none, or the link has
     /// no welcome, both ends are handed back as they were.
@@ -137,6 +137,7 @@ impl<C: ClientEnd, E: ServerEnd> Relay<C, E> {
         ensures client { IfOk result (λ r. r.client ≡ C.facts client) }
         ensures link { IfOk result (λ r. r.link ≡ link.stands) }
         ensures phase { IfOk result (λ r. r.phase ≡ Running) }
+        ensures kept { IfOk result (λ r. kept.new ≡ None) }
         ensures back { IfErr result (λ p. (p.0 ≡ client) × (p.1 ≡ link)) }
     {
         let Ok(welcome) = welcome_over(alloc, &link, word) else {
