@@ -98,8 +98,16 @@ fn is_served<N: Naming, K: Ledgers, R: Wait + Clock + Drop>(
 ) -> Result<(Pass<K>, bool), AllocError> {
     let client = PacedClient::new(alloc, COMES_AND_ASKS, CUT)?;
     let login = login_as(alloc, SHOP, own)?;
-    let Some((client, pass)) = serve_in(alloc, desk, pass, client, login, own, OpenGate::new(), &mut None)
-    else {
+    let Some((client, pass)) = serve_in(
+        alloc,
+        desk,
+        pass,
+        client,
+        login,
+        own,
+        OpenGate::new(),
+        &mut None,
+    ) else {
         return Err(AllocError);
     };
     let wanted = wanted(alloc, own, SERVED)?;
@@ -119,7 +127,16 @@ fn asks<N: Naming, K: Ledgers, R: Wait + Clock + Drop>(
     let own = word(9, 9);
     let client = MemoryClient::new(alloc, cancel, CUT)?;
     let login = login_as(alloc, SHOP, own)?;
-    match serve_in(alloc, desk, pass, client, login, own, OpenGate::new(), &mut None) {
+    match serve_in(
+        alloc,
+        desk,
+        pass,
+        client,
+        login,
+        own,
+        OpenGate::new(),
+        &mut None,
+    ) {
         Some((client, pass)) => {
             let is_free = is_free(&pass);
             Ok((pass, client.given().is_empty() && is_free))
@@ -156,7 +173,8 @@ fn asks_later<T: Gate<MemoryServer> + Drop, N: Naming, K: Ledgers, R: Wait + Clo
     let own = row.second;
     let client = HeldClient::new(alloc, QUERY, notes)?;
     let login = login_as(alloc, SHOP, own)?;
-    let Some((client, pass)) = serve_in(alloc, desk, pass, client, login, own, gate, &mut None) else {
+    let Some((client, pass)) = serve_in(alloc, desk, pass, client, login, own, gate, &mut None)
+    else {
         return Err(AllocError);
     };
     let wanted = wanted(alloc, own, row.answer)?;
