@@ -1,12 +1,14 @@
 #!/usr/bin/env python3
-"""pgbench through pgsess, through PgBouncer with equal settings, and over PostgreSQL directly, in turn; and at last beside connections that
-send nothing.
+"""pgbench through pgsess, through PgBouncer with equal settings, and over PostgreSQL directly, in an order by chance; and at last beside
+connections that send nothing.
 
 Usage: pool.py PROGRAM [ROUNDS [SECONDS]]: so many rounds (5), each measurement of so many seconds (2). What is printed is the median
-of the rounds, and the least and the greatest.
+of the rounds, and the least and the greatest; and of pgsess to PgBouncer the ratio of the medians, and of the best rounds, which other
+work on the machine touches least.
 """
 import os
 import pathlib
+import random
 import re
 import resource
 import shutil
@@ -102,30 +104,34 @@ class Bench:
         if value is not None:
             self.found.setdefault(name, {}).setdefault(kind, []).append(value)
 
+    def in_turn(self, ports):
+        """Each of them once, in an order by chance: what else the machine does falls on none of them more than on another."""
+        return random.sample(list(ports.items()), len(ports))
+
     def measure(self):
         """One round: each measurement over all of them, one after the other."""
         # A thread of pgbench connects its clients one after the other and reads no answer meanwhile: where a link is lent at the login, one
         # thread's clients would wait for a link that another client of the same thread holds. So each client has a thread of its own.
         for clients in CONNECTS:
-            for kind, port in self.ports.items():
+            for kind, port in self.in_turn(self.ports):
                 before, rate = self.used(kind), self.pgbench(port, "-C", "-c", str(clients), "-j", str(clients))
                 self.note(f"connects a second, {clients} clients", kind, rate)
                 if before is not None and rate:
                     used = (self.used(kind) - before) * 1e6 / (rate * self.seconds)
                     self.note(f"us of the pooler's processor a connect, {clients} clients", kind, used)
-        for kind, port in {**self.ports, "pgsess": self.untracked.port}.items():
+        for kind, port in self.in_turn({**self.ports, "pgsess": self.untracked.port}):
             self.note(f"connects a second, {NAMES} clients of as many application names", kind, self.names(port))
         for manner in ("simple", "prepared"):
             for clients in QUERIES:
-                for kind, port in self.ports.items():
+                for kind, port in self.in_turn(self.ports):
                     self.note(f"{manner} queries a second, {clients} clients", kind, self.pgbench(port, "-M", manner, "-c", str(clients), "-j", str(min(clients, 4))))
-        for kind, port in self.ports.items():
+        for kind, port in self.in_turn(self.ports):
             self.note("us of a simple query, 99 of 100, 1 client", kind, self.slowest(port))
         for size, rows, form, clients in BULK:
             # all bytes are counted
             gigabytes = clients * rows * (size + ROW_MORE[form]) / GIGABYTE
             name = f"rows of {size} bytes in {form}" + (f", {clients} clients" if clients > 1 else "")
-            for kind, port in self.ports.items():
+            for kind, port in self.in_turn(self.ports):
                 before = self.used(kind)
                 self.note(f"s/GB, {name}", kind, self.bulk(port, size, rows, form, clients) / gigabytes)
                 if before is not None:
@@ -168,9 +174,10 @@ class Bench:
 
     def tell(self):
         for name, kinds in self.found.items():
-            shown = [f"{kind} {number(statistics.median(values))} ({number(min(values))} to {number(max(values))})" for kind, values in kinds.items()]
+            shown = [f"{kind} {number(statistics.median(values))} ({number(min(values))} to {number(max(values))})" for kind, values in sorted(kinds.items(), reverse=True)]
             ours, theirs = kinds.get("pgsess"), kinds.get("pgbouncer")
-            ratio = f"; pgsess to pgbouncer {statistics.median(ours) / statistics.median(theirs):.2f}" if ours and theirs else ""
+            best = max if "a second" in name else min
+            ratio = f"; pgsess to pgbouncer {statistics.median(ours) / statistics.median(theirs):.2f}, of the best rounds {best(ours) / best(theirs):.2f}" if ours and theirs else ""
             print(f"{name}: {', '.join(shown)}{ratio}")
 
     def all(self):
