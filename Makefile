@@ -1,13 +1,15 @@
-# `make run` and `make test` set up all that they need; the first build proves every crate.
+# `make run` and `make test` set up all that they need; the first build proves every crate. `make help` says what each target does.
 SHELL := /bin/bash
 .SHELLFLAGS := -eu -o pipefail -c
 .DELETE_ON_ERROR:
-.DEFAULT_GOAL := build
+.DEFAULT_GOAL := help
 .NOTPARALLEL:
-.PHONY: build run demo test gate wrong install deb bench clean
+.PHONY: help build run demo quick recipes test gate wrong install deb dist bench clean
 
 PREFIX ?= /usr/local
 DESTDIR ?=
+# any: another kit than RATTLE_KIT's is told of, and taken
+KIT ?=
 
 program := crates/pgsess/out/pgsess
 trials := crates/trials/out/trials
@@ -15,28 +17,52 @@ refusals := crates/refusals/out/refusals
 message_parts := crates/message_parts/out/message_parts
 sources := crates.txt $(shell find crates -name out -prune -o -name must-fail -prune -o \( -name '*.rt' -o -name '*.antt' \) -print)
 
+define help_text
+pgsess: what make does, and what it costs on four processors. What proves crates keeps them: the next time takes seconds for all that is
+unchanged, in `make test` too. RT_JOBS=N says how many are proved side by side, KIT=any takes another Rattle kit than RATTLE_KIT names.
+
+  make demo       shows the pool before a PostgreSQL, by a program that is built and NOT proved      2 to 5 minutes
+  make quick      the layout, and every test before any proof; CRATES="base_tests .." some           5 to 15 minutes
+  make run        shows it before a stand-in server, by the proved program; KEEP=1 leaves it up      proves first
+  make build      proves and builds build/pgsess                                                     more than an hour of processor time, once
+  make install    that, and puts it in PREFIX, /usr/local, with its pages; DESTDIR as usual          proves first
+  make deb        that, and makes a Debian package in build/                                         proves first
+  make dist       a release in build/dist: the package, a tar, their checksums                       proves first
+  make test       the gate: every proof, edits that must be refused, every script                    two to three hours of processor time
+  make wrong      the wrong versions that the gate leaves out; CRATES="mini_sql .." some             hours for all, minutes for a crate
+  make recipes    the recipes that install HAProxy and stunnel; PROGRAM=build/pgsess                 some 2 minutes; proves first
+  make bench      measurements beside PgBouncer, which it installs                                   proves first
+  make clean      takes away build/ and what crates keep
+endef
+
+help:
+	@: $(info $(help_text))
+
 # the program, as `rt ci` or an earlier build left it; else proved and built now
 $(program): $(sources)
-	@command -v rt >/dev/null || { echo "rt isn't in PATH: install the Rattle kit first (rt version)"; exit 1; }
-	@scripts/prove.py pgsess --help
+	@scripts/kit.sh $(KIT)
+	@scripts/prove.py pgsess
 	@touch $(program)
 	@echo "built $(program) ($$(date +%T))"
 
 # the tool of the tests and measurements, likewise; it isn't installed
 $(trials): $(sources)
-	@scripts/prove.py trials solo "$(CURDIR)/tests/rows/catalogue.tsv" ann
+	@scripts/kit.sh $(KIT)
+	@scripts/prove.py trials
 	@touch $(trials)
 	@echo "built $(trials) ($$(date +%T))"
 
 # the tool that asks once more for what is refused, likewise
 $(refusals): $(sources)
-	@scripts/prove.py refusals login
+	@scripts/kit.sh $(KIT)
+	@scripts/prove.py refusals
 	@touch $(refusals)
 	@echo "built $(refusals) ($$(date +%T))"
 
 # and the one that tells the parts of messages
 $(message_parts): $(sources)
-	@scripts/prove.py message_parts first
+	@scripts/kit.sh $(KIT)
+	@scripts/prove.py message_parts
 	@touch $(message_parts)
 	@echo "built $(message_parts) ($$(date +%T))"
 
@@ -54,7 +80,17 @@ run: build/pgsess
 
 # the same over a real PostgreSQL, by a program that is built and not proved
 demo:
+	@scripts/kit.sh any
 	@scripts/demo.py
+
+# all that can be tried before a proof
+quick:
+	@scripts/kit.sh any
+	@scripts/quick.py $(CRATES)
+
+# the recipes that need HAProxy and stunnel, which they install; the others are in the gate
+recipes: $(or $(PROGRAM),build/pgsess)
+	@scripts/recipes.py $< --installed
 
 # the whole gate, and what it took: by the clock, and of processor time in user and system
 test:
@@ -63,6 +99,7 @@ test:
 # its steps; rt ci leaves the programs that it proved and built. Its own guess of a check's memory is four times what the largest
 # crate's takes, and would let that crate wait until nothing else runs; so it is told how many checks run side by side
 gate:
+	@scripts/kit.sh any
 	RT_JOBS=$$(scripts/jobs.sh) rt ci
 	@$(MAKE) --no-print-directory $(program) $(trials) $(refusals) $(message_parts)
 	scripts/rows.sh $(program) $(trials)
@@ -81,29 +118,40 @@ gate:
 	scripts/cursors.sh $(program)
 	scripts/postgres.sh $(program)
 	scripts/calls.py $(program) 40
+	scripts/reach.sh $(program)
+	scripts/restarts.sh $(program)
 	scripts/cancels.sh $(program)
 	scripts/console.sh $(program)
 	scripts/abuse.sh $(program)
 	scripts/show.py $(program)
 	scripts/readme.py $(program)
+	scripts/first_day.sh
+	scripts/recipes.py $(program)
 	scripts/packaging.sh $(program)
 	scripts/unit.py $(program)
+	scripts/pgsess_run.py $(program)
 
 # the wrong versions of functions that aren't tried by the gate; CRATES names some crates. It is no part of `test`: on top of the
 # gate it would need each library built once more, which takes longer than all edits. Run it before a crate lands
 wrong:
+	@scripts/kit.sh $(KIT)
 	@scripts/wrong.py $(CRATES)
 
 install: build/pgsess
 	install -d "$(DESTDIR)$(PREFIX)/bin"
-	install -m 755 build/pgsess "$(DESTDIR)$(PREFIX)/bin/pgsess"
+	install -m 755 build/pgsess packaging/pgsess-run "$(DESTDIR)$(PREFIX)/bin"
 	install -D -m 644 man/pgsess.1 "$(DESTDIR)$(PREFIX)/share/man/man1/pgsess.1"
+	install -D -m 644 man/pgsess-run.1 "$(DESTDIR)$(PREFIX)/share/man/man1/pgsess-run.1"
 	install -D -m 644 man/pgsess.ini.5 "$(DESTDIR)$(PREFIX)/share/man/man5/pgsess.ini.5"
 	install -D -m 644 packaging/pgsess.bash "$(DESTDIR)$(PREFIX)/share/bash-completion/completions/pgsess"
 
 # a Debian package of the built program, in build/
 deb: build/pgsess
 	scripts/deb.sh build/pgsess build
+
+# what a release is: the package, a tar, and their checksums, in build/dist
+dist: build/pgsess
+	scripts/dist.sh build/pgsess build/dist
 
 # all run; the status says whether a bound was missed
 bench: build/pgsess $(trials)

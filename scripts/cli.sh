@@ -71,8 +71,8 @@ helped 'faults of settings in the help' '  C6  server_reset_query' serve --help
 helped 'faults of users in the help' '  U2  a name for the second time' help serve
 helped 'faults of catalogues in the help' '  K3  a row with more or fewer values' stub --help
 helped 'faults of streams in the help' '  pgsess: stdout  standard output is closed or full' replay --help
-helped version 'pgsess 1' --version
-result 'version: all of it' 'pgsess 1' "$(cat out.txt)"
+helped version 'pgsess 1.1' --version
+result 'version: all of it' 'pgsess 1.1' "$(cat out.txt)"
 refused 'no subcommand' "error: 'pgsess' requires a subcommand but one was not provided"
 refused 'unknown subcommand' "error: unrecognized subcommand 'bogus'" bogus
 refused 'unknown option' "error: unexpected argument '--bogus' found" --bogus

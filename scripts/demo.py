@@ -1,10 +1,10 @@
 #!/usr/bin/env python3
-"""Shows pgsess in front of a PostgreSQL server, within some two minutes and before anything is proved.
+"""Shows pgsess in front of a PostgreSQL server, within some minutes and before anything is proved.
 
 Usage: demo.py [PROGRAM]
 
 Without PROGRAM the sources of crates/pgsess are built by `rt try`, which proves nothing: what is shown is the program's behaviour, not its
-proof. It makes a PostgreSQL server in a temporary folder, pools it, lets one client leave settings, a temporary table and a prepared
+proof. Each step is told with the seconds so far. It makes a PostgreSQL server in a temporary folder, pools it, lets one client leave settings, a temporary table and a prepared
 statement behind, and shows that the next client, over the same server session, finds none of them.
 """
 import os
@@ -18,9 +18,16 @@ import time
 from cluster import HERE, TOP, USERS, Cluster, Place, free_port, set_up, until
 
 SECONDS = 900
+# how often it is said that the build goes on
+QUIET = 15
+BEGAN = time.monotonic()
 LEAVES = "SET work_mem = '7MB'; CREATE TEMP TABLE left_behind (a int); PREPARE p AS SELECT 1; SELECT pg_backend_pid() AS backend, current_setting('work_mem') AS work_mem;"
 FINDS = ("SELECT pg_backend_pid() AS backend, current_setting('work_mem') AS work_mem, "
          "(SELECT count(*) FROM pg_class WHERE relname = 'left_behind') AS tables, (SELECT count(*) FROM pg_prepared_statements) AS statements;")
+
+
+def say(step):
+    print(f"{time.monotonic() - BEGAN:4.0f} s  {step}", flush=True)
 
 
 def serve(program, place, cluster, port):
@@ -33,9 +40,18 @@ def serve(program, place, cluster, port):
         return subprocess.Popen([os.path.abspath(program), *map(str, words)], stdout=subprocess.DEVNULL, start_new_session=True)
     if not shutil.which("rt"):
         sys.exit("rt isn't in PATH: install the Rattle kit first (rt version)")
-    print("building crates/pgsess, UNPROVED (rt try): about two minutes", flush=True)
+    say("building crates/pgsess, UNPROVED (rt try): some 70 seconds of processor time, twice that and more on a busy machine")
     return subprocess.Popen(["rt", "try", "--seconds", str(SECONDS), "--", *map(str, words)], cwd=TOP / "crates/pgsess",
                             stdout=subprocess.DEVNULL, stderr=subprocess.DEVNULL, start_new_session=True)
+
+
+def waited(pooler, port):
+    """Whether it listens in time; that it is still built is said now and then."""
+    for _ in range(SECONDS // QUIET):
+        if until(lambda: pooler.poll() is not None or answers(port), QUIET):
+            return pooler.poll() is None
+        say("still building")
+    return False
 
 
 def answers(port):
@@ -58,17 +74,19 @@ def psql(port, text):
 
 def main():
     set_up()
-    began, place, pooler = time.monotonic(), Place(), None
+    place, pooler = Place(), None
     try:
+        say("making a PostgreSQL server in a temporary folder")
         cluster, port = Cluster(place), free_port()
         pooler = serve(sys.argv[1] if len(sys.argv) > 1 else None, place, cluster, port)
-        if not until(lambda: pooler.poll() is not None or answers(port), SECONDS) or pooler.poll() is not None:
+        if not waited(pooler, port):
             sys.exit("pgsess doesn't listen: see `cd crates/pgsess && rt try -- serve --help`")
-        print(f"pgsess listens at {HERE} {port}   ({time.monotonic() - began:.0f} s)")
+        say(f"pgsess listens at {HERE} {port}, over PostgreSQL at port {cluster.port}; two clients, one after the other:")
         (backend, _), (again, memory, tables, statements) = psql(port, LEAVES), psql(port, FINDS)
         clean = (memory, tables, statements) == ("4MB", "0", "0")
         print(f"\nThe second client had {'the same' if again == backend else 'ANOTHER'} backend, and found {'nothing' if clean else 'SOMETHING'} of the first.")
         print("That no client ever finds anything is what `make test` proves; this run proves nothing.")
+        say("done")
         return 0 if clean and again == backend else 1
     finally:
         if pooler:

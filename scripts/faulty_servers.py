@@ -349,6 +349,14 @@ class Bystander(threading.Thread):
             self.fault = repr(error)
 
 
+def compared(given, wanted, stages):
+    """What is wrong with what a client was given, but for its key word, which is its own."""
+    whole, key = wanted.given[stages - 1], wanted.key
+    if given[key] == SERVER_KEY:
+        return "it has the server's key word"
+    return differs(given[:key.start] + whole[key][:max(0, len(given) - key.start)] + given[key.stop:], whole)
+
+
 class Show:
     def __init__(self, program):
         self.passes, self.place, self.program = Passes("faulty servers"), Place("nobody"), program
@@ -373,10 +381,7 @@ class Show:
     def differs(self, row, name, wanted, stages=None, seconds=SECONDS):
         """What is wrong with what a client is given, but for its key word, which is its own."""
         stages = stages or len(wanted.given)
-        given, whole, key = self.given(row, name, wanted, stages, seconds), wanted.given[stages - 1], wanted.key
-        if given[key] == SERVER_KEY:
-            return "it has the server's key word"
-        return differs(given[:key.start] + whole[key][:max(0, len(given) - key.start)] + given[key.stop:], whole)
+        return compared(self.given(row, name, wanted, stages, seconds), wanted, stages)
 
     def fault(self, case, row, seconds=SECONDS):
         """What is wrong with a case."""
@@ -394,9 +399,10 @@ class Show:
             return fault
         is_kept = wanted.is_kept and case.ends is None
         if wanted.is_kept and case.part == IN_RESET and case.ends in (CLOSED, CUT_OFF):
-            # the link is idle, and its end gone: who gets it is told so
-            if fault := self.differs(row, name, Wanted(PARTS, IN_START)):
-                return f"over the link that ended: {fault}"
+            # the link is idle, and its end gone: it is closed, and the client has another; or the client is told so
+            given = self.given(row, name, RIGHT, len(RIGHT.given))
+            if (fault := compared(given, RIGHT, len(RIGHT.given))) and compared(given, told := Wanted(PARTS, IN_START), len(told.given)):
+                return f"behind the link that ended: {fault}"
         if fault := self.differs(row, name, Wanted([said[IN_START], *PARTS[1:]], None) if is_kept else RIGHT):
             return f"the next client: {fault}"
         counted, connections = self.server.counts[name.encode()], 1 if is_kept else 2

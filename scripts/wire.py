@@ -52,12 +52,27 @@ class Refused(Exception):
         super().__init__(f"{self.code} {self.text}")
 
 
+def connected(host, port, seconds):
+    """A socket to this place: a host that begins with a slash is the folder of a Unix socket, as for libpq."""
+    if not host.startswith("/"):
+        it = socket.create_connection((host, port), seconds)
+        it.setsockopt(socket.IPPROTO_TCP, socket.TCP_NODELAY, 1)
+        return it
+    it = socket.socket(socket.AF_UNIX)
+    it.settimeout(seconds)
+    try:
+        it.connect(f"{host}/.s.PGSQL.{port}")
+    except BaseException:
+        it.close()
+        raise
+    return it
+
+
 class Client:
     """A connection. What is unexpected is an exception."""
 
     def __init__(self, port, user=None, database="shop", password="", host="127.0.0.1", seconds=SECONDS, **parameters):
-        self.socket = socket.create_connection((host, port), seconds)
-        self.socket.setsockopt(socket.IPPROTO_TCP, socket.TCP_NODELAY, 1)
+        self.socket = connected(host, port, seconds)
         self.held, self.reports, self.key = b"", {}, None
         if user is not None:
             try:

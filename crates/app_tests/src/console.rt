@@ -249,7 +249,7 @@ fn one_pool(rt: HostRuntime) -> Result<(), Fail> {
 }
 
 /// What an empty file says.
-const DEFAULTS: [&[u8]; 16] = [
+const DEFAULTS: [&[u8]; 25] = [
     b"D\0\0\0\x22\0\x02\0\0\0\x0blisten_addr\0\0\0\x09127.0.0.1",
     b"D\0\0\0\x1d\0\x02\0\0\0\x0blisten_port\0\0\0\x046432",
     b"D\0\0\0\x1a\0\x02\0\0\0\x09auth_type\0\0\0\x03md5",
@@ -266,11 +266,20 @@ const DEFAULTS: [&[u8]; 16] = [
     b"D\0\0\0\x27\0\x02\0\0\0\x19ignore_startup_parameters\0\0\0\0",
     b"D\0\0\0\x31\0\x02\0\0\0\x16track_extra_parameters\0\0\0\x0dIntervalStyle",
     b"D\0\0\0\x20\0\x02\0\0\0\x12untrack_parameters\0\0\0\0",
+    b"D\0\0\0\x1d\0\x02\0\0\0\x0funix_socket_dir\0\0\0\0",
+    b"D\0\0\0\x22\0\x02\0\0\0\x10unix_socket_mode\0\0\0\x040777",
+    b"D\0\0\0\x1f\0\x02\0\0\0\x11unix_socket_group\0\0\0\0",
+    b"D\0\0\0\x16\0\x02\0\0\0\x07peer_id\0\0\0\x010",
+    b"D\0\0\0\x1c\0\x02\0\0\0\x0dtcp_keepalive\0\0\0\x011",
+    b"D\0\0\0\x1b\0\x02\0\0\0\x0ctcp_keepidle\0\0\0\x010",
+    b"D\0\0\0\x1c\0\x02\0\0\0\x0dtcp_keepintvl\0\0\0\x010",
+    b"D\0\0\0\x1a\0\x02\0\0\0\x0btcp_keepcnt\0\0\0\x010",
+    b"D\0\0\0\x1f\0\x02\0\0\0\x10tcp_user_timeout\0\0\0\x010",
 ];
 
 /// What the next one says.
-const CHANGED: [&[u8]; 16] = [
-    b"D\0\0\0\x20\0\x02\0\0\0\x0blisten_addr\0\0\0\x070.0.0.0",
+const CHANGED: [&[u8]; 25] = [
+    b"D\0\0\0\x24\0\x02\0\0\0\x0blisten_addr\0\0\0\x0b0.0.0.0,::1",
     b"D\0\0\0\x1a\0\x02\0\0\0\x0blisten_port\0\0\0\x011",
     b"D\0\0\0\x1c\0\x02\0\0\0\x09auth_type\0\0\0\x05plain",
     b"D\0\0\0\x25\0\x02\0\0\0\x0badmin_users\0\0\0\x0croot,\"a b\",\xe9",
@@ -286,10 +295,19 @@ const CHANGED: [&[u8]; 16] = [
     b"D\0\0\0\x41\0\x02\0\0\0\x19ignore_startup_parameters\0\0\0\x1aextra_float_digits,Options",
     b"D\0\0\0\x24\0\x02\0\0\0\x16track_extra_parameters\0\0\0\0",
     b"D\0\0\0\x39\0\x02\0\0\0\x12untrack_parameters\0\0\0\x19TimeZone,application_name",
+    b"D\0\0\0\x26\0\x02\0\0\0\x0funix_socket_dir\0\0\0\x09/run/pool",
+    b"D\0\0\0\x22\0\x02\0\0\0\x10unix_socket_mode\0\0\0\x040660",
+    b"D\0\0\0\x22\0\x02\0\0\0\x11unix_socket_group\0\0\0\x03www",
+    b"D\0\0\0\x18\0\x02\0\0\0\x07peer_id\0\0\0\x03127",
+    b"D\0\0\0\x1c\0\x02\0\0\0\x0dtcp_keepalive\0\0\0\x010",
+    b"D\0\0\0\x1c\0\x02\0\0\0\x0ctcp_keepidle\0\0\0\x0260",
+    b"D\0\0\0\x1d\0\x02\0\0\0\x0dtcp_keepintvl\0\0\0\x0210",
+    b"D\0\0\0\x1a\0\x02\0\0\0\x0btcp_keepcnt\0\0\0\x015",
+    b"D\0\0\0\x28\0\x02\0\0\0\x10tcp_user_timeout\0\0\0\x0a2147483647",
 ];
 
 const FILE: &[u8] =
-    b"[pgbouncer]\nlisten_addr = *\nlisten_port = 00001\nauth_type = plain\nadmin_users = root , ,\"a b\",\xe9\npool_mode=session\nserver_reset_query = Discard All\nmax_client_conn = 10000\ndefault_pool_size = 3\nmax_links = 4\nquery_wait_timeout = 0\nserver_lifetime = 005\nserver_idle_timeout = 2147483647\nmax_packet_size = 1024\nignore_startup_parameters = extra_float_digits,  Options\ntrack_extra_parameters =\nuntrack_parameters = TimeZone, application_name\nverbose = 2\n";
+    b"[pgbouncer]\nlisten_addr = * , ::1\nlisten_port = 00001\nauth_type = plain\nadmin_users = root , ,\"a b\",\xe9\npool_mode=session\nserver_reset_query = Discard All\nmax_client_conn = 10000\ndefault_pool_size = 3\nmax_links = 4\nquery_wait_timeout = 0\nserver_lifetime = 005\nserver_idle_timeout = 2147483647\nmax_packet_size = 1024\nignore_startup_parameters = extra_float_digits,  Options\ntrack_extra_parameters =\nuntrack_parameters = TimeZone, application_name\nunix_socket_dir = /run/pool\nunix_socket_mode = 660\nunix_socket_group = www\npeer_id = 127\ntcp_keepalive = 0\ntcp_keepidle = 60\ntcp_keepintvl = 10\ntcp_keepcnt = 5\ntcp_user_timeout = 2147483647\nverbose = 2\n";
 
 #[test]
 fn settings(rt: HostRuntime) -> Result<(), Fail> {

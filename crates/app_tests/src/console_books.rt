@@ -10,7 +10,7 @@ use book_rows::links::Link;
 use book_rows::pools::PoolKey;
 use book_rows::tickets::Ticket;
 use session_values::text::Text;
-use start_keys::StartKey;
+use start_keys::{Host, StartKey};
 use std::alloc::{AllocError, Global};
 use std::sync::Arc;
 
@@ -43,7 +43,7 @@ fn limits(alloc: Global) -> Result<Arc<Limits>, AllocError> {
 fn key(alloc: Global, row: &[u8], user: &[u8]) -> Result<Arc<StartKey>, AllocError> {
     let key = StartKey {
         row: Text::from_slice(alloc, row)?,
-        host: Some([127, 0, 0, 1]),
+        host: Some(Host::local()),
         port: 5432,
         dbname: Text::from_slice(alloc, b"elsewhere")?,
         user: Text::from_slice(alloc, user)?,
@@ -119,6 +119,7 @@ pub(crate) fn view(alloc: Global, rows: &Rows) -> Result<BookView, AllocError> {
             keyed: 0,
             cancelled: 0,
             leases_ended: 0,
+            hung_up: 0,
         },
         starts: 12,
         reuses: 0,

@@ -3,9 +3,9 @@ use ini_config::{AuthType, Names, Settings, read_settings};
 use std::test::Fail;
 
 /// Whether there is a row of this name that says this.
-fn has_row(settings: &Settings, name: &[u8], host: [u8; 4], port: u16, dbname: &[u8]) -> bool {
+fn has_row(settings: &Settings, name: &[u8], host: &[u8], port: u16, dbname: &[u8]) -> bool {
     match settings.row(name) {
-        Some(row) => row.host == host && row.port == port && row.dbname.as_bytes() == dbname,
+        Some(row) => row.host.is(host) && row.port == port && row.dbname == dbname,
         None => false,
     }
 }
@@ -20,7 +20,7 @@ fn is_at(settings: &Settings, place: usize, name: &[u8]) -> bool {
 
 /// The pool size of a row; 0 where there is none.
 fn pool_size(settings: &Settings, name: &[u8]) -> u32 {
-    match settings.row(name) {
+    match settings.rows.get(name) {
         Some(row) => settings.pool_size(row),
         None => 0,
     }
@@ -43,9 +43,9 @@ fn rows_in_their_order(rt: HostRuntime) -> Result<(), Fail> {
 #[test]
 fn what_rows_say(rt: HostRuntime) -> Result<(), Fail> {
     let settings = read_settings(rt.alloc(), ROWS)?;
-    let rows: [(&[u8], [u8; 4], u16, &[u8]); 2] = [
-        (b"shop", [127, 0, 0, 1], 5433, b"shop"),
-        (b"b", [10, 0, 0, 255], 5432, b"a=b"),
+    let rows: [(&[u8], &[u8], u16, &[u8]); 2] = [
+        (b"shop", b"127.0.0.1", 5433, b"shop"),
+        (b"b", b"10.0.0.255", 5432, b"a=b"),
     ];
     for (name, host, port, dbname) in rows {
         assert!(rt; has_row(&settings, name, host, port, dbname));
@@ -64,7 +64,7 @@ fn pool_sizes(rt: HostRuntime) -> Result<(), Fail> {
 }
 
 const EVERY_KEY: &[u8] =
-    b"[pgbouncer]\nlisten_addr = *\nlisten_port = 1\nauth_type = plain\nadmin_users = root , ,Ann\npool_mode=session\nserver_reset_query = Discard All\nmax_client_conn = 10000\ndefault_pool_size = 3\nmax_links = 4\nquery_wait_timeout = 0\nserver_lifetime = 5\nserver_idle_timeout = 2147483647\nmax_packet_size = 1024\nignore_startup_parameters = extra_float_digits,Options\ntrack_extra_parameters = search_path\nuntrack_parameters = TimeZone, application_name,\nverbose = 2\n[users]\n";
+    b"[pgbouncer]\nlisten_addr = * , ::1,,localhost\nunix_socket_dir = /run/pool\nunix_socket_mode = 0660\nunix_socket_group = www\npeer_id = 127\ntcp_keepalive = 0\ntcp_keepidle = 60\ntcp_keepintvl = 10\ntcp_keepcnt = 5\ntcp_user_timeout = 2147483647\nlisten_port = 1\nauth_type = plain\nadmin_users = root , ,Ann\npool_mode=session\nserver_reset_query = Discard All\nmax_client_conn = 10000\ndefault_pool_size = 3\nmax_links = 4\nquery_wait_timeout = 0\nserver_lifetime = 5\nserver_idle_timeout = 2147483647\nmax_packet_size = 1024\nignore_startup_parameters = extra_float_digits,Options\ntrack_extra_parameters = search_path\nuntrack_parameters = TimeZone, application_name,\nverbose = 2\n[users]\n";
 
 /// The settings that are read as a number each.
 fn numbers(settings: &Settings) -> [u32; 8] {
@@ -93,9 +93,19 @@ fn settings_of_numbers(rt: HostRuntime) -> Result<(), Fail> {
     Ok(())
 }
 
+/// Whether the names are these.
+fn are(names: &Names, expected: &[&[u8]]) -> bool {
+    names.len() == expected.len()
+        && names
+            .as_slice()
+            .iter()
+            .zip(expected)
+            .all(|(name, text)| name.as_bytes() == *text)
+}
+
 /// Settings of one value each that is no number.
-fn has_choices(settings: &Settings, address: [u8; 4], auth_type: AuthType) -> bool {
-    settings.listen_addr() == address
+fn has_choices(settings: &Settings, addresses: &[&[u8]], auth_type: AuthType) -> bool {
+    are(settings.listen_addr(), addresses)
         && settings.auth_type() == auth_type
         && settings.pool_mode() == "session"
         && settings.server_reset_query() == "DISCARD ALL"
@@ -103,13 +113,17 @@ fn has_choices(settings: &Settings, address: [u8; 4], auth_type: AuthType) -> bo
 
 #[test]
 fn settings_of_choices(rt: HostRuntime) -> Result<(), Fail> {
-    let files: [(&[u8], [u8; 4], AuthType); 2] = [
-        (b"", [127, 0, 0, 1], AuthType::Md5),
-        (EVERY_KEY, [0, 0, 0, 0], AuthType::Plain),
+    let files: [(&[u8], &[&[u8]], AuthType); 2] = [
+        (b"", &[b"127.0.0.1"], AuthType::Md5),
+        (
+            EVERY_KEY,
+            &[b"0.0.0.0", b"::1", b"127.0.0.1"],
+            AuthType::Plain,
+        ),
     ];
-    for (text, address, auth_type) in files {
+    for (text, addresses, auth_type) in files {
         let settings = read_settings(rt.alloc(), text)?;
-        assert!(rt; has_choices(&settings, address, auth_type));
+        assert!(rt; has_choices(&settings, addresses, auth_type));
     }
     Ok(())
 }
@@ -200,5 +214,129 @@ fn names_of_a_list(rt: HostRuntime) -> Result<(), Fail> {
     assert!(rt; names.has(b"B") && !names.has(b"b"));
     assert!(rt; names.has_folded(b"b"));
     assert!(rt; Names::new(rt.alloc()).is_empty());
+    Ok(())
+}
+
+/// A label of 63 bytes, a folder of 92 and a list of 255: the longest.
+const LONGEST_LABEL: &str = "aaaaaaaaaaaaaaaaaaaaaaaaaaaaaaaaaaaaaaaaaaaaaaaaaaaaaaaaaaaaaaa";
+
+const LONGEST_FOLDER: &str =
+    "/fffffffffffffffffffffffffffffffffffffffffffffffffffffffffffffffffffffffffffffffffffffffffff";
+
+const LONGEST_LIST: &str =
+    "a,a,a,a,a,a,a,a,a,a,a,a,a,a,a,a,a,a,a,a,a,a,a,a,a,a,a,a,a,a,a,a,a,a,a,a,a,a,a,a,a,a,a,a,a,a,a,a,a,a,a,a,a,a,a,a,a,a,a,a,a,a,a,a,a,a,a,a,a,a,a,a,a,a,a,a,a,a,a,a,a,a,a,a,a,a,a,a,a,a,a,a,a,a,a,a,a,a,a,a,a,a,a,a,a,a,a,a,a,a,a,a,a,a,a,a,a,a,a,a,a,a,a,a,a,a,a,a";
+
+#[test]
+fn hosts_of_rows(rt: HostRuntime) -> Result<(), Fail> {
+    let hosts: [(&str, &str); 14] = [
+        ("localhost", "127.0.0.1"),
+        ("::", "::"),
+        ("::1", "::1"),
+        ("1:2:3:4:5:6:7:8", "1:2:3:4:5:6:7:8"),
+        ("fe80::AbCd", "fe80::AbCd"),
+        ("1:2:3::5:6:7:8", "1:2:3::5:6:7:8"),
+        ("db", "db"),
+        ("db-1.example_x.com", "db-1.example_x.com"),
+        ("1und1.de", "1und1.de"),
+        ("/var/run/postgresql", "/var/run/postgresql"),
+        ("a,::1,/tmp,10.0.0.1", "a,::1,/tmp,10.0.0.1"),
+        (LONGEST_LABEL, LONGEST_LABEL),
+        (LONGEST_FOLDER, LONGEST_FOLDER),
+        (LONGEST_LIST, LONGEST_LIST),
+    ];
+    for (said, kept) in hosts {
+        let text = format!(in rt.alloc(); "[databases]\nx = host={said}")?;
+        let settings = read_settings(rt.alloc(), text.as_bytes())?;
+        assert!(rt; has_row(&settings, b"x", kept.as_bytes(), 5432, b"x"));
+    }
+    Ok(())
+}
+
+// A row of the name comes first, wherever it stands; 63 bytes are the longest name that PostgreSQL has.
+#[test]
+fn the_row_of_a_star(rt: HostRuntime) -> Result<(), Fail> {
+    let text = b"[databases]\n* = host=db port=6000\nshop = host=::1";
+    let settings = read_settings(rt.alloc(), text)?;
+    let label = LONGEST_LABEL.as_bytes();
+    assert!(rt; has_row(&settings, b"shop", b"::1", 5432, b"shop"));
+    assert!(rt; has_row(&settings, label, b"db", 6000, label));
+    let others: [&[u8]; 3] = [b"", b"a\0b", &LONGEST_LIST.as_bytes()[..64]];
+    for name in others {
+        assert!(rt; settings.row(name).is_none());
+    }
+    let named = read_settings(rt.alloc(), b"[databases]\n* = host=db dbname=press")?;
+    assert!(rt; has_row(&named, b"news", b"db", 5432, b"press"));
+    Ok(())
+}
+
+#[test]
+fn addresses_that_are_listened_on(rt: HostRuntime) -> Result<(), Fail> {
+    let rows: [(&str, &[&[u8]]); 5] = [
+        ("*", &[b"0.0.0.0"]),
+        ("::", &[b"::"]),
+        ("localhost", &[b"127.0.0.1"]),
+        ("pool-1.example", &[b"pool-1.example"]),
+        (" ::1 ,,10.0.0.1", &[b"::1", b"10.0.0.1"]),
+    ];
+    for (said, kept) in rows {
+        let text = format!(in rt.alloc(); "[pgbouncer]\nlisten_addr = {said}")?;
+        let settings = read_settings(rt.alloc(), text.as_bytes())?;
+        assert!(rt; are(settings.listen_addr(), kept));
+    }
+    Ok(())
+}
+
+/// The rights of the Unix socket, and the numbers of peers and connections.
+fn socket_numbers(settings: &Settings) -> [u32; 6] {
+    [
+        settings.unix_socket_mode(),
+        settings.peer_id(),
+        settings.tcp_keepidle(),
+        settings.tcp_keepintvl(),
+        settings.tcp_keepcnt(),
+        settings.tcp_user_timeout(),
+    ]
+}
+
+#[test]
+fn settings_of_sockets(rt: HostRuntime) -> Result<(), Fail> {
+    let files: [(&[u8], [u32; 6], bool); 4] = [
+        (b"", [0o777, 0, 0, 0, 0, 0], true),
+        (EVERY_KEY, [0o660, 127, 60, 10, 5, 2_147_483_647], false),
+        (
+            b"[pgbouncer]\ntcp_keepalive = 1\nunix_socket_mode = 0777",
+            [0o777, 0, 0, 0, 0, 0],
+            true,
+        ),
+        (
+            b"[pgbouncer]\ntcp_keepalive = no\nunix_socket_mode = 770",
+            [0o770, 0, 0, 0, 0, 0],
+            true,
+        ),
+    ];
+    for (text, numbers, keeps_alive) in files {
+        let settings = read_settings(rt.alloc(), text)?;
+        assert!(rt; socket_numbers(&settings) == numbers);
+        assert!(rt; settings.tcp_keepalive() == keeps_alive);
+    }
+    Ok(())
+}
+
+#[test]
+fn the_unix_socket(rt: HostRuntime) -> Result<(), Fail> {
+    let files: [(&[u8], &[u8], &[u8]); 3] = [
+        (b"", b"", b""),
+        (EVERY_KEY, b"/run/pool", b"www"),
+        (
+            b"[pgbouncer]\nunix_socket_dir = a b\nunix_socket_group =",
+            b"a b",
+            b"",
+        ),
+    ];
+    for (text, folder, group) in files {
+        let settings = read_settings(rt.alloc(), text)?;
+        assert!(rt; settings.unix_socket_dir() == folder);
+        assert!(rt; settings.unix_socket_group() == group);
+    }
     Ok(())
 }

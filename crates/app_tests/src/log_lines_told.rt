@@ -1,26 +1,35 @@
 //! The lines of the log. Each was worked out by hand from what is told.
-use log_lines::events::{Event, Totals, put_event};
+use arrayvec::ArrayString;
+use log_lines::events::{Event, Heard, Totals, put_event};
 use log_lines::lines::put_note;
 use log_lines::notes::{Client, Loss, Note, Server, Unstarted, Visit};
 use message_view::Refusal;
 use std::alloc::Global;
 use std::test::Fail;
 
-const VISIT: Visit = Visit {
-    host: [10, 0, 0, 5],
-    port: 40_112,
-    since: None,
-};
+/// A client's connection from this host.
+fn visit(host: &str) -> Visit {
+    Visit {
+        host: match ArrayString::from(host) {
+            Ok(host) => host,
+            Err(_) => ArrayString::new(),
+        },
+        port: 40_112,
+        since: None,
+    }
+}
 
-const ANN: Client<'static> = Client {
-    visit: VISIT,
-    number: Some(12),
-    user: b"ann",
-    database: b"shop",
-};
+fn ann() -> Client<'static> {
+    Client {
+        visit: visit("10.0.0.5"),
+        number: Some(12),
+        user: b"ann",
+        database: b"shop",
+    }
+}
 
-const SERVER: Server = Server {
-    host: [127, 0, 0, 1],
+const SERVER: Server<'static> = Server {
+    host: b"127.0.0.1",
     port: 5432,
 };
 
@@ -42,7 +51,7 @@ fn goes_on(alloc: Global, note: Note<'_>, ms: Option<u64>, wanted: &[u8]) -> Res
     let mut line = Vec::new(alloc);
     line.extend_from_slice(b"pgsess: client 12 ann@shop from 10.0.0.5:40112")?;
     line.extend_from_slice(wanted)?;
-    is_line(alloc, &ANN, note, ms, &line)
+    is_line(alloc, &ann(), note, ms, &line)
 }
 
 #[test]
@@ -145,7 +154,7 @@ fn why_no_link_was_started(rt: HostRuntime) -> Result<(), Fail> {
 #[test]
 fn unknown_clients(rt: HostRuntime) -> Result<(), Fail> {
     let client = Client {
-        visit: VISIT,
+        visit: visit("10.0.0.5"),
         number: None,
         user: b"",
         database: b"",
@@ -156,11 +165,33 @@ fn unknown_clients(rt: HostRuntime) -> Result<(), Fail> {
     Ok(())
 }
 
+// An address of IPv6 stands between brackets; who comes over a Unix socket has none.
+#[test]
+fn where_clients_come_from(rt: HostRuntime) -> Result<(), Fail> {
+    let rows: [(&str, &[u8]); 2] = [
+        (
+            "2001:db8::7",
+            b"pgsess: client ann@shop from [2001:db8::7]:40112 in",
+        ),
+        ("unix", b"pgsess: client ann@shop from unix:40112 in"),
+    ];
+    for (host, wanted) in rows {
+        let client = Client {
+            visit: visit(host),
+            number: None,
+            user: b"ann",
+            database: b"shop",
+        };
+        assert!(rt; is_line(rt.alloc(), &client, Note::LoggedIn, None, wanted)?);
+    }
+    Ok(())
+}
+
 // A name ends no line and holds no space; a text between quotation marks doesn't end them; an UTF-8 letter is two bytes.
 #[test]
 fn names_are_escaped(rt: HostRuntime) -> Result<(), Fail> {
     let client = Client {
-        visit: VISIT,
+        visit: visit("10.0.0.5"),
         number: None,
         user: b"a b\n\x1b[2J\\\x7f",
         database: b"caf\xc3\xa9",
@@ -177,7 +208,7 @@ fn names_are_escaped(rt: HostRuntime) -> Result<(), Fail> {
 /// The line of a client of this user.
 fn line_of_user(alloc: Global, user: &[u8]) -> Result<Vec<u8>, Fail> {
     let client = Client {
-        visit: VISIT,
+        visit: visit("10.0.0.5"),
         number: None,
         user,
         database: b"d",
@@ -209,10 +240,34 @@ fn what_the_program_tells(rt: HostRuntime) -> Result<(), Fail> {
         left: 3,
         others: 2,
     };
-    let rows: [(Event<'_>, &[u8]); 6] = [
+    let rows: [(Event<'_>, &[u8]); 12] = [
         (
-            Event::Listening([127, 0, 0, 1], 6432),
+            Event::Listening(b"127.0.0.1", 6432),
             b"pgsess: listening 127.0.0.1 6432",
+        ),
+        (
+            Event::Listening(b"::1", 6432),
+            b"pgsess: listening ::1 6432",
+        ),
+        (
+            Event::NotListening(b"/run/pool", 6432, b"permission denied"),
+            b"pgsess: not listening /run/pool 6432: permission denied",
+        ),
+        (
+            Event::Unreached(b"::1", 5432, b"connection refused"),
+            b"pgsess: server [::1]:5432 not reached: connection refused",
+        ),
+        (
+            Event::IdleClosed(7, Heard::Ended),
+            b"pgsess: idle link 7 closed: server connection ended",
+        ),
+        (
+            Event::IdleClosed(7, Heard::Said(SERVER_ERROR)),
+            b"pgsess: idle link 7 closed: its server said 28P01 password authentication failed for user \"ann\"",
+        ),
+        (
+            Event::IdleClosed(7, Heard::Spoke),
+            b"pgsess: idle link 7 closed: its server said what nobody asked for",
         ),
         (Event::Reloaded, b"pgsess: reloaded"),
         (

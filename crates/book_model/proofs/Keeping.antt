@@ -8,9 +8,9 @@ use Rattle.message_view.specs.declared.views.KeyView.{KeyView}
 use Rattle.session_values.specs.State.{StartKeyOf}
 use Rattle.start_keys.specs.Keys.{same_key}
 use Rattle.book_model.specs.Book.{Limits, Book, Lease, Link, Ticket, in_pool, is_client, is_link, is_number, is_of, is_of_client, is_of_link, latest_of, link_count, pool_count, pool_size, waiting_before, with_number, without, without_ticket, empty_book}
-use Rattle.book_model.specs.Outcomes.{Answer, Event, apply, apply_return, arrives, asks, at_clock, cancels, closes, counted, ends_lease, evicts, gives_back, grants, has_waited, in_state, is_crowded, is_old, is_stale, is_started_as, is_strange, keys, kind_of, last_decision, leaves, lends, loses_ticket, outcome, starts, strikes, strikes_at, takes}
-use Rattle.book_model.specs.Outcomes.Event.{Arrive, Ask, Take, GiveBack, Lost, StartFailed, Leave, Tick, NewLimits, Pause, Resume, Shutdown, Keyed, Cancel, EndLease}
-use Rattle.book_model.specs.declared.counts.Kind.TheVariants.{Arrival, ArrivalRefused, Asking, AskRefused, TicketLost, Leaving, Ticking, Limiting, Pausing, Resuming, Closing, Keying, Cancelling, LeaseEnding}
+use Rattle.book_model.specs.Outcomes.{Answer, Event, apply, apply_return, arrives, asks, at_clock, cancels, closes, counted, ends_lease, evicts, gives_back, grants, hangs_up, has_waited, in_state, is_crowded, is_old, is_stale, is_started_as, is_strange, keys, kind_of, last_decision, leaves, lends, loses_ticket, outcome, starts, strikes, strikes_at, takes}
+use Rattle.book_model.specs.Outcomes.Event.{Arrive, Ask, Take, GiveBack, Lost, StartFailed, Leave, Tick, NewLimits, Pause, Resume, Shutdown, Keyed, Cancel, EndLease, HungUp}
+use Rattle.book_model.specs.declared.counts.Kind.TheVariants.{Arrival, ArrivalRefused, Asking, AskRefused, TicketLost, Leaving, Ticking, Limiting, Pausing, Resuming, Closing, Keying, Cancelling, LeaseEnding, HangUp}
 use Rattle.book_model.specs.declared.events.ClientState.TheVariants.{LoggingIn, Waiting, Active}
 use Rattle.book_model.specs.Kept.{FitsLimits, Kept, KeptClients, KeptLimits}
 use Rattle.book_model.proofs.KeepingLists.{any_counts, found_any, found_counts, last_counts, none_counts, not_found}
@@ -201,6 +201,18 @@ closes_keeps b now (Some link) h = record {
   limits = h.limits;
 }
 
+-- ---- a server hangs up
+
+hangs_up_keeps : (b : Book) (n : ℕ) (o : Option Link) → Kept b → Keeps b (HungUp n) (hangs_up b o)
+hangs_up_keeps b n None h = h
+hangs_up_keeps b n (Some link) h = record {
+  clients = h.clients;
+  links = idle_goes link.number b.lent b.idle b.next_link h.links;
+  leases = h.leases;
+  counts = counts_stay HangUp b (hangs_up b (Some link)).book refl refl refl h.counts;
+  limits = h.limits;
+}
+
 -- ---- leases
 
 keys_keeps : (b : Book) (n : ℕ) (client server : KeyView) → is_strange b (Keyed n client server) ≡ false → Kept b → Keeps b (Keyed n client server) (keys b n client server)
@@ -219,7 +231,7 @@ keys_keeps b n client server known h = record {
     there : (list_any (is_link n) b.lent ≡ true) × ((list_any (is_of_link n) b.keyed || list_any (is_number n) b.ended) ≡ false)
     there = second_of _ _ known
 
-strikes_keeps : (b : Book) (client : KeyView) (lease : Lease) (link : Link) (host : Option (List ℕ)) → find (is_link lease.link) b.lent ≡ Some link → Kept b → Keeps b (Cancel client) (strikes b lease link.key.port host)
+strikes_keeps : (b : Book) (client : KeyView) (lease : Lease) (link : Link) (host : Option (List ℕ)) → find (is_link lease.link) b.lent ≡ Some link → Kept b → Keeps b (Cancel client) (strikes b lease host)
 strikes_keeps b client lease link None e h = h
 strikes_keeps b client lease link (Some host) e h = record {
   clients = h.clients;
@@ -264,6 +276,7 @@ outcome_keeps b Shutdown fits known h = record { clients = h.clients; links = h.
 outcome_keeps b (Keyed n client server) fits known h = keys_keeps b n client server known h
 outcome_keeps b (Cancel client) fits known h = cancels_keeps b client (find (is_of_client client) b.keyed) h
 outcome_keeps b (EndLease n) fits known h = ends_keeps b n (not_false _ known) h
+outcome_keeps b (HungUp n) fits known h = hangs_up_keeps b n (find (is_link n) b.idle) h
 
 pub applied_keeps : (b : Book) (e : Event) → FitsLimits e → Kept b → Kept (apply b e).book
 unfolding apply

@@ -14,11 +14,11 @@ use Rattle.book_model.specs.declared.counts.Counts.{Counts}
 use Rattle.book_model.specs.declared.counts.Kind.{Kind}
 use Rattle.book_model.specs.declared.events.ClientState.TheVariants.{Waiting}
 use Rattle.book_model.specs.declared.events.Reply.{Reply}
-use Rattle.book_model.specs.Outcomes.{Answer, Event, apply, apply_return, at_clock, cancels, closes, counted, ends_lease, evicts, gives_back, grants, has_waited, in_state, is_crowded, is_old, is_stale, is_started_as, is_strange, kind_of, last_decision, loses_ticket, outcome, raised, starts, strikes, strikes_at, takes, waits}
-use Rattle.book_model.specs.Outcomes.Event.{Arrive, Ask, Take, GiveBack, Lost, StartFailed, Leave, Tick, NewLimits, Pause, Resume, Shutdown, Keyed, Cancel, EndLease}
+use Rattle.book_model.specs.Outcomes.{Answer, Event, apply, apply_return, at_clock, cancels, closes, counted, ends_lease, evicts, gives_back, grants, hangs_up, has_waited, in_state, is_crowded, is_old, is_stale, is_started_as, is_strange, kind_of, last_decision, loses_ticket, outcome, raised, starts, strikes, strikes_at, takes, waits}
+use Rattle.book_model.specs.Outcomes.Event.{Arrive, Ask, Take, GiveBack, Lost, StartFailed, Leave, Tick, NewLimits, Pause, Resume, Shutdown, Keyed, Cancel, EndLease, HungUp}
 use Rattle.book_model.specs.declared.events.Reply.TheVariants.{Arrived, Queued, Lend, Start, Close, Refuse, Done, Stranger, Strike, Nobody, Reset, Dispose}
 use Rattle.book_model.specs.Laws.{AddsNothing, Drops, HasLease, HasLink, HasTicket, Keys, Lends, LendsNothing, LendsOne, MayReturn, Numbers, Queues, Releases, Starts, StartsNothing, Strikes, TakesBack}
-use Rattle.book_model.specs.Laws.{PlainEventsAddNothing, ArrivalsNumber, AsksQueue, TakesLend, TakesStart, TakesEvict, ReturnsAdd, ReturnsClose, TicksClose, KeyedKeys, CancelsStrike, ResetsRelease}
+use Rattle.book_model.specs.Laws.{PlainEventsAddNothing, ArrivalsNumber, AsksQueue, TakesLend, TakesStart, TakesEvict, ReturnsAdd, ReturnsClose, TicksClose, HangUpsClose, KeyedKeys, CancelsStrike, ResetsRelease}
 use Rattle.book_model.specs.Laws.IsPlain.{turned_away, waits_no_more, lost, start_failed, leave, ticks, new_limits, pause, resume, shutdown, lease_ends}
 use Rattle.book_model.specs.Laws.IsPlain.{waits as waits_on}
 
@@ -288,7 +288,7 @@ TakeFits old c (Close n) new = StartsNothing old new
 TakeFits old c (Refuse n) new = StartsNothing old new
 TakeFits old c Done new = StartsNothing old new
 TakeFits old c Stranger new = StartsNothing old new
-TakeFits old c (Strike n server host port) new = StartsNothing old new
+TakeFits old c (Strike n server) new = StartsNothing old new
 TakeFits old c Nobody new = StartsNothing old new
 TakeFits old c Reset new = StartsNothing old new
 TakeFits old c Dispose new = StartsNothing old new
@@ -408,7 +408,7 @@ BackFits old l key (Arrived n) new = Unit {0}
 BackFits old l key (Queued n) new = Unit {0}
 BackFits old l key (Refuse n) new = Unit {0}
 BackFits old l key Stranger new = Unit {0}
-BackFits old l key (Strike n server host port) new = Unit {0}
+BackFits old l key (Strike n server) new = Unit {0}
 BackFits old l key Nobody new = Unit {0}
 BackFits old l key Reset new = Unit {0}
 BackFits old l key Dispose new = Unit {0}
@@ -463,7 +463,7 @@ TickFits old (Arrived n) new = Unit {0}
 TickFits old (Queued n) new = Unit {0}
 TickFits old (Refuse n) new = Unit {0}
 TickFits old Stranger new = Unit {0}
-TickFits old (Strike n server host port) new = Unit {0}
+TickFits old (Strike n server) new = Unit {0}
 TickFits old Nobody new = Unit {0}
 TickFits old Reset new = Unit {0}
 TickFits old Dispose new = Unit {0}
@@ -487,6 +487,32 @@ pub ticks_close : TicksClose
 unfolding TickFits
 ticks_close b now n e = tick_of b now (Close n) e
 
+-- ---- a HungUp
+
+HangUpFits : Book → ℕ → Reply → Book → Type 0
+HangUpFits old l (Close n) new = (n ≡ l) × StartsNothing old new × Drops old n new
+HangUpFits old l _ new = Unit {0}
+
+hangs_up_ok : (b : Book) (l : ℕ) (o : Option Link) → find (is_link l) b.idle ≡ o → AnswerFits (HangUpFits b l) (hangs_up b o)
+unfolding HangUpFits AnswerFits
+hangs_up_ok b l None e = λ d counts. tt
+hangs_up_ok b l (Some link) e = λ d counts. (
+  eqb-true link.number l f.passes,
+  record { adds_nothing = record { next_client = le_refl b.next_client; idle = λ n k h. (without_keeps link.number n k b.idle h).0; tickets = λ u k h. h }; next_link = refl; lends_nothing = lends_nothing b _ refl refl refl },
+  record { key = link.key; was_idle = f.has; not_idle = λ n k h. (without_keeps link.number n k b.idle h).1 },
+)
+  where
+    f : Found (is_link l) b.idle link
+    f = first_found (is_link l) b.idle link e
+
+hang_up_event : (b : Book) (l : ℕ) → HangUpFits b l (apply b (HungUp l)).reply (apply b (HungUp l)).book
+unfolding HangUpFits
+hang_up_event b l = applied (HangUpFits b l) b (HungUp l) tt tt (hangs_up_ok b l (find (is_link l) b.idle) refl)
+
+pub hang_ups_close : HangUpsClose
+unfolding HangUpFits
+hang_ups_close b l n e = subst (λ (s : Reply). HangUpFits b l s (apply b (HungUp l)).book) e (hang_up_event b l)
+
 -- ---- an Arrive
 
 ArriveFits : Book → Reply → Book → Type 0
@@ -498,7 +524,7 @@ ArriveFits old (Start n born evicted) new = Unit {0}
 ArriveFits old (Close n) new = Unit {0}
 ArriveFits old (Queued n) new = Unit {0}
 ArriveFits old Stranger new = Unit {0}
-ArriveFits old (Strike n server host port) new = Unit {0}
+ArriveFits old (Strike n server) new = Unit {0}
 ArriveFits old Nobody new = Unit {0}
 ArriveFits old Reset new = Unit {0}
 ArriveFits old Dispose new = Unit {0}
@@ -554,7 +580,7 @@ keyed_keys b l client server e = subst (λ (s : Reply). KeyedFits b l client ser
 -- ---- a Cancel
 
 CancelFits : Book → KeyView → Reply → Book → Type 0
-CancelFits old client (Strike l server host port) new = Strikes old client l server host port new
+CancelFits old client (Strike l server) new = Strikes old client l server new
 CancelFits old client _ new = Unit {0}
 
 marks_link : (l : ℕ) (old new : Book) → new.lent ≡ old.lent → new.keyed ≡ old.keyed → new.marked ≡ without_number l old.marked ++ l ∷ [] → LendsNothing old new × (MayReturn l new → ⊥)
@@ -573,15 +599,15 @@ marks_link l old new ls ks ms = (
     unmarked : (n : ℕ) → list_any (is_number n) new.marked ≡ false → (list_any (is_number n) (without_number l old.marked) ≡ false) × (n ≢ l)
     unmarked n e = unmarked_before l n (without_number l old.marked) (subst (λ (marks : List ℕ). list_any (is_number n) marks ≡ false) ms e)
 
-strikes_ok : (b : Book) (client : KeyView) (lease : Lease) (link : Link) (host : Option (List ℕ)) → HasLease lease.link client lease.server b.keyed → HasLink lease.link link.key b.lent → link.key.host ≡ host → AnswerFits (CancelFits b client) (strikes b lease link.key.port host)
+strikes_ok : (b : Book) (client : KeyView) (lease : Lease) (link : Link) (host : Option (List ℕ)) → HasLease lease.link client lease.server b.keyed → HasLink lease.link link.key b.lent → link.key.host ≡ host → AnswerFits (CancelFits b client) (strikes b lease host)
 unfolding CancelFits AnswerFits
 strikes_ok b client lease link None has lent e = λ d counts. tt
-strikes_ok b client lease link (Some host) has lent e = λ d counts. let marks = marks_link lease.link b _ refl refl refl in record {
+strikes_ok b client lease link (Some at) has lent e = λ d counts. let marks = marks_link lease.link b _ refl refl refl in record {
   lease = has;
   key = link.key;
   is_lent = lent;
+  host = at;
   host_is = e;
-  port_is = refl;
   starts_nothing = record { adds_nothing = record { next_client = le_refl b.next_client; idle = λ n k h. h; tickets = λ u k h. h }; next_link = refl; lends_nothing = marks.0 };
   marks = marks.1;
 }
@@ -605,7 +631,7 @@ cancel_event b client = applied (CancelFits b client) b (Cancel client) tt tt (c
 
 pub cancels_strike : CancelsStrike
 unfolding CancelFits
-cancels_strike b client l server host port e = subst (λ (s : Reply). CancelFits b client s (apply b (Cancel client)).book) e (cancel_event b client)
+cancels_strike b client l server e = subst (λ (s : Reply). CancelFits b client s (apply b (Cancel client)).book) e (cancel_event b client)
 
 -- ---- an EndLease
 
@@ -668,5 +694,6 @@ plain_events_add_nothing b Shutdown r shutdown q = changes_little b Shutdown (λ
 plain_events_add_nothing b (EndLease n) r lease_ends q = changes_little b (EndLease n) (λ d counts. ends_nothing b n d counts)
 plain_events_add_nothing b (Keyed n client server) r p q = elim p [ ]
 plain_events_add_nothing b (Cancel client) r p q = elim p [ ]
+plain_events_add_nothing b (HungUp n) r p q = elim p [ ]
 plain_events_add_nothing b (Ask c key) r p q = elim p [ ]
 plain_events_add_nothing b (GiveBack n) r p q = elim p [ ]

@@ -1,5 +1,5 @@
 -- The lease book as plain lists: who is there, who waits, and which links there are.
-use Rattle.std.specs.Prelude.{ℕ, Bool, false, List, [], ◌∷◌, ◌++◌, Option, Some, None, not, cond, ◌==◌, ◌&&◌, ◌+◌, length, filter, find, count_by, bytes_eq}
+use Rattle.std.specs.Prelude.{ℕ, Bool, false, List, [], ◌∷◌, ◌++◌, Option, Some, None, not, cond, ◌==◌, ◌&&◌, ◌+◌, codes, length, nat_le, filter, find, count_by, option_map, bytes_eq}
 use Rattle.message_view.specs.declared.views.KeyView.{KeyView}
 use Rattle.session_values.specs.State.{StartKeyOf}
 use Rattle.start_keys.specs.Keys.{same_host, same_key}
@@ -75,12 +75,16 @@ pub record Book : Type 0 where
   pub losses : ℕ
 
 abbrev pub no_counts : Counts
-no_counts = record { arrived = 0; arrivals_refused = 0; asked = 0; asks_refused = 0; granted = 0; tickets_lost = 0; given_back = 0; lost = 0; starts_failed = 0; left = 0; ticked = 0; limited = 0; paused = 0; resumed = 0; shut_down = 0; keyed = 0; cancelled = 0; leases_ended = 0 }
+no_counts = record { arrived = 0; arrivals_refused = 0; asked = 0; asks_refused = 0; granted = 0; tickets_lost = 0; given_back = 0; lost = 0; starts_failed = 0; left = 0; ticked = 0; limited = 0; paused = 0; resumed = 0; shut_down = 0; keyed = 0; cancelled = 0; leases_ended = 0; hung_up = 0 }
 
 abbrev pub empty_book : Limits → Book
 empty_book limits = record { clients = []; tickets = []; lent = []; idle = []; keyed = []; marked = []; ended = []; next_client = 1; next_link = 1; clock = 0; limits = limits; is_paused = false; is_shut = false; decisions = 0; counts = no_counts; starts = 0; reuses = 0; evictions = 0; losses = 0 }
 
--- ---- pools: a pool is a database row's name and a user
+abbrev pub or_else : {A : Type 0} → Option A → Option A → Option A
+or_else None other = other
+or_else (Some x) other = Some x
+
+-- ---- pools: a pool is a database's name and a user
 
 abbrev pub same_pool : StartKeyOf → StartKeyOf → Bool
 same_pool a b = bytes_eq a.row b.row && bytes_eq a.user b.user
@@ -89,14 +93,33 @@ same_pool a b = bytes_eq a.row b.row && bytes_eq a.user b.user
 abbrev pub row_named : List ℕ → List Row → Option Row
 row_named name rows = find (λ row. bytes_eq name row.name) rows
 
+-- the row by which databases are served that no other row names, and the longest name that PostgreSQL has
+abbrev pub wildcard : List ℕ
+wildcard = codes "*"
+
+abbrev pub longest_name : ℕ
+longest_name = 63
+
+-- a row of another name: `*` is that for the server's database where no other is said
+abbrev pub row_as : List ℕ → Row → Row
+row_as name row = record row { name = name; dbname = cond (bytes_eq row.dbname wildcard) name row.dbname }
+
+-- `*`'s, under the name of the database
+abbrev pub wildcard_row : List ℕ → List Row → Option Row
+wildcard_row name rows = cond (nat_le (length name) longest_name) (option_map (row_as name) (row_named wildcard rows)) None
+
+-- the row that serves a database: that of its name, else `*`'s
+abbrev pub row_for : List ℕ → List Row → Option Row
+row_for name rows = or_else (row_named name rows) (wildcard_row name rows)
+
 abbrev pub size_of : ℕ → Option Row → ℕ
 size_of default None = default
 size_of default (Some row) = row.size
 
 abbrev pub pool_size : Limits → StartKeyOf → ℕ
-pool_size limits pool = size_of limits.default_size (row_named pool.row limits.rows)
+pool_size limits pool = size_of limits.default_size (row_for pool.row limits.rows)
 
--- ---- a key's row: the one of its name, where that has the key's server
+-- ---- a key's row: the one that serves its database, where that has the key's server
 
 abbrev pub leads_to : Row → StartKeyOf → Bool
 leads_to row key = same_host (Some row.host) key.host && (row.port == key.port && bytes_eq row.dbname key.dbname)
@@ -105,9 +128,9 @@ abbrev pub is_row_of : StartKeyOf → Option Row → Bool
 is_row_of key None = false
 is_row_of key (Some row) = leads_to row key
 
--- whether the limits have a database row of the key's name, host, port and dbname
+-- whether the limits have a database row for the key's name, with its host, port and dbname
 abbrev pub is_listed : Limits → StartKeyOf → Bool
-is_listed limits key = is_row_of key (row_named key.row limits.rows)
+is_listed limits key = is_row_of key (row_for key.row limits.rows)
 
 -- ---- links
 
@@ -145,10 +168,6 @@ without_client n clients = filter (λ c. not (is_client n c)) clients
 abbrev pub waiting_before : StartKeyOf → ℕ → List Ticket → ℕ
 waiting_before pool client [] = 0
 waiting_before pool client (t ∷ ts) = cond (is_of client t) 0 (cond {A = ℕ} (same_pool t.key pool) 1 0 + waiting_before pool client ts)
-
-abbrev pub or_else : {A : Type 0} → Option A → Option A → Option A
-or_else None other = other
-or_else (Some x) other = Some x
 
 -- the last that passes
 abbrev pub find_last : {A : Type 0} → (A → Bool) → List A → Option A

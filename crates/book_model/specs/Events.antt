@@ -1,7 +1,7 @@
 -- The program's events, as the definition has them.
 use Rattle.std.specs.Arc.{arc_value}
 use Rattle.book_model.specs.Outcomes.{Event}
-use Rattle.book_model.specs.Outcomes.Event.{Arrive, Ask, Take, GiveBack, Lost, StartFailed, Leave, Tick, NewLimits, Pause, Resume, Shutdown, Keyed, Cancel, EndLease}
+use Rattle.book_model.specs.Outcomes.Event.{Arrive, Ask, Take, GiveBack, Lost, StartFailed, Leave, Tick, NewLimits, Pause, Resume, Shutdown, Keyed, Cancel, EndLease, HungUp}
 use Rattle.book_model.specs.declared.events.Event as program
 use Rattle.book_model.specs.declared.events.Event.TheVariants as its
 
@@ -21,3 +21,4 @@ event_of its.Shutdown = Shutdown
 event_of (its.Keyed link client server) = Keyed link client server
 event_of (its.Cancel client) = Cancel client
 event_of (its.EndLease link) = EndLease link
+event_of (its.HungUp link) = HungUp link

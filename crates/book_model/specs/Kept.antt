@@ -28,7 +28,7 @@ pub record KeptLeases (lent : List Link) (leases : List Lease) (marks ends : Lis
 
 -- all kinds together
 abbrev pub total : Counts → ℕ
-total c = c.arrived + c.arrivals_refused + c.asked + c.asks_refused + c.granted + c.tickets_lost + c.given_back + c.lost + c.starts_failed + c.left + c.ticked + c.limited + c.paused + c.resumed + c.shut_down + c.keyed + c.cancelled + c.leases_ended
+total c = c.arrived + c.arrivals_refused + c.asked + c.asks_refused + c.granted + c.tickets_lost + c.given_back + c.lost + c.starts_failed + c.left + c.ticked + c.limited + c.paused + c.resumed + c.shut_down + c.keyed + c.cancelled + c.leases_ended + c.hung_up
 
 -- the counts agree with one another and with the lists
 pub record KeptCounts (b : Book) : Type 0 where

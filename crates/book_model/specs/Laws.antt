@@ -7,7 +7,7 @@ use Rattle.session_values.specs.State.{StartKeyOf}
 use Rattle.book_model.specs.Book.{Book, Lease, Limits, Link, Ticket, is_number}
 use Rattle.book_model.specs.Outcomes.{Event, apply, apply_return}
 use Rattle.book_model.specs.declared.events.Reply.{Reply}
-use Rattle.book_model.specs.Outcomes.Event.{Arrive, Ask, Take, Lost, StartFailed, Leave, Tick, NewLimits, Pause, Resume, Shutdown, Keyed, Cancel, EndLease}
+use Rattle.book_model.specs.Outcomes.Event.{Arrive, Ask, Take, Lost, StartFailed, Leave, Tick, NewLimits, Pause, Resume, Shutdown, Keyed, Cancel, EndLease, HungUp}
 use Rattle.book_model.specs.declared.events.Reply.TheVariants.{Arrived, Queued, Lend, Start, Close, Refuse, Done, Strike, Reset}
 
 -- a link of this number and key is among them
@@ -113,13 +113,13 @@ pub record Keys (old : Book) (link : ℕ) (client server : KeyView) (new : Book)
   pub leases : (n : ℕ) (c s : KeyView) → HasLease n c s new.keyed → HasLease n c s old.keyed ⊎ ((link ≡ n) × (client ≡ c) × (server ≡ s))
   pub may_return : (n : ℕ) → MayReturn n new → MayReturn n old
 
--- a lease of the client's key word is struck, at the place of its link's key, and its link may not return any more
-pub record Strikes (old : Book) (client : KeyView) (link : ℕ) (server : KeyView) (host : List ℕ) (port : ℕ) (new : Book) : Type 0 where
+-- a lease of the client's key word is struck, its link's key has a host, and its link may not return any more
+pub record Strikes (old : Book) (client : KeyView) (link : ℕ) (server : KeyView) (new : Book) : Type 0 where
   pub lease : HasLease link client server old.keyed
   pub key : StartKeyOf
   pub is_lent : HasLink link key old.lent
+  pub host : List ℕ
   pub host_is : key.host ≡ Some host
-  pub port_is : key.port ≡ port
   pub starts_nothing : StartsNothing old new
   pub marks : MayReturn link new → ⊥
 
@@ -172,11 +172,15 @@ ReturnsClose = (b : Book) (link closed : ℕ) (key : StartKeyOf) (born : ℕ) �
 abbrev pub TicksClose : Type 0
 TicksClose = (b : Book) (now link : ℕ) → (apply b (Tick now)).reply ≡ Close link → StartsNothing b (apply b (Tick now)).book × Drops b link (apply b (Tick now)).book
 
+-- the link that is closed is the one whose server hung up
+abbrev pub HangUpsClose : Type 0
+HangUpsClose = (b : Book) (link closed : ℕ) → (apply b (HungUp link)).reply ≡ Close closed → (closed ≡ link) × StartsNothing b (apply b (HungUp link)).book × Drops b closed (apply b (HungUp link)).book
+
 abbrev pub KeyedKeys : Type 0
 KeyedKeys = (b : Book) (link : ℕ) (client server : KeyView) → (apply b (Keyed link client server)).reply ≡ Done → Keys b link client server (apply b (Keyed link client server)).book
 
 abbrev pub CancelsStrike : Type 0
-CancelsStrike = (b : Book) (client : KeyView) (link : ℕ) (server : KeyView) (host : List ℕ) (port : ℕ) → (apply b (Cancel client)).reply ≡ Strike link server host port → Strikes b client link server host port (apply b (Cancel client)).book
+CancelsStrike = (b : Book) (client : KeyView) (link : ℕ) (server : KeyView) → (apply b (Cancel client)).reply ≡ Strike link server → Strikes b client link server (apply b (Cancel client)).book
 
 abbrev pub ResetsRelease : Type 0
 ResetsRelease = (b : Book) (link : ℕ) → (apply b (EndLease link)).reply ≡ Reset → Releases b link (apply b (EndLease link)).book

@@ -6,3 +6,4 @@ pub mod Events
 pub mod Laws
 pub mod Kept
 pub mod Limits
+pub mod Places

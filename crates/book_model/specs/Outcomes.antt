@@ -9,7 +9,7 @@ use Rattle.start_keys.specs.Keys.{same_key}
 use Rattle.book_model.specs.Book.{Book, Client, Lease, Limits, Link, Ticket, in_pool, is_client, is_link, is_listed, is_number, is_of, is_of_client, is_of_link, latest_of, link_count, pool_count, pool_size, same_pool, waiting_before, with_number, without, without_client, without_lease, without_number, without_ticket}
 use Rattle.book_model.specs.declared.counts.Counts.{Counts}
 use Rattle.book_model.specs.declared.counts.Kind.{Kind}
-use Rattle.book_model.specs.declared.counts.Kind.TheVariants.{Arrival, ArrivalRefused, Asking, AskRefused, Grant, TicketLost, Return, Loss, FailedStart, Leaving, Ticking, Limiting, Pausing, Resuming, Closing, Keying, Cancelling, LeaseEnding}
+use Rattle.book_model.specs.declared.counts.Kind.TheVariants.{Arrival, ArrivalRefused, Asking, AskRefused, Grant, TicketLost, Return, Loss, FailedStart, Leaving, Ticking, Limiting, Pausing, Resuming, Closing, Keying, Cancelling, LeaseEnding, HangUp}
 use Rattle.book_model.specs.declared.events.ClientState.{ClientState}
 use Rattle.book_model.specs.declared.events.ClientState.TheVariants.{LoggingIn, Waiting, Active}
 use Rattle.book_model.specs.declared.events.Reply.{Reply}
@@ -35,6 +35,8 @@ pub data Event : Type 0 where
   Cancel : (client : KeyView) → Event
   -- the lease of a link has ended
   EndLease : (link : ℕ) → Event
+  -- the server of an idle link has hung up, or said something unasked
+  HungUp : (link : ℕ) → Event
 
 pub record Answer : Type 0 where
   pub book : Book
@@ -138,19 +140,24 @@ closes b (Some link) = record { book = record b { idle = without link.number b.i
 abbrev pub at_clock : Book → ℕ → Book
 at_clock b now = record b { clock = cond (nat_lt b.clock now) now b.clock }
 
+-- An idle link is closed whose server has hung up. One that isn't idle any more is left to who has it.
+abbrev pub hangs_up : Book → Option Link → Answer
+hangs_up b None = record { book = b; reply = Nobody }
+hangs_up b (Some link) = record { book = record b { idle = without link.number b.idle }; reply = Close link.number }
+
 -- ---- leases and cancels
 
 abbrev pub keys : Book → ℕ → KeyView → KeyView → Answer
 keys b n client server = record { book = record b { keyed = b.keyed ++ record { link = n; client = client; server = server } ∷ [] }; reply = Done }
 
--- The cancel is for the place of the link's server, and the link is marked. (No link is asked for by a key without a host.)
-abbrev pub strikes : Book → Lease → ℕ → Option (List ℕ) → Answer
-strikes b lease port None = record { book = b; reply = Nobody }
-strikes b lease port (Some host) = record { book = record b { marked = with_number lease.link b.marked }; reply = Strike lease.link lease.server host port }
+-- The cancel is for the link's server, at the place of its start key, and the link is marked. (No link is asked for by a key without a host.)
+abbrev pub strikes : Book → Lease → Option (List ℕ) → Answer
+strikes b lease None = record { book = b; reply = Nobody }
+strikes b lease (Some host) = record { book = record b { marked = with_number lease.link b.marked }; reply = Strike lease.link lease.server }
 
 abbrev pub strikes_at : Book → Lease → Option Link → Answer
 strikes_at b lease None = record { book = b; reply = Nobody }
-strikes_at b lease (Some link) = strikes b lease link.key.port link.key.host
+strikes_at b lease (Some link) = strikes b lease link.key.host
 
 abbrev pub cancels : Book → Option Lease → Answer
 cancels b None = record { book = b; reply = Nobody }
@@ -176,6 +183,7 @@ outcome b Shutdown = record { book = record b { is_shut = true }; reply = Done }
 outcome b (Keyed n client server) = keys b n client server
 outcome b (Cancel client) = cancels b (find (is_of_client client) b.keyed)
 outcome b (EndLease n) = ends_lease b n
+outcome b (HungUp n) = hangs_up b (find (is_link n) b.idle)
 
 -- ---- strangers
 
@@ -194,7 +202,7 @@ is_strange b _ = false
 -- ---- decisions
 
 -- The kind of an event with this reply; none, where it changed nothing: a Take that waits on, a Tick that neither raised the clock
--- nor closed a link, and a Cancel that found nobody.
+-- nor closed a link, a Cancel that found nobody, and a HungUp of a link that isn't idle.
 abbrev pub kind_of : Book → Event → Reply → Option Kind
 kind_of b Arrive (Refuse refusal) = Some ArrivalRefused
 kind_of b Arrive _ = Some Arrival
@@ -217,6 +225,8 @@ kind_of b (Keyed n client server) _ = Some Keying
 kind_of b (Cancel client) Nobody = None
 kind_of b (Cancel client) _ = Some Cancelling
 kind_of b (EndLease n) _ = Some LeaseEnding
+kind_of b (HungUp n) Nobody = None
+kind_of b (HungUp n) _ = Some HangUp
 
 abbrev pub raised : Kind → Counts → Counts
 raised Arrival c = record c { arrived = suc c.arrived }
@@ -237,6 +247,7 @@ raised Closing c = record c { shut_down = suc c.shut_down }
 raised Keying c = record c { keyed = suc c.keyed }
 raised Cancelling c = record c { cancelled = suc c.cancelled }
 raised LeaseEnding c = record c { leases_ended = suc c.leases_ended }
+raised HangUp c = record c { hung_up = suc c.hung_up }
 
 abbrev pub counted : Book → Option Kind → Book
 counted b None = b

@@ -22,6 +22,7 @@ pub enum Kind {
     Keying,
     Cancelling,
     LeaseEnding,
+    HangUp,
 }
 
 /// How many decisions there were of each kind.
@@ -45,4 +46,5 @@ pub struct Counts {
     pub keyed: u64,
     pub cancelled: u64,
     pub leases_ended: u64,
+    pub hung_up: u64,
 }

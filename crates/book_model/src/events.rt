@@ -60,6 +60,10 @@ pub enum Event {
     EndLease {
         link: u64,
     },
+    /// The server of this idle link has hung up, or said something that nobody asked for.
+    HungUp {
+        link: u64,
+    },
 }
 
 /// What the book answers.
@@ -86,14 +90,12 @@ pub enum Reply {
     /// No such client, ticket or link is there, the client has a ticket already, or the lease was keyed or has ended. Nothing has
     /// changed.
     Stranger,
-    /// The cancel is for the server of this link, which told this key word and is at this place.
+    /// The cancel is for the server of this link, which told this key word. Where that is, the link's start key says.
     Strike {
         link: u64,
         server: KeyView,
-        host: [u8; 4],
-        port: u16,
     },
-    /// Nobody of this key word has a lease. Nothing has changed.
+    /// Nobody of this key word has a lease, or the link that hung up isn't idle any more. Nothing has changed.
     Nobody,
     /// The lease's link may be reset, or given back unused: no cancel is for it.
     Reset,

@@ -2,7 +2,7 @@
 //! every book that began empty; and the limits that it decides by, which the settings give.
 #![tactic(auto)]
 
-ghost use Rattle.book_model.specs.Laws.{PlainEventsAddNothing, ArrivalsNumber, AsksQueue, TakesLend, TakesStart, TakesEvict, ReturnsAdd, ReturnsClose, TicksClose, KeyedKeys, CancelsStrike, ResetsRelease};
+ghost use Rattle.book_model.specs.Laws.{PlainEventsAddNothing, ArrivalsNumber, AsksQueue, TakesLend, TakesStart, TakesEvict, ReturnsAdd, ReturnsClose, TicksClose, HangUpsClose, KeyedKeys, CancelsStrike, ResetsRelease};
 ghost use Rattle.book_model.specs.Kept.{EmptyBooksAreKept, EventsKeep, ReturnsKeep};
 
 pub mod counts;
@@ -22,6 +22,7 @@ pub fn book_laws()
     ensures gives_back { ReturnsAdd }
     ensures too_late { ReturnsClose }
     ensures tick { TicksClose }
+    ensures hangs_up { HangUpsClose }
     ensures keyed { KeyedKeys }
     ensures cancels { CancelsStrike }
     ensures resets { ResetsRelease }

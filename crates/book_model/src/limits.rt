@@ -1,6 +1,6 @@
 //! The settings that the lease book decides by.
 ghost use Rattle.std.specs.Prelude.{◌≡◌};
-ghost use Rattle.book_model.specs.Book.{is_listed, row_named, size_of};
+ghost use Rattle.book_model.specs.Book.{is_listed, row_for, size_of};
 
 use crate::rows::Rows;
 use start_keys::StartKey;
@@ -65,23 +65,20 @@ impl Model for Limits {
 }
 
 impl Limits {
-    /// The most links of a pool of the database row of this name.
-    pub fn pool_size(&self, row: &[u8]) -> u32
-        ensures { result ≡ size_of self.now.default_size (row_named row.now self.now.rows) }
+    /// The most links of a pool of the database of this name.
+    pub fn pool_size(&self, database: &[u8]) -> u32
+        ensures { result ≡ size_of self.now.default_size (row_for database.now self.now.rows) }
     {
-        match self.rows.named(row) {
-            Some(row) => row.size,
+        match self.rows.size_for(database) {
+            Some(size) => size,
             None => self.default_pool_size,
         }
     }
 
-    /// Whether a database row has the key's name, host, port and dbname. It takes as long for many rows as for few.
+    /// Whether a database row serves the key's database, with its host, port and dbname. It takes as long for many rows as for few.
     pub fn lists(&self, key: &StartKey) -> bool
         ensures { result ≡ is_listed self.now key.now }
     {
-        match self.rows.named(key.row.as_slice()) {
-            Some(row) => row.leads(key),
-            None => false,
-        }
+        self.rows.leads(key)
     }
 }

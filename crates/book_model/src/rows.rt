@@ -1,12 +1,12 @@
 //! Database rows, as the lease book decides by them.
-ghost use Rattle.std.specs.Prelude.{◌≡◌, IfOk, Some, option_copied};
+ghost use Rattle.std.specs.Prelude.{◌≡◌, IfOk, Some, option_copied, option_map};
 ghost use Rattle.start_keys.specs.Keys.{same_host};
-ghost use Rattle.book_model.specs.Book.{leads_to, row_named};
+ghost use Rattle.book_model.specs.Book.{is_row_of, leads_to, row_as, row_for, row_named, wildcard_row};
 ghost use Rattle.book_model.specs.RowIndex.{FindsRows};
 
 use indexmap::IndexMap;
 use session_values::text::Text;
-use start_keys::StartKey;
+use start_keys::{Host, StartKey};
 use std::alloc::{AllocError, Global};
 use std::marker::Model;
 
@@ -14,9 +14,9 @@ use std::marker::Model;
 /// `pool_size`).
 pub struct Row {
     pub name: Text,
-    /// The server's IPv4 address.
-    pub host: [u8; 4],
-    /// The server's TCP port.
+    /// The server's host.
+    pub host: Host,
+    /// The server's port.
     pub port: u16,
     /// The server's name of the database.
     pub dbname: Text,
@@ -44,23 +44,44 @@ impl Model for Row {
 }
 
 /// Whether a key's host is this one.
-fn is_host(address: &[u8; 4], host: &Option<[u8; 4]>) -> bool
-    ensures { result ≡ same_host (Some address.now) host.now }
+fn is_host(own: &Host, host: &Option<Host>) -> bool
+    ensures { result ≡ same_host (Some own.now) host.now }
 {
     match host {
-        Some(host) => address.as_slice() == host.as_slice(),
+        Some(host) => own.is(host.as_bytes()),
         None => false,
     }
 }
+
+/// The row by which databases are served that no other row names; and as a database's name the one that was asked for.
+const WILDCARD: &[u8] = b"*";
+
+/// The longest name of a database that PostgreSQL has.
+const MAX_NAME: usize = 63;
 
 impl Row {
     /// Whether the key's server is that of the row.
     pub fn leads(&self, key: &StartKey) -> bool
         ensures { result ≡ leads_to self.now key.now }
     {
-        is_host(&self.host, &key.host)
-            && self.port == key.port
-            && self.dbname.is(key.dbname.as_slice())
+        self.leads_by(self.dbname.as_slice(), key)
+    }
+
+    /// The same, where the server's database has this name.
+    fn leads_by(&self, dbname: &[u8], key: &StartKey) -> bool
+        ensures { result ≡ leads_to (record self.now { dbname = dbname.now }) key.now }
+    {
+        is_host(&self.host, &key.host) && self.port == key.port && dbname == key.dbname.as_slice()
+    }
+
+    /// The same of a row that serves databases of other names: `*`.
+    fn leads_as(&self, name: &[u8], key: &StartKey) -> bool
+        ensures { result ≡ leads_to (row_as name.now self.now) key.now }
+    {
+        if self.dbname.is(WILDCARD) {
+            return self.leads_by(name, key);
+        }
+        self.leads(key)
     }
 }
 
@@ -117,5 +138,40 @@ impl Rows {
     {
         let place = self.places.get(name)?;
         self.rows.get(*place)
+    }
+
+    /// The row of `*`, for a database of this name that no row names.
+    fn wildcard(&self, name: &[u8]) -> Option<&Row>
+        ensures { option_map (row_as name.now) (option_copied result) ≡ wildcard_row name.now self.now }
+    {
+        if name.len() > MAX_NAME {
+            return None;
+        }
+        self.named(WILDCARD)
+    }
+
+    /// How many links a pool of this database may have, if a row serves it: that of its name, else that of `*`.
+    pub fn size_for(&self, name: &[u8]) -> Option<u32>
+        ensures { result ≡ option_map (λ row. row.size) (row_for name.now self.now) }
+    {
+        if let Some(row) = self.named(name) {
+            return Some(row.size);
+        }
+        let row = self.wildcard(name)?;
+        Some(row.size)
+    }
+
+    /// Whether the row that serves the key's database, if there is one, leads to the key's server.
+    pub fn leads(&self, key: &StartKey) -> bool
+        ensures { result ≡ is_row_of key.now (row_for key.now.row self.now) }
+    {
+        let name = key.row.as_slice();
+        if let Some(row) = self.named(name) {
+            return row.leads(key);
+        }
+        match self.wildcard(name) {
+            Some(row) => row.leads_as(name, key),
+            None => false,
+        }
     }
 }

@@ -3,8 +3,8 @@ use Rattle.std.proofs.Common.{◌≡◌, ℕ, ◌<◌, arith, Bool, true, false,
 use Rattle.std.specs.Prelude.{find, nat_lt}
 use Rattle.std.specs.List.{list_any}
 use Rattle.book_model.specs.Book.{Book, Client, Lease, Link, Ticket, in_pool, is_client, is_link, is_number, is_of, is_of_client, is_of_link, latest_of, link_count, pool_count, pool_size, waiting_before}
-use Rattle.book_model.specs.Outcomes.{Answer, Event, apply, at_clock, cancels, closes, counted, decided, evicts, gives_back, grants, has_waited, is_crowded, is_old, is_stale, is_strange, kind_of, last_decision, outcome, strikes, strikes_at, takes}
-use Rattle.book_model.specs.Outcomes.Event.{Arrive, Ask, Take, GiveBack, Lost, StartFailed, Leave, Tick, NewLimits, Pause, Resume, Shutdown, Keyed, Cancel, EndLease}
+use Rattle.book_model.specs.Outcomes.{Answer, Event, apply, at_clock, cancels, closes, counted, decided, evicts, gives_back, grants, hangs_up, has_waited, is_crowded, is_old, is_stale, is_strange, kind_of, last_decision, outcome, strikes, strikes_at, takes}
+use Rattle.book_model.specs.Outcomes.Event.{Arrive, Ask, Take, GiveBack, Lost, StartFailed, Leave, Tick, NewLimits, Pause, Resume, Shutdown, Keyed, Cancel, EndLease, HungUp}
 use Rattle.book_model.specs.declared.counts.Kind.{Kind}
 use Rattle.book_model.specs.declared.events.Reply.{Reply}
 use Rattle.book_model.specs.declared.events.Reply.TheVariants.{Refuse, Done, Stranger}
@@ -32,6 +32,7 @@ kind_is b Shutdown r = elim r as (λ x. kind_in (kinds_of b Shutdown) x ≡ kind
 kind_is b (Keyed n client server) r = elim r as (λ x. kind_in (kinds_of b (Keyed n client server)) x ≡ kind_of b (Keyed n client server) x) [ Done ↦ refl | _ ↦ refl ]
 kind_is b (Cancel client) r = elim r as (λ x. kind_in (kinds_of b (Cancel client)) x ≡ kind_of b (Cancel client) x) [ Done ↦ refl | _ ↦ refl ]
 kind_is b (EndLease n) r = elim r as (λ x. kind_in (kinds_of b (EndLease n)) x ≡ kind_of b (EndLease n) x) [ Done ↦ refl | _ ↦ refl ]
+kind_is b (HungUp n) r = elim r as (λ x. kind_in (kinds_of b (HungUp n)) x ≡ kind_of b (HungUp n) x) [ Done ↦ refl | _ ↦ refl ]
 
 -- an event's answer with its count, of the kind that its reply tells
 pub counted_is : (next new b : Book) (e : Event) (r : Reply) (kinds : Kinds) (k : Option Kind) → Gives next r (outcome b e) → kinds ≡ kinds_of b e → k ≡ kind_in kinds r → new ≡ counted next k → Gives new r (decided b e (outcome b e))
@@ -78,17 +79,21 @@ closes_uncounted : (b : Book) (now : ℕ) (o : Option Link) → Uncounted b (clo
 closes_uncounted b now None = plain refl refl
 closes_uncounted b now (Some link) = plain refl refl
 
+hangs_up_uncounted : (b : Book) (o : Option Link) → Uncounted b (hangs_up b o)
+hangs_up_uncounted b None = plain refl refl
+hangs_up_uncounted b (Some link) = plain refl refl
+
 cancels_uncounted : (b : Book) (o : Option Lease) → Uncounted b (cancels b o)
 cancels_uncounted b None = plain refl refl
 cancels_uncounted b (Some lease) = at (find (is_link lease.link) b.lent)
   where
-    by_host : (port : ℕ) (host : Option (List ℕ)) → Uncounted b (strikes b lease port host)
-    by_host port None = plain refl refl
-    by_host port (Some host) = plain refl refl
+    by_host : (host : Option (List ℕ)) → Uncounted b (strikes b lease host)
+    by_host None = plain refl refl
+    by_host (Some host) = plain refl refl
 
     at : (o : Option Link) → Uncounted b (strikes_at b lease o)
     at None = plain refl refl
-    at (Some link) = by_host link.key.port link.key.host
+    at (Some link) = by_host link.key.host
 
 pub uncounted : (b : Book) (e : Event) → Uncounted b (outcome b e)
 uncounted b Arrive = either b.is_shut _ _ (plain refl refl) (either (nat_lt (length b.clients) b.limits.max_clients) _ _ (plain refl refl) (plain refl refl))
@@ -106,6 +111,7 @@ uncounted b Shutdown = plain refl refl
 uncounted b (Keyed n client server) = plain refl refl
 uncounted b (Cancel client) = cancels_uncounted b (find (is_of_client client) b.keyed)
 uncounted b (EndLease n) = plain refl refl
+uncounted b (HungUp n) = hangs_up_uncounted b (find (is_link n) b.idle)
 
 -- so they agree as before, and there may be one decision more
 pub still_counted : (b mid : Book) (e : Event) (r : Reply) → KeptCounts b → Gives mid r (outcome b e) → total mid.counts ≡ mid.decisions

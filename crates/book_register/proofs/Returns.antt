@@ -1,10 +1,10 @@
--- What a GiveBack and a Tick give, case by case; `before` is the book as its fields stand.
-use Rattle.std.proofs.Common.{◌≡◌, ℕ, Bool, true, false, List, [], ◌∷◌, ◌++◌, Option, None, Some, cond, sym, ap, ◌∙◌, subst}
+-- What a GiveBack, a Tick and a HungUp give, case by case; `before` is the book as its fields stand.
+use Rattle.std.proofs.Common.{◌≡◌, ℕ, Bool, true, false, List, [], ◌∷◌, ◌++◌, Option, None, Some, cond, not, refl, sym, ap, ◌∙◌, subst}
 use Rattle.std.specs.Prelude.{find, nat_lt, ◌||◌}
 use Rattle.book_model.specs.Book.{Book, Link, is_link, without, without_lease, without_number}
-use Rattle.book_model.specs.Outcomes.{Answer, at_clock, closes, gives_back, is_crowded, is_old, is_stale, loses}
+use Rattle.book_model.specs.Outcomes.{Answer, at_clock, closes, gives_back, hangs_up, is_crowded, is_old, is_stale, loses}
 use Rattle.book_model.specs.declared.events.Reply.{Reply}
-use Rattle.book_model.specs.declared.events.Reply.TheVariants.{Close, Done, Stranger}
+use Rattle.book_model.specs.declared.events.Reply.TheVariants.{Close, Done, Nobody, Stranger}
 use Rattle.book_register.specs.Choices.{Gives}
 use Rattle.book_rows.specs.Numbered.{number_of}
 use Rattle.book_register.proofs.Choices.{known, unknown}
@@ -65,3 +65,27 @@ pub tick_done : (before b after : Book) (clock now : ℕ) (reply : Reply) → be
 tick_done before b after clock now reply e ec given =
     let same : record before { clock = clock } ≡ at_clock b now = ap (λ (n : ℕ). record before { clock = n }) ec ∙ ap (λ (v : Book). at_clock v now) e in
     subst (λ (v : Book). Gives after reply (closes v (find (is_stale v) v.idle))) same given
+
+-- ---- a HungUp
+
+pub hung_up_gone : (before b : Book) (n : ℕ) (x : Link) (links : List Link) → before ≡ b → find (is_link n) before.idle ≡ Some x → links ≡ without n before.idle → Gives (record before { idle = links }) (Close n) (hangs_up b (find (is_link n) b.idle))
+hung_up_gone before b n x links e f el =
+    let own : n ≡ x.number = sym (link_bears n before.idle x f) in
+    let there : find (is_link n) b.idle ≡ Some x = ap (λ (v : Book). find (is_link n) v.idle) (sym e) ∙ f in
+    let whole : hangs_up b (find (is_link n) b.idle) ≡ hangs_up before (Some x) = ap (hangs_up b) there ∙ ap (λ (v : Book). hangs_up v (Some x)) (sym e) in
+    (ap (λ (ls : List Link). record before { idle = ls }) (el ∙ ap (λ (m : ℕ). without m before.idle) own) ∙ ap (λ (a : Answer). a.book) (sym whole), ap Close own ∙ ap (λ (a : Answer). a.reply) (sym whole))
+
+-- the list without a number that none of it bears
+without_none : (n : ℕ) (ls : List Link) → find (is_link n) ls ≡ None → without n ls ≡ ls
+without_none n [] e = refl
+without_none n (l ∷ ls) e = go (is_link n l) e (λ f. without_none n ls f)
+  where
+    go : (b : Bool) → cond b (Some l) (find (is_link n) ls) ≡ None → (find (is_link n) ls ≡ None → without n ls ≡ ls) → cond (not b) (l ∷ without n ls) (without n ls) ≡ l ∷ ls
+    go true h ih = absurd (cc)
+    go false h ih = ap (λ (v : List Link). l ∷ v) (ih h)
+
+pub nobody_hung_up : (before b : Book) (n : ℕ) (links : List Link) → before ≡ b → find (is_link n) before.idle ≡ None → links ≡ without n before.idle → Gives (record before { idle = links }) Nobody (hangs_up b (find (is_link n) b.idle))
+nobody_hung_up before b n links e f el =
+    let there : find (is_link n) b.idle ≡ None = ap (λ (v : Book). find (is_link n) v.idle) (sym e) ∙ f in
+    let whole : hangs_up b (find (is_link n) b.idle) ≡ hangs_up before None = ap (hangs_up b) there ∙ ap (λ (v : Book). hangs_up v None) (sym e) in
+    (ap (λ (ls : List Link). record before { idle = ls }) (el ∙ without_none n before.idle f) ∙ ap (λ (a : Answer). a.book) (sym whole), ap (λ (a : Answer). a.reply) (sym whole))

@@ -41,15 +41,15 @@ ends_fit b n k there = others_fit b n b.ended k k.leases.ended there
 
 -- ---- a Cancel
 
-struck_by : (b : Book) (lease : Lease) (port : ℕ) (host : Option (List ℕ)) → (strikes b lease port host).reply ≡ strike_of lease port host
-struck_by b lease port None = refl
-struck_by b lease port (Some host) = refl
+struck_by : (b : Book) (lease : Lease) (host : Option (List ℕ)) → (strikes b lease host).reply ≡ strike_of lease host
+struck_by b lease None = refl
+struck_by b lease (Some host) = refl
 
 -- `before` is the book as its fields stand, and `link` what the lease says
-pub struck_at : (before b : Book) (lease : Lease) (link : ℕ) (x : Link) (key : StartKeyOf) (reply : Reply) → before ≡ b → link ≡ lease.link → find (is_link link) before.lent ≡ Some x → key ≡ x.key → reply ≡ strike_of lease key.port key.host → reply ≡ (strikes_at b lease (find (is_link lease.link) b.lent)).reply
+pub struck_at : (before b : Book) (lease : Lease) (link : ℕ) (x : Link) (key : StartKeyOf) (reply : Reply) → before ≡ b → link ≡ lease.link → find (is_link link) before.lent ≡ Some x → key ≡ x.key → reply ≡ strike_of lease key.host → reply ≡ (strikes_at b lease (find (is_link lease.link) b.lent)).reply
 struck_at before b lease link x key reply e same found is replied =
     let here : find (is_link lease.link) b.lent ≡ Some x = sym (ap (λ (v : Book). find (is_link link) v.lent) e ∙ ap (λ (n : ℕ). find (is_link n) b.lent) same) ∙ found in
-    replied ∙ (ap (λ (k : StartKeyOf). strike_of lease k.port k.host) is ∙ sym (ap (λ (o : Option Link). (strikes_at b lease o).reply) here ∙ struck_by b lease x.key.port x.key.host))
+    replied ∙ (ap (λ (k : StartKeyOf). strike_of lease k.host) is ∙ sym (ap (λ (o : Option Link). (strikes_at b lease o).reply) here ∙ struck_by b lease x.key.host))
 
 pub struck_nowhere : (before b : Book) (lease : Lease) (link : ℕ) → before ≡ b → link ≡ lease.link → find (is_link link) before.lent ≡ None → Nobody ≡ (strikes_at b lease (find (is_link lease.link) b.lent)).reply
 struck_nowhere before b lease link e same at =
@@ -58,7 +58,7 @@ struck_nowhere before b lease link e same at =
 
 -- what a Cancel that is answered so leaves
 Leaves : Book → Reply → Book → Type 0
-Leaves b (Strike link server host port) new = (new ≡ record b { marked = with_number link b.marked }) × (list_any (is_link link) b.lent ≡ true)
+Leaves b (Strike link server) new = (new ≡ record b { marked = with_number link b.marked }) × (list_any (is_link link) b.lent ≡ true)
 Leaves b _ new = new ≡ b
 
 leaves : (b : Book) (o : Option Lease) → Leaves b (cancels b o).reply (cancels b o).book
@@ -66,7 +66,7 @@ unfolding Leaves
 leaves b None = refl
 leaves b (Some lease) = at (find (is_link lease.link) b.lent) refl
   where
-    by_host : (link : Link) (host : Option (List ℕ)) → find (is_link lease.link) b.lent ≡ Some link → Leaves b (strikes b lease link.key.port host).reply (strikes b lease link.key.port host).book
+    by_host : (link : Link) (host : Option (List ℕ)) → find (is_link lease.link) b.lent ≡ Some link → Leaves b (strikes b lease host).reply (strikes b lease host).book
     by_host link None e = refl
     by_host link (Some host) e = (refl, found_any (is_link lease.link) b.lent link e)
 
@@ -74,14 +74,14 @@ leaves b (Some lease) = at (find (is_link lease.link) b.lent) refl
     at None e = refl
     at (Some link) e = by_host link link.key.host e
 
-pub struck : (b : Book) (o : Option Lease) (link : ℕ) (server : KeyView) (host : List ℕ) (port : ℕ) → Strike link server host port ≡ (cancels b o).reply → ((cancels b o).book ≡ record b { marked = with_number link b.marked }) × (list_any (is_link link) b.lent ≡ true)
+pub struck : (b : Book) (o : Option Lease) (link : ℕ) (server : KeyView) → Strike link server ≡ (cancels b o).reply → ((cancels b o).book ≡ record b { marked = with_number link b.marked }) × (list_any (is_link link) b.lent ≡ true)
 unfolding Leaves
-struck b o link server host port e = subst (λ (r : Reply). Leaves b r (cancels b o).book) (sym e) (leaves b o)
+struck b o link server e = subst (λ (r : Reply). Leaves b r (cancels b o).book) (sym e) (leaves b o)
 
-pub unstruck : (b : Book) (o : Option Lease) (r : Reply) → r ≡ (cancels b o).reply → ((link : ℕ) (server : KeyView) (host : List ℕ) (port : ℕ) → r ≡ Strike link server host port → ⊥) → (cancels b o).book ≡ b
+pub unstruck : (b : Book) (o : Option Lease) (r : Reply) → r ≡ (cancels b o).reply → ((link : ℕ) (server : KeyView) → r ≡ Strike link server → ⊥) → (cancels b o).book ≡ b
 unfolding Leaves
 unstruck b o r e other = go r refl (subst (λ (s : Reply). Leaves b s (cancels b o).book) (sym e) (leaves b o))
   where
     go : (s : Reply) → r ≡ s → Leaves b s (cancels b o).book → (cancels b o).book ≡ b
-    go (Strike link server host port) q h = absurd (other link server host port q)
+    go (Strike link server) q h = absurd (other link server q)
     go _ q h = h

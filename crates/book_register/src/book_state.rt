@@ -457,6 +457,18 @@ impl BookState {
         }
     }
 
+    /// The server of a link has hung up: the link goes, where it is idle.
+    pub fn hangs_up(&mut self, number: u64) -> Reply
+        requires kept { Kept self.old }
+        ensures { Gives self.new result (outcome.hangs_up self.old (find (book.is_link number) self.old.idle)) }
+    {
+        let Some(link) = self.idle.take_out(number) else {
+            return Reply::Nobody;
+        };
+        drop(link);
+        Reply::Close(number)
+    }
+
     /// The link's lease is found by its client's key word from now on.
     pub fn keys(&mut self, link: u64, client: KeyView, server: KeyView) -> Reply
         requires room { length self.old.keyed < MOST_LINKS }
@@ -591,14 +603,12 @@ impl BookState {
 
 /// The strike of a lease whose link was started for this key.
 fn strike_by(lease: &Lease, key: &StartKey) -> Reply
-    ensures { result ≡ strike_of lease.now key.now.port key.now.host }
+    ensures { result ≡ strike_of lease.now key.now.host }
 {
     match key.host {
-        Some(host) => Reply::Strike {
+        Some(_) => Reply::Strike {
             link: lease.link,
             server: lease.server,
-            host,
-            port: key.port,
         },
         None => Reply::Nobody,
     }

@@ -38,6 +38,16 @@ impl Kinds {
         }
     }
 
+    /// The same, but none where nobody was found.
+    fn of_found(kind: Kind) -> Kinds
+        ensures { result ≡ record { refused = Some kind; queued = Some kind; done = Some kind; nobody = None; other = Some kind } }
+    {
+        Kinds {
+            nobody: None,
+            ..Kinds::all(kind)
+        }
+    }
+
     /// The kind with this reply.
     fn of(self, reply: Reply) -> Option<Kind>
         ensures { result ≡ kind_in self reply }
@@ -76,6 +86,7 @@ fn raise(counts: &mut Counts, kind: Kind)
         Kind::Keying => counts.keyed += 1,
         Kind::Cancelling => counts.cancelled += 1,
         Kind::LeaseEnding => counts.leases_ended += 1,
+        Kind::HangUp => counts.hung_up += 1,
     }
 }
 
@@ -157,11 +168,9 @@ impl BookState {
             Event::Resume => Kinds::all(Kind::Resuming),
             Event::Shutdown => Kinds::all(Kind::Closing),
             Event::Keyed { .. } => Kinds::all(Kind::Keying),
-            Event::Cancel { .. } => Kinds {
-                nobody: None,
-                ..Kinds::all(Kind::Cancelling)
-            },
+            Event::Cancel { .. } => Kinds::of_found(Kind::Cancelling),
             Event::EndLease { .. } => Kinds::all(Kind::LeaseEnding),
+            Event::HungUp { .. } => Kinds::of_found(Kind::HangUp),
         }
     }
 
@@ -207,6 +216,7 @@ impl BookState {
             } => self.keys(link, client, server),
             Event::Cancel { client } => self.cancels(client),
             Event::EndLease { link } => self.ends_lease(link),
+            Event::HungUp { link } => self.hangs_up(link),
         }
     }
 

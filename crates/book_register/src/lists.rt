@@ -1,5 +1,5 @@
 //! The board's lists between events. What this adds: its type keeps that they are in order, so that each event may rely on it.
-ghost use Rattle.std.specs.Prelude.{◌≡◌, IfOk, find};
+ghost use Rattle.std.specs.Prelude.{◌≡◌, IfOk, find, option_copied, option_map};
 ghost use Rattle.std.specs.Arc.{arc_value};
 ghost use Rattle.book_model.specs.Book.{empty_book, is_link, no_counts};
 ghost use Rattle.book_model.specs.Events.{event_of};
@@ -88,6 +88,7 @@ fn all_ticks(decisions: u64) -> Counts
         keyed: 0,
         cancelled: 0,
         leases_ended: 0,
+        hung_up: 0,
     }
 }
 
@@ -168,6 +169,13 @@ impl Lists {
         ensures { result ≡ is_started_as key.now born (find (is_link number) self.now.lent) }
     {
         self.board.is_lent_as(number, key, born)
+    }
+
+    /// The start key of the lent link of this number; none where it isn't lent.
+    pub fn lent_key(&self, number: u64) -> Option<&StartKey>
+        ensures { option_copied result ≡ option_map (λ link. link.key) (find (is_link number) self.now.lent) }
+    {
+        self.board.lent_key(number)
     }
 
     /// Whether no client is let in any more.

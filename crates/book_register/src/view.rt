@@ -1,5 +1,5 @@
 //! What a book shows of itself.
-ghost use Rattle.std.specs.Prelude.{◌≡◌, ◌≤◌, ℕ, IfOk, count_by, find};
+ghost use Rattle.std.specs.Prelude.{◌≡◌, ◌≤◌, ℕ, IfOk, count_by, find, option_copied, option_map};
 ghost use Rattle.book_model.specs.Outcomes.{is_started_as};
 ghost use Rattle.book_model.specs.Book as book;
 ghost use Rattle.book_register.specs.Views.{view_of};
@@ -122,6 +122,15 @@ impl BookState {
         ensures { result ≡ is_started_as key.now born (find (book.is_link number) self.now.lent) }
     {
         self.lent.has_as(number, key, born)
+    }
+
+    /// The start key of the lent link of this number.
+    pub fn lent_key(&self, number: u64) -> Option<&StartKey>
+        requires once { (n : ℕ) → count_by (book.is_link n) self.now.lent ≤ 1 }
+        ensures { option_copied result ≡ option_map (λ link. link.key) (find (book.is_link number) self.now.lent) }
+    {
+        let link = self.lent.get(number)?;
+        Some(link.key.key())
     }
 
     /// Who may be woken where any pool may have a link: those who have waited longest in their pools, in no order, or all who wait, where

@@ -1,7 +1,7 @@
 //! What happens to a book in a test, and what it answers, with links by their numbers.
 ghost use Rattle.lease_book.specs.Links.{IsTwice};
 
-use crate::book_parts::{Settings, Whose, key_of, limits, link};
+use crate::book_parts::{Settings, Whose, elsewhere, key_of, limits, link};
 use book_model::events::ClientState;
 use book_rows::clients::Client;
 use lease_book::book::Book;
@@ -9,6 +9,7 @@ use lease_book::events::{Event, Reply};
 use link_run::links::CleanLink;
 use memory_ends::gone_end::GoneEnd;
 use message_view::{KeyView, Refusal};
+use start_keys::Host;
 use std::alloc::{AllocError, Global};
 use std::sync::Arc;
 
@@ -34,6 +35,8 @@ pub(crate) enum Act {
     Keyed(u64, KeyView, KeyView),
     Cancel(KeyView),
     EndLease(u64),
+    /// The server of this link hangs up.
+    HungUp(u64),
 }
 
 /// A reply.
@@ -49,10 +52,28 @@ pub(crate) enum Told {
     Done,
     Stranger(Option<u64>),
     /// The link, its server's key word, and its place.
-    Strike(u64, KeyView, [u8; 4], u16),
+    Strike(u64, KeyView, Site, u16),
     Nobody,
     Reset,
     Dispose,
+}
+
+/// Where the hosts of the tests are.
+#[derive(Clone, Copy, PartialEq, Eq, Drop)]
+pub(crate) enum Site {
+    Here,
+    Elsewhere,
+    Unknown,
+}
+
+fn site_of(host: Host) -> Site {
+    if host == Host::local() {
+        return Site::Here;
+    }
+    if host == elsewhere() {
+        return Site::Elsewhere;
+    }
+    Site::Unknown
 }
 
 /// The number of a link, which is closed.
@@ -88,7 +109,7 @@ fn by_numbers(reply: Reply<GoneEnd>) -> Told {
             server,
             host,
             port,
-        } => Told::Strike(number, server, host, port),
+        } => Told::Strike(number, server, site_of(host), port),
         Reply::Nobody => Told::Nobody,
         Reply::Reset => Told::Reset,
         Reply::Dispose => Told::Dispose,
@@ -184,6 +205,7 @@ impl Story {
             })),
             Act::Cancel(client) => Ok(self.happens(Event::Cancel { client })),
             Act::EndLease(number) => Ok(self.happens(Event::EndLease { number })),
+            Act::HungUp(number) => Ok(self.happens(Event::HungUp { number })),
         }
     }
 
@@ -263,6 +285,12 @@ impl Story {
             counts.cancelled,
             counts.leases_ended,
         ]
+    }
+
+    /// All decisions, and those that closed a link whose server had hung up.
+    pub(crate) fn hang_ups(&self) -> [u64; 2] {
+        let counts = self.book.counts();
+        [self.book.decisions(), counts.hung_up]
     }
 
     /// Arrivals, Asks, grants, returns, losses and Ticks.

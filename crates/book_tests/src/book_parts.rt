@@ -8,14 +8,23 @@ use memory_ends::gone_end::GoneEnd;
 use memory_start_laws::unfollowed_starts_are_clean;
 use param_track::Reported;
 use session_values::text::Text;
-use start_keys::StartKey;
+use start_keys::{Host, StartKey};
 use std::alloc::{AllocError, Global};
 use std::sync::Arc;
 
-/// A key on this database at a port of 127.0.0.1, of this user under this application_name.
+/// A host that isn't this machine.
+pub fn elsewhere() -> Host {
+    match Host::new(b"db.example.net") {
+        Some(host) => host,
+        None => Host::empty(),
+    }
+}
+
+/// A key on this database at a port of a host, of this user under this application_name.
 fn key(
     alloc: Global,
     database: &[u8],
+    host: Host,
     port: u16,
     user: &[u8],
     name: &[u8],
@@ -25,7 +34,7 @@ fn key(
     parameters.push((parameter, Text::from_slice(alloc, name)?))?;
     let key = StartKey {
         row: Text::from_slice(alloc, database)?,
-        host: Some([127, 0, 0, 1]),
+        host: Some(host),
         port,
         dbname: Text::from_slice(alloc, database)?,
         user: Text::from_slice(alloc, user)?,
@@ -35,7 +44,7 @@ fn key(
 }
 
 /// Whose key it is: of ann's two keys on the shop, which are of one pool, or of bc's, which is of another; ann's on the shop once that
-/// is at port 5433, or hers on the cafe.
+/// is at port 5433, hers on the cafe, or hers on the bar, which is elsewhere.
 #[derive(Clone, Copy, Drop)]
 pub enum Whose {
     Ann,
@@ -43,16 +52,19 @@ pub enum Whose {
     Bc,
     AnnAt5433,
     AnnAtCafe,
+    AnnElsewhere,
 }
 
 /// The key.
 pub fn key_of(alloc: Global, whose: Whose) -> Result<Arc<StartKey>, AllocError> {
+    let here = Host::local();
     match whose {
-        Whose::Ann => key(alloc, b"shop", 5432, b"ann", b"a"),
-        Whose::AnnAsB => key(alloc, b"shop", 5432, b"ann", b"b"),
-        Whose::Bc => key(alloc, b"shop", 5432, b"bc", b"a"),
-        Whose::AnnAt5433 => key(alloc, b"shop", 5433, b"ann", b"a"),
-        Whose::AnnAtCafe => key(alloc, b"cafe", 5432, b"ann", b"a"),
+        Whose::Ann => key(alloc, b"shop", here, 5432, b"ann", b"a"),
+        Whose::AnnAsB => key(alloc, b"shop", here, 5432, b"ann", b"b"),
+        Whose::Bc => key(alloc, b"shop", here, 5432, b"bc", b"a"),
+        Whose::AnnAt5433 => key(alloc, b"shop", here, 5433, b"ann", b"a"),
+        Whose::AnnAtCafe => key(alloc, b"cafe", here, 5432, b"ann", b"a"),
+        Whose::AnnElsewhere => key(alloc, b"bar", elsewhere(), 6543, b"ann", b"a"),
     }
 }
 
@@ -95,7 +107,7 @@ fn pool_size(settings: Settings) -> u32 {
 fn row(alloc: Global, name: &[u8], size: u32) -> Result<Row, AllocError> {
     Ok(Row {
         name: Text::from_slice(alloc, name)?,
-        host: [127, 0, 0, 1],
+        host: Host::local(),
         port: 5432,
         dbname: Text::from_slice(alloc, name)?,
         size,
@@ -106,7 +118,7 @@ fn row(alloc: Global, name: &[u8], size: u32) -> Result<Row, AllocError> {
 fn shop(alloc: Global, settings: Settings) -> Result<Option<Row>, AllocError> {
     let mut row = row(alloc, b"shop", pool_size(settings))?;
     match settings {
-        Settings::Shop(Change::Host) => row.host = [127, 0, 0, 2],
+        Settings::Shop(Change::Host) => row.host = elsewhere(),
         Settings::Shop(Change::Port) => row.port = 5433,
         Settings::Shop(Change::Dbname) => row.dbname = Text::from_slice(alloc, b"shops")?,
         Settings::Shop(Change::Gone) => return Ok(None),

@@ -1,5 +1,5 @@
 //! What a book answers to cancels.
-use crate::acts::{Act, Story, Told, surprise};
+use crate::acts::{Act, Site, Story, Told, surprise};
 use crate::book_parts::{Settings, Whose};
 use message_view::{KeyView, Refusal};
 use std::test::Fail;
@@ -12,8 +12,10 @@ static SERVER: KeyView = KeyView {
     secret: 80,
 };
 
-/// Where the servers of these tests are.
-static HOST: [u8; 4] = [127, 0, 0, 1];
+/// A cancel for this link, whose server told this key word and is at this port of this machine.
+fn strike(link: u64, server: KeyView, port: u16) -> Told {
+    Told::Strike(link, server, Site::Here, port)
+}
 
 /// A client of ann's comes, and has link 1, which is keyed.
 fn keyed() -> [(Act, Told); 4] {
@@ -29,7 +31,7 @@ fn keyed() -> [(Act, Told); 4] {
 #[test]
 fn a_cancelled_link_is_disposed(rt: HostRuntime) -> Result<(), Fail> {
     let acts = [
-        (Act::Cancel(CLIENT), Told::Strike(1, SERVER, HOST, 5432)),
+        (Act::Cancel(CLIENT), strike(1, SERVER, 5432)),
         (Act::EndLease(1), Told::Dispose),
         (Act::Cancel(CLIENT), Told::Nobody),
         (Act::Lost(1), Told::Done),
@@ -106,10 +108,10 @@ fn the_earliest_lease_is_struck(rt: HostRuntime) -> Result<(), Fail> {
         (Act::Ask(2, Whose::AnnAt5433), Told::Queued(0)),
         (Act::Take(2), Told::Start(2, 0, None)),
         (Act::Keyed(2, CLIENT, other), Told::Done),
-        (Act::Cancel(CLIENT), Told::Strike(1, SERVER, HOST, 5432)),
-        (Act::Cancel(CLIENT), Told::Strike(1, SERVER, HOST, 5432)),
+        (Act::Cancel(CLIENT), strike(1, SERVER, 5432)),
+        (Act::Cancel(CLIENT), strike(1, SERVER, 5432)),
         (Act::EndLease(1), Told::Dispose),
-        (Act::Cancel(CLIENT), Told::Strike(2, other, HOST, 5433)),
+        (Act::Cancel(CLIENT), strike(2, other, 5433)),
         (Act::EndLease(2), Told::Dispose),
         (Act::EndLease(1), Told::Dispose),
         (Act::Cancel(CLIENT), Told::Nobody),
@@ -121,11 +123,34 @@ fn the_earliest_lease_is_struck(rt: HostRuntime) -> Result<(), Fail> {
     Ok(())
 }
 
+/// Each link is struck at its own server's place, where the servers of two pools are at two hosts.
+#[test]
+fn each_link_is_struck_at_its_place(rt: HostRuntime) -> Result<(), Fail> {
+    let other = KeyView { pid: 3, secret: 4 };
+    let there = Told::Strike(2, SERVER, Site::Elsewhere, 6543);
+    let acts = [
+        (Act::Come, Told::Client(2)),
+        (Act::Ask(2, Whose::AnnElsewhere), Told::Queued(0)),
+        (Act::Take(2), Told::Start(2, 0, None)),
+        (Act::Keyed(2, other, SERVER), Told::Done),
+        (Act::Cancel(other), there),
+        (Act::Cancel(CLIENT), strike(1, SERVER, 5432)),
+        (Act::EndLease(1), Told::Dispose),
+        (Act::Lost(1), Told::Done),
+        (Act::Cancel(other), there),
+    ];
+    let mut story = Story::new(rt.alloc(), Settings::Default)?;
+    assert!(rt; surprise(&mut story, &keyed())? == None);
+    assert!(rt; surprise(&mut story, &acts)? == None);
+    assert!(rt; story.cancels() == [13, 2, 3, 1]);
+    Ok(())
+}
+
 /// A marked link that is given back all the same is taken back; lent anew it isn't marked, and may be keyed again.
 #[test]
 fn a_mark_goes_with_the_lease(rt: HostRuntime) -> Result<(), Fail> {
     let acts = [
-        (Act::Cancel(CLIENT), Told::Strike(1, SERVER, HOST, 5432)),
+        (Act::Cancel(CLIENT), strike(1, SERVER, 5432)),
         (Act::Back(1, Whose::Ann), Told::Done),
         (Act::Cancel(CLIENT), Told::Nobody),
         (Act::Ask(1, Whose::Ann), Told::Queued(0)),

@@ -9,6 +9,8 @@ mod book_stories;
 #[cfg(test)]
 mod cancel_stories;
 #[cfg(test)]
+mod hang_up_stories;
+#[cfg(test)]
 mod histories;
 #[cfg(test)]
 mod row_stories;

@@ -1,18 +1,20 @@
 -- What the console shows of the settings, as rows of texts: each key of the section [pgbouncer] that is served, with its value as a settings file could say it.
-use Rattle.std.specs.Prelude.{ℕ, List, [], ◌∷◌, ◌++◌, codes, decimal}
+use Rattle.std.specs.Prelude.{Bool, ℕ, ◌+◌, ◌/◌, ◌%◌, List, [], ◌∷◌, ◌++◌, codes, decimal, if◌then◌else◌}
 use Rattle.std.specs.List.{flat_map}
 use Rattle.ini_config.specs.declared.option_values.AuthType.{AuthType}
 use Rattle.ini_config.specs.declared.option_values.AuthType.TheVariants.{Trust, Plain, Md5}
 use Rattle.ini_config.specs.declared.option_values.Settings.{Settings}
 use Rattle.mini_sql.specs.Words.{Text}
 
-abbrev pub behind_dot : ℕ → Text
-behind_dot n = 46 ∷ decimal n
+abbrev pub octal_digit : ℕ → ℕ
+octal_digit n = 48 + n % 8
 
--- numbers with dots between
-abbrev pub dotted : List ℕ → Text
-dotted [] = []
-dotted (n ∷ ns) = decimal n ++ flat_map behind_dot ns
+-- nine bits as a zero and three octal digits
+abbrev pub octal : ℕ → Text
+octal mode = 48 ∷ octal_digit (mode / 64) ∷ octal_digit (mode / 8) ∷ octal_digit mode ∷ []
+
+abbrev pub flag : Bool → Text
+flag is_on = if is_on then codes "1" else codes "0"
 
 abbrev pub behind_comma : Text → Text
 behind_comma name = 44 ∷ name
@@ -32,7 +34,7 @@ setting key value = key ∷ value ∷ []
 
 abbrev pub config : Settings → List (List Text)
 config s =
-    setting (codes "listen_addr") (dotted s.listen_addr)
+    setting (codes "listen_addr") (joined s.listen_addr)
     ∷ setting (codes "listen_port") (decimal s.listen_port)
     ∷ setting (codes "auth_type") (auth_name s.auth_type)
     ∷ setting (codes "admin_users") (joined s.admin_users)
@@ -48,4 +50,13 @@ config s =
     ∷ setting (codes "ignore_startup_parameters") (joined s.ignore_startup_parameters)
     ∷ setting (codes "track_extra_parameters") (joined s.track_extra_parameters)
     ∷ setting (codes "untrack_parameters") (joined s.untrack_parameters)
+    ∷ setting (codes "unix_socket_dir") s.unix_socket_dir
+    ∷ setting (codes "unix_socket_mode") (octal s.unix_socket_mode)
+    ∷ setting (codes "unix_socket_group") s.unix_socket_group
+    ∷ setting (codes "peer_id") (decimal s.peer_id)
+    ∷ setting (codes "tcp_keepalive") (flag s.tcp_keepalive)
+    ∷ setting (codes "tcp_keepidle") (decimal s.tcp_keepidle)
+    ∷ setting (codes "tcp_keepintvl") (decimal s.tcp_keepintvl)
+    ∷ setting (codes "tcp_keepcnt") (decimal s.tcp_keepcnt)
+    ∷ setting (codes "tcp_user_timeout") (decimal s.tcp_user_timeout)
     ∷ []

@@ -12,7 +12,7 @@ use Rattle.console_core.specs.declared.config.Value.{Value}
 use Rattle.console_core.specs.declared.config.Value.TheVariants as value
 use Rattle.console_core.specs.Messages.{Response, Frames, Answer, Leave}
 use Rattle.console_core.specs.Replies.{ReplyOf, Rows, Acts, Unknown, ready, refused}
-use Rattle.console_core.specs.Config.{auth_name, dotted, joined, setting}
+use Rattle.console_core.specs.Config.{auth_name, flag, octal, joined, setting}
 
 abbrev pub texts_of : List (Bor (List ℕ)) → List Text
 texts_of texts = map (λ t. t.now) texts
@@ -35,7 +35,9 @@ abbrev pub value_view : Value → Text
 value_view (value.Fixed text) = text.now
 value_view (value.Auth kind) = auth_name kind
 value_view (value.Number n) = decimal n
-value_view (value.Address address) = dotted address
+value_view (value.Flag is_on) = flag is_on
+value_view (value.Text text) = text.now
+value_view (value.Mode mode) = octal mode
 value_view (value.Names names) = joined names.now
 
 -- a key with its value

@@ -15,7 +15,9 @@ enum Value<'a> {
     Fixed(&'static str),
     Auth(AuthType),
     Number(u32),
-    Address([u8; 4]),
+    Flag(bool),
+    Text(&'a [u8]),
+    Mode(u32),
     Names(&'a Names),
 }
 
@@ -33,11 +35,11 @@ fn auth_name(auth_type: AuthType) -> &'static [u8]
 }
 
 /// The settings.
-fn settings_of(s: &Settings) -> [Setting<'_>; 16]
+fn settings_of(s: &Settings) -> [Setting<'_>; 25]
     ensures { map setting_view result ≡ spec.config s.now }
 {
     [
-        ("listen_addr", Value::Address(s.listen_addr)),
+        ("listen_addr", Value::Names(&s.listen_addr)),
         ("listen_port", Value::Number(s.listen_port as u32)),
         ("auth_type", Value::Auth(s.auth_type)),
         ("admin_users", Value::Names(&s.admin_users)),
@@ -59,6 +61,18 @@ fn settings_of(s: &Settings) -> [Setting<'_>; 16]
             Value::Names(&s.track_extra_parameters),
         ),
         ("untrack_parameters", Value::Names(&s.untrack_parameters)),
+        ("unix_socket_dir", Value::Text(s.unix_socket_dir.as_bytes())),
+        ("unix_socket_mode", Value::Mode(s.unix_socket_mode)),
+        (
+            "unix_socket_group",
+            Value::Text(s.unix_socket_group.as_bytes()),
+        ),
+        ("peer_id", Value::Number(s.peer_id)),
+        ("tcp_keepalive", Value::Flag(s.tcp_keepalive)),
+        ("tcp_keepidle", Value::Number(s.tcp_keepidle)),
+        ("tcp_keepintvl", Value::Number(s.tcp_keepintvl)),
+        ("tcp_keepcnt", Value::Number(s.tcp_keepcnt)),
+        ("tcp_user_timeout", Value::Number(s.tcp_user_timeout)),
     ]
 }
 
@@ -69,25 +83,29 @@ fn put_number(text: &mut Vec<u8>, n: u32) -> Result<(), AllocError>
     text.extend_from_slice(digits.format(n).as_bytes())
 }
 
-fn put_behind_dot(text: &mut Vec<u8>, n: u8) -> Result<(), AllocError>
-    ensures { OnOk result (text.new.items ≡ text.old.items ++ spec.behind_dot n) }
+fn flag(is_on: bool) -> &'static [u8]
+    ensures { result.now ≡ spec.flag is_on }
 {
-    text.push(b'.')?;
-    put_number(text, n as u32)
+    if is_on { b"1" } else { b"0" }
 }
 
-/// Numbers with dots between.
-fn put_dotted(text: &mut Vec<u8>, numbers: &[u8]) -> Result<(), AllocError>
-    ensures { OnOk result (text.new.items ≡ text.old.items ++ spec.dotted numbers.now) }
+/// An octal digit.
+fn octal_digit(n: u32) -> u8
+    ensures { result ≡ spec.octal_digit n }
 {
-    let [first, others @ ..] = numbers else {
-        return Ok(());
-    };
-    put_number(text, *first as u32)?;
-    for n in others {
-        put_behind_dot(text, *n)?;
-    }
-    Ok(())
+    48 + (n % 8) as u8
+}
+
+/// Nine bits as a zero and three octal digits.
+fn put_mode(text: &mut Vec<u8>, mode: u32) -> Result<(), AllocError>
+    ensures { OnOk result (text.new.items ≡ text.old.items ++ spec.octal mode) }
+{
+    text.extend_from_slice(&[
+        b'0',
+        octal_digit(mode / 64),
+        octal_digit(mode / 8),
+        octal_digit(mode),
+    ])
 }
 
 fn put_behind_comma(text: &mut Vec<u8>, name: &[u8]) -> Result<(), AllocError>
@@ -118,7 +136,9 @@ fn put_value(text: &mut Vec<u8>, value: Value<'_>) -> Result<(), AllocError>
         Value::Fixed(fixed) => text.extend_from_slice(fixed.as_bytes()),
         Value::Auth(auth_type) => text.extend_from_slice(auth_name(auth_type)),
         Value::Number(n) => put_number(text, n),
-        Value::Address(address) => put_dotted(text, &address),
+        Value::Flag(is_on) => text.extend_from_slice(flag(is_on)),
+        Value::Text(bytes) => text.extend_from_slice(bytes),
+        Value::Mode(mode) => put_mode(text, mode),
         Value::Names(names) => put_joined(text, names.as_slice()),
     }
 }

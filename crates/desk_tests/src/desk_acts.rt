@@ -9,7 +9,7 @@ use link_desk::desk::LinkDesk;
 use link_run::links::CleanLink;
 use memory_ends::gone_end::GoneEnd;
 use message_view::{KeyView, Refusal};
-use pool_desk::answers::{Changed, Ticked};
+use pool_desk::answers::{Changed, HungUp, Ticked};
 use std::alloc::{AllocError, Global};
 use std::rt::Clock;
 use std::sync::{Arc, Wait};
@@ -33,6 +33,8 @@ pub(crate) enum Act {
     StartFailed,
     Leave,
     Tick(u64),
+    /// The server of this link hangs up.
+    HungUp(u64),
     Limits(Settings),
     Pause,
     Resume,
@@ -54,7 +56,7 @@ pub(crate) enum Says {
     Close(u64),
     /// The cancel is for this link, whose server told this key word, at this port.
     Strike(u64, Word, u16),
-    /// Nobody of this key word has a lease.
+    /// Nobody of this key word has a lease, or the link isn't idle.
     Unknown,
     Reset,
     Dispose,
@@ -168,6 +170,14 @@ fn ticked(ticked: Ticked<GoneEnd>) -> Says {
         Ticked::Done => Says::Done,
         Ticked::Close(link) => Says::Close(link.number()),
         Ticked::Last => Says::Last,
+    }
+}
+
+fn heard_up(heard: HungUp<GoneEnd>) -> Says {
+    match heard {
+        HungUp::Close(link) => Says::Close(link.number()),
+        HungUp::NotIdle => Says::Unknown,
+        HungUp::Last => Says::Last,
     }
 }
 
@@ -350,6 +360,7 @@ pub(crate) fn answer<R: Wait + Clock, K: Ledgers>(
         Act::StartFailed => Ok(starts_in_vain(desk, pass)),
         Act::Leave => Ok(leaves(desk, pass)),
         Act::Tick(now) => Ok(ticked(desk.tick(pass, now))),
+        Act::HungUp(number) => Ok(heard_up(desk.hung_up(pass, number))),
         Act::Limits(settings) => keeps_to(alloc, desk, pass, settings),
         Act::Pause => Ok(Says::from(desk.pause(pass))),
         Act::Resume => Ok(Says::from(desk.resume(pass))),

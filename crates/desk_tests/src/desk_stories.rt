@@ -186,6 +186,41 @@ fn pause_and_shutdown() -> Story {
     }
 }
 
+/// The server of a link hangs up: while the link is lent nothing changes, and while it is idle it goes.
+static A_SERVER_HANGS_UP: [Step; 9] = [
+    (0, Act::Come, Says::Client(1)),
+    (0, Act::Ask(Whose::Ann), Says::Queued(0)),
+    (0, Act::Take, Says::Start(1, 0, None)),
+    (1, Act::HungUp(1), Says::Unknown),
+    (0, Act::Back(Whose::Ann), Says::Done),
+    (1, Act::HungUp(1), Says::Close(1)),
+    (1, Act::HungUp(1), Says::Unknown),
+    (0, Act::Ask(Whose::Ann), Says::Queued(0)),
+    (0, Act::Take, Says::Start(2, 0, None)),
+];
+
+fn hang_up() -> Story {
+    Story {
+        settings: Settings::Default,
+        passes: 2,
+        steps: &A_SERVER_HANGS_UP,
+        rows: Rows {
+            clients: &[(1, ClientState::Active)],
+            lent: &[(2, 0, 0)],
+            sums: [0, 2, 0, 0, 0, 0],
+            ..NOTHING
+        },
+        totals: Totals {
+            arrived: 1,
+            granted: 2,
+            given_back: 1,
+            lost: 0,
+            left: 0,
+            others: 4,
+        },
+    }
+}
+
 /// A client has a link, one gave its link back, one isn't through its login, and one waits.
 static EACH_ROW_IS_SHOWN: [Step; 14] = [
     (0, Act::Come, Says::Client(1)),
@@ -443,6 +478,7 @@ fn story_at(at: usize) -> Option<Story> {
         12 => Some(cancels::after_the_end()),
         13 => Some(cancels::of_one_word()),
         14 => Some(cancels::lost()),
+        15 => Some(hang_up()),
         _ => None,
     }
 }
@@ -507,7 +543,7 @@ fn departure_from<R: Wait + Clock + Drop, K: Ledgers>(
     requires all { parts_of blanks ≡ of_each ALL_PARTS }
 {
     let limits = limits(alloc, story.settings)?;
-    let desk = Desk::<R, Nowhere, K>::new(rt, alloc, Nowhere, limits, blanks)?;
+    let desk = Desk::<R, Nowhere, K>::new(rt, alloc, Nowhere::new(alloc)?, limits, blanks)?;
     let mut passes = passes_of(alloc, &desk, story.passes)?;
     if let Some((at, says)) = surprise(alloc, &desk, passes.as_mut_slice(), story.steps)? {
         return Ok(Some(Departure::Answer(at, says)));
@@ -556,7 +592,7 @@ fn gathers<R: Wait + Clock + Drop, K: Ledgers>(
     requires all { parts_of blanks ≡ of_each ALL_PARTS }
 {
     let limits = limits(alloc, Settings::Default)?;
-    let desk = Desk::<R, Nowhere, K>::new(rt, alloc, Nowhere, limits, blanks)?;
+    let desk = Desk::<R, Nowhere, K>::new(rt, alloc, Nowhere::new(alloc)?, limits, blanks)?;
     let mut passes = passes_of(alloc, &desk, 3)?;
     let mut last = passes.pop().ok_or("no pass")?;
     answer(alloc, &desk, &mut last, Act::Come)?;

@@ -12,4 +12,6 @@ mod desk_rows;
 #[cfg(test)]
 mod desk_stories;
 #[cfg(test)]
+mod minded_links;
+#[cfg(test)]
 mod waits;

@@ -6,8 +6,9 @@ use Rattle.std.specs.Char.{is_ascii_digit}
 use Rattle.std.proofs.lemmas.Bool.{false≢true, leb-true}
 use Rattle.std.proofs.lemmas.Option.{none-some, same_Some}
 use Rattle.ini_config.specs.Bounds.{IsWithin, IsCount, IsTime, IsSize, IsServedRow, AreWithinBounds, ReadSettingsAreWithinBounds}
-use Rattle.ini_config.specs.Values.{within, number_between, digits_value, address, split_at_first, parts}
-use Rattle.ini_config.specs.DatabaseValues.{RowValues, with_item, with_text, with_texts, nothing_said, values_in, is_refused, is_database, row_with, row_of}
+use Rattle.ini_config.specs.Hosts.{host_of}
+use Rattle.ini_config.specs.Values.{within, number_between, digits_value, split_at_first, parts}
+use Rattle.ini_config.specs.DatabaseValues.{RowValues, with_item, with_text, with_texts, nothing_said, values_in, is_console, is_database, row_with, row_of}
 use Rattle.ini_config.specs.Lines.{Said, Nothing, Opens, OpensUnknown, Gives, Unreadable, said}
 use Rattle.ini_config.specs.OptionValues.{Text, change_of, defaults, key_named}
 use Rattle.ini_config.specs.Reading.{add_row, with_row, change, change_key, with_option, with_pair_in, with_said, with_line, empty_file}
@@ -56,7 +57,7 @@ none-said = record { port = λ n e. absurd (none-some _ e); size = λ n e. absur
 
 item-values : (r : RowValues) (name value : List ℕ) → AreValues r → OrNone (with_item r name value)
 item-values r name value h =
-    either (bytes_eq name (codes "host") && is_none r.host) _ _ (host (address value))
+    either (bytes_eq name (codes "host") && is_none r.host) _ _ (host (host_of value))
     (either (bytes_eq name (codes "port") && is_none r.port) _ _ (port (number_between 1 65535 value) (number-within 1 65535 value))
     (either (bytes_eq name (codes "dbname") && is_none r.dbname) _ _ (record { port = h.port; size = h.size })
     (either (bytes_eq name (codes "pool_size") && is_none r.pool_size) _ None (size (number_between 1 10000 value) (number-within 1 10000 value)) tt)))
@@ -115,7 +116,7 @@ row-with name r host h = go (is_database (unwrap_or r.dbname name)) refl
 
 row-served : (name value : List ℕ) → RowOrNone (row_of name value)
 unfolding row_of
-row-served name value = go (is_refused name || list_any (λ b. b == 39) value) (values_in value) (values-values value)
+row-served name value = go (is_console name || list_any (λ b. b == 39) value) (values_in value) (values-values value)
   where
     hosted : (r : RowValues) (o : Option (List ℕ)) → AreValues r → RowOrNone (option_and_then (row_with name r) o)
     hosted r None h = tt
@@ -166,6 +167,15 @@ change-keeps key.TrackExtraParameters text s h = made _ h.rows h.listen_port h.m
 change-keeps key.LogConnections text s h = made _ h.rows h.listen_port h.max_client_conn h.default_pool_size h.max_links h.query_wait_timeout h.server_lifetime h.server_idle_timeout h.max_packet_size
 change-keeps key.LogDisconnections text s h = made _ h.rows h.listen_port h.max_client_conn h.default_pool_size h.max_links h.query_wait_timeout h.server_lifetime h.server_idle_timeout h.max_packet_size
 change-keeps key.UntrackParameters text s h = mapped s _ _ (λ n e. made _ h.rows h.listen_port h.max_client_conn h.default_pool_size h.max_links h.query_wait_timeout h.server_lifetime h.server_idle_timeout h.max_packet_size)
+change-keeps key.UnixSocketDir text s h = made _ h.rows h.listen_port h.max_client_conn h.default_pool_size h.max_links h.query_wait_timeout h.server_lifetime h.server_idle_timeout h.max_packet_size
+change-keeps key.UnixSocketMode text s h = mapped s _ _ (λ a e. made _ h.rows h.listen_port h.max_client_conn h.default_pool_size h.max_links h.query_wait_timeout h.server_lifetime h.server_idle_timeout h.max_packet_size)
+change-keeps key.UnixSocketGroup text s h = made _ h.rows h.listen_port h.max_client_conn h.default_pool_size h.max_links h.query_wait_timeout h.server_lifetime h.server_idle_timeout h.max_packet_size
+change-keeps key.PeerId text s h = mapped s _ _ (λ n e. made _ h.rows h.listen_port h.max_client_conn h.default_pool_size h.max_links h.query_wait_timeout h.server_lifetime h.server_idle_timeout h.max_packet_size)
+change-keeps key.TcpKeepalive text s h = made _ h.rows h.listen_port h.max_client_conn h.default_pool_size h.max_links h.query_wait_timeout h.server_lifetime h.server_idle_timeout h.max_packet_size
+change-keeps key.TcpKeepidle text s h = mapped s _ _ (λ n e. made _ h.rows h.listen_port h.max_client_conn h.default_pool_size h.max_links h.query_wait_timeout h.server_lifetime h.server_idle_timeout h.max_packet_size)
+change-keeps key.TcpKeepintvl text s h = mapped s _ _ (λ n e. made _ h.rows h.listen_port h.max_client_conn h.default_pool_size h.max_links h.query_wait_timeout h.server_lifetime h.server_idle_timeout h.max_packet_size)
+change-keeps key.TcpKeepcnt text s h = mapped s _ _ (λ n e. made _ h.rows h.listen_port h.max_client_conn h.default_pool_size h.max_links h.query_wait_timeout h.server_lifetime h.server_idle_timeout h.max_packet_size)
+change-keeps key.TcpUserTimeout text s h = mapped s _ _ (λ n e. made _ h.rows h.listen_port h.max_client_conn h.default_pool_size h.max_links h.query_wait_timeout h.server_lifetime h.server_idle_timeout h.max_packet_size)
 change-keeps key.Unused text s h = h
 
 -- ---- lines

@@ -1,7 +1,8 @@
 -- The rows of the section [databases] (PgBouncer manual, "Section [databases]").
 use Rattle.std.specs.Prelude.{ℕ, Bool, not, List, [], ◌∷◌, ◌==◌, ◌&&◌, ◌||◌, if◌then◌else◌, length, Option, Some, None, option_map, option_and_then, option_copied, unwrap_or, is_none, bytes_eq, codes}
 use Rattle.std.specs.List.{list_any}
-use Rattle.ini_config.specs.Values.{parts, split_at_first, number_between, address}
+use Rattle.ini_config.specs.Hosts.{host_of}
+use Rattle.ini_config.specs.Values.{parts, split_at_first, number_between}
 use Rattle.ini_config.specs.declared.database_values.Items.{Items}
 use Rattle.ini_config.specs.declared.database_values.RowText.{RowText}
 use Rattle.ini_config.specs.declared.database_rows.DbRow.{DbRow}
@@ -16,7 +17,7 @@ pub record RowValues : Type 0 where
 -- one more item: each key at most once
 abbrev pub with_item : RowValues → List ℕ → List ℕ → Option RowValues
 with_item r key value =
-    if bytes_eq key (codes "host") && is_none r.host then option_map (λ a. record r { host = Some a }) (address value) else (
+    if bytes_eq key (codes "host") && is_none r.host then option_map (λ h. record r { host = Some h }) (host_of value) else (
     if bytes_eq key (codes "port") && is_none r.port then option_map (λ n. record r { port = Some n }) (number_between 1 65535 value) else (
     if bytes_eq key (codes "dbname") && is_none r.dbname then Some (record r { dbname = Some value }) else (
     if bytes_eq key (codes "pool_size") && is_none r.pool_size then option_map (λ n. record r { pool_size = Some n }) (number_between 1 10000 value) else
@@ -38,9 +39,9 @@ nothing_said = record { host = None; port = None; dbname = None; pool_size = Non
 unfoldable pub values_in : List ℕ → Option RowValues
 values_in value = with_texts (Some nothing_said) (parts 32 value)
 
--- the console's name, and the row for all other names
-abbrev pub is_refused : List ℕ → Bool
-is_refused name = bytes_eq name (codes "pgbouncer") || bytes_eq name (codes "*")
+-- the console's name
+abbrev pub is_console : List ℕ → Bool
+is_console name = bytes_eq name (codes "pgbouncer")
 
 -- a name that a StartupMessage can ask for: not empty, without a zero byte
 abbrev pub is_database : List ℕ → Bool
@@ -54,12 +55,12 @@ row_with name r host =
 
 unfoldable pub row_of : List ℕ → List ℕ → Option DbRow
 row_of name value =
-    if is_refused name || list_any (λ b. b == 39) value then None
+    if is_console name || list_any (λ b. b == 39) value then None
     else option_and_then (λ r. option_and_then (row_with name r) r.host) (values_in value)
 
 -- the same of what was read
 abbrev pub values_of : Items → RowValues
-values_of items = record { host = items.host; port = items.port; dbname = option_copied items.dbname; pool_size = items.pool_size }
+values_of items = record { host = option_copied items.host; port = items.port; dbname = option_copied items.dbname; pool_size = items.pool_size }
 
 abbrev pub row_in : RowText → DbRow
-row_in r = record { name = r.name.now; host = r.host; port = r.port; dbname = r.dbname.now; pool_size = r.pool_size }
+row_in r = record { name = r.name.now; host = r.host.now; port = r.port; dbname = r.dbname.now; pool_size = r.pool_size }

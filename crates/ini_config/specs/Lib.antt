@@ -1,4 +1,5 @@
 pub mod DatabaseValues
+pub mod Hosts
 pub mod Lines
 pub mod OptionValues
 pub mod Reading

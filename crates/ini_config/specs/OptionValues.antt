@@ -1,8 +1,9 @@
 -- The keys of the section [pgbouncer] (PgBouncer manual, "Generic settings" and after).
-use Rattle.std.specs.Prelude.{ℕ, Bool, false, List, [], ◌∷◌, if◌then◌else◌, Option, Some, None, option_map, bytes_eq, codes}
+use Rattle.std.specs.Prelude.{ℕ, Bool, true, false, not, map, List, [], ◌∷◌, if◌then◌else◌, Option, Some, None, option_map, bytes_eq, codes}
 use Rattle.std.specs.Str.{str_eq_ignore_ascii_case}
 use Rattle.std.specs.List.{list_any, list_all, find}
-use Rattle.ini_config.specs.Values.{number_between, listen_address, names}
+use Rattle.ini_config.specs.Hosts.{listened, listen_addresses}
+use Rattle.ini_config.specs.Values.{number_between, mode, names}
 use Rattle.ini_config.specs.declared.faults.IniCause.{IniCause}
 use Rattle.ini_config.specs.declared.faults.IniCause.TheVariants as cause
 use Rattle.ini_config.specs.declared.option_keys.Key.{Key}
@@ -28,14 +29,17 @@ served =
     ∷ (codes "server_idle_timeout", key.ServerIdleTimeout) ∷ (codes "max_packet_size", key.MaxPacketSize)
     ∷ (codes "ignore_startup_parameters", key.IgnoreStartupParameters) ∷ (codes "track_extra_parameters", key.TrackExtraParameters)
     ∷ (codes "log_connections", key.LogConnections) ∷ (codes "log_disconnections", key.LogDisconnections)
-    ∷ (codes "untrack_parameters", key.UntrackParameters) ∷ []
+    ∷ (codes "untrack_parameters", key.UntrackParameters) ∷ (codes "unix_socket_dir", key.UnixSocketDir)
+    ∷ (codes "unix_socket_mode", key.UnixSocketMode) ∷ (codes "unix_socket_group", key.UnixSocketGroup)
+    ∷ (codes "peer_id", key.PeerId) ∷ (codes "tcp_keepalive", key.TcpKeepalive) ∷ (codes "tcp_keepidle", key.TcpKeepidle)
+    ∷ (codes "tcp_keepintvl", key.TcpKeepintvl) ∷ (codes "tcp_keepcnt", key.TcpKeepcnt) ∷ (codes "tcp_user_timeout", key.TcpUserTimeout) ∷ []
 
 -- keys of PgBouncer that are read, with any value, and not used
 abbrev pub unused : List Text
 unused =
-    codes "auth_file" ∷ codes "logfile" ∷ codes "pidfile" ∷ codes "unix_socket_dir" ∷ codes "syslog" ∷ codes "verbose" ∷ codes "stats_users"
+    codes "auth_file" ∷ codes "logfile" ∷ codes "pidfile" ∷ codes "syslog" ∷ codes "verbose" ∷ codes "stats_users"
     ∷ codes "stats_period" ∷ codes "log_pooler_errors" ∷ codes "log_stats"
-    ∷ codes "job_name" ∷ codes "pkt_buf" ∷ codes "listen_backlog" ∷ codes "tcp_keepalive" ∷ codes "server_check_delay"
+    ∷ codes "job_name" ∷ codes "pkt_buf" ∷ codes "listen_backlog" ∷ codes "server_check_delay"
     ∷ codes "server_connect_timeout" ∷ codes "server_login_retry" ∷ codes "server_reset_query_always" ∷ []
 
 abbrev pub is_unused : Text → Bool
@@ -63,6 +67,10 @@ seconds text = number_between 0 2147483647 text
 abbrev pub is_one : Text → Bool
 is_one text = bytes_eq text (codes "1")
 
+-- a switch that is on but at 0
+abbrev pub is_zero : Text → Bool
+is_zero text = bytes_eq text (codes "0")
+
 -- the startup parameters that are followed, unless they are untracked
 abbrev pub always_followed : List Text
 always_followed = codes "client_encoding" ∷ codes "datestyle" ∷ codes "timezone" ∷ codes "standard_conforming_strings" ∷ codes "application_name" ∷ []
@@ -77,7 +85,7 @@ untracked text = if list_all (has_folded always_followed) (names text) then Some
 
 -- what a key's value makes of the settings; none where it isn't a value of the key
 unfoldable pub change_of : Key → Text → Option (Settings → Settings)
-change_of key.ListenAddr text = option_map (λ a s. record s { listen_addr = a }) (listen_address text)
+change_of key.ListenAddr text = option_map (λ a s. record s { listen_addr = a }) (listen_addresses text)
 change_of key.ListenPort text = option_map (λ n s. record s { listen_port = n }) (number_between 1 65535 text)
 change_of key.AuthType text = option_map (λ a s. record s { auth_type = a }) (auth_type text)
 change_of key.AdminUsers text = Some (λ s. record s { admin_users = names text })
@@ -95,6 +103,15 @@ change_of key.TrackExtraParameters text = Some (λ s. record s { track_extra_par
 change_of key.LogConnections text = Some (λ s. record s { log_connections = is_one text })
 change_of key.LogDisconnections text = Some (λ s. record s { log_disconnections = is_one text })
 change_of key.UntrackParameters text = option_map (λ n s. record s { untrack_parameters = n }) (untracked text)
+change_of key.UnixSocketDir text = Some (λ s. record s { unix_socket_dir = text })
+change_of key.UnixSocketMode text = option_map (λ n s. record s { unix_socket_mode = n }) (mode text)
+change_of key.UnixSocketGroup text = Some (λ s. record s { unix_socket_group = text })
+change_of key.PeerId text = option_map (λ n s. record s { peer_id = n }) (number_between 0 127 text)
+change_of key.TcpKeepalive text = Some (λ s. record s { tcp_keepalive = not (is_zero text) })
+change_of key.TcpKeepidle text = option_map (λ n s. record s { tcp_keepidle = n }) (number_between 0 2147483647 text)
+change_of key.TcpKeepintvl text = option_map (λ n s. record s { tcp_keepintvl = n }) (number_between 0 2147483647 text)
+change_of key.TcpKeepcnt text = option_map (λ n s. record s { tcp_keepcnt = n }) (number_between 0 2147483647 text)
+change_of key.TcpUserTimeout text = option_map (λ n s. record s { tcp_user_timeout = n }) (number_between 0 2147483647 text)
 change_of key.Unused text = Some (λ s. s)
 
 -- what a value asks for that isn't served
@@ -107,7 +124,7 @@ refusal other text = None
 abbrev pub defaults : Settings
 defaults = record {
   rows = [];
-  listen_addr = 127 ∷ 0 ∷ 0 ∷ 1 ∷ [];
+  listen_addr = codes "127.0.0.1" ∷ [];
   listen_port = 6432;
   auth_type = Md5;
   admin_users = [];
@@ -123,6 +140,15 @@ defaults = record {
   log_connections = false;
   log_disconnections = false;
   untrack_parameters = [];
+  unix_socket_dir = [];
+  unix_socket_mode = 511;
+  unix_socket_group = [];
+  peer_id = 0;
+  tcp_keepalive = true;
+  tcp_keepidle = 0;
+  tcp_keepintvl = 0;
+  tcp_keepcnt = 0;
+  tcp_user_timeout = 0;
 }
 
 -- ---- what the lists of names are for
@@ -144,7 +170,7 @@ untracks s name = has_folded s.untrack_parameters name
 -- ---- the same of a value that was read
 
 abbrev pub changed_by : Setting → Settings → Settings
-changed_by (setting.ListenAddr a) s = record s { listen_addr = a }
+changed_by (setting.ListenAddr text) s = record s { listen_addr = map listened (names text.now) }
 changed_by (setting.ListenPort n) s = record s { listen_port = n }
 changed_by (setting.AuthType a) s = record s { auth_type = a }
 changed_by (setting.AdminUsers text) s = record s { admin_users = names text.now }
@@ -160,4 +186,13 @@ changed_by (setting.TrackExtraParameters text) s = record s { track_extra_parame
 changed_by (setting.LogConnections b) s = record s { log_connections = b }
 changed_by (setting.LogDisconnections b) s = record s { log_disconnections = b }
 changed_by (setting.UntrackParameters text) s = record s { untrack_parameters = names text.now }
+changed_by (setting.UnixSocketDir text) s = record s { unix_socket_dir = text.now }
+changed_by (setting.UnixSocketMode n) s = record s { unix_socket_mode = n }
+changed_by (setting.UnixSocketGroup text) s = record s { unix_socket_group = text.now }
+changed_by (setting.PeerId n) s = record s { peer_id = n }
+changed_by (setting.TcpKeepalive b) s = record s { tcp_keepalive = b }
+changed_by (setting.TcpKeepidle n) s = record s { tcp_keepidle = n }
+changed_by (setting.TcpKeepintvl n) s = record s { tcp_keepintvl = n }
+changed_by (setting.TcpKeepcnt n) s = record s { tcp_keepcnt = n }
+changed_by (setting.TcpUserTimeout n) s = record s { tcp_user_timeout = n }
 changed_by setting.Nothing s = s

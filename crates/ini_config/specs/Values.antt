@@ -1,5 +1,5 @@
 -- The values of settings (PgBouncer manual, "Generic settings", "Section [databases]").
-use Rattle.std.specs.Prelude.{ℕ, ◌+◌, ◌-◌, ◌*◌, not, List, [], ◌∷◌, ◌==◌, ◌&&◌, if◌then◌else◌, nat_lt, nat_le, length, take, drop, fold, filter, map, slice_index, Option, Some, None, option_map, option_and_then, bytes_eq, codes}
+use Rattle.std.specs.Prelude.{ℕ, ◌+◌, ◌-◌, ◌*◌, not, List, [], ◌∷◌, ◌==◌, ◌&&◌, if◌then◌else◌, nat_lt, nat_le, length, take, drop, fold, filter, map, slice_index, Option, Some, None, option_map, option_and_then}
 use Rattle.std.specs.Char.{is_ascii_digit}
 use Rattle.std.specs.List.{list_all}
 use Rattle.memchr.specs.Find.{first_of, matches}
@@ -51,13 +51,23 @@ dotted text = do
   d ← octet three.1
   Some (a ∷ b ∷ c ∷ d ∷ [])
 
--- the address of a server
-unfoldable pub address : List ℕ → Option (List ℕ)
-address text = if bytes_eq text (codes "localhost") then Some (127 ∷ 0 ∷ 0 ∷ 1 ∷ []) else dotted text
+-- ---- the rights of a file
 
--- the address that is listened on
-unfoldable pub listen_address : List ℕ → Option (List ℕ)
-listen_address text = if bytes_eq text (codes "*") then Some (0 ∷ 0 ∷ 0 ∷ 0 ∷ []) else address text
+abbrev pub octal : ℕ → Option ℕ
+octal digit = if nat_le 48 digit && nat_le digit 55 then Some (digit - 48) else None
+
+abbrev pub octals : ℕ → ℕ → ℕ → Option ℕ
+octals first second third = do
+  a ← octal first
+  b ← octal second
+  c ← octal third
+  Some (64 * a + 8 * b + c)
+
+-- three octal digits: of the owner, of the group and of others; a zero may stand before them
+abbrev pub mode : List ℕ → Option ℕ
+mode (first ∷ second ∷ third ∷ []) = octals first second third
+mode (before ∷ first ∷ second ∷ third ∷ []) = if before == 48 then octals first second third else None
+mode text = None
 
 -- ---- names
 

@@ -1,18 +1,24 @@
 //! Database rows.
-ghost use Rattle.std.specs.Prelude.{◌≡◌, IfOk};
+ghost use Rattle.std.specs.Prelude.{◌≡◌, ◌≤◌, length, IfOk};
 ghost use Rattle.ini_config.specs.DatabaseValues.{row_in};
+ghost use Rattle.ini_config.specs.Tables.{row_as, row_of_served};
+ghost use Rattle.server_host.specs.declared.TheConstants.{MAX_HOST};
 
 use crate::database_values::RowText;
+use server_host::Host;
 use std::alloc::{AllocError, Global};
 use text_lines::Text;
+
+/// The row by which databases are served that no other row names; and as a database's name the one that was asked for.
+pub(crate) const WILDCARD: &[u8] = b"*";
 
 /// A row of the section `[databases]`: where the server of a database is.
 pub struct DbRow {
     /// The name that clients ask for.
     pub name: Text,
-    /// The server's IPv4 address.
-    pub host: [u8; 4],
-    /// The server's TCP port, at least 1.
+    /// The server's host: an address of IPv4 or IPv6, a name, the folder of a Unix socket; or several of these, with commas between.
+    pub host: Host,
+    /// The server's port, at least 1.
     pub port: u16,
     /// The server's name of the database: not empty, without a zero byte.
     pub dbname: Text,
@@ -32,14 +38,65 @@ impl Drop for DbRow {
     }
 }
 
+/// The row that serves a database, as it is lent: that of its name, or that of `*` under its name.
+#[derive(Clone, Copy)]
+pub struct ServedRow<'a> {
+    /// The name that was asked for.
+    pub name: &'a [u8],
+    /// The server's host.
+    pub host: &'a Host,
+    /// The server's port.
+    pub port: u16,
+    /// The server's name of the database.
+    pub dbname: &'a [u8],
+    /// How many links a pool of this row may have, as in a [`DbRow`].
+    pub pool_size: Option<u32>,
+}
+
+impl DbRow {
+    /// The row as it stands.
+    pub(crate) fn served(&self) -> ServedRow<'_>
+        ensures { row_of_served result ≡ self.now }
+    {
+        ServedRow {
+            name: self.name.as_bytes(),
+            host: &self.host,
+            port: self.port,
+            dbname: self.dbname.as_bytes(),
+            pool_size: self.pool_size,
+        }
+    }
+
+    /// The row under another name, which is the server's of the database too where the row says none: `*`.
+    pub(crate) fn served_as<'a>(&'a self, name: &'a [u8]) -> ServedRow<'a>
+        ensures { row_of_served result ≡ row_as name.entry.now self.entry.now }
+    {
+        let served = self.served();
+        let dbname = if served.dbname == WILDCARD {
+            name
+        } else {
+            served.dbname
+        };
+        ServedRow {
+            name,
+            dbname,
+            ..served
+        }
+    }
+}
+
 impl RowText<'_> {
     /// The row with texts of its own.
     pub(crate) fn copy(&self, alloc: Global) -> Result<DbRow, AllocError>
+        requires short { length self.now.host.now ≤ MAX_HOST }
         ensures { IfOk result (λ row. row ≡ row_in self.now) }
     {
+        let Some(host) = Host::new(self.host) else {
+            unreachable!()
+        };
         Ok(DbRow {
             name: Text::copy(alloc, self.name)?,
-            host: self.host,
+            host,
             port: self.port,
             dbname: Text::copy(alloc, self.dbname)?,
             pool_size: self.pool_size,

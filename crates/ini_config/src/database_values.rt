@@ -1,14 +1,17 @@
 //! The value of a database row.
-ghost use Rattle.std.specs.Prelude.{◌≡◌, option_map, IfSome};
+ghost use Rattle.std.specs.Prelude.{◌≡◌, ◌≤◌, length, option_copied, option_map, IfSome};
+ghost use Rattle.ini_config.specs.Hosts.{IsShort};
 ghost use Rattle.ini_config.specs.DatabaseValues as spec;
+ghost use Rattle.server_host.specs.declared.TheConstants.{MAX_HOST};
 
-use crate::values::{address, number, port, split_at_first};
+use crate::hosts::host_of;
+use crate::values::{number, port, split_at_first};
 use bstr::ByteSlice;
 
 /// What the items of a row's value say.
 #[derive(Clone, Copy)]
 pub(crate) struct Items<'a> {
-    host: Option<[u8; 4]>,
+    host: Option<&'a [u8]>,
     port: Option<u16>,
     dbname: Option<&'a [u8]>,
     pool_size: Option<u32>,
@@ -18,7 +21,7 @@ pub(crate) struct Items<'a> {
 #[derive(Clone, Copy)]
 pub(crate) struct RowText<'a> {
     pub(crate) name: &'a [u8],
-    pub(crate) host: [u8; 4],
+    pub(crate) host: &'a [u8],
     pub(crate) port: u16,
     pub(crate) dbname: &'a [u8],
     pub(crate) pool_size: Option<u32>,
@@ -28,10 +31,12 @@ const DEFAULT_PORT: u16 = 5432;
 
 /// The items with one more. None where its key is unknown or there already, or its value isn't one of the key.
 fn with_item<'a>(items: Items<'a>, key: &[u8], value: &'a [u8]) -> Option<Items<'a>>
-    ensures { option_map spec.values_of result ≡ spec.with_item (spec.values_of items.entry) key.now value.entry.now }
+    requires short { IsShort (option_copied items.host) }
+    ensures value { option_map spec.values_of result ≡ spec.with_item (spec.values_of items.entry) key.now value.entry.now }
+    ensures short { IfSome result (λ i. IsShort (option_copied i.host)) }
 {
     if key == b"host".as_slice() && items.host.is_none() {
-        let host = Some(address(value)?);
+        let host = Some(host_of(value)?);
         return Some(Items { host, ..items });
     }
     if key == b"port".as_slice() && items.port.is_none() {
@@ -52,7 +57,8 @@ fn with_item<'a>(items: Items<'a>, key: &[u8], value: &'a [u8]) -> Option<Items<
 /// The items of a value, parted by spaces.
 #[tactic(auto, using(crate::proofs::Items::no_texts), unfolding(crate::specs::DatabaseValues::values_in))]
 fn items_of(value: &[u8]) -> Option<Items<'_>>
-    ensures { option_map spec.values_of result ≡ spec.values_in value.now }
+    ensures value { option_map spec.values_of result ≡ spec.values_in value.now }
+    ensures short { IfSome result (λ i. IsShort (option_copied i.host)) }
 {
     let mut items = Items {
         host: None,
@@ -69,15 +75,15 @@ fn items_of(value: &[u8]) -> Option<Items<'_>>
     Some(items)
 }
 
-/// Whether the name of a row is one that isn't served: the console's, and the row for all other names.
-fn is_refused(name: &[u8]) -> bool
-    ensures { result ≡ spec.is_refused name.now }
+/// Whether this is the console's name, which no row may have.
+fn is_console(name: &[u8]) -> bool
+    ensures { result ≡ spec.is_console name.now }
 {
-    name == b"pgbouncer".as_slice() || name == b"*".as_slice()
+    name == b"pgbouncer".as_slice()
 }
 
 /// Whether a server can have a database of this name.
-fn is_database(name: &[u8]) -> bool
+pub(crate) fn is_database(name: &[u8]) -> bool
     ensures { result ≡ spec.is_database name.now }
 {
     !name.is_empty() && !name.contains(&0)
@@ -88,8 +94,9 @@ fn is_database(name: &[u8]) -> bool
 pub(crate) fn read_row<'a>(name: &'a [u8], value: &'a [u8]) -> Option<RowText<'a>>
     ensures value { option_map spec.row_in result ≡ spec.row_of name.entry.now value.entry.now }
     ensures name { IfSome result (λ r. r.name.now ≡ name.entry.now) }
+    ensures short { IfSome result (λ r. length r.host.now ≤ MAX_HOST) }
 {
-    if is_refused(name) || value.contains(&b'\'') {
+    if is_console(name) || value.contains(&b'\'') {
         return None;
     }
     let items = items_of(value)?;

@@ -2,8 +2,10 @@
 ghost use Rattle.std.specs.Prelude.{◌≡◌, [], ◌∷◌, ◌==◌, length, map, IfOk, bytes_eq};
 ghost use Rattle.std.specs.Str.{str_eq_ignore_ascii_case};
 ghost use Rattle.std.specs.List.{list_any};
+ghost use Rattle.ini_config.specs.Hosts as hosts;
 ghost use Rattle.ini_config.specs.Values as spec;
 
+use crate::hosts::listened;
 use bstr::ByteSlice;
 use std::alloc::{AllocError, Global};
 use std::marker::Model;
@@ -58,6 +60,21 @@ impl Names {
             let name = trimmed(part);
             if !name.is_empty() {
                 list.push(Text::copy(alloc, name)?)?;
+            }
+        }
+        Ok(Names { list })
+    }
+
+    /// Those that an address to listen on stands for by each. The only error is out of memory.
+    #[tactic(auto, unfolding(crate::specs::Values::names))]
+    pub(crate) fn read_listened(alloc: Global, text: &[u8]) -> Result<Names, AllocError>
+        ensures { IfOk result (λ n. n ≡ map hosts.listened (spec.names text.now)) }
+    {
+        let mut list = Vec::new(alloc);
+        for part in text.split_str(b",") {
+            let address = trimmed(part);
+            if !address.is_empty() {
+                list.push(Text::copy(alloc, listened(address))?)?;
             }
         }
         Ok(Names { list })

@@ -5,8 +5,9 @@ ghost use Rattle.ini_config.specs.OptionValues as spec;
 
 use crate::always_followed::untracked;
 use crate::faults::IniCause;
+use crate::hosts::listen_addresses;
 use crate::option_values::AuthType;
-use crate::values::{listen_address, number, port};
+use crate::values::{mode, number, port};
 
 /// A key that the file may have.
 #[derive(Clone, Copy)]
@@ -29,6 +30,15 @@ pub(crate) enum Key {
     LogConnections,
     LogDisconnections,
     UntrackParameters,
+    UnixSocketDir,
+    UnixSocketMode,
+    UnixSocketGroup,
+    PeerId,
+    TcpKeepalive,
+    TcpKeepidle,
+    TcpKeepintvl,
+    TcpKeepcnt,
+    TcpUserTimeout,
     /// A key of PgBouncer that is read, with any value, and not used.
     Unused,
 }
@@ -36,7 +46,7 @@ pub(crate) enum Key {
 /// What a value changes.
 #[derive(Clone, Copy)]
 pub(crate) enum Setting<'a> {
-    ListenAddr([u8; 4]),
+    ListenAddr(&'a [u8]),
     ListenPort(u16),
     AuthType(AuthType),
     AdminUsers(&'a [u8]),
@@ -52,10 +62,19 @@ pub(crate) enum Setting<'a> {
     LogConnections(bool),
     LogDisconnections(bool),
     UntrackParameters(&'a [u8]),
+    UnixSocketDir(&'a [u8]),
+    UnixSocketMode(u32),
+    UnixSocketGroup(&'a [u8]),
+    PeerId(u32),
+    TcpKeepalive(bool),
+    TcpKeepidle(u32),
+    TcpKeepintvl(u32),
+    TcpKeepcnt(u32),
+    TcpUserTimeout(u32),
     Nothing,
 }
 
-static SERVED: [(&str, Key); 18] = [
+static SERVED: [(&str, Key); 27] = [
     ("listen_addr", Key::ListenAddr),
     ("listen_port", Key::ListenPort),
     ("auth_type", Key::AuthType),
@@ -74,13 +93,21 @@ static SERVED: [(&str, Key); 18] = [
     ("log_connections", Key::LogConnections),
     ("log_disconnections", Key::LogDisconnections),
     ("untrack_parameters", Key::UntrackParameters),
+    ("unix_socket_dir", Key::UnixSocketDir),
+    ("unix_socket_mode", Key::UnixSocketMode),
+    ("unix_socket_group", Key::UnixSocketGroup),
+    ("peer_id", Key::PeerId),
+    ("tcp_keepalive", Key::TcpKeepalive),
+    ("tcp_keepidle", Key::TcpKeepidle),
+    ("tcp_keepintvl", Key::TcpKeepintvl),
+    ("tcp_keepcnt", Key::TcpKeepcnt),
+    ("tcp_user_timeout", Key::TcpUserTimeout),
 ];
 
-static UNUSED: [&str; 18] = [
+static UNUSED: [&str; 16] = [
     "auth_file",
     "logfile",
     "pidfile",
-    "unix_socket_dir",
     "syslog",
     "verbose",
     "stats_users",
@@ -90,7 +117,6 @@ static UNUSED: [&str; 18] = [
     "job_name",
     "pkt_buf",
     "listen_backlog",
-    "tcp_keepalive",
     "server_check_delay",
     "server_connect_timeout",
     "server_login_retry",
@@ -100,6 +126,9 @@ static UNUSED: [&str; 18] = [
 const MOST_LINKS: u32 = 10_000;
 
 const MOST_SECONDS: u32 = 2_147_483_647;
+
+/// The first byte of a process number, whose top bit stays clear.
+const MAX_PEER_ID: u32 = 127;
 
 const SMALLEST_PACKET: u32 = 1024;
 
@@ -163,13 +192,20 @@ fn is_one(value: &[u8]) -> bool
     value == b"1".as_slice()
 }
 
+/// Whether a switch is off. At any other value it is on, as it is where it isn't named.
+fn is_zero(value: &[u8]) -> bool
+    ensures { result ≡ spec.is_zero value.now }
+{
+    value == b"0".as_slice()
+}
+
 /// What a key's value says. None where it isn't a value of the key.
 #[tactic(auto, unfolding(crate::specs::OptionValues::change_of))]
 pub(crate) fn read_setting(key: Key, value: &[u8]) -> Option<Setting<'_>>
     ensures { option_map spec.changed_by result ≡ spec.change_of key value.now }
 {
     match key {
-        Key::ListenAddr => Some(Setting::ListenAddr(listen_address(value)?)),
+        Key::ListenAddr => Some(Setting::ListenAddr(listen_addresses(value)?)),
         Key::ListenPort => Some(Setting::ListenPort(port(value)?)),
         Key::AuthType => Some(Setting::AuthType(auth_type(value)?)),
         Key::AdminUsers => Some(Setting::AdminUsers(value)),
@@ -190,6 +226,15 @@ pub(crate) fn read_setting(key: Key, value: &[u8]) -> Option<Setting<'_>>
         Key::LogConnections => Some(Setting::LogConnections(is_one(value))),
         Key::LogDisconnections => Some(Setting::LogDisconnections(is_one(value))),
         Key::UntrackParameters => Some(Setting::UntrackParameters(untracked(value)?)),
+        Key::UnixSocketDir => Some(Setting::UnixSocketDir(value)),
+        Key::UnixSocketMode => Some(Setting::UnixSocketMode(mode(value)?)),
+        Key::UnixSocketGroup => Some(Setting::UnixSocketGroup(value)),
+        Key::PeerId => Some(Setting::PeerId(number(value, 0, MAX_PEER_ID)?)),
+        Key::TcpKeepalive => Some(Setting::TcpKeepalive(!is_zero(value))),
+        Key::TcpKeepidle => Some(Setting::TcpKeepidle(number(value, 0, MOST_SECONDS)?)),
+        Key::TcpKeepintvl => Some(Setting::TcpKeepintvl(number(value, 0, MOST_SECONDS)?)),
+        Key::TcpKeepcnt => Some(Setting::TcpKeepcnt(number(value, 0, MOST_SECONDS)?)),
+        Key::TcpUserTimeout => Some(Setting::TcpUserTimeout(number(value, 0, MOST_SECONDS)?)),
     }
 }
 

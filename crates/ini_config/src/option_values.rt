@@ -1,15 +1,16 @@
 //! The settings.
-ghost use Rattle.std.specs.Prelude.{◌≡◌, ◌||◌, IfOk, OnOk, OnErr, option_copied, unwrap_or, bytes_eq, codes};
+ghost use Rattle.std.specs.Prelude.{◌≡◌, ◌||◌, IfOk, OnOk, OnErr, option_map, unwrap_or, bytes_eq, codes};
 ghost use Rattle.std.specs.Str.{str_to_ascii_lowercase};
 ghost use Rattle.std.specs.List.{list_any};
 ghost use Rattle.ini_config.specs.OptionValues as spec;
-ghost use Rattle.ini_config.specs.Tables.{row_named};
+ghost use Rattle.ini_config.specs.Tables.{row_for, row_of_served};
 
-use crate::database_rows::DbRow;
+use crate::database_rows::{DbRow, ServedRow};
 use crate::name_lists::Names;
 use crate::option_keys::Setting;
 use crate::row_table::Rows;
 use std::alloc::{AllocError, Global};
+use text_lines::Text;
 
 /// How clients prove who they are.
 #[derive(Clone, Copy, PartialEq, Eq)]
@@ -25,7 +26,7 @@ pub enum AuthType {
 /// Everything that a settings file says, defaults included.
 pub struct Settings {
     pub rows: Rows,
-    pub listen_addr: [u8; 4],
+    pub listen_addr: Names,
     pub listen_port: u16,
     pub auth_type: AuthType,
     pub admin_users: Names,
@@ -41,6 +42,18 @@ pub struct Settings {
     pub log_connections: bool,
     pub log_disconnections: bool,
     pub untrack_parameters: Names,
+    /// Empty: none.
+    pub unix_socket_dir: Text,
+    pub unix_socket_mode: u32,
+    /// Empty: that of the process.
+    pub unix_socket_group: Text,
+    /// 0: none.
+    pub peer_id: u32,
+    pub tcp_keepalive: bool,
+    pub tcp_keepidle: u32,
+    pub tcp_keepintvl: u32,
+    pub tcp_keepcnt: u32,
+    pub tcp_user_timeout: u32,
 }
 
 impl Drop for Settings {
@@ -63,6 +76,15 @@ impl Drop for Settings {
             log_connections: _,
             log_disconnections: _,
             untrack_parameters: _,
+            unix_socket_dir: _,
+            unix_socket_mode: _,
+            unix_socket_group: _,
+            peer_id: _,
+            tcp_keepalive: _,
+            tcp_keepidle: _,
+            tcp_keepintvl: _,
+            tcp_keepcnt: _,
+            tcp_user_timeout: _,
         } = self;
     }
 }
@@ -73,9 +95,10 @@ impl Settings {
         ensures { IfOk result (λ s. s ≡ spec.defaults) }
     {
         let track_extra_parameters = Names::one(alloc, b"IntervalStyle")?;
+        let listen_addr = Names::one(alloc, b"127.0.0.1")?;
         Ok(Settings {
             rows: Rows::new(alloc),
-            listen_addr: [127, 0, 0, 1],
+            listen_addr,
             listen_port: 6432,
             auth_type: AuthType::Md5,
             admin_users: Names::new(alloc),
@@ -91,6 +114,15 @@ impl Settings {
             log_connections: false,
             log_disconnections: false,
             untrack_parameters: Names::new(alloc),
+            unix_socket_dir: Text::copy(alloc, b"")?,
+            unix_socket_mode: 0o777,
+            unix_socket_group: Text::copy(alloc, b"")?,
+            peer_id: 0,
+            tcp_keepalive: true,
+            tcp_keepidle: 0,
+            tcp_keepintvl: 0,
+            tcp_keepcnt: 0,
+            tcp_user_timeout: 0,
         })
     }
 
@@ -100,7 +132,7 @@ impl Settings {
         ensures err { OnErr result (self.new ≡ self.old) }
     {
         match setting {
-            Setting::ListenAddr(address) => self.listen_addr = address,
+            Setting::ListenAddr(text) => self.listen_addr = Names::read_listened(alloc, text)?,
             Setting::ListenPort(port) => self.listen_port = port,
             Setting::AuthType(auth_type) => self.auth_type = auth_type,
             Setting::AdminUsers(text) => self.admin_users = Names::read(alloc, text)?,
@@ -120,16 +152,25 @@ impl Settings {
             Setting::LogConnections(is_on) => self.log_connections = is_on,
             Setting::LogDisconnections(is_on) => self.log_disconnections = is_on,
             Setting::UntrackParameters(text) => self.untrack_parameters = Names::read(alloc, text)?,
+            Setting::UnixSocketDir(text) => self.unix_socket_dir = Text::copy(alloc, text)?,
+            Setting::UnixSocketMode(mode) => self.unix_socket_mode = mode,
+            Setting::UnixSocketGroup(text) => self.unix_socket_group = Text::copy(alloc, text)?,
+            Setting::PeerId(id) => self.peer_id = id,
+            Setting::TcpKeepalive(is_on) => self.tcp_keepalive = is_on,
+            Setting::TcpKeepidle(seconds) => self.tcp_keepidle = seconds,
+            Setting::TcpKeepintvl(seconds) => self.tcp_keepintvl = seconds,
+            Setting::TcpKeepcnt(count) => self.tcp_keepcnt = count,
+            Setting::TcpUserTimeout(milliseconds) => self.tcp_user_timeout = milliseconds,
             Setting::Nothing => {}
         }
         Ok(())
     }
 
-    /// The row of a database, by the name that clients ask for.
-    pub fn row(&self, name: &[u8]) -> Option<&DbRow>
-        ensures { option_copied result ≡ row_named name.now self.now.rows }
+    /// The row that serves a database, by the name that clients ask for: that of its name, else that of `*`.
+    pub fn row<'a>(&'a self, name: &'a [u8]) -> Option<ServedRow<'a>>
+        ensures { option_map row_of_served result ≡ row_for name.entry.now self.entry.now.rows }
     {
-        self.rows.get(name)
+        self.rows.serving(name)
     }
 
     /// How many links a pool of this row may have.
@@ -167,11 +208,11 @@ impl Settings {
         self.untrack_parameters.has_folded(name)
     }
 
-    /// The address that the pooler listens on; 0.0.0.0 means all.
-    pub fn listen_addr(&self) -> [u8; 4]
-        ensures { result ≡ self.now.listen_addr }
+    /// The addresses and names that the pooler listens on; 0.0.0.0 means all of IPv4.
+    pub fn listen_addr(&self) -> &Names
+        ensures { result.now ≡ self.now.listen_addr }
     {
-        self.listen_addr
+        &self.listen_addr
     }
 
     /// The port that the pooler listens on.
@@ -291,5 +332,68 @@ impl Settings {
         ensures { result.now ≡ self.now.untrack_parameters }
     {
         &self.untrack_parameters
+    }
+
+    /// The folder of the Unix socket that the pooler listens on; empty: none.
+    pub fn unix_socket_dir(&self) -> &[u8]
+        ensures { result.now ≡ self.now.unix_socket_dir }
+    {
+        self.unix_socket_dir.as_bytes()
+    }
+
+    /// The rights of that socket: nine bits.
+    pub fn unix_socket_mode(&self) -> u32
+        ensures { result ≡ self.now.unix_socket_mode }
+    {
+        self.unix_socket_mode
+    }
+
+    /// The group of that socket, by its name or its number; empty: that of the process.
+    pub fn unix_socket_group(&self) -> &[u8]
+        ensures { result.now ≡ self.now.unix_socket_group }
+    {
+        self.unix_socket_group.as_bytes()
+    }
+
+    /// The first byte of the process number of each client's key, from 1 to 127; 0: as the seed gives it.
+    pub fn peer_id(&self) -> u32
+        ensures { result ≡ self.now.peer_id }
+    {
+        self.peer_id
+    }
+
+    /// Whether the system keeps connections over TCP alive, those of clients and those to servers.
+    pub fn tcp_keepalive(&self) -> bool
+        ensures { result ≡ self.now.tcp_keepalive }
+    {
+        self.tcp_keepalive
+    }
+
+    /// After how many idle seconds the first keepalive is sent; 0: as the system does.
+    pub fn tcp_keepidle(&self) -> u32
+        ensures { result ≡ self.now.tcp_keepidle }
+    {
+        self.tcp_keepidle
+    }
+
+    /// How many seconds lie between keepalives that aren't answered; 0: as the system does.
+    pub fn tcp_keepintvl(&self) -> u32
+        ensures { result ≡ self.now.tcp_keepintvl }
+    {
+        self.tcp_keepintvl
+    }
+
+    /// How many keepalives go unanswered before a connection is given up; 0: as the system does.
+    pub fn tcp_keepcnt(&self) -> u32
+        ensures { result ≡ self.now.tcp_keepcnt }
+    {
+        self.tcp_keepcnt
+    }
+
+    /// How many milliseconds what was sent may stay without an acknowledgement before a connection is given up; 0: as the system does.
+    pub fn tcp_user_timeout(&self) -> u32
+        ensures { result ≡ self.now.tcp_user_timeout }
+    {
+        self.tcp_user_timeout
     }
 }

@@ -1,11 +1,22 @@
 //! The table of database rows.
-ghost use Rattle.std.specs.Prelude.{◌≡◌, [], ◌∷◌, ◌++◌, length, option_copied, slice_get, OnOk, OnErr, None, bytes_eq};
-ghost use Rattle.ini_config.specs.Tables.{row_named};
+ghost use Rattle.std.specs.Prelude.{◌≡◌, [], ◌∷◌, ◌++◌, length, option_copied, option_map, slice_get, OnOk, OnErr, None, bytes_eq};
+ghost use Rattle.ini_config.specs.Tables.{is_database_name, row_for, row_named, row_of_served};
 
-use crate::database_rows::DbRow;
+use crate::database_rows::{DbRow, ServedRow, WILDCARD};
+use crate::database_values::is_database;
 use indexmap::IndexMap;
 use std::alloc::{AllocError, Global};
 use std::marker::Model;
+
+/// The longest name of a database that PostgreSQL has.
+const MAX_NAME: usize = 63;
+
+/// Whether a server can have a database of this name.
+fn is_database_name(name: &[u8]) -> bool
+    ensures { result ≡ is_database_name name.now }
+{
+    is_database(name) && name.len() <= MAX_NAME
+}
 
 /// Database rows in the order of the file, found by name.
 pub struct Rows {
@@ -44,6 +55,21 @@ impl Rows {
         ensures { option_copied result ≡ row_named name.now self.now }
     {
         self.by_name.get(name)
+    }
+
+    /// The row that serves the database of this name: the one of that name, else that of `*` where the name has 1 to 63 bytes and no zero
+    /// byte.
+    pub fn serving<'a>(&'a self, name: &'a [u8]) -> Option<ServedRow<'a>>
+        ensures { option_map row_of_served result ≡ row_for name.entry.now self.entry.now }
+    {
+        if let Some(row) = self.get(name) {
+            return Some(row.served());
+        }
+        if !is_database_name(name) {
+            return None;
+        }
+        let row = self.get(WILDCARD)?;
+        Some(row.served_as(name))
     }
 
     /// How many rows there are.

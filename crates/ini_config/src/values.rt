@@ -55,7 +55,7 @@ fn octet(text: &[u8]) -> Option<u8>
 
 /// An IPv4 address: four numbers from 0 to 255 without leading zeros, parted by dots.
 #[tactic(auto, unfolding(crate::specs::Values::dotted))]
-fn dotted(text: &[u8]) -> Option<[u8; 4]>
+pub(crate) fn dotted(text: &[u8]) -> Option<[u8; 4]>
     ensures { result ≡ spec.dotted text.now }
 {
     let (first, rest) = split_at_first(text, b'.')?;
@@ -64,24 +64,32 @@ fn dotted(text: &[u8]) -> Option<[u8; 4]>
     Some([octet(first)?, octet(second)?, octet(third)?, octet(fourth)?])
 }
 
-/// The address of a server.
-#[tactic(auto, unfolding(crate::specs::Values::address))]
-pub(crate) fn address(text: &[u8]) -> Option<[u8; 4]>
-    ensures { result ≡ spec.address text.now }
+/// An octal digit.
+fn octal(digit: u8) -> Option<u32>
+    ensures value { result ≡ spec.octal digit }
+    ensures bound { IfSome result (λ n. n ≤ 7) }
 {
-    if text == b"localhost".as_slice() {
-        return Some([127, 0, 0, 1]);
+    if b'0' <= digit && digit <= b'7' {
+        Some(u32::from(digit - b'0'))
+    } else {
+        None
     }
-    dotted(text)
 }
 
-/// The address that is listened on.
-#[tactic(auto, unfolding(crate::specs::Values::listen_address))]
-pub(crate) fn listen_address(text: &[u8]) -> Option<[u8; 4]>
-    ensures { result ≡ spec.listen_address text.now }
+/// Three octal digits.
+fn octals(first: u8, second: u8, third: u8) -> Option<u32>
+    ensures { result ≡ spec.octals first second third }
 {
-    if text == b"*".as_slice() {
-        return Some([0, 0, 0, 0]);
+    Some(64 * octal(first)? + 8 * octal(second)? + octal(third)?)
+}
+
+/// The rights of a file: three octal digits, for its owner, its group and others. A zero may stand before them.
+pub(crate) fn mode(text: &[u8]) -> Option<u32>
+    ensures { result ≡ spec.mode text.now }
+{
+    match text {
+        [first, second, third] => octals(*first, *second, *third),
+        [b'0', first, second, third] => octals(*first, *second, *third),
+        _ => None,
     }
-    address(text)
 }

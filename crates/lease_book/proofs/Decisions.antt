@@ -6,8 +6,8 @@ use Rattle.message_view.specs.declared.refusal.Refusal.{Refusal}
 use Rattle.message_view.specs.declared.refusal.Refusal.TheVariants.{TooManyClients, WaitedTooLong, ShuttingDown, LastDecision}
 use Rattle.message_view.specs.declared.views.KeyView.{KeyView}
 use Rattle.book_model.specs.Book.{Book, Lease, Link, Ticket, in_pool, latest_of, link_count, pool_count, pool_size, is_of, is_of_client, is_link, waiting_before}
-use Rattle.book_model.specs.Outcomes.{Answer, Event, apply, outcome, decided, counted, is_strange, kind_of, last_decision, loses_ticket, evicts, grants, has_waited, takes, is_old, is_crowded, gives_back, closes, at_clock, is_stale, cancels, strikes, strikes_at}
-use Rattle.book_model.specs.Outcomes.Event.{Arrive, Ask, Take, GiveBack, Lost, StartFailed, Leave, Tick, NewLimits, Pause, Resume, Shutdown, Keyed, Cancel, EndLease}
+use Rattle.book_model.specs.Outcomes.{Answer, Event, apply, outcome, decided, counted, is_strange, kind_of, last_decision, loses_ticket, evicts, grants, hangs_up, has_waited, takes, is_old, is_crowded, gives_back, closes, at_clock, is_stale, cancels, strikes, strikes_at}
+use Rattle.book_model.specs.Outcomes.Event.{Arrive, Ask, Take, GiveBack, Lost, StartFailed, Leave, Tick, NewLimits, Pause, Resume, Shutdown, Keyed, Cancel, EndLease, HungUp}
 use Rattle.book_model.specs.declared.counts.Kind.{Kind}
 use Rattle.book_model.specs.declared.counts.Kind.TheVariants.{Ticking}
 use Rattle.book_model.specs.declared.events.Reply.{Reply}
@@ -64,13 +64,17 @@ fair_closes : (b : Book) (now : ℕ) (o : Option Link) → Fair b (Tick now) (cl
 fair_closes b now None = record { counts = refl; stays = λ n. clock_stays b now (nat_lt b.clock now) refl n }
 fair_closes b now (Some link) = record { counts = refl; stays = λ n. cc }
 
-fair_strikes : (b : Book) (client : KeyView) (lease : Lease) (port : ℕ) (host : Option (List ℕ)) → Fair b (Cancel client) (strikes b lease port host)
-fair_strikes b client lease port None = same b (Cancel client) Nobody
-fair_strikes b client lease port (Some host) = record { counts = refl; stays = λ n. cc }
+fair_hangs_up : (b : Book) (n : ℕ) (o : Option Link) → Fair b (HungUp n) (hangs_up b o)
+fair_hangs_up b n None = same b (HungUp n) Nobody
+fair_hangs_up b n (Some link) = record { counts = refl; stays = λ k. cc }
+
+fair_strikes : (b : Book) (client : KeyView) (lease : Lease) (host : Option (List ℕ)) → Fair b (Cancel client) (strikes b lease host)
+fair_strikes b client lease None = same b (Cancel client) Nobody
+fair_strikes b client lease (Some host) = record { counts = refl; stays = λ n. cc }
 
 fair_strikes_at : (b : Book) (client : KeyView) (lease : Lease) (o : Option Link) → Fair b (Cancel client) (strikes_at b lease o)
 fair_strikes_at b client lease None = same b (Cancel client) Nobody
-fair_strikes_at b client lease (Some link) = fair_strikes b client lease link.key.port link.key.host
+fair_strikes_at b client lease (Some link) = fair_strikes b client lease link.key.host
 
 fair_cancels : (b : Book) (client : KeyView) (o : Option Lease) → Fair b (Cancel client) (cancels b o)
 fair_cancels b client None = same b (Cancel client) Nobody
@@ -95,6 +99,7 @@ fair b Shutdown = record { counts = refl; stays = λ n. cc }
 fair b (Keyed n client server) = record { counts = refl; stays = λ k. cc }
 fair b (Cancel client) = fair_cancels b client (find (is_of_client client) b.keyed)
 fair b (EndLease n) = record { counts = refl; stays = λ k. cc }
+fair b (HungUp n) = fair_hangs_up b n (find (is_link n) b.idle)
 
 -- ---- the whole answer
 

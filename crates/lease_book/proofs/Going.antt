@@ -7,8 +7,8 @@ use Rattle.message_view.specs.declared.refusal.Refusal.{Refusal}
 use Rattle.message_view.specs.declared.refusal.Refusal.TheVariants.{TooManyClients, WaitedTooLong, ShuttingDown, LastDecision}
 use Rattle.start_keys.specs.Keys.{same_key}
 use Rattle.book_model.specs.Book.{Book, Lease, Link, Ticket, find_last, in_pool, latest_of, link_count, or_else, pool_count, pool_size, is_of, is_of_client, is_link, is_number, same_pool, waiting_before, without}
-use Rattle.book_model.specs.Outcomes.{Answer, Event, apply, in_state, outcome, decided, counted, is_strange, kind_of, last_decision, loses_ticket, starts, evicts, grants, has_waited, takes, closes, at_clock, is_stale, cancels, ends_lease, strikes, strikes_at}
-use Rattle.book_model.specs.Outcomes.Event.{Arrive, Ask, Take, GiveBack, Lost, StartFailed, Leave, Tick, NewLimits, Pause, Resume, Shutdown, Keyed, Cancel, EndLease}
+use Rattle.book_model.specs.Outcomes.{Answer, Event, apply, in_state, outcome, decided, counted, is_strange, kind_of, last_decision, loses_ticket, starts, evicts, grants, hangs_up, has_waited, takes, closes, at_clock, is_stale, cancels, ends_lease, strikes, strikes_at}
+use Rattle.book_model.specs.Outcomes.Event.{Arrive, Ask, Take, GiveBack, Lost, StartFailed, Leave, Tick, NewLimits, Pause, Resume, Shutdown, Keyed, Cancel, EndLease, HungUp}
 use Rattle.book_model.specs.declared.counts.Kind.{Kind}
 use Rattle.book_model.specs.declared.events.Reply.{Reply}
 use Rattle.book_model.specs.declared.events.Reply.TheVariants.{Arrived, Queued, Refuse, Stranger, Reset, Dispose}
@@ -95,13 +95,17 @@ goes_closes : (b : Book) (now : ℕ) (p : Link → Bool) (o : Option Link) → f
 goes_closes b now p None is = record { idle = refl; there_is = refl }
 goes_closes b now p (Some link) is = record { idle = refl; there_is = found_there p b.idle link is }
 
-goes_strikes : (b : Book) (lease : Lease) (port : ℕ) (host : Option (List ℕ)) → Goes b (strikes b lease port host)
-goes_strikes b lease port None = record { idle = refl; there_is = refl }
-goes_strikes b lease port (Some host) = record { idle = refl; there_is = refl }
+goes_hangs_up : (b : Book) (p : Link → Bool) (o : Option Link) → find p b.idle ≡ o → Goes b (hangs_up b o)
+goes_hangs_up b p None is = record { idle = refl; there_is = refl }
+goes_hangs_up b p (Some link) is = record { idle = refl; there_is = found_there p b.idle link is }
+
+goes_strikes : (b : Book) (lease : Lease) (host : Option (List ℕ)) → Goes b (strikes b lease host)
+goes_strikes b lease None = record { idle = refl; there_is = refl }
+goes_strikes b lease (Some host) = record { idle = refl; there_is = refl }
 
 goes_strikes_at : (b : Book) (lease : Lease) (o : Option Link) → Goes b (strikes_at b lease o)
 goes_strikes_at b lease None = record { idle = refl; there_is = refl }
-goes_strikes_at b lease (Some link) = goes_strikes b lease link.key.port link.key.host
+goes_strikes_at b lease (Some link) = goes_strikes b lease link.key.host
 
 goes_cancels : (b : Book) (o : Option Lease) → Goes b (cancels b o)
 goes_cancels b None = record { idle = refl; there_is = refl }
@@ -132,6 +136,7 @@ goes b Shutdown r = record { idle = refl; there_is = refl }
 goes b (Keyed n client server) r = record { idle = refl; there_is = refl }
 goes b (Cancel client) r = goes_cancels b (find (is_of_client client) b.keyed)
 goes b (EndLease n) r = stays b (ends_lease b n) refl (ends_in_place (list_any (is_number n) b.marked))
+goes b (HungUp n) r = goes_hangs_up b (is_link n) (find (is_link n) b.idle) refl
 
 counted_idle : (b : Book) (k : Option Kind) → (counted b k).idle ≡ b.idle
 counted_idle b None = refl

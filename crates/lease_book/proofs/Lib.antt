@@ -5,3 +5,4 @@ mod Links
 mod Going
 mod Holding
 mod Returns
+mod Striking

@@ -1,12 +1,13 @@
 -- Events and replies that carry links, and what becomes of the links that are idle.
-use Rattle.std.specs.Prelude.{◌≡◌, ℕ, Bool, true, false, List, [], ◌∷◌, ◌++◌, Option, Some, None, not, cond, ◌==◌, map, filter, find}
+use Rattle.std.specs.Prelude.{◌≡◌, ℕ, Bool, true, false, List, [], ◌∷◌, ◌++◌, Option, Some, None, not, cond, ◌==◌, map, filter, find, is_some}
 use Rattle.std.specs.Arc.{arc_value}
 use Rattle.session_values.specs.State.{StartKeyOf}
 use Rattle.link_run.specs.Links.{LinkView}
 use Rattle.book_model.specs.Book.{Book, Link, is_link}
 use Rattle.book_model.specs.Outcomes.{Answer, apply, apply_return, is_started_as}
 use Rattle.book_model.specs.Outcomes.{Event as ListsEvent}
-use Rattle.book_model.specs.Outcomes.Event.{Arrive, Ask, Take, GiveBack, Lost, StartFailed, Leave, Tick, NewLimits, Pause, Resume, Shutdown, Keyed, Cancel, EndLease}
+use Rattle.book_model.specs.Outcomes.Event.{Arrive, Ask, Take, GiveBack, Lost, StartFailed, Leave, Tick, NewLimits, Pause, Resume, Shutdown, Keyed, Cancel, EndLease, HungUp}
+use Rattle.book_model.specs.Places.{IsPlaceOf}
 use Rattle.book_model.specs.Replay.{History, noted_of}
 use Rattle.book_model.specs.declared.events.Reply.{Reply as ListsReply}
 use Rattle.book_model.specs.declared.events.Reply.TheVariants as told
@@ -89,6 +90,18 @@ abbrev pub number_of : Option LinkView → Option ℕ
 number_of None = None
 number_of (Some l) = Some l.number
 
+-- ---- where a strike goes
+
+-- the link is there, and its start key has a host
+abbrev pub has_place : Option Link → Bool
+has_place None = false
+has_place (Some link) = is_some link.key.host
+
+-- the link of a strike is lent, and has a place
+abbrev pub can_strike : Book → ListsReply → Bool
+can_strike b (told.Strike n server) = has_place (find (is_link n) b.lent)
+can_strike b _ = true
+
 module _ {E : Type 0} where
   abbrev pub plain : Event E → ListsEvent
   plain event.Arrive = Arrive
@@ -106,6 +119,7 @@ module _ {E : Type 0} where
   plain (event.Keyed n client server) = Keyed n client server
   plain (event.Cancel client) = Cancel client
   plain (event.EndLease n) = EndLease n
+  plain (event.HungUp n) = HungUp n
 
   -- no link comes with it, nor a key, nor limits
   abbrev pub brings_nothing : Event E → Bool
@@ -129,10 +143,15 @@ module _ {E : Type 0} where
   reply_of (reply.Refuse refusal back) = told.Refuse refusal
   reply_of reply.Done = told.Done
   reply_of (reply.Stranger back) = told.Stranger
-  reply_of (reply.Strike n server host port) = told.Strike n server host port
+  reply_of (reply.Strike n server host port) = told.Strike n server
   reply_of reply.Nobody = told.Nobody
   reply_of reply.Reset = told.Reset
   reply_of reply.Dispose = told.Dispose
+
+  -- a strike is at the place of its link, which is lent
+  abbrev pub StrikesInPlace : Book → Reply E → Type 0
+  StrikesInPlace b (reply.Strike n server host port) = IsPlaceOf b n host port
+  StrikesInPlace b _ = Unit {0}
 
   -- the link that comes with a reply
   abbrev pub handed : Reply E → Option LinkView

@@ -1,9 +1,10 @@
 //! The lease book. What it adds to the lists and their history: the idle links themselves, each the one of its number.
-ghost use Rattle.std.specs.Prelude.{find, ◌≡◌, ◌+◌, [], ◌∷◌, ◌++◌, IfOk, Some, cond, false, true, length};
+ghost use Rattle.std.specs.Prelude.{find, ◌≡◌, ◌+◌, [], ◌∷◌, ◌++◌, IfOk, None, Some, cond, false, true, length};
 ghost use Rattle.std.specs.Arc.{arc_value};
 ghost use Rattle.book_model.specs.Book.{empty_book, is_link};
 ghost use Rattle.book_model.specs.Events.{event_of};
 ghost use Rattle.book_model.specs.Outcomes.{apply, apply_return, is_started_as};
+ghost use Rattle.book_model.specs.declared.events.Reply.TheVariants.{Strike};
 ghost use Rattle.book_model.specs.Outcomes.Event.{GiveBack};
 ghost use Rattle.book_model.specs.Kept.{total};
 ghost use Rattle.book_register.specs.Counted.{counted_book};
@@ -11,7 +12,7 @@ ghost use Rattle.book_register.specs.Views.{view_of};
 ghost use Rattle.book_register.specs.Waking.{is_full, waiting_behind, waiting_for};
 ghost use Rattle.book_rows.specs.Waiting.{TellsFirsts, TellsWaiting};
 ghost use Rattle.book_model.specs.Replay.{noted_of};
-ghost use Rattle.lease_book.specs.Links.{answered, brings_nothing, found, goes_out, handed, handed_after, handed_back, history_after, idle_after, idle_with, is_done, is_return, IsTwice, left, may_hand_back, number_of, plain, reply_of};
+ghost use Rattle.lease_book.specs.Links.{answered, brings_nothing, can_strike, found, goes_out, handed, handed_after, handed_back, has_place, history_after, idle_after, idle_with, is_done, is_return, IsTwice, StrikesInPlace, left, may_hand_back, number_of, plain, reply_of};
 
 use crate::events::{Event, Reply};
 use crate::history::Register;
@@ -19,9 +20,11 @@ use crate::idle::IdleLinks;
 use book_model::counts::Counts;
 use book_model::events as lists;
 use book_model::limits::Limits;
+use book_register::lists::Lists;
 use book_register::view::BookView;
 use book_rows::firsts::Firsts;
 use link_run::links::CleanLink;
+use message_view::KeyView;
 use server_end::ServerEnd;
 use std::alloc::{AllocError, Global};
 use std::marker::Model;
@@ -39,10 +42,36 @@ fn goes_out(told: lists::Reply) -> Option<u64>
     }
 }
 
-/// The reply, with the link that goes out with it.
-fn reply_with<E: ServerEnd>(told: lists::Reply, link: Option<CleanLink<E>>) -> Reply<E>
-    requires { number_of link ≡ goes_out told }
+/// The strike at the place of its link, which is lent.
+#[tactic(auto, using(crate::proofs::Striking::in_place))]
+fn strike<E: ServerEnd>(lists: &Lists, number: u64, server: KeyView) -> Reply<E>
+    requires { has_place (find (is_link number) lists.now.lent) ≡ true }
+    ensures reply { reply_of result ≡ Strike number server }
+    ensures place { StrikesInPlace lists.now result }
+    ensures link { handed result ≡ None }
+{
+    let Some(key) = lists.lent_key(number) else {
+        unreachable!()
+    };
+    let Some(host) = key.host else { unreachable!() };
+    Reply::Strike {
+        number,
+        server,
+        host,
+        port: key.port,
+    }
+}
+
+/// The reply, with the link that goes out with it. A strike's place is that of its link in the lists.
+fn reply_with<E: ServerEnd>(
+    lists: &Lists,
+    told: lists::Reply,
+    link: Option<CleanLink<E>>,
+) -> Reply<E>
+    requires number { number_of link ≡ goes_out told }
+    requires place { can_strike lists.now told ≡ true }
     ensures reply { reply_of result ≡ told }
+    ensures place { StrikesInPlace lists.now result }
     ensures link { handed result ≡ link }
 {
     match (told, link) {
@@ -58,20 +87,7 @@ fn reply_with<E: ServerEnd>(told: lists::Reply, link: Option<CleanLink<E>>) -> R
         (lists::Reply::Refuse(refusal), _) => Reply::Refuse(refusal, None),
         (lists::Reply::Done, _) => Reply::Done,
         (lists::Reply::Stranger, _) => Reply::Stranger(None),
-        (
-            lists::Reply::Strike {
-                link,
-                server,
-                host,
-                port,
-            },
-            _,
-        ) => Reply::Strike {
-            number: link,
-            server,
-            host,
-            port,
-        },
+        (lists::Reply::Strike { link, server }, _) => strike(lists, link, server),
         (lists::Reply::Nobody, _) => Reply::Nobody,
         (lists::Reply::Reset, _) => Reply::Reset,
         (lists::Reply::Dispose, _) => Reply::Dispose,
@@ -130,6 +146,7 @@ fn by_number<E: ServerEnd>(event: &Event<E>) -> lists::Event
         },
         Event::Cancel { client } => lists::Event::Cancel { client: *client },
         Event::EndLease { number } => lists::Event::EndLease { link: *number },
+        Event::HungUp { number } => lists::Event::HungUp { link: *number },
         Event::Ask { .. } | Event::GiveBack(_) | Event::Limits(..) => unreachable!(),
     }
 }
@@ -266,19 +283,21 @@ impl<E: ServerEnd> Book<E> {
         ensures history { self.new.history ≡ noted_of self.old.lists pass (event_of event) self.old.history }
         ensures reply { reply_of result ≡ (apply self.old.lists (event_of event)).reply }
         ensures idle { self.new.idle ≡ left (goes_out (apply self.old.lists (event_of event)).reply) self.old.idle }
+        ensures place { StrikesInPlace self.old.lists result }
         ensures handed { handed result ≡ found (goes_out (apply self.old.lists (event_of event)).reply) self.old.idle }
     {
         let told = self.register.apply(pass, event, again);
         let link = self.idle.take(goes_out(told));
-        reply_with(told, link)
+        reply_with(self.register.lists(), told, link)
     }
 
     /// A link comes back.
-    #[tactic(auto, using(crate::proofs::Returns::done_kept))]
+    #[tactic(auto, using(crate::proofs::Returns::done_kept, crate::proofs::Striking::back_in_place))]
     fn give_back(&mut self, pass: u64, link: CleanLink<E>) -> Reply<E>
         ensures lists { self.new.lists ≡ (apply_return self.old.lists link.number link.key link.born).book }
         ensures history { self.new.history ≡ cond (is_started_as link.key link.born (find (is_link link.number) self.old.lists.lent)) (noted_of self.old.lists pass (GiveBack link.number) self.old.history) self.old.history }
         ensures reply { reply_of result ≡ (apply_return self.old.lists link.number link.key link.born).reply }
+        ensures place { StrikesInPlace self.old.lists result }
         ensures idle { self.new.idle ≡ idle_with link (apply_return self.old.lists link.number link.key link.born).reply self.old.idle }
         ensures handed { handed result ≡ handed_back link (apply_return self.old.lists link.number link.key link.born).reply }
     {
@@ -298,6 +317,7 @@ impl<E: ServerEnd> Book<E> {
         ensures lists { self.new.lists ≡ (answered self.old.lists event).book }
         ensures history { self.new.history ≡ history_after self.old.lists pass event self.old.history }
         ensures reply { reply_of result ≡ (answered self.old.lists event).reply }
+        ensures place { StrikesInPlace self.old.lists result }
         ensures idle { self.new.idle ≡ idle_after event (answered self.old.lists event).reply self.old.idle }
         ensures handed { handed result ≡ handed_after event (answered self.old.lists event).reply self.old.idle }
     {

@@ -3,7 +3,7 @@ use book_model::limits::Limits;
 use link_run::links::CleanLink;
 use message_view::{KeyView, Refusal};
 use server_end::ServerEnd;
-use start_keys::StartKey;
+use start_keys::{Host, StartKey};
 use std::sync::Arc;
 
 /// What happens to the book. Seconds are those of the pooler's clock. The book needs no memory, so what it keeps twice comes twice.
@@ -60,6 +60,10 @@ pub enum Event<E: ServerEnd> {
     EndLease {
         number: u64,
     },
+    /// The server of this idle link has hung up, or said something that nobody asked for.
+    HungUp {
+        number: u64,
+    },
 }
 
 /// What the book answers. A link that leaves the book, or isn't kept, comes with the reply.
@@ -90,10 +94,10 @@ pub enum Reply<E: ServerEnd> {
     Strike {
         number: u64,
         server: KeyView,
-        host: [u8; 4],
+        host: Host,
         port: u16,
     },
-    /// Nobody of this key word has a lease.
+    /// Nobody of this key word has a lease, or the link that hung up isn't idle any more.
     Nobody,
     /// The lease's link may be reset, or given back unused: no cancel is for it.
     Reset,

@@ -1,6 +1,5 @@
 -- Where a desk's links lead.
-use Rattle.std.specs.Prelude.{◌≡◌, Bool, true, false, Some, []}
-use Rattle.ini_config.specs.declared.database_rows.DbRow.{DbRow}
+use Rattle.std.specs.Prelude.{◌≡◌, Bool, true, false, []}
 use Rattle.message_view.specs.Bodies.{Text}
 use Rattle.session_values.specs.State.{Address, CatalogueOf, StartKeyOf, address_of}
 use Rattle.user_file.specs.declared.secrets.Secret.{Secret}
@@ -22,15 +21,11 @@ pub record HomeOf : Type 0 where
 abbrev pub unknown_home : HomeOf
 unknown_home = record { catalogue = λ address. record { version = []; databases = []; tables = [] }; follows = false; strikable = true; lets_in = λ name secret. false }
 
--- the address of the servers of a row, under the name by which clients ask for it
-abbrev pub address_in : DbRow → Address
-address_in row = record { row = row.name; host = Some row.host; port = row.port; dbname = row.dbname }
-
--- an end that was dialled to the servers of this row, and waits for its StartupMessage
-pub record IsDialled (home : HomeOf) (row : DbRow) (at : Standing) : Type 0 where
+-- an end that was dialled to the servers of this key's address, and waits for its StartupMessage
+pub record IsDialled (home : HomeOf) (dialled : StartKeyOf) (at : Standing) : Type 0 where
   pub start : CanStart at
   pub follows : home.follows ≡ true → at.follows ≡ true
-  pub catalogue : at.follows ≡ true → at.server.catalogue ≡ home.catalogue (address_in row)
+  pub catalogue : at.follows ≡ true → at.server.catalogue ≡ home.catalogue (address_of dialled)
   pub strikable : at.follows ≡ true → at.server.strikable ≡ home.strikable
   pub lets_in : (key : StartKeyOf) (secret : Secret) → home.lets_in key.user secret ≡ true → IsLetIn at key secret
 

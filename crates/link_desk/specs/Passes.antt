@@ -24,7 +24,8 @@ use Rattle.link_desk.specs.declared.answers.Release.{Release}
 use Rattle.link_desk.specs.declared.answers.Release.TheVariants as release
 use Rattle.link_desk.specs.declared.answers.Cancelled.{Cancelled}
 use Rattle.link_desk.specs.declared.answers.Cancelled.TheVariants as cancelled
-use Rattle.link_desk.specs.declared.answers.Strike.{Strike}
+use Rattle.link_desk.specs.declared.answers.Target.{Target}
+use Rattle.link_desk.specs.Cancels.{target_of}
 use Rattle.link_desk.specs.declared.answers.Gone.{Gone}
 use Rattle.link_desk.specs.declared.answers.Gone.TheVariants as gone
 use Rattle.link_desk.specs.declared.answers.Changed.{Changed}
@@ -205,13 +206,13 @@ ends_by _ h = h
 abbrev pub released : Holder → Release → Holder
 released h r = record (ends_by r h) { release = Some r; last = of_lease call.EndLease h }
 
-abbrev pub strike_of : Cancelled → Option Strike
-strike_of (cancelled.Strike strike) = Some strike
-strike_of _ = None
+abbrev pub target_in : Cancelled → Option Target
+target_in (cancelled.Strike strike) = Some (target_of strike)
+target_in _ = None
 
 -- what was found is to be sent, and none was sent yet
 abbrev pub cancelling : KeyView → Holder → Cancelled → Holder
-cancelling client h r = record h { found = strike_of r; struck = None; last = Some (call.Cancel client) }
+cancelling client h r = record h { found = target_in r; struck = None; last = Some (call.Cancel client) }
 
 -- what was found was sent
 abbrev pub striking : Holder → Holder
@@ -219,7 +220,7 @@ striking h = record h { found = None; struck = h.found }
 
 -- a cancel was asked for, and what was found was sent
 abbrev pub cancelled_by : KeyView → Holder → Cancelled → Holder
-cancelled_by client h r = record h { found = None; struck = strike_of r; last = Some (call.Cancel client) }
+cancelled_by client h r = record h { found = None; struck = target_in r; last = Some (call.Cancel client) }
 
 -- by a link's return, its loss, or its start that failed
 abbrev pub without_lease : (ℕ → Call) → Holder → Holder

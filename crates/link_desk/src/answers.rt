@@ -3,6 +3,7 @@
 use link_start::links::CleanLink;
 use message_view::{KeyView, Refusal};
 use server_end::ServerEnd;
+use start_keys::Host;
 
 /// To a client that has come.
 #[derive(Clone, Copy, Drop)]
@@ -81,14 +82,21 @@ pub enum Release {
     Stranger,
 }
 
+/// The session that a cancel is for: the link of its lease, and the key word that the link's server told.
+#[derive(Clone, Copy, Drop)]
+pub struct Target {
+    pub link: u64,
+    pub server: KeyView,
+}
+
 /// A cancel on its way: the link that it is for, the key word that the link's server told, and where that server is.
 #[derive(Clone, Copy, Drop)]
 pub struct Strike {
     pub link: u64,
     pub server: KeyView,
-    /// The server's IPv4 address.
-    pub host: [u8; 4],
-    /// The server's TCP port.
+    /// The server's host.
+    pub host: Host,
+    /// The server's port.
     pub port: u16,
 }
 

@@ -1,6 +1,6 @@
 //! The calls that are made through a pass, and who holds it.
 
-use crate::answers::{Release, Strike};
+use crate::answers::{Release, Target};
 use message_view::{KeyView, Refusal};
 
 /// A call of a desk's: what it told the lease book.
@@ -32,6 +32,8 @@ pub enum Call {
     EndLease(u64),
     /// It was this second.
     Tick(u64),
+    /// The server of the idle link of this number had hung up.
+    HungUp(u64),
     Limits,
     Pause,
     Resume,
@@ -68,10 +70,10 @@ pub struct Holder {
     pub release: Option<Release>,
     /// What the client that came last was refused by.
     pub refused: Option<Refusal>,
-    /// The cancel that was found last, until the desk is told to send it.
-    pub found: Option<Strike>,
-    /// That cancel, once the desk was told to.
-    pub struck: Option<Strike>,
+    /// What the cancel that was found last is for, until the desk is told to send it.
+    pub found: Option<Target>,
+    /// The same, once the desk was told to.
+    pub struck: Option<Target>,
     /// The last call that was made through the pass, but for a client's that waits on.
     pub last: Option<Call>,
 }

@@ -4,9 +4,9 @@ ghost use Rattle.std.specs.Arc.{arc_value};
 ghost use Rattle.book_model.specs.Book.{Book};
 ghost use Rattle.book_model.specs.Kept.{Kept};
 ghost use Rattle.book_model.specs.Outcomes.{apply};
-ghost use Rattle.book_model.specs.Outcomes.Event.{Cancel, Take};
+ghost use Rattle.book_model.specs.Outcomes.Event.{Take};
 ghost use Rattle.book_register.specs.Views.{view_of};
-ghost use Rattle.link_desk.specs.Cancels.{answer_to_cancel};
+ghost use Rattle.link_desk.specs.Cancels.{IsAnswerToCancel, target_of};
 ghost use Rattle.link_desk.specs.Counts.{AtMost, class_counts};
 ghost use Rattle.link_desk.specs.Grants.{IsAnswerToTake};
 ghost use Rattle.link_desk.specs.Homes.{IsAtHome, IsDialled, IsGrantAtHome};
@@ -16,10 +16,11 @@ ghost use Rattle.link_desk.specs.declared.calls.Stage.TheVariants.{Granted};
 ghost use Rattle.link_desk.specs.Passes.{after_arrival, after_asking, after_back, after_cancel, after_change, after_grant, after_keying, after_leaving, after_loss, after_release, arrived, asked_by, cancelling, ended_lease, is_open, keeps, keyed_lease, left, released, stage_of, striking, taken, without_lease};
 ghost use Rattle.link_desk.specs.Refusing.{MayArrive, MayAsk, MayTake};
 
-use crate::answers::{Arrival, Asked, Back, Cancelled, Changed, Gone, Grant, Keying, Release};
+use crate::answers::{
+    Arrival, Asked, Back, Cancelled, Changed, Gone, Grant, Keying, Release, Strike,
+};
 use book_model::limits::Limits;
 use book_register::view::BookView;
-use ini_config::DbRow;
 use link_start::links::CleanLink;
 use log_lines::notes::{Client, Note};
 use message_view::KeyView;
@@ -87,14 +88,14 @@ pub trait LinkDesk {
 
     /// Finds the lease of the client of this key word, whatever client that is, for which somebody asks to have its statement cancelled.
     fn cancel(&self, pass: &mut Self::Pass, client: KeyView) -> Cancelled
-        ensures book { (b : Book) × (Kept b × (result ≡ answer_to_cancel (apply b (Cancel client)).reply)) }
+        ensures book { (b : Book) × (Kept b × IsAnswerToCancel b client result) }
         ensures told { told pass.new ≡ after_cancel (told pass.old) result }
         ensures holder { holder pass.new ≡ cancelling client (holder pass.old) result };
 
-    /// Sends the cancel that was found on its way, and waits until the server has closed the connection on which it came, or for some
-    /// seconds.
-    fn strike(&self, pass: &mut Self::Pass)
-        requires found { IsSome (holder pass.old).found }
+    /// Sends the cancel that was found on its way to the link's server, and waits until that has closed the connection on which it came,
+    /// or for some seconds.
+    fn strike(&self, pass: &mut Self::Pass, strike: &Strike)
+        requires found { (holder pass.old).found ≡ Some (target_of strike.now) }
         ensures told { told pass.new ≡ told pass.old }
         ensures holder { holder pass.new ≡ striking (holder pass.old) };
 
@@ -126,9 +127,10 @@ pub trait LinkDesk {
         ensures told { told pass.new ≡ after_leaving (told pass.old) result }
         ensures holder { holder pass.new ≡ left (holder pass.old) };
 
-    /// A new end of this row's server, which waits for its StartupMessage; `None` where it can't be reached.
-    fn dial(&self, row: &DbRow) -> Option<Self::End>
-        ensures { IfSome result (λ e. IsDialled home row.now (Self.End.standing e)) };
+    /// A new end of this key's server for the link of this number, which waits for its StartupMessage; `None` where it can't be reached,
+    /// or the key has no server.
+    fn dial(&self, number: u64, key: &StartKey) -> Option<Self::End>
+        ensures { IfSome result (λ e. IsDialled home key.now (Self.End.standing e)) };
 
     /// The book as it is now, in rows of the caller's own; what was made through the pass is among its decisions.
     ///

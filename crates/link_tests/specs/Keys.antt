@@ -4,4 +4,4 @@ use Rattle.session_values.specs.State.{StartKeyOf}
 
 -- that of ann on this database
 abbrev pub ann_on : List ℕ → StartKeyOf
-ann_on dbname = record { row = codes "shop"; host = Some (127 ∷ 0 ∷ 0 ∷ 1 ∷ []); port = 5432; dbname = dbname; user = codes "ann"; parameters = [] }
+ann_on dbname = record { row = codes "shop"; host = Some (codes "127.0.0.1"); port = 5432; dbname = dbname; user = codes "ann"; parameters = [] }

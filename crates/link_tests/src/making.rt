@@ -17,7 +17,7 @@ use server_end::ServerEnd;
 use server_end::gate::OpenGate;
 use session_catalogue::Catalogue;
 use session_values::text::Text;
-use start_keys::StartKey;
+use start_keys::{Host, StartKey};
 use std::alloc::{AllocError, Global};
 use std::mem::forget;
 use std::sync::Arc;
@@ -40,7 +40,7 @@ fn key_of(alloc: Global, dbname: &'static [u8]) -> Result<StartKey, AllocError>
 {
     Ok(StartKey {
         row: Text::from_slice(alloc, b"shop")?,
-        host: Some([127, 0, 0, 1]),
+        host: Some(Host::local()),
         port: 5432,
         dbname: Text::from_slice(alloc, dbname)?,
         user: Text::from_slice(alloc, b"ann")?,

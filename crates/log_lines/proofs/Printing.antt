@@ -1,7 +1,7 @@
 -- Each line of the log is printing ASCII.
 use Rattle.std.proofs.Common.{◌≡◌, ◌∙◌, ap, refl, arith, ℕ, zero, suc, ◌+◌, ◌<◌, ◌≤◌, ◌/◌, ◌%◌, List, [], ◌∷◌, ◌++◌, Bool, true, false, Option, Some, None, length, take, drop, cond}
 use Rattle.std.specs.Prelude.{◌==◌, ◌&&◌, not, if◌then◌else◌, nat_lt, nat_le, codes, decimal}
-use Rattle.std.specs.List.{list_all, flat_map}
+use Rattle.std.specs.List.{list_all, list_any, flat_map}
 use Rattle.std.specs.Fmt.{digits, digits_onto, digit_glyph}
 use Rattle.std.proofs.lemmas.Bool.{le-leb, lt-ltb, false≢true}
 use Rattle.std.proofs.lemmas.List.Folds.{list_all-append}
@@ -18,9 +18,11 @@ use Rattle.log_lines.specs.declared.notes.Note.TheVariants as note
 use Rattle.log_lines.specs.declared.events.Totals.{Totals}
 use Rattle.log_lines.specs.declared.events.Event.{Event}
 use Rattle.log_lines.specs.declared.events.Event.TheVariants as event
-use Rattle.log_lines.specs.Shown.{Text, is_printing, hex_digit, shown_byte, shown, shown_text, shown_name, quoted, behind_dot, dotted, address, after}
+use Rattle.log_lines.specs.Shown.{Text, is_printing, hex_digit, shown_byte, shown, shown_text, shown_name, quoted, shown_host, address, after}
 use Rattle.log_lines.specs.Lines.{numbered, named, who, state_and_text, fields_or_none, field, asks_for, unstarted_words, loss_words, refusal_words, parameter_words, words, line}
-use Rattle.log_lines.specs.Events.{counted, counts, event_words}
+use Rattle.log_lines.specs.Events.{counted, counts, place, event_words, heard_words}
+use Rattle.log_lines.specs.declared.events.Heard.{Heard}
+use Rattle.log_lines.specs.declared.events.Heard.TheVariants as heard
 use Rattle.log_lines.specs.Laws.{LinesArePrinting}
 
 abbrev Prints : Text → Type 0
@@ -69,13 +71,6 @@ decimals : (n : ℕ) → Prints (decimal n)
 unfolding digits
 decimals n = onto 64 n [] refl
 
-dots : (ns : List ℕ) → Prints (dotted ns)
-dots [] = refl
-dots (n ∷ ns) = both (decimal n) (flat_map behind_dot ns) (decimals n) (each behind_dot (λ m. decimals m) ns)
-
-addresses : (host : List ℕ) (port : ℕ) → Prints (address host port)
-addresses host port = both (dotted host) (58 ∷ decimal port) (dots host) (decimals port)
-
 times : (ms : Option ℕ) → Prints (after ms)
 times None = refl
 times (Some ms) = both (decimal (ms / 1000) ++ 46 ∷ decimal (ms % 1000 / 100)) (codes " s") (both (decimal (ms / 1000)) (46 ∷ decimal (ms % 1000 / 100)) (decimals (ms / 1000)) (decimals (ms % 1000 / 100))) refl
@@ -95,6 +90,13 @@ texts : (mark : ℕ) (text : Text) → Prints (shown mark text)
 texts mark text = both (flat_map (shown_byte mark) (take 200 text)) (if nat_lt 200 (length text) then codes "..." else []) (each (shown_byte mark) (bytes mark) (take 200 text))
     (by_branch Prints (nat_lt 200 (length text)) (codes "...") [] (λ _. refl) (λ _. refl))
 
+hosts : (host : Text) → Prints (shown_host host)
+hosts host = by_branch Prints (list_any (λ b. b == 58) host) (91 ∷ shown_name host ++ 93 ∷ []) (shown_name host)
+    (λ _. both (shown_name host) (93 ∷ []) (texts 32 host) refl) (λ _. texts 32 host)
+
+addresses : (host : Text) (port : ℕ) → Prints (address host port)
+addresses host port = both (shown_host host) (58 ∷ decimal port) (hosts host) (decimals port)
+
 quotes : (text : Text) → Prints (quoted text)
 quotes text = both (shown 34 text) (34 ∷ []) (texts 34 text) refl
 
@@ -109,9 +111,9 @@ names user database = by_branch Prints (length user == 0) [] (32 ∷ shown_name 
     (λ _. both (shown_name user) (64 ∷ shown_name database) (texts 32 user) (texts 32 database))
 
 clients : (c : Client) → Prints (who c)
-clients c = both (numbered c.number ++ named c.user.now c.database.now ++ codes " from ") (address c.visit.host c.visit.port)
+clients c = both (numbered c.number ++ named c.user.now c.database.now ++ codes " from ") (address c.visit.host.bytes c.visit.port)
     (both (numbered c.number ++ named c.user.now c.database.now) (codes " from ") (both (numbered c.number) (named c.user.now c.database.now) (numbers c.number) (names c.user.now c.database.now)) refl)
-    (addresses c.visit.host c.visit.port)
+    (addresses c.visit.host.bytes c.visit.port)
 
 errors : (fields : List (ℕ × Text)) → Prints (state_and_text fields)
 errors fields = both (shown_text (field 67 fields)) (32 ∷ shown_text (field 77 fields)) (texts 92 (field 67 fields)) (texts 92 (field 77 fields))
@@ -158,8 +160,8 @@ notes (note.UnsupportedParameter name) ms = both (after ms ++ codes ": ") (param
     (both (quoted name.now) (codes " (P4)") (quotes name.now) refl)
 notes note.WrongPassword ms = both (after ms) (codes ": password authentication failed (28P01)") (times ms) refl
 notes note.NoDatabase ms = both (after ms) (codes ": database does not exist (3D000)") (times ms) refl
-notes (note.Unstarted server why) ms = both (after ms ++ codes ": server " ++ address server.host server.port) (unstarted_words why)
-    (both (after ms ++ codes ": server ") (address server.host server.port) (both (after ms) (codes ": server ") (times ms) refl) (addresses server.host server.port)) (starts why)
+notes (note.Unstarted server why) ms = both (after ms ++ codes ": server " ++ address server.host.now server.port) (unstarted_words why)
+    (both (after ms ++ codes ": server ") (address server.host.now server.port) (both (after ms) (codes ": server ") (times ms) refl) (addresses server.host.now server.port)) (starts why)
 notes (note.LinkLost number why) ms = both (decimal number ++ codes " closed: ") (loss_words why) (both (decimal number) (codes " closed: ") (decimals number) refl) (losses why)
 notes (note.Cancels number) ms = both (decimal number) (codes "'s statement") (decimals number) refl
 notes note.CancelsNobody ms = refl
@@ -184,12 +186,23 @@ each_count (c ∷ cs) h = both (counted c) (flat_map counted cs)
 ends : (t : Totals) → Prints (flat_map counted (counts t))
 ends t = each_count (counts t) refl
 
+places : (host : Text) (port : ℕ) → Prints (place host port)
+places host port = both (shown_name host) (32 ∷ decimal port) (texts 32 host) (decimals port)
+
+hears : (h : Heard) → Prints (heard_words h)
+hears heard.Ended = refl
+hears (heard.Said message) = errors (fields_or_none (note_of (drop 5 message.now)))
+hears heard.Spoke = refl
+
 told : (e : Event) → Prints (event_words e)
-told (event.Listening host port) = both (dotted host) (32 ∷ decimal port) (dots host) (decimals port)
+told (event.Listening host port) = places host.now port
+told (event.NotListening folder port why) = both (place folder.now port) (codes ": " ++ shown_text why.now) (places folder.now port) (texts 92 why.now)
+told (event.Unreached host port why) = both (address host.now port) (codes " not reached: " ++ shown_text why.now) (addresses host.now port) (texts 92 why.now)
 told event.Reloaded = refl
 told (event.NotReloaded fault) = texts 92 fault.now
 told (event.Wanting n) = count n (codes " connections closed for want of a thread, a poll, a file or memory") refl
 told (event.Dropped n) = count n (codes " lines of the log were dropped") refl
+told (event.IdleClosed n h) = both (decimal n ++ codes " closed: ") (heard_words h) (both (decimal n) (codes " closed: ") (decimals n) refl) (hears h)
 told (event.Ended t) = ends t
 
 pub printing : LinesArePrinting

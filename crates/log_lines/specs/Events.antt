@@ -5,7 +5,10 @@ use Rattle.std.specs.Borrow.{Bor}
 use Rattle.log_lines.specs.declared.events.Totals.{Totals}
 use Rattle.log_lines.specs.declared.events.Event.{Event}
 use Rattle.log_lines.specs.declared.events.Event.TheVariants as event
-use Rattle.log_lines.specs.Shown.{Text, dotted, shown_text}
+use Rattle.log_lines.specs.declared.events.Heard.{Heard}
+use Rattle.log_lines.specs.declared.events.Heard.TheVariants as heard
+use Rattle.log_lines.specs.Lines.{error_words}
+use Rattle.log_lines.specs.Shown.{Text, address, shown_name, shown_text}
 
 -- a number, and what there are so many of
 abbrev pub counted : ℕ × Text → Text
@@ -21,12 +24,30 @@ counts t =
 abbrev pub counted_view : ℕ × Bor Text → Text
 counted_view c = counted (c.0, c.1.now)
 
+-- a host or folder, and a port
+abbrev pub place : Text → ℕ → Text
+place host port = shown_name host ++ 32 ∷ decimal port
+
+abbrev pub not_listening : Text → ℕ → Text → Text
+not_listening folder port why = codes "not listening " ++ (place folder port ++ (codes ": " ++ shown_text why))
+
+abbrev pub unreached : Text → ℕ → Text → Text
+unreached host port why = codes "server " ++ (address host port ++ (codes " not reached: " ++ shown_text why))
+
+abbrev pub heard_words : Heard → Text
+heard_words heard.Ended = codes "server connection ended"
+heard_words (heard.Said message) = codes "its server said " ++ error_words message.now
+heard_words heard.Spoke = codes "its server said what nobody asked for"
+
 abbrev pub event_words : Event → Text
-event_words (event.Listening host port) = codes "listening " ++ dotted host ++ 32 ∷ decimal port
+event_words (event.Listening host port) = codes "listening " ++ place host.now port
+event_words (event.NotListening folder port why) = not_listening folder.now port why.now
+event_words (event.Unreached host port why) = unreached host.now port why.now
 event_words event.Reloaded = codes "reloaded"
 event_words (event.NotReloaded fault) = codes "not reloaded: " ++ shown_text fault.now
 event_words (event.Wanting n) = counted (n, codes " connections closed for want of a thread, a poll, a file or memory")
 event_words (event.Dropped n) = counted (n, codes " lines of the log were dropped")
+event_words (event.IdleClosed n h) = codes "idle link " ++ decimal n ++ codes " closed: " ++ heard_words h
 event_words (event.Ended t) = codes "shut down: " ++ flat_map counted (counts t)
 
 abbrev pub event_line : Event → Text

@@ -24,7 +24,7 @@ abbrev pub named : Text → Text → Text
 named user database = if length user == 0 then [] else 32 ∷ shown_name user ++ 64 ∷ shown_name database
 
 abbrev pub who : Client → Text
-who c = codes "client" ++ numbered c.number ++ named c.user.now c.database.now ++ codes " from " ++ address c.visit.host c.visit.port
+who c = codes "client" ++ numbered c.number ++ named c.user.now c.database.now ++ codes " from " ++ address c.visit.host.bytes c.visit.port
 
 -- ---- an ErrorResponse of a server
 
@@ -91,7 +91,7 @@ words (note.Refused r) ms = codes " refused" ++ after ms ++ codes ": " ++ refusa
 words (note.UnsupportedParameter name) ms = codes " refused" ++ after ms ++ codes ": " ++ parameter_words name.now
 words note.WrongPassword ms = codes " failed" ++ after ms ++ codes ": password authentication failed (28P01)"
 words note.NoDatabase ms = codes " failed" ++ after ms ++ codes ": database does not exist (3D000)"
-words (note.Unstarted server why) ms = codes " refused" ++ after ms ++ codes ": server " ++ address server.host server.port ++ unstarted_words why
+words (note.Unstarted server why) ms = codes " refused" ++ after ms ++ codes ": server " ++ address server.host.now server.port ++ unstarted_words why
 words (note.LinkLost number why) ms = codes " link " ++ decimal number ++ codes " closed: " ++ loss_words why
 words (note.Cancels number) ms = codes " cancels link " ++ decimal number ++ codes "'s statement"
 words note.CancelsNobody ms = codes " requests a cancel by a key that nobody has"

@@ -1,6 +1,6 @@
 -- How the log shows numbers, addresses and texts of others: in printing ASCII alone.
 use Rattle.std.specs.Prelude.{ℕ, List, [], ◌∷◌, ◌++◌, Bool, ◌==◌, ◌&&◌, not, ◌+◌, ◌/◌, ◌%◌, Option, Some, None, if◌then◌else◌, nat_lt, nat_le, length, take, codes, decimal}
-use Rattle.std.specs.List.{flat_map}
+use Rattle.std.specs.List.{flat_map, list_any}
 
 abbrev pub Text : Type 0
 Text = List ℕ
@@ -37,16 +37,12 @@ shown_text = shown 92
 
 -- ---- numbers
 
-abbrev pub behind_dot : ℕ → Text
-behind_dot n = 46 ∷ decimal n
+abbrev pub shown_host : Text → Text
+shown_host host = if list_any (λ b. b == 58) host then 91 ∷ shown_name host ++ 93 ∷ [] else shown_name host
 
--- numbers with dots between
-abbrev pub dotted : List ℕ → Text
-dotted [] = []
-dotted (n ∷ ns) = decimal n ++ flat_map behind_dot ns
-
-abbrev pub address : List ℕ → ℕ → Text
-address host port = dotted host ++ 58 ∷ decimal port
+-- a host and its port, with brackets round what has colons
+abbrev pub address : Text → ℕ → Text
+address host port = shown_host host ++ 58 ∷ decimal port
 
 -- milliseconds as seconds and tenths, what is left of a tenth left out; nothing where they aren't known
 abbrev pub after : Option ℕ → Text

@@ -1,11 +1,13 @@
 //! What the log is told of the program itself, and the lines of it.
-ghost use Rattle.std.specs.Prelude.{◌≡◌, ◌++◌, codes, OnOk};
+ghost use Rattle.std.specs.Prelude.{◌≡◌, ◌++◌, codes, decimal, OnOk};
 ghost use Rattle.std.specs.List.{flat_map};
 ghost use Rattle.log_lines.specs.Events.{counted, counted_view};
 ghost use Rattle.log_lines.specs.Events as spec;
+ghost use Rattle.log_lines.specs.Lines.{error_words};
 ghost use Rattle.log_lines.specs.Shown.{shown_text};
 
-use crate::shown::{put_dotted, put_number, put_text};
+use crate::lines::put_error;
+use crate::shown::{put_address, put_name, put_number, put_text};
 use std::alloc::AllocError;
 
 /// What a pool has done when it ends.
@@ -29,11 +31,26 @@ pub struct Totals {
     pub others: u64,
 }
 
+/// What came from the server of an idle link.
+#[derive(Clone, Copy)]
+pub enum Heard<'a> {
+    /// Its end.
+    Ended,
+    /// An ErrorResponse or a NoticeResponse, the whole message.
+    Said(&'a [u8]),
+    /// Something else.
+    Spoke,
+}
+
 /// What the log is told of the program itself.
 #[derive(Clone, Copy)]
 pub enum Event<'a> {
-    /// It listens at this address and port.
-    Listening([u8; 4], u16),
+    /// It listens at this address or folder, and port.
+    Listening(&'a [u8], u16),
+    /// It doesn't listen at this folder and port, because of this.
+    NotListening(&'a [u8], u16, &'a [u8]),
+    /// A server of this host and port couldn't be reached, because of this.
+    Unreached(&'a [u8], u16, &'a [u8]),
     /// The settings and users were read again.
     Reloaded,
     /// They weren't, because of this fault.
@@ -42,6 +59,8 @@ pub enum Event<'a> {
     Wanting(u64),
     /// So many lines of the log were dropped.
     Dropped(u64),
+    /// The idle link of this number was closed, to what came from its server.
+    IdleClosed(u64, Heard<'a>),
     /// The pool has ended.
     Ended(Totals),
 }
@@ -86,16 +105,84 @@ fn put_fault(line: &mut Vec<u8>, fault: &[u8]) -> Result<(), AllocError>
     put_text(line, fault)
 }
 
+/// A host or folder, and a port.
+fn put_place(line: &mut Vec<u8>, host: &[u8], port: u16) -> Result<(), AllocError>
+    ensures { OnOk result (line.new.items ≡ line.old.items ++ spec.place host.now port) }
+{
+    put_name(line, host)?;
+    line.push(b' ')?;
+    put_number(line, port as u64)
+}
+
+fn put_listening(line: &mut Vec<u8>, host: &[u8], port: u16) -> Result<(), AllocError>
+    ensures { OnOk result (line.new.items ≡ line.old.items ++ (codes "listening " ++ spec.place host.now port)) }
+{
+    line.extend_from_slice(b"listening ")?;
+    put_place(line, host, port)
+}
+
+/// A text behind another.
+fn put_because(line: &mut Vec<u8>, words: &[u8], why: &[u8]) -> Result<(), AllocError>
+    ensures { OnOk result (line.new.items ≡ line.old.items ++ (words.now ++ shown_text why.now)) }
+{
+    line.extend_from_slice(words)?;
+    put_text(line, why)
+}
+
+fn put_not_listening(
+    line: &mut Vec<u8>,
+    folder: &[u8],
+    port: u16,
+    why: &[u8],
+) -> Result<(), AllocError>
+    ensures { OnOk result (line.new.items ≡ line.old.items ++ spec.not_listening folder.now port why.now) }
+{
+    line.extend_from_slice(b"not listening ")?;
+    put_place(line, folder, port)?;
+    put_because(line, b": ", why)
+}
+
+fn put_unreached(line: &mut Vec<u8>, host: &[u8], port: u16, why: &[u8]) -> Result<(), AllocError>
+    ensures { OnOk result (line.new.items ≡ line.old.items ++ spec.unreached host.now port why.now) }
+{
+    line.extend_from_slice(b"server ")?;
+    put_address(line, host, port)?;
+    put_because(line, b" not reached: ", why)
+}
+
+fn put_said(line: &mut Vec<u8>, message: &[u8]) -> Result<(), AllocError>
+    ensures { OnOk result (line.new.items ≡ line.old.items ++ (codes "its server said " ++ error_words message.now)) }
+{
+    line.extend_from_slice(b"its server said ")?;
+    put_error(line, message)
+}
+
+fn put_heard(line: &mut Vec<u8>, heard: Heard<'_>) -> Result<(), AllocError>
+    ensures { OnOk result (line.new.items ≡ line.old.items ++ spec.heard_words heard.entry) }
+{
+    match heard {
+        Heard::Ended => line.extend_from_slice(b"server connection ended"),
+        Heard::Said(message) => put_said(line, message),
+        Heard::Spoke => line.extend_from_slice(b"its server said what nobody asked for"),
+    }
+}
+
+fn put_idle(line: &mut Vec<u8>, number: u64, heard: Heard<'_>) -> Result<(), AllocError>
+    ensures { OnOk result (line.new.items ≡ line.old.items ++ (codes "idle link " ++ decimal number ++ codes " closed: " ++ spec.heard_words heard.entry)) }
+{
+    line.extend_from_slice(b"idle link ")?;
+    put_number(line, number)?;
+    line.extend_from_slice(b" closed: ")?;
+    put_heard(line, heard)
+}
+
 fn put_words(line: &mut Vec<u8>, event: Event<'_>) -> Result<(), AllocError>
     ensures { OnOk result (line.new.items ≡ line.old.items ++ spec.event_words event.entry) }
 {
     match event {
-        Event::Listening(host, port) => {
-            line.extend_from_slice(b"listening ")?;
-            put_dotted(line, &host)?;
-            line.push(b' ')?;
-            put_number(line, port as u64)
-        }
+        Event::Listening(host, port) => put_listening(line, host, port),
+        Event::NotListening(folder, port, why) => put_not_listening(line, folder, port, why),
+        Event::Unreached(host, port, why) => put_unreached(line, host, port, why),
         Event::Reloaded => line.extend_from_slice(b"reloaded"),
         Event::NotReloaded(fault) => put_fault(line, fault),
         Event::Wanting(n) => put_count(
@@ -104,6 +191,7 @@ fn put_words(line: &mut Vec<u8>, event: Event<'_>) -> Result<(), AllocError>
             b" connections closed for want of a thread, a poll, a file or memory",
         ),
         Event::Dropped(n) => put_count(line, n, b" lines of the log were dropped"),
+        Event::IdleClosed(number, heard) => put_idle(line, number, heard),
         Event::Ended(totals) => {
             line.extend_from_slice(b"shut down: ")?;
             put_counts(line, &counts_of(&totals))

@@ -51,7 +51,11 @@ fn put_who(line: &mut Vec<u8>, client: &Client<'_>) -> Result<(), AllocError>
     put_numbered(line, client.number)?;
     put_named(line, client.user, client.database)?;
     line.extend_from_slice(b" from ")?;
-    put_address(line, client.visit.host, client.visit.port)
+    put_address(
+        line,
+        client.visit.host.as_str().as_bytes(),
+        client.visit.port,
+    )
 }
 
 fn next_field<'a>(fields: &mut Fields<'a>) -> Option<(u8, &'a [u8])>
@@ -91,7 +95,7 @@ fn put_error_body(line: &mut Vec<u8>, body: &[u8]) -> Result<(), AllocError>
 }
 
 /// The SQLSTATE and the text of an ErrorResponse, the whole message.
-fn put_error(line: &mut Vec<u8>, message: &[u8]) -> Result<(), AllocError>
+pub(crate) fn put_error(line: &mut Vec<u8>, message: &[u8]) -> Result<(), AllocError>
     ensures { OnOk result (line.new.items ≡ line.old.items ++ spec.error_words message.now) }
 {
     if message.len() < HEAD {
@@ -212,11 +216,11 @@ fn put_parameter(line: &mut Vec<u8>, name: &[u8]) -> Result<(), AllocError>
 /// A client's refusal because of its server.
 fn put_refused_by(
     line: &mut Vec<u8>,
-    server: Server,
+    server: Server<'_>,
     why: Unstarted<'_>,
     ms: Option<u64>,
 ) -> Result<(), AllocError>
-    ensures { OnOk result (line.new.items ≡ line.old.items ++ (codes " refused" ++ after ms ++ codes ": server " ++ address server.host server.port ++ spec.unstarted_words why.entry)) }
+    ensures { OnOk result (line.new.items ≡ line.old.items ++ (codes " refused" ++ after ms ++ codes ": server " ++ address server.entry.host.now server.entry.port ++ spec.unstarted_words why.entry)) }
 {
     put_timed(line, b" refused", ms, b": server ")?;
     put_address(line, server.host, server.port)?;

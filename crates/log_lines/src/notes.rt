@@ -1,12 +1,16 @@
 //! What a pool's log is told: each note is one line of it.
 
+use arrayvec::ArrayString;
 use message_view::Refusal;
 use std::time::Instant;
 
-/// A client's connection: where it comes from, and when it came, where the clock could be read.
+/// As many bytes as an address of IPv6 has as a text at most.
+pub const MAX_ADDRESS: usize = 45;
+
+/// A client's connection: where it comes from (an address, or `unix`), and when it came, where the clock could be read.
 #[derive(Clone, Copy)]
 pub struct Visit {
-    pub host: [u8; 4],
+    pub host: ArrayString<MAX_ADDRESS>,
     pub port: u16,
     pub since: Option<Instant>,
 }
@@ -24,8 +28,8 @@ pub struct Client<'a> {
 
 /// Where a link leads, or would.
 #[derive(Clone, Copy)]
-pub struct Server {
-    pub host: [u8; 4],
+pub struct Server<'a> {
+    pub host: &'a [u8],
     pub port: u16,
 }
 
@@ -80,7 +84,7 @@ pub enum Note<'a> {
     /// The settings have no such database.
     NoDatabase,
     /// No link could be started for the client.
-    Unstarted(Server, Unstarted<'a>),
+    Unstarted(Server<'a>, Unstarted<'a>),
     /// The client's link, of this number, is closed.
     LinkLost(u64, Loss),
     /// It asked to have the statement cancelled of the client that has the link of this number.

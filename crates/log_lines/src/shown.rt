@@ -98,31 +98,17 @@ pub(crate) fn put_number(line: &mut Vec<u8>, n: u64) -> Result<(), AllocError>
     line.extend_from_slice(digits.format(n).as_bytes())
 }
 
-fn put_behind_dot(line: &mut Vec<u8>, n: u8) -> Result<(), AllocError>
-    ensures { OnOk result (line.new.items ≡ line.old.items ++ spec.behind_dot n) }
+/// A host and its port, with brackets round what has colons.
+pub(crate) fn put_address(line: &mut Vec<u8>, host: &[u8], port: u16) -> Result<(), AllocError>
+    ensures { OnOk result (line.new.items ≡ line.old.items ++ spec.address host.now port) }
 {
-    line.push(b'.')?;
-    put_number(line, n as u64)
-}
-
-/// Numbers with dots between.
-pub(crate) fn put_dotted(line: &mut Vec<u8>, numbers: &[u8]) -> Result<(), AllocError>
-    ensures { OnOk result (line.new.items ≡ line.old.items ++ spec.dotted numbers.now) }
-{
-    let [first, others @ ..] = numbers else {
-        return Ok(());
-    };
-    put_number(line, *first as u64)?;
-    for n in others {
-        put_behind_dot(line, *n)?;
+    if host.contains(&b':') {
+        line.push(b'[')?;
+        put_name(line, host)?;
+        line.push(b']')?;
+    } else {
+        put_name(line, host)?;
     }
-    Ok(())
-}
-
-pub(crate) fn put_address(line: &mut Vec<u8>, host: [u8; 4], port: u16) -> Result<(), AllocError>
-    ensures { OnOk result (line.new.items ≡ line.old.items ++ spec.address host port) }
-{
-    put_dotted(line, &host)?;
     line.push(b':')?;
     put_number(line, port as u64)
 }

@@ -18,7 +18,7 @@ use Rattle.ini_config.specs.declared.database_rows.DbRow.{DbRow}
 use Rattle.ini_config.specs.declared.option_values.AuthType.{AuthType}
 use Rattle.ini_config.specs.declared.option_values.AuthType.TheVariants.{Trust, Plain, Md5}
 use Rattle.ini_config.specs.declared.option_values.Settings.{Settings}
-use Rattle.ini_config.specs.Tables.{row_named}
+use Rattle.ini_config.specs.Tables.{row_for}
 use Rattle.user_file.specs.declared.user_table.UserRow.{UserRow}
 use Rattle.user_file.specs.Secrets.{accepts_plain, accepts_md5}
 use Rattle.user_file.specs.Users.{user_named}
@@ -45,7 +45,7 @@ abbrev pub Rows : Type 0
 Rows = Text → Text → LoginRow
 
 unfoldable pub row_in : Settings → List UserRow → Rows
-row_in s users database user = record { auth = s.auth_type; names = names_of s; admins = s.admin_users; database = row_named database s.rows; user = user_named user users }
+row_in s users database user = record { auth = s.auth_type; names = names_of s; admins = s.admin_users; database = row_for database s.rows; user = user_named user users }
 
 -- ---- the dialogue's parts
 

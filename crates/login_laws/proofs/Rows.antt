@@ -1,6 +1,7 @@
 -- The rows of settings.
 use Rattle.std.proofs.Common.{◌≡◌, ℕ, ◌<◌, Bool, true, false, List, [], ◌∷◌, Option, Some, None, refl, ap, arith, zero, suc}
-use Rattle.std.specs.Prelude.{not, ◌&&◌, ◌||◌, ◌==◌, length, bytes_eq}
+use Rattle.std.specs.Prelude.{not, cond, ◌&&◌, ◌||◌, ◌==◌, length, nat_le, option_map, bytes_eq}
+use Rattle.std.specs.Option.{option_or}
 use Rattle.std.specs.List.{AllByRecursion, list_any}
 use Rattle.std.proofs.lemmas.Bool.{false≢true, true≢false}
 use Rattle.message_view.specs.Bodies.{HasNoZero}
@@ -8,7 +9,7 @@ use Rattle.ini_config.specs.Bounds.{IsServedRow}
 use Rattle.ini_config.specs.DatabaseValues.{is_database}
 use Rattle.ini_config.proofs.Bounds.{read_settings_are_within_bounds}
 use Rattle.ini_config.specs.declared.database_rows.DbRow.{DbRow}
-use Rattle.ini_config.specs.Tables.{row_named}
+use Rattle.ini_config.specs.Tables.{longest_name, row_as, row_named, wildcard, wildcard_row}
 use Rattle.session_values.proofs.Alls.{OfSome, all-find}
 use Rattle.login_laws.specs.StartKeys.{IsLawfulRow}
 use Rattle.login_core.specs.Dialogue.{row_in}
@@ -20,12 +21,6 @@ IsRow row = IsLawfulRow (Some row)
 some-row : (o : Option DbRow) → OfSome IsRow o → IsLawfulRow o
 some-row None h = tt
 some-row (Some row) h = h
-
-pub rows-lawful : SettingsRowsAreLawful
-unfolding row_in
-rows-lawful s users h database user = some-row (row_named database s.rows) (all-find IsRow (λ row. bytes_eq database row.name) s.rows h)
-
--- ---- rows of a file
 
 both : (a b : Bool) → (a && b) ≡ true → (a ≡ true) × (b ≡ true)
 both true b e = (refl, e)
@@ -48,8 +43,42 @@ no_zero (c ∷ cs) e = go (c == 0) refl (list_any (λ b. b == 0) cs) refl e (no_
     go false h true k e ih = absurd (false≢true e)
     go false h false k e ih = (positive c h, ih (ap not k))
 
+text-lawful : (name : List ℕ) → is_database name ≡ true → (0 < length name) × HasNoZero name
+text-lawful name e = let p = both (not (length name == 0)) (not (list_any (λ b. b == 0) name)) e in (has_bytes name p.0, no_zero name p.1)
+
 lawful-row : (row : DbRow) → is_database row.dbname ≡ true → IsRow row
-lawful-row row e = let p = both (not (length row.dbname == 0)) (not (list_any (λ b. b == 0) row.dbname)) e in (has_bytes row.dbname p.0, no_zero row.dbname p.1)
+lawful-row row e = text-lawful row.dbname e
+
+-- ---- the row that serves a database
+
+named-lawful : (name : List ℕ) (rows : List DbRow) → AllByRecursion IsRow rows → IsLawfulRow (row_named name rows)
+named-lawful name rows h = some-row (row_named name rows) (all-find IsRow (λ row. bytes_eq name row.name) rows h)
+
+-- the database of `*` is the name that was asked for, or its own
+as-lawful : (name : List ℕ) (row : DbRow) → is_database name ≡ true → IsRow row → IsRow (row_as name row)
+as-lawful name row e h = go (bytes_eq row.dbname wildcard) (text-lawful name e)
+  where
+    go : (b : Bool) → (0 < length name) × HasNoZero name → (0 < length (cond b name row.dbname)) × HasNoZero (cond b name row.dbname)
+    go true k = k
+    go false k = h
+
+wildcard-lawful : (name : List ℕ) (rows : List DbRow) → AllByRecursion IsRow rows → IsLawfulRow (wildcard_row name rows)
+wildcard-lawful name rows h = go (is_database name && nat_le (length name) longest_name) refl (row_named wildcard rows) (named-lawful wildcard rows h)
+  where
+    go : (b : Bool) → (is_database name && nat_le (length name) longest_name) ≡ b → (o : Option DbRow) → IsLawfulRow o → IsLawfulRow (cond b (option_map (row_as name) o) None)
+    go false e o k = tt
+    go true e None k = tt
+    go true e (Some row) k = as-lawful name row (both (is_database name) (nat_le (length name) longest_name) e).0 k
+
+pub rows-lawful : SettingsRowsAreLawful
+unfolding row_in
+rows-lawful s users h database user = go (row_named database s.rows) (named-lawful database s.rows h)
+  where
+    go : (o : Option DbRow) → IsLawfulRow o → IsLawfulRow (option_or o (wildcard_row database s.rows))
+    go None k = wildcard-lawful database s.rows h
+    go (Some row) k = k
+
+-- ---- rows of a file
 
 all-lawful : (rows : List DbRow) → AllByRecursion IsServedRow rows → AllByRecursion IsRow rows
 all-lawful [] h = tt

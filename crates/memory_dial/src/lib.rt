@@ -8,13 +8,13 @@ ghost use Rattle.memory_dial.specs.Homes.{IsEverywhere};
 
 pub mod strikable;
 
-use ini_config::DbRow;
 use memory_ends::memory_server::{MemoryServer, ServerAuth};
 use memory_start_laws::memory_servers_can_start;
 use message_view::KeyWord;
 use pool_desk::answers::Strike;
 use pool_desk::outside::Outside;
 use session_catalogue::Catalogue;
+use start_keys::StartKey;
 use std::alloc::Global;
 use std::marker::{Brand, Model, PhantomData};
 use std::sync::Arc;
@@ -32,7 +32,7 @@ impl Naming for Brand {
     ghost catalogue = { unknown_home.catalogue };
 }
 
-/// Reaches new servers of one catalogue and key word, whatever the row, which let everybody in, and which no cancel reaches.
+/// Reaches new servers of one catalogue and key word, whatever the key, which let everybody in, and which no cancel reaches.
 #[derive(Drop)]
 pub struct MemoryDial<N: Naming> {
     alloc: Global,
@@ -80,7 +80,7 @@ impl<N: Naming> Outside for MemoryDial<N> {
 
     ghost home = { open_home N.catalogue };
 
-    fn dial(&self, _row: &DbRow) -> Option<MemoryServer> {
+    fn dial(&self, _number: u64, _key: &StartKey) -> Option<MemoryServer> {
         memory_servers_can_start();
         self.catalogue.is_lawful();
         let catalogue = Arc::try_clone(&self.catalogue).ok()?;

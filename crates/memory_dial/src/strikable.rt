@@ -1,12 +1,11 @@
 //! Stand-in servers in memory that cancels reach.
 ghost use Rattle.std.specs.Prelude.{◌≡◌, ◌<◌, IfSome, true};
 ghost use Rattle.std.specs.Arc.{arc_value};
-ghost use Rattle.ini_config.specs.declared.database_rows.DbRow.{DbRow};
+ghost use Rattle.session_values.specs.State.{StartKeyOf};
 ghost use Rattle.link_desk.specs.Homes.{IsDialled};
 ghost use Rattle.memory_dial.specs.Homes.{IsEverywhere, strikable_home};
 
 use crate::Naming;
-use ini_config::DbRow;
 use memory_ends::memory_server::{MemoryServer, ServerAuth};
 use memory_ends::striker::Striker;
 use memory_start_laws::memory_servers_can_start;
@@ -14,11 +13,12 @@ use message_view::KeyWord;
 use pool_desk::answers::Strike;
 use pool_desk::outside::Outside;
 use session_catalogue::Catalogue;
+use start_keys::StartKey;
 use std::alloc::Global;
 use std::marker::{Model, PhantomData};
 use std::sync::{Arc, Mutex, Wait};
 
-/// Reaches new servers of one catalogue, whatever the row, which let everybody in. Each has a key word of its own, the nth that of pid
+/// Reaches new servers of one catalogue, whatever the key, which let everybody in. Each has a key word of its own, the nth that of pid
 /// and secret n, and a cancel with that strikes it.
 #[derive(Drop)]
 pub struct StrikableDial<R: Wait + Drop, N: Naming> {
@@ -74,7 +74,7 @@ impl<R: Wait + Drop, N: Naming> StrikableDial<R, N> {
     /// A new server with this key word, which cancels reach.
     fn server(&self, own: KeyWord) -> Option<MemoryServer>
         ensures reached { IfSome result (λ e. e.standing.server.strikable ≡ true) }
-        ensures dialled { IfSome result (λ e. (row : DbRow) → IsDialled (strikable_home N.catalogue) row e.standing) }
+        ensures dialled { IfSome result (λ e. (key : StartKeyOf) → IsDialled (strikable_home N.catalogue) key e.standing) }
     {
         memory_servers_can_start();
         self.catalogue.is_lawful();
@@ -98,7 +98,7 @@ impl<R: Wait + Drop, N: Naming> Outside for StrikableDial<R, N> {
 
     ghost home = { strikable_home N.catalogue };
 
-    fn dial(&self, _row: &DbRow) -> Option<MemoryServer> {
+    fn dial(&self, _number: u64, _key: &StartKey) -> Option<MemoryServer> {
         let mut strikers = self.strikers.lock(&self.rt);
         let server = self.server(next_word(strikers.len())?)?;
         strikers.push(server.striker().ok()?).ok()?;

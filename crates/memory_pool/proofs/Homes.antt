@@ -49,6 +49,7 @@ module _ {E : Type 0} where
   stays_home cat (event.Keyed n client server) r idle k h = all-left cat (goes_out r) idle h
   stays_home cat (event.Cancel client) r idle k h = all-left cat (goes_out r) idle h
   stays_home cat (event.EndLease n) r idle k h = all-left cat (goes_out r) idle h
+  stays_home cat (event.HungUp n) r idle k h = all-left cat (goes_out r) idle h
 
   pub handed_home : (cat : CatalogueOf) (e : Event E) (r : ListsReply) (idle : List LinkView) → IsBroughtHome cat e → AreAtHome cat idle → IfSome (handed_after e r idle) (IsAtHome cat)
   handed_home cat (event.GiveBack l) r idle k h = one-back cat l (is_done r) k
@@ -66,6 +67,7 @@ module _ {E : Type 0} where
   handed_home cat (event.Keyed n client server) r idle k h = all-found cat (goes_out r) idle h
   handed_home cat (event.Cancel client) r idle k h = all-found cat (goes_out r) idle h
   handed_home cat (event.EndLease n) r idle k h = all-found cat (goes_out r) idle h
+  handed_home cat (event.HungUp n) r idle k h = all-found cat (goes_out r) idle h
 
 -- keys that the comparison finds the same are one key
 pub of_same_key : (a b : StartKeyOf) → same_key a b ≡ true → a ≡ b

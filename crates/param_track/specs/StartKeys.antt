@@ -8,7 +8,7 @@ use Rattle.ini_config.specs.declared.database_rows.DbRow.{DbRow}
 use Rattle.ini_config.specs.declared.option_values.Settings.{Settings}
 pub use Rattle.ini_config.specs.OptionValues.{always_followed}
 use Rattle.ini_config.specs.OptionValues.{has_folded, untracks}
-use Rattle.ini_config.specs.Tables.{row_named}
+use Rattle.ini_config.specs.Tables.{row_for}
 use Rattle.start_keys.specs.Lawful.{is_identity}
 use Rattle.start_keys.specs.State.{StartKeyOf}
 pub use Rattle.start_keys.specs.StartPairs.{Text, Pair, user_in, database_in}
@@ -104,10 +104,10 @@ start_key row names pairs = unless (refusal names pairs) (key_at row (database_i
 -- ---- under the settings
 
 abbrev pub wanted_key : Settings → List Pair → StartKeyOf
-wanted_key s pairs = key_at (row_named (database_in pairs) s.rows) (database_in pairs) (user_in pairs) (parameters_in (names_of s) pairs)
+wanted_key s pairs = key_at (row_for (database_in pairs) s.rows) (database_in pairs) (user_in pairs) (parameters_in (names_of s) pairs)
 
 abbrev pub start_key_under : Settings → List Pair → Result StartKeyOf StartFault
-start_key_under s pairs = start_key (row_named (database_in pairs) s.rows) (names_of s) pairs
+start_key_under s pairs = start_key (row_for (database_in pairs) s.rows) (names_of s) pairs
 
 -- the answer is the definition's; out of memory comes only in the stead of a key
 abbrev pub Answers : Result StartKeyOf StartFault → Result StartKeyOf StartFault → Type 0

@@ -44,9 +44,9 @@ fn wanted_key(
     match settings.row(database) {
         Some(row) => Ok(StartKey {
             row: Text::from_slice(alloc, database)?,
-            host: Some(row.host),
+            host: Some(*row.host),
             port: row.port,
-            dbname: Text::from_slice(alloc, row.dbname.as_bytes())?,
+            dbname: Text::from_slice(alloc, row.dbname)?,
             user,
             parameters,
         }),

@@ -5,12 +5,18 @@ ghost use Rattle.std.specs.Prelude.{◌≡◌};
 ghost use Rattle.ini_config.specs.Bounds.{AreWithinBounds};
 ghost use Rattle.pgsess.specs.Statuses as spec;
 
+mod listeners;
+mod socket_file;
+
+use crate::listeners::{listen_at_addresses, listen_in_folder};
+use crate::socket_file::SocketFile;
 use ini_config::Settings;
 use mio::net::TcpListener;
 use pool_app::fault::{self, AppFault};
 use pool_app::files::{self, Inputs};
 use pool_app::line::{self, Job};
 use pool_run::keeping::{Source, Unread};
+use pool_run::listening::Listening;
 use pool_run::pool::serve_on;
 use pool_run::runtime::PoolRuntime;
 use replay_run::replay::replay;
@@ -26,9 +32,8 @@ use stub_server::server::stub_on;
 use user_file::Users;
 
 /// A listener on this port.
-fn listen<'a, R: Net>(rt: &R, address: [u8; 4], port: u16) -> Result<TcpListener, AppFault<'a>> {
-    let [a, b, c, d] = address;
-    match TcpListener::bind(rt, SocketAddr::from((Ipv4Addr::new(a, b, c, d), port))) {
+fn listen<'a, R: Net>(rt: &R, address: Ipv4Addr, port: u16) -> Result<TcpListener, AppFault<'a>> {
+    match TcpListener::bind(rt, SocketAddr::from((address, port))) {
         Ok(listener) => Ok(listener),
         Err(_) => Err(AppFault::Port(port)),
     }
@@ -41,6 +46,8 @@ struct NamedFiles {
     alloc: Global,
     ini: String,
     users: String,
+    /// That of the Unix socket, where there is one.
+    socket: Option<SocketFile>,
 }
 
 /// The files at these paths. The only error is that an allocation failed.
@@ -55,6 +62,7 @@ fn named_files(
         alloc,
         ini: String::from_str(alloc, ini)?,
         users: String::from_str(alloc, users)?,
+        socket: None,
     })
 }
 
@@ -69,6 +77,12 @@ impl Source for NamedFiles {
             Err(_) => Err(Unread::Memory),
         }
     }
+
+    fn stops_listening(&self) {
+        if let Some(socket) = &self.socket {
+            socket.remove(&self.rt);
+        }
+    }
 }
 
 /// Serves clients as the settings say, from when its line tells where, until the console ends it. Its log goes to standard error.
@@ -81,11 +95,17 @@ fn serve<'a, R: Print + PoolRuntime + 'static>(
 ) -> Result<(), AppFault<'a>>
     requires { AreWithinBounds inputs.settings }
 {
-    let [a, b, c, d] = inputs.settings.listen_addr();
     let port = inputs.settings.listen_port();
-    let listener = listen(&rt, [a, b, c, d], port)?;
+    let mut listening = Listening::new(alloc);
+    listen_at_addresses(&rt, &host, alloc, &inputs.settings, &mut listening).map_err(
+        |_| AppFault::Port(port),
+    )?;
+    let mut source = source;
+    source.socket = listen_in_folder(&host, alloc, &inputs.settings, &mut listening).map_err(
+        |_| AppFault::Memory,
+    )?;
     // that nobody reads it is no reason not to serve
-    let _ = println!(rt; "listening {a}.{b}.{c}.{d} {port}");
+    let _ = listening.print(&rt);
     let Inputs {
         settings,
         users,
@@ -93,7 +113,7 @@ fn serve<'a, R: Print + PoolRuntime + 'static>(
     } = inputs;
     let log = host.stderr();
     match serve_on(
-        rt, alloc, listener, settings, users, source, log, seed, None,
+        rt, alloc, listening, settings, users, source, log, seed, None,
     ) {
         Ok(Some(_)) => Ok(()),
         Ok(None) => Err(AppFault::Totals),
@@ -112,7 +132,7 @@ fn stub<
         + Send
         + 'static,
 >(rt: R, alloc: Global, port: u16, catalogue: Catalogue) -> Result<(), AppFault<'a>> {
-    let listener = listen(&rt, [127, 0, 0, 1], port)?;
+    let listener = listen(&rt, Ipv4Addr::LOCALHOST, port)?;
     match stub_on(rt, alloc, listener, catalogue, None) {
         Ok(()) => Ok(()),
         Err(_) => Err(AppFault::Memory),

@@ -14,7 +14,7 @@ use std::alloc::{AllocError, Global};
 use std::io;
 
 /// What `--version` tells behind the program's name.
-const VERSION: &str = "1";
+const VERSION: &str = "1.1";
 
 /// What a command line asks for. Its texts are those of the words.
 #[derive(Drop, PartialEq, Eq)]

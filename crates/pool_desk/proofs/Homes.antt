@@ -58,6 +58,7 @@ module _ {E : Type 0} where
   home_after home (event.Keyed n client server) r idle h b = home_left home (goes_out r) idle h
   home_after home (event.Cancel client) r idle h b = home_left home (goes_out r) idle h
   home_after home (event.EndLease n) r idle h b = home_left home (goes_out r) idle h
+  home_after home (event.HungUp n) r idle h b = home_left home (goes_out r) idle h
 
   home_handed : (home : HomeOf) (e : Event E) (r : ListsReply) (idle : List LinkView) → AreAtHome home idle → IfSome (brought e) (IsAtHome home) → IfSome (handed_after e r idle) (IsAtHome home)
   home_handed home event.Arrive r idle h b = home_found home (goes_out r) idle h
@@ -79,6 +80,7 @@ module _ {E : Type 0} where
   home_handed home (event.Keyed n client server) r idle h b = home_found home (goes_out r) idle h
   home_handed home (event.Cancel client) r idle h b = home_found home (goes_out r) idle h
   home_handed home (event.EndLease n) r idle h b = home_found home (goes_out r) idle h
+  home_handed home (event.HungUp n) r idle h b = home_found home (goes_out r) idle h
 
   pub stay_home : (home : HomeOf) (e : Event E) (r : ListsReply) (idle next : List LinkView) → AreAtHome home idle → IfSome (brought e) (IsAtHome home) → next ≡ idle_after e r idle → AreAtHome home next
   stay_home home e r idle next h b is = subst (AreAtHome home) (sym is) (home_after home e r idle h b)
@@ -103,6 +105,7 @@ module _ {E : Type 0} where
   handed_of_return (event.Keyed n client server) r idle = tt
   handed_of_return (event.Cancel client) r idle = tt
   handed_of_return (event.EndLease n) r idle = tt
+  handed_of_return (event.HungUp n) r idle = tt
 
   pub comes_back : (e : Event E) (back : Option LinkView) (r told : ListsReply) (idle : List LinkView) → back ≡ handed_after e told idle → r ≡ told → IfSome (brought e) (λ l. back ≡ handed_back l r)
   comes_back e back r told idle is same =

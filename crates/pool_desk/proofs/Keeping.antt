@@ -3,7 +3,7 @@ use Rattle.std.proofs.Common.{◌≡◌, sym, subst}
 use Rattle.std.specs.Arc.{arc_value}
 use Rattle.book_model.specs.Book.{Book}
 use Rattle.book_model.specs.Kept.{FitsLimits, Kept}
-use Rattle.book_model.specs.Outcomes.Event.{Arrive, Ask, Take, Lost, StartFailed, Leave, Tick, NewLimits, Pause, Resume, Shutdown, Keyed, Cancel, EndLease}
+use Rattle.book_model.specs.Outcomes.Event.{Arrive, Ask, Take, Lost, StartFailed, Leave, Tick, NewLimits, Pause, Resume, Shutdown, Keyed, Cancel, EndLease, HungUp}
 use Rattle.book_model.proofs.Keeping.{applied_keeps, returned_keeps}
 use Rattle.lease_book.specs.Links.{answered, plain}
 use Rattle.lease_book.specs.declared.events.Event.{Event}
@@ -26,6 +26,7 @@ module _ {E : Type 0} where
   answer_keeps b (event.Keyed n client server) f k = applied_keeps b (Keyed n client server) f k
   answer_keeps b (event.Cancel client) f k = applied_keeps b (Cancel client) f k
   answer_keeps b (event.EndLease n) f k = applied_keeps b (EndLease n) f k
+  answer_keeps b (event.HungUp n) f k = applied_keeps b (HungUp n) f k
 
   pub stay_kept : (b lists : Book) (e : Event E) → FitsLimits (plain e) → Kept b → lists ≡ (answered b e).book → Kept lists
   stay_kept b lists e f k is = subst Kept (sym is) (answer_keeps b e f k)

@@ -8,11 +8,11 @@ use Rattle.message_view.specs.declared.views.KeyView.{KeyView}
 use Rattle.std.specs.List.{list_any}
 use Rattle.session_values.specs.State.{StartKeyOf}
 use Rattle.book_model.specs.Book.{Book, Lease, Link, Ticket, in_pool, is_link, is_number, is_of, is_of_client, latest_of, link_count, pool_count, pool_size, waiting_before}
-use Rattle.book_model.specs.Outcomes.{Answer, Event, apply, apply_return, at_clock, cancels, closes, counted, decided, ends_lease, evicts, gives_back, grants, has_waited, is_crowded, is_old, is_stale, is_started_as, is_strange, kind_of, last_decision, outcome, raised, strikes, strikes_at, takes}
-use Rattle.book_model.specs.Outcomes.Event.{Arrive, Ask, Take, GiveBack, Lost, StartFailed, Leave, Tick, NewLimits, Pause, Resume, Shutdown, Keyed, Cancel, EndLease}
+use Rattle.book_model.specs.Outcomes.{Answer, Event, apply, apply_return, at_clock, cancels, closes, counted, decided, ends_lease, evicts, gives_back, grants, hangs_up, has_waited, is_crowded, is_old, is_stale, is_started_as, is_strange, kind_of, last_decision, outcome, raised, strikes, strikes_at, takes}
+use Rattle.book_model.specs.Outcomes.Event.{Arrive, Ask, Take, GiveBack, Lost, StartFailed, Leave, Tick, NewLimits, Pause, Resume, Shutdown, Keyed, Cancel, EndLease, HungUp}
 use Rattle.book_model.specs.declared.counts.Counts.{Counts}
 use Rattle.book_model.specs.declared.counts.Kind.{Kind}
-use Rattle.book_model.specs.declared.counts.Kind.TheVariants.{Arrival, ArrivalRefused, Asking, AskRefused, Grant, TicketLost, Return, Loss, FailedStart, Leaving, Ticking, Limiting, Pausing, Resuming, Closing, Keying, Cancelling, LeaseEnding}
+use Rattle.book_model.specs.declared.counts.Kind.TheVariants.{Arrival, ArrivalRefused, Asking, AskRefused, Grant, TicketLost, Return, Loss, FailedStart, Leaving, Ticking, Limiting, Pausing, Resuming, Closing, Keying, Cancelling, LeaseEnding, HangUp}
 use Rattle.book_model.specs.declared.events.Reply.{Reply}
 use Rattle.book_model.specs.declared.events.Reply.TheVariants.{Refuse, Done, Stranger, Dispose, Reset}
 use Rattle.book_model.proofs.KeepingLists.{not_found}
@@ -75,6 +75,7 @@ class_raised Closing c = with_others (class_counts c) _ _ (omega arith)
 class_raised Keying c = with_others (class_counts c) _ _ (omega arith)
 class_raised Cancelling c = with_others (class_counts c) _ _ (omega arith)
 class_raised LeaseEnding c = with_others (class_counts c) _ _ (omega arith)
+class_raised HangUp c = with_others (class_counts c) _ _ (omega arith)
 
 class_counted : (b : Book) (k : Option Kind) → class_counts (counted b k).counts ≡ one_more k (class_counts b.counts)
 class_counted b None = refl
@@ -101,6 +102,7 @@ one_more_is (Some Closing) m = simp unary_clauses refl
 one_more_is (Some Keying) m = simp unary_clauses refl
 one_more_is (Some Cancelling) m = simp unary_clauses refl
 one_more_is (Some LeaseEnding) m = simp unary_clauses refl
+one_more_is (Some HangUp) m = simp unary_clauses refl
 
 added : (a b n : Made) (m : Made) → sum_of a m ≡ sum_of b (sum_of m n) → a ≡ sum_of b n
 added a b n m h =
@@ -168,17 +170,21 @@ fits_closes : (b : Book) (now : ℕ) (o : Option Link) → Fits b (Tick now) (cl
 fits_closes b now None = record { counts = refl; tells = ticked now (nat_lt b.clock now) }
 fits_closes b now (Some link) = record { counts = refl; tells = λ p. refl }
 
-fits_strikes : (b : Book) (client : KeyView) (lease : Lease) (port : ℕ) (host : Option (List ℕ)) → Fits b (Cancel client) (strikes b lease port host)
-fits_strikes b client lease port None = record { counts = refl; tells = λ p. refl }
-fits_strikes b client lease port (Some host) = record { counts = refl; tells = λ p. refl }
+fits_strikes : (b : Book) (client : KeyView) (lease : Lease) (host : Option (List ℕ)) → Fits b (Cancel client) (strikes b lease host)
+fits_strikes b client lease None = record { counts = refl; tells = λ p. refl }
+fits_strikes b client lease (Some host) = record { counts = refl; tells = λ p. refl }
 
 fits_strikes_at : (b : Book) (client : KeyView) (lease : Lease) (o : Option Link) → Fits b (Cancel client) (strikes_at b lease o)
 fits_strikes_at b client lease None = record { counts = refl; tells = λ p. refl }
-fits_strikes_at b client lease (Some link) = fits_strikes b client lease link.key.port link.key.host
+fits_strikes_at b client lease (Some link) = fits_strikes b client lease link.key.host
 
 fits_cancels : (b : Book) (client : KeyView) (o : Option Lease) → Fits b (Cancel client) (cancels b o)
 fits_cancels b client None = record { counts = refl; tells = λ p. refl }
 fits_cancels b client (Some lease) = fits_strikes_at b client lease (find (is_link lease.link) b.lent)
+
+fits_hung_up : (b : Book) (n : ℕ) (o : Option Link) → Fits b (HungUp n) (hangs_up b o)
+fits_hung_up b n None = record { counts = refl; tells = λ p. refl }
+fits_hung_up b n (Some link) = record { counts = refl; tells = λ p. refl }
 
 fits_ended : (b : Book) (n : ℕ) (marked : Bool) → Fits b (EndLease n) (record { book = (ends_lease b n).book; reply = cond marked Dispose Reset })
 fits_ended b n true = record { counts = refl; tells = λ p. refl }
@@ -202,6 +208,7 @@ fits b Shutdown known = record { counts = refl; tells = λ p. refl }
 fits b (Keyed n client server) known = record { counts = refl; tells = λ p. refl }
 fits b (Cancel client) known = fits_cancels b client (find (is_of_client client) b.keyed)
 fits b (EndLease n) known = fits_ended b n (list_any (is_number n) b.marked)
+fits b (HungUp n) known = fits_hung_up b n (find (is_link n) b.idle)
 
 -- ---- the whole answer
 
@@ -229,6 +236,7 @@ counted_last b e = record { kind = None; counts = refl; tells = last e }
     last (Keyed n client server) p = refl
     last (Cancel client) p = refl
     last (EndLease n) p = refl
+    last (HungUp n) p = refl
 
 counted_strange : (b : Book) (e : Event) → is_strange b e ≡ true → Counted b e (record { book = b; reply = Stranger })
 counted_strange b e is = record { kind = None; counts = refl; tells = strange e is }
@@ -249,6 +257,7 @@ counted_strange b e is = record { kind = None; counts = refl; tells = strange e 
     strange (Keyed n client server) is p = refl
     strange (Cancel client) is p = absurd (true≢false (sym is))
     strange (EndLease n) is p = refl
+    strange (HungUp n) is p = absurd (true≢false (sym is))
 
 counted_decided : (b : Book) (e : Event) (a : Answer) → Fits b e a → Counted b e (decided b e a)
 counted_decided b e a f = record { kind = kind_of b e a.reply; counts = class_counted a.book (kind_of b e a.reply) ∙ ap (λ (c : Counts). one_more (kind_of b e a.reply) (class_counts c)) f.counts; tells = f.tells }
@@ -296,6 +305,7 @@ module _ {E : Type 0} where
   counted_event b (event.Keyed n client server) = counted_apply b (Keyed n client server)
   counted_event b (event.Cancel client) = counted_apply b (Cancel client)
   counted_event b (event.EndLease n) = counted_apply b (EndLease n)
+  counted_event b (event.HungUp n) = counted_apply b (HungUp n)
 
   -- the counts after an event are those before, and one more
   counts_are : (b : Book) (e : LinkEvent E) (lists : Book) (old new : Made) → class_counts b.counts ≡ old → lists ≡ (answered b e).book → new ≡ class_counts lists.counts → new ≡ one_more (counted_event b e).kind old

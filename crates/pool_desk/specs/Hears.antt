@@ -6,7 +6,7 @@ use Rattle.lease_book.specs.declared.events.Reply.{Reply}
 use Rattle.lease_book.specs.declared.events.Reply.TheVariants as reply
 use Rattle.link_desk.specs.Passes.{at_stage, granted_lease}
 use Rattle.link_desk.specs.declared.answers.Release.TheVariants as release
-use Rattle.link_desk.specs.declared.answers.Strike.{Strike}
+use Rattle.link_desk.specs.declared.answers.Target.{Target}
 use Rattle.link_desk.specs.declared.calls.Call.{Call}
 use Rattle.link_desk.specs.declared.calls.Call.TheVariants as call
 use Rattle.link_desk.specs.declared.calls.Holder.{Holder}
@@ -25,16 +25,17 @@ module _ {E : Type 0} where
   call_of (event.Keyed n client server) = call.Keyed n client server
   call_of (event.Cancel client) = call.Cancel client
   call_of (event.EndLease n) = call.EndLease n
+  call_of (event.HungUp n) = call.HungUp n
   call_of (event.Tick now) = call.Tick now
   call_of (event.Limits limits again) = call.Limits
   call_of event.Pause = call.Pause
   call_of event.Resume = call.Resume
   call_of event.Shutdown = call.Shutdown
 
-  -- the cancel that is to be sent by a reply
-  abbrev pub strike_in : Reply E → Option Strike
-  strike_in (reply.Strike n server host port) = Some (record { link = n; server = server; host = host; port = port })
-  strike_in _ = None
+  -- what a cancel is for that is to be sent by a reply
+  abbrev pub target_in : Reply E → Option Target
+  target_in (reply.Strike n server host port) = Some (record { link = n; server = server })
+  target_in _ = None
 
   -- by the call and its reply: each call is the last, but for a client's that waits on
   abbrev pub heard : Holder → Call → Reply E → Holder
@@ -53,6 +54,6 @@ module _ {E : Type 0} where
   heard h (call.GiveBack n) told = record h { lease = None; last = Some (call.GiveBack n) }
   heard h (call.Lost n) told = record h { lease = None; last = Some (call.Lost n) }
   heard h (call.StartFailed n) told = record h { lease = None; last = Some (call.StartFailed n) }
-  heard h (call.Cancel client) told = record h { found = strike_in told; struck = None; last = Some (call.Cancel client) }
+  heard h (call.Cancel client) told = record h { found = target_in told; struck = None; last = Some (call.Cancel client) }
   heard h (call.Leave client) told = record h { client = None; last = Some (call.Leave client) }
   heard h made told = record h { last = Some made }

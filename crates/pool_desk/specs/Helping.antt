@@ -3,7 +3,7 @@ use Rattle.std.specs.Prelude.{◌≡◌, ◌%◌, ℕ, Bool, List, Option, Some,
 use Rattle.session_values.specs.State.{StartKeyOf}
 use Rattle.book_model.specs.Book.{Book}
 use Rattle.book_model.specs.Outcomes.{Event}
-use Rattle.book_model.specs.Outcomes.Event.{Arrive, Ask, Take, GiveBack, Lost, StartFailed, Leave, Keyed, Cancel, EndLease}
+use Rattle.book_model.specs.Outcomes.Event.{Arrive, Ask, Take, GiveBack, Lost, StartFailed, Leave, Keyed, Cancel, EndLease, HungUp}
 use Rattle.book_register.specs.Waking.{is_full, waiting_behind, waiting_for}
 use Rattle.book_rows.specs.Waiting.{longest_waiting}
 use Rattle.pool_desk.specs.declared.bells.TheConstants.{BELLS}
@@ -33,6 +33,8 @@ helped_by b (StartFailed link) = helped_by_link b link
 helped_by b (Keyed link client server) = helps.Nobody
 helped_by b (Cancel client) = helps.Nobody
 helped_by b (EndLease link) = helps.Nobody
+-- beside an idle link only those wait whose pools have no room without it either
+helped_by b (HungUp link) = helps.Nobody
 helped_by b _ = helps.All
 
 -- this client's bell is among the chosen

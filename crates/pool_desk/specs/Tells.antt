@@ -2,7 +2,7 @@
 use Rattle.std.specs.Prelude.{◌≡◌, ◌⊎◌, Bool, true, false}
 use Rattle.message_view.specs.declared.refusal.Refusal.TheVariants.{LastDecision}
 use Rattle.book_model.specs.Outcomes.{Event}
-use Rattle.book_model.specs.Outcomes.Event.{Arrive, Ask, Take, GiveBack, Lost, StartFailed, Leave, Tick, NewLimits, Pause, Resume, Shutdown, Keyed, Cancel, EndLease}
+use Rattle.book_model.specs.Outcomes.Event.{Arrive, Ask, Take, GiveBack, Lost, StartFailed, Leave, Tick, NewLimits, Pause, Resume, Shutdown, Keyed, Cancel, EndLease, HungUp}
 use Rattle.book_model.specs.declared.events.Reply.{Reply}
 use Rattle.book_model.specs.declared.events.Reply.TheVariants.{Arrived, Queued, Lend, Start, Close, Refuse, Done, Stranger, Strike, Nobody, Reset, Dispose}
 use Rattle.desk_tallies.specs.Passes.{PassOf, after_refusal, broken, one_arrived, one_given_back, one_granted, one_left, one_lost, one_other}
@@ -55,11 +55,14 @@ Tells Shutdown (Refuse LastDecision) p q = q ≡ broken p
 Tells (Keyed link client server) Done p q = q ≡ one_other p
 Tells (Keyed link client server) (Refuse LastDecision) p q = q ≡ broken p
 Tells (Keyed link client server) Stranger p q = q ≡ broken p
-Tells (Cancel client) (Strike link server host port) p q = q ≡ one_other p
+Tells (Cancel client) (Strike link server) p q = q ≡ one_other p
 Tells (Cancel client) Nobody p q = q ≡ p
 Tells (Cancel client) (Refuse LastDecision) p q = q ≡ broken p
 Tells (EndLease link) Reset p q = q ≡ one_other p
 Tells (EndLease link) Dispose p q = q ≡ one_other p
 Tells (EndLease link) (Refuse LastDecision) p q = q ≡ broken p
 Tells (EndLease link) Stranger p q = q ≡ broken p
+Tells (HungUp link) (Close n) p q = q ≡ one_other p
+Tells (HungUp link) Nobody p q = q ≡ p
+Tells (HungUp link) (Refuse LastDecision) p q = q ≡ broken p
 Tells _ _ p q = ⊥

@@ -14,3 +14,14 @@ pub enum Ticked<E: ServerEnd> {
     /// The book has made its last decision.
     Last,
 }
+
+/// To who saw that the server of a link has hung up.
+#[derive(Drop)]
+pub enum HungUp<E: ServerEnd> {
+    /// The link, which was idle, is to be closed.
+    Close(CleanLink<E>),
+    /// It isn't idle any more: who has it sees so too.
+    NotIdle,
+    /// The book has made its last decision.
+    Last,
+}

@@ -3,23 +3,26 @@ ghost use Rattle.std.specs.Prelude.{◌≡◌, IfOk, IfErr, IfSome, IsSome, OnEr
 ghost use Rattle.std.specs.Arc.{arc_value};
 ghost use Rattle.book_model.specs.Book.{Book};
 ghost use Rattle.book_model.specs.Kept.{Kept};
+ghost use Rattle.book_model.specs.Outcomes.{apply_return};
+ghost use Rattle.book_model.specs.Outcomes.Event.{GiveBack};
 ghost use Rattle.book_register.specs.Views.{view_of};
-ghost use Rattle.lease_book.specs.Links.{IsTwice, answered, handed, handed_back, plain, reply_of};
+ghost use Rattle.lease_book.specs.Links.{IsTwice, StrikesInPlace, answered, handed, handed_back, plain, reply_of};
 ghost use Rattle.link_desk.specs.declared.calls.Call.TheVariants as call;
 ghost use Rattle.desk_tallies.specs.Homes.{IsAtHome};
 ghost use Rattle.desk_tallies.specs.Passes.{after_change, new_holder, new_pass};
 ghost use Rattle.desk_tallies.specs.declared.passes.TheConstants.{ALL_PARTS};
 ghost use Rattle.desk_tallies.specs.Shares.{AtMost, made_of, names_of, of_each, parts_of, sum_over};
-ghost use Rattle.pool_desk.specs.Changes.{AfterTick, IsTickAtHome, is_change};
+ghost use Rattle.pool_desk.specs.Changes.{AfterHangUp, AfterTick, IsHangUpAtHome, IsHangUpOf, IsTickAtHome, is_change};
 ghost use Rattle.pool_desk.specs.Classes.{class_counts};
 ghost use Rattle.pool_desk.specs.Hears.{call_of, heard};
 ghost use Rattle.pool_desk.specs.Joined.{brought};
 ghost use Rattle.pool_desk.specs.Tells.{Tells};
 
-use crate::answers::Ticked;
+use crate::answers::{HungUp, Ticked};
 use crate::bells::Bells;
 use crate::helping::Helps;
 use crate::inner::Core;
+use crate::minding::{granted, minded};
 use crate::outside::Outside;
 use book_model::limits::Limits;
 use book_register::view::BookView;
@@ -31,7 +34,6 @@ use desk_tallies::desk::LinkDesk;
 use desk_tallies::ledgers::Ledgers;
 use desk_tallies::passes::{Pass, Totals};
 use desk_tallies::tallies::Blanks;
-use ini_config::DbRow;
 use lease_book::events::{Event, Reply};
 use link_run::links::CleanLink;
 use log_lines::notes::{Client, Note};
@@ -162,14 +164,50 @@ impl<R: Wait + Clock, S: Outside, K: Ledgers> Desk<R, S, K> {
     fn hold(&self, pass: &mut Pass<K>, event: Event<S::End>) -> Reply<S::End>
         requires twice { IsTwice event }
         requires home { IfSome (brought event) (λ l. IsAtHome S.home l) }
-        ensures book { (b : Book) × (Kept b × (reply_of result ≡ (answered b event).reply)) }
+        ensures book { (b : Book) × (Kept b × ((reply_of result ≡ (answered b event).reply) × StrikesInPlace b result)) }
         ensures number { pass.new.number ≡ pass.old.number }
         ensures told { Tells (plain event) (reply_of result) pass.old.told pass.new.told }
         ensures holder { pass.new.holder ≡ heard pass.old.holder (call_of event) result }
         ensures home { IfSome (handed result) (λ l. IsAtHome S.home l) }
         ensures back { IfSome (brought event) (λ l. handed result ≡ handed_back l (reply_of result)) }
     {
-        let mut core = self.core.lock(&self.rt);
+        let core = self.core.lock(&self.rt);
+        self.decide(core, pass, event)
+    }
+
+    /// A link comes back, in one hold of the lock. Its end is minded before the book has it, under the lock: what is heard of it at once is
+    /// told to the book behind its return.
+    fn hold_back(&self, pass: &mut Pass<K>, link: CleanLink<S::End>) -> Reply<S::End>
+        requires home { IsAtHome S.home link }
+        ensures book { (b : Book) × (Kept b × (reply_of result ≡ (apply_return b link.number link.key link.born).reply)) }
+        ensures number { pass.new.number ≡ pass.old.number }
+        ensures told { Tells (GiveBack link.number) (reply_of result) pass.old.told pass.new.told }
+        ensures holder { pass.new.holder ≡ heard pass.old.holder (call.GiveBack link.number) result }
+        ensures home { IfSome (handed result) (λ l. IsAtHome S.home l) }
+        ensures back { handed result ≡ handed_back link (reply_of result) }
+    {
+        let core = self.core.lock(&self.rt);
+        let event = Event::GiveBack(minded(&self.outside, link));
+        self.decide(core, pass, event)
+    }
+
+    /// One event, under the lock, which is let go.
+    fn decide(
+        &self,
+        core: MutexGuard<'_, Core<S, K>>,
+        pass: &mut Pass<K>,
+        event: Event<S::End>,
+    ) -> Reply<S::End>
+        requires twice { IsTwice event }
+        requires home { IfSome (brought event) (λ l. IsAtHome S.home l) }
+        ensures book { (b : Book) × (Kept b × ((reply_of result ≡ (answered b event).reply) × StrikesInPlace b result)) }
+        ensures number { pass.new.number ≡ pass.old.number }
+        ensures told { Tells (plain event) (reply_of result) pass.old.told pass.new.told }
+        ensures holder { pass.new.holder ≡ heard pass.old.holder (call_of event) result }
+        ensures home { IfSome (handed result) (λ l. IsAtHome S.home l) }
+        ensures back { IfSome (brought event) (λ l. handed result ≡ handed_back l (reply_of result)) }
+    {
+        let mut core = core;
         let helps = core.helped_by(&event);
         let before = core.decisions();
         let reply = core.apply(pass, event);
@@ -194,6 +232,23 @@ impl<R: Wait + Clock, S: Outside, K: Ledgers> Desk<R, S, K> {
             Reply::Done => Ticked::Done,
             Reply::Close(link) => Ticked::Close(link),
             Reply::Refuse(..) => Ticked::Last,
+            _ => unreachable!(),
+        }
+    }
+
+    /// The server of the link of this number has hung up, or has said something that nobody asked for. One that isn't idle any more stays
+    /// as it is.
+    #[tactic(auto, using(crate::proofs::Answering::is_named))]
+    pub fn hung_up(&self, pass: &mut Pass<K>, number: u64) -> HungUp<S::End>
+        ensures told { AfterHangUp result pass.old.told pass.new.told }
+        ensures holder { pass.new.holder ≡ record pass.old.holder { last = Some (call.HungUp number) } }
+        ensures named { IsHangUpOf number result }
+        ensures home { IsHangUpAtHome S.home result }
+    {
+        match self.hold(pass, Event::HungUp { number }) {
+            Reply::Close(link) => HungUp::Close(link),
+            Reply::Nobody => HungUp::NotIdle,
+            Reply::Refuse(..) => HungUp::Last,
             _ => unreachable!(),
         }
     }
@@ -265,7 +320,7 @@ impl<R: Wait + Clock, S: Outside, K: Ledgers> LinkDesk for Desk<R, S, K> {
             }
             grant => {
                 self.ring(core, helps);
-                grant
+                granted(&self.outside, grant)
             }
         }
     }
@@ -300,6 +355,7 @@ impl<R: Wait + Clock, S: Outside, K: Ledgers> LinkDesk for Desk<R, S, K> {
         }
     }
 
+    #[tactic(auto, using(crate::proofs::Answering::is_struck, crate::proofs::Answering::is_nobody, crate::proofs::Answering::is_last))]
     fn cancel(&self, pass: &mut Pass<K>, client: KeyView) -> Cancelled {
         match self.hold(pass, Event::Cancel { client }) {
             Reply::Strike {
@@ -319,11 +375,8 @@ impl<R: Wait + Clock, S: Outside, K: Ledgers> LinkDesk for Desk<R, S, K> {
         }
     }
 
-    fn strike(&self, pass: &mut Pass<K>) {
-        let Some(strike) = pass.holder().found else {
-            unreachable!()
-        };
-        self.outside.strike(&strike);
+    fn strike(&self, pass: &mut Pass<K>, strike: &Strike) {
+        self.outside.strike(strike);
         pass.strikes();
     }
 
@@ -331,7 +384,7 @@ impl<R: Wait + Clock, S: Outside, K: Ledgers> LinkDesk for Desk<R, S, K> {
         let Some(clean) = link.take() else {
             unreachable!()
         };
-        match self.hold(pass, Event::GiveBack(clean)) {
+        match self.hold_back(pass, clean) {
             Reply::Done => Back::Done,
             Reply::Close(clean) => {
                 *link = Some(clean);
@@ -385,8 +438,8 @@ impl<R: Wait + Clock, S: Outside, K: Ledgers> LinkDesk for Desk<R, S, K> {
         }
     }
 
-    fn dial(&self, row: &DbRow) -> Option<S::End> {
-        self.outside.dial(row)
+    fn dial(&self, number: u64, key: &StartKey) -> Option<S::End> {
+        self.outside.dial(number, key)
     }
 
     fn view(&self, alloc: Global, pass: &mut Pass<K>) -> Result<BookView, AllocError> {

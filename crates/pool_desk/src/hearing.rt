@@ -2,9 +2,9 @@
 ghost use Rattle.std.specs.Prelude.{◌≡◌};
 ghost use Rattle.desk_tallies.specs.Passes.{at_stage};
 ghost use Rattle.link_desk.specs.declared.calls.Stage.TheVariants.{Granted};
-ghost use Rattle.pool_desk.specs.Hears.{call_of, heard, strike_in};
+ghost use Rattle.pool_desk.specs.Hears.{call_of, heard, target_in};
 
-use desk_tallies::answers::{Release, Strike};
+use desk_tallies::answers::{Release, Target};
 use desk_tallies::calls::{Call, Holder, Lease, Stage};
 use lease_book::events::{Event, Reply};
 use server_end::ServerEnd;
@@ -32,6 +32,7 @@ pub(crate) fn call_of<E: ServerEnd>(event: &Event<E>) -> Call
         },
         Event::Cancel { client } => Call::Cancel(*client),
         Event::EndLease { number } => Call::EndLease(*number),
+        Event::HungUp { number } => Call::HungUp(*number),
         Event::Tick { now } => Call::Tick(*now),
         Event::Limits(..) => Call::Limits,
         Event::Pause => Call::Pause,
@@ -77,21 +78,14 @@ fn released(holder: Holder, release: Release) -> Holder
     }
 }
 
-/// The cancel that is to be sent by this reply.
-fn strike_in<E: ServerEnd>(reply: &Reply<E>) -> Option<Strike>
-    ensures { result ≡ strike_in reply.now }
+/// What the cancel is for that is to be sent by this reply.
+fn target_in<E: ServerEnd>(reply: &Reply<E>) -> Option<Target>
+    ensures { result ≡ target_in reply.now }
 {
     match reply {
-        Reply::Strike {
-            number,
-            server,
-            host,
-            port,
-        } => Some(Strike {
+        Reply::Strike { number, server, .. } => Some(Target {
             link: *number,
             server: *server,
-            host: *host,
-            port: *port,
         }),
         _ => None,
     }
@@ -128,7 +122,7 @@ pub(crate) fn heard<E: ServerEnd>(holder: Holder, call: Call, reply: &Reply<E>) 
             ..held
         },
         (Call::Cancel(_), _) => Holder {
-            found: strike_in(reply),
+            found: target_in(reply),
             struck: None,
             ..held
         },

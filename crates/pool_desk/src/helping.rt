@@ -34,7 +34,8 @@ impl<S: Outside, K: Ledgers> Core<S, K> {
             | Event::Ask { .. }
             | Event::Keyed { .. }
             | Event::Cancel { .. }
-            | Event::EndLease { .. } => Helps::Nobody,
+            | Event::EndLease { .. }
+            | Event::HungUp { .. } => Helps::Nobody,
             Event::Take { client } | Event::Leave { client } => self.helped_behind(*client),
             Event::GiveBack(link) => self.helped_by_link(link.number()),
             Event::Lost { number } | Event::StartFailed { number } => self.helped_by_link(*number),

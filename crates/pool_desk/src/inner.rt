@@ -8,7 +8,7 @@ ghost use Rattle.book_model.specs.Outcomes.{apply};
 ghost use Rattle.book_model.specs.Outcomes.Event.{Take};
 ghost use Rattle.book_model.specs.Replay.{noted_of};
 ghost use Rattle.book_register.specs.Views.{view_of};
-ghost use Rattle.lease_book.specs.Links.{IsTwice, answered, found, goes_out, handed, handed_after, history_after, idle_after, left, plain, reply_of};
+ghost use Rattle.lease_book.specs.Links.{IsTwice, StrikesInPlace, answered, found, goes_out, handed, handed_after, history_after, idle_after, left, plain, reply_of};
 ghost use Rattle.desk_tallies.specs.Grants.{IsAnswerToTake, link_in};
 ghost use Rattle.desk_tallies.specs.Homes.{IsAtHome, IsGrantAtHome};
 ghost use Rattle.desk_tallies.specs.Passes.{after_grant, new_holder, new_pass, taken};
@@ -150,6 +150,7 @@ impl<S: Outside, K: Ledgers> Core<S, K> {
         ensures lists { self.new.book.lists ≡ (answered self.old.book.lists event).book }
         ensures history { self.new.book.history ≡ history_after self.old.book.lists pass.old.number event self.old.book.history }
         ensures reply { reply_of result ≡ (answered self.old.book.lists event).reply }
+        ensures place { StrikesInPlace self.old.book.lists result }
         ensures idle { self.new.book.idle ≡ idle_after event (answered self.old.book.lists event).reply self.old.book.idle }
         ensures handed { handed result ≡ handed_after event (answered self.old.book.lists event).reply self.old.book.idle }
         ensures home { IfSome (handed result) (λ l. IsAtHome S.home l) }

@@ -8,4 +8,5 @@ pub mod desk;
 mod hearing;
 mod helping;
 mod inner;
+mod minding;
 pub mod outside;

@@ -5,9 +5,9 @@ ghost use Rattle.desk_tallies.specs.Homes.{IsDialled};
 
 use book_model::limits::Limits;
 use desk_tallies::answers::Strike;
-use ini_config::DbRow;
 use log_lines::notes::{Client, Note};
 use server_end::ServerEnd;
+use start_keys::StartKey;
 use std::sync::Arc;
 
 /// What a desk reaches outside, and what is claimed of its servers.
@@ -18,9 +18,27 @@ pub trait Outside {
 
     ghost home: { HomeOf };
 
-    /// A new end of this row's server, which waits for its StartupMessage; `None` where it can't be reached.
-    fn dial(&self, row: &DbRow) -> Option<Self::End>
-        ensures { IfSome result (λ e. IsDialled home row.now (Self.End.standing e)) };
+    /// A new end of this key's server for the link of this number, which waits for its StartupMessage; `None` where it can't be reached,
+    /// or the key has no server.
+    fn dial(&self, number: u64, key: &StartKey) -> Option<Self::End>
+        ensures { IfSome result (λ e. IsDialled home key.now (Self.End.standing e)) };
+
+    /// From now on the end of the link of this number is minded, which nobody uses: who runs the desk hears when its server hangs up or says
+    /// something, and tells it so ([`crate::desk::Desk::hung_up`]). That it can't be minded is ignored. It is called under the desk's lock, and
+    /// waits for nothing.
+    fn mind(&self, number: u64, end: &mut Self::End)
+        ensures { Self.End.standing end.new ≡ Self.End.standing end.old }
+    {
+        let _ = number;
+        let _ = end;
+    }
+
+    /// From now on it isn't minded any more: somebody has it.
+    fn release(&self, end: &mut Self::End)
+        ensures { Self.End.standing end.new ≡ Self.End.standing end.old }
+    {
+        let _ = end;
+    }
 
     /// Sends a cancel on its way: to the server at its place goes one CancelRequest with the key word that the link's server told. It
     /// waits until the server has closed that connection, or for some seconds.

@@ -8,6 +8,7 @@ ghost use Rattle.pool_run.specs.Telling as spec;
 use book_model::limits::Limits;
 use book_model::settings::limits_of;
 use ini_config::Settings;
+use keep_alive::Keepalive;
 use log_lines::notes::Note;
 use login_core::Login;
 use message_view::KeyWord;
@@ -36,6 +37,24 @@ pub trait Source: Drop {
     /// What both say now: settings within their bounds, and users.
     fn read(&self) -> Result<(Settings, Users), Unread>
         ensures { IfOk result (λ read. AreWithinBounds read.0) };
+
+    /// The pool is about to listen no more.
+    fn stops_listening(&self) {}
+}
+
+/// How connections are kept alive, where the settings say that they are.
+pub(crate) fn keepalive_of(settings: &Settings) -> Option<Keepalive>
+    ensures { result ≡ spec.keepalive_of settings.now }
+{
+    if !settings.tcp_keepalive() {
+        return None;
+    }
+    Some(Keepalive {
+        idle: settings.tcp_keepidle(),
+        interval: settings.tcp_keepintvl(),
+        count: settings.tcp_keepcnt(),
+        user_timeout: settings.tcp_user_timeout(),
+    })
 }
 
 /// Settings within their bounds, which are shared.
@@ -175,6 +194,16 @@ impl<R: Wait, F: Source> Keeper<R, F> {
     /// Whether the log is told such a note, by the settings of later clients.
     pub(crate) fn tells(&self, note: &Note<'_>) -> bool {
         self.kept.lock(&self.rt).settings.tells(note)
+    }
+
+    /// How a connection that is made now is kept alive, if it is.
+    pub(crate) fn keepalive(&self) -> Option<Keepalive> {
+        keepalive_of(&self.kept.lock(&self.rt).settings.settings)
+    }
+
+    /// The pool is about to listen no more.
+    pub(crate) fn stops_listening(&self) {
+        self.source.stops_listening();
     }
 
     /// Reads the files again, and keeps what they say for later clients; the limits of the settings, twice. Where a file has a fault

@@ -2,7 +2,9 @@
 #![tactic(auto)]
 
 pub mod keeping;
+pub mod listening;
 mod log;
+mod places;
 pub mod pool;
 pub mod runtime;
 mod surroundings;

@@ -1,10 +1,11 @@
 //! The pool's log, as its threads tell it. No contract says what a log is told; scripts/console.py shows it.
 
-use log_lines::events::{Event, Totals};
+use log_lines::events::{Event, Heard, Totals};
 use log_lines::notes::{Client, Note};
 use log_writer::limiter::Limiter;
 use log_writer::log::Log;
 use std::alloc::Global;
+use std::io;
 use std::rt::Clock;
 use std::sync::{Arc, Mutex, Wait};
 use std::time::Instant;
@@ -56,9 +57,28 @@ impl<R: Wait + Clock> PoolLog<R> {
         self.log.event(&self.rt, self.alloc, event);
     }
 
-    /// The pool listens at this address and port.
-    pub(crate) fn listening(&self, address: [u8; 4], port: u16) {
-        self.event(Event::Listening(address, port));
+    /// The pool listens at this address or folder, and port.
+    pub(crate) fn listening(&self, host: &[u8], port: u16) {
+        self.event(Event::Listening(host, port));
+    }
+
+    /// It doesn't listen there, because of this.
+    pub(crate) fn not_listening(&self, host: &[u8], port: u16, why: &io::Error) {
+        if let Ok(text) = format!(in self.alloc; "{why}") {
+            self.event(Event::NotListening(host, port, text.as_bytes()));
+        }
+    }
+
+    /// A server couldn't be reached, because of this.
+    pub(crate) fn unreached(&self, host: &[u8], port: u16, why: &io::Error) {
+        if let Ok(text) = format!(in self.alloc; "{why}") {
+            self.event(Event::Unreached(host, port, text.as_bytes()));
+        }
+    }
+
+    /// An idle link was closed, to what came from its server.
+    pub(crate) fn idle_closed(&self, number: u64, heard: Heard<'_>) {
+        self.event(Event::IdleClosed(number, heard));
     }
 
     /// The files were read again.

@@ -4,29 +4,35 @@ ghost use Rattle.ini_config.specs.Bounds.{AreWithinBounds};
 ghost use Rattle.desk_tallies.specs.declared.passes.TheConstants.{ALL_PARTS};
 ghost use Rattle.desk_tallies.specs.Shares.{names_of, of_each, parts_of};
 ghost use Rattle.pool_run.specs.Logins.{IsNewLogin};
+ghost use Rattle.server_end.specs.Moves.{IsWithin};
+ghost use Rattle.pool_run.specs.declared.pool.TheConstants.{HEARD};
 
 use crate::keeping::{Keeper, Source};
+use crate::listening::Listening;
 use crate::log::PoolLog;
+use crate::places::Places;
 use crate::runtime::PoolRuntime;
 use crate::surroundings::Surroundings;
 use book_model::settings::limits_of;
 use desk_tallies::ledgers::Ledgers;
 use desk_tallies::passes::Pass;
 use desk_tallies::tallies::Blanks;
+use frame_view::{Side, Step, next_frame};
 use ini_config::Settings;
 use key_source::KeySource;
 use link_desk::desk::LinkDesk;
-use link_start::close::close_link;
-use log_lines::events::Totals;
+use link_run::links::CleanLink;
+use link_start::close::{close_link, offer_terminate};
+use log_lines::events::{Heard, Totals};
 use log_lines::notes::Visit;
 use log_writer::log::begin;
 use login_core::Login;
 use message_view::KeyWord;
-use mio::net::TcpListener;
-use pool_desk::answers::Ticked;
+use pool_desk::answers::{HungUp, Ticked};
 use pool_desk::desk::Desk;
 use pool_serve::serve::serve;
 use relay_flow::buffers::Buffers;
+use server_end::{Moved, ServerEnd};
 use std::alloc::{AllocError, Global};
 use std::io::Write;
 use std::marker::Brand;
@@ -38,6 +44,7 @@ use std::{io, thread};
 use tcp_end::acceptor::{Acceptor, Peer, Turn};
 use tcp_end::connection::TcpEnd;
 use tcp_end::gate::{GatePoll, TcpGate};
+use tcp_end::idle::{IdlePoll, Minder};
 use user_file::Users;
 use worker_threads::Workers;
 
@@ -97,6 +104,7 @@ impl<R: PoolRuntime, F: Source, K: Ledgers> Pool<R, F, K> {
         users: Users,
         source: F,
         log: &Arc<PoolLog<R>>,
+        minder: Minder,
         blanks: Blanks,
     ) -> Result<Pool<R, F, K>, AllocError>
         requires bounds { AreWithinBounds settings }
@@ -112,6 +120,8 @@ impl<R: PoolRuntime, F: Source, K: Ledgers> Pool<R, F, K> {
             alloc,
             keeper: Arc::try_clone(&keeper)?,
             log: Arc::try_clone(log)?,
+            places: Mutex::new(Places::new(alloc)),
+            minder,
         };
         let desk = Desk::<R, Surroundings<R, F>, K>::new(rt, alloc, outside, limits, blanks)?;
         let free = Free {
@@ -198,21 +208,55 @@ impl<R: PoolRuntime, F: Source, K: Ledgers> Pool<R, F, K> {
         unreachable!()
     }
 
+    /// Closes the idle links of which the poll has told: their servers have hung up, or said something that nobody asked for. One that
+    /// isn't idle any more is left to who has it, which sees so too.
+    fn close_hung_up(&self, rt: &R, pass: &mut FreePass<K>, idle: &IdlePoll) {
+        let mut told = idle.told();
+        for _ in 0..u64::MAX {
+            let Some(number) = told.next() else {
+                return;
+            };
+            match self.desk.hung_up(&mut pass.pass, number) {
+                HungUp::Close(link) => self.close_idle(link),
+                HungUp::NotIdle | HungUp::Last => {}
+            }
+        }
+    }
+
+    /// Closes an idle link to which something came, and tells the log what.
+    fn close_idle(&self, link: CleanLink<TcpEnd>) {
+        let number = link.number();
+        let mut parts = link.lend();
+        let mut bytes = [0u8; HEARD];
+        let moved = ServerEnd::read_some(&mut parts.end, &mut bytes);
+        self.log.idle_closed(number, heard_in(moved, &bytes));
+        offer_terminate(&mut parts.end);
+    }
+
     /// The clock: each second the whole seconds since its first reading, until the last connection is done. In a second in which it
-    /// can't be read it tells nothing, and goes on with the next.
-    fn run_clock(&self, rt: &R) {
+    /// can't be read it tells nothing, and goes on with the next. While it waits for the next second, it minds the idle links.
+    fn run_clock(&self, rt: &R, idle: IdlePoll) {
         let Some(mut pass) = self.pass(rt) else {
             return;
         };
+        let mut idle = idle;
         let mut start = Instant::now(rt).ok();
+        let mut last = None;
         for _ in rt.forever() {
-            thread::sleep(rt, Duration::from_millis(1000));
+            if idle.wait(one_second()).is_err() {
+                thread::sleep(rt, one_second());
+            }
             if self.has_ended.load(Ordering::SeqCst) {
                 break;
             }
+            self.close_hung_up(rt, &mut pass, &idle);
             let Some(now) = second(rt, &mut start) else {
                 continue;
             };
+            if last == Some(now) {
+                continue;
+            }
+            last = Some(now);
             self.log.tell_unserved(now);
             if !self.tick(rt, &mut pass, now) {
                 break;
@@ -220,6 +264,7 @@ impl<R: PoolRuntime, F: Source, K: Ledgers> Pool<R, F, K> {
         }
         self.give_back(rt, pass);
     }
+
     /// The decisions of the book, and the links started; `None` where memory is refused, or no pass is left to ask through.
     fn counted(&self, rt: &R) -> Option<(u64, u64)> {
         let mut pass = self.pass(rt)?;
@@ -255,6 +300,29 @@ impl<R: PoolRuntime, F: Source, K: Ledgers> Pool<R, F, K> {
             left: made.left,
             others: made.others,
         })
+    }
+}
+
+/// As much as is read of what the server of an idle link says.
+const HEARD: usize = 512;
+
+/// The time from one second to the next.
+fn one_second() -> Duration {
+    Duration::from_millis(1000)
+}
+
+/// What a read of an idle link's end came to.
+fn heard_in(moved: Moved, bytes: &[u8; HEARD]) -> Heard<'_>
+    requires { IsWithin moved HEARD }
+{
+    let count = match moved {
+        Moved::Count(count) => count,
+        Moved::NotNow => return Heard::Spoke,
+        Moved::Ended | Moved::Fault => return Heard::Ended,
+    };
+    match next_frame(&bytes[..count], 0, HEARD as u32, Side::Server) {
+        Step::Whole(frame) if frame.kind == b'E' || frame.kind == b'N' => Heard::Said(frame.whole),
+        _ => Heard::Spoke,
     }
 }
 
@@ -352,10 +420,10 @@ fn accept_all<
     acceptor: &mut Acceptor,
     workers: &mut Workers<Connection<R, F, K>>,
     pool: &Arc<Pool<R, F, K>>,
-    seed: [u8; 32],
+    keys: KeySource,
     count: Option<u64>,
 ) {
-    let mut keys = KeySource::new(seed);
+    let mut keys = keys;
     let mut accepted: u64 = 0;
     for _ in rt.forever() {
         if count == Some(accepted) || pool.desk.is_shut() {
@@ -388,7 +456,7 @@ fn totals_of<R: PoolRuntime, F: Source, K: Ledgers>(
     }
 }
 
-/// Serves the connections of a listener until the last is done, as [`serve_on`] says, over these ledgers.
+/// Serves the connections of these listeners until the last is done, as [`serve_on`] says, over these ledgers.
 fn serve_all<
     R: PoolRuntime + 'static,
     F: Source + Send + Sync + 'static,
@@ -396,7 +464,7 @@ fn serve_all<
 >(
     rt: R,
     alloc: Global,
-    listener: TcpListener,
+    listening: Listening,
     settings: Settings,
     users: Users,
     source: F,
@@ -411,15 +479,18 @@ fn serve_all<
     requires all { parts_of blanks ≡ of_each ALL_PARTS }
 {
     let log = Arc::new(alloc, log)?;
-    log.listening(settings.listen_addr(), settings.listen_port());
-    let mut acceptor = Acceptor::new(&rt, alloc, listener)?;
+    let mut acceptor = listening.begin(&rt, alloc, &log)?;
     let mut workers = Workers::<Connection<R, F, K>>::new(alloc)?;
-    let pool = Pool::<R, F, K>::open(rt, alloc, settings, users, source, &log, blanks)?;
+    let keys = KeySource::new(seed, settings.peer_id());
+    let idle = IdlePoll::new(&rt, alloc)?;
+    let minder = idle.minder()?;
+    let pool = Pool::<R, F, K>::open(rt, alloc, settings, users, source, &log, minder, blanks)?;
     let pool = Arc::new(alloc, pool)?;
     let shared = Arc::try_clone(&pool)?;
-    let clock = thread::spawn(&rt, move || shared.run_clock(&rt))?;
-    accept_all(rt, &mut acceptor, &mut workers, &pool, seed, count);
+    let clock = thread::spawn(&rt, move || shared.run_clock(&rt, idle))?;
+    accept_all(rt, &mut acceptor, &mut workers, &pool, keys, count);
     // the port is free before the last client has gone
+    pool.keeper.stops_listening();
     drop(acceptor);
     workers.join_all(&rt);
     pool.has_ended.store(true, Ordering::SeqCst);
@@ -429,14 +500,17 @@ fn serve_all<
     Ok(totals)
 }
 
-/// Serves the connections of a listener, each on a thread of its own, over links of one desk: as many as `count` says, and then no
+/// Serves the connections of these listeners, each on a thread of its own, over links of one desk: as many as `count` says, and then no
 /// more, or until the console ends it. It returns when the last is done, with what was decided; without it where a worker's share is
-/// missing, or memory was refused then. A thread more tells the desk the seconds, and closes the links that are idle or old; and one
-/// writes the log to `out`. Nobody waits for that, but for a second at the end. A thread whose connection is done serves a later one
-/// ([`Workers`]).
+/// missing, or memory was refused then. A thread more tells the desk the seconds, and closes the links that are idle or old, and those
+/// that are idle and whose servers hang up; and one writes the log to `out`. Nobody waits for that, but for a second at the end. A thread
+/// whose connection is done serves a later one ([`Workers`]).
+///
+/// The clients' key words come of the seed and the settings' `peer_id`, which a RELOAD doesn't change.
 ///
 /// A connection for which there is no thread, no poll, no pass or no memory is closed, and the others go on. The error is that the
-/// system has no poll for the listener or no thread for the clock or the log, or that an allocation failed before the first connection.
+/// system has no poll for the listeners or for the idle links, or no thread for the clock or the log, or that an allocation failed
+/// before the first connection.
 pub fn serve_on<
     R: PoolRuntime + 'static,
     F: Source + Send + Sync + 'static,
@@ -444,7 +518,7 @@ pub fn serve_on<
 >(
     rt: R,
     alloc: Global,
-    listener: TcpListener,
+    listening: Listening,
     settings: Settings,
     users: Users,
     source: F,
@@ -458,7 +532,7 @@ pub fn serve_on<
     let served = serve_all::<R, F, Brand>(
         rt,
         alloc,
-        listener,
+        listening,
         settings,
         users,
         source,

@@ -1,24 +1,27 @@
-//! What a pool's desk reaches outside: servers over TCP, the files, the log.
+//! What a pool's desk reaches outside: servers, the files, the log.
 ghost use Rattle.std.specs.Prelude.{◌≡◌, IfOk};
 ghost use Rattle.message_view.specs.Messages.{cancel_request};
 
 use crate::keeping::{Keeper, Source, Unread};
 use crate::log::PoolLog;
+use crate::places::Places;
 use crate::runtime::PoolRuntime;
 use book_model::limits::Limits;
 use bytes::BytesMut;
-use ini_config::DbRow;
 use link_desk::answers::Strike;
 use log_lines::notes::{Client, Note};
 use message_view::put_cancel_request;
 use pool_desk::outside::Outside;
+use start_keys::StartKey;
 use std::alloc::{AllocError, Global};
 use std::io;
 use std::net::Net;
-use std::sync::Arc;
+use std::sync::{Arc, Mutex};
 use tcp_end::connection::TcpEnd;
 use tcp_end::dial::{CONNECT_SECONDS, dial};
+use tcp_end::idle::Minder;
 use tcp_end::message::send_alone;
+use tcp_end::places::{Place, places_of};
 
 /// As long as a cancel's connection may take, and as long as its server may then take for it.
 const CANCEL_SECONDS: u32 = 5;
@@ -32,25 +35,31 @@ fn request_of(alloc: Global, strike: &Strike) -> Result<BytesMut, AllocError>
     Ok(request)
 }
 
-/// Sends a cancel to its server, and waits until that has closed the connection.
-fn send<R: Net>(rt: &R, alloc: Global, strike: &Strike) -> io::Result<()> {
+/// Sends a cancel to this place, and waits until its server has closed the connection.
+fn send_to<R: Net>(rt: &R, alloc: Global, place: &Place, strike: &Strike) -> io::Result<()> {
     let request = request_of(alloc, strike)?;
-    send_alone(
-        rt,
-        alloc,
-        strike.host,
-        strike.port,
-        request.as_slice(),
-        CANCEL_SECONDS,
-    )
+    send_alone(rt, alloc, place, request.as_slice(), CANCEL_SECONDS)
 }
 
-/// Reaches a row's server at its address and port, the files where they are kept, and the log.
+/// Sends a cancel where its link leads; where that isn't remembered, to each place of its host.
+fn send<R: Net>(rt: &R, alloc: Global, known: Option<Place>, strike: &Strike) -> io::Result<()> {
+    if let Some(place) = known {
+        return send_to(rt, alloc, &place, strike);
+    }
+    for place in places_of(rt, alloc, strike.host.as_bytes(), strike.port)? {
+        let _ = send_to(rt, alloc, &place, strike);
+    }
+    Ok(())
+}
+
+/// Reaches a key's server at its host and port, the files where they are kept, and the log.
 pub struct Surroundings<R: PoolRuntime, F: Source> {
     pub(crate) rt: R,
     pub(crate) alloc: Global,
     pub(crate) keeper: Arc<Keeper<R, F>>,
     pub(crate) log: Arc<PoolLog<R>>,
+    pub(crate) places: Mutex<Places>,
+    pub(crate) minder: Minder,
 }
 
 impl<R: PoolRuntime, F: Source> Drop for Surroundings<R, F> {
@@ -60,6 +69,8 @@ impl<R: PoolRuntime, F: Source> Drop for Surroundings<R, F> {
             alloc: _,
             keeper: _,
             log: _,
+            places: _,
+            minder: _,
         } = self;
     }
 }
@@ -71,13 +82,44 @@ impl<R: PoolRuntime, F: Source> Outside for Surroundings<R, F> {
 
     ghost home = { unknown_home };
 
-    fn dial(&self, row: &DbRow) -> Option<TcpEnd> {
-        dial(&self.rt, self.alloc, row.host, row.port, CONNECT_SECONDS)
+    fn dial(&self, number: u64, key: &StartKey) -> Option<TcpEnd> {
+        let Some(host) = &key.host else {
+            return None;
+        };
+        let keepalive = self.keeper.keepalive();
+        match dial(
+            &self.rt,
+            self.alloc,
+            host.as_bytes(),
+            key.port,
+            number,
+            CONNECT_SECONDS,
+            &keepalive,
+        ) {
+            Ok((end, place)) => {
+                // one that isn't remembered is looked for again where it is to be cancelled
+                let _ = self.places.lock(&self.rt).put(number, place);
+                Some(end)
+            }
+            Err(error) => {
+                self.log.unreached(host.as_bytes(), key.port, &error);
+                None
+            }
+        }
+    }
+
+    fn mind(&self, number: u64, end: &mut TcpEnd) {
+        end.mind(&self.minder, number);
+    }
+
+    fn release(&self, end: &mut TcpEnd) {
+        end.release(&self.minder);
     }
 
     fn strike(&self, strike: &Strike) {
+        let known = self.places.lock(&self.rt).of(strike.link);
         // whether the server took it nobody is told: the link isn't lent again in any case
-        let _ = send(&self.rt, self.alloc, strike);
+        let _ = send(&self.rt, self.alloc, known, strike);
     }
 
     fn reload(&self) -> Option<(Arc<Limits>, Arc<Limits>)> {

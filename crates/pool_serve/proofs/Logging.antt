@@ -6,7 +6,7 @@ use Rattle.message_view.specs.declared.KeyWord.{KeyWord}
 use Rattle.message_view.specs.declared.refusal.Refusal.{Refusal}
 use Rattle.message_view.specs.declared.refusal.Refusal.TheVariants.{OutOfMemory}
 use Rattle.ini_config.specs.Bounds.{AreWithinBounds}
-use Rattle.ini_config.specs.Tables.{row_named}
+use Rattle.ini_config.specs.Tables.{row_for as row_of_database}
 use Rattle.ini_config.specs.declared.option_values.Settings.{Settings}
 use Rattle.user_file.specs.declared.user_table.UserRow.{UserRow}
 use Rattle.session_values.specs.State.{Address, CatalogueOf, StartKeyOf}
@@ -101,7 +101,7 @@ is_logged_in bounded keys rows passed v g x e l b =
     let k = keys (rows_of v.login) v.login.word p.0 [] (arc_value g.key) lawful p.1 in
     record {
       key = (k.client, k.dbname);
-      row = subst (λ (w : LoginView). IsOfRow (row_named (arc_value g.key).row w.settings.rows) (arc_value g.key)) (sym l) (rows (rows_of v.login) v.login.word p.0 [] (arc_value g.key) lawful p.1);
+      row = subst (λ (w : LoginView). IsOfRow (row_of_database (arc_value g.key).row w.settings.rows) (arc_value g.key)) (sym l) (rows (rows_of v.login) v.login.word p.0 [] (arc_value g.key) lawful p.1);
       settings = subst (λ (w : LoginView). AreWithinBounds w.settings) (sym l) b;
     }
 

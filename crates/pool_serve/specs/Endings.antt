@@ -1,7 +1,6 @@
 -- How a client's time at the desk ended: what pass and holder tell of it, and what the ends do.
 use Rattle.std.specs.Prelude.{◌≡◌, ◌⊎◌, true, Option, None, Some}
 use Rattle.std.specs.Arc.{arc_value}
-use Rattle.ini_config.specs.declared.database_rows.DbRow.{DbRow}
 use Rattle.user_file.specs.declared.user_table.UserRow.{UserRow}
 use Rattle.message_view.specs.declared.refusal.Refusal.{Refusal}
 use Rattle.link_laws.specs.Standing.{ClientFacts, Standing}
@@ -14,7 +13,6 @@ use Rattle.link_desk.specs.declared.calls.Call.TheVariants as call
 use Rattle.link_desk.specs.declared.calls.Holder.{Holder}
 use Rattle.link_desk.specs.Homes.{HomeOf, IsAtHome, IsDialled}
 use Rattle.link_desk.specs.Passes.{PassOf}
-use Rattle.ini_config.specs.Tables.{row_named}
 use Rattle.user_file.specs.Users.{user_named}
 use Rattle.relay_laws.specs.declared.Next.{Next}
 use Rattle.relay_laws.specs.declared.Next.TheVariants.{Refuse}
@@ -85,15 +83,13 @@ HasRelayed link g before after (ending.Relayed r) = IsRelayed link g before afte
 HasRelayed link g before after ending.Memory = after ≡ before
 HasRelayed link g before after other = ⊥
 
--- A start over an end of its row's server failed so: it is told that its turns were used up only after all of them.
+-- A start over an end of its key's server failed so: it is told that its turns were used up only after all of them.
 pub record IsUnstarted (home : HomeOf) (g : LoggedIn) (cause : StartCause) : Type 0 where
-  pub row : DbRow
   pub user : UserRow
-  pub row_is : Some row ≡ row_named (arc_value g.key).row g.login.settings.rows
   pub user_is : Some user ≡ user_named (arc_value g.key).user g.login.users
   pub began : Standing
   pub now : Standing
-  pub dialled : IsDialled home row began
+  pub dialled : IsDialled home (arc_value g.key) began
   pub is_cause : IsStartCause began now user.secret (arc_value g.key) cause
   pub tried : cause ≡ Turns → HasTried began user.secret (arc_value g.key) now TURNS
 

@@ -107,15 +107,19 @@ fn start_note<'a>(cause: &'a StartCause) -> Option<Unstarted<'a>> {
 }
 
 /// The server of a client's database.
-fn server_of(logged_in: &LoggedIn) -> Server {
+fn server_of(logged_in: &LoggedIn) -> Server<'_> {
+    let host = match &logged_in.key.host {
+        Some(host) => host.as_bytes(),
+        None => b"",
+    };
     Server {
-        host: logged_in.key.host.unwrap_or([0; 4]),
+        host,
         port: logged_in.key.port,
     }
 }
 
 /// How a client's time at the desk ended; nothing, where it went or was served.
-pub(crate) fn ending_note<'a>(logged_in: &LoggedIn, ending: &'a Ending) -> Option<Note<'a>> {
+pub(crate) fn ending_note<'a>(logged_in: &'a LoggedIn, ending: &'a Ending) -> Option<Note<'a>> {
     match ending {
         Ending::Left | Ending::Strange | Ending::Relayed(None) | Ending::Managed(None) => None,
         Ending::Refused(refusal)

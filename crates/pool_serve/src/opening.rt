@@ -1,6 +1,5 @@
 //! A new link for a client.
 ghost use Rattle.std.specs.Prelude.{◌≡◌, [], IfErr, IfOk, option_copied};
-ghost use Rattle.ini_config.specs.Tables.{row_named};
 ghost use Rattle.user_file.specs.Users.{user_named};
 ghost use Rattle.std.specs.Arc.{arc_value};
 ghost use Rattle.link_desk.specs.Homes.{IsAtHome};
@@ -11,7 +10,6 @@ ghost use Rattle.pool_serve.specs.Words.{word_of};
 use crate::TURNS;
 use crate::ending::Ending;
 use crate::logged_in::LoggedIn;
-use ini_config::DbRow;
 use link_desk::desk::LinkDesk;
 use link_run::links::CleanLink;
 use link_start::start::start_link;
@@ -20,13 +18,6 @@ use std::alloc::Global;
 use std::sync::Arc;
 use user_file::UserRow;
 
-/// The row of the database that a client asked for.
-fn row_of(logged_in: &LoggedIn) -> Option<&DbRow>
-    ensures { option_copied result ≡ row_named (arc_value logged_in.now.key).row logged_in.now.login.settings.rows }
-{
-    logged_in.login.settings().row(logged_in.key.row.as_slice())
-}
-
 /// The row of a client's user.
 fn user_of(logged_in: &LoggedIn) -> Option<&UserRow>
     ensures { option_copied result ≡ user_named (arc_value logged_in.now.key).user logged_in.now.login.users }
@@ -34,7 +25,7 @@ fn user_of(logged_in: &LoggedIn) -> Option<&UserRow>
     logged_in.login.users().row(logged_in.key.user.as_slice())
 }
 
-/// Starts a link of this number and second of birth for a client, over a new end of its row's server; or why it isn't.
+/// Starts a link of this number and second of birth for a client, over a new end of its key's server; or why it isn't.
 pub(crate) fn open_link<D: LinkDesk, G: Gate<D::End>>(
     alloc: Global,
     desk: &D,
@@ -51,16 +42,13 @@ pub(crate) fn open_link<D: LinkDesk, G: Gate<D::End>>(
     ensures why { IfErr result (λ e. IsUnopened D.home logged_in.now e) }
     ensures told { LetsIn D.home logged_in.now.login.users → IfErr result (λ e. MayEnd [] (owed D.home.catalogue logged_in.now [] []) (word_of e)) }
 {
-    let Some(row) = row_of(logged_in) else {
-        return Err(Ending::Unreached);
-    };
     let Some(user) = user_of(logged_in) else {
         return Err(Ending::Unreached);
     };
     let Ok(key) = Arc::try_clone(&logged_in.key) else {
         return Err(Ending::Memory);
     };
-    let Some(mut end) = desk.dial(row) else {
+    let Some(mut end) = desk.dial(number, &logged_in.key) else {
         return Err(Ending::Unreached);
     };
     gate.watch(&mut end);

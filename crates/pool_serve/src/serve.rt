@@ -78,8 +78,8 @@ fn pass_on<D: LinkDesk>(desk: &D, pass: &mut D::Pass, client: KeyView) -> Cancel
     ensures holder { D.holder pass.new ≡ cancelled_by client (D.holder pass.old) result }
 {
     let cancelled = desk.cancel(pass, client);
-    match cancelled {
-        Cancelled::Strike(_) => desk.strike(pass),
+    match &cancelled {
+        Cancelled::Strike(strike) => desk.strike(pass, strike),
         Cancelled::Nobody | Cancelled::Last => {}
     }
     cancelled

@@ -2,7 +2,6 @@
 ghost use Rattle.std.specs.Prelude.{◌≡◌, true};
 ghost use Rattle.server_end.specs.Moves.{ClientReads, ClientWrites, IsWithin, moved};
 
-use ini_config::DbRow;
 use memory_dial::{MemoryDial, Naming};
 use memory_ends::failing_end::FailingEnd;
 use memory_ends::memory_server::MemoryServer;
@@ -10,6 +9,7 @@ use paced_client::PacedClient;
 use pool_desk::answers::Strike;
 use pool_desk::outside::Outside;
 use server_end::{ClientEnd, Moved, ServerEnd};
+use start_keys::StartKey;
 use std::sync::atomic::{AtomicBool, Ordering};
 
 /// A server in memory that fails from one of its calls on, which is noted then.
@@ -79,8 +79,8 @@ impl<'a, N: Naming> Outside for FailingDial<'a, N> {
 
     ghost home = { open_home N.catalogue };
 
-    fn dial(&self, row: &DbRow) -> Option<FailingServer<'a>> {
-        let server = self.dialer.dial(row)?;
+    fn dial(&self, number: u64, key: &StartKey) -> Option<FailingServer<'a>> {
+        let server = self.dialer.dial(number, key)?;
         Some(FailingServer {
             end: FailingEnd::new(server, self.next_call().max(1)),
             has_failed: self.has_failed,

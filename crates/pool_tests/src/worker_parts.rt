@@ -6,6 +6,7 @@ ghost use Rattle.login_core.specs.Dialogue.{AtFirst};
 ghost use Rattle.login_core.specs.Logins.{AwaitsPacket};
 ghost use Rattle.pool_tests.specs.Words.{key_word};
 
+use arrayvec::ArrayString;
 use book_model::limits::{Limits, MOST_CLIENTS};
 use book_model::rows::{Row, Rows};
 use desk_tallies::ledgers::Ledgers;
@@ -22,7 +23,7 @@ use relay_flow::buffers::Buffers;
 use server_end::ClientEnd;
 use server_end::gate::Gate;
 use session_values::text::Text;
-use start_keys::StartKey;
+use start_keys::{Host, StartKey};
 use std::alloc::{AllocError, Global};
 use std::rt::Clock;
 use std::sync::{Arc, Wait};
@@ -40,11 +41,16 @@ pub const CUT: usize = 8_192;
 pub const WELCOME: usize = 260;
 
 /// Where the log has clients come from.
-const VISIT: Visit = Visit {
-    host: [127, 0, 0, 1],
-    port: 40_112,
-    since: None,
-};
+fn visit() -> Visit {
+    Visit {
+        host: match ArrayString::from("127.0.0.1") {
+            Ok(host) => host,
+            Err(_) => ArrayString::new(),
+        },
+        port: 40_112,
+        since: None,
+    }
+}
 
 /// The key word of the client with this number.
 pub fn word(number: u32) -> KeyWord
@@ -93,7 +99,7 @@ pub fn login(alloc: Global, number: u32) -> Result<Login, AllocError>
 fn rows(alloc: Global, size: u32) -> Result<Rows, AllocError> {
     let shop = Row {
         name: Text::from_slice(alloc, b"shop")?,
-        host: [127, 0, 0, 1],
+        host: Host::local(),
         port: 5432,
         dbname: Text::from_slice(alloc, b"shop")?,
         size,
@@ -121,7 +127,7 @@ pub fn limits(alloc: Global, clients: u32, pool: u32) -> Result<Arc<Limits>, All
 pub fn key(alloc: Global) -> Result<Arc<StartKey>, AllocError> {
     let key = StartKey {
         row: Text::from_slice(alloc, b"shop")?,
-        host: Some([127, 0, 0, 1]),
+        host: Some(Host::local()),
         port: 5432,
         dbname: Text::from_slice(alloc, b"shop")?,
         user: Text::from_slice(alloc, b"ann")?,
@@ -167,7 +173,7 @@ pub fn serve_in<C: ClientEnd, R: Wait + Clock, S: Outside, T: Gate<S::End> + Dro
     if !is_free(&pass) {
         return None;
     }
-    Some(serve(alloc, desk, pass, client, login, word, gate, VISIT, kept))
+    Some(serve(alloc, desk, pass, client, login, word, gate, visit(), kept))
 }
 
 /// The same of the client with this number.

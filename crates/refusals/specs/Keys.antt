@@ -4,4 +4,4 @@ use Rattle.session_values.specs.State.{StartKeyOf}
 
 -- that of ann on shop
 abbrev pub anns_key : StartKeyOf
-anns_key = record { row = codes "shop"; host = Some (127 ∷ 0 ∷ 0 ∷ 1 ∷ []); port = 5432; dbname = codes "shop"; user = codes "ann"; parameters = [] }
+anns_key = record { row = codes "shop"; host = Some (codes "127.0.0.1"); port = 5432; dbname = codes "shop"; user = codes "ann"; parameters = [] }

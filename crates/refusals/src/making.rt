@@ -12,7 +12,7 @@ use book_model::rows::{Row, Rows};
 use memory_ends::memory_server::{MemoryServer, ServerAuth};
 use memory_start_laws::memory_servers_can_start;
 use session_values::text::Text;
-use start_keys::StartKey;
+use start_keys::{Host, StartKey};
 use std::alloc::{AllocError, Global};
 use std::sync::Arc;
 
@@ -27,7 +27,7 @@ fn key_of_ann(alloc: Global) -> Result<StartKey, AllocError>
 {
     Ok(StartKey {
         row: Text::from_slice(alloc, b"shop")?,
-        host: Some([127, 0, 0, 1]),
+        host: Some(Host::local()),
         port: 5432,
         dbname: Text::from_slice(alloc, b"shop")?,
         user: Text::from_slice(alloc, b"ann")?,
@@ -68,7 +68,7 @@ pub fn server(alloc: Global) -> Result<MemoryServer, AllocError>
 fn rows(alloc: Global) -> Result<Rows, AllocError> {
     let shop = Row {
         name: Text::from_slice(alloc, b"shop")?,
-        host: [127, 0, 0, 1],
+        host: Host::local(),
         port: 5432,
         dbname: Text::from_slice(alloc, b"shop")?,
         size: 2,

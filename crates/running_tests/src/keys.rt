@@ -4,8 +4,8 @@ use message_view::KeyWord;
 use std::test::Fail;
 
 /// The word at this place, counted from 0.
-fn word_at(seed: [u8; 32], place: usize) -> KeyWord {
-    let mut source = KeySource::new(seed);
+fn word_at(seed: [u8; 32], peer: u32, place: usize) -> KeyWord {
+    let mut source = KeySource::new(seed, peer);
     for _ in 0..place {
         source.next();
     }
@@ -20,7 +20,7 @@ fn words_of_a_seed_of_zeros(rt: HostRuntime) -> Result<(), Fail> {
         (5, 0x0665_eeb2, 0xbee7_079f, [0x7a, 0x38, 0x51, 0x55]),
     ];
     for (place, pid, secret, salt) in words {
-        assert!(rt; word_at([0; 32], place) == (KeyWord { pid, secret, salt }));
+        assert!(rt; word_at([0; 32], 0, place) == (KeyWord { pid, secret, salt }));
     }
     Ok(())
 }
@@ -36,7 +36,23 @@ fn words_of_a_seed_of_counted_bytes(rt: HostRuntime) -> Result<(), Fail> {
         (5, 0x0c41_5b48, 0x3142_b818, [0xd1, 0xa6, 0xe6, 0xad]),
     ];
     for (place, pid, secret, salt) in words {
-        assert!(rt; word_at(seed, place) == (KeyWord { pid, secret, salt }));
+        assert!(rt; word_at(seed, 0, place) == (KeyWord { pid, secret, salt }));
+    }
+    Ok(())
+}
+
+// Its number is the first byte of the pid; all else is as without it.
+#[test]
+fn words_of_a_peer(rt: HostRuntime) -> Result<(), Fail> {
+    for (peer, place, pid) in [
+        (7, 0, 0x07e0_b876),
+        (127, 1, 0x7fbd_8653),
+        (1, 5, 0x0165_eeb2),
+    ] {
+        let alone = word_at([0; 32], 0, place);
+        let word = word_at([0; 32], peer, place);
+        assert!(rt; word.pid == pid);
+        assert!(rt; word.secret == alone.secret && word.salt == alone.salt);
     }
     Ok(())
 }

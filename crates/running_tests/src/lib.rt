@@ -9,7 +9,11 @@ mod console;
 #[cfg(test)]
 mod gates;
 #[cfg(test)]
+mod idle_links;
+#[cfg(test)]
 mod keys;
+#[cfg(test)]
+mod listeners;
 #[cfg(test)]
 mod logs;
 #[cfg(test)]

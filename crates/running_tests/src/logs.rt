@@ -76,7 +76,7 @@ fn lines_are_written_in_order(rt: HostRuntime) -> Result<(), Fail> {
         given: Arc::try_clone(&given)?,
     };
     let (log, thread) = begin(rt, rt.alloc(), out)?;
-    log.event(&rt, rt.alloc(), Event::Listening([127, 0, 0, 1], 6432));
+    log.event(&rt, rt.alloc(), Event::Listening(b"127.0.0.1", 6432));
     log.event(&rt, rt.alloc(), Event::Reloaded);
     log.push(&rt, vec![in rt.alloc(); b'x'; 1_001]?);
     log.event(&rt, rt.alloc(), Event::Wanting(2));

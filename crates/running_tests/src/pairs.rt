@@ -7,7 +7,7 @@ use tcp_end::connection::TcpEnd;
 use tcp_end::dial::{CONNECT_SECONDS, dial};
 
 /// This machine, as an address.
-pub const HERE: [u8; 4] = [127, 0, 0, 1];
+pub const HERE: &[u8] = b"127.0.0.1";
 
 /// A listener at a port that was free, and the port.
 pub fn listen<R: Net<Listener = net::TcpListener, Stream = net::TcpStream>>(
@@ -21,9 +21,7 @@ pub fn listen<R: Net<Listener = net::TcpListener, Stream = net::TcpStream>>(
 /// An end that was dialled, and the one that was accepted for it.
 pub fn pair(rt: &HostRuntime) -> Result<(TcpEnd, TcpEnd), Fail> {
     let (listener, port) = listen(rt)?;
-    let Some(near) = dial(rt, rt.alloc(), HERE, port, CONNECT_SECONDS) else {
-        return Err("no connection")?;
-    };
+    let (near, _) = dial(rt, rt.alloc(), HERE, port, 0, CONNECT_SECONDS, &None)?;
     let (stream, _) = listener.accept()?;
     Ok((near, TcpEnd::from_stream(rt.alloc(), stream)?))
 }

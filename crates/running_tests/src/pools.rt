@@ -2,11 +2,12 @@
 ghost use Rattle.std.specs.Prelude.{IfSome};
 ghost use Rattle.ini_config.specs.Bounds.{AreWithinBounds};
 
-use crate::pairs::listen;
+use crate::pairs::{HERE, listen};
 use ini_config::laws::read_settings_are_within_bounds;
 use ini_config::{Settings, read_settings};
 use log_lines::events::Totals;
 use pool_run::keeping::{Source, Unread};
+use pool_run::listening::Listening;
 use pool_run::pool::serve_on;
 use session_catalogue::Catalogue;
 use std::alloc::Global;
@@ -20,6 +21,7 @@ use std::thread::{JoinHandle, Threads};
 use std::time::Duration;
 use std::{io, net, thread};
 use stub_server::server::stub_on;
+use tcp_end::acceptor::Listener;
 use user_file::{Users, read_users};
 
 /// AuthenticationOk, nine reports, BackendKeyData and ReadyForQuery.
@@ -95,6 +97,16 @@ impl Drop for Elsewhere {
     }
 }
 
+/// Files that lead to the same server, of which nothing is asked.
+pub fn nowhere_else(alloc: Global, port: u16) -> Elsewhere {
+    Elsewhere {
+        alloc,
+        port,
+        options: "",
+        was_asked: AtomicBool::new(false),
+    }
+}
+
 impl Source for Elsewhere {
     fn read(&self) -> Result<(Settings, Users), Unread> {
         if !self.was_asked.swap(true, Ordering::SeqCst) {
@@ -110,8 +122,45 @@ impl Source for Elsewhere {
     }
 }
 
-/// A pool under these options, over servers at this port, and then over those of the source; and its own port. It ends with the last of
-/// so many clients, or at SHUTDOWN; without a total where its settings or users can't be read.
+/// A pool under these options, over servers at this port, and then over those of the source, which writes its log there; and its own port.
+/// It ends with the last of so many clients, or at SHUTDOWN; without a total where its settings or users can't be read.
+pub fn start_pool_with_log<
+    R: Threads
+        + Wait
+        + Clock
+        + Net<Listener = net::TcpListener, Stream = net::TcpStream>
+        + Copy
+        + Send
+        + Sync
+        + 'static,
+    W: Write + Drop + Send + 'static,
+>(
+    rt: R,
+    alloc: Global,
+    server: u16,
+    options: &'static str,
+    source: Elsewhere,
+    log: W,
+    count: Option<u64>,
+) -> Result<(JoinHandle<Option<Totals>>, u16), Fail> {
+    let (listener, port) = listen(&rt)?;
+    let pool = thread::spawn(&rt, move || -> Option<Totals> {
+        let settings = settings(alloc, server, options)?;
+        let users = users(alloc)?;
+        let mut listening = Listening::new(alloc);
+        listening
+            .add(alloc, Listener::Tcp(listener), &settings, HERE, port)
+            .ok()?;
+        serve_on(
+            rt, alloc, listening, settings, users, source, log, [0; 32], count,
+        )
+        .ok()
+        .flatten()
+    })?;
+    Ok((pool, port))
+}
+
+/// The same without a log.
 pub fn start_pool_of<
     R: Threads
         + Wait
@@ -129,18 +178,7 @@ pub fn start_pool_of<
     source: Elsewhere,
     count: Option<u64>,
 ) -> Result<(JoinHandle<Option<Totals>>, u16), Fail> {
-    let (listener, port) = listen(&rt)?;
-    let pool = thread::spawn(&rt, move || -> Option<Totals> {
-        let settings = settings(alloc, server, options)?;
-        let users = users(alloc)?;
-        let log = io::sink();
-        serve_on(
-            rt, alloc, listener, settings, users, source, log, [0; 32], count,
-        )
-        .ok()
-        .flatten()
-    })?;
-    Ok((pool, port))
+    start_pool_with_log(rt, alloc, server, options, source, io::sink(), count)
 }
 
 /// A pool for so many clients under these options, over servers at this port; and its own port. It ends with the last client.
@@ -160,13 +198,14 @@ pub fn start_pool<
     options: &'static str,
     count: u64,
 ) -> Result<(JoinHandle<Option<Totals>>, u16), Fail> {
-    let source = Elsewhere {
+    start_pool_of(
+        rt,
         alloc,
-        port: server,
-        options: "",
-        was_asked: AtomicBool::new(false),
-    };
-    start_pool_of(rt, alloc, server, options, source, Some(count))
+        server,
+        options,
+        nowhere_else(alloc, server),
+        Some(count),
+    )
 }
 
 /// A client that has sent this. It reads for at most half a minute.

@@ -204,9 +204,9 @@ fn a_fault_is_final(rt: HostRuntime) -> Result<(), Fail> {
 #[test]
 fn nobody_listens(rt: HostRuntime) -> Result<(), Fail> {
     let (listener, port) = listen(&rt)?;
-    assert!(rt; dial(&rt, rt.alloc(), HERE, port, 15).is_some());
-    assert!(rt; dial(&rt, rt.alloc(), HERE, port, 0).is_none());
+    assert!(rt; dial(&rt, rt.alloc(), HERE, port, 0, 15, &None).is_ok());
+    assert!(rt; dial(&rt, rt.alloc(), HERE, port, 0, 0, &None).is_err());
     drop(listener);
-    assert!(rt; dial(&rt, rt.alloc(), HERE, port, 15).is_none());
+    assert!(rt; dial(&rt, rt.alloc(), HERE, port, 0, 15, &None).is_err());
     Ok(())
 }

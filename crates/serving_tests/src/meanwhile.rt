@@ -97,8 +97,8 @@ fn cancels<R: Wait + Clock, K: Ledgers>(desk: &TestDesk<R, K>, pass: &mut Pass<K
         pid: number,
         secret: number,
     };
-    match desk.cancel(pass, client) {
-        Cancelled::Strike(_) => desk.strike(pass),
+    match &desk.cancel(pass, client) {
+        Cancelled::Strike(strike) => desk.strike(pass, strike),
         Cancelled::Nobody | Cancelled::Last => {}
     }
 }

@@ -4,7 +4,6 @@ ghost use Rattle.link_laws.specs.Standing.{Moves};
 ghost use Rattle.serving_tests.specs.Ends.{unfollowed};
 ghost use Rattle.server_end.specs.Moves.{CountsRead, CountsWrite, IsWithin, moved};
 
-use ini_config::DbRow;
 use memory_ends::memory_server::{MemoryServer, ServerAuth};
 use pool_desk::answers::Strike;
 use pool_desk::outside::Outside;
@@ -12,6 +11,7 @@ use pool_tests::worker_parts::{CUT, WELCOME, word};
 use server_end::transcript::Transcript;
 use server_end::{Moved, ServerEnd};
 use session_catalogue::Catalogue;
+use start_keys::StartKey;
 use std::alloc::{AllocError, Global};
 use std::sync::Arc;
 use std::sync::atomic::{AtomicU64, Ordering};
@@ -210,7 +210,7 @@ impl Outside for Servers {
 
     ghost home = { unknown_home };
 
-    fn dial(&self, _row: &DbRow) -> Option<TestServer> {
+    fn dial(&self, _number: u64, _key: &StartKey) -> Option<TestServer> {
         if let Behind::Nobody = self.behind {
             return None;
         }

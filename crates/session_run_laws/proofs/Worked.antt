@@ -16,7 +16,7 @@ abbrev catalogue : CatalogueOf
 catalogue = record { version = codes "16.0"; databases = codes "shop" ∷ []; tables = record { name = codes "city"; columns = codes "name" ∷ codes "country" ∷ []; rows = (Some (codes "Bern") ∷ Some (codes "CH") ∷ []) ∷ (Some (codes "Oslo") ∷ Some (codes "NO") ∷ []) ∷ (Some (codes "Nuuk") ∷ None ∷ []) ∷ [] } ∷ [] }
 
 abbrev key : StartKeyOf
-key = record { row = codes "shop"; host = Some (127 ∷ 0 ∷ 0 ∷ 1 ∷ []); port = 5432; dbname = codes "shop"; user = codes "ann"; parameters = [] }
+key = record { row = codes "shop"; host = Some (codes "127.0.0.1"); port = 5432; dbname = codes "shop"; user = codes "ann"; parameters = [] }
 
 pub start : service catalogue key 1 2 [] ([]) ≡ (83 ∷ 0 ∷ 0 ∷ 0 ∷ 22 ∷ 97 ∷ 112 ∷ 112 ∷ 108 ∷ 105 ∷ 99 ∷ 97 ∷ 116 ∷ 105 ∷ 111 ∷ 110 ∷ 95 ∷ 110 ∷ 97 ∷ 109 ∷ 101 ∷ 0 ∷ 0 ∷ 83 ∷ 0 ∷ 0 ∷ 0 ∷ 25 ∷ 99 ∷ 108 ∷ 105 ∷ 101 ∷ 110 ∷ 116 ∷ 95 ∷ 101 ∷ 110 ∷ 99 ∷ 111 ∷ 100 ∷ 105 ∷ 110 ∷ 103 ∷ 0 ∷ 85 ∷ 84 ∷ 70 ∷ 56 ∷ 0 ∷ 83 ∷ 0 ∷ 0 ∷ 0 ∷ 23 ∷ 68 ∷ 97 ∷ 116 ∷ 101 ∷ 83 ∷ 116 ∷ 121 ∷ 108 ∷ 101 ∷ 0 ∷ 73 ∷ 83 ∷ 79 ∷ 44 ∷ 32 ∷ 77 ∷ 68 ∷ 89 ∷ 0 ∷ 83 ∷ 0 ∷ 0 ∷ 0 ∷ 25 ∷ 105 ∷ 110 ∷ 116 ∷ 101 ∷ 103 ∷ 101 ∷ 114 ∷ 95 ∷ 100 ∷ 97 ∷ 116 ∷ 101 ∷ 116 ∷ 105 ∷ 109 ∷ 101 ∷ 115 ∷ 0 ∷ 111 ∷ 110 ∷ 0 ∷ 83 ∷ 0 ∷ 0 ∷ 0 ∷ 27 ∷ 73 ∷ 110 ∷ 116 ∷ 101 ∷ 114 ∷ 118 ∷ 97 ∷ 108 ∷ 83 ∷ 116 ∷ 121 ∷ 108 ∷ 101 ∷ 0 ∷ 112 ∷ 111 ∷ 115 ∷ 116 ∷ 103 ∷ 114 ∷ 101 ∷ 115 ∷ 0 ∷ 83 ∷ 0 ∷ 0 ∷ 0 ∷ 25 ∷ 115 ∷ 101 ∷ 114 ∷ 118 ∷ 101 ∷ 114 ∷ 95 ∷ 101 ∷ 110 ∷ 99 ∷ 111 ∷ 100 ∷ 105 ∷ 110 ∷ 103 ∷ 0 ∷ 85 ∷ 84 ∷ 70 ∷ 56 ∷ 0 ∷ 83 ∷ 0 ∷ 0 ∷ 0 ∷ 24 ∷ 115 ∷ 101 ∷ 114 ∷ 118 ∷ 101 ∷ 114 ∷ 95 ∷ 118 ∷ 101 ∷ 114 ∷ 115 ∷ 105 ∷ 111 ∷ 110 ∷ 0 ∷ 49 ∷ 54 ∷ 46 ∷ 48 ∷ 0 ∷ 83 ∷ 0 ∷ 0 ∷ 0 ∷ 35 ∷ 115 ∷ 116 ∷ 97 ∷ 110 ∷ 100 ∷ 97 ∷ 114 ∷ 100 ∷ 95 ∷ 99 ∷ 111 ∷ 110 ∷ 102 ∷ 111 ∷ 114 ∷ 109 ∷ 105 ∷ 110 ∷ 103 ∷ 95 ∷ 115 ∷ 116 ∷ 114 ∷ 105 ∷ 110 ∷ 103 ∷ 115 ∷ 0 ∷ 111 ∷ 110 ∷ 0 ∷ 83 ∷ 0 ∷ 0 ∷ 0 ∷ 17 ∷ 84 ∷ 105 ∷ 109 ∷ 101 ∷ 90 ∷ 111 ∷ 110 ∷ 101 ∷ 0 ∷ 85 ∷ 84 ∷ 67 ∷ 0 ∷ 75 ∷ 0 ∷ 0 ∷ 0 ∷ 12 ∷ 0 ∷ 0 ∷ 0 ∷ 1 ∷ 0 ∷ 0 ∷ 0 ∷ 2 ∷ 90 ∷ 0 ∷ 0 ∷ 0 ∷ 5 ∷ 73 ∷ [])
 unfolding digits cut_after text_at int16_at int32_at value_at list_at query_of parse_of bind_of target_of execute_of literal_length unquoted tokens_after read ends pass take_value either with_item items definitions columns_at at_most_64 take_columns take_operands block assignment set_name set reset show discard definition_list create drop_table value_list insert where_of end_of from_of select of_tokens less_semicolon phrase statement accepted_of date_styles started_over fresh step run_frames service

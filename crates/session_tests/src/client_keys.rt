@@ -3,7 +3,7 @@ use crate::key_parts::{has_parameters, is_at, is_of};
 use ini_config::read_settings;
 use message_view::StartupView;
 use param_track::{StartFault, start_key};
-use start_keys::StartKey;
+use start_keys::{Host, StartKey};
 use std::alloc::Global;
 use std::test::Fail;
 
@@ -28,7 +28,7 @@ fn fault(alloc: Global, text: &[u8], body: &[u8]) -> Result<Option<StartFault>, 
 fn of_a_row(rt: HostRuntime) -> Result<(), Fail> {
     let key = key(rt.alloc(), SETTINGS, b"user\0ann\0database\0news\0\0")??;
     assert!(rt; is_of(&key, b"news", b"press", b"ann"));
-    assert!(rt; is_at(&key, Some([10, 1, 2, 3]), 6000));
+    assert!(rt; is_at(&key, Host::new(b"10.1.2.3"), 6000));
     assert!(rt; has_parameters(&key, &[]));
     Ok(())
 }
@@ -38,6 +38,27 @@ fn of_no_row(rt: HostRuntime) -> Result<(), Fail> {
     let key = key(rt.alloc(), SETTINGS, b"user\0ann\0database\0\0\0")??;
     assert!(rt; is_of(&key, b"ann", b"", b"ann"));
     assert!(rt; is_at(&key, None, 0));
+    Ok(())
+}
+
+// `*` serves what no other row names, on a server's database of the same name or of its own dbname (PgBouncer manual, "Section [databases]").
+#[test]
+fn of_the_row_of_a_star(rt: HostRuntime) -> Result<(), Fail> {
+    let rows: [(&[u8], &[u8]); 2] = [
+        (
+            b"[databases]\n* = host=db port=6000\nshop = host=127.0.0.1\n",
+            b"news",
+        ),
+        (
+            b"[databases]\n* = host=db port=6000 dbname=press\n",
+            b"press",
+        ),
+    ];
+    for (text, dbname) in rows {
+        let key = key(rt.alloc(), text, b"user\0ann\0database\0news\0\0")??;
+        assert!(rt; is_of(&key, b"news", dbname, b"ann"));
+        assert!(rt; is_at(&key, Host::new(b"db"), 6000));
+    }
     Ok(())
 }
 

@@ -1,5 +1,5 @@
 //! What a key says. Each test asks for all of it at once, since each assert over a key that is alive costs its proof.
-use start_keys::StartKey;
+use start_keys::{Host, StartKey};
 
 /// Whether the key is of this database row, of this database there, and of this user.
 pub fn is_of(key: &StartKey, row: &[u8], dbname: &[u8], user: &[u8]) -> bool {
@@ -7,7 +7,7 @@ pub fn is_of(key: &StartKey, row: &[u8], dbname: &[u8], user: &[u8]) -> bool {
 }
 
 /// Whether its server is at this address and port.
-pub fn is_at(key: &StartKey, host: Option<[u8; 4]>, port: u16) -> bool {
+pub fn is_at(key: &StartKey, host: Option<Host>, port: u16) -> bool {
     key.host == host && key.port == port
 }
 

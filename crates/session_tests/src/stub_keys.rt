@@ -3,7 +3,7 @@ use crate::key_parts::{has_parameters, is_at, is_of};
 use message_view::StartupView;
 use session_values::cause::Cause;
 use session_values::stop::Stop;
-use start_keys::{StartKey, stub_key};
+use start_keys::{Host, StartKey, stub_key};
 use std::alloc::Global;
 use std::hash::{DefaultHasher, Hash, Hasher};
 use std::test::Fail;
@@ -38,7 +38,7 @@ fn of_a_message(rt: HostRuntime) -> Result<(), Fail> {
 fn where_the_server_is(rt: HostRuntime) -> Result<(), Fail> {
     let key = key(rt.alloc(), b"user\0ann\0\0")??;
     assert!(rt; is_of(&key, b"ann", b"ann", b"ann"));
-    assert!(rt; is_at(&key, Some([127, 0, 0, 1]), 0));
+    assert!(rt; is_at(&key, Some(Host::local()), 0));
     Ok(())
 }
 

@@ -1,5 +1,5 @@
 -- The start key by which a stand-in server starts a session of its own.
-use Rattle.std.specs.Prelude.{List, [], ◌∷◌, length, fold, Result, Ok, Err, Some, ◌==◌, if◌then◌else◌}
+use Rattle.std.specs.Prelude.{codes, List, [], ◌∷◌, length, fold, Result, Ok, Err, Some, ◌==◌, if◌then◌else◌}
 use Rattle.session_values.specs.declared.cause.Cause.{Cause}
 use Rattle.session_values.specs.declared.cause.Cause.TheVariants.{MalformedMessage}
 use Rattle.session_values.specs.Lawful.{is_identity}
@@ -15,7 +15,7 @@ stub_parameters pairs = fold put_parameter [] pairs
 
 -- the row and the database are what is asked for, at this host
 abbrev pub stub : Text → Text → List Pair → StartKeyOf
-stub database user parameters = record { row = database; host = Some (127 ∷ 0 ∷ 0 ∷ 1 ∷ []); port = 0; dbname = database; user = user; parameters = parameters }
+stub database user parameters = record { row = database; host = Some (codes "127.0.0.1"); port = 0; dbname = database; user = user; parameters = parameters }
 
 -- refused without a user
 abbrev pub stub_key : List Pair → Result StartKeyOf Cause

@@ -5,6 +5,7 @@ ghost use Rattle.std.proofs.Common.{ap};
 ghost use Rattle.start_keys.specs.Keys.{key_hashed, same_host, same_key, same_pairs};
 ghost use Rattle.start_keys.specs.SameKeys.{same_keys-one};
 
+use server_host::Host;
 use session_values::text::Text;
 use std::hash::{Hash, Hasher};
 use std::marker::Model;
@@ -18,7 +19,7 @@ pub type StartParameter = (Text, Text);
 /// none, `port` 0 and `dbname` empty.
 pub struct StartKey {
     pub row: Text,
-    pub host: Option<[u8; 4]>,
+    pub host: Option<Host>,
     pub port: u16,
     pub dbname: Text,
     pub user: Text,
@@ -53,13 +54,13 @@ impl Model for StartKey {
     } };
 }
 
-/// Whether both are none, or the same four bytes.
-fn is_same_host(left: &Option<[u8; 4]>, right: &Option<[u8; 4]>) -> bool
+/// Whether both are none, or the same text.
+fn is_same_host(left: &Option<Host>, right: &Option<Host>) -> bool
     ensures { result ≡ same_host left.now right.now }
 {
     match (left, right) {
         (None, None) => true,
-        (Some(left), Some(right)) => left.as_slice() == right.as_slice(),
+        (Some(left), Some(right)) => left.is(right.as_bytes()),
         _ => false,
     }
 }

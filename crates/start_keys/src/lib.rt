@@ -6,5 +6,6 @@ pub mod pairs;
 pub mod stub;
 
 pub use key::{StartKey, StartParameter};
+pub use server_host::Host;
 pub use session_values::{cause, text};
 pub use stub::stub_key;

@@ -6,6 +6,7 @@ ghost use Rattle.start_keys.specs.StubKeys as spec;
 
 use crate::key::{StartKey, StartParameter};
 use crate::pairs::{database_of, is_identity, next_pair, put_pair, user_of};
+use server_host::Host;
 use session_values::StartupView;
 use session_values::cause::Cause;
 use session_values::stop::Stop;
@@ -46,7 +47,7 @@ pub fn stub_key(alloc: Global, start: &StartupView<'_>) -> Result<StartKey, Stop
     let database = database_of(start);
     Ok(StartKey {
         row: Text::from_slice(alloc, database)?,
-        host: Some([127, 0, 0, 1]),
+        host: Some(Host::local()),
         port: 0,
         dbname: Text::from_slice(alloc, database)?,
         user: Text::from_slice(alloc, user)?,

@@ -15,7 +15,7 @@ use std::sync::atomic::AtomicBool;
 use std::sync::{Arc, Mutex, Wait};
 use std::thread::Threads;
 use std::{io, net};
-use tcp_end::acceptor::{Acceptor, Turn};
+use tcp_end::acceptor::{Acceptor, Listener, Turn};
 use tcp_end::connection::TcpEnd;
 use tcp_end::gate::{GatePoll, TcpGate};
 use worker_threads::Workers;
@@ -147,7 +147,9 @@ pub fn stub_on<
         strikers: Mutex::new(Strikers::new(alloc)),
     };
     let stub = Arc::new(alloc, stub)?;
-    let mut acceptor = Acceptor::new(&rt, alloc, listener)?;
+    let mut listeners = Vec::new(alloc);
+    listeners.push(Listener::Tcp(listener))?;
+    let mut acceptor = Acceptor::new(&rt, alloc, listeners)?;
     let mut workers = Workers::<Connection<R>>::new(alloc)?;
     let mut accepted: u32 = 0;
     for _ in rt.forever() {

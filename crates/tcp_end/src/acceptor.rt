@@ -3,24 +3,34 @@ ghost use Rattle.std.specs.Prelude.{◌≡◌};
 ghost use Rattle.tcp_end.specs.Turns as spec;
 
 use crate::connection::TcpEnd;
-use mio::net::{TcpListener, TcpStream};
+use crate::places::as_stream;
+use arrayvec::ArrayString;
+use mio::net::{TcpListener, TcpStream, UnixListener};
 use mio::{Events, Interest, Poll, Token};
 use std::alloc::Global;
+use std::fmt::Write;
 use std::io;
 use std::io::ErrorKind;
-use std::net::{Net, SocketAddr};
+use std::net::{IpAddr, Net, SocketAddr};
 use std::time::Duration;
-
-/// The listener among those of its poll.
-const LISTENER: Token = Token(0);
 
 /// As long as a turn waits at most, in milliseconds.
 const LONGEST_WAIT: u64 = 100;
 
-/// The address and port that a client comes from.
+/// After so many connections all listeners are looked at again, though no event was waited for: one at which there always is another
+/// connection would else be the only one.
+const MOST_IN_A_ROW: u32 = 8;
+
+/// What a client is said to come from that comes over a Unix socket.
+const UNIX: &str = "unix";
+
+/// As many bytes as an address of IPv6 has as a text at most.
+const MAX_ADDRESS: usize = 45;
+
+/// The address and port that a client comes from; `unix` and the listener's own port where it comes over a Unix socket.
 #[derive(Clone, Copy)]
 pub struct Peer {
-    pub host: [u8; 4],
+    pub host: ArrayString<MAX_ADDRESS>,
     pub port: u16,
 }
 
@@ -35,10 +45,76 @@ pub enum Turn {
     Failed,
 }
 
-/// A listener, and where it waits for the next connection.
+/// What clients connect to.
+#[derive(Drop)]
+pub enum Listener {
+    Tcp(TcpListener),
+    /// A Unix socket, and the port that its name has.
+    Unix(UnixListener, u16),
+}
+
+/// A client over IP. One of IPv4 that came to an address of IPv6 has its own.
+fn peer_of(address: &SocketAddr) -> Option<Peer> {
+    let ip: IpAddr = address.ip().to_canonical();
+    let mut host = ArrayString::new();
+    write!(host, "{ip}").ok()?;
+    Some(Peer {
+        host,
+        port: address.port(),
+    })
+}
+
+/// A client over the Unix socket of this port.
+fn peer_at(port: u16) -> Option<Peer> {
+    Some(Peer {
+        host: ArrayString::from(UNIX).ok()?,
+        port,
+    })
+}
+
+impl Listener {
+    /// The next connection, and where it comes from.
+    fn accept(&self) -> io::Result<(TcpStream, Option<Peer>)> {
+        match self {
+            Listener::Tcp(listener) => {
+                let (stream, address) = listener.accept()?;
+                Ok((stream, peer_of(&address)))
+            }
+            Listener::Unix(listener, port) => {
+                let (stream, _) = listener.accept()?;
+                Ok((as_stream(stream), peer_at(*port)))
+            }
+        }
+    }
+
+    fn register(&mut self, poll: &Poll, token: Token) -> io::Result<()> {
+        match self {
+            Listener::Tcp(listener) => poll
+                .registry()
+                .register(listener, token, Interest::READABLE),
+            Listener::Unix(listener, _) => poll
+                .registry()
+                .register(listener, token, Interest::READABLE),
+        }
+    }
+}
+
+/// A listener among those of a poll.
+#[derive(Drop)]
+struct Watched {
+    listener: Listener,
+    /// A connection may wait there.
+    may_have: bool,
+}
+
+/// Listeners, and where one waits for the next connection to any of them.
 pub struct Acceptor {
     alloc: Global,
-    listener: TcpListener,
+    listeners: Vec<Watched>,
+    /// The one that is looked at first.
+    next: usize,
+    /// So many connections were had since all were looked at.
+    in_a_row: u32,
     poll: Poll,
     events: Events<Global>,
 }
@@ -47,7 +123,9 @@ impl Drop for Acceptor {
     fn drop(self) {
         let Acceptor {
             alloc: _,
-            listener: _,
+            listeners: _,
+            next: _,
+            in_a_row: _,
             poll: _,
             events: _,
         } = self;
@@ -64,63 +142,114 @@ fn is_failure(kind: ErrorKind) -> bool
     )
 }
 
-/// A client of the network of IPv4; zeros for another, which no listener of an IPv4 address has.
-fn peer_of(address: &SocketAddr) -> Peer {
-    match address {
-        SocketAddr::V4(address) => Peer {
-            host: address.ip().octets(),
-            port: address.port(),
-        },
-        SocketAddr::V6(_) => Peer {
-            host: [0; 4],
-            port: 0,
-        },
-    }
-}
-
 impl Acceptor {
-    /// Waits at this listener. The error is that the system has no more polls, or that an allocation failed.
-    pub fn new<R: Net>(rt: &R, alloc: Global, listener: TcpListener) -> io::Result<Acceptor> {
-        let mut listener = listener;
+    /// Waits at these listeners. The error is that the system has no more polls, or that an allocation failed.
+    pub fn new<R: Net>(rt: &R, alloc: Global, listeners: Vec<Listener>) -> io::Result<Acceptor> {
         let poll = Poll::new(rt)?;
-        let events = Events::with_capacity(alloc, 1)?;
-        poll.registry()
-            .register(&mut listener, LISTENER, Interest::READABLE)?;
+        let events = Events::with_capacity(alloc, listeners.len().max(1))?;
+        let mut watched = Vec::new(alloc);
+        for mut listener in listeners {
+            listener.register(&poll, Token(watched.len()))?;
+            watched.push(Watched {
+                listener,
+                may_have: true,
+            })?;
+        }
         Ok(Acceptor {
             alloc,
-            listener,
+            listeners: watched,
+            next: 0,
+            in_a_row: 0,
             poll,
             events,
         })
+    }
+
+    /// The next listener at which a connection may wait.
+    fn next_open(&self) -> Option<usize> {
+        let (before, from) = self.listeners.split_at(self.next.min(self.listeners.len()));
+        for (place, watched) in from.iter().enumerate() {
+            if watched.may_have {
+                return Some(before.len() + place);
+            }
+        }
+        before.iter().position(|watched| watched.may_have)
+    }
+
+    /// A connection was had at this place.
+    fn had(&mut self, place: usize) {
+        self.next = place.saturating_add(1);
+        self.in_a_row = self.in_a_row.saturating_add(1);
+        if self.in_a_row < MOST_IN_A_ROW {
+            return;
+        }
+        self.in_a_row = 0;
+        for watched in &mut self.listeners {
+            watched.may_have = true;
+        }
+    }
+
+    /// Waits for a connection, for at most 100 ms. Without an event all are looked at again.
+    fn wait(&mut self) {
+        let wait = Duration::from_millis(LONGEST_WAIT);
+        let _ = self.poll.poll(&mut self.events, Some(wait));
+        let is_idle = self.events.is_empty();
+        for watched in &mut self.listeners {
+            watched.may_have = watched.may_have || is_idle;
+        }
+        for event in self.events.iter() {
+            if let Some(watched) = self.listeners.get_mut(event.token().0) {
+                watched.may_have = true;
+            }
+        }
+    }
+
+    /// A listener answered this in a connection's place.
+    fn refused(&mut self, place: usize, kind: ErrorKind) -> Turn
+        ensures { spec.IsTurn result }
+    {
+        // one that went again is no reason to wait: more may stand behind it
+        if kind == ErrorKind::ConnectionAborted {
+            return Turn::Nobody;
+        }
+        if let Some(watched) = self.listeners.get_mut(place) {
+            watched.may_have = false;
+        }
+        if !is_failure(kind) {
+            return Turn::Nobody;
+        }
+        self.wait();
+        Turn::Failed
     }
 
     /// The next connection, which may have waited already.
     pub fn turn(&mut self) -> Turn
         ensures { spec.IsTurn result }
     {
-        let kind = match self.listener.accept() {
-            Ok((stream, address)) => return client_of(self.alloc, stream, &address),
-            Err(error) => error.kind(),
+        let Some(place) = self.next_open() else {
+            self.wait();
+            return Turn::Nobody;
         };
-        // one that went again is no reason to wait: more may stand behind it
-        if kind != ErrorKind::ConnectionAborted {
-            let wait = Duration::from_millis(LONGEST_WAIT);
-            let _ = self.poll.poll(&mut self.events, Some(wait));
-        }
-        if is_failure(kind) {
-            Turn::Failed
-        } else {
-            Turn::Nobody
+        let Some(watched) = self.listeners.get(place) else {
+            return Turn::Nobody;
+        };
+        match watched.listener.accept() {
+            Ok((stream, Some(peer))) => {
+                self.had(place);
+                client_of(self.alloc, stream, peer)
+            }
+            Ok((_, None)) => Turn::Failed,
+            Err(error) => self.refused(place, error.kind()),
         }
     }
 }
 
-/// The end of a connection from this address.
-fn client_of(alloc: Global, stream: TcpStream, address: &SocketAddr) -> Turn
+/// The end of a connection from there.
+fn client_of(alloc: Global, stream: TcpStream, peer: Peer) -> Turn
     ensures { spec.IsTurn result }
 {
     match TcpEnd::from_stream(alloc, stream) {
-        Ok(client) => Turn::Client(client, peer_of(address)),
+        Ok(client) => Turn::Client(client, peer),
         Err(_) => Turn::Failed,
     }
 }

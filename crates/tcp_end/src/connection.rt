@@ -5,6 +5,7 @@ ghost use Rattle.tcp_end.specs.Connections.{Reads, Sends, facts_of, has_ended, i
 ghost use Rattle.server_end.specs.declared.Moved.TheVariants.{Ended};
 
 use crate::ahead::AHEAD;
+use crate::idle::Minder;
 use crate::socket::Socket;
 use crate::watched::Watched;
 use mio::net::TcpStream;
@@ -103,6 +104,20 @@ impl TcpEnd {
         ensures { self.new ≡ self.old }
     {
         self.socket.deregister(poll);
+    }
+
+    /// From now on the minder's poll tells of this connection, which nobody uses, under this number. That it can't is ignored.
+    pub fn mind(&mut self, minder: &Minder, number: u64)
+        ensures { self.new ≡ self.old }
+    {
+        self.socket.mind(minder, number);
+    }
+
+    /// From now on it doesn't.
+    pub fn release(&mut self, minder: &Minder)
+        ensures { self.new ≡ self.old }
+    {
+        self.socket.release(minder);
     }
 
     fn is_broken(&self) -> bool

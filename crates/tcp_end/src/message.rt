@@ -1,6 +1,7 @@
 //! One message on a connection of its own.
 
 use crate::dial::connect;
+use crate::places::Place;
 use mio::net::TcpStream;
 use mio::{Events, Interest, Poll, Token};
 use std::alloc::Global;
@@ -42,18 +43,17 @@ fn wait_for_close<R: Net>(
     Err(io::Error::from(ErrorKind::TimedOut))
 }
 
-/// Writes this message, which is short, to a new connection to this IPv4 address and port, and waits until the other side has closed
+/// Writes this message, which is short, to a new connection to this place, and waits until the other side has closed
 /// it. At most so many seconds are for the connection, and as many for its close; the error says that they were over, that the
 /// connection couldn't be had or failed, or that an allocation failed.
 pub fn send_alone<R: Net>(
     rt: &R,
     alloc: Global,
-    address: [u8; 4],
-    port: u16,
+    place: &Place,
     message: &[u8],
     seconds: u32,
 ) -> io::Result<()> {
-    let mut stream = connect(rt, alloc, address, port, seconds)?;
+    let mut stream = connect(rt, alloc, place, seconds)?;
     stream.write_all(message)?;
     wait_for_close(rt, alloc, &mut stream, seconds)
 }

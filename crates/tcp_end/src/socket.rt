@@ -9,6 +9,7 @@ ghost use Rattle.server_end.specs.declared.Moved.TheVariants.{Ended};
 
 use crate::ahead::{AHEAD, Ahead};
 use crate::deferred::{Deferred, PACKET};
+use crate::idle::Minder;
 use crate::notes::Notes;
 use crate::watched::Watched;
 use mio::net::TcpStream;
@@ -180,6 +181,16 @@ impl Socket {
     pub(crate) fn deregister(&mut self, poll: &Poll) {
         let _ = poll.registry().deregister(&mut self.stream);
         self.notes.mind(false);
+    }
+
+    /// Has the minder's poll tell of what comes under this number. That it can't is ignored.
+    pub(crate) fn mind(&mut self, minder: &Minder, number: u64) {
+        minder.mind(&mut self.stream, number);
+    }
+
+    /// Has it tell of it no more.
+    pub(crate) fn release(&mut self, minder: &Minder) {
+        minder.release(&mut self.stream);
     }
 
     /// Holds these bytes, where they are the first AuthenticationOk; whether they are.

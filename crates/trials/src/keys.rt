@@ -1,7 +1,7 @@
 //! Keys and database rows.
 use book_model::rows::Row;
 use session_values::text::Text;
-use start_keys::StartKey;
+use start_keys::{Host, StartKey};
 use std::alloc::{AllocError, Global};
 use std::sync::Arc;
 
@@ -17,7 +17,7 @@ pub(crate) fn key(
     parameters.push((parameter, Text::from_slice(alloc, &number.to_be_bytes())?))?;
     let key = StartKey {
         row: Text::from_slice(alloc, row)?,
-        host: Some([127, 0, 0, 1]),
+        host: Some(Host::local()),
         port: 5432,
         dbname: Text::from_slice(alloc, b"bench")?,
         user: Text::from_slice(alloc, &pool.to_be_bytes())?,
@@ -30,7 +30,7 @@ pub(crate) fn key(
 pub(crate) fn row(alloc: Global, name: &[u8], size: u32) -> Result<Row, AllocError> {
     Ok(Row {
         name: Text::from_slice(alloc, name)?,
-        host: [127, 0, 0, 1],
+        host: Host::local(),
         port: 5432,
         dbname: Text::from_slice(alloc, b"bench")?,
         size,

@@ -9,6 +9,7 @@ use frame_view::{Frame, LONGEST_FRAME, Side, Step, next_frame};
 use pool_app::fault::AppFault;
 use pool_app::files::read_catalogue;
 use session_machine::{Catalogue, Session, StartKey, Text, solo_bytes};
+use start_keys::Host;
 use std::alloc::{AllocError, Global};
 use std::rt::Files;
 
@@ -19,7 +20,7 @@ const DATABASE: &[u8] = b"shop";
 fn key_of(alloc: Global, user: &[u8]) -> Result<StartKey, AllocError> {
     Ok(StartKey {
         row: Text::from_slice(alloc, DATABASE)?,
-        host: Some([127, 0, 0, 1]),
+        host: Some(Host::local()),
         port: 5432,
         dbname: Text::from_slice(alloc, DATABASE)?,
         user: Text::from_slice(alloc, user)?,

@@ -9,6 +9,7 @@ use Rattle.login_core.specs.Talk.End.{Stopped}
 use Rattle.login_core.specs.Dialogue.{Cancelling, login}
 use Rattle.book_model.specs.Book.{Book}
 use Rattle.book_model.specs.Laws.{HasLease, HasLink, Keys, Lends, LendsNothing, LendsOne, MayReturn, Releases, Starts, Strikes, TakesBack}
+use Rattle.book_model.specs.Places.{IsPlaceOf}
 use Rattle.world_steps.specs.Clients.{Client, HasCome, IsUnstruck, key_of}
 use Rattle.world_steps.specs.Clients.Phase.{LoggingIn, Waiting, Starting, Served}
 use Rattle.world_steps.specs.Links.{Link, Role, newborn}
@@ -90,15 +91,15 @@ keyed_keeps w b c l own f served lent told k = record {
 -- ---- a cancel finds a lease
 
 -- the strike goes to the lease's server, and fits there
-struck_lease : (w : World) (b : Book) (l : ℕ) (client own : KeyView) (host : List ℕ) (port : ℕ) (k : Strikes w.book client l own host port b) →
-    (r : Role) → LeaseFits w l client own r → ((w.links l).server_key ≡ Some own) × ((w.links l).key ≡ k.key) × StrikeFits (with_book w b) l client r
-struck_lease w b l client own host port k (Lent c) h = (h.1, h.2 k.key k.is_lent, (h.0, k.marks))
-struck_lease w b l client own host port k Gone h = (h.0, h.1 k.key k.is_lent, tt)
-struck_lease w b l client own host port k Unborn h = absurd h
-struck_lease w b l client own host port k (Promised c) h = absurd h
-struck_lease w b l client own host port k InReset h = absurd h
-struck_lease w b l client own host port k Clean h = absurd h
-struck_lease w b l client own host port k Idle h = absurd h
+struck_lease : (w : World) (b : Book) (l : ℕ) (client own : KeyView) (k : Strikes w.book client l own b) →
+    (r : Role) → LeaseFits w l client own r → ((w.links l).server_key ≡ Some own) × HasLentKey w l × StrikeFits (with_book w b) l client r
+struck_lease w b l client own k (Lent c) h = (h.1, h.2, (h.0, k.marks))
+struck_lease w b l client own k Gone h = (h.0, h.1, tt)
+struck_lease w b l client own k Unborn h = absurd h
+struck_lease w b l client own k (Promised c) h = absurd h
+struck_lease w b l client own k InReset h = absurd h
+struck_lease w b l client own k Clean h = absurd h
+struck_lease w b l client own k Idle h = absurd h
 
 all_and : (P : Strike → Type 0) (ss : List Strike) (s : Strike) → AllByRecursion P ss → P s → AllByRecursion P (ss ++ s ∷ [])
 all_and P [] s h p = (p, tt)
@@ -115,18 +116,19 @@ has_asked w c key r a =
       ended = ap (λ (b : List ℕ). (login x.row x.word b).ended) h.sent_is ∙ ap (λ (d : _). d.ended) (login_stopped x.row x.word a.read x.unread (Cancelling key) a.ended) ∙ a.ended;
     }
 
-pub cancelled_keeps : (w : World) (b : Book) (l : ℕ) (client own : KeyView) (host : List ℕ) (port : ℕ) → CancelsFit w → HasAsked w client → Strikes w.book client l own host port b →
+pub cancelled_keeps : (w : World) (b : Book) (l : ℕ) (client own : KeyView) (host : List ℕ) (port : ℕ) → CancelsFit w → HasAsked w client → Strikes w.book client l own b → IsPlaceOf w.book l host port →
     CancelsFit (with_book (sets_out w (record { client = client; server = own; host = host; port = port })) b)
-cancelled_keeps w b l client own host port f a k =
+cancelled_keeps w b l client own host port f a k p =
     let v = with_book w b in
     let s : Strike = record { client = client; server = own; host = host; port = port } in
     let g = event_keeps w b k.starts_nothing.lends_nothing f in
-    let h = struck_lease w b l client own host port k (w.links l).role (f.leases l client own k.lease) in
+    let h = struck_lease w b l client own k (w.links l).role (f.leases l client own k.lease) in
+    let same = h.1 p.key p.is_lent in
     strikes_change v (w.strikes ++ s ∷ []) g
     (all_and (IsOnItsWay v) w.strikes s g.strikes
     (record {
       link = l;
-      goes = record { key = h.0; host = ap (λ (q : StartKeyOf). q.host) h.1 ∙ k.host_is; port = ap (λ (q : StartKeyOf). q.port) h.1 ∙ k.port_is };
+      goes = record { key = h.0; host = ap (λ (q : StartKeyOf). q.host) same ∙ p.host_is; port = ap (λ (q : StartKeyOf). q.port) same ∙ p.port_is };
       fits = h.2;
       asked = record { client = a.client; came = a.came; ended = a.ended };
     }))

@@ -6,9 +6,9 @@ use Rattle.session_values.specs.Errors.{fatal}
 use Rattle.frame_view.specs.Frames.{spelling}
 use Rattle.session_laws.specs.Starts.{StartErrorIsFrame}
 use Rattle.book_model.specs.Book.{Book}
-use Rattle.book_model.specs.Laws.{PlainEventsAddNothing, ArrivalsNumber, AsksQueue, TakesLend, TakesStart, TakesEvict, ReturnsAdd, ReturnsClose, TicksClose, KeyedKeys, CancelsStrike, ResetsRelease, LendsNothing, Starts}
+use Rattle.book_model.specs.Laws.{PlainEventsAddNothing, ArrivalsNumber, AsksQueue, TakesLend, TakesStart, TakesEvict, ReturnsAdd, ReturnsClose, TicksClose, HangUpsClose, KeyedKeys, CancelsStrike, ResetsRelease, LendsNothing, Starts}
 use Rattle.book_model.specs.Outcomes.{Answer, apply, apply_return}
-use Rattle.book_model.specs.Outcomes.Event.{Arrive, Ask, Cancel, EndLease, Keyed, Take, Tick}
+use Rattle.book_model.specs.Outcomes.Event.{Arrive, Ask, Cancel, EndLease, HungUp, Keyed, Take, Tick}
 use Rattle.book_model.specs.declared.events.Reply.{Reply}
 use Rattle.world_steps.specs.Clients.{key_of}
 use Rattle.world_steps.specs.Clients.Phase.{Starting, Served, Finishing, Waiting}
@@ -17,7 +17,7 @@ use Rattle.world_steps.specs.Links.{Role}
 use Rattle.world_steps.specs.Links.Role.{Unborn, Promised, Lent, InReset, Clean, Idle, Gone}
 use Rattle.world_steps.specs.Relation.{AreRelated, CancelsFit, Related, TicketFits}
 use Rattle.world_steps.specs.Steps.{Gives, gets_link, gone, promised, sets_out}
-use Rattle.world_steps.specs.Steps.BookStep.{plain_event, arrives, asks, is_lent, is_promised, is_promised_for, gives_back, gives_back_too_late, tick_closes, keys, cancels}
+use Rattle.world_steps.specs.Steps.BookStep.{plain_event, arrives, asks, is_lent, is_promised, is_promised_for, gives_back, gives_back_too_late, tick_closes, hung_up_closes, keys, cancels}
 use Rattle.world_steps.specs.Steps.LinkStep.{starts, start_fails, returns_unused, returns_used, ends_reset, disposes_lent, disposes_promised, disposes}
 use Rattle.world_steps.specs.Worlds.{Strike, World, with_book, with_client, with_link, with_pair}
 use Rattle.world_steps.proofs.Cancels.{client_keeps, pair_keeps}
@@ -26,7 +26,7 @@ use Rattle.world_steps.proofs.Changes.{at_clean_point, gets_start_error, in_role
 use Rattle.world_steps.proofs.Groups.{goes_to, in_place}
 use Rattle.world_steps.proofs.Steps.{fits_at, step_strikes}
 use Rattle.world_leases.proofs.Cancels.{alone_if_returns, cancelled_keeps, event_keeps, given_back, has_asked, keyed_keeps, lent_anew, promised_anew, reset, returned_anew, started_anew, thrown}
-use Rattle.world_leases.proofs.Leases.{evicting, starts_on, step_arrives, step_asks, step_disposes, step_disposes_lent, step_disposes_promised, step_ends_reset, step_evicts, step_gives_back, step_gives_back_too_late, step_is_lent, step_is_promised, step_is_promised_for, step_keeps, step_plain, step_returns_unused, step_returns_used, step_start_fails, step_starts, step_tick_closes}
+use Rattle.world_leases.proofs.Leases.{evicting, starts_on, step_arrives, step_asks, step_disposes, step_disposes_lent, step_disposes_promised, step_ends_reset, step_evicts, step_gives_back, step_gives_back_too_late, step_is_lent, step_is_promised, step_is_promised_for, step_keeps, step_plain, step_returns_unused, step_returns_used, step_start_fails, step_starts, step_hung_up_closes, step_tick_closes}
 
 -- what is known of the book
 pub record OfBook : Type 0 where
@@ -39,6 +39,7 @@ pub record OfBook : Type 0 where
   pub gives_back : ReturnsAdd
   pub too_late : ReturnsClose
   pub tick : TicksClose
+  pub hangs_up : HangUpsClose
   pub keyed : KeyedKeys
   pub cancels : CancelsStrike
   pub resets : ResetsRelease
@@ -137,6 +138,12 @@ book_keeps k w _ (tick_closes now l b q) r =
       facts = step_tick_closes k.tick w now l r.facts q.reply_is;
       cancels = event_keeps (gone w l) (apply w.book (Tick now)).book (k.tick w.book now l q.reply_is).0.lends_nothing (thrown w l r.cancels);
     })
+book_keeps k w _ (hung_up_closes n l b q) r =
+    with_its (gone w l) q
+    (record {
+      facts = step_hung_up_closes k.hangs_up w n l r.facts q.reply_is;
+      cancels = event_keeps (gone w l) (apply w.book (HungUp n)).book (k.hangs_up w.book n l q.reply_is).1.lends_nothing (thrown w l r.cancels);
+    })
 book_keeps k w _ (keys c l own b e told q) r =
     let n = k.keyed w.book l (key_of (w.clients c)) own q.reply_is in
     with_its w q
@@ -144,13 +151,13 @@ book_keeps k w _ (keys c l own b e told q) r =
       facts = step_keeps w (apply w.book (Keyed l (key_of (w.clients c)) own)).book r.facts n.adds_nothing n.next_link;
       cancels = keyed_keeps w (apply w.book (Keyed l (key_of (w.clients c)) own)).book c l own r.cancels e (fits_at c (Served l) r.facts e).1 told n;
     })
-book_keeps k w _ (cancels c l key own host port b a q) r =
-    let n = k.cancels w.book key l own host port q.reply_is in
+book_keeps k w _ (cancels c l key own host port b a q p) r =
+    let n = k.cancels w.book key l own q.reply_is in
     let s : Strike = record { client = key; server = own; host = host; port = port } in
     with_its (sets_out w s) q
     (record {
       facts = step_keeps (sets_out w s) (apply w.book (Cancel key)).book (step_strikes w (w.strikes ++ s ∷ []) r.facts) n.starts_nothing.adds_nothing n.starts_nothing.next_link;
-      cancels = cancelled_keeps w (apply w.book (Cancel key)).book l key own host port r.cancels (has_asked w c key r.facts a) n;
+      cancels = cancelled_keeps w (apply w.book (Cancel key)).book l key own host port r.cancels (has_asked w c key r.facts a) n p;
     })
 
 -- ---- starts, returns and resets

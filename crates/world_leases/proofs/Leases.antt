@@ -20,7 +20,7 @@ use Rattle.login_core.specs.Talk.{End}
 use Rattle.login_core.specs.Talk.End.{Passed}
 use Rattle.login_core.specs.Dialogue.{Way, Reason, ToLink, login}
 use Rattle.login_core.specs.Solo.{after_in}
-use Rattle.book_model.specs.Outcomes.Event.{Arrive, Ask, Take, Tick}
+use Rattle.book_model.specs.Outcomes.Event.{Arrive, Ask, Take, Tick, HungUp}
 use Rattle.book_model.specs.declared.events.Reply.TheVariants.{Arrived, Lend, Start, Done, Close}
 use Rattle.world_steps.specs.Clients.Phase.{Absent, LoggingIn, Waiting, Starting, Served, Finishing, Refusing, Closed}
 use Rattle.world_steps.specs.Links.Role.{Unborn, Promised, Lent, InReset, Clean, Idle, Gone}
@@ -39,7 +39,7 @@ use Rattle.world_steps.specs.Worlds.{World, put, with_client, with_link, with_pa
 use Rattle.book_model.specs.Book.{Book}
 use Rattle.book_model.specs.Outcomes.{Event, apply, apply_return}
 use Rattle.book_model.specs.declared.events.Reply.{Reply}
-use Rattle.book_model.specs.Laws.{IsPlain, PlainEventsAddNothing, ArrivalsNumber, AsksQueue, TakesLend, TakesStart, TakesEvict, ReturnsAdd, ReturnsClose, TicksClose, AddsNothing, Lends, Starts, Drops, Numbers}
+use Rattle.book_model.specs.Laws.{IsPlain, PlainEventsAddNothing, ArrivalsNumber, AsksQueue, TakesLend, TakesStart, TakesEvict, ReturnsAdd, ReturnsClose, TicksClose, HangUpsClose, AddsNothing, Lends, Starts, Drops, Numbers}
 
 -- two different roles
 lent_idle : {A : Type 0} (c : ℕ) → Lent c ≡ Idle → A
@@ -273,6 +273,11 @@ pub step_tick_closes : TicksClose → (w : World) (now l : ℕ) → AreRelated w
 step_tick_closes tick w now l r e =
     let k = tick w.book now l e in
     drops_idle w (apply w.book (Tick now)).book l r k.0.adds_nothing w.book.next_link k.0.next_link (λ m h. h) k.1
+
+pub step_hung_up_closes : HangUpsClose → (w : World) (n l : ℕ) → AreRelated w → (apply w.book (HungUp n)).reply ≡ Close l → AreRelated (with_book (gone w l) (apply w.book (HungUp n)).book)
+step_hung_up_closes closes w n l r e =
+    let k = closes w.book n l e in
+    drops_idle w (apply w.book (HungUp n)).book l r k.1.adds_nothing w.book.next_link k.1.next_link (λ m h. h) k.2
 
 -- the book before the start, without the link that it evicts
 abbrev pub evicting : Book → Book → Book

@@ -19,9 +19,10 @@ use Rattle.login_core.specs.Dialogue.{LoginRow, ToLink, Cancelling, login}
 use Rattle.book_model.specs.Book.{Book, Limits, empty_book}
 use Rattle.book_model.specs.Outcomes.{Answer, Event, apply, apply_return}
 use Rattle.book_model.specs.declared.events.Reply.{Reply}
-use Rattle.book_model.specs.Outcomes.Event.{Arrive, Ask, Take, Tick, Keyed, Cancel, EndLease}
+use Rattle.book_model.specs.Outcomes.Event.{Arrive, Ask, Take, Tick, Keyed, Cancel, EndLease, HungUp}
 use Rattle.book_model.specs.declared.events.Reply.TheVariants.{Arrived, Lend, Start, Close, Done, Strike as Struck, Reset}
 use Rattle.book_model.specs.Laws.{IsPlain}
+use Rattle.book_model.specs.Places.{IsPlaceOf}
 use Rattle.world_steps.specs.Clients.{AtBorder, Client, HasEnded, MayWrite, key_of, newcomer}
 use Rattle.world_steps.specs.Clients.Phase.{Absent, LoggingIn, Waiting, Starting, Served, Finishing, Refusing, Closed}
 use Rattle.world_steps.specs.Links.{IsReset, IsSettled, Link, Role, is_due, left_due, newborn}
@@ -102,13 +103,15 @@ pub data BookStep (w : World) : World → Type 0 where
       (w.links l).role ≡ Clean → Gives (apply_return w.book l (w.links l).key born) (Close closed) b →
       BookStep w (with_book (gone w l) b)
   tick_closes : (now l : ℕ) (b : Book) → Gives (apply w.book (Tick now)) (Close l) b → BookStep w (with_book (gone w l) b)
+  -- whatever it is that was seen of the link: nothing is asked of its server
+  hung_up_closes : (n l : ℕ) (b : Book) → Gives (apply w.book (HungUp n)) (Close l) b → BookStep w (with_book (gone w l) b)
   -- from now on a cancel finds the lease, by its client's key word
   keys : (c l : ℕ) (own : KeyView) (b : Book) →
       (w.clients c).phase ≡ Served l → (w.links l).server_key ≡ Some own → Gives (apply w.book (Keyed l (key_of (w.clients c)) own)) Done b →
       BookStep w (with_book w b)
   -- a cancel finds a lease; whoever asked for it is given no byte
   cancels : (c l : ℕ) (key own : KeyView) (host : List ℕ) (port : ℕ) (b : Book) →
-      Asks (w.clients c) key → Gives (apply w.book (Cancel key)) (Struck l own host port) b →
+      Asks (w.clients c) key → Gives (apply w.book (Cancel key)) (Struck l own) b → IsPlaceOf w.book l host port →
       BookStep w (with_book (sets_out w (record { client = key; server = own; host = host; port = port })) b)
 
 -- ---- moves of bytes, any number at once; a server takes one frame, or dies; a cancel comes to its server

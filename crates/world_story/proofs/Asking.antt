@@ -1,5 +1,6 @@
 -- Client 1 is served over link 1 and has sent nothing to it, and a cancel is on its way that client 3 asked for by its key word.
 use Rattle.std.proofs.Common.{ℕ, List, [], ◌∷◌, ◌++◌, refl}
+use Rattle.std.specs.Prelude.{codes}
 use Rattle.frame_view.specs.Frames.{cut_after, spelling}
 use Rattle.message_view.specs.Messages.{cancel_request}
 use Rattle.message_view.specs.Reading.{text_at, int16_at, int32_at, value_at, list_at, query_of, parse_of, bind_of, target_of, execute_of, startup_of, pair_at, ended_at, list_until}
@@ -17,7 +18,7 @@ use Rattle.world_steps.specs.Steps.ClientStep.{of_client}
 use Rattle.world_steps.specs.Steps.ClientMove.{comes, sends, reads, passes}
 use Rattle.world_steps.specs.Steps.LinkStep.{starts}
 use Rattle.world_story.proofs.Keys.{At, at_begin, new_key, server, then_do}
-use Rattle.world_story.proofs.Told.{row, lawful_row, key, word, limits, hello, change, bytes, at_first, is_empty}
+use Rattle.world_story.proofs.Told.{lent_alone, row, lawful_row, key, word, limits, hello, change, bytes, at_first, is_empty}
 
 -- what asks for a cancel by client 1's key word
 abbrev request : List ℕ
@@ -43,5 +44,5 @@ asked =
     let h10 = then_do (client_step (of_client 3 (comes row (word 3) refl lawful_row))) h9 in
     let h11 = then_do (client_step (of_client 3 (sends request (bytes request refl)))) h10 in
     let h12 = then_do (client_step (of_client 3 (reads [] request [] [] refl refl refl))) h11 in
-    let h13 = then_do (book_step (cancels 3 1 (server 1) (server 1) (127 ∷ 0 ∷ 0 ∷ 1 ∷ []) 5432 _ (record { read = request; phase = refl; ended = refl }) (record { reply_is = refl; book_is = refl }))) h12 in
+    let h13 = then_do (book_step (cancels 3 1 (server 1) (server 1) (codes "127.0.0.1") 5432 _ (record { read = request; phase = refl; ended = refl }) (record { reply_is = refl; book_is = refl }) (lent_alone refl))) h12 in
     record { world = _; at = h13 }

@@ -1,5 +1,6 @@
 -- A statement is cancelled, step by step.
 use Rattle.std.proofs.Common.{ℕ, List, [], ◌∷◌, ◌++◌, refl}
+use Rattle.std.specs.Prelude.{codes}
 use Rattle.std.specs.List.{flat_map}
 use Rattle.frame_view.specs.Frames.{cut_after, spelling}
 use Rattle.message_view.specs.Messages.{cancel_request}
@@ -31,7 +32,7 @@ use Rattle.world_model.specs.Headline.{QuietLeasesAreWhole}
 use Rattle.world_story.specs.Cancelled.{Cancelled, cancelled}
 use Rattle.world_story.specs.Story.{changed}
 use Rattle.world_story.proofs.Keys.{at_begin, new_key, server, then_do}
-use Rattle.world_story.proofs.Told.{state_of, the_catalogue, row, lawful_row, key, word, limits, hello, change, bytes, at_first, is_empty, change-sent, gives_all}
+use Rattle.world_story.proofs.Told.{lent_alone, state_of, the_catalogue, row, lawful_row, key, word, limits, hello, change, bytes, at_first, is_empty, change-sent, gives_all}
 
 abbrev two : List ℕ
 two = spelling change ++ spelling change
@@ -56,7 +57,7 @@ cancel_told whole =
     let h10 = then_do (client_step (of_client 2 (comes row (word 2) refl lawful_row))) h9 in
     let h11 = then_do (client_step (of_client 2 (sends request (bytes request refl)))) h10 in
     let h12 = then_do (client_step (of_client 2 (reads [] request [] [] refl refl refl))) h11 in
-    let h13 = then_do (book_step (cancels 2 1 (server 1) (server 1) (127 ∷ 0 ∷ 0 ∷ 1 ∷ []) 5432 _ (record { read = request; phase = refl; ended = refl }) (record { reply_is = refl; book_is = refl }))) h12 in
+    let h13 = then_do (book_step (cancels 2 1 (server 1) (server 1) (codes "127.0.0.1") 5432 _ (record { read = request; phase = refl; ended = refl }) (record { reply_is = refl; book_is = refl }) (lent_alone refl))) h12 in
     let h14 = then_do (byte_step (by_client 1 (from_client 1 two [] refl refl))) h13 in
     let h15 = then_do (byte_step (by_lease 1 1 refl (to_link two [] refl))) h14 in
     let h16 = then_do (byte_step (strike_arrives 1 [] [] _ refl (record { key = refl; host = refl; port = refl }))) h15 in

@@ -9,7 +9,7 @@ use Rattle.world_steps.specs.Links.{Link, newborn}
 use Rattle.world_steps.specs.Links.Role.{Gone}
 use Rattle.world_steps.specs.Steps.{BookStep, ByteStep, IsEmpty, IsNewKey, LinkStep, Reached, Step}
 use Rattle.world_steps.specs.Steps.Step.{book_step, client_step, byte_step, link_step, end_step}
-use Rattle.world_steps.specs.Steps.BookStep.{plain_event, arrives, asks, is_lent, is_promised, is_promised_for, gives_back, gives_back_too_late, tick_closes, keys, cancels}
+use Rattle.world_steps.specs.Steps.BookStep.{plain_event, arrives, asks, is_lent, is_promised, is_promised_for, gives_back, gives_back_too_late, tick_closes, hung_up_closes, keys, cancels}
 use Rattle.world_steps.specs.Steps.ClientStep.{of_client}
 use Rattle.world_steps.specs.Steps.ByteStep.{by_client, by_lease, by_link, server_answers, server_answers_client, strike_arrives}
 use Rattle.world_steps.specs.Steps.LeaseBytes.{to_link, from_link}
@@ -65,8 +65,9 @@ module _ {n : ℕ} where
   book_told w _ (gives_back l born b e q) h = same_told w.links l _ refl h
   book_told w _ (gives_back_too_late l m born b e q) h = same_told w.links l _ refl h
   book_told w _ (tick_closes now l b q) h = same_told w.links l _ refl h
+  book_told w _ (hung_up_closes m l b q) h = same_told w.links l _ refl h
   book_told w _ (keys c l own b e told q) h = h
-  book_told w _ (cancels c l key own host port b a q) h = h
+  book_told w _ (cancels c l key own host port b a q p) h = h
 
   byte_told : (w v : World) → ByteStep w v → AllTold n w.links → AllTold n v.links
   byte_told w _ (by_client c m) h = h

@@ -1,5 +1,5 @@
 -- The story, step by step.
-use Rattle.std.proofs.Common.{◌≡◌, ℕ, zero, suc, ◌<◌, List, true, [], ◌∷◌, ◌++◌, refl, sym, ap, append-nil, inr, Some, None, Result, Ok, Err, arith, ltb-true}
+use Rattle.std.proofs.Common.{◌≡◌, ℕ, zero, suc, ◌<◌, List, true, [], ◌∷◌, ◌++◌, refl, sym, ap, append-nil, subst, inl, inr, Some, None, Result, Ok, Err, arith, ltb-true}
 use Rattle.std.specs.Prelude.{codes, nat_lt}
 use Rattle.std.specs.List.{AllByRecursion, flat_map, list_all}
 use Rattle.frame_view.specs.Frames.{AreBytes, FrameOf, IsFrame, cut_after, spelling}
@@ -26,7 +26,9 @@ use Rattle.session_laws.specs.Laws.{IsSent, discard_all}
 use Rattle.param_track.specs.StartKeys.{always_followed}
 use Rattle.login_laws.specs.StartKeys.{IsLawfulRow}
 use Rattle.login_core.specs.Dialogue.{LoginRow, ok}
-use Rattle.book_model.specs.Book.{Limits, Row, empty_book}
+use Rattle.book_model.specs.Book.{Book, Limits, Row, empty_book}
+use Rattle.book_model.specs.Laws.{HasLink}
+use Rattle.book_model.specs.Places.{IsPlaceOf}
 use Rattle.book_model.specs.Outcomes.{apply, apply_return}
 use Rattle.world_steps.specs.Clients.{Client, MayWrite}
 use Rattle.world_steps.specs.Clients.Phase.{Absent, Refusing}
@@ -63,7 +65,7 @@ pub lawful : IsLawfulCatalogue the_catalogue
 lawful = record { version = ((omega arith, (omega arith, (omega arith, (omega arith, tt)))), omega arith); tables = tt }
 
 abbrev db : DbRow
-db = record { name = codes "shop"; host = 127 ∷ 0 ∷ 0 ∷ 1 ∷ []; port = 5432; dbname = codes "shop"; pool_size = None }
+db = record { name = codes "shop"; host = codes "127.0.0.1"; port = 5432; dbname = codes "shop"; pool_size = None }
 
 abbrev user : UserRow
 user = record { name = codes "ann"; secret = Plain (codes "p") }
@@ -75,7 +77,7 @@ pub lawful_row : IsLawfulRow row.database
 lawful_row = (omega arith, (omega arith, (omega arith, (omega arith, (omega arith, tt)))))
 
 abbrev pub key : StartKeyOf
-key = record { row = codes "shop"; host = Some (127 ∷ 0 ∷ 0 ∷ 1 ∷ []); port = 5432; dbname = codes "shop"; user = codes "ann"; parameters = [] }
+key = record { row = codes "shop"; host = Some (codes "127.0.0.1"); port = 5432; dbname = codes "shop"; user = codes "ann"; parameters = [] }
 
 abbrev pub word : ℕ → KeyWord
 word n = record { pid = n; secret = n; salt = [] }
@@ -86,6 +88,10 @@ rows size = record { name = db.name; host = db.host; port = db.port; dbname = db
 
 abbrev pub limits : Limits
 limits = record { max_clients = 9; max_links = 9; rows = rows 9; default_size = 9; wait_timeout = 0; lifetime = 3600; idle_timeout = 600 }
+
+-- the only link that the book lends is at the place of the database row
+pub lent_alone : {b : Book} → b.lent ≡ record { number = 1; key = key; born = 0; since = 0 } ∷ [] → IsPlaceOf b 1 db.host db.port
+lent_alone e = record { key = key; is_lent = subst (HasLink 1 key) (sym e) (inl (refl, refl)); host_is = refl; port_is = refl }
 
 abbrev pub hello : List ℕ
 hello = startup_message ((codes "user", codes "ann") ∷ (codes "database", codes "shop") ∷ [])

@@ -1,4 +1,4 @@
-use Rattle.book_model.proofs.Outcomes.{plain_events_add_nothing, arrivals_number, asks_queue, takes_lend, takes_start, takes_evict, returns_add, returns_close, ticks_close, keyed_keys, cancels_strike, resets_release}
+use Rattle.book_model.proofs.Outcomes.{plain_events_add_nothing, arrivals_number, asks_queue, takes_lend, takes_start, takes_evict, returns_add, returns_close, ticks_close, hang_ups_close, keyed_keys, cancels_strike, resets_release}
 use Rattle.book_model.proofs.book_laws.Goals as goal
 
 pub returns-clause-plain : goal.returns-clause-plain
@@ -27,6 +27,9 @@ returns-clause-too_late c = returns_close
 
 pub returns-clause-tick : goal.returns-clause-tick
 returns-clause-tick c = ticks_close
+
+pub returns-clause-hangs_up : goal.returns-clause-hangs_up
+returns-clause-hangs_up c = hang_ups_close
 
 pub returns-clause-keyed : goal.returns-clause-keyed
 returns-clause-keyed c = keyed_keys

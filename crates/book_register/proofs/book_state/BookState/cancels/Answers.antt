@@ -11,5 +11,5 @@ note-requires-clause-once c = let P : Book → Type 0 = λ b. (n : ℕ) → coun
 pub note-requires-clause-room : goal.note-requires-clause-room
 note-requires-clause-room c =
     let P : Book → Type 0 = λ b. length (without_number c.in-Strike.link b.marked) < MOST_LINKS in
-    let there = (struck c.args.self.now (find (is_of_client c.args.client) c.args.self.now.keyed) c.in-Strike.link c.in-Strike.server c.in-Strike.host c.in-Strike.port (sym c.in-Strike.is ∙ c.strike-reply.ensures)).1 in
+    let there = (struck c.args.self.now (find (is_of_client c.args.client) c.args.self.now.keyed) c.in-Strike.link c.in-Strike.server (sym c.in-Strike.is ∙ c.strike-reply.ensures)).1 in
     subst P (sym c.self.view_is) (marks_fit c.args.self.now c.in-Strike.link c.requires.kept there)

@@ -20,6 +20,7 @@ returns-in_default g c =
       lists = c.play-in_default.ensures.lists ∙ ap (λ (a : Answer). a.book) answer;
       history = c.play-in_default.ensures.history ∙ (ap (λ (e : ListsEvent). noted_of b c.args.pass e c.args.self.now.history) is ∙ sym (p.history_is b c.args.pass c.args.self.now.history));
       reply = c.play-in_default.ensures.reply ∙ told;
+      place = c.play-in_default.ensures.place;
       idle = c.play-in_default.ensures.idle ∙ (ap (λ (r : ListsReply). left (goes_out r) idle) told ∙ sym (p.idle_is _ idle));
       handed = c.play-in_default.ensures.handed ∙ (ap (λ (r : ListsReply). found (goes_out r) idle) told ∙ sym (p.handed_is _ idle));
     }

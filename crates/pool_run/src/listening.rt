@@ -1,0 +1,109 @@
+//! Where a pool listens.
+
+use crate::keeping::keepalive_of;
+use crate::log::PoolLog;
+use ini_config::Settings;
+use std::alloc::{AllocError, Global};
+use std::io;
+use std::net::Net;
+use std::rt::Clock;
+use std::sync::Wait;
+use tcp_end::acceptor::{Acceptor, Listener};
+use text_lines::Text;
+
+/// The address or folder of a listener, and its port.
+#[derive(Drop)]
+struct Named {
+    host: Text,
+    port: u16,
+}
+
+/// Listeners, and why there is none at a folder.
+#[derive(Drop)]
+pub struct Listening {
+    listeners: Vec<Listener>,
+    names: Vec<Named>,
+    missing: Option<(Named, io::Error)>,
+}
+
+impl Listening {
+    /// None yet. It takes no memory.
+    pub fn new(alloc: Global) -> Listening {
+        Listening {
+            listeners: Vec::new(alloc),
+            names: Vec::new(alloc),
+            missing: None,
+        }
+    }
+
+    /// One more, at this address or folder, and port. Connections over IP to it are kept alive as these settings say: they have what
+    /// their listener has. The only error is that an allocation failed.
+    pub fn add(
+        &mut self,
+        alloc: Global,
+        listener: Listener,
+        settings: &Settings,
+        host: &[u8],
+        port: u16,
+    ) -> Result<(), AllocError> {
+        if let (Listener::Tcp(listener), Some(keepalive)) = (&listener, keepalive_of(settings)) {
+            keepalive.keep(listener);
+        }
+        self.names.push(Named {
+            host: Text::copy(alloc, host)?,
+            port,
+        })?;
+        self.listeners.push(listener)?;
+        Ok(())
+    }
+
+    /// There is none at this folder and port, because of this.
+    pub fn miss(
+        &mut self,
+        alloc: Global,
+        folder: &[u8],
+        port: u16,
+        why: io::Error,
+    ) -> Result<(), AllocError> {
+        let named = Named {
+            host: Text::copy(alloc, folder)?,
+            port,
+        };
+        self.missing = Some((named, why));
+        Ok(())
+    }
+
+    /// Writes a line for each address or folder on standard output.
+    pub fn print<R: Print>(&self, rt: &R) -> io::Result<()> {
+        for named in &self.names {
+            if let Ok(host) = std::str::from_utf8(named.host.as_bytes()) {
+                println!(rt; "listening {host} {}", named.port)?;
+            }
+        }
+        Ok(())
+    }
+
+    /// Tells the log of all, and waits at the listeners.
+    pub(crate) fn begin<R: Net + Wait + Clock>(
+        self,
+        rt: &R,
+        alloc: Global,
+        log: &PoolLog<R>,
+    ) -> io::Result<Acceptor>
+    where
+        R: Drop,
+    {
+        let Listening {
+            listeners,
+            names,
+            missing,
+        } = self;
+        for named in &names {
+            log.listening(named.host.as_bytes(), named.port);
+        }
+        if let Some((named, why)) = &missing {
+            log.not_listening(named.host.as_bytes(), named.port, why);
+        }
+        Acceptor::new(rt, alloc, listeners)
+    }
+}

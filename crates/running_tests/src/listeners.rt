@@ -1,0 +1,116 @@
+//! Several places at which clients come in, and several at which a server is.
+use mio::net::TcpListener;
+use std::net;
+use std::net::{IpAddr, Ipv4Addr, Net, SocketAddr, TcpStream};
+use std::test::Fail;
+use tcp_end::acceptor::{Acceptor, Listener, Turn};
+use tcp_end::dial::dial;
+use tcp_end::places::Place;
+
+/// Two addresses of this machine.
+const BOTH: &[u8] = b"127.0.0.1,127.0.0.2";
+
+/// The second of them.
+fn too() -> Ipv4Addr {
+    Ipv4Addr::new(127, 0, 0, 2)
+}
+
+/// Listeners at both addresses, at one port that was free at both, and the port.
+fn listen_at_both<R: Net<Listener = net::TcpListener, Stream = net::TcpStream>>(
+    rt: &R,
+) -> Result<(TcpListener, TcpListener, u16), Fail> {
+    let first = TcpListener::bind(rt, SocketAddr::from((Ipv4Addr::LOCALHOST, 0)))?;
+    let port = first.local_addr()?.port();
+    let second = TcpListener::bind(rt, SocketAddr::from((too(), port)))?;
+    Ok((first, second, port))
+}
+
+/// A client of this address and port, and its own port.
+fn client<R: Net<Listener = net::TcpListener, Stream = net::TcpStream>>(
+    rt: &R,
+    address: Ipv4Addr,
+    port: u16,
+) -> Result<(TcpStream, u16), Fail> {
+    let stream = TcpStream::connect(rt, SocketAddr::from((address, port)))?;
+    let own = stream.local_addr()?.port();
+    Ok((stream, own))
+}
+
+/// The port of the next client that comes; at most a hundred turns are taken.
+fn next_port(acceptor: &mut Acceptor) -> Option<u16> {
+    for _ in 0..100u32 {
+        if let Turn::Client(_, peer) = acceptor.turn() {
+            return Some(peer.port);
+        }
+    }
+    None
+}
+
+// Three wait at the first listener, and one at the second: it is served behind one of those.
+#[test]
+fn no_listener_starves(rt: HostRuntime) -> Result<(), Fail> {
+    let (first, second, port) = listen_at_both(&rt)?;
+    let mut listeners = Vec::new(rt.alloc());
+    listeners.push(Listener::Tcp(first))?;
+    listeners.push(Listener::Tcp(second))?;
+    let mut acceptor = Acceptor::new(&rt, rt.alloc(), listeners)?;
+    let (_one, one) = client(&rt, Ipv4Addr::LOCALHOST, port)?;
+    let (_two, two) = client(&rt, Ipv4Addr::LOCALHOST, port)?;
+    let (_three, three) = client(&rt, Ipv4Addr::LOCALHOST, port)?;
+    let (_four, four) = client(&rt, too(), port)?;
+    for wanted in [one, four, two, three] {
+        assert!(rt; next_port(&mut acceptor) == Some(wanted));
+    }
+    Ok(())
+}
+
+/// The place of this port among those of the next clients, of which so many are taken.
+fn place_of(acceptor: &mut Acceptor, port: u16, count: u32) -> Option<u32> {
+    for place in 0..count {
+        if next_port(acceptor) == Some(port) {
+            return Some(place);
+        }
+    }
+    None
+}
+
+// There is always one more at the first; the second was looked at before its own came.
+#[test]
+fn a_late_client_beside_many_is_served(rt: HostRuntime) -> Result<(), Fail> {
+    let (first, second, port) = listen_at_both(&rt)?;
+    let mut listeners = Vec::new(rt.alloc());
+    listeners.push(Listener::Tcp(first))?;
+    listeners.push(Listener::Tcp(second))?;
+    let mut acceptor = Acceptor::new(&rt, rt.alloc(), listeners)?;
+    let mut many = Vec::new(rt.alloc());
+    for _ in 0..40u32 {
+        many.push(client(&rt, Ipv4Addr::LOCALHOST, port)?)?;
+    }
+    assert!(rt; place_of(&mut acceptor, 0, 3) == None);
+    let (_late, late) = client(&rt, too(), port)?;
+    assert!(rt; place_of(&mut acceptor, late, 20).is_some());
+    Ok(())
+}
+
+/// The address at which a server of both is reached at this turn.
+fn reached(rt: &HostRuntime, port: u16, turn: u64) -> Option<IpAddr> {
+    match dial(rt, rt.alloc(), BOTH, port, turn, 15, &None) {
+        Ok((_, Place::Ip(address))) => Some(address.ip()),
+        _ => None,
+    }
+}
+
+// Each begins at its own turn; where one is gone, the other is tried.
+#[test]
+fn servers_are_reached_in_turn(rt: HostRuntime) -> Result<(), Fail> {
+    let (first, second, port) = listen_at_both(&rt)?;
+    let here = Some(IpAddr::V4(Ipv4Addr::LOCALHOST));
+    let there = Some(IpAddr::V4(too()));
+    assert!(rt; reached(&rt, port, 6) == here);
+    assert!(rt; reached(&rt, port, 7) == there);
+    drop(first);
+    assert!(rt; reached(&rt, port, 8) == there && reached(&rt, port, 9) == there);
+    drop(second);
+    assert!(rt; reached(&rt, port, 10) == None);
+    Ok(())
+}

@@ -1,0 +1,118 @@
+#!/usr/bin/env python3
+"""Shows that idle links are watched by `pgsess serve`: whatever ends them, the clients that come behind it are served, in front of a PostgreSQL
+server of Debian.
+
+Usage: restarts.py PROGRAM. With POOLER=pgbouncer in the environment PgBouncer is tried, to see what is to be expected.
+"""
+import collections
+import os
+import re
+import signal
+import sys
+import time
+
+from cluster import Cluster, Passes, Place, Pooler, set_up, until
+from wire import Client, Cut, Refused
+
+KIND = os.environ.get("POOLER", "pgsess")
+LINKS, ROUNDS = 8, 2
+# seconds: how long an idle session may last at the server, and how far apart clients come
+IDLE, APART, CLIENTS = 1, 1.5, 8
+CLOSED = r"^pgsess: idle link (\d+) closed: (.*)$"
+
+
+def told(port):
+    """What a client is told that asks for one row."""
+    try:
+        client = Client(port, "ann")
+        client.ask("SELECT 1")
+        client.leave()
+        return "served"
+    except Refused as error:
+        return error.code
+    except (Cut, OSError):
+        return "cut"
+
+
+class Show:
+    def __init__(self, program):
+        self.place, self.passes = Place(), Passes("restarts")
+        self.cluster = Cluster(self.place)
+        self.pooler = Pooler(self.place, self.cluster, program, kind=KIND, size=LINKS + 2)
+
+    def idle_links(self):
+        """Leaves so many links idle."""
+        clients = [Client(self.pooler.port, "ann") for _ in range(LINKS)]
+        for client in clients:
+            client.leave()
+        if not until(lambda: len(self.cluster.backends()) == LINKS, 10):
+            sys.exit(f"there are {len(self.cluster.backends())} sessions and not {LINKS}")
+
+    def log(self):
+        return (self.place.folder / f"{KIND}.err").read_text() if KIND == "pgsess" else ""
+
+    def causes(self, before):
+        """Why idle links were closed since then, each link once."""
+        found = re.findall(CLOSED, self.log()[before:], re.M)
+        return collections.Counter(cause for _, cause in dict(found).items())
+
+    def round(self, what, end, cause, count=LINKS):
+        """Ends idle sessions so, and counts what the clients behind it are told."""
+        self.idle_links()
+        before = len(self.log())
+        end()
+        outcomes = collections.Counter(told(self.pooler.port) for _ in range(2 * LINKS))
+        self.passes.same(f"{what}: {2 * LINKS} clients", dict(outcomes), {"served": 2 * LINKS})
+        if KIND == "pgsess":
+            until(lambda: sum(self.causes(before).values()) >= count, 5)
+            causes = self.causes(before)
+            self.passes.holds(f"{what}: the log names each link and why", sum(causes.values()) == count and all(re.search(cause, it) for it in causes), str(causes))
+
+    def restart(self, mode):
+        self.cluster.stop(mode)
+        self.cluster.start()
+
+    def kill_one(self):
+        """A server whose one process is killed ends all, and recovers."""
+        os.kill(self.cluster.backends()[0], signal.SIGKILL)
+        time.sleep(0.2)
+        until(self.cluster.is_ready)
+
+    def timeouts(self):
+        """A server that ends idle sessions of its own accord, and clients farther apart than that."""
+        self.cluster.tell(f"ALTER ROLE ann SET idle_session_timeout = '{IDLE}s'", "postgres")
+        outcomes = collections.Counter()
+        for _ in range(CLIENTS):
+            outcomes[told(self.pooler.port)] += 1
+            time.sleep(APART)
+        self.passes.same("idle_session_timeout at the server, and clients farther apart", dict(outcomes), {"served": CLIENTS})
+        self.cluster.tell("ALTER ROLE ann RESET idle_session_timeout", "postgres")
+
+    def run(self):
+        for _ in range(ROUNDS):
+            self.round("stop -m fast, and start", lambda: self.restart("fast"), "its server said 57P01 ")
+            self.round("stop -m immediate, and start", lambda: self.restart("immediate"), "its server said 57P01 |server connection ended|its server said 57P02 ")
+            self.round("SIGKILL of one process", self.kill_one, "its server said 57P02 |server connection ended")
+        self.timeouts()
+        if KIND == "pgsess":
+            self.passes.tell("SHUTDOWN", self.pooler.shut())
+        self.pooler.stop()
+        self.cluster.stop()
+
+
+def main(program):
+    set_up()
+    show = Show(program)
+    try:
+        show.run()
+    finally:
+        show.pooler.stop()
+        for pid in show.place.processes():
+            os.kill(pid, signal.SIGKILL)
+        until(lambda: not show.place.processes())
+        show.place.clear()
+    show.passes.end()
+
+
+if __name__ == "__main__":
+    main(os.path.abspath(sys.argv[1]))
