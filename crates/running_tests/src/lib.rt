@@ -9,8 +9,6 @@ mod console;
 #[cfg(test)]
 mod gates;
 #[cfg(test)]
-mod idle_links;
-#[cfg(test)]
 mod keys;
 #[cfg(test)]
 mod listeners;

@@ -3,7 +3,7 @@ use mio::net::TcpListener;
 use std::net;
 use std::net::{IpAddr, Ipv4Addr, Net, SocketAddr, TcpStream};
 use std::test::Fail;
-use tcp_end::acceptor::{Acceptor, Listener, Turn};
+use tcp_end::acceptor::{Acceptor, Listener, Peer, Turn};
 use tcp_end::dial::dial;
 use tcp_end::places::Place;
 
@@ -36,11 +36,20 @@ fn client<R: Net<Listener = net::TcpListener, Stream = net::TcpStream>>(
     Ok((stream, own))
 }
 
+fn port_of(peer: Peer) -> u16 {
+    let Peer { host: _, port } = peer;
+    port
+}
+
 /// The port of the next client that comes; at most a hundred turns are taken.
 fn next_port(acceptor: &mut Acceptor) -> Option<u16> {
     for _ in 0..100u32 {
-        if let Turn::Client(_, peer) = acceptor.turn() {
-            return Some(peer.port);
+        match acceptor.turn() {
+            Turn::Client(client, peer) => {
+                drop(client);
+                return Some(port_of(peer));
+            }
+            Turn::Nobody | Turn::Failed => {}
         }
     }
     None

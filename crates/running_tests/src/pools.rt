@@ -6,6 +6,7 @@ use crate::pairs::{HERE, listen};
 use ini_config::laws::read_settings_are_within_bounds;
 use ini_config::{Settings, read_settings};
 use log_lines::events::Totals;
+use mio::net::TcpListener;
 use pool_run::keeping::{Source, Unread};
 use pool_run::listening::Listening;
 use pool_run::pool::serve_on;
@@ -57,6 +58,20 @@ fn settings(alloc: Global, port: u16, options: &str) -> Option<Settings>
         "[databases]\nshop = host=127.0.0.1 port={port} dbname=shop\n[pgbouncer]\nauth_type = trust\n{options}"
     ).ok()?;
     settings_of(alloc, text.as_bytes())
+}
+
+/// A pool's listener at this port.
+fn listening_at(
+    alloc: Global,
+    listener: TcpListener,
+    settings: &Settings,
+    port: u16,
+) -> Option<Listening> {
+    let mut listening = Listening::new(alloc);
+    listening
+        .add(alloc, Listener::Tcp(listener), settings, HERE, port)
+        .ok()?;
+    Some(listening)
 }
 
 /// A stand-in server for so many connections, and its port. It ends with the last of them.
@@ -122,45 +137,8 @@ impl Source for Elsewhere {
     }
 }
 
-/// A pool under these options, over servers at this port, and then over those of the source, which writes its log there; and its own port.
-/// It ends with the last of so many clients, or at SHUTDOWN; without a total where its settings or users can't be read.
-pub fn start_pool_with_log<
-    R: Threads
-        + Wait
-        + Clock
-        + Net<Listener = net::TcpListener, Stream = net::TcpStream>
-        + Copy
-        + Send
-        + Sync
-        + 'static,
-    W: Write + Drop + Send + 'static,
->(
-    rt: R,
-    alloc: Global,
-    server: u16,
-    options: &'static str,
-    source: Elsewhere,
-    log: W,
-    count: Option<u64>,
-) -> Result<(JoinHandle<Option<Totals>>, u16), Fail> {
-    let (listener, port) = listen(&rt)?;
-    let pool = thread::spawn(&rt, move || -> Option<Totals> {
-        let settings = settings(alloc, server, options)?;
-        let users = users(alloc)?;
-        let mut listening = Listening::new(alloc);
-        listening
-            .add(alloc, Listener::Tcp(listener), &settings, HERE, port)
-            .ok()?;
-        serve_on(
-            rt, alloc, listening, settings, users, source, log, [0; 32], count,
-        )
-        .ok()
-        .flatten()
-    })?;
-    Ok((pool, port))
-}
-
-/// The same without a log.
+/// A pool under these options, over servers at this port, and then over those of the source; and its own port. It ends with the last of
+/// so many clients, or at SHUTDOWN; without a total where its settings or users can't be read.
 pub fn start_pool_of<
     R: Threads
         + Wait
@@ -178,7 +156,19 @@ pub fn start_pool_of<
     source: Elsewhere,
     count: Option<u64>,
 ) -> Result<(JoinHandle<Option<Totals>>, u16), Fail> {
-    start_pool_with_log(rt, alloc, server, options, source, io::sink(), count)
+    let (listener, port) = listen(&rt)?;
+    let pool = thread::spawn(&rt, move || -> Option<Totals> {
+        let settings = settings(alloc, server, options)?;
+        let users = users(alloc)?;
+        let listening = listening_at(alloc, listener, &settings, port)?;
+        let log = io::sink();
+        serve_on(
+            rt, alloc, listening, settings, users, source, log, [0; 32], count,
+        )
+        .ok()
+        .flatten()
+    })?;
+    Ok((pool, port))
 }
 
 /// A pool for so many clients under these options, over servers at this port; and its own port. It ends with the last client.
