@@ -120,6 +120,8 @@ gate:
 	scripts/calls.py $(program) 40
 	scripts/reach.sh $(program)
 	scripts/restarts.sh $(program)
+	scripts/limits.sh $(program)
+	scripts/monitors.sh $(program)
 	scripts/cancels.sh $(program)
 	scripts/console.sh $(program)
 	scripts/abuse.sh $(program)

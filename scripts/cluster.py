@@ -224,9 +224,10 @@ def files_of(pid):
 
 class Pooler:
     """A pooler in front of the server, with the settings of examples/pgsess.ini but for those that are named. `more` has further
-    databases, each with its port; `untracked` names a startup parameter that isn't followed, but dropped."""
+    databases, each with its port; `untracked` names a startup parameter that isn't followed, but dropped; `lines` are further ones of the
+    settings. It may have so many files open at most."""
 
-    def __init__(self, place, cluster, program, kind="pgsess", auth="trust", size=20, clients=100, wait=120, closed=1, links=1000, more=None, untracked=""):
+    def __init__(self, place, cluster, program, kind="pgsess", auth="trust", size=20, clients=100, wait=120, closed=1, links=1000, more=None, untracked="", lines="", files=None):
         self.place, self.port, self.kind = place, free_port(), kind
         users = place.write("users.txt", "".join(f'"{name}" "{secret}"\n' for name, (_, secret) in USERS.items()))
         self.errors = open(place.folder / f"{kind}.err", "ab")
@@ -250,9 +251,10 @@ class Pooler:
             "^ignore_startup_parameters = .*": f"ignore_startup_parameters = options,{untracked}",
         }
         words = [part for old, new in changes.items() for part in ("-e", f"s/{old}/{new}/")]
-        settings = subprocess.run(["sed", *words, TOP / "examples/pgsess.ini"], capture_output=True, check=True).stdout
+        settings = subprocess.run(["sed", *words, TOP / "examples/pgsess.ini"], capture_output=True, check=True).stdout + lines.encode()
         ini, seed = place.write("pgsess.ini", settings), place.write("seed", os.urandom(32))
-        self.process = place.start(program, "serve", "--ini", ini, "--users", users, "--key-seed", seed, stdout=subprocess.PIPE, stderr=self.errors)
+        limit = ["prlimit", f"--nofile={files}"] if files else []
+        self.process = place.start(*limit, program, "serve", "--ini", ini, "--users", users, "--key-seed", seed, stdout=subprocess.PIPE, stderr=self.errors)
         line = self.process.stdout.readline().decode().strip()
         if line != f"listening {HERE} {self.port}":
             self.process.wait(SECONDS)

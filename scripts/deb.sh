@@ -21,6 +21,7 @@ install -D -m 644 "$here/examples/catalogue.tsv" "$tree/usr/share/doc/pgsess/exa
 install -m 644 "$here"/packaging/recipes/*.c* "$tree/usr/share/doc/pgsess/examples/"
 install -m 755 "$here/packaging/recipes/pgsess-users" "$tree/usr/share/doc/pgsess/examples/pgsess-users"
 install -m 644 "$here/packaging/kubernetes.yaml" "$tree/usr/share/doc/pgsess/examples/kubernetes.yaml"
+install -m 644 "$here/packaging/grafana/pgsess.json" "$tree/usr/share/doc/pgsess/examples/grafana.json"
 install -m 644 "$here/packaging/debian/copyright" "$tree/usr/share/doc/pgsess/copyright"
 install -m 644 "$here/docs/OPERATING.md" "$here/docs/MIGRATING.md" "$here/docs/RECIPES.md" "$here/docs/SPEED.md" "$here/CHANGELOG.md" "$tree/usr/share/doc/pgsess/"
 # secrets are the service's alone

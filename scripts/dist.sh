@@ -26,6 +26,7 @@ install -D -m 644 -t "$tree/lib/systemd/system" "$here/packaging/pgsess.service"
 install -D -m 644 -t "$tree/share/doc/pgsess" "$here/LICENSE" "$here/SECURITY.md" "$here/CHANGELOG.md" "$here/docs/OPERATING.md" "$here/docs/MIGRATING.md" "$here/docs/RECIPES.md" \
     "$here/packaging/debian/copyright"
 install -D -t "$tree/share/doc/pgsess/examples" "$here"/packaging/recipes/*
+install -m 644 "$here/packaging/grafana/pgsess.json" "$tree/share/doc/pgsess/examples/grafana.json"
 install -m 644 "$here/examples/pgsess.ini" "$here/packaging/users.txt" "$tree/share/doc/pgsess/"
 printf 'version %s\ncommit %s\nkit %s\n' "$version" "$commit" "$(cat "$here/RATTLE_KIT")" > "$tree/BUILD"
 tar -C "$work" --sort=name --owner=0 --group=0 --numeric-owner --mtime="@$SOURCE_DATE_EPOCH" -c "$name" | gzip -9n > "$folder/$name-linux-amd64.tar.gz"

@@ -33,8 +33,8 @@ from wire import Client, Cut, Refused, md5_answer, message, query, startup
 
 SECONDS = 20
 LANES = 6
-# a start and a reset are given up after 600 turns of 100 ms without a byte
-GIVEN_UP = (50, 120)
+# seconds: a start is given up after server_connect_timeout, which is 15; a reset after 600 turns of 100 ms without a byte
+GIVEN_UP = (14, 120)
 SLOWEST = 5.0
 # at rest: who accepts, the clock, the log, and those that wait for a connection; others end after ten seconds
 MOST_THREADS = 3 + 8
@@ -417,7 +417,7 @@ class Show:
             self.groups[case.group].append(f"{case.name}: {fault}" if fault else "")
 
     def given_up(self, case, row):
-        """A case that the pooler gives up after a minute."""
+        """A case that the pooler gives up after a while."""
         began = time.monotonic()
         self.played(case, row, 2 * GIVEN_UP[1])
         return time.monotonic() - began
@@ -501,7 +501,8 @@ class Show:
         self.passes.holds("no thread has more than one poll", self.pooler.has_its_polls(), f"{self.pooler.threads()} threads")
         all_of_them = [Client(self.pooler.port, "root", "pgbouncer") for _ in range(clients)]
         try:
-            Client(self.pooler.port, "root", "pgbouncer")
+            # one that may not use the console's own places
+            Client(self.pooler.port, "ann", "pgbouncer")
             refused = "none"
         except Refused as error:
             refused = error.code

@@ -43,6 +43,8 @@ check "its checksums are right" bash -c "cd '$work/dist' && sha256sum -c SHA256S
 check "and the same again" bash -c "cp '$work/dist/SHA256SUMS' '$work/sums' && scripts/dist.sh '$program' '$work/dist' > /dev/null && cmp '$work/sums' '$work/dist/SHA256SUMS'"
 check "it names its version and its kit" bash -c "tar -xzOf '$work'/dist/pgsess-*.tar.gz --wildcards '*/BUILD' | grep -qx 'version $(cat VERSION)'"
 check "the image has what its file copies" bash -c "sed -n 's/^COPY\( --chmod=755\)\? \(.*\) [^ ]*\$/\2/p' packaging/Dockerfile | tr ' ' '\n' | grep -v ^build/ | while read -r it; do [ -e \"\$it\" ] || exit 1; done"
+check "each metric of the dashboard is one that is told" scripts/metrics.py packaging/grafana/pgsess.json
+check "the dashboard is packed" cmp packaging/grafana/pgsess.json "$work/root/usr/share/doc/pgsess/examples/grafana.json"
 if python3 -c 'import yaml' 2> /dev/null; then
     check "the manifest can be read" python3 -c 'import sys, yaml; kinds = [it["kind"] for it in yaml.safe_load_all(open(sys.argv[1]))]; sys.exit(kinds != ["ConfigMap", "Secret", "Service", "Deployment"])' packaging/kubernetes.yaml
 fi

@@ -8,16 +8,19 @@ import collections
 import os
 import re
 import signal
+import subprocess
 import sys
+import threading
 import time
 
-from cluster import Cluster, Passes, Place, Pooler, set_up, until
+from cluster import USERS, Cluster, Passes, Place, Pooler, set_up, until
 from wire import Client, Cut, Refused
 
 KIND = os.environ.get("POOLER", "pgsess")
 LINKS, ROUNDS = 8, 2
+BENCH_CLIENTS, BENCH_SECONDS = 8, 12
 # seconds: how long an idle session may last at the server, and how far apart clients come
-IDLE, APART, CLIENTS = 1, 1.5, 8
+IDLE, APART, CLIENTS = 2, 3, 20
 CLOSED = r"^pgsess: idle link (\d+) closed: (.*)$"
 
 
@@ -88,6 +91,51 @@ class Show:
         self.passes.same("idle_session_timeout at the server, and clients farther apart", dict(outcomes), {"served": CLIENTS})
         self.cluster.tell("ALTER ROLE ann RESET idle_session_timeout", "postgres")
 
+    def console(self, command):
+        """The rows of a command of the console."""
+        it = Client(self.pooler.port, "root", "pgbouncer", USERS["root"][0])
+        try:
+            return it.ask(command)
+        finally:
+            it.leave()
+
+    def switch_over(self):
+        """A server that is taken down in an orderly manner, under clients that come all the time."""
+        words = ["pgbench", "-n", "-C", "-c", str(BENCH_CLIENTS), "-j", str(BENCH_CLIENTS), "-T", str(BENCH_SECONDS), "-f", "-", "-h", "127.0.0.1", "-p", str(self.pooler.port), "-U", "ann", "shop"]
+        bench = subprocess.Popen(words, stdin=subprocess.PIPE, stdout=subprocess.PIPE, stderr=subprocess.PIPE, text=True)
+        bench.stdin.write("SELECT 1;\n")
+        bench.stdin.close()
+        time.sleep(2)
+        for command in ("PAUSE", "RECONNECT", "WAIT_CLOSE"):
+            self.console(command)
+        self.passes.same("PAUSE, RECONNECT, WAIT_CLOSE: no session is left at the server", self.cluster.backends(), [])
+        self.restart("fast")
+        self.console("RESUME")
+        out, errors = bench.stdout.read(), bench.stderr.read()
+        status = bench.wait()
+        done = re.search(r"number of transactions actually processed: (\d+)", out)
+        failed = re.search(r"number of failed transactions: (\d+)", out)
+        self.passes.same("PAUSE, RECONNECT, restart, RESUME under pgbench -C: none fails", (status, failed[1] if failed else "0", errors.count("error")), (0, "0", 0))
+        self.passes.holds("and clients were served before it and behind it", done and int(done[1]) > BENCH_CLIENTS * 10, out[-300:])
+
+    def waits_for_close(self):
+        """WAIT_CLOSE is answered once the last link that was there at RECONNECT has gone."""
+        busy = Client(self.pooler.port, "ann")
+        busy.ask("SELECT 1")
+        before = self.cluster.backends()
+        self.console("RECONNECT")
+        answered = []
+        waiter = threading.Thread(target=lambda: answered.append(self.console("WAIT_CLOSE shop")))
+        waiter.start()
+        self.console("WAIT_CLOSE closed")
+        time.sleep(1.5)
+        self.passes.same("WAIT_CLOSE waits while such a link is lent", answered, [])
+        self.passes.same("and another client has a new one", (told(self.pooler.port), any(it not in before for it in self.cluster.backends())), ("served", True))
+        busy.leave()
+        waiter.join(10)
+        self.passes.same("it is answered once that has gone", answered, [[]])
+        self.passes.holds("and its session has ended", until(lambda: not set(before) & set(self.cluster.backends()), 5))
+
     def run(self):
         for _ in range(ROUNDS):
             self.round("stop -m fast, and start", lambda: self.restart("fast"), "its server said 57P01 ")
@@ -95,6 +143,8 @@ class Show:
             self.round("SIGKILL of one process", self.kill_one, "its server said 57P02 |server connection ended")
         self.timeouts()
         if KIND == "pgsess":
+            self.switch_over()
+            self.waits_for_close()
             self.passes.tell("SHUTDOWN", self.pooler.shut())
         self.pooler.stop()
         self.cluster.stop()

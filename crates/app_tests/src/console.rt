@@ -3,8 +3,9 @@ use crate::console_books::{Rows, one_lease, view};
 use book_model::events::ClientState;
 use book_register::view::BookView;
 use bytes::BytesMut;
+use console_core::commands::{Command, read_command};
 use console_core::messages::{Response, response_to};
-use console_core::reply::answer;
+use console_core::reply::{ConsoleReply, answer};
 use console_core::writing::{put_refusal, put_reply, put_welcome};
 use frame_view::Frame;
 use ini_config::read_settings;
@@ -43,7 +44,7 @@ const SYNTAX: &[u8] = b"E\0\0\0\x28SERROR\0VERROR\0C42601\0Msyntax error\0\0Z\0\
 
 #[test]
 fn commands(rt: HostRuntime) -> Result<(), Fail> {
-    let rows: [(&[u8], &[u8]); 10] = [
+    let rows: [(&[u8], &[u8]); 15] = [
         (b"SHOW VERSION;", VERSION),
         (b"show version", VERSION),
         (
@@ -57,6 +58,17 @@ fn commands(rt: HostRuntime) -> Result<(), Fail> {
         (b"pause;", b"C\0\0\0\x0aPAUSE\0Z\0\0\0\x05I"),
         (b"  Resume  ;  ", b"C\0\0\0\x0bRESUME\0Z\0\0\0\x05I"),
         (b"\nshutDown", b"C\0\0\0\x0dSHUTDOWN\0Z\0\0\0\x05I"),
+        (
+            b"SHUTDOWN WAIT_FOR_CLIENTS",
+            b"C\0\0\0\x0dSHUTDOWN\0Z\0\0\0\x05I",
+        ),
+        (
+            b"shutdown\twait_for_Servers ;",
+            b"C\0\0\0\x0dSHUTDOWN\0Z\0\0\0\x05I",
+        ),
+        (b"reconnect;", b"C\0\0\0\x0eRECONNECT\0Z\0\0\0\x05I"),
+        (b"wait_close", b"C\0\0\0\x0fWAIT_CLOSE\0Z\0\0\0\x05I"),
+        (b"WAIT_CLOSE shop;", b"C\0\0\0\x0fWAIT_CLOSE\0Z\0\0\0\x05I"),
     ];
     for (command, wanted) in rows {
         assert!(rt; is_answer(rt.alloc(), command, wanted)?);
@@ -66,7 +78,7 @@ fn commands(rt: HostRuntime) -> Result<(), Fail> {
 
 #[test]
 fn no_commands(rt: HostRuntime) -> Result<(), Fail> {
-    let rows: [&[u8]; 22] = [
+    let rows: [&[u8]; 33] = [
         b"",
         b";",
         b"  ",
@@ -89,11 +101,47 @@ fn no_commands(rt: HostRuntime) -> Result<(), Fail> {
         b"SHOW VERSION\x0b",
         b"SHOW VERSION -- now",
         b"\xd0\x9fAUSE",
+        b"PAUSE_",
+        b"SHOW_VERSION",
+        b"RECONNECT shop",
+        b"SHUTDOWN NOW",
+        b"SHUTDOWN WAIT_FOR",
+        b"SHUTDOWN WAIT_FOR_CLIENTS now",
+        b"WAIT_CLOSE a b",
+        b"WAIT_CLOSE a;b",
+        b"WAIT_CLOSE \"a",
+        b"WAIT_CLOSE \"a\"b",
+        b"WAIT_CLOSE ;;",
     ];
     for command in rows {
         assert!(rt; is_answer(rt.alloc(), command, SYNTAX)?);
     }
     Ok(())
+}
+
+/// The database that a WAIT_CLOSE names.
+fn awaited(text: &[u8]) -> Option<&[u8]> {
+    match read_command(text) {
+        Some(Command::Await(database)) => database,
+        _ => None,
+    }
+}
+
+#[test]
+fn databases_that_are_awaited(rt: HostRuntime) {
+    let rows: [(&[u8], Option<&[u8]>); 8] = [
+        (b"WAIT_CLOSE", None),
+        (b"WAIT_CLOSE;", None),
+        (b"WAIT_CLOSE shop", Some(b"shop")),
+        (b"wait_close\t Shop-2 ; ", Some(b"Shop-2")),
+        (b"WAIT_CLOSE a\"b", Some(b"a\"b")),
+        (b"WAIT_CLOSE \"my ;shop\";", Some(b"my ;shop")),
+        (b"WAIT_CLOSE\"shop\"", Some(b"shop")),
+        (b"WAIT_CLOSE \"\"", Some(b"")),
+    ];
+    for (text, wanted) in rows {
+        assert!(rt; awaited(text) == wanted);
+    }
 }
 
 /// Whether these are the bytes of the pieces, one after another.
@@ -249,7 +297,7 @@ fn one_pool(rt: HostRuntime) -> Result<(), Fail> {
 }
 
 /// What an empty file says.
-const DEFAULTS: [&[u8]; 25] = [
+const DEFAULTS: [&[u8]; 33] = [
     b"D\0\0\0\x22\0\x02\0\0\0\x0blisten_addr\0\0\0\x09127.0.0.1",
     b"D\0\0\0\x1d\0\x02\0\0\0\x0blisten_port\0\0\0\x046432",
     b"D\0\0\0\x1a\0\x02\0\0\0\x09auth_type\0\0\0\x03md5",
@@ -275,10 +323,18 @@ const DEFAULTS: [&[u8]; 25] = [
     b"D\0\0\0\x1c\0\x02\0\0\0\x0dtcp_keepintvl\0\0\0\x010",
     b"D\0\0\0\x1a\0\x02\0\0\0\x0btcp_keepcnt\0\0\0\x010",
     b"D\0\0\0\x1f\0\x02\0\0\0\x10tcp_user_timeout\0\0\0\x010",
+    b"D\0\0\0\x26\0\x02\0\0\0\x16server_connect_timeout\0\0\0\x0215",
+    b"D\0\0\0\x24\0\x02\0\0\0\x14client_login_timeout\0\0\0\x0260",
+    b"D\0\0\0\x19\0\x02\0\0\0\x0bstats_users\0\0\0\0",
+    b"D\0\0\0\x1c\0\x02\0\0\0\x0cstats_period\0\0\0\x0260",
+    b"D\0\0\0\x18\0\x02\0\0\0\x09log_stats\0\0\0\x011",
+    b"D\0\0\0\x1a\0\x02\0\0\0\x0cmetrics_addr\0\0\0\0",
+    b"D\0\0\0\x1e\0\x02\0\0\0\x0cmetrics_port\0\0\0\x049127",
+    b"D\0\0\0\x21\0\x02\0\0\0\x0dconsole_style\0\0\0\x06pgsess",
 ];
 
 /// What the next one says.
-const CHANGED: [&[u8]; 25] = [
+const CHANGED: [&[u8]; 33] = [
     b"D\0\0\0\x24\0\x02\0\0\0\x0blisten_addr\0\0\0\x0b0.0.0.0,::1",
     b"D\0\0\0\x1a\0\x02\0\0\0\x0blisten_port\0\0\0\x011",
     b"D\0\0\0\x1c\0\x02\0\0\0\x09auth_type\0\0\0\x05plain",
@@ -304,10 +360,18 @@ const CHANGED: [&[u8]; 25] = [
     b"D\0\0\0\x1d\0\x02\0\0\0\x0dtcp_keepintvl\0\0\0\x0210",
     b"D\0\0\0\x1a\0\x02\0\0\0\x0btcp_keepcnt\0\0\0\x015",
     b"D\0\0\0\x28\0\x02\0\0\0\x10tcp_user_timeout\0\0\0\x0a2147483647",
+    b"D\0\0\0\x25\0\x02\0\0\0\x16server_connect_timeout\0\0\0\x010",
+    b"D\0\0\0\x2c\0\x02\0\0\0\x14client_login_timeout\0\0\0\x0a2147483647",
+    b"D\0\0\0\x22\0\x02\0\0\0\x0bstats_users\0\0\0\x09mon,\"a b\"",
+    b"D\0\0\0\x1b\0\x02\0\0\0\x0cstats_period\0\0\0\x011",
+    b"D\0\0\0\x18\0\x02\0\0\0\x09log_stats\0\0\0\x010",
+    b"D\0\0\0\x27\0\x02\0\0\0\x0cmetrics_addr\0\0\0\x0d127.0.0.1,::1",
+    b"D\0\0\0\x1f\0\x02\0\0\0\x0cmetrics_port\0\0\0\x0565535",
+    b"D\0\0\0\x24\0\x02\0\0\0\x0dconsole_style\0\0\0\x09pgbouncer",
 ];
 
 const FILE: &[u8] =
-    b"[pgbouncer]\nlisten_addr = * , ::1\nlisten_port = 00001\nauth_type = plain\nadmin_users = root , ,\"a b\",\xe9\npool_mode=session\nserver_reset_query = Discard All\nmax_client_conn = 10000\ndefault_pool_size = 3\nmax_links = 4\nquery_wait_timeout = 0\nserver_lifetime = 005\nserver_idle_timeout = 2147483647\nmax_packet_size = 1024\nignore_startup_parameters = extra_float_digits,  Options\ntrack_extra_parameters =\nuntrack_parameters = TimeZone, application_name\nunix_socket_dir = /run/pool\nunix_socket_mode = 660\nunix_socket_group = www\npeer_id = 127\ntcp_keepalive = 0\ntcp_keepidle = 60\ntcp_keepintvl = 10\ntcp_keepcnt = 5\ntcp_user_timeout = 2147483647\nverbose = 2\n";
+    b"[pgbouncer]\nlisten_addr = * , ::1\nlisten_port = 00001\nauth_type = plain\nadmin_users = root , ,\"a b\",\xe9\npool_mode=session\nserver_reset_query = Discard All\nmax_client_conn = 10000\ndefault_pool_size = 3\nmax_links = 4\nquery_wait_timeout = 0\nserver_lifetime = 005\nserver_idle_timeout = 2147483647\nmax_packet_size = 1024\nignore_startup_parameters = extra_float_digits,  Options\ntrack_extra_parameters =\nuntrack_parameters = TimeZone, application_name\nunix_socket_dir = /run/pool\nunix_socket_mode = 660\nunix_socket_group = www\npeer_id = 127\ntcp_keepalive = 0\ntcp_keepidle = 60\ntcp_keepintvl = 10\ntcp_keepcnt = 5\ntcp_user_timeout = 2147483647\nserver_connect_timeout = 00\nclient_login_timeout = 2147483647\nstats_users = mon ,, \"a b\"\nstats_period = 001\nlog_stats = 0\nmetrics_addr = localhost, ::1\nmetrics_port = 65535\nconsole_style = pgbouncer\nverbose = 2\n";
 
 #[test]
 fn settings(rt: HostRuntime) -> Result<(), Fail> {
@@ -339,6 +403,31 @@ fn welcome_and_error(rt: HostRuntime) -> Result<(), Fail> {
     assert!(rt; out.as_slice() == WELCOME);
     put_refusal(rt.alloc(), Cause::InvalidValue, &mut out)?;
     assert!(rt; are_pieces(out.as_slice(), WELCOME, &[], INVALID));
+    Ok(())
+}
+
+/// The bytes of a reply.
+fn written(alloc: Global, reply: &ConsoleReply) -> Result<BytesMut, Fail> {
+    let mut out = BytesMut::new(alloc);
+    put_reply(alloc, reply, &mut out)?;
+    Ok(out)
+}
+
+#[test]
+fn what_is_not_done(rt: HostRuntime) -> Result<(), Fail> {
+    let rows: [(ConsoleReply, &[u8]); 2] = [
+        (
+            ConsoleReply::NotAllowed,
+            b"E\0\0\0\x2fSERROR\0VERROR\0C42501\0Madmin access needed\0\0Z\0\0\0\x05I",
+        ),
+        (
+            ConsoleReply::ShuttingDown,
+            b"E\0\0\0\x33SERROR\0VERROR\0C57P01\0Mpooler is shutting down\0\0Z\0\0\0\x05I",
+        ),
+    ];
+    for (reply, wanted) in &rows {
+        assert!(rt; written(rt.alloc(), reply)?.as_slice() == *wanted);
+    }
     Ok(())
 }
 

@@ -1,6 +1,6 @@
 //! Lease books at one moment, as the console is handed them.
 use book_model::counts::Counts;
-use book_model::events::{ClientState, Event};
+use book_model::events::{Beyond, ClientState, Event};
 use book_model::limits::Limits;
 use book_model::rows::Rows as DatabaseRows;
 use book_register::lists::Lists;
@@ -99,6 +99,7 @@ pub(crate) fn view(alloc: Global, rows: &Rows) -> Result<BookView, AllocError> {
         clock: 7,
         is_paused: true,
         is_shut: false,
+        fresh_from: 1,
         decisions: u64::MAX,
         counts: Counts {
             arrived: 0,
@@ -120,6 +121,7 @@ pub(crate) fn view(alloc: Global, rows: &Rows) -> Result<BookView, AllocError> {
             cancelled: 0,
             leases_ended: 0,
             hung_up: 0,
+            reconnected: 0,
         },
         starts: 12,
         reuses: 0,
@@ -131,7 +133,9 @@ pub(crate) fn view(alloc: Global, rows: &Rows) -> Result<BookView, AllocError> {
 /// The book in which ann has the one lease, on shop; and after it, where it was given back.
 pub(crate) fn one_lease(alloc: Global, is_given_back: bool) -> Result<BookView, AllocError> {
     let mut lists = Lists::new(alloc, limits(alloc)?)?;
-    lists.apply(Event::Arrive);
+    lists.apply(Event::Arrive {
+        beyond: Beyond::Nothing,
+    });
     lists.apply(Event::Ask {
         client: 1,
         key: key(alloc, b"shop", b"ann")?,

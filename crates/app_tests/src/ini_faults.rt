@@ -230,6 +230,32 @@ fn no_values_of_sockets(rt: HostRuntime) -> Result<(), Fail> {
 }
 
 #[test]
+fn no_values_of_figures(rt: HostRuntime) -> Result<(), Fail> {
+    let rows: [(&str, &str); 15] = [
+        ("console_style", ""),
+        ("console_style", "PgBouncer"),
+        ("console_style", "own"),
+        ("stats_period", "0"),
+        ("stats_period", "2147483648"),
+        ("server_connect_timeout", ""),
+        ("server_connect_timeout", "-1"),
+        ("server_connect_timeout", "2147483648"),
+        ("client_login_timeout", "1s"),
+        ("client_login_timeout", "2147483648"),
+        ("metrics_addr", ""),
+        ("metrics_addr", "/run/pool"),
+        ("metrics_addr", "::1,12345::"),
+        ("metrics_port", "0"),
+        ("metrics_port", "65536"),
+    ];
+    for (key, value) in rows {
+        let text = format!(in rt.alloc(); "[pgbouncer]\n{key} = {value}")?;
+        assert!(rt; fault(rt.alloc(), text.as_bytes()) == Some((IniCause::BadValue, 2)));
+    }
+    Ok(())
+}
+
+#[test]
 fn a_fault_shows_as_code_and_line(rt: HostRuntime) -> Result<(), Fail> {
     let shown = [
         (IniCause::UnknownSection, "C1 line 7"),

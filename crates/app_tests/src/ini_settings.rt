@@ -1,5 +1,5 @@
 //! What settings files say.
-use ini_config::{AuthType, Names, Settings, read_settings};
+use ini_config::{AuthType, ConsoleStyle, Names, Settings, read_settings};
 use std::test::Fail;
 
 /// Whether there is a row of this name that says this.
@@ -337,6 +337,76 @@ fn the_unix_socket(rt: HostRuntime) -> Result<(), Fail> {
         let settings = read_settings(rt.alloc(), text)?;
         assert!(rt; settings.unix_socket_dir() == folder);
         assert!(rt; settings.unix_socket_group() == group);
+    }
+    Ok(())
+}
+
+const FIGURES: &[u8] =
+    b"[pgbouncer]\nserver_connect_timeout = 0\nclient_login_timeout = 2147483647\nstats_users = Mon, ,\"a b\"\nstats_period = 1\nlog_stats = 0\nconsole_style = pgbouncer\nmetrics_addr = localhost, ::1\nmetrics_port = 65535\n";
+
+/// The limits by the clock, and what is told of figures.
+fn figure_numbers(settings: &Settings) -> [u32; 4] {
+    [
+        settings.server_connect_timeout(),
+        settings.client_login_timeout(),
+        settings.stats_period(),
+        u32::from(settings.metrics_port()),
+    ]
+}
+
+#[test]
+fn settings_of_figures(rt: HostRuntime) -> Result<(), Fail> {
+    let files: [(&[u8], [u32; 4], bool, ConsoleStyle); 3] = [
+        (b"", [15, 60, 60, 9127], true, ConsoleStyle::Own),
+        (
+            FIGURES,
+            [0, 2_147_483_647, 1, 65_535],
+            false,
+            ConsoleStyle::PgBouncer,
+        ),
+        (
+            b"[pgbouncer]\nlog_stats = no\nconsole_style = pgsess",
+            [15, 60, 60, 9127],
+            true,
+            ConsoleStyle::Own,
+        ),
+    ];
+    for (text, numbers, is_logged, style) in files {
+        let settings = read_settings(rt.alloc(), text)?;
+        assert!(rt; figure_numbers(&settings) == numbers);
+        assert!(rt; settings.log_stats() == is_logged);
+        assert!(rt; settings.console_style() == style);
+    }
+    Ok(())
+}
+
+#[test]
+fn addresses_of_figures(rt: HostRuntime) -> Result<(), Fail> {
+    let files: [(&[u8], &[&[u8]], usize); 2] = [
+        (b"", &[], 0),
+        (FIGURES, &[b"127.0.0.1", b"::1"], 2),
+    ];
+    for (text, addresses, users) in files {
+        let settings = read_settings(rt.alloc(), text)?;
+        assert!(rt; are(settings.metrics_addr(), addresses));
+        assert!(rt; settings.stats_users().len() == users);
+    }
+    Ok(())
+}
+
+// Byte for byte, as admin users are; who may look is none of these.
+#[test]
+fn who_may_look(rt: HostRuntime) -> Result<(), Fail> {
+    let settings = read_settings(rt.alloc(), FIGURES)?;
+    let rows: [(&[u8], bool); 4] = [
+        (b"Mon", true),
+        (b"mon", false),
+        (b"\"a b\"", true),
+        (b"", false),
+    ];
+    for (user, looks) in rows {
+        assert!(rt; settings.may_look(user) == looks);
+        assert!(rt; !settings.is_admin(user));
     }
     Ok(())
 }

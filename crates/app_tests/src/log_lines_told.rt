@@ -1,6 +1,6 @@
 //! The lines of the log. Each was worked out by hand from what is told.
 use arrayvec::ArrayString;
-use log_lines::events::{Event, Heard, Totals, put_event};
+use log_lines::events::{Event, Heard, Rates, Totals, put_event};
 use log_lines::lines::put_note;
 use log_lines::notes::{Client, Loss, Note, Server, Unstarted, Visit};
 use message_view::Refusal;
@@ -56,10 +56,15 @@ fn goes_on(alloc: Global, note: Note<'_>, ms: Option<u64>, wanted: &[u8]) -> Res
 
 #[test]
 fn what_a_client_comes_to(rt: HostRuntime) -> Result<(), Fail> {
-    let rows: [(Note<'_>, Option<u64>, &[u8]); 12] = [
+    let rows: [(Note<'_>, Option<u64>, &[u8]); 14] = [
         (Note::LoggedIn, Some(7), b" in"),
         (Note::Closed, Some(3_299), b" out after 3.2 s"),
         (Note::Closed, None, b" out"),
+        (
+            Note::Late,
+            Some(60_049),
+            b" closed after 60.0 s: not through its login in client_login_timeout",
+        ),
         (
             Note::Refused(Refusal::WaitedTooLong),
             Some(120_400),
@@ -92,6 +97,7 @@ fn what_a_client_comes_to(rt: HostRuntime) -> Result<(), Fail> {
         ),
         (Note::Paused, None, b" paused the pool"),
         (Note::Resumed, None, b" resumed the pool"),
+        (Note::Reconnecting, None, b" reconnects the pool"),
         (Note::ShuttingDown, None, b" shuts the pool down"),
     ];
     for (note, ms, wanted) in rows {
@@ -285,6 +291,43 @@ fn what_the_program_tells(rt: HostRuntime) -> Result<(), Fail> {
         (
             Event::Ended(totals),
             b"pgsess: shut down: 21 decisions, 2 starts; 6 arrived, 5 granted, 4 given back, 1 lost, 3 left, 2 others",
+        ),
+    ];
+    for (event, wanted) in rows {
+        let mut line = Vec::new(rt.alloc());
+        put_event(&mut line, event)?;
+        assert!(rt; line.as_slice() == wanted);
+    }
+    Ok(())
+}
+
+#[test]
+fn what_the_program_tells_of_figures(rt: HostRuntime) -> Result<(), Fail> {
+    let rates = Rates {
+        transactions: 12,
+        queries: 34,
+        received: 567,
+        sent: 8_900,
+        transaction_time: 1_234,
+        query_time: 56,
+        wait_time: 0,
+    };
+    let rows: [(Event<'_>, &[u8]); 4] = [
+        (
+            Event::Stats(rates),
+            b"pgsess: stats: 12 transactions/s, 34 queries/s, 567 B/s in, 8900 B/s out; 1234 us a transaction, 56 us a query, 0 us a wait",
+        ),
+        (
+            Event::Late(3),
+            b"pgsess: 3 connections closed that didn't say who they are in client_login_timeout",
+        ),
+        (
+            Event::ListeningForMetrics(b"::1", 9127),
+            b"pgsess: listening for metrics at [::1]:9127",
+        ),
+        (
+            Event::NotListeningForMetrics(b"127.0.0.1", 9127, b"address in use"),
+            b"pgsess: not listening for metrics at 127.0.0.1:9127: address in use",
         ),
     ];
     for (event, wanted) in rows {

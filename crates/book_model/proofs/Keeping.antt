@@ -1,5 +1,5 @@
 -- Each event leaves a book in order that was in order.
-use Rattle.std.proofs.Common.{◌≡◌, ℕ, suc, ◌≤◌, Bool, true, false, cond, not, ◌||◌, ◌==◌, nat_lt, List, [], ◌∷◌, ◌++◌, length, count_by, find, Option, None, Some, refl, sym, ◌∙◌, arith, eq-eqb, ltb-true}
+use Rattle.std.proofs.Common.{◌≡◌, ℕ, suc, ◌+◌, ◌≤◌, ◌<◌, Bool, true, false, cond, not, ◌||◌, ◌==◌, nat_lt, List, [], ◌∷◌, ◌++◌, length, count_by, find, Option, None, Some, refl, sym, ◌∙◌, arith, eq-eqb, ltb-true}
 use Rattle.std.specs.List.{list_any}
 use Rattle.std.proofs.lemmas.Bool.{true≢false}
 use Rattle.message_view.specs.declared.refusal.Refusal.{Refusal}
@@ -7,15 +7,19 @@ use Rattle.message_view.specs.declared.refusal.Refusal.TheVariants.{TooManyClien
 use Rattle.message_view.specs.declared.views.KeyView.{KeyView}
 use Rattle.session_values.specs.State.{StartKeyOf}
 use Rattle.start_keys.specs.Keys.{same_key}
-use Rattle.book_model.specs.Book.{Limits, Book, Lease, Link, Ticket, in_pool, is_client, is_link, is_number, is_of, is_of_client, is_of_link, latest_of, link_count, pool_count, pool_size, waiting_before, with_number, without, without_ticket, empty_book}
+use Rattle.book_model.specs.Book.{Limits, Book, Lease, Link, Ticket, in_pool, is_client, is_fresh, is_link, is_number, is_of, is_of_client, is_of_link, lendable, link_count, places_beyond, pool_count, pool_size, waiting_before, with_number, without, without_ticket, empty_book}
 use Rattle.book_model.specs.Outcomes.{Answer, Event, apply, apply_return, arrives, asks, at_clock, cancels, closes, counted, ends_lease, evicts, gives_back, grants, hangs_up, has_waited, in_state, is_crowded, is_old, is_stale, is_started_as, is_strange, keys, kind_of, last_decision, leaves, lends, loses_ticket, outcome, starts, strikes, strikes_at, takes}
-use Rattle.book_model.specs.Outcomes.Event.{Arrive, Ask, Take, GiveBack, Lost, StartFailed, Leave, Tick, NewLimits, Pause, Resume, Shutdown, Keyed, Cancel, EndLease, HungUp}
-use Rattle.book_model.specs.declared.counts.Kind.TheVariants.{Arrival, ArrivalRefused, Asking, AskRefused, TicketLost, Leaving, Ticking, Limiting, Pausing, Resuming, Closing, Keying, Cancelling, LeaseEnding, HangUp}
+use Rattle.book_model.specs.Outcomes.Event.{Arrive, Ask, Take, GiveBack, Lost, StartFailed, Leave, Tick, NewLimits, Pause, Resume, Shutdown, Reconnect, Keyed, Cancel, EndLease, HungUp}
+use Rattle.book_model.specs.declared.counts.Kind.TheVariants.{Arrival, ArrivalRefused, Asking, AskRefused, TicketLost, Leaving, Ticking, Limiting, Pausing, Resuming, Closing, Keying, Cancelling, LeaseEnding, HangUp, Reconnecting}
+use Rattle.book_model.specs.declared.events.Beyond.{Beyond}
+use Rattle.book_model.specs.declared.events.Beyond.TheVariants.{Nothing, Console, LocalConsole}
 use Rattle.book_model.specs.declared.events.ClientState.TheVariants.{LoggingIn, Waiting, Active}
-use Rattle.book_model.specs.Kept.{FitsLimits, Kept, KeptClients, KeptLimits}
+use Rattle.book_model.specs.declared.limits.TheConstants.{MOST_PRESENT}
+use Rattle.book_model.specs.Kept.{FitsLimits, Kept, KeptClients, KeptLimits, LatestFreshIsLent}
 use Rattle.book_model.proofs.KeepingLists.{any_counts, found_any, found_counts, last_counts, none_counts, not_found}
 use Rattle.book_model.proofs.KeepingClients.{client_comes, client_goes, state_changes, ticket_comes, ticket_goes}
 use Rattle.book_model.proofs.KeepingLinks.{idle_goes, lent_goes, link_is_idle, link_is_lent, link_starts, place_left}
+use Rattle.book_model.proofs.KeepingFresh.{all_renewed, fresh_returns, idle_leaves, kept_is_fresh, latest_fresh, lendable_is, number_taken}
 use Rattle.book_model.proofs.KeepingLeases.{lease_ends, lease_goes, lease_is_keyed, link_is_leased, link_is_marked}
 use Rattle.book_model.proofs.KeepingCounts.{arrival_counts, counts_stay, failure_counts, loss_counts, return_counts, reuse_counts, start_counts}
 
@@ -29,18 +33,27 @@ Keeps b e a = Kept (counted a.book (kind_of b e a.reply))
 
 -- ---- clients
 
-arrives_keeps : (b : Book) → Kept b → Keeps b Arrive (arrives b)
-arrives_keeps b h =
-    by_branch (Keeps b Arrive) b.is_shut _ _ (λ _. refused ShuttingDown)
-    (λ _. by_branch (Keeps b Arrive) (nat_lt (length b.clients) b.limits.max_clients) _ _ room (λ _. refused TooManyClients))
+few_places : (beyond : Beyond) → places_beyond beyond ≤ 80
+few_places Nothing = omega arith
+few_places Console = omega arith
+few_places LocalConsole = omega arith
+
+arrives_keeps : (b : Book) (beyond : Beyond) → Kept b → Keeps b (Arrive beyond) (arrives b beyond)
+arrives_keeps b beyond h =
+    by_branch (Keeps b (Arrive beyond)) b.is_shut _ _ (λ _. refused ShuttingDown)
+    (λ _. by_branch (Keeps b (Arrive beyond)) (nat_lt (length b.clients) (b.limits.max_clients + places_beyond beyond)) _ _ room (λ _. refused TooManyClients))
   where
     refused : (refusal : Refusal) → Kept (counted b (Some ArrivalRefused))
-    refused refusal = record { clients = h.clients; links = h.links; leases = h.leases; counts = counts_stay ArrivalRefused b b refl refl refl h.counts; limits = h.limits }
+    refused refusal = record { clients = h.clients; links = h.links; fresh = h.fresh; leases = h.leases; counts = counts_stay ArrivalRefused b b refl refl refl h.counts; limits = h.limits }
 
-    room : nat_lt (length b.clients) b.limits.max_clients ≡ true → Kept (counted (record b { clients = b.clients ++ record { number = b.next_client; state = LoggingIn } ∷ []; next_client = suc b.next_client }) (Some Arrival))
+    fits : length b.clients < b.limits.max_clients + places_beyond beyond → length b.clients < MOST_PRESENT
+    fits few = omega (arith, few, few_places beyond, h.limits.clients)
+
+    room : nat_lt (length b.clients) (b.limits.max_clients + places_beyond beyond) ≡ true → Kept (counted (record b { clients = b.clients ++ record { number = b.next_client; state = LoggingIn } ∷ []; next_client = suc b.next_client }) (Some Arrival))
     room e = record {
-      clients = client_comes b.clients b.tickets b.next_client (record { number = b.next_client; state = LoggingIn }) refl (omega (arith, ltb-true _ _ e, h.limits.clients)) h.clients;
+      clients = client_comes b.clients b.tickets b.next_client (record { number = b.next_client; state = LoggingIn }) refl (fits (ltb-true _ _ e)) h.clients;
       links = h.links;
+      fresh = h.fresh;
       leases = h.leases;
       counts = arrival_counts b _ h.counts;
       limits = h.limits;
@@ -57,8 +70,8 @@ not_false false e = absurd (true≢false e)
 asks_keeps : (b : Book) (client : ℕ) (key : StartKeyOf) → is_strange b (Ask client key) ≡ false → Kept b → Keeps b (Ask client key) (asks b client key)
 asks_keeps b client key known h =
     by_branch (Keeps b (Ask client key)) b.is_shut _ _
-    (λ _. record { clients = h.clients; links = h.links; leases = h.leases; counts = counts_stay AskRefused b b refl refl refl h.counts; limits = h.limits })
-    (λ _. record { clients = state_changes Waiting client b.clients _ b.next_client more; links = h.links; leases = h.leases; counts = counts_stay Asking b (record b { clients = in_state Waiting client b.clients; tickets = b.tickets ++ record { client = client; key = key; since = b.clock } ∷ [] }) refl refl refl h.counts; limits = h.limits })
+    (λ _. record { clients = h.clients; links = h.links; fresh = h.fresh; leases = h.leases; counts = counts_stay AskRefused b b refl refl refl h.counts; limits = h.limits })
+    (λ _. record { clients = state_changes Waiting client b.clients _ b.next_client more; links = h.links; fresh = h.fresh; leases = h.leases; counts = counts_stay Asking b (record b { clients = in_state Waiting client b.clients; tickets = b.tickets ++ record { client = client; key = key; since = b.clock } ∷ [] }) refl refl refl h.counts; limits = h.limits })
   where
     there : (list_any (is_client client) b.clients ≡ true) × (list_any (is_of client) b.tickets ≡ false)
     there = second_of _ _ known
@@ -70,6 +83,7 @@ leaves_keeps : (b : Book) (client : ℕ) → Kept b → Keeps b (Leave client) (
 leaves_keeps b client h = record {
   clients = client_goes client b.clients b.tickets b.next_client h.clients;
   links = h.links;
+  fresh = h.fresh;
   leases = h.leases;
   counts = counts_stay Leaving b (leaves b client).book refl refl refl h.counts;
   limits = h.limits;
@@ -81,6 +95,7 @@ loses_keeps : (b : Book) (client : ℕ) (t : Ticket) (refusal : Refusal) → Kep
 loses_keeps b client t refusal h = record {
   clients = ticket_goes t.client b.clients b.tickets b.next_client h.clients;
   links = h.links;
+  fresh = h.fresh;
   leases = h.leases;
   counts = counts_stay TicketLost b (loses_ticket b t refusal).book refl refl refl h.counts;
   limits = h.limits;
@@ -89,11 +104,12 @@ loses_keeps b client t refusal h = record {
 granted_clients : (b : Book) (t : Ticket) → Kept b → KeptClients (in_state Active t.client b.clients) (without_ticket t.client b.tickets) b.next_client
 granted_clients b t h = state_changes Active t.client b.clients (without_ticket t.client b.tickets) b.next_client (ticket_goes t.client b.clients b.tickets b.next_client h.clients)
 
-lends_keeps : (b : Book) (client : ℕ) (t : Ticket) (link : Link) → latest_of t.key b.idle ≡ Some link → Kept b → Keeps b (Take client) (lends b t link)
+lends_keeps : (b : Book) (client : ℕ) (t : Ticket) (link : Link) → lendable b.fresh_from t.key b.idle ≡ Some link → Kept b → Keeps b (Take client) (lends b t link)
 lends_keeps b client t link e h = record {
   clients = granted_clients b t h;
   leases = link_is_leased b.lent link b.keyed b.marked b.ended h.leases;
-  links = link_is_lent b.lent b.idle b.next_link link (last_counts (λ l. same_key l.key t.key) (is_link link.number) b.idle link e (eq-eqb link.number link.number refl)) h.links;
+  links = link_is_lent b.lent b.idle b.next_link link (last_counts (λ l. same_key l.key t.key) (is_link link.number) b.idle link (lendable_is b.fresh_from t.key b.idle link e).0 (eq-eqb link.number link.number refl)) h.links;
+  fresh = idle_leaves link.number b.idle b.fresh_from b.next_link h.fresh;
   counts = reuse_counts b t link h.counts;
   limits = h.limits;
 }
@@ -106,6 +122,7 @@ starts_keeps b client t room h = record {
   clients = granted_clients b t h;
   leases = link_is_leased b.lent (new_link b t) b.keyed b.marked b.ended h.leases;
   links = link_starts b.lent b.idle b.next_link (new_link b t) refl (omega (arith, ltb-true _ _ room, h.limits.links)) h.links;
+  fresh = number_taken b.idle b.fresh_from b.next_link h.fresh;
   counts = start_counts b t b.idle None b.evictions (omega arith) h.counts;
   limits = h.limits;
 }
@@ -116,6 +133,7 @@ evicts_keeps b client t test (Some old) e h = record {
   clients = granted_clients b t h;
   leases = link_is_leased b.lent (new_link b t) b.keyed b.marked b.ended h.leases;
   links = link_starts b.lent (without old.number b.idle) b.next_link (new_link b t) refl (omega (arith, place_left old.number b.idle there, h.links.fit)) (idle_goes old.number b.lent b.idle b.next_link h.links);
+  fresh = number_taken (without old.number b.idle) b.fresh_from b.next_link (idle_leaves old.number b.idle b.fresh_from b.next_link h.fresh);
   counts = start_counts b t (without old.number b.idle) (Some old.number) (suc b.evictions) (omega arith) h.counts;
   limits = h.limits;
 }
@@ -123,7 +141,7 @@ evicts_keeps b client t test (Some old) e h = record {
     there : 1 ≤ count_by (is_link old.number) b.idle
     there = found_counts test (is_link old.number) b.idle old e (eq-eqb old.number old.number refl)
 
-grants_keeps : (b : Book) (client : ℕ) (t : Ticket) (o : Option Link) → latest_of t.key b.idle ≡ o → Kept b → Keeps b (Take client) (grants b t o)
+grants_keeps : (b : Book) (client : ℕ) (t : Ticket) (o : Option Link) → lendable b.fresh_from t.key b.idle ≡ o → Kept b → Keeps b (Take client) (grants b t o)
 grants_keeps b client t (Some link) e h = lends_keeps b client t link e h
 grants_keeps b client t None e h =
     by_branch (Keeps b (Take client)) (nat_lt (pool_count b t.key) (pool_size b.limits t.key)) _ _
@@ -138,7 +156,7 @@ takes_keeps b client (Some t) e known h =
     by_branch (Keeps b (Take client)) b.is_shut _ _ (λ _. loses_keeps b client t ShuttingDown h)
     (λ _. by_branch (Keeps b (Take client)) (has_waited b t) _ _ (λ _. loses_keeps b client t WaitedTooLong h)
     (λ _. by_branch (Keeps b (Take client)) (b.is_paused || not (waiting_before t.key t.client b.tickets == 0)) _ _ (λ _. h)
-    (λ _. grants_keeps b client t (latest_of t.key b.idle) refl h)))
+    (λ _. grants_keeps b client t (lendable b.fresh_from t.key b.idle) refl h)))
 
 -- ---- links
 
@@ -151,13 +169,15 @@ gives_back_keeps b n (Some link) e known h =
     by_branch (Keeps b (GiveBack n)) (is_old b link || is_crowded b link) _ _
     (λ _. record {
       clients = h.clients;
+      fresh = h.fresh;
       links = lent_goes link.number b.lent b.idle b.next_link h.links;
       leases = lease_goes link.number b.lent b.keyed b.marked b.ended h.leases;
       counts = return_counts b link.number b.idle (one_lent b link.number there h) h.counts;
       limits = h.limits;
     })
-    (λ _. record {
+    (λ stays. record {
       clients = h.clients;
+      fresh = fresh_returns b.idle b.fresh_from b.next_link (record link { since = b.clock }) (kept_is_fresh _ b.is_shut (is_fresh b.fresh_from link) (is_crowded b link) stays) h.fresh;
       links = link_is_idle link.number b.lent b.idle b.next_link (record link { since = b.clock }) refl there h.links;
       leases = lease_goes link.number b.lent b.keyed b.marked b.ended h.leases;
       counts = return_counts b link.number (b.idle ++ record link { since = b.clock } ∷ []) (one_lent b link.number there h) h.counts;
@@ -170,6 +190,7 @@ gives_back_keeps b n (Some link) e known h =
 loss_keeps : (b : Book) (n : ℕ) → list_any (is_link n) b.lent ≡ true → Kept b → Keeps b (Lost n) (outcome b (Lost n))
 loss_keeps b n known h = record {
   clients = h.clients;
+  fresh = h.fresh;
   links = lent_goes n b.lent b.idle b.next_link h.links;
   leases = lease_goes n b.lent b.keyed b.marked b.ended h.leases;
   counts = loss_counts b n (one_lent b n (any_counts (is_link n) b.lent known) h) h.counts;
@@ -179,6 +200,7 @@ loss_keeps b n known h = record {
 failure_keeps : (b : Book) (n : ℕ) → list_any (is_link n) b.lent ≡ true → Kept b → Keeps b (StartFailed n) (outcome b (StartFailed n))
 failure_keeps b n known h = record {
   clients = h.clients;
+  fresh = h.fresh;
   links = lent_goes n b.lent b.idle b.next_link h.links;
   leases = lease_goes n b.lent b.keyed b.marked b.ended h.leases;
   counts = failure_counts b n (one_lent b n (any_counts (is_link n) b.lent known) h) h.counts;
@@ -191,10 +213,11 @@ closes_keeps : (b : Book) (now : ℕ) (o : Option Link) → Kept b → Keeps b (
 closes_keeps b now None h = go (nat_lt b.clock now)
   where
     go : (raised : Bool) → Kept (counted (at_clock b now) (cond raised (Some Ticking) None))
-    go true = record { clients = h.clients; links = h.links; leases = h.leases; counts = counts_stay Ticking b (at_clock b now) refl refl refl h.counts; limits = h.limits }
-    go false = record { clients = h.clients; links = h.links; leases = h.leases; counts = record { all = h.counts.all; clients = h.counts.clients; links = h.counts.links; grants = h.counts.grants; evicted = h.counts.evicted; losses = h.counts.losses; lent = h.counts.lent }; limits = h.limits }
+    go true = record { clients = h.clients; links = h.links; fresh = h.fresh; leases = h.leases; counts = counts_stay Ticking b (at_clock b now) refl refl refl h.counts; limits = h.limits }
+    go false = record { clients = h.clients; links = h.links; fresh = h.fresh; leases = h.leases; counts = record { all = h.counts.all; clients = h.counts.clients; links = h.counts.links; grants = h.counts.grants; evicted = h.counts.evicted; losses = h.counts.losses; lent = h.counts.lent }; limits = h.limits }
 closes_keeps b now (Some link) h = record {
   clients = h.clients;
+  fresh = idle_leaves link.number b.idle b.fresh_from b.next_link h.fresh;
   links = idle_goes link.number b.lent b.idle b.next_link h.links;
   leases = h.leases;
   counts = counts_stay Ticking b (closes (at_clock b now) (Some link)).book refl refl refl h.counts;
@@ -207,6 +230,7 @@ hangs_up_keeps : (b : Book) (n : ℕ) (o : Option Link) → Kept b → Keeps b (
 hangs_up_keeps b n None h = h
 hangs_up_keeps b n (Some link) h = record {
   clients = h.clients;
+  fresh = idle_leaves link.number b.idle b.fresh_from b.next_link h.fresh;
   links = idle_goes link.number b.lent b.idle b.next_link h.links;
   leases = h.leases;
   counts = counts_stay HangUp b (hangs_up b (Some link)).book refl refl refl h.counts;
@@ -219,6 +243,7 @@ keys_keeps : (b : Book) (n : ℕ) (client server : KeyView) → is_strange b (Ke
 keys_keeps b n client server known h = record {
   clients = h.clients;
   links = h.links;
+  fresh = h.fresh;
   leases = lease_is_keyed b.lent (record { link = n; client = client; server = server }) b.keyed b.marked b.ended (any_counts (is_link n) b.lent there.0) (none_counts (is_of_link n) b.keyed (first_false _ _ there.1)) h.leases;
   counts = counts_stay Keying b (keys b n client server).book refl refl refl h.counts;
   limits = h.limits;
@@ -236,6 +261,7 @@ strikes_keeps b client lease link None e h = h
 strikes_keeps b client lease link (Some host) e h = record {
   clients = h.clients;
   links = h.links;
+  fresh = h.fresh;
   leases = link_is_marked lease.link b.lent b.keyed b.marked b.ended (any_counts (is_link lease.link) b.lent (found_any (is_link lease.link) b.lent link e)) h.leases;
   counts = counts_stay Cancelling b (record b { marked = with_number lease.link b.marked }) refl refl refl h.counts;
   limits = h.limits;
@@ -253,6 +279,7 @@ ends_keeps : (b : Book) (n : ℕ) → list_any (is_link n) b.lent ≡ true → K
 ends_keeps b n known h = record {
   clients = h.clients;
   links = h.links;
+  fresh = h.fresh;
   leases = lease_ends n b.lent b.keyed b.marked b.ended (any_counts (is_link n) b.lent known) h.leases;
   counts = counts_stay LeaseEnding b (ends_lease b n).book refl refl refl h.counts;
   limits = h.limits;
@@ -261,7 +288,7 @@ ends_keeps b n known h = record {
 -- ---- each event
 
 outcome_keeps : (b : Book) (e : Event) → FitsLimits e → is_strange b e ≡ false → Kept b → Keeps b e (outcome b e)
-outcome_keeps b Arrive fits known h = arrives_keeps b h
+outcome_keeps b (Arrive beyond) fits known h = arrives_keeps b beyond h
 outcome_keeps b (Ask client key) fits known h = asks_keeps b client key known h
 outcome_keeps b (Take client) fits known h = takes_keeps b client (find (is_of client) b.tickets) refl (not_false _ known) h
 outcome_keeps b (GiveBack n) fits known h = gives_back_keeps b n (find (is_link n) b.lent) refl (not_false _ known) h
@@ -269,10 +296,11 @@ outcome_keeps b (Lost n) fits known h = loss_keeps b n (not_false _ known) h
 outcome_keeps b (StartFailed n) fits known h = failure_keeps b n (not_false _ known) h
 outcome_keeps b (Leave client) fits known h = leaves_keeps b client h
 outcome_keeps b (Tick now) fits known h = closes_keeps b now (find (is_stale (at_clock b now)) b.idle) h
-outcome_keeps b (NewLimits limits) fits known h = record { clients = h.clients; links = h.links; leases = h.leases; counts = counts_stay Limiting b (record b { limits = limits }) refl refl refl h.counts; limits = fits }
-outcome_keeps b Pause fits known h = record { clients = h.clients; links = h.links; leases = h.leases; counts = counts_stay Pausing b (record b { is_paused = true }) refl refl refl h.counts; limits = h.limits }
-outcome_keeps b Resume fits known h = record { clients = h.clients; links = h.links; leases = h.leases; counts = counts_stay Resuming b (record b { is_paused = false }) refl refl refl h.counts; limits = h.limits }
-outcome_keeps b Shutdown fits known h = record { clients = h.clients; links = h.links; leases = h.leases; counts = counts_stay Closing b (record b { is_shut = true }) refl refl refl h.counts; limits = h.limits }
+outcome_keeps b (NewLimits limits) fits known h = record { clients = h.clients; links = h.links; fresh = h.fresh; leases = h.leases; counts = counts_stay Limiting b (record b { limits = limits }) refl refl refl h.counts; limits = fits }
+outcome_keeps b Pause fits known h = record { clients = h.clients; links = h.links; fresh = h.fresh; leases = h.leases; counts = counts_stay Pausing b (record b { is_paused = true }) refl refl refl h.counts; limits = h.limits }
+outcome_keeps b Resume fits known h = record { clients = h.clients; links = h.links; fresh = h.fresh; leases = h.leases; counts = counts_stay Resuming b (record b { is_paused = false }) refl refl refl h.counts; limits = h.limits }
+outcome_keeps b Shutdown fits known h = record { clients = h.clients; links = h.links; fresh = h.fresh; leases = h.leases; counts = counts_stay Closing b (record b { is_shut = true }) refl refl refl h.counts; limits = h.limits }
+outcome_keeps b Reconnect fits known h = record { clients = h.clients; links = h.links; fresh = all_renewed b.lent b.idle b.next_link h.links; leases = h.leases; counts = counts_stay Reconnecting b (record b { fresh_from = b.next_link }) refl refl refl h.counts; limits = h.limits }
 outcome_keeps b (Keyed n client server) fits known h = keys_keeps b n client server known h
 outcome_keeps b (Cancel client) fits known h = cancels_keeps b client (find (is_of_client client) b.keyed) h
 outcome_keeps b (EndLease n) fits known h = ends_keeps b n (not_false _ known) h
@@ -294,7 +322,11 @@ pub empty_keeps : (limits : Limits) → KeptLimits limits → Kept (empty_book l
 empty_keeps limits l = record {
   clients = record { fit = omega arith; once = λ n. omega arith; fresh = λ n k. refl; of_clients = λ n. omega arith };
   links = record { fit = omega arith; once = λ n. omega arith; fresh = λ n k. omega arith };
+  fresh = record { next_too = omega arith; in_order = tt };
   leases = record { keyed = λ n. omega arith; marked = λ n. omega arith; ended = λ n. omega arith };
   counts = record { all = omega arith; clients = omega arith; links = omega arith; grants = omega arith; evicted = omega arith; losses = omega arith; lent = omega arith };
   limits = l;
 }
+
+pub latest_is_lent : LatestFreshIsLent
+latest_is_lent b key h = latest_fresh b.fresh_from key b.idle h.fresh.in_order

@@ -5,7 +5,7 @@ use Rattle.book_model.specs.Book.{Book, Client, Link, Ticket, is_link, without}
 use Rattle.book_model.specs.Outcomes.{counted, lends, loses, raised, starts}
 use Rattle.book_model.specs.declared.counts.Counts.{Counts}
 use Rattle.book_model.specs.declared.counts.Kind.{Kind}
-use Rattle.book_model.specs.declared.counts.Kind.TheVariants.{Arrival, ArrivalRefused, Asking, AskRefused, Grant, TicketLost, Return, Loss, FailedStart, Leaving, Ticking, Limiting, Pausing, Resuming, Closing, Keying, Cancelling, LeaseEnding, HangUp}
+use Rattle.book_model.specs.declared.counts.Kind.TheVariants.{Arrival, ArrivalRefused, Asking, AskRefused, Grant, TicketLost, Return, Loss, FailedStart, Leaving, Ticking, Limiting, Pausing, Resuming, Closing, Keying, Cancelling, LeaseEnding, HangUp, Reconnecting}
 use Rattle.book_model.specs.Kept.{KeptCounts, total}
 use Rattle.book_model.proofs.KeepingLists.{length_left}
 
@@ -29,6 +29,7 @@ total_raised Keying c = omega arith
 total_raised Cancelling c = omega arith
 total_raised LeaseEnding c = omega arith
 total_raised HangUp c = omega arith
+total_raised Reconnecting c = omega arith
 
 -- the counts that others depend on, and the numbers of the book that depend on them
 abbrev telling : Counts → ℕ × ℕ × ℕ × ℕ × ℕ

@@ -2,8 +2,10 @@ pub mod Outcomes
 pub mod KeepingLists
 pub mod KeepingClients
 pub mod KeepingLinks
+pub mod KeepingFresh
 pub mod KeepingLeases
 pub mod KeepingCounts
 pub mod Keeping
+pub mod Reconnecting
 pub mod FirstItems
 pub mod Indexing

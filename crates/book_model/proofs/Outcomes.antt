@@ -1,5 +1,5 @@
 -- What each event of the book leaves.
-use Rattle.std.proofs.Common.{◌≡◌, ◌≢◌, ℕ, suc, Bool, true, false, cond, not, ◌&&◌, ◌||◌, List, [], ◌∷◌, ◌++◌, ◌⊎◌, inl, inr, refl, sym, ap, ◌∙◌, subst, arith, Option, Some, None, nat_lt, ◌==◌, eqb-true, length, eq-eqb, ⊎_elim, le_refl, find}
+use Rattle.std.proofs.Common.{◌≡◌, ◌≢◌, ℕ, suc, ◌+◌, Bool, true, false, cond, not, ◌&&◌, ◌||◌, List, [], ◌∷◌, ◌++◌, ◌⊎◌, inl, inr, refl, sym, ap, ◌∙◌, subst, arith, Option, Some, None, nat_lt, ◌==◌, eqb-true, length, eq-eqb, ⊎_elim, le_refl, find}
 use Rattle.std.specs.List.{list_any}
 use Rattle.std.proofs.lemmas.Bool.{false≢true}
 use Rattle.std.proofs.lemmas.Option.{none-some, same_Some}
@@ -9,18 +9,20 @@ use Rattle.message_view.specs.declared.views.KeyView.{KeyView}
 use Rattle.session_values.specs.State.{StartKeyOf}
 use Rattle.start_keys.specs.Keys.{same_key}
 use Rattle.start_keys.specs.SameKeys.{same_keys-one}
-use Rattle.book_model.specs.Book.{Book, Lease, Link, Ticket, find_last, in_pool, is_link, is_number, is_of, is_of_client, latest_of, link_count, or_else, pool_count, pool_size, same_words, waiting_before, without, without_lease, without_number, without_ticket}
+use Rattle.book_model.specs.Book.{Book, Lease, Link, Ticket, find_last, in_pool, is_link, is_number, is_of, is_of_client, latest_of, lendable, link_count, or_else, places_beyond, pool_count, pool_size, same_words, waiting_before, without, without_lease, without_number, without_ticket}
 use Rattle.book_model.specs.declared.counts.Counts.{Counts}
 use Rattle.book_model.specs.declared.counts.Kind.{Kind}
+use Rattle.book_model.specs.declared.events.Beyond.{Beyond}
 use Rattle.book_model.specs.declared.events.ClientState.TheVariants.{Waiting}
 use Rattle.book_model.specs.declared.events.Reply.{Reply}
 use Rattle.book_model.specs.Outcomes.{Answer, Event, apply, apply_return, at_clock, cancels, closes, counted, ends_lease, evicts, gives_back, grants, hangs_up, has_waited, in_state, is_crowded, is_old, is_stale, is_started_as, is_strange, kind_of, last_decision, loses_ticket, outcome, raised, starts, strikes, strikes_at, takes, waits}
-use Rattle.book_model.specs.Outcomes.Event.{Arrive, Ask, Take, GiveBack, Lost, StartFailed, Leave, Tick, NewLimits, Pause, Resume, Shutdown, Keyed, Cancel, EndLease, HungUp}
+use Rattle.book_model.specs.Outcomes.Event.{Arrive, Ask, Take, GiveBack, Lost, StartFailed, Leave, Tick, NewLimits, Pause, Resume, Shutdown, Reconnect, Keyed, Cancel, EndLease, HungUp}
 use Rattle.book_model.specs.declared.events.Reply.TheVariants.{Arrived, Queued, Lend, Start, Close, Refuse, Done, Stranger, Strike, Nobody, Reset, Dispose}
 use Rattle.book_model.specs.Laws.{AddsNothing, Drops, HasLease, HasLink, HasTicket, Keys, Lends, LendsNothing, LendsOne, MayReturn, Numbers, Queues, Releases, Starts, StartsNothing, Strikes, TakesBack}
 use Rattle.book_model.specs.Laws.{PlainEventsAddNothing, ArrivalsNumber, AsksQueue, TakesLend, TakesStart, TakesEvict, ReturnsAdd, ReturnsClose, TicksClose, HangUpsClose, KeyedKeys, CancelsStrike, ResetsRelease}
-use Rattle.book_model.specs.Laws.IsPlain.{turned_away, waits_no_more, lost, start_failed, leave, ticks, new_limits, pause, resume, shutdown, lease_ends}
+use Rattle.book_model.specs.Laws.IsPlain.{turned_away, waits_no_more, lost, start_failed, leave, ticks, new_limits, pause, resume, shutdown, reconnect, lease_ends}
 use Rattle.book_model.specs.Laws.IsPlain.{waits as waits_on}
+use Rattle.book_model.proofs.KeepingFresh.{lendable_is}
 
 first_of : (a b : Bool) → (a && b) ≡ true → a ≡ true
 first_of true b e = refl
@@ -334,7 +336,7 @@ evicts_ok b c t test (Some old) h e = λ d counts. (
   record { key = old.key; was_idle = (first_found test b.idle old e).has; not_idle = λ n key k. (without_keeps old.number n key b.idle k).1 },
 )
 
-grants_ok : (b : Book) (c : ℕ) (t : Ticket) (o : Option Link) → HasTicket c t.key b.tickets → latest_of t.key b.idle ≡ o → AnswerFits (TakeFits b c) (grants b t o)
+grants_ok : (b : Book) (c : ℕ) (t : Ticket) (o : Option Link) → HasTicket c t.key b.tickets → lendable b.fresh_from t.key b.idle ≡ o → AnswerFits (TakeFits b c) (grants b t o)
 unfolding AnswerFits TakeFits
 grants_ok b c t None h e =
     by_branch (λ (a : Answer). AnswerFits (TakeFits b c) a) (nat_lt (pool_count b t.key) (pool_size b.limits t.key)) _ _
@@ -343,11 +345,11 @@ grants_ok b c t None h e =
 grants_ok b c t (Some link) h e = λ d counts. record {
   key = t.key;
   has_ticket = h;
-  was_idle = latest_found t.key b.idle link e;
+  was_idle = latest_found t.key b.idle link (lendable_is b.fresh_from t.key b.idle link e).0;
   not_idle = λ n key k. (without_keeps link.number n key b.idle k).1;
   adds_nothing = record { next_client = le_refl b.next_client; idle = λ n key k. (without_keeps link.number n key b.idle k).0; tickets = λ u key k. tickets_keep t.client u key b.tickets k };
   next_link = refl;
-  lends_one = lends_one b _ link t.key (latest_key t.key b.idle link e) refl refl refl;
+  lends_one = lends_one b _ link t.key (latest_key t.key b.idle link (lendable_is b.fresh_from t.key b.idle link e).0) refl refl refl;
 }
 
 takes_ok : (b : Book) (c : ℕ) (o : Option Ticket) → find (is_of c) b.tickets ≡ o → AnswerFits (TakeFits b c) (takes b o)
@@ -357,7 +359,7 @@ takes_ok b c (Some t) e =
     by_branch (λ (a : Answer). AnswerFits (TakeFits b c) a) b.is_shut _ _ (loses_ok b c t ShuttingDown)
     (by_branch (λ (a : Answer). AnswerFits (TakeFits b c) a) (has_waited b t) _ _ (loses_ok b c t WaitedTooLong)
     (by_branch (λ (a : Answer). AnswerFits (TakeFits b c) a) (b.is_paused || not (waiting_before t.key t.client b.tickets == 0)) _ _ (waits_ok b c t)
-    (grants_ok b c t (latest_of t.key b.idle) (ticket_found c b.tickets t e) refl)))
+    (grants_ok b c t (lendable b.fresh_from t.key b.idle) (ticket_found c b.tickets t e) refl)))
 
 take_event : (b : Book) (c : ℕ) → TakeFits b c (apply b (Take c)).reply (apply b (Take c)).book
 unfolding TakeFits
@@ -529,20 +531,20 @@ ArriveFits old Nobody new = Unit {0}
 ArriveFits old Reset new = Unit {0}
 ArriveFits old Dispose new = Unit {0}
 
-arrive_event : (b : Book) → ArriveFits b (apply b Arrive).reply (apply b Arrive).book
+arrive_event : (b : Book) (beyond : Beyond) → ArriveFits b (apply b (Arrive beyond)).reply (apply b (Arrive beyond)).book
 unfolding ArriveFits AnswerFits
-arrive_event b = applied (ArriveFits b) b Arrive (unchanged b) tt
+arrive_event b beyond = applied (ArriveFits b) b (Arrive beyond) (unchanged b) tt
     (by_branch (λ (a : Answer). AnswerFits (ArriveFits b) a) b.is_shut _ _ (λ d counts. nothing_started b d counts)
-    (by_branch (λ (a : Answer). AnswerFits (ArriveFits b) a) (nat_lt (length b.clients) b.limits.max_clients) _ _
+    (by_branch (λ (a : Answer). AnswerFits (ArriveFits b) a) (nat_lt (length b.clients) (b.limits.max_clients + places_beyond beyond)) _ _
     (λ d counts. record { number = refl; next_client = refl; starts_nothing = record { adds_nothing = record { next_client = omega arith; idle = λ n key h. h; tickets = λ u key h. h }; next_link = refl; lends_nothing = lends_nothing b _ refl refl refl } })
     (λ d counts. nothing_started b d counts)))
 
-arrive_of : (b : Book) (r : Reply) → (apply b Arrive).reply ≡ r → ArriveFits b r (apply b Arrive).book
-arrive_of b r e = subst (λ (s : Reply). ArriveFits b s (apply b Arrive).book) e (arrive_event b)
+arrive_of : (b : Book) (beyond : Beyond) (r : Reply) → (apply b (Arrive beyond)).reply ≡ r → ArriveFits b r (apply b (Arrive beyond)).book
+arrive_of b beyond r e = subst (λ (s : Reply). ArriveFits b s (apply b (Arrive beyond)).book) e (arrive_event b beyond)
 
 pub arrivals_number : ArrivalsNumber
 unfolding ArriveFits
-arrivals_number b n e = arrive_of b (Arrived n) e
+arrivals_number b beyond n e = arrive_of b beyond (Arrived n) e
 
 -- ---- a Keyed
 
@@ -680,7 +682,7 @@ changes_little b e h = applied (λ r new. StartsNothing b new) b e (unchanged b)
 
 pub plain_events_add_nothing : PlainEventsAddNothing
 unfolding TakeFits TickFits ArriveFits AnswerFits
-plain_events_add_nothing b Arrive _ (turned_away {refusal = n}) q = arrive_of b (Refuse n) q
+plain_events_add_nothing b (Arrive beyond) _ (turned_away {refusal = n}) q = arrive_of b beyond (Refuse n) q
 plain_events_add_nothing b (Take c) _ (waits_on {before = n}) q = take_of b c (Queued n) q
 plain_events_add_nothing b (Take c) _ (waits_no_more {refusal = n}) q = take_of b c (Refuse n) q
 plain_events_add_nothing b (Tick now) _ ticks q = tick_of b now Done q
@@ -691,6 +693,7 @@ plain_events_add_nothing b (NewLimits limits) r new_limits q = changes_little b 
 plain_events_add_nothing b Pause r pause q = changes_little b Pause (λ d counts. record { adds_nothing = record { next_client = le_refl b.next_client; idle = λ m key h. h; tickets = λ u key h. h }; next_link = refl; lends_nothing = lends_nothing b _ refl refl refl })
 plain_events_add_nothing b Resume r resume q = changes_little b Resume (λ d counts. record { adds_nothing = record { next_client = le_refl b.next_client; idle = λ m key h. h; tickets = λ u key h. h }; next_link = refl; lends_nothing = lends_nothing b _ refl refl refl })
 plain_events_add_nothing b Shutdown r shutdown q = changes_little b Shutdown (λ d counts. record { adds_nothing = record { next_client = le_refl b.next_client; idle = λ m key h. h; tickets = λ u key h. h }; next_link = refl; lends_nothing = lends_nothing b _ refl refl refl })
+plain_events_add_nothing b Reconnect r reconnect q = changes_little b Reconnect (λ d counts. record { adds_nothing = record { next_client = le_refl b.next_client; idle = λ m key h. h; tickets = λ u key h. h }; next_link = refl; lends_nothing = lends_nothing b _ refl refl refl })
 plain_events_add_nothing b (EndLease n) r lease_ends q = changes_little b (EndLease n) (λ d counts. ends_nothing b n d counts)
 plain_events_add_nothing b (Keyed n client server) r p q = elim p [ ]
 plain_events_add_nothing b (Cancel client) r p q = elim p [ ]

@@ -4,7 +4,10 @@ use Rattle.message_view.specs.declared.views.KeyView.{KeyView}
 use Rattle.session_values.specs.State.{StartKeyOf}
 use Rattle.start_keys.specs.Keys.{same_host, same_key}
 use Rattle.book_model.specs.declared.counts.Counts.{Counts}
+use Rattle.book_model.specs.declared.events.Beyond.{Beyond}
+use Rattle.book_model.specs.declared.events.Beyond.TheVariants as beyond
 use Rattle.book_model.specs.declared.events.ClientState.{ClientState}
+use Rattle.book_model.specs.declared.events.TheConstants.{CONSOLE_PLACES, LOCAL_PLACES}
 
 pub record Client : Type 0 where
   pub number : ℕ
@@ -65,6 +68,8 @@ pub record Book : Type 0 where
   pub limits : Limits
   pub is_paused : Bool
   pub is_shut : Bool
+  -- the first number of a link that may still be lent again
+  pub fresh_from : ℕ
   -- all decisions, and those of each kind
   pub decisions : ℕ
   pub counts : Counts
@@ -75,10 +80,16 @@ pub record Book : Type 0 where
   pub losses : ℕ
 
 abbrev pub no_counts : Counts
-no_counts = record { arrived = 0; arrivals_refused = 0; asked = 0; asks_refused = 0; granted = 0; tickets_lost = 0; given_back = 0; lost = 0; starts_failed = 0; left = 0; ticked = 0; limited = 0; paused = 0; resumed = 0; shut_down = 0; keyed = 0; cancelled = 0; leases_ended = 0; hung_up = 0 }
+no_counts = record { arrived = 0; arrivals_refused = 0; asked = 0; asks_refused = 0; granted = 0; tickets_lost = 0; given_back = 0; lost = 0; starts_failed = 0; left = 0; ticked = 0; limited = 0; paused = 0; resumed = 0; shut_down = 0; keyed = 0; cancelled = 0; leases_ended = 0; hung_up = 0; reconnected = 0 }
 
 abbrev pub empty_book : Limits → Book
-empty_book limits = record { clients = []; tickets = []; lent = []; idle = []; keyed = []; marked = []; ended = []; next_client = 1; next_link = 1; clock = 0; limits = limits; is_paused = false; is_shut = false; decisions = 0; counts = no_counts; starts = 0; reuses = 0; evictions = 0; losses = 0 }
+empty_book limits = record { clients = []; tickets = []; lent = []; idle = []; keyed = []; marked = []; ended = []; next_client = 1; next_link = 1; clock = 0; limits = limits; is_paused = false; is_shut = false; fresh_from = 1; decisions = 0; counts = no_counts; starts = 0; reuses = 0; evictions = 0; losses = 0 }
+
+-- how many places beyond the limit
+abbrev pub places_beyond : Beyond → ℕ
+places_beyond beyond.Nothing = 0
+places_beyond beyond.Console = CONSOLE_PLACES
+places_beyond beyond.LocalConsole = LOCAL_PLACES
 
 abbrev pub or_else : {A : Type 0} → Option A → Option A → Option A
 or_else None other = other
@@ -177,6 +188,19 @@ find_last test (x ∷ xs) = or_else (find_last test xs) (cond (test x) (Some x) 
 -- the latest returned link of this key
 abbrev pub latest_of : StartKeyOf → List Link → Option Link
 latest_of key idle = find_last (λ link. same_key link.key key) idle
+
+-- a link that was there at the last Reconnect isn't fresh
+abbrev pub is_fresh : ℕ → Link → Bool
+is_fresh fresh_from link = nat_le fresh_from link.number
+
+-- where it is fresh
+abbrev pub if_fresh : ℕ → Option Link → Option Link
+if_fresh fresh_from None = None
+if_fresh fresh_from (Some link) = cond (is_fresh fresh_from link) (Some link) None
+
+-- the link of this key that may be lent: the latest returned one, where it is fresh (those that aren't went back before all that are)
+abbrev pub lendable : ℕ → StartKeyOf → List Link → Option Link
+lendable fresh_from key idle = if_fresh fresh_from (latest_of key idle)
 
 -- ---- leases
 

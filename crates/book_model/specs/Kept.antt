@@ -1,15 +1,16 @@
 -- What holds of every book that was made empty and had events.
-use Rattle.std.specs.Prelude.{◌≡◌, ℕ, suc, ◌+◌, ◌≤◌, List, count_by, length}
+use Rattle.std.specs.Prelude.{◌≡◌, ℕ, suc, ◌+◌, ◌≤◌, ◌&&◌, true, List, [], ◌∷◌, count_by, length}
 use Rattle.session_values.specs.State.{StartKeyOf}
-use Rattle.book_model.specs.Book.{Book, Client, Lease, Limits, Link, Ticket, empty_book, is_client, is_link, is_number, is_of, is_of_link}
+use Rattle.start_keys.specs.Keys.{same_key}
+use Rattle.book_model.specs.Book.{Book, Client, Lease, Limits, Link, Ticket, empty_book, find_last, is_client, is_fresh, is_link, is_number, is_of, is_of_link, lendable}
 use Rattle.book_model.specs.Outcomes.{Event, apply, apply_return}
 use Rattle.book_model.specs.Outcomes.Event.{NewLimits}
 use Rattle.book_model.specs.declared.counts.Counts.{Counts}
-use Rattle.book_model.specs.declared.limits.TheConstants.{MOST_CLIENTS, MOST_LINKS}
+use Rattle.book_model.specs.declared.limits.TheConstants.{MOST_CLIENTS, MOST_LINKS, MOST_PRESENT}
 
 -- each client number stands once and below the next, and each ticket is its client's only one
 pub record KeptClients (clients : List Client) (tickets : List Ticket) (next : ℕ) : Type 0 where
-  pub fit : length clients ≤ MOST_CLIENTS
+  pub fit : length clients ≤ MOST_PRESENT
   pub once : (n : ℕ) → count_by (is_client n) clients ≤ 1
   pub fresh : (n : ℕ) → next ≤ n → count_by (is_client n) clients ≡ 0
   pub of_clients : (n : ℕ) → count_by (is_of n) tickets ≤ count_by (is_client n) clients
@@ -20,6 +21,20 @@ pub record KeptLinks (lent idle : List Link) (next : ℕ) : Type 0 where
   pub once : (n : ℕ) → count_by (is_link n) lent + count_by (is_link n) idle ≤ 1
   pub fresh : (n : ℕ) → next ≤ n → count_by (is_link n) lent + count_by (is_link n) idle ≡ 0
 
+abbrev pub AreFresh : ℕ → List Link → Type 0
+AreFresh first [] = Unit {0}
+AreFresh first (link ∷ links) = (is_fresh first link ≡ true) × AreFresh first links
+
+-- those that aren't fresh stand before all that are
+abbrev pub StaleFirst : ℕ → List Link → Type 0
+StaleFirst first [] = Unit {0}
+StaleFirst first (link ∷ links) = (is_fresh first link ≡ true → AreFresh first links) × StaleFirst first links
+
+-- every link that is started is fresh, and the idle ones that aren't went back before those that are
+pub record KeptFresh (idle : List Link) (first next : ℕ) : Type 0 where
+  pub next_too : first ≤ next
+  pub in_order : StaleFirst first idle
+
 -- each lease is its lent link's only one, and each mark and end is a lent link's, and stands once
 pub record KeptLeases (lent : List Link) (leases : List Lease) (marks ends : List ℕ) : Type 0 where
   pub keyed : (n : ℕ) → count_by (is_of_link n) leases ≤ count_by (is_link n) lent
@@ -28,7 +43,7 @@ pub record KeptLeases (lent : List Link) (leases : List Lease) (marks ends : Lis
 
 -- all kinds together
 abbrev pub total : Counts → ℕ
-total c = c.arrived + c.arrivals_refused + c.asked + c.asks_refused + c.granted + c.tickets_lost + c.given_back + c.lost + c.starts_failed + c.left + c.ticked + c.limited + c.paused + c.resumed + c.shut_down + c.keyed + c.cancelled + c.leases_ended + c.hung_up
+total c = c.arrived + c.arrivals_refused + c.asked + c.asks_refused + c.granted + c.tickets_lost + c.given_back + c.lost + c.starts_failed + c.left + c.ticked + c.limited + c.paused + c.resumed + c.shut_down + c.keyed + c.cancelled + c.leases_ended + c.hung_up + c.reconnected
 
 -- the counts agree with one another and with the lists
 pub record KeptCounts (b : Book) : Type 0 where
@@ -52,6 +67,7 @@ FitsLimits _ = Unit {0}
 pub record Kept (b : Book) : Type 0 where
   pub clients : KeptClients b.clients b.tickets b.next_client
   pub links : KeptLinks b.lent b.idle b.next_link
+  pub fresh : KeptFresh b.idle b.fresh_from b.next_link
   pub leases : KeptLeases b.lent b.keyed b.marked b.ended
   pub counts : KeptCounts b
   pub limits : KeptLimits b.limits
@@ -66,3 +82,7 @@ ReturnsKeep = (b : Book) (n : ℕ) (key : StartKeyOf) (born : ℕ) → Kept b �
 
 abbrev pub EmptyBooksAreKept : Type 0
 EmptyBooksAreKept = (limits : Limits) → KeptLimits limits → Kept (empty_book limits)
+
+-- The link of a key that may be lent is the latest returned one of those that are fresh.
+abbrev pub LatestFreshIsLent : Type 0
+LatestFreshIsLent = (b : Book) (key : StartKeyOf) → Kept b → lendable b.fresh_from key b.idle ≡ find_last (λ link. same_key link.key key && is_fresh b.fresh_from link) b.idle

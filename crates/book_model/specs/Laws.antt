@@ -6,8 +6,9 @@ use Rattle.message_view.specs.declared.views.KeyView.{KeyView}
 use Rattle.session_values.specs.State.{StartKeyOf}
 use Rattle.book_model.specs.Book.{Book, Lease, Limits, Link, Ticket, is_number}
 use Rattle.book_model.specs.Outcomes.{Event, apply, apply_return}
+use Rattle.book_model.specs.declared.events.Beyond.{Beyond}
 use Rattle.book_model.specs.declared.events.Reply.{Reply}
-use Rattle.book_model.specs.Outcomes.Event.{Arrive, Ask, Take, Lost, StartFailed, Leave, Tick, NewLimits, Pause, Resume, Shutdown, Keyed, Cancel, EndLease, HungUp}
+use Rattle.book_model.specs.Outcomes.Event.{Arrive, Ask, Take, Lost, StartFailed, Leave, Tick, NewLimits, Pause, Resume, Shutdown, Reconnect, Keyed, Cancel, EndLease, HungUp}
 use Rattle.book_model.specs.declared.events.Reply.TheVariants.{Arrived, Queued, Lend, Start, Close, Refuse, Done, Strike, Reset}
 
 -- a link of this number and key is among them
@@ -131,7 +132,7 @@ pub record Releases (old : Book) (link : ℕ) (new : Book) : Type 0 where
 
 -- an event whose reply gives a client no number, queues no ticket and moves no link that isn't lost
 pub data IsPlain : Event → Reply → Type 0 where
-  turned_away : {refusal : Refusal} → IsPlain Arrive (Refuse refusal)
+  turned_away : {beyond : Beyond} {refusal : Refusal} → IsPlain (Arrive beyond) (Refuse refusal)
   waits : {client before : ℕ} → IsPlain (Take client) (Queued before)
   waits_no_more : {client : ℕ} {refusal : Refusal} → IsPlain (Take client) (Refuse refusal)
   lost : {link : ℕ} {reply : Reply} → IsPlain (Lost link) reply
@@ -142,6 +143,7 @@ pub data IsPlain : Event → Reply → Type 0 where
   pause : {reply : Reply} → IsPlain Pause reply
   resume : {reply : Reply} → IsPlain Resume reply
   shutdown : {reply : Reply} → IsPlain Shutdown reply
+  reconnect : {reply : Reply} → IsPlain Reconnect reply
   -- a lease ends, whatever becomes of its link then
   lease_ends : {link : ℕ} {reply : Reply} → IsPlain (EndLease link) reply
 
@@ -149,7 +151,7 @@ abbrev pub PlainEventsAddNothing : Type 0
 PlainEventsAddNothing = (b : Book) (e : Event) (reply : Reply) → IsPlain e reply → (apply b e).reply ≡ reply → StartsNothing b (apply b e).book
 
 abbrev pub ArrivalsNumber : Type 0
-ArrivalsNumber = (b : Book) (client : ℕ) → (apply b Arrive).reply ≡ Arrived client → Numbers b client (apply b Arrive).book
+ArrivalsNumber = (b : Book) (beyond : Beyond) (client : ℕ) → (apply b (Arrive beyond)).reply ≡ Arrived client → Numbers b client (apply b (Arrive beyond)).book
 
 abbrev pub AsksQueue : Type 0
 AsksQueue = (b : Book) (client : ℕ) (key : StartKeyOf) → Queues b client key (apply b (Ask client key)).book

@@ -5,5 +5,6 @@ pub mod Replay
 pub mod Events
 pub mod Laws
 pub mod Kept
+pub mod Reconnects
 pub mod Limits
 pub mod Places

@@ -1,15 +1,16 @@
 -- What happens to the book, and what it answers: of one event, the next lists and one reply.
-use Rattle.std.specs.Prelude.{ℕ, suc, ◌-◌, Bool, true, false, List, [], ◌∷◌, ◌++◌, Option, Some, None, not, cond, ◌==◌, ◌&&◌, ◌||◌, nat_le, nat_lt, length, find, map, count_by}
+use Rattle.std.specs.Prelude.{ℕ, suc, ◌+◌, ◌-◌, Bool, true, false, List, [], ◌∷◌, ◌++◌, Option, Some, None, not, cond, ◌==◌, ◌&&◌, ◌||◌, nat_le, nat_lt, length, find, map, count_by}
 use Rattle.std.specs.List.{list_any}
 use Rattle.message_view.specs.declared.refusal.Refusal.{Refusal}
 use Rattle.message_view.specs.declared.refusal.Refusal.TheVariants.{TooManyClients, WaitedTooLong, ShuttingDown, LastDecision}
 use Rattle.message_view.specs.declared.views.KeyView.{KeyView}
 use Rattle.session_values.specs.State.{StartKeyOf}
 use Rattle.start_keys.specs.Keys.{same_key}
-use Rattle.book_model.specs.Book.{Book, Client, Lease, Limits, Link, Ticket, in_pool, is_client, is_link, is_listed, is_number, is_of, is_of_client, is_of_link, latest_of, link_count, pool_count, pool_size, same_pool, waiting_before, with_number, without, without_client, without_lease, without_number, without_ticket}
+use Rattle.book_model.specs.Book.{Book, Client, Lease, Limits, Link, Ticket, in_pool, is_client, is_fresh, is_link, is_listed, is_number, is_of, is_of_client, is_of_link, lendable, link_count, pool_count, places_beyond, pool_size, same_pool, waiting_before, with_number, without, without_client, without_lease, without_number, without_ticket}
 use Rattle.book_model.specs.declared.counts.Counts.{Counts}
 use Rattle.book_model.specs.declared.counts.Kind.{Kind}
-use Rattle.book_model.specs.declared.counts.Kind.TheVariants.{Arrival, ArrivalRefused, Asking, AskRefused, Grant, TicketLost, Return, Loss, FailedStart, Leaving, Ticking, Limiting, Pausing, Resuming, Closing, Keying, Cancelling, LeaseEnding, HangUp}
+use Rattle.book_model.specs.declared.counts.Kind.TheVariants.{Arrival, ArrivalRefused, Asking, AskRefused, Grant, TicketLost, Return, Loss, FailedStart, Leaving, Ticking, Limiting, Pausing, Resuming, Closing, Keying, Cancelling, LeaseEnding, HangUp, Reconnecting}
+use Rattle.book_model.specs.declared.events.Beyond.{Beyond}
 use Rattle.book_model.specs.declared.events.ClientState.{ClientState}
 use Rattle.book_model.specs.declared.events.ClientState.TheVariants.{LoggingIn, Waiting, Active}
 use Rattle.book_model.specs.declared.events.Reply.{Reply}
@@ -17,7 +18,7 @@ use Rattle.book_model.specs.declared.events.Reply.TheVariants.{Arrived, Queued, 
 
 -- an event, with clients and links by their numbers
 pub data Event : Type 0 where
-  Arrive : Event
+  Arrive : (beyond : Beyond) → Event
   Ask : (client : ℕ) → (key : StartKeyOf) → Event
   Take : (client : ℕ) → Event
   GiveBack : (link : ℕ) → Event
@@ -29,6 +30,8 @@ pub data Event : Type 0 where
   Pause : Event
   Resume : Event
   Shutdown : Event
+  -- no link that is there now is lent again
+  Reconnect : Event
   -- a lent link serves the client of this key word, and its server told that one
   Keyed : (link : ℕ) → (client server : KeyView) → Event
   -- what the client of this key word is at is to be cancelled
@@ -44,10 +47,10 @@ pub record Answer : Type 0 where
 
 -- ---- a client comes, asks and leaves
 
-abbrev pub arrives : Book → Answer
-arrives b =
+abbrev pub arrives : Book → Beyond → Answer
+arrives b beyond =
     cond b.is_shut (record { book = b; reply = Refuse ShuttingDown })
-    (cond (nat_lt (length b.clients) b.limits.max_clients)
+    (cond (nat_lt (length b.clients) (b.limits.max_clients + places_beyond beyond))
     (record { book = record b { clients = b.clients ++ record { number = b.next_client; state = LoggingIn } ∷ []; next_client = suc b.next_client }; reply = Arrived b.next_client })
     (record { book = b; reply = Refuse TooManyClients }))
 
@@ -90,7 +93,7 @@ abbrev pub evicts : Book → Ticket → Option Link → Answer
 evicts b t None = waits b t
 evicts b t (Some old) = starts (record b { evictions = suc b.evictions }) t (without old.number b.idle) (Some old.number)
 
--- the latest returned link of the key; else a new one, where pool and book have room; else one in place of the longest idle
+-- the latest returned link of the key, where it is fresh; else a new one, where pool and book have room; else one in place of the longest idle
 -- one, of the pool where the pool has no room, of the book where the book has none; else the ticket waits
 abbrev pub grants : Book → Ticket → Option Link → Answer
 grants b t (Some link) = lends b t link
@@ -108,12 +111,12 @@ takes b (Some t) =
     cond b.is_shut (loses_ticket b t ShuttingDown)
     (cond (has_waited b t) (loses_ticket b t WaitedTooLong)
     (cond (b.is_paused || not (waiting_before t.key t.client b.tickets == 0)) (waits b t)
-    (grants b t (latest_of t.key b.idle))))
+    (grants b t (lendable b.fresh_from t.key b.idle))))
 
 -- ---- a link comes back, or is closed
 
 abbrev pub is_old : Book → Link → Bool
-is_old b link = nat_le b.limits.lifetime (b.clock - link.born) || b.is_shut
+is_old b link = nat_le b.limits.lifetime (b.clock - link.born) || (b.is_shut || not (is_fresh b.fresh_from link))
 
 -- an idle link is closed at a tick, where it is old, where no database row is its key's any more, or where it lay idle for too long
 abbrev pub is_stale : Book → Link → Bool
@@ -168,7 +171,7 @@ ends_lease b n = record { book = record b { keyed = without_lease n b.keyed; end
 
 -- what an event gives whose client, ticket or link is there
 abbrev pub outcome : Book → Event → Answer
-outcome b Arrive = arrives b
+outcome b (Arrive beyond) = arrives b beyond
 outcome b (Ask client key) = asks b client key
 outcome b (Take client) = takes b (find (is_of client) b.tickets)
 outcome b (GiveBack n) = gives_back b (find (is_link n) b.lent)
@@ -180,6 +183,7 @@ outcome b (NewLimits limits) = record { book = record b { limits = limits }; rep
 outcome b Pause = record { book = record b { is_paused = true }; reply = Done }
 outcome b Resume = record { book = record b { is_paused = false }; reply = Done }
 outcome b Shutdown = record { book = record b { is_shut = true }; reply = Done }
+outcome b Reconnect = record { book = record b { fresh_from = b.next_link }; reply = Done }
 outcome b (Keyed n client server) = keys b n client server
 outcome b (Cancel client) = cancels b (find (is_of_client client) b.keyed)
 outcome b (EndLease n) = ends_lease b n
@@ -204,8 +208,8 @@ is_strange b _ = false
 -- The kind of an event with this reply; none, where it changed nothing: a Take that waits on, a Tick that neither raised the clock
 -- nor closed a link, a Cancel that found nobody, and a HungUp of a link that isn't idle.
 abbrev pub kind_of : Book → Event → Reply → Option Kind
-kind_of b Arrive (Refuse refusal) = Some ArrivalRefused
-kind_of b Arrive _ = Some Arrival
+kind_of b (Arrive beyond) (Refuse refusal) = Some ArrivalRefused
+kind_of b (Arrive beyond) _ = Some Arrival
 kind_of b (Ask client key) (Refuse refusal) = Some AskRefused
 kind_of b (Ask client key) _ = Some Asking
 kind_of b (Take client) (Queued n) = None
@@ -221,6 +225,7 @@ kind_of b (NewLimits limits) _ = Some Limiting
 kind_of b Pause _ = Some Pausing
 kind_of b Resume _ = Some Resuming
 kind_of b Shutdown _ = Some Closing
+kind_of b Reconnect _ = Some Reconnecting
 kind_of b (Keyed n client server) _ = Some Keying
 kind_of b (Cancel client) Nobody = None
 kind_of b (Cancel client) _ = Some Cancelling
@@ -248,6 +253,7 @@ raised Keying c = record c { keyed = suc c.keyed }
 raised Cancelling c = record c { cancelled = suc c.cancelled }
 raised LeaseEnding c = record c { leases_ended = suc c.leases_ended }
 raised HangUp c = record c { hung_up = suc c.hung_up }
+raised Reconnecting c = record c { reconnected = suc c.reconnected }
 
 abbrev pub counted : Book → Option Kind → Book
 counted b None = b

@@ -23,6 +23,7 @@ pub enum Kind {
     Cancelling,
     LeaseEnding,
     HangUp,
+    Reconnecting,
 }
 
 /// How many decisions there were of each kind.
@@ -47,4 +48,5 @@ pub struct Counts {
     pub cancelled: u64,
     pub leases_ended: u64,
     pub hung_up: u64,
+    pub reconnected: u64,
 }

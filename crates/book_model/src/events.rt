@@ -1,5 +1,8 @@
 //! What can happen to the lease book, and what it answers.
 
+ghost use Rattle.std.specs.Prelude.{◌≡◌};
+ghost use Rattle.book_model.specs.Book.{places_beyond};
+
 use crate::limits::Limits;
 use message_view::{KeyView, Refusal};
 use start_keys::StartKey;
@@ -8,8 +11,10 @@ use std::sync::Arc;
 /// What happens to the book, with clients and links by their numbers. Seconds are those of the pooler's clock.
 #[derive(Drop)]
 pub enum Event {
-    /// A client has come.
-    Arrive,
+    /// A client has come, which may use so many places beyond the limit.
+    Arrive {
+        beyond: Beyond,
+    },
     /// A client that is through its login asks for a link of this key.
     Ask {
         client: u64,
@@ -46,6 +51,8 @@ pub enum Event {
     Resume,
     /// No client is let in and no link lent any more.
     Shutdown,
+    /// No link that is there now is lent again.
+    Reconnect,
     /// This lent link serves the client of this key word, and its server told that one.
     Keyed {
         link: u64,
@@ -64,6 +71,36 @@ pub enum Event {
     HungUp {
         link: u64,
     },
+}
+
+/// The places beyond `max_client_conn` that a client may use, so that who runs the pooler isn't locked out of its console.
+#[derive(Clone, Copy, PartialEq, Eq, Drop)]
+pub enum Beyond {
+    /// None: so it is for every client of a database.
+    Nothing,
+    /// Those of the console: [`CONSOLE_PLACES`].
+    Console,
+    /// Those of the console where its client has come over a Unix socket: [`LOCAL_PLACES`].
+    LocalConsole,
+}
+
+/// The places beyond the limit for clients of the console.
+pub const CONSOLE_PLACES: u32 = 64;
+
+/// Those for clients of the console that have come over a Unix socket: with them the ones above.
+pub const LOCAL_PLACES: u32 = 80;
+
+impl Beyond {
+    /// How many places that are.
+    pub fn places(self) -> u32
+        ensures { result ≡ places_beyond self }
+    {
+        match self {
+            Beyond::Nothing => 0,
+            Beyond::Console => CONSOLE_PLACES,
+            Beyond::LocalConsole => LOCAL_PLACES,
+        }
+    }
 }
 
 /// What the book answers.

@@ -3,7 +3,8 @@
 #![tactic(auto)]
 
 ghost use Rattle.book_model.specs.Laws.{PlainEventsAddNothing, ArrivalsNumber, AsksQueue, TakesLend, TakesStart, TakesEvict, ReturnsAdd, ReturnsClose, TicksClose, HangUpsClose, KeyedKeys, CancelsStrike, ResetsRelease};
-ghost use Rattle.book_model.specs.Kept.{EmptyBooksAreKept, EventsKeep, ReturnsKeep};
+ghost use Rattle.book_model.specs.Kept.{EmptyBooksAreKept, EventsKeep, LatestFreshIsLent, ReturnsKeep};
+ghost use Rattle.book_model.specs.Reconnects.{NeverKeptAgain, NeverLentAgain};
 
 pub mod counts;
 pub mod events;
@@ -30,9 +31,18 @@ pub fn book_laws()
 
 /// Each client's number stands once, each link's once, lent or idle; each ticket is its client's only one, each lease its lent link's;
 /// the counts agree with one another and with the lists, so that the lent links are as many as were granted and neither given back,
-/// lost nor failed. An empty book is so, and every event leaves it so, whose new limits are within what a book can hold.
+/// lost nor failed; and the link of a key that may be lent is the latest returned one of those that are fresh. An empty book is so, and every
+/// event leaves it so, whose new limits are within what a book can hold.
 pub fn books_are_in_order()
     ensures empty { EmptyBooksAreKept }
     ensures events { EventsKeep }
     ensures returns { ReturnsKeep }
+    ensures lends { LatestFreshIsLent }
+{}
+
+/// Once a Reconnect is done, no link that was there is lent again, whatever happens then: one that lies idle isn't, and one that comes back
+/// isn't kept.
+pub fn old_links_are_done_with()
+    ensures lent { NeverLentAgain }
+    ensures kept { NeverKeptAgain }
 {}

@@ -6,8 +6,11 @@ use crate::rows::Rows;
 use start_keys::StartKey;
 use std::marker::Model;
 
-/// The most clients that a book can hold.
+/// The most clients that may be there at once, but for those of the console.
 pub const MOST_CLIENTS: u32 = 10_000;
+
+/// The most clients that a book can hold: with those of the console.
+pub const MOST_PRESENT: u32 = 10_080;
 
 /// The most links that a book can hold, lent and idle together.
 pub const MOST_LINKS: u32 = 10_000;

@@ -132,6 +132,13 @@ impl Rows {
         Ok(Rows { rows, places })
     }
 
+    /// The rows, in their order.
+    pub fn as_slice(&self) -> &[Row]
+        ensures { result.now ≡ self.now }
+    {
+        self.rows.as_slice()
+    }
+
     /// The first row of this name.
     pub fn named(&self, name: &[u8]) -> Option<&Row>
         ensures { option_copied result ≡ row_named name.now self.now }

@@ -1,10 +1,10 @@
 -- An event's count: by what tells its kind, over what the event leaves of the counts.
-use Rattle.std.proofs.Common.{◌≡◌, ℕ, ◌<◌, arith, Bool, true, false, not, cond, ◌||◌, ◌==◌, Option, None, Some, List, length, refl, sym, ap, ◌∙◌, subst, eq-eqb, eqb-true}
+use Rattle.std.proofs.Common.{◌≡◌, ℕ, ◌+◌, ◌<◌, arith, Bool, true, false, not, cond, ◌||◌, ◌==◌, Option, None, Some, List, length, refl, sym, ap, ◌∙◌, subst, eq-eqb, eqb-true}
 use Rattle.std.specs.Prelude.{find, nat_lt}
 use Rattle.std.specs.List.{list_any}
-use Rattle.book_model.specs.Book.{Book, Client, Lease, Link, Ticket, in_pool, is_client, is_link, is_number, is_of, is_of_client, is_of_link, latest_of, link_count, pool_count, pool_size, waiting_before}
+use Rattle.book_model.specs.Book.{Book, Client, Lease, Link, Ticket, in_pool, is_client, is_link, is_number, is_of, is_of_client, is_of_link, lendable, link_count, places_beyond, pool_count, pool_size, waiting_before}
 use Rattle.book_model.specs.Outcomes.{Answer, Event, apply, at_clock, cancels, closes, counted, decided, evicts, gives_back, grants, hangs_up, has_waited, is_crowded, is_old, is_stale, is_strange, kind_of, last_decision, outcome, strikes, strikes_at, takes}
-use Rattle.book_model.specs.Outcomes.Event.{Arrive, Ask, Take, GiveBack, Lost, StartFailed, Leave, Tick, NewLimits, Pause, Resume, Shutdown, Keyed, Cancel, EndLease, HungUp}
+use Rattle.book_model.specs.Outcomes.Event.{Arrive, Ask, Take, GiveBack, Lost, StartFailed, Leave, Tick, NewLimits, Pause, Resume, Shutdown, Reconnect, Keyed, Cancel, EndLease, HungUp}
 use Rattle.book_model.specs.declared.counts.Kind.{Kind}
 use Rattle.book_model.specs.declared.events.Reply.{Reply}
 use Rattle.book_model.specs.declared.events.Reply.TheVariants.{Refuse, Done, Stranger}
@@ -17,7 +17,7 @@ use Rattle.book_model.specs.declared.limits.TheConstants.{MOST_LINKS}
 use Rattle.book_model.proofs.KeepingLists.{any_counts, longer, none_counts}
 
 pub kind_is : (b : Book) (e : Event) (r : Reply) → kind_in (kinds_of b e) r ≡ kind_of b e r
-kind_is b Arrive r = elim r as (λ x. kind_in (kinds_of b Arrive) x ≡ kind_of b Arrive x) [ Done ↦ refl | _ ↦ refl ]
+kind_is b (Arrive beyond) r = elim r as (λ x. kind_in (kinds_of b (Arrive beyond)) x ≡ kind_of b (Arrive beyond) x) [ Done ↦ refl | _ ↦ refl ]
 kind_is b (Ask client key) r = elim r as (λ x. kind_in (kinds_of b (Ask client key)) x ≡ kind_of b (Ask client key) x) [ Done ↦ refl | _ ↦ refl ]
 kind_is b (Take client) r = elim r as (λ x. kind_in (kinds_of b (Take client)) x ≡ kind_of b (Take client) x) [ Done ↦ refl | _ ↦ refl ]
 kind_is b (GiveBack n) r = elim r as (λ x. kind_in (kinds_of b (GiveBack n)) x ≡ kind_of b (GiveBack n) x) [ Done ↦ refl | _ ↦ refl ]
@@ -29,6 +29,7 @@ kind_is b (NewLimits limits) r = elim r as (λ x. kind_in (kinds_of b (NewLimits
 kind_is b Pause r = elim r as (λ x. kind_in (kinds_of b Pause) x ≡ kind_of b Pause x) [ Done ↦ refl | _ ↦ refl ]
 kind_is b Resume r = elim r as (λ x. kind_in (kinds_of b Resume) x ≡ kind_of b Resume x) [ Done ↦ refl | _ ↦ refl ]
 kind_is b Shutdown r = elim r as (λ x. kind_in (kinds_of b Shutdown) x ≡ kind_of b Shutdown x) [ Done ↦ refl | _ ↦ refl ]
+kind_is b Reconnect r = elim r as (λ x. kind_in (kinds_of b Reconnect) x ≡ kind_of b Reconnect x) [ Done ↦ refl | _ ↦ refl ]
 kind_is b (Keyed n client server) r = elim r as (λ x. kind_in (kinds_of b (Keyed n client server)) x ≡ kind_of b (Keyed n client server) x) [ Done ↦ refl | _ ↦ refl ]
 kind_is b (Cancel client) r = elim r as (λ x. kind_in (kinds_of b (Cancel client)) x ≡ kind_of b (Cancel client) x) [ Done ↦ refl | _ ↦ refl ]
 kind_is b (EndLease n) r = elim r as (λ x. kind_in (kinds_of b (EndLease n)) x ≡ kind_of b (EndLease n) x) [ Done ↦ refl | _ ↦ refl ]
@@ -69,7 +70,7 @@ takes_uncounted b None = plain refl refl
 takes_uncounted b (Some t) =
     either b.is_shut _ _ (plain refl refl)
     (either (has_waited b t) _ _ (plain refl refl)
-    (either (b.is_paused || not (waiting_before t.key t.client b.tickets == 0)) _ _ (plain refl refl) (grants_uncounted b t (latest_of t.key b.idle))))
+    (either (b.is_paused || not (waiting_before t.key t.client b.tickets == 0)) _ _ (plain refl refl) (grants_uncounted b t (lendable b.fresh_from t.key b.idle))))
 
 gives_back_uncounted : (b : Book) (o : Option Link) → Uncounted b (gives_back b o)
 gives_back_uncounted b None = plain refl refl
@@ -96,7 +97,7 @@ cancels_uncounted b (Some lease) = at (find (is_link lease.link) b.lent)
     at (Some link) = by_host link.key.host
 
 pub uncounted : (b : Book) (e : Event) → Uncounted b (outcome b e)
-uncounted b Arrive = either b.is_shut _ _ (plain refl refl) (either (nat_lt (length b.clients) b.limits.max_clients) _ _ (plain refl refl) (plain refl refl))
+uncounted b (Arrive beyond) = either b.is_shut _ _ (plain refl refl) (either (nat_lt (length b.clients) (b.limits.max_clients + places_beyond beyond)) _ _ (plain refl refl) (plain refl refl))
 uncounted b (Ask client key) = either b.is_shut _ _ (plain refl refl) (plain refl refl)
 uncounted b (Take client) = takes_uncounted b (find (is_of client) b.tickets)
 uncounted b (GiveBack n) = gives_back_uncounted b (find (is_link n) b.lent)
@@ -108,6 +109,7 @@ uncounted b (NewLimits limits) = plain refl refl
 uncounted b Pause = plain refl refl
 uncounted b Resume = plain refl refl
 uncounted b Shutdown = plain refl refl
+uncounted b Reconnect = plain refl refl
 uncounted b (Keyed n client server) = plain refl refl
 uncounted b (Cancel client) = cancels_uncounted b (find (is_of_client client) b.keyed)
 uncounted b (EndLease n) = plain refl refl

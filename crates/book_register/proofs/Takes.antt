@@ -5,7 +5,7 @@ use Rattle.std.specs.List.{list_any}
 use Rattle.std.proofs.lemmas.Bool.{eqb-true}
 use Rattle.message_view.specs.declared.refusal.Refusal.{Refusal}
 use Rattle.message_view.specs.declared.refusal.Refusal.TheVariants.{ShuttingDown, WaitedTooLong}
-use Rattle.book_model.specs.Book.{Book, Client, Link, Ticket, is_link, is_of, latest_of, link_count, waiting_before, without, without_ticket}
+use Rattle.book_model.specs.Book.{Book, Client, Link, Ticket, is_link, is_of, lendable, link_count, waiting_before, without, without_ticket}
 use Rattle.book_model.specs.Outcomes.{Answer, grants, has_waited, last_decision, lends, loses_ticket, starts, takes, waits}
 use Rattle.book_model.specs.declared.events.Reply.{Reply}
 use Rattle.book_model.specs.declared.events.Reply.TheVariants.{Queued, Refuse, Stranger}
@@ -23,9 +23,9 @@ one_lent lent idle next k n = omega (arith, k.once n)
 pub one_idle : (lent idle : List Link) (next : ℕ) → KeptLinks lent idle next → (n : ℕ) → count_by (is_link n) idle ≤ 1
 one_idle lent idle next k n = omega (arith, k.once n)
 
-takes_by : (b : Book) (t : Ticket) (x y z : Bool) → b.is_shut ≡ x → has_waited b t ≡ y → (b.is_paused || not (waiting_before t.key t.client b.tickets == 0)) ≡ z → takes b (Some t) ≡ cond x (loses_ticket b t ShuttingDown) (cond y (loses_ticket b t WaitedTooLong) (cond z (waits b t) (grants b t (latest_of t.key b.idle))))
+takes_by : (b : Book) (t : Ticket) (x y z : Bool) → b.is_shut ≡ x → has_waited b t ≡ y → (b.is_paused || not (waiting_before t.key t.client b.tickets == 0)) ≡ z → takes b (Some t) ≡ cond x (loses_ticket b t ShuttingDown) (cond y (loses_ticket b t WaitedTooLong) (cond z (waits b t) (grants b t (lendable b.fresh_from t.key b.idle))))
 takes_by b t x y z e f g =
-    let rest : Bool → Bool → Answer = λ v w. cond v (loses_ticket b t WaitedTooLong) (cond w (waits b t) (grants b t (latest_of t.key b.idle))) in
+    let rest : Bool → Bool → Answer = λ v w. cond v (loses_ticket b t WaitedTooLong) (cond w (waits b t) (grants b t (lendable b.fresh_from t.key b.idle))) in
     ap (λ (v : Bool). cond {A = Answer} v (loses_ticket b t ShuttingDown) (rest (has_waited b t) (b.is_paused || not (waiting_before t.key t.client b.tickets == 0)))) e
     ∙ (ap (λ (v : Bool). cond {A = Answer} x (loses_ticket b t ShuttingDown) (rest v (b.is_paused || not (waiting_before t.key t.client b.tickets == 0)))) f
     ∙ ap (λ (v : Bool). cond {A = Answer} x (loses_ticket b t ShuttingDown) (rest y v)) g)
@@ -39,7 +39,7 @@ took_late b t e f = takes_by b t false true (b.is_paused || not (waiting_before 
 pub took_nothing : (b : Book) (t : Ticket) → b.is_shut ≡ false → has_waited b t ≡ false → (b.is_paused || not (waiting_before t.key t.client b.tickets == 0)) ≡ true → takes b (Some t) ≡ waits b t
 took_nothing b t e f g = takes_by b t false false true e f g
 
-pub took_link : (b : Book) (t : Ticket) → b.is_shut ≡ false → has_waited b t ≡ false → (b.is_paused || not (waiting_before t.key t.client b.tickets == 0)) ≡ false → takes b (Some t) ≡ grants b t (latest_of t.key b.idle)
+pub took_link : (b : Book) (t : Ticket) → b.is_shut ≡ false → has_waited b t ≡ false → (b.is_paused || not (waiting_before t.key t.client b.tickets == 0)) ≡ false → takes b (Some t) ≡ grants b t (lendable b.fresh_from t.key b.idle)
 took_link b t e f g = takes_by b t false false false e f g
 
 -- ---- what is found by its number bears it
@@ -80,13 +80,13 @@ ticket_of b client = find (is_of client) b.tickets
 ticket_read : (before b : Book) (client : ℕ) (t x : Ticket) → before ≡ b → ticket_of b client ≡ Some t → ticket_of before client ≡ Some x → x ≡ t
 ticket_read before b client t x e at read = same_row x t (ticket_of b client) (ap (λ (v : Book). ticket_of v client) (sym e) ∙ read) at
 
-pub lend_done : (before b after : Book) (client idle : ℕ) (t x y : Ticket) (link : Link) (tickets : List Ticket) (links : List Link) (reply : Reply) → before ≡ b → ticket_of b client ≡ Some t → ticket_of before client ≡ Some x → ticket_of before client ≡ Some y → Chooses b y (Lend idle) → find (is_link idle) before.idle ≡ Some link → tickets ≡ without_ticket client before.tickets → links ≡ without idle before.idle → after ≡ record ((lends before x link).book) { tickets = tickets; idle = links } → reply ≡ (lends before x link).reply → Gives after reply (grants b t (latest_of t.key b.idle))
+pub lend_done : (before b after : Book) (client idle : ℕ) (t x y : Ticket) (link : Link) (tickets : List Ticket) (links : List Link) (reply : Reply) → before ≡ b → ticket_of b client ≡ Some t → ticket_of before client ≡ Some x → ticket_of before client ≡ Some y → Chooses b y (Lend idle) → find (is_link idle) before.idle ≡ Some link → tickets ≡ without_ticket client before.tickets → links ≡ without idle before.idle → after ≡ record ((lends before x link).book) { tickets = tickets; idle = links } → reply ≡ (lends before x link).reply → Gives after reply (grants b t (lendable b.fresh_from t.key b.idle))
 lend_done before b after client idle t x y link tickets links reply e at taken read chosen il et el done replied =
     let ex : x ≡ t = ticket_read before b client t x e at taken in
     let ey : y ≡ t = ticket_read before b client t y e at read in
     let way : Chooses b t (Lend idle) = subst (λ (z : Ticket). Chooses b z (Lend idle)) ey chosen in
     let el2 : link ≡ way.0 = same_row link way.0 (find (is_link idle) b.idle) (ap (λ (v : Book). find (is_link idle) v.idle) (sym e) ∙ il) way.1 in
-    let given : grants b t (latest_of t.key b.idle) ≡ lends b t link = way.2 ∙ ap (lends b t) (sym el2) in
+    let given : grants b t (lendable b.fresh_from t.key b.idle) ≡ lends b t link = way.2 ∙ ap (lends b t) (sym el2) in
     let same : lends before x link ≡ lends b t link = ap (λ (v : Book). lends v x link) e ∙ ap (λ (z : Ticket). lends b z link) ex in
     let own : client ≡ x.client = sym (ticket_bears client before.tickets x taken) in
     let number : idle ≡ link.number = sym (link_bears idle before.idle link il) in
@@ -96,11 +96,11 @@ lend_done before b after client idle t x y link tickets links reply e at taken r
     ap (λ (ts : List Ticket). record ((lends before x link).book) { tickets = ts; idle = links }) tickets_are ∙ ap (λ (ls : List Link). record ((lends before x link).book) { idle = ls }) links_are in
     (done ∙ (whole ∙ ap (λ (a : Answer). a.book) (same ∙ sym given)), replied ∙ ap (λ (a : Answer). a.reply) (same ∙ sym given))
 
-pub start_done : (before b after : Book) (client : ℕ) (t x y : Ticket) (tickets : List Ticket) (reply : Reply) → before ≡ b → ticket_of b client ≡ Some t → ticket_of before client ≡ Some x → ticket_of before client ≡ Some y → Chooses b y Start → tickets ≡ without_ticket client before.tickets → after ≡ record ((starts before x before.idle None).book) { tickets = tickets } → reply ≡ (starts before x before.idle None).reply → Gives after reply (grants b t (latest_of t.key b.idle))
+pub start_done : (before b after : Book) (client : ℕ) (t x y : Ticket) (tickets : List Ticket) (reply : Reply) → before ≡ b → ticket_of b client ≡ Some t → ticket_of before client ≡ Some x → ticket_of before client ≡ Some y → Chooses b y Start → tickets ≡ without_ticket client before.tickets → after ≡ record ((starts before x before.idle None).book) { tickets = tickets } → reply ≡ (starts before x before.idle None).reply → Gives after reply (grants b t (lendable b.fresh_from t.key b.idle))
 start_done before b after client t x y tickets reply e at taken read chosen et done replied =
     let ex : x ≡ t = ticket_read before b client t x e at taken in
     let ey : y ≡ t = ticket_read before b client t y e at read in
-    let given : grants b t (latest_of t.key b.idle) ≡ starts b t b.idle None = (subst (λ (z : Ticket). Chooses b z Start) ey chosen).1 in
+    let given : grants b t (lendable b.fresh_from t.key b.idle) ≡ starts b t b.idle None = (subst (λ (z : Ticket). Chooses b z Start) ey chosen).1 in
     let same : starts before x before.idle None ≡ starts b t b.idle None = ap (λ (v : Book). starts v x v.idle None) e ∙ ap (λ (z : Ticket). starts b z b.idle None) ex in
     let own : client ≡ x.client = sym (ticket_bears client before.tickets x taken) in
     let tickets_are : tickets ≡ without_ticket x.client before.tickets = et ∙ ap (λ (n : ℕ). without_ticket n before.tickets) own in
@@ -110,11 +110,11 @@ start_done before b after client t x y tickets reply e at taken read chosen et d
 abbrev evicting : Book → Ticket → List Link → ℕ → Answer
 evicting b t links n = starts (record b { evictions = suc b.evictions }) t links (Some n)
 
-pub evict_done : (before b after : Book) (client idle more : ℕ) (t x y : Ticket) (tickets : List Ticket) (links : List Link) (reply : Reply) → before ≡ b → ticket_of b client ≡ Some t → ticket_of before client ≡ Some x → ticket_of before client ≡ Some y → Chooses b y (Evict idle) → tickets ≡ without_ticket client before.tickets → links ≡ without idle before.idle → more ≡ suc before.evictions → after ≡ record ((starts (record before { evictions = more }) x links (Some idle)).book) { tickets = tickets } → reply ≡ (evicting before x links idle).reply → Gives after reply (grants b t (latest_of t.key b.idle))
+pub evict_done : (before b after : Book) (client idle more : ℕ) (t x y : Ticket) (tickets : List Ticket) (links : List Link) (reply : Reply) → before ≡ b → ticket_of b client ≡ Some t → ticket_of before client ≡ Some x → ticket_of before client ≡ Some y → Chooses b y (Evict idle) → tickets ≡ without_ticket client before.tickets → links ≡ without idle before.idle → more ≡ suc before.evictions → after ≡ record ((starts (record before { evictions = more }) x links (Some idle)).book) { tickets = tickets } → reply ≡ (evicting before x links idle).reply → Gives after reply (grants b t (lendable b.fresh_from t.key b.idle))
 evict_done before b after client idle more t x y tickets links reply e at taken read chosen et el em done replied =
     let ex : x ≡ t = ticket_read before b client t x e at taken in
     let ey : y ≡ t = ticket_read before b client t y e at read in
-    let given : grants b t (latest_of t.key b.idle) ≡ evicting b t (without idle b.idle) idle = (subst (λ (z : Ticket). Chooses b z (Evict idle)) ey chosen).1 in
+    let given : grants b t (lendable b.fresh_from t.key b.idle) ≡ evicting b t (without idle b.idle) idle = (subst (λ (z : Ticket). Chooses b z (Evict idle)) ey chosen).1 in
     let same : evicting before x links idle ≡ evicting b t (without idle b.idle) idle =
     ap (λ (ls : List Link). evicting before x ls idle) el ∙ (ap (λ (v : Book). evicting v x (without idle v.idle) idle) e ∙ ap (λ (z : Ticket). evicting b z (without idle b.idle) idle) ex) in
     let counted : record ((starts (record before { evictions = more }) x links (Some idle)).book) { tickets = tickets } ≡ record ((evicting before x links idle).book) { tickets = tickets } = ap (λ (m : ℕ). record ((starts (record before { evictions = m }) x links (Some idle)).book) { tickets = tickets }) em in
@@ -123,9 +123,9 @@ evict_done before b after client idle more t x y tickets links reply e at taken 
     let whole : record ((evicting before x links idle).book) { tickets = tickets } ≡ (evicting before x links idle).book = ap (λ (ts : List Ticket). record ((evicting before x links idle).book) { tickets = ts }) tickets_are in
     (done ∙ (counted ∙ (whole ∙ ap (λ (a : Answer). a.book) (same ∙ sym given))), replied ∙ ap (λ (a : Answer). a.reply) (same ∙ sym given))
 
-pub wait_done : (before b : Book) (client : ℕ) (t y : Ticket) → before ≡ b → ticket_of b client ≡ Some t → ticket_of before client ≡ Some y → waiting_before t.key t.client b.tickets ≡ 0 → Chooses b y Wait → Gives b (Queued 0) (grants b t (latest_of t.key b.idle))
+pub wait_done : (before b : Book) (client : ℕ) (t y : Ticket) → before ≡ b → ticket_of b client ≡ Some t → ticket_of before client ≡ Some y → waiting_before t.key t.client b.tickets ≡ 0 → Chooses b y Wait → Gives b (Queued 0) (grants b t (lendable b.fresh_from t.key b.idle))
 wait_done before b client t y e at read none chosen =
-    let given : grants b t (latest_of t.key b.idle) ≡ waits b t = subst (λ (z : Ticket). Chooses b z Wait) (ticket_read before b client t y e at read) chosen in
+    let given : grants b t (lendable b.fresh_from t.key b.idle) ≡ waits b t = subst (λ (z : Ticket). Chooses b z Wait) (ticket_read before b client t y e at read) chosen in
     (ap (λ (a : Answer). a.book) (sym given), ap Queued (sym none) ∙ ap (λ (a : Answer). a.reply) (sym given))
 
 -- ---- the ticket that a Take finds
@@ -160,10 +160,10 @@ waiting_done before b client n t e f open_is early count wait =
     taken_by before b b client t (Queued n) (waits b t) e f (took_nothing b t (ap (λ (v : Book). v.is_shut) (sym e) ∙ open_is) early (waits_by b client n t true is count wait))
     (refl, ap Queued (count ∙ ap (λ (m : ℕ). waiting_before t.key m b.tickets) (sym is)))
 
-pub granted_done : (before b after : Book) (client n : ℕ) (t : Ticket) (reply : Reply) → before ≡ b → ticket_of before client ≡ Some t → before.is_shut ≡ false → has_waited b t ≡ false → n ≡ waiting_before t.key client b.tickets → must_wait b n ≡ false → ((u : Ticket) → ticket_of b client ≡ Some u → Gives after reply (grants b u (latest_of u.key b.idle))) → Gives after reply (takes b (find (is_of client) b.tickets))
+pub granted_done : (before b after : Book) (client n : ℕ) (t : Ticket) (reply : Reply) → before ≡ b → ticket_of before client ≡ Some t → before.is_shut ≡ false → has_waited b t ≡ false → n ≡ waiting_before t.key client b.tickets → must_wait b n ≡ false → ((u : Ticket) → ticket_of b client ≡ Some u → Gives after reply (grants b u (lendable b.fresh_from u.key b.idle))) → Gives after reply (takes b (find (is_of client) b.tickets))
 granted_done before b after client n t reply e f open_is early count wait each =
     let is : t.client ≡ client = ticket_bears client before.tickets t f in
-    taken_by before b after client t reply (grants b t (latest_of t.key b.idle)) e f (took_link b t (ap (λ (v : Book). v.is_shut) (sym e) ∙ open_is) early (waits_by b client n t false is count wait))
+    taken_by before b after client t reply (grants b t (lendable b.fresh_from t.key b.idle)) e f (took_link b t (ap (λ (v : Book). v.is_shut) (sym e) ∙ open_is) early (waits_by b client n t false is count wait))
     (each t (ap (λ (v : Book). ticket_of v client) (sym e) ∙ f))
 
 not_false : (v : Bool) → not v ≡ false → v ≡ true

@@ -9,14 +9,14 @@ ghost use Rattle.book_model.specs.Book.{Ticket as TicketRow};
 ghost use Rattle.book_model.specs.Outcomes as outcome;
 ghost use Rattle.book_model.specs.declared.events.Reply.TheVariants.{Done, Refuse};
 ghost use Rattle.book_model.specs.declared.limits.TheConstants.{MOST_LINKS};
-ghost use Rattle.book_register.specs.Choices.{Chooses, Gives, eviction_of};
+ghost use Rattle.book_register.specs.Choices.{Chooses, Gives, eviction_of, number_if_fresh};
 ghost use Rattle.book_register.specs.Striking.{strike_of};
 ghost use Rattle.book_rows.specs.Numbered.{number_of};
 ghost use Rattle.numbered_rows.specs.Places.{passes};
 ghost use Rattle.book_model.specs.Kept.{Kept};
 
 use book_model::counts::Counts;
-use book_model::events::{ClientState, Event, Reply};
+use book_model::events::{Beyond, ClientState, Event, Reply};
 use book_model::limits::Limits;
 use book_rows::clients::{Client, Clients};
 use book_rows::leases::{Lease, Leases, Numbers};
@@ -44,6 +44,7 @@ pub struct BookState {
     pub limits: Arc<Limits>,
     pub is_paused: bool,
     pub is_shut: bool,
+    pub fresh_from: u64,
     pub decisions: u64,
     pub counts: Counts,
     pub starts: u64,
@@ -68,6 +69,7 @@ impl Drop for BookState {
             limits: _,
             is_paused: _,
             is_shut: _,
+            fresh_from: _,
             decisions: _,
             counts: _,
             starts: _,
@@ -99,6 +101,7 @@ impl Model for BookState {
       limits = arc_value b.limits;
       is_paused = b.is_paused;
       is_shut = b.is_shut;
+      fresh_from = b.fresh_from;
       decisions = b.decisions;
       counts = b.counts;
       starts = b.starts;
@@ -109,18 +112,26 @@ impl Model for BookState {
 }
 
 impl BookState {
+    /// Whether there is room for a client more, which may use so many places beyond the limit.
+    fn has_place(&self, beyond: Beyond) -> bool
+        ensures { result ≡ nat_lt (length self.now.clients) (self.now.limits.max_clients + book.places_beyond beyond) }
+    {
+        let limits: &Limits = &self.limits;
+        self.clients.len() < limits.max_client_conn as usize + beyond.places() as usize
+    }
+
     /// A client comes.
-    pub fn arrives(&mut self) -> Reply
+    #[tactic(auto, using(crate::proofs::Beginnings::may_come))]
+    pub fn arrives(&mut self, beyond: Beyond) -> Reply
         requires kept { Kept self.old }
         requires more { self.old.decisions < outcome.last_decision }
-        ensures book { self.new ≡ (outcome.arrives self.old).book }
-        ensures reply { result ≡ (outcome.arrives self.old).reply }
+        ensures book { self.new ≡ (outcome.arrives self.old beyond).book }
+        ensures reply { result ≡ (outcome.arrives self.old beyond).reply }
     {
         if self.is_shut {
             return Reply::Refuse(Refusal::ShuttingDown);
         }
-        let limits: &Limits = &self.limits;
-        if self.clients.len() < limits.max_client_conn as usize {
+        if self.has_place(beyond) {
             self.last_client += 1;
             self.clients.push(Client {
                 number: self.last_client,
@@ -188,12 +199,20 @@ impl BookState {
         self.ended.remove(number);
     }
 
+    /// Whether the link was started since the last Reconnect.
+    fn is_fresh(&self, link: &Link) -> bool
+        ensures { result ≡ book.is_fresh self.now.fresh_from link.now }
+    {
+        self.fresh_from <= link.number
+    }
+
     /// Whether a link that comes back is too old to be kept.
     fn is_old(&self, link: &Link) -> bool
         ensures { result ≡ outcome.is_old self.now link.now }
     {
         let limits: &Limits = &self.limits;
-        u64::from(limits.server_lifetime) <= self.clock.saturating_sub(link.born) || self.is_shut
+        let lifetime = u64::from(limits.server_lifetime);
+        lifetime <= self.clock.saturating_sub(link.born) || self.is_shut || !self.is_fresh(link)
     }
 
     /// Whether an idle link is to be closed.
@@ -255,21 +274,30 @@ impl BookState {
         self.link_count() < limits.max_links as usize
     }
 
+    /// The link of this key that may be lent: the latest returned one, where it is fresh.
+    #[tactic(auto, using(crate::proofs::Choices::fresh_number))]
+    fn lendable(&self, key: &PoolKey) -> Option<u64>
+        requires once { (n : ℕ) → count_by (book.is_link n) self.now.idle ≤ 1 }
+        ensures { result ≡ number_of (book.lendable self.now.fresh_from key.now self.now.idle) }
+    {
+        if_fresh(self.fresh_from, self.idle.last_of_key(key))
+    }
+
     /// What the first ticket of its pool is answered.
-    #[tactic(auto, using(crate::proofs::Choices::lend_chosen))]
+    #[tactic(auto, using(crate::proofs::Choices::lend_chosen, crate::proofs::Choices::unknown))]
     fn choice(&self, ticket: &Ticket) -> Choice
         requires once { (n : ℕ) → count_by (book.is_link n) self.now.idle ≤ 1 }
         ensures { Chooses self.now ticket.now result }
     {
-        match self.idle.last_of_key(&ticket.key) {
+        match self.lendable(&ticket.key) {
             Some(number) => Choice::Lend(number),
             None => self.room_for(ticket),
         }
     }
 
-    /// What it is answered where no idle link is of its key.
+    /// What it is answered where no idle link may be lent to it.
     fn room_for(&self, ticket: &Ticket) -> Choice
-        requires { book.latest_of ticket.now.key self.now.idle ≡ None }
+        requires { book.lendable self.now.fresh_from ticket.now.key self.now.idle ≡ None }
         ensures { Chooses self.now ticket.now result }
     {
         if !self.has_pool_room(&ticket.key) {
@@ -369,7 +397,7 @@ impl BookState {
         requires first { (t : TicketRow) → find (book.is_of client) self.old.tickets ≡ Some t → book.waiting_before t.key t.client self.old.tickets ≡ 0 }
         requires kept { Kept self.old }
         requires more { self.old.decisions < outcome.last_decision }
-        ensures { (t : TicketRow) → find (book.is_of client) self.old.tickets ≡ Some t → Gives self.new result (outcome.grants self.old t (book.latest_of t.key self.old.idle)) }
+        ensures { (t : TicketRow) → find (book.is_of client) self.old.tickets ≡ Some t → Gives self.new result (outcome.grants self.old t (book.lendable self.old.fresh_from t.key self.old.idle)) }
     {
         let Some(ticket) = self.tickets.get(client) else {
             return Reply::Stranger;
@@ -576,6 +604,16 @@ impl BookState {
         Reply::Done
     }
 
+    /// No link that is there now is lent again.
+    pub fn reconnects(&mut self) -> Reply
+        requires next { self.old.next_link ≤ outcome.last_decision }
+        ensures book { self.new ≡ record self.old { fresh_from = self.old.next_link } }
+        ensures reply { result ≡ Done }
+    {
+        self.fresh_from = self.last_link + 1;
+        Reply::Done
+    }
+
     /// Whether an idle link that is to be closed is in the slot.
     fn has_stale(&self, slot: &Option<Link>) -> bool
         ensures { result ≡ passes (outcome.is_stale self.now) slot.now }
@@ -611,6 +649,22 @@ fn strike_by(lease: &Lease, key: &StartKey) -> Reply
             server: lease.server,
         },
         None => Reply::Nobody,
+    }
+}
+
+/// The link of this number, where it is fresh.
+fn if_fresh(fresh_from: u64, number: Option<u64>) -> Option<u64>
+    ensures { result ≡ number_if_fresh fresh_from number }
+{
+    match number {
+        Some(number) => {
+            if fresh_from <= number {
+                Some(number)
+            } else {
+                None
+            }
+        }
+        None => None,
     }
 }
 

@@ -87,6 +87,7 @@ fn raise(counts: &mut Counts, kind: Kind)
         Kind::Cancelling => counts.cancelled += 1,
         Kind::LeaseEnding => counts.leases_ended += 1,
         Kind::HangUp => counts.hung_up += 1,
+        Kind::Reconnecting => counts.reconnected += 1,
     }
 }
 
@@ -142,7 +143,7 @@ impl BookState {
         ensures { result ≡ kinds_of self.now (event_of event.now) }
     {
         match event {
-            Event::Arrive => Kinds {
+            Event::Arrive { .. } => Kinds {
                 refused: Some(Kind::ArrivalRefused),
                 ..Kinds::all(Kind::Arrival)
             },
@@ -167,6 +168,7 @@ impl BookState {
             Event::Pause => Kinds::all(Kind::Pausing),
             Event::Resume => Kinds::all(Kind::Resuming),
             Event::Shutdown => Kinds::all(Kind::Closing),
+            Event::Reconnect => Kinds::all(Kind::Reconnecting),
             Event::Keyed { .. } => Kinds::all(Kind::Keying),
             Event::Cancel { .. } => Kinds::of_found(Kind::Cancelling),
             Event::EndLease { .. } => Kinds::all(Kind::LeaseEnding),
@@ -197,7 +199,7 @@ impl BookState {
         ensures { Gives self.new result (outcome.outcome self.old (event_of event)) }
     {
         match event {
-            Event::Arrive => self.arrives(),
+            Event::Arrive { beyond } => self.arrives(beyond),
             Event::Ask { client, key } => self.asks(client, key),
             Event::Take { client } => self.takes(client),
             Event::GiveBack { link } => self.gives_back(link),
@@ -209,6 +211,7 @@ impl BookState {
             Event::Pause => self.pauses(),
             Event::Resume => self.resumes(),
             Event::Shutdown => self.shuts_down(),
+            Event::Reconnect => self.reconnects(),
             Event::Keyed {
                 link,
                 client,

@@ -89,6 +89,7 @@ fn all_ticks(decisions: u64) -> Counts
         cancelled: 0,
         leases_ended: 0,
         hung_up: 0,
+        reconnected: 0,
     }
 }
 
@@ -110,6 +111,7 @@ fn empty_board(alloc: Global, limits: Arc<Limits>, decisions: u64) -> Result<Boo
         limits,
         is_paused: false,
         is_shut: false,
+        fresh_from: 1,
         decisions,
         counts: all_ticks(decisions),
         starts: 0,

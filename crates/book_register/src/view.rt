@@ -1,8 +1,10 @@
 //! What a book shows of itself.
 ghost use Rattle.std.specs.Prelude.{◌≡◌, ◌≤◌, ℕ, IfOk, count_by, find, option_copied, option_map};
+ghost use Rattle.std.specs.List.{list_any};
+ghost use Rattle.message_view.specs.Parts.{shown_value};
 ghost use Rattle.book_model.specs.Outcomes.{is_started_as};
 ghost use Rattle.book_model.specs.Book as book;
-ghost use Rattle.book_register.specs.Views.{view_of};
+ghost use Rattle.book_register.specs.Views.{has_stale, is_left_over, is_of_database, view_of};
 ghost use Rattle.book_register.specs.Waking.{waiting_behind, waiting_for};
 ghost use Rattle.book_rows.specs.Waiting.{TellsFirsts, TellsWaiting};
 
@@ -35,6 +37,8 @@ pub struct BookView {
     pub is_paused: bool,
     /// Whether no client is let in and no link lent any more.
     pub is_shut: bool,
+    /// No link of a smaller number is lent again: it was there at the last Reconnect.
+    pub fresh_from: u64,
     /// How many decisions there were, and how many of each kind.
     pub decisions: u64,
     pub counts: Counts,
@@ -59,6 +63,7 @@ impl Drop for BookView {
             limits: _,
             is_paused: _,
             is_shut: _,
+            fresh_from: _,
             decisions: _,
             counts: _,
             starts: _,
@@ -84,6 +89,7 @@ impl Model for BookView {
       limits = arc_value v.limits;
       is_paused = v.is_paused;
       is_shut = v.is_shut;
+      fresh_from = v.fresh_from;
       decisions = v.decisions;
       counts = v.counts;
       starts = v.starts;
@@ -91,6 +97,47 @@ impl Model for BookView {
       evictions = v.evictions;
       losses = v.losses;
     } };
+}
+
+/// Whether the link was started since the last Reconnect.
+fn is_fresh(link: &Link, fresh_from: u64) -> bool
+    ensures { result ≡ book.is_fresh fresh_from link.now }
+{
+    fresh_from <= link.number
+}
+
+/// Whether the link is to this database, where one is named.
+fn is_of_database(link: &Link, database: Option<&[u8]>) -> bool
+    ensures { result ≡ is_of_database (shown_value database.entry) link.now }
+{
+    match database {
+        Some(name) => name == link.key.key().row.as_slice(),
+        None => true,
+    }
+}
+
+/// Whether the link isn't lent again, and is to this database.
+fn is_left_over(link: &Link, fresh_from: u64, database: Option<&[u8]>) -> bool
+    ensures { result ≡ is_left_over fresh_from (shown_value database.entry) link.now }
+{
+    !is_fresh(link, fresh_from) && is_of_database(link, database)
+}
+
+/// Whether one of the links isn't lent again, and is to this database.
+fn any_left_over(links: &[Link], fresh_from: u64, database: Option<&[u8]>) -> bool
+    ensures { result ≡ list_any (is_left_over fresh_from (shown_value database.entry)) links.now }
+{
+    links.iter().any(|l| is_left_over(l, fresh_from, database))
+}
+
+impl BookView {
+    /// Whether a link is there, lent or idle, that isn't lent again: to the database of this name, where one is named.
+    pub fn has_stale(&self, database: Option<&[u8]>) -> bool
+        ensures { result ≡ has_stale self.now (shown_value database.entry) }
+    {
+        any_left_over(&self.lent, self.fresh_from, database)
+            || any_left_over(&self.idle, self.fresh_from, database)
+    }
 }
 
 impl BookState {
@@ -107,6 +154,7 @@ impl BookState {
             limits: Arc::try_clone(&self.limits)?,
             is_paused: self.is_paused,
             is_shut: self.is_shut,
+            fresh_from: self.fresh_from,
             decisions: self.decisions,
             counts: self.counts,
             starts: self.starts,

@@ -2,13 +2,14 @@
 ghost use Rattle.lease_book.specs.Links.{IsTwice};
 
 use crate::book_parts::{Settings, Whose, elsewhere, key_of, limits, link};
-use book_model::events::ClientState;
+use book_model::events::{Beyond, ClientState};
 use book_rows::clients::Client;
 use lease_book::book::Book;
 use lease_book::events::{Event, Reply};
 use link_run::links::CleanLink;
 use memory_ends::gone_end::GoneEnd;
 use message_view::{KeyView, Refusal};
+use pool_figures::decisions::DecisionSeen;
 use start_keys::Host;
 use std::alloc::{AllocError, Global};
 use std::sync::Arc;
@@ -17,6 +18,8 @@ use std::sync::Arc;
 #[derive(Clone, Copy, Drop)]
 pub(crate) enum Act {
     Come,
+    /// It may use these places beyond the limit.
+    ComeBeyond(Beyond),
     Ask(u64, Whose),
     Take(u64),
     /// This link of this key comes back, which was begun in second 0.
@@ -31,6 +34,7 @@ pub(crate) enum Act {
     Pause,
     Resume,
     Shutdown,
+    Reconnect,
     /// The key words of the client and of the server.
     Keyed(u64, KeyView, KeyView),
     Cancel(KeyView),
@@ -161,6 +165,11 @@ impl Story {
         by_numbers(self.reply(event))
     }
 
+    /// A client comes.
+    fn comes(&mut self, beyond: Beyond) -> Told {
+        self.happens(Event::Arrive { beyond })
+    }
+
     /// A client asks.
     fn asks(&mut self, client: u64, whose: Whose) -> Result<Told, AllocError> {
         let key = key_of(self.alloc, whose)?;
@@ -185,7 +194,8 @@ impl Story {
     /// What the book answers.
     pub(crate) fn play(&mut self, act: Act) -> Result<Told, AllocError> {
         match act {
-            Act::Come => Ok(self.happens(Event::Arrive)),
+            Act::Come => Ok(self.comes(Beyond::Nothing)),
+            Act::ComeBeyond(beyond) => Ok(self.comes(beyond)),
             Act::Ask(client, whose) => self.asks(client, whose),
             Act::Take(client) => Ok(self.happens(Event::Take { client })),
             Act::Back(number, whose) => self.takes_back(number, whose, 0),
@@ -198,6 +208,7 @@ impl Story {
             Act::Pause => Ok(self.happens(Event::Pause)),
             Act::Resume => Ok(self.happens(Event::Resume)),
             Act::Shutdown => Ok(self.happens(Event::Shutdown)),
+            Act::Reconnect => Ok(self.happens(Event::Reconnect)),
             Act::Keyed(number, client, server) => Ok(self.happens(Event::Keyed {
                 number,
                 client,
@@ -265,6 +276,23 @@ impl Story {
     /// How many decisions stand in the base, and how many are kept.
     pub(crate) fn kept(&self) -> (u64, usize) {
         self.book.kept()
+    }
+
+    /// What is shown of the kept decisions.
+    pub(crate) fn shown(&self) -> Result<Vec<DecisionSeen>, AllocError> {
+        self.book.shown(self.alloc)
+    }
+
+    /// Whether a link is there that isn't lent again, to this database, where one is named.
+    pub(crate) fn has_stale(&self, database: Option<&[u8]>) -> Result<bool, AllocError> {
+        let view = self.book.view(self.alloc)?;
+        Ok(view.has_stale(database))
+    }
+
+    /// All decisions, and those that were a Reconnect.
+    pub(crate) fn reconnects(&self) -> [u64; 2] {
+        let counts = self.book.counts();
+        [self.book.decisions(), counts.reconnected]
     }
 
     /// Who may be woken where any pool may have a link, in no order.

@@ -13,4 +13,10 @@ mod hang_up_stories;
 #[cfg(test)]
 mod histories;
 #[cfg(test)]
+mod places_beyond;
+#[cfg(test)]
+mod reconnect_stories;
+#[cfg(test)]
 mod row_stories;
+#[cfg(test)]
+mod shown_decisions;

@@ -3,6 +3,8 @@ use Rattle.std.specs.Prelude.{Bool, ℕ, ◌+◌, ◌/◌, ◌%◌, List, [], �
 use Rattle.std.specs.List.{flat_map}
 use Rattle.ini_config.specs.declared.option_values.AuthType.{AuthType}
 use Rattle.ini_config.specs.declared.option_values.AuthType.TheVariants.{Trust, Plain, Md5}
+use Rattle.ini_config.specs.declared.option_values.ConsoleStyle.{ConsoleStyle}
+use Rattle.ini_config.specs.declared.option_values.ConsoleStyle.TheVariants.{Own, PgBouncer}
 use Rattle.ini_config.specs.declared.option_values.Settings.{Settings}
 use Rattle.mini_sql.specs.Words.{Text}
 
@@ -28,6 +30,10 @@ abbrev pub auth_name : AuthType → Text
 auth_name Trust = codes "trust"
 auth_name Plain = codes "plain"
 auth_name Md5 = codes "md5"
+
+abbrev pub style_name : ConsoleStyle → Text
+style_name Own = codes "pgsess"
+style_name PgBouncer = codes "pgbouncer"
 
 abbrev pub setting : Text → Text → List Text
 setting key value = key ∷ value ∷ []
@@ -59,4 +65,12 @@ config s =
     ∷ setting (codes "tcp_keepintvl") (decimal s.tcp_keepintvl)
     ∷ setting (codes "tcp_keepcnt") (decimal s.tcp_keepcnt)
     ∷ setting (codes "tcp_user_timeout") (decimal s.tcp_user_timeout)
+    ∷ setting (codes "server_connect_timeout") (decimal s.server_connect_timeout)
+    ∷ setting (codes "client_login_timeout") (decimal s.client_login_timeout)
+    ∷ setting (codes "stats_users") (joined s.stats_users)
+    ∷ setting (codes "stats_period") (decimal s.stats_period)
+    ∷ setting (codes "log_stats") (flag s.log_stats)
+    ∷ setting (codes "metrics_addr") (joined s.metrics_addr)
+    ∷ setting (codes "metrics_port") (decimal s.metrics_port)
+    ∷ setting (codes "console_style") (style_name s.console_style)
     ∷ []

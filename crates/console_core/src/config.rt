@@ -4,7 +4,7 @@ ghost use Rattle.console_core.specs.Config as spec;
 ghost use Rattle.console_core.specs.Views.{setting_view, value_view};
 
 use crate::cells::Cells;
-use ini_config::{AuthType, Names, Settings};
+use ini_config::{AuthType, ConsoleStyle, Names, Settings};
 use itoa::Buffer;
 use std::alloc::{AllocError, Global};
 use text_lines::Text;
@@ -19,6 +19,7 @@ enum Value<'a> {
     Text(&'a [u8]),
     Mode(u32),
     Names(&'a Names),
+    Style(ConsoleStyle),
 }
 
 /// A key of the settings file, and its value.
@@ -34,8 +35,17 @@ fn auth_name(auth_type: AuthType) -> &'static [u8]
     }
 }
 
+fn style_name(style: ConsoleStyle) -> &'static [u8]
+    ensures { result.now ≡ spec.style_name style }
+{
+    match style {
+        ConsoleStyle::Own => b"pgsess",
+        ConsoleStyle::PgBouncer => b"pgbouncer",
+    }
+}
+
 /// The settings.
-fn settings_of(s: &Settings) -> [Setting<'_>; 25]
+fn settings_of(s: &Settings) -> [Setting<'_>; 33]
     ensures { map setting_view result ≡ spec.config s.now }
 {
     [
@@ -73,6 +83,20 @@ fn settings_of(s: &Settings) -> [Setting<'_>; 25]
         ("tcp_keepintvl", Value::Number(s.tcp_keepintvl)),
         ("tcp_keepcnt", Value::Number(s.tcp_keepcnt)),
         ("tcp_user_timeout", Value::Number(s.tcp_user_timeout)),
+        (
+            "server_connect_timeout",
+            Value::Number(s.server_connect_timeout),
+        ),
+        (
+            "client_login_timeout",
+            Value::Number(s.client_login_timeout),
+        ),
+        ("stats_users", Value::Names(&s.stats_users)),
+        ("stats_period", Value::Number(s.stats_period)),
+        ("log_stats", Value::Flag(s.log_stats)),
+        ("metrics_addr", Value::Names(&s.metrics_addr)),
+        ("metrics_port", Value::Number(s.metrics_port as u32)),
+        ("console_style", Value::Style(s.console_style)),
     ]
 }
 
@@ -140,6 +164,7 @@ fn put_value(text: &mut Vec<u8>, value: Value<'_>) -> Result<(), AllocError>
         Value::Text(bytes) => text.extend_from_slice(bytes),
         Value::Mode(mode) => put_mode(text, mode),
         Value::Names(names) => put_joined(text, names.as_slice()),
+        Value::Style(style) => text.extend_from_slice(style_name(style)),
     }
 }
 
@@ -164,8 +189,8 @@ fn rows(alloc: Global, settings: &[Setting<'_>]) -> Result<Vec<Cells>, AllocErro
     Ok(rows)
 }
 
-/// A row for each setting.
-pub(crate) fn config(alloc: Global, settings: &Settings) -> Result<Vec<Cells>, AllocError>
+/// A row for each setting: its key and its value. The only error is that memory was refused.
+pub fn config(alloc: Global, settings: &Settings) -> Result<Vec<Cells>, AllocError>
     ensures { IfOk result (λ v. v.items ≡ spec.config settings.now) }
 {
     let settings = settings_of(settings);

@@ -4,9 +4,9 @@
 
 pub mod cells;
 pub mod commands;
-mod config;
+pub mod config;
 mod lists;
 pub mod messages;
-mod pools;
+pub mod pools;
 pub mod reply;
 pub mod writing;

@@ -85,8 +85,8 @@ fn put_pools_of_links(pools: &mut Vec<PoolKey>, links: &[Link]) -> Result<(), Al
     Ok(())
 }
 
-/// A key of each pool.
-fn pool_keys(alloc: Global, view: &BookView) -> Result<Vec<PoolKey>, AllocError>
+/// A key of each pool that has a client's ticket or a link, by database and user. The only error is that memory was refused.
+pub fn pool_keys(alloc: Global, view: &BookView) -> Result<Vec<PoolKey>, AllocError>
     ensures { IfOk result (λ v. v.items ≡ spec.pool_keys view.now) }
 {
     let mut pools = Vec::new(alloc);
@@ -117,7 +117,7 @@ fn links_in(pool: &PoolKey, links: &[Link]) -> u64
 }
 
 /// The clients of a pool that have a link and those that wait for one, and its links that are lent and idle.
-fn pool_counts(view: &BookView, pool: &PoolKey) -> [u64; 4]
+pub fn pool_counts(view: &BookView, pool: &PoolKey) -> [u64; 4]
     ensures { result ≡ spec.pool_counts view.now pool.now }
 {
     let lent = links_in(pool, &view.lent);

@@ -20,6 +20,12 @@ pub enum ConsoleReply {
     Rows { table: Table, rows: Vec<Cells> },
     /// This is to be done; it is answered by the action's tag.
     Act(Action),
+    /// It is answered by the command's tag, once no link of its database is stale.
+    Await,
+    /// Its client may but look: 42501.
+    NotAllowed,
+    /// The pooler shuts down before a link is stale no more: 57P01.
+    ShuttingDown,
     /// It is no command: 42601.
     Unknown,
 }
@@ -86,6 +92,7 @@ pub fn answer(
     match read_command(command) {
         None => Ok(ConsoleReply::Unknown),
         Some(Command::Act(action)) => Ok(ConsoleReply::Act(action)),
+        Some(Command::Await(_)) => Ok(ConsoleReply::Await),
         Some(Command::Show(table)) => Ok(ConsoleReply::Rows {
             table,
             rows: rows_of(alloc, view, settings, table)?,

@@ -8,12 +8,12 @@ ghost use Rattle.console_core.specs.Replies as spec;
 ghost use Rattle.console_core.specs.Views.{reply_view, texts_of};
 
 use crate::cells::Cells;
-use crate::commands::Table;
+use crate::commands::{AWAITING, Table};
 use crate::reply::ConsoleReply;
 use bytes::BytesMut;
 use message_view::{
-    Column, KeyWord, Status, put_backend_key_data, put_command_complete, put_data_row,
-    put_parameter_status, put_ready_for_query, put_row_description,
+    Column, KeyWord, Severity, Status, put_backend_key_data, put_command_complete, put_data_row,
+    put_error_response, put_parameter_status, put_ready_for_query, put_row_description,
 };
 use session_values::cause::Cause;
 use session_values::error_responses::put_error;
@@ -124,17 +124,34 @@ fn put_refused(cause: Cause, out: &mut BytesMut) -> Result<(), AllocError>
     put_ready_for_query(out, Status::Idle)
 }
 
+fn put_not_allowed(out: &mut BytesMut) -> Result<(), AllocError>
+    ensures { OnOk result (out.new.items ≡ out.old.items ++ flat_map spelling spec.not_allowed) }
+{
+    put_error_response(out, Severity::Error, b"42501", b"admin access needed")?;
+    put_ready_for_query(out, Status::Idle)
+}
+
+fn put_shutting_down(out: &mut BytesMut) -> Result<(), AllocError>
+    ensures { OnOk result (out.new.items ≡ out.old.items ++ flat_map spelling spec.shuts_down) }
+{
+    put_error_response(out, Severity::Error, b"57P01", b"pooler is shutting down")?;
+    put_ready_for_query(out, Status::Idle)
+}
+
 fn put_frames(alloc: Global, reply: &ConsoleReply, out: &mut BytesMut) -> Result<(), AllocError>
     ensures { OnOk result (out.new.items ≡ out.old.items ++ flat_map spelling (spec.frames_of (reply_view reply.now))) }
 {
     match reply {
         ConsoleReply::Rows { table, rows } => put_listing(alloc, *table, rows, out),
         ConsoleReply::Act(action) => put_done(action.tag(), out),
+        ConsoleReply::Await => put_done(AWAITING, out),
+        ConsoleReply::NotAllowed => put_not_allowed(out),
+        ConsoleReply::ShuttingDown => put_shutting_down(out),
         ConsoleReply::Unknown => put_refused(Cause::Syntax, out),
     }
 }
 
-/// Writes a reply; that of an action is for when it is done. The only error is that memory was refused, which leaves the buffer as it
+/// Writes a reply; that of an action is for when it is done, and that of a WAIT_CLOSE for when no link is stale. The only error is that memory was refused, which leaves the buffer as it
 /// was.
 pub fn put_reply(alloc: Global, reply: &ConsoleReply, out: &mut BytesMut) -> Result<(), AllocError>
     ensures ok { OnOk result (out.new.items ≡ out.old.items ++ flat_map spelling (spec.frames_of (reply_view reply.now))) }

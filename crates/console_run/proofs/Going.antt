@@ -3,11 +3,10 @@ use Rattle.std.proofs.Common.{◌≡◌, ℕ, ◌+◌, ◌≤◌, Bool, List, []
 use Rattle.std.proofs.lemmas.Grind.{flat_map-append}
 use Rattle.std.specs.List.{flat_map}
 use Rattle.frame_view.specs.Frames.{spelling}
-use Rattle.ini_config.specs.declared.option_values.Settings.{Settings}
 use Rattle.link_laws.specs.Standing.{ClientFacts}
 use Rattle.console_core.specs.Messages.{response_to}
 use Rattle.console_run.specs.Passing.{Pass, after_doing}
-use Rattle.console_run.specs.Exchanges.{AreAnswered, Exchange, after_exchanges, asked_bytes, drops_after, drops_behind, told_bytes}
+use Rattle.console_run.specs.Exchanges.{AreAnswered, Asker, Exchange, after_exchanges, asked_bytes, drops_after, drops_behind, told_bytes}
 use Rattle.console_run.specs.Talks.{waits}
 use Rattle.console_run.specs.Turns.{Goes, HasMoved, TalkView}
 
@@ -21,7 +20,7 @@ drops_both : (drops : Bool) (xs ys : List Exchange) → drops_behind drops (xs +
 drops_both drops [] ys = refl
 drops_both drops (x ∷ xs) ys = drops_both (drops_after (response_to drops x.asks)) xs ys
 
-answered_both : (s : Settings) (drops : Bool) (p : Pass) (xs ys : List Exchange) → AreAnswered s drops p xs → AreAnswered s (drops_behind drops xs) (after_exchanges xs p) ys → AreAnswered s drops p (xs ++ ys)
+answered_both : (s : Asker) (drops : Bool) (p : Pass) (xs ys : List Exchange) → AreAnswered s drops p xs → AreAnswered s (drops_behind drops xs) (after_exchanges xs p) ys → AreAnswered s drops p (xs ++ ys)
 answered_both s drops p [] ys a b = b
 answered_both s drops p (x ∷ xs) ys a b = (a.0, a.1, answered_both s (drops_after (response_to drops x.asks)) (after_doing x.does p) xs ys a.2 b)
 
@@ -33,7 +32,7 @@ told_both xs ys = flat_map-append (λ (x : Exchange). flat_map spelling x.told) 
 
 -- ---- one turn, and then others
 
-pub goes_none : (s : Settings) (v : TalkView) (p : Pass) → Goes s 0 v v p p
+pub goes_none : (s : Asker) (v : TalkView) (p : Pass) → Goes s 0 v v p p
 goes_none s v p = record {
   got = [];
   put = [];
@@ -50,7 +49,7 @@ goes_none s v p = record {
   counted = omega arith;
 }
 
-pub goes_moved : (s : Settings) (n : ℕ) (old new : TalkView) (p q : Pass) → HasMoved n old new → q ≡ p → Goes s n old new p q
+pub goes_moved : (s : Asker) (n : ℕ) (old new : TalkView) (p q : Pass) → HasMoved n old new → q ≡ p → Goes s n old new p q
 goes_moved s n old new p q h e = record {
   got = h.got;
   put = h.put;
@@ -89,7 +88,7 @@ turns_both : (n m : ℕ) (c d e : ClientFacts) (got put got_then put_then : List
     → (n + m) + waits c ≤ length (got ++ got_then) + length (put ++ put_then) + length (xs ++ ys) + waits e
 turns_both n m c d e got put got_then put_then xs ys h i = omega (arith, h, i, length-append got got_then, length-append put put_then, length-append xs ys)
 
-pub goes_further : (s : Settings) (n m : ℕ) (old mid new : TalkView) (p q r : Pass) → Goes s n old mid p q → Goes s m mid new q r → Goes s (n + m) old new p r
+pub goes_further : (s : Asker) (n m : ℕ) (old mid new : TalkView) (p q r : Pass) → Goes s n old mid p q → Goes s m mid new q r → Goes s (n + m) old new p r
 goes_further s n m old mid new p q r x y = record {
   got = x.got ++ y.got;
   put = x.put ++ y.put;
@@ -107,7 +106,7 @@ goes_further s n m old mid new p q r x y = record {
 }
 
 -- fewer turns
-pub goes_fewer : (s : Settings) (n : ℕ) (old new : TalkView) (p q : Pass) → Goes s n old new p q → Goes s 0 old new p q
+pub goes_fewer : (s : Asker) (n : ℕ) (old new : TalkView) (p q : Pass) → Goes s n old new p q → Goes s 0 old new p q
 goes_fewer s n old new p q x = record {
   got = x.got;
   put = x.put;

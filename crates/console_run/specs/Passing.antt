@@ -5,7 +5,7 @@ use Rattle.link_desk.specs.declared.calls.Call.TheVariants as call
 use Rattle.link_desk.specs.declared.calls.Holder.{Holder}
 use Rattle.link_desk.specs.Passes.{PassOf, broken, one_other}
 use Rattle.console_core.specs.declared.commands.Action.{Action}
-use Rattle.console_core.specs.declared.commands.Action.TheVariants.{Pause, Resume, Reload, Shutdown}
+use Rattle.console_core.specs.declared.commands.Action.TheVariants.{Pause, Resume, Reload, Reconnect, Shutdown}
 
 -- what is known of a pass: the decisions that were made through it, and who holds it
 pub record Pass : Type 0 where
@@ -20,6 +20,7 @@ abbrev pub call_of : Action → Call
 call_of Pause = call.Pause
 call_of Resume = call.Resume
 call_of Reload = call.Limits
+call_of Reconnect = call.Reconnect
 call_of Shutdown = call.Shutdown
 
 abbrev pub called : Action → Holder → Holder

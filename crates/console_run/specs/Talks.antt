@@ -8,12 +8,11 @@ use Rattle.frame_view.specs.Frames.{Faulty, FrameOf, IsFrame, front, spelling}
 use Rattle.message_view.specs.declared.KeyWord.{KeyWord}
 use Rattle.message_view.specs.declared.refusal.Refusal.{Refusal}
 use Rattle.message_view.specs.declared.refusal.Refusal.TheVariants.{MalformedClientMessage, OutOfMemory, ClientMessageTooLong, LastDecision}
-use Rattle.ini_config.specs.declared.option_values.Settings.{Settings}
 use Rattle.link_laws.specs.Standing.{ClientFacts}
 use Rattle.console_core.specs.declared.commands.Action.{Action}
 use Rattle.console_core.specs.Messages.{Leave, response_to}
 use Rattle.console_run.specs.Passing.{Pass, broken_by}
-use Rattle.console_run.specs.Exchanges.{AreAnswered, Exchange, after_exchanges, asked_bytes, drops_behind, greeting, told_bytes}
+use Rattle.console_run.specs.Exchanges.{AreAnswered, Asker, Exchange, after_exchanges, asked_bytes, drops_behind, greeting, told_bytes}
 
 -- ---- by what a client is refused
 
@@ -83,13 +82,13 @@ EndsBy limit before after x None p q = IsOver limit before after x × (q ≡ p)
 EndsBy limit before after x (Some r) p q = (x.unwritten ≡ []) × IsRefused limit x.held r p q
 
 -- Whole messages were heard, none between them left out, and answered as each came. The client was given what it was told, the greeting and the answers, but for what is unwritten.
-pub record Talks (s : Settings) (word : KeyWord) (before after : ClientFacts) (p q : Pass) (last : Option Refusal) : Type 0 where
+pub record Talks (a : Asker) (word : KeyWord) (before after : ClientFacts) (p q : Pass) (last : Option Refusal) : Type 0 where
   pub said : Said
-  pub answered : AreAnswered s false p said.exchanges
+  pub answered : AreAnswered a false p said.exchanges
   pub taken : before.tells ≡ true → after.taken ≡ before.taken ++ (asked_bytes said.exchanges ++ said.held)
   pub given : before.tells ≡ true → after.given ≡ before.given ++ said.put
-  pub told : said.put ++ said.unwritten ≡ flat_map spelling (greeting word) ++ told_bytes said.exchanges
-  pub ends : EndsBy s.max_packet_size before after said last (after_exchanges said.exchanges p) q
+  pub told : said.put ++ said.unwritten ≡ flat_map spelling (greeting a.settings.console_style word) ++ told_bytes said.exchanges
+  pub ends : EndsBy a.settings.max_packet_size before after said last (after_exchanges said.exchanges p) q
 
 -- there was no memory for the greeting
 pub record IsUngreeted (before after : ClientFacts) (p q : Pass) (last : Option Refusal) : Type 0 where
@@ -97,5 +96,5 @@ pub record IsUngreeted (before after : ClientFacts) (p q : Pass) (last : Option 
   pub pass : q ≡ p
   pub refused : last ≡ Some OutOfMemory
 
-abbrev pub IsServed : Settings → KeyWord → ClientFacts → ClientFacts → Pass → Pass → Option Refusal → Type 0
-IsServed s word before after p q last = IsUngreeted before after p q last ⊎ Talks s word before after p q last
+abbrev pub IsServed : Asker → KeyWord → ClientFacts → ClientFacts → Pass → Pass → Option Refusal → Type 0
+IsServed a word before after p q last = IsUngreeted before after p q last ⊎ Talks a word before after p q last

@@ -3,18 +3,24 @@ use Rattle.std.specs.Prelude.{◌≡◌, ◌⊎◌, ℕ, ◌+◌, ◌≤◌, Boo
 use Rattle.std.specs.List.{flat_map}
 use Rattle.bytes.specs.Filled.{Filled}
 use Rattle.frame_view.specs.Frames.{FrameOf, spelling}
+use Rattle.message_view.specs.Bodies.{Text}
 use Rattle.message_view.specs.declared.KeyWord.{KeyWord}
 use Rattle.message_view.specs.declared.refusal.Refusal.{Refusal}
 use Rattle.message_view.specs.declared.refusal.Refusal.TheVariants.{OutOfMemory}
+use Rattle.ini_config.specs.declared.option_values.ConsoleStyle.{ConsoleStyle}
 use Rattle.ini_config.specs.declared.option_values.Settings.{Settings}
+use Rattle.book_model.specs.Book.{Book}
+use Rattle.book_model.specs.Kept.{Kept}
+use Rattle.book_register.specs.Views.{view_of}
+use Rattle.link_desk.specs.Counts.{AtMost, class_counts}
 use Rattle.link_laws.specs.Standing.{ClientFacts}
 use Rattle.link_desk.specs.declared.answers.Changed.{Changed}
 use Rattle.link_desk.specs.declared.answers.Changed.TheVariants as changed
 use Rattle.console_core.specs.declared.commands.Action.{Action}
 use Rattle.console_core.specs.declared.commands.Action.TheVariants.{Reload}
-use Rattle.console_core.specs.declared.commands.Command.{Command}
-use Rattle.console_core.specs.declared.commands.Command.TheVariants.{Act}
-use Rattle.console_core.specs.Messages.{Response, Frames, Leave}
+use Rattle.console_core.specs.Commands.{CommandOf, Await, command_of}
+use Rattle.console_core.specs.Replies.{not_allowed}
+use Rattle.console_core.specs.Messages.{Response, Frames, Answer, Leave}
 use Rattle.console_run.specs.declared.acting.Acted.{Acted}
 use Rattle.console_run.specs.declared.acting.Acted.TheVariants as acted
 use Rattle.console_run.specs.declared.answering.Answered.{Answered}
@@ -22,7 +28,7 @@ use Rattle.console_run.specs.declared.answering.Answered.TheVariants as answered
 use Rattle.console_run.specs.declared.talk.Turn.{Turn}
 use Rattle.console_run.specs.declared.talk.Turn.TheVariants as turn
 use Rattle.console_run.specs.Passing.{Pass, after_action, after_doing, broken_by}
-use Rattle.console_run.specs.Exchanges.{AreAnswered, Exchange, IsResponse, IsShown, after_exchanges, asked_bytes, drops_after, drops_behind, greeting, told_bytes}
+use Rattle.console_run.specs.Exchanges.{AreAnswered, Asker, Exchange, IsResponse, IsShown, after_exchanges, asked_bytes, closing, drops_after, drops_behind, greeting, may_act, told_bytes}
 use Rattle.console_run.specs.Talks.{IsClientOver, IsRefused, IsRefusedBy, Leaves, MOST_TURNS, waits}
 
 -- ---- what an action came to
@@ -53,29 +59,48 @@ pub record IsTold (answers : List FrameOf → Option Action → Type 0) (bytes :
   pub bytes_are : bytes ≡ flat_map spelling told
   pub pass : q ≡ after_doing does p
 
-abbrev pub HasAnswered : (List FrameOf → Option Action → Type 0) → (drops : Bool) → Answered → Pass → Pass → Type 0
-HasAnswered answers drops (answered.Told reply dropping) p q = IsTold answers reply.items p q × (dropping ≡ drops)
-HasAnswered answers drops answered.Left p q = ⊥
-HasAnswered answers drops (answered.Refused r) p q = IsRefusedBy r p q
+-- It is too early for the answer of a WAIT_CLOSE over some book, in which all that was made through the pass is counted.
+pub record IsEarly (p : Pass) (database : Option Text) : Type 0 where
+  pub book : Book
+  pub kept : Kept book
+  pub counted : AtMost p.told.made (class_counts book.counts)
+  pub early : closing (view_of book) database ≡ None
 
-abbrev pub HasResponded : Settings → Response → Answered → Pass → Pass → Type 0
-HasResponded s response answered.Left p q = (response ≡ Leave) × (q ≡ p)
-HasResponded s response a p q = HasAnswered (IsResponse s p response) (drops_after response) a p q
+-- no other command waits, and none of who may but look
+abbrev pub Waits : Asker → Pass → Option CommandOf → Type 0
+Waits a p (Some (Await database)) = (may_act a ≡ true) × IsEarly p database
+Waits a p command = ⊥
 
--- the action of a command
-abbrev pub action_in : Option Command → Option Action
-action_in (Some (Act action)) = Some action
-action_in _ = None
+abbrev pub MayWait : Asker → Pass → Response → Type 0
+MayWait a p (Answer text) = Waits a p (command_of text)
+MayWait a p response = ⊥
+
+-- where its answer may be for later: then nothing was done
+abbrev pub HasAnswered : (List FrameOf → Option Action → Type 0) → (early : Type 0) → (drops : Bool) → Answered → Pass → Pass → Type 0
+HasAnswered answers early drops (answered.Told reply dropping) p q = IsTold answers reply.items p q × (dropping ≡ drops)
+HasAnswered answers early drops answered.NotYet p q = early × (q ≡ p)
+HasAnswered answers early drops answered.Left p q = ⊥
+HasAnswered answers early drops (answered.Refused r) p q = IsRefusedBy r p q
+
+abbrev pub HasResponded : Asker → Response → Answered → Pass → Pass → Type 0
+HasResponded a response answered.Left p q = (response ≡ Leave) × (q ≡ p)
+HasResponded a response x p q = HasAnswered (IsResponse a p response) (MayWait a p response) (drops_after response) x p q
+
+-- it was told that it may but look
+abbrev pub IsNotAllowed : Answered → Type 0
+IsNotAllowed (answered.Told reply dropping) = (reply.items ≡ flat_map spelling not_allowed) × (dropping ≡ false)
+IsNotAllowed (answered.Refused r) = r ≡ OutOfMemory
+IsNotAllowed x = ⊥
 
 -- the bytes of a response's frames
 abbrev pub IsSaid : Response → List ℕ → Type 0
 IsSaid (Frames frames drops) bytes = bytes ≡ flat_map spelling frames
 IsSaid _ bytes = Unit {0}
 
--- what is no action was answered so
-pub record IsShownAs (s : Settings) (p : Pass) (command : Option Command) (bytes : List ℕ) : Type 0 where
+-- what has nothing done was answered so
+pub record IsShownAs (s : Settings) (p : Pass) (text : Text) (bytes : List ℕ) : Type 0 where
   pub told : List FrameOf
-  pub shown : IsShown s p command told
+  pub shown : IsShown s p text told
   pub bytes_are : bytes ≡ flat_map spelling told
 
 -- ---- a talk
@@ -90,8 +115,8 @@ pub record TalkView : Type 0 where
 abbrev pub talk_view : ClientFacts → (held unwritten : List ℕ) → Bool → TalkView
 talk_view client held unwritten drops = record { client = client; held = held; unwritten = unwritten; drops = drops }
 
-abbrev pub greeted : ClientFacts → KeyWord → TalkView
-greeted client word = talk_view client [] (flat_map spelling (greeting word)) false
+abbrev pub greeted : ClientFacts → ConsoleStyle → KeyWord → TalkView
+greeted client style word = talk_view client [] (flat_map spelling (greeting style word)) false
 
 -- A read or a write, in so many turns: `got` was taken, or `put` given.
 pub record HasMoved (turns : ℕ) (old new : TalkView) : Type 0 where
@@ -118,7 +143,7 @@ HasRead old new (turn.Over (Some r)) = (r ≡ OutOfMemory) × (new ≡ old)
 HasRead old new t = HasMoved 1 old new
 
 -- From one turn to a later one, in so many turns at least. Two parts of a talk, one after the other, are one.
-pub record Goes (s : Settings) (turns : ℕ) (old new : TalkView) (p q : Pass) : Type 0 where
+pub record Goes (a : Asker) (turns : ℕ) (old new : TalkView) (p q : Pass) : Type 0 where
   pub got : List ℕ
   pub put : List ℕ
   pub exchanges : List Exchange
@@ -127,30 +152,31 @@ pub record Goes (s : Settings) (turns : ℕ) (old new : TalkView) (p q : Pass) :
   pub given : old.client.tells ≡ true → new.client.given ≡ old.client.given ++ put
   pub heard : old.held ++ got ≡ asked_bytes exchanges ++ new.held
   pub told : old.unwritten ++ told_bytes exchanges ≡ put ++ new.unwritten
-  pub answered : AreAnswered s old.drops p exchanges
+  pub answered : AreAnswered a old.drops p exchanges
   pub drops : new.drops ≡ drops_behind old.drops exchanges
   pub pass : q ≡ after_exchanges exchanges p
   pub faults : old.client.faults ≤ new.client.faults
   pub counted : turns + waits old.client ≤ length got + length put + length exchanges + waits new.client
 
 -- the client has left or its end is over, or it was turned as often as it may be
-pub record HasGone (s : Settings) (old new : TalkView) (p q : Pass) : Type 0 where
+pub record HasGone (a : Asker) (old new : TalkView) (p q : Pass) : Type 0 where
   pub turns : ℕ
-  pub goes : Goes s turns old new p q
-  pub why : (Leaves s.max_packet_size new.drops new.held × (new.unwritten ≡ [])) ⊎ (IsClientOver old.client new.client ⊎ (MOST_TURNS ≤ turns))
+  pub goes : Goes a turns old new p q
+  pub why : (Leaves a.settings.max_packet_size new.drops new.held × (new.unwritten ≡ [])) ⊎ (IsClientOver old.client new.client ⊎ (MOST_TURNS ≤ turns))
 
 -- it is refused, where all that was told is given
-pub record IsRefusedAt (s : Settings) (old new : TalkView) (p q : Pass) (r : Refusal) : Type 0 where
+pub record IsRefusedAt (a : Asker) (old new : TalkView) (p q : Pass) (r : Refusal) : Type 0 where
   pub at : Pass
-  pub goes : Goes s 0 old new p at
+  pub goes : Goes a 0 old new p at
   pub written : new.unwritten ≡ []
-  pub refused : IsRefused s.max_packet_size new.held r at q
+  pub refused : IsRefused a.settings.max_packet_size new.held r at q
 
-abbrev pub HasEnded : Settings → TalkView → TalkView → Pass → Pass → Option Refusal → Type 0
-HasEnded s old new p q None = HasGone s old new p q
-HasEnded s old new p q (Some r) = IsRefusedAt s old new p q r
+abbrev pub HasEnded : Asker → TalkView → TalkView → Pass → Pass → Option Refusal → Type 0
+HasEnded a old new p q None = HasGone a old new p q
+HasEnded a old new p q (Some r) = IsRefusedAt a old new p q r
 
-abbrev pub HasTurned : Settings → TalkView → TalkView → Pass → Pass → Turn → Type 0
-HasTurned s old new p q turn.Again = Goes s 1 old new p q
-HasTurned s old new p q turn.Wait = Goes s 1 old new p q
-HasTurned s old new p q (turn.Over last) = HasEnded s old new p q last
+abbrev pub HasTurned : Asker → TalkView → TalkView → Pass → Pass → Turn → Type 0
+HasTurned a old new p q turn.Again = Goes a 1 old new p q
+HasTurned a old new p q turn.Wait = Goes a 1 old new p q
+HasTurned a old new p q turn.Rest = Goes a 1 old new p q
+HasTurned a old new p q (turn.Over last) = HasEnded a old new p q last

@@ -45,6 +45,7 @@ pub(crate) fn act<D: LinkDesk>(desk: &D, pass: &mut D::Pass, action: Action) -> 
         Action::Pause => came_to(desk.pause(pass)),
         Action::Resume => came_to(desk.resume(pass)),
         Action::Reload => reload(desk, pass),
+        Action::Reconnect => came_to(desk.reconnect(pass)),
         Action::Shutdown => came_to(desk.shutdown(pass)),
     }
 }

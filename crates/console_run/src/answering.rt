@@ -1,19 +1,22 @@
 //! What the console answers to one client.
-ghost use Rattle.std.specs.Prelude.{◌≡◌, [], false, IfOk, OnOk};
+ghost use Rattle.std.specs.Prelude.{◌≡◌, [], false, true, IfOk, OnOk, option_map};
 ghost use Rattle.std.specs.List.{flat_map};
 ghost use Rattle.frame_view.specs.Frames.{spelling};
+ghost use Rattle.message_view.specs.Parts.{shown_value};
 ghost use Rattle.session_values.specs.Answers.{frame_of};
 ghost use Rattle.console_core.specs.Commands.{command_of};
 ghost use Rattle.console_core.specs.Messages as messages;
 ghost use Rattle.console_core.specs.Replies as replies;
 ghost use Rattle.console_core.specs.Views.{reply_view, response_view};
+ghost use Rattle.monitor_core.specs.Asking.{asked};
+ghost use Rattle.monitor_core.specs.Replies as monitor;
 ghost use Rattle.console_run.specs.Exchanges as exchange;
-ghost use Rattle.console_run.specs.Exchanges.{IsActed, IsAnswer};
+ghost use Rattle.console_run.specs.Exchanges.{ForAdmins, IsActed, IsAnswer, IsClosed, IsSeen, asker};
 ghost use Rattle.console_run.specs.Passing.{pass_of};
-ghost use Rattle.console_run.specs.Turns as turns;
-ghost use Rattle.console_run.specs.Turns.{HasAnswered, HasResponded, IsSaid, IsShownAs, told_of};
+ghost use Rattle.console_run.specs.Turns.{HasAnswered, HasResponded, IsEarly, IsNotAllowed, IsSaid, IsShownAs, Waits, told_of};
 
 use crate::acting::{Acted, act};
+use book_register::view::BookView;
 use bytes::BytesMut;
 use console_core::commands::{Action, Command, read_command};
 use console_core::messages::{Response, response_to};
@@ -24,6 +27,10 @@ use ini_config::Settings;
 use link_desk::desk::LinkDesk;
 use log_lines::notes::{Client, Note};
 use message_view::{Refusal, Status, put_ready_for_query};
+use monitor_core::asking::{Asked, read_asked};
+use monitor_core::reply::monitor_answer;
+use monitor_core::writing::put_monitor_reply;
+use pool_figures::seen::Seen;
 use session_values::cause::Cause;
 use session_values::error_responses::put_error;
 use std::alloc::{AllocError, Global};
@@ -33,6 +40,8 @@ use std::alloc::{AllocError, Global};
 pub(crate) enum Answered {
     /// It is told this, and whether its messages are dropped from now on up to the next Sync.
     Told(BytesMut, bool),
+    /// Its answer is for later: nothing was done.
+    NotYet,
     /// It leaves.
     Left,
     /// It is refused.
@@ -117,13 +126,61 @@ fn drops_after(response: Response<'_>, drops: bool) -> bool
     }
 }
 
-/// The action that a text asks for.
-fn action_in(text: &[u8]) -> Option<Action>
-    ensures { result ≡ turns.action_in (command_of text.now) }
+/// What a WAIT_CLOSE is answered over this book, where it isn't too early for an answer.
+fn closing(view: &BookView, database: Option<&[u8]>) -> Option<ConsoleReply>
+    ensures { option_map reply_view result ≡ exchange.closing view.now (shown_value database.entry) }
 {
-    match read_command(text) {
-        Some(Command::Act(action)) => Some(action),
-        _ => None,
+    if !view.has_stale(database) {
+        return Some(ConsoleReply::Await);
+    }
+    if view.is_shut {
+        return Some(ConsoleReply::ShuttingDown);
+    }
+    None
+}
+
+/// What a monitor is answered over this book and what is known beside it.
+fn monitor_bytes(
+    alloc: Global,
+    view: &BookView,
+    known: &Seen,
+    settings: &Settings,
+    asked: Asked,
+) -> Result<BytesMut, AllocError>
+    ensures { IfOk result (λ out. out.items ≡ flat_map spelling (monitor.frames_of (monitor.reply_to view.now known.now settings.now asked))) }
+{
+    let reply = monitor_answer(alloc, view, known, settings, asked)?;
+    let mut out = BytesMut::new(alloc);
+    put_monitor_reply(alloc, &reply, &mut out)?;
+    Ok(out)
+}
+
+/// What the console itself answers over this book.
+fn own_bytes(
+    alloc: Global,
+    view: &BookView,
+    settings: &Settings,
+    text: &[u8],
+) -> Result<BytesMut, AllocError>
+    ensures { IfOk result (λ out. out.items ≡ flat_map spelling (replies.frames_of (replies.answer view.now settings.now text.now))) }
+{
+    let reply = answer(alloc, view, settings, text)?;
+    reply_bytes(alloc, &reply)
+}
+
+/// What a text is told that has nothing done.
+fn shown_bytes(
+    alloc: Global,
+    view: &BookView,
+    known: &Seen,
+    settings: &Settings,
+    text: &[u8],
+) -> Result<BytesMut, AllocError>
+    ensures { IfOk result (λ out. out.items ≡ flat_map spelling (exchange.shown view.now known.now settings.now text.now (asked settings.now.console_style text.now))) }
+{
+    match read_asked(settings.console_style(), text) {
+        Some(asked) => monitor_bytes(alloc, view, known, settings, asked),
+        None => own_bytes(alloc, view, settings, text),
     }
 }
 
@@ -132,6 +189,7 @@ fn note_of(action: Action) -> Option<Note<'static>> {
     match action {
         Action::Pause => Some(Note::Paused),
         Action::Resume => Some(Note::Resumed),
+        Action::Reconnect => Some(Note::Reconnecting),
         Action::Shutdown => Some(Note::ShuttingDown),
         Action::Reload => None,
     }
@@ -147,7 +205,7 @@ impl<'a, D: LinkDesk> Console<'a, D> {
 
     /// Does an action. What couldn't be answered isn't done.
     fn act(&self, pass: &mut D::Pass, action: Action) -> Answered
-        ensures { HasAnswered (IsActed action) false result (pass_of (D.told pass.old) (D.holder pass.old)) (pass_of (D.told pass.new) (D.holder pass.new)) }
+        ensures { HasAnswered (IsActed action) ⊥ false result (pass_of (D.told pass.old) (D.holder pass.old)) (pass_of (D.told pass.new) (D.holder pass.new)) }
     {
         let done = match reply_bytes(self.alloc, &ConsoleReply::Act(action)) {
             Ok(done) => done,
@@ -163,30 +221,93 @@ impl<'a, D: LinkDesk> Console<'a, D> {
         }
     }
 
-    /// The answer to a text that asks for no action, over the book as it is now.
+    /// Whether the client may have something done.
+    fn may_act(&self) -> bool
+        ensures { result ≡ exchange.may_act (asker self.now.settings.now self.now.who.now.user.now) }
+    {
+        self.settings.is_admin(self.who.user)
+    }
+
+    /// What a client is told that may but look.
+    fn not_allowed(&self) -> Answered
+        ensures { IsNotAllowed result }
+    {
+        told(reply_bytes(self.alloc, &ConsoleReply::NotAllowed), false)
+    }
+
+    /// Does an action, where the client may have it done.
+    fn act_if_allowed(&self, pass: &mut D::Pass, action: Action) -> Answered
+        ensures { HasAnswered (ForAdmins (exchange.may_act (asker self.now.settings.now self.now.who.now.user.now)) (IsActed action)) ⊥ false result (pass_of (D.told pass.old) (D.holder pass.old)) (pass_of (D.told pass.new) (D.holder pass.new)) }
+    {
+        if !self.may_act() {
+            return self.not_allowed();
+        }
+        self.act(pass, action)
+    }
+
+    /// The answer to a WAIT_CLOSE over the book as it is now, where it isn't too early for one.
+    fn await_close(&self, pass: &mut D::Pass, database: Option<&[u8]>) -> Answered
+        ensures { HasAnswered (IsClosed (pass_of (D.told pass.old) (D.holder pass.old)) (shown_value database.entry)) (IsEarly (pass_of (D.told pass.old) (D.holder pass.old)) (shown_value database.entry)) false result (pass_of (D.told pass.old) (D.holder pass.old)) (pass_of (D.told pass.new) (D.holder pass.new)) }
+    {
+        let view = match self.desk.view(self.alloc, pass) {
+            Ok(view) => view,
+            Err(_) => return Answered::Refused(Refusal::OutOfMemory),
+        };
+        match closing(&view, database) {
+            Some(reply) => told(reply_bytes(self.alloc, &reply), false),
+            None => Answered::NotYet,
+        }
+    }
+
+    /// The same, where the client may have something done.
+    fn await_if_allowed(&self, pass: &mut D::Pass, database: Option<&[u8]>) -> Answered
+        ensures { HasAnswered (ForAdmins (exchange.may_act (asker self.now.settings.now self.now.who.now.user.now)) (IsClosed (pass_of (D.told pass.old) (D.holder pass.old)) (shown_value database.entry))) ((exchange.may_act (asker self.now.settings.now self.now.who.now.user.now) ≡ true) × IsEarly (pass_of (D.told pass.old) (D.holder pass.old)) (shown_value database.entry)) false result (pass_of (D.told pass.old) (D.holder pass.old)) (pass_of (D.told pass.new) (D.holder pass.new)) }
+    {
+        if !self.may_act() {
+            return self.not_allowed();
+        }
+        self.await_close(pass, database)
+    }
+
+    /// What is known beside the book.
+    fn known(&self) -> Result<Seen, AllocError> {
+        let mut known = self.desk.seen(self.alloc)?;
+        known.decisions = self.desk.decisions(self.alloc)?;
+        Ok(known)
+    }
+
+    /// What a text is told that has nothing done, over the book as it is now.
     fn show(&self, pass: &mut D::Pass, text: &[u8]) -> Result<BytesMut, AllocError>
-        ensures shown { IfOk result (λ out. IsShownAs self.now.settings.now (pass_of (D.told pass.old) (D.holder pass.old)) (command_of text.now) out.items) }
+        ensures shown { IfOk result (λ out. IsShownAs self.now.settings.now (pass_of (D.told pass.old) (D.holder pass.old)) text.now out.items) }
         ensures told { D.told pass.new ≡ D.told pass.old }
         ensures holder { D.holder pass.new ≡ D.holder pass.old }
     {
         let view = self.desk.view(self.alloc, pass)?;
-        let reply = answer(self.alloc, &view, self.settings, text)?;
-        reply_bytes(self.alloc, &reply)
+        let known = self.known()?;
+        shown_bytes(self.alloc, &view, &known, self.settings, text)
+    }
+
+    /// The answer to a text that has nothing done.
+    fn look(&self, pass: &mut D::Pass, text: &[u8]) -> Answered
+        ensures { HasAnswered (IsSeen self.now.settings.now (pass_of (D.told pass.old) (D.holder pass.old)) text.now) ⊥ false result (pass_of (D.told pass.old) (D.holder pass.old)) (pass_of (D.told pass.new) (D.holder pass.new)) }
+    {
+        told(self.show(pass, text), false)
     }
 
     /// The answer to the text of a Query.
     fn command(&self, pass: &mut D::Pass, text: &[u8]) -> Answered
-        ensures { HasAnswered (IsAnswer self.now.settings.now (pass_of (D.told pass.old) (D.holder pass.old)) (command_of text.now)) false result (pass_of (D.told pass.old) (D.holder pass.old)) (pass_of (D.told pass.new) (D.holder pass.new)) }
+        ensures { HasAnswered (IsAnswer (asker self.now.settings.now self.now.who.now.user.now) (pass_of (D.told pass.old) (D.holder pass.old)) text.now (command_of text.now)) (Waits (asker self.now.settings.now self.now.who.now.user.now) (pass_of (D.told pass.old) (D.holder pass.old)) (command_of text.now)) false result (pass_of (D.told pass.old) (D.holder pass.old)) (pass_of (D.told pass.new) (D.holder pass.new)) }
     {
-        match action_in(text) {
-            Some(action) => self.act(pass, action),
-            None => told(self.show(pass, text), false),
+        match read_command(text) {
+            Some(Command::Act(action)) => self.act_if_allowed(pass, action),
+            Some(Command::Await(database)) => self.await_if_allowed(pass, database),
+            Some(Command::Show(_)) | None => self.look(pass, text),
         }
     }
 
     /// The answer to a message, where messages are dropped up to the next Sync or not.
     pub(crate) fn answer(&self, pass: &mut D::Pass, frame: Frame<'_>, drops: bool) -> Answered
-        ensures { HasResponded self.now.settings.now (messages.response_to drops (frame_of frame.entry)) result (pass_of (D.told pass.old) (D.holder pass.old)) (pass_of (D.told pass.new) (D.holder pass.new)) }
+        ensures { HasResponded (asker self.now.settings.now self.now.who.now.user.now) (messages.response_to drops (frame_of frame.entry)) result (pass_of (D.told pass.old) (D.holder pass.old)) (pass_of (D.told pass.new) (D.holder pass.new)) }
     {
         match response_to(frame, drops) {
             Response::Leave => Answered::Left,

@@ -1,5 +1,6 @@
 //! One client of the console.
 ghost use Rattle.std.specs.Prelude.{◌≡◌};
+ghost use Rattle.console_run.specs.Exchanges.{asker};
 ghost use Rattle.console_run.specs.Passing.{IsSameHolder, Manages, pass_of};
 ghost use Rattle.console_run.specs.Talks.{IsServed};
 ghost use Rattle.console_run.specs.Turns.{HasEnded};
@@ -10,9 +11,19 @@ use ini_config::Settings;
 use link_desk::desk::LinkDesk;
 use log_lines::notes::Client;
 use message_view::{KeyWord, Refusal};
-use server_end::ClientEnd;
 use server_end::gate::Gate;
+use server_end::{ClientEnd, ServerEnd};
 use std::alloc::Global;
+
+/// The client's turns between two looks at the book, while an answer is for later.
+const TURNS_OF_REST: u32 = 5;
+
+/// Waits for half a second, or less where the client sends something.
+fn rest<E: ServerEnd, G: Gate<E>>(gate: &mut G) {
+    for _ in 0..TURNS_OF_REST {
+        gate.turn_of_client();
+    }
+}
 
 /// Greets the client and answers its messages; by what it is refused, if it is.
 fn drive_console<C: ClientEnd, D: LinkDesk, G: Gate<D::End>>(
@@ -21,7 +32,7 @@ fn drive_console<C: ClientEnd, D: LinkDesk, G: Gate<D::End>>(
     talk: &mut Talk<C>,
     gate: &mut G,
 ) -> Option<Refusal>
-    ensures { HasEnded console.now.settings.now talk.old talk.new (pass_of (D.told pass.old) (D.holder pass.old)) (pass_of (D.told pass.new) (D.holder pass.new)) result }
+    ensures { HasEnded (asker console.now.settings.now console.now.who.now.user.now) talk.old talk.new (pass_of (D.told pass.old) (D.holder pass.old)) (pass_of (D.told pass.new) (D.holder pass.new)) result }
 {
     for _ in 0..u64::MAX {
         match talk.turn(console, pass) {
@@ -29,6 +40,7 @@ fn drive_console<C: ClientEnd, D: LinkDesk, G: Gate<D::End>>(
             Turn::Wait => {
                 gate.turn();
             }
+            Turn::Rest => rest(gate),
             Turn::Over(last) => return last,
         }
     }
@@ -40,8 +52,14 @@ fn drive_console<C: ClientEnd, D: LinkDesk, G: Gate<D::End>>(
 /// which it isn't told here: then all that it was told before is given. A turn of the gate is taken where nothing moved.
 ///
 /// It is refused where its message can't be one or is above the limit, where there was no memory, and where the book has made its last
-/// decision. PAUSE, RESUME, RELOAD and SHUTDOWN are decisions made through the pass, each answered once it is made; what couldn't be
-/// answered for want of memory isn't done. `who` is told to the log beside them.
+/// decision. PAUSE, RESUME, RELOAD, RECONNECT and SHUTDOWN are decisions made through the pass, each answered once it is made; what
+/// couldn't be answered for want of memory isn't done. `who` is told to the log beside them.
+///
+/// WAIT_CLOSE is answered once no link is stale any more that was there at the last RECONNECT, of its database, where it names one; by an
+/// error, where the book is shut down before that. Until then the book is looked at each half second, and nothing else of the client's is
+/// answered.
+///
+/// Where `who` isn't one of the settings' admin users it may but look: those commands are answered by an error, and nothing is done.
 pub fn serve_console<C: ClientEnd, D: LinkDesk, G: Gate<D::End>>(
     alloc: Global,
     desk: &D,
@@ -53,11 +71,11 @@ pub fn serve_console<C: ClientEnd, D: LinkDesk, G: Gate<D::End>>(
     who: &Client<'_>,
 ) -> (C, Option<Refusal>)
     ensures tells { (C.facts result.0).tells ≡ (C.facts client).tells }
-    ensures served { IsServed settings.now word (C.facts client) (C.facts result.0) (pass_of (D.told pass.old) (D.holder pass.old)) (pass_of (D.told pass.new) (D.holder pass.new)) result.1 }
+    ensures served { IsServed (asker settings.now who.now.user.now) word (C.facts client) (C.facts result.0) (pass_of (D.told pass.old) (D.holder pass.old)) (pass_of (D.told pass.new) (D.holder pass.new)) result.1 }
     ensures share { Manages (D.told pass.old) (D.told pass.new) }
     ensures holder { IsSameHolder (D.holder pass.old) (D.holder pass.new) }
 {
-    let mut talk = match Talk::new(alloc, client, word) {
+    let mut talk = match Talk::new(alloc, settings.console_style(), client, word) {
         Ok(talk) => talk,
         Err(client) => return (client, Some(Refusal::OutOfMemory)),
     };

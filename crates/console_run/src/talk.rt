@@ -2,18 +2,19 @@
 ghost use Rattle.std.specs.Prelude.{◌≡◌, ◌<◌, [], length, IfErr, IfOk};
 ghost use Rattle.std.specs.List.{flat_map};
 ghost use Rattle.frame_view.specs.Frames.{spelling};
-ghost use Rattle.console_run.specs.Exchanges.{greeting};
+ghost use Rattle.console_run.specs.Exchanges.{asker, greeting};
 ghost use Rattle.console_run.specs.Passing.{pass_of};
 ghost use Rattle.console_run.specs.Talks as talks;
 ghost use Rattle.console_run.specs.Turns.{HasRead, HasTurned, HasWritten, greeted};
 
 use crate::answering::{Answered, Console};
 use bytes::{Buf, BytesMut};
-use console_core::writing::put_welcome;
 use frame_view::laws::{are_bytes, front_is_spelled};
 use frame_view::{FrameFault, Side, Step, next_frame};
+use ini_config::ConsoleStyle;
 use link_desk::desk::LinkDesk;
 use message_view::{KeyWord, Refusal, put_authentication_ok};
+use monitor_core::writing::put_style_welcome;
 use server_end::{ClientEnd, Moved};
 use std::alloc::{AllocError, Global};
 use std::marker::Model;
@@ -28,6 +29,8 @@ pub(crate) enum Turn {
     Again,
     /// Nothing was: wait until the client's end is ready.
     Wait,
+    /// The client's message is answered later: rest, and turn again.
+    Rest,
     /// It is over, and the client is to be refused or not.
     Over(Option<Refusal>),
 }
@@ -61,12 +64,12 @@ impl<C: ClientEnd> Model for Talk<C> {
 }
 
 /// AuthenticationOk and the welcome.
-fn greeting(alloc: Global, word: KeyWord) -> Result<BytesMut, AllocError>
-    ensures { IfOk result (λ out. out.items ≡ flat_map spelling (greeting word)) }
+fn greeting(alloc: Global, style: ConsoleStyle, word: KeyWord) -> Result<BytesMut, AllocError>
+    ensures { IfOk result (λ out. out.items ≡ flat_map spelling (greeting style word)) }
 {
     let mut out = BytesMut::new(alloc);
     put_authentication_ok(&mut out)?;
-    put_welcome(alloc, word, &mut out)?;
+    put_style_welcome(alloc, style, word, &mut out)?;
     Ok(out)
 }
 
@@ -83,11 +86,16 @@ fn refused_by(fault: FrameFault) -> Refusal
 
 impl<C: ClientEnd> Talk<C> {
     /// A talk with a client that is let in, and is to be greeted. The only error is that memory was refused, which hands the end back.
-    pub(crate) fn new(alloc: Global, client: C, word: KeyWord) -> Result<Talk<C>, C>
-        ensures ok { IfOk result (λ talk. talk ≡ greeted (C.facts client) word) }
+    pub(crate) fn new(
+        alloc: Global,
+        style: ConsoleStyle,
+        client: C,
+        word: KeyWord,
+    ) -> Result<Talk<C>, C>
+        ensures ok { IfOk result (λ talk. talk ≡ greeted (C.facts client) style word) }
         ensures err { IfErr result (λ end. C.facts end ≡ C.facts client) }
     {
-        match greeting(alloc, word) {
+        match greeting(alloc, style, word) {
             Ok(unwritten) => Ok(Talk {
                 client,
                 held: BytesMut::new(alloc),
@@ -133,10 +141,21 @@ impl<C: ClientEnd> Talk<C> {
         }
     }
 
+    /// Reads once, while the next message waits for its answer. However much comes meanwhile, no more is taken before a rest.
+    fn read_early(&mut self) -> Turn
+        requires { self.old.unwritten ≡ [] }
+        ensures { HasRead self.old self.new result }
+    {
+        match self.read() {
+            Turn::Over(last) => Turn::Over(last),
+            Turn::Again | Turn::Wait | Turn::Rest => Turn::Rest,
+        }
+    }
+
     /// Answers the next message, or reads on.
     fn hear<D: LinkDesk>(&mut self, console: &Console<'_, D>, pass: &mut D::Pass) -> Turn
         requires { self.old.unwritten ≡ [] }
-        ensures { HasTurned console.now.settings.now self.old self.new (pass_of (D.told pass.old) (D.holder pass.old)) (pass_of (D.told pass.new) (D.holder pass.new)) result }
+        ensures { HasTurned (asker console.now.settings.now console.now.who.now.user.now) self.old self.new (pass_of (D.told pass.old) (D.holder pass.old)) (pass_of (D.told pass.new) (D.holder pass.new)) result }
     {
         front_is_spelled();
         are_bytes(self.held.as_slice());
@@ -153,14 +172,15 @@ impl<C: ClientEnd> Talk<C> {
                 self.drops = drops;
                 Turn::Again
             }
+            Answered::NotYet => self.read_early(),
             Answered::Left => Turn::Over(None),
             Answered::Refused(refusal) => Turn::Over(Some(refusal)),
         }
     }
 
-    /// One write, one read, or one message. It waits for nobody.
+    /// One write, one read, or one message, for whose answer it may be too early. It waits for nobody.
     pub(crate) fn turn<D: LinkDesk>(&mut self, console: &Console<'_, D>, pass: &mut D::Pass) -> Turn
-        ensures { HasTurned console.now.settings.now self.old self.new (pass_of (D.told pass.old) (D.holder pass.old)) (pass_of (D.told pass.new) (D.holder pass.new)) result }
+        ensures { HasTurned (asker console.now.settings.now console.now.who.now.user.now) self.old self.new (pass_of (D.told pass.old) (D.holder pass.old)) (pass_of (D.told pass.new) (D.holder pass.new)) result }
     {
         if !self.unwritten.is_empty() {
             return self.write();

@@ -1,5 +1,6 @@
 //! What happens at a desk in a test, and what it answers, with links by their numbers.
 use crate::desk_parts::TestDesk;
+use book_model::events::Beyond;
 use book_tests::book_parts::{Settings, Whose, key_of, limits, link};
 use desk_tallies::ledgers::Ledgers;
 use desk_tallies::passes::Pass;
@@ -18,6 +19,8 @@ use std::sync::{Arc, Wait};
 #[derive(Clone, Copy, Drop)]
 pub(crate) enum Act {
     Come,
+    /// The client may use these places beyond the limit.
+    ComeBeyond(Beyond),
     /// The client of the pass asks for a link of this key.
     Ask(Whose),
     Take,
@@ -39,10 +42,11 @@ pub(crate) enum Act {
     Pause,
     Resume,
     Shutdown,
+    Reconnect,
 }
 
 /// A key word: its pid and its secret.
-type Word = (u32, u32);
+pub(crate) type Word = (u32, u32);
 
 /// What the desk answers.
 #[derive(Clone, Copy, PartialEq, Eq, Drop)]
@@ -192,9 +196,13 @@ fn taken_back(back: told::Back, left: Option<CleanLink<GoneEnd>>) -> Says {
     }
 }
 
-fn comes<R: Wait + Clock, K: Ledgers>(desk: &TestDesk<R, K>, pass: &mut Pass<K>) -> Says {
+fn comes<R: Wait + Clock, K: Ledgers>(
+    desk: &TestDesk<R, K>,
+    pass: &mut Pass<K>,
+    beyond: Beyond,
+) -> Says {
     match pass.holder().client {
-        None => Says::from(desk.arrive(pass)),
+        None => Says::from(desk.arrive(pass, beyond)),
         Some(_) => Says::Nobody,
     }
 }
@@ -349,7 +357,8 @@ pub(crate) fn answer<R: Wait + Clock, K: Ledgers>(
     act: Act,
 ) -> Result<Says, AllocError> {
     match act {
-        Act::Come => Ok(comes(desk, pass)),
+        Act::Come => Ok(comes(desk, pass, Beyond::Nothing)),
+        Act::ComeBeyond(beyond) => Ok(comes(desk, pass, beyond)),
         Act::Ask(whose) => asks(alloc, desk, pass, whose),
         Act::Take => Ok(takes(desk, pass)),
         Act::Key(client, server) => Ok(keys(desk, pass, client, server)),
@@ -365,5 +374,6 @@ pub(crate) fn answer<R: Wait + Clock, K: Ledgers>(
         Act::Pause => Ok(Says::from(desk.pause(pass))),
         Act::Resume => Ok(Says::from(desk.resume(pass))),
         Act::Shutdown => Ok(Says::from(desk.shutdown(pass))),
+        Act::Reconnect => Ok(Says::from(desk.reconnect(pass))),
     }
 }

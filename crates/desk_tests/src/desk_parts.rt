@@ -55,7 +55,7 @@ impl Outside for Nowhere {
 
     ghost home = { unknown_home };
 
-    fn dial(&self, _number: u64, _key: &StartKey) -> Option<GoneEnd> {
+    fn dial(&self, _number: u64, _key: &StartKey, _seconds: u32) -> Option<GoneEnd> {
         Some(GoneEnd::new())
     }
 

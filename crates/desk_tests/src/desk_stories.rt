@@ -7,7 +7,7 @@ use crate::cancel_stories as cancels;
 use crate::desk_acts::{Act, Says, answer};
 use crate::desk_parts::{Nowhere, TestDesk};
 use crate::desk_rows::{Rows, shows};
-use book_model::events::ClientState;
+use book_model::events::{Beyond, ClientState};
 use book_tests::book_parts::{Change, Settings, Whose, limits};
 use desk_tallies::ledgers::Ledgers;
 use desk_tallies::passes::{Pass, Totals};
@@ -217,6 +217,78 @@ fn hang_up() -> Story {
             lost: 0,
             left: 0,
             others: 4,
+        },
+    }
+}
+
+/// Behind a Reconnect the idle link is closed by a tick, the lent one at its return, and the one that was started since is lent again.
+static NO_OLD_LINK_IS_LENT: [Step; 16] = [
+    (0, Act::Come, Says::Client(1)),
+    (1, Act::Come, Says::Client(2)),
+    (0, Act::Ask(Whose::Ann), Says::Queued(0)),
+    (0, Act::Take, Says::Start(1, 0, None)),
+    (1, Act::Ask(Whose::Ann), Says::Queued(0)),
+    (1, Act::Take, Says::Start(2, 0, None)),
+    (0, Act::Back(Whose::Ann), Says::Done),
+    (1, Act::Reconnect, Says::Done),
+    (0, Act::Ask(Whose::Ann), Says::Queued(0)),
+    (0, Act::Take, Says::Start(3, 0, None)),
+    (1, Act::Back(Whose::Ann), Says::Close(2)),
+    (0, Act::Tick(0), Says::Close(1)),
+    (0, Act::Tick(0), Says::Done),
+    (0, Act::Back(Whose::Ann), Says::Done),
+    (1, Act::Ask(Whose::Ann), Says::Queued(0)),
+    (1, Act::Take, Says::Lend(3)),
+];
+
+fn reconnect() -> Story {
+    Story {
+        settings: Settings::Default,
+        passes: 2,
+        steps: &NO_OLD_LINK_IS_LENT,
+        rows: Rows {
+            clients: &[(1, ClientState::Active), (2, ClientState::Active)],
+            lent: &[(3, 0, 0)],
+            sums: [0, 3, 1, 0, 0, 0],
+            ..NOTHING
+        },
+        totals: Totals {
+            arrived: 2,
+            granted: 4,
+            given_back: 3,
+            lost: 0,
+            left: 0,
+            others: 9,
+        },
+    }
+}
+
+/// Who may use the console's places is let in beyond the limit, and nobody else, also once the first client has gone.
+static THE_CONSOLE_IS_LET_IN: [Step; 6] = [
+    (0, Act::Come, Says::Client(1)),
+    (1, Act::Come, Says::Refuse(Refusal::TooManyClients)),
+    (1, Act::ComeBeyond(Beyond::Console), Says::Client(2)),
+    (2, Act::ComeBeyond(Beyond::LocalConsole), Says::Client(3)),
+    (0, Act::Leave, Says::Done),
+    (0, Act::Come, Says::Refuse(Refusal::TooManyClients)),
+];
+
+fn beyond_the_limit() -> Story {
+    Story {
+        settings: Settings::OneClient,
+        passes: 3,
+        steps: &THE_CONSOLE_IS_LET_IN,
+        rows: Rows {
+            clients: &[(2, ClientState::LoggingIn), (3, ClientState::LoggingIn)],
+            ..NOTHING
+        },
+        totals: Totals {
+            arrived: 3,
+            granted: 0,
+            given_back: 0,
+            lost: 0,
+            left: 1,
+            others: 2,
         },
     }
 }
@@ -479,6 +551,8 @@ fn story_at(at: usize) -> Option<Story> {
         13 => Some(cancels::of_one_word()),
         14 => Some(cancels::lost()),
         15 => Some(hang_up()),
+        16 => Some(reconnect()),
+        17 => Some(beyond_the_limit()),
         _ => None,
     }
 }

@@ -6,6 +6,8 @@ mod cancel_stories;
 #[cfg(test)]
 mod desk_acts;
 #[cfg(test)]
+mod desk_decisions;
+#[cfg(test)]
 mod desk_parts;
 #[cfg(test)]
 mod desk_rows;

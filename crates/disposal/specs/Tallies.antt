@@ -5,12 +5,13 @@ use Rattle.frame_view.specs.Frames.{is_closing}
 use Rattle.disposal.specs.declared.TheConstants.{FULL}
 use Rattle.disposal.specs.declared.Verdict.{Verdict}
 use Rattle.disposal.specs.declared.Verdict.TheVariants.{Broken, MidFrame, Unanswered, InBlock, Settled}
-use Rattle.disposal.specs.Traffics.{Sent, Got, more, closings, is_sending, last_sent, is_ready, readies, getting, last_status, is_foreign, has_broken, goes_on, is_block}
+use Rattle.disposal.specs.Traffics.{Sent, Got, more, closings, is_sending, last_sent, is_ready, readies, is_idle, idles, getting, last_status, is_foreign, has_broken, goes_on, is_block}
 
 -- counts that stop at the greatest, and the last of each
 pub record Tally : Type 0 where
   pub asked : ℕ
   pub answered : ℕ
+  pub ended : ℕ
   pub is_sending : Bool
   pub last_sent : Option ℕ
   pub getting : Option ℕ
@@ -21,6 +22,7 @@ abbrev pub tally_of : List Sent → List Got → Tally
 tally_of sent got = record {
   asked = min (closings sent) FULL;
   answered = min (readies got) FULL;
+  ended = min (idles got) FULL;
   is_sending = is_sending sent;
   last_sent = last_sent sent;
   getting = getting got;
@@ -69,7 +71,7 @@ may_end (Some status) t = is_ready_open t.getting
 may_end None t = is_some t.getting && (t.has_broken || not (is_ready_open t.getting))
 
 abbrev pub got_ended : Option ℕ → Tally → Tally
-got_ended status t = record t { getting = None; status = option_or status t.status; has_broken = t.has_broken || is_foreign status }
+got_ended status t = record t { getting = None; ended = counted t.ended (is_idle status); status = option_or status t.status; has_broken = t.has_broken || is_foreign status }
 
 abbrev pub got_broken : Tally → Tally
 got_broken t = record t { has_broken = true }

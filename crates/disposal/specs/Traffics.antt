@@ -64,6 +64,18 @@ begins_ready _ = false
 abbrev pub readies : List Got → ℕ
 readies got = fold (λ count event. more count (begins_ready event)) 0 got
 
+abbrev pub is_idle : Option ℕ → Bool
+is_idle None = false
+is_idle (Some status) = status == IDLE
+
+abbrev pub ends_idle : Got → Bool
+ends_idle (GetEnds status) = is_idle status
+ends_idle _ = false
+
+-- how many ReadyForQuery told of no block, each counted as it ends: so many transactions ended
+abbrev pub idles : List Got → ℕ
+idles got = fold (λ count event. more count (ends_idle event)) 0 got
+
 abbrev pub open_after : Option ℕ → Got → Option ℕ
 open_after before (GetBegins kind) = Some kind
 open_after before (GetEnds status) = None

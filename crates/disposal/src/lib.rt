@@ -48,6 +48,7 @@ pub enum Verdict {
 pub struct Traffic {
     asked: u64,
     answered: u64,
+    ended: u64,
     is_sending: bool,
     last_sent: Option<u8>,
     getting: Option<u8>,
@@ -63,6 +64,7 @@ impl Model for Traffic {
     ghost view = { λ t. record {
       asked = t.asked;
       answered = t.answered;
+      ended = t.ended;
       is_sending = t.is_sending;
       last_sent = t.last_sent;
       getting = t.getting;
@@ -76,6 +78,13 @@ fn counted(count: u64, is_one: bool) -> u64
     ensures { result ≡ counted count is_one }
 {
     count.saturating_add(u64::from(is_one))
+}
+
+/// Whether it is the status of no block.
+fn is_idle(status: Option<u8>) -> bool
+    ensures { result ≡ spec.is_idle status }
+{
+    status == Some(IDLE)
 }
 
 /// Whether it is a status, and none of the three.
@@ -110,6 +119,7 @@ impl Traffic {
         Traffic {
             asked: 0,
             answered: 0,
+            ended: 0,
             is_sending: false,
             last_sent: None,
             getting: None,
@@ -153,6 +163,7 @@ impl Traffic {
         ensures { self.new ≡ got_ended status self.old }
     {
         self.getting = None;
+        self.ended = counted(self.ended, is_idle(status));
         self.status = status.or(self.status);
         self.has_broken = self.has_broken | is_foreign(status);
     }
@@ -162,6 +173,34 @@ impl Traffic {
         ensures { self.new ≡ got_broken self.old }
     {
         self.has_broken = true;
+    }
+
+    /// How many closing messages were sent.
+    pub fn asked(&self) -> u64
+        ensures { result ≡ self.now.asked }
+    {
+        self.asked
+    }
+
+    /// How many ReadyForQuery came.
+    pub fn answered(&self) -> u64
+        ensures { result ≡ self.now.answered }
+    {
+        self.answered
+    }
+
+    /// How many of them told of no block: so many transactions ended.
+    pub fn ended(&self) -> u64
+        ensures { result ≡ self.now.ended }
+    {
+        self.ended
+    }
+
+    /// The last status that was told.
+    pub fn status(&self) -> Option<u8>
+        ensures { result ≡ self.now.status }
+    {
+        self.status
     }
 
     /// Whether more was answered than asked for, or a count is full.

@@ -3,7 +3,7 @@ use crate::packets::{ann, sync, welcome};
 use crate::server_talk::{hear, say, server};
 use memory_ends::failing_end::FailingEnd;
 use memory_ends::memory_server::{MemoryServer, ServerAuth};
-use server_end::gate::{Gate, OpenGate, Ready};
+use server_end::gate::{Counts, Gate, OpenGate, Ready};
 use server_end::{Moved, ServerEnd};
 use std::alloc::Global;
 use std::mem::ManuallyDrop;
@@ -72,5 +72,22 @@ fn an_open_gate(rt: HostRuntime) -> Result<(), Fail> {
         server: true,
     };
     assert!(rt; ready == both);
+    Ok(())
+}
+
+/// Nothing that it is told changes that.
+#[test]
+fn an_open_gate_is_never_late(rt: HostRuntime) -> Result<(), Fail> {
+    let mut gate = OpenGate::new();
+    Gate::<MemoryServer>::limit(&mut gate, Some(0));
+    Gate::<MemoryServer>::know(&mut gate);
+    let counts = Counts {
+        asked: 1,
+        answered: 0,
+        ended: 0,
+        status: None,
+    };
+    Gate::<MemoryServer>::tell(&mut gate, counts);
+    assert!(rt; !Gate::<MemoryServer>::is_late(&mut gate));
     Ok(())
 }

@@ -176,6 +176,14 @@ change-keeps key.TcpKeepidle text s h = mapped s _ _ (λ n e. made _ h.rows h.li
 change-keeps key.TcpKeepintvl text s h = mapped s _ _ (λ n e. made _ h.rows h.listen_port h.max_client_conn h.default_pool_size h.max_links h.query_wait_timeout h.server_lifetime h.server_idle_timeout h.max_packet_size)
 change-keeps key.TcpKeepcnt text s h = mapped s _ _ (λ n e. made _ h.rows h.listen_port h.max_client_conn h.default_pool_size h.max_links h.query_wait_timeout h.server_lifetime h.server_idle_timeout h.max_packet_size)
 change-keeps key.TcpUserTimeout text s h = mapped s _ _ (λ n e. made _ h.rows h.listen_port h.max_client_conn h.default_pool_size h.max_links h.query_wait_timeout h.server_lifetime h.server_idle_timeout h.max_packet_size)
+change-keeps key.ServerConnectTimeout text s h = mapped s _ _ (λ n e. made _ h.rows h.listen_port h.max_client_conn h.default_pool_size h.max_links h.query_wait_timeout h.server_lifetime h.server_idle_timeout h.max_packet_size)
+change-keeps key.ClientLoginTimeout text s h = mapped s _ _ (λ n e. made _ h.rows h.listen_port h.max_client_conn h.default_pool_size h.max_links h.query_wait_timeout h.server_lifetime h.server_idle_timeout h.max_packet_size)
+change-keeps key.StatsUsers text s h = made _ h.rows h.listen_port h.max_client_conn h.default_pool_size h.max_links h.query_wait_timeout h.server_lifetime h.server_idle_timeout h.max_packet_size
+change-keeps key.StatsPeriod text s h = mapped s _ _ (λ n e. made _ h.rows h.listen_port h.max_client_conn h.default_pool_size h.max_links h.query_wait_timeout h.server_lifetime h.server_idle_timeout h.max_packet_size)
+change-keeps key.LogStats text s h = made _ h.rows h.listen_port h.max_client_conn h.default_pool_size h.max_links h.query_wait_timeout h.server_lifetime h.server_idle_timeout h.max_packet_size
+change-keeps key.ConsoleStyle text s h = mapped s _ _ (λ n e. made _ h.rows h.listen_port h.max_client_conn h.default_pool_size h.max_links h.query_wait_timeout h.server_lifetime h.server_idle_timeout h.max_packet_size)
+change-keeps key.MetricsAddr text s h = mapped s _ _ (λ n e. made _ h.rows h.listen_port h.max_client_conn h.default_pool_size h.max_links h.query_wait_timeout h.server_lifetime h.server_idle_timeout h.max_packet_size)
+change-keeps key.MetricsPort text s h = mapped s _ _ (λ n e. made _ h.rows h.listen_port h.max_client_conn h.default_pool_size h.max_links h.query_wait_timeout h.server_lifetime h.server_idle_timeout h.max_packet_size)
 change-keeps key.Unused text s h = h
 
 -- ---- lines

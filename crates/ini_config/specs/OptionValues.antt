@@ -12,6 +12,8 @@ use Rattle.ini_config.specs.declared.option_keys.Setting.{Setting}
 use Rattle.ini_config.specs.declared.option_keys.Setting.TheVariants as setting
 use Rattle.ini_config.specs.declared.option_values.AuthType.{AuthType}
 use Rattle.ini_config.specs.declared.option_values.AuthType.TheVariants.{Trust, Plain, Md5}
+use Rattle.ini_config.specs.declared.option_values.ConsoleStyle.{ConsoleStyle}
+use Rattle.ini_config.specs.declared.option_values.ConsoleStyle.TheVariants.{Own, PgBouncer}
 use Rattle.ini_config.specs.declared.option_values.Settings.{Settings}
 
 abbrev pub Text : Type 0
@@ -32,15 +34,16 @@ served =
     ∷ (codes "untrack_parameters", key.UntrackParameters) ∷ (codes "unix_socket_dir", key.UnixSocketDir)
     ∷ (codes "unix_socket_mode", key.UnixSocketMode) ∷ (codes "unix_socket_group", key.UnixSocketGroup)
     ∷ (codes "peer_id", key.PeerId) ∷ (codes "tcp_keepalive", key.TcpKeepalive) ∷ (codes "tcp_keepidle", key.TcpKeepidle)
-    ∷ (codes "tcp_keepintvl", key.TcpKeepintvl) ∷ (codes "tcp_keepcnt", key.TcpKeepcnt) ∷ (codes "tcp_user_timeout", key.TcpUserTimeout) ∷ []
+    ∷ (codes "tcp_keepintvl", key.TcpKeepintvl) ∷ (codes "tcp_keepcnt", key.TcpKeepcnt) ∷ (codes "tcp_user_timeout", key.TcpUserTimeout)
+    ∷ (codes "server_connect_timeout", key.ServerConnectTimeout) ∷ (codes "client_login_timeout", key.ClientLoginTimeout)
+    ∷ (codes "stats_users", key.StatsUsers) ∷ (codes "stats_period", key.StatsPeriod) ∷ (codes "log_stats", key.LogStats)
+    ∷ (codes "console_style", key.ConsoleStyle) ∷ (codes "metrics_addr", key.MetricsAddr) ∷ (codes "metrics_port", key.MetricsPort) ∷ []
 
 -- keys of PgBouncer that are read, with any value, and not used
 abbrev pub unused : List Text
 unused =
-    codes "auth_file" ∷ codes "logfile" ∷ codes "pidfile" ∷ codes "syslog" ∷ codes "verbose" ∷ codes "stats_users"
-    ∷ codes "stats_period" ∷ codes "log_pooler_errors" ∷ codes "log_stats"
-    ∷ codes "job_name" ∷ codes "pkt_buf" ∷ codes "listen_backlog" ∷ codes "server_check_delay"
-    ∷ codes "server_connect_timeout" ∷ codes "server_login_retry" ∷ codes "server_reset_query_always" ∷ []
+    codes "auth_file" ∷ codes "logfile" ∷ codes "pidfile" ∷ codes "syslog" ∷ codes "verbose" ∷ codes "log_pooler_errors"
+    ∷ codes "job_name" ∷ codes "pkt_buf" ∷ codes "listen_backlog" ∷ codes "server_check_delay" ∷ codes "server_login_retry" ∷ codes "server_reset_query_always" ∷ []
 
 abbrev pub is_unused : Text → Bool
 is_unused name = list_any (λ k. bytes_eq k name) unused
@@ -55,6 +58,11 @@ auth_type text =
     if bytes_eq text (codes "trust") then Some Trust else (
     if bytes_eq text (codes "plain") then Some Plain else (
     if bytes_eq text (codes "md5") then Some Md5 else None))
+
+unfoldable pub console_style : Text → Option ConsoleStyle
+console_style text =
+    if bytes_eq text (codes "pgsess") then Some Own else (
+    if bytes_eq text (codes "pgbouncer") then Some PgBouncer else None)
 
 -- a count of clients or links, and a time
 abbrev pub count : Text → Option ℕ
@@ -112,6 +120,14 @@ change_of key.TcpKeepidle text = option_map (λ n s. record s { tcp_keepidle = n
 change_of key.TcpKeepintvl text = option_map (λ n s. record s { tcp_keepintvl = n }) (number_between 0 2147483647 text)
 change_of key.TcpKeepcnt text = option_map (λ n s. record s { tcp_keepcnt = n }) (number_between 0 2147483647 text)
 change_of key.TcpUserTimeout text = option_map (λ n s. record s { tcp_user_timeout = n }) (number_between 0 2147483647 text)
+change_of key.ServerConnectTimeout text = option_map (λ n s. record s { server_connect_timeout = n }) (seconds text)
+change_of key.ClientLoginTimeout text = option_map (λ n s. record s { client_login_timeout = n }) (seconds text)
+change_of key.StatsUsers text = Some (λ s. record s { stats_users = names text })
+change_of key.StatsPeriod text = option_map (λ n s. record s { stats_period = n }) (number_between 1 2147483647 text)
+change_of key.LogStats text = Some (λ s. record s { log_stats = not (is_zero text) })
+change_of key.ConsoleStyle text = option_map (λ c s. record s { console_style = c }) (console_style text)
+change_of key.MetricsAddr text = option_map (λ a s. record s { metrics_addr = a }) (listen_addresses text)
+change_of key.MetricsPort text = option_map (λ n s. record s { metrics_port = n }) (number_between 1 65535 text)
 change_of key.Unused text = Some (λ s. s)
 
 -- what a value asks for that isn't served
@@ -149,6 +165,14 @@ defaults = record {
   tcp_keepintvl = 0;
   tcp_keepcnt = 0;
   tcp_user_timeout = 0;
+  server_connect_timeout = 15;
+  client_login_timeout = 60;
+  stats_users = [];
+  stats_period = 60;
+  log_stats = true;
+  console_style = Own;
+  metrics_addr = [];
+  metrics_port = 9127;
 }
 
 -- ---- what the lists of names are for
@@ -156,6 +180,10 @@ defaults = record {
 -- the users of the console, byte for byte
 abbrev pub is_admin : Settings → Text → Bool
 is_admin s user = list_any (λ n. bytes_eq n user) s.admin_users
+
+-- likewise those who may look at it, and do nothing there
+abbrev pub may_look : Settings → Text → Bool
+may_look s user = list_any (λ n. bytes_eq n user) s.stats_users
 
 -- startup parameters
 abbrev pub ignores : Settings → Text → Bool
@@ -195,4 +223,12 @@ changed_by (setting.TcpKeepidle n) s = record s { tcp_keepidle = n }
 changed_by (setting.TcpKeepintvl n) s = record s { tcp_keepintvl = n }
 changed_by (setting.TcpKeepcnt n) s = record s { tcp_keepcnt = n }
 changed_by (setting.TcpUserTimeout n) s = record s { tcp_user_timeout = n }
+changed_by (setting.ServerConnectTimeout n) s = record s { server_connect_timeout = n }
+changed_by (setting.ClientLoginTimeout n) s = record s { client_login_timeout = n }
+changed_by (setting.StatsUsers text) s = record s { stats_users = names text.now }
+changed_by (setting.StatsPeriod n) s = record s { stats_period = n }
+changed_by (setting.LogStats b) s = record s { log_stats = b }
+changed_by (setting.ConsoleStyle c) s = record s { console_style = c }
+changed_by (setting.MetricsAddr text) s = record s { metrics_addr = map listened (names text.now) }
+changed_by (setting.MetricsPort n) s = record s { metrics_port = n }
 changed_by setting.Nothing s = s

@@ -20,7 +20,7 @@ pub use always_followed::is_always_followed;
 pub use database_rows::{DbRow, ServedRow};
 pub use faults::{IniCause, IniFault};
 pub use name_lists::Names;
-pub use option_values::{AuthType, Settings};
+pub use option_values::{AuthType, ConsoleStyle, Settings};
 pub use reading::read_settings;
 pub use row_table::Rows;
 pub use server_host::Host;

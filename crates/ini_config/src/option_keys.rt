@@ -6,7 +6,7 @@ ghost use Rattle.ini_config.specs.OptionValues as spec;
 use crate::always_followed::untracked;
 use crate::faults::IniCause;
 use crate::hosts::listen_addresses;
-use crate::option_values::AuthType;
+use crate::option_values::{AuthType, ConsoleStyle};
 use crate::values::{mode, number, port};
 
 /// A key that the file may have.
@@ -39,6 +39,14 @@ pub(crate) enum Key {
     TcpKeepintvl,
     TcpKeepcnt,
     TcpUserTimeout,
+    ServerConnectTimeout,
+    ClientLoginTimeout,
+    StatsUsers,
+    StatsPeriod,
+    LogStats,
+    ConsoleStyle,
+    MetricsAddr,
+    MetricsPort,
     /// A key of PgBouncer that is read, with any value, and not used.
     Unused,
 }
@@ -71,10 +79,18 @@ pub(crate) enum Setting<'a> {
     TcpKeepintvl(u32),
     TcpKeepcnt(u32),
     TcpUserTimeout(u32),
+    ServerConnectTimeout(u32),
+    ClientLoginTimeout(u32),
+    StatsUsers(&'a [u8]),
+    StatsPeriod(u32),
+    LogStats(bool),
+    ConsoleStyle(ConsoleStyle),
+    MetricsAddr(&'a [u8]),
+    MetricsPort(u16),
     Nothing,
 }
 
-static SERVED: [(&str, Key); 27] = [
+static SERVED: [(&str, Key); 35] = [
     ("listen_addr", Key::ListenAddr),
     ("listen_port", Key::ListenPort),
     ("auth_type", Key::AuthType),
@@ -102,23 +118,27 @@ static SERVED: [(&str, Key); 27] = [
     ("tcp_keepintvl", Key::TcpKeepintvl),
     ("tcp_keepcnt", Key::TcpKeepcnt),
     ("tcp_user_timeout", Key::TcpUserTimeout),
+    ("server_connect_timeout", Key::ServerConnectTimeout),
+    ("client_login_timeout", Key::ClientLoginTimeout),
+    ("stats_users", Key::StatsUsers),
+    ("stats_period", Key::StatsPeriod),
+    ("log_stats", Key::LogStats),
+    ("console_style", Key::ConsoleStyle),
+    ("metrics_addr", Key::MetricsAddr),
+    ("metrics_port", Key::MetricsPort),
 ];
 
-static UNUSED: [&str; 16] = [
+static UNUSED: [&str; 12] = [
     "auth_file",
     "logfile",
     "pidfile",
     "syslog",
     "verbose",
-    "stats_users",
-    "stats_period",
     "log_pooler_errors",
-    "log_stats",
     "job_name",
     "pkt_buf",
     "listen_backlog",
     "server_check_delay",
-    "server_connect_timeout",
     "server_login_retry",
     "server_reset_query_always",
 ];
@@ -185,6 +205,19 @@ fn auth_type(value: &[u8]) -> Option<AuthType>
     None
 }
 
+#[tactic(auto, unfolding(crate::specs::OptionValues::console_style))]
+fn console_style(value: &[u8]) -> Option<ConsoleStyle>
+    ensures { result ≡ spec.console_style value.now }
+{
+    if value == b"pgsess".as_slice() {
+        return Some(ConsoleStyle::Own);
+    }
+    if value == b"pgbouncer".as_slice() {
+        return Some(ConsoleStyle::PgBouncer);
+    }
+    None
+}
+
 /// Whether a switch is on.
 fn is_one(value: &[u8]) -> bool
     ensures { result ≡ spec.is_one value.now }
@@ -235,6 +268,18 @@ pub(crate) fn read_setting(key: Key, value: &[u8]) -> Option<Setting<'_>>
         Key::TcpKeepintvl => Some(Setting::TcpKeepintvl(number(value, 0, MOST_SECONDS)?)),
         Key::TcpKeepcnt => Some(Setting::TcpKeepcnt(number(value, 0, MOST_SECONDS)?)),
         Key::TcpUserTimeout => Some(Setting::TcpUserTimeout(number(value, 0, MOST_SECONDS)?)),
+        Key::ServerConnectTimeout => {
+            Some(Setting::ServerConnectTimeout(number(value, 0, MOST_SECONDS)?))
+        }
+        Key::ClientLoginTimeout => {
+            Some(Setting::ClientLoginTimeout(number(value, 0, MOST_SECONDS)?))
+        }
+        Key::StatsUsers => Some(Setting::StatsUsers(value)),
+        Key::StatsPeriod => Some(Setting::StatsPeriod(number(value, 1, MOST_SECONDS)?)),
+        Key::LogStats => Some(Setting::LogStats(!is_zero(value))),
+        Key::ConsoleStyle => Some(Setting::ConsoleStyle(console_style(value)?)),
+        Key::MetricsAddr => Some(Setting::MetricsAddr(listen_addresses(value)?)),
+        Key::MetricsPort => Some(Setting::MetricsPort(port(value)?)),
     }
 }
 

@@ -23,6 +23,15 @@ pub enum AuthType {
     Md5,
 }
 
+/// Whose columns the console's tables have.
+#[derive(Clone, Copy, PartialEq, Eq)]
+pub enum ConsoleStyle {
+    /// Its own.
+    Own,
+    /// PgBouncer's, of release 1.24.
+    PgBouncer,
+}
+
 /// Everything that a settings file says, defaults included.
 pub struct Settings {
     pub rows: Rows,
@@ -54,6 +63,15 @@ pub struct Settings {
     pub tcp_keepintvl: u32,
     pub tcp_keepcnt: u32,
     pub tcp_user_timeout: u32,
+    pub server_connect_timeout: u32,
+    pub client_login_timeout: u32,
+    pub stats_users: Names,
+    pub stats_period: u32,
+    pub log_stats: bool,
+    pub console_style: ConsoleStyle,
+    /// Empty: none.
+    pub metrics_addr: Names,
+    pub metrics_port: u16,
 }
 
 impl Drop for Settings {
@@ -85,6 +103,14 @@ impl Drop for Settings {
             tcp_keepintvl: _,
             tcp_keepcnt: _,
             tcp_user_timeout: _,
+            server_connect_timeout: _,
+            client_login_timeout: _,
+            stats_users: _,
+            stats_period: _,
+            log_stats: _,
+            console_style: _,
+            metrics_addr: _,
+            metrics_port: _,
         } = self;
     }
 }
@@ -123,6 +149,14 @@ impl Settings {
             tcp_keepintvl: 0,
             tcp_keepcnt: 0,
             tcp_user_timeout: 0,
+            server_connect_timeout: 15,
+            client_login_timeout: 60,
+            stats_users: Names::new(alloc),
+            stats_period: 60,
+            log_stats: true,
+            console_style: ConsoleStyle::Own,
+            metrics_addr: Names::new(alloc),
+            metrics_port: 9127,
         })
     }
 
@@ -161,6 +195,14 @@ impl Settings {
             Setting::TcpKeepintvl(seconds) => self.tcp_keepintvl = seconds,
             Setting::TcpKeepcnt(count) => self.tcp_keepcnt = count,
             Setting::TcpUserTimeout(milliseconds) => self.tcp_user_timeout = milliseconds,
+            Setting::ServerConnectTimeout(seconds) => self.server_connect_timeout = seconds,
+            Setting::ClientLoginTimeout(seconds) => self.client_login_timeout = seconds,
+            Setting::StatsUsers(text) => self.stats_users = Names::read(alloc, text)?,
+            Setting::StatsPeriod(seconds) => self.stats_period = seconds,
+            Setting::LogStats(is_on) => self.log_stats = is_on,
+            Setting::ConsoleStyle(style) => self.console_style = style,
+            Setting::MetricsAddr(text) => self.metrics_addr = Names::read_listened(alloc, text)?,
+            Setting::MetricsPort(port) => self.metrics_port = port,
             Setting::Nothing => {}
         }
         Ok(())
@@ -185,6 +227,13 @@ impl Settings {
         ensures { result ≡ spec.is_admin self.now user.now }
     {
         self.admin_users.has(user)
+    }
+
+    /// Whether the user may look at the console, and do nothing there.
+    pub fn may_look(&self, user: &[u8]) -> bool
+        ensures { result ≡ spec.may_look self.now user.now }
+    {
+        self.stats_users.has(user)
     }
 
     /// Whether a startup parameter of this name is dropped, where it isn't followed. The case of ASCII letters doesn't count.
@@ -395,5 +444,61 @@ impl Settings {
         ensures { result ≡ self.now.tcp_user_timeout }
     {
         self.tcp_user_timeout
+    }
+
+    /// How many seconds a connection to a server may take together with the start of its session; 0: for ever.
+    pub fn server_connect_timeout(&self) -> u32
+        ensures { result ≡ self.now.server_connect_timeout }
+    {
+        self.server_connect_timeout
+    }
+
+    /// How many seconds a client has from its connection until it is through its login; 0: as many as it likes.
+    pub fn client_login_timeout(&self) -> u32
+        ensures { result ≡ self.now.client_login_timeout }
+    {
+        self.client_login_timeout
+    }
+
+    /// The users that may look at the console, and do nothing there.
+    pub fn stats_users(&self) -> &Names
+        ensures { result.now ≡ self.now.stats_users }
+    {
+        &self.stats_users
+    }
+
+    /// How many seconds the averages and the log's line of figures are of.
+    pub fn stats_period(&self) -> u32
+        ensures { result ≡ self.now.stats_period }
+    {
+        self.stats_period
+    }
+
+    /// Whether the log has a line of figures for each period.
+    pub fn log_stats(&self) -> bool
+        ensures { result ≡ self.now.log_stats }
+    {
+        self.log_stats
+    }
+
+    /// Whose columns the console's tables have.
+    pub fn console_style(&self) -> ConsoleStyle
+        ensures { result ≡ self.now.console_style }
+    {
+        self.console_style
+    }
+
+    /// The addresses where the pooler's figures are had by HTTP; empty: nowhere.
+    pub fn metrics_addr(&self) -> &Names
+        ensures { result.now ≡ self.now.metrics_addr }
+    {
+        &self.metrics_addr
+    }
+
+    /// The port of those addresses.
+    pub fn metrics_port(&self) -> u16
+        ensures { result ≡ self.now.metrics_port }
+    {
+        self.metrics_port
     }
 }

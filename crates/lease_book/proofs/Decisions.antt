@@ -1,13 +1,13 @@
 -- What an event does to the number of decisions, and to the lists where it is none.
-use Rattle.std.proofs.Common.{◌≡◌, ℕ, suc, Bool, true, false, cond, List, Option, None, Some, length, refl, ap, ◌∙◌, arith}
+use Rattle.std.proofs.Common.{◌≡◌, ℕ, suc, ◌+◌, Bool, true, false, cond, List, Option, None, Some, length, refl, ap, ◌∙◌, arith}
 use Rattle.std.specs.Prelude.{find, not, ◌==◌, ◌&&◌, ◌||◌, nat_lt}
 use Rattle.std.proofs.lemmas.Bool.{le-ltb, lt-ltb}
 use Rattle.message_view.specs.declared.refusal.Refusal.{Refusal}
 use Rattle.message_view.specs.declared.refusal.Refusal.TheVariants.{TooManyClients, WaitedTooLong, ShuttingDown, LastDecision}
 use Rattle.message_view.specs.declared.views.KeyView.{KeyView}
-use Rattle.book_model.specs.Book.{Book, Lease, Link, Ticket, in_pool, latest_of, link_count, pool_count, pool_size, is_of, is_of_client, is_link, waiting_before}
+use Rattle.book_model.specs.Book.{Book, Lease, Link, Ticket, in_pool, lendable, link_count, places_beyond, pool_count, pool_size, is_of, is_of_client, is_link, waiting_before}
 use Rattle.book_model.specs.Outcomes.{Answer, Event, apply, outcome, decided, counted, is_strange, kind_of, last_decision, loses_ticket, evicts, grants, hangs_up, has_waited, takes, is_old, is_crowded, gives_back, closes, at_clock, is_stale, cancels, strikes, strikes_at}
-use Rattle.book_model.specs.Outcomes.Event.{Arrive, Ask, Take, GiveBack, Lost, StartFailed, Leave, Tick, NewLimits, Pause, Resume, Shutdown, Keyed, Cancel, EndLease, HungUp}
+use Rattle.book_model.specs.Outcomes.Event.{Arrive, Ask, Take, GiveBack, Lost, StartFailed, Leave, Tick, NewLimits, Pause, Resume, Shutdown, Reconnect, Keyed, Cancel, EndLease, HungUp}
 use Rattle.book_model.specs.declared.counts.Kind.{Kind}
 use Rattle.book_model.specs.declared.counts.Kind.TheVariants.{Ticking}
 use Rattle.book_model.specs.declared.events.Reply.{Reply}
@@ -49,7 +49,7 @@ fair_takes b c (Some t) =
     both (Fair b (Take c)) b.is_shut _ _ (fair_loses_ticket b c t ShuttingDown)
     (both (Fair b (Take c)) (has_waited b t) _ _ (fair_loses_ticket b c t WaitedTooLong)
     (both (Fair b (Take c)) (b.is_paused || not (waiting_before t.key t.client b.tickets == 0)) _ _ (same b (Take c) (Queued (waiting_before t.key t.client b.tickets)))
-    (fair_grants b c t (latest_of t.key b.idle))))
+    (fair_grants b c t (lendable b.fresh_from t.key b.idle))))
 
 fair_gives : (b : Book) (n : ℕ) (o : Option Link) → Fair b (GiveBack n) (gives_back b o)
 fair_gives b n None = same b (GiveBack n) Stranger
@@ -81,9 +81,9 @@ fair_cancels b client None = same b (Cancel client) Nobody
 fair_cancels b client (Some lease) = fair_strikes_at b client lease (find (is_link lease.link) b.lent)
 
 fair : (b : Book) (e : Event) → Fair b e (outcome b e)
-fair b Arrive =
-    both (Fair b Arrive) b.is_shut _ _ (same b Arrive (Refuse ShuttingDown))
-    (both (Fair b Arrive) (nat_lt (length b.clients) b.limits.max_clients) _ _ (record { counts = refl; stays = λ n. cc }) (same b Arrive (Refuse TooManyClients)))
+fair b (Arrive beyond) =
+    both (Fair b (Arrive beyond)) b.is_shut _ _ (same b (Arrive beyond) (Refuse ShuttingDown))
+    (both (Fair b (Arrive beyond)) (nat_lt (length b.clients) (b.limits.max_clients + places_beyond beyond)) _ _ (record { counts = refl; stays = λ n. cc }) (same b (Arrive beyond) (Refuse TooManyClients)))
 fair b (Ask c key) =
     both (Fair b (Ask c key)) b.is_shut _ _ (same b (Ask c key) (Refuse ShuttingDown)) (record { counts = refl; stays = λ n. cc })
 fair b (Take c) = fair_takes b c (find (is_of c) b.tickets)
@@ -96,6 +96,7 @@ fair b (NewLimits l) = record { counts = refl; stays = λ n. cc }
 fair b Pause = record { counts = refl; stays = λ n. cc }
 fair b Resume = record { counts = refl; stays = λ n. cc }
 fair b Shutdown = record { counts = refl; stays = λ n. cc }
+fair b Reconnect = record { counts = refl; stays = λ n. cc }
 fair b (Keyed n client server) = record { counts = refl; stays = λ k. cc }
 fair b (Cancel client) = fair_cancels b client (find (is_of_client client) b.keyed)
 fair b (EndLease n) = record { counts = refl; stays = λ k. cc }

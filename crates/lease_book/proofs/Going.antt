@@ -1,18 +1,19 @@
 -- What an event with no link does to the idle list, and that the link that goes out stands in it.
-use Rattle.std.proofs.Common.{◌≡◌, ℕ, suc, List, [], ◌∷◌, ◌++◌, Bool, true, false, cond, Option, None, Some, length, refl, sym, ap, ◌∙◌}
+use Rattle.std.proofs.Common.{◌≡◌, ℕ, suc, ◌+◌, List, [], ◌∷◌, ◌++◌, Bool, true, false, cond, Option, None, Some, length, refl, sym, ap, ◌∙◌}
 use Rattle.std.specs.Prelude.{find, not, ◌==◌, ◌||◌, nat_lt, count_by}
 use Rattle.std.specs.List.{list_any}
 use Rattle.std.proofs.lemmas.Bool.{eq-eqb}
 use Rattle.message_view.specs.declared.refusal.Refusal.{Refusal}
 use Rattle.message_view.specs.declared.refusal.Refusal.TheVariants.{TooManyClients, WaitedTooLong, ShuttingDown, LastDecision}
 use Rattle.start_keys.specs.Keys.{same_key}
-use Rattle.book_model.specs.Book.{Book, Lease, Link, Ticket, find_last, in_pool, latest_of, link_count, or_else, pool_count, pool_size, is_of, is_of_client, is_link, is_number, same_pool, waiting_before, without}
+use Rattle.book_model.specs.Book.{Book, Lease, Link, Ticket, find_last, in_pool, lendable, link_count, or_else, places_beyond, pool_count, pool_size, is_of, is_of_client, is_link, is_number, same_pool, waiting_before, without}
 use Rattle.book_model.specs.Outcomes.{Answer, Event, apply, in_state, outcome, decided, counted, is_strange, kind_of, last_decision, loses_ticket, starts, evicts, grants, hangs_up, has_waited, takes, closes, at_clock, is_stale, cancels, ends_lease, strikes, strikes_at}
-use Rattle.book_model.specs.Outcomes.Event.{Arrive, Ask, Take, GiveBack, Lost, StartFailed, Leave, Tick, NewLimits, Pause, Resume, Shutdown, Keyed, Cancel, EndLease, HungUp}
+use Rattle.book_model.specs.Outcomes.Event.{Arrive, Ask, Take, GiveBack, Lost, StartFailed, Leave, Tick, NewLimits, Pause, Resume, Shutdown, Reconnect, Keyed, Cancel, EndLease, HungUp}
 use Rattle.book_model.specs.declared.counts.Kind.{Kind}
 use Rattle.book_model.specs.declared.events.Reply.{Reply}
 use Rattle.book_model.specs.declared.events.Reply.TheVariants.{Arrived, Queued, Refuse, Stranger, Reset, Dispose}
 use Rattle.book_model.specs.declared.events.ClientState.TheVariants.{LoggingIn, Waiting}
+use Rattle.book_model.proofs.KeepingFresh.{lendable_is}
 use Rattle.lease_book.specs.Links.{goes_out, is_return}
 
 both : (Q : Answer → Type 0) (b : Bool) (x y : Answer) → Q x → Q y → Q (cond b x y)
@@ -70,8 +71,8 @@ goes_evicts b t p (Some old) is = record { idle = refl; there_is = found_there p
 goes_starts : (b : Book) (t : Ticket) → Goes b (starts b t b.idle None)
 goes_starts b t = record { idle = refl; there_is = refl }
 
-goes_grants : (b : Book) (t : Ticket) (o : Option Link) → latest_of t.key b.idle ≡ o → Goes b (grants b t o)
-goes_grants b t (Some link) is = record { idle = refl; there_is = last_there (λ l. same_key l.key t.key) b.idle link is }
+goes_grants : (b : Book) (t : Ticket) (o : Option Link) → lendable b.fresh_from t.key b.idle ≡ o → Goes b (grants b t o)
+goes_grants b t (Some link) is = record { idle = refl; there_is = last_there (λ l. same_key l.key t.key) b.idle link (lendable_is b.fresh_from t.key b.idle link is).0 }
 goes_grants b t None is =
     both (Goes b) (nat_lt (pool_count b t.key) (pool_size b.limits t.key)) _ _
     (both (Goes b) (nat_lt (link_count b) b.limits.max_links) _ _ (goes_starts b t) (goes_evicts b t (λ link. true) (find (λ link. true) b.idle) refl))
@@ -89,7 +90,7 @@ goes_takes b (Some t) =
     both (Goes b) b.is_shut _ _ (goes_loses b t ShuttingDown)
     (both (Goes b) (has_waited b t) _ _ (goes_loses b t WaitedTooLong)
     (both (Goes b) (b.is_paused || not (waiting_before t.key t.client b.tickets == 0)) _ _ (goes_same b (Queued (waiting_before t.key t.client b.tickets)) refl)
-    (goes_grants b t (latest_of t.key b.idle) refl)))
+    (goes_grants b t (lendable b.fresh_from t.key b.idle) refl)))
 
 goes_closes : (b : Book) (now : ℕ) (p : Link → Bool) (o : Option Link) → find p b.idle ≡ o → Goes b (closes (at_clock b now) o)
 goes_closes b now p None is = record { idle = refl; there_is = refl }
@@ -116,10 +117,10 @@ ends_in_place true = refl
 ends_in_place false = refl
 
 goes : (b : Book) (e : Event) → is_return e ≡ false → Goes b (outcome b e)
-goes b Arrive r =
+goes b (Arrive beyond) r =
     let came : Answer = record { book = record b { clients = b.clients ++ record { number = b.next_client; state = LoggingIn } ∷ []; next_client = suc b.next_client }; reply = Arrived b.next_client } in
-    both (Goes b) b.is_shut (record { book = b; reply = Refuse ShuttingDown }) (cond (nat_lt (length b.clients) b.limits.max_clients) came (record { book = b; reply = Refuse TooManyClients })) (goes_same b (Refuse ShuttingDown) refl)
-    (both (Goes b) (nat_lt (length b.clients) b.limits.max_clients) came (record { book = b; reply = Refuse TooManyClients }) (stays b came refl refl) (goes_same b (Refuse TooManyClients) refl))
+    both (Goes b) b.is_shut (record { book = b; reply = Refuse ShuttingDown }) (cond (nat_lt (length b.clients) (b.limits.max_clients + places_beyond beyond)) came (record { book = b; reply = Refuse TooManyClients })) (goes_same b (Refuse ShuttingDown) refl)
+    (both (Goes b) (nat_lt (length b.clients) (b.limits.max_clients + places_beyond beyond)) came (record { book = b; reply = Refuse TooManyClients }) (stays b came refl refl) (goes_same b (Refuse TooManyClients) refl))
 goes b (Ask c key) r =
     let asked : Answer = record { book = record b { clients = in_state Waiting c b.clients; tickets = b.tickets ++ record { client = c; key = key; since = b.clock } ∷ [] }; reply = Queued (count_by (λ t. same_pool t.key key) b.tickets) } in
     both (Goes b) b.is_shut (record { book = b; reply = Refuse ShuttingDown }) asked (goes_same b (Refuse ShuttingDown) refl) (stays b asked refl refl)
@@ -133,6 +134,7 @@ goes b (NewLimits l) r = record { idle = refl; there_is = refl }
 goes b Pause r = record { idle = refl; there_is = refl }
 goes b Resume r = record { idle = refl; there_is = refl }
 goes b Shutdown r = record { idle = refl; there_is = refl }
+goes b Reconnect r = record { idle = refl; there_is = refl }
 goes b (Keyed n client server) r = record { idle = refl; there_is = refl }
 goes b (Cancel client) r = goes_cancels b (find (is_of_client client) b.keyed)
 goes b (EndLease n) r = stays b (ends_lease b n) refl (ends_in_place (list_any (is_number n) b.marked))

@@ -6,3 +6,4 @@ mod Going
 mod Holding
 mod Returns
 mod Striking
+mod Showing

@@ -1,14 +1,13 @@
 -- A strike is at the place of its link, which is lent. No other event than a Cancel strikes.
-use Rattle.std.proofs.Common.{◌≡◌, ℕ, List, [], ◌∷◌, ◌++◌, Bool, true, false, cond, Option, None, Some, inl, inr, length, refl, sym, ap, ◌∙◌, subst}
+use Rattle.std.proofs.Common.{◌≡◌, ℕ, ◌+◌, List, [], ◌∷◌, Bool, true, false, cond, Option, None, Some, inl, inr, length, refl, sym, ap, ◌∙◌, subst}
 use Rattle.std.specs.Prelude.{find, not, ◌==◌, ◌||◌, nat_lt, is_some, option_map}
 use Rattle.std.specs.List.{list_any}
 use Rattle.std.proofs.lemmas.Bool.{eqb-true}
-use Rattle.message_view.specs.declared.views.KeyView.{KeyView}
 use Rattle.session_values.specs.State.{StartKeyOf}
-use Rattle.book_model.specs.Book.{Book, Lease, Link, Ticket, in_pool, is_link, is_number, is_of, is_of_client, latest_of, link_count, pool_count, pool_size, waiting_before}
+use Rattle.book_model.specs.Book.{Book, Lease, Link, Ticket, in_pool, is_link, is_number, is_of, is_of_client, lendable, link_count, places_beyond, pool_count, pool_size, waiting_before}
 use Rattle.book_model.specs.Laws.{HasLink}
-use Rattle.book_model.specs.Outcomes.{Answer, Event, apply, at_clock, cancels, closes, counted, decided, evicts, gives_back, grants, hangs_up, has_waited, is_crowded, is_old, is_stale, is_strange, kind_of, last_decision, outcome, strikes, strikes_at, takes}
-use Rattle.book_model.specs.Outcomes.Event.{Arrive, Ask, Take, GiveBack, Lost, StartFailed, Leave, Tick, NewLimits, Pause, Resume, Shutdown, Keyed, Cancel, EndLease, HungUp}
+use Rattle.book_model.specs.Outcomes.{Answer, Event, apply, at_clock, cancels, closes, counted, evicts, gives_back, grants, hangs_up, has_waited, is_crowded, is_old, is_stale, is_strange, kind_of, last_decision, outcome, strikes, strikes_at, takes}
+use Rattle.book_model.specs.Outcomes.Event.{Arrive, Ask, Take, GiveBack, Lost, StartFailed, Leave, Tick, NewLimits, Pause, Resume, Shutdown, Reconnect, Keyed, Cancel, EndLease, HungUp}
 use Rattle.book_model.specs.Places.{IsPlaceOf}
 use Rattle.book_model.specs.declared.counts.Kind.{Kind}
 use Rattle.book_model.specs.declared.events.Reply.{Reply as ListsReply}
@@ -64,7 +63,7 @@ by_takes b (Some t) =
     both b b.is_shut _ _ tt
     (both b (has_waited b t) _ _ tt
     (both b (b.is_paused || not (waiting_before t.key t.client b.tickets == 0)) _ _ tt
-    (by_grants b t (latest_of t.key b.idle))))
+    (by_grants b t (lendable b.fresh_from t.key b.idle))))
 
 by_gives : (b : Book) (o : Option Link) → Strikes b (gives_back b o)
 by_gives b None = tt
@@ -95,7 +94,7 @@ by_end b new true = tt
 by_end b new false = tt
 
 by_outcome : (b : Book) (e : Event) → Strikes b (outcome b e)
-by_outcome b Arrive = both b b.is_shut _ _ tt (both b (nat_lt (length b.clients) b.limits.max_clients) _ _ tt tt)
+by_outcome b (Arrive beyond) = both b b.is_shut _ _ tt (both b (nat_lt (length b.clients) (b.limits.max_clients + places_beyond beyond)) _ _ tt tt)
 by_outcome b (Ask c key) = both b b.is_shut _ _ tt tt
 by_outcome b (Take c) = by_takes b (find (is_of c) b.tickets)
 by_outcome b (GiveBack n) = by_gives b (find (is_link n) b.lent)
@@ -107,6 +106,7 @@ by_outcome b (NewLimits l) = tt
 by_outcome b Pause = tt
 by_outcome b Resume = tt
 by_outcome b Shutdown = tt
+by_outcome b Reconnect = tt
 by_outcome b (Keyed n client server) = tt
 by_outcome b (Cancel client) = by_cancels b (find (is_of_client client) b.keyed)
 by_outcome b (EndLease n) = by_end b (outcome b (EndLease n)).book (list_any (is_number n) b.marked)

@@ -6,7 +6,7 @@ use Rattle.link_run.specs.Links.{LinkView}
 use Rattle.book_model.specs.Book.{Book, Link, is_link}
 use Rattle.book_model.specs.Outcomes.{Answer, apply, apply_return, is_started_as}
 use Rattle.book_model.specs.Outcomes.{Event as ListsEvent}
-use Rattle.book_model.specs.Outcomes.Event.{Arrive, Ask, Take, GiveBack, Lost, StartFailed, Leave, Tick, NewLimits, Pause, Resume, Shutdown, Keyed, Cancel, EndLease, HungUp}
+use Rattle.book_model.specs.Outcomes.Event.{Arrive, Ask, Take, GiveBack, Lost, StartFailed, Leave, Tick, NewLimits, Pause, Resume, Shutdown, Reconnect, Keyed, Cancel, EndLease, HungUp}
 use Rattle.book_model.specs.Places.{IsPlaceOf}
 use Rattle.book_model.specs.Replay.{History, noted_of}
 use Rattle.book_model.specs.declared.events.Reply.{Reply as ListsReply}
@@ -104,7 +104,7 @@ can_strike b _ = true
 
 module _ {E : Type 0} where
   abbrev pub plain : Event E → ListsEvent
-  plain event.Arrive = Arrive
+  plain (event.Arrive beyond) = Arrive beyond
   plain (event.Ask client key again) = Ask client (arc_value key)
   plain (event.Take client) = Take client
   plain (event.GiveBack link) = GiveBack link.number
@@ -116,6 +116,7 @@ module _ {E : Type 0} where
   plain event.Pause = Pause
   plain event.Resume = Resume
   plain event.Shutdown = Shutdown
+  plain event.Reconnect = Reconnect
   plain (event.Keyed n client server) = Keyed n client server
   plain (event.Cancel client) = Cancel client
   plain (event.EndLease n) = EndLease n

@@ -1,17 +1,19 @@
 //! The lease book. What it adds to the lists and their history: the idle links themselves, each the one of its number.
-ghost use Rattle.std.specs.Prelude.{find, ◌≡◌, ◌+◌, [], ◌∷◌, ◌++◌, IfOk, None, Some, cond, false, true, length};
+ghost use Rattle.std.specs.Prelude.{find, ◌≡◌, ◌+◌, [], ◌∷◌, ◌++◌, IfOk, None, Some, cond, false, true, length, map};
 ghost use Rattle.std.specs.Arc.{arc_value};
 ghost use Rattle.book_model.specs.Book.{empty_book, is_link};
 ghost use Rattle.book_model.specs.Events.{event_of};
 ghost use Rattle.book_model.specs.Outcomes.{apply, apply_return, is_started_as};
 ghost use Rattle.book_model.specs.declared.events.Reply.TheVariants.{Strike};
 ghost use Rattle.book_model.specs.Outcomes.Event.{GiveBack};
-ghost use Rattle.book_model.specs.Kept.{total};
+ghost use Rattle.book_model.specs.Kept.{Kept, total};
 ghost use Rattle.book_register.specs.Counted.{counted_book};
 ghost use Rattle.book_register.specs.Views.{view_of};
 ghost use Rattle.book_register.specs.Waking.{is_full, waiting_behind, waiting_for};
 ghost use Rattle.book_rows.specs.Waiting.{TellsFirsts, TellsWaiting};
 ghost use Rattle.book_model.specs.Replay.{noted_of};
+ghost use Rattle.lease_book.specs.Histories.{LeadsTo};
+ghost use Rattle.lease_book.specs.Shown.{as_shown, decisions_shown};
 ghost use Rattle.lease_book.specs.Links.{answered, brings_nothing, can_strike, found, goes_out, handed, handed_after, handed_back, has_place, history_after, idle_after, idle_with, is_done, is_return, IsTwice, StrikesInPlace, left, may_hand_back, number_of, plain, reply_of};
 
 use crate::events::{Event, Reply};
@@ -25,6 +27,7 @@ use book_register::view::BookView;
 use book_rows::firsts::Firsts;
 use link_run::links::CleanLink;
 use message_view::KeyView;
+use pool_figures::decisions::DecisionSeen;
 use server_end::ServerEnd;
 use std::alloc::{AllocError, Global};
 use std::marker::Model;
@@ -126,7 +129,7 @@ fn by_number<E: ServerEnd>(event: &Event<E>) -> lists::Event
     ensures { event_of result ≡ plain event.now }
 {
     match event {
-        Event::Arrive => lists::Event::Arrive,
+        Event::Arrive { beyond } => lists::Event::Arrive { beyond: *beyond },
         Event::Take { client } => lists::Event::Take { client: *client },
         Event::Lost { number } => lists::Event::Lost { link: *number },
         Event::StartFailed { number } => lists::Event::StartFailed { link: *number },
@@ -135,6 +138,7 @@ fn by_number<E: ServerEnd>(event: &Event<E>) -> lists::Event
         Event::Pause => lists::Event::Pause,
         Event::Resume => lists::Event::Resume,
         Event::Shutdown => lists::Event::Shutdown,
+        Event::Reconnect => lists::Event::Reconnect,
         Event::Keyed {
             number,
             client,
@@ -212,6 +216,17 @@ impl<E: ServerEnd> Book<E> {
         ensures all { result.0 + result.1 ≡ self.now.lists.decisions }
     {
         self.register.kept()
+    }
+
+    /// What is shown of the kept decisions, from the oldest on: of a key its process id alone.
+    ///
+    /// `AllocError` where memory is refused.
+    pub fn shown(&self, alloc: Global) -> Result<Vec<DecisionSeen>, AllocError>
+        ensures lists { Kept self.now.lists }
+        ensures leads { LeadsTo self.now.history self.now.lists }
+        ensures shown { IfOk result (λ v. map as_shown v.items ≡ decisions_shown self.now.history) }
+    {
+        self.register.shown(alloc)
     }
 
     /// How many decisions there were.

@@ -1,4 +1,5 @@
 //! What can happen to the lease book, and what it answers, with the links themselves.
+use book_model::events::Beyond;
 use book_model::limits::Limits;
 use link_run::links::CleanLink;
 use message_view::{KeyView, Refusal};
@@ -9,8 +10,10 @@ use std::sync::Arc;
 /// What happens to the book. Seconds are those of the pooler's clock. The book needs no memory, so what it keeps twice comes twice.
 #[derive(Drop)]
 pub enum Event<E: ServerEnd> {
-    /// A client has come.
-    Arrive,
+    /// A client has come, which may use so many places beyond the limit.
+    Arrive {
+        beyond: Beyond,
+    },
     /// A client that is through its login asks for a link of this key.
     Ask {
         client: u64,
@@ -46,6 +49,8 @@ pub enum Event<E: ServerEnd> {
     Resume,
     /// No client is let in and no link lent any more.
     Shutdown,
+    /// No link that is there now is lent again.
+    Reconnect,
     /// This lent link serves the client of this key word, and its server told that one.
     Keyed {
         number: u64,

@@ -1,5 +1,5 @@
 //! The lists of the lease book with the decisions that led to them: the last 256 are kept, and the older ones are in the base.
-ghost use Rattle.std.specs.Prelude.{find, ◌≡◌, ◌+◌, [], IfOk, cond, length};
+ghost use Rattle.std.specs.Prelude.{find, ◌≡◌, ◌+◌, [], IfOk, cond, length, map};
 ghost use Rattle.std.specs.Arc.{arc_value};
 ghost use Rattle.book_model.specs.Book.{empty_book, is_link};
 ghost use Rattle.book_model.specs.Events.{event_of};
@@ -8,12 +8,16 @@ ghost use Rattle.book_model.specs.Outcomes.Event.{GiveBack};
 ghost use Rattle.book_model.specs.Kept.{Kept};
 ghost use Rattle.book_register.specs.Counted.{counted_book};
 ghost use Rattle.book_model.specs.Replay.{noted, noted_of};
+ghost use Rattle.lease_book.specs.Histories.{LeadsTo};
+ghost use Rattle.lease_book.specs.Shown.{as_shown, decisions_shown};
 
+use crate::shown::all_shown;
 use book_model::events::{Event, Reply};
 use book_model::limits::Limits;
 use book_register::lists::Lists;
 use circular_buffer::HeapCircularBuffer;
 use message_view::Refusal;
+use pool_figures::decisions::DecisionSeen;
 use start_keys::StartKey;
 use std::alloc::{AllocError, Global};
 use std::marker::Model;
@@ -152,6 +156,19 @@ impl Register {
         ensures all { result.0 + result.1 ≡ self.now.lists.decisions }
     {
         (self.history.base.decisions(), self.history.kept.len())
+    }
+
+    /// What is shown of the kept decisions, from the oldest on.
+    ///
+    /// `AllocError` where memory is refused.
+    #[tactic(auto, using(crate::proofs::Kept::all_counted))]
+    pub fn shown(&self, alloc: Global) -> Result<Vec<DecisionSeen>, AllocError>
+        ensures leads { LeadsTo self.now.history self.now.lists }
+        ensures shown { IfOk result (λ v. map as_shown v.items ≡ decisions_shown self.now.history) }
+    {
+        // for the prover: as many decisions as there were have numbers
+        let _decisions = self.lists.decisions();
+        all_shown(alloc, self.history.base.decisions(), &self.history.kept)
     }
 
     /// What a link that is given back makes of the lists, by what it was started as, and the reply. It needs no memory.

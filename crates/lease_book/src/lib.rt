@@ -5,3 +5,4 @@ pub mod book;
 pub mod events;
 pub mod history;
 mod idle;
+pub mod shown;

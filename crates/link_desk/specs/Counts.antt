@@ -10,7 +10,7 @@ class_counts c = record {
   given_back = c.given_back;
   lost = c.lost + c.starts_failed;
   left = c.left;
-  others = c.arrivals_refused + c.asked + c.asks_refused + c.tickets_lost + c.ticked + c.limited + c.paused + c.resumed + c.shut_down + c.keyed + c.cancelled + c.leases_ended + c.hung_up;
+  others = c.arrivals_refused + c.asked + c.asks_refused + c.tickets_lost + c.ticked + c.limited + c.paused + c.resumed + c.shut_down + c.keyed + c.cancelled + c.leases_ended + c.hung_up + c.reconnected;
 }
 
 -- class by class no more

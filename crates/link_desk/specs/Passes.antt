@@ -1,6 +1,7 @@
 -- What a pass tells: the decisions that were made through it, by class, and who holds it.
 use Rattle.std.specs.Prelude.{ℕ, suc, Bool, true, false, Option, Some, None, option_map}
 use Rattle.message_view.specs.declared.refusal.Refusal.{Refusal}
+use Rattle.book_model.specs.declared.events.Beyond.{Beyond}
 use Rattle.message_view.specs.declared.views.KeyView.{KeyView}
 use Rattle.message_view.specs.declared.refusal.Refusal.TheVariants.{LastDecision}
 use Rattle.link_start.specs.Links.{LinkView}
@@ -168,9 +169,9 @@ of_client call h = option_map call h.client
 abbrev pub of_lease : (ℕ → Call) → Holder → Option Call
 of_lease call h = option_map (λ (l : Lease). call l.number) h.lease
 
-abbrev pub arrived : Holder → Arrival → Holder
-arrived h (arrival.Client n) = record h { client = Some n; refused = None; last = Some call.Arrive }
-arrived h (arrival.Refused refusal) = record h { refused = Some refusal; last = Some call.Arrive }
+abbrev pub arrived : Beyond → Holder → Arrival → Holder
+arrived beyond h (arrival.Client n) = record h { client = Some n; refused = None; last = Some (call.Arrive beyond) }
+arrived beyond h (arrival.Refused refusal) = record h { refused = Some refusal; last = Some (call.Arrive beyond) }
 
 abbrev pub asked_by : Holder → Asked → Holder
 asked_by h (asked.Queued n) = record h { last = of_client call.Ask h }

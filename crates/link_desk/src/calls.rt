@@ -1,13 +1,14 @@
 //! The calls that are made through a pass, and who holds it.
 
 use crate::answers::{Release, Target};
+use book_model::events::Beyond;
 use message_view::{KeyView, Refusal};
 
 /// A call of a desk's: what it told the lease book.
 #[derive(Clone, Copy, Drop)]
 pub enum Call {
-    /// A client has come.
-    Arrive,
+    /// A client has come, which may use so many places beyond the limit.
+    Arrive(Beyond),
     /// This client asked for a link.
     Ask(u64),
     /// This client took its link.
@@ -38,6 +39,7 @@ pub enum Call {
     Pause,
     Resume,
     Shutdown,
+    Reconnect,
 }
 
 /// How far a lease is.

@@ -19,11 +19,14 @@ ghost use Rattle.link_desk.specs.Refusing.{MayArrive, MayAsk, MayTake};
 use crate::answers::{
     Arrival, Asked, Back, Cancelled, Changed, Gone, Grant, Keying, Release, Strike,
 };
+use book_model::events::Beyond;
 use book_model::limits::Limits;
 use book_register::view::BookView;
 use link_start::links::CleanLink;
 use log_lines::notes::{Client, Note};
 use message_view::KeyView;
+use pool_figures::decisions::DecisionSeen;
+use pool_figures::seen::Seen;
 use server_end::ServerEnd;
 use start_keys::StartKey;
 use std::alloc::{AllocError, Global};
@@ -50,11 +53,11 @@ pub trait LinkDesk {
 
     ghost holder: { Self.Pass → Holder };
 
-    /// A client has come.
-    fn arrive(&self, pass: &mut Self::Pass) -> Arrival
+    /// A client has come, which may use so many places beyond the limit.
+    fn arrive(&self, pass: &mut Self::Pass, beyond: Beyond) -> Arrival
         requires free { (holder pass.old).client ≡ None }
         ensures told { told pass.new ≡ after_arrival (told pass.old) result }
-        ensures holder { holder pass.new ≡ arrived (holder pass.old) result }
+        ensures holder { holder pass.new ≡ arrived beyond (holder pass.old) result }
         ensures refused { MayArrive result };
 
     /// The client is through its login, and asks for a link of this key.
@@ -127,9 +130,9 @@ pub trait LinkDesk {
         ensures told { told pass.new ≡ after_leaving (told pass.old) result }
         ensures holder { holder pass.new ≡ left (holder pass.old) };
 
-    /// A new end of this key's server for the link of this number, which waits for its StartupMessage; `None` where it can't be reached,
-    /// or the key has no server.
-    fn dial(&self, number: u64, key: &StartKey) -> Option<Self::End>
+    /// A new end of this key's server for the link of this number, which waits for its StartupMessage; `None` where it can't be reached
+    /// in so many seconds (0: as the desk likes), or the key has no server.
+    fn dial(&self, number: u64, key: &StartKey, seconds: u32) -> Option<Self::End>
         ensures { IfSome result (λ e. IsDialled home key.now (Self.End.standing e)) };
 
     /// The book as it is now, in rows of the caller's own; what was made through the pass is among its decisions.
@@ -140,6 +143,20 @@ pub trait LinkDesk {
         ensures at_least { IfOk result (λ v. AtMost (told pass.old).made (class_counts v.counts)) }
         ensures told { told pass.new ≡ told pass.old }
         ensures holder { holder pass.new ≡ holder pass.old };
+
+    /// What is known beside the book. Nothing is claimed of it.
+    ///
+    /// `AllocError` where memory is refused.
+    fn seen(&self, alloc: Global) -> Result<Seen, AllocError> {
+        Ok(Seen::nothing(alloc))
+    }
+
+    /// The decisions that the book keeps, from the oldest on. Nothing is claimed of them.
+    ///
+    /// `AllocError` where memory is refused.
+    fn decisions(&self, alloc: Global) -> Result<Vec<DecisionSeen>, AllocError> {
+        Ok(Vec::new(alloc))
+    }
 
     /// No link is lent until [`LinkDesk::resume`].
     fn pause(&self, pass: &mut Self::Pass) -> Changed
@@ -155,6 +172,11 @@ pub trait LinkDesk {
     fn shutdown(&self, pass: &mut Self::Pass) -> Changed
         ensures told { told pass.new ≡ after_change (told pass.old) result }
         ensures holder { holder pass.new ≡ record (holder pass.old) { last = Some call.Shutdown } };
+
+    /// No link that is there now is lent again: those that are idle are closed by the next ticks, those that are lent at their return.
+    fn reconnect(&self, pass: &mut Self::Pass) -> Changed
+        ensures told { told pass.new ≡ after_change (told pass.old) result }
+        ensures holder { holder pass.new ≡ record (holder pass.old) { last = Some call.Reconnect } };
 
     /// These limits hold from now on. They come twice: the book keeps the one, its history the other.
     fn limits(&self, pass: &mut Self::Pass, limits: Arc<Limits>, again: Arc<Limits>) -> Changed

@@ -32,7 +32,7 @@ use Rattle.link_start.specs.declared.start_reply.StartProgress.TheVariants.{Noth
 use Rattle.link_start.specs.declared.start_reply.ServerQuestion.{ServerQuestion}
 use Rattle.link_start.specs.declared.start.TheConstants.{LONGEST_WELCOME}
 use Rattle.link_start.specs.declared.start.StartCause.{StartCause}
-use Rattle.link_start.specs.declared.start.StartCause.TheVariants.{Lost, Unanswerable, Unexpected, Memory, Turns}
+use Rattle.link_start.specs.declared.start.StartCause.TheVariants.{Lost, Unanswerable, Unexpected, Memory, Turns, Late}
 use Rattle.link_start.specs.declared.start.StartCause.TheVariants as causes
 use Rattle.link_start.specs.Questions.{answer_to, can_answer}
 use Rattle.link_start.specs.StartReply.{asked, bare, before, if_lawful, heard, heard_by, heard_all, heard_cut, error_in, reported_all, TellsKey, keyed_all}
@@ -513,6 +513,7 @@ end_cause began now secret key v (causes.Refused error) x e = absurd e
 end_cause began now secret key v (Unanswerable question) x e = absurd e
 end_cause began now secret key v Unexpected x e = absurd e
 end_cause began now secret key v Turns x e = absurd e
+end_cause began now secret key v Late x e = absurd e
 
 -- a cause that is handed on
 pub handed_on : {A : Type 0} (P : StartCause → Type 0) (r : Result A StartCause) (cause : StartCause) → IsErrAnd r (λ e. e ≡ cause) → P cause → IfErr r P

@@ -13,3 +13,4 @@ refusal_of cause.Lost = Refusal ServerNotReached
 refusal_of (cause.Unanswerable question) = Refusal ServerNotReached
 refusal_of cause.Unexpected = Refusal ServerNotReached
 refusal_of cause.Turns = Refusal ServerNotReached
+refusal_of cause.Late = Refusal ServerNotReached

@@ -21,7 +21,7 @@ use Rattle.link_start.specs.declared.start_reply.StartProgress.TheVariants as he
 use Rattle.link_start.specs.declared.start_reply.ServerQuestion.{ServerQuestion}
 use Rattle.link_start.specs.declared.start.TheConstants.{CHUNK, LONGEST_WELCOME}
 use Rattle.link_start.specs.declared.start.StartCause.{StartCause}
-use Rattle.link_start.specs.declared.start.StartCause.TheVariants.{Refused, Lost, Unanswerable, Unexpected, Memory, Turns}
+use Rattle.link_start.specs.declared.start.StartCause.TheVariants.{Refused, Lost, Unanswerable, Unexpected, Memory, Turns, Late}
 use Rattle.link_start.specs.Questions.{answer_to}
 use Rattle.link_start.specs.StartReply as spec
 
@@ -164,6 +164,7 @@ IsEndCause old new (Refused error) = ⊥
 IsEndCause old new (Unanswerable question) = ⊥
 IsEndCause old new Unexpected = ⊥
 IsEndCause old new Turns = ⊥
+IsEndCause old new Late = ⊥
 
 -- Since then some bytes were sent and these came, and what came says so.
 pub record CameAs (began now : Standing) (Says : List ℕ → Type 0) : Type 0 where
@@ -205,7 +206,7 @@ abbrev pub IsUnexpectedHeard : Secret → List ℕ → Type 0
 IsUnexpectedHeard secret received = (spec.heard secret received ≡ heard.Other) ⊎ (((spec.heard secret received ≡ heard.Ready) × IsUnreadable received) ⊎ IsTooLong secret received)
 
 -- By its cause: what came says it, over an end of any kind; and an end that follows refuses, or asks what can't be answered, only as its
--- server does, and says nothing unexpected. Of memory no contract says why; of turns `HasTried` does.
+-- server does, and says nothing unexpected. Of memory no contract says why; of turns `HasTried` does, and of lateness the gate.
 abbrev pub IsStartCause : Standing → Standing → Secret → StartKeyOf → StartCause → Type 0
 IsStartCause began now secret key (Refused error) = CameAs began now (IsErrorHeard secret error) × (began.follows ≡ true → IsRefusalOf began secret key error)
 IsStartCause began now secret key Lost = CameAs began now (λ _. IsLost began now)
@@ -213,6 +214,7 @@ IsStartCause began now secret key (Unanswerable question) = CameAs began now (Is
 IsStartCause began now secret key Unexpected = CameAs began now (IsUnexpectedHeard secret) × (began.follows ≡ true → ⊥)
 IsStartCause began now secret key Memory = Unit {0}
 IsStartCause began now secret key Turns = Unit {0}
+IsStartCause began now secret key Late = Unit {0}
 
 -- ---- how long it goes on
 

@@ -85,6 +85,8 @@ pub enum StartCause {
     Memory,
     /// The turns are used up: in so many of them nothing moved.
     Turns,
+    /// The gate's time is over, and the answer isn't whole.
+    Late,
 }
 
 /// What a client is told whose link wasn't started.
@@ -106,7 +108,8 @@ impl StartCause {
             StartCause::Lost
             | StartCause::Unanswerable(_)
             | StartCause::Unexpected
-            | StartCause::Turns => StartRefusal::Refusal(Refusal::ServerNotReached),
+            | StartCause::Turns
+            | StartCause::Late => StartRefusal::Refusal(Refusal::ServerNotReached),
         }
     }
 }
@@ -311,6 +314,7 @@ impl<E: ServerEnd> Start<E> {
         ensures answered { OnOk result (self.new.answered ≡ true) }
         ensures left { OnOk result (bytes_left self.new ≤ bytes_left self.old) }
         ensures no_turns { IfErr result (λ c. c ≢ causes.Turns) }
+        ensures in_time { IfErr result (λ c. c ≢ causes.Late) }
         ensures cause { (b : Standing) → CanStart b → IsLinkKey self.old.key → IsStartUnderWay b secret.now self.old → IfErr result (λ c. IsStartCause b self.new.end secret.now self.old.key c) }
     {
         if self.answered {
@@ -345,6 +349,7 @@ impl<E: ServerEnd> Start<E> {
         ensures ready { IfOk result (λ r. r ≡ true → heard secret.now self.old.received ≡ came.Ready) }
         ensures unsent { IfOk result (λ r. r ≡ true → self.new.unsent ≡ self.old.unsent) }
         ensures no_turns { IfErr result (λ c. c ≢ causes.Turns) }
+        ensures in_time { IfErr result (λ c. c ≢ causes.Late) }
         ensures cause { (b : Standing) → CanStart b → IsLinkKey self.old.key → IsStartUnderWay b secret.now self.old → IfErr result (λ c. IsStartCause b self.new.end secret.now self.old.key c) }
     {
         match self.read_start_reply(secret) {
@@ -376,6 +381,7 @@ impl<E: ServerEnd> Start<E> {
         ensures once { waits_of self.new.end ≤ waits_of self.old.end + 1 }
         ensures last { IfOk result (λ p. p ≡ progress.Ready → waits_of self.new.end ≡ waits_of self.old.end) }
         ensures no_turns { IfErr result (λ c. c ≢ causes.Turns) }
+        ensures in_time { IfErr result (λ c. c ≢ causes.Late) }
         ensures cause { (b : Standing) → CanStart b → IsLinkKey self.old.key → IsStartUnderWay b secret.now self.old → IfErr result (λ c. IsStartCause b self.new.end secret.now self.old.key c) }
     {
         let wrote = self.send()?;
@@ -413,6 +419,7 @@ impl<E: ServerEnd> Start<E> {
         ensures stands { IfOk result (λ l. l.stands ≡ self.end) }
         ensures back { IfErr result (λ f. E.standing f.end ≡ self.end) }
         ensures no_turns { IfErr result (λ f. f.cause ≢ causes.Turns) }
+        ensures in_time { IfErr result (λ f. f.cause ≢ causes.Late) }
         ensures cause { (b : Standing) (s : Secret) → IsDoneFrom b s self → IfErr result (λ f. IsStartCause b (E.standing f.end) s self.key f.cause) }
     {
         let Start {
@@ -478,13 +485,14 @@ impl<E: ServerEnd> Start<E> {
 ///
 /// Turns are for waiting: only one in which no byte was sent and none came counts against `turns`, so an answer that comes byte by byte
 /// uses up none. The answer has its own bound: once more than [`LONGEST_WELCOME`] bytes came and it isn't whole, the start fails by
-/// Unexpected.
+/// Unexpected. And the gate has its time, if it was set a limit: before each turn it is asked whether that is over, whatever came in the
+/// turns before, and then the start fails by Late.
 ///
 /// `number` and `born` are kept in the link: its number, and the second in which it was begun. So is the server's key, that of the
 /// last BackendKeyData of the dialogue; where the end follows, those are the server's own words. Where it fails the end comes back
 /// with the cause, which stands in the bytes that came: an ErrorResponse, a question that this user can't answer, or something else
 /// ends the start at once, and a cause that came stays one, whatever comes behind it, wherever the bytes are cut. It is Turns only after
-/// so many turns in which nothing moved, and none of these came.
+/// so many turns in which nothing moved, and Late only where the gate is; and none of these came.
 pub fn start_link<E: ServerEnd, G: Gate<E>>(
     alloc: Global,
     end: E,
@@ -504,6 +512,8 @@ pub fn start_link<E: ServerEnd, G: Gate<E>>(
     ensures born { IfOk result (λ l. l.born ≡ born) }
     ensures cause { IfErr result (λ f. IsStartCause (E.standing end) (E.standing f.end) secret.now (arc_value key) f.cause) }
     ensures turns { IfErr result (λ f. f.cause ≡ causes.Turns → HasTried (E.standing end) secret.now (arc_value key) (E.standing f.end) turns) }
+    ensures late { IfErr result (λ f. f.cause ≡ causes.Late → G.late gate.new ≡ true) }
+    ensures unanswered { IfErr result (λ f. f.cause ≡ causes.Late → HasTried (E.standing end) secret.now (arc_value key) (E.standing f.end) 0) }
     ensures taken { MatchResult result (λ l. TakesTurns (E.standing end) l.stands (G.turns gate.old) (G.turns gate.new) turns) (λ f. TakesTurns (E.standing end) (E.standing f.end) (G.turns gate.old) (G.turns gate.new) turns) }
     ensures bounded { MatchResult result (λ l. IsBounded (E.standing end) l.stands) (λ f. IsBounded (E.standing end) (E.standing f.end)) }
     ensures paced { IfErr result (λ f. IsStartPaced (E.standing end) (E.standing f.end) (G.turns gate.old) (G.turns gate.new)) }
@@ -512,6 +522,9 @@ pub fn start_link<E: ServerEnd, G: Gate<E>>(
     let mut start = Start::begin(alloc, end, key, number, born)?;
     let mut left = turns;
     while left > 0 {
+        if gate.is_late() {
+            return Err(start.fail(StartCause::Late));
+        }
         gate.turn_of_link();
         match start.turn(alloc, secret) {
             Ok(Progress::Idle) => left -= 1,

@@ -21,6 +21,8 @@ mod saying_end;
 #[cfg(test)]
 mod services;
 #[cfg(test)]
+mod short_gate;
+#[cfg(test)]
 mod starts;
 #[cfg(test)]
 mod verdicts;

@@ -14,7 +14,7 @@ use memory_ends::memory_server::{MemoryServer, ServerAuth};
 use memory_start_laws::memory_servers_can_start;
 use message_view::KeyWord;
 use server_end::ServerEnd;
-use server_end::gate::OpenGate;
+use server_end::gate::{Gate, OpenGate};
 use session_catalogue::Catalogue;
 use session_values::text::Text;
 use start_keys::{Host, StartKey};
@@ -117,7 +117,24 @@ pub const SHOP: Start = Start {
     turns: 400,
 };
 
-/// Starts a link of number 5 and birth 9 over this end, or tells why there is none.
+/// Starts a link of number 5 and birth 9 over this end by this gate, or tells why there is none.
+pub fn begin_by<E: ServerEnd, G: Gate<E>>(
+    alloc: Global,
+    end: E,
+    start: Start,
+    gate: &mut G,
+) -> Result<Result<CleanLink<E>, StartCause>, Fail>
+    requires { CanStart (E.standing end) }
+{
+    let secret = Secret::read(alloc, start.password)?;
+    let key = key(alloc, start.is_there)?;
+    match start_link(alloc, end, key, &secret, 5, 9, gate, start.turns) {
+        Ok(link) => Ok(Ok(link)),
+        Err(fault) => Ok(Err(fault.cause)),
+    }
+}
+
+/// The same by a gate that is never late.
 pub fn begin<E: ServerEnd>(
     alloc: Global,
     end: E,
@@ -125,19 +142,5 @@ pub fn begin<E: ServerEnd>(
 ) -> Result<Result<CleanLink<E>, StartCause>, Fail>
     requires { CanStart (E.standing end) }
 {
-    let secret = Secret::read(alloc, start.password)?;
-    let key = key(alloc, start.is_there)?;
-    match start_link(
-        alloc,
-        end,
-        key,
-        &secret,
-        5,
-        9,
-        &mut OpenGate::new(),
-        start.turns,
-    ) {
-        Ok(link) => Ok(Ok(link)),
-        Err(fault) => Ok(Err(fault.cause)),
-    }
+    begin_by(alloc, end, start, &mut OpenGate::new())
 }

@@ -3,13 +3,15 @@ ghost use Rattle.std.specs.Prelude.{◌<◌};
 ghost use Rattle.link_start.specs.Starts.{CanStart};
 ghost use Rattle.memory_start_laws.specs.Starts.{HasSalt};
 
-use crate::making::{SHOP, Start, begin, server};
+use crate::making::{SHOP, Start, begin_by, server};
+use crate::short_gate::ShortGate;
 use link_run::welcome::welcome_over;
 use link_start::start::{StartCause, StartError};
 use memory_ends::failing_end::FailingEnd;
 use memory_ends::memory_server::ServerAuth;
 use message_view::{KeyView, KeyWord};
 use server_end::ServerEnd;
+use server_end::gate::{Gate, OpenGate};
 use std::alloc::Global;
 use std::test::Fail;
 
@@ -43,8 +45,14 @@ fn no_database() -> &'static [u8] {
     b"E\0\0\0\x33SFATAL\0VFATAL\0C3D000\0Mdatabase does not exist\0\0"
 }
 
-/// Of a started link its number and birth, the length of what its client is given first, and its server's key; or why there is none.
-fn told<E: ServerEnd>(alloc: Global, end: E, how: Start) -> Result<Result<Begun, StartCause>, Fail>
+/// Of a link that is started by this gate its number and birth, the length of what its client is given first, and its server's key; or why
+/// there is none.
+fn told_by<E: ServerEnd, G: Gate<E>>(
+    alloc: Global,
+    end: E,
+    how: Start,
+    gate: &mut G,
+) -> Result<Result<Begun, StartCause>, Fail>
     requires { CanStart (E.standing end) }
 {
     let word = KeyWord {
@@ -52,7 +60,7 @@ fn told<E: ServerEnd>(alloc: Global, end: E, how: Start) -> Result<Result<Begun,
         secret: 2,
         salt: [0; 4],
     };
-    match begin(alloc, end, how)? {
+    match begin_by(alloc, end, how, gate)? {
         Ok(link) => {
             let welcome = welcome_over(alloc, &link, word)?;
             Ok(Ok(Begun {
@@ -64,6 +72,13 @@ fn told<E: ServerEnd>(alloc: Global, end: E, how: Start) -> Result<Result<Begun,
         }
         Err(cause) => Ok(Err(cause)),
     }
+}
+
+/// The same by a gate that is never late.
+fn told<E: ServerEnd>(alloc: Global, end: E, how: Start) -> Result<Result<Begun, StartCause>, Fail>
+    requires { CanStart (E.standing end) }
+{
+    told_by(alloc, end, how, &mut OpenGate::new())
 }
 
 /// What a start over a server comes to that asks this.
@@ -135,6 +150,39 @@ fn only_idle_turns_are_used_up(rt: HostRuntime) -> Result<(), Fail> {
     let bytewise = server(alloc, ServerAuth::Trust, 1, None)?;
     let started = told(alloc, bytewise, Start { turns: 1, ..SHOP })?;
     assert!(rt; started.is_ok_and(|told| told == BEGUN));
+    Ok(())
+}
+
+/// What a start comes to over a server that moves so many bytes a call, by a gate that is late after so many turns.
+fn hurried(
+    alloc: Global,
+    cut: usize,
+    how: Start,
+    turns: u32,
+) -> Result<Result<Begun, StartCause>, Fail>
+    requires { 0 < cut }
+{
+    let end = server(alloc, ServerAuth::Trust, cut, None)?;
+    told_by(alloc, end, how, &mut ShortGate::of(turns))
+}
+
+/// A welcome that comes byte by byte is given up once the gate is late, though each turn moves a byte. What came in the last turn counts.
+#[test]
+fn a_gate_is_late(rt: HostRuntime) -> Result<(), Fail> {
+    let alloc = rt.alloc();
+    assert!(rt; matches!(hurried(alloc, 1, SHOP, 0)?, Err(StartCause::Late)));
+    assert!(rt; matches!(hurried(alloc, 1, SHOP, 100)?, Err(StartCause::Late)));
+    assert!(rt; hurried(alloc, 1, SHOP, 10_000)?.is_ok_and(|told| told == BEGUN));
+    let nowhere = Start {
+        is_there: false,
+        ..SHOP
+    };
+    assert!(rt;
+        matches!(
+            hurried(alloc, 1_000, nowhere, 1)?,
+            Err(StartCause::Refused(_))
+        )
+    );
     Ok(())
 }
 

@@ -12,7 +12,7 @@ use message_view::KeyWord;
 use relay_core::relay::{GoneCause, Relay, Returned};
 use relay_laws::Next;
 use server_end::ServerEnd;
-use server_end::gate::Ready;
+use server_end::gate::{Counts, Ready};
 use std::alloc::Global;
 use std::test::Fail;
 
@@ -23,6 +23,8 @@ const REFUSED: &[u8] = b"P\0\0\0\x0d\0SELEC\0\0\0";
 const SHOW: &[u8] = b"Q\0\0\0\x12SHOW TimeZone\0";
 
 const SYNC: &[u8] = b"S\0\0\0\x04";
+
+const BEGIN: &[u8] = b"Q\0\0\0\x0aBEGIN\0";
 
 /// What the client of such a lease is given last: the ErrorResponse.
 const ERROR: &[u8] = b"E\0\0\0\x28SERROR\0VERROR\0C42601\0Msyntax error\0\0";
@@ -35,15 +37,15 @@ enum Fate {
     Gone(GoneCause),
 }
 
-/// A lease of the link to a client of this pid that sends these messages at once, over an end that moves so many bytes a call, until
-/// nothing moves any more: what the client was given begins with its welcome, and what becomes of the link.
-pub fn lease<E: ServerEnd>(
+/// A lease of the link to a client of this pid that sends these messages at once, over an end that moves so many bytes a call, once
+/// nothing moves any more.
+fn pumped<E: ServerEnd>(
     alloc: Global,
     link: CleanLink<E>,
     cut: usize,
     pid: u32,
     messages: &[&[u8]],
-) -> Result<(MemoryClient, Returned<E>), Fail>
+) -> Result<Relay<MemoryClient, E>, Fail>
     requires { 0 < cut }
 {
     let word = KeyWord {
@@ -64,10 +66,38 @@ pub fn lease<E: ServerEnd>(
     };
     for _ in 0..2_000 {
         if relay.pump(both) == Next::Wait {
-            return Ok(relay.close());
+            return Ok(relay);
         }
     }
     Err("bytes move on and on")?
+}
+
+/// The same lease to its end: what the client was given begins with its welcome, and what becomes of the link.
+pub fn lease<E: ServerEnd>(
+    alloc: Global,
+    link: CleanLink<E>,
+    cut: usize,
+    pid: u32,
+    messages: &[&[u8]],
+) -> Result<(MemoryClient, Returned<E>), Fail>
+    requires { 0 < cut }
+{
+    let relay = pumped(alloc, link, cut, pid, messages)?;
+    Ok(relay.close())
+}
+
+/// What went over a link of this end by these messages of its client.
+fn counts_of<E: ServerEnd>(alloc: Global, end: E, messages: &[&[u8]]) -> Result<Counts, Fail>
+    requires { CanStart (E.standing end) }
+{
+    let relay = pumped(alloc, link(alloc, end)?, 1_000, 1, messages)?;
+    Ok(relay.counts())
+}
+
+/// The same over a server that asks for nothing.
+fn counts(alloc: Global, messages: &[&[u8]]) -> Result<Counts, Fail> {
+    let end = server(alloc, ServerAuth::Trust, 1_000, None)?;
+    counts_of(alloc, end, messages)
 }
 
 /// What becomes of the link, and whether the client was given these bytes last.
@@ -106,10 +136,31 @@ fn a_link_is_unused_or_used(rt: HostRuntime) -> Result<(), Fail> {
     Ok(())
 }
 
+/// Each case has its messages, how many of them ask for a ReadyForQuery, how many came, how many told of no block, and the last status.
+#[test]
+fn what_went_over_a_link_is_counted(rt: HostRuntime) -> Result<(), Fail> {
+    let cases: [(&[&[u8]], u64, u64, u64, Option<u8>); 4] = [
+        (&[], 0, 0, 0, None),
+        (&[SHOW, SHOW, SYNC], 3, 3, 3, Some(b'I')),
+        (&[SHOW, BEGIN, SHOW], 3, 3, 1, Some(b'T')),
+        (&[REFUSED, SHOW, SYNC], 2, 1, 1, Some(b'I')),
+    ];
+    for (messages, asked, answered, ended, status) in cases {
+        let wanted = Counts {
+            asked,
+            answered,
+            ended,
+            status,
+        };
+        assert!(rt; counts(rt.alloc(), messages)? == wanted);
+    }
+    Ok(())
+}
+
 #[test]
 fn a_block_is_left_open(rt: HostRuntime) -> Result<(), Fail> {
     let in_block = Fate::Gone(GoneCause::Left(Verdict::InBlock));
-    assert!(rt; left(rt.alloc(), &[b"Q\0\0\0\x0aBEGIN\0"], b"Z\0\0\0\x05T")? == (in_block, true));
+    assert!(rt; left(rt.alloc(), &[BEGIN], b"Z\0\0\0\x05T")? == (in_block, true));
     Ok(())
 }
 

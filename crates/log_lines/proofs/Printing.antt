@@ -16,11 +16,12 @@ use Rattle.log_lines.specs.declared.notes.Loss.TheVariants as loss
 use Rattle.log_lines.specs.declared.notes.Note.{Note}
 use Rattle.log_lines.specs.declared.notes.Note.TheVariants as note
 use Rattle.log_lines.specs.declared.events.Totals.{Totals}
+use Rattle.log_lines.specs.declared.events.Rates.{Rates}
 use Rattle.log_lines.specs.declared.events.Event.{Event}
 use Rattle.log_lines.specs.declared.events.Event.TheVariants as event
 use Rattle.log_lines.specs.Shown.{Text, is_printing, hex_digit, shown_byte, shown, shown_text, shown_name, quoted, shown_host, address, after}
 use Rattle.log_lines.specs.Lines.{numbered, named, who, state_and_text, fields_or_none, field, asks_for, unstarted_words, loss_words, refusal_words, parameter_words, words, line}
-use Rattle.log_lines.specs.Events.{counted, counts, place, event_words, heard_words}
+use Rattle.log_lines.specs.Events.{counted, counts, place, rates, event_words, heard_words}
 use Rattle.log_lines.specs.declared.events.Heard.{Heard}
 use Rattle.log_lines.specs.declared.events.Heard.TheVariants as heard
 use Rattle.log_lines.specs.Laws.{LinesArePrinting}
@@ -155,6 +156,7 @@ refusals LastDecision = refl
 notes : (told : Note) (ms : Option ℕ) → Prints (words told ms)
 notes note.LoggedIn ms = refl
 notes note.Closed ms = times ms
+notes note.Late ms = both (after ms) (codes ": not through its login in client_login_timeout") (times ms) refl
 notes (note.Refused r) ms = both (after ms ++ codes ": ") (refusal_words r) (both (after ms) (codes ": ") (times ms) refl) (refusals r)
 notes (note.UnsupportedParameter name) ms = both (after ms ++ codes ": ") (parameter_words name.now) (both (after ms) (codes ": ") (times ms) refl)
     (both (quoted name.now) (codes " (P4)") (quotes name.now) refl)
@@ -167,6 +169,7 @@ notes (note.Cancels number) ms = both (decimal number) (codes "'s statement") (d
 notes note.CancelsNobody ms = refl
 notes note.Paused ms = refl
 notes note.Resumed ms = refl
+notes note.Reconnecting ms = refl
 notes note.ShuttingDown ms = refl
 
 pub lines : (c : Client) (told : Note) (ms : Option ℕ) → Prints (line c told ms)
@@ -186,6 +189,9 @@ each_count (c ∷ cs) h = both (counted c) (flat_map counted cs)
 ends : (t : Totals) → Prints (flat_map counted (counts t))
 ends t = each_count (counts t) refl
 
+goes_through : (r : Rates) → Prints (flat_map counted (rates r))
+goes_through r = each_count (rates r) refl
+
 places : (host : Text) (port : ℕ) → Prints (place host port)
 places host port = both (shown_name host) (32 ∷ decimal port) (texts 32 host) (decimals port)
 
@@ -197,12 +203,16 @@ hears heard.Spoke = refl
 told : (e : Event) → Prints (event_words e)
 told (event.Listening host port) = places host.now port
 told (event.NotListening folder port why) = both (place folder.now port) (codes ": " ++ shown_text why.now) (places folder.now port) (texts 92 why.now)
+told (event.ListeningForMetrics host port) = addresses host.now port
+told (event.NotListeningForMetrics host port why) = both (address host.now port) (codes ": " ++ shown_text why.now) (addresses host.now port) (texts 92 why.now)
 told (event.Unreached host port why) = both (address host.now port) (codes " not reached: " ++ shown_text why.now) (addresses host.now port) (texts 92 why.now)
 told event.Reloaded = refl
 told (event.NotReloaded fault) = texts 92 fault.now
 told (event.Wanting n) = count n (codes " connections closed for want of a thread, a poll, a file or memory") refl
+told (event.Late n) = count n (codes " connections closed that didn't say who they are in client_login_timeout") refl
 told (event.Dropped n) = count n (codes " lines of the log were dropped") refl
 told (event.IdleClosed n h) = both (decimal n ++ codes " closed: ") (heard_words h) (both (decimal n) (codes " closed: ") (decimals n) refl) (hears h)
+told (event.Stats r) = goes_through r
 told (event.Ended t) = ends t
 
 pub printing : LinesArePrinting

@@ -87,6 +87,7 @@ parameter_words name = codes "unsupported startup parameter " ++ quoted name ++ 
 abbrev pub words : Note → Option ℕ → Text
 words note.LoggedIn ms = codes " in"
 words note.Closed ms = codes " out" ++ after ms
+words note.Late ms = codes " closed" ++ after ms ++ codes ": not through its login in client_login_timeout"
 words (note.Refused r) ms = codes " refused" ++ after ms ++ codes ": " ++ refusal_words r
 words (note.UnsupportedParameter name) ms = codes " refused" ++ after ms ++ codes ": " ++ parameter_words name.now
 words note.WrongPassword ms = codes " failed" ++ after ms ++ codes ": password authentication failed (28P01)"
@@ -97,6 +98,7 @@ words (note.Cancels number) ms = codes " cancels link " ++ decimal number ++ cod
 words note.CancelsNobody ms = codes " requests a cancel by a key that nobody has"
 words note.Paused ms = codes " paused the pool"
 words note.Resumed ms = codes " resumed the pool"
+words note.Reconnecting ms = codes " reconnects the pool"
 words note.ShuttingDown ms = codes " shuts the pool down"
 
 abbrev pub line : Client → Note → Option ℕ → Text

@@ -4,7 +4,7 @@ ghost use Rattle.std.specs.List.{flat_map};
 ghost use Rattle.log_lines.specs.Events.{counted, counted_view};
 ghost use Rattle.log_lines.specs.Events as spec;
 ghost use Rattle.log_lines.specs.Lines.{error_words};
-ghost use Rattle.log_lines.specs.Shown.{shown_text};
+ghost use Rattle.log_lines.specs.Shown.{address, shown_text};
 
 use crate::lines::put_error;
 use crate::shown::{put_address, put_name, put_number, put_text};
@@ -31,6 +31,25 @@ pub struct Totals {
     pub others: u64,
 }
 
+/// What went through a pool in a period.
+#[derive(Clone, Copy)]
+pub struct Rates {
+    /// Transactions a second.
+    pub transactions: u64,
+    /// Queries a second.
+    pub queries: u64,
+    /// Bytes a second that came from clients.
+    pub received: u64,
+    /// Bytes a second that went to clients.
+    pub sent: u64,
+    /// Microseconds of a transaction, on average.
+    pub transaction_time: u64,
+    /// Microseconds of a query.
+    pub query_time: u64,
+    /// Microseconds that a client waited for its link.
+    pub wait_time: u64,
+}
+
 /// What came from the server of an idle link.
 #[derive(Clone, Copy)]
 pub enum Heard<'a> {
@@ -49,6 +68,10 @@ pub enum Event<'a> {
     Listening(&'a [u8], u16),
     /// It doesn't listen at this folder and port, because of this.
     NotListening(&'a [u8], u16, &'a [u8]),
+    /// The pool's figures are had by HTTP at this host and port.
+    ListeningForMetrics(&'a [u8], u16),
+    /// They aren't, because of this.
+    NotListeningForMetrics(&'a [u8], u16, &'a [u8]),
     /// A server of this host and port couldn't be reached, because of this.
     Unreached(&'a [u8], u16, &'a [u8]),
     /// The settings and users were read again.
@@ -57,10 +80,14 @@ pub enum Event<'a> {
     NotReloaded(&'a [u8]),
     /// So many connections were closed unserved, for want of a thread, a poll, a file or memory.
     Wanting(u64),
+    /// So many connections were closed that were late, and hadn't said who they are.
+    Late(u64),
     /// So many lines of the log were dropped.
     Dropped(u64),
     /// The idle link of this number was closed, to what came from its server.
     IdleClosed(u64, Heard<'a>),
+    /// What went through the pool in the last period.
+    Stats(Rates),
     /// The pool has ended.
     Ended(Totals),
 }
@@ -85,6 +112,20 @@ fn counts_of(totals: &Totals) -> [(u64, &'static [u8]); 8]
         (totals.lost, b" lost, "),
         (totals.left, b" left, "),
         (totals.others, b" others"),
+    ]
+}
+
+fn rates_of(rates: &Rates) -> [(u64, &'static [u8]); 7]
+    ensures { flat_map counted_view result ≡ flat_map counted (spec.rates rates.now) }
+{
+    [
+        (rates.transactions, b" transactions/s, "),
+        (rates.queries, b" queries/s, "),
+        (rates.received, b" B/s in, "),
+        (rates.sent, b" B/s out; "),
+        (rates.transaction_time, b" us a transaction, "),
+        (rates.query_time, b" us a query, "),
+        (rates.wait_time, b" us a wait"),
     ]
 }
 
@@ -142,6 +183,22 @@ fn put_not_listening(
     put_because(line, b": ", why)
 }
 
+/// A host and its port behind a text.
+fn put_at(line: &mut Vec<u8>, words: &[u8], host: &[u8], port: u16) -> Result<(), AllocError>
+    ensures { OnOk result (line.new.items ≡ line.old.items ++ (words.now ++ address host.now port)) }
+{
+    line.extend_from_slice(words)?;
+    put_address(line, host, port)
+}
+
+fn put_no_metrics(line: &mut Vec<u8>, host: &[u8], port: u16, why: &[u8]) -> Result<(), AllocError>
+    ensures { OnOk result (line.new.items ≡ line.old.items ++ spec.no_metrics host.now port why.now) }
+{
+    line.extend_from_slice(b"not listening for metrics at ")?;
+    put_address(line, host, port)?;
+    put_because(line, b": ", why)
+}
+
 fn put_unreached(line: &mut Vec<u8>, host: &[u8], port: u16, why: &[u8]) -> Result<(), AllocError>
     ensures { OnOk result (line.new.items ≡ line.old.items ++ spec.unreached host.now port why.now) }
 {
@@ -182,6 +239,13 @@ fn put_words(line: &mut Vec<u8>, event: Event<'_>) -> Result<(), AllocError>
     match event {
         Event::Listening(host, port) => put_listening(line, host, port),
         Event::NotListening(folder, port, why) => put_not_listening(line, folder, port, why),
+        Event::ListeningForMetrics(host, port) => put_at(
+            line,
+            b"listening for metrics at ",
+            host,
+            port,
+        ),
+        Event::NotListeningForMetrics(host, port, why) => put_no_metrics(line, host, port, why),
         Event::Unreached(host, port, why) => put_unreached(line, host, port, why),
         Event::Reloaded => line.extend_from_slice(b"reloaded"),
         Event::NotReloaded(fault) => put_fault(line, fault),
@@ -190,8 +254,17 @@ fn put_words(line: &mut Vec<u8>, event: Event<'_>) -> Result<(), AllocError>
             n,
             b" connections closed for want of a thread, a poll, a file or memory",
         ),
+        Event::Late(n) => put_count(
+            line,
+            n,
+            b" connections closed that didn't say who they are in client_login_timeout",
+        ),
         Event::Dropped(n) => put_count(line, n, b" lines of the log were dropped"),
         Event::IdleClosed(number, heard) => put_idle(line, number, heard),
+        Event::Stats(rates) => {
+            line.extend_from_slice(b"stats: ")?;
+            put_counts(line, &rates_of(&rates))
+        }
         Event::Ended(totals) => {
             line.extend_from_slice(b"shut down: ")?;
             put_counts(line, &counts_of(&totals))

@@ -257,6 +257,12 @@ fn put_words(line: &mut Vec<u8>, note: Note<'_>, ms: Option<u64>) -> Result<(), 
     match note {
         Note::LoggedIn => line.extend_from_slice(b" in"),
         Note::Closed => put_timed(line, b" out", ms, b""),
+        Note::Late => put_timed(
+            line,
+            b" closed",
+            ms,
+            b": not through its login in client_login_timeout",
+        ),
         Note::Refused(refusal) => {
             put_timed(line, b" refused", ms, b": ")?;
             put_refusal(line, refusal)
@@ -280,6 +286,7 @@ fn put_words(line: &mut Vec<u8>, note: Note<'_>, ms: Option<u64>) -> Result<(), 
         ),
         Note::Paused => line.extend_from_slice(b" paused the pool"),
         Note::Resumed => line.extend_from_slice(b" resumed the pool"),
+        Note::Reconnecting => line.extend_from_slice(b" reconnects the pool"),
         Note::ShuttingDown => line.extend_from_slice(b" shuts the pool down"),
     }
 }

@@ -75,6 +75,8 @@ pub enum Note<'a> {
     LoggedIn,
     /// The client's connection is closed.
     Closed,
+    /// The client had said who it is, and wasn't through its login in time.
+    Late,
     /// The client was refused.
     Refused(Refusal),
     /// It was refused because of this startup parameter.
@@ -91,8 +93,9 @@ pub enum Note<'a> {
     Cancels(u64),
     /// It asked to have a statement cancelled, and nobody has a link by that key.
     CancelsNobody,
-    /// The client paused the pool, resumed it or shuts it down.
+    /// The client paused the pool, resumed it, has it lend no link again that is there now, or shuts it down.
     Paused,
     Resumed,
+    Reconnecting,
     ShuttingDown,
 }

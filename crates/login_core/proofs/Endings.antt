@@ -7,7 +7,7 @@ use Rattle.message_view.specs.declared.ViewFault.{ViewFault}
 use Rattle.session_values.specs.State.{StartKeyOf}
 use Rattle.param_track.specs.StartKeys.{Text}
 use Rattle.login_core.specs.Talk.Reaction.{Goes, Passes, Stops}
-use Rattle.login_core.specs.Dialogue.{LoginRow, Reacts, Left, judged, is_right, is_admin, admitted, to_console, to_database, to_password, malformed, wrong}
+use Rattle.login_core.specs.Dialogue.{LoginRow, Reacts, Left, judged, is_right, enters_console, admitted, to_console, to_database, to_password, malformed, wrong}
 
 abbrev pub Ends : Reacts → Type 0
 Ends (Goes pieces t) = ⊥
@@ -23,8 +23,8 @@ module _ (word : KeyWord) where
   database_ends None key = tt
   database_ends (Some row) key = tt
 
-  admits : (row : LoginRow) (key : StartKeyOf) (b : Bool) → Ends (if b then to_console (is_admin row key.user) else to_database row.database key)
-  admits row key true = console_ends (is_admin row key.user)
+  admits : (row : LoginRow) (key : StartKeyOf) (b : Bool) → Ends (if b then to_console (enters_console row key.user) else to_database row.database key)
+  admits row key true = console_ends (enters_console row key.user)
   admits row key false = database_ends row.database key
 
   judges : (row : LoginRow) (key : StartKeyOf) (b : Bool) → Ends (if b then admitted row key else wrong)

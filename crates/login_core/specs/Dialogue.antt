@@ -1,6 +1,6 @@
 -- The login: what is said to a client's first bytes, and what it leads to (PostgreSQL manual,
 -- "Message Flow", "Start-up" and "SSL Session Encryption"; RFC 1321 for the MD5 answer).
-use Rattle.std.specs.Prelude.{ℕ, List, [], ◌∷◌, Option, Some, None, Result, Ok, Err, Bool, true, false, ◌==◌, if◌then◌else◌, bytes_eq, codes}
+use Rattle.std.specs.Prelude.{ℕ, List, [], ◌∷◌, Option, Some, None, Result, Ok, Err, Bool, true, false, ◌==◌, ◌&&◌, ◌||◌, if◌then◌else◌, bytes_eq, codes}
 use Rattle.std.specs.List.{list_any}
 use Rattle.frame_view.specs.declared.FrameFault.{FrameFault}
 use Rattle.frame_view.specs.declared.FrameFault.TheVariants.{UnknownType, TooShort, TooLong, UnknownCode}
@@ -37,6 +37,7 @@ pub record LoginRow : Type 0 where
   pub auth : AuthType
   pub names : Names
   pub admins : List Text
+  pub lookers : List Text
   pub database : Option DbRow
   pub user : Option UserRow
 
@@ -45,7 +46,7 @@ abbrev pub Rows : Type 0
 Rows = Text → Text → LoginRow
 
 unfoldable pub row_in : Settings → List UserRow → Rows
-row_in s users database user = record { auth = s.auth_type; names = names_of s; admins = s.admin_users; database = row_for database s.rows; user = user_named user users }
+row_in s users database user = record { auth = s.auth_type; names = names_of s; admins = s.admin_users; lookers = s.stats_users; database = row_for database s.rows; user = user_named user users }
 
 -- ---- the dialogue's parts
 
@@ -142,9 +143,13 @@ is_right_for Md5 (Some row) salt user given = accepts_md5 row.secret user salt g
 abbrev pub is_right : LoginRow → KeyWord → StartKeyOf → Text → Bool
 is_right row word key given = is_right_for row.auth row.user word.salt key.user given
 
--- the console's users are the settings' admin users
-abbrev pub is_admin : LoginRow → Text → Bool
-is_admin row user = list_any (λ n. bytes_eq n user) row.admins
+-- the console's users: the settings' admin users, and beside them those who may look there and do nothing
+abbrev pub enters_console : LoginRow → Text → Bool
+enters_console row user = list_any (λ n. bytes_eq n user) row.admins || list_any (λ n. bytes_eq n user) row.lookers
+
+-- the client of this key names the console, and a user of it, whether it proves to be that one or not
+abbrev pub is_for_console : LoginRow → StartKeyOf → Bool
+is_for_console row key = bytes_eq key.row (codes "pgbouncer") && enters_console row key.user
 
 abbrev pub to_database : Option DbRow → StartKeyOf → Reacts
 to_database None key = Stops (no_database ∷ []) Failed
@@ -155,7 +160,7 @@ to_console true = Passes [] ToConsole
 to_console false = wrong
 
 abbrev pub admitted : LoginRow → StartKeyOf → Reacts
-admitted row key = if bytes_eq key.row (codes "pgbouncer") then to_console (is_admin row key.user) else to_database row.database key
+admitted row key = if bytes_eq key.row (codes "pgbouncer") then to_console (enters_console row key.user) else to_database row.database key
 
 abbrev pub judged : LoginRow → KeyWord → StartKeyOf → Text → Reacts
 judged row word key given = if is_right row word key given then admitted row key else wrong

@@ -25,7 +25,7 @@ use Rattle.login_core.specs.Talk.{Cut, says, follow, talk}
 use Rattle.login_core.specs.Talk.Cut.{Whole, Need, Bad}
 use Rattle.login_core.specs.Talk.Reaction.{Passes, Stops}
 use Rattle.login_core.specs.Talk.End.{Passed, Stopped}
-use Rattle.login_core.specs.Dialogue.{Rows, row_in, Reacts, Dialogue, Packet, First, Reason, Refused, Failed, Left, Cancelling, ToLink, ToConsole, Stage, AtFirst, Asked, packet, react, dialogue_from, login_among, key_of, asked, no_encryption, asks_cleartext, wrong_password, no_database, ok, wrong}
+use Rattle.login_core.specs.Dialogue.{Rows, row_in, Reacts, Dialogue, Packet, First, Reason, Refused, Failed, Left, Cancelling, ToLink, ToConsole, Stage, AtFirst, Asked, packet, react, dialogue_from, login_among, is_for_console, key_of, asked, no_encryption, asks_cleartext, wrong_password, no_database, ok, wrong}
 
 -- what it waits for: a packet, the word to go on, or nothing any more
 pub data Awaiting : Type 0 where
@@ -49,6 +49,11 @@ rows_of v = row_in v.settings v.users
 
 abbrev pub with_held : LoginView → List ℕ → LoginView
 with_held v held = login_view v.settings v.users v.word v.awaiting held
+
+-- a client has arrived and is to go on, by a key of the console's
+abbrev pub arrives_at_console : Rows → Awaiting → Bool
+arrives_at_console rows (Arriving key) = is_for_console (rows key.row key.user) key
+arrives_at_console rows _ = false
 
 -- ---- what is still said
 

@@ -168,13 +168,29 @@ impl Rules {
         }
     }
 
+    /// Whether the user of this key is one of the console's.
+    #[tactic(auto, unfolding(crate::specs::Dialogue::row_in))]
+    fn enters_console(&self, key: &StartKey) -> bool
+        ensures { result ≡ login.enters_console (rows_under self.now key.now.row key.now.user) key.now.user }
+    {
+        let user = key.user.as_slice();
+        self.settings.is_admin(user) | self.settings.may_look(user)
+    }
+
+    /// Whether the client of this key names the console, and a user of it.
+    pub(crate) fn is_for_console(&self, key: &StartKey) -> bool
+        ensures { result ≡ login.is_for_console (rows_under self.now key.now.row key.now.user) key.now }
+    {
+        key.row.is(b"pgbouncer") & self.enters_console(key)
+    }
+
     /// Where a client goes that proved who it is.
     #[tactic(auto, unfolding(crate::specs::Dialogue::row_in))]
     fn admit(&self, key: &StartKey) -> Verdict
         ensures { login.admitted (rows_under self.now key.now.row key.now.user) key.now ≡ verdict_of result key.now }
     {
         if key.row.is(b"pgbouncer") {
-            if self.settings.is_admin(key.user.as_slice()) {
+            if self.enters_console(key) {
                 return Verdict::ToConsole;
             }
             return Verdict::Wrong;

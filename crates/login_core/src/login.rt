@@ -2,7 +2,7 @@
 ghost use Rattle.std.specs.Prelude.{◌≡◌, ◌<◌, ◌≤◌, ◌+◌, ◌++◌, [], length, take, min, IfOk, false, vec_capacity};
 ghost use Rattle.std.specs.Arc.{arc_value};
 ghost use Rattle.login_core.specs.Dialogue.{AtFirst};
-ghost use Rattle.login_core.specs.Logins.{ArrivesOnce, StepMeans, AwaitsPacket, Over, awaiting_of, login_view, missing};
+ghost use Rattle.login_core.specs.Logins.{ArrivesOnce, StepMeans, AwaitsPacket, Over, arrives_at_console, awaiting_of, login_view, missing, rows_of};
 ghost use Rattle.login_core.specs.declared.steps.LoginStep.TheVariants.{Left};
 
 use crate::dialogue::{FIRST_HEAD, LONGEST_MESSAGE, Place, Rules, note_unsupported};
@@ -113,6 +113,17 @@ impl Login {
         match &self.unsupported {
             Some(name) => Some(name.as_slice()),
             None => None,
+        }
+    }
+
+    /// Whether the client that has arrived, and goes on at the next call, names the console and a user of it: one of `admin_users` or
+    /// of `stats_users`. It hasn't proved yet to be that one. False where none is to go on.
+    pub fn arrives_at_console(&self) -> bool
+        ensures { result ≡ arrives_at_console (rows_of self.now) self.now.awaiting }
+    {
+        match &self.place {
+            Place::Arriving(key) => self.rules.is_for_console(key),
+            Place::First { .. } | Place::Asked(_) | Place::Over => false,
         }
     }
 

@@ -18,7 +18,7 @@ use Rattle.key_laws.proofs.Choices.{choose}
 use Rattle.login_core.specs.Talk.{End, follow, on_cut, talk}
 use Rattle.login_core.specs.Talk.Reaction.{Goes, Passes, Stops}
 use Rattle.login_core.specs.Talk.End.{Unfinished, Passed, Stopped}
-use Rattle.login_core.specs.Dialogue.{LoginRow, Rows, Reason, Refused, Failed, Left, Cancelling, Way, Stage, AtFirst, Asked, Reacts, packet, of_first, of_front, longest_message, react, to_message, to_password, to_console, to_database, begins, asks, judged, admitted, is_right, is_admin, wrong, malformed, not_twice, key_of}
+use Rattle.login_core.specs.Dialogue.{LoginRow, Rows, Reason, Refused, Failed, Left, Cancelling, Way, Stage, AtFirst, Asked, Reacts, packet, of_first, of_front, longest_message, react, to_message, to_password, to_console, to_database, begins, asks, judged, admitted, is_right, enters_console, wrong, malformed, not_twice, key_of}
 use Rattle.login_laws.specs.Cancels.{CancelKeysAreSent, HasCancelRequest}
 
 -- ---- what ends otherwise
@@ -53,7 +53,7 @@ module _ (rows : Rows) (word : KeyWord) where
   judged_other : (row : LoginRow) (key : StartKeyOf) (given : Text) → IsOther (judged row word key given)
   judged_other row key given =
       choose IsOther (is_right row word key given) (admitted row key) wrong
-      (λ e. choose IsOther (bytes_eq key.row (codes "pgbouncer")) (to_console (is_admin row key.user)) (to_database row.database key) (λ f. console_other (is_admin row key.user)) (λ f. database_other row.database key)) (λ e. tt)
+      (λ e. choose IsOther (bytes_eq key.row (codes "pgbouncer")) (to_console (enters_console row key.user)) (to_database row.database key) (λ f. console_other (enters_console row key.user)) (λ f. database_other row.database key)) (λ e. tt)
 
   asks_other : (auth : AuthType) (row : LoginRow) (key : StartKeyOf) → IsOther (asks auth row word key)
   asks_other Trust row key = judged_other row key []

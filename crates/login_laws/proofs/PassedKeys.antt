@@ -25,7 +25,7 @@ use Rattle.login_core.specs.Talk.{Cut, End, Said, follow, on_cut, talk}
 use Rattle.login_core.specs.Talk.Cut.{Whole, Need, Bad}
 use Rattle.login_core.specs.Talk.Reaction.{Goes, Passes, Stops}
 use Rattle.login_core.specs.Talk.End.{Unfinished, Passed, Stopped}
-use Rattle.login_core.specs.Dialogue.{login_among, LoginRow, Rows, Reason, Left, Way, ToLink, ToConsole, Stage, AtFirst, Asked, Packet, First, Message, Reacts, packet, of_first, of_front, longest_message, react, to_first, to_password, to_console, to_database, begins, asks, judged, admitted, is_right, is_admin, wrong, malformed, not_twice, key_of, or_refusal}
+use Rattle.login_core.specs.Dialogue.{login_among, LoginRow, Rows, Reason, Left, Way, ToLink, ToConsole, Stage, AtFirst, Asked, Packet, First, Message, Reacts, packet, of_first, of_front, longest_message, react, to_first, to_password, to_console, to_database, begins, asks, judged, admitted, is_right, enters_console, wrong, malformed, not_twice, key_of, or_refusal}
 use Rattle.login_laws.specs.Laws.{AreLawfulRows, IsLinkKey, IsOfRow, PassedKeysAreLinkKeys, PassedKeysAreOfTheirRows}
 
 -- ---- the key of these pairs
@@ -189,7 +189,7 @@ module _ (rows : Rows) where
   judged-lawful : (row : LoginRow) (word : KeyWord) (key : StartKeyOf) (given : Text) → IsClientKey key → IsServed row.database key → row.database ≡ (rows key.row key.user).database → IsLawfulReaction (judged row word key given)
   judged-lawful row word key given h k of =
       choose IsLawfulReaction (is_right row word key given) (admitted row key) wrong
-      (λ e. choose IsLawfulReaction (bytes_eq key.row (codes "pgbouncer")) (to_console (is_admin row key.user)) (to_database row.database key) (λ f. to_console-lawful (is_admin row key.user)) (λ f. to_database-lawful row.database key h k of)) (λ e. tt)
+      (λ e. choose IsLawfulReaction (bytes_eq key.row (codes "pgbouncer")) (to_console (enters_console row key.user)) (to_database row.database key) (λ f. to_console-lawful (enters_console row key.user)) (λ f. to_database-lawful row.database key h k of)) (λ e. tt)
 
   asks-lawful : (auth : AuthType) (word : KeyWord) (key : StartKeyOf) → IsKey rows key → IsLawfulReaction (asks auth (rows key.row key.user) word key)
   asks-lawful Trust word key h = judged-lawful (rows key.row key.user) word key [] h.0 h.1 refl

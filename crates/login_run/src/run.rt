@@ -3,7 +3,7 @@ ghost use Rattle.std.specs.Prelude.{◌≡◌, ◌<◌, ◌≤◌, [], length, f
 ghost use Rattle.std.specs.Arc.{arc_value};
 ghost use Rattle.server_end.specs.Moves.{ClientReads, IsWithin, moved};
 ghost use Rattle.login_core.specs.Dialogue.{AtFirst};
-ghost use Rattle.login_core.specs.Logins.{AwaitsPacket};
+ghost use Rattle.login_core.specs.Logins.{AwaitsPacket, arrives_at_console, rows_of};
 ghost use Rattle.login_run.specs.Runs as spec;
 ghost use Rattle.login_run.specs.Runs.{IsRun, IsSameLogin, IsAllGiven, HasTurned, HasRead, HasWritten, said_bytes};
 
@@ -262,6 +262,14 @@ impl<C: ClientEnd> LoginRun<C> {
     /// The start key with which the client arrived, once it has.
     pub fn key(&self) -> Option<&Arc<StartKey>> {
         self.key.as_ref()
+    }
+
+    /// Whether the client that has arrived, and hasn't gone on yet, names the console and a user of it, so that it may use the places
+    /// of the console. It hasn't proved yet to be that one. False where none is to go on.
+    pub fn arrives_at_console(&self) -> bool
+        ensures { result ≡ arrives_at_console (rows_of self.now.login) self.now.login.awaiting }
+    {
+        self.login.arrives_at_console()
     }
 
     /// Takes it apart: the client's end, the login, and the key of a client that was let in.

@@ -80,7 +80,7 @@ impl<N: Naming> Outside for MemoryDial<N> {
 
     ghost home = { open_home N.catalogue };
 
-    fn dial(&self, _number: u64, _key: &StartKey) -> Option<MemoryServer> {
+    fn dial(&self, _number: u64, _key: &StartKey, _seconds: u32) -> Option<MemoryServer> {
         memory_servers_can_start();
         self.catalogue.is_lawful();
         let catalogue = Arc::try_clone(&self.catalogue).ok()?;

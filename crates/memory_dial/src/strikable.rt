@@ -98,7 +98,7 @@ impl<R: Wait + Drop, N: Naming> Outside for StrikableDial<R, N> {
 
     ghost home = { strikable_home N.catalogue };
 
-    fn dial(&self, _number: u64, _key: &StartKey) -> Option<MemoryServer> {
+    fn dial(&self, _number: u64, _key: &StartKey, _seconds: u32) -> Option<MemoryServer> {
         let mut strikers = self.strikers.lock(&self.rt);
         let server = self.server(next_word(strikers.len())?)?;
         strikers.push(server.striker().ok()?).ok()?;

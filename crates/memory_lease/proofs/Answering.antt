@@ -340,21 +340,22 @@ told_first dies limit bytes old new pieces n e d = inr (record {
 })
 
 unstarted_by : (dies : Option ℕ) (began now : Standing) (secret : Secret) (key : StartKeyOf) (word : KeyWord) (limit turns : ℕ) (bytes old new rest : List ℕ) (c : StartCause) (server : OwnOf) → began.follows ≡ true → began.accepted ≡ mark dies ∷ rest → IsLetIn began key secret
-    → IsStartCause began now secret key c → (c ≡ cause.Turns → HasTried began secret key now turns) → server.standing ≡ now → old ≡ [] → TellsCause c server old new → IsAnswer dies limit bytes new (own_pieces began.server.catalogue key word bytes)
-unstarted_by dies began now secret key word limit turns bytes old new rest (cause.Refused error) server f a l x h s n t = refused_start dies began secret key word limit bytes new error l (x.1 f) (t ∙ ap (λ (o : List ℕ). o ++ error) n)
-unstarted_by dies began now secret key word limit turns bytes old new rest cause.Lost server f a l x h s n t = told_first dies limit bytes old new _ n t.1.0 (dies_by dies began now x.sent x.received rest server a x.moves s t.1.1)
-unstarted_by dies began now secret key word limit turns bytes old new rest (cause.Unanswerable question) server f a l x h s n t = told_first dies limit bytes old new _ n t.1.0 (dies_by dies began now x.0.sent x.0.received rest server a x.0.moves s t.1.1)
-unstarted_by dies began now secret key word limit turns bytes old new rest cause.Unexpected server f a l x h s n t = told_first dies limit bytes old new _ n t.1.0 (dies_by dies began now x.0.sent x.0.received rest server a x.0.moves s t.1.1)
-unstarted_by dies began now secret key word limit turns bytes old new rest cause.Turns server f a l x h s n t =
+    → IsStartCause began now secret key c → (c ≡ cause.Turns → HasTried began secret key now turns) → (c ≡ cause.Late → false ≡ true) → server.standing ≡ now → old ≡ [] → TellsCause c server old new → IsAnswer dies limit bytes new (own_pieces began.server.catalogue key word bytes)
+unstarted_by dies began now secret key word limit turns bytes old new rest (cause.Refused error) server f a l x h u s n t = refused_start dies began secret key word limit bytes new error l (x.1 f) (t ∙ ap (λ (o : List ℕ). o ++ error) n)
+unstarted_by dies began now secret key word limit turns bytes old new rest cause.Lost server f a l x h u s n t = told_first dies limit bytes old new _ n t.1.0 (dies_by dies began now x.sent x.received rest server a x.moves s t.1.1)
+unstarted_by dies began now secret key word limit turns bytes old new rest (cause.Unanswerable question) server f a l x h u s n t = told_first dies limit bytes old new _ n t.1.0 (dies_by dies began now x.0.sent x.0.received rest server a x.0.moves s t.1.1)
+unstarted_by dies began now secret key word limit turns bytes old new rest cause.Unexpected server f a l x h u s n t = told_first dies limit bytes old new _ n t.1.0 (dies_by dies began now x.0.sent x.0.received rest server a x.0.moves s t.1.1)
+unstarted_by dies began now secret key word limit turns bytes old new rest cause.Turns server f a l x h u s n t =
     told_first dies limit bytes old new _ n t.1.0 (dies_by dies began now (h refl).starting.sent (h refl).received rest server a (h refl).starting.moves s t.1.1)
-unstarted_by dies began now secret key word limit turns bytes old new rest cause.Memory server f a l x h s n t = absurd (t.0 refl)
+unstarted_by dies began now secret key word limit turns bytes old new rest cause.Late server f a l x h u s n t = absurd (true≢false (sym (u refl)))
+unstarted_by dies began now secret key word limit turns bytes old new rest cause.Memory server f a l x h u s n t = absurd (t.0 refl)
 
 -- what a client is told whose link wasn't started
 pub unstarted : (dies : Option ℕ) (start : Standing) (first_own server : OwnOf) (secret : Secret) (key : StartKeyOf) (word : KeyWord) (limit turns : ℕ) (bytes old new : List ℕ) (c : StartCause) → first_own ≡ own_server dies start → start.follows ≡ true → IsLetIn start key secret
-    → IsStartCause first_own.standing server.standing secret key c → (c ≡ cause.Turns → HasTried first_own.standing secret key server.standing turns) → old ≡ [] → TellsCause c server old new → IsAnswer dies limit bytes new (own_pieces start.server.catalogue key word bytes)
-unstarted dies start first_own server secret key word limit turns bytes old new c o f l x h n t =
+    → IsStartCause first_own.standing server.standing secret key c → (c ≡ cause.Turns → HasTried first_own.standing secret key server.standing turns) → (c ≡ cause.Late → false ≡ true) → old ≡ [] → TellsCause c server old new → IsAnswer dies limit bytes new (own_pieces start.server.catalogue key word bytes)
+unstarted dies start first_own server secret key word limit turns bytes old new c o f l x h u n t =
     unstarted_by dies (marked dies start) server.standing secret key word limit turns bytes old new start.accepted c server f refl l (subst (λ (y : OwnOf). IsStartCause y.standing server.standing secret key c) o x)
-    (λ e. subst (λ (y : OwnOf). HasTried y.standing secret key server.standing turns) o (h e)) refl n t
+    (λ e. subst (λ (y : OwnOf). HasTried y.standing secret key server.standing turns) o (h e)) u refl n t
 
 -- a start may begin as one of the server alone
 pub can_start : (dies : Option ℕ) (start : Standing) (first_own : OwnOf) → first_own ≡ own_server dies start → IsStartable start → CanStart first_own.standing

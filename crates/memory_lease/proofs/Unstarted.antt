@@ -27,20 +27,21 @@ counted_out began now lost f (inr w) = w
 counted_out began now (inl dead) f (inl lives) = absurd (true≢false (sym lives ∙ dead))
 counted_out began now (inr more) f (inl lives) = absurd (omega (arith, more, f))
 
-because_of : (began now : Standing) (secret : Secret) (key : StartKeyOf) (c : StartCause) (r : Refusal) → began.follows ≡ true → IsStartCause began now secret key c → (c ≡ cause.Turns → HasTried began secret key now START_TURNS) → refusal_of c ≡ told.Refusal r → r ≢ OutOfMemory → now.faults ≡ 0 → StillWaits now
+because_of : (began now : Standing) (secret : Secret) (key : StartKeyOf) (c : StartCause) (r : Refusal) → began.follows ≡ true → IsStartCause began now secret key c → (c ≡ cause.Turns → HasTried began secret key now START_TURNS) → (c ≡ cause.Late → false ≡ true) → refusal_of c ≡ told.Refusal r → r ≢ OutOfMemory → now.faults ≡ 0 → StillWaits now
     → IsUnanswerable secret key.user (auth_of began.stage) ⊎ ((START_TURNS + waits_of began ≤ waits_of now) ⊎ (now.read_waits ≡ LAST_COUNT))
-because_of began now secret key (cause.Refused error) r f x h e n z w = absurd cc
-because_of began now secret key cause.Lost r f x h e n z w = inr (inr (counted_out began now x.says z w))
-because_of began now secret key (cause.Unanswerable question) r f x h e n z w = inl (x.1 f)
-because_of began now secret key cause.Unexpected r f x h e n z w = absurd (x.1 f)
-because_of began now secret key cause.Turns r f x h e n z w = inr (inl (h refl).tries)
-because_of began now secret key cause.Memory r f x h e n z w = absurd (n cc)
+because_of began now secret key (cause.Refused error) r f x h l e n z w = absurd cc
+because_of began now secret key cause.Lost r f x h l e n z w = inr (inr (counted_out began now x.says z w))
+because_of began now secret key (cause.Unanswerable question) r f x h l e n z w = inl (x.1 f)
+because_of began now secret key cause.Unexpected r f x h l e n z w = absurd (x.1 f)
+because_of began now secret key cause.Turns r f x h l e n z w = inr (inl (h refl).tries)
+because_of began now secret key cause.Late r f x h l e n z w = absurd (true≢false (sym (l refl)))
+because_of began now secret key cause.Memory r f x h l e n z w = absurd (n cc)
 
 pub unserved : (dies : Option ℕ) (start : Standing) (first_own server : OwnOf) (secret : Secret) (key : StartKeyOf) (bytes : List ℕ) (c : StartCause) (error : ServeError) → first_own ≡ own_server dies start → start.follows ≡ true → IsStartCause first_own.standing server.standing secret key c
-    → (c ≡ cause.Turns → HasTried first_own.standing secret key server.standing START_TURNS) → IsHandedBack c server error → IsUnserved start secret key bytes error
-unserved dies start first_own server secret key bytes c Memory o f x h b = tt
-unserved dies start first_own server secret key bytes c (Unended last) o f x h b = absurd b
-unserved dies start first_own server secret key bytes c (Unstarted last) o f x h b =
+    → (c ≡ cause.Turns → HasTried first_own.standing secret key server.standing START_TURNS) → (c ≡ cause.Late → false ≡ true) → IsHandedBack c server error → IsUnserved start secret key bytes error
+unserved dies start first_own server secret key bytes c Memory o f x h l b = tt
+unserved dies start first_own server secret key bytes c (Unended last) o f x h l b = absurd b
+unserved dies start first_own server secret key bytes c (Unstarted last) o f x h l b =
     let waits = b.1.1.1 in
     let now : Standing = (own_server last.left last.standing).standing in
     let cause_now : IsStartCause (marked dies start) now secret key c = subst (λ (q : OwnOf). IsStartCause (marked dies start) q.standing secret key c) (sym waits.same) (subst (λ (y : OwnOf). IsStartCause y.standing server.standing secret key c) o x) in
@@ -48,5 +49,5 @@ unserved dies start first_own server secret key bytes c (Unstarted last) o f x h
     let still : StillWaits now = subst (λ (q : OwnOf). StillWaits q.standing) (sym waits.same) waits.waits in
     record {
       waits = still;
-      because = because_of (marked dies start) now secret key c b.0 f cause_now tried b.1.0 b.1.1.0 (ap (λ (q : OwnOf). q.standing.faults) waits.same ∙ waits.faults) still;
+      because = because_of (marked dies start) now secret key c b.0 f cause_now tried l b.1.0 b.1.1.0 (ap (λ (q : OwnOf). q.standing.faults) waits.same ∙ waits.faults) still;
     }

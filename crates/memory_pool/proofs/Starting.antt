@@ -42,6 +42,7 @@ unstarted cat began now secret key (cause.Unanswerable question) n x = tt
 unstarted cat began now secret key cause.Unexpected n x = tt
 unstarted cat began now secret key cause.Memory n x = tt
 unstarted cat began now secret key cause.Turns n x = tt
+unstarted cat began now secret key cause.Late n x = tt
 
 -- what its client is answered
 refusal_so : (cat : CatalogueOf) (key : StartKeyOf) (c : StartCause) (t : Taken) → IsUnstarted cat key c → IsStartRefusal c t → IsTaken cat key t
@@ -51,12 +52,14 @@ refusal_so cat key (cause.Unanswerable question) (taken.Failed told) u x = absur
 refusal_so cat key cause.Unexpected (taken.Failed told) u x = absurd x
 refusal_so cat key cause.Memory (taken.Failed told) u x = absurd x
 refusal_so cat key cause.Turns (taken.Failed told) u x = absurd x
+refusal_so cat key cause.Late (taken.Failed told) u x = absurd x
 refusal_so cat key (cause.Refused error) (taken.Link l) u x = absurd x
 refusal_so cat key cause.Lost (taken.Link l) u x = absurd x
 refusal_so cat key (cause.Unanswerable question) (taken.Link l) u x = absurd x
 refusal_so cat key cause.Unexpected (taken.Link l) u x = absurd x
 refusal_so cat key cause.Memory (taken.Link l) u x = absurd x
 refusal_so cat key cause.Turns (taken.Link l) u x = absurd x
+refusal_so cat key cause.Late (taken.Link l) u x = absurd x
 refusal_so cat key c (taken.Refused refusal) u x = tt
 refusal_so cat key c taken.Waits u x = tt
 refusal_so cat key c taken.Strange u x = tt

@@ -10,6 +10,7 @@ ghost use Rattle.login_core.specs.Logins.{AwaitsPacket, login_view};
 ghost use Rattle.memory_pool.specs.MemoryPools.{IsAtHome, IsBroughtHome, IsNewServer, IsServerOf, IsTaken, IsUnstarted, IsStartRefusal, memory_pool_of};
 
 use crate::answers::{Answer, Taken};
+use book_model::events::Beyond;
 use book_model::settings::limits_of;
 use ini_config::Settings;
 use lease_book::book::Book;
@@ -166,11 +167,12 @@ impl MemoryPool {
         self.book.apply(PASS, event)
     }
 
-    /// A client comes: it has a number, or is refused.
+    /// A client of a database comes: it has a number, or is refused.
     pub fn arrive(&mut self) -> Answer
         ensures { self.new ≡ self.old }
     {
-        match self.tell(Event::Arrive) {
+        let beyond = Beyond::Nothing;
+        match self.tell(Event::Arrive { beyond }) {
             Reply::Client(number) => Answer::Number(number),
             Reply::Refuse(refusal, _) => Answer::Refused(refusal),
             _ => Answer::Strange,

@@ -13,7 +13,7 @@ use std::collections::VecDeque;
 use std::marker::Model;
 
 /// The most rows that there can be.
-pub const ROWS: usize = 10_000;
+pub const ROWS: usize = 10_080;
 
 /// So many slots are there: the more, the less often the empty ones are given up.
 const SLOTS: usize = 16_384;

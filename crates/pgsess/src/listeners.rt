@@ -75,6 +75,43 @@ pub fn listen_at_addresses<R: Net>(
     Ok(())
 }
 
+/// Listens for who asks for the pool's figures, at each address and name of the settings for that. Where one can't be had the pool goes on
+/// without it, and its log says so. The only error is that an allocation failed.
+pub fn listen_for_metrics<R: Net>(
+    rt: &R,
+    alloc: Global,
+    settings: &Settings,
+    listening: &mut Listening,
+) -> io::Result<()> {
+    let port = settings.metrics_port();
+    for name in settings.metrics_addr().as_slice() {
+        if let Err(error) = listen_for_metrics_at(rt, alloc, name.as_bytes(), port, listening) {
+            listening.miss_metrics(alloc, name.as_bytes(), port, error)?;
+        }
+    }
+    Ok(())
+}
+
+/// The same at all addresses of a name.
+fn listen_for_metrics_at<R: Net>(
+    rt: &R,
+    alloc: Global,
+    name: &[u8],
+    port: u16,
+    listening: &mut Listening,
+) -> io::Result<()> {
+    let Ok(text) = std::str::from_utf8(name) else {
+        return Err(io::Error::from(ErrorKind::InvalidInput));
+    };
+    for address in (text, port).to_socket_addrs(rt)? {
+        let listener = TcpListener::bind(rt, address)?;
+        let shown = format!(in alloc; "{}", address.ip())?;
+        let is_local = address.ip().is_loopback();
+        listening.add_metrics(alloc, listener, is_local, shown.as_bytes(), port)?;
+    }
+    Ok(())
+}
+
 /// Listens in the folder of the settings, if there is one; the socket's file. Where it can't be had the pool goes on without it, and its
 /// log says so. The only error is that an allocation failed.
 pub fn listen_in_folder(

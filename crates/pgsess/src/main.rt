@@ -8,7 +8,7 @@ ghost use Rattle.pgsess.specs.Statuses as spec;
 mod listeners;
 mod socket_file;
 
-use crate::listeners::{listen_at_addresses, listen_in_folder};
+use crate::listeners::{listen_at_addresses, listen_for_metrics, listen_in_folder};
 use crate::socket_file::SocketFile;
 use ini_config::Settings;
 use mio::net::TcpListener;
@@ -104,6 +104,7 @@ fn serve<'a, R: Print + PoolRuntime + 'static>(
     source.socket = listen_in_folder(&host, alloc, &inputs.settings, &mut listening).map_err(
         |_| AppFault::Memory,
     )?;
+    listen_for_metrics(&rt, alloc, &inputs.settings, &mut listening).map_err(|_| AppFault::Memory)?;
     // that nobody reads it is no reason not to serve
     let _ = listening.print(&rt);
     let Inputs {

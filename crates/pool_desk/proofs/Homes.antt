@@ -39,7 +39,7 @@ home_found home (Some n) links h = home_find home (is_numbered n) links h
 
 module _ {E : Type 0} where
   home_after : (home : HomeOf) (e : Event E) (r : ListsReply) (idle : List LinkView) → AreAtHome home idle → IfSome (brought e) (IsAtHome home) → AreAtHome home (idle_after e r idle)
-  home_after home event.Arrive r idle h b = home_left home (goes_out r) idle h
+  home_after home (event.Arrive beyond) r idle h b = home_left home (goes_out r) idle h
   home_after home (event.Ask client key again) r idle h b = home_left home (goes_out r) idle h
   home_after home (event.Take client) r idle h b = home_left home (goes_out r) idle h
   home_after home (event.GiveBack l) r idle h b = go (is_done r)
@@ -55,13 +55,14 @@ module _ {E : Type 0} where
   home_after home event.Pause r idle h b = home_left home (goes_out r) idle h
   home_after home event.Resume r idle h b = home_left home (goes_out r) idle h
   home_after home event.Shutdown r idle h b = home_left home (goes_out r) idle h
+  home_after home event.Reconnect r idle h b = home_left home (goes_out r) idle h
   home_after home (event.Keyed n client server) r idle h b = home_left home (goes_out r) idle h
   home_after home (event.Cancel client) r idle h b = home_left home (goes_out r) idle h
   home_after home (event.EndLease n) r idle h b = home_left home (goes_out r) idle h
   home_after home (event.HungUp n) r idle h b = home_left home (goes_out r) idle h
 
   home_handed : (home : HomeOf) (e : Event E) (r : ListsReply) (idle : List LinkView) → AreAtHome home idle → IfSome (brought e) (IsAtHome home) → IfSome (handed_after e r idle) (IsAtHome home)
-  home_handed home event.Arrive r idle h b = home_found home (goes_out r) idle h
+  home_handed home (event.Arrive beyond) r idle h b = home_found home (goes_out r) idle h
   home_handed home (event.Ask client key again) r idle h b = home_found home (goes_out r) idle h
   home_handed home (event.Take client) r idle h b = home_found home (goes_out r) idle h
   home_handed home (event.GiveBack l) r idle h b = go (is_done r)
@@ -77,6 +78,7 @@ module _ {E : Type 0} where
   home_handed home event.Pause r idle h b = home_found home (goes_out r) idle h
   home_handed home event.Resume r idle h b = home_found home (goes_out r) idle h
   home_handed home event.Shutdown r idle h b = home_found home (goes_out r) idle h
+  home_handed home event.Reconnect r idle h b = home_found home (goes_out r) idle h
   home_handed home (event.Keyed n client server) r idle h b = home_found home (goes_out r) idle h
   home_handed home (event.Cancel client) r idle h b = home_found home (goes_out r) idle h
   home_handed home (event.EndLease n) r idle h b = home_found home (goes_out r) idle h
@@ -90,7 +92,7 @@ module _ {E : Type 0} where
 
   -- a link that is given back comes back as its reply says
   pub handed_of_return : (e : Event E) (r : ListsReply) (idle : List LinkView) → IfSome (brought e) (λ l. handed_after e r idle ≡ handed_back l r)
-  handed_of_return event.Arrive r idle = tt
+  handed_of_return (event.Arrive beyond) r idle = tt
   handed_of_return (event.Ask client key again) r idle = tt
   handed_of_return (event.Take client) r idle = tt
   handed_of_return (event.GiveBack l) r idle = refl
@@ -102,6 +104,7 @@ module _ {E : Type 0} where
   handed_of_return event.Pause r idle = tt
   handed_of_return event.Resume r idle = tt
   handed_of_return event.Shutdown r idle = tt
+  handed_of_return event.Reconnect r idle = tt
   handed_of_return (event.Keyed n client server) r idle = tt
   handed_of_return (event.Cancel client) r idle = tt
   handed_of_return (event.EndLease n) r idle = tt

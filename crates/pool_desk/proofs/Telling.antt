@@ -1,5 +1,5 @@
 -- What a pass tells follows the book's counts.
-use Rattle.std.proofs.Common.{◌≡◌, ℕ, suc, Bool, true, false, cond, not, ◌||◌, ◌==◌, nat_lt, length, find, List, Option, None, Some, inl, inr, refl, sym, ap, ◌∙◌, subst, arith}
+use Rattle.std.proofs.Common.{◌≡◌, ℕ, suc, ◌+◌, Bool, true, false, cond, not, ◌||◌, ◌==◌, nat_lt, length, find, List, Option, None, Some, inl, inr, refl, sym, ap, ◌∙◌, subst, arith}
 use native.Mathlib.Numerals.{unary_clauses}
 use Rattle.std.specs.Arc.{arc_value}
 use Rattle.std.proofs.lemmas.Bool.{true≢false}
@@ -7,12 +7,12 @@ use Rattle.message_view.specs.declared.refusal.Refusal.TheVariants.{LastDecision
 use Rattle.message_view.specs.declared.views.KeyView.{KeyView}
 use Rattle.std.specs.List.{list_any}
 use Rattle.session_values.specs.State.{StartKeyOf}
-use Rattle.book_model.specs.Book.{Book, Lease, Link, Ticket, in_pool, is_link, is_number, is_of, is_of_client, latest_of, link_count, pool_count, pool_size, waiting_before}
+use Rattle.book_model.specs.Book.{Book, Lease, Link, Ticket, in_pool, is_link, is_number, is_of, is_of_client, lendable, link_count, places_beyond, pool_count, pool_size, waiting_before}
 use Rattle.book_model.specs.Outcomes.{Answer, Event, apply, apply_return, at_clock, cancels, closes, counted, decided, ends_lease, evicts, gives_back, grants, hangs_up, has_waited, is_crowded, is_old, is_stale, is_started_as, is_strange, kind_of, last_decision, outcome, raised, strikes, strikes_at, takes}
-use Rattle.book_model.specs.Outcomes.Event.{Arrive, Ask, Take, GiveBack, Lost, StartFailed, Leave, Tick, NewLimits, Pause, Resume, Shutdown, Keyed, Cancel, EndLease, HungUp}
+use Rattle.book_model.specs.Outcomes.Event.{Arrive, Ask, Take, GiveBack, Lost, StartFailed, Leave, Tick, NewLimits, Pause, Resume, Shutdown, Reconnect, Keyed, Cancel, EndLease, HungUp}
 use Rattle.book_model.specs.declared.counts.Counts.{Counts}
 use Rattle.book_model.specs.declared.counts.Kind.{Kind}
-use Rattle.book_model.specs.declared.counts.Kind.TheVariants.{Arrival, ArrivalRefused, Asking, AskRefused, Grant, TicketLost, Return, Loss, FailedStart, Leaving, Ticking, Limiting, Pausing, Resuming, Closing, Keying, Cancelling, LeaseEnding, HangUp}
+use Rattle.book_model.specs.declared.counts.Kind.TheVariants.{Arrival, ArrivalRefused, Asking, AskRefused, Grant, TicketLost, Return, Loss, FailedStart, Leaving, Ticking, Limiting, Pausing, Resuming, Closing, Keying, Cancelling, LeaseEnding, HangUp, Reconnecting}
 use Rattle.book_model.specs.declared.events.Reply.{Reply}
 use Rattle.book_model.specs.declared.events.Reply.TheVariants.{Refuse, Done, Stranger, Dispose, Reset}
 use Rattle.book_model.proofs.KeepingLists.{not_found}
@@ -76,6 +76,7 @@ class_raised Keying c = with_others (class_counts c) _ _ (omega arith)
 class_raised Cancelling c = with_others (class_counts c) _ _ (omega arith)
 class_raised LeaseEnding c = with_others (class_counts c) _ _ (omega arith)
 class_raised HangUp c = with_others (class_counts c) _ _ (omega arith)
+class_raised Reconnecting c = with_others (class_counts c) _ _ (omega arith)
 
 class_counted : (b : Book) (k : Option Kind) → class_counts (counted b k).counts ≡ one_more k (class_counts b.counts)
 class_counted b None = refl
@@ -103,6 +104,7 @@ one_more_is (Some Keying) m = simp unary_clauses refl
 one_more_is (Some Cancelling) m = simp unary_clauses refl
 one_more_is (Some LeaseEnding) m = simp unary_clauses refl
 one_more_is (Some HangUp) m = simp unary_clauses refl
+one_more_is (Some Reconnecting) m = simp unary_clauses refl
 
 added : (a b n : Made) (m : Made) → sum_of a m ≡ sum_of b (sum_of m n) → a ≡ sum_of b n
 added a b n m h =
@@ -147,7 +149,7 @@ fits_takes b c t =
     both (Fits b (Take c)) b.is_shut _ _ (record { counts = refl; tells = λ p. (refl, tt) })
     (both (Fits b (Take c)) (has_waited b t) _ _ (record { counts = refl; tells = λ p. (refl, tt) })
     (both (Fits b (Take c)) (b.is_paused || not (waiting_before t.key t.client b.tickets == 0)) _ _ (record { counts = refl; tells = λ p. refl })
-    (fits_grants b c t (latest_of t.key b.idle))))
+    (fits_grants b c t (lendable b.fresh_from t.key b.idle))))
 
 not_strange : (b : Bool) → not b ≡ false → b ≡ true
 not_strange true e = refl
@@ -191,9 +193,9 @@ fits_ended b n true = record { counts = refl; tells = λ p. refl }
 fits_ended b n false = record { counts = refl; tells = λ p. refl }
 
 fits : (b : Book) (e : Event) → is_strange b e ≡ false → Fits b e (outcome b e)
-fits b Arrive known =
-    both (Fits b Arrive) b.is_shut _ _ (record { counts = refl; tells = λ p. (refl, tt) })
-    (both (Fits b Arrive) (nat_lt (length b.clients) b.limits.max_clients) _ _ (record { counts = refl; tells = λ p. refl }) (record { counts = refl; tells = λ p. (refl, tt) }))
+fits b (Arrive beyond) known =
+    both (Fits b (Arrive beyond)) b.is_shut _ _ (record { counts = refl; tells = λ p. (refl, tt) })
+    (both (Fits b (Arrive beyond)) (nat_lt (length b.clients) (b.limits.max_clients + places_beyond beyond)) _ _ (record { counts = refl; tells = λ p. refl }) (record { counts = refl; tells = λ p. (refl, tt) }))
 fits b (Ask c key) known = both (Fits b (Ask c key)) b.is_shut _ _ (record { counts = refl; tells = λ p. (refl, tt) }) (record { counts = refl; tells = λ p. refl })
 fits b (Take c) known = fits_taken b c (find (is_of c) b.tickets) refl known
 fits b (GiveBack n) known = fits_given b n (find (is_link n) b.lent) refl known
@@ -205,6 +207,7 @@ fits b (NewLimits l) known = record { counts = refl; tells = λ p. refl }
 fits b Pause known = record { counts = refl; tells = λ p. refl }
 fits b Resume known = record { counts = refl; tells = λ p. refl }
 fits b Shutdown known = record { counts = refl; tells = λ p. refl }
+fits b Reconnect known = record { counts = refl; tells = λ p. refl }
 fits b (Keyed n client server) known = record { counts = refl; tells = λ p. refl }
 fits b (Cancel client) known = fits_cancels b client (find (is_of_client client) b.keyed)
 fits b (EndLease n) known = fits_ended b n (list_any (is_number n) b.marked)
@@ -221,7 +224,7 @@ counted_last : (b : Book) (e : Event) → Counted b e (record { book = b; reply 
 counted_last b e = record { kind = None; counts = refl; tells = last e }
   where
     last : (e : Event) (p : PassOf) → Tells e (Refuse LastDecision) p (passed None (Refuse LastDecision) p)
-    last Arrive p = (refl, tt)
+    last (Arrive beyond) p = (refl, tt)
     last (Ask c key) p = (refl, tt)
     last (Take c) p = (refl, tt)
     last (GiveBack n) p = refl
@@ -233,6 +236,7 @@ counted_last b e = record { kind = None; counts = refl; tells = last e }
     last Pause p = refl
     last Resume p = refl
     last Shutdown p = refl
+    last Reconnect p = refl
     last (Keyed n client server) p = refl
     last (Cancel client) p = refl
     last (EndLease n) p = refl
@@ -242,7 +246,7 @@ counted_strange : (b : Book) (e : Event) → is_strange b e ≡ true → Counted
 counted_strange b e is = record { kind = None; counts = refl; tells = strange e is }
   where
     strange : (e : Event) → is_strange b e ≡ true → (p : PassOf) → Tells e Stranger p (passed None Stranger p)
-    strange Arrive is p = absurd (true≢false (sym is))
+    strange (Arrive beyond) is p = absurd (true≢false (sym is))
     strange (Ask c key) is p = refl
     strange (Take c) is p = refl
     strange (GiveBack n) is p = refl
@@ -254,6 +258,7 @@ counted_strange b e is = record { kind = None; counts = refl; tells = strange e 
     strange Pause is p = absurd (true≢false (sym is))
     strange Resume is p = absurd (true≢false (sym is))
     strange Shutdown is p = absurd (true≢false (sym is))
+    strange Reconnect is p = absurd (true≢false (sym is))
     strange (Keyed n client server) is p = refl
     strange (Cancel client) is p = absurd (true≢false (sym is))
     strange (EndLease n) is p = refl
@@ -290,7 +295,7 @@ counted_return b n key born = by_last (b.decisions == last_decision)
 
 module _ {E : Type 0} where
   counted_event : (b : Book) (e : LinkEvent E) → Counted b (plain e) (answered b e)
-  counted_event b event.Arrive = counted_apply b Arrive
+  counted_event b (event.Arrive beyond) = counted_apply b (Arrive beyond)
   counted_event b (event.Ask client key again) = counted_apply b (Ask client (arc_value key))
   counted_event b (event.Take client) = counted_apply b (Take client)
   counted_event b (event.GiveBack l) = counted_return b l.number l.key l.born
@@ -302,6 +307,7 @@ module _ {E : Type 0} where
   counted_event b event.Pause = counted_apply b Pause
   counted_event b event.Resume = counted_apply b Resume
   counted_event b event.Shutdown = counted_apply b Shutdown
+  counted_event b event.Reconnect = counted_apply b Reconnect
   counted_event b (event.Keyed n client server) = counted_apply b (Keyed n client server)
   counted_event b (event.Cancel client) = counted_apply b (Cancel client)
   counted_event b (event.EndLease n) = counted_apply b (EndLease n)

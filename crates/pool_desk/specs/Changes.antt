@@ -42,4 +42,5 @@ module _ {E : Type 0} where
   is_change event.Pause = true
   is_change event.Resume = true
   is_change event.Shutdown = true
+  is_change event.Reconnect = true
   is_change _ = false

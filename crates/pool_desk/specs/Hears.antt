@@ -15,7 +15,7 @@ use Rattle.link_desk.specs.declared.calls.Stage.TheVariants.{Granted, Keyed, End
 module _ {E : Type 0} where
   -- the call that an event is
   abbrev pub call_of : Event E → Call
-  call_of event.Arrive = call.Arrive
+  call_of (event.Arrive beyond) = call.Arrive beyond
   call_of (event.Ask client key again) = call.Ask client
   call_of (event.Take client) = call.Take client
   call_of (event.GiveBack link) = call.GiveBack link.number
@@ -31,6 +31,7 @@ module _ {E : Type 0} where
   call_of event.Pause = call.Pause
   call_of event.Resume = call.Resume
   call_of event.Shutdown = call.Shutdown
+  call_of event.Reconnect = call.Reconnect
 
   -- what a cancel is for that is to be sent by a reply
   abbrev pub target_in : Reply E → Option Target
@@ -39,8 +40,8 @@ module _ {E : Type 0} where
 
   -- by the call and its reply: each call is the last, but for a client's that waits on
   abbrev pub heard : Holder → Call → Reply E → Holder
-  heard h call.Arrive (reply.Client n) = record h { client = Some n; refused = None; last = Some call.Arrive }
-  heard h call.Arrive (reply.Refuse refusal back) = record h { refused = Some refusal; last = Some call.Arrive }
+  heard h (call.Arrive beyond) (reply.Client n) = record h { client = Some n; refused = None; last = Some (call.Arrive beyond) }
+  heard h (call.Arrive beyond) (reply.Refuse refusal back) = record h { refused = Some refusal; last = Some (call.Arrive beyond) }
   heard h (call.Ask client) (reply.Refuse refusal back) = record h { refused = Some refusal; last = Some (call.Ask client) }
   heard h (call.Take client) (reply.Refuse refusal back) = record h { refused = Some refusal; last = Some (call.Take client) }
   heard h (call.Take client) (reply.Queued before) = h

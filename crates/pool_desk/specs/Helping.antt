@@ -3,7 +3,7 @@ use Rattle.std.specs.Prelude.{◌≡◌, ◌%◌, ℕ, Bool, List, Option, Some,
 use Rattle.session_values.specs.State.{StartKeyOf}
 use Rattle.book_model.specs.Book.{Book}
 use Rattle.book_model.specs.Outcomes.{Event}
-use Rattle.book_model.specs.Outcomes.Event.{Arrive, Ask, Take, GiveBack, Lost, StartFailed, Leave, Keyed, Cancel, EndLease, HungUp}
+use Rattle.book_model.specs.Outcomes.Event.{Arrive, Ask, Take, GiveBack, Lost, StartFailed, Leave, Reconnect, Keyed, Cancel, EndLease, HungUp}
 use Rattle.book_register.specs.Waking.{is_full, waiting_behind, waiting_for}
 use Rattle.book_rows.specs.Waiting.{longest_waiting}
 use Rattle.pool_desk.specs.declared.bells.TheConstants.{BELLS}
@@ -23,7 +23,7 @@ abbrev pub helped_by_link : Book → ℕ → Helps
 helped_by_link b link = cond (is_full b) helps.FirstOfEach (one_or_nobody (waiting_for b link))
 
 abbrev pub helped_by : Book → Event → Helps
-helped_by b Arrive = helps.Nobody
+helped_by b (Arrive beyond) = helps.Nobody
 helped_by b (Ask client key) = helps.Nobody
 helped_by b (Take client) = helped_behind b client
 helped_by b (Leave client) = helped_behind b client
@@ -35,6 +35,8 @@ helped_by b (Cancel client) = helps.Nobody
 helped_by b (EndLease link) = helps.Nobody
 -- beside an idle link only those wait whose pools have no room without it either
 helped_by b (HungUp link) = helps.Nobody
+-- who waits had no idle link that it might be lent, and nothing else is changed for it
+helped_by b Reconnect = helps.Nobody
 helped_by b _ = helps.All
 
 -- this client's bell is among the chosen

@@ -2,7 +2,7 @@
 use Rattle.std.specs.Prelude.{◌≡◌, ◌⊎◌, Bool, true, false}
 use Rattle.message_view.specs.declared.refusal.Refusal.TheVariants.{LastDecision}
 use Rattle.book_model.specs.Outcomes.{Event}
-use Rattle.book_model.specs.Outcomes.Event.{Arrive, Ask, Take, GiveBack, Lost, StartFailed, Leave, Tick, NewLimits, Pause, Resume, Shutdown, Keyed, Cancel, EndLease, HungUp}
+use Rattle.book_model.specs.Outcomes.Event.{Arrive, Ask, Take, GiveBack, Lost, StartFailed, Leave, Tick, NewLimits, Pause, Resume, Shutdown, Reconnect, Keyed, Cancel, EndLease, HungUp}
 use Rattle.book_model.specs.declared.events.Reply.{Reply}
 use Rattle.book_model.specs.declared.events.Reply.TheVariants.{Arrived, Queued, Lend, Start, Close, Refuse, Done, Stranger, Strike, Nobody, Reset, Dispose}
 use Rattle.desk_tallies.specs.Passes.{PassOf, after_refusal, broken, one_arrived, one_given_back, one_granted, one_left, one_lost, one_other}
@@ -18,8 +18,8 @@ breaks _ = false
 -- by the event and its reply; a refusal is one of the call's, a tick that is done may be a decision or none, and to no event are other
 -- replies given
 abbrev pub Tells : Event → Reply → PassOf → PassOf → Type 0
-Tells Arrive (Arrived n) p q = q ≡ one_arrived p
-Tells Arrive (Refuse refusal) p q = (q ≡ after_refusal p refusal) × RefusesArrival refusal
+Tells (Arrive beyond) (Arrived n) p q = q ≡ one_arrived p
+Tells (Arrive beyond) (Refuse refusal) p q = (q ≡ after_refusal p refusal) × RefusesArrival refusal
 Tells (Ask client key) (Queued n) p q = q ≡ one_other p
 Tells (Ask client key) (Refuse refusal) p q = (q ≡ after_refusal p refusal) × RefusesAsking refusal
 Tells (Ask client key) Stranger p q = q ≡ broken p
@@ -52,6 +52,8 @@ Tells Resume Done p q = q ≡ one_other p
 Tells Resume (Refuse LastDecision) p q = q ≡ broken p
 Tells Shutdown Done p q = q ≡ one_other p
 Tells Shutdown (Refuse LastDecision) p q = q ≡ broken p
+Tells Reconnect Done p q = q ≡ one_other p
+Tells Reconnect (Refuse LastDecision) p q = q ≡ broken p
 Tells (Keyed link client server) Done p q = q ≡ one_other p
 Tells (Keyed link client server) (Refuse LastDecision) p q = q ≡ broken p
 Tells (Keyed link client server) Stranger p q = q ≡ broken p

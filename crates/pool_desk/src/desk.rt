@@ -1,12 +1,14 @@
 //! The desk: the lease book behind one lock.
-ghost use Rattle.std.specs.Prelude.{◌≡◌, IfOk, IfErr, IfSome, IsSome, OnErr, true};
+ghost use Rattle.std.specs.Prelude.{◌≡◌, IfOk, IfErr, IfSome, IsSome, OnErr, map, true};
 ghost use Rattle.std.specs.Arc.{arc_value};
 ghost use Rattle.book_model.specs.Book.{Book};
 ghost use Rattle.book_model.specs.Kept.{Kept};
 ghost use Rattle.book_model.specs.Outcomes.{apply_return};
 ghost use Rattle.book_model.specs.Outcomes.Event.{GiveBack};
 ghost use Rattle.book_register.specs.Views.{view_of};
-ghost use Rattle.lease_book.specs.Links.{IsTwice, StrikesInPlace, answered, handed, handed_back, plain, reply_of};
+ghost use Rattle.lease_book.specs.Histories.{LeadsTo};
+ghost use Rattle.lease_book.specs.Shown.{as_shown, decisions_shown};
+ghost use Rattle.lease_book.specs.Links.{BookOf, IsTwice, StrikesInPlace, answered, handed, handed_back, plain, reply_of};
 ghost use Rattle.link_desk.specs.declared.calls.Call.TheVariants as call;
 ghost use Rattle.desk_tallies.specs.Homes.{IsAtHome};
 ghost use Rattle.desk_tallies.specs.Passes.{after_change, new_holder, new_pass};
@@ -24,6 +26,7 @@ use crate::helping::Helps;
 use crate::inner::Core;
 use crate::minding::{granted, minded};
 use crate::outside::Outside;
+use book_model::events::Beyond;
 use book_model::limits::Limits;
 use book_register::view::BookView;
 use desk_tallies::answers::{
@@ -38,6 +41,7 @@ use lease_book::events::{Event, Reply};
 use link_run::links::CleanLink;
 use log_lines::notes::{Client, Note};
 use message_view::KeyView;
+use pool_figures::decisions::DecisionSeen;
 use server_end::ServerEnd;
 use start_keys::StartKey;
 use std::alloc::{AllocError, Global};
@@ -222,6 +226,15 @@ impl<R: Wait + Clock, S: Outside, K: Ledgers> Desk<R, S, K> {
         self.core.lock(&self.rt).is_shut()
     }
 
+    /// What is shown of the decisions that the book keeps, from the oldest on: of a key its process id alone.
+    ///
+    /// `AllocError` where memory is refused.
+    pub fn decisions_seen(&self, alloc: Global) -> Result<Vec<DecisionSeen>, AllocError>
+        ensures { IfOk result (λ v. (b : BookOf) × (Kept b.lists × (LeadsTo b.history b.lists × (map as_shown v.items ≡ decisions_shown b.history)))) }
+    {
+        self.core.lock(&self.rt).shown(alloc)
+    }
+
     /// The clock has reached this second.
     pub fn tick(&self, pass: &mut Pass<K>, now: u64) -> Ticked<S::End>
         ensures told { AfterTick result pass.old.told pass.new.told }
@@ -279,8 +292,8 @@ impl<R: Wait + Clock, S: Outside, K: Ledgers> LinkDesk for Desk<R, S, K> {
 
     ghost holder = { λ p. p.holder };
 
-    fn arrive(&self, pass: &mut Pass<K>) -> Arrival {
-        match self.hold(pass, Event::Arrive) {
+    fn arrive(&self, pass: &mut Pass<K>, beyond: Beyond) -> Arrival {
+        match self.hold(pass, Event::Arrive { beyond }) {
             Reply::Client(client) => Arrival::Client(client),
             Reply::Refuse(refusal, _) => Arrival::Refused(refusal),
             _ => unreachable!(),
@@ -438,12 +451,16 @@ impl<R: Wait + Clock, S: Outside, K: Ledgers> LinkDesk for Desk<R, S, K> {
         }
     }
 
-    fn dial(&self, number: u64, key: &StartKey) -> Option<S::End> {
-        self.outside.dial(number, key)
+    fn dial(&self, number: u64, key: &StartKey, seconds: u32) -> Option<S::End> {
+        self.outside.dial(number, key, seconds)
     }
 
     fn view(&self, alloc: Global, pass: &mut Pass<K>) -> Result<BookView, AllocError> {
         self.core.lock(&self.rt).view(alloc, pass)
+    }
+
+    fn decisions(&self, alloc: Global) -> Result<Vec<DecisionSeen>, AllocError> {
+        self.decisions_seen(alloc)
     }
 
     fn pause(&self, pass: &mut Pass<K>) -> Changed {
@@ -456,6 +473,10 @@ impl<R: Wait + Clock, S: Outside, K: Ledgers> LinkDesk for Desk<R, S, K> {
 
     fn shutdown(&self, pass: &mut Pass<K>) -> Changed {
         self.change(pass, Event::Shutdown)
+    }
+
+    fn reconnect(&self, pass: &mut Pass<K>) -> Changed {
+        self.change(pass, Event::Reconnect)
     }
 
     fn limits(&self, pass: &mut Pass<K>, limits: Arc<Limits>, again: Arc<Limits>) -> Changed {

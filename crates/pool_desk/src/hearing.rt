@@ -14,7 +14,7 @@ pub(crate) fn call_of<E: ServerEnd>(event: &Event<E>) -> Call
     ensures { result ≡ call_of event.now }
 {
     match event {
-        Event::Arrive => Call::Arrive,
+        Event::Arrive { beyond } => Call::Arrive(*beyond),
         Event::Ask { client, .. } => Call::Ask(*client),
         Event::Take { client } => Call::Take(*client),
         Event::GiveBack(link) => Call::GiveBack(link.number()),
@@ -38,6 +38,7 @@ pub(crate) fn call_of<E: ServerEnd>(event: &Event<E>) -> Call
         Event::Pause => Call::Pause,
         Event::Resume => Call::Resume,
         Event::Shutdown => Call::Shutdown,
+        Event::Reconnect => Call::Reconnect,
     }
 }
 
@@ -100,12 +101,12 @@ pub(crate) fn heard<E: ServerEnd>(holder: Holder, call: Call, reply: &Reply<E>) 
         ..holder
     };
     match (call, reply) {
-        (Call::Arrive, Reply::Client(client)) => Holder {
+        (Call::Arrive(_), Reply::Client(client)) => Holder {
             client: Some(*client),
             refused: None,
             ..held
         },
-        (Call::Arrive | Call::Ask(_) | Call::Take(_), Reply::Refuse(refusal, _)) => Holder {
+        (Call::Arrive(_) | Call::Ask(_) | Call::Take(_), Reply::Refuse(refusal, _)) => Holder {
             refused: Some(*refusal),
             ..held
         },

@@ -30,12 +30,13 @@ impl<S: Outside, K: Ledgers> Core<S, K> {
         ensures { result ≡ helped_by self.now.book.lists (plain event.now) }
     {
         match event {
-            Event::Arrive
+            Event::Arrive { .. }
             | Event::Ask { .. }
             | Event::Keyed { .. }
             | Event::Cancel { .. }
             | Event::EndLease { .. }
-            | Event::HungUp { .. } => Helps::Nobody,
+            | Event::HungUp { .. }
+            | Event::Reconnect => Helps::Nobody,
             Event::Take { client } | Event::Leave { client } => self.helped_behind(*client),
             Event::GiveBack(link) => self.helped_by_link(link.number()),
             Event::Lost { number } | Event::StartFailed { number } => self.helped_by_link(*number),

@@ -1,6 +1,6 @@
 //! What lies behind the desk's lock. What it adds to the book: counters of its decisions by class, of which each pass has its share, and
 //! who holds a pass.
-ghost use Rattle.std.specs.Prelude.{◌≡◌, ◌<◌, ◌≤◌, ◌^◌, ◌||◌, [], IfOk, IfErr, IfSome, IfNone, Some, vec_len, suc, ◌≢◌};
+ghost use Rattle.std.specs.Prelude.{◌≡◌, ◌<◌, ◌≤◌, ◌^◌, ◌||◌, [], IfOk, IfErr, IfSome, IfNone, Some, map, vec_len, suc, ◌≢◌};
 ghost use Rattle.std.specs.Arc.{arc_value};
 ghost use Rattle.book_model.specs.Book.{empty_book};
 ghost use Rattle.book_model.specs.Kept.{FitsLimits, Kept, KeptLimits, total};
@@ -8,6 +8,8 @@ ghost use Rattle.book_model.specs.Outcomes.{apply};
 ghost use Rattle.book_model.specs.Outcomes.Event.{Take};
 ghost use Rattle.book_model.specs.Replay.{noted_of};
 ghost use Rattle.book_register.specs.Views.{view_of};
+ghost use Rattle.lease_book.specs.Histories.{LeadsTo};
+ghost use Rattle.lease_book.specs.Shown.{as_shown, decisions_shown};
 ghost use Rattle.lease_book.specs.Links.{IsTwice, StrikesInPlace, answered, found, goes_out, handed, handed_after, history_after, idle_after, left, plain, reply_of};
 ghost use Rattle.desk_tallies.specs.Grants.{IsAnswerToTake, link_in};
 ghost use Rattle.desk_tallies.specs.Homes.{IsAtHome, IsGrantAtHome};
@@ -32,6 +34,7 @@ use desk_tallies::tallies::{Blanks, Tallies};
 use lease_book::book::Book;
 use lease_book::events::{Event, Reply};
 use message_view::Refusal;
+use pool_figures::decisions::DecisionSeen;
 use server_end::ServerEnd;
 use std::alloc::{AllocError, Global};
 use std::marker::{Model, PhantomData};
@@ -214,6 +217,17 @@ impl<S: Outside, K: Ledgers> Core<S, K> {
     {
         self.tallies.compare(pass);
         self.book.view(alloc)
+    }
+
+    /// What is shown of the decisions that the book keeps.
+    ///
+    /// `AllocError` where memory is refused.
+    pub fn shown(&self, alloc: Global) -> Result<Vec<DecisionSeen>, AllocError>
+        ensures kept { Kept self.now.book.lists }
+        ensures leads { LeadsTo self.now.book.history self.now.book.lists }
+        ensures shown { IfOk result (λ v. map as_shown v.items ≡ decisions_shown self.now.book.history) }
+    {
+        self.book.shown(alloc)
     }
 
     /// How many decisions there were.

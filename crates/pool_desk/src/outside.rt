@@ -19,8 +19,8 @@ pub trait Outside {
     ghost home: { HomeOf };
 
     /// A new end of this key's server for the link of this number, which waits for its StartupMessage; `None` where it can't be reached,
-    /// or the key has no server.
-    fn dial(&self, number: u64, key: &StartKey) -> Option<Self::End>
+    /// in so many seconds (0: as whoever dials likes), or the key has no server.
+    fn dial(&self, number: u64, key: &StartKey, seconds: u32) -> Option<Self::End>
         ensures { IfSome result (λ e. IsDialled home key.now (Self.End.standing e)) };
 
     /// From now on the end of the link of this number is minded, which nobody uses: who runs the desk hears when its server hangs up or says

@@ -103,6 +103,14 @@ impl Bounded {
     }
 }
 
+/// What is there for a client: its login, and the settings and users that this goes by.
+#[derive(Drop)]
+pub(crate) struct Arrival {
+    pub(crate) login: Login,
+    pub(crate) settings: Arc<Settings>,
+    pub(crate) users: Arc<Users>,
+}
+
 /// The settings and users of later clients.
 #[derive(Drop)]
 struct Kept {
@@ -176,19 +184,30 @@ impl<R: Drop, F: Source> Keeper<R, F> {
 
 impl<R: Wait, F: Source> Keeper<R, F> {
     /// The settings and users of a client that comes now.
-    fn share(&self) -> Result<(Arc<Settings>, Arc<Users>), AllocError>
+    pub(crate) fn share(&self) -> Result<(Arc<Settings>, Arc<Users>), AllocError>
         ensures { IfOk result (λ p. AreWithinBounds (arc_value p.0)) }
     {
         let kept = self.kept.lock(&self.rt);
         Ok((kept.settings.share()?, Arc::try_clone(&kept.users)?))
     }
 
-    /// The login of a client that comes now, with this key word. The only error is that an allocation failed.
-    pub(crate) fn login(&self, word: KeyWord) -> Result<Login, AllocError>
-        ensures { IfOk result (λ l. IsNewLogin word l) }
+    /// What is there for a client that comes now, with this key word. The only error is that an allocation failed.
+    pub(crate) fn arrival(&self, word: KeyWord) -> Result<Arrival, AllocError>
+        ensures { IfOk result (λ a. IsNewLogin word a.login) }
     {
         let (settings, users) = self.share()?;
-        Login::new(self.alloc, settings, users, word)
+        Ok(Arrival {
+            settings: Arc::try_clone(&settings)?,
+            users: Arc::try_clone(&users)?,
+            login: Login::new(self.alloc, settings, users, word)?,
+        })
+    }
+
+    /// Of how many seconds the log's figures are, and whether it is told of them.
+    pub(crate) fn stats(&self) -> (u32, bool) {
+        let kept = self.kept.lock(&self.rt);
+        let settings = &kept.settings.settings;
+        (settings.stats_period(), settings.log_stats())
     }
 
     /// Whether the log is told such a note, by the settings of later clients.

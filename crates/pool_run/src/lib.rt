@@ -1,6 +1,7 @@
 //! The running pool: the connections of a listener, each served by a thread of its own over one desk, and the clock.
 #![tactic(auto)]
 
+mod figures;
 pub mod keeping;
 pub mod listening;
 mod log;

@@ -3,6 +3,7 @@
 use crate::keeping::keepalive_of;
 use crate::log::PoolLog;
 use ini_config::Settings;
+use mio::net::TcpListener;
 use std::alloc::{AllocError, Global};
 use std::io;
 use std::net::Net;
@@ -18,12 +19,30 @@ struct Named {
     port: u16,
 }
 
-/// Listeners, and why there is none at a folder.
+/// Where the pool's figures are had.
+#[derive(Drop)]
+pub(crate) struct Metrics {
+    pub(crate) listeners: Vec<TcpListener>,
+    /// All of these are addresses of this host alone.
+    pub(crate) is_local: bool,
+}
+
+/// What listeners are waited at for clients, and where the pool's figures are had.
+#[derive(Drop)]
+pub(crate) struct Begun {
+    pub(crate) acceptor: Acceptor,
+    pub(crate) metrics: Metrics,
+}
+
+/// Listeners, and why there is none at a folder; likewise for the pool's figures.
 #[derive(Drop)]
 pub struct Listening {
     listeners: Vec<Listener>,
     names: Vec<Named>,
     missing: Option<(Named, io::Error)>,
+    metrics: Metrics,
+    metric_names: Vec<Named>,
+    missing_metrics: Option<(Named, io::Error)>,
 }
 
 impl Listening {
@@ -33,7 +52,48 @@ impl Listening {
             listeners: Vec::new(alloc),
             names: Vec::new(alloc),
             missing: None,
+            metrics: Metrics {
+                listeners: Vec::new(alloc),
+                is_local: true,
+            },
+            metric_names: Vec::new(alloc),
+            missing_metrics: None,
         }
+    }
+
+    /// The pool's figures are had at this address and port too, which is one of this host alone or isn't. The only error is that an
+    /// allocation failed.
+    pub fn add_metrics(
+        &mut self,
+        alloc: Global,
+        listener: TcpListener,
+        is_local: bool,
+        host: &[u8],
+        port: u16,
+    ) -> Result<(), AllocError> {
+        self.metric_names.push(Named {
+            host: Text::copy(alloc, host)?,
+            port,
+        })?;
+        self.metrics.listeners.push(listener)?;
+        self.metrics.is_local = self.metrics.is_local && is_local;
+        Ok(())
+    }
+
+    /// They aren't had at this address and port, because of this.
+    pub fn miss_metrics(
+        &mut self,
+        alloc: Global,
+        host: &[u8],
+        port: u16,
+        why: io::Error,
+    ) -> Result<(), AllocError> {
+        let named = Named {
+            host: Text::copy(alloc, host)?,
+            port,
+        };
+        self.missing_metrics = Some((named, why));
+        Ok(())
     }
 
     /// One more, at this address or folder, and port. Connections over IP to it are kept alive as these settings say: they have what
@@ -89,7 +149,7 @@ impl Listening {
         rt: &R,
         alloc: Global,
         log: &PoolLog<R>,
-    ) -> io::Result<Acceptor>
+    ) -> io::Result<Begun>
     where
         R: Drop,
     {
@@ -97,6 +157,9 @@ impl Listening {
             listeners,
             names,
             missing,
+            metrics,
+            metric_names,
+            missing_metrics,
         } = self;
         for named in &names {
             log.listening(named.host.as_bytes(), named.port);
@@ -104,6 +167,15 @@ impl Listening {
         if let Some((named, why)) = &missing {
             log.not_listening(named.host.as_bytes(), named.port, why);
         }
-        Acceptor::new(rt, alloc, listeners)
+        for named in &metric_names {
+            log.listening_for_metrics(named.host.as_bytes(), named.port);
+        }
+        if let Some((named, why)) = &missing_metrics {
+            log.not_listening_for_metrics(named.host.as_bytes(), named.port, why);
+        }
+        Ok(Begun {
+            acceptor: Acceptor::new(rt, alloc, listeners)?,
+            metrics,
+        })
     }
 }

@@ -1,9 +1,10 @@
 //! The pool's log, as its threads tell it. No contract says what a log is told; scripts/console.py shows it.
 
-use log_lines::events::{Event, Heard, Totals};
+use log_lines::events::{Event, Heard, Rates, Totals};
 use log_lines::notes::{Client, Note};
 use log_writer::limiter::Limiter;
 use log_writer::log::Log;
+use pool_figures::figures::Figures;
 use std::alloc::Global;
 use std::io;
 use std::rt::Clock;
@@ -16,6 +17,7 @@ pub(crate) struct PoolLog<R> {
     alloc: Global,
     log: Arc<Log>,
     unserved: Mutex<Limiter>,
+    late: Mutex<Limiter>,
 }
 
 impl<R: Drop> Drop for PoolLog<R> {
@@ -25,6 +27,7 @@ impl<R: Drop> Drop for PoolLog<R> {
             alloc: _,
             log: _,
             unserved: _,
+            late: _,
         } = self;
     }
 }
@@ -36,7 +39,30 @@ impl<R> PoolLog<R> {
             alloc,
             log,
             unserved: Mutex::new(Limiter::new()),
+            late: Mutex::new(Limiter::new()),
         }
+    }
+}
+
+/// What went through in so many seconds, as it is told.
+fn rates_of(figures: Figures, seconds: u64) -> Rates {
+    let [
+        transactions,
+        queries,
+        received,
+        sent,
+        transaction_time,
+        query_time,
+        wait_time,
+    ] = figures.averages(seconds);
+    Rates {
+        transactions,
+        queries,
+        received,
+        sent,
+        transaction_time,
+        query_time,
+        wait_time,
     }
 }
 
@@ -96,11 +122,37 @@ impl<R: Wait + Clock> PoolLog<R> {
         self.unserved.lock(&self.rt).add();
     }
 
-    /// The clock has reached this second: tells of connections that weren't served.
+    /// A connection was closed whose client hadn't said in time who it is. It is told with the next second.
+    pub(crate) fn late(&self) {
+        self.late.lock(&self.rt).add();
+    }
+
+    /// The clock has reached this second: tells of connections that weren't served, and of those that were late.
     pub(crate) fn tell_unserved(&self, second: u64) {
         let due = self.unserved.lock(&self.rt).due(second);
         if let Some(count) = due {
             self.event(Event::Wanting(count));
+        }
+        let due = self.late.lock(&self.rt).due(second);
+        if let Some(count) = due {
+            self.event(Event::Late(count));
+        }
+    }
+
+    /// So much went through the pool in a period of so many seconds.
+    pub(crate) fn figures(&self, figures: Figures, period: u32) {
+        self.event(Event::Stats(rates_of(figures, period as u64)));
+    }
+
+    /// The pool's figures are had at this address and port.
+    pub(crate) fn listening_for_metrics(&self, host: &[u8], port: u16) {
+        self.event(Event::ListeningForMetrics(host, port));
+    }
+
+    /// They aren't had there, because of this.
+    pub(crate) fn not_listening_for_metrics(&self, host: &[u8], port: u16, why: &io::Error) {
+        if let Ok(text) = format!(in self.alloc; "{why}") {
+            self.event(Event::NotListeningForMetrics(host, port, text.as_bytes()));
         }
     }
 

@@ -7,8 +7,8 @@ ghost use Rattle.pool_run.specs.Logins.{IsNewLogin};
 ghost use Rattle.server_end.specs.Moves.{IsWithin};
 ghost use Rattle.pool_run.specs.declared.pool.TheConstants.{HEARD};
 
-use crate::keeping::{Keeper, Source};
-use crate::listening::Listening;
+use crate::keeping::{Arrival, Keeper, Source};
+use crate::listening::{Begun, Listening};
 use crate::log::PoolLog;
 use crate::places::Places;
 use crate::runtime::PoolRuntime;
@@ -26,12 +26,15 @@ use link_start::close::{close_link, offer_terminate};
 use log_lines::events::{Heard, Totals};
 use log_lines::notes::Visit;
 use log_writer::log::begin;
-use login_core::Login;
 use message_view::KeyWord;
 use pool_desk::answers::{HungUp, Ticked};
 use pool_desk::desk::Desk;
 use pool_serve::serve::serve;
+use pool_watch::desk::WatchedDesk;
+use pool_watch::seats::Seat;
+use pool_watch::watch::Watch;
 use relay_flow::buffers::Buffers;
+use server_end::gate::Gate;
 use server_end::{Moved, ServerEnd};
 use std::alloc::{AllocError, Global};
 use std::io::Write;
@@ -50,8 +53,8 @@ use worker_threads::Workers;
 
 /// A pass that no client holds, nor a link.
 #[derive(Drop)]
-struct FreePass<K: Ledgers> {
-    pass: Pass<K>,
+pub(crate) struct FreePass<K: Ledgers> {
+    pub(crate) pass: Pass<K>,
     ghost no_client: { pass.holder.client ≡ None },
     ghost no_lease: { pass.holder.lease ≡ None },
 }
@@ -72,12 +75,16 @@ struct Belongings {
 }
 
 /// What all threads of a pool share.
-struct Pool<R: PoolRuntime, F: Source, K: Ledgers> {
+pub(crate) struct Pool<R: PoolRuntime, F: Source, K: Ledgers> {
+    pub(crate) rt: R,
     alloc: Global,
-    desk: Desk<R, Surroundings<R, F>, K>,
+    pub(crate) desk: Desk<R, Surroundings<R, F>, K>,
     free: Mutex<Free<K>>,
-    keeper: Arc<Keeper<R, F>>,
+    pub(crate) keeper: Arc<Keeper<R, F>>,
     log: Arc<PoolLog<R>>,
+    pub(crate) watch: Arc<Watch<R>>,
+    /// No connection is accepted any more.
+    pub(crate) is_closed: AtomicBool,
     /// The last connection is done.
     has_ended: AtomicBool,
 }
@@ -85,11 +92,14 @@ struct Pool<R: PoolRuntime, F: Source, K: Ledgers> {
 impl<R: PoolRuntime, F: Source, K: Ledgers> Drop for Pool<R, F, K> {
     fn drop(self) {
         let Pool {
+            rt: _,
             alloc: _,
             desk: _,
             free: _,
             keeper: _,
             log: _,
+            watch: _,
+            is_closed: _,
             has_ended: _,
         } = self;
     }
@@ -115,6 +125,7 @@ impl<R: PoolRuntime, F: Source, K: Ledgers> Pool<R, F, K> {
         let limits = Arc::new(alloc, limits_of(alloc, &settings)?)?;
         let keeper = Keeper::new(rt, alloc, settings, users, source)?;
         let keeper = Arc::new(alloc, keeper)?;
+        let watch = Arc::new(alloc, Watch::new(rt, alloc))?;
         let outside = Surroundings {
             rt,
             alloc,
@@ -122,6 +133,7 @@ impl<R: PoolRuntime, F: Source, K: Ledgers> Pool<R, F, K> {
             log: Arc::try_clone(log)?,
             places: Mutex::new(Places::new(alloc)),
             minder,
+            watch: Arc::try_clone(&watch)?,
         };
         let desk = Desk::<R, Surroundings<R, F>, K>::new(rt, alloc, outside, limits, blanks)?;
         let free = Free {
@@ -129,17 +141,20 @@ impl<R: PoolRuntime, F: Source, K: Ledgers> Pool<R, F, K> {
             cut: 0,
         };
         Ok(Pool {
+            rt,
             alloc,
             desk,
             free: Mutex::new(free),
             keeper,
             log: Arc::try_clone(log)?,
+            watch,
+            is_closed: AtomicBool::new(false),
             has_ended: AtomicBool::new(false),
         })
     }
 
     /// A pass that another worker gave back; or a new one, for which there is then room among those.
-    fn pass(&self, rt: &R) -> Option<FreePass<K>> {
+    pub(crate) fn pass(&self, rt: &R) -> Option<FreePass<K>> {
         let mut free = self.free.lock(rt);
         if let Some(pass) = free.passes.pop() {
             return Some(pass);
@@ -152,9 +167,21 @@ impl<R: PoolRuntime, F: Source, K: Ledgers> Pool<R, F, K> {
     }
 
     /// A worker is done with this pass.
-    fn give_back(&self, rt: &R, pass: FreePass<K>) {
+    pub(crate) fn give_back(&self, rt: &R, pass: FreePass<K>) {
         // there is room: it was reserved when the pass was cut off
         let _ = self.free.lock(rt).passes.push(pass);
+    }
+
+    /// A poll. Where the system has none left, the oldest connection whose client hasn't said who it is gives way; `None` where none does.
+    fn new_poll(&self) -> Option<GatePoll> {
+        for _ in 0..MOST_CUT {
+            match GatePoll::new(&self.rt, self.alloc) {
+                Ok(poll) => return Some(poll),
+                Err(_) if self.watch.cut_oldest() => thread::sleep(&self.rt, a_moment()),
+                Err(_) => return None,
+            }
+        }
+        None
     }
 
     /// What the worker of a connection needs; `None` where there is no poll, no memory or no pass for it.
@@ -166,31 +193,84 @@ impl<R: PoolRuntime, F: Source, K: Ledgers> Pool<R, F, K> {
         word: KeyWord,
         client: &mut TcpEnd,
         kept: &'a mut Option<GatePoll>,
-    ) -> Option<(TcpGate<'a, R>, Login, FreePass<K>)>
+    ) -> Option<(TcpGate<'a, R>, Arrival, FreePass<K>)>
         ensures client { client.new ≡ client.old }
-        ensures login { IfSome result (λ e. IsNewLogin word e.1) }
+        ensures login { IfSome result (λ e. IsNewLogin word e.1.login) }
     {
-        let poll = GatePoll::of_thread(&rt, self.alloc, kept).ok()?;
-        let gate = TcpGate::new(rt, poll, client).ok()?;
-        let login = self.keeper.login(word).ok()?;
+        if kept.is_none() {
+            *kept = self.new_poll();
+        }
+        let gate = TcpGate::new(rt, kept.as_mut()?, client).ok()?;
+        let arrival = self.keeper.arrival(word).ok()?;
         // last, since a pass that is dropped is lost
         let pass = self.pass(&rt)?;
-        Some((gate, login, pass))
+        Some((gate, arrival, pass))
+    }
+
+    /// Serves a connection that has its seat, from now on within the time that a login may take.
+    fn serve_seated(
+        &self,
+        rt: R,
+        word: KeyWord,
+        client: TcpEnd,
+        visit: Visit,
+        kept: &mut Belongings,
+        seat: &Seat,
+    ) {
+        let mut client = client;
+        let Belongings { poll, buffers } = kept;
+        let Some((gate, arrival, FreePass { pass })) = self.equip(rt, word, &mut client, poll)
+        else {
+            self.log.unserved();
+            return;
+        };
+        let mut gate = gate;
+        let Arrival {
+            login,
+            settings,
+            users,
+        } = arrival;
+        let seconds = settings.client_login_timeout();
+        gate.reckon_from(visit.since);
+        Gate::limit(&mut gate, some_time(seconds));
+        let desk = WatchedDesk {
+            rt,
+            alloc: self.alloc,
+            desk: &self.desk,
+            watch: &*self.watch,
+            seat,
+            settings,
+            users,
+        };
+        let (_, pass) = serve(
+            self.alloc, &desk, pass, client, login, word, gate, visit, buffers,
+        );
+        self.give_back(&rt, FreePass { pass });
+        if !seat.is_known() && seat.is_late(&rt, seconds) {
+            self.log.late();
+        }
     }
 
     /// Serves one connection to its end, with what its thread keeps. One for which there is no poll, no pass or no memory is
     /// closed.
     fn attend(&self, rt: R, word: KeyWord, client: TcpEnd, visit: Visit, kept: &mut Belongings) {
-        let mut client = client;
-        let Belongings { poll, buffers } = kept;
-        match self.equip(rt, word, &mut client, poll) {
-            Some((gate, login, FreePass { pass })) => {
-                let (_, pass) = serve(
-                    self.alloc, &self.desk, pass, client, login, word, gate, visit, buffers,
-                );
-                self.give_back(&rt, FreePass { pass });
+        let sight = client.sight().ok();
+        match sight.and_then(|sight| self.watch.enter(visit, sight)) {
+            Some((id, seat)) => {
+                self.serve_seated(rt, word, client, visit, kept, &seat);
+                self.watch.leave(id);
             }
             None => self.log.unserved(),
+        }
+    }
+
+    /// The clock has reached this second: tells the log what went through the pool in a period that is over, where it is to be told.
+    fn tell_figures(&self, now: u64) {
+        let (period, is_told) = self.keeper.stats();
+        if let Some(figures) = self.watch.tick(now, period) {
+            if is_told {
+                self.log.figures(figures, period);
+            }
         }
     }
 
@@ -258,6 +338,7 @@ impl<R: PoolRuntime, F: Source, K: Ledgers> Pool<R, F, K> {
             }
             last = Some(now);
             self.log.tell_unserved(now);
+            self.tell_figures(now);
             if !self.tick(rt, &mut pass, now) {
                 break;
             }
@@ -278,11 +359,14 @@ impl<R: PoolRuntime, F: Source, K: Ledgers> Pool<R, F, K> {
     fn close(self, rt: &R) -> Option<Totals> {
         let (decisions, starts) = self.counted(rt)?;
         let Pool {
+            rt: _,
             alloc,
             desk,
             free,
             keeper: _,
             log: _,
+            watch: _,
+            is_closed: _,
             has_ended: _,
         } = self;
         let mut passes = Vec::new(alloc);
@@ -305,6 +389,19 @@ impl<R: PoolRuntime, F: Source, K: Ledgers> Pool<R, F, K> {
 
 /// As much as is read of what the server of an idle link says.
 const HEARD: usize = 512;
+
+/// So many connections give way to one at most.
+pub(crate) const MOST_CUT: u32 = 8;
+
+/// As long as a connection that gives way has for it.
+pub(crate) fn a_moment() -> Duration {
+    Duration::from_millis(50)
+}
+
+/// So many seconds, where 0 is no limit.
+fn some_time(seconds: u32) -> Option<u32> {
+    if seconds == 0 { None } else { Some(seconds) }
+}
 
 /// The time from one second to the next.
 fn one_second() -> Duration {
@@ -436,11 +533,16 @@ fn accept_all<
                 let visit = visit_of(&rt, peer);
                 // a thread that can't be started closes this connection alone
                 if start_worker(rt, workers, pool, word, client, visit).is_err() {
+                    pool.watch.cut_oldest();
                     pool.log.unserved();
                 }
             }
             Turn::Nobody => {}
-            Turn::Failed => pool.log.unserved(),
+            Turn::Failed => {
+                if !pool.watch.cut_oldest() {
+                    pool.log.unserved();
+                }
+            }
         }
     }
 }
@@ -479,7 +581,10 @@ fn serve_all<
     requires all { parts_of blanks ≡ of_each ALL_PARTS }
 {
     let log = Arc::new(alloc, log)?;
-    let mut acceptor = listening.begin(&rt, alloc, &log)?;
+    let Begun {
+        mut acceptor,
+        metrics,
+    } = listening.begin(&rt, alloc, &log)?;
     let mut workers = Workers::<Connection<R, F, K>>::new(alloc)?;
     let keys = KeySource::new(seed, settings.peer_id());
     let idle = IdlePoll::new(&rt, alloc)?;
@@ -488,10 +593,17 @@ fn serve_all<
     let pool = Arc::new(alloc, pool)?;
     let shared = Arc::try_clone(&pool)?;
     let clock = thread::spawn(&rt, move || shared.run_clock(&rt, idle))?;
+    let scraped = Arc::try_clone(&pool)?;
+    let figures = thread::spawn(&rt, move || scraped.serve_metrics(&rt, alloc, metrics))?;
     accept_all(rt, &mut acceptor, &mut workers, &pool, keys, count);
-    // the port is free before the last client has gone
+    pool.is_closed.store(true, Ordering::SeqCst);
+    if pool.desk.is_shut() {
+        pool.watch.cut_strangers();
+    }
+    // the ports are free before the last client has gone
     pool.keeper.stops_listening();
     drop(acceptor);
+    figures.join(&rt);
     workers.join_all(&rt);
     pool.has_ended.store(true, Ordering::SeqCst);
     clock.join(&rt);

@@ -1,24 +1,30 @@
 //! What a pool's desk reaches outside: servers, the files, the log.
 ghost use Rattle.std.specs.Prelude.{◌≡◌, IfOk};
 ghost use Rattle.message_view.specs.Messages.{cancel_request};
+ghost use Rattle.tcp_end.specs.Connections.{new_connection};
 
 use crate::keeping::{Keeper, Source, Unread};
 use crate::log::PoolLog;
 use crate::places::Places;
+use crate::pool::{MOST_CUT, a_moment};
 use crate::runtime::PoolRuntime;
 use book_model::limits::Limits;
 use bytes::BytesMut;
+use keep_alive::Keepalive;
 use link_desk::answers::Strike;
 use log_lines::notes::{Client, Note};
 use message_view::put_cancel_request;
 use pool_desk::outside::Outside;
+use pool_watch::watch::Watch;
 use start_keys::StartKey;
 use std::alloc::{AllocError, Global};
-use std::io;
-use std::net::Net;
-use std::sync::{Arc, Mutex};
+use std::net::{self, Net};
+use std::rt::Clock;
+use std::sync::{Arc, Mutex, Wait};
+use std::thread::Threads;
+use std::{io, thread};
 use tcp_end::connection::TcpEnd;
-use tcp_end::dial::{CONNECT_SECONDS, dial};
+use tcp_end::dial::dial;
 use tcp_end::idle::Minder;
 use tcp_end::message::send_alone;
 use tcp_end::places::{Place, places_of};
@@ -52,6 +58,11 @@ fn send<R: Net>(rt: &R, alloc: Global, known: Option<Place>, strike: &Strike) ->
     Ok(())
 }
 
+/// Whether the system has no file left: for this process (24, EMFILE), or for all (23, ENFILE).
+fn is_short_of_files(error: &io::Error) -> bool {
+    matches!(error.raw_os_error(), Some(23 | 24))
+}
+
 /// Reaches a key's server at its host and port, the files where they are kept, and the log.
 pub struct Surroundings<R: PoolRuntime, F: Source> {
     pub(crate) rt: R,
@@ -60,6 +71,7 @@ pub struct Surroundings<R: PoolRuntime, F: Source> {
     pub(crate) log: Arc<PoolLog<R>>,
     pub(crate) places: Mutex<Places>,
     pub(crate) minder: Minder,
+    pub(crate) watch: Arc<Watch<R>>,
 }
 
 impl<R: PoolRuntime, F: Source> Drop for Surroundings<R, F> {
@@ -71,8 +83,34 @@ impl<R: PoolRuntime, F: Source> Drop for Surroundings<R, F> {
             log: _,
             places: _,
             minder: _,
+            watch: _,
         } = self;
     }
+}
+
+/// A connection to a server. Where the system has no file left for it, the oldest connection whose client hasn't said who it is gives
+/// way.
+fn reach<R: Threads + Wait + Clock + Net<Listener = net::TcpListener, Stream = net::TcpStream>>(
+    rt: &R,
+    alloc: Global,
+    host: &[u8],
+    port: u16,
+    number: u64,
+    seconds: u32,
+    keepalive: &Option<Keepalive>,
+    watch: &Watch<R>,
+) -> io::Result<(TcpEnd, Place)>
+    ensures { IfOk result (λ p. p.0 ≡ new_connection) }
+{
+    for _ in 0..MOST_CUT {
+        match dial(rt, alloc, host, port, number, seconds, keepalive) {
+            Err(error) if is_short_of_files(&error) && watch.cut_oldest() => {
+                thread::sleep(rt, a_moment())
+            }
+            reached => return reached,
+        }
+    }
+    dial(rt, alloc, host, port, number, seconds, keepalive)
 }
 
 impl<R: PoolRuntime, F: Source> Outside for Surroundings<R, F> {
@@ -82,19 +120,20 @@ impl<R: PoolRuntime, F: Source> Outside for Surroundings<R, F> {
 
     ghost home = { unknown_home };
 
-    fn dial(&self, number: u64, key: &StartKey) -> Option<TcpEnd> {
+    fn dial(&self, number: u64, key: &StartKey, seconds: u32) -> Option<TcpEnd> {
         let Some(host) = &key.host else {
             return None;
         };
         let keepalive = self.keeper.keepalive();
-        match dial(
+        match reach(
             &self.rt,
             self.alloc,
             host.as_bytes(),
             key.port,
             number,
-            CONNECT_SECONDS,
+            seconds,
             &keepalive,
+            &self.watch,
         ) {
             Ok((end, place)) => {
                 // one that isn't remembered is looked for again where it is to be cancelled

@@ -260,6 +260,7 @@ cause_fault limit bytes cause.Lost = tt
 cause_fault limit bytes (cause.Unanswerable question) = tt
 cause_fault limit bytes cause.Unexpected = tt
 cause_fault limit bytes cause.Turns = tt
+cause_fault limit bytes cause.Late = tt
 
 pub unopened_fault : (home : HomeOf) (g : LoggedIn) (limit : ℕ) (bytes : List ℕ) (e : Ending) → IsUnopened home g e → IsFaultyWord limit bytes (word_of e)
 unopened_fault home g limit bytes ending.Unreached x = tt
@@ -348,6 +349,7 @@ module _ (p q : PassOf) where
   cause_traces (cause.Unanswerable question) h = h
   cause_traces cause.Unexpected h = h
   cause_traces cause.Turns h = h
+  cause_traces cause.Late h = h
 
   relay_trace : (r : Refusal) → IsRelays r → HadLink AtArrival p q → HasTrace AtArrival p q r
   relay_trace MalformedClientMessage x h = h

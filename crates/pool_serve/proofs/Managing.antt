@@ -1,6 +1,7 @@
 -- A client of the console.
 use Rattle.std.proofs.Common.{◌≡◌, ◌⊎◌, ℕ, true, List, [], ◌++◌, inl, inr, refl, sym, ap, ◌∙◌, subst, arith, append-nil, take, take_all, length, Option}
 use Rattle.std.proofs.lemmas.Grind.{flat_map-append}
+use Rattle.message_view.specs.Bodies.{Text}
 use Rattle.message_view.specs.declared.KeyWord.{KeyWord}
 use Rattle.message_view.specs.declared.refusal.Refusal.{Refusal}
 use Rattle.message_view.specs.Refusals.{joined_pieces}
@@ -13,6 +14,7 @@ use Rattle.login_run.specs.declared.login_reply.LoginReply.{LoginReply}
 use Rattle.login_run.specs.declared.login_reply.LoginReply.TheVariants as said
 use Rattle.login_run.specs.Runs.{Awaits, Console, IsAllGiven, IsPiece, IsRun, IsSameLogin, PhaseOf, RunView, StandsAt, said_bytes, said_pieces}
 use Rattle.link_desk.specs.Passes.{PassOf}
+use Rattle.console_run.specs.Exchanges.{asker}
 use Rattle.console_run.specs.Passing.{Manages, Pass}
 use Rattle.console_run.specs.Talks.{IsServed as IsServedAtConsole}
 use Rattle.link_desk.specs.Homes.{HomeOf}
@@ -38,9 +40,10 @@ same_managed old new after last s x = record {
   login = subst (λ (k : KeyWord). login_among (rows_of old.login) k x.before.taken ≡ record { pieces = x.pieces; ended = PassedWith ToConsole [] }) s.word
       (subst (λ (rows : Rows). login_among rows new.login.word x.before.taken ≡ record { pieces = x.pieces; ended = PassedWith ToConsole [] }) (same_rows old new s) x.login);
   given = x.given;
+  user = x.user;
   p = x.p;
   q = x.q;
-  talks = subst (λ (k : KeyWord). IsServedAtConsole old.login.settings k x.before after x.p x.q last) s.word (subst (λ (t : Settings). IsServedAtConsole t new.login.word x.before after x.p x.q last) s.settings x.talks);
+  talks = subst (λ (k : KeyWord). IsServedAtConsole (asker old.login.settings x.user) k x.before after x.p x.q last) s.word (subst (λ (t : Settings). IsServedAtConsole (asker t x.user) new.login.word x.before after x.p x.q last) s.settings x.talks);
 }
 
 -- ---- its pass
@@ -62,9 +65,9 @@ pieces_joined done s sent p e =
     ap (λ (l : List ℕ). joined_pieces done ++ l) (ap (λ (n : ℕ). take n (said_bytes s)) e ∙ (take_all (length (said_bytes s)) (said_bytes s) (omega arith) ∙ sym (said_joined s p)))
     ∙ sym (flat_map-append (λ (b : List ℕ). b) done (said_pieces s))
 
-pub managed : (v : RunView) (before after : ClientFacts) (s : Settings) (word : KeyWord) (p q : Pass) (last : Option Refusal) → IsRun v → v.phase ≡ Console → IsAllGiven v → before ≡ v.client → v.client.tells ≡ true → s ≡ v.login.settings → v.login.word ≡ word → IsServedAtConsole s word before after p q last
+pub managed : (v : RunView) (before after : ClientFacts) (s : Settings) (user : Text) (word : KeyWord) (p q : Pass) (last : Option Refusal) → IsRun v → v.phase ≡ Console → IsAllGiven v → before ≡ v.client → v.client.tells ≡ true → s ≡ v.login.settings → v.login.word ≡ word → IsServedAtConsole (asker s user) word before after p q last
     → IsManaged v.login after last
-managed v before after s word p q last x e n b t f w h =
+managed v before after s user word p q last x e n b t f w h =
     let ended = subst (λ (z : PhaseOf). StandsAt z v.said v.login x.2.heard (x.2.done ++ said_pieces v.said)) e x.2.stands in
     let piece : IsPiece v.said = subst (λ (z : PhaseOf). Awaits z v.said v.login) e x.1 in
     record {
@@ -72,9 +75,10 @@ managed v before after s word p q last x e n b t f w h =
       pieces = x.2.done ++ said_pieces v.said;
       login = ap (λ (l : List ℕ). login_among (rows_of v.login) v.login.word l) (ap (λ (c : ClientFacts). c.taken) b ∙ (x.2.taken t ∙ sym (append-nil x.2.heard))) ∙ ended [];
       given = ap (λ (c : ClientFacts). c.given) b ∙ (x.2.given t ∙ pieces_joined x.2.done v.said v.sent piece n);
+      user = user;
       p = p;
       q = q;
-      talks = subst (λ (k : KeyWord). IsServedAtConsole v.login.settings k before after p q last) (sym w) (subst (λ (z : Settings). IsServedAtConsole z word before after p q last) f h);
+      talks = subst (λ (k : KeyWord). IsServedAtConsole (asker v.login.settings user) k before after p q last) (sym w) (subst (λ (z : Settings). IsServedAtConsole (asker z user) word before after p q last) f h);
     }
 
 -- ---- by how its time ended

@@ -60,6 +60,7 @@ unstarted_at began now secret key word cause.Lost f l x = refusal_ends (service_
 unstarted_at began now secret key word (cause.Unanswerable question) f l x = refusal_ends (service_pieces began.server.catalogue key word [] []) ServerNotReached
 unstarted_at began now secret key word cause.Unexpected f l x = refusal_ends (service_pieces began.server.catalogue key word [] []) ServerNotReached
 unstarted_at began now secret key word cause.Turns f l x = refusal_ends (service_pieces began.server.catalogue key word [] []) ServerNotReached
+unstarted_at began now secret key word cause.Late f l x = refusal_ends (service_pieces began.server.catalogue key word [] []) ServerNotReached
 
 pub unstarted : (cat : CatalogueOf) (began now : Standing) (secret : Secret) (key : StartKeyOf) (word : KeyWord) (c : StartCause) (last : FinalMessage) → last ≡ last_of c → began.server.catalogue ≡ cat → began.follows ≡ true → IsLetIn began key secret → IsStartCause began now secret key c → MayEnd [] (service_pieces cat key word [] []) last
 unstarted cat began now secret key word c last e h f l x =

@@ -6,7 +6,7 @@ use Rattle.message_view.specs.declared.refusal.Refusal.{Refusal}
 use Rattle.link_laws.specs.Standing.{ClientFacts, Standing}
 use Rattle.link_run.specs.Links.{LinkView}
 use Rattle.link_start.specs.Starts.{HasTried, IsStartCause}
-use Rattle.link_start.specs.declared.start.StartCause.TheVariants.{Turns}
+use Rattle.link_start.specs.declared.start.StartCause.TheVariants.{Late, Turns}
 use Rattle.pool_serve.specs.declared.TheConstants.{TURNS}
 use Rattle.link_start.specs.declared.start.StartCause.{StartCause}
 use Rattle.link_desk.specs.declared.calls.Call.TheVariants as call
@@ -83,7 +83,8 @@ HasRelayed link g before after (ending.Relayed r) = IsRelayed link g before afte
 HasRelayed link g before after ending.Memory = after ≡ before
 HasRelayed link g before after other = ⊥
 
--- A start over an end of its key's server failed so: it is told that its turns were used up only after all of them.
+-- A start over an end of its key's server failed so: it is told that its turns were used up only after all of them, and that it was late
+-- only where no answer had come that says more.
 pub record IsUnstarted (home : HomeOf) (g : LoggedIn) (cause : StartCause) : Type 0 where
   pub user : UserRow
   pub user_is : Some user ≡ user_named (arc_value g.key).user g.login.users
@@ -92,6 +93,7 @@ pub record IsUnstarted (home : HomeOf) (g : LoggedIn) (cause : StartCause) : Typ
   pub dialled : IsDialled home (arc_value g.key) began
   pub is_cause : IsStartCause began now user.secret (arc_value g.key) cause
   pub tried : cause ≡ Turns → HasTried began user.secret (arc_value g.key) now TURNS
+  pub unanswered : cause ≡ Late → HasTried began user.secret (arc_value g.key) now 0
 
 abbrev pub IsUnopened : HomeOf → LoggedIn → Ending → Type 0
 IsUnopened home g ending.Unreached = Unit {0}

@@ -3,6 +3,7 @@ pub mod Shares
 pub mod Backs
 pub mod Causes
 pub mod Serving
+pub mod Places
 pub mod Endings
 pub mod Stays
 pub mod Cancels

@@ -1,6 +1,7 @@
 //! A worker that serves one client: from its first byte, over any desk that lends links, to its end.
 #![tactic(auto)]
 
+mod arriving;
 mod ending;
 mod leasing;
 mod logged_in;

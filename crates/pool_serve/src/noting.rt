@@ -5,6 +5,7 @@ use crate::logged_in::LoggedIn;
 use disposal::Verdict;
 use link_desk::answers::Cancelled;
 use link_desk::desk::LinkDesk;
+use link_run::reset::ResetFault;
 use link_start::start::StartCause;
 use link_start::start_reply::ServerQuestion;
 use log_lines::notes::{Client, Loss, Note, Server, Unstarted, Visit};
@@ -55,16 +56,20 @@ fn login_note<'a>(said: LoginReply, parameter: Option<&'a [u8]>) -> Option<Note<
     }
 }
 
-/// Tells the log how a login ended that goes no further.
+/// Tells the log how a login ended that goes no further; of one that was late, unless it had been told why it is over.
 pub(crate) fn note_login<C: ClientEnd, D: LinkDesk>(
     desk: &D,
     run: &LoginRun<C>,
     visit: Visit,
     number: Option<u64>,
+    is_late: bool,
 ) {
-    if let Some(note) = login_note(run.said(), run.login().unsupported_parameter()) {
-        desk.note(&named(visit, number, run.key()), &note);
-    }
+    let note = match login_note(run.said(), run.login().unsupported_parameter()) {
+        Some(note) => note,
+        None if is_late => Note::Late,
+        None => return,
+    };
+    desk.note(&named(visit, number, run.key()), &note);
 }
 
 /// Tells the log whose statement a CancelRequest is for.
@@ -101,7 +106,7 @@ fn start_note<'a>(cause: &'a StartCause) -> Option<Unstarted<'a>> {
         StartCause::Lost => Some(Unstarted::Lost),
         StartCause::Unanswerable(question) => Some(Unstarted::Unanswerable(number_of(*question))),
         StartCause::Unexpected => Some(Unstarted::Unexpected),
-        StartCause::Turns => Some(Unstarted::TimedOut),
+        StartCause::Turns | StartCause::Late => Some(Unstarted::TimedOut),
         StartCause::Memory => None,
     }
 }
@@ -135,12 +140,22 @@ pub(crate) fn ending_note<'a>(logged_in: &'a LoggedIn, ending: &'a Ending) -> Op
     }
 }
 
-/// Why a link is closed after its lease.
-pub(crate) fn loss_of(cause: GoneCause) -> Loss {
+/// Why a link is closed after its lease, within which its server's connection may have ended.
+pub(crate) fn loss_of(cause: GoneCause, has_ended: bool) -> Loss {
     match cause {
-        GoneCause::Lost => Loss::Ended,
-        GoneCause::Left(Verdict::InBlock) => Loss::InBlock,
         GoneCause::Left(Verdict::Broken) => Loss::Foreign,
+        GoneCause::Lost => Loss::Ended,
+        GoneCause::Left(_) if has_ended => Loss::Ended,
+        GoneCause::Left(Verdict::InBlock) => Loss::InBlock,
         GoneCause::Left(_) => Loss::Unanswered,
+    }
+}
+
+/// Why a link is closed that wasn't reset.
+pub(crate) fn loss_in_reset(fault: ResetFault) -> Loss {
+    match fault {
+        ResetFault::Lost => Loss::Ended,
+        ResetFault::Unexpected | ResetFault::Changed | ResetFault::Memory | ResetFault::Turns =>
+            Loss::NotReset,
     }
 }

@@ -25,13 +25,23 @@ fn user_of(logged_in: &LoggedIn) -> Option<&UserRow>
     logged_in.login.users().row(logged_in.key.user.as_slice())
 }
 
-/// Starts a link of this number and second of birth for a client, over a new end of its key's server; or why it isn't.
-pub(crate) fn open_link<D: LinkDesk, G: Gate<D::End>>(
+/// A time of the settings, of which 0 is none.
+fn time_of(seconds: u32) -> Option<u32> {
+    if seconds == 0 {
+        return None;
+    }
+    Some(seconds)
+}
+
+/// Starts a link of this number and second of birth for a client, over a new end of its key's server, which is reached in so many seconds
+/// (0: as the desk likes); or why it isn't.
+fn start_anew<D: LinkDesk, G: Gate<D::End>>(
     alloc: Global,
     desk: &D,
     logged_in: &LoggedIn,
     number: u64,
     born: u64,
+    seconds: u32,
     gate: &mut G,
 ) -> Result<CleanLink<D::End>, Ending>
     requires logged_in { IsLoggedIn logged_in.now }
@@ -48,7 +58,7 @@ pub(crate) fn open_link<D: LinkDesk, G: Gate<D::End>>(
     let Ok(key) = Arc::try_clone(&logged_in.key) else {
         return Err(Ending::Memory);
     };
-    let Some(mut end) = desk.dial(number, &logged_in.key) else {
+    let Some(mut end) = desk.dial(number, &logged_in.key, seconds) else {
         return Err(Ending::Unreached);
     };
     gate.watch(&mut end);
@@ -56,4 +66,28 @@ pub(crate) fn open_link<D: LinkDesk, G: Gate<D::End>>(
         Ok(link) => Ok(link),
         Err(fault) => Err(Ending::Unstarted(fault.cause)),
     }
+}
+
+/// The same within the time that the settings give a server: from before it is dialled, up to its welcome.
+pub(crate) fn open_link<D: LinkDesk, G: Gate<D::End>>(
+    alloc: Global,
+    desk: &D,
+    logged_in: &LoggedIn,
+    number: u64,
+    born: u64,
+    gate: &mut G,
+) -> Result<CleanLink<D::End>, Ending>
+    requires logged_in { IsLoggedIn logged_in.now }
+    ensures key { IfOk result (λ l. l.key ≡ arc_value logged_in.now.key) }
+    ensures number { IfOk result (λ l. l.number ≡ number) }
+    ensures born { IfOk result (λ l. l.born ≡ born) }
+    ensures home { IfOk result (λ l. IsAtHome D.home l) }
+    ensures why { IfErr result (λ e. IsUnopened D.home logged_in.now e) }
+    ensures told { LetsIn D.home logged_in.now.login.users → IfErr result (λ e. MayEnd [] (owed D.home.catalogue logged_in.now [] []) (word_of e)) }
+{
+    let seconds = logged_in.login.settings().server_connect_timeout();
+    gate.limit(time_of(seconds));
+    let opened = start_anew(alloc, desk, logged_in, number, born, seconds, gate);
+    gate.limit(None);
+    opened
 }

@@ -35,15 +35,27 @@ fn refusal_told(next: Next) -> Option<Refusal>
     }
 }
 
-/// Pumps until the lease ends. A turn of the gate is taken only where nothing moved. What the client is refused by, if it is.
+/// Whether its server's connection has ended, by the relay's last answer.
+fn has_ended(next: Next) -> bool {
+    matches!(next, Next::Refuse(Refusal::ServerFailed) | Next::Closed)
+}
+
+/// Waits at the gate, which is told first what went over the link.
+fn wait<C: ClientEnd, E: ServerEnd, G: Gate<E>>(relay: &Relay<C, E>, gate: &mut G) -> Ready {
+    gate.tell(relay.counts());
+    gate.turn()
+}
+
+/// Pumps until the lease ends. A turn of the gate is taken only where nothing moved. What the client is refused by, if it is, and
+/// whether the server's connection has ended.
 fn pumped<C: ClientEnd, E: ServerEnd, G: Gate<E>>(
     relay: &mut Relay<C, E>,
     gate: &mut G,
-) -> Option<Refusal>
+) -> (Option<Refusal>, bool)
     requires runs { relay.old.phase ≡ Running }
     ensures keeps { Keeps relay.old relay.new }
-    ensures told { result ≡ refusal_at relay.new }
-    ensures refused { IfSome result (λ r. (p : Place) → IsLease p relay.old → AtBorder p relay.new × RefusedBy p relay.new r) }
+    ensures told { result.0 ≡ refusal_at relay.new }
+    ensures refused { IfSome result.0 (λ r. (p : Place) → IsLease p relay.old → AtBorder p relay.new × RefusedBy p relay.new r) }
 {
     let both = Ready {
         client: true,
@@ -53,11 +65,14 @@ fn pumped<C: ClientEnd, E: ServerEnd, G: Gate<E>>(
     for _ in 0..u64::MAX {
         next = match next {
             Next::Again => relay.pump(both),
-            Next::Wait => relay.pump(gate.turn()),
+            Next::Wait => {
+                let ready = wait(relay, gate);
+                relay.pump(ready)
+            }
             Next::ClientDone | Next::Refuse(_) | Next::Closed => break,
         };
     }
-    refusal_told(next)
+    (refusal_told(next), has_ended(next))
 }
 
 impl<'a, D: LinkDesk, G: Gate<D::End>> Worker<'a, D, G> {
@@ -95,9 +110,10 @@ impl<'a, D: LinkDesk, G: Gate<D::End>> Worker<'a, D, G> {
                 return (client, Ending::Memory);
             }
         };
-        let refusal = pumped(&mut relay, &mut self.gate);
+        let (refusal, has_ended) = pumped(&mut relay, &mut self.gate);
+        self.gate.tell(relay.counts());
         let (client, link) = relay.close_over(self.kept);
-        self.hand_back(logged_in, number, link);
+        self.hand_back(logged_in, number, link, has_ended);
         (client, Ending::Relayed(refusal))
     }
 }

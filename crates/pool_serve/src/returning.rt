@@ -8,7 +8,7 @@ ghost use Rattle.pool_serve.specs.Shares.{Ends};
 
 use crate::TURNS;
 use crate::logged_in::LoggedIn;
-use crate::noting::loss_of;
+use crate::noting::{loss_in_reset, loss_of};
 use crate::worker::Worker;
 use disposal::Verdict;
 use link_desk::answers::Release;
@@ -83,7 +83,7 @@ impl<'a, D: LinkDesk, G: Gate<D::End>> Worker<'a, D, G> {
         match self.desk.end_lease(&mut self.pass) {
             Release::Reset => match reset_link(self.alloc, link, &mut self.gate, TURNS) {
                 Ok(link) => self.give_back(link),
-                Err(_) => self.lose(logged_in, number, Loss::NotReset),
+                Err(disposed) => self.lose(logged_in, number, loss_in_reset(disposed.cause)),
             },
             Release::Dispose | Release::Last | Release::Stranger => {
                 let mut parts = link.lend();
@@ -94,8 +94,14 @@ impl<'a, D: LinkDesk, G: Gate<D::End>> Worker<'a, D, G> {
     }
 
     /// Gives the link of a client whose time has ended, of this number, back: clean as it was, or reset; or offers its server a
-    /// Terminate and reports it lost.
-    pub(crate) fn hand_back(&mut self, logged_in: &LoggedIn, number: u64, link: Returned<D::End>)
+    /// Terminate and reports it lost. The log is told if its server's connection has ended.
+    pub(crate) fn hand_back(
+        &mut self,
+        logged_in: &LoggedIn,
+        number: u64,
+        link: Returned<D::End>,
+        has_ended: bool,
+    )
         requires home { IsBackHome D.home link }
         requires own { IsOwnLease (D.holder self.old.pass) link }
         ensures share { Ends (D.told self.old.pass) (D.told self.new.pass) }
@@ -109,7 +115,7 @@ impl<'a, D: LinkDesk, G: Gate<D::End>> Worker<'a, D, G> {
                 if is_at_border(cause) {
                     offer_terminate(&mut link.end);
                 }
-                self.lose(logged_in, number, loss_of(cause));
+                self.lose(logged_in, number, loss_of(cause, has_ended));
             }
         }
     }

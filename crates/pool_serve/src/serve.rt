@@ -37,8 +37,8 @@ use server_end::gate::Gate;
 use server_end::{ClientEnd, ServerEnd};
 use std::alloc::Global;
 
-/// Goes on with a login until it has arrived, is let in or is over; or until nothing has moved for so many turns of the client, if
-/// `most` says how many. A turn is taken only where nothing moved.
+/// Goes on with a login until it has arrived, is let in or is over; or until its time is over, whatever came meanwhile, or nothing has
+/// moved for so many turns of the client, if `most` says how many. A turn is taken only where nothing moved.
 // written into no caller: the stack of a thread would have room for it as long as its client is served
 #[inline(never)]
 fn drive_login<C: ClientEnd, E: ServerEnd, G: Gate<E>>(
@@ -52,6 +52,9 @@ fn drive_login<C: ClientEnd, E: ServerEnd, G: Gate<E>>(
 {
     let mut waited: u32 = 0;
     for _ in 0..u64::MAX {
+        if gate.is_late() {
+            return LoginTurn::Over;
+        }
         match run.turn(alloc) {
             LoginTurn::Again => waited = 0,
             LoginTurn::Wait => match most {
@@ -105,7 +108,7 @@ fn dismiss<C: ClientEnd, D: LinkDesk>(
             let cancelled = pass_on(desk, &mut pass, key);
             note_cancel(desk, visit, cancelled);
         }
-        _ => note_login(desk, &run, visit, None),
+        _ => note_login(desk, &run, visit, None, false),
     }
     let (client, _, _) = run.finish();
     (client, pass)
@@ -130,6 +133,7 @@ impl<'a, D: LinkDesk, G: Gate<D::End>> Worker<'a, D, G> {
         let key = own_key(&run);
         let (client, login, _) = run.finish();
         let who = named(self.visit, self.number, key.as_ref());
+        self.gate.limit(None);
         self.desk.note(&who, &Note::LoggedIn);
         let (client, last) = serve_console(
             self.alloc,
@@ -145,7 +149,8 @@ impl<'a, D: LinkDesk, G: Gate<D::End>> Worker<'a, D, G> {
         (client, Ending::Managed(last))
     }
 
-    /// Serves the client that has arrived. One whose dialogue doesn't go on for [`TURNS`] turns is closed.
+    /// Serves the client that has arrived. One whose time is over before it is through its login, or whose dialogue doesn't go on for
+    /// [`TURNS`] turns, is closed.
     fn serve_arrived<C: ClientEnd>(&mut self, run: LoginRun<C>, word: KeyWord) -> (C, Ending)
         requires settings { AreWithinBounds run.login.settings }
         requires word { run.login.word ≡ word }
@@ -170,7 +175,8 @@ impl<'a, D: LinkDesk, G: Gate<D::End>> Worker<'a, D, G> {
             LoginTurn::Passed => {}
             LoginTurn::Console => return self.manage(run, word),
             _ => {
-                note_login(self.desk, &run, self.visit, self.number);
+                let is_late = self.gate.is_late();
+                note_login(self.desk, &run, self.visit, self.number, is_late);
                 let (client, _, _) = run.finish();
                 return (client, Ending::Left);
             }
@@ -194,6 +200,7 @@ impl<'a, D: LinkDesk, G: Gate<D::End>> Worker<'a, D, G> {
         ensures leased { HasLeased (D.holder self.old.pass) (D.holder self.new.pass) result.1 }
         ensures ended { HasEnded D.home logged_in.now AtAsking (D.told self.old.pass) (D.told self.new.pass) (C.facts client) (C.facts result.0) result.1 }
     {
+        self.gate.limit(None);
         self.note(logged_in, &Note::LoggedIn);
         let (client, ending) = self.lease(client, logged_in);
         if let Some(note) = ending_note(logged_in, &ending) {
@@ -203,7 +210,7 @@ impl<'a, D: LinkDesk, G: Gate<D::End>> Worker<'a, D, G> {
         (client, ending)
     }
 
-    /// Lets a client that arrives in, and serves it.
+    /// Lets a client that arrives in, and serves it. It may use the places beyond the limit that are its own.
     fn admit<C: ClientEnd>(&mut self, run: LoginRun<C>, word: KeyWord) -> (C, Ending)
         requires arrived { run.phase ≡ Arrived }
         requires given { IsAllGiven run }
@@ -221,7 +228,7 @@ impl<'a, D: LinkDesk, G: Gate<D::End>> Worker<'a, D, G> {
         ensures serves { run.client.tells ≡ true → LetsIn D.home run.login.users → ServesAs D.home run.login (C.facts result.0) result.1 }
     {
         runs_stand_at_pieces();
-        match self.desk.arrive(&mut self.pass) {
+        match self.arrive(&run) {
             Arrival::Client(number) => {
                 self.number = Some(number);
                 let mut run = run;
@@ -263,6 +270,9 @@ impl<'a, D: LinkDesk, G: Gate<D::End>> Worker<'a, D, G> {
 /// A client whose first packet is a CancelRequest is given no byte: the desk is asked for the lease of the key word in it, and the cancel
 /// that it answers is sent. Who asks takes no place in the book.
 ///
+/// The time that the gate has at first is that of the login, up to where the client is let in: one that is late is closed without a byte,
+/// wherever its login stands, and leaves the desk. A client that may use places beyond the limit has 10 seconds for it, from its arrival on.
+///
 /// The log is told of its refusal, of a start that failed and of a link that is lost; `visit` is what it knows the client by.
 pub fn serve<C: ClientEnd, D: LinkDesk, G: Gate<D::End> + Drop>(
     alloc: Global,
@@ -296,7 +306,7 @@ pub fn serve<C: ClientEnd, D: LinkDesk, G: Gate<D::End> + Drop>(
     let mut run = LoginRun::new(client, login);
     // a client that hasn't come yet takes no place in the book
     match drive_login(alloc, &mut run, &mut gate, None) {
-        LoginTurn::Arrived => {}
+        LoginTurn::Arrived => gate.know(),
         turn => return dismiss(desk, pass, run, turn, visit),
     }
     let mut worker = Worker {

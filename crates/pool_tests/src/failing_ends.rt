@@ -79,8 +79,8 @@ impl<'a, N: Naming> Outside for FailingDial<'a, N> {
 
     ghost home = { open_home N.catalogue };
 
-    fn dial(&self, number: u64, key: &StartKey) -> Option<FailingServer<'a>> {
-        let server = self.dialer.dial(number, key)?;
+    fn dial(&self, number: u64, key: &StartKey, seconds: u32) -> Option<FailingServer<'a>> {
+        let server = self.dialer.dial(number, key, seconds)?;
         Some(FailingServer {
             end: FailingEnd::new(server, self.next_call().max(1)),
             has_failed: self.has_failed,

@@ -1,5 +1,5 @@
 //! A client that notes how far it has come, and a gate that waits for another client.
-ghost use Rattle.std.specs.Prelude.{◌≡◌, true};
+ghost use Rattle.std.specs.Prelude.{◌≡◌, false, true};
 ghost use Rattle.server_end.specs.Moves.{ClientReads, ClientWrites, IsWithin, moved};
 
 use paced_client::PacedClient;
@@ -107,6 +107,8 @@ impl<'a, R: Clock> HoldingGate<'a, R> {
 
 impl<'a, R: Clock, E: ServerEnd> Gate<E> for HoldingGate<'a, R> {
     ghost turns = { λ g. g.turns };
+
+    ghost late = { λ g. false };
 
     fn turn(&mut self) -> Ready {
         self.turns.count();

@@ -40,10 +40,10 @@ pub const CUT: usize = 8_192;
 /// The bytes that a client is given before its first reply: AuthenticationOk, nine reports, its key word and ReadyForQuery.
 pub const WELCOME: usize = 260;
 
-/// Where the log has clients come from.
-fn visit() -> Visit {
+/// A client's connection from this host, or over a Unix socket: `unix`.
+fn visit(host: &str) -> Visit {
     Visit {
-        host: match ArrayString::from("127.0.0.1") {
+        host: match ArrayString::from(host) {
             Ok(host) => host,
             Err(_) => ArrayString::new(),
         },
@@ -151,8 +151,34 @@ pub fn is_free<K: Ledgers>(pass: &Pass<K>) -> bool
     )
 }
 
-/// Serves a client of this key word by this desk, in the buffers that are kept or in new ones, and hands back its end and the pass; `None`
-/// where somebody holds the pass.
+/// Serves a client of this key word, which comes from this host, by this desk, in the buffers that are kept or in new ones, and hands back
+/// its end and the pass; `None` where somebody holds the pass.
+fn serve_at<C: ClientEnd, R: Wait + Clock, S: Outside, T: Gate<S::End> + Drop, K: Ledgers>(
+    alloc: Global,
+    desk: &Desk<R, S, K>,
+    pass: Pass<K>,
+    client: C,
+    login: Login,
+    word: KeyWord,
+    gate: T,
+    host: &str,
+    kept: &mut Option<Buffers>,
+) -> Option<(C, Pass<K>)>
+    requires awaiting { login.awaiting ≡ AwaitsPacket (AtFirst false false) }
+    requires held { login.held ≡ [] }
+    requires word { login.word ≡ word }
+    requires settings { AreWithinBounds login.settings }
+    requires taken { (C.facts client).tells ≡ true → (C.facts client).taken ≡ [] }
+    requires given { (C.facts client).tells ≡ true → (C.facts client).given ≡ [] }
+{
+    if !is_free(&pass) {
+        return None;
+    }
+    let visit = visit(host);
+    Some(serve(alloc, desk, pass, client, login, word, gate, visit, kept))
+}
+
+/// The same of a client that comes from 127.0.0.1.
 pub fn serve_in<C: ClientEnd, R: Wait + Clock, S: Outside, T: Gate<S::End> + Drop, K: Ledgers>(
     alloc: Global,
     desk: &Desk<R, S, K>,
@@ -170,13 +196,51 @@ pub fn serve_in<C: ClientEnd, R: Wait + Clock, S: Outside, T: Gate<S::End> + Dro
     requires taken { (C.facts client).tells ≡ true → (C.facts client).taken ≡ [] }
     requires given { (C.facts client).tells ≡ true → (C.facts client).given ≡ [] }
 {
-    if !is_free(&pass) {
-        return None;
-    }
-    Some(serve(alloc, desk, pass, client, login, word, gate, visit(), kept))
+    serve_at(
+        alloc,
+        desk,
+        pass,
+        client,
+        login,
+        word,
+        gate,
+        "127.0.0.1",
+        kept,
+    )
 }
 
-/// The same of the client with this number.
+/// The same of the client with this number, which comes from this host.
+pub fn serve_from<C: ClientEnd, R: Wait + Clock, S: Outside, T: Gate<S::End> + Drop, K: Ledgers>(
+    alloc: Global,
+    desk: &Desk<R, S, K>,
+    pass: Pass<K>,
+    client: C,
+    login: Login,
+    number: u32,
+    gate: T,
+    host: &str,
+) -> Option<(C, Pass<K>)>
+    requires awaiting { login.awaiting ≡ AwaitsPacket (AtFirst false false) }
+    requires held { login.held ≡ [] }
+    requires word { login.word ≡ key_word number }
+    requires settings { AreWithinBounds login.settings }
+    requires taken { (C.facts client).tells ≡ true → (C.facts client).taken ≡ [] }
+    requires given { (C.facts client).tells ≡ true → (C.facts client).given ≡ [] }
+{
+    serve_at(
+        alloc,
+        desk,
+        pass,
+        client,
+        login,
+        word(number),
+        gate,
+        host,
+        &mut None,
+    )
+}
+
+/// The same of one that comes from 127.0.0.1.
 pub fn serve_by<C: ClientEnd, R: Wait + Clock, S: Outside, T: Gate<S::End> + Drop, K: Ledgers>(
     alloc: Global,
     desk: &Desk<R, S, K>,
@@ -193,14 +257,5 @@ pub fn serve_by<C: ClientEnd, R: Wait + Clock, S: Outside, T: Gate<S::End> + Dro
     requires taken { (C.facts client).tells ≡ true → (C.facts client).taken ≡ [] }
     requires given { (C.facts client).tells ≡ true → (C.facts client).given ≡ [] }
 {
-    serve_in(
-        alloc,
-        desk,
-        pass,
-        client,
-        login,
-        word(number),
-        gate,
-        &mut None,
-    )
+    serve_from(alloc, desk, pass, client, login, number, gate, "127.0.0.1")
 }

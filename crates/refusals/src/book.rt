@@ -3,6 +3,7 @@ ghost use Rattle.lease_book.specs.Links.{IsTwice};
 
 use crate::making::{key, limits};
 use crate::told::{put_numbers, put_unless};
+use book_model::events::Beyond;
 use book_register::view::BookView;
 use lease_book::book::Book;
 use lease_book::events::{Event, Reply};
@@ -32,7 +33,10 @@ fn happens(book: &mut Book<GoneEnd>, event: Event<GoneEnd>) -> Reply<GoneEnd>
 
 /// A client comes and asks for a link of this key; its number.
 fn comes(book: &mut Book<GoneEnd>, key: &Arc<StartKey>) -> Result<u64, AllocError> {
-    let Reply::Client(client) = happens(book, Event::Arrive) else {
+    let arrival = Event::Arrive {
+        beyond: Beyond::Nothing,
+    };
+    let Reply::Client(client) = happens(book, arrival) else {
         return Err(AllocError);
     };
     let again = Arc::try_clone(key)?;

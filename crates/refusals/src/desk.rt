@@ -9,6 +9,7 @@ use crate::KEY_WORD;
 use crate::book::put_view;
 use crate::files::catalogue;
 use crate::making::{CUT, key, limits};
+use book_model::events::Beyond;
 use desk_tallies::ledgers::Ledgers;
 use desk_tallies::tallies::Blanks;
 use link_desk::answers::Arrival;
@@ -40,7 +41,7 @@ fn put_desk<N: Naming, K: Ledgers, R: Wait + Clock + Drop>(
     let Some(mut pass) = desk.pass() else {
         return Err(AllocError);
     };
-    let Arrival::Client(_) = desk.arrive(&mut pass) else {
+    let Arrival::Client(_) = desk.arrive(&mut pass, Beyond::Nothing) else {
         return Err(AllocError);
     };
     let _ = desk.ask(&mut pass, &key);

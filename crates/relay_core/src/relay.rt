@@ -15,7 +15,7 @@ use message_view::KeyWord;
 use relay_flow::buffers::Buffers;
 use relay_flow::flow::Flow;
 use relay_laws::{Flags, Next, Phase};
-use server_end::gate::Ready;
+use server_end::gate::{Counts, Ready};
 use server_end::{ClientEnd, ServerEnd};
 use std::alloc::Global;
 use std::marker::Model;
@@ -210,6 +210,21 @@ impl<C: ClientEnd, E: ServerEnd> Relay<C, E> {
     {
         (self.is_quiet() && self.to_client.part_is_empty())
             && (self.to_link.held_is_empty() && !self.to_link.is_faulty())
+    }
+
+    /// What went over the link so far.
+    pub fn counts(&self) -> Counts
+        ensures asked { result.asked ≡ self.now.told.tally.asked }
+        ensures answered { result.answered ≡ self.now.told.tally.answered }
+        ensures ended { result.ended ≡ self.now.told.tally.ended }
+        ensures status { result.status ≡ self.now.told.tally.status }
+    {
+        Counts {
+            asked: self.traffic.asked(),
+            answered: self.traffic.answered(),
+            ended: self.traffic.ended(),
+            status: self.traffic.status(),
+        }
     }
 
     /// The lease ends: the client's end, and the link for what it is worth.

@@ -11,6 +11,8 @@ mod gates;
 #[cfg(test)]
 mod keys;
 #[cfg(test)]
+mod limits;
+#[cfg(test)]
 mod listeners;
 #[cfg(test)]
 mod logs;
@@ -20,6 +22,8 @@ mod loopback;
 mod pairs;
 #[cfg(test)]
 mod pools;
+#[cfg(test)]
+mod sights;
 #[cfg(test)]
 mod stubs;
 #[cfg(test)]

@@ -1,5 +1,5 @@
 //! The one place where a worker waits for bytes.
-ghost use Rattle.std.specs.Prelude.{◌≡◌, ◌+◌, ℕ, true};
+ghost use Rattle.std.specs.Prelude.{◌≡◌, ◌+◌, ℕ, Bool, false, true};
 
 use crate::ServerEnd;
 use crate::transcript::Transcript;
@@ -10,6 +10,19 @@ use std::marker::Model;
 pub struct Ready {
     pub client: bool,
     pub server: bool,
+}
+
+/// What went over a link so far.
+#[derive(Clone, Copy, PartialEq, Eq, Drop)]
+pub struct Counts {
+    /// Messages that were sent and are answered by a ReadyForQuery.
+    pub asked: u64,
+    /// ReadyForQuery that came.
+    pub answered: u64,
+    /// Those of them that told of no block: so many transactions ended.
+    pub ended: u64,
+    /// The status that was told last.
+    pub status: Option<u8>,
 }
 
 /// How many turns a gate has taken. Only clauses read it: it takes no memory.
@@ -54,6 +67,9 @@ impl TurnCount {
 pub trait Gate<E: ServerEnd> {
     ghost turns: { Self → ℕ };
 
+    /// The time that was set is over.
+    ghost late: { Self → Bool };
+
     /// Waits until a side may be tried, or for as long as the gate waits at most.
     fn turn(&mut self) -> Ready
         ensures { turns self.new ≡ turns self.old + 1 };
@@ -66,6 +82,29 @@ pub trait Gate<E: ServerEnd> {
     /// are for a client that is silent.
     fn turn_of_link(&mut self)
         ensures { turns self.new ≡ turns self.old + 1 };
+
+    /// From now on the worker has so many seconds, whatever comes meanwhile; `None`: for ever. Nothing is claimed of when they are over.
+    fn limit(&mut self, _seconds: Option<u32>)
+        ensures { turns self.new ≡ turns self.old }
+    {}
+
+    /// Whether they are over.
+    fn is_late(&mut self) -> bool
+        ensures late { result ≡ true → late self.new ≡ true }
+        ensures turns { turns self.new ≡ turns self.old }
+    {
+        false
+    }
+
+    /// The client has said who it is.
+    fn know(&mut self)
+        ensures { turns self.new ≡ turns self.old }
+    {}
+
+    /// What went over the link, before a turn. Who hears it, and that anybody does, isn't claimed.
+    fn tell(&mut self, _counts: Counts)
+        ensures { turns self.new ≡ turns self.old }
+    {}
 
     /// Whether the client is known to have gone. It takes no byte, and waits for nothing.
     fn client_has_left(&mut self) -> bool
@@ -112,6 +151,8 @@ impl OpenGate {
 
 impl<E: ServerEnd> Gate<E> for OpenGate {
     ghost turns = { λ g. g.turns };
+
+    ghost late = { λ g. false };
 
     fn turn(&mut self) -> Ready
         ensures turns { self.new.turns ≡ self.old.turns + 1 }

@@ -22,6 +22,8 @@ pub(crate) enum Talk {
     Shows,
     /// It asks, and stays.
     ShowsAndStays,
+    /// It asks, and leaves at once.
+    ShowsAndLeaves,
     /// It leaves a block open.
     Begins,
     /// It sends a Query of length 3.
@@ -43,6 +45,10 @@ pub(crate) enum Talk {
     /// It answers the question for its password.
     RightPassword,
     WrongPassword,
+    /// It says 10,000 bytes one by one: of a StartupMessage; of the answer to that question; and of that of the console.
+    DripsAtFirst,
+    Drips,
+    DripsToConsole,
 }
 
 /// ReadyForQuery outside a block, and inside.
@@ -62,6 +68,8 @@ const WRONG: &[u8] = b"p\0\0\0\x28md500000000000000000000000000000000\0";
 
 const SHOW_NAME: &[u8] = b"Q\0\0\0\x1aSHOW application_name\0";
 
+const SHOW_NAME_AND_LEAVE: &[u8] = b"Q\0\0\0\x1aSHOW application_name\0X\0\0\0\x04";
+
 /// The first packet.
 fn first(talk: Talk) -> &'static [u8] {
     match talk {
@@ -73,7 +81,9 @@ fn first(talk: Talk) -> &'static [u8] {
         Talk::AsBob => b"\0\0\0\x20\0\x03\0\0user\0bob\0database\0shop\0\0",
         Talk::ToOther => b"\0\0\0\x21\0\x03\0\0user\0ann\0database\0other\0\0",
         Talk::Cancels => b"\0\0\0\x10\x04\xd2\x16\x2e\0\0\0\x01\0\0\0\x01",
-        Talk::ToConsole => b"\0\0\0\x25\0\x03\0\0user\0ann\0database\0pgbouncer\0\0",
+        Talk::ToConsole | Talk::DripsToConsole =>
+            b"\0\0\0\x25\0\x03\0\0user\0ann\0database\0pgbouncer\0\0",
+        Talk::DripsAtFirst => b"\0\0\x27\x10\0\x03\0\0",
         _ => START,
     }
 }
@@ -84,6 +94,7 @@ fn then(talk: Talk, at: usize) -> Option<(&'static [u8], &'static [u8])> {
         (Talk::Leaves | Talk::LeavesAsA | Talk::LeavesAsB, 0) => Some((READY, TERMINATE)),
         (Talk::Shows | Talk::ShowsAndStays, 0) => Some((READY, SHOW_NAME)),
         (Talk::Shows, 1) => Some((READY, TERMINATE)),
+        (Talk::ShowsAndLeaves, 0) => Some((READY, SHOW_NAME_AND_LEAVE)),
         (Talk::Begins, 0) => Some((READY, b"Q\0\0\0\x0aBEGIN\0")),
         (Talk::Begins, 1) => Some((IN_BLOCK, TERMINATE)),
         (Talk::Malformed, 0) => Some((READY, b"Q\0\0\0\x03")),
@@ -98,6 +109,8 @@ fn then(talk: Talk, at: usize) -> Option<(&'static [u8], &'static [u8])> {
         (Talk::RightPassword, 0) => Some((QUESTION, RIGHT)),
         (Talk::RightPassword, 1) => Some((READY, TERMINATE)),
         (Talk::WrongPassword, 0) => Some((QUESTION, WRONG)),
+        (Talk::Drips | Talk::DripsToConsole, 0) => Some((QUESTION, b"p\0\0\x27\x10")),
+        (Talk::DripsAtFirst | Talk::Drips | Talk::DripsToConsole, _) => Some((b"", b"a")),
         _ => None,
     }
 }

@@ -2,9 +2,13 @@
 #![tactic(auto)]
 
 #[cfg(test)]
+mod gates;
+#[cfg(test)]
 mod guests;
 #[cfg(test)]
 mod meanwhile;
+#[cfg(test)]
+mod places;
 #[cfg(test)]
 mod refused_rows;
 #[cfg(test)]

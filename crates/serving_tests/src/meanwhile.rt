@@ -1,5 +1,6 @@
 //! What else happens at a desk while its workers serve.
-use crate::servers::{Servers, TestServer};
+use crate::servers::Servers;
+use book_model::events::Beyond;
 use desk_tallies::ledgers::Ledgers;
 use desk_tallies::passes::Pass;
 use link_desk::answers::{Cancelled, Grant};
@@ -9,7 +10,6 @@ use message_view::KeyView;
 use pool_desk::answers::Changed;
 use pool_desk::desk::Desk;
 use pool_tests::worker_parts::{TestRuntime, key, limits};
-use server_end::gate::{Gate, Ready, TurnCount};
 use std::alloc::{AllocError, Global};
 use std::rt::Clock;
 use std::sync::atomic::{AtomicBool, Ordering};
@@ -51,7 +51,7 @@ pub(crate) enum Moment {
 fn arrives<R: Wait + Clock, K: Ledgers>(desk: &TestDesk<R, K>, pass: &mut Pass<K>) -> bool {
     match pass.holder().client {
         None => {
-            desk.arrive(pass);
+            desk.arrive(pass, Beyond::Nothing);
             true
         }
         Some(_) => false,
@@ -184,6 +184,12 @@ impl Notes {
         }
     }
 
+    /// A gate is at a turn: it waits until what is to happen then has happened.
+    pub(crate) fn hold(&self, rt: &impl Clock) {
+        self.turned.store(true, Ordering::SeqCst);
+        wait_for(rt, &self.happened);
+    }
+
     /// Has this happen in its moment.
     pub(crate) fn follow<R: TestRuntime, K: Ledgers>(
         &self,
@@ -202,55 +208,5 @@ impl Notes {
         let happens = act.happens(alloc, desk, pass)?;
         self.happened.store(true, Ordering::SeqCst);
         Ok(happens)
-    }
-}
-
-/// A gate that never waits but at its first turn, or the first of a lease, until what is to happen then has happened.
-#[derive(Drop)]
-pub(crate) struct TurnedGate<'a, R: Clock + Drop> {
-    pub rt: R,
-    pub notes: &'a Notes,
-    /// It is a turn of a lease that lasts: one of both ends.
-    pub is_of_lease: bool,
-    /// Its client is seen to have gone.
-    pub goes: bool,
-    pub turns: TurnCount,
-}
-
-impl<'a, R: Clock + Drop> TurnedGate<'a, R> {
-    fn hold(&self) {
-        self.notes.turned.store(true, Ordering::SeqCst);
-        wait_for(&self.rt, &self.notes.happened);
-    }
-}
-
-impl<'a, R: Clock + Drop> Gate<TestServer> for TurnedGate<'a, R> {
-    ghost turns = { λ g. g.turns };
-
-    fn turn(&mut self) -> Ready {
-        self.turns.count();
-        self.hold();
-        Ready {
-            client: true,
-            server: true,
-        }
-    }
-
-    fn turn_of_client(&mut self) {
-        self.turns.count();
-        if !self.is_of_lease {
-            self.hold();
-        }
-    }
-
-    fn turn_of_link(&mut self) {
-        self.turns.count();
-        if !self.is_of_lease {
-            self.hold();
-        }
-    }
-
-    fn client_has_left(&mut self) -> bool {
-        self.goes
     }
 }

@@ -1,4 +1,5 @@
 //! Clients that are refused, or closed.
+use crate::gates::TurnClock;
 use crate::guests::Talk;
 use crate::meanwhile::{Act, Moment};
 use crate::rows::{Client, Last, NONE, QUIET, Row, Under};
@@ -134,6 +135,66 @@ pub(crate) fn silent() -> Row {
             given_back: 1,
             left: 2,
             others: 3,
+            ..NONE
+        },
+        ..QUIET
+    }
+}
+
+/// Two clients whose bytes come one by one are closed after a minute, the second of which has arrived: the next has its place, the only one.
+pub(crate) fn late_in_its_login() -> Row {
+    Row {
+        clients: 1,
+        clock: TurnClock::Left(Some(60)),
+        served: &[
+            Client {
+                talk: Talk::DripsAtFirst,
+                under: Under::Md5,
+                before: 0,
+                last: Last::Nothing,
+            },
+            Client {
+                talk: Talk::Drips,
+                under: Under::Md5,
+                before: 0,
+                last: Last::Question,
+            },
+            Client {
+                talk: Talk::Leaves,
+                under: Under::Trust,
+                before: 246,
+                last: Last::Welcome(3),
+            },
+        ],
+        idle: &[1],
+        sums: [1, 0, 0, 0, 0],
+        noted: [1, 0, 0],
+        totals: Totals {
+            arrived: 2,
+            granted: 1,
+            given_back: 1,
+            left: 2,
+            others: 3,
+            ..NONE
+        },
+        ..QUIET
+    }
+}
+
+/// Where a login has no time, one at the console has ten seconds.
+pub(crate) fn late_at_the_console() -> Row {
+    Row {
+        clock: TurnClock::Left(None),
+        served: &[Client {
+            talk: Talk::DripsToConsole,
+            under: Under::AdminMd5,
+            before: 0,
+            last: Last::Question,
+        }],
+        noted: [1, 0, 0],
+        totals: Totals {
+            arrived: 1,
+            left: 1,
             ..NONE
         },
         ..QUIET
@@ -288,6 +349,40 @@ pub(crate) fn dead_in_its_start() -> Row {
     }
 }
 
+/// Servers whose bytes come one by one: the first isn't through its start after 15 seconds, the second has the time that it takes.
+pub(crate) fn late_in_its_start() -> Row {
+    Row {
+        behind: Behind::Slow,
+        clock: TurnClock::Left(Some(60)),
+        served: &[
+            Client {
+                talk: Talk::Stays,
+                under: Under::Trust,
+                before: 9,
+                last: Last::Refusal(Refusal::ServerNotReached),
+            },
+            Client {
+                talk: Talk::Leaves,
+                under: Under::Patient,
+                before: 246,
+                last: Last::Welcome(2),
+            },
+        ],
+        idle: &[2],
+        sums: [2, 0, 0, 0, 1],
+        noted: [0, 1, 0],
+        totals: Totals {
+            arrived: 2,
+            granted: 2,
+            given_back: 1,
+            lost: 1,
+            left: 2,
+            others: 4,
+        },
+        ..QUIET
+    }
+}
+
 /// A server refuses the start by an error of its own, which the client is told.
 pub(crate) fn refused_by_its_server() -> Row {
     Row {
@@ -323,6 +418,7 @@ pub(crate) fn dead_at_a_border() -> Row {
         }],
         times: 10,
         sums: [10, 0, 0, 10, 0],
+        noted: [0, 0, 10],
         totals: Totals {
             arrived: 10,
             granted: 10,
@@ -346,12 +442,38 @@ pub(crate) fn dead_in_a_message() -> Row {
             last: Last::NameBegun,
         }],
         sums: [1, 0, 0, 1, 0],
+        noted: [0, 0, 1],
         totals: Totals {
             arrived: 1,
             granted: 1,
             lost: 1,
             left: 1,
             others: 2,
+            ..NONE
+        },
+        ..QUIET
+    }
+}
+
+/// A server dies within the answer to the reset of its link, of which its client hears nothing.
+pub(crate) fn dead_in_its_reset() -> Row {
+    Row {
+        behind: Behind::Mortals(335),
+        served: &[Client {
+            talk: Talk::Shows,
+            under: Under::Trust,
+            before: 260,
+            last: Last::Name,
+        }],
+        sums: [1, 0, 0, 1, 0],
+        seen: [0, 1],
+        noted: [0, 0, 1],
+        totals: Totals {
+            arrived: 1,
+            granted: 1,
+            lost: 1,
+            left: 1,
+            others: 3,
             ..NONE
         },
         ..QUIET

@@ -1,4 +1,5 @@
 //! The table of the workers: who comes, what stands behind the desk, and what comes of it.
+use crate::gates::TurnClock;
 use crate::guests::{QUESTION, Talk};
 use crate::meanwhile::{Act, Moment};
 use crate::servers::{Behind, START_ERROR};
@@ -17,6 +18,10 @@ pub(crate) enum Under {
     Short,
     /// Ann may use the console.
     Admin,
+    /// She may, with an MD5 password.
+    AdminMd5,
+    /// A server may take as long for a start as it likes.
+    Patient,
 }
 
 impl Under {
@@ -29,6 +34,10 @@ impl Under {
                 b"[databases]\nshop = host=127.0.0.1 port=5432 dbname=shop\n[pgbouncer]\nauth_type = trust\nmax_packet_size = 2000\n",
             Under::Admin =>
                 b"[databases]\nshop = host=127.0.0.1 port=5432 dbname=shop\n[pgbouncer]\nauth_type = trust\nadmin_users = ann\n",
+            Under::AdminMd5 =>
+                b"[databases]\nshop = host=127.0.0.1 port=5432 dbname=shop\n[pgbouncer]\nauth_type = md5\nadmin_users = ann\n",
+            Under::Patient =>
+                b"[databases]\nshop = host=127.0.0.1 port=5432 dbname=shop\n[pgbouncer]\nauth_type = trust\nserver_connect_timeout = 0\n",
         }
     }
 }
@@ -62,6 +71,7 @@ fn welcome(number: u8) -> &'static [u8] {
     match number {
         1 => b"\0\0\0\x01\0\0\0\x01Z\0\0\0\x05I",
         2 => b"\0\0\0\x02\0\0\0\x02Z\0\0\0\x05I",
+        3 => b"\0\0\0\x03\0\0\0\x03Z\0\0\0\x05I",
         _ => b"",
     }
 }
@@ -108,6 +118,8 @@ pub(crate) struct Row {
     pub first: Act,
     pub act: Act,
     pub moment: Moment,
+    /// The clock of each client's gate.
+    pub clock: TurnClock,
     /// The clients that are served, one after the other, so many times.
     pub served: &'static [Client],
     pub times: u32,
@@ -121,6 +133,9 @@ pub(crate) struct Row {
     pub sums: [u64; 5],
     /// How many Terminates and resets the servers saw.
     pub seen: [u64; 2],
+    /// Of how many logins the log is told that they were late, of how many starts, and of how many lost links that their servers'
+    /// connections had ended.
+    pub noted: [u64; 3],
     pub totals: Totals,
 }
 
@@ -142,6 +157,7 @@ pub(crate) const QUIET: Row = Row {
     first: Act::Nothing,
     act: Act::Nothing,
     moment: Moment::Never,
+    clock: TurnClock::Still,
     served: &[],
     times: 1,
     go: false,
@@ -150,5 +166,6 @@ pub(crate) const QUIET: Row = Row {
     idle: &[],
     sums: [0; 5],
     seen: [0; 2],
+    noted: [0; 3],
     totals: NONE,
 };

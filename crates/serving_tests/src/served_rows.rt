@@ -70,6 +70,30 @@ pub(crate) fn reset_byte_by_byte() -> Row {
     }
 }
 
+/// A client leaves as soon as it has asked: it was given its answer before, and its link is reset.
+pub(crate) fn left_at_once() -> Row {
+    Row {
+        served: &[Client {
+            talk: Talk::ShowsAndLeaves,
+            under: Under::Trust,
+            before: 260,
+            last: Last::Name,
+        }],
+        idle: &[1],
+        sums: [1, 0, 0, 0, 0],
+        seen: [0, 1],
+        totals: Totals {
+            arrived: 1,
+            granted: 1,
+            given_back: 1,
+            left: 1,
+            others: 3,
+            ..NONE
+        },
+        ..QUIET
+    }
+}
+
 /// A client leaves a block open: its link is closed, and its server is told so.
 pub(crate) fn left_in_a_block() -> Row {
     Row {

@@ -4,6 +4,7 @@ ghost use Rattle.link_laws.specs.Standing.{Moves};
 ghost use Rattle.serving_tests.specs.Ends.{unfollowed};
 ghost use Rattle.server_end.specs.Moves.{CountsRead, CountsWrite, IsWithin, moved};
 
+use log_lines::notes::{Client, Loss, Note, Unstarted};
 use memory_ends::memory_server::{MemoryServer, ServerAuth};
 use pool_desk::answers::Strike;
 use pool_desk::outside::Outside;
@@ -36,11 +37,15 @@ pub(crate) enum Behind {
 pub(crate) const START_ERROR: &[u8] =
     b"E\0\0\0\x3eSFATAL\0VFATAL\0C57P03\0Mthe database system is starting up\0\0";
 
-/// How many Terminates, and how many resets, were written to the servers.
+/// How many Terminates, and how many resets, were written to the servers; and of how many logins that were late, starts that were late,
+/// and links whose servers' connections had ended the log was told.
 #[derive(Drop)]
 pub(crate) struct Seen {
     pub terminates: AtomicU64,
     pub resets: AtomicU64,
+    pub late_logins: AtomicU64,
+    pub late_starts: AtomicU64,
+    pub ended_links: AtomicU64,
 }
 
 impl Seen {
@@ -154,6 +159,9 @@ impl Servers {
         let seen = Seen {
             terminates: AtomicU64::new(0),
             resets: AtomicU64::new(0),
+            late_logins: AtomicU64::new(0),
+            late_starts: AtomicU64::new(0),
+            ended_links: AtomicU64::new(0),
         };
         Ok(Servers {
             alloc,
@@ -210,7 +218,7 @@ impl Outside for Servers {
 
     ghost home = { unknown_home };
 
-    fn dial(&self, _number: u64, _key: &StartKey) -> Option<TestServer> {
+    fn dial(&self, _number: u64, _key: &StartKey, _seconds: u32) -> Option<TestServer> {
         if let Behind::Nobody = self.behind {
             return None;
         }
@@ -225,4 +233,14 @@ impl Outside for Servers {
     }
 
     fn strike(&self, _strike: &Strike) {}
+
+    fn note(&self, _client: &Client<'_>, note: &Note<'_>) {
+        let count = match note {
+            Note::Late => &self.seen.late_logins,
+            Note::Unstarted(_, Unstarted::TimedOut) => &self.seen.late_starts,
+            Note::LinkLost(_, Loss::Ended) => &self.seen.ended_links,
+            _ => return,
+        };
+        count.fetch_add(1, Ordering::SeqCst);
+    }
 }

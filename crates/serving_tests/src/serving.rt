@@ -3,8 +3,9 @@ ghost use Rattle.std.specs.Prelude.{◌≡◌};
 ghost use Rattle.desk_tallies.specs.declared.passes.TheConstants.{ALL_PARTS};
 ghost use Rattle.desk_tallies.specs.Shares.{names_of, of_each, parts_of};
 
-use crate::guests::Guest;
-use crate::meanwhile::{Moment, Notes, TestDesk, TurnedGate};
+use crate::gates::{Told, TurnedGate};
+use crate::guests::{Guest, QUESTION, READY, Talk};
+use crate::meanwhile::{Moment, Notes, TestDesk};
 use crate::rows::{Client, Row};
 use crate::servers::{Seen, Servers};
 use crate::{refused_rows as refused, served_rows as served};
@@ -13,6 +14,7 @@ use book_rows::links::Link;
 use desk_tallies::ledgers::Ledgers;
 use desk_tallies::passes::{Pass, Totals};
 use desk_tallies::tallies::Blanks;
+use link_desk::calls::Call;
 use link_desk::desk::LinkDesk;
 use play_tests::files::catalogue;
 use pool_desk::desk::Desk;
@@ -33,13 +35,56 @@ enum Departure {
     Shown,
     /// What the servers saw.
     Seen,
+    /// What the log was told.
+    Noted,
     Totals(Totals),
 }
 
 /// Whether so many bytes were given, and then the last of the client.
-fn is_told(given: &[u8], client: &Client) -> bool {
+pub(crate) fn is_told(given: &[u8], client: &Client) -> bool {
     let last = client.last.bytes();
     given.len().checked_sub(last.len()) == Some(client.before) && given.ends_with(last)
+}
+
+/// Whether a client was let in that was given this: it has AuthenticationOk at its first or its second message.
+fn is_let_in(given: &[u8]) -> bool {
+    let behind = given.strip_prefix(QUESTION).unwrap_or(given);
+    behind.starts_with(b"R\0\0\0\x08\0\0\0\0")
+}
+
+/// How often these bytes begin somewhere in what a client was given.
+fn times(given: &[u8], wanted: &[u8]) -> u64 {
+    let mut count: u64 = 0;
+    for at in 0..given.len() {
+        if given[at..].starts_with(wanted) {
+            count = count.saturating_add(1);
+        }
+    }
+    count
+}
+
+/// Whether a client's gate was told of its lease that each ReadyForQuery behind its welcome was an answer, and each of those that tell of
+/// no block the end of a transaction. At the console there is no lease.
+fn is_counted(told: &Told, talk: Talk, given: &[u8]) -> bool {
+    if let Talk::ToConsole = talk {
+        return true;
+    }
+    let answered = times(given, b"Z\0\0\0\x05").saturating_sub(1);
+    let ended = times(given, READY).saturating_sub(1);
+    told.has_counted(answered, ended)
+}
+
+/// Whether the gate was told what it is to be told of a client that was given this.
+fn is_heard(told: &Told, talk: Talk, given: &[u8], has_come: bool) -> bool {
+    told.is_of(has_come, is_let_in(given)) && is_counted(told, talk, given)
+}
+
+/// Whether a client came to the desk by this pass, as its last call tells.
+fn has_come<K: Ledgers>(pass: &Pass<K>) -> bool {
+    matches!(
+        pass.holder().last,
+        Some(Call::Leave(_)) | Some(Call::Arrive(_))
+    )
 }
 
 /// Serves a client through this pass, while the row's act happens through the other: the pass, and whether it was given what it is
@@ -56,12 +101,14 @@ fn served_once<R: TestRuntime, K: Ledgers + Send + Sync>(
 ) -> Result<(Pass<K>, bool), AllocError> {
     let notes = Notes::new(row.moment);
     let shared = &notes;
-    let goes = row.go;
+    let told = Told::new();
     let gate = TurnedGate {
         rt,
         notes: shared,
         is_of_lease: matches!(row.moment, Moment::AtLease),
-        goes,
+        goes: row.go,
+        clock: row.clock,
+        told: &told,
         turns: TurnCount::new(),
     };
     let login = login_by(alloc, client.under.settings(), number)?;
@@ -80,7 +127,8 @@ fn served_once<R: TestRuntime, K: Ledgers + Send + Sync>(
         return Err(AllocError);
     };
     let is_told = is_told(guest.given(), client);
-    Ok((pass, is_told && happened))
+    let is_heard = is_heard(&told, client.talk, guest.given(), has_come(&pass));
+    Ok((pass, is_told && is_heard && happened))
 }
 
 /// Serves the row's clients one after the other: the pass, and the number of the first that wasn't given what it is to be given.
@@ -137,6 +185,13 @@ fn have_seen(seen: &Seen, row: &Row) -> bool {
     [terminates, resets] == row.seen
 }
 
+fn are_noted(seen: &Seen, row: &Row) -> bool {
+    let logins = seen.late_logins.load(Ordering::SeqCst);
+    let starts = seen.late_starts.load(Ordering::SeqCst);
+    let links = seen.ended_links.load(Ordering::SeqCst);
+    [logins, starts, links] == row.noted
+}
+
 /// What happens at a desk by this row, and where it departs from it, but for the totals.
 fn happens<R: TestRuntime, K: Ledgers + Send + Sync>(
     rt: R,
@@ -187,6 +242,9 @@ fn departure_from<R: TestRuntime, K: Ledgers + Send + Sync>(
     if !have_seen(&seen, row) {
         return Ok(Some(Departure::Seen));
     }
+    if !are_noted(&seen, row) {
+        return Ok(Some(Departure::Noted));
+    }
     Ok(None)
 }
 
@@ -214,6 +272,10 @@ fn refused_at(at: usize) -> Option<Row> {
         13 => Some(refused::malformed_by_its_server()),
         14 => Some(refused::malformed_or_too_long()),
         15 => Some(refused::gone_while_waiting()),
+        16 => Some(refused::late_in_its_login()),
+        17 => Some(refused::late_at_the_console()),
+        18 => Some(refused::late_in_its_start()),
+        19 => Some(refused::dead_in_its_reset()),
         _ => None,
     }
 }
@@ -232,13 +294,14 @@ fn served_at(at: usize) -> Option<Row> {
         8 => Some(served::cancelled()),
         9 => Some(served::cancelled_unused()),
         10 => Some(served::cancelled_too_late()),
+        11 => Some(served::left_at_once()),
         _ => None,
     }
 }
 
 #[test]
 fn each_is_told_why_it_is_refused(rt: HostRuntime) -> Result<(), Fail> {
-    for at in 0..16usize {
+    for at in 0..20usize {
         let Some(row) = refused_at(at) else {
             break;
         };
@@ -249,7 +312,7 @@ fn each_is_told_why_it_is_refused(rt: HostRuntime) -> Result<(), Fail> {
 
 #[test]
 fn each_link_is_kept_or_closed(rt: HostRuntime) -> Result<(), Fail> {
-    for at in 0..11usize {
+    for at in 0..12usize {
         let Some(row) = served_at(at) else {
             break;
         };

@@ -17,6 +17,9 @@ const SHOP_PLAIN: &[u8] =
 const SHOP_MD5: &[u8] =
     b"[databases]\nshop = host=127.0.0.1 port=5432 dbname=shop\n[pgbouncer]\nadmin_users = root\n";
 
+const LOOKED_AT: &[u8] =
+    b"[databases]\nshop = host=127.0.0.1\n[pgbouncer]\nauth_type = plain\nadmin_users = root\nstats_users = bc\n";
+
 const USERS: &[u8] =
     b"\"ann\" \"secret\"\n\"bc\" \"md5900150983cd24fb0d6963f7d28e17f72\"\n\"root\" \"r\"\n";
 
@@ -362,6 +365,81 @@ fn users_databases_and_the_console(rt: HostRuntime) -> Result<(), Fail> {
     ];
     for (start, out, end) in rows {
         assert!(rt; is_login(rt.alloc(), SHOP, &[start], out, end, 0)?);
+    }
+    Ok(())
+}
+
+const ROOT_AT_CONSOLE: &[u8] = b"\0\0\0\x26\0\x03\0\0user\0root\0database\0pgbouncer\0\0";
+
+const BC_AT_CONSOLE: &[u8] = b"\0\0\0\x24\0\x03\0\0user\0bc\0database\0pgbouncer\0\0";
+
+const ANN_AT_CONSOLE: &[u8] = b"\0\0\0\x25\0\x03\0\0user\0ann\0database\0pgbouncer\0\0";
+
+const ROOT: &[u8] = b"\0\0\0\x21\0\x03\0\0user\0root\0database\0shop\0\0";
+
+// One of `stats_users` enters the console as one of `admin_users` does, by its own password.
+#[test]
+fn who_may_look_enters_the_console(rt: HostRuntime) -> Result<(), Fail> {
+    let rows: [(&[u8], &[u8], &[&[u8]], End); 4] = [
+        (
+            BC_AT_CONSOLE,
+            b"p\0\0\0\x06a\0",
+            &[ARRIVES, CLEARTEXT],
+            End::Console,
+        ),
+        (
+            BC_AT_CONSOLE,
+            b"p\0\0\0\x06b\0",
+            &[ARRIVES, CLEARTEXT, WRONG],
+            End::Closed,
+        ),
+        (
+            ROOT_AT_CONSOLE,
+            b"p\0\0\0\x06r\0",
+            &[ARRIVES, CLEARTEXT],
+            End::Console,
+        ),
+        (
+            ANN_AT_CONSOLE,
+            b"p\0\0\0\x0bsecret\0",
+            &[ARRIVES, CLEARTEXT, WRONG],
+            End::Closed,
+        ),
+    ];
+    for (start, password, out, end) in rows {
+        assert!(rt; is_login(rt.alloc(), LOOKED_AT, &[start, password], out, end, 0)?);
+    }
+    Ok(())
+}
+
+/// Whether the client of this StartupMessage arrives at the console; `false` where it doesn't arrive, or is there before.
+fn arrives_at_console(alloc: Global, start: &[u8]) -> Result<bool, Fail> {
+    let mut login = login(alloc, LOOKED_AT)?;
+    let mut rest = start;
+    for _ in 0..4 {
+        if login.arrives_at_console() {
+            return Ok(false);
+        }
+        let (used, step) = login.on_bytes(alloc, rest);
+        rest = &rest[used..];
+        if matches!(&step, LoginStep::Arrived(_)) {
+            return Ok(login.arrives_at_console());
+        }
+    }
+    Ok(false)
+}
+
+#[test]
+fn who_arrives_at_the_console(rt: HostRuntime) -> Result<(), Fail> {
+    let rows: [(&[u8], bool); 5] = [
+        (ROOT_AT_CONSOLE, true),
+        (BC_AT_CONSOLE, true),
+        (ANN_AT_CONSOLE, false),
+        (ROOT, false),
+        (BC, false),
+    ];
+    for (start, wanted) in rows {
+        assert!(rt; arrives_at_console(rt.alloc(), start)? == wanted);
     }
     Ok(())
 }

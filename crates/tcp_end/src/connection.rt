@@ -1,16 +1,17 @@
 //! A TCP connection as an end of a lease: a server's or a client's.
-ghost use Rattle.std.specs.Prelude.{◌≡◌, ◌≢◌, ◌<◌, length, false, IfOk};
+ghost use Rattle.std.specs.Prelude.{◌≡◌, ◌≢◌, ◌<◌, ◌-◌, ◌^◌, length, min, false, IfOk};
 ghost use Rattle.server_end.specs.Moves.{ClientWrites, IsWithin, moved};
 ghost use Rattle.tcp_end.specs.Connections.{Reads, Sends, facts_of, has_ended, is_broken, new_connection};
 ghost use Rattle.server_end.specs.declared.Moved.TheVariants.{Ended};
 
 use crate::ahead::AHEAD;
+use crate::counted::Counted;
 use crate::idle::Minder;
+use crate::sight::Sight;
 use crate::socket::Socket;
 use crate::watched::Watched;
 use mio::net::TcpStream;
 use mio::{Poll, Token};
-use server_end::transcript::Transcript;
 use server_end::{ClientEnd, Moved, ServerEnd};
 use std::alloc::{AllocError, Global};
 use std::marker::Model;
@@ -35,8 +36,8 @@ use std::marker::Model;
 pub struct TcpEnd {
     /// Allocated: an end moves through many frames of its thread's stack, where each byte of it would take its room in each.
     socket: Box<Socket>,
-    accepted: Transcript,
-    given: Transcript,
+    accepted: Counted,
+    given: Counted,
     /// The peer has sent its last byte.
     input_ended: bool,
     faults: u64,
@@ -64,8 +65,8 @@ impl Model for TcpEnd {
     ghost Value = { ConnectionOf };
 
     ghost view = { λ e. record {
-      accepted = e.accepted.bytes;
-      given = e.given.bytes;
+      accepted = e.accepted;
+      given = e.given;
       input_ended = e.input_ended;
       faults = e.faults;
       read_waits = e.read_waits;
@@ -82,8 +83,8 @@ impl TcpEnd {
         let _ = stream.set_nodelay(true);
         Ok(TcpEnd {
             socket: Box::new(alloc, Socket::new(alloc, stream)?)?,
-            accepted: Transcript::new(),
-            given: Transcript::new(),
+            accepted: Counted::new(),
+            given: Counted::new(),
             input_ended: false,
             faults: 0,
             read_waits: 0,
@@ -120,6 +121,19 @@ impl TcpEnd {
         self.socket.release(minder);
     }
 
+    /// How many bytes reads of it gave, and how many it accepted; each number stops at the greatest.
+    pub fn moved(&self) -> (u64, u64)
+        ensures given { result.0 ≡ min (length self.now.given) (2 ^ 64 - 1) }
+        ensures accepted { result.1 ≡ min (length self.now.accepted) (2 ^ 64 - 1) }
+    {
+        (self.given.count(), self.accepted.count())
+    }
+
+    /// The connection as other threads see it. The error is that an allocation failed.
+    pub fn sight(&self) -> Result<Sight, AllocError> {
+        self.socket.sight()
+    }
+
     fn is_broken(&self) -> bool
         ensures { result ≡ is_broken self.now }
     {
@@ -143,7 +157,10 @@ impl TcpEnd {
         }
         let moved = self.socket.read(into, least);
         match moved {
-            Moved::Count(count) => self.given.note(&into[..count]),
+            Moved::Count(count) => {
+                self.given.note(&into[..count]);
+                self.socket.tell_received(self.given.count());
+            }
             Moved::NotNow => self.read_waits += 1,
             Moved::Ended => self.input_ended = true,
             Moved::Fault => self.faults += 1,
@@ -160,7 +177,10 @@ impl TcpEnd {
     {
         let moved = self.socket.write(from);
         match moved {
-            Moved::Count(count) => self.accepted.note(&from[..count]),
+            Moved::Count(count) => {
+                self.accepted.note(&from[..count]);
+                self.socket.tell_sent(self.accepted.count());
+            }
             Moved::NotNow => self.write_waits += 1,
             Moved::Ended => {}
             Moved::Fault => self.faults += 1,

@@ -1,6 +1,7 @@
 //! The connection to a server.
-ghost use Rattle.std.specs.Prelude.{◌≡◌, IfOk};
+ghost use Rattle.std.specs.Prelude.{◌≡◌, ◌==◌, if◌then◌else◌, IfOk};
 ghost use Rattle.tcp_end.specs.Connections.{new_connection};
+ghost use Rattle.tcp_end.specs.declared.dial.TheConstants.{CONNECT_SECONDS};
 
 use crate::connection::TcpEnd;
 use crate::places::{Place, places_of, stream_to};
@@ -158,9 +159,20 @@ fn connect_any<R: Net>(
     Err(last)
 }
 
+/// So many seconds, or as many as a connection may take where none are asked for.
+fn seconds_of(seconds: u32) -> u32
+    ensures { result ≡ (if seconds == 0 then CONNECT_SECONDS else seconds) }
+{
+    if seconds == 0 {
+        CONNECT_SECONDS
+    } else {
+        seconds
+    }
+}
+
 /// The end of a new connection to a server of this host and port, and the place where it is. Where the host has several places, the
 /// one at this turn is tried first, and the others after it. Over IP it is kept alive, where it is said how. The error says that none
-/// could be had, or not in so many seconds besides what a look-up of names takes; or that an allocation failed.
+/// could be had, or not in so many seconds (0: in [`CONNECT_SECONDS`]) besides what a look-up of names takes; or that an allocation failed.
 pub fn dial<R: Net>(
     rt: &R,
     alloc: Global,
@@ -173,6 +185,7 @@ pub fn dial<R: Net>(
     ensures { IfOk result (λ p. p.0 ≡ new_connection) }
 {
     let places = places_of(rt, alloc, host, port)?;
+    let seconds = seconds_of(seconds);
     let (stream, place) = connect_any(rt, alloc, places.as_slice(), turn, seconds)?;
     if let (Place::Ip(_), Some(keepalive)) = (&place, keepalive) {
         keepalive.keep(&stream);

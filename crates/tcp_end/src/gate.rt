@@ -2,9 +2,10 @@
 ghost use Rattle.std.specs.Prelude.{◌≡◌, ◌+◌, true};
 
 use crate::connection::TcpEnd;
+use crate::reckoning::Reckoning;
 use crate::watched::Watched;
 use mio::{Events, Poll, Token};
-use server_end::gate::{Gate, Ready, TurnCount};
+use server_end::gate::{Counts, Gate, Ready, TurnCount};
 use std::alloc::{AllocError, Global};
 use std::io;
 use std::net::Net;
@@ -111,6 +112,9 @@ struct Seen {
 /// costs next to nothing. It doesn't wait where the last read of an end that it minds, since the turn before, may have left more; it
 /// names both sides. Nor does a turn of the link alone where something may be due to be said: in the first such turn, and after the first
 /// read behind a write that came to something.
+///
+/// While the worker has a limit, no turn waits for longer than what is left of it, whatever else it would wait for; once the gate has said
+/// that it is over, turns are as long as without one. A clock that can't be read sets no limit, and ends none.
 pub struct TcpGate<'a, R: Clock> {
     rt: R,
     poll: &'a mut GatePoll,
@@ -120,6 +124,11 @@ pub struct TcpGate<'a, R: Clock> {
     is_at_link: bool,
     /// The client has sent its last byte.
     client_has_left: bool,
+    /// When the worker's time is over, where it has a limit.
+    due: Option<Instant>,
+    /// It was found to be over.
+    is_late: bool,
+    reckoning: Reckoning,
     turns: TurnCount,
 }
 
@@ -132,6 +141,9 @@ impl<'a, R: Clock + Drop> Drop for TcpGate<'a, R> {
             link: _,
             is_at_link: _,
             client_has_left: _,
+            due: _,
+            is_late: _,
+            reckoning: _,
             turns: _,
         } = self;
     }
@@ -155,12 +167,46 @@ impl<'a, R: Clock + Drop> TcpGate<'a, R> {
             link: None,
             is_at_link: false,
             client_has_left: false,
+            due: None,
+            is_late: false,
+            reckoning: Reckoning::new(),
             turns: TurnCount::new(),
         })
     }
 }
 
 impl<'a, R: Clock> TcpGate<'a, R> {
+    /// The client came then: what the gate is told is reckoned by the time since. Without it, or before, no time is reckoned.
+    pub fn reckon_from(&mut self, start: Option<Instant>)
+        ensures { self.new.turns ≡ self.old.turns }
+    {
+        self.reckoning.begin(start);
+    }
+
+    /// The moment at which so many seconds are over.
+    fn due_in(&self, seconds: Option<u32>) -> Option<Instant> {
+        let seconds = Duration::from_secs(seconds? as u64);
+        Instant::now(&self.rt).ok()?.checked_add(seconds)
+    }
+
+    /// What is left of the worker's time, where it has a limit.
+    fn left(&self) -> Option<Duration> {
+        let due = self.due?;
+        let now = Instant::now(&self.rt).ok()?;
+        Some(due.duration_since(now))
+    }
+
+    /// So long, or what is left of the worker's time where that is less and wasn't said to be over.
+    fn within(&self, longest: Duration) -> Duration {
+        if self.is_late {
+            return longest;
+        }
+        match self.left() {
+            Some(left) => longest.min(left),
+            None => longest,
+        }
+    }
+
     fn client_may_have_more(&self) -> bool {
         self.client.notes().take_more()
     }
@@ -200,11 +246,12 @@ impl<'a, R: Clock> TcpGate<'a, R> {
         }
     }
 
-    /// Waits for an event, or for so long; whether the link had one, or none came.
+    /// Waits for an event, or for so long, or until the worker's time is over; whether the link had one, or none came.
     fn wait(&mut self, longest: Duration) -> bool
         ensures { self.new.turns ≡ self.old.turns }
     {
         self.poll.ask_for_room(&self.client, &self.link);
+        let longest = self.within(longest);
         self.poll.wait(longest);
         let Some(seen) = self.poll.seen(&self.client, &self.link) else {
             self.open_both();
@@ -217,6 +264,8 @@ impl<'a, R: Clock> TcpGate<'a, R> {
 
 impl<'a, R: Clock> Gate<TcpEnd> for TcpGate<'a, R> {
     ghost turns = { λ g. g.turns };
+
+    ghost late = { λ g. g.is_late };
 
     fn turn(&mut self) -> Ready
         ensures both { (result.client ≡ true) × (result.server ≡ true) }
@@ -259,6 +308,25 @@ impl<'a, R: Clock> Gate<TcpEnd> for TcpGate<'a, R> {
                 _ => return,
             }
         }
+    }
+
+    fn limit(&mut self, seconds: Option<u32>) {
+        self.is_late = false;
+        self.due = self.due_in(seconds);
+    }
+
+    fn is_late(&mut self) -> bool {
+        self.is_late = self.left().is_some_and(|left| left.is_zero());
+        self.is_late
+    }
+
+    fn know(&mut self) {
+        self.client.notes().presence().know();
+    }
+
+    fn tell(&mut self, counts: Counts) {
+        let notes = self.client.notes();
+        self.reckoning.tell(&self.rt, notes.tally(), counts);
     }
 
     fn client_has_left(&mut self) -> bool {

@@ -14,6 +14,7 @@
 pub mod acceptor;
 mod ahead;
 pub mod connection;
+mod counted;
 mod deferred;
 pub mod dial;
 pub mod gate;
@@ -21,5 +22,9 @@ pub mod idle;
 pub mod message;
 mod notes;
 pub mod places;
+mod presence;
+mod reckoning;
+pub mod sight;
 mod socket;
+mod tally;
 mod watched;

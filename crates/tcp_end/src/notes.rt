@@ -2,6 +2,8 @@
 //! once for what comes to it; a read that doesn't fill its slice has emptied a socket, and a write that isn't taken whole has filled it
 //! (Linux manual, epoll(7), "Questions and answers"). Nothing is proved of it: a try that is left out counts as one that came to nothing.
 
+use crate::presence::Presence;
+use crate::tally::Tally;
 use mio::event::Event;
 use std::io;
 use std::io::ErrorKind;
@@ -25,6 +27,9 @@ pub(crate) struct Notes {
     asks_for_room: AtomicBool,
     /// The peer has sent its last byte, or the socket has an error: no event says so again, so reads are tried until they find it.
     is_closing: AtomicBool,
+    /// What other threads read of it.
+    tally: Tally,
+    presence: Presence,
 }
 
 impl Drop for Notes {
@@ -38,6 +43,8 @@ impl Drop for Notes {
             is_full: _,
             asks_for_room: _,
             is_closing: _,
+            tally: _,
+            presence: _,
         } = self;
     }
 }
@@ -70,7 +77,19 @@ impl Notes {
             is_full: AtomicBool::new(false),
             asks_for_room: AtomicBool::new(false),
             is_closing: AtomicBool::new(false),
+            tally: Tally::new(),
+            presence: Presence::new(),
         }
+    }
+
+    /// What other threads read of it.
+    pub(crate) fn tally(&self) -> &Tally {
+        &self.tally
+    }
+
+    /// Where its client stands.
+    pub(crate) fn presence(&self) -> &Presence {
+        &self.presence
     }
 
     /// A gate minds the connection from now on, or doesn't. What it doesn't mind is always tried.

@@ -11,6 +11,7 @@ use crate::ahead::{AHEAD, Ahead};
 use crate::deferred::{Deferred, PACKET};
 use crate::idle::Minder;
 use crate::notes::Notes;
+use crate::sight::Sight;
 use crate::watched::Watched;
 use mio::net::TcpStream;
 use mio::{Interest, Poll, Token};
@@ -34,6 +35,8 @@ pub(crate) struct Socket {
 
 impl Drop for Socket {
     fn drop(self) {
+        // before its descriptor is closed, and may be another file's
+        self.notes.presence().leave();
         let Socket {
             stream: _,
             deferred: _,
@@ -175,6 +178,22 @@ impl Socket {
             .register(&mut self.stream, token, Interest::READABLE);
         notes.mind(registered.is_ok());
         Ok(Watched::new(notes, self.stream.as_raw_fd(), token))
+    }
+
+    /// The connection as other threads see it. The error is that an allocation failed.
+    pub(crate) fn sight(&self) -> Result<Sight, AllocError> {
+        let notes = Arc::try_clone(&self.notes)?;
+        Ok(Sight::new(notes, self.stream.as_raw_fd()))
+    }
+
+    /// So many bytes came in all.
+    pub(crate) fn tell_received(&self, count: u64) {
+        self.notes.tally().tell_received(count);
+    }
+
+    /// So many went.
+    pub(crate) fn tell_sent(&self, count: u64) {
+        self.notes.tally().tell_sent(count);
     }
 
     /// Has the poll tell of it no more.

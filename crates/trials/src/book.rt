@@ -4,6 +4,7 @@ ghost use Rattle.lease_book.specs.Links.{IsTwice};
 
 use crate::keys::{key, row};
 use crate::links::gone_link;
+use book_model::events::Beyond;
 use book_model::limits::Limits;
 use book_model::rows::Rows;
 use lease_book::book::Book;
@@ -164,7 +165,10 @@ impl Bench {
 
     /// A client comes and asks.
     fn comes(&mut self) -> Result<(), AllocError> {
-        let Reply::Client(number) = self.happens(Event::Arrive) else {
+        let arrival = Event::Arrive {
+            beyond: Beyond::Nothing,
+        };
+        let Reply::Client(number) = self.happens(arrival) else {
             return Err(AllocError);
         };
         let drawn = self.draw();

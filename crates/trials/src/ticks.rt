@@ -3,6 +3,7 @@ ghost use Rattle.lease_book.specs.Links.{IsTwice};
 
 use crate::keys::{key, row};
 use crate::links::gone_link;
+use book_model::events::Beyond;
 use book_model::limits::Limits;
 use book_model::rows::Rows;
 use lease_book::book::Book;
@@ -51,7 +52,10 @@ impl Bench {
 
     /// A client of this database row comes, has a link for a key of its own, gives it back and goes.
     fn leaves_link(&mut self, own: u64, row: u64) -> Result<(), AllocError> {
-        let Reply::Client(client) = self.happens(Event::Arrive) else {
+        let arrival = Event::Arrive {
+            beyond: Beyond::Nothing,
+        };
+        let Reply::Client(client) = self.happens(arrival) else {
             return Err(AllocError);
         };
         let key = key(self.alloc, &row.to_be_bytes(), own, 0)?;

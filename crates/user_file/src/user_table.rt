@@ -1,5 +1,5 @@
 //! The table of users.
-ghost use Rattle.std.specs.Prelude.{◌≡◌, [], ◌∷◌, ◌++◌, length, is_some, option_copied, OnOk, None};
+ghost use Rattle.std.specs.Prelude.{◌≡◌, [], ◌∷◌, ◌++◌, length, is_some, option_copied, slice_get, OnOk, None};
 ghost use Rattle.user_file.specs.Fields.{unquoted};
 ghost use Rattle.user_file.specs.Users.{user_named};
 
@@ -72,6 +72,14 @@ impl Users {
         ensures { option_copied result ≡ user_named name.now self.now }
     {
         self.by_name.get(name)
+    }
+
+    /// The user at a place of the file, counted from 0.
+    pub fn at(&self, place: usize) -> Option<&UserRow>
+        ensures { option_copied result ≡ slice_get self.now place }
+    {
+        let (_, row) = self.by_name.get_index(place)?;
+        Some(row)
     }
 
     /// Whether a user has the name that a field of the file spells. It takes no memory, and looks at each user.

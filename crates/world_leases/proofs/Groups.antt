@@ -18,15 +18,15 @@ use Rattle.world_steps.specs.Links.Role.{Unborn, Promised, Lent, InReset, Clean,
 use Rattle.world_steps.specs.Relation.{AreRelated, CancelsFit, Related, TicketFits}
 use Rattle.world_steps.specs.Steps.{Gives, gets_link, gone, promised, sets_out}
 use Rattle.world_steps.specs.Steps.BookStep.{plain_event, arrives, asks, is_lent, is_promised, is_promised_for, gives_back, gives_back_too_late, tick_closes, hung_up_closes, keys, cancels}
-use Rattle.world_steps.specs.Steps.LinkStep.{starts, start_fails, returns_unused, returns_used, ends_reset, disposes_lent, disposes_promised, disposes}
+use Rattle.world_steps.specs.Steps.LinkStep.{starts, start_fails, start_retries, returns_unused, returns_used, ends_reset, disposes_lent, disposes_promised, disposes}
 use Rattle.world_steps.specs.Worlds.{Strike, World, with_book, with_client, with_link, with_pair}
 use Rattle.world_steps.proofs.Cancels.{client_keeps, pair_keeps}
 use Rattle.world_steps.proofs.Cancels.RoleGoes.{is_thrown}
-use Rattle.world_steps.proofs.Changes.{at_clean_point, gets_start_error, in_role, numbered}
+use Rattle.world_steps.proofs.Changes.{at_clean_point, gets_start_error, in_phase, in_role, numbered}
 use Rattle.world_steps.proofs.Groups.{goes_to, in_place}
 use Rattle.world_steps.proofs.Steps.{fits_at, step_strikes}
 use Rattle.world_leases.proofs.Cancels.{alone_if_returns, cancelled_keeps, event_keeps, given_back, has_asked, keyed_keeps, lent_anew, promised_anew, reset, returned_anew, started_anew, thrown}
-use Rattle.world_leases.proofs.Leases.{evicting, starts_on, step_arrives, step_asks, step_disposes, step_disposes_lent, step_disposes_promised, step_ends_reset, step_evicts, step_gives_back, step_gives_back_too_late, step_is_lent, step_is_promised, step_is_promised_for, step_keeps, step_plain, step_returns_unused, step_returns_used, step_start_fails, step_starts, step_hung_up_closes, step_tick_closes}
+use Rattle.world_leases.proofs.Leases.{evicting, starts_on, step_arrives, step_asks, step_disposes, step_disposes_lent, step_disposes_promised, step_ends_reset, step_evicts, step_gives_back, step_gives_back_too_late, step_is_lent, step_is_promised, step_is_promised_for, step_keeps, step_plain, step_returns_unused, step_returns_used, step_start_fails, step_start_retries, step_starts, step_hung_up_closes, step_tick_closes}
 
 -- what is known of the book
 pub record OfBook : Type 0 where
@@ -87,12 +87,12 @@ evicts_only old new = record { lent = λ n k h. h; leases = λ n c s h. h; may_r
 pub book_keeps : OfBook → BookStepsKeep
 book_keeps k w _ (plain_event e a b p q) r =
     with_its w q (record { facts = step_plain k.plain w e a r.facts p q.reply_is; cancels = event_keeps w (apply w.book e).book (k.plain w.book e a p q.reply_is).lends_nothing r.cancels })
-book_keeps k w _ (arrives c n read b e none q) r =
+book_keeps k w _ (arrives c n read beyond b e none q) r =
     let x = numbered (w.clients c) n in
     with_its (with_client w c x) q
     (record {
-      facts = step_arrives k.arrives w c n read r.facts e none q.reply_is;
-      cancels = event_keeps (with_client w c x) (apply w.book Arrive).book (k.arrives w.book n q.reply_is).starts_nothing.lends_nothing (client_keeps w r.cancels c x (in_place (w.clients c) x refl refl refl (λ key i. i)));
+      facts = step_arrives k.arrives w c n read beyond r.facts e none q.reply_is;
+      cancels = event_keeps (with_client w c x) (apply w.book (Arrive beyond)).book (k.arrives w.book beyond n q.reply_is).starts_nothing.lends_nothing (client_keeps w r.cancels c x (in_place (w.clients c) x refl refl refl (λ key i. i)));
     })
 book_keeps k w _ (asks c m key a b h q) r =
     with_its w q (record { facts = step_asks k.asks w c m key r.facts h.phase h.number_is; cancels = event_keeps w (apply w.book (Ask m key)).book (k.asks w.book m key).lends_nothing r.cancels })
@@ -184,6 +184,16 @@ links_keep error resets w _ (start_fails c l key cause e f) r =
   where
     finishing_starting : (own : StartKeyOf) (n : ℕ) → Finishing ≡ Starting own n → ⊥
     finishing_starting own n p = cc
+links_keep error resets w _ (start_retries c l key e) r =
+    let x = in_phase (w.clients c) (Waiting key) in
+    record {
+      facts = step_start_retries w c l key r.facts e;
+      cancels = pair_keeps w r.cancels c x l (in_role (w.links l) Gone) (goes_to (w.clients c) x tt waiting_starting refl refl (λ q i. i))
+          (record { keeps = record { key = refl; server_key = refl; role = is_thrown }; due = λ client i. i; lent = λ i. tt });
+    }
+  where
+    waiting_starting : (own : StartKeyOf) (n : ℕ) → Waiting key ≡ Starting own n → ⊥
+    waiting_starting own n p = cc
 links_keep error resets w _ (returns_unused c l b e h none silent q) r =
     let n = resets w.book l q.reply_is in
     let new = (apply w.book (EndLease l)).book in

@@ -38,6 +38,7 @@ use Rattle.world_steps.specs.Steps.{gone, promised, gets_link, IsInHand}
 use Rattle.world_steps.specs.Worlds.{World, put, with_client, with_link, with_pair, with_book}
 use Rattle.book_model.specs.Book.{Book}
 use Rattle.book_model.specs.Outcomes.{Event, apply, apply_return}
+use Rattle.book_model.specs.declared.events.Beyond.{Beyond}
 use Rattle.book_model.specs.declared.events.Reply.{Reply}
 use Rattle.book_model.specs.Laws.{IsPlain, PlainEventsAddNothing, ArrivalsNumber, AsksQueue, TakesLend, TakesStart, TakesEvict, ReturnsAdd, ReturnsClose, TicksClose, HangUpsClose, AddsNothing, Lends, Starts, Drops, Numbers}
 
@@ -96,12 +97,12 @@ step_keeps w b r k same = record {
 pub step_plain : PlainEventsAddNothing → (w : World) (e : Event) (r : Reply) → AreRelated w → IsPlain e r → (apply w.book e).reply ≡ r → AreRelated (with_book w (apply w.book e).book)
 step_plain plain w e r h p q = let k = plain w.book e r p q in step_keeps w (apply w.book e).book h k.adds_nothing k.next_link
 
-pub step_arrives : ArrivalsNumber → (w : World) (c n : ℕ) (read : List ℕ) → AreRelated w → (w.clients c).phase ≡ LoggingIn read → (w.clients c).number ≡ None → (apply w.book Arrive).reply ≡ Arrived n →
-    AreRelated (with_book (with_client w c (numbered (w.clients c) n)) (apply w.book Arrive).book)
-step_arrives numbers w c n read r e none reply =
-    let k = numbers w.book n reply in
+pub step_arrives : ArrivalsNumber → (w : World) (c n : ℕ) (read : List ℕ) (beyond : Beyond) → AreRelated w → (w.clients c).phase ≡ LoggingIn read → (w.clients c).number ≡ None → (apply w.book (Arrive beyond)).reply ≡ Arrived n →
+    AreRelated (with_book (with_client w c (numbered (w.clients c) n)) (apply w.book (Arrive beyond)).book)
+step_arrives numbers w c n read beyond r e none reply =
+    let k = numbers w.book beyond n reply in
     let x = numbered (w.clients c) n in
-    let b = (apply w.book Arrive).book in
+    let b = (apply w.book (Arrive beyond)).book in
     record {
       lawful = r.lawful;
       clients = put_all (λ i z. PhaseFits w.catalogue w.links i z.phase z) w.clients c x (subst (λ (p : Phase). PhaseFits w.catalogue w.links c p x) (sym e) (same_login (fits_at c (LoggingIn read) r e))) (λ i _. r.clients i);
@@ -121,16 +122,16 @@ step_arrives numbers w c n read r e none reply =
     some_same : {i j : ℕ} → ◌≡◌ {A = Option ℕ} (Some i) (Some j) → i ≡ j
     some_same p = cc
 
-    too_new : Numbers w.book n (apply w.book Arrive).book → (m : ℕ) → m < w.book.next_client → n ≡ m → ⊥
+    too_new : Numbers w.book n (apply w.book (Arrive beyond)).book → (m : ℕ) → m < w.book.next_client → n ≡ m → ⊥
     too_new k m lt p = let a = k.number in omega arith
 
-    less : Numbers w.book n (apply w.book Arrive).book → (m : ℕ) → n ≡ m → m < (apply w.book Arrive).book.next_client
+    less : Numbers w.book n (apply w.book (Arrive beyond)).book → (m : ℕ) → n ≡ m → m < (apply w.book (Arrive beyond)).book.next_client
     less k m p = let a = k.number in let d = k.next_client in omega arith
 
     at : (d m : ℕ) → (put w.clients c (numbered (w.clients c) n) d).number ≡ Some m → ((d ≡ c) × (n ≡ m)) ⊎ ((w.clients d).number ≡ Some m)
     at d m = put_case (λ z. z.number ≡ Some m → ((d ≡ c) × (n ≡ m)) ⊎ ((w.clients d).number ≡ Some m)) w.clients c (numbered (w.clients c) n) d (λ g p. inl (g, some_same p)) (λ _ p. inr p)
 
-    both : Numbers w.book n (apply w.book Arrive).book → (d f m : ℕ) → ((d ≡ c) × (n ≡ m)) ⊎ ((w.clients d).number ≡ Some m) → ((f ≡ c) × (n ≡ m)) ⊎ ((w.clients f).number ≡ Some m) → d ≡ f
+    both : Numbers w.book n (apply w.book (Arrive beyond)).book → (d f m : ℕ) → ((d ≡ c) × (n ≡ m)) ⊎ ((w.clients d).number ≡ Some m) → ((f ≡ c) × (n ≡ m)) ⊎ ((w.clients f).number ≡ Some m) → d ≡ f
     both k d f m (inl p) (inl q) = p.0 ∙ sym q.0
     both k d f m (inl p) (inr q) = let a = r.counted f m q in let i = k.number in let j = p.1 in absurd (omega arith)
     both k d f m (inr p) (inl q) = let a = r.counted d m p in let i = k.number in let j = q.1 in absurd (omega arith)
@@ -232,7 +233,7 @@ promise w b c m l key r e k =
       idle = λ n q m. let i = r.idle n q (k.adds_nothing.idle n q m) in
           put_case (λ z. (z.role ≡ Idle) × (z.key ≡ q)) w.links l y n (λ g. idle_unborn (sym i.0 ∙ ap (λ (j : ℕ). (w.links j).role) g ∙ unborn)) (λ _. i);
       unborn = λ n le. put_case (λ z. z.role ≡ Unborn) w.links l y n (λ g. absurd (later n le g)) (λ _. r.unborn n (before n le));
-      tickets = λ n q m. tickets_put w.clients c x n q (kept_number _ _ refl) (λ _ _. tt) (r.tickets n q (k.adds_nothing.tickets n q m));
+      tickets = λ n q m. tickets_put w.clients c x n q (kept_number _ _ refl) (λ own t. subst (TicketFits own) e t) (r.tickets n q (k.adds_nothing.tickets n q m));
       numbers = λ d f n p q. r.numbers d f n (number_was w.clients c x (kept_number _ _ refl) d n p) (number_was w.clients c x (kept_number _ _ refl) f n q);
       counted = λ d n p. le_trans (r.counted d n (number_was w.clients c x (kept_number _ _ refl) d n p)) k.adds_nothing.next_client;
       tickets_counted = λ n q i. le_trans (r.tickets_counted n q (k.adds_nothing.tickets n q i)) k.adds_nothing.next_client;
@@ -382,6 +383,20 @@ step_start_fails error w c l key cause r e f =
       quiet = h.0.quiet;
     })
     tt (kept_number _ _ refl) (λ _ _. tt) (λ i. absurd (promised_idle (sym h.1 ∙ i))) (λ i. absurd (promised_unborn (sym h.1 ∙ i)))
+  where
+    promised_idle : Promised c ≡ Idle → ⊥
+    promised_idle p = cc
+
+    promised_unborn : Promised c ≡ Unborn → ⊥
+    promised_unborn p = cc
+
+-- its client waits again, as it waited before
+pub step_start_retries : (w : World) (c l : ℕ) (key : StartKeyOf) → AreRelated w → (w.clients c).phase ≡ Starting key l → AreRelated (with_pair w c (in_phase (w.clients c) (Waiting key)) l (in_role (w.links l) Gone))
+step_start_retries w c l key r e =
+    let h = fits_at c (Starting key l) r e in
+    change_pair w c (in_phase (w.clients c) (Waiting key)) l (in_role (w.links l) Gone) r (alone_promised h.1)
+    (record { lawful_key = h.0.lawful_key; passed = h.0.passed; told = h.0.told; quiet = h.0.quiet; unstruck = h.0.unstruck })
+    tt (kept_number _ _ refl) (λ own t. subst (TicketFits own) e t) (λ i. absurd (promised_idle (sym h.1 ∙ i))) (λ i. absurd (promised_unborn (sym h.1 ∙ i)))
   where
     promised_idle : Promised c ≡ Idle → ⊥
     promised_idle p = cc

@@ -145,12 +145,12 @@ PhaseFits catalogue links c Closed x = IsOver catalogue x
 
 -- ---- the book's lists
 
--- a ticket is of the key that its client waits with
+-- a ticket is of the key that its client waits with, also where a link is to be started for it: it may wait again
 abbrev pub TicketFits : StartKeyOf → Phase → Type 0
 TicketFits key Absent = ⊥
 TicketFits key (LoggingIn read) = ⊥
 TicketFits key (Waiting own) = key ≡ own
-TicketFits key (Starting own l) = Unit {0}
+TicketFits key (Starting own l) = key ≡ own
 TicketFits key (Served l) = Unit {0}
 TicketFits key Finishing = Unit {0}
 TicketFits key (Refusing left) = Unit {0}

@@ -18,6 +18,7 @@ use Rattle.login_core.specs.Talk.End.{Passed, Stopped}
 use Rattle.login_core.specs.Dialogue.{LoginRow, ToLink, Cancelling, login}
 use Rattle.book_model.specs.Book.{Book, Limits, empty_book}
 use Rattle.book_model.specs.Outcomes.{Answer, Event, apply, apply_return}
+use Rattle.book_model.specs.declared.events.Beyond.{Beyond}
 use Rattle.book_model.specs.declared.events.Reply.{Reply}
 use Rattle.book_model.specs.Outcomes.Event.{Arrive, Ask, Take, Tick, Keyed, Cancel, EndLease, HungUp}
 use Rattle.book_model.specs.declared.events.Reply.TheVariants.{Arrived, Lend, Start, Close, Done, Strike as Struck, Reset}
@@ -81,8 +82,9 @@ sets_out w s = with_strikes w (w.strikes ++ s ∷ [])
 -- ticket goes, changes nothing: a worker that hears so goes on by the other steps.
 pub data BookStep (w : World) : World → Type 0 where
   plain_event : (e : Event) (r : Reply) (b : Book) → IsPlain e r → Gives (apply w.book e) r b → BookStep w (with_book w b)
-  arrives : (c n : ℕ) (read : List ℕ) (b : Book) →
-      (w.clients c).phase ≡ LoggingIn read → (w.clients c).number ≡ None → Gives (apply w.book Arrive) (Arrived n) b →
+  -- however many places beyond the limit it may use
+  arrives : (c n : ℕ) (read : List ℕ) (beyond : Beyond) (b : Book) →
+      (w.clients c).phase ≡ LoggingIn read → (w.clients c).number ≡ None → Gives (apply w.book (Arrive beyond)) (Arrived n) b →
       BookStep w (with_book (with_client w c (record (w.clients c) { number = Some n })) b)
   asks : (c n : ℕ) (key : StartKeyOf) (r : Reply) (b : Book) →
       Waits (w.clients c) key n → Gives (apply w.book (Ask n key)) r b →
@@ -188,6 +190,10 @@ pub data LinkStep (w : World) : World → Type 0 where
   start_fails : (c l : ℕ) (key : StartKeyOf) (cause : Cause) →
       (w.clients c).phase ≡ Starting key l → fresh (w.catalogue (address_of key)) key ≡ Err cause →
       LinkStep w (with_pair w c (record (w.clients c) { phase = Finishing; for_client = (w.clients c).for_client ++ spelling (fatal cause) }) l (record (w.links l) { role = Gone }))
+  -- whatever its server answered, or nothing: the client was given nothing of the link, and asks for another as it asked for this one
+  start_retries : (c l : ℕ) (key : StartKeyOf) →
+      (w.clients c).phase ≡ Starting key l →
+      LinkStep w (with_pair w c (record (w.clients c) { phase = Waiting key }) l (record (w.links l) { role = Gone }))
   returns_unused : (c l : ℕ) (b : Book) →
       (w.links l).role ≡ Lent c → HasEnded (w.clients c).phase → (w.links l).sent ≡ [] → (w.links l).received ≡ [] → Gives (apply w.book (EndLease l)) Reset b →
       LinkStep w (with_book (with_link w l (record (w.links l) { role = Clean })) b)

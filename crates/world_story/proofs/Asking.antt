@@ -11,6 +11,7 @@ use Rattle.session_values.specs.State.{started_over, fresh}
 use Rattle.session_values.specs.Step.{step, run_frames}
 use Rattle.login_core.specs.Dialogue.{ok}
 use Rattle.book_model.specs.Outcomes.{apply, apply_return}
+use Rattle.book_model.specs.declared.events.Beyond.TheVariants.{Nothing}
 use Rattle.world_steps.specs.Worlds.{World}
 use Rattle.world_steps.specs.Steps.Step.{book_step, client_step, link_step}
 use Rattle.world_steps.specs.Steps.BookStep.{arrives, asks, is_promised, keys, cancels}
@@ -34,7 +35,7 @@ asked =
     let h0 = at_begin at_first limits (is_empty limits) in
     let h1 = then_do (client_step (of_client 1 (comes row (word 1) refl lawful_row))) h0 in
     let h2 = then_do (client_step (of_client 1 (sends (hello ++ spelling change) (bytes (hello ++ spelling change) refl)))) h1 in
-    let h3 = then_do (book_step (arrives 1 1 [] _ refl refl (record { reply_is = refl; book_is = refl }))) h2 in
+    let h3 = then_do (book_step (arrives 1 1 [] Nothing _ refl refl (record { reply_is = refl; book_is = refl }))) h2 in
     let h4 = then_do (client_step (of_client 1 (reads [] hello (spelling change) (ok ∷ []) refl refl refl))) h3 in
     let h5 = then_do (client_step (of_client 1 (passes hello [] key refl refl))) h4 in
     let h6 = then_do (book_step (asks 1 1 key _ _ (record { phase = refl; number_is = refl }) (record { reply_is = refl; book_is = refl }))) h5 in

@@ -14,7 +14,7 @@ use Rattle.world_steps.specs.Steps.ClientStep.{of_client}
 use Rattle.world_steps.specs.Steps.ByteStep.{by_client, by_lease, by_link, server_answers, server_answers_client, strike_arrives}
 use Rattle.world_steps.specs.Steps.LeaseBytes.{to_link, from_link}
 use Rattle.world_steps.specs.Steps.LinkBytes.{to_reset, from_reset, server_dies, strike_passes}
-use Rattle.world_steps.specs.Steps.LinkStep.{starts, start_fails, returns_unused, returns_used, ends_reset, disposes_lent, disposes_promised, disposes}
+use Rattle.world_steps.specs.Steps.LinkStep.{starts, start_fails, start_retries, returns_unused, returns_used, ends_reset, disposes_lent, disposes_promised, disposes}
 use Rattle.world_steps.specs.Steps.EndStep.{of_end}
 use Rattle.world_steps.specs.Steps.Reached.{begins, goes_on}
 use Rattle.world_steps.specs.Worlds.{AreTogether, World, put}
@@ -57,7 +57,7 @@ same_told {n} links l y same h = put_all (λ m z. (own : KeyView) → z.server_k
 module _ {n : ℕ} where
   book_told : (w v : World) → BookStep w v → AllTold n w.links → AllTold n v.links
   book_told w _ (plain_event e r b p q) h = h
-  book_told w _ (arrives c m read b e none q) h = h
+  book_told w _ (arrives c m read beyond b e none q) h = h
   book_told w _ (asks c m key r b e q) h = h
   book_told w _ (is_lent c m l key s b e q f) h = same_told w.links l _ refl h
   book_told w _ (is_promised c m l born key b e q) h = same_told w.links l _ refl h
@@ -89,6 +89,7 @@ module _ {n : ℕ} where
       same : {a b : KeyView} → ◌≡◌ {A = Option KeyView} (Some a) (Some b) → a ≡ b
       same q = cc
   link_told w _ (start_fails c l key cause e f) h = same_told w.links l _ refl h
+  link_told w _ (start_retries c l key e) h = same_told w.links l _ refl h
   link_told w _ (returns_unused c l b e k none silent q) h = same_told w.links l _ refl h
   link_told w _ (returns_used c l b e k settled q) h = same_told w.links l _ refl h
   link_told w _ (ends_reset l e done) h = same_told w.links l _ refl h

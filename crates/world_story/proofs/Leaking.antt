@@ -14,6 +14,7 @@ use Rattle.session_values.specs.Step.{step, run_frames}
 use Rattle.session_laws.specs.Laws.{IsSent}
 use Rattle.login_core.specs.Dialogue.{ok}
 use Rattle.book_model.specs.Outcomes.{apply, apply_return}
+use Rattle.book_model.specs.declared.events.Beyond.TheVariants.{Nothing}
 use Rattle.book_model.specs.Outcomes.Event.{EndLease}
 use Rattle.book_model.specs.declared.events.Reply.TheVariants.{Reset}
 use Rattle.world_steps.specs.Clients.MayWrite.{served}
@@ -84,7 +85,7 @@ leak =
     let h0 = at_begin at_first limits (is_empty limits) in
     let h1 = then_do (client_step (of_client 1 (comes row (word 1) refl lawful_row))) h0 in
     let h2 = then_do (client_step (of_client 1 (sends (hello ++ spelling change) (bytes (hello ++ spelling change) refl)))) h1 in
-    let a1 = then_do (book_step (arrives 1 1 [] _ refl refl (record { reply_is = refl; book_is = refl }))) h2 in
+    let a1 = then_do (book_step (arrives 1 1 [] Nothing _ refl refl (record { reply_is = refl; book_is = refl }))) h2 in
     let h3 = then_do (client_step (of_client 1 (reads [] hello (spelling change) (ok ∷ []) refl refl refl))) a1 in
     let h4 = then_do (client_step (of_client 1 (passes hello [] key refl refl))) h3 in
     let h5 = then_do (book_step (asks 1 1 key _ _ (record { phase = refl; number_is = refl }) (record { reply_is = refl; book_is = refl }))) h4 in
@@ -107,7 +108,7 @@ leak =
     let c15 = next_do (book_step (gives_back 1 0 _ refl (record { reply_is = refl; book_is = refl }))) c14 in
     let c16 = next_do (client_step (of_client 2 (comes row (word 2) refl lawful_row))) c15 in
     let c17 = next_do (client_step (of_client 2 (sends (hello ++ spelling show_name) (bytes (hello ++ spelling show_name) refl)))) c16 in
-    let c18 = next_do (book_step (arrives 2 2 [] _ refl refl (record { reply_is = refl; book_is = refl }))) c17 in
+    let c18 = next_do (book_step (arrives 2 2 [] Nothing _ refl refl (record { reply_is = refl; book_is = refl }))) c17 in
     let c19 = next_do (client_step (of_client 2 (reads [] hello (spelling show_name) (ok ∷ []) refl refl refl))) c18 in
     let c20 = next_do (client_step (of_client 2 (passes hello [] key refl refl))) c19 in
     let c21 = next_do (book_step (asks 2 2 key _ _ (record { phase = refl; number_is = refl }) (record { reply_is = refl; book_is = refl }))) c20 in

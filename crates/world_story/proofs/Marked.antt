@@ -14,6 +14,7 @@ use Rattle.session_values.specs.State.{started_over, fresh}
 use Rattle.session_values.specs.Step.{step, run_frames}
 use Rattle.login_core.specs.Dialogue.{ok}
 use Rattle.book_model.specs.Outcomes.{apply, apply_return}
+use Rattle.book_model.specs.declared.events.Beyond.TheVariants.{Nothing}
 use Rattle.book_model.specs.Outcomes.Event.{EndLease}
 use Rattle.book_model.specs.declared.events.Reply.TheVariants.{Dispose}
 use Rattle.world_steps.specs.Clients.MayWrite.{served}
@@ -65,7 +66,7 @@ late =
     let c3 = next_do (book_step (gives_back 1 0 _ refl (record { reply_is = refl; book_is = refl }))) c2 in
     let c4 = next_do (client_step (of_client 2 (comes row (word 2) refl lawful_row))) c3 in
     let c5 = next_do (client_step (of_client 2 (sends (hello ++ spelling change) (bytes (hello ++ spelling change) refl)))) c4 in
-    let c6 = next_do (book_step (arrives 2 2 [] _ refl refl (record { reply_is = refl; book_is = refl }))) c5 in
+    let c6 = next_do (book_step (arrives 2 2 [] Nothing _ refl refl (record { reply_is = refl; book_is = refl }))) c5 in
     let c7 = next_do (client_step (of_client 2 (reads [] hello (spelling change) (ok ∷ []) refl refl refl))) c6 in
     let c8 = next_do (client_step (of_client 2 (passes hello [] key refl refl))) c7 in
     let c9 = next_do (book_step (asks 2 2 key _ _ (record { phase = refl; number_is = refl }) (record { reply_is = refl; book_is = refl }))) c8 in
@@ -126,7 +127,7 @@ struck_reset =
     let c12 = next_do (book_step (gives_back 1 0 _ refl (record { reply_is = refl; book_is = refl }))) c11 in
     let c13 = next_do (client_step (of_client 2 (comes row (word 2) refl lawful_row))) c12 in
     let c14 = next_do (client_step (of_client 2 (sends (hello ++ spelling show_name) (bytes (hello ++ spelling show_name) refl)))) c13 in
-    let c15 = next_do (book_step (arrives 2 2 [] _ refl refl (record { reply_is = refl; book_is = refl }))) c14 in
+    let c15 = next_do (book_step (arrives 2 2 [] Nothing _ refl refl (record { reply_is = refl; book_is = refl }))) c14 in
     let c16 = next_do (client_step (of_client 2 (reads [] hello (spelling show_name) (ok ∷ []) refl refl refl))) c15 in
     let c17 = next_do (client_step (of_client 2 (passes hello [] key refl refl))) c16 in
     let c18 = next_do (book_step (asks 2 2 key _ _ (record { phase = refl; number_is = refl }) (record { reply_is = refl; book_is = refl }))) c17 in

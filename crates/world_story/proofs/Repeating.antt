@@ -12,6 +12,7 @@ use Rattle.session_values.specs.State.{State, started_over, fresh}
 use Rattle.session_values.specs.Step.{step, run_frames}
 use Rattle.login_core.specs.Dialogue.{ok}
 use Rattle.book_model.specs.Outcomes.{apply, apply_return}
+use Rattle.book_model.specs.declared.events.Beyond.TheVariants.{Nothing}
 use Rattle.book_model.specs.Outcomes.Event.{EndLease, Lost}
 use Rattle.book_model.specs.declared.events.Reply.TheVariants.{Dispose, Done}
 use Rattle.book_model.specs.Laws.IsPlain.{lease_ends, lost}
@@ -57,7 +58,7 @@ repeated =
     let h4 = then_do (book_step (plain_event (Lost 1) Done _ lost (record { reply_is = refl; book_is = refl }))) h3 in
     let h5 = then_do (client_step (of_client 2 (comes row (word 2) refl lawful_row))) h4 in
     let h6 = then_do (client_step (of_client 2 (sends (hello ++ spelling change) (bytes (hello ++ spelling change) refl)))) h5 in
-    let h7 = then_do (book_step (arrives 2 2 [] _ refl refl (record { reply_is = refl; book_is = refl }))) h6 in
+    let h7 = then_do (book_step (arrives 2 2 [] Nothing _ refl refl (record { reply_is = refl; book_is = refl }))) h6 in
     let h8 = then_do (client_step (of_client 2 (reads [] hello (spelling change) (ok ∷ []) refl refl refl))) h7 in
     let h9 = then_do (client_step (of_client 2 (passes hello [] key refl refl))) h8 in
     let h10 = then_do (book_step (asks 2 2 key _ _ (record { phase = refl; number_is = refl }) (record { reply_is = refl; book_is = refl }))) h9 in

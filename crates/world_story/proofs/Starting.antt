@@ -7,6 +7,7 @@ use Rattle.mini_sql.specs.Statements.{read, ends, pass, take_value, either, with
 use Rattle.session_values.specs.Parameters.{accepted_of, date_styles}
 use Rattle.session_values.specs.Step.{step, run_frames}
 use Rattle.book_model.specs.Outcomes.{apply, apply_return}
+use Rattle.book_model.specs.declared.events.Beyond.TheVariants.{Nothing}
 use Rattle.session_values.specs.State.{started_over, fresh}
 use Rattle.login_core.specs.Dialogue.{ok}
 use Rattle.world_steps.specs.Worlds.{World}
@@ -28,7 +29,7 @@ logging_in =
     let h0 = at_begin at_first limits (is_empty limits) in
     let h1 = then_do (client_step (of_client 1 (comes row (word 1) refl lawful_row))) h0 in
     let h2 = then_do (client_step (of_client 1 (sends hello (bytes hello refl)))) h1 in
-    let h3 = then_do (book_step (arrives 1 1 [] _ refl refl (record { reply_is = refl; book_is = refl }))) h2 in
+    let h3 = then_do (book_step (arrives 1 1 [] Nothing _ refl refl (record { reply_is = refl; book_is = refl }))) h2 in
     let h4 = then_do (client_step (of_client 1 (reads [] hello [] (ok ∷ []) refl refl refl))) h3 in
     record { world = _; at = h4 }
 

@@ -30,6 +30,7 @@ use Rattle.book_model.specs.Book.{Book, Limits, Row, empty_book}
 use Rattle.book_model.specs.Laws.{HasLink}
 use Rattle.book_model.specs.Places.{IsPlaceOf}
 use Rattle.book_model.specs.Outcomes.{apply, apply_return}
+use Rattle.book_model.specs.declared.events.Beyond.TheVariants.{Nothing}
 use Rattle.world_steps.specs.Clients.{Client, MayWrite}
 use Rattle.world_steps.specs.Clients.Phase.{Absent, Refusing}
 use Rattle.world_steps.specs.Clients.AtBorder.{past_login}
@@ -71,7 +72,7 @@ abbrev user : UserRow
 user = record { name = codes "ann"; secret = Plain (codes "p") }
 
 abbrev pub row : LoginRow
-row = record { auth = Trust; names = record { followed = always_followed; ignored = [] }; admins = []; database = Some db; user = Some user }
+row = record { auth = Trust; names = record { followed = always_followed; ignored = [] }; admins = []; lookers = []; database = Some db; user = Some user }
 
 pub lawful_row : IsLawfulRow row.database
 lawful_row = (omega arith, (omega arith, (omega arith, (omega arith, (omega arith, tt)))))
@@ -163,7 +164,7 @@ story whole =
     let h0 = at_begin at_first limits (is_empty limits) in
     let h1 = then_do (client_step (of_client 1 (comes row (word 1) refl lawful_row))) h0 in
     let h2 = then_do (client_step (of_client 1 (sends (hello ++ spelling change) (bytes (hello ++ spelling change) refl)))) h1 in
-    let a1 = then_do (book_step (arrives 1 1 [] _ refl refl (record { reply_is = refl; book_is = refl }))) h2 in
+    let a1 = then_do (book_step (arrives 1 1 [] Nothing _ refl refl (record { reply_is = refl; book_is = refl }))) h2 in
     let h3 = then_do (client_step (of_client 1 (reads [] hello (spelling change) (ok ∷ []) refl refl refl))) a1 in
     let h4 = then_do (client_step (of_client 1 (passes hello [] key refl refl))) h3 in
     let h5 = then_do (book_step (asks 1 1 key _ _ (record { phase = refl; number_is = refl }) (record { reply_is = refl; book_is = refl }))) h4 in
@@ -194,7 +195,7 @@ story whole =
     let h19 = then_do (book_step (gives_back 1 0 _ refl (record { reply_is = refl; book_is = refl }))) h18 in
     let h20 = then_do (client_step (of_client 2 (comes row (word 2) refl lawful_row))) h19 in
     let h21 = then_do (client_step (of_client 2 (sends hello (bytes hello refl)))) h20 in
-    let a2 = then_do (book_step (arrives 2 2 [] _ refl refl (record { reply_is = refl; book_is = refl }))) h21 in
+    let a2 = then_do (book_step (arrives 2 2 [] Nothing _ refl refl (record { reply_is = refl; book_is = refl }))) h21 in
     let h22 = then_do (client_step (of_client 2 (reads [] hello [] (ok ∷ []) refl refl refl))) a2 in
     let h23 = then_do (client_step (of_client 2 (passes hello [] key refl refl))) h22 in
     let h24 = then_do (book_step (asks 2 2 key _ _ (record { phase = refl; number_is = refl }) (record { reply_is = refl; book_is = refl }))) h23 in

@@ -15,7 +15,7 @@ use Rattle.book_model.specs.declared.events.Reply.TheVariants.{Dispose, Reset}
 use Rattle.world_steps.specs.Clients.{HasEnded, MayWrite, given}
 use Rattle.world_steps.specs.Clients.Phase.{LoggingIn, Refusing, Served, Starting, Waiting}
 use Rattle.world_steps.specs.Links.{IsSettled, newborn}
-use Rattle.world_steps.specs.Links.Role.{Clean, InReset, Lent}
+use Rattle.world_steps.specs.Links.Role.{Clean, Gone, InReset, Lent}
 use Rattle.world_steps.specs.Worlds.{World, own, with_book, with_client, with_link, with_pair}
 use Rattle.world_steps.specs.Steps.{Gives, IsNewKey, Reached, Step, gets_link}
 
@@ -55,6 +55,10 @@ pub data Misnames (w : World) : World → Type 0 where
 -- a login passes with any key
 pub data PassesSomehow (w : World) : World → Type 0 where
   passes_somehow : (c : ℕ) (read : List ℕ) (key : StartKeyOf) → (w.clients c).phase ≡ LoggingIn read → PassesSomehow w (with_client w c (record (w.clients c) { phase = Waiting key; for_link = [] }))
+
+-- a client asks for another link that was welcomed over one
+pub data AsksAgain (w : World) : World → Type 0 where
+  asks_again : (c l : ℕ) → (w.clients c).phase ≡ Served l → AsksAgain w (with_pair w c (record (w.clients c) { phase = Waiting (w.links l).key }) l (record (w.links l) { role = Gone }))
 
 -- a link is returned though a cancel found its lease
 pub data ReturnsMarked (w : World) : World → Type 0 where

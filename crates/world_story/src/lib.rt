@@ -3,7 +3,7 @@
 
 ghost use Rattle.world_story.specs.Cancelled.{Cancelled, StrikesAnother};
 ghost use Rattle.world_story.specs.Others.{Others};
-ghost use Rattle.world_story.specs.Slips.{DiesLying, Hurries, Misnames, PassesSomehow, RepeatsKey, ReturnsMarked, SkipsReset, Spoils, SpoilsRefusal};
+ghost use Rattle.world_story.specs.Slips.{AsksAgain, DiesLying, Hurries, Misnames, PassesSomehow, RepeatsKey, ReturnsMarked, SkipsReset, Spoils, SpoilsRefusal};
 ghost use Rattle.world_story.specs.Story.{Story};
 
 use world_model::every_world;
@@ -43,6 +43,11 @@ pub fn misnaming_shows()
 /// Were a login to pass with any key, its client would get a session of another start.
 pub fn any_key_shows()
     ensures { Spoils PassesSomehow 1 }
+{}
+
+/// Were a client to ask for another link that was welcomed over one, it would be welcomed twice.
+pub fn asking_again_shows()
+    ensures { Spoils AsksAgain 1 }
 {}
 
 /// Were a client refused inside a message, it would be given what no answer of a server of its own allows.

@@ -24,9 +24,9 @@ returns-in-Ok-Ready-clause-cause g c =
 
 pub returns-in-Err-clause-cause : goal.returns-in-Err-clause-cause
 returns-in-Err-clause-cause g c =
-    subst (λ (k : StartKeyOf). IsStartCause (g.E.ServerEnd.standing c.args.end) (g.E.ServerEnd.standing c.fail.result.end) c.args.secret.now k c.fail.result.cause) c.loop-left.invariant.key
-    (subst (λ (s : Standing). IsStartCause (g.E.ServerEnd.standing c.args.end) s c.args.secret.now c.loop-left.start.key c.fail.result.cause) (sym c.fail.ensures.end)
-    (subst (λ (cause : StartCause). IsStartCause (g.E.ServerEnd.standing c.args.end) c.turn.new.self.end c.args.secret.now c.loop-left.start.key cause) (sym c.fail.ensures.cause)
+    subst (λ (k : StartKeyOf). IsStartCause (g.E.ServerEnd.standing c.args.end) (g.E.ServerEnd.standing c.fail-in-Err.result.end) c.args.secret.now k c.fail-in-Err.result.cause) c.loop-left.invariant.key
+    (subst (λ (s : Standing). IsStartCause (g.E.ServerEnd.standing c.args.end) s c.args.secret.now c.loop-left.start.key c.fail-in-Err.result.cause) (sym c.fail-in-Err.ensures.end)
+    (subst (λ (cause : StartCause). IsStartCause (g.E.ServerEnd.standing c.args.end) c.turn.new.self.end c.args.secret.now c.loop-left.start.key cause) (sym c.fail-in-Err.ensures.cause)
     (c.in-Err.ensures.cause _ c.requires.can_start (subst (λ (k : StartKeyOf). IsLinkKey k) (sym c.loop-left.invariant.key) c.requires.key) c.loop-left.invariant.under_way)))
 
 pub returns-clause-turns : goal.returns-clause-turns
@@ -34,6 +34,12 @@ returns-clause-turns g c = λ _.
     subst (λ (s : Standing). HasTried (g.E.ServerEnd.standing c.args.end) c.args.secret.now (arc_value c.args.key) s c.args.turns) (sym c.fail-2.ensures.end)
     (subst (λ (k : StartKeyOf). HasTried (g.E.ServerEnd.standing c.args.end) c.args.secret.now k c.loop-left.start.end c.args.turns) c.loop-left.invariant.key
     (has_tried _ _ c.loop-left.start _ c.loop-left.invariant.under_way (omega (arith, c.loop-left.invariant.tried, c.loop-left-test.false)) c.loop-left.invariant.waits))
+
+pub returns-then-is_late-clause-unanswered : goal.returns-then-is_late-clause-unanswered
+returns-then-is_late-clause-unanswered g c = λ _.
+    subst (λ (s : Standing). HasTried (g.E.ServerEnd.standing c.args.end) c.args.secret.now (arc_value c.args.key) s 0) (sym c.fail.ensures.end)
+    (subst (λ (k : StartKeyOf). HasTried (g.E.ServerEnd.standing c.args.end) c.args.secret.now k c.loop-left.start.end 0) c.loop-left.invariant.key
+    (has_tried _ _ c.loop-left.start _ c.loop-left.invariant.under_way (omega (arith, c.loop-left.invariant.tried, c.loop-left.invariant.fewer)) c.loop-left.invariant.waits))
 
 pub loop-left-preserved-in-Ok-Idle : goal.loop-left-preserved-in-Ok-Idle
 loop-left-preserved-in-Ok-Idle g c =
@@ -44,10 +50,11 @@ loop-left-preserved-in-Ok-Idle g c =
       number = c.in-Ok-Idle.ensures.same.1 ∙ c.loop-left.invariant.number;
       born = c.in-Ok-Idle.ensures.same.2 ∙ c.loop-left.invariant.born;
       short = c.in-Ok-Idle.ensures.short more c.loop-left.invariant.short;
+      fewer = omega (arith, c.loop-left.invariant.fewer);
       tried = omega (arith, c.in-Ok-Idle.ensures.idle c.in-Ok-Idle.field-0-is, c.loop-left.invariant.tried, c.loop-left-test.true);
       waits = c.in-Ok-Idle.ensures.waits more;
-      taken = omega (arith, c.turn_of_link.ensures, c.in-Ok-Idle.ensures.counts.1, c.loop-left.invariant.taken, c.loop-left-test.true);
-      paced = omega (arith, c.turn_of_link.ensures, c.in-Ok-Idle.ensures.once, c.loop-left.invariant.paced);
+      taken = omega (arith, c.is_late.ensures.turns, c.turn_of_link.ensures, c.in-Ok-Idle.ensures.counts.1, c.loop-left.invariant.taken, c.loop-left-test.true);
+      paced = omega (arith, c.is_late.ensures.turns, c.turn_of_link.ensures, c.in-Ok-Idle.ensures.once, c.loop-left.invariant.paced);
     }
 
 pub loop-left-preserved : goal.loop-left-preserved
@@ -59,10 +66,11 @@ loop-left-preserved g c =
       number = c.in-Ok-Moved.ensures.same.1 ∙ c.loop-left.invariant.number;
       born = c.in-Ok-Moved.ensures.same.2 ∙ c.loop-left.invariant.born;
       short = c.in-Ok-Moved.ensures.short more c.loop-left.invariant.short;
+      fewer = c.loop-left.invariant.fewer;
       tried = omega (arith, c.in-Ok-Moved.ensures.counts.0, c.loop-left.invariant.tried);
       waits = c.in-Ok-Moved.ensures.waits more;
-      taken = omega (arith, c.turn_of_link.ensures, c.in-Ok-Moved.ensures.moved c.in-Ok-Moved.field-0-is, c.loop-left.invariant.taken);
-      paced = omega (arith, c.turn_of_link.ensures, c.in-Ok-Moved.ensures.once, c.loop-left.invariant.paced);
+      taken = omega (arith, c.is_late.ensures.turns, c.turn_of_link.ensures, c.in-Ok-Moved.ensures.moved c.in-Ok-Moved.field-0-is, c.loop-left.invariant.taken);
+      paced = omega (arith, c.is_late.ensures.turns, c.turn_of_link.ensures, c.in-Ok-Moved.ensures.once, c.loop-left.invariant.paced);
     }
 
 pub finish-requires : goal.finish-requires

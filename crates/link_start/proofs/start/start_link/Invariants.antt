@@ -11,6 +11,7 @@ invariant-loop-left g l = record {
   number : l.start.number ≡ l.fn.number;
   born : l.start.born ≡ l.fn.born;
   short : length l.start.received ≤ LONGEST_WELCOME;
+  fewer : l.left ≤ l.fn.turns;
   tried : l.fn.turns + waits_of (g.E.ServerEnd.standing l.fn.end) ≤ waits_of l.start.end + l.left;
   waits : IsWaitingStart l.secret l.start;
   taken : g.G.Gate.turns l.gate + moved_of (g.E.ServerEnd.standing l.fn.end) + l.left ≤ g.G.Gate.turns l.fn.gate + l.fn.turns + moved_of l.start.end;

@@ -10,7 +10,7 @@ start_link-requires-clause-can_start c = can_start c.args.server.left c.args.ser
 
 pub returns-in-Err-clause-answer : goal.returns-in-Err-clause-answer
 returns-in-Err-clause-answer c = unstarted c.args.server.left c.args.server.standing c.new-server.result c.in-Err.fault.end c.args.secret.now (arc_value c.args.key) c.args.word c.args.limit START_TURNS c.args.bytes.now _ _ _ c.new-server.ensures c.requires.follows c.requires.let_in c.in-Err.ensures.cause
-    c.in-Err.ensures.turns c.new-out.ensures.items c.in_ok-put_unstarted-in-Err.ensures.told
+    c.in-Err.ensures.turns c.in-Err.ensures.late c.new-out.ensures.items c.in_ok-put_unstarted-in-Err.ensures.told
 
 pub returns-then-branch-clause-answer : goal.returns-then-branch-clause-answer
 returns-then-branch-clause-answer c = given_answered c.args.server.left c.args.server.standing c.new-server.result c.args.secret.now (arc_value c.args.key) c.args.word c.args.bytes.now c.in_ok-out.out.items _ c.pump_to_end-ending.result c.is_clear-clear.result c.in-Ok.link c.args.limit c.in_ok-relay.relay

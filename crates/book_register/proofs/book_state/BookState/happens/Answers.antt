@@ -3,6 +3,7 @@ use Rattle.book_model.specs.Events.{event_of}
 use Rattle.book_model.specs.Outcomes.{is_strange}
 use Rattle.book_model.specs.declared.events.Event.{Event}
 use Rattle.book_register.proofs.Decisions.{asker_has_room, lease_has_room}
+use Rattle.book_register.proofs.Takes.{may_start}
 use Rattle.book_register.proofs.book_state.BookState.happens.Goals as goal
 
 pub asks-requires-clause-room : goal.asks-requires-clause-room
@@ -10,3 +11,6 @@ asks-requires-clause-room c = asker_has_room c.args.self.now.clients c.args.self
 
 pub keys-requires : goal.keys-requires
 keys-requires c = record { room = lease_has_room c.args.self.now c.in-Keyed.link c.requires.kept (subst (λ (e : Event). is_strange c.args.self.now (event_of e) ≡ false) c.in-Keyed.is c.requires.known) }
+
+pub reconnects-requires : goal.reconnects-requires
+reconnects-requires c = record { next = (may_start c.args.self.now c.requires.kept c.requires.more).1 }

@@ -1,6 +1,6 @@
 use Rattle.std.proofs.Common.{refl, ap, ◌∙◌}
 use Rattle.console_run.specs.Turns.{TalkView}
-use Rattle.console_run.proofs.Talking.{heard_faulty, heard_left, heard_refused, heard_told, read_turned}
+use Rattle.console_run.proofs.Talking.{heard_early, heard_faulty, heard_left, heard_refused, heard_told, read_turned}
 use Rattle.console_run.proofs.talk.Talk.hear.Goals as goal
 
 pub returns-in-Need : goal.returns-in-Need
@@ -17,3 +17,6 @@ returns-in-Left g c = heard_left c.front_is_spelled.ensures _ _ c.as_slice.resul
 
 pub returns-in-Refused : goal.returns-in-Refused
 returns-in-Refused g c = heard_refused _ _ _ _ c.answer.result _ _ c.requires c.answer.ensures c.in-Refused.is
+
+pub returns-in-NotYet : goal.returns-in-NotYet
+returns-in-NotYet g c = heard_early _ _ _ _ c.answer.result _ _ c.read_early.result c.requires c.answer.ensures c.in-NotYet.is c.read_early.ensures

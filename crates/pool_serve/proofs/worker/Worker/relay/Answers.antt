@@ -30,8 +30,8 @@ returns-in-Err-clause-serves g c = λ t f.
 
 pub returns-clause-serves : goal.returns-clause-serves
 returns-clause-serves g c = λ t f.
-    subst (λ (limit : ℕ). Serves limit c.args.link.stands.server.strikable (g.C.ClientEnd.facts c.args.client) (g.C.ClientEnd.facts c.close_over-client.result.0) (service_pieces c.args.link.stands.server.catalogue c.args.link.key c.args.logged_in.now.word) (or_nothing c.pumped-refusal.result)) (c.max_packet_size-limit.ensures ∙ ap (λ (x : Settings). x.max_packet_size) (c.deref.ensures ∙ c.settings.ensures))
-    (relay_serves c.leases_are_allowed.ensures c.service_is_its_pieces.ensures (g.C.ClientEnd.facts c.args.client) (g.C.ClientEnd.facts c.close_over-client.result.0) c.args.link c.args.logged_in.now.word c.max_packet_size-limit.result c.in-Ok.relay c.pumped-refusal.new.relay c.pumped-refusal.result c.in-Ok.ensures.begun c.pumped-refusal.ensures.keeps c.close_over-client.ensures.client c.pumped-refusal.ensures.refused t f)
+    subst (λ (limit : ℕ). Serves limit c.args.link.stands.server.strikable (g.C.ClientEnd.facts c.args.client) (g.C.ClientEnd.facts c.close_over-client.result.0) (service_pieces c.args.link.stands.server.catalogue c.args.link.key c.args.logged_in.now.word) (or_nothing c.pumped-refusal.result.0)) (c.max_packet_size-limit.ensures ∙ ap (λ (x : Settings). x.max_packet_size) (c.deref.ensures ∙ c.settings.ensures))
+    (relay_serves c.leases_are_allowed.ensures c.service_is_its_pieces.ensures (g.C.ClientEnd.facts c.args.client) (g.C.ClientEnd.facts c.close_over-client.result.0) c.args.link c.args.logged_in.now.word c.max_packet_size-limit.result c.in-Ok.relay c.pumped-refusal.new.relay c.pumped-refusal.result.0 c.in-Ok.ensures.begun c.pumped-refusal.ensures.keeps c.close_over-client.ensures.client c.pumped-refusal.ensures.refused t f)
 
 pub hand_back-requires-clause-own : goal.hand_back-requires-clause-own
 hand_back-requires-clause-own g c =

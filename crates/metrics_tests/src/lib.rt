@@ -1,0 +1,13 @@
+//! Tests of metrics: the text whole, worked out by hand; requests and their responses; and the serving of them over the loopback network.
+#![tactic(auto)]
+
+#[cfg(test)]
+mod books;
+#[cfg(test)]
+mod requests;
+#[cfg(test)]
+mod responses;
+#[cfg(test)]
+mod serving;
+#[cfg(test)]
+mod texts;

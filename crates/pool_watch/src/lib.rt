@@ -1,0 +1,8 @@
+//! What is known of a pool beside its lease book: who is there and what each is at, and what went through each database. Nothing is proved
+//! of it but that it is safe, and that a watched desk is a desk; what monitors are shown of it is proved by monitor_core.
+#![tactic(auto)]
+
+pub mod databases;
+pub mod desk;
+pub mod seats;
+pub mod watch;

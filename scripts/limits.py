@@ -1,0 +1,236 @@
+#!/usr/bin/env python3
+"""Shows the limits of `pgsess serve` by the clock: of a login, and of the start of a server's session; that silent connections cost nobody
+else a place, also where files are few; and that the console is let in beyond max_client_conn. In front of a PostgreSQL server of Debian.
+
+Usage: limits.py PROGRAM
+"""
+import os
+import re
+import resource
+import select
+import signal
+import socket
+import sys
+import threading
+import time
+
+from cluster import HERE, USERS, Cluster, Passes, Place, Pooler, free_port, set_up, until
+from wire import Client, Cut, Refused, message, startup
+
+LOGIN, START = 3, 2
+MANY, FEW_FILES, SILENT, BEHIND = 1000, 1024, 510, 100
+SECONDS = 10
+CONSOLE, LOCAL, CONSOLE_SECONDS = 64, 80, 10
+UNREACHED, TOO_MANY = "08001", "53300"
+
+
+def told(port, user="ann", database="shop", host=HERE, seconds=SECONDS):
+    """What a client is told that asks for one row, and the seconds that it took."""
+    begin = time.monotonic()
+    try:
+        client = Client(port, user, database, USERS[user][0], host=host, seconds=seconds)
+        client.ask("SELECT 1" if database != "pgbouncer" else "SHOW VERSION")
+        client.leave()
+        outcome = "served"
+    except Refused as error:
+        outcome = error.code
+    except (Cut, OSError) as error:
+        outcome = type(error).__name__
+    return outcome, time.monotonic() - begin
+
+
+def opened(port, first=b"", count=1):
+    """So many connections that send this and nothing more."""
+    made = []
+    for _ in range(count):
+        it = socket.create_connection((HERE, port), SECONDS)
+        if first:
+            it.sendall(first)
+        made.append(it)
+    return made
+
+
+def ends(connections, seconds):
+    """How many of them were closed in time, and what bytes they were given."""
+    left, given, end = {it.fileno(): it for it in connections}, b"", time.monotonic() + seconds
+    poll = select.poll()
+    for it in connections:
+        poll.register(it, select.POLLIN)
+    while left and time.monotonic() < end:
+        for number, _ in poll.poll(100):
+            try:
+                piece = left[number].recv(4096)
+            except ConnectionResetError:
+                piece = b""
+            given += piece
+            if not piece:
+                poll.unregister(number)
+                del left[number]
+    return len(connections) - len(left), given
+
+
+def close(connections):
+    for it in connections:
+        it.close()
+
+
+class Dripping(threading.Thread):
+    """A server that says AuthenticationOk and then reports, a byte each 50 ms."""
+
+    def __init__(self):
+        super().__init__(daemon=True)
+        self.listener = socket.create_server((HERE, 0))
+        self.port, self.open = self.listener.getsockname()[1], 0
+        self.start()
+
+    def run(self):
+        while True:
+            connection, _ = self.listener.accept()
+            threading.Thread(target=self.drip, args=(connection,), daemon=True).start()
+
+    def drip(self, connection):
+        self.open += 1
+        text = message(b"R", (0).to_bytes(4, "big")) + message(b"S", b"server_version\0" + b"15" * 4000 + b"\0")
+        try:
+            connection.recv(4096)
+            for byte in text:
+                connection.sendall(bytes([byte]))
+                time.sleep(0.05)
+        except OSError:
+            pass
+        self.open -= 1
+        connection.close()
+
+
+class Show:
+    def __init__(self, program):
+        self.program, self.passes, self.place = program, Passes("limits"), Place()
+        self.cluster = Cluster(self.place)
+        self.pooler = None
+
+    def begin(self, **settings):
+        if self.pooler:
+            self.pooler.stop()
+        self.pooler = Pooler(self.place, self.cluster, self.program, auth="md5", **settings)
+
+    def log(self):
+        return (self.place.folder / "pgsess.err").read_text()
+
+    def console(self, command, host=HERE):
+        client = Client(self.pooler.port, "root", "pgbouncer", USERS["root"][0], host=host, seconds=SECONDS)
+        try:
+            return client.ask(command)
+        finally:
+            client.leave()
+
+    def logins(self):
+        """Connections that say nothing, half a StartupMessage, or no password."""
+        self.begin(lines=f"client_login_timeout = {LOGIN}\n")
+        before = len(self.log())
+        begin = time.monotonic()
+        half = startup("ann", "shop")[:20]
+        silent, halves = opened(self.pooler.port, count=MANY), opened(self.pooler.port, half, MANY)
+        outcomes = [told(self.pooler.port)[0] for _ in range(10)]
+        self.passes.same(f"{MANY} silent connections and {MANY} with half a StartupMessage: clients are served", outcomes, ["served"] * 10)
+        count, given = ends(silent + halves, LOGIN + SECONDS)
+        self.passes.same("all are closed without a byte", (count, given), (2 * MANY, b""))
+        self.passes.holds("in client_login_timeout", time.monotonic() - begin < LOGIN + SECONDS, f"{time.monotonic() - begin:.1f} s")
+        close(silent + halves)
+        counted = lambda: sum(map(int, re.findall(r"^pgsess: (\d+) connections? .*client_login_timeout", self.log()[before:], re.M)))
+        until(lambda: counted() >= 2 * MANY, 5)
+        self.passes.same("the log has their number", counted(), 2 * MANY)
+        asked = opened(self.pooler.port, startup("ann", "shop"))
+        count, given = ends(asked, LOGIN + SECONDS)
+        self.passes.same("one that gives no password is closed behind the question", (count, given[:1]), (1, b"R"))
+        self.passes.holds("the log names it", until(lambda: re.search(r"ann@shop.*client_login_timeout", self.log()[before:]), 5), self.log()[-300:])
+        close(asked)
+        asked = opened(self.pooler.port, startup("ann", "shop"))[0]
+        for byte in message(b"p", b"x" * 3000)[:200]:
+            try:
+                asked.sendall(bytes([byte]))
+            except OSError:
+                break
+            time.sleep(0.1)
+        self.passes.same("one that drips its password too", ends([asked], SECONDS)[0], 1)
+        asked.close()
+        self.passes.same("no place is taken", self.console("SHOW CLIENTS")[1:], [])
+
+    def files(self):
+        """Few files, and silent connections that have them all."""
+        self.begin(lines="client_login_timeout = 0\n", files=FEW_FILES)
+        silent = opened(self.pooler.port, count=SILENT)
+        time.sleep(1)
+        for what, user, database in (("a client", "ann", "shop"), ("the console", "root", "pgbouncer"), ("another client", "ann", "shop")):
+            outcome, took = told(self.pooler.port, user, database, seconds=2 * SECONDS)
+            self.passes.same(f"{SILENT} silent connections under {FEW_FILES} files: {what} is served", (outcome, took < SECONDS), ("served", True))
+        close(silent)
+
+    def shutdown(self):
+        """SHUTDOWN doesn't wait for who hasn't said who it is."""
+        self.begin(lines="client_login_timeout = 0\n")
+        silent = opened(self.pooler.port, count=BEHIND)
+        begin = time.monotonic()
+        self.passes.tell(f"SHUTDOWN with {BEHIND} silent connections", self.pooler.shut())
+        self.passes.holds("at once", time.monotonic() - begin < 5, f"{time.monotonic() - begin:.1f} s")
+        self.passes.same("they are closed", ends(silent, SECONDS)[0], BEHIND)
+        close(silent)
+
+    def starts(self):
+        """A server that drips its welcome."""
+        server = Dripping()
+        self.begin(closed=server.port, size=1, lines=f"server_connect_timeout = {START}\n")
+        for turn in ("a server that drips its welcome", "the next client"):
+            outcome, took = told(self.pooler.port, database="closed")
+            self.passes.same(f"{turn}: told in server_connect_timeout", (outcome, START <= took < START + 3), (UNREACHED, True))
+        self.passes.holds("its connection is closed", until(lambda: server.open == 0, 5))
+        self.passes.same("its place is free", self.console("SHOW SERVERS"), [])
+        self.passes.same("and others are served", told(self.pooler.port)[0], "served")
+
+    def console_beyond(self):
+        """The console where no client has a place."""
+        folder = self.place.folder
+        self.begin(clients=3, lines=f"unix_socket_dir = {folder}\n")
+        clients = [Client(self.pooler.port, "ann", "shop", USERS["ann"][0]) for _ in range(3)]
+        self.passes.same("a client beyond max_client_conn", told(self.pooler.port)[0], TOO_MANY)
+        self.passes.same("a client of the console's database that isn't its user", told(self.pooler.port, "ann", "pgbouncer")[0], TOO_MANY)
+        self.passes.same("SHOW beyond it", len(self.console("SHOW CLIENTS")), 4)
+        silent = opened(self.pooler.port, startup("root", "pgbouncer"), CONSOLE)
+        time.sleep(1)
+        self.passes.same(f"{CONSOLE} that give no password have the console's places", told(self.pooler.port, "root", "pgbouncer")[0], TOO_MANY)
+        self.passes.same("and not those of the Unix socket", told(self.pooler.port, "root", "pgbouncer", str(folder))[0], "served")
+        self.passes.same(f"they have {CONSOLE_SECONDS} s", ends(silent, CONSOLE_SECONDS + 5)[0], CONSOLE)
+        close(silent)
+        ini = (folder / "pgsess.ini").read_text()
+        self.place.write("pgsess.ini", ini.replace("max_client_conn = 3", "max_client_conn = 10"))
+        self.console("RELOAD")
+        self.passes.same("RELOAD with a higher limit", told(self.pooler.port)[0], "served")
+        for client in clients:
+            client.leave()
+        self.passes.tell("SHUTDOWN", self.pooler.shut())
+
+    def run(self):
+        for part in (self.logins, self.files, self.shutdown, self.starts, self.console_beyond):
+            part()
+        self.pooler.stop()
+        self.cluster.stop()
+
+
+def main(program):
+    set_up()
+    most = resource.getrlimit(resource.RLIMIT_NOFILE)[1]
+    resource.setrlimit(resource.RLIMIT_NOFILE, (min(most, 16384), most))
+    show = Show(program)
+    try:
+        show.run()
+    finally:
+        if show.pooler:
+            show.pooler.stop()
+        for pid in show.place.processes():
+            os.kill(pid, signal.SIGKILL)
+        until(lambda: not show.place.processes())
+        show.place.clear()
+    show.passes.end()
+
+
+if __name__ == "__main__":
+    main(os.path.abspath(sys.argv[1]))
