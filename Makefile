@@ -15,6 +15,7 @@ program := crates/pgsess/out/pgsess
 trials := crates/trials/out/trials
 refusals := crates/refusals/out/refusals
 message_parts := crates/message_parts/out/message_parts
+scram_parts := crates/scram_parts/out/scram_parts
 sources := crates.txt $(shell find crates -name out -prune -o -name must-fail -prune -o \( -name '*.rt' -o -name '*.antt' \) -print)
 
 define help_text
@@ -66,6 +67,13 @@ $(message_parts): $(sources)
 	@touch $(message_parts)
 	@echo "built $(message_parts) ($$(date +%T))"
 
+# and the one that tells what SCRAM's crates answer
+$(scram_parts): $(sources)
+	@scripts/kit.sh $(KIT)
+	@scripts/prove.py scram_parts
+	@touch $(scram_parts)
+	@echo "built $(scram_parts) ($$(date +%T))"
+
 build/pgsess: $(program)
 	@mkdir -p build
 	@cp $(program) $@.new
@@ -101,7 +109,7 @@ test:
 gate:
 	@scripts/kit.sh any
 	RT_JOBS=$$(scripts/jobs.sh) rt ci
-	@$(MAKE) --no-print-directory $(program) $(trials) $(refusals) $(message_parts)
+	@$(MAKE) --no-print-directory $(program) $(trials) $(refusals) $(message_parts) $(scram_parts)
 	scripts/rows.sh $(program) $(trials)
 	scripts/leases.sh $(trials)
 	scripts/conversations.sh $(program) $(trials)
@@ -110,6 +118,7 @@ gate:
 	scripts/logins.sh $(trials)
 	scripts/clients.sh $(trials)
 	scripts/views.sh $(message_parts)
+	scripts/scram.py $(scram_parts)
 	scripts/refuse-growth.sh $(program) $(trials) $(refusals)
 	scripts/refused_growths.sh $(program)
 	scripts/faulty_servers.sh $(program)
@@ -156,8 +165,8 @@ dist: build/pgsess
 	scripts/dist.sh build/pgsess build/dist
 
 # all run; the status says whether a bound was missed
-bench: build/pgsess $(trials)
-	@status=0; bench/replay.sh build/pgsess || status=$$?; bench/tables.sh build/pgsess || status=$$?; bench/relay.sh $(trials) || status=$$?; bench/book.sh $(trials) || status=$$?; scripts/calls.py build/pgsess || status=$$?; bench/pool.sh build/pgsess || status=$$?; exit $$status
+bench: build/pgsess $(trials) $(scram_parts)
+	@status=0; bench/replay.sh build/pgsess || status=$$?; bench/tables.sh build/pgsess || status=$$?; bench/relay.sh $(trials) || status=$$?; bench/book.sh $(trials) || status=$$?; scripts/calls.py build/pgsess || status=$$?; bench/pool.sh build/pgsess || status=$$?; scripts/scram.py $(scram_parts) --whole || status=$$?; exit $$status
 
 clean:
 	rm -rf build crates/*/out

@@ -1,0 +1,14 @@
+//! Tests of SCRAM and of how passwords are prepared for it: vectors of RFCs, an exchange whole, what PostgreSQL made of passwords, and
+//! what isn't read.
+#![tactic(auto)]
+
+#[cfg(test)]
+mod exchanges;
+#[cfg(test)]
+mod preparations;
+#[cfg(test)]
+mod refusals;
+#[cfg(test)]
+mod vectors;
+#[cfg(test)]
+mod verifiers;
