@@ -130,6 +130,7 @@ gate:
 	scripts/reach.sh $(program)
 	scripts/restarts.sh $(program)
 	scripts/limits.sh $(program)
+	scripts/as_told.sh $(program)
 	scripts/monitors.sh $(program)
 	scripts/cancels.sh $(program)
 	scripts/console.sh $(program)

@@ -224,10 +224,10 @@ def files_of(pid):
 
 class Pooler:
     """A pooler in front of the server, with the settings of examples/pgsess.ini but for those that are named. `more` has further
-    databases, each with its port; `untracked` names a startup parameter that isn't followed, but dropped; `lines` are further ones of the
-    settings. It may have so many files open at most."""
+    databases, each with its port, and `more_rows` has their lines; `untracked` names a startup parameter that isn't followed, but dropped;
+    `lines` are further ones of the settings, and `changes` puts others in the place of some. It may have so many files open at most."""
 
-    def __init__(self, place, cluster, program, kind="pgsess", auth="trust", size=20, clients=100, wait=120, closed=1, links=1000, more=None, untracked="", lines="", files=None):
+    def __init__(self, place, cluster, program, kind="pgsess", auth="trust", size=20, clients=100, wait=120, closed=1, links=1000, more=None, untracked="", lines="", files=None, seed=None, more_rows="", listen=HERE, changes=None):
         self.place, self.port, self.kind = place, free_port(), kind
         users = place.write("users.txt", "".join(f'"{name}" "{secret}"\n' for name, (_, secret) in USERS.items()))
         self.errors = open(place.folder / f"{kind}.err", "ab")
@@ -240,7 +240,8 @@ class Pooler:
             return
         rows = {"shop": (cluster.port, "shop"), "closed": (closed, "shop"), **{name: (port, name) for name, port in (more or {}).items()}}
         changes = {
-            r"^shop = .*": r"\n".join(f"{name} = host={HERE} port={port} dbname={dbname}" for name, (port, dbname) in rows.items()),
+            r"^shop = .*": r"\n".join([*(f"{name} = host={HERE} port={port} dbname={dbname}" for name, (port, dbname) in rows.items()), *more_rows.splitlines()]),
+            "^listen_addr = .*": f"listen_addr = {listen}",
             "^listen_port = .*": f"listen_port = {self.port}",
             "^auth_type = .*": f"auth_type = {auth}",
             "^max_client_conn = .*": f"max_client_conn = {clients}",
@@ -249,10 +250,11 @@ class Pooler:
             "^query_wait_timeout = .*": f"query_wait_timeout = {wait}",
             "^untrack_parameters =.*": f"untrack_parameters = {untracked}",
             "^ignore_startup_parameters = .*": f"ignore_startup_parameters = options,{untracked}",
+            **(changes or {}),
         }
         words = [part for old, new in changes.items() for part in ("-e", f"s/{old}/{new}/")]
         settings = subprocess.run(["sed", *words, TOP / "examples/pgsess.ini"], capture_output=True, check=True).stdout + lines.encode()
-        ini, seed = place.write("pgsess.ini", settings), place.write("seed", os.urandom(32))
+        ini, seed = place.write("pgsess.ini", settings), place.write("seed", seed or os.urandom(32))
         limit = ["prlimit", f"--nofile={files}"] if files else []
         self.process = place.start(*limit, program, "serve", "--ini", ini, "--users", users, "--key-seed", seed, stdout=subprocess.PIPE, stderr=self.errors)
         line = self.process.stdout.readline().decode().strip()

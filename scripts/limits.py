@@ -1,6 +1,7 @@
 #!/usr/bin/env python3
 """Shows the limits of `pgsess serve` by the clock: of a login, and of the start of a server's session; that silent connections cost nobody
-else a place, also where files are few; and that the console is let in beyond max_client_conn. In front of a PostgreSQL server of Debian.
+else a place, also where files are few; that the console is let in beyond max_client_conn; and that clients whose server has no place for
+their links are served one after another. In front of a PostgreSQL server of Debian.
 
 Usage: limits.py PROGRAM
 """
@@ -21,15 +22,16 @@ LOGIN, START = 3, 2
 MANY, FEW_FILES, SILENT, BEHIND = 1000, 1024, 510, 100
 SECONDS = 10
 CONSOLE, LOCAL, CONSOLE_SECONDS = 64, 80, 10
+PLACES, CLIENTS, WAIT = 3, 6, 3
 UNREACHED, TOO_MANY = "08001", "53300"
 
 
-def told(port, user="ann", database="shop", host=HERE, seconds=SECONDS):
+def told(port, user="ann", database="shop", host=HERE, seconds=SECONDS, asks="SELECT 1"):
     """What a client is told that asks for one row, and the seconds that it took."""
     begin = time.monotonic()
     try:
         client = Client(port, user, database, USERS[user][0], host=host, seconds=seconds)
-        client.ask("SELECT 1" if database != "pgbouncer" else "SHOW VERSION")
+        client.ask(asks if database != "pgbouncer" else "SHOW VERSION")
         client.leave()
         outcome = "served"
     except Refused as error:
@@ -37,6 +39,21 @@ def told(port, user="ann", database="shop", host=HERE, seconds=SECONDS):
     except (Cut, OSError) as error:
         outcome = type(error).__name__
     return outcome, time.monotonic() - begin
+
+
+def told_at_once(port, count, asks):
+    """The same of so many clients that come at once."""
+    outcomes = [None] * count
+
+    def serve(place):
+        outcomes[place] = told(port, asks=asks, seconds=4 * SECONDS)
+
+    threads = [threading.Thread(target=serve, args=(place,)) for place in range(count)]
+    for it in threads:
+        it.start()
+    for it in threads:
+        it.join()
+    return outcomes
 
 
 def opened(port, first=b"", count=1):
@@ -208,8 +225,34 @@ class Show:
             client.leave()
         self.passes.tell("SHUTDOWN", self.pooler.shut())
 
+    def places(self):
+        """A server that has fewer places for a user than the user's pool."""
+        self.cluster.tell(f"ALTER ROLE ann CONNECTION LIMIT {PLACES}", "postgres")
+        self.begin(size=CLIENTS)
+        before = len(self.log())
+        outcomes = told_at_once(self.pooler.port, CLIENTS, "SELECT pg_sleep(1)")
+        self.passes.same(f"{CLIENTS} clients of a second, a pool of {CLIENTS}, {PLACES} places at the server", [it for it, _ in outcomes], ["served"] * CLIENTS)
+        self.passes.holds("each waited for its turn alone", max(took for _, took in outcomes) < 8, str(outcomes))
+        refused = self.log()[before:].count(f"refused the start: {TOO_MANY}")
+        self.passes.holds("the log names the starts that were refused", CLIENTS - PLACES <= refused <= 2 * CLIENTS, str(refused))
+        outcomes = told_at_once(self.pooler.port, 4 * CLIENTS, "SELECT 1")
+        self.passes.same("many more clients, each for a moment", [it for it, _ in outcomes], ["served"] * (4 * CLIENTS))
+        self.begin(size=CLIENTS, wait=WAIT)
+        held = [Client(self.pooler.port, "ann", "shop", USERS["ann"][0]) for _ in range(PLACES)]
+        outcome, took = told(self.pooler.port)
+        self.passes.same("no link comes back: what the server said is told in query_wait_timeout", (outcome, WAIT - 1 <= took < WAIT + 3), (TOO_MANY, True))
+        for client in held:
+            client.leave()
+        self.begin(size=CLIENTS)
+        other = [Client(self.cluster.port, "ann", "shop", USERS["ann"][0]) for _ in range(PLACES)]
+        outcome, took = told(self.pooler.port)
+        self.passes.same("no link of the pool is lent: it is told at once", (outcome, took < 5), (TOO_MANY, True))
+        for client in other:
+            client.leave()
+        self.cluster.tell("ALTER ROLE ann CONNECTION LIMIT -1", "postgres")
+
     def run(self):
-        for part in (self.logins, self.files, self.shutdown, self.starts, self.console_beyond):
+        for part in (self.logins, self.files, self.shutdown, self.starts, self.console_beyond, self.places):
             part()
         self.pooler.stop()
         self.cluster.stop()

@@ -5,6 +5,7 @@ server of Debian.
 
 Usage: monitors.py PROGRAM
 """
+import json
 import os
 import re
 import shutil
@@ -28,7 +29,7 @@ TABLES = ["POOLS", "CLIENTS", "SERVERS", "CONFIG", "VERSION", "TOTALS", "STATS",
 # what a session sends: a block, two statements alone, and one that fails
 SENT = ["BEGIN", "SELECT 1", "COMMIT", "SELECT 'two'", "SELECT 1/0", "SHOW datestyle", ""]
 TRANSACTIONS = 5
-PACKAGES = {"exporter": "prometheus-pgbouncer-exporter", "check_postgres": "check-postgres", "DBD::Pg": "libdbd-pg-perl", "psycopg2": "python3-psycopg2", "psycopg 3": "python3-psycopg", "munin": "munin-plugins-core"}
+PACKAGES = {"exporter": "prometheus-pgbouncer-exporter", "check_postgres": "check-postgres", "DBD::Pg": "libdbd-pg-perl", "psycopg2": "python3-psycopg2", "psycopg 3": "python3-psycopg", "munin": "munin-plugins-core", "prometheus": "prometheus"}
 SYSTEM_PYTHON = "/usr/bin/python3"
 
 
@@ -289,6 +290,29 @@ class Show:
         process.terminate()
         process.wait(10)
 
+    def prometheus(self):
+        """Debian's Prometheus scrapes the figures, and then has each series that the dashboard names."""
+        program = shutil.which("prometheus")
+        if not program:
+            print("not tried: prometheus isn't installed", flush=True)
+            return
+        port, wanted, had = free_port(), named(TOP / "packaging/grafana/pgsess.json"), set()
+        config = self.place.write("prometheus.yml", f"global:\n  scrape_interval: 1s\nscrape_configs:\n  - job_name: pgsess\n    static_configs:\n      - targets: ['{HERE}:{self.metrics}']\n")
+        process = self.place.start(program, f"--config.file={config}", f"--storage.tsdb.path={self.place.folder / 'prometheus'}",
+                                   f"--web.listen-address={HERE}:{port}", stdout=subprocess.DEVNULL, stderr=subprocess.DEVNULL)
+
+        def has_all():
+            nonlocal had
+            try:
+                with urllib.request.urlopen(f"http://{HERE}:{port}/api/v1/label/__name__/values", timeout=5) as answer:
+                    had = set(json.load(answer)["data"])
+            except OSError:
+                return False
+            return wanted <= had
+        self.passes.holds("Debian's Prometheus has each series that the dashboard names", until(has_all, 40), str(wanted - had))
+        process.terminate()
+        process.wait(20)
+
     def check_postgres(self):
         program = shutil.which("check_postgres")
         if not program:
@@ -347,7 +371,7 @@ class Show:
         self.install()
         self.begin()
         Client(self.port, "ann", "shop", USERS["ann"][0]).leave()
-        for part in (self.drivers, self.exporter, self.munin, self.check_postgres):
+        for part in (self.drivers, self.exporter, self.prometheus, self.munin, self.check_postgres):
             part()
         self.passes.tell("SHUTDOWN", self.pooler.shut())
         self.pooler.stop()

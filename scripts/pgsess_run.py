@@ -200,6 +200,7 @@ def by_psql(passes, place, stub, program):
             passes.holds("SCRAM without psql: there is no way in", run.said("no way into the console (the pool asks for SCRAM, and there is no psql)"))
         else:
             until(lambda: calls.exists(), 10)
+            time.sleep(1)  # by then it has read what psql answered
             run.signal(signal.SIGTERM)
             wanted = f"r -X -q -w -h {HERE} -p {run.port} -U root -d pgbouncer -c "
             until(lambda: "SHUTDOWN" in calls.read_text(), 10)

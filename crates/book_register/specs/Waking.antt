@@ -1,6 +1,7 @@
 -- Whom a decision may help: who has waited longest in its pool, or, where the book has no room, in each.
-use Rattle.std.specs.Prelude.{ℕ, Bool, List, Option, Some, None, find, nat_lt, not}
-use Rattle.book_model.specs.Book.{Book, Link, Ticket, is_link, is_of, link_count}
+use Rattle.std.specs.Prelude.{ℕ, Bool, List, Option, Some, None, count_by, find, nat_lt, not}
+use Rattle.book_model.specs.Book.{Book, Link, Ticket, in_pool, is_link, is_of, link_count}
+use Rattle.session_values.specs.State.{StartKeyOf}
 use Rattle.book_rows.specs.Waiting.{longest_waiting, longest_waiting_but}
 
 abbrev pub behind_ticket : ℕ → List Ticket → Option Ticket → Option ℕ
@@ -22,3 +23,7 @@ waiting_for b link = for_link b.tickets (find (is_link link) b.lent)
 -- no link more may be started, so any pool may wait for one that goes
 abbrev pub is_full : Book → Bool
 is_full b = not (nat_lt (link_count b) b.limits.max_links)
+
+-- so many links of this pool are lent
+abbrev pub lent_in_pool : Book → StartKeyOf → ℕ
+lent_in_pool b pool = count_by (in_pool pool) b.lent

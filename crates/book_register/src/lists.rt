@@ -6,7 +6,7 @@ ghost use Rattle.book_model.specs.Events.{event_of};
 ghost use Rattle.book_model.specs.Outcomes.{apply, is_started_as};
 ghost use Rattle.book_register.specs.Counted.{counted_book};
 ghost use Rattle.book_register.specs.Views.{view_of};
-ghost use Rattle.book_register.specs.Waking.{is_full, waiting_behind, waiting_for};
+ghost use Rattle.book_register.specs.Waking.{is_full, lent_in_pool, waiting_behind, waiting_for};
 ghost use Rattle.book_model.specs.Kept.{FitsLimits, Kept, KeptLimits};
 ghost use Rattle.book_rows.specs.Waiting.{TellsFirsts, TellsWaiting};
 
@@ -19,6 +19,7 @@ use book_rows::clients::Clients;
 use book_rows::firsts::Firsts;
 use book_rows::leases::{Leases, Numbers};
 use book_rows::links::Links;
+use book_rows::pools::PoolKey;
 use book_rows::tickets::Tickets;
 use start_keys::StartKey;
 use std::alloc::{AllocError, Global};
@@ -224,6 +225,13 @@ impl Lists {
         ensures { result ≡ waiting_for self.now link }
     {
         self.board.waiting_for(link)
+    }
+
+    /// How many links of this pool are lent.
+    pub fn lent_in_pool(&self, pool: &PoolKey) -> usize
+        ensures { result ≡ lent_in_pool self.now pool.now }
+    {
+        self.board.lent_in_pool(pool)
     }
 
     /// Whether no link more may be started.

@@ -5,7 +5,7 @@ ghost use Rattle.message_view.specs.Parts.{shown_value};
 ghost use Rattle.book_model.specs.Outcomes.{is_started_as};
 ghost use Rattle.book_model.specs.Book as book;
 ghost use Rattle.book_register.specs.Views.{has_stale, is_left_over, is_of_database, view_of};
-ghost use Rattle.book_register.specs.Waking.{waiting_behind, waiting_for};
+ghost use Rattle.book_register.specs.Waking.{lent_in_pool, waiting_behind, waiting_for};
 ghost use Rattle.book_rows.specs.Waiting.{TellsFirsts, TellsWaiting};
 
 use crate::book_state::BookState;
@@ -14,6 +14,7 @@ use book_model::limits::Limits;
 use book_rows::clients::Client;
 use book_rows::firsts::Firsts;
 use book_rows::links::Link;
+use book_rows::pools::PoolKey;
 use book_rows::tickets::Ticket;
 use start_keys::StartKey;
 use std::alloc::{AllocError, Global};
@@ -210,5 +211,11 @@ impl BookState {
             Some(link) => self.tickets.longest_waiting(&link.key),
             None => None,
         }
+    }
+    /// How many links of this pool are lent.
+    pub fn lent_in_pool(&self, pool: &PoolKey) -> usize
+        ensures { result ≡ lent_in_pool self.now pool.now }
+    {
+        self.lent.count_of_pool(pool)
     }
 }

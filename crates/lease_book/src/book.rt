@@ -1,6 +1,8 @@
 //! The lease book. What it adds to the lists and their history: the idle links themselves, each the one of its number.
-ghost use Rattle.std.specs.Prelude.{find, ◌≡◌, ◌+◌, [], ◌∷◌, ◌++◌, IfOk, None, Some, cond, false, true, length, map};
+ghost use Rattle.std.specs.Prelude.{find, ◌≡◌, ◌+◌, [], ◌∷◌, ◌++◌, IfOk, None, Some, cond, false, true, length, map, option_copied, option_map};
 ghost use Rattle.std.specs.Arc.{arc_value};
+ghost use Rattle.std.specs.List.{list_any};
+ghost use Rattle.start_keys.specs.Keys.{same_key};
 ghost use Rattle.book_model.specs.Book.{empty_book, is_link};
 ghost use Rattle.book_model.specs.Events.{event_of};
 ghost use Rattle.book_model.specs.Outcomes.{apply, apply_return, is_started_as};
@@ -9,7 +11,7 @@ ghost use Rattle.book_model.specs.Outcomes.Event.{GiveBack};
 ghost use Rattle.book_model.specs.Kept.{Kept, total};
 ghost use Rattle.book_register.specs.Counted.{counted_book};
 ghost use Rattle.book_register.specs.Views.{view_of};
-ghost use Rattle.book_register.specs.Waking.{is_full, waiting_behind, waiting_for};
+ghost use Rattle.book_register.specs.Waking.{is_full, lent_in_pool, waiting_behind, waiting_for};
 ghost use Rattle.book_rows.specs.Waiting.{TellsFirsts, TellsWaiting};
 ghost use Rattle.book_model.specs.Replay.{noted_of};
 ghost use Rattle.lease_book.specs.Histories.{LeadsTo};
@@ -25,10 +27,12 @@ use book_model::limits::Limits;
 use book_register::lists::Lists;
 use book_register::view::BookView;
 use book_rows::firsts::Firsts;
+use book_rows::pools::PoolKey;
 use link_run::links::CleanLink;
 use message_view::KeyView;
 use pool_figures::decisions::DecisionSeen;
 use server_end::ServerEnd;
+use start_keys::StartKey;
 use std::alloc::{AllocError, Global};
 use std::marker::Model;
 use std::sync::Arc;
@@ -281,6 +285,27 @@ impl<E: ServerEnd> Book<E> {
         ensures { result ≡ waiting_for self.now.lists link }
     {
         self.register.lists().waiting_for(link)
+    }
+
+    /// How many links of this pool are lent.
+    pub fn lent_in_pool(&self, pool: &PoolKey) -> usize
+        ensures { result ≡ lent_in_pool self.now.lists pool.now }
+    {
+        self.register.lists().lent_in_pool(pool)
+    }
+
+    /// Whether a link of this key is idle.
+    pub fn has_idle_of(&self, key: &StartKey) -> bool
+        ensures { result ≡ list_any (λ l. same_key l.key key.now) self.now.idle }
+    {
+        self.idle.has_key(key)
+    }
+
+    /// The start key of the lent link of this number; none where it isn't lent.
+    pub fn lent_key(&self, number: u64) -> Option<&StartKey>
+        ensures { option_copied result ≡ option_map (λ link. link.key) (find (is_link number) self.now.lists.lent) }
+    {
+        self.register.lists().lent_key(number)
     }
 
     /// Whether no link more may be started.

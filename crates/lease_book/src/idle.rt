@@ -1,11 +1,14 @@
 //! The links that are idle, in the order of their return.
 ghost use Rattle.std.specs.Prelude.{◌≡◌, ℕ, ◌≤◌, ◌<◌, ◌++◌, ◌∷◌, [], IfOk, count_by, length, position};
+ghost use Rattle.std.specs.List.{list_any};
+ghost use Rattle.start_keys.specs.Keys.{same_key};
 ghost use Rattle.book_model.specs.declared.limits.TheConstants.{MOST_LINKS};
 ghost use Rattle.lease_book.specs.Links.{found, is_numbered, left};
 
 use book_model::limits::MOST_LINKS;
 use link_run::links::CleanLink;
 use server_end::ServerEnd;
+use start_keys::StartKey;
 use std::alloc::{AllocError, Global};
 use std::marker::Model;
 
@@ -55,6 +58,13 @@ impl<E: ServerEnd> IdleLinks<E> {
         ensures { self.new ≡ self.old ++ link ∷ [] }
     {
         self.links.push_reserved(link);
+    }
+
+    /// Whether a link of this key is among them.
+    pub fn has_key(&self, key: &StartKey) -> bool
+        ensures { result ≡ list_any (λ l. same_key l.key key.now) self.now }
+    {
+        self.links.iter().any(|link| **link.key() == *key)
     }
 
     /// Takes the link of this number out, if one is named.

@@ -46,6 +46,17 @@ pub enum Grant<E: ServerEnd> {
     Stranger,
 }
 
+/// To a client whose server had no place for its link.
+#[derive(Clone, Copy, Drop)]
+pub enum Place {
+    /// It waits on, a while later.
+    Waits,
+    /// A link of its pool has come back or gone: it may ask again.
+    Free,
+    /// It needn't wait: no link of its pool is lent, the pooler is shutting down, its time is over, or memory was refused.
+    Nowhere,
+}
+
 /// To a link that is given back.
 #[derive(Clone, Copy, Drop)]
 pub enum Back {

@@ -17,7 +17,7 @@ ghost use Rattle.link_desk.specs.Passes.{after_arrival, after_asking, after_back
 ghost use Rattle.link_desk.specs.Refusing.{MayArrive, MayAsk, MayTake};
 
 use crate::answers::{
-    Arrival, Asked, Back, Cancelled, Changed, Gone, Grant, Keying, Release, Strike,
+    Arrival, Asked, Back, Cancelled, Changed, Gone, Grant, Keying, Place, Release, Strike,
 };
 use book_model::events::Beyond;
 use book_model::limits::Limits;
@@ -31,6 +31,7 @@ use server_end::ServerEnd;
 use start_keys::StartKey;
 use std::alloc::{AllocError, Global};
 use std::sync::Arc;
+use std::time::Instant;
 
 /// A desk that lends links. Its calls are those of the lease book, each made through a pass, which tells how many decisions of each
 /// class were made through it, and who holds it: a client that came through it, and its link. So no call is given a number that its
@@ -122,6 +123,22 @@ pub trait LinkDesk {
         requires here { IsSome (holder pass.old).lease }
         ensures told { told pass.new ≡ after_loss (told pass.old) result }
         ensures holder { holder pass.new ≡ without_lease StartFailed (holder pass.old) };
+
+    /// Waits for a while, behind those who wait for the same, until a link of this key's pool comes back or goes: the client's server had no
+    /// place for one more. Nobody waits for longer than so many seconds (0: without a limit) since then. Nothing is claimed of it.
+    fn await_place(
+        &self,
+        _pass: &mut Self::Pass,
+        _key: &Arc<StartKey>,
+        _since: Option<Instant>,
+        _seconds: u32,
+    ) -> Place
+        requires here { IsSome (holder _pass.old).client }
+        ensures told { told _pass.new ≡ told _pass.old }
+        ensures holder { holder _pass.new ≡ holder _pass.old }
+    {
+        Place::Nowhere
+    }
 
     /// The client has gone; its link went before.
     fn leave(&self, pass: &mut Self::Pass) -> Gone

@@ -38,6 +38,10 @@ abbrev pub fields_or_none : Result (List (ℕ × Text)) ViewFault → List (ℕ 
 fields_or_none (Ok fields) = fields
 fields_or_none (Err fault) = []
 
+-- the SQLSTATE (C) of a whole message, whose body follows its type and length
+abbrev pub sqlstate : Text → Text
+sqlstate message = field 67 (fields_or_none (note_of (drop 5 message)))
+
 -- its SQLSTATE (C) and its text (M)
 abbrev pub state_and_text : List (ℕ × Text) → Text
 state_and_text fields = shown_text (field 67 fields) ++ 32 ∷ shown_text (field 77 fields)

@@ -104,6 +104,21 @@ pub(crate) fn put_error(line: &mut Vec<u8>, message: &[u8]) -> Result<(), AllocE
     put_error_body(line, &message[HEAD..])
 }
 
+/// The SQLSTATE of an ErrorResponse, the whole message; empty where it has none or can't be read.
+pub fn sqlstate(message: &[u8]) -> &[u8]
+    ensures { result.now ≡ spec.sqlstate message.now }
+{
+    let body = if message.len() < HEAD {
+        b""
+    } else {
+        &message[HEAD..]
+    };
+    match NoteView::read(body) {
+        Ok(view) => field(view.fields(), b'C'),
+        Err(_) => b"",
+    }
+}
+
 fn put_server_error(line: &mut Vec<u8>, message: &[u8]) -> Result<(), AllocError>
     ensures { OnOk result (line.new.items ≡ line.old.items ++ (codes " refused the start: " ++ spec.error_words message.now)) }
 {

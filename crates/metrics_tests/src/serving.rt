@@ -40,7 +40,11 @@ impl Repeated {
 }
 
 /// Such a source.
-fn many_times(alloc: Global, bytes: &'static [u8], times: u32) -> Result<Arc<Repeated>, AllocError> {
+fn many_times(
+    alloc: Global,
+    bytes: &'static [u8],
+    times: u32,
+) -> Result<Arc<Repeated>, AllocError> {
     let source = Repeated {
         bytes,
         times,
@@ -50,7 +54,12 @@ fn many_times(alloc: Global, bytes: &'static [u8], times: u32) -> Result<Arc<Rep
 }
 
 /// Answers who asks these listeners for a source, until that has ended.
-fn serve<R: Wait + Clock + Net>(rt: &R, alloc: Global, listeners: Vec<TcpListener>, source: &Repeated) {
+fn serve<R: Wait + Clock + Net>(
+    rt: &R,
+    alloc: Global,
+    listeners: Vec<TcpListener>,
+    source: &Repeated,
+) {
     let Ok(mut server) = MetricsServer::new(rt, alloc, listeners, true) else {
         return;
     };

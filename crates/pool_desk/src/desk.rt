@@ -30,7 +30,7 @@ use book_model::events::Beyond;
 use book_model::limits::Limits;
 use book_register::view::BookView;
 use desk_tallies::answers::{
-    Arrival, Asked, Back, Cancelled, Changed, Gone, Grant, Keying, Release, Strike,
+    Arrival, Asked, Back, Cancelled, Changed, Gone, Grant, Keying, Place, Release, Strike,
 };
 use desk_tallies::calls::Lease;
 use desk_tallies::desk::LinkDesk;
@@ -47,7 +47,7 @@ use start_keys::StartKey;
 use std::alloc::{AllocError, Global};
 use std::rt::Clock;
 use std::sync::{Arc, Mutex, MutexGuard, Wait};
-use std::time::Duration;
+use std::time::{Duration, Instant};
 
 /// As long as a client waits on without a look at it.
 fn longest_wait() -> Duration {
@@ -156,12 +156,30 @@ impl<R: Wait + Clock, S: Outside, K: Ledgers> Desk<R, S, K> {
         }
     }
 
+    /// Wakes this client, if any.
+    fn wake(&self, client: Option<u64>) {
+        if let Some(client) = client {
+            self.bells.of(client).notify_all();
+        }
+    }
+
     /// Lets the lock go until this client is woken, or for about a second.
     fn wait(&self, client: u64, core: MutexGuard<'_, Core<S, K>>) {
         let _ = self
             .bells
             .of(client)
             .wait_timeout(&self.rt, core, longest_wait());
+    }
+
+    /// Whether so many seconds have gone since then; 0 are without a limit.
+    fn is_over(&self, since: Option<Instant>, seconds: u32) -> bool {
+        match since {
+            Some(since) if seconds != 0 => match since.elapsed(&self.rt) {
+                Ok(passed) => passed >= Duration::from_secs(u64::from(seconds)),
+                Err(_) => true,
+            },
+            _ => false,
+        }
     }
 
     /// One event, in one hold of the lock.
@@ -213,11 +231,13 @@ impl<R: Wait + Clock, S: Outside, K: Ledgers> Desk<R, S, K> {
     {
         let mut core = core;
         let helps = core.helped_by(&event);
+        let called = core.calls(&event);
         let before = core.decisions();
         let reply = core.apply(pass, event);
         if core.decisions() != before {
             self.ring(core, helps);
         }
+        self.wake(called);
         reply
     }
 
@@ -437,6 +457,27 @@ impl<R: Wait + Clock, S: Outside, K: Ledgers> LinkDesk for Desk<R, S, K> {
             Reply::Stranger(_) => Gone::Stranger,
             _ => unreachable!(),
         }
+    }
+
+    fn await_place(
+        &self,
+        pass: &mut Pass<K>,
+        key: &Arc<StartKey>,
+        since: Option<Instant>,
+        seconds: u32,
+    ) -> Place {
+        let Some(client) = pass.holder().client else {
+            unreachable!()
+        };
+        if self.is_over(since, seconds) {
+            return Place::Nowhere;
+        }
+        let mut core = self.core.lock(&self.rt);
+        let place = core.place_for(client, key);
+        if let Place::Waits = place {
+            self.wait(client, core);
+        }
+        place
     }
 
     fn leave(&self, pass: &mut Pass<K>) -> Gone {

@@ -24,10 +24,12 @@ ghost use Rattle.pool_desk.specs.Tells.{Tells, breaks};
 
 use crate::hearing::{call_of, heard};
 use crate::outside::Outside;
+use crate::wants::Wants;
 use book_model::counts::Counts;
 use book_model::limits::Limits;
 use book_register::view::BookView;
-use desk_tallies::answers::Grant;
+use book_rows::pools::PoolKey;
+use desk_tallies::answers::{Grant, Place};
 use desk_tallies::ledgers::Ledgers;
 use desk_tallies::passes::{ALL_PARTS, Pass, Shares, Totals};
 use desk_tallies::tallies::{Blanks, Tallies};
@@ -36,6 +38,7 @@ use lease_book::events::{Event, Reply};
 use message_view::Refusal;
 use pool_figures::decisions::DecisionSeen;
 use server_end::ServerEnd;
+use start_keys::StartKey;
 use std::alloc::{AllocError, Global};
 use std::marker::{Model, PhantomData};
 use std::sync::Arc;
@@ -94,6 +97,7 @@ pub struct Core<S: Outside, K: Ledgers> {
     uncut: Shares<K>,
     /// So many passes were cut off.
     given: u64,
+    wants: Wants,
     outside: PhantomData<S>,
 }
 
@@ -126,6 +130,7 @@ impl<S: Outside, K: Ledgers> Core<S, K> {
             tallies,
             uncut,
             given: 0,
+            wants: Wants::new(alloc),
             outside: PhantomData,
         })
     }
@@ -169,6 +174,41 @@ impl<S: Outside, K: Ledgers> Core<S, K> {
         let holder = heard(pass.holder(), call, &reply);
         self.tallies.count(pass, totals, breaks(&reply), holder);
         reply
+    }
+
+    /// Whom this event calls to ask again, once it is decided: a link comes back or goes, or whoever was called leaves.
+    pub fn calls(&mut self, event: &Event<S::End>) -> Option<u64> {
+        if self.wants.is_empty() {
+            return None;
+        }
+        match event {
+            Event::GiveBack(link) => self.wants.call(link.key()),
+            Event::Lost { number } => {
+                let key = self.book.lent_key(*number)?;
+                self.wants.call(key)
+            }
+            Event::Leave { client } => self.wants.remove(*client),
+            _ => None,
+        }
+    }
+
+    /// Whether this client may ask again for a link of this key, or waits for that. It may at once where one is idle, which came back within
+    /// its start; and it waits only as long as a link of its pool is lent.
+    pub fn place_for(&mut self, client: u64, key: &Arc<StartKey>) -> Place {
+        let waits = self.wants.has(client);
+        if self.wants.answers_call(client) || (!waits && self.book.has_idle_of(key)) {
+            return Place::Free;
+        }
+        let Ok(pool) = Arc::try_clone(key) else {
+            return Place::Nowhere;
+        };
+        if self.book.is_shut() || self.book.lent_in_pool(&PoolKey::new(pool)) == 0 {
+            return Place::Nowhere;
+        }
+        if !waits && self.wants.push(client, key).is_err() {
+            return Place::Nowhere;
+        }
+        Place::Waits
     }
 
     /// What the pass's client, of this number, is granted.

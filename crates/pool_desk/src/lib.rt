@@ -10,3 +10,4 @@ mod helping;
 mod inner;
 mod minding;
 pub mod outside;
+mod wants;

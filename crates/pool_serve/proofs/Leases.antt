@@ -124,7 +124,7 @@ came_in home v g before after ending.Unreached i x = tt
 came_in home v g before after (ending.Managed r) i x = absurd x
 
 -- the same of a login that went on
-same_logged_in : (old new : RunView) (g : LoggedIn) → IsSameLogin old new → IsGuestOf new.login g → IsGuestOf old.login g
+pub same_logged_in : (old new : RunView) (g : LoggedIn) → IsSameLogin old new → IsGuestOf new.login g → IsGuestOf old.login g
 same_logged_in old new g s x = record { word = x.word ∙ s.word; settings = x.settings ∙ s.settings; users = x.users ∙ s.users }
 
 pub same_came : (home : HomeOf) (old new : RunView) (after : ClientFacts) (e : Ending) → IsSameLogin old new → CameIn home new.login after e → CameIn home old.login after e

@@ -8,6 +8,8 @@ pub mod Logging
 pub mod Managing
 pub mod Giving
 pub mod Leases
+pub mod Again
+pub mod Linking
 pub mod Freeing
 pub mod Pumping
 pub mod Cancelling

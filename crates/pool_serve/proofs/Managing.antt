@@ -25,7 +25,7 @@ use Rattle.pool_serve.specs.Causes.{AtArrival}
 use Rattle.pool_serve.specs.Endings.{Came, Traces}
 use Rattle.pool_serve.specs.Serving.{IsManaged, IsServed}
 use Rattle.pool_serve.specs.Shares.{Evens}
-use Rattle.pool_serve.specs.Stays.{CameIn, IsAllowed, IsAtConsole, ServesAs}
+use Rattle.pool_serve.specs.Stays.{CameIn, IsAllowed, IsAtConsole, MayHaveAskedAgain, ServesAs}
 use Rattle.pool_serve.specs.Words.{HasGiven, last_bytes, word_of}
 use Rattle.pool_serve.proofs.Causing.{word_traces}
 use Rattle.pool_serve.proofs.Logging.{same_rows, same_served}
@@ -107,14 +107,14 @@ logged_in_serves home v g before c (ending.Relayed r) x h = h
 logged_in_serves home v g before c (ending.Managed r) x h = absurd x
 
 -- a client that was told its last word
-module _ (home : HomeOf) (v : LoginView) (before after : ClientFacts) (p q : PassOf) where
-  pub told_as : (e : Ending) → HasGiven before after (last_bytes (word_of e)) → before.tells ≡ true → CameIn home v before e → Traces AtArrival p q e → ServesAs home v before e → IsAllowed home v p q after ⊎ IsAtConsole v after
-  told_as ending.Left h t c x s = inl (told_client home v before after p q (word_of ending.Left) h t (word_traces p q home v before ending.Left tt c x) s)
-  told_as (ending.Refused r) h t c x s = inl (told_client home v before after p q (word_of (ending.Refused r)) h t (word_traces p q home v before (ending.Refused r) tt c x) s)
-  told_as ending.Memory h t c x s = inl (told_client home v before after p q (word_of ending.Memory) h t (word_traces p q home v before ending.Memory tt c x) s)
-  told_as ending.Strange h t c x s = inl (told_client home v before after p q (word_of ending.Strange) h t (word_traces p q home v before ending.Strange tt c x) s)
-  told_as ending.Last h t c x s = inl (told_client home v before after p q (word_of ending.Last) h t (word_traces p q home v before ending.Last tt c x) s)
-  told_as ending.Unreached h t c x s = inl (told_client home v before after p q (word_of ending.Unreached) h t (word_traces p q home v before ending.Unreached tt c x) s)
-  told_as (ending.Unstarted cause) h t c x s = inl (told_client home v before after p q (word_of (ending.Unstarted cause)) h t (word_traces p q home v before (ending.Unstarted cause) tt c x) s)
-  told_as (ending.Relayed r) h t c x s = inl (told_client home v before after p q (word_of (ending.Relayed r)) h t (word_traces p q home v before (ending.Relayed r) tt c x) s)
+module _ (home : HomeOf) (v : LoginView) (before after : ClientFacts) (p q since : PassOf) (again : MayHaveAskedAgain home v p since) where
+  pub told_as : (e : Ending) → HasGiven before after (last_bytes (word_of e)) → before.tells ≡ true → CameIn home v before e → Traces AtArrival since q e → ServesAs home v before e → IsAllowed home v p q after ⊎ IsAtConsole v after
+  told_as ending.Left h t c x s = inl (told_client home v before after p q since (word_of ending.Left) again h t (word_traces since q home v before ending.Left tt c x) s)
+  told_as (ending.Refused r) h t c x s = inl (told_client home v before after p q since (word_of (ending.Refused r)) again h t (word_traces since q home v before (ending.Refused r) tt c x) s)
+  told_as ending.Memory h t c x s = inl (told_client home v before after p q since (word_of ending.Memory) again h t (word_traces since q home v before ending.Memory tt c x) s)
+  told_as ending.Strange h t c x s = inl (told_client home v before after p q since (word_of ending.Strange) again h t (word_traces since q home v before ending.Strange tt c x) s)
+  told_as ending.Last h t c x s = inl (told_client home v before after p q since (word_of ending.Last) again h t (word_traces since q home v before ending.Last tt c x) s)
+  told_as ending.Unreached h t c x s = inl (told_client home v before after p q since (word_of ending.Unreached) again h t (word_traces since q home v before ending.Unreached tt c x) s)
+  told_as (ending.Unstarted cause) h t c x s = inl (told_client home v before after p q since (word_of (ending.Unstarted cause)) again h t (word_traces since q home v before (ending.Unstarted cause) tt c x) s)
+  told_as (ending.Relayed r) h t c x s = inl (told_client home v before after p q since (word_of (ending.Relayed r)) again h t (word_traces since q home v before (ending.Relayed r) tt c x) s)
   told_as (ending.Managed r) h t c x s = inr (record { last = r; before = before; managed = c t; told = h })

@@ -10,7 +10,8 @@ use Rattle.login_run.specs.Laws.{AllowedBy, IsRefusedByLogin, own}
 use Rattle.pool_serve.specs.Words.{HasGiven, last_bytes}
 use Rattle.pool_serve.specs.Causes.{AtArrival, HasCause, IsFaultyWord, WordHasTrace}
 use Rattle.link_desk.specs.Homes.{HomeOf}
-use Rattle.pool_serve.specs.Serving.{AreMarksOf, IsServed, IsServedUnder, MayEnd, Serves}
+use Rattle.pool_serve.specs.Serving.{IsServed, IsServedUnder, MayEnd, Serves}
+use Rattle.pool_serve.specs.Stays.{IsAllowed, MayHaveAskedAgain}
 use Rattle.pool_serve.specs.declared.word.FinalMessage.{FinalMessage}
 use Rattle.pool_serve.specs.declared.word.FinalMessage.TheVariants as last
 
@@ -19,8 +20,8 @@ by_login v p q taken out pieces (inl b) = inl b
 by_login v p q taken out pieces (inr x) = inr (x.0, inl x.1)
 
 -- a client that was told nothing more
-pub untold_client : (home : HomeOf) (v : LoginView) (c : ClientFacts) (p q : PassOf) → IsServed home v c last.Nothing → (marks : List Bool) × (AreMarksOf home.strikable marks × AllowedBy (HasCause v c.taken p q) c.given (own home.catalogue v marks c.taken))
-untold_client home v c p q a = (a.0, (a.1.0, by_login v p q c.taken c.given (own home.catalogue v a.0 c.taken) a.1.1))
+pub untold_client : (home : HomeOf) (v : LoginView) (c : ClientFacts) (p q : PassOf) → IsServed home v c last.Nothing → IsAllowed home v p q c
+untold_client home v c p q a = record { last = p; again = inl refl; marks = a.0; are_marks = a.1.0; allowed = by_login v p q c.taken c.given (own home.catalogue v a.0 c.taken) a.1.1 }
 
 -- a beginning of the last word behind what was given
 told_allowed : (catalogue : Address → CatalogueOf) (v : LoginView) (c : ClientFacts) (p q : PassOf) (marks : List Bool) (word : FinalMessage) (n : ℕ) → WordHasTrace AtArrival p q word → IsServedUnder marks catalogue v c word
@@ -47,17 +48,16 @@ told_allowed catalogue v c p q marks (last.Error error) n w a = inl (record {
       ∙ (sym (append_assoc c.given error a.more) ∙ a.both));
 })
 
--- a client that was told its last word
-pub told_client : (home : HomeOf) (v : LoginView) (before after : ClientFacts) (p q : PassOf) (word : FinalMessage) → HasGiven before after (last_bytes word) → before.tells ≡ true → WordHasTrace AtArrival p q word → IsServed home v before word
-    → (marks : List Bool) × (AreMarksOf home.strikable marks × AllowedBy (HasCause v after.taken p q) after.given (own home.catalogue v marks after.taken))
-told_client home v before after p q word h t w a = (
-  a.0,
-  (
-    a.1.0,
-    subst (λ (l : List ℕ). AllowedBy (HasCause v after.taken p q) l (own home.catalogue v a.0 after.taken)) (sym (h.given t))
-        (subst (λ (l : List ℕ). AllowedBy (HasCause v l p q) (before.given ++ take h.count (last_bytes word)) (own home.catalogue v a.0 l)) (sym (h.taken t)) (told_allowed home.catalogue v before p q a.0 word h.count w a.1.1)),
-  ),
-)
+-- a client that was told its last word, from where it asked last
+pub told_client : (home : HomeOf) (v : LoginView) (before after : ClientFacts) (p q since : PassOf) (word : FinalMessage) → MayHaveAskedAgain home v p since → HasGiven before after (last_bytes word) → before.tells ≡ true → WordHasTrace AtArrival since q word → IsServed home v before word → IsAllowed home v p q after
+told_client home v before after p q since word again h t w a = record {
+  last = since;
+  again = again;
+  marks = a.0;
+  are_marks = a.1.0;
+  allowed = subst (λ (l : List ℕ). AllowedBy (HasCause v after.taken since q) l (own home.catalogue v a.0 after.taken)) (sym (h.given t))
+      (subst (λ (l : List ℕ). AllowedBy (HasCause v l since q) (before.given ++ take h.count (last_bytes word)) (own home.catalogue v a.0 l)) (sym (h.taken t)) (told_allowed home.catalogue v before since q a.0 word h.count w a.1.1));
+}
 
 -- ---- a login's pieces, and then what is owed behind them
 

@@ -5,5 +5,6 @@ pub mod Causes
 pub mod Serving
 pub mod Places
 pub mod Endings
+pub mod Again
 pub mod Stays
 pub mod Cancels

@@ -1,5 +1,5 @@
 -- A client's whole time with a worker.
-use Rattle.std.specs.Prelude.{◌≡◌, Bool, true, List, Option}
+use Rattle.std.specs.Prelude.{◌≡◌, ◌⊎◌, Bool, true, List, Option}
 use Rattle.link_laws.specs.Standing.{ClientFacts}
 use Rattle.message_view.specs.declared.refusal.Refusal.{Refusal}
 use Rattle.link_start.specs.declared.start.StartCause.{StartCause}
@@ -11,7 +11,8 @@ use Rattle.login_core.specs.Logins.{LoginView}
 use Rattle.login_run.specs.Laws.{AllowedBy, own}
 use Rattle.login_run.specs.declared.run.LoginTurn.{LoginTurn}
 use Rattle.login_run.specs.declared.run.LoginTurn.TheVariants as turn
-use Rattle.pool_serve.specs.Causes.{AtArrival, HasCause}
+use Rattle.pool_serve.specs.Again.{HasAskedAgain}
+use Rattle.pool_serve.specs.Causes.{AtArrival, HasCause, Since}
 use Rattle.pool_serve.specs.Endings.{HadLease, IsUnstarted, Traces, refusal_in}
 use Rattle.pool_serve.specs.Serving.{AreMarksOf, IsManaged, IsServed}
 use Rattle.pool_serve.specs.Words.{HasGiven, last_bytes, or_nothing, word_of}
@@ -43,11 +44,24 @@ CameIn home v after (ending.Unstarted cause) = UnstartedAs home v cause
 CameIn home v after (ending.Managed last) = after.tells ≡ true → IsManaged v after last
 CameIn home v after other = Unit {0}
 
+-- a client of this login may have asked again for its link: what the pass told at first, and when it asked last
+abbrev pub MayHaveAskedAgain : HomeOf → LoginView → PassOf → PassOf → Type 0
+MayHaveAskedAgain home v p last = (last ≡ p) ⊎ ((g : LoggedIn) × (IsGuestOf v g × HasAskedAgain home g p last))
+
+-- what the decisions tell of its ending, from where it asked last
+pub record TracesAtLast (home : HomeOf) (v : LoginView) (since : Since) (p q : PassOf) (e : Ending) : Type 0 where
+  pub last : PassOf
+  pub again : MayHaveAskedAgain home v p last
+  pub traces : Traces since last q e
+
 -- What it was given is allowed for what a server started for it alone answers, where cancels struck some of its frames or none: a
--- refusal in it has its cause.
-abbrev pub IsAllowed : HomeOf → LoginView → PassOf → PassOf → ClientFacts → Type 0
-IsAllowed home v p q c =
-    (marks : List Bool) × (AreMarksOf home.strikable marks × AllowedBy (HasCause v c.taken p q) c.given (own home.catalogue v marks c.taken))
+-- refusal in it has its cause, from where it asked last.
+pub record IsAllowed (home : HomeOf) (v : LoginView) (p q : PassOf) (c : ClientFacts) : Type 0 where
+  pub last : PassOf
+  pub again : MayHaveAskedAgain home v p last
+  pub marks : List Bool
+  pub are_marks : AreMarksOf home.strikable marks
+  pub allowed : AllowedBy (HasCause v c.taken last q) c.given (own home.catalogue v marks c.taken)
 
 -- A client of the console, to which no server would have answered: it was given all pieces of its login and what the console says to
 -- it, and then the last word.
@@ -76,7 +90,7 @@ IsDismissed _ p q h k = IsUntouched p q h k
 pub record IsOver (home : HomeOf) (v : LoginView) (p q : PassOf) (k : Holder) (after : ClientFacts) : Type 0 where
   pub ending : Ending
   pub before : ClientFacts
-  pub traces : Traces AtArrival p q ending
+  pub traces : TracesAtLast home v AtArrival p q ending
   pub refused : k.refused ≡ refusal_in ending
   pub came : CameIn home v before ending
   pub told : HasGiven before after (last_bytes (word_of ending))

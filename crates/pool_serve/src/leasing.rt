@@ -1,26 +1,33 @@
 //! A link for a client, and its lease.
-ghost use Rattle.std.specs.Prelude.{◌≡◌, IsSome, None, Some};
+ghost use Rattle.std.specs.Prelude.{◌≡◌, [], IfErr, IfOk, IsSome, None, Some, true};
 ghost use Rattle.std.specs.Arc.{arc_value};
 ghost use Rattle.start_keys.specs.Keys.{same_key};
 ghost use Rattle.link_desk.specs.Homes.{IsAtHome, IsGrantAtHome};
-ghost use Rattle.link_desk.specs.Passes.{after_grant, granted_lease, taken, without_lease};
-ghost use Rattle.link_desk.specs.declared.calls.Call.TheVariants.{Lost};
+ghost use Rattle.link_desk.specs.Passes.{after_grant, after_loss, granted_lease, one_granted, one_other, taken, without_lease};
+ghost use Rattle.link_desk.specs.declared.answers.Gone.{Gone};
+ghost use Rattle.link_desk.specs.declared.calls.Call.TheVariants.{Lost, StartFailed};
 ghost use Rattle.link_desk.specs.declared.calls.Stage.TheVariants.{Granted};
 ghost use Rattle.link_desk.specs.Refusing.{MayTake};
+ghost use Rattle.pool_serve.specs.Again.{HasEndedAtLast, IsEndedFor, IsGrantedAtLast, IsHeldBy, IsLinked, IsNotStarted, IsUnlinkedAtLast, lacks_place};
 ghost use Rattle.pool_serve.specs.Causes.{AtAsking, AtLease, AtWait, HadLink, HasLost};
 ghost use Rattle.pool_serve.specs.Cancels.{key_of};
-ghost use Rattle.pool_serve.specs.Endings.{Frees, HasEnded, HasLeased};
-ghost use Rattle.pool_serve.specs.Serving.{IsLoggedIn};
+ghost use Rattle.pool_serve.specs.Endings.{Frees, HasEnded, HasLeased, IsUnopened};
+ghost use Rattle.pool_serve.specs.Serving.{IsLoggedIn, LetsIn, MayEnd, owed};
 ghost use Rattle.pool_serve.specs.Shares.{Ends, Evens};
+ghost use Rattle.pool_serve.specs.Words.{word_of};
+ghost use Rattle.pool_serve.specs.declared.ending.Ending.TheVariants as ending;
 
 use crate::ending::Ending;
 use crate::logged_in::LoggedIn;
+use crate::noting::ending_note;
 use crate::opening::open_link;
 use crate::worker::Worker;
-use link_desk::answers::{Asked, Grant, Keying};
+use link_desk::answers::{Asked, Grant, Keying, Place};
 use link_desk::desk::LinkDesk;
 use link_run::links::CleanLink;
 use link_start::close::close_link;
+use link_start::start::StartCause;
+use log_lines::lines::sqlstate;
 use message_view::{KeyView, KeyWord};
 use server_end::gate::Gate;
 use server_end::{ClientEnd, ServerEnd};
@@ -40,6 +47,19 @@ fn is_for<E: ServerEnd>(link: &CleanLink<E>, logged_in: &LoggedIn) -> bool
     ensures { result ≡ same_key link.now.key (arc_value logged_in.now.key) }
 {
     **link.key() == *logged_in.key
+}
+
+/// Whether a link wasn't started since its server has no place for it, or is just starting (SQLSTATE 53300, 57P03).
+fn lacks_place(ending: &Ending) -> bool
+    ensures { result ≡ lacks_place ending.now }
+{
+    match ending {
+        Ending::Unstarted(StartCause::Refused(error)) => {
+            let state = sqlstate(error.as_bytes());
+            state == b"53300".as_slice() || state == b"57P03".as_slice()
+        }
+        _ => false,
+    }
 }
 
 impl<'a, D: LinkDesk, G: Gate<D::End>> Worker<'a, D, G> {
@@ -89,57 +109,60 @@ impl<'a, D: LinkDesk, G: Gate<D::End>> Worker<'a, D, G> {
         }
     }
 
-    /// Serves a client over a link that was idle. One with another key than the client's is closed, and the client isn't served.
-    fn over_lent<C: ClientEnd>(
+    /// A link that was idle, for the client; one with another key than the client's is closed.
+    fn lent_link(
         &mut self,
-        client: C,
         logged_in: &LoggedIn,
         link: CleanLink<D::End>,
-    ) -> (C, Ending)
+    ) -> Result<CleanLink<D::End>, Ending>
         requires home { IsAtHome D.home link }
         requires own { (D.holder self.old.pass).lease ≡ Some (granted_lease link) }
-        requires logged_in { IsLoggedIn logged_in.now }
-        ensures share { Ends (D.told self.old.pass) (D.told self.new.pass) }
-        ensures frees { Frees (D.holder self.old.pass) (D.holder self.new.pass) result.1 }
-        ensures ended { HasEnded D.home logged_in.now AtLease (D.told self.old.pass) (D.told self.new.pass) (C.facts client) (C.facts result.0) result.1 }
+        ensures linked { IfOk result (λ l. IsLinked D.home logged_in.now (D.holder self.new.pass) l) }
+        ensures told { IfOk result (λ l. D.told self.new.pass ≡ D.told self.old.pass) }
+        ensures holder { IfOk result (λ l. D.holder self.new.pass ≡ D.holder self.old.pass) }
+        ensures strange { IfErr result (λ e. e ≡ ending.Strange) }
+        ensures lost { IfErr result (λ e. HadLink AtLease (D.told self.old.pass) (D.told self.new.pass) × HasLost (D.told self.old.pass) (D.told self.new.pass)) }
+        ensures share { IfErr result (λ e. Ends (D.told self.old.pass) (D.told self.new.pass)) }
+        ensures freed { IfErr result (λ e. D.holder self.new.pass ≡ without_lease Lost (D.holder self.old.pass)) }
     {
         let mut link = link;
         if !is_for(&link, logged_in) {
             self.drop_link(link);
-            return (client, Ending::Strange);
+            return Err(Ending::Strange);
         }
         link.watch(&mut self.gate);
-        self.over_link(client, logged_in, link)
+        Ok(link)
     }
 
-    /// Serves a client over a new link.
-    fn over_new<C: ClientEnd>(
+    /// A new link for the client, which was granted it; where it can't be started, the desk is told.
+    fn new_link(
         &mut self,
-        client: C,
         logged_in: &LoggedIn,
         number: u64,
         born: u64,
-    ) -> (C, Ending)
+    ) -> Result<CleanLink<D::End>, Ending>
         requires own { (D.holder self.old.pass).lease ≡ Some (record { number = number; born = born; stage = Granted }) }
         requires logged_in { IsLoggedIn logged_in.now }
-        ensures share { Ends (D.told self.old.pass) (D.told self.new.pass) }
-        ensures frees { Frees (D.holder self.old.pass) (D.holder self.new.pass) result.1 }
-        ensures ended { HasEnded D.home logged_in.now AtLease (D.told self.old.pass) (D.told self.new.pass) (C.facts client) (C.facts result.0) result.1 }
+        ensures linked { IfOk result (λ l. IsLinked D.home logged_in.now (D.holder self.new.pass) l) }
+        ensures told { IfOk result (λ l. D.told self.new.pass ≡ D.told self.old.pass) }
+        ensures holder { IfOk result (λ l. D.holder self.new.pass ≡ D.holder self.old.pass) }
+        ensures why { IfErr result (λ e. IsUnopened D.home logged_in.now e) }
+        ensures word { LetsIn D.home logged_in.now.login.users → IfErr result (λ e. MayEnd [] (owed D.home.catalogue logged_in.now [] []) (word_of e)) }
+        ensures failed { IfErr result (λ e. (gone : Gone) × (D.told self.new.pass ≡ after_loss (D.told self.old.pass) gone)) }
+        ensures freed { IfErr result (λ e. D.holder self.new.pass ≡ without_lease StartFailed (D.holder self.old.pass)) }
     {
-        match open_link(
+        let opened = open_link(
             self.alloc,
             self.desk,
             logged_in,
             number,
             born,
             &mut self.gate,
-        ) {
-            Ok(link) => self.over_link(client, logged_in, link),
-            Err(ending) => {
-                self.desk.start_failed(&mut self.pass);
-                (client, ending)
-            }
+        );
+        if opened.is_err() {
+            self.desk.start_failed(&mut self.pass);
         }
+        opened
     }
 
     /// Takes the client's link once it needn't wait any longer; `Queued` where the client has gone meanwhile.
@@ -164,19 +187,23 @@ impl<'a, D: LinkDesk, G: Gate<D::End>> Worker<'a, D, G> {
         Grant::Queued
     }
 
-    /// Serves a client that has its ticket: waits for its link.
-    fn wait<C: ClientEnd>(&mut self, client: C, logged_in: &LoggedIn) -> (C, Ending)
+    /// A link for a client that has its ticket: it waits for that.
+    fn take_link(&mut self, logged_in: &LoggedIn) -> Result<CleanLink<D::End>, Ending>
         requires logged_in { IsLoggedIn logged_in.now }
         requires here { IsSome (D.holder self.old.pass).client }
         requires none { (D.holder self.old.pass).lease ≡ None }
         requires unrefused { (D.holder self.old.pass).refused ≡ None }
-        ensures share { Evens (D.told self.old.pass) (D.told self.new.pass) }
-        ensures leased { HasLeased (D.holder self.old.pass) (D.holder self.new.pass) result.1 }
-        ensures ended { HasEnded D.home logged_in.now AtWait (D.told self.old.pass) (D.told self.new.pass) (C.facts client) (C.facts result.0) result.1 }
+        ensures linked { IfOk result (λ l. IsLinked D.home logged_in.now (D.holder self.new.pass) l) }
+        ensures told { IfOk result (λ l. D.told self.new.pass ≡ one_granted (D.told self.old.pass)) }
+        ensures held { IfOk result (λ l. IsHeldBy (D.holder self.old.pass) (D.holder self.new.pass)) }
+        ensures leased { IfErr result (λ e. HasLeased (D.holder self.old.pass) (D.holder self.new.pass) e) }
+        ensures share { IfErr result (λ e. Evens (D.told self.old.pass) (D.told self.new.pass)) }
+        ensures ended { IfErr result (λ e. IsEndedFor D.home logged_in.now AtWait (D.told self.old.pass) (D.told self.new.pass) e) }
+        ensures failed { IfErr result (λ e. lacks_place e ≡ true → IsNotStarted D.home logged_in.now AtWait (D.told self.old.pass) (D.told self.new.pass) e) }
     {
         match self.take_in_turn() {
-            Grant::Queued => (client, Ending::Left),
-            Grant::Lend(link) => self.over_lent(client, logged_in, link),
+            Grant::Queued => Err(Ending::Left),
+            Grant::Lend(link) => self.lent_link(logged_in, link),
             Grant::Start {
                 number,
                 born,
@@ -185,14 +212,95 @@ impl<'a, D: LinkDesk, G: Gate<D::End>> Worker<'a, D, G> {
                 if let Some(link) = evicted {
                     close_link(link);
                 }
-                self.over_new(client, logged_in, number, born)
+                self.new_link(logged_in, number, born)
             }
-            Grant::Refused(refusal) => (client, Ending::Refused(refusal)),
-            Grant::Stranger => (client, Ending::Strange),
+            Grant::Refused(refusal) => Err(Ending::Refused(refusal)),
+            Grant::Stranger => Err(Ending::Strange),
         }
     }
 
-    /// Serves a client that is through its login: asks for a link.
+    /// A link for the client: asks for it.
+    fn ask_link(&mut self, logged_in: &LoggedIn) -> Result<CleanLink<D::End>, Ending>
+        requires logged_in { IsLoggedIn logged_in.now }
+        requires here { IsSome (D.holder self.old.pass).client }
+        requires none { (D.holder self.old.pass).lease ≡ None }
+        requires unrefused { (D.holder self.old.pass).refused ≡ None }
+        ensures linked { IfOk result (λ l. IsLinked D.home logged_in.now (D.holder self.new.pass) l) }
+        ensures told { IfOk result (λ l. D.told self.new.pass ≡ one_granted (one_other (D.told self.old.pass))) }
+        ensures held { IfOk result (λ l. IsHeldBy (D.holder self.old.pass) (D.holder self.new.pass)) }
+        ensures leased { IfErr result (λ e. HasLeased (D.holder self.old.pass) (D.holder self.new.pass) e) }
+        ensures share { IfErr result (λ e. Evens (D.told self.old.pass) (D.told self.new.pass)) }
+        ensures ended { IfErr result (λ e. IsEndedFor D.home logged_in.now AtAsking (D.told self.old.pass) (D.told self.new.pass) e) }
+        ensures failed { IfErr result (λ e. lacks_place e ≡ true → IsNotStarted D.home logged_in.now AtAsking (D.told self.old.pass) (D.told self.new.pass) e) }
+    {
+        match self.desk.ask(&mut self.pass, &logged_in.key) {
+            Asked::Queued(_) => self.take_link(logged_in),
+            Asked::Refused(refusal) => Err(Ending::Refused(refusal)),
+            Asked::Memory => Err(Ending::Memory),
+            Asked::Stranger => Err(Ending::Strange),
+        }
+    }
+
+    /// Whether the client, whose link its server had no place for, may ask again: once a link of its pool has come back or gone. Until then
+    /// it waits, for as long as a client may for its link, from its coming on.
+    fn may_ask_again(&mut self, logged_in: &LoggedIn, ending: &Ending) -> bool
+        requires here { IsSome (D.holder self.old.pass).client }
+        ensures told { D.told self.new.pass ≡ D.told self.old.pass }
+        ensures holder { D.holder self.new.pass ≡ D.holder self.old.pass }
+    {
+        let seconds = logged_in.login.settings().query_wait_timeout();
+        for _ in 0..u64::MAX {
+            match self
+                .desk
+                .await_place(&mut self.pass, &logged_in.key, self.visit.since, seconds)
+            {
+                Place::Free => {
+                    if let Some(note) = ending_note(logged_in, ending) {
+                        self.note(logged_in, &note);
+                    }
+                    return true;
+                }
+                Place::Nowhere => return false,
+                Place::Waits => {
+                    if self.gate.client_has_left() {
+                        return false;
+                    }
+                }
+            }
+        }
+        false
+    }
+
+    /// A link for the client, which asks again as long as its server has no place for one and others of its pool are lent.
+    fn link(&mut self, logged_in: &LoggedIn) -> Result<CleanLink<D::End>, Ending>
+        requires logged_in { IsLoggedIn logged_in.now }
+        requires here { IsSome (D.holder self.old.pass).client }
+        requires none { (D.holder self.old.pass).lease ≡ None }
+        requires unrefused { (D.holder self.old.pass).refused ≡ None }
+        ensures linked { IfOk result (λ l. IsLinked D.home logged_in.now (D.holder self.new.pass) l) }
+        ensures told { IfOk result (λ l. IsGrantedAtLast D.home logged_in.now (D.told self.old.pass) (D.told self.new.pass)) }
+        ensures held { IfOk result (λ l. IsHeldBy (D.holder self.old.pass) (D.holder self.new.pass)) }
+        ensures leased { IfErr result (λ e. HasLeased (D.holder self.old.pass) (D.holder self.new.pass) e) }
+        ensures share { IfErr result (λ e. Evens (D.told self.old.pass) (D.told self.new.pass)) }
+        ensures ended { IfErr result (λ e. IsUnlinkedAtLast D.home logged_in.now (D.told self.old.pass) (D.told self.new.pass) e) }
+    {
+        for _ in 0..u64::MAX {
+            match self.ask_link(logged_in) {
+                Ok(link) => return Ok(link),
+                Err(ending) => {
+                    if !lacks_place(&ending) {
+                        return Err(ending);
+                    }
+                    if !self.may_ask_again(logged_in, &ending) {
+                        return Err(ending);
+                    }
+                }
+            }
+        }
+        Err(Ending::Left)
+    }
+
+    /// Serves a client that is through its login over a link, if it is granted one.
     pub(crate) fn lease<C: ClientEnd>(&mut self, client: C, logged_in: &LoggedIn) -> (C, Ending)
         requires logged_in { IsLoggedIn logged_in.now }
         requires here { IsSome (D.holder self.old.pass).client }
@@ -200,13 +308,11 @@ impl<'a, D: LinkDesk, G: Gate<D::End>> Worker<'a, D, G> {
         requires unrefused { (D.holder self.old.pass).refused ≡ None }
         ensures share { Evens (D.told self.old.pass) (D.told self.new.pass) }
         ensures leased { HasLeased (D.holder self.old.pass) (D.holder self.new.pass) result.1 }
-        ensures ended { HasEnded D.home logged_in.now AtAsking (D.told self.old.pass) (D.told self.new.pass) (C.facts client) (C.facts result.0) result.1 }
+        ensures ended { HasEndedAtLast D.home logged_in.now (D.told self.old.pass) (D.told self.new.pass) (C.facts client) (C.facts result.0) result.1 }
     {
-        match self.desk.ask(&mut self.pass, &logged_in.key) {
-            Asked::Queued(_) => self.wait(client, logged_in),
-            Asked::Refused(refusal) => (client, Ending::Refused(refusal)),
-            Asked::Memory => (client, Ending::Memory),
-            Asked::Stranger => (client, Ending::Strange),
+        match self.link(logged_in) {
+            Ok(link) => self.over_link(client, logged_in, link),
+            Err(ending) => (client, ending),
         }
     }
 }

@@ -7,11 +7,12 @@ ghost use Rattle.login_run.specs.Runs.{Arrived, Console, IsAllGiven, IsRun, IsSa
 ghost use Rattle.console_run.specs.Passing.{IsSameHolder};
 ghost use Rattle.link_desk.specs.Passes.{after_cancel, cancelled_by};
 ghost use Rattle.pool_serve.specs.Cancels.{IsPassedOn};
+ghost use Rattle.pool_serve.specs.Again.{HasEndedAtLast};
 ghost use Rattle.pool_serve.specs.Causes.{AtArrival, AtAsking};
-ghost use Rattle.pool_serve.specs.Endings.{HasEnded, HasLeased, Traces, refusal_in};
+ghost use Rattle.pool_serve.specs.Endings.{HasLeased, Traces, refusal_in};
 ghost use Rattle.pool_serve.specs.Serving.{HasStopped, IsLoggedIn, LetsIn};
 ghost use Rattle.pool_serve.specs.Shares.{Evens, Settles};
-ghost use Rattle.pool_serve.specs.Stays.{CameIn, IsAllowed, IsAtConsole, IsDismissed, IsOver, IsUntouched, ServesAs};
+ghost use Rattle.pool_serve.specs.Stays.{CameIn, IsAllowed, IsAtConsole, IsDismissed, IsOver, IsUntouched, ServesAs, TracesAtLast};
 
 use crate::TURNS;
 use crate::ending::Ending;
@@ -160,7 +161,7 @@ impl<'a, D: LinkDesk, G: Gate<D::End>> Worker<'a, D, G> {
         ensures tells { (C.facts result.0).tells ≡ run.client.tells }
         ensures share { Evens (D.told self.old.pass) (D.told self.new.pass) }
         ensures leased { HasLeased (D.holder self.old.pass) (D.holder self.new.pass) result.1 }
-        ensures traces { Traces AtAsking (D.told self.old.pass) (D.told self.new.pass) result.1 }
+        ensures traces { TracesAtLast D.home run.login AtAsking (D.told self.old.pass) (D.told self.new.pass) result.1 }
         ensures came { CameIn D.home run.login (C.facts result.0) result.1 }
         ensures serves { run.client.tells ≡ true → LetsIn D.home run.login.users → ServesAs D.home run.login (C.facts result.0) result.1 }
     {
@@ -198,7 +199,7 @@ impl<'a, D: LinkDesk, G: Gate<D::End>> Worker<'a, D, G> {
         requires unrefused { (D.holder self.old.pass).refused ≡ None }
         ensures share { Evens (D.told self.old.pass) (D.told self.new.pass) }
         ensures leased { HasLeased (D.holder self.old.pass) (D.holder self.new.pass) result.1 }
-        ensures ended { HasEnded D.home logged_in.now AtAsking (D.told self.old.pass) (D.told self.new.pass) (C.facts client) (C.facts result.0) result.1 }
+        ensures ended { HasEndedAtLast D.home logged_in.now (D.told self.old.pass) (D.told self.new.pass) (C.facts client) (C.facts result.0) result.1 }
     {
         self.gate.limit(None);
         self.note(logged_in, &Note::LoggedIn);
@@ -223,7 +224,7 @@ impl<'a, D: LinkDesk, G: Gate<D::End>> Worker<'a, D, G> {
         ensures free { (D.holder self.new.pass).client ≡ None }
         ensures none { (D.holder self.new.pass).lease ≡ None }
         ensures refused { (D.holder self.new.pass).refused ≡ refusal_in result.1 }
-        ensures traces { Traces AtArrival (D.told self.old.pass) (D.told self.new.pass) result.1 }
+        ensures traces { TracesAtLast D.home run.login AtArrival (D.told self.old.pass) (D.told self.new.pass) result.1 }
         ensures came { CameIn D.home run.login (C.facts result.0) result.1 }
         ensures serves { run.client.tells ≡ true → LetsIn D.home run.login.users → ServesAs D.home run.login (C.facts result.0) result.1 }
     {
@@ -257,7 +258,7 @@ impl<'a, D: LinkDesk, G: Gate<D::End>> Worker<'a, D, G> {
 /// started for it alone answers, over the catalogue of its row, where cancels struck some of its frames or none (only the link's
 /// end tells which); and a refusal in it has its cause: it is the login's own, or for memory, or the pass tells its trace (a refusal
 /// by the desk, a link that was lent, one that was lost), and a message of the client's that is refused is none under the limit. The
-/// traces hold unless a call of the desk was answered by the last decision or as strange. With the same exception, as many links were
+/// traces hold, from where the client asked last for its link, unless a call of the desk was answered by the last decision or as strange. With the same exception, as many links were
 /// granted as given back or lost, and as many clients arrived as left.
 ///
 /// A client of the console, to which no server would answer, was given its login, what the console says to its messages over the desk's

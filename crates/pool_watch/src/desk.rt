@@ -7,7 +7,7 @@ use book_model::limits::Limits;
 use book_register::view::BookView;
 use ini_config::Settings;
 use link_desk::answers::{
-    Arrival, Asked, Back, Cancelled, Changed, Gone, Grant, Keying, Release, Strike,
+    Arrival, Asked, Back, Cancelled, Changed, Gone, Grant, Keying, Place, Release, Strike,
 };
 use link_desk::desk::LinkDesk;
 use link_start::links::CleanLink;
@@ -19,6 +19,7 @@ use start_keys::StartKey;
 use std::alloc::{AllocError, Global};
 use std::rt::Clock;
 use std::sync::{Arc, Wait};
+use std::time::Instant;
 use user_file::Users;
 
 /// A desk, the seat of the client whose worker calls it, and the settings and users of the client's arrival.
@@ -110,6 +111,16 @@ impl<'a, R: Wait + Clock, D: LinkDesk> LinkDesk for WatchedDesk<'a, R, D> {
     fn start_failed(&self, pass: &mut D::Pass) -> Gone {
         self.seat.unlinked(&self.rt);
         self.desk.start_failed(pass)
+    }
+
+    fn await_place(
+        &self,
+        pass: &mut D::Pass,
+        key: &Arc<StartKey>,
+        since: Option<Instant>,
+        seconds: u32,
+    ) -> Place {
+        self.desk.await_place(pass, key, since, seconds)
     }
 
     fn leave(&self, pass: &mut D::Pass) -> Gone {

@@ -9,6 +9,8 @@ mod console;
 #[cfg(test)]
 mod gates;
 #[cfg(test)]
+mod idle_links;
+#[cfg(test)]
 mod keys;
 #[cfg(test)]
 mod limits;

@@ -1,13 +1,12 @@
-use Rattle.std.proofs.Common.{Bool, List, inl, inr, sym, ap, ◌∙◌, subst}
+use Rattle.std.proofs.Common.{List, inl, inr, sym, ap, ◌∙◌, subst}
 use Rattle.user_file.specs.declared.user_table.UserRow.{UserRow}
 use Rattle.link_laws.specs.Standing.{ClientFacts}
 use Rattle.login_core.specs.Logins.{LoginView}
-use Rattle.login_run.specs.Laws.{AllowedBy, own}
-use Rattle.pool_serve.specs.Causes.{HasCause}
-use Rattle.pool_serve.specs.Serving.{AreMarksOf, LetsIn}
-use Rattle.pool_serve.specs.Stays.{ServesAs}
+use Rattle.pool_serve.specs.Serving.{LetsIn}
+use Rattle.pool_serve.specs.Stays.{IsAllowed, ServesAs}
 use Rattle.pool_serve.specs.Words.{HasGiven, last_bytes}
 use Rattle.pool_serve.specs.declared.word.FinalMessage.{FinalMessage}
+use Rattle.pool_serve.proofs.Again.{traces_first}
 use Rattle.pool_serve.proofs.Cancelling.{dismissed_is_over, dismissed_keeps, dismissed_settles}
 use Rattle.pool_serve.proofs.Leases.{came_first}
 use Rattle.pool_serve.proofs.Logging.{run_ends}
@@ -22,7 +21,7 @@ returns-in_default g c =
     record {
       tells = ap (λ (x : ClientFacts). x.tells) c.dismiss.ensures.client ∙ (c.drive_login.ensures.login.tells ∙ ap (λ (x : ClientFacts). x.tells) c.new-run.ensures.client);
       allowed = λ t l. inl
-          (subst (λ (v : LoginView). (marks : List Bool) × (AreMarksOf g.D.LinkDesk.home.strikable marks × AllowedBy (HasCause v (g.C.ClientEnd.facts c.dismiss.result.0).taken (g.D.LinkDesk.told c.args.pass) (g.D.LinkDesk.told c.dismiss.result.1)) (g.C.ClientEnd.facts c.dismiss.result.0).given (own g.D.LinkDesk.home.catalogue v marks (g.C.ClientEnd.facts c.dismiss.result.0).taken))) c.new-run.ensures.login
+          (subst (λ (v : LoginView). IsAllowed g.D.LinkDesk.home v (g.D.LinkDesk.told c.args.pass) (g.D.LinkDesk.told c.dismiss.result.1) (g.C.ClientEnd.facts c.dismiss.result.0)) c.new-run.ensures.login
           (untold_client g.D.LinkDesk.home c.new-run.result.login (g.C.ClientEnd.facts c.dismiss.result.0) (g.D.LinkDesk.told c.args.pass) (g.D.LinkDesk.told c.dismiss.result.1) (run_ends c.runs_are_allowed.ensures g.D.LinkDesk.home c.new-run.result c.drive_login.new.run (g.C.ClientEnd.facts c.dismiss.result.0) c.drive_login.ensures.login c.dismiss.ensures.run c.dismiss.ensures.client (ap (λ (x : ClientFacts). x.tells) c.new-run.ensures.client ∙ t))));
       share = dismissed_settles turn _ _ _ _ c.dismiss.ensures.pass;
       free = left.client ∙ c.requires.free;
@@ -36,18 +35,19 @@ returns-clause-allowed g c = λ t l.
     let end = c.admit-client.result.1 in
     let tells = c.drive_login.ensures.login.tells ∙ (ap (λ (x : ClientFacts). x.tells) c.new-run.ensures.client ∙ t) in
     let lets = subst (λ (u : List UserRow). LetsIn g.D.LinkDesk.home u) (sym (c.drive_login.ensures.login.users ∙ ap (λ (x : LoginView). x.users) c.new-run.ensures.login)) l in
-    told_as g.D.LinkDesk.home c.args.login client (g.C.ClientEnd.facts c.tell.new.client) (g.D.LinkDesk.told c.args.pass) (g.D.LinkDesk.told c.admit-client.new.self.pass) end
+    let x = traces_first g.D.LinkDesk.home c.args.login c.new-run.result c.drive_login.new.run _ _ end c.new-run.ensures.login c.drive_login.ensures.login c.admit-client.ensures.traces in
+    told_as g.D.LinkDesk.home c.args.login client (g.C.ClientEnd.facts c.tell.new.client) (g.D.LinkDesk.told c.args.pass) (g.D.LinkDesk.told c.admit-client.new.self.pass) x.last x.again end
     (subst (λ (w : FinalMessage). HasGiven client (g.C.ClientEnd.facts c.tell.new.client) (last_bytes w)) c.into_word.ensures c.tell.ensures.given)
     (c.admit-client.ensures.tells ∙ tells)
     (came_first _ c.args.login c.new-run.result c.drive_login.new.run _ end c.new-run.ensures.login c.drive_login.ensures.login c.admit-client.ensures.came)
-    c.admit-client.ensures.traces
+    x.traces
     (subst (λ (v : LoginView). ServesAs g.D.LinkDesk.home v client end) c.new-run.ensures.login (same_serves g.D.LinkDesk.home c.new-run.result c.drive_login.new.run client end c.drive_login.ensures.login (c.admit-client.ensures.serves tells lets)))
 
 pub returns-clause-over : goal.returns-clause-over
 returns-clause-over g c = inr (inr (record {
   ending = c.admit-client.result.1;
   before = g.C.ClientEnd.facts c.admit-client.result.0;
-  traces = c.admit-client.ensures.traces;
+  traces = traces_first g.D.LinkDesk.home c.args.login c.new-run.result c.drive_login.new.run _ _ c.admit-client.result.1 c.new-run.ensures.login c.drive_login.ensures.login c.admit-client.ensures.traces;
   refused = c.admit-client.ensures.refused;
   came = came_first _ c.args.login c.new-run.result c.drive_login.new.run _ c.admit-client.result.1 c.new-run.ensures.login c.drive_login.ensures.login c.admit-client.ensures.came;
   told = subst (λ (w : FinalMessage). HasGiven (g.C.ClientEnd.facts c.admit-client.result.0) (g.C.ClientEnd.facts c.tell.new.client) (last_bytes w)) c.into_word.ensures c.tell.ensures.given;

@@ -2,7 +2,8 @@ use Rattle.std.proofs.Common.{List, sym, ap, ◌∙◌, subst}
 use Rattle.user_file.specs.declared.user_table.UserRow.{UserRow}
 use Rattle.link_laws.specs.Standing.{ClientFacts}
 use Rattle.pool_serve.specs.Serving.{LetsIn}
-use Rattle.pool_serve.proofs.Causing.{arrival_traces, stay_traces}
+use Rattle.pool_serve.proofs.Again.{asked_once, same_asking, stay_at_last}
+use Rattle.pool_serve.proofs.Causing.{arrival_traces}
 use Rattle.pool_serve.proofs.Leases.{same_came}
 use Rattle.pool_serve.proofs.Logging.{arrival_ends}
 use Rattle.pool_serve.proofs.Managing.{same_serves}
@@ -20,7 +21,8 @@ pub returns-in-Refused-clause-serves : goal.returns-in-Refused-clause-serves
 returns-in-Refused-clause-serves g c = λ t l. arrival_ends c.runs_stand_at_pieces.ensures g.D.LinkDesk.home c.args.run (g.C.ClientEnd.facts c.finish-client.result.0) c.in-Refused.refusal c.in-Refused.ensures.refused c.requires.arrived c.requires.given c.finish-client.ensures.run c.finish-client.ensures.client t
 
 pub returns-in-Client-clause-traces : goal.returns-in-Client-clause-traces
-returns-in-Client-clause-traces g c = stay_traces _ _ _ _ c.leave.result c.serve_arrived-served.result.1 c.in-Client.ensures.told c.leave.ensures.told c.serve_arrived-served.ensures.traces
+returns-in-Client-clause-traces g c =
+    stay_at_last _ c.args.run.login _ _ _ _ c.leave.result c.serve_arrived-served.result.1 c.in-Client.ensures.told c.leave.ensures.told (same_asking _ c.args.run c.go_on.new.self _ _ c.serve_arrived-served.result.1 c.go_on.ensures.login c.serve_arrived-served.ensures.traces)
 
 pub returns-in-Refused-clause-traces : goal.returns-in-Refused-clause-traces
-returns-in-Refused-clause-traces g c = arrival_traces _ _ c.in-Refused.refusal c.in-Refused.ensures.told c.in-Refused.ensures.refused
+returns-in-Refused-clause-traces g c = asked_once _ c.args.run.login _ _ _ (arrival_traces _ _ c.in-Refused.refusal c.in-Refused.ensures.told c.in-Refused.ensures.refused)

@@ -1,31 +1,21 @@
-use Rattle.std.proofs.Common.{[], inl, refl, ap}
-use Rattle.message_view.specs.declared.refusal.Refusal.TheVariants.{OutOfMemory}
-use Rattle.link_desk.specs.Passes.{PassOf}
-use Rattle.pool_serve.specs.Serving.{owed}
-use Rattle.pool_serve.proofs.Causing.{asking_fault, asking_traces}
-use Rattle.pool_serve.proofs.Telling.{nothing_more, none_ends, refusal_ends}
+use Rattle.pool_serve.proofs.Again.{again_evens, evens_both, linked_at_last, linked_evens}
+use Rattle.pool_serve.proofs.Leases.{leased_by}
 use Rattle.pool_serve.proofs.worker.Worker.lease.Goals as goal
 
-pub returns-in-Refused-clause-ended : goal.returns-in-Refused-clause-ended
-returns-in-Refused-clause-ended g c = record {
-  tells = refl;
-  traces = asking_traces _ _ c.in-Refused.refusal c.in-Refused.ensures.told c.in-Refused.ensures.refused;
-  came = refl;
-  serves = λ t l. nothing_more _ _ _ _ _ (asking_fault _ [] c.in-Refused.refusal c.in-Refused.ensures.refused) (refusal_ends _ c.in-Refused.refusal);
-}
+pub returns-in-Ok-clause-share : goal.returns-in-Ok-clause-share
+returns-in-Ok-clause-share g c =
+    let x = c.in-Ok.ensures.told in
+    evens_both _ x.last _ (again_evens x.again) (linked_evens x.last _ _ x.granted c.over_link.ensures.share)
 
-pub returns-in-Memory-clause-ended : goal.returns-in-Memory-clause-ended
-returns-in-Memory-clause-ended g c = record {
-  tells = refl;
-  traces = tt;
-  came = refl;
-  serves = λ t l. nothing_more _ _ _ _ _ tt (refusal_ends _ OutOfMemory);
-}
+pub returns-in-Ok-clause-leased : goal.returns-in-Ok-clause-leased
+returns-in-Ok-clause-leased g c = leased_by _ _ _ c.in-Ok.ensures.held.client c.in-Ok.ensures.held.refused c.over_link.result.1 c.over_link.ensures.frees
 
-pub returns-in-Stranger-clause-ended : goal.returns-in-Stranger-clause-ended
-returns-in-Stranger-clause-ended g c = record {
-  tells = refl;
-  traces = inl (ap (λ (p : PassOf). p.is_broken) c.in-Stranger.ensures.told);
-  came = refl;
-  serves = λ t l. nothing_more _ _ _ _ _ tt (none_ends (owed g.D.LinkDesk.home.catalogue c.args.logged_in.now [] []));
-}
+pub returns-in-Ok-clause-ended : goal.returns-in-Ok-clause-ended
+returns-in-Ok-clause-ended g c =
+    let x = c.in-Ok.ensures.told in
+    linked_at_last x.last _ _ _ _ _ _ c.over_link.result.1 x.again x.granted c.over_link.ensures.frees c.over_link.ensures.ended
+
+pub returns-in-Err-clause-ended : goal.returns-in-Err-clause-ended
+returns-in-Err-clause-ended g c =
+    let x = c.in-Err.ensures.ended in
+    record { last = x.last; again = x.again; ended = x.ended _ }

@@ -1,0 +1,258 @@
+#!/usr/bin/env python3
+"""Shows that `pgsess serve` does what it is told: by its seed, by addresses, by settings and users, also at RELOAD; and that its log tells why
+a link is closed, where a client came from and how long it was there. In front of a PostgreSQL server of Debian, and of servers of this
+script that say what no PostgreSQL would.
+
+Usage: as_told.py PROGRAM
+"""
+import os
+import re
+import signal
+import socket
+import sys
+import threading
+import time
+
+from cluster import HERE, USERS, Cluster, Passes, Place, Pooler, set_up, until
+from wire import Client, Cut, Refused, message, query
+
+TOO = "127.0.0.2"
+SECONDS = 20
+STAY = 1.5
+# the first key word of the seed 00 01 .. 1f: ChaCha20 with a counter and a nonce of 64 bits, by another program
+COUNTED, FIRST_WORD = bytes(range(32)), bytes.fromhex("7d2bfd396a19c5d9")
+WRONG_PASSWORD, TOO_MANY, TOO_LONG = "28P01", "53300", "57P03"
+TERMINATE, RESET = message(b"X"), query("DISCARD ALL")
+OK, KEY, READY = message(b"R", bytes(4)), message(b"K", (7).to_bytes(4, "big") + (9).to_bytes(4, "big")), message(b"Z", b"I")
+DONE = message(b"C", b"SELECT 0\0") + READY
+# what it says to a query, and to the reset
+FRIENDLY = (DONE, message(b"C", b"DISCARD ALL\0") + READY)
+
+
+class Server(threading.Thread):
+    """A server that lets in whoever comes, by this welcome, and answers each query and each reset so; what it was sent stays."""
+
+    def __init__(self, welcome=OK + KEY + READY, answers=FRIENDLY, host=HERE):
+        super().__init__(daemon=True)
+        self.listener = socket.create_server((host, 0))
+        self.port, self.welcome, self.answers = self.listener.getsockname()[1], welcome, answers
+        self.sent, self.cancels, self.ended = b"", [], 0
+        self.start()
+
+    def run(self):
+        while True:
+            connection, _ = self.listener.accept()
+            threading.Thread(target=self.serve, args=(connection,), daemon=True).start()
+
+    def serve(self, connection):
+        held = b""
+        try:
+            while True:
+                piece = connection.recv(4096)
+                if not piece:
+                    break
+                held += piece
+                held = self.answer(connection, held)
+        except OSError:
+            pass
+        self.ended += 1
+        connection.close()
+
+    def answer(self, connection, held):
+        """What is left of it."""
+        while len(held) >= 5:
+            first = held[0] == 0
+            size = int.from_bytes(held[:4], "big") if first else 1 + int.from_bytes(held[1:5], "big")
+            if len(held) < size:
+                return held
+            packet, held = held[:size], held[size:]
+            self.sent += packet
+            if first and packet[4:8] == bytes.fromhex("04d2162e"):
+                self.cancels.append(packet[8:])
+                raise OSError("a cancel")
+            connection.sendall(self.welcome if first else self.answers[packet == RESET] if packet[:1] == b"Q" else b"")
+        return held
+
+
+def outcome(port, user="ann", password=None, database="shop", asks="SELECT", host=HERE):
+    """What a client is told that asks for something."""
+    try:
+        client = Client(port, user, database, USERS[user][0] if password is None else password, host=host, seconds=SECONDS)
+        client.ask(asks)
+        client.leave()
+        return "served"
+    except Refused as error:
+        return error.code
+    except (Cut, OSError) as error:
+        return type(error).__name__
+
+
+class Show:
+    def __init__(self, program):
+        self.program, self.passes, self.place = program, Passes("as told"), Place()
+        self.cluster = Cluster(self.place)
+        self.pooler = None
+
+    def begin(self, **more):
+        if self.pooler:
+            self.pooler.stop()
+        self.pooler = Pooler(self.place, self.cluster, self.program, **{"auth": "md5", **more})
+        self.before = len(self.log())
+
+    def log(self):
+        return (self.place.folder / "pgsess.err").read_text()
+
+    def logs(self, what, line):
+        found = lambda: re.search(line, self.log()[self.before:], re.M)
+        until(found, 5)
+        self.passes.holds(what, found(), self.log()[self.before:][-400:])
+        return found()
+
+    def console(self, command):
+        client = Client(self.pooler.port, "root", "pgbouncer", USERS["root"][0], seconds=SECONDS)
+        try:
+            return client.ask(command)
+        finally:
+            client.leave()
+
+    def reload(self, name, *changes):
+        """Writes the file anew with these changes, and has it read."""
+        text = (self.place.folder / name).read_text()
+        for old, new in changes:
+            text = re.sub(old, new, text, flags=re.M)
+        self.place.write(name, text)
+        self.console("RELOAD")
+
+    def first_word(self, seed):
+        self.begin(seed=seed)
+        client = Client(self.pooler.port, "ann", "shop", USERS["ann"][0])
+        client.leave()
+        return client.key
+
+    def seeds(self):
+        self.passes.same("the first key word of a known seed", self.first_word(COUNTED), FIRST_WORD)
+        self.passes.same("once more", self.first_word(COUNTED), FIRST_WORD)
+        words = {self.first_word(os.urandom(32)) for _ in range(2)}
+        self.passes.same("of two other seeds it is another", len(words - {FIRST_WORD}), 2)
+
+    def addresses(self):
+        """A server at another address of this machine, and a cancel there; nothing listens at its port here."""
+        there = Server(host=TOO)
+        self.begin(more_rows=f"there = host={TOO} port={there.port} dbname=shop")
+        client = Client(self.pooler.port, "ann", "there", USERS["ann"][0])
+        self.passes.same("a row's host is dialled", client.ask("SELECT"), [])
+        cancel = socket.create_connection((HERE, self.pooler.port))
+        cancel.sendall((16).to_bytes(4, "big") + bytes.fromhex("04d2162e") + client.key)
+        self.passes.same("a cancel is closed without a byte", cancel.recv(16), b"")
+        cancel.close()
+        until(lambda: there.cancels, 5)
+        self.passes.same("and goes where its link leads, by the server's key", there.cancels, [KEY[5:]])
+        client.leave()
+        try:
+            socket.create_connection((TOO, self.pooler.port), 5).close()
+            refused = False
+        except ConnectionRefusedError:
+            refused = True
+        self.passes.holds(f"listen_addr = {HERE}: {TOO} is refused", refused)
+
+    def users(self):
+        self.begin()
+        self.passes.same("a user", outcome(self.pooler.port, "bc"), "served")
+        self.reload("users.txt", (r'^"bc".*\n', ""))
+        self.passes.same("taken out, RELOAD: is refused", outcome(self.pooler.port, "bc"), WRONG_PASSWORD)
+        self.passes.same("others aren't", outcome(self.pooler.port), "served")
+        self.reload("users.txt", (r'^"ann".*', '"ann" "other"'), (r"\Z", f'"bc" "{USERS["bc"][1]}"\n'))
+        self.passes.same("put back: is served", outcome(self.pooler.port, "bc"), "served")
+        self.passes.same("a password of before the RELOAD", outcome(self.pooler.port), WRONG_PASSWORD)
+        self.cluster.tell("ALTER ROLE ann PASSWORD 'other'", "postgres")
+        self.passes.same("the new one", outcome(self.pooler.port, password="other"), "served")
+        self.cluster.tell("ALTER ROLE ann PASSWORD 'secret'", "postgres")
+
+    def settings(self):
+        self.begin(clients=2, size=1)
+        port = self.pooler.port
+        held = [Client(port, "ann", "shop", USERS["ann"][0]), Client(port, "bc", "shop", USERS["bc"][0])]
+        self.passes.same("max_client_conn", outcome(port), TOO_MANY)
+        self.reload("pgsess.ini", ("^max_client_conn = .*", "max_client_conn = 20"), ("^query_wait_timeout = .*", "query_wait_timeout = 1"))
+        begin = time.monotonic()
+        self.passes.same("RELOAD of it, and of query_wait_timeout", outcome(port), TOO_LONG)
+        self.passes.holds("by the new time", 0.5 < time.monotonic() - begin < 4, f"{time.monotonic() - begin:.1f} s")
+        self.reload("pgsess.ini", ("^default_pool_size = .*", "default_pool_size = 2"))
+        self.passes.same("RELOAD of default_pool_size", outcome(port), "served")
+        self.reload("pgsess.ini", ("^max_client_conn = .*", "max_client_conn = 2"))
+        self.passes.same("RELOAD with a lower max_client_conn", outcome(port), TOO_MANY)
+        self.passes.same("keeps those who are there", [it.ask("SELECT") for it in held], [[[]]] * 2)
+        for it in held:
+            it.leave()
+
+    def strange_servers(self):
+        """A server that tells no key; one whose link is closed by the clock; and what the log says of links that are closed."""
+        keyless, timed = Server(welcome=OK + READY), Server()
+        foreign = Server(answers=(b"Z\0\0\0\3", b""))
+        unreset = Server(answers=(DONE, message(b"E", b"SERROR\0C55000\0Mno\0\0") + READY))
+        silent = Server(answers=(b"", b""))
+        rows = "\n".join(f"{name} = host={HERE} port={it.port} dbname=shop" for name, it in
+                         (("keyless", keyless), ("timed", timed), ("foreign", foreign), ("unreset", unreset), ("silent", silent)))
+        self.begin(changes={"^server_idle_timeout = .*": "server_idle_timeout = 1"}, more_rows=rows)
+        port = self.pooler.port
+        for turn in ("a server that tells no key: its client is served", "over the same link, the next one"):
+            self.passes.same(turn, outcome(port, database="keyless"), "served")
+        self.passes.same("a client of a server that is given up by the clock", outcome(port, database="timed"), "served")
+        self.passes.holds("its link is offered a Terminate", until(lambda: timed.sent.endswith(TERMINATE) and timed.ended, 10), timed.sent[-20:].hex())
+        link = r"link \d+ closed: "
+        self.passes.same("a message of a length that none has", outcome(port, database="foreign"), "08P01")
+        self.logs("is told", link + "malformed server message")
+        self.passes.same("a reset that isn't answered as it has to be", outcome(port, database="unreset"), "served")
+        self.logs("is told", link + "not reset by DISCARD ALL")
+        client = Client(port, "ann", "silent", USERS["ann"][0])
+        client.send(query("SELECT"))
+        time.sleep(0.3)
+        client.leave()
+        self.logs("a client that left before all was answered is told", link + "left before all was answered")
+        client = Client(port, "ann", "shop", USERS["ann"][0])
+        os.kill(int(client.ask("SELECT pg_backend_pid()")[0][0]), signal.SIGKILL)
+        self.logs("a server's process that is killed is told", link + "server connection ended")
+        until(self.cluster.is_ready)
+        client.socket.close()
+
+    def visits(self):
+        self.begin(listen=f"{HERE}, {TOO}", changes={"^log_connections = .*": "log_connections = 1", "^log_disconnections = .*": "log_disconnections = 1"})
+        near = socket.socket()
+        near.bind((TOO, 0))
+        near.settimeout(SECONDS)
+        near.connect((TOO, self.pooler.port))
+        own = near.getsockname()[1]
+        client = Client.__new__(Client)
+        client.socket, client.held, client.reports, client.key = near, b"", {}, None
+        client.log_in("ann", "shop", USERS["ann"][0], {})
+        time.sleep(STAY)
+        client.leave()
+        self.logs("where a client came from", rf"^pgsess: client \d+ ann@shop from {TOO}:{own} in$")
+        found = self.logs("and how long it was there", rf"from {TOO}:{own} out after ([\d.]+) s$")
+        if found:
+            self.passes.holds("by the clock", STAY <= float(found[1]) < STAY + 2, found[0])
+
+    def run(self):
+        for part in (self.seeds, self.addresses, self.users, self.settings, self.strange_servers, self.visits):
+            part()
+        self.pooler.stop()
+        self.cluster.stop()
+
+
+def main(program):
+    set_up()
+    show = Show(program)
+    try:
+        show.run()
+    finally:
+        if show.pooler:
+            show.pooler.stop()
+        for pid in show.place.processes():
+            os.kill(pid, signal.SIGKILL)
+        until(lambda: not show.place.processes())
+        show.place.clear()
+    show.passes.end()
+
+
+if __name__ == "__main__":
+    main(os.path.abspath(sys.argv[1]))
