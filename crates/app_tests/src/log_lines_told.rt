@@ -116,11 +116,11 @@ fn why_no_link_was_started(rt: HostRuntime) -> Result<(), Fail> {
         (Unstarted::NotReached, b" could not be reached (P7)"),
         (
             Unstarted::Unanswerable(10),
-            b" asks for SCRAM (authentication method 10), which isn't served: use md5 or a password (P7)",
+            b" asks for SCRAM (authentication method 10), which can't be answered: the user file has but a digest, or SCRAM-SHA-256 isn't offered (P7)",
         ),
         (
             Unstarted::Unanswerable(7),
-            b" asks for authentication method 7, which isn't served: use md5 or a password (P7)",
+            b" asks for authentication method 7, which isn't served: use SCRAM, md5 or a password (P7)",
         ),
         (
             Unstarted::Unanswerable(3),

@@ -2,7 +2,7 @@
 use Rattle.std.specs.Prelude.{◌≡◌, Bool, true, false, []}
 use Rattle.message_view.specs.Bodies.{Text}
 use Rattle.session_values.specs.State.{Address, CatalogueOf, StartKeyOf, address_of}
-use Rattle.user_file.specs.declared.secrets.Secret.{Secret}
+use Rattle.credentials.specs.Credentials.{CredentialOf}
 use Rattle.link_laws.specs.Standing.{Standing}
 use Rattle.link_start.specs.Links.{LinkView}
 use Rattle.link_start.specs.Starts.{CanStart, IsLetIn}
@@ -10,16 +10,16 @@ use Rattle.link_desk.specs.declared.answers.Grant.{Grant}
 use Rattle.link_desk.specs.declared.answers.Grant.TheVariants as grant
 
 -- The catalogue that stands behind each address; whether the ends that are dialled follow their servers, and whether cancels reach
--- those; and whether they let a user of this name and secret in.
+-- those; and whether they let a user of this name in by this credential.
 pub record HomeOf : Type 0 where
   pub catalogue : Address → CatalogueOf
   pub follows : Bool
   pub strikable : Bool
-  pub lets_in : Text → Secret → Bool
+  pub lets_in : Text → CredentialOf → Bool
 
 -- nothing is claimed of what is dialled
 abbrev pub unknown_home : HomeOf
-unknown_home = record { catalogue = λ address. record { version = []; databases = []; tables = [] }; follows = false; strikable = true; lets_in = λ name secret. false }
+unknown_home = record { catalogue = λ address. record { version = []; databases = []; tables = [] }; follows = false; strikable = true; lets_in = λ name credential. false }
 
 -- an end that was dialled to the servers of this key's address, and waits for its StartupMessage
 pub record IsDialled (home : HomeOf) (dialled : StartKeyOf) (at : Standing) : Type 0 where
@@ -27,7 +27,7 @@ pub record IsDialled (home : HomeOf) (dialled : StartKeyOf) (at : Standing) : Ty
   pub follows : home.follows ≡ true → at.follows ≡ true
   pub catalogue : at.follows ≡ true → at.server.catalogue ≡ home.catalogue (address_of dialled)
   pub strikable : at.follows ≡ true → at.server.strikable ≡ home.strikable
-  pub lets_in : (key : StartKeyOf) (secret : Secret) → home.lets_in key.user secret ≡ true → IsLetIn at key secret
+  pub lets_in : (key : StartKeyOf) (credential : CredentialOf) → home.lets_in key.user credential ≡ true → IsLetIn at key credential
 
 -- A link to the servers of its key's address.
 pub record IsAtHome (home : HomeOf) (link : LinkView) : Type 0 where

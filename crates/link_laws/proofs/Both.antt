@@ -140,7 +140,7 @@ moves_put a b c p q g x y = subst (λ (h : List ℕ). Moves a (p ++ q) c h) (app
 
 not_struck : (v : Server) (s : Stage) (m : Bool) (f : FrameOf) → v.strikable ≡ false → MayTake v s (Sends m f) → m ≡ false
 not_struck v (Before auth) m f e h = absurd h
-not_struck v (Asked start answer) m f e h = h.1
+not_struck v (Asked start answer rest) m f e h = h.1
 not_struck v (Open s) true f e h = absurd (true≢false (sym (h.1 refl) ∙ ap (λ (b : Bool). b && may_be_struck s f) e))
 not_struck v (Open s) false f e h = refl
 not_struck v Closed m f e h = absurd h

@@ -1,5 +1,5 @@
 -- What a server answers to a start, and what is known once some of it came.
-use Rattle.std.proofs.Common.{◌≡◌, ⊎_elim, ℕ, ◌+◌, ◌<◌, ◌^◌, Bool, true, false, List, [], ◌∷◌, ◌++◌, length, drop, refl, sym, ap, ap₂, ◌∙◌, append_assoc, append-nil, subst, arith, Option, Some, None, Result, Ok, Err}
+use Rattle.std.proofs.Common.{◌≡◌, ⊎_elim, ℕ, ◌+◌, ◌<◌, ◌^◌, Bool, true, false, List, [], ◌∷◌, ◌++◌, map, length, drop, refl, sym, ap, ap₂, ◌∙◌, append_assoc, append-nil, subst, arith, Option, Some, None, Result, Ok, Err}
 use Rattle.std.specs.Prelude.{◌==◌, ◌||◌, ◌&&◌, not, if◌then◌else◌}
 use Rattle.std.specs.List.{flat_map, AllByRecursion}
 use Rattle.std.specs.Int.{w32, to_be_bytes}
@@ -11,7 +11,7 @@ use Rattle.frame_view.specs.declared.server.TheConstants.{READY_FOR_QUERY}
 use Rattle.frame_view.specs.Frames.{FrameOf, Front, AFrame, Lacks, Faulty, IsFrame, Start, first_spelling, front, spelling}
 use Rattle.frame_view.proofs.Cuts.{front-spelling}
 use Rattle.message_view.specs.Bodies.{Text}
-use Rattle.message_view.specs.Messages.{authentication, password_message, backend_key_data, ready_for_query}
+use Rattle.message_view.specs.Messages.{backend_key_data, ready_for_query}
 use Rattle.message_view.specs.declared.kinds.TheConstants.{IDLE}
 use Rattle.session_run_laws.specs.declared.cause.Cause.{Cause}
 use Rattle.session_run_laws.specs.declared.parameter.Parameter.{Parameter}
@@ -23,11 +23,11 @@ use Rattle.session_run_laws.specs.Laws.{has_ready}
 use Rattle.session_run_laws.specs.Step.{asked, is_statement}
 use Rattle.session_run_laws.specs.Starts.{Welcomes}
 use Rattle.session_run_laws.proofs.SessionsByName.{fresh_is_reached, welcome_is_read, start_error_is_short}
-use Rattle.link_laws.specs.Stages.{Server, Auth, NoAuth, Asks, Stage, Before, Asked, Open, Closed, Packet, Starts, Sends, Turn, can_strike, packet_bytes, packets_bytes, let_in, wrong_password, opened, started_by, opens, begins, is_answer, serve, after, answers, MayTake, MayTakeAll}
+use Rattle.link_laws.specs.Stages.{Server, Auth, Question, Round, Stage, Before, Asked, Open, Closed, Packet, Starts, Sends, Turn, asks, can_strike, packet_bytes, packets_bytes, let_in, wrong_password, opened, started_by, opens, begins, goes_on, is_answer, serve, after, answers, MayTake, MayTakeAll}
 use Rattle.link_laws.specs.Standing.{Standing, Served, Passed, marks_since}
 use Rattle.link_laws.specs.Starts.{start_body}
 use Rattle.link_laws.specs.Links.{IsIdle}
-use Rattle.link_laws.specs.Dialogues.{start_packets, start_replies, IsToQuestion, auth_of, IsNew, FitsPacket, IsShortReply, SplitsPackets, IsTold, StartRepliesAreFrames, StartPacketsSplit, StartsAreTold, StartedIsFresh}
+use Rattle.link_laws.specs.Dialogues.{answer_message, answer_packets, start_packets, start_replies, AreToRounds, AreToQuestions, IsInFrame, auth_of, IsNew, FitsPacket, IsShortReply, SplitsPackets, IsTold, StartRepliesAreFrames, StartPacketsSplit, StartsAreTold, StartedIsFresh}
 use Rattle.link_laws.proofs.Both.{answers-append}
 use Rattle.link_laws.proofs.Splits.{SplitsOff, split_whole}
 use Rattle.link_laws.proofs.Starting.{started-of}
@@ -109,8 +109,8 @@ IsUnstruck m f = (m ≡ false) × (is_statement (asked f.kind) ≡ false) × (4 
 abbrev IsInTurn : Stage → Packet → Type 0
 IsInTurn (Before auth) (Starts start) = 8 + length start < 2 ^ 32
 IsInTurn (Before auth) (Sends m f) = ⊥
-IsInTurn (Asked start answer) (Starts x) = ⊥
-IsInTurn (Asked start answer) (Sends m f) = IsUnstruck m f
+IsInTurn (Asked start answer rest) (Starts x) = ⊥
+IsInTurn (Asked start answer rest) (Sends m f) = IsUnstruck m f
 IsInTurn (Open s) (Starts x) = ⊥
 IsInTurn (Open s) (Sends m f) = IsUnstruck m f
 IsInTurn Closed (Starts x) = ⊥
@@ -124,9 +124,9 @@ same_packet : (v : Server) (s : Stage) (p t : Packet) (a b : List ℕ) → IsInT
 same_packet v (Before auth) (Starts x) (Starts y) a b h k e = let s = same_start x y a b h (omega (arith, k)) e in (ap Starts s.0, s.1)
 same_packet v (Before auth) (Starts x) (Sends n g) a b h k e = absurd k
 same_packet v (Before auth) (Sends m f) t a b h k e = absurd h
-same_packet v (Asked x y) (Starts z) t a b h k e = absurd h
-same_packet v (Asked x y) (Sends m f) (Starts z) a b h k e = absurd k
-same_packet v (Asked x y) (Sends m f) (Sends n g) a b h k e = let s = same_sent f g a b h.2 (let z = k.0.whole.size in omega (arith, z)) e in (both_unstruck m n f g h.0 k.1 s.0, s.1)
+same_packet v (Asked x y u) (Starts z) t a b h k e = absurd h
+same_packet v (Asked x y u) (Sends m f) (Starts z) a b h k e = absurd k
+same_packet v (Asked x y u) (Sends m f) (Sends n g) a b h k e = let s = same_sent f g a b h.2 (let z = k.0.whole.size in omega (arith, z)) e in (both_unstruck m n f g h.0 k.1 s.0, s.1)
 same_packet v (Open s) (Starts z) t a b h k e = absurd h
 same_packet v (Open s) (Sends m f) (Starts z) a b h k e = absurd k
 same_packet v (Open s) (Sends m f) (Sends n g) a b h k e = let q = same_sent f g a b h.2 (let z = k.0.whole.size in omega (arith, z)) e in (both_unstruck m n f g h.0 (unstruck_by n v s f g h.1 q.0 k.1) q.0, q.1)
@@ -147,20 +147,49 @@ split_packets v s (p ∷ ps) (t ∷ ts) rest h k e =
 
 -- ---- a start's packets are in turn
 
-opened_turn : (v : Server) (r : Result State Cause) (f : FrameOf) → IsUnstruck false f → IsInTurn (opened v r).next (Sends false f)
-opened_turn v (Ok s) f h = h
-opened_turn v (Err c) f h = h
+-- it has had its StartupMessage
+abbrev HasStart : Stage → Type 0
+HasStart (Before auth) = ⊥
+HasStart (Asked start answer rest) = Unit {0}
+HasStart (Open s) = Unit {0}
+HasStart Closed = Unit {0}
 
-answer_turn : (v : Server) (auth : Auth) (start : List ℕ) (f : FrameOf) → IsUnstruck false f → IsInTurn (begins v auth start).next (Sends false f)
-answer_turn v NoAuth start f h = opened_turn v (started_by v.catalogue start) f h
-answer_turn v (Asks kind more right) start f h = h
+opened_has : (v : Server) (r : Result State Cause) → HasStart (opened v r).next
+opened_has v (Ok s) = tt
+opened_has v (Err c) = tt
 
-start_turn : (v : Server) (auth : Auth) (key : StartKeyOf) (answer : Option Text) → AllByRecursion FitsPacket (start_packets key answer) → AreInTurn v (Before auth) (start_packets key answer)
-start_turn v auth key None h = (h.0, tt)
-start_turn v auth key (Some answer) h = (h.0, (answer_turn v auth (start_body key) (password_message answer) (refl, refl, h.1.0), tt))
+asks_has : (v : Server) (told : List Question) (start : List ℕ) (rounds : List Round) → HasStart (goes_on v told start rounds).next
+asks_has v told start [] = opened_has v (started_by v.catalogue start)
+asks_has v told start (r ∷ rs) = tt
+
+hears_has : (v : Server) (start : List ℕ) (rest : Auth) (b : Bool) → HasStart (if b then begins v rest start else record { next = Closed; replies = wrong_password ∷ [] }).next
+hears_has v start rest true = asks_has v rest.told start rest.rounds
+hears_has v start rest false = tt
+
+sent_has : (v : Server) (s : Stage) (m : Bool) (f : FrameOf) → HasStart s → HasStart (serve v s (Sends m f)).next
+sent_has v (Before auth) m f h = absurd h
+sent_has v (Asked start answer rest) m f h = hears_has v start rest (is_answer answer f)
+sent_has v (Open s) m f h = tt
+sent_has v Closed m f h = tt
+
+sent_turn : (s : Stage) (m : Bool) (f : FrameOf) → HasStart s → IsUnstruck m f → IsInTurn s (Sends m f)
+sent_turn (Before auth) m f h u = absurd h
+sent_turn (Asked start answer rest) m f h u = u
+sent_turn (Open s) m f h u = u
+sent_turn Closed m f h u = u
+
+answers_turn : (v : Server) (s : Stage) (given : List (List ℕ)) → HasStart s → AllByRecursion FitsPacket (answer_packets given) → AreInTurn v s (answer_packets given)
+answers_turn v s [] h fits = tt
+answers_turn v s (a ∷ given) h fits = (
+  sent_turn s false (answer_message a) h (refl, refl, fits.0),
+  answers_turn v (serve v s (Sends false (answer_message a))).next given (sent_has v s false (answer_message a) h) fits.1,
+)
+
+start_turn : (v : Server) (auth : Auth) (key : StartKeyOf) (given : List (List ℕ)) → AllByRecursion FitsPacket (start_packets key given) → AreInTurn v (Before auth) (start_packets key given)
+start_turn v auth key given h = (h.0, answers_turn v (begins v auth (start_body key)).next given (asks_has v auth.told (start_body key) auth.rounds) h.1)
 
 pub start_packets-split : StartPacketsSplit
-start_packets-split v auth key answer taken rest h k e = split_packets v (Before auth) (start_packets key answer) taken rest (start_turn v auth key answer h) k e
+start_packets-split v auth key given taken rest h k e = split_packets v (Before auth) (start_packets key given) taken rest (start_turn v auth key given h) k e
 
 -- ---- what came is a front of what is answered
 
@@ -169,29 +198,29 @@ all-front P [] ys h = tt
 all-front P (x ∷ xs) ys h = (h.0, all-front P xs ys h.1)
 
 -- what a server took of a start, and what it said then
-record Took (v : Server) (auth : Auth) (key : StartKeyOf) (answer : Option Text) (got : List FrameOf) (tail lost left : List ℕ) (taken : List Packet) : Type 0 where
+record Took (v : Server) (auth : Auth) (key : StartKeyOf) (given : List (List ℕ)) (got : List FrameOf) (tail lost left : List ℕ) (taken : List Packet) : Type 0 where
   untaken : List Packet
   more : List FrameOf
-  all : start_packets key answer ≡ taken ++ untaken
+  all : start_packets key given ≡ taken ++ untaken
   frames : answers v (Before auth) taken ≡ got ++ more
   inbox : left ≡ packets_bytes untaken
   outbox : tail ++ lost ≡ flat_map spelling more
 
-took : (limit : ℕ) (began : Standing) (key : StartKeyOf) (answer : Option Text) (sent unsent received tail left lost : List ℕ) (got : List FrameOf) (taken : List Packet) → limit < 2 ^ 32 → IsNew began
-    → sent ++ unsent ≡ packets_bytes (start_packets key answer) → AllByRecursion FitsPacket (start_packets key answer)
-    → AllByRecursion (IsFrame FromServer limit) (start_replies began.server (auth_of began.stage) key answer) → AllByRecursion (IsFrame FromServer limit) got
+took : (limit : ℕ) (began : Standing) (key : StartKeyOf) (given : List (List ℕ)) (sent unsent received tail left lost : List ℕ) (got : List FrameOf) (taken : List Packet) → limit < 2 ^ 32 → IsNew began
+    → sent ++ unsent ≡ packets_bytes (start_packets key given) → AllByRecursion FitsPacket (start_packets key given)
+    → AllByRecursion (IsFrame FromServer limit) (start_replies began.server (auth_of began.stage) key given) → AllByRecursion (IsFrame FromServer limit) got
     → received ≡ flat_map spelling got ++ tail → MayTakeAll began.server began.stage taken → began.inbox ++ sent ≡ packets_bytes taken ++ left
     → began.outbox ++ flat_map spelling (answers began.server began.stage taken) ≡ received ++ lost
-    → Took began.server (auth_of began.stage) key answer got tail lost (left ++ unsent) taken
-took limit began key answer sent unsent received tail left lost got taken low n al fits short each r lawful i o =
+    → Took began.server (auth_of began.stage) key given got tail lost (left ++ unsent) taken
+took limit began key given sent unsent received tail left lost got taken low n al fits short each r lawful i o =
     let v : Server = began.server in
     let auth : Auth = auth_of began.stage in
     let law : MayTakeAll v (Before auth) taken = subst (λ (t : Stage). MayTakeAll v t taken) n.stage lawful in
     let e0 : sent ≡ packets_bytes taken ++ left = ap (λ (b : List ℕ). b ++ sent) (sym n.inbox) ∙ i in
-    let ei : packets_bytes (start_packets key answer) ≡ packets_bytes taken ++ (left ++ unsent) =
+    let ei : packets_bytes (start_packets key given) ≡ packets_bytes taken ++ (left ++ unsent) =
     sym al ∙ (ap (λ (b : List ℕ). b ++ unsent) e0 ∙ append_assoc (packets_bytes taken) left unsent) in
-    let a : SplitsPackets (start_packets key answer) taken (left ++ unsent) = start_packets-split v auth key answer taken (left ++ unsent) fits law ei in
-    let whole : start_replies v auth key answer ≡ answers v (Before auth) taken ++ answers v (after v (Before auth) taken) a.more =
+    let a : SplitsPackets (start_packets key given) taken (left ++ unsent) = start_packets-split v auth key given taken (left ++ unsent) fits law ei in
+    let whole : start_replies v auth key given ≡ answers v (Before auth) taken ++ answers v (after v (Before auth) taken) a.more =
     ap (λ (ps : List Packet). answers v (Before auth) ps) a.all ∙ answers-append v (Before auth) taken a.more in
     let eo : flat_map spelling (answers v (Before auth) taken) ≡ flat_map spelling got ++ (tail ++ lost) =
     ap (λ (t : Stage). flat_map spelling (answers v t taken)) (sym n.stage) ∙ (ap (λ (b : List ℕ). b ++ flat_map spelling (answers v began.stage taken)) (sym n.outbox) ∙ (o ∙ (ap (λ (b : List ℕ). b ++ lost) r ∙ append_assoc (flat_map spelling got) tail lost))) in
@@ -199,8 +228,8 @@ took limit began key answer sent unsent received tail left lost got taken low n 
     (all-front (IsFrame FromServer limit) (answers v (Before auth) taken) (answers v (after v (Before auth) taken) a.more) (subst (λ (fs : List FrameOf). AllByRecursion (IsFrame FromServer limit) fs) whole short)) each eo in
     record { untaken = a.more; more = b.more; all = a.all; frames = b.all; inbox = a.bytes; outbox = b.bytes ∙ append-nil (flat_map spelling b.more) }
 
-told_of : (v : Server) (auth : Auth) (key : StartKeyOf) (answer : Option Text) (got : List FrameOf) (tail lost left : List ℕ) (taken : List Packet) → Took v auth key answer got tail lost left taken → IsTold (start_replies v auth key answer) got tail
-told_of v auth key answer got tail lost left taken t =
+told_of : (v : Server) (auth : Auth) (key : StartKeyOf) (given : List (List ℕ)) (got : List FrameOf) (tail lost left : List ℕ) (taken : List Packet) → Took v auth key given got tail lost left taken → IsTold (start_replies v auth key given) got tail
+told_of v auth key given got tail lost left taken t =
     let rest : List FrameOf = answers v (after v (Before auth) taken) t.untaken in
     record {
       more = t.more ++ rest;
@@ -214,13 +243,13 @@ nothing_told replies [] received tail n r = record { more = replies; lost = flat
 nothing_told replies (f ∷ fs) received tail n r = absurd (let h : [] ≡ flat_map spelling (f ∷ fs) ++ tail = sym n ∙ r in cc)
 
 pub starts-told : StartsAreTold
-starts-told limit began now key answer unsent received tail got low f n x short each r =
+starts-told limit began now key given unsent received tail got low f n x short each r =
     ⊎_elim
     (λ (t : began.lives ≡ true).
     let p : Passed began x.sent (marks_since began now) received = x.moves.passed f t in
-    told_of began.server (auth_of began.stage) key answer got tail p.lost (p.left ++ unsent) p.taken
-    (took limit began key answer x.sent unsent received tail p.left p.lost got p.taken low n x.all x.fits short each r p.lawful p.inbox p.outbox))
-    (λ (d : began.lives ≡ false). nothing_told (start_replies began.server (auth_of began.stage) key answer) got received tail (x.moves.silent d).1 r)
+    told_of began.server (auth_of began.stage) key given got tail p.lost (p.left ++ unsent) p.taken
+    (took limit began key given x.sent unsent received tail p.left p.lost got p.taken low n x.all x.fits short each r p.lawful p.inbox p.outbox))
+    (λ (d : began.lives ≡ false). nothing_told (start_replies began.server (auth_of began.stage) key given) got received tail (x.moves.silent d).1 r)
     (cases_Bool began.lives)
 
 -- ---- all answers are frames
@@ -237,17 +266,40 @@ all-and_none fs h = subst (λ (x : List FrameOf). AllByRecursion IsShortReply x)
 frames_of_opens : (v : Server) (key : StartKeyOf) → IsLawfulCatalogue v.catalogue → IsClientKey key → 0 < length key.dbname → AllByRecursion IsShortReply (opens v (start_body key)).replies
 frames_of_opens v key c k d = frames_of_opened v key (started_by v.catalogue (start_body key)) (sym (started-of v.catalogue key k d)) c k
 
-frames_of_hears : (v : Server) (key : StartKeyOf) (right : Bool) → IsLawfulCatalogue v.catalogue → IsClientKey key → 0 < length key.dbname
-    → AllByRecursion IsShortReply ((if right then opens v (start_body key) else record { next = Closed; replies = wrong_password ∷ [] }).replies ++ [])
-frames_of_hears v key true c k d = all-and_none (opens v (start_body key)).replies (frames_of_opens v key c k d)
-frames_of_hears v key false c k d = (record { of_type = refl; size = omega arith }, tt)
+all-both : (fs gs : List FrameOf) → AllByRecursion IsShortReply fs → AllByRecursion IsShortReply gs → AllByRecursion IsShortReply (fs ++ gs)
+all-both [] gs h k = k
+all-both (f ∷ fs) gs h k = (h.0, all-both fs gs h.1 k)
 
--- where the answer is to a question
+frames_of_told : (told : List Question) → AllByRecursion IsInFrame told → AllByRecursion IsShortReply (map asks told)
+frames_of_told [] h = tt
+frames_of_told (q ∷ told) h = (h.0, frames_of_told told h.1)
+
+-- a closed server says nothing
+closed_says : (v : Server) (ps : List Packet) → answers v Closed ps ≡ []
+closed_says v [] = refl
+closed_says v (p ∷ ps) = closed_says v ps
+
+abbrev heard_turn : Server → List Question → List ℕ → List Round → Bool → Turn
+heard_turn v told start rounds b = if b then goes_on v told start rounds else (record { next = Closed; replies = wrong_password ∷ [] })
+
+-- the replies of a turn, and those to the answers that follow it
+abbrev all_said : Server → Turn → List (List ℕ) → List FrameOf
+all_said v t given = t.replies ++ answers v t.next (answer_packets given)
+
+module _ (v : Server) (key : StartKeyOf) (told : List Question) (c : IsLawfulCatalogue v.catalogue) (k : IsClientKey key) (d : 0 < length key.dbname) (q : AllByRecursion IsInFrame told) where
+  frames_on : (rounds : List Round) (given : List (List ℕ)) → AllByRecursion (λ r. IsInFrame r.question) rounds → AreToRounds given rounds → AllByRecursion IsShortReply (all_said v (goes_on v told (start_body key) rounds) given)
+  frames_on [] [] h to = all-and_none (map asks told ++ (opens v (start_body key)).replies) (all-both (map asks told) (opens v (start_body key)).replies (frames_of_told told q) (frames_of_opens v key c k d))
+  frames_on [] (a ∷ given) h to = absurd to
+  frames_on (r ∷ rs) [] h to = (h.0, tt)
+  frames_on (r ∷ rs) (a ∷ given) h to = (h.0, by (is_answer r.answer (answer_message a)) (frames_on rs given h.1 to))
+    where
+      by : (b : Bool) → AllByRecursion IsShortReply (all_said v (goes_on v told (start_body key) rs) given) → AllByRecursion IsShortReply (all_said v (heard_turn v told (start_body key) rs b) given)
+      by true all = all
+      by false all = (record { of_type = refl; size = omega arith }, subst (λ (fs : List FrameOf). AllByRecursion IsShortReply fs) (sym (closed_says v (answer_packets given))) tt)
+
+-- where the answers are to questions
 pub start_replies-frames : StartRepliesAreFrames
-start_replies-frames v NoAuth key None c k d q to = all-and_none (opens v (start_body key)).replies (frames_of_opens v key c k d)
-start_replies-frames v NoAuth key (Some answer) c k d q to = absurd to
-start_replies-frames v (Asks kind more right) key None c k d q to = (q, tt)
-start_replies-frames v (Asks kind more right) key (Some answer) c k d q to = (q, frames_of_hears v key (is_answer right (password_message answer)) c k d)
+start_replies-frames v auth key given c k d q to = frames_on v key auth.told c k d q.1 auth.rounds given q.0 to
 
 -- ---- a ReadyForQuery came
 
@@ -294,41 +346,34 @@ reports_ready [] vs more h = h
 reports_ready (p ∷ ps) [] more h = h
 reports_ready (p ∷ ps) (v ∷ vs) more h = reports_ready ps vs more h
 
--- a turn that opens the session of this start
-record OpensAll (r : Result State Cause) (t : Turn) (more : List FrameOf) : Type 0 where
+-- nothing that is told before a session is open is a ReadyForQuery
+told_ready : (told : List Question) (more : List FrameOf) → has_ready more ≡ false → has_ready (map asks told ++ more) ≡ false
+told_ready [] more h = h
+told_ready (q ∷ told) more h = told_ready told more h
+
+-- what opens the session of this start
+record OpensAll (r : Result State Cause) (next : Stage) (more : List FrameOf) : Type 0 where
   session : State
   is : r ≡ Ok session
-  next : t.next ≡ Open session
+  next_is : next ≡ Open session
   none_more : more ≡ []
 
-opened_ready : (v : Server) (r : Result State Cause) (got more : List FrameOf) → got ++ more ≡ (opened v r).replies → has_ready got ≡ true → OpensAll r (opened v r) more
-opened_ready v (Ok s) got more e h =
+opened_ready : (v : Server) (told : List Question) (r : Result State Cause) (got more : List FrameOf) → got ++ more ≡ map asks told ++ (opened v r).replies → has_ready got ≡ true → OpensAll r (opened v r).next more
+opened_ready v told (Ok s) got more e h =
     let key : FrameOf = backend_key_data v.pid v.secret in
     let ready : FrameOf = ready_for_query IDLE in
-    let parts : let_in ∷ (all_reports s ++ key ∷ ready ∷ []) ≡ (let_in ∷ (all_reports s ++ key ∷ [])) ++ ready ∷ [] = ap (λ (x : List FrameOf). let_in ∷ x) (sym (append_assoc (all_reports s) (key ∷ []) (ready ∷ []))) in
-    record { session = s; is = refl; next = refl; none_more = last_ready got more (let_in ∷ (all_reports s ++ key ∷ [])) ready (reports_ready reported_parameters s.reported (key ∷ []) refl) (e ∙ parts) h }
-opened_ready v (Err c) got more e h = no_ready got more (let_in ∷ fatal c ∷ []) refl e h
-
-abbrev heard_turn : Server → Result State Cause → Bool → Turn
-heard_turn v r b = if b then opened v r else (record { next = Closed; replies = wrong_password ∷ [] })
-
-heard_ready : (v : Server) (r : Result State Cause) (b : Bool) (got more : List FrameOf) → got ++ more ≡ (heard_turn v r b).replies → has_ready got ≡ true → OpensAll r (heard_turn v r b) more
-heard_ready v r true got more e h = opened_ready v r got more e h
-heard_ready v r false got more e h = no_ready got more (wrong_password ∷ []) refl e h
-
--- the same behind a question
-asked_ready : (v : Server) (r : Result State Cause) (b : Bool) (kind : ℕ) (rest : List ℕ) (got more : List FrameOf) → got ++ more ≡ authentication kind rest ∷ (heard_turn v r b).replies → has_ready got ≡ true → OpensAll r (heard_turn v r b) more
-asked_ready v r b kind rest [] more e h = absurd (true≢false (sym h))
-asked_ready v r b kind rest (g ∷ got) more e h =
-    let k : ready_kind g ≡ false = ap ready_kind (first_is g (authentication kind rest) (got ++ more) (heard_turn v r b).replies e) in
-    heard_ready v r b got more (rest_is g (authentication kind rest) (got ++ more) (heard_turn v r b).replies e) (or_later (ready_kind g) (has_ready got) k h)
+    let front : List FrameOf = let_in ∷ (all_reports s ++ key ∷ []) in
+    let parts : let_in ∷ (all_reports s ++ key ∷ ready ∷ []) ≡ front ++ ready ∷ [] = ap (λ (x : List FrameOf). let_in ∷ x) (sym (append_assoc (all_reports s) (key ∷ []) (ready ∷ []))) in
+    let whole : map asks told ++ (let_in ∷ (all_reports s ++ key ∷ ready ∷ [])) ≡ (map asks told ++ front) ++ ready ∷ [] = ap (λ (x : List FrameOf). map asks told ++ x) parts ∙ sym (append_assoc (map asks told) front (ready ∷ [])) in
+    record { session = s; is = refl; next_is = refl; none_more = last_ready got more (map asks told ++ front) ready (told_ready told front (reports_ready reported_parameters s.reported (key ∷ []) refl)) (e ∙ whole) h }
+opened_ready v told (Err c) got more e h = no_ready got more (map asks told ++ (let_in ∷ fatal c ∷ [])) (told_ready told (let_in ∷ fatal c ∷ []) refl) e h
 
 -- ---- the session behind it
 
-record Opened (v : Server) (auth : Auth) (key : StartKeyOf) (taken untaken : List Packet) (more : List FrameOf) : Type 0 where
+record Opened (r : Result State Cause) (stage : Stage) (untaken : List Packet) (more : List FrameOf) : Type 0 where
   session : State
-  is : started_by v.catalogue (start_body key) ≡ Ok session
-  stage : after v (Before auth) taken ≡ Open session
+  is : r ≡ Ok session
+  stage_is : stage ≡ Open session
   none_left : untaken ≡ []
   none_more : more ≡ []
 
@@ -341,60 +386,55 @@ packets_are p q ps qs e = cc
 no_packets : {A : Type 0} (p : Packet) (ps qs : List Packet) → [] ≡ (p ∷ ps) ++ qs → A
 no_packets p ps qs e = absurd cc
 
-one_taken : (v : Server) (auth : Auth) (key : StartKeyOf) (got more : List FrameOf) → got ++ more ≡ answers v (Before auth) (Starts (start_body key) ∷ []) → IsToQuestion None auth → has_ready got ≡ true
-    → Opened v auth key (Starts (start_body key) ∷ []) [] more
-one_taken v NoAuth key got more e to h =
-    let o : OpensAll (started_by v.catalogue (start_body key)) (opens v (start_body key)) more = opened_ready v (started_by v.catalogue (start_body key)) got more (e ∙ append-nil (opens v (start_body key)).replies) h in
-    record { session = o.session; is = o.is; stage = o.next; none_left = refl; none_more = o.none_more }
-one_taken v (Asks kind rest right) key got more e to h = no_ready got more (authentication kind rest ∷ []) refl e h
+nothing_left : (taken untaken : List Packet) → [] ≡ taken ++ untaken → (taken ≡ []) × (untaken ≡ [])
+nothing_left [] untaken e = (refl, sym e)
+nothing_left (p ∷ taken) untaken e = absurd cc
 
--- with an answer that the server hasn't taken
-asked_one : {A : Type 0} (v : Server) (auth : Auth) (key : StartKeyOf) (answer : Text) (got more : List FrameOf) → got ++ more ≡ answers v (Before auth) (Starts (start_body key) ∷ []) → IsToQuestion (Some answer) auth → has_ready got ≡ true → A
-asked_one v NoAuth key answer got more e to h = absurd to
-asked_one v (Asks kind rest right) key answer got more e to h = no_ready got more (authentication kind rest ∷ []) refl e h
+abbrev went_on : Server → Turn → List Packet → List FrameOf
+went_on v t taken = t.replies ++ answers v t.next taken
 
-asked_two : (v : Server) (auth : Auth) (key : StartKeyOf) (answer : Text) (got more : List FrameOf) → got ++ more ≡ start_replies v auth key (Some answer) → IsToQuestion (Some answer) auth → has_ready got ≡ true
-    → Opened v auth key (start_packets key (Some answer)) [] more
-asked_two v NoAuth key answer got more e to h = absurd to
-asked_two v (Asks kind rest right) key answer got more e to h =
-    let r : Result State Cause = started_by v.catalogue (start_body key) in
-    let b : Bool = is_answer right (password_message answer) in
-    let o : OpensAll r (heard_turn v r b) more = asked_ready v r b kind rest got more (e ∙ ap (λ (x : List FrameOf). authentication kind rest ∷ x) (append-nil (heard_turn v r b).replies)) h in
-    record { session = o.session; is = o.is; stage = o.next; none_left = refl; none_more = o.none_more }
+module _ (v : Server) (told : List Question) (start : List ℕ) where
+  abbrev session_of : Result State Cause
+  session_of = started_by v.catalogue start
 
--- the packets that were taken, where a ReadyForQuery came
-opened_none : (v : Server) (auth : Auth) (key : StartKeyOf) (taken untaken : List Packet) (got more : List FrameOf) → IsToQuestion None auth → start_packets key None ≡ taken ++ untaken
-    → answers v (Before auth) taken ≡ got ++ more → has_ready got ≡ true → Opened v auth key taken untaken more
-opened_none v auth key [] untaken got more to s e h = no_ready got more [] refl (sym e) h
-opened_none v auth key (p ∷ q ∷ ts) untaken got more to s e h = no_packets q ts untaken (packets_are _ p [] ((q ∷ ts) ++ untaken) s)
-opened_none v auth key (p ∷ []) untaken got more to s e h =
-    let same : Starts (start_body key) ≡ p = packet_is _ p [] untaken s in
-    let left : [] ≡ untaken = packets_are _ p [] untaken s in
-    subst (λ (us : List Packet). Opened v auth key (p ∷ []) us more) left
-    (subst (λ (x : Packet). Opened v auth key (x ∷ []) [] more) same
-    (one_taken v auth key got more (sym e ∙ ap (λ (x : Packet). answers v (Before auth) (x ∷ [])) (sym same)) to h))
+  -- the packets that were taken behind the StartupMessage, where a ReadyForQuery came
+  opened_on : (rounds : List Round) (given : List (List ℕ)) (taken untaken : List Packet) (got more : List FrameOf) → AreToRounds given rounds → answer_packets given ≡ taken ++ untaken
+      → went_on v (goes_on v told start rounds) taken ≡ got ++ more → has_ready got ≡ true → Opened session_of (after v (goes_on v told start rounds).next taken) untaken more
+  opened_on [] (a ∷ given) taken untaken got more to s e h = absurd to
+  opened_on [] [] taken untaken got more to s e h =
+      let n = nothing_left taken untaken s in
+      let o : OpensAll session_of (opens v start).next more =
+      opened_ready v told session_of got more (sym e ∙ ap (λ (ps : List Packet). went_on v (goes_on v told start []) ps) n.0 ∙ append-nil (map asks told ++ (opens v start).replies)) h in
+      record { session = o.session; is = o.is; stage_is = ap (after v (opens v start).next) n.0 ∙ o.next_is; none_left = n.1; none_more = o.none_more }
+  opened_on (r ∷ rs) given [] untaken got more to s e h = no_ready got more (asks r.question ∷ []) refl (sym e) h
+  opened_on (r ∷ rs) [] (p ∷ taken) untaken got more to s e h = no_packets p taken untaken s
+  opened_on (r ∷ rs) (a ∷ given) (p ∷ taken) untaken [] more to s e h = absurd (true≢false (sym h))
+  opened_on (r ∷ rs) (a ∷ given) (p ∷ taken) untaken (g ∷ got) more to s e h =
+      let same : Sends false (answer_message a) ≡ p = packet_is (Sends false (answer_message a)) p (answer_packets given) (taken ++ untaken) s in
+      let rest : answer_packets given ≡ taken ++ untaken = packets_are (Sends false (answer_message a)) p (answer_packets given) (taken ++ untaken) s in
+      subst (λ (x : Packet). Opened session_of (after v (goes_on v told start (r ∷ rs)).next (x ∷ taken)) untaken more) same
+      (by (λ f k. opened_on rs given taken untaken got more to rest f k) (is_answer r.answer (answer_message a))
+      (ap (λ (x : Packet). went_on v (goes_on v told start (r ∷ rs)) (x ∷ taken)) same ∙ e))
+    where
+      by : (went_on v (goes_on v told start rs) taken ≡ got ++ more → has_ready got ≡ true → Opened session_of (after v (goes_on v told start rs).next taken) untaken more) → (b : Bool)
+          → asks r.question ∷ went_on v (heard_turn v told start rs b) taken ≡ (g ∷ got) ++ more → Opened session_of (after v (heard_turn v told start rs b).next taken) untaken more
+      by go true f =
+          let k : ready_kind g ≡ false = ap ready_kind (sym (first_is (asks r.question) g (went_on v (goes_on v told start rs) taken) (got ++ more) f)) in
+          go (rest_is (asks r.question) g (went_on v (goes_on v told start rs) taken) (got ++ more) f) (or_later (ready_kind g) (has_ready got) k h)
+      by go false f =
+          let k : ready_kind g ≡ false = ap ready_kind (sym (first_is (asks r.question) g (wrong_password ∷ answers v Closed taken) (got ++ more) f)) in
+          no_ready got more (wrong_password ∷ []) refl
+          (sym (rest_is (asks r.question) g (wrong_password ∷ answers v Closed taken) (got ++ more) f) ∙ ap (λ (fs : List FrameOf). wrong_password ∷ fs) (closed_says v taken))
+          (or_later (ready_kind g) (has_ready got) k h)
 
-opened_some : (v : Server) (auth : Auth) (key : StartKeyOf) (answer : Text) (taken untaken : List Packet) (got more : List FrameOf) → IsToQuestion (Some answer) auth → start_packets key (Some answer) ≡ taken ++ untaken
-    → answers v (Before auth) taken ≡ got ++ more → has_ready got ≡ true → Opened v auth key taken untaken more
-opened_some v auth key answer [] untaken got more to s e h = no_ready got more [] refl (sym e) h
-opened_some v auth key answer (p ∷ []) untaken got more to s e h =
-    let same : Starts (start_body key) ≡ p = packet_is _ p (Sends false (password_message answer) ∷ []) untaken s in
-    asked_one v auth key answer got more (sym e ∙ ap (λ (x : Packet). answers v (Before auth) (x ∷ [])) (sym same)) to h
-opened_some v auth key answer (p ∷ q ∷ t ∷ ts) untaken got more to s e h =
-    let tail : Sends false (password_message answer) ∷ [] ≡ (q ∷ t ∷ ts) ++ untaken = packets_are _ p (Sends false (password_message answer) ∷ []) ((q ∷ t ∷ ts) ++ untaken) s in
-    no_packets t ts untaken (packets_are _ q [] ((t ∷ ts) ++ untaken) tail)
-opened_some v auth key answer (p ∷ q ∷ []) untaken got more to s e h =
-    let tail : Sends false (password_message answer) ∷ [] ≡ q ∷ untaken = packets_are _ p (Sends false (password_message answer) ∷ []) (q ∷ untaken) s in
-    let left : [] ≡ untaken = packets_are _ q [] untaken tail in
-    let both : start_packets key (Some answer) ≡ p ∷ q ∷ [] = ap₂ (λ (x y : Packet). x ∷ y ∷ []) (packet_is _ p (Sends false (password_message answer) ∷ []) (q ∷ untaken) s) (packet_is _ q [] untaken tail) in
-    subst (λ (us : List Packet). Opened v auth key (p ∷ q ∷ []) us more) left
-    (subst (λ (ts : List Packet). Opened v auth key ts [] more) both
-    (asked_two v auth key answer got more (sym e ∙ ap (λ (ts : List Packet). answers v (Before auth) ts) (sym both)) to h))
-
-opened_by : (v : Server) (auth : Auth) (key : StartKeyOf) (answer : Option Text) (taken untaken : List Packet) (got more : List FrameOf) → IsToQuestion answer auth → start_packets key answer ≡ taken ++ untaken
-    → answers v (Before auth) taken ≡ got ++ more → has_ready got ≡ true → Opened v auth key taken untaken more
-opened_by v auth key None taken untaken got more to s e h = opened_none v auth key taken untaken got more to s e h
-opened_by v auth key (Some answer) taken untaken got more to s e h = opened_some v auth key answer taken untaken got more to s e h
+opened_by : (v : Server) (auth : Auth) (key : StartKeyOf) (given : List (List ℕ)) (taken untaken : List Packet) (got more : List FrameOf) → AreToQuestions given auth → start_packets key given ≡ taken ++ untaken
+    → answers v (Before auth) taken ≡ got ++ more → has_ready got ≡ true → Opened (started_by v.catalogue (start_body key)) (after v (Before auth) taken) untaken more
+opened_by v auth key given [] untaken got more to s e h = no_ready got more [] refl (sym e) h
+opened_by v auth key given (p ∷ taken) untaken got more to s e h =
+    let same : Starts (start_body key) ≡ p = packet_is (Starts (start_body key)) p (answer_packets given) (taken ++ untaken) s in
+    let rest : answer_packets given ≡ taken ++ untaken = packets_are (Starts (start_body key)) p (answer_packets given) (taken ++ untaken) s in
+    subst (λ (x : Packet). Opened (started_by v.catalogue (start_body key)) (after v (Before auth) (x ∷ taken)) untaken more) same
+    (opened_on v auth.told (start_body key) auth.rounds given taken untaken got more to rest (ap (λ (x : Packet). answers v (Before auth) (x ∷ taken)) same ∙ e) h)
 
 same_session : (r : Result State Cause) (s t : State) → r ≡ Ok s → r ≡ Ok t → s ≡ t
 same_session r s t e d = cc
@@ -404,36 +444,36 @@ some_bytes [] e h = absurd (true≢false (sym h))
 some_bytes (f ∷ fs) e h = absurd cc
 
 -- what lives now has taken all, and has nothing more to say
-idle_now : (limit : ℕ) (began now : Standing) (key : StartKeyOf) (answer : Option Text) (sent : List ℕ) (got : List FrameOf) → limit < 2 ^ 32 → IsNew began
-    → sent ++ [] ≡ packets_bytes (start_packets key answer) → AllByRecursion FitsPacket (start_packets key answer) → IsToQuestion answer (auth_of began.stage)
-    → AllByRecursion (IsFrame FromServer limit) (start_replies began.server (auth_of began.stage) key answer) → AllByRecursion (IsFrame FromServer limit) got
+idle_now : (limit : ℕ) (began now : Standing) (key : StartKeyOf) (given : List (List ℕ)) (sent : List ℕ) (got : List FrameOf) → limit < 2 ^ 32 → IsNew began
+    → sent ++ [] ≡ packets_bytes (start_packets key given) → AllByRecursion FitsPacket (start_packets key given) → AreToQuestions given (auth_of began.stage)
+    → AllByRecursion (IsFrame FromServer limit) (start_replies began.server (auth_of began.stage) key given) → AllByRecursion (IsFrame FromServer limit) got
     → has_ready got ≡ true → (s : State) → started_by began.server.catalogue (start_body key) ≡ Ok s → (marks : List Bool) → Served began sent marks now (flat_map spelling got) → IsIdle now s
-idle_now limit began now key answer sent got low n al fits to short each h s is marks z =
+idle_now limit began now key given sent got low n al fits to short each h s is marks z =
     let v : Server = began.server in
     let auth : Auth = auth_of began.stage in
     let whole : flat_map spelling got ≡ flat_map spelling got ++ [] = sym (append-nil (flat_map spelling got)) in
-    let b : Took v auth key answer got [] now.outbox (now.inbox ++ []) z.taken = took limit began key answer sent [] (flat_map spelling got) [] now.inbox now.outbox got z.taken low n al fits short each whole z.lawful z.inbox z.outbox in
-    let o : Opened v auth key z.taken b.untaken b.more = opened_by v auth key answer z.taken b.untaken got b.more to b.all b.frames h in
+    let b : Took v auth key given got [] now.outbox (now.inbox ++ []) z.taken = took limit began key given sent [] (flat_map spelling got) [] now.inbox now.outbox got z.taken low n al fits short each whole z.lawful z.inbox z.outbox in
+    let o : Opened (started_by v.catalogue (start_body key)) (after v (Before auth) z.taken) b.untaken b.more = opened_by v auth key given z.taken b.untaken got b.more to b.all b.frames h in
     record {
-      is_open = z.stage ∙ ap (λ (t : Stage). after v t z.taken) n.stage ∙ o.stage ∙ ap Open (same_session (started_by v.catalogue (start_body key)) o.session s o.is is);
+      is_open = z.stage ∙ ap (λ (t : Stage). after v t z.taken) n.stage ∙ o.stage_is ∙ ap Open (same_session (started_by v.catalogue (start_body key)) o.session s o.is is);
       inbox = sym (append-nil now.inbox) ∙ b.inbox ∙ ap packets_bytes o.none_left;
       outbox = b.outbox ∙ ap (flat_map spelling) o.none_more;
     }
 
 pub started-fresh : StartedIsFresh
-started-fresh limit began now key answer got low f n k d x short each h =
+started-fresh limit began now key given got low f n k d x short each h =
     let v : Server = began.server in
     let auth : Auth = auth_of began.stage in
     let same : started_by v.catalogue (start_body key) ≡ fresh v.catalogue key = started-of v.catalogue key k d in
     let lived : began.lives ≡ true = ⊎_elim (λ t. t) (λ (dead : began.lives ≡ false). some_bytes got (x.moves.silent dead).1 h) (cases_Bool began.lives) in
     let whole : flat_map spelling got ≡ flat_map spelling got ++ [] = sym (append-nil (flat_map spelling got)) in
     let p : Passed began x.sent (marks_since began now) (flat_map spelling got) = x.moves.passed f lived in
-    let a : Took v auth key answer got [] p.lost (p.left ++ []) p.taken = took limit began key answer x.sent [] (flat_map spelling got) [] p.left p.lost got p.taken low n x.all x.fits short each whole p.lawful p.inbox p.outbox in
-    let o : Opened v auth key p.taken a.untaken a.more = opened_by v auth key answer p.taken a.untaken got a.more (x.to_question f) a.all a.frames h in
+    let a : Took v auth key given got [] p.lost (p.left ++ []) p.taken = took limit began key given x.sent [] (flat_map spelling got) [] p.left p.lost got p.taken low n x.all x.fits short each whole p.lawful p.inbox p.outbox in
+    let o : Opened (started_by v.catalogue (start_body key)) (after v (Before auth) p.taken) a.untaken a.more = opened_by v auth key given p.taken a.untaken got a.more (x.to_questions f) a.all a.frames h in
     record {
       session = o.session;
       is_fresh = ap (λ (w : Server). fresh w.catalogue key) x.moves.server ∙ sym same ∙ o.is;
       lawful = subst (λ (w : Server). IsLawfulCatalogue w.catalogue) (sym x.moves.server) n.lawful;
       lawful_key = k.lawful;
-      idle = λ lives. idle_now limit began now key answer x.sent got low n x.all x.fits (x.to_question f) short each h o.session o.is (marks_since began now) (x.moves.served f lives);
+      idle = λ lives. idle_now limit began now key given x.sent got low n x.all x.fits (x.to_questions f) short each h o.session o.is (marks_since began now) (x.moves.served f lives);
     }

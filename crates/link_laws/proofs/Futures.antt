@@ -1,5 +1,5 @@
 -- A server's future, and the packets that it takes.
-use Rattle.std.proofs.Common.{◌≡◌, ℕ, Bool, true, false, List, [], ◌∷◌, ◌++◌, refl, sym, ap, ap₂, ◌∙◌, arith, append_assoc, Result, Ok, Err}
+use Rattle.std.proofs.Common.{◌≡◌, ℕ, zero, suc, Bool, true, false, List, [], ◌∷◌, ◌++◌, length, refl, sym, ap, ap₂, ◌∙◌, arith, append_assoc, Result, Ok, Err}
 use Rattle.std.specs.List.{flat_map}
 use Rattle.std.proofs.lemmas.Grind.{flat_map-append}
 use Rattle.frame_view.specs.declared.Side.TheVariants.{Client}
@@ -10,30 +10,47 @@ use Rattle.session_run_laws.specs.declared.cause.Cause.{Cause}
 use Rattle.session_run_laws.specs.State.{State}
 use Rattle.session_run_laws.specs.Step.{step, run_frames}
 use Rattle.session_run_laws.specs.Service.{client_frames}
-use Rattle.link_laws.specs.Stages.{Server, Auth, NoAuth, Asks, Stage, Before, Asked, Open, Closed, Packet, Starts, Sends, packet_bytes, packets_bytes, packet_marks, packets_marks, Turn, begins, hears, opened, started_by, is_answer, serve, MayTake, MayTakeAll, after, answers}
+use Rattle.link_laws.specs.Stages.{Server, Auth, Question, Round, Stage, Before, Asked, Open, Closed, Packet, Starts, Sends, packet_bytes, packets_bytes, packet_marks, packets_marks, Turn, begins, goes_on, hears, opened, started_by, is_answer, serve, MayTake, MayTakeAll, after, answers}
 use Rattle.link_laws.specs.Standing.{Standing, Served, Passed, marks_since}
-use Rattle.link_laws.specs.Futures.{replies_open, replies_asked, replies_started, replies_before, replies_in, future_with, FuturesStay, DeathsCut}
+use Rattle.link_laws.specs.Futures.{at_front, replies_open, replies_by, replies_started, replies_before, replies_in, future_with, FuturesStay, DeathsCut}
 
 -- ---- the stages after a turn
 
-started-opened : (v : Server) (r : Result State Cause) (marks : List Bool) (rest : List ℕ) → replies_started v (opened v r).next marks rest ≡ replies_in v (opened v r).next marks rest
-started-opened v (Ok s) marks rest = refl
-started-opened v (Err c) marks rest = refl
+open_by : (v : Server) (n : ℕ) (s : State) (marks : List Bool) (rest : List ℕ) → replies_by v n (Open s) marks rest ≡ replies_open v (Open s) marks rest
+open_by v zero s marks rest = refl
+open_by v (suc n) s marks rest = refl
+
+closed_by : (v : Server) (n : ℕ) (marks : List Bool) (rest : List ℕ) → replies_by v n Closed marks rest ≡ []
+closed_by v zero marks rest = refl
+closed_by v (suc n) marks rest = refl
+
+-- a session that was opened, or refused, is asked for no answer
+opened_by : (v : Server) (n : ℕ) (r : Result State Cause) (marks : List Bool) (rest : List ℕ) → replies_by v n (opened v r).next marks rest ≡ replies_in v (opened v r).next marks rest
+opened_by v n (Ok s) marks rest = open_by v n s marks rest
+opened_by v n (Err c) marks rest = closed_by v n marks rest
+
+-- behind a right answer as many answers are wanted as there are questions
+asked_by : (v : Server) (told : List Question) (start : List ℕ) (rounds : List Round) (marks : List Bool) (rest : List ℕ) → replies_by v (length rounds) (goes_on v told start rounds).next marks rest ≡ replies_in v (goes_on v told start rounds).next marks rest
+asked_by v told start [] marks rest = opened_by v 0 (started_by v.catalogue start) marks rest
+asked_by v told start (r ∷ rs) marks rest = refl
 
 started-begun : (v : Server) (auth : Auth) (start : List ℕ) (marks : List Bool) (rest : List ℕ) → replies_started v (begins v auth start).next marks rest ≡ replies_in v (begins v auth start).next marks rest
-started-begun v NoAuth start marks rest = started-opened v (started_by v.catalogue start) marks rest
-started-begun v (Asks kind more answer) start marks rest = refl
-
-open-opened : (v : Server) (r : Result State Cause) (marks : List Bool) (rest : List ℕ) → replies_open v (opened v r).next marks rest ≡ replies_in v (opened v r).next marks rest
-open-opened v (Ok s) marks rest = refl
-open-opened v (Err c) marks rest = refl
-
-open-heard : (v : Server) (start answer : List ℕ) (f : FrameOf) (marks : List Bool) (rest : List ℕ) → replies_open v (hears v start answer f).next marks rest ≡ replies_in v (hears v start answer f).next marks rest
-open-heard v start answer f marks rest = by (is_answer answer f) refl
+started-begun v auth start marks rest = by auth.rounds
   where
-    by : (b : Bool) → is_answer answer f ≡ b → replies_open v (hears v start answer f).next marks rest ≡ replies_in v (hears v start answer f).next marks rest
-    by true e = rw e (open-opened v (started_by v.catalogue start) marks rest)
-    by false e = rw e refl
+    opened_so : (r : Result State Cause) → replies_started v (opened v r).next marks rest ≡ replies_in v (opened v r).next marks rest
+    opened_so (Ok s) = refl
+    opened_so (Err c) = refl
+
+    by : (rounds : List Round) → replies_started v (goes_on v auth.told start rounds).next marks rest ≡ replies_in v (goes_on v auth.told start rounds).next marks rest
+    by [] = opened_so (started_by v.catalogue start)
+    by (r ∷ rs) = refl
+
+heard_by : (v : Server) (start answer : List ℕ) (auth : Auth) (f : FrameOf) (marks : List Bool) (rest : List ℕ) → replies_by v (length auth.rounds) (hears v start answer auth f).next marks rest ≡ replies_in v (hears v start answer auth f).next marks rest
+heard_by v start answer auth f marks rest = by (is_answer answer f) refl
+  where
+    by : (b : Bool) → is_answer answer f ≡ b → replies_by v (length auth.rounds) (hears v start answer auth f).next marks rest ≡ replies_in v (hears v start answer auth f).next marks rest
+    by true e = rw e (asked_by v auth.told start auth.rounds marks rest)
+    by false e = rw e (closed_by v (length auth.rounds) marks rest)
 
 -- ---- one packet at the front of what comes
 
@@ -55,10 +72,10 @@ one_packet laws v (Before auth) (Starts start) marks rest h =
     ap (λ (f : FirstFront). replies_before v auth marks f) (laws.is_read (Start start) rest h)
     ∙ ap (λ (b : List ℕ). flat_map spelling (begins v auth start).replies ++ b) (started-begun v auth start marks rest)
 one_packet laws v (Before auth) (Sends m f) marks rest h = absurd h
-one_packet laws v (Asked start answer) (Starts _) marks rest h = absurd h
-one_packet laws v (Asked start answer) (Sends m f) marks rest h =
-    ap (λ (x : Front). replies_asked v start answer (m ∷ marks) x) (laws.is_front Client LONGEST_FRAME f rest (omega arith) h.0.whole)
-    ∙ ap (λ (b : List ℕ). flat_map spelling (hears v start answer f).replies ++ b) (open-heard v start answer f marks rest)
+one_packet laws v (Asked start answer auth) (Starts _) marks rest h = absurd h
+one_packet laws v (Asked start answer auth) (Sends m f) marks rest h =
+    ap (λ (x : Front). at_front (hears v start answer auth) (replies_by v (length auth.rounds)) (m ∷ marks) x) (laws.is_front Client LONGEST_FRAME f rest (omega arith) h.0.whole)
+    ∙ ap (λ (b : List ℕ). flat_map spelling (hears v start answer auth f).replies ++ b) (heard_by v start answer auth f marks rest)
 one_packet laws v (Open s) (Starts _) marks rest h = absurd h
 one_packet laws v (Open s) (Sends m f) marks rest h = one_frame v s m f marks rest (ap (λ (c : Cut). c.frames) (laws.is_first Client LONGEST_FRAME f rest (omega arith) h.0.whole))
 one_packet laws v Closed p marks rest h = absurd h

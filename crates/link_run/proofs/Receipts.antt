@@ -16,9 +16,9 @@ still a b c put got x y = subst (λ (g : List ℕ). Moves a put c g) (append-nil
 pub untouched_is_clean : UntouchedIsClean
 untouched_is_clean key _ at (by_start {at = clean} x) m = by_start (record {
   began = x.began;
-  answer = x.answer;
+  given = x.given;
   replies = x.replies;
-  moves = still x.began clean at (packets_bytes (start_packets key x.answer)) (flat_map spelling x.replies) x.moves m;
+  moves = still x.began clean at (packets_bytes (start_packets key x.given)) (flat_map spelling x.replies) x.moves m;
   answers = x.answers;
 })
 untouched_is_clean key _ at (by_reset {used = used} {at = clean} came lease d) m = by_reset came lease (record {

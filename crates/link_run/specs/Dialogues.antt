@@ -1,7 +1,9 @@
 -- The dialogues that make a link clean: the answer to a start, and a reset by DISCARD ALL
 -- (PostgreSQL manual, "Message Flow", "Start-up"; "DISCARD").
 use Rattle.std.specs.Prelude.{◌≡◌, ◌⊎◌, ℕ, Bool, true, false, Result, Ok, Err, ◌||◌, ◌&&◌, ◌==◌, if◌then◌else◌, bytes_eq, codes, List, [], ◌∷◌, ◌++◌, length}
-use Rattle.std.specs.List.{flat_map, AllByRecursion}
+use Rattle.std.specs.List.{flat_map, list_any, AllByRecursion}
+use Rattle.bstr.specs.Text.{split_at}
+use Rattle.memchr.specs.Find.{matches}
 use Rattle.frame_view.specs.declared.Side.TheVariants.{Server}
 use Rattle.frame_view.specs.declared.server.TheConstants.{AUTHENTICATION, BACKEND_KEY_DATA, COMMAND_COMPLETE, NOTICE_RESPONSE, PARAMETER_STATUS, READY_FOR_QUERY}
 use Rattle.frame_view.specs.Frames.{FrameOf, IsFrame, spelling}
@@ -18,6 +20,7 @@ use Rattle.link_run.specs.Links.{after_frame, after_frames}
 use Rattle.link_run.specs.declared.reply.Answered.{Answered}
 use Rattle.link_run.specs.declared.reply.Answered.TheVariants.{Nothing, Tag, All, Other}
 use Rattle.link_run.specs.declared.reply.TheConstants.{LONGEST_REPLY}
+use Rattle.link_run.specs.declared.sasl.TheConstants.{ASKS_SASL, SASL_CONTINUES, SASL_ENDS}
 
 -- ---- the answer to a start
 
@@ -27,28 +30,61 @@ IsNotice f = f.kind ≡ NOTICE_RESPONSE
 abbrev pub LetsIn : FrameOf → Type 0
 LetsIn f = (f.kind ≡ AUTHENTICATION) × (authentication_of f.body ≡ Ok (ASKS_NOTHING, []))
 
--- AuthenticationCleartextPassword, with nothing behind its number, or AuthenticationMD5Password, with its salt of four bytes
-pub record Asks (f : FrameOf) : Type 0 where
+-- SCRAM-SHA-256 is among the mechanisms that are named, each with a zero byte behind it
+unfoldable pub offers_scram : List ℕ → Bool
+offers_scram names = list_any (λ name. bytes_eq name (codes "SCRAM-SHA-256")) (split_at names 1 0 (matches names (0 ∷ []) 0))
+
+-- what a server says before AuthenticationOk
+pub data Question : Type 0 where
+  Password : Question
+  Digest : Question
+  Mechanism : Question
+  Challenge : Question
+  Proof : Question
+
+abbrev pub IsSaid : Question → (kind : ℕ) → (more : List ℕ) → Type 0
+IsSaid Password kind more = (kind ≡ ASKS_CLEARTEXT) × (more ≡ [])
+IsSaid Digest kind more = (kind ≡ ASKS_MD5) × (length more ≡ 4)
+IsSaid Mechanism kind more = (kind ≡ ASKS_SASL) × (offers_scram more ≡ true)
+IsSaid Challenge kind more = kind ≡ SASL_CONTINUES
+IsSaid Proof kind more = kind ≡ SASL_ENDS
+
+-- an Authentication message that says it
+pub record Says (question : Question) (f : FrameOf) : Type 0 where
   pub kind : f.kind ≡ AUTHENTICATION
   pub number : ℕ
   pub more : List ℕ
   pub body : authentication_of f.body ≡ Ok (number, more)
-  pub asks : ((number ≡ ASKS_CLEARTEXT) × (more ≡ [])) ⊎ ((number ≡ ASKS_MD5) × (length more ≡ 4))
+  pub said : IsSaid question number more
 
 -- a notice, a report or the session's key
 abbrev pub IsOfWelcome : FrameOf → Type 0
 IsOfWelcome f = (f.kind ≡ NOTICE_RESPONSE) ⊎ ((f.kind ≡ PARAMETER_STATUS) ⊎ (f.kind ≡ BACKEND_KEY_DATA))
 
--- a question at most, with notices round it
-pub record IsAsking (frames : List FrameOf) : Type 0 where
-  pub before : List FrameOf
-  pub question : List FrameOf
-  pub after : List FrameOf
-  pub whole : frames ≡ before ++ (question ++ after)
-  pub notices : AllByRecursion IsNotice before × AllByRecursion IsNotice after
-  pub asks : (question ≡ []) ⊎ ((f : FrameOf) × (Asks f × (question ≡ f ∷ [])))
+-- these are said, one after the other, with notices round them
+abbrev pub AreSaid : List Question → List FrameOf → Type 0
+AreSaid [] [] = Unit {0}
+AreSaid [] (f ∷ fs) = IsNotice f × AreSaid [] fs
+AreSaid (q ∷ qs) [] = ⊥
+AreSaid (q ∷ qs) (f ∷ fs) = (IsNotice f × AreSaid (q ∷ qs) fs) ⊎ (Says q f × AreSaid qs fs)
 
--- The whole answer to a start that is let in: a question at most; AuthenticationOk; notices, reports and the session's key in any order;
+-- the ways of asking: for nothing; for a password, or its digest; or by SCRAM
+pub data Way : Type 0 where
+  Trusts : Way
+  ByPassword : Way
+  ByDigest : Way
+  ByScram : Way
+
+abbrev pub questions_of : Way → List Question
+questions_of Trusts = []
+questions_of ByPassword = Password ∷ []
+questions_of ByDigest = Digest ∷ []
+questions_of ByScram = Mechanism ∷ Challenge ∷ Proof ∷ []
+
+abbrev pub IsAsking : List FrameOf → Type 0
+IsAsking frames = (way : Way) × AreSaid (questions_of way) frames
+
+-- The whole answer to a start that is let in: what is asked, in one of these ways; AuthenticationOk; notices, reports and the session's key in any order;
 -- and the one ReadyForQuery, which tells of no block, at its end.
 pub record IsStartAnswer (replies : List FrameOf) : Type 0 where
   pub asking : List FrameOf

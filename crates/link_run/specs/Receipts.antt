@@ -1,9 +1,8 @@
 -- What the types of links say. For an end of any kind, one that follows no server too: all that went over it since it was begun was
 -- a start with the link's key, and then leases, each of which was settled and then reset.
-use Rattle.std.specs.Prelude.{◌≡◌, ◌⊎◌, true, Option, List, []}
+use Rattle.std.specs.Prelude.{◌≡◌, ◌⊎◌, ℕ, true, List, []}
 use Rattle.std.specs.List.{flat_map}
 use Rattle.frame_view.specs.Frames.{FrameOf, spelling}
-use Rattle.message_view.specs.Bodies.{Text}
 use Rattle.session_values.specs.State.{StartKeyOf}
 use Rattle.session_run_laws.specs.Settling.{IsAnswered}
 use Rattle.param_track.specs.Kept.{Kept}
@@ -13,13 +12,13 @@ use Rattle.link_laws.specs.Stages.{packets_bytes}
 use Rattle.link_run.specs.Links.{IsFreshLink, IsRestingLink}
 use Rattle.link_run.specs.Dialogues.{IsResetDialogue, IsStartAnswer}
 
--- Its StartupMessage was sent, of this key, and an answer to a question where there was one; and what came is the whole answer to a
+-- Its StartupMessage was sent, of this key, and the answers to questions where there were any; and what came is the whole answer to a
 -- start, no byte more or less.
 pub record HasStarted (key : StartKeyOf) (at : Standing) : Type 0 where
   pub began : Standing
-  pub answer : Option Text
+  pub given : List (List ℕ)
   pub replies : List FrameOf
-  pub moves : Moves began (packets_bytes (start_packets key answer)) at (flat_map spelling replies)
+  pub moves : Moves began (packets_bytes (start_packets key given)) at (flat_map spelling replies)
   pub answers : IsStartAnswer replies
 
 -- A lease went over it since it stood there: whole frames each way, and none was sent, or all are answered.

@@ -5,6 +5,7 @@ pub mod laws;
 pub mod links;
 pub mod reply;
 pub mod reset;
+pub mod sasl;
 pub mod welcome;
 
 pub use server_end::{Moved, ServerEnd, gate};

@@ -5,6 +5,7 @@ mod Cutting
 mod Grammar
 mod Reporting
 mod Keying
+mod Asking
 mod Telling
 mod Lengths
 mod Starting

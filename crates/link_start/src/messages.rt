@@ -3,11 +3,14 @@ ghost use Rattle.std.specs.Prelude.{◌≡◌, ◌+◌, ◌^◌, ◌<◌, IfOk, 
 ghost use Rattle.frame_view.specs.Frames.{Start, first_spelling};
 ghost use Rattle.link_laws.specs.Starts.{start_body};
 ghost use Rattle.link_start.specs.Questions as spec;
+ghost use Rattle.link_start.specs.Questions.{PutsAnswer, answer_to};
 ghost use Rattle.link_start.specs.Starts.{shown};
 
+use crate::start_reply::ServerQuestion;
 use bytes::BytesMut;
+use credentials::Credential;
 use memchr::memchr;
-use message_view::put_startup_message;
+use message_view::{put_password_message, put_startup_message};
 use start_keys::StartKey;
 use std::alloc::{AllocError, Global};
 use user_file::Secret;
@@ -42,4 +45,36 @@ pub(crate) fn password_of(secret: &Secret) -> Option<&[u8]>
         },
         Secret::Md5(_) => None,
     }
+}
+
+/// Puts the answer of this user to a server's question; or doesn't, where there is none. The only error is out of memory.
+pub(crate) fn put_answer(
+    out: &mut BytesMut,
+    question: &ServerQuestion,
+    credential: &Credential<'_>,
+    user: &[u8],
+) -> Result<bool, AllocError>
+    ensures { PutsAnswer result out.old out.new (answer_to credential.now user.now question.now) }
+{
+    match question {
+        ServerQuestion::Cleartext => {
+            let Some(password) = password_of(credential.secret()) else {
+                return Ok(false);
+            };
+            put_password_message(out, password)?;
+        }
+        ServerQuestion::Md5(salt) => {
+            let digest = credential.secret().answer(user, *salt);
+            put_password_message(out, &digest)?;
+        }
+        ServerQuestion::Scram => {
+            if !credential.answers_scram() {
+                return Ok(false);
+            }
+            credential.put_first(out)?;
+        }
+        ServerQuestion::Challenge(exchange) => exchange.put_last(out)?,
+        ServerQuestion::Unknown(_) => return Ok(false),
+    }
+    Ok(true)
 }

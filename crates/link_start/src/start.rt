@@ -8,26 +8,27 @@ ghost use Rattle.link_laws.specs.Standing.{Standing};
 ghost use Rattle.link_start.specs.StartReply.{error_in, heard};
 ghost use Rattle.link_start.specs.declared.start_reply.StartProgress.TheVariants as came;
 ghost use Rattle.link_start.specs.declared.start.Progress.TheVariants as progress;
-ghost use Rattle.user_file.specs.declared.secrets.Secret.{Secret};
+ghost use Rattle.credentials.specs.Credentials.{CredentialOf};
+ghost use Rattle.link_start.specs.Questions.{answers_wanted};
 ghost use Rattle.link_start.specs.declared.start.StartCause.TheVariants as causes;
 ghost use Rattle.link_start.specs.Refusing.{refusal_of};
 ghost use Rattle.link_start.specs.Starts.{CanStart, CountsOn, HasTried, IsBounded, IsStartCause, IsDone, IsDoneFrom, IsEndCause, IsLinkKey, IsOwnKey, IsSameStart, IsStartPaced, IsStartPacedToEnd, IsStarted, IsStartUnderWay, IsWaitingStart, IsWelcomed, ReadsOnce, TakesTurns, WritesOnce, bytes_left, moved_of, waits_of};
 
-use crate::messages::{password_of, startup_message};
+use crate::messages::{put_answer, startup_message};
 use crate::start_reply::{
     ReportError, ServerQuestion, StartProgress, error_in, key_told, read_start_reply, take_reports,
 };
 use bytes::BytesMut;
+use credentials::Credential;
 use link_run::gate::Gate;
 use link_run::links::{CleanLink, LinkParts};
 use link_run::{Moved, ServerEnd};
-use message_view::{Refusal, put_password_message};
+use message_view::Refusal;
 use param_track::Reported;
 use start_keys::StartKey;
 use std::alloc::{AllocError, Global};
 use std::marker::Model;
 use std::sync::Arc;
-use user_file::Secret;
 
 /// The bytes that a turn reads at most.
 const CHUNK: usize = 256;
@@ -75,10 +76,11 @@ pub enum StartCause {
     Refused(StartError),
     /// The end faulted or ended.
     Lost,
-    /// The server asks this, which is neither for a password nor for its MD5 digest; or for a password where the secret keeps only
-    /// its digest, or has a zero byte. What stands behind it isn't looked at.
+    /// The server asks this, which is neither for a password, nor for its MD5 digest, nor for SCRAM-SHA-256; or for a password or for SCRAM
+    /// where the secret keeps only its digest; or for a password with a zero byte in it. What stands behind it isn't looked at.
     Unanswerable(ServerQuestion),
-    /// Something else was answered, a report or the server's key can't be read, more than 64 names were reported, a frame is longer
+    /// Something else was answered, so a challenge that doesn't continue our nonce, another proof than the server's own, or AuthenticationOk
+    /// before that; a report or the server's key can't be read, more than 64 names were reported, a frame is longer
     /// than [`link_run::reply::LONGEST_REPLY`], or more than [`LONGEST_WELCOME`] bytes came and the answer isn't whole.
     Unexpected,
     /// An allocation failed, or the key has no StartupMessage of the greatest length.
@@ -135,7 +137,7 @@ struct Start<E: ServerEnd> {
     key: Arc<StartKey>,
     number: u64,
     born: u64,
-    answered: bool,
+    answered: usize,
     messages: BytesMut,
     sent: usize,
     reply: BytesMut,
@@ -199,11 +201,11 @@ impl<E: ServerEnd> Start<E> {
         number: u64,
         born: u64,
     ) -> Result<Start<E>, StartLinkFault<E>>
-        ensures under_way { IfOk result (λ s. (secret : Secret) → IsStartUnderWay (E.standing end) secret s) }
+        ensures under_way { IfOk result (λ s. (c : CredentialOf) → IsStartUnderWay (E.standing end) c s) }
         ensures same { IfOk result (λ s. (s.key ≡ arc_value key) × (s.number ≡ number) × (s.born ≡ born)) }
         ensures stands { IfOk result (λ s. s.end ≡ E.standing end) }
         ensures none { IfOk result (λ s. length s.received ≡ 0) }
-        ensures waits { IfOk result (λ s. (secret : Secret) → IsWaitingStart secret s) }
+        ensures waits { IfOk result (λ s. (c : CredentialOf) → IsWaitingStart c s) }
         ensures memory { IfErr result (λ f. f.cause ≡ causes.Memory) }
         ensures back { IfErr result (λ f. E.standing f.end ≡ E.standing end) }
     {
@@ -218,7 +220,7 @@ impl<E: ServerEnd> Start<E> {
             key,
             number,
             born,
-            answered: false,
+            answered: 0,
             messages,
             sent: 0,
             reply: BytesMut::new(alloc),
@@ -227,7 +229,7 @@ impl<E: ServerEnd> Start<E> {
 
     /// Writes once, if something is left to be sent; whether bytes went.
     fn send(&mut self) -> Result<bool, StartCause>
-        ensures under_way { (b : Standing) (s : Secret) → IsStartUnderWay b s self.old → OnOk result (IsStartUnderWay b s self.new) }
+        ensures under_way { (b : Standing) (c : CredentialOf) → IsStartUnderWay b c self.old → OnOk result (IsStartUnderWay b c self.new) }
         ensures same { IsSameStart self.old self.new }
         ensures received { self.new.received ≡ self.old.received }
         ensures answered { self.new.answered ≡ self.old.answered }
@@ -255,7 +257,7 @@ impl<E: ServerEnd> Start<E> {
 
     /// Reads once; whether bytes came. The room comes first: a refused growth after the read would lose bytes.
     fn receive(&mut self) -> Result<bool, StartCause>
-        ensures under_way { (b : Standing) (s : Secret) → IsStartUnderWay b s self.old → OnOk result (IsStartUnderWay b s self.new) }
+        ensures under_way { (b : Standing) (c : CredentialOf) → IsStartUnderWay b c self.old → OnOk result (IsStartUnderWay b c self.new) }
         ensures same { IsSameStart self.old self.new }
         ensures unsent { self.new.unsent ≡ self.old.unsent }
         ensures answered { self.new.answered ≡ self.old.answered }
@@ -295,82 +297,106 @@ impl<E: ServerEnd> Start<E> {
         self.reply.len() > LONGEST_WELCOME
     }
 
-    /// How far the server's answer has come, for a user with this secret.
-    fn read_start_reply(&self, secret: &Secret) -> StartProgress
-        ensures heard { result ≡ heard secret.now self.now.received }
+    /// How far the server's answer has come, for a user with this credential.
+    fn read_start_reply(
+        &self,
+        alloc: Global,
+        credential: &Credential<'_>,
+    ) -> Result<StartProgress, AllocError>
+        ensures heard { IfOk result (λ p. p ≡ heard credential.now self.now.received) }
         ensures bytes { AreBytes self.now.received }
     {
-        read_start_reply(self.reply.as_slice(), secret)
+        read_start_reply(alloc, self.reply.as_slice(), credential)
     }
 
-    /// Puts the answer to the server's question behind what is sent, once.
-    fn answer(&mut self, question: ServerQuestion, secret: &Secret) -> Result<(), StartCause>
-        requires asked { heard secret.now self.old.received ≡ came.Asked question }
+    /// Puts the answer to the question before this one, which had none yet: that which names the mechanism, before a challenge.
+    fn answer_before(
+        &mut self,
+        question: &ServerQuestion,
+        credential: &Credential<'_>,
+    ) -> Result<(), StartCause>
+        requires asked { heard credential.now self.old.received ≡ came.Asked question.now }
         requires bytes { AreBytes self.old.received }
-        ensures under_way { (b : Standing) → CanStart b → IsLinkKey self.old.key → IsStartUnderWay b secret.now self.old → OnOk result (IsStartUnderWay b secret.now self.new) }
+        requires fewer { self.old.answered < answers_wanted question.now }
+        ensures under_way { (b : Standing) → CanStart b → IsLinkKey self.old.key → IsStartUnderWay b credential.now self.old → OnOk result (IsStartUnderWay b credential.now self.new) }
         ensures same { IsSameStart self.old self.new }
         ensures end { self.new.end ≡ self.old.end }
         ensures received { self.new.received ≡ self.old.received }
-        ensures answered { OnOk result (self.new.answered ≡ true) }
+        ensures one { OnOk result (self.new.answered + 1 ≡ answers_wanted question.now) }
+        ensures left { OnOk result (bytes_left self.new ≤ bytes_left self.old) }
+        ensures memory { IfErr result (λ c. c ≡ causes.Memory) }
+    {
+        if self.answered + 1 < question.answers_wanted() {
+            credential.put_first(&mut self.messages)?;
+            self.answered += 1;
+        }
+        Ok(())
+    }
+
+    /// Puts the answer to the server's question behind what is sent, once.
+    fn answer(
+        &mut self,
+        question: ServerQuestion,
+        credential: &Credential<'_>,
+    ) -> Result<(), StartCause>
+        requires asked { heard credential.now self.old.received ≡ came.Asked question }
+        requires bytes { AreBytes self.old.received }
+        ensures under_way { (b : Standing) → CanStart b → IsLinkKey self.old.key → IsStartUnderWay b credential.now self.old → OnOk result (IsStartUnderWay b credential.now self.new) }
+        ensures same { IsSameStart self.old self.new }
+        ensures end { self.new.end ≡ self.old.end }
+        ensures received { self.new.received ≡ self.old.received }
+        ensures answered { OnOk result (answers_wanted question ≤ self.new.answered) }
         ensures left { OnOk result (bytes_left self.new ≤ bytes_left self.old) }
         ensures no_turns { IfErr result (λ c. c ≢ causes.Turns) }
         ensures in_time { IfErr result (λ c. c ≢ causes.Late) }
-        ensures cause { (b : Standing) → CanStart b → IsLinkKey self.old.key → IsStartUnderWay b secret.now self.old → IfErr result (λ c. IsStartCause b self.new.end secret.now self.old.key c) }
+        ensures cause { (b : Standing) → CanStart b → IsLinkKey self.old.key → IsStartUnderWay b credential.now self.old → IfErr result (λ c. IsStartCause b self.new.end credential.now self.old.key c) }
     {
-        if self.answered {
+        if self.answered >= question.answers_wanted() {
             return Ok(());
         }
-        match question {
-            ServerQuestion::Cleartext => {
-                let Some(password) = password_of(secret) else {
-                    return Err(StartCause::Unanswerable(question));
-                };
-                put_password_message(&mut self.messages, password)?;
-            }
-            ServerQuestion::Md5(salt) => {
-                let digest = secret.answer(self.key.user.as_slice(), salt);
-                put_password_message(&mut self.messages, &digest)?;
-            }
-            ServerQuestion::Unknown(_) => return Err(StartCause::Unanswerable(question)),
+        self.answer_before(&question, credential)?;
+        let user = self.key.user.as_slice();
+        if !put_answer(&mut self.messages, &question, credential, user)? {
+            return Err(StartCause::Unanswerable(question));
         }
-        self.answered = true;
+        self.answered += 1;
         Ok(())
     }
 
     /// What came so far: whether it is the whole welcome. A question is answered, once.
-    fn hear(&mut self, alloc: Global, secret: &Secret) -> Result<bool, StartCause>
-        ensures under_way { (b : Standing) → CanStart b → IsLinkKey self.old.key → IsStartUnderWay b secret.now self.old → OnOk result (IsStartUnderWay b secret.now self.new) }
+    fn hear(&mut self, alloc: Global, credential: &Credential<'_>) -> Result<bool, StartCause>
+        ensures under_way { (b : Standing) → CanStart b → IsLinkKey self.old.key → IsStartUnderWay b credential.now self.old → OnOk result (IsStartUnderWay b credential.now self.new) }
         ensures same { IsSameStart self.old self.new }
         ensures end { self.new.end ≡ self.old.end }
         ensures received { OnOk result (self.new.received ≡ self.old.received) }
         ensures bytes { AreBytes self.old.received }
         ensures left { OnOk result (bytes_left self.new ≤ bytes_left self.old) }
-        ensures waits { IfOk result (λ r. r ≡ false → IsWaitingStart secret.now self.new) }
-        ensures ready { IfOk result (λ r. r ≡ true → heard secret.now self.old.received ≡ came.Ready) }
+        ensures waits { IfOk result (λ r. r ≡ false → IsWaitingStart credential.now self.new) }
+        ensures ready { IfOk result (λ r. r ≡ true → heard credential.now self.old.received ≡ came.Ready) }
         ensures unsent { IfOk result (λ r. r ≡ true → self.new.unsent ≡ self.old.unsent) }
         ensures no_turns { IfErr result (λ c. c ≢ causes.Turns) }
         ensures in_time { IfErr result (λ c. c ≢ causes.Late) }
-        ensures cause { (b : Standing) → CanStart b → IsLinkKey self.old.key → IsStartUnderWay b secret.now self.old → IfErr result (λ c. IsStartCause b self.new.end secret.now self.old.key c) }
+        ensures cause { (b : Standing) → CanStart b → IsLinkKey self.old.key → IsStartUnderWay b credential.now self.old → IfErr result (λ c. IsStartCause b self.new.end credential.now self.old.key c) }
     {
-        match self.read_start_reply(secret) {
+        match self.read_start_reply(alloc, credential)? {
             StartProgress::Ready => Ok(true),
             StartProgress::Asked(question) => {
-                self.answer(question, secret)?;
+                self.answer(question, credential)?;
                 Ok(false)
             }
             StartProgress::Refused => Err(StartCause::Refused(self.take_error(alloc))),
             StartProgress::Other => Err(StartCause::Unexpected),
-            StartProgress::Nothing | StartProgress::LetIn => Ok(false),
+            StartProgress::Nothing | StartProgress::Proved | StartProgress::LetIn => Ok(false),
         }
     }
 
     /// Writes at most once and, where all is sent, reads at most once.
-    fn turn(&mut self, alloc: Global, secret: &Secret) -> Result<Progress, StartCause>
-        requires { IsWaitingStart secret.now self.old }
-        ensures under_way { (b : Standing) → CanStart b → IsLinkKey self.old.key → IsStartUnderWay b secret.now self.old → OnOk result (IsStartUnderWay b secret.now self.new) }
+    fn turn(&mut self, alloc: Global, credential: &Credential<'_>) -> Result<Progress, StartCause>
+        requires { IsWaitingStart credential.now self.old }
+        ensures under_way { (b : Standing) → CanStart b → IsLinkKey self.old.key → IsStartUnderWay b credential.now self.old → OnOk result (IsStartUnderWay b credential.now self.new) }
         ensures same { IsSameStart self.old self.new }
-        ensures waits { IfOk result (λ p. p ≢ progress.Ready → IsWaitingStart secret.now self.new) }
-        ensures welcomed { IfOk result (λ p. p ≡ progress.Ready → IsWelcomed secret.now self.new) }
+        ensures waits { IfOk result (λ p. p ≢ progress.Ready → IsWaitingStart credential.now self.new) }
+        ensures welcomed { IfOk result (λ p. p ≡ progress.Ready → IsWelcomed credential.now self.new) }
         ensures counts { CountsOn self.old self.new }
         ensures given { length self.new.end.given ≤ length self.old.end.given + CHUNK }
         ensures short { IfOk result (λ p. p ≢ progress.Ready → length self.old.received ≤ LONGEST_WELCOME → length self.new.received ≤ LONGEST_WELCOME) }
@@ -382,14 +408,14 @@ impl<E: ServerEnd> Start<E> {
         ensures last { IfOk result (λ p. p ≡ progress.Ready → waits_of self.new.end ≡ waits_of self.old.end) }
         ensures no_turns { IfErr result (λ c. c ≢ causes.Turns) }
         ensures in_time { IfErr result (λ c. c ≢ causes.Late) }
-        ensures cause { (b : Standing) → CanStart b → IsLinkKey self.old.key → IsStartUnderWay b secret.now self.old → IfErr result (λ c. IsStartCause b self.new.end secret.now self.old.key c) }
+        ensures cause { (b : Standing) → CanStart b → IsLinkKey self.old.key → IsStartUnderWay b credential.now self.old → IfErr result (λ c. IsStartCause b self.new.end credential.now self.old.key c) }
     {
         let wrote = self.send()?;
         if !self.is_sent() {
             return Ok(Progress::by(wrote));
         }
         let read = self.receive()?;
-        if self.hear(alloc, secret)? {
+        if self.hear(alloc, credential)? {
             return Ok(Progress::Ready);
         }
         if self.is_too_long() {
@@ -411,8 +437,8 @@ impl<E: ServerEnd> Start<E> {
     /// The link, once its server's welcome came.
     fn finish(self, alloc: Global) -> Result<CleanLink<E>, StartLinkFault<E>>
         requires { IsDone self }
-        ensures started { (b : Standing) (s : Secret) → IsDoneFrom b s self → IfOk result (λ l. IsStarted b s l) }
-        ensures own_key { (b : Standing) (s : Secret) → IsDoneFrom b s self → b.follows ≡ true → IfOk result (λ l. IsOwnKey b.server l.server_key) }
+        ensures started { (b : Standing) (c : CredentialOf) → IsDoneFrom b c self → IfOk result (λ l. IsStarted b c l) }
+        ensures own_key { (b : Standing) (c : CredentialOf) → IsDoneFrom b c self → b.follows ≡ true → IfOk result (λ l. IsOwnKey b.server l.server_key) }
         ensures key { IfOk result (λ l. l.key ≡ self.key) }
         ensures number { IfOk result (λ l. l.number ≡ self.number) }
         ensures born { IfOk result (λ l. l.born ≡ self.born) }
@@ -420,7 +446,7 @@ impl<E: ServerEnd> Start<E> {
         ensures back { IfErr result (λ f. E.standing f.end ≡ self.end) }
         ensures no_turns { IfErr result (λ f. f.cause ≢ causes.Turns) }
         ensures in_time { IfErr result (λ f. f.cause ≢ causes.Late) }
-        ensures cause { (b : Standing) (s : Secret) → IsDoneFrom b s self → IfErr result (λ f. IsStartCause b (E.standing f.end) s self.key f.cause) }
+        ensures cause { (b : Standing) (c : CredentialOf) → IsDoneFrom b c self → IfErr result (λ f. IsStartCause b (E.standing f.end) c self.key f.cause) }
     {
         let Start {
             end,
@@ -497,7 +523,7 @@ pub fn start_link<E: ServerEnd, G: Gate<E>>(
     alloc: Global,
     end: E,
     key: Arc<StartKey>,
-    secret: &Secret,
+    credential: &Credential<'_>,
     number: u64,
     born: u64,
     gate: &mut G,
@@ -505,15 +531,15 @@ pub fn start_link<E: ServerEnd, G: Gate<E>>(
 ) -> Result<CleanLink<E>, StartLinkFault<E>>
     requires can_start { CanStart (E.standing end) }
     requires key { IsLinkKey (arc_value key) }
-    ensures started { IfOk result (λ l. IsStarted (E.standing end) secret.now l) }
+    ensures started { IfOk result (λ l. IsStarted (E.standing end) credential.now l) }
     ensures own_key { (E.standing end).follows ≡ true → IfOk result (λ l. IsOwnKey (E.standing end).server l.server_key) }
     ensures key { IfOk result (λ l. l.key ≡ arc_value key) }
     ensures number { IfOk result (λ l. l.number ≡ number) }
     ensures born { IfOk result (λ l. l.born ≡ born) }
-    ensures cause { IfErr result (λ f. IsStartCause (E.standing end) (E.standing f.end) secret.now (arc_value key) f.cause) }
-    ensures turns { IfErr result (λ f. f.cause ≡ causes.Turns → HasTried (E.standing end) secret.now (arc_value key) (E.standing f.end) turns) }
+    ensures cause { IfErr result (λ f. IsStartCause (E.standing end) (E.standing f.end) credential.now (arc_value key) f.cause) }
+    ensures turns { IfErr result (λ f. f.cause ≡ causes.Turns → HasTried (E.standing end) credential.now (arc_value key) (E.standing f.end) turns) }
     ensures late { IfErr result (λ f. f.cause ≡ causes.Late → G.late gate.new ≡ true) }
-    ensures unanswered { IfErr result (λ f. f.cause ≡ causes.Late → HasTried (E.standing end) secret.now (arc_value key) (E.standing f.end) 0) }
+    ensures unanswered { IfErr result (λ f. f.cause ≡ causes.Late → HasTried (E.standing end) credential.now (arc_value key) (E.standing f.end) 0) }
     ensures taken { MatchResult result (λ l. TakesTurns (E.standing end) l.stands (G.turns gate.old) (G.turns gate.new) turns) (λ f. TakesTurns (E.standing end) (E.standing f.end) (G.turns gate.old) (G.turns gate.new) turns) }
     ensures bounded { MatchResult result (λ l. IsBounded (E.standing end) l.stands) (λ f. IsBounded (E.standing end) (E.standing f.end)) }
     ensures paced { IfErr result (λ f. IsStartPaced (E.standing end) (E.standing f.end) (G.turns gate.old) (G.turns gate.new)) }
@@ -526,7 +552,7 @@ pub fn start_link<E: ServerEnd, G: Gate<E>>(
             return Err(start.fail(StartCause::Late));
         }
         gate.turn_of_link();
-        match start.turn(alloc, secret) {
+        match start.turn(alloc, credential) {
             Ok(Progress::Idle) => left -= 1,
             Ok(Progress::Moved) => {}
             Ok(Progress::Ready) => return start.finish(alloc),

@@ -1,14 +1,17 @@
 //! What a server answers to a start, frame by frame.
-ghost use Rattle.std.specs.Prelude.{◌≡◌, [], ℕ, List, Ok, Err, None};
+ghost use Rattle.std.specs.Prelude.{◌≡◌, [], ℕ, List, Ok, Err, None, IfOk};
 ghost use Rattle.frame_view.specs.Frames.{AreBytes, front, frames};
 ghost use Rattle.frame_view.specs.declared.Side.TheVariants.{Server};
 ghost use Rattle.link_run.specs.declared.reply.TheConstants.{LONGEST_REPLY};
 ghost use Rattle.session_values.specs.Answers.{frame_of};
-ghost use Rattle.link_start.specs.Questions.{can_answer};
+ghost use Rattle.link_run.specs.Dialogues.{offers_scram};
+ghost use Rattle.link_start.specs.Questions.{answers_wanted, can_answer, number_of};
 ghost use Rattle.link_start.specs.StartReply as spec;
 ghost use Rattle.link_start.specs.StartReply.{TakesReport, TakesReports, error_in, heard, heard_all, heard_by, keyed_all, keyed_by};
 
 use crate::messages::password_of;
+use bstr::ByteSlice;
+use credentials::{Credential, Exchange};
 use frame_view::laws::are_bytes;
 use frame_view::server::{
     AUTHENTICATION, BACKEND_KEY_DATA, ERROR_RESPONSE, NOTICE_RESPONSE, PARAMETER_STATUS,
@@ -16,30 +19,64 @@ use frame_view::server::{
 };
 use frame_view::{Frame, Side, Step, next_frame};
 use link_run::reply::{LONGEST_REPLY, ReplyFrames};
+use link_run::sasl::{ASKS_SASL, SASL_CONTINUES, SASL_ENDS};
 use message_view::kinds::{ASKS_CLEARTEXT, ASKS_MD5, ASKS_NOTHING};
 use message_view::{AuthView, KeyView, StatusView, ViewFault};
 use param_track::{ReportFault, Reported};
-use std::alloc::Global;
-use user_file::Secret;
+use std::alloc::{AllocError, Global};
 
 /// What a server asks of the user that starts a link.
-#[derive(Clone, Copy, Drop)]
+#[derive(Drop)]
 pub enum ServerQuestion {
     /// The password, as it is.
     Cleartext,
     /// The digest of the password with this salt.
     Md5([u8; 4]),
-    /// Another one, of this number, which no user can answer: 10 is SASL, as for SCRAM.
+    /// A mechanism of SASL, with SCRAM-SHA-256 among those that it names.
+    Scram,
+    /// SCRAM's challenge, by the exchange that it makes with the user's password.
+    Challenge(Exchange),
+    /// Another one, of this number, which no user can answer: 10 where SASL has other mechanisms alone.
     Unknown(u32),
 }
 
+impl ServerQuestion {
+    /// How many answers it takes: a challenge comes behind the one that named the mechanism.
+    pub(crate) fn answers_wanted(&self) -> usize
+        ensures { result ≡ answers_wanted self.now }
+    {
+        match self {
+            ServerQuestion::Challenge(_) => 2,
+            ServerQuestion::Cleartext
+            | ServerQuestion::Md5(_)
+            | ServerQuestion::Scram
+            | ServerQuestion::Unknown(_) => 1,
+        }
+    }
+
+    /// The number of the Authentication message that asks it.
+    pub fn number(&self) -> u32
+        ensures { result ≡ number_of self.now }
+    {
+        match self {
+            ServerQuestion::Cleartext => ASKS_CLEARTEXT,
+            ServerQuestion::Md5(_) => ASKS_MD5,
+            ServerQuestion::Scram => ASKS_SASL,
+            ServerQuestion::Challenge(_) => SASL_CONTINUES,
+            ServerQuestion::Unknown(number) => *number,
+        }
+    }
+}
+
 /// How far a start's answer has come.
-#[derive(Clone, Copy, Drop)]
+#[derive(Drop)]
 pub enum StartProgress {
     /// Nothing of it.
     Nothing,
     /// A question.
     Asked(ServerQuestion),
+    /// The server's own proof, by SCRAM: AuthenticationOk is waited for.
+    Proved,
     /// AuthenticationOk: ReadyForQuery is waited for.
     LetIn,
     /// ReadyForQuery: nothing may follow.
@@ -70,6 +107,26 @@ fn salted(more: &[u8]) -> StartProgress
     }
 }
 
+/// Whether SCRAM-SHA-256 is among these names of mechanisms, each of which has a zero byte behind it.
+#[tactic(auto, unfolding(link_run::specs::Dialogues::offers_scram))]
+fn offers_scram(names: &[u8]) -> bool
+    ensures { result ≡ offers_scram names.now }
+{
+    names
+        .split_str(b"\0")
+        .any(|name| name == b"SCRAM-SHA-256".as_slice())
+}
+
+fn offered(names: &[u8]) -> StartProgress
+    ensures { result ≡ spec.offered (offers_scram names.now) }
+{
+    if offers_scram(names) {
+        StartProgress::Asked(ServerQuestion::Scram)
+    } else {
+        StartProgress::Asked(ServerQuestion::Unknown(ASKS_SASL))
+    }
+}
+
 fn asked_by(kind: u32, more: &[u8]) -> StartProgress
     ensures { result ≡ spec.asked_by kind more.now }
 {
@@ -77,6 +134,7 @@ fn asked_by(kind: u32, more: &[u8]) -> StartProgress
         ASKS_NOTHING => bare(StartProgress::LetIn, more),
         ASKS_CLEARTEXT => bare(StartProgress::Asked(ServerQuestion::Cleartext), more),
         ASKS_MD5 => salted(more),
+        ASKS_SASL => offered(more),
         kind => StartProgress::Asked(ServerQuestion::Unknown(kind)),
     }
 }
@@ -91,13 +149,41 @@ fn asked(body: &[u8]) -> StartProgress
     }
 }
 
-/// After a question only AuthenticationOk goes on.
-fn answered(body: &[u8]) -> StartProgress
-    ensures { result ≡ spec.answered body.now }
+/// AuthenticationOk alone goes on.
+fn only_let_in(asked: StartProgress) -> StartProgress
+    ensures { result ≡ spec.only_let_in asked }
 {
-    match asked(body) {
+    match asked {
         StartProgress::LetIn => StartProgress::LetIn,
         _ => StartProgress::Other,
+    }
+}
+
+/// A challenge that continues the client's nonce. The only error is out of memory.
+fn challenged(
+    alloc: Global,
+    credential: &Credential<'_>,
+    question: AuthView<'_>,
+) -> Result<StartProgress, AllocError>
+    ensures { IfOk result (λ p. p ≡ spec.challenged_by credential.now question.entry.kind question.entry.rest.now) }
+{
+    if question.kind != SASL_CONTINUES {
+        return Ok(StartProgress::Other);
+    }
+    match credential.exchange(alloc, question.rest)? {
+        Some(exchange) => Ok(StartProgress::Asked(ServerQuestion::Challenge(exchange))),
+        None => Ok(StartProgress::Other),
+    }
+}
+
+/// The server's own proof.
+fn proved(exchange: &Exchange, question: AuthView<'_>) -> StartProgress
+    ensures { result ≡ spec.proved_by exchange.now question.entry.kind question.entry.rest.now }
+{
+    if question.kind == SASL_ENDS && exchange.is_proved_by(question.rest) {
+        StartProgress::Proved
+    } else {
+        StartProgress::Other
     }
 }
 
@@ -133,47 +219,86 @@ fn welcomed(frame: Frame<'_>) -> StartProgress
     }
 }
 
-/// Behind a question that this user can answer.
-fn after_question(question: ServerQuestion, frame: Frame<'_>) -> StartProgress
-    ensures { result ≡ spec.after_question question (frame_of frame.entry) }
+/// What the body of an Authentication message says behind the answer to a question. The only error is out of memory.
+fn followed(
+    alloc: Global,
+    question: &ServerQuestion,
+    body: &[u8],
+    credential: &Credential<'_>,
+) -> Result<StartProgress, AllocError>
+    ensures { IfOk result (λ p. p ≡ spec.followed credential.now question.now body.now) }
 {
-    match frame.kind {
-        NOTICE_RESPONSE => StartProgress::Asked(question),
-        AUTHENTICATION => answered(frame.body),
-        kind => refused(kind),
+    let Ok(told) = AuthView::read(body) else {
+        return Ok(StartProgress::Other);
+    };
+    match question {
+        ServerQuestion::Cleartext | ServerQuestion::Md5(_) => {
+            Ok(only_let_in(asked_by(told.kind, told.rest)))
+        }
+        ServerQuestion::Scram => challenged(alloc, credential, told),
+        ServerQuestion::Challenge(exchange) => Ok(proved(exchange, told)),
+        ServerQuestion::Unknown(_) => Ok(StartProgress::Other),
     }
 }
 
-fn can_answer(secret: &Secret, question: ServerQuestion) -> bool
-    ensures { result ≡ can_answer secret.now question }
+/// Behind a question that this user can answer.
+fn after_question(
+    alloc: Global,
+    question: ServerQuestion,
+    frame: Frame<'_>,
+    credential: &Credential<'_>,
+) -> Result<StartProgress, AllocError>
+    ensures { IfOk result (λ p. p ≡ spec.after_question credential.now question (frame_of frame.entry)) }
+{
+    match frame.kind {
+        NOTICE_RESPONSE => Ok(StartProgress::Asked(question)),
+        AUTHENTICATION => followed(alloc, &question, frame.body, credential),
+        kind => Ok(refused(kind)),
+    }
+}
+
+fn can_answer(credential: &Credential<'_>, question: &ServerQuestion) -> bool
+    ensures { result ≡ can_answer credential.now question.now }
 {
     match question {
-        ServerQuestion::Cleartext => password_of(secret).is_some(),
-        ServerQuestion::Md5(_) => true,
+        ServerQuestion::Cleartext => password_of(credential.secret()).is_some(),
+        ServerQuestion::Scram => credential.answers_scram(),
+        ServerQuestion::Md5(_) | ServerQuestion::Challenge(_) => true,
         ServerQuestion::Unknown(_) => false,
     }
 }
 
 impl StartProgress {
-    fn by(self, frame: Frame<'_>, secret: &Secret) -> StartProgress
-        ensures { result ≡ heard_by secret.now self (frame_of frame.entry) }
+    /// The only error is out of memory.
+    fn by(
+        self,
+        alloc: Global,
+        frame: Frame<'_>,
+        credential: &Credential<'_>,
+    ) -> Result<StartProgress, AllocError>
+        ensures { IfOk result (λ p. p ≡ heard_by credential.now self (frame_of frame.entry)) }
     {
         match self {
             StartProgress::Nothing => match frame.kind {
-                NOTICE_RESPONSE => StartProgress::Nothing,
-                AUTHENTICATION => asked(frame.body),
-                kind => refused(kind),
+                NOTICE_RESPONSE => Ok(StartProgress::Nothing),
+                AUTHENTICATION => Ok(asked(frame.body)),
+                kind => Ok(refused(kind)),
             },
             StartProgress::Asked(question) => {
-                if can_answer(secret, question) {
-                    after_question(question, frame)
+                if can_answer(credential, &question) {
+                    after_question(alloc, question, frame, credential)
                 } else {
-                    self
+                    Ok(StartProgress::Asked(question))
                 }
             }
-            StartProgress::LetIn => welcomed(frame),
-            StartProgress::Refused => StartProgress::Refused,
-            StartProgress::Ready | StartProgress::Other => StartProgress::Other,
+            StartProgress::Proved => match frame.kind {
+                NOTICE_RESPONSE => Ok(StartProgress::Proved),
+                AUTHENTICATION => Ok(only_let_in(asked(frame.body))),
+                kind => Ok(refused(kind)),
+            },
+            StartProgress::LetIn => Ok(welcomed(frame)),
+            StartProgress::Refused => Ok(StartProgress::Refused),
+            StartProgress::Ready | StartProgress::Other => Ok(StartProgress::Other),
         }
     }
 
@@ -188,36 +313,45 @@ impl StartProgress {
     }
 
     /// The same, with these bytes behind it, which are no whole frame.
-    fn before(self, rest: &[u8], secret: &Secret) -> StartProgress
-        ensures { result ≡ spec.before secret.now self rest.now }
+    fn before(self, rest: &[u8], credential: &Credential<'_>) -> StartProgress
+        ensures { result ≡ spec.before credential.now self rest.now }
     {
         match self {
-            StartProgress::Nothing | StartProgress::LetIn => self.if_lawful(rest),
+            StartProgress::Nothing => StartProgress::Nothing.if_lawful(rest),
             StartProgress::Asked(question) => {
-                if can_answer(secret, question) {
-                    self.if_lawful(rest)
+                let answers = can_answer(credential, &question);
+                let asked = StartProgress::Asked(question);
+                if answers {
+                    asked.if_lawful(rest)
                 } else {
-                    self
+                    asked
                 }
             }
+            StartProgress::Proved => StartProgress::Proved.if_lawful(rest),
+            StartProgress::LetIn => StartProgress::LetIn.if_lawful(rest),
             StartProgress::Ready => bare(StartProgress::Ready, rest),
-            StartProgress::Refused | StartProgress::Other => self,
+            StartProgress::Refused => StartProgress::Refused,
+            StartProgress::Other => StartProgress::Other,
         }
     }
 }
 
-/// How far these bytes have come, for a user with this secret.
-pub(crate) fn read_start_reply(reply: &[u8], secret: &Secret) -> StartProgress
-    ensures heard { result ≡ heard secret.now reply.now }
+/// How far these bytes have come, for a user with this credential. The only error is out of memory.
+pub(crate) fn read_start_reply(
+    alloc: Global,
+    reply: &[u8],
+    credential: &Credential<'_>,
+) -> Result<StartProgress, AllocError>
+    ensures heard { IfOk result (λ p. p ≡ heard credential.now reply.now) }
     ensures bytes { AreBytes reply.now }
 {
     are_bytes(reply);
     let mut heard = StartProgress::Nothing;
     let mut frames = ReplyFrames::of(reply);
     while let Some(frame) = frames.cut() {
-        heard = heard.by(frame, secret);
+        heard = heard.by(alloc, frame, credential)?;
     }
-    heard.before(frames.rest(), secret)
+    Ok(heard.before(frames.rest(), credential))
 }
 
 /// The first ErrorResponse among the whole frames of these bytes; empty where there is none.

@@ -5,6 +5,7 @@ ghost use Rattle.frame_view.specs.declared.frames.TheConstants.{LONGEST_FRAME};
 ghost use Rattle.link_start.specs.Starts.{IsLinkKey};
 
 use bytes::BytesMut;
+use credentials::Credential;
 use memory_ends::memory_server::{MemoryServer, ServerAuth};
 use memory_lease::alone::serve_alone;
 use message_view::KeyWord;
@@ -80,11 +81,12 @@ pub(crate) fn served(
     )?;
     // the server asks for nothing
     let unasked = Secret::Md5([0; 32]);
+    let credential = Credential::new(&unasked, &CLIENT, 0);
     match serve_alone(
         alloc,
         server,
         ann(alloc)?,
-        &unasked,
+        &credential,
         CLIENT,
         limit,
         cut,

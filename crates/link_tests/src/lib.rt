@@ -3,6 +3,8 @@
 #![tactic(auto)]
 
 #[cfg(test)]
+mod exchanges;
+#[cfg(test)]
 mod failures;
 #[cfg(test)]
 mod handover;
@@ -18,6 +20,8 @@ mod malformed;
 mod resets;
 #[cfg(test)]
 mod saying_end;
+#[cfg(test)]
+mod scram_starts;
 #[cfg(test)]
 mod services;
 #[cfg(test)]

@@ -8,6 +8,7 @@ ghost use Rattle.link_start.specs.Starts.{CanStart, IsLinkKey};
 ghost use Rattle.memory_start_laws.specs.Starts.{HasSalt};
 ghost use Rattle.link_tests.specs.Keys.{ann_on};
 
+use credentials::Credential;
 use link_run::links::CleanLink;
 use link_start::start::{StartCause, start_link};
 use memory_ends::memory_server::{MemoryServer, ServerAuth};
@@ -127,8 +128,9 @@ pub fn begin_by<E: ServerEnd, G: Gate<E>>(
     requires { CanStart (E.standing end) }
 {
     let secret = Secret::read(alloc, start.password)?;
+    let credential = Credential::new(&secret, &OWN, 5);
     let key = key(alloc, start.is_there)?;
-    match start_link(alloc, end, key, &secret, 5, 9, gate, start.turns) {
+    match start_link(alloc, end, key, &credential, 5, 9, gate, start.turns) {
         Ok(link) => Ok(Ok(link)),
         Err(fault) => Ok(Err(fault.cause)),
     }

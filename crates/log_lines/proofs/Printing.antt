@@ -121,7 +121,7 @@ errors fields = both (shown_text (field 67 fields)) (32 ∷ shown_text (field 77
 
 asked : (n : ℕ) → Prints (asks_for n)
 asked n = by_branch Prints (n == 10) _ _ (λ _. refl) (λ _. by_branch Prints (n == 3) _ _ (λ _. refl)
-    (λ _. both (decimal n) (codes ", which isn't served: use md5 or a password") (decimals n) refl))
+    (λ _. both (decimal n) (codes ", which isn't served: use SCRAM, md5 or a password") (decimals n) refl))
 
 starts : (why : Unstarted) → Prints (unstarted_words why)
 starts unstarted.NotReached = refl

@@ -55,9 +55,9 @@ error_words message = state_and_text (fields_or_none (note_of (drop 5 message)))
 -- the server's question for another authentication
 abbrev pub asks_for : ℕ → Text
 asks_for n =
-    if n == 10 then codes " asks for SCRAM (authentication method 10), which isn't served: use md5 or a password" else (
+    if n == 10 then codes " asks for SCRAM (authentication method 10), which can't be answered: the user file has but a digest, or SCRAM-SHA-256 isn't offered" else (
     if n == 3 then codes " asks for a password (authentication method 3), which can't be given: the user file has but its digest" else
-    codes " asks for authentication method " ++ decimal n ++ codes ", which isn't served: use md5 or a password")
+    codes " asks for authentication method " ++ decimal n ++ codes ", which isn't served: use SCRAM, md5 or a password")
 
 abbrev pub unstarted_words : Unstarted → Text
 unstarted_words unstarted.NotReached = codes " could not be reached (P7)"

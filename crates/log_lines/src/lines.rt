@@ -131,7 +131,7 @@ fn put_asked(line: &mut Vec<u8>, method: u32) -> Result<(), AllocError>
 {
     if method == SASL {
         return line.extend_from_slice(
-            b" asks for SCRAM (authentication method 10), which isn't served: use md5 or a password",
+            b" asks for SCRAM (authentication method 10), which can't be answered: the user file has but a digest, or SCRAM-SHA-256 isn't offered",
         );
     }
     if method == PASSWORD {
@@ -141,7 +141,7 @@ fn put_asked(line: &mut Vec<u8>, method: u32) -> Result<(), AllocError>
     }
     line.extend_from_slice(b" asks for authentication method ")?;
     put_number(line, method as u64)?;
-    line.extend_from_slice(b", which isn't served: use md5 or a password")
+    line.extend_from_slice(b", which isn't served: use SCRAM, md5 or a password")
 }
 
 /// Why a link wasn't started.

@@ -38,8 +38,8 @@ pub struct Server<'a> {
 pub enum Unstarted<'a> {
     /// No connection to the server can be had.
     NotReached,
-    /// The server asks for another authentication than this pooler's, of this number: 10 is SASL, as for SCRAM; or for a password
-    /// (3) where the user file has but its digest.
+    /// The server asks for another authentication than this pooler's, of this number; or for a password (3), or by SASL for SCRAM (10),
+    /// where the user file has but a digest, or for another mechanism of SASL than SCRAM-SHA-256.
     Unanswerable(u32),
     /// The connection was lost in the dialogue.
     Lost,

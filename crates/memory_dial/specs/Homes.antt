@@ -5,7 +5,7 @@ use Rattle.link_desk.specs.Homes.{HomeOf}
 
 -- servers that no cancel reaches
 abbrev pub open_home : (Address → CatalogueOf) → HomeOf
-open_home behind = record { catalogue = behind; follows = true; strikable = false; lets_in = λ name secret. true }
+open_home behind = record { catalogue = behind; follows = true; strikable = false; lets_in = λ name credential. true }
 
 -- servers that cancels reach
 abbrev pub strikable_home : (Address → CatalogueOf) → HomeOf

@@ -17,7 +17,6 @@ use Rattle.frame_view.proofs.FirstTaken.{started}
 use Rattle.frame_view.proofs.Cuts.{front-spelled}
 use Rattle.frame_view.proofs.Taking.{not_whole}
 use Rattle.frame_view.proofs.Splitting.{frames-stopped}
-use Rattle.message_view.specs.Bodies.{Text}
 use Rattle.session_values.specs.declared.cause.Cause.{Cause}
 use Rattle.session_values.specs.Answers.{Gave, frame_of}
 use Rattle.session_values.specs.Errors.{fatal}
@@ -26,7 +25,7 @@ use Rattle.session_values.specs.Step.{step, run_frames}
 use Rattle.link_laws.specs.Laws.{IsSent}
 use Rattle.message_laws.proofs.Trips.{bytes_after}
 use Rattle.link_laws.specs.Futures.{replies_in}
-use Rattle.link_laws.specs.Stages.{Server, Auth, Stage, Before, Asked, Open, Closed, Starts, Sends, can_strike, packet_bytes, packet_marks, begins, hears, let_in, opened, serve}
+use Rattle.link_laws.specs.Stages.{Server, Auth, Stage, Before, Asked, Open, Closed, Starts, Sends, can_strike, packet_bytes, packet_marks, begins, hears, let_in, no_auth, opened, serve}
 use Rattle.link_laws.proofs.Both.{served_both}
 use Rattle.memory_ends.specs.declared.dialogue.Host.{Host}
 use Rattle.session_machine.specs.Sessions.{SessionOf, unstruck_if}
@@ -102,8 +101,8 @@ cut_out-at frame bytes (Faulty x) fit e t = absurd t
 cut_out : (frame : Frame) (bytes items : List ℕ) → AreBytes bytes → bytes ≡ items → Tells (Whole frame) bytes (front Client LONGEST_FRAME bytes) → Cuts frame items
 cut_out frame bytes items fit same t = subst (Cuts frame) same (cut_out-at frame bytes (front Client LONGEST_FRAME bytes) fit refl t)
 
-pub takes_answer : (v : Server) (start : List ℕ) (answer : Text) (frame : Frame) (bytes items rest out replied : List ℕ) (before after : List Bool) (next : Stage) → AreBytes bytes → bytes ≡ items → Tells (Whole frame) bytes (front Client LONGEST_FRAME bytes)
-    → (next ≡ (hears v start answer (frame_of frame)).next) × (replied ≡ out ++ flat_map spelling (hears v start answer (frame_of frame)).replies) → after ≡ before ++ false ∷ [] → rest ≡ drop (length frame.whole.now) items → Takes v (Asked start answer) next items rest out replied before after
+pub takes_answer : (v : Server) (start answer : List ℕ) (frame : Frame) (bytes items rest out replied : List ℕ) (before after : List Bool) (next : Stage) → AreBytes bytes → bytes ≡ items → Tells (Whole frame) bytes (front Client LONGEST_FRAME bytes)
+    → (next ≡ (hears v start answer no_auth (frame_of frame)).next) × (replied ≡ out ++ flat_map spelling (hears v start answer no_auth (frame_of frame)).replies) → after ≡ before ++ false ∷ [] → rest ≡ drop (length frame.whole.now) items → Takes v (Asked start answer no_auth) next items rest out replied before after
 takes_answer v start answer frame bytes items rest out replied before after next fit same t turn marked left =
     let k = cut_out frame bytes items fit same t in
     record {

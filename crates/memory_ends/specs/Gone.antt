@@ -11,7 +11,7 @@ use Rattle.link_laws.specs.Standing.{Standing}
 
 -- all that was sent to start a session of the key, where nothing was asked
 abbrev pub start_of : Option StartKeyOf → List ℕ
-start_of (Some key) = packets_bytes (start_packets key None)
+start_of (Some key) = packets_bytes (start_packets key [])
 start_of None = []
 
 -- AuthenticationOk and ReadyForQuery: the shortest answer to such a start

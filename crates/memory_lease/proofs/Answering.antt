@@ -17,7 +17,7 @@ use Rattle.session_values.specs.Service.{client_frames, served, service, welcome
 use Rattle.session_laws.specs.Laws.{Reaches}
 use Rattle.session_laws.proofs.ByName.{fresh_is_reached}
 use Rattle.session_run_laws.proofs.ByName.{client_frames_are_sent, run_replies_are_frames}
-use Rattle.user_file.specs.declared.secrets.Secret.{Secret}
+use Rattle.credentials.specs.Credentials.{CredentialOf}
 use Rattle.link_laws.specs.Standing.{ClientFacts, Moves, Standing}
 use Rattle.link_laws.specs.Stages as stages
 use Rattle.link_laws.specs.Dialogues.{start_error}
@@ -218,9 +218,9 @@ pub record IsClient (c : PatientOf) (v : RelayView) (out : List ℕ) : Type 0 wh
   pub faults : c.facts.faults ≡ 0
   pub all : c.facts.ended ≡ true → c.facts.taken ≡ c.input
 
-pub served_by : (began : Standing) (secret : Secret) (key : StartKeyOf) (word : KeyWord) (bytes out : List ℕ) (link : LinkView) (limit : ℕ) (old v : RelayView) (c : PatientOf) → began.follows ≡ true → began.server.strikable ≡ false → IsStarted began secret link → link.key ≡ key
+pub served_by : (began : Standing) (cred : CredentialOf) (key : StartKeyOf) (word : KeyWord) (bytes out : List ℕ) (link : LinkView) (limit : ℕ) (old v : RelayView) (c : PatientOf) → began.follows ≡ true → began.server.strikable ≡ false → IsStarted began cred link → link.key ≡ key
     → AreBytes bytes → IsLease (place (new_patient bytes).facts link word limit) old → Keeps old v → IsClient c v out → IsServed began key word bytes out v (place (new_patient bytes).facts link word limit)
-served_by began secret key word bytes out link limit old v c f sp st k ab l kp g =
+served_by began cred key word bytes out link limit old v c f sp st k ab l kp g =
     let at : Place = place (new_patient bytes).facts link word limit in
     let lease : IsLease at v = kp at l in
     let stands : link.stands.follows ≡ began.follows = st.under_way.starting.moves.follows in
@@ -262,9 +262,9 @@ pub record IsServer (dies : Option ℕ) (server : OwnOf) (v : RelayView) : Type 
   pub faults : server.standing.faults ≡ 0
   pub lives : dies ≡ None → server.standing.lives ≡ true
 
-server_by : (dies : Option ℕ) (began : Standing) (secret : Secret) (link : LinkView) (at : Place) (v : RelayView) (server : OwnOf) (rest : List ℕ) → began.accepted ≡ mark dies ∷ rest → IsStarted began secret link → at.stands ≡ link.stands → IsLease at v → server.standing ≡ v.link
+server_by : (dies : Option ℕ) (began : Standing) (cred : CredentialOf) (link : LinkView) (at : Place) (v : RelayView) (server : OwnOf) (rest : List ℕ) → began.accepted ≡ mark dies ∷ rest → IsStarted began cred link → at.stands ≡ link.stands → IsLease at v → server.standing ≡ v.link
     → IsMarked server → server.standing.faults ≡ 0 → server.standing.lives ≡ has_some server.left → IsServer dies server v
-server_by dies began secret link at v server rest e st a x s m f l =
+server_by dies began cred link at v server rest e st a x s m f l =
     let start = st.under_way.starting in
     let all : v.link.accepted ≡ ((mark dies ∷ rest) ++ start.sent) ++ x.sent = x.moves.accepted ∙ (ap (λ (t : Standing). t.accepted ++ x.sent) a ∙ (ap (λ (t : List ℕ). t ++ x.sent) start.moves.accepted ∙ ap (λ (t : List ℕ). (t ++ start.sent) ++ x.sent) e)) in
     let both : mark server.left ∷ m.0 ≡ mark dies ∷ ((rest ++ start.sent) ++ x.sent) = sym m.1 ∙ (ap (λ (t : Standing). t.accepted) s ∙ all) in
@@ -296,16 +296,16 @@ answered dies began key word bytes out last at old v (Refused r) clear server x 
 answered dies began key word bytes out last at old v Cut clear server x i s c e put =
     unrefused dies began key word bytes last v at (same_out began key word bytes out last v at put.0 x) (λ n. absurd (true≢false (sym (s.lives n) ∙ put.1)))
 
-pub given_answered : (dies : Option ℕ) (start : Standing) (first_own : OwnOf) (secret : Secret) (key : StartKeyOf) (word : KeyWord) (bytes out last : List ℕ) (ending : Ending) (clear : Bool) (link : LinkView) (limit : ℕ) (old v : RelayView) (first c : PatientOf) (server : OwnOf)
-    → first_own ≡ own_server dies start → start.follows ≡ true → start.server.strikable ≡ false → IsStarted first_own.standing secret link → link.key ≡ key → AreBytes bytes → first ≡ new_patient bytes → IsLease (place first.facts link word limit) old → Keeps old v → IsClient c v out → server.standing ≡ v.link
+pub given_answered : (dies : Option ℕ) (start : Standing) (first_own : OwnOf) (cred : CredentialOf) (key : StartKeyOf) (word : KeyWord) (bytes out last : List ℕ) (ending : Ending) (clear : Bool) (link : LinkView) (limit : ℕ) (old v : RelayView) (first c : PatientOf) (server : OwnOf)
+    → first_own ≡ own_server dies start → start.follows ≡ true → start.server.strikable ≡ false → IsStarted first_own.standing cred link → link.key ≡ key → AreBytes bytes → first ≡ new_patient bytes → IsLease (place first.facts link word limit) old → Keeps old v → IsClient c v out → server.standing ≡ v.link
     → clear ≡ is_clear v → IsEnding old v ending → TellsEnding ending clear server out last → IsAnswer dies limit bytes last (own_pieces start.server.catalogue key word bytes)
-given_answered dies start first_own secret key word bytes out last ending clear link limit old v first c server o f sp st k ab n b kp g s cl e t =
+given_answered dies start first_own cred key word bytes out last ending clear link limit old v first c server o f sp st k ab n b kp g s cl e t =
     let at : Place = place (new_patient bytes).facts link word limit in
     let began : Standing = marked dies start in
-    let started : IsStarted began secret link = subst (λ (x : OwnOf). IsStarted x.standing secret link) o st in
+    let started : IsStarted began cred link = subst (λ (x : OwnOf). IsStarted x.standing cred link) o st in
     let lease : IsLease at old = begun_as bytes first link word limit old n b in
-    answered dies began key word bytes out last at old v ending clear server (served_by began secret key word bytes out link limit old v c f sp started k ab lease kp g) lease
-    (server_by dies began secret link at v server start.accepted refl started refl (kp at lease) s t.marked t.faults t.lives) cl e t.put
+    answered dies began key word bytes out last at old v ending clear server (served_by began cred key word bytes out link limit old v c f sp started k ab lease kp g) lease
+    (server_by dies began cred link at v server start.accepted refl started refl (kp at lease) s t.marked t.faults t.lives) cl e t.put
 
 -- ---- a start that the server refuses
 
@@ -313,9 +313,9 @@ fresh_error : (r : Result State Cause) (f : FrameOf) (cat : CatalogueOf) (word :
 fresh_error (Ok s) f cat word fs e = absurd cc
 fresh_error (Err c) f cat word fs e = cc
 
-refused_start : (dies : Option ℕ) (began : Standing) (secret : Secret) (key : StartKeyOf) (word : KeyWord) (limit : ℕ) (bytes out error : List ℕ) → IsLetIn began key secret → IsRefusalOf began secret key error → out ≡ [] ++ error
+refused_start : (dies : Option ℕ) (began : Standing) (cred : CredentialOf) (key : StartKeyOf) (word : KeyWord) (limit : ℕ) (bytes out error : List ℕ) → IsLetIn began key cred → IsRefusalOf began cred key error → out ≡ [] ++ error
     → IsAnswer dies limit bytes out (own_pieces began.server.catalogue key word bytes)
-refused_start dies began secret key word limit bytes out error l x e =
+refused_start dies began cred key word limit bytes out error l x e =
     let one : own_pieces began.server.catalogue key word bytes ≡ spelling x.frame ∷ [] = fresh_error (fresh began.server.catalogue key) x.frame began.server.catalogue word (client_frames bytes) (sym l ∙ x.refusal) in
     inl (given_all dies out (own_pieces began.server.catalogue key word bytes) (e ∙ (x.whole ∙ (sym (append-nil (spelling x.frame)) ∙ ap joined_pieces (sym one)))))
 
@@ -339,28 +339,28 @@ told_first dies limit bytes old new pieces n e d = inr (record {
   because = (refl, d);
 })
 
-unstarted_by : (dies : Option ℕ) (began now : Standing) (secret : Secret) (key : StartKeyOf) (word : KeyWord) (limit turns : ℕ) (bytes old new rest : List ℕ) (c : StartCause) (server : OwnOf) → began.follows ≡ true → began.accepted ≡ mark dies ∷ rest → IsLetIn began key secret
-    → IsStartCause began now secret key c → (c ≡ cause.Turns → HasTried began secret key now turns) → (c ≡ cause.Late → false ≡ true) → server.standing ≡ now → old ≡ [] → TellsCause c server old new → IsAnswer dies limit bytes new (own_pieces began.server.catalogue key word bytes)
-unstarted_by dies began now secret key word limit turns bytes old new rest (cause.Refused error) server f a l x h u s n t = refused_start dies began secret key word limit bytes new error l (x.1 f) (t ∙ ap (λ (o : List ℕ). o ++ error) n)
-unstarted_by dies began now secret key word limit turns bytes old new rest cause.Lost server f a l x h u s n t = told_first dies limit bytes old new _ n t.1.0 (dies_by dies began now x.sent x.received rest server a x.moves s t.1.1)
-unstarted_by dies began now secret key word limit turns bytes old new rest (cause.Unanswerable question) server f a l x h u s n t = told_first dies limit bytes old new _ n t.1.0 (dies_by dies began now x.0.sent x.0.received rest server a x.0.moves s t.1.1)
-unstarted_by dies began now secret key word limit turns bytes old new rest cause.Unexpected server f a l x h u s n t = told_first dies limit bytes old new _ n t.1.0 (dies_by dies began now x.0.sent x.0.received rest server a x.0.moves s t.1.1)
-unstarted_by dies began now secret key word limit turns bytes old new rest cause.Turns server f a l x h u s n t =
+unstarted_by : (dies : Option ℕ) (began now : Standing) (cred : CredentialOf) (key : StartKeyOf) (word : KeyWord) (limit turns : ℕ) (bytes old new rest : List ℕ) (c : StartCause) (server : OwnOf) → began.follows ≡ true → began.accepted ≡ mark dies ∷ rest → IsLetIn began key cred
+    → IsStartCause began now cred key c → (c ≡ cause.Turns → HasTried began cred key now turns) → (c ≡ cause.Late → false ≡ true) → server.standing ≡ now → old ≡ [] → TellsCause c server old new → IsAnswer dies limit bytes new (own_pieces began.server.catalogue key word bytes)
+unstarted_by dies began now cred key word limit turns bytes old new rest (cause.Refused error) server f a l x h u s n t = refused_start dies began cred key word limit bytes new error l (x.1 f) (t ∙ ap (λ (o : List ℕ). o ++ error) n)
+unstarted_by dies began now cred key word limit turns bytes old new rest cause.Lost server f a l x h u s n t = told_first dies limit bytes old new _ n t.1.0 (dies_by dies began now x.sent x.received rest server a x.moves s t.1.1)
+unstarted_by dies began now cred key word limit turns bytes old new rest (cause.Unanswerable question) server f a l x h u s n t = told_first dies limit bytes old new _ n t.1.0 (dies_by dies began now x.0.sent x.0.received rest server a x.0.moves s t.1.1)
+unstarted_by dies began now cred key word limit turns bytes old new rest cause.Unexpected server f a l x h u s n t = told_first dies limit bytes old new _ n t.1.0 (dies_by dies began now x.0.sent x.0.received rest server a x.0.moves s t.1.1)
+unstarted_by dies began now cred key word limit turns bytes old new rest cause.Turns server f a l x h u s n t =
     told_first dies limit bytes old new _ n t.1.0 (dies_by dies began now (h refl).starting.sent (h refl).received rest server a (h refl).starting.moves s t.1.1)
-unstarted_by dies began now secret key word limit turns bytes old new rest cause.Late server f a l x h u s n t = absurd (true≢false (sym (u refl)))
-unstarted_by dies began now secret key word limit turns bytes old new rest cause.Memory server f a l x h u s n t = absurd (t.0 refl)
+unstarted_by dies began now cred key word limit turns bytes old new rest cause.Late server f a l x h u s n t = absurd (true≢false (sym (u refl)))
+unstarted_by dies began now cred key word limit turns bytes old new rest cause.Memory server f a l x h u s n t = absurd (t.0 refl)
 
 -- what a client is told whose link wasn't started
-pub unstarted : (dies : Option ℕ) (start : Standing) (first_own server : OwnOf) (secret : Secret) (key : StartKeyOf) (word : KeyWord) (limit turns : ℕ) (bytes old new : List ℕ) (c : StartCause) → first_own ≡ own_server dies start → start.follows ≡ true → IsLetIn start key secret
-    → IsStartCause first_own.standing server.standing secret key c → (c ≡ cause.Turns → HasTried first_own.standing secret key server.standing turns) → (c ≡ cause.Late → false ≡ true) → old ≡ [] → TellsCause c server old new → IsAnswer dies limit bytes new (own_pieces start.server.catalogue key word bytes)
-unstarted dies start first_own server secret key word limit turns bytes old new c o f l x h u n t =
-    unstarted_by dies (marked dies start) server.standing secret key word limit turns bytes old new start.accepted c server f refl l (subst (λ (y : OwnOf). IsStartCause y.standing server.standing secret key c) o x)
-    (λ e. subst (λ (y : OwnOf). HasTried y.standing secret key server.standing turns) o (h e)) u refl n t
+pub unstarted : (dies : Option ℕ) (start : Standing) (first_own server : OwnOf) (cred : CredentialOf) (key : StartKeyOf) (word : KeyWord) (limit turns : ℕ) (bytes old new : List ℕ) (c : StartCause) → first_own ≡ own_server dies start → start.follows ≡ true → IsLetIn start key cred
+    → IsStartCause first_own.standing server.standing cred key c → (c ≡ cause.Turns → HasTried first_own.standing cred key server.standing turns) → (c ≡ cause.Late → false ≡ true) → old ≡ [] → TellsCause c server old new → IsAnswer dies limit bytes new (own_pieces start.server.catalogue key word bytes)
+unstarted dies start first_own server cred key word limit turns bytes old new c o f l x h u n t =
+    unstarted_by dies (marked dies start) server.standing cred key word limit turns bytes old new start.accepted c server f refl l (subst (λ (y : OwnOf). IsStartCause y.standing server.standing cred key c) o x)
+    (λ e. subst (λ (y : OwnOf). HasTried y.standing cred key server.standing turns) o (h e)) u refl n t
 
 -- a start may begin as one of the server alone
 pub can_start : (dies : Option ℕ) (start : Standing) (first_own : OwnOf) → first_own ≡ own_server dies start → IsStartable start → CanStart first_own.standing
 can_start dies start first_own o s = subst (λ (y : OwnOf). CanStart y.standing) (sym o) (λ f. record {
   is_new = record { stage = s.is_new.stage; inbox = s.is_new.inbox; outbox = s.is_new.outbox; lawful = s.is_new.lawful };
   in_frame = s.in_frame;
-  question = s.question;
+  questions = s.questions;
 })

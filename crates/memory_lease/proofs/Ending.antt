@@ -5,7 +5,7 @@ use Rattle.frame_view.specs.Frames.{AreBytes, spelling}
 use Rattle.message_view.specs.declared.KeyWord.{KeyWord}
 use Rattle.message_view.specs.Refusals.{Begins}
 use Rattle.session_values.specs.State.{StartKeyOf}
-use Rattle.user_file.specs.declared.secrets.Secret.{Secret}
+use Rattle.credentials.specs.Credentials.{CredentialOf}
 use Rattle.link_laws.specs.Stages.{packets_bytes}
 use Rattle.link_laws.specs.Standing.{Standing}
 use Rattle.link_laws.specs.Dialogues.{start_packets}
@@ -27,26 +27,26 @@ behind_first a b xs ys e = cc
 sent_begins : (a b c d bytes : List ℕ) → a ++ b ≡ c → Begins (c ++ d) bytes → Begins a bytes
 sent_begins a b c d bytes same x = record { more = (b ++ d) ++ x.more; both = sym (append_assoc a (b ++ d) x.more) ∙ (ap (λ (l : List ℕ). l ++ x.more) (sym (append_assoc a b d) ∙ ap (λ (l : List ℕ). l ++ d) same) ∙ x.both) }
 
-started_with : (began : Standing) (secret : Secret) (link : LinkView) (key : StartKeyOf) → IsStarted began secret link → link.key ≡ key → (answer : Option (List ℕ)) × (link.stands.accepted ≡ began.accepted ++ packets_bytes (start_packets key answer))
-started_with began secret link key st k =
+started_with : (began : Standing) (cred : CredentialOf) (link : LinkView) (key : StartKeyOf) → IsStarted began cred link → link.key ≡ key → (given : List (List ℕ)) × (link.stands.accepted ≡ began.accepted ++ packets_bytes (start_packets key given))
+started_with began cred link key st k =
     let s = st.under_way.starting in
-    (st.under_way.answer, s.moves.accepted ∙ ap (λ (l : List ℕ). began.accepted ++ l) (sym (append-nil s.sent) ∙ (s.all ∙ ap (λ (x : StartKeyOf). packets_bytes (start_packets x st.under_way.answer)) k)))
+    (st.under_way.given, s.moves.accepted ∙ ap (λ (l : List ℕ). began.accepted ++ l) (sym (append-nil s.sent) ∙ (s.all ∙ ap (λ (x : StartKeyOf). packets_bytes (start_packets x st.under_way.given)) k)))
 
-pub unended : (dies : Option ℕ) (start : Standing) (first_own : OwnOf) (secret : Secret) (key : StartKeyOf) (word : KeyWord) (bytes out : List ℕ) (link : LinkView) (limit : ℕ) (old v : RelayView) (first c : PatientOf) (server : OwnOf) (last : ServerOf)
-    → first_own ≡ own_server dies start → start.follows ≡ true → start.server.strikable ≡ false → IsStarted first_own.standing secret link → link.key ≡ key → AreBytes bytes → first ≡ new_patient bytes → IsLease (place first.facts link word limit) old → Keeps old v → IsClient c v out → server.standing ≡ v.link
+pub unended : (dies : Option ℕ) (start : Standing) (first_own : OwnOf) (cred : CredentialOf) (key : StartKeyOf) (word : KeyWord) (bytes out : List ℕ) (link : LinkView) (limit : ℕ) (old v : RelayView) (first c : PatientOf) (server : OwnOf) (last : ServerOf)
+    → first_own ≡ own_server dies start → start.follows ≡ true → start.server.strikable ≡ false → IsStarted first_own.standing cred link → link.key ≡ key → AreBytes bytes → first ≡ new_patient bytes → IsLease (place first.facts link word limit) old → Keeps old v → IsClient c v out → server.standing ≡ v.link
     → own_server last.left last.standing ≡ server → StillWaits server.standing → IsUnended start key bytes last.standing
-unended dies start first_own secret key word bytes out link limit old v first c server last o f sp st k ab n b kp g s t w =
+unended dies start first_own cred key word bytes out link limit old v first c server last o f sp st k ab n b kp g s t w =
     let at : Place = place (new_patient bytes).facts link word limit in
     let began : Standing = (own_server dies start).standing in
-    let started : IsStarted began secret link = subst (λ (x : OwnOf). IsStarted x.standing secret link) o st in
-    let x : IsServed began key word bytes out v at = served_by began secret key word bytes out link limit old v c f sp started k ab (begun_as bytes first link word limit old n b) kp g in
+    let started : IsStarted began cred link = subst (λ (x : OwnOf). IsStarted x.standing cred link) o st in
+    let x : IsServed began key word bytes out v at = served_by began cred key word bytes out link limit old v c f sp started k ab (begun_as bytes first link word limit old n b) kp g in
     let a : IsAllowed at v = lease_allowed at v x.lease x.tells (x.lease.moves.follows ∙ (x.stands ∙ f)) in
-    let y = started_with began secret link key started k in
+    let y = started_with began cred link key started k in
     let all : mark last.left ∷ last.standing.accepted ≡ mark dies ∷ ((start.accepted ++ packets_bytes (start_packets key y.0)) ++ a.sent) =
     ap (λ (q : OwnOf). q.standing.accepted) t ∙ (ap (λ (q : Standing). q.accepted) s ∙ (a.accepted ∙ ap (λ (l : List ℕ). l ++ a.sent) y.1)) in
     record {
       waits = subst (λ (q : OwnOf). StillWaits q.standing) (sym t) w;
-      answer = y.0;
+      given = y.0;
       over = a.sent;
       accepted = behind_first (mark last.left) (mark dies) _ _ all;
       own = sent_begins a.sent v.to_link.held (flat_map spelling a.forwarded ++ a.tail) v.to_link.part bytes a.forwards

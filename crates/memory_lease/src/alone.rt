@@ -15,6 +15,7 @@ ghost use Rattle.memory_lease.specs.declared.alone.ServeError.TheVariants as ser
 use crate::own_server::OwnServer;
 use crate::patient_client::PatientClient;
 use bytes::BytesMut;
+use credentials::Credential;
 use frame_view::laws::are_bytes;
 use link_start::close::close_link;
 use link_start::links::CleanLink;
@@ -28,7 +29,6 @@ use server_end::{ClientEnd, ServerEnd};
 use start_keys::StartKey;
 use std::alloc::{AllocError, Global};
 use std::sync::Arc;
-use user_file::Secret;
 
 /// The turns that the start of a link may take.
 const START_TURNS: u32 = 65_536;
@@ -185,7 +185,7 @@ pub fn serve_alone(
     alloc: Global,
     server: MemoryServer,
     key: Arc<StartKey>,
-    secret: &Secret,
+    credential: &Credential<'_>,
     word: KeyWord,
     limit: u32,
     cut: usize,
@@ -194,18 +194,18 @@ pub fn serve_alone(
     requires startable { IsStartable server.standing }
     requires follows { server.standing.follows ≡ true }
     requires spared { server.standing.server.strikable ≡ false }
-    requires let_in { IsLetIn server.standing (arc_value key) secret.now }
+    requires let_in { IsLetIn server.standing (arc_value key) credential.now }
     requires key { IsLinkKey (arc_value key) }
     requires cut { 0 < cut }
     requires low { 4 ≤ limit }
     requires high { limit ≤ LONGEST_FRAME }
     ensures answer { IfOk result (λ out. IsAnswer server.left limit bytes.now out.items (own_pieces server.standing.server.catalogue (arc_value key) word bytes.now)) }
-    ensures unserved { IfErr result (IsUnserved server.standing secret.now (arc_value key) bytes.now) }
+    ensures unserved { IfErr result (IsUnserved server.standing credential.now (arc_value key) bytes.now) }
 {
     are_bytes(bytes);
     let server = OwnServer::new(server);
     let mut gate = OpenGate::new();
-    let link = match start_link(alloc, server, key, secret, 0, 0, &mut gate, START_TURNS) {
+    let link = match start_link(alloc, server, key, credential, 0, 0, &mut gate, START_TURNS) {
         Ok(link) => link,
         Err(fault) => {
             let mut out = BytesMut::new(alloc);

@@ -7,7 +7,7 @@ use Rattle.ini_config.specs.declared.option_values.Settings.{Settings}
 use Rattle.user_file.specs.declared.user_table.UserRow.{UserRow}
 use Rattle.session_values.specs.State.{CatalogueOf, StartKeyOf, fresh}
 use Rattle.link_laws.specs.Dialogues.{auth_of, start_error}
-use Rattle.link_laws.specs.Stages.{NoAuth}
+use Rattle.link_laws.specs.Stages.{no_auth}
 use Rattle.link_laws.specs.Standing.{Standing}
 use Rattle.link_run.specs.Links.{LinkView}
 use Rattle.link_start.specs.Starts.{CanStart}
@@ -47,7 +47,7 @@ AreAtHome cat links = AllByRecursion (IsAtHome cat) links
 pub record IsNewServer (cat : CatalogueOf) (at : Standing) : Type 0 where
   pub home : IsServerOf cat at
   pub starts : CanStart at
-  pub trusts : auth_of at.stage ≡ NoAuth
+  pub trusts : auth_of at.stage ≡ no_auth
 
 -- the idle links of a pool
 pub record IsMemoryPool (h : MemoryPoolOf) (cut : ℕ) (idle : List LinkView) : Type 0 where

@@ -12,6 +12,7 @@ ghost use Rattle.memory_pool.specs.MemoryPools.{IsAtHome, IsBroughtHome, IsNewSe
 use crate::answers::{Answer, Taken};
 use book_model::events::Beyond;
 use book_model::settings::limits_of;
+use credentials::Credential;
 use ini_config::Settings;
 use lease_book::book::Book;
 use lease_book::events::{Event, Reply};
@@ -272,11 +273,12 @@ impl MemoryPool {
     {
         // the server asks for nothing
         let unasked = Secret::Md5([0; 32]);
+        let credential = Credential::new(&unasked, &SERVER_WORD, number);
         start_link(
             self.alloc,
             server,
             key,
-            &unasked,
+            &credential,
             number,
             born,
             &mut OpenGate::new(),

@@ -1,40 +1,65 @@
 -- A stand-in server in memory can be started.
-use Rattle.std.proofs.Common.{◌≡◌, ℕ, List, [], ◌∷◌, length, refl, arith}
-use Rattle.message_view.specs.Messages.{authentication}
+use Rattle.std.proofs.Common.{◌≡◌, ℕ, Bool, true, Option, Some, None, List, [], ◌∷◌, length, refl, ap, arith}
+use Rattle.std.specs.Prelude.{if◌then◌else◌, is_some, option_map}
 use Rattle.message_view.specs.Reading.{authentication_of, int32_at}
+use Rattle.message_view.specs.Bodies.{Text, text}
 use Rattle.message_view.specs.declared.kinds.TheConstants.{ASKS_CLEARTEXT, ASKS_MD5}
+use Rattle.credentials.specs.Credentials.{CredentialOf}
+use Rattle.link_laws.specs.Stages.{asks, asks_once, let_in}
 use Rattle.memory_ends.specs.declared.memory_server.ServerAuth.TheVariants.{Trust, Plain, Md5}
-use Rattle.link_start.specs.declared.start_reply.StartProgress.TheVariants.{Asked}
+use Rattle.link_start.specs.declared.start_reply.StartProgress.TheVariants.{Nothing, Asked, LetIn}
+use Rattle.link_start.specs.declared.start_reply.ServerQuestion.{ServerQuestion}
 use Rattle.link_start.specs.declared.start_reply.ServerQuestion.TheVariants as question
-use Rattle.link_start.specs.StartReply.{asked}
-use Rattle.link_start.specs.Starts.{IsQuestion}
+use Rattle.link_start.specs.Questions.{answer_to, password_of}
+use Rattle.link_start.specs.StartReply.{after_question, heard_by}
+use Rattle.link_start.specs.Starts.{AsksQuestions}
 use Rattle.memory_start_laws.specs.Starts.{MemoryServersCanStart}
 
-cleartext : asked (authentication ASKS_CLEARTEXT []).body ≡ Asked question.Cleartext
+trusts : (c : CredentialOf) → heard_by c Nothing let_in ≡ LetIn
 unfolding authentication_of int32_at
-cleartext = refl
+trusts c = refl
 
-salted : (a b c d : ℕ) → asked (authentication ASKS_MD5 (a ∷ b ∷ c ∷ d ∷ [])).body ≡ Asked (question.Md5 (a ∷ b ∷ c ∷ d ∷ []))
+cleartext : (c : CredentialOf) → heard_by c Nothing (asks (record { kind = ASKS_CLEARTEXT; more = [] })) ≡ Asked question.Cleartext
 unfolding authentication_of int32_at
-salted a b c d = refl
+cleartext c = refl
 
-md5 : (salt : List ℕ) → length salt ≡ 4 → IsQuestion ASKS_MD5 salt
-md5 (a ∷ b ∷ c ∷ d ∷ []) h = record { question = question.Md5 (a ∷ b ∷ c ∷ d ∷ []); is_read = salted a b c d }
-md5 [] h = absurd (omega (arith, h))
-md5 (a ∷ []) h = absurd (omega (arith, h))
-md5 (a ∷ b ∷ []) h = absurd (omega (arith, h))
-md5 (a ∷ b ∷ c ∷ []) h = absurd (omega (arith, h))
-md5 (a ∷ b ∷ c ∷ d ∷ e ∷ more) h = absurd (omega (arith, h))
+salted : (c : CredentialOf) (w x y z : ℕ) → heard_by c Nothing (asks (record { kind = ASKS_MD5; more = w ∷ x ∷ y ∷ z ∷ [] })) ≡ Asked (question.Md5 (w ∷ x ∷ y ∷ z ∷ []))
+unfolding authentication_of int32_at
+salted c w x y z = refl
+
+-- AuthenticationOk behind the right answer
+some_text : (o : Option Text) (body : List ℕ) → option_map text o ≡ Some body → is_some o ≡ true
+some_text (Some t) body e = refl
+some_text None body e = absurd cc
+
+behind_password : (c : CredentialOf) (user : Text) (body : List ℕ) → answer_to c user question.Cleartext ≡ Some body → heard_by c (Asked question.Cleartext) let_in ≡ LetIn
+unfolding authentication_of int32_at
+behind_password c user body e = ap (λ (b : Bool). if b then after_question c question.Cleartext let_in else Asked question.Cleartext) (some_text (password_of c.secret) body e)
+
+behind_digest : (c : CredentialOf) (user salt body : List ℕ) → answer_to c user (question.Md5 salt) ≡ Some body → heard_by c (Asked (question.Md5 salt)) let_in ≡ LetIn
+unfolding authentication_of int32_at
+behind_digest c user salt body e = refl
+
+asks_password : (body : List ℕ) → AsksQuestions (asks_once ASKS_CLEARTEXT [] body)
+asks_password body c user = (question.Cleartext, cleartext c, behind_password c user body)
+
+asks_digest : (salt body : List ℕ) → length salt ≡ 4 → AsksQuestions (asks_once ASKS_MD5 salt body)
+asks_digest (w ∷ x ∷ y ∷ z ∷ []) body h c user = (question.Md5 (w ∷ x ∷ y ∷ z ∷ []), salted c w x y z, behind_digest c user (w ∷ x ∷ y ∷ z ∷ []) body)
+asks_digest [] body h c user = absurd (omega (arith, h))
+asks_digest (w ∷ []) body h c user = absurd (omega (arith, h))
+asks_digest (w ∷ x ∷ []) body h c user = absurd (omega (arith, h))
+asks_digest (w ∷ x ∷ y ∷ []) body h c user = absurd (omega (arith, h))
+asks_digest (w ∷ x ∷ y ∷ z ∷ v ∷ more) body h c user = absurd (omega (arith, h))
 
 pub can_start : MemoryServersCanStart
-can_start v Trust cut left c s = λ _. record { is_new = record { stage = refl; inbox = refl; outbox = refl; lawful = c }; in_frame = tt; question = tt }
+can_start v Trust cut left c s = λ _. record { is_new = record { stage = refl; inbox = refl; outbox = refl; lawful = c }; in_frame = (tt, tt); questions = λ cred user. trusts cred }
 can_start v (Plain password) cut left c s = λ _. record {
   is_new = record { stage = refl; inbox = refl; outbox = refl; lawful = c };
-  in_frame = record { of_type = refl; size = omega arith };
-  question = record { question = question.Cleartext; is_read = cleartext };
+  in_frame = ((record { of_type = refl; size = omega arith }, tt), tt);
+  questions = asks_password _;
 }
 can_start v (Md5 salt answer) cut left c s = λ _. record {
   is_new = record { stage = refl; inbox = refl; outbox = refl; lawful = c };
-  in_frame = record { of_type = refl; size = omega (arith, s) };
-  question = md5 salt s;
+  in_frame = ((record { of_type = refl; size = omega (arith, s) }, tt), tt);
+  questions = asks_digest salt _ s;
 }

@@ -1,6 +1,5 @@
 -- An end that follows nothing, and tells that a link was started over it.
-use Rattle.std.proofs.Common.{◌≡◌, inl, ℕ, true, false, Bool, Ok, Some, List, [], ◌++◌, refl, sym, ap, ◌∙◌, append-nil}
-use Rattle.std.specs.Prelude.{None}
+use Rattle.std.proofs.Common.{◌≡◌, ℕ, true, false, Bool, Ok, Some, List, [], ◌++◌, refl, sym, ap, ◌∙◌, append-nil}
 use Rattle.std.proofs.lemmas.Bool.{true≢false}
 use Rattle.message_view.specs.declared.kinds.TheConstants.{ASKS_NOTHING}
 use Rattle.message_view.specs.Reading.{authentication_of, int32_at}
@@ -8,7 +7,7 @@ use Rattle.session_values.specs.State.{StartKeyOf}
 use Rattle.link_laws.specs.Stages.{let_in}
 use Rattle.link_laws.specs.Standing.{Standing, Moves}
 use Rattle.link_laws.proofs.Both.{none_since}
-use Rattle.link_run.specs.Dialogues.{IsStartAnswer}
+use Rattle.link_run.specs.Dialogues.{IsStartAnswer, Trusts}
 use Rattle.link_run.specs.Receipts.{HasStarted, by_start}
 use Rattle.memory_ends.specs.Gone.{shortest_welcome, start_of, welcome_of}
 use Rattle.memory_start_laws.specs.Starts.{UnfollowedStartsAreClean}
@@ -41,13 +40,13 @@ is_answer = record {
   lets_in = let_in;
   welcome = [];
   whole = refl;
-  is_asking = record { before = []; question = []; after = []; whole = refl; notices = (tt, tt); asks = inl refl };
+  is_asking = (Trusts, tt);
   is_let_in = (refl, lets_in);
   is_welcome = tt;
 }
 
 has_started : (key : StartKeyOf) (at : Standing) → at.follows ≡ false → at.accepted ≡ start_of (Some key) → at.given ≡ welcome_of (Some key) → HasStarted key at
-has_started key at f a g = record { began = before at; answer = None; replies = shortest_welcome; moves = moves_since at _ _ f a g; answers = is_answer }
+has_started key at f a g = record { began = before at; given = []; replies = shortest_welcome; moves = moves_since at _ _ f a g; answers = is_answer }
 
 pub is_clean : UnfollowedStartsAreClean
 is_clean key at reports f a g = record { came = by_start (has_started key at f a g); fresh = λ w. absurd (true≢false (sym w ∙ f)) }

@@ -6,7 +6,7 @@ use Rattle.link_laws.specs.Stages as stages
 use Rattle.link_run.specs.Links.{LinkView}
 use Rattle.link_desk.specs.Homes.{HomeOf, IsAtHome, IsDialled}
 use Rattle.link_start.specs.Starts.{IsStarted}
-use Rattle.user_file.specs.declared.secrets.Secret.{Secret}
+use Rattle.credentials.specs.Credentials.{CredentialOf}
 use Rattle.message_view.specs.declared.KeyWord.{KeyWord}
 use Rattle.relay_laws.specs.Leases.{RelayView, IsLease, place}
 use Rattle.relay_core.specs.declared.relay.Returned.{Returned}
@@ -43,8 +43,8 @@ module _ (home : HomeOf) (client : ClientFacts) (link : LinkView) (word : KeyWor
 -- ---- a new link
 
 -- a link that was started over an end of its key's server
-pub started_home : (home : HomeOf) (began : Standing) (secret : Secret) (key : StartKeyOf) (l : LinkView) → IsDialled home key began → IsStarted began secret l → l.key ≡ key → IsAtHome home l
-started_home home began secret key l d st k =
+pub started_home : (home : HomeOf) (began : Standing) (cred : CredentialOf) (key : StartKeyOf) (l : LinkView) → IsDialled home key began → IsStarted began cred l → l.key ≡ key → IsAtHome home l
+started_home home began cred key l d st k =
     let m = st.under_way.starting.moves in
     record {
       follows = λ t. m.follows ∙ d.follows t;

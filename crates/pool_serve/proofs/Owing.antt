@@ -10,7 +10,7 @@ use Rattle.message_view.specs.Refusals.{Begins, joined_pieces}
 use Rattle.session_values.specs.declared.cause.Cause.{Cause}
 use Rattle.session_values.specs.State.{Address, CatalogueOf, State, StartKeyOf, address_of, fresh}
 use Rattle.session_values.specs.Service.{client_frames, served}
-use Rattle.user_file.specs.declared.secrets.Secret.{Secret}
+use Rattle.credentials.specs.Credentials.{CredentialOf}
 use Rattle.link_laws.specs.Standing.{ClientFacts, Standing}
 use Rattle.link_laws.specs.Dialogues.{start_error}
 use Rattle.link_run.specs.Links.{LinkView}
@@ -48,23 +48,23 @@ fresh_error : (r : Result State Cause) (f : FrameOf) (cat : CatalogueOf) (word :
 fresh_error (Ok s) f cat word fs e = absurd cc
 fresh_error (Err c) f cat word fs e = cc
 
-refused_start : (began : Standing) (secret : Secret) (key : StartKeyOf) (word : KeyWord) (error : List ℕ) → IsLetIn began key secret → IsRefusalOf began secret key error → Begins ([] ++ error) (joined_pieces (service_pieces began.server.catalogue key word [] []))
-refused_start began secret key word error l x =
+refused_start : (began : Standing) (cred : CredentialOf) (key : StartKeyOf) (word : KeyWord) (error : List ℕ) → IsLetIn began key cred → IsRefusalOf began cred key error → Begins ([] ++ error) (joined_pieces (service_pieces began.server.catalogue key word [] []))
+refused_start began cred key word error l x =
     let one : service_pieces began.server.catalogue key word [] [] ≡ spelling x.frame ∷ [] = fresh_error (fresh began.server.catalogue key) x.frame began.server.catalogue word (client_frames []) (sym l ∙ x.refusal) in
     record { more = []; both = append-nil error ∙ (x.whole ∙ (sym (append-nil (spelling x.frame)) ∙ ap joined_pieces (sym one))) }
 
-unstarted_at : (began now : Standing) (secret : Secret) (key : StartKeyOf) (word : KeyWord) (c : StartCause) → began.follows ≡ true → IsLetIn began key secret → IsStartCause began now secret key c → MayEnd [] (service_pieces began.server.catalogue key word [] []) (last_of c)
-unstarted_at began now secret key word (cause.Refused error) f l x = refused_start began secret key word error l (x.1 f)
-unstarted_at began now secret key word cause.Memory f l x = refusal_ends (service_pieces began.server.catalogue key word [] []) OutOfMemory
-unstarted_at began now secret key word cause.Lost f l x = refusal_ends (service_pieces began.server.catalogue key word [] []) ServerNotReached
-unstarted_at began now secret key word (cause.Unanswerable question) f l x = refusal_ends (service_pieces began.server.catalogue key word [] []) ServerNotReached
-unstarted_at began now secret key word cause.Unexpected f l x = refusal_ends (service_pieces began.server.catalogue key word [] []) ServerNotReached
-unstarted_at began now secret key word cause.Turns f l x = refusal_ends (service_pieces began.server.catalogue key word [] []) ServerNotReached
-unstarted_at began now secret key word cause.Late f l x = refusal_ends (service_pieces began.server.catalogue key word [] []) ServerNotReached
+unstarted_at : (began now : Standing) (cred : CredentialOf) (key : StartKeyOf) (word : KeyWord) (c : StartCause) → began.follows ≡ true → IsLetIn began key cred → IsStartCause began now cred key c → MayEnd [] (service_pieces began.server.catalogue key word [] []) (last_of c)
+unstarted_at began now cred key word (cause.Refused error) f l x = refused_start began cred key word error l (x.1 f)
+unstarted_at began now cred key word cause.Memory f l x = refusal_ends (service_pieces began.server.catalogue key word [] []) OutOfMemory
+unstarted_at began now cred key word cause.Lost f l x = refusal_ends (service_pieces began.server.catalogue key word [] []) ServerNotReached
+unstarted_at began now cred key word (cause.Unanswerable question) f l x = refusal_ends (service_pieces began.server.catalogue key word [] []) ServerNotReached
+unstarted_at began now cred key word cause.Unexpected f l x = refusal_ends (service_pieces began.server.catalogue key word [] []) ServerNotReached
+unstarted_at began now cred key word cause.Turns f l x = refusal_ends (service_pieces began.server.catalogue key word [] []) ServerNotReached
+unstarted_at began now cred key word cause.Late f l x = refusal_ends (service_pieces began.server.catalogue key word [] []) ServerNotReached
 
-pub unstarted : (cat : CatalogueOf) (began now : Standing) (secret : Secret) (key : StartKeyOf) (word : KeyWord) (c : StartCause) (last : FinalMessage) → last ≡ last_of c → began.server.catalogue ≡ cat → began.follows ≡ true → IsLetIn began key secret → IsStartCause began now secret key c → MayEnd [] (service_pieces cat key word [] []) last
-unstarted cat began now secret key word c last e h f l x =
-    subst (λ (w : FinalMessage). MayEnd [] (service_pieces cat key word [] []) w) (sym e) (subst (λ (d : CatalogueOf). MayEnd [] (service_pieces d key word [] []) (last_of c)) h (unstarted_at began now secret key word c f l x))
+pub unstarted : (cat : CatalogueOf) (began now : Standing) (cred : CredentialOf) (key : StartKeyOf) (word : KeyWord) (c : StartCause) (last : FinalMessage) → last ≡ last_of c → began.server.catalogue ≡ cat → began.follows ≡ true → IsLetIn began key cred → IsStartCause began now cred key c → MayEnd [] (service_pieces cat key word [] []) last
+unstarted cat began now cred key word c last e h f l x =
+    subst (λ (w : FinalMessage). MayEnd [] (service_pieces cat key word [] []) w) (sym e) (subst (λ (d : CatalogueOf). MayEnd [] (service_pieces d key word [] []) (last_of c)) h (unstarted_at began now cred key word c f l x))
 
 -- ---- behind a login that let it in
 

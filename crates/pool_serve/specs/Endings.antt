@@ -1,10 +1,11 @@
 -- How a client's time at the desk ended: what pass and holder tell of it, and what the ends do.
-use Rattle.std.specs.Prelude.{◌≡◌, ◌⊎◌, true, Option, None, Some}
+use Rattle.std.specs.Prelude.{◌≡◌, ◌⊎◌, ℕ, true, Option, None, Some}
 use Rattle.std.specs.Arc.{arc_value}
 use Rattle.user_file.specs.declared.user_table.UserRow.{UserRow}
 use Rattle.message_view.specs.declared.refusal.Refusal.{Refusal}
 use Rattle.link_laws.specs.Standing.{ClientFacts, Standing}
 use Rattle.link_run.specs.Links.{LinkView}
+use Rattle.credentials.specs.Credentials.{credential_of, start_nonce}
 use Rattle.link_start.specs.Starts.{HasTried, IsStartCause}
 use Rattle.link_start.specs.declared.start.StartCause.TheVariants.{Late, Turns}
 use Rattle.pool_serve.specs.declared.TheConstants.{TURNS}
@@ -91,9 +92,11 @@ pub record IsUnstarted (home : HomeOf) (g : LoggedIn) (cause : StartCause) : Typ
   pub began : Standing
   pub now : Standing
   pub dialled : IsDialled home (arc_value g.key) began
-  pub is_cause : IsStartCause began now user.secret (arc_value g.key) cause
-  pub tried : cause ≡ Turns → HasTried began user.secret (arc_value g.key) now TURNS
-  pub unanswered : cause ≡ Late → HasTried began user.secret (arc_value g.key) now 0
+  -- of the link that was to be started
+  pub number : ℕ
+  pub is_cause : IsStartCause began now (credential_of user.secret (start_nonce g.word number)) (arc_value g.key) cause
+  pub tried : cause ≡ Turns → HasTried began (credential_of user.secret (start_nonce g.word number)) (arc_value g.key) now TURNS
+  pub unanswered : cause ≡ Late → HasTried began (credential_of user.secret (start_nonce g.word number)) (arc_value g.key) now 0
 
 abbrev pub IsUnopened : HomeOf → LoggedIn → Ending → Type 0
 IsUnopened home g ending.Unreached = Unit {0}

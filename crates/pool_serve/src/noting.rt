@@ -7,7 +7,6 @@ use link_desk::answers::Cancelled;
 use link_desk::desk::LinkDesk;
 use link_run::reset::ResetFault;
 use link_start::start::StartCause;
-use link_start::start_reply::ServerQuestion;
 use log_lines::notes::{Client, Loss, Note, Server, Unstarted, Visit};
 use login_core::Failure;
 use login_run::{LoginReply, LoginRun};
@@ -90,21 +89,12 @@ pub(crate) fn note_end<D: LinkDesk>(desk: &D, client: &Client<'_>, last: Option<
     desk.note(client, &Note::Closed);
 }
 
-/// The authentication that a question asks for, by the protocol's number.
-fn number_of(question: ServerQuestion) -> u32 {
-    match question {
-        ServerQuestion::Cleartext => 3,
-        ServerQuestion::Md5(_) => 5,
-        ServerQuestion::Unknown(number) => number,
-    }
-}
-
 /// Why a link wasn't started; nothing, where memory was refused.
 fn start_note<'a>(cause: &'a StartCause) -> Option<Unstarted<'a>> {
     match cause {
         StartCause::Refused(error) => Some(Unstarted::Refused(error.as_bytes())),
         StartCause::Lost => Some(Unstarted::Lost),
-        StartCause::Unanswerable(question) => Some(Unstarted::Unanswerable(number_of(*question))),
+        StartCause::Unanswerable(question) => Some(Unstarted::Unanswerable(question.number())),
         StartCause::Unexpected => Some(Unstarted::Unexpected),
         StartCause::Turns | StartCause::Late => Some(Unstarted::TimedOut),
         StartCause::Memory => None,

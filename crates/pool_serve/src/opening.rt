@@ -10,6 +10,7 @@ ghost use Rattle.pool_serve.specs.Words.{word_of};
 use crate::TURNS;
 use crate::ending::Ending;
 use crate::logged_in::LoggedIn;
+use credentials::Credential;
 use link_desk::desk::LinkDesk;
 use link_run::links::CleanLink;
 use link_start::start::start_link;
@@ -62,7 +63,8 @@ fn start_anew<D: LinkDesk, G: Gate<D::End>>(
         return Err(Ending::Unreached);
     };
     gate.watch(&mut end);
-    match start_link(alloc, end, key, &user.secret, number, born, gate, TURNS) {
+    let credential = Credential::new(&user.secret, &logged_in.word, number);
+    match start_link(alloc, end, key, &credential, number, born, gate, TURNS) {
         Ok(link) => Ok(link),
         Err(fault) => Err(Ending::Unstarted(fault.cause)),
     }

@@ -7,6 +7,7 @@ use crate::ends::{has_ended, is_alive, reads_all, writes_all};
 use crate::lease::{LIMIT, TALK, pumped};
 use crate::making::{CUT, PASSWORD, key, server};
 use crate::told::{put_bytes, put_numbers, put_unless};
+use credentials::Credential;
 use link_run::links::{CleanLink, UsedLink};
 use link_run::reset::{Disposed, ResetFault, reset_link};
 use link_start::start::{StartCause, StartLinkFault, start_link};
@@ -50,8 +51,18 @@ fn started<E: ServerEnd>(
     let Ok(secret) = Secret::read(alloc, PASSWORD) else {
         return Err(AllocError);
     };
+    let credential = Credential::new(&secret, &KEY_WORD, 5);
     let key = key(alloc)?;
-    match start_link(alloc, end, key, &secret, 5, 9, &mut OpenGate::new(), TURNS) {
+    match start_link(
+        alloc,
+        end,
+        key,
+        &credential,
+        5,
+        9,
+        &mut OpenGate::new(),
+        TURNS,
+    ) {
         Ok(link) => Ok(Some(link)),
         Err(fault) => {
             put_start_fault(fault, out)?;

@@ -138,7 +138,7 @@ rests_answered p v x f n h t r a = settled_links_rest (lease_of p v x) x.arrived
 state_in : State → Stage → State
 state_in d (Open s) = s
 state_in d (Before auth) = d
-state_in d (Asked start answer) = d
+state_in d (Asked start answer rest) = d
 state_in d Closed = d
 
 same_state : (s t : State) → Open s ≡ Open t → s ≡ t

@@ -1,2 +1,3 @@
 pub mod StandingText
 pub mod Replaying
+mod Startable

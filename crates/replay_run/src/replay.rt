@@ -17,6 +17,7 @@ ghost use Rattle.replay_run.specs.Told.{Adds, IsKeyed, IsPastArrival, Says, Want
 
 use crate::standing::{KEY_WORD, catalogue, settings, users};
 use bytes::BytesMut;
+use credentials::Credential;
 use login_core::laws::login_is_of_its_row;
 use login_core::{Login, LoginStep};
 use login_laws::laws::{passed_keys_are_link_keys, settings_rows_are_lawful};
@@ -105,6 +106,7 @@ fn served(
     let catalogue = Arc::try_clone(&service.catalogue)?;
     // the server asks for nothing
     let unasked = Secret::Md5([0; 32]);
+    let credential = Credential::new(&unasked, &KEY_WORD, 0);
     let server = MemoryServer::spared(
         alloc,
         catalogue,
@@ -117,7 +119,7 @@ fn served(
         alloc,
         server,
         Arc::try_clone(key)?,
-        &unasked,
+        &credential,
         KEY_WORD,
         service.limit,
         service.cut,

@@ -1,3 +1,4 @@
 pub mod Fields
+pub mod Passwords
 pub mod Secrets
 pub mod Users

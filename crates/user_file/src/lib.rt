@@ -3,11 +3,13 @@
 
 mod faults;
 mod fields;
+mod password;
 mod reading;
 mod secrets;
 mod user_table;
 
 pub use faults::{UserCause, UserFault};
+pub use password::Password;
 pub use reading::read_users;
 pub use secrets::Secret;
 pub use user_table::{UserRow, Users};

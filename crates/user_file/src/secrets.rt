@@ -3,6 +3,7 @@ ghost use Rattle.std.specs.Prelude.{◌≡◌, IfOk, IfSome, bytes_eq};
 ghost use Rattle.std.specs.List.{list_all};
 ghost use Rattle.user_file.specs.Secrets as spec;
 
+use crate::password::Password;
 use md5::{Digest, Md5};
 use std::alloc::{AllocError, Global};
 use std::fmt;
@@ -11,7 +12,7 @@ use text_lines::Text;
 /// What the user file says of a user's password. It shows as its kind alone.
 pub enum Secret {
     /// The password.
-    Plain(Text),
+    Plain(Password),
     /// The 32 lower-case hex digits of the MD5 digest of the password followed by the user's name.
     Md5([u8; 32]),
 }
@@ -94,7 +95,7 @@ impl Secret {
     {
         match md5_digits(text) {
             Some(digits) => Ok(Secret::Md5(digits)),
-            None => Ok(Secret::Plain(Text::copy(alloc, text)?)),
+            None => Ok(Secret::Plain(Password::new(alloc, Text::copy(alloc, text)?))),
         }
     }
 

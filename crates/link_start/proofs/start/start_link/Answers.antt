@@ -15,30 +15,30 @@ returns-in-Ok-Ready-clause-started g c =
 
 pub returns-in-Ok-Ready-clause-own_key : goal.returns-in-Ok-Ready-clause-own_key
 returns-in-Ok-Ready-clause-own_key g c =
-    c.finish.ensures.own_key _ _ (done_from _ c.args.secret.now _ _ _ c.requires.can_start c.requires.key c.loop-left.invariant.key c.in-Ok-Ready.ensures.same.0 c.loop-left.invariant.under_way (c.in-Ok-Ready.ensures.under_way _) (c.in-Ok-Ready.ensures.welcomed c.in-Ok-Ready.field-0-is))
+    c.finish.ensures.own_key _ _ (done_from _ c.args.credential.now _ _ _ c.requires.can_start c.requires.key c.loop-left.invariant.key c.in-Ok-Ready.ensures.same.0 c.loop-left.invariant.under_way (c.in-Ok-Ready.ensures.under_way _) (c.in-Ok-Ready.ensures.welcomed c.in-Ok-Ready.field-0-is))
 
 pub returns-in-Ok-Ready-clause-cause : goal.returns-in-Ok-Ready-clause-cause
 returns-in-Ok-Ready-clause-cause g c =
-    subst (λ (k : StartKeyOf). IfErr c.finish.result (λ f. IsStartCause (g.E.ServerEnd.standing c.args.end) (g.E.ServerEnd.standing f.end) c.args.secret.now k f.cause)) (c.in-Ok-Ready.ensures.same.0 ∙ c.loop-left.invariant.key)
+    subst (λ (k : StartKeyOf). IfErr c.finish.result (λ f. IsStartCause (g.E.ServerEnd.standing c.args.end) (g.E.ServerEnd.standing f.end) c.args.credential.now k f.cause)) (c.in-Ok-Ready.ensures.same.0 ∙ c.loop-left.invariant.key)
     (c.finish.ensures.cause _ _ (done_from _ _ _ _ _ c.requires.can_start c.requires.key c.loop-left.invariant.key c.in-Ok-Ready.ensures.same.0 c.loop-left.invariant.under_way (c.in-Ok-Ready.ensures.under_way _) (c.in-Ok-Ready.ensures.welcomed c.in-Ok-Ready.field-0-is)))
 
 pub returns-in-Err-clause-cause : goal.returns-in-Err-clause-cause
 returns-in-Err-clause-cause g c =
-    subst (λ (k : StartKeyOf). IsStartCause (g.E.ServerEnd.standing c.args.end) (g.E.ServerEnd.standing c.fail-in-Err.result.end) c.args.secret.now k c.fail-in-Err.result.cause) c.loop-left.invariant.key
-    (subst (λ (s : Standing). IsStartCause (g.E.ServerEnd.standing c.args.end) s c.args.secret.now c.loop-left.start.key c.fail-in-Err.result.cause) (sym c.fail-in-Err.ensures.end)
-    (subst (λ (cause : StartCause). IsStartCause (g.E.ServerEnd.standing c.args.end) c.turn.new.self.end c.args.secret.now c.loop-left.start.key cause) (sym c.fail-in-Err.ensures.cause)
+    subst (λ (k : StartKeyOf). IsStartCause (g.E.ServerEnd.standing c.args.end) (g.E.ServerEnd.standing c.fail-in-Err.result.end) c.args.credential.now k c.fail-in-Err.result.cause) c.loop-left.invariant.key
+    (subst (λ (s : Standing). IsStartCause (g.E.ServerEnd.standing c.args.end) s c.args.credential.now c.loop-left.start.key c.fail-in-Err.result.cause) (sym c.fail-in-Err.ensures.end)
+    (subst (λ (cause : StartCause). IsStartCause (g.E.ServerEnd.standing c.args.end) c.turn.new.self.end c.args.credential.now c.loop-left.start.key cause) (sym c.fail-in-Err.ensures.cause)
     (c.in-Err.ensures.cause _ c.requires.can_start (subst (λ (k : StartKeyOf). IsLinkKey k) (sym c.loop-left.invariant.key) c.requires.key) c.loop-left.invariant.under_way)))
 
 pub returns-clause-turns : goal.returns-clause-turns
 returns-clause-turns g c = λ _.
-    subst (λ (s : Standing). HasTried (g.E.ServerEnd.standing c.args.end) c.args.secret.now (arc_value c.args.key) s c.args.turns) (sym c.fail-2.ensures.end)
-    (subst (λ (k : StartKeyOf). HasTried (g.E.ServerEnd.standing c.args.end) c.args.secret.now k c.loop-left.start.end c.args.turns) c.loop-left.invariant.key
+    subst (λ (s : Standing). HasTried (g.E.ServerEnd.standing c.args.end) c.args.credential.now (arc_value c.args.key) s c.args.turns) (sym c.fail-2.ensures.end)
+    (subst (λ (k : StartKeyOf). HasTried (g.E.ServerEnd.standing c.args.end) c.args.credential.now k c.loop-left.start.end c.args.turns) c.loop-left.invariant.key
     (has_tried _ _ c.loop-left.start _ c.loop-left.invariant.under_way (omega (arith, c.loop-left.invariant.tried, c.loop-left-test.false)) c.loop-left.invariant.waits))
 
 pub returns-then-is_late-clause-unanswered : goal.returns-then-is_late-clause-unanswered
 returns-then-is_late-clause-unanswered g c = λ _.
-    subst (λ (s : Standing). HasTried (g.E.ServerEnd.standing c.args.end) c.args.secret.now (arc_value c.args.key) s 0) (sym c.fail.ensures.end)
-    (subst (λ (k : StartKeyOf). HasTried (g.E.ServerEnd.standing c.args.end) c.args.secret.now k c.loop-left.start.end 0) c.loop-left.invariant.key
+    subst (λ (s : Standing). HasTried (g.E.ServerEnd.standing c.args.end) c.args.credential.now (arc_value c.args.key) s 0) (sym c.fail.ensures.end)
+    (subst (λ (k : StartKeyOf). HasTried (g.E.ServerEnd.standing c.args.end) c.args.credential.now k c.loop-left.start.end 0) c.loop-left.invariant.key
     (has_tried _ _ c.loop-left.start _ c.loop-left.invariant.under_way (omega (arith, c.loop-left.invariant.tried, c.loop-left.invariant.fewer)) c.loop-left.invariant.waits))
 
 pub loop-left-preserved-in-Ok-Idle : goal.loop-left-preserved-in-Ok-Idle
@@ -76,5 +76,5 @@ loop-left-preserved g c =
 pub finish-requires : goal.finish-requires
 finish-requires g c = (
   g.E.ServerEnd.standing c.args.end,
-  (c.args.secret.now, done_from _ _ _ _ _ c.requires.can_start c.requires.key c.loop-left.invariant.key c.in-Ok-Ready.ensures.same.0 c.loop-left.invariant.under_way (c.in-Ok-Ready.ensures.under_way _) (c.in-Ok-Ready.ensures.welcomed c.in-Ok-Ready.field-0-is)),
+  (c.args.credential.now, done_from _ _ _ _ _ c.requires.can_start c.requires.key c.loop-left.invariant.key c.in-Ok-Ready.ensures.same.0 c.loop-left.invariant.under_way (c.in-Ok-Ready.ensures.under_way _) (c.in-Ok-Ready.ensures.welcomed c.in-Ok-Ready.field-0-is)),
 )

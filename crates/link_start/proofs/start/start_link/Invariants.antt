@@ -6,14 +6,14 @@ use Rattle.link_start.proofs.start.start_link.Given as goal
 
 abbrev pub invariant-loop-left : goal.invariant-loop-left
 invariant-loop-left g l = record {
-  under_way : IsStartUnderWay (g.E.ServerEnd.standing l.fn.end) l.secret l.start;
+  under_way : IsStartUnderWay (g.E.ServerEnd.standing l.fn.end) l.credential l.start;
   key : l.start.key ≡ arc_value l.fn.key;
   number : l.start.number ≡ l.fn.number;
   born : l.start.born ≡ l.fn.born;
   short : length l.start.received ≤ LONGEST_WELCOME;
   fewer : l.left ≤ l.fn.turns;
   tried : l.fn.turns + waits_of (g.E.ServerEnd.standing l.fn.end) ≤ waits_of l.start.end + l.left;
-  waits : IsWaitingStart l.secret l.start;
+  waits : IsWaitingStart l.credential l.start;
   taken : g.G.Gate.turns l.gate + moved_of (g.E.ServerEnd.standing l.fn.end) + l.left ≤ g.G.Gate.turns l.fn.gate + l.fn.turns + moved_of l.start.end;
   paced : waits_of l.start.end + g.G.Gate.turns l.fn.gate ≤ waits_of (g.E.ServerEnd.standing l.fn.end) + g.G.Gate.turns l.gate;
 }

@@ -9,7 +9,7 @@ use Rattle.link_start.proofs.start_reply.read_start_reply.Given as goal
 
 abbrev pub invariant-loop-frame : goal.invariant-loop-frame
 invariant-loop-frame l = record {
-  so_far : heard_all l.secret l.heard (frames_left l.frames) ≡ heard_all l.secret Nothing (frames Server LONGEST_REPLY l.reply).frames;
+  so_far : heard_all l.credential l.heard (frames_left l.frames) ≡ heard_all l.credential Nothing (frames Server LONGEST_REPLY l.reply).frames;
   rest : rest_left l.frames ≡ (frames Server LONGEST_REPLY l.reply).rest;
 }
 

@@ -2,6 +2,7 @@ use Rattle.std.proofs.Common.{refl, sym, ap, ◌∙◌, subst}
 use Rattle.std.specs.Arc.{arc_value}
 use Rattle.session_values.specs.State.{StartKeyOf, address_of}
 use Rattle.link_laws.specs.Standing.{Standing}
+use Rattle.credentials.specs.Credentials.{CredentialOf}
 use Rattle.link_desk.specs.Homes.{IsDialled}
 use Rattle.link_start.specs.Starts.{HasTried, IsStartCause}
 use Rattle.pool_serve.specs.declared.TheConstants.{TURNS}
@@ -11,25 +12,25 @@ use Rattle.pool_serve.proofs.opening.start_anew.Goals as goal
 
 pub returns-in-Ok-start_link-clause-home : goal.returns-in-Ok-start_link-clause-home
 returns-in-Ok-start_link-clause-home g c =
-    started_home g.D.LinkDesk.home (g.D.End.ServerEnd.standing c.watch.new.end) c.in-Some.user.now.secret (arc_value c.args.logged_in.now.key) c.in-Ok-start_link.link
+    started_home g.D.LinkDesk.home (g.D.End.ServerEnd.standing c.watch.new.end) c.new-credential.result (arc_value c.args.logged_in.now.key) c.in-Ok-start_link.link
     (subst (λ (k : StartKeyOf). IsDialled g.D.LinkDesk.home k (g.D.End.ServerEnd.standing c.watch.new.end)) c.deref.ensures (subst (λ (s : Standing). IsDialled g.D.LinkDesk.home c.deref.result.now s) (sym c.watch.ensures.stands) c.in-Some-dial.ensures))
     c.in-Ok-start_link.ensures.started
     (c.in-Ok-start_link.ensures.key ∙ c.in-Ok.ensures)
 
-pub returns-in-Err-clause-told : goal.returns-in-Err-clause-told
-returns-in-Err-clause-told g c = λ lets.
+pub returns-clause-told : goal.returns-clause-told
+returns-clause-told g c = λ lets.
     let end = c.watch.new.end in
     let dialled = subst (λ (k : StartKeyOf). IsDialled g.D.LinkDesk.home k (g.D.End.ServerEnd.standing c.watch.new.end)) c.deref.ensures (subst (λ (s : Standing). IsDialled g.D.LinkDesk.home c.deref.result.now s) (sym c.watch.ensures.stands) c.in-Some-dial.ensures) in
     let key = arc_value c.args.logged_in.now.key in
     let user = c.in-Some.user.now in
-    unstarted (g.D.LinkDesk.home.catalogue (address_of key)) (g.D.End.ServerEnd.standing end) (g.D.End.ServerEnd.standing c.in-Err.fault.end) user.secret key c.args.logged_in.now.word c.in-Err.fault.cause _ refl
+    unstarted (g.D.LinkDesk.home.catalogue (address_of key)) (g.D.End.ServerEnd.standing end) (g.D.End.ServerEnd.standing c.in-Err.fault.end) c.new-credential.result key c.args.logged_in.now.word c.in-Err.fault.cause _ refl
     (dialled.catalogue (dialled.follows lets.follow))
     (dialled.follows lets.follow)
-    (dialled.lets_in key user.secret (lets.accept key.user user (sym c.in-Some.ensures)))
-    (subst (λ (k : StartKeyOf). IsStartCause (g.D.End.ServerEnd.standing end) (g.D.End.ServerEnd.standing c.in-Err.fault.end) user.secret k c.in-Err.fault.cause) c.in-Ok.ensures c.in-Err.ensures.cause)
+    (dialled.lets_in key c.new-credential.result (ap (g.D.LinkDesk.home.lets_in key.user) c.new-credential.ensures ∙ lets.accept key.user user _ (sym c.in-Some.ensures)))
+    (subst (λ (k : StartKeyOf). IsStartCause (g.D.End.ServerEnd.standing end) (g.D.End.ServerEnd.standing c.in-Err.fault.end) c.new-credential.result k c.in-Err.fault.cause) c.in-Ok.ensures c.in-Err.ensures.cause)
 
-pub returns-in-Err-clause-why : goal.returns-in-Err-clause-why
-returns-in-Err-clause-why g c =
+pub returns-clause-why : goal.returns-clause-why
+returns-clause-why g c =
     let end = c.watch.new.end in
     record {
       user = c.in-Some.user.now;
@@ -37,7 +38,11 @@ returns-in-Err-clause-why g c =
       began = g.D.End.ServerEnd.standing end;
       now = g.D.End.ServerEnd.standing c.in-Err.fault.end;
       dialled = subst (λ (k : StartKeyOf). IsDialled g.D.LinkDesk.home k (g.D.End.ServerEnd.standing c.watch.new.end)) c.deref.ensures (subst (λ (s : Standing). IsDialled g.D.LinkDesk.home c.deref.result.now s) (sym c.watch.ensures.stands) c.in-Some-dial.ensures);
-      is_cause = subst (λ (k : StartKeyOf). IsStartCause (g.D.End.ServerEnd.standing end) (g.D.End.ServerEnd.standing c.in-Err.fault.end) c.in-Some.user.now.secret k c.in-Err.fault.cause) c.in-Ok.ensures c.in-Err.ensures.cause;
-      tried = λ e. subst (λ (k : StartKeyOf). HasTried (g.D.End.ServerEnd.standing end) c.in-Some.user.now.secret k (g.D.End.ServerEnd.standing c.in-Err.fault.end) TURNS) c.in-Ok.ensures (c.in-Err.ensures.turns e);
-      unanswered = λ e. subst (λ (k : StartKeyOf). HasTried (g.D.End.ServerEnd.standing end) c.in-Some.user.now.secret k (g.D.End.ServerEnd.standing c.in-Err.fault.end) 0) c.in-Ok.ensures (c.in-Err.ensures.unanswered e);
+      number = c.args.number;
+      is_cause = subst (λ (cred : CredentialOf). IsStartCause (g.D.End.ServerEnd.standing end) (g.D.End.ServerEnd.standing c.in-Err.fault.end) cred (arc_value c.args.logged_in.now.key) c.in-Err.fault.cause) c.new-credential.ensures
+          (subst (λ (k : StartKeyOf). IsStartCause (g.D.End.ServerEnd.standing end) (g.D.End.ServerEnd.standing c.in-Err.fault.end) c.new-credential.result k c.in-Err.fault.cause) c.in-Ok.ensures c.in-Err.ensures.cause);
+      tried = λ e. subst (λ (cred : CredentialOf). HasTried (g.D.End.ServerEnd.standing end) cred (arc_value c.args.logged_in.now.key) (g.D.End.ServerEnd.standing c.in-Err.fault.end) TURNS) c.new-credential.ensures
+          (subst (λ (k : StartKeyOf). HasTried (g.D.End.ServerEnd.standing end) c.new-credential.result k (g.D.End.ServerEnd.standing c.in-Err.fault.end) TURNS) c.in-Ok.ensures (c.in-Err.ensures.turns e));
+      unanswered = λ e. subst (λ (cred : CredentialOf). HasTried (g.D.End.ServerEnd.standing end) cred (arc_value c.args.logged_in.now.key) (g.D.End.ServerEnd.standing c.in-Err.fault.end) 0) c.new-credential.ensures
+          (subst (λ (k : StartKeyOf). HasTried (g.D.End.ServerEnd.standing end) c.new-credential.result k (g.D.End.ServerEnd.standing c.in-Err.fault.end) 0) c.in-Ok.ensures (c.in-Err.ensures.unanswered e));
     }

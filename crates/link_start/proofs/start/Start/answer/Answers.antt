@@ -1,44 +1,58 @@
-use Rattle.std.proofs.Common.{◌≡◌, drop, arith, sym, ap, ◌∙◌, subst, true, Some}
+use Rattle.std.proofs.Common.{◌≡◌, ◌+◌, ℕ, List, drop, arith, sym, ap, ◌∙◌, subst, length, length-append}
+use Rattle.std.specs.Arc.{arc_value}
 use Rattle.std.proofs.lemmas.List.{drop-append-le}
+use Rattle.frame_view.specs.Frames.{AreBytes, spelling}
 use Rattle.message_view.specs.Bodies.{Text}
 use Rattle.session_values.specs.State.{StartKeyOf}
-use Rattle.frame_view.specs.Frames.{AreBytes}
-use Rattle.std.specs.Arc.{arc_value}
-use Rattle.link_laws.specs.Dialogues.{auth_of}
-use Rattle.user_file.specs.Secrets.{answer}
+use Rattle.link_laws.specs.Dialogues.{answer_message}
 use Rattle.link_start.specs.Questions.{answer_to}
 use Rattle.link_start.specs.StartReply.{heard}
 use Rattle.link_start.specs.declared.start_reply.StartProgress.TheVariants.{Asked}
-use Rattle.link_start.specs.Starts.{StartView, IsStartUnderWay, IsLinkKey, own_answer}
-use Rattle.link_start.proofs.Starting.{none_shown, own_answer_is, start_answered, unanswerable_cause}
-use Rattle.link_start.proofs.start.Start.answer.Goals.{in-Cleartext+in-Some+in_ok-put_password_message-in-Cleartext, in-Md5+in_ok-put_password_message-in-Md5}
+use Rattle.link_start.specs.declared.start.StartCause.TheVariants as causes
+use Rattle.link_start.specs.Starts.{StartView, start_view, IsStartUnderWay, IsLinkKey, bytes_left}
+use Rattle.link_start.proofs.Lengths.{wanted_most}
+use Rattle.link_start.proofs.Starting.{caused, left_answered, next_answered, none_put, put_so, unanswerable_cause}
 use Rattle.link_start.proofs.start.Start.answer.Goals as goal
 
-pub returns-in_default-clause-cause : goal.returns-in_default-clause-cause
-returns-in_default-clause-cause g c = λ b can k x.
-    let none = ap (answer_to c.args.secret.now c.args.self.now.key.user) c.in-Cleartext.is ∙ none_shown c.password_of.result _ c.in_default.not-Some c.password_of.ensures in
-    unanswerable_cause b c.args.secret.now c.args.self.now c.args.question can k x c.requires.bytes c.requires.asked none
+pub returns-then-not-branch-clause-cause : goal.returns-then-not-branch-clause-cause
+returns-then-not-branch-clause-cause g c = λ b can k x.
+    let view = c.self-2.view_is in
+    let received = ap (λ (v : StartView). v.received) view ∙ c.in_ok-answer_before.ensures.received in
+    let key = ap (λ (v : StartView). v.key) view ∙ c.in_ok-answer_before.ensures.same.0 in
+    let user = c.as_slice-user.ensures ∙ ap (λ (o : StartKeyOf). o.user) (c.behind-self.view_is ∙ c.deref.ensures) in
+    let none = none_put c.in_ok-put_answer.field-0 _ _ _ c.if-not-branch.true c.in_ok-put_answer.ensures in
+    caused b _ c.args.credential.now _ c.args.self.now.key (causes.Unanswerable c.args.question) key
+    (unanswerable_cause b c.args.credential.now _ c.args.question can (subst IsLinkKey (sym key) k)
+    (subst (λ (v : StartView). IsStartUnderWay b c.args.credential.now v) (sym view) (c.in_ok-answer_before.ensures.under_way b can k x))
+    (subst AreBytes (sym received) c.requires.bytes) (subst (λ (bytes : List ℕ). heard c.args.credential.now bytes ≡ Asked c.args.question) (sym received) c.requires.asked)
+    (ap (λ (u : Text). answer_to c.args.credential.now u c.args.question) (sym user) ∙ none)
+    (omega (arith, ap (λ (v : StartView). v.answered) view, c.in_ok-answer_before.ensures.one)))
 
-pub returns-in-Unknown-clause-cause : goal.returns-in-Unknown-clause-cause
-returns-in-Unknown-clause-cause g c = λ b can k x.
-    let none = ap (answer_to c.args.secret.now c.args.self.now.key.user) c.in-Unknown.is in
-    unanswerable_cause b c.args.secret.now c.args.self.now c.args.question can k x c.requires.bytes c.requires.asked none
+pub invariant_of-self-2 : goal.invariant_of-self-2
+invariant_of-self-2 g c =
+    let put = put_so c.in_ok-put_answer.field-0 _ _ _ c.if-not-branch.false c.in_ok-put_answer.ensures in
+    omega (arith, c.self-2.invariant, ap length put.2, length-append c.self-2.inside.messages.items (spelling (answer_message put.0)))
 
 pub returns-clause-under_way : goal.returns-clause-under_way
 returns-clause-under_way g c = λ b can k x.
-    let y = subst (λ (v : StartView). IsStartUnderWay b c.args.secret.now v) (sym c.self.view_is) x in
-    let own : b.follows ≡ true → own_answer c.args.secret.now (arc_value c.self.inside.key).user (auth_of b.stage) ≡ answer_to c.args.secret.now (arc_value c.self.inside.key).user c.args.question = λ f. own_answer_is b c.args.secret.now _ can (subst (λ (v : StartView). IsLinkKey v.key) (sym c.self.view_is) k) y f (subst (λ (v : StartView). AreBytes v.received) (sym c.self.view_is) c.requires.bytes)
-    c.args.question (subst (λ (v : StartView). heard c.args.secret.now v.received ≡ Asked c.args.question) (sym c.self.view_is) c.requires.asked) in
-    elim c.match-question.branch [
-      | in-Cleartext+in-Some+in_ok-put_password_message-in-Cleartext w ↦ rw w.self-inside-is
-          (start_answered b _ c.args.secret.now _ _ _ _ _ _ _ _ c.if-self.false
-          (ap (drop c.self.inside.sent) w.in_ok-put_password_message-in-Cleartext.ensures.0 ∙ drop-append-le c.self.inside.sent c.self.inside.messages.items _ c.self.invariant)
-          (omega (arith, w.in_ok-put_password_message-in-Cleartext.ensures.1))
-          (λ f. own f ∙ ap (answer_to c.args.secret.now (arc_value c.self.inside.key).user) w.in-Cleartext.is ∙ sym w.in-Some.ensures) y)
-      | in-Md5+in_ok-put_password_message-in-Md5 w ↦ rw w.self-inside-is
-          (start_answered b _ c.args.secret.now _ _ _ _ _ _ _ _ c.if-self.false
-          (ap (drop c.self.inside.sent) w.in_ok-put_password_message-in-Md5.ensures.0 ∙ drop-append-le c.self.inside.sent c.self.inside.messages.items _ c.self.invariant)
-          (omega (arith, w.in_ok-put_password_message-in-Md5.ensures.1))
-          (λ f. own f ∙ ap (answer_to c.args.secret.now (arc_value c.self.inside.key).user) w.in-Md5.is
-          ∙ ap (λ (t : Text). Some t) (ap (λ (u : Text). answer c.args.secret.now u w.in-Md5.salt) (sym (w.as_slice.ensures ∙ ap (λ (key : StartKeyOf). key.user) (w.behind-self.view_is ∙ w.deref.ensures))) ∙ sym w.answer-digest.ensures)) y)
-    ]
+    let view = c.self-2.view_is in
+    let received = ap (λ (v : StartView). v.received) view ∙ c.in_ok-answer_before.ensures.received in
+    let key = ap (λ (v : StartView). v.key) view ∙ c.in_ok-answer_before.ensures.same.0 in
+    let user = c.as_slice-user.ensures ∙ ap (λ (o : StartKeyOf). o.user) (c.behind-self.view_is ∙ c.deref.ensures) in
+    let put = put_so c.in_ok-put_answer.field-0 _ _ _ c.if-not-branch.false c.in_ok-put_answer.ensures in
+    next_answered b c.args.credential.now _ c.args.question _ put.0 can (subst IsLinkKey (sym key) k)
+    (subst (λ (v : StartView). IsStartUnderWay b c.args.credential.now v) (sym view) (c.in_ok-answer_before.ensures.under_way b can k x))
+    (subst AreBytes (sym received) c.requires.bytes) (subst (λ (bytes : List ℕ). heard c.args.credential.now bytes ≡ Asked c.args.question) (sym received) c.requires.asked)
+    (ap (λ (v : StartView). v.answered + 1) view ∙ c.in_ok-answer_before.ensures.one)
+    (ap (λ (u : Text). answer_to c.args.credential.now u c.args.question) (sym user) ∙ put.1)
+    (ap (drop c.self-2.inside.sent) put.2 ∙ drop-append-le c.self-2.inside.sent c.self-2.inside.messages.items _ c.self-2.invariant) put.3
+
+pub returns-clause-left : goal.returns-clause-left
+returns-clause-left g c =
+    let view = c.self-2.view_is in
+    let put = put_so c.in_ok-put_answer.field-0 _ _ _ c.if-not-branch.false c.in_ok-put_answer.ensures in
+    let before : StartView =
+    start_view (g.E.ServerEnd.standing c.self-2.inside.end) (arc_value c.self-2.inside.key) c.self-2.inside.number c.self-2.inside.born c.self-2.inside.answered (drop c.self-2.inside.sent c.self-2.inside.messages.items) c.self-2.inside.reply.items in
+    let less = left_answered before (drop c.self-2.inside.sent c.put_answer.new.out.items) put.0 (ap (drop c.self-2.inside.sent) put.2 ∙ drop-append-le c.self-2.inside.sent c.self-2.inside.messages.items _ c.self-2.invariant) put.3
+    (omega (arith, ap (λ (v : StartView). v.answered) view, c.in_ok-answer_before.ensures.one, wanted_most c.args.question)) in
+    omega (arith, less, ap bytes_left view, c.in_ok-answer_before.ensures.left)

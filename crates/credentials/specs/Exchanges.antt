@@ -1,0 +1,37 @@
+-- What a password makes of a server's challenge (RFC 5802, section 3).
+use Rattle.std.specs.Prelude.{ℕ, List, ◌++◌, Option, None, option_map, codes}
+use Rattle.user_file.specs.declared.secrets.Secret.{Secret}
+use Rattle.user_file.specs.declared.secrets.Secret.TheVariants.{Plain, Md5}
+use Rattle.sasl_prep.specs.Prepared.{prepared}
+use Rattle.scram.specs.Hmac.{hi}
+use Rattle.scram.specs.declared.keys.ClientKeys.{ClientKeys}
+use Rattle.scram.specs.Keys.{auth_message, client_keys, proof}
+use Rattle.scram.specs.Messages.{ChallengeOf, challenge_of, final, last, unproved}
+use Rattle.credentials.specs.Credentials.{Text, CredentialOf}
+
+-- the client's answer, and the server's own proof, which has to follow
+pub record ExchangeOf : Type 0 where
+  pub last : Text
+  pub proof : Text
+
+-- the client's first message without its header
+abbrev pub bare : (nonce : Text) → Text
+bare nonce = codes "n=,r=" ++ nonce
+
+abbrev pub proved_over : ClientKeys → (joint auth : Text) → ExchangeOf
+proved_over keys joint auth = record { last = last joint (proof keys.client auth); proof = final keys.server auth }
+
+-- by the client's nonce, the challenge, and the nonce of both in it
+abbrev pub exchange_by : ClientKeys → (nonce challenge joint : Text) → ExchangeOf
+exchange_by keys nonce challenge joint = proved_over keys joint (auth_message (bare nonce) challenge (unproved (codes "n,,") joint))
+
+abbrev pub exchange_with : (password nonce challenge : Text) → ChallengeOf → ExchangeOf
+exchange_with password nonce challenge c = exchange_by (client_keys (hi (prepared password) c.salt c.rounds)) nonce challenge c.nonce
+
+abbrev pub exchange_over : Secret → (nonce challenge : Text) → Option ExchangeOf
+exchange_over (Plain password) nonce challenge = option_map (exchange_with password nonce challenge) (challenge_of nonce challenge)
+exchange_over (Md5 digits) nonce challenge = None
+
+-- none where there is no password, or the text is no challenge to the nonce
+unfoldable pub exchange_of : CredentialOf → Text → Option ExchangeOf
+exchange_of c challenge = exchange_over c.secret c.nonce challenge

@@ -1,0 +1,109 @@
+//! A secret, with the nonce of one start.
+ghost use Rattle.std.specs.Prelude.{◌≡◌, IfOk, length, true};
+ghost use Rattle.message_view.specs.Parts.{Puts};
+ghost use Rattle.credentials.specs.Credentials.{answers_scram, credential_of, first_response, start_nonce};
+ghost use Rattle.credentials.specs.Exchanges.{exchange_of};
+
+use crate::exchange::Exchange;
+use bytes::BytesMut;
+use frame_view::client::PASSWORD_MESSAGE;
+use message_view::{KeyWord, put_message};
+use scram::Message;
+use scram::client_messages::first_message;
+use scram::server_messages::{Challenge, nonce};
+use std::alloc::{AllocError, Global};
+use std::marker::Model;
+use user_file::Secret;
+
+/// The secret by which a user is let in at a server, and the nonce by which it asks for that by SCRAM. A start has a nonce of its own.
+pub struct Credential<'a> {
+    secret: &'a Secret,
+    nonce: [u8; 24],
+}
+
+impl<'a> Drop for Credential<'a> {
+    fn drop(self) {
+        let Credential {
+            secret: _,
+            nonce: _,
+        } = self;
+    }
+}
+
+impl<'a> Model for Credential<'a> {
+    ghost use Rattle.credentials.specs.Credentials.{CredentialOf, credential_of};
+
+    ghost Value = { CredentialOf };
+
+    ghost view = { λ c. credential_of c.secret.now c.nonce };
+}
+
+/// The nonce of the start of a link: 24 characters, which nobody can guess who doesn't know the key word. A client may start more than one
+/// link, so the link's number is in it.
+fn nonce_of(word: &KeyWord, number: u64) -> [u8; 24]
+    ensures { result ≡ start_nonce word.now number }
+{
+    let mut seed = Message::new();
+    seed.push(b"link");
+    seed.push(&word.pid.to_be_bytes());
+    seed.push(&word.secret.to_be_bytes());
+    seed.push(&word.salt);
+    seed.push(&number.to_be_bytes());
+    nonce(seed.as_bytes())
+}
+
+impl<'a> Credential<'a> {
+    /// The credential of a user with this secret for the start of a link of this number, for a client with this key word.
+    pub fn new(secret: &'a Secret, word: &KeyWord, number: u64) -> Credential<'a>
+        ensures { result ≡ credential_of secret.now (start_nonce word.now number) }
+    {
+        Credential {
+            secret,
+            nonce: nonce_of(word, number),
+        }
+    }
+
+    pub fn secret(&self) -> &'a Secret
+        ensures { result.now ≡ self.now.secret }
+    {
+        self.secret
+    }
+
+    /// Whether it answers a server that asks for SCRAM: by a password, of which a digest keeps nothing that SCRAM could use.
+    pub fn answers_scram(&self) -> bool
+        ensures { result ≡ answers_scram self.now }
+    {
+        match self.secret {
+            Secret::Plain(_) => true,
+            Secret::Md5(_) => false,
+        }
+    }
+
+    /// Puts the SASLInitialResponse, which names the mechanism SCRAM-SHA-256 and has the client's first message.
+    ///
+    /// `AllocError` where a growth is refused; then `out` is unchanged.
+    pub fn put_first(&self, out: &mut BytesMut) -> Result<(), AllocError>
+        ensures { Puts result out.old out.new (first_response self.now) }
+    {
+        let first = first_message(&self.nonce);
+        let text = first.as_bytes();
+        let length = (text.len() as u32).to_be_bytes();
+        put_message(out, PASSWORD_MESSAGE, &[b"SCRAM-SHA-256\0", &length, text])
+    }
+
+    /// What it makes of a server's challenge, by its text; none where it answers no SCRAM, or the text is no challenge to its nonce
+    /// ([`Challenge::read`]). The only error is out of memory.
+    #[tactic(auto, unfolding(crate::specs::Exchanges::exchange_of))]
+    pub fn exchange(&self, alloc: Global, challenge: &[u8]) -> Result<Option<Exchange>, AllocError>
+        ensures { IfOk result (λ o. o ≡ exchange_of self.now challenge.now) }
+    {
+        let Secret::Plain(password) = self.secret else {
+            return Ok(None);
+        };
+        let Some(read) = Challenge::read(alloc, &self.nonce, challenge)? else {
+            return Ok(None);
+        };
+        let salted = password.salted(alloc, &read.salt, read.rounds)?;
+        Ok(Some(Exchange::of(&salted, &self.nonce, challenge, read.nonce)))
+    }
+}
