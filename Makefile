@@ -127,6 +127,7 @@ gate:
 	scripts/cursors.sh $(program)
 	scripts/postgres.sh $(program)
 	scripts/calls.py $(program) 40
+	scripts/scram_servers.py $(program)
 	scripts/reach.sh $(program)
 	scripts/restarts.sh $(program)
 	scripts/limits.sh $(program)

@@ -315,10 +315,12 @@ class Show:
         self.cluster.tell("ALTER ROLE ann NOLOGIN", "postgres")
         self.refused(pooler, "a user without LOGIN", "28000", "ann")
         self.told(pooler, "a server's refusal", rf"refused after \d+\.\d s: server {shop} refused the start: 28000 ")
-        self.cluster.tell("SET password_encryption = 'scram-sha-256'; ALTER ROLE ann LOGIN PASSWORD 'secret'", "postgres")
-        self.refused(pooler, "a server that asks for SCRAM", "08001", "ann")
-        self.told(pooler, "a server that asks for SCRAM", rf"server {shop} asks for SCRAM \(authentication method 10\), which isn't served: use md5 or a password \(P7\)$")
-        self.cluster.tell("ALTER ROLE ann PASSWORD 'secret'", "postgres")
+        self.cluster.tell("SET password_encryption = 'scram-sha-256'; ALTER ROLE ann LOGIN PASSWORD 'secret'; ALTER ROLE bc PASSWORD 'a'", "postgres")
+        self.refused(pooler, "a server that asks for SCRAM, and a password", "let in", "ann")
+        self.refused(pooler, "a server that asks for SCRAM, and a digest", "08001", "bc")
+        why = r"which can't be answered: the user file has but a digest, or SCRAM-SHA-256 isn't offered \(P7\)$"
+        self.told(pooler, "a server that asks for SCRAM", rf"server {shop} asks for SCRAM \(authentication method 10\), {why}")
+        self.cluster.tell("ALTER ROLE ann PASSWORD 'secret'; ALTER ROLE bc PASSWORD 'a'", "postgres")
 
     def client(self, pooler):
         return Client(pooler.port, "ann", "shop", USERS["ann"][0])

@@ -87,7 +87,7 @@ STRANGE = {
     "AuthenticationOk and a byte": authentication(0, b"\0"),
     "a second AuthenticationOk": authentication(0),
     "MD5 with a short salt": authentication(5, b"\1\2\3"),
-    "SASL": authentication(10, b"SCRAM-SHA-256\0\0"),
+    "SASL": authentication(10, b"SCRAM-SHA-256-PLUS\0\0"),
     "a report of no name": message(b"S"),
     "a report of an unknown name": status(b"unknown", b"1"),
     "a report without its last zero": message(b"S", b"TimeZone\0UTC"),

@@ -32,11 +32,6 @@ class DefaultServer(Cluster):
             file.write(f"listen_addresses = '{HERE}'\nport = {self.port}\nunix_socket_directories = '{place.folder}'\nfsync = off\n")
         self.start()
 
-    def put_first(self, line):
-        """Lets a line stand above all others of pg_hba.conf. The server reads it again when it is told to."""
-        file = self.data / "pg_hba.conf"
-        file.write_text(line + "\n" + file.read_text())
-
 
 class Page:
     """What stands on the page."""
@@ -126,25 +121,19 @@ class Walk:
 def pools(passes, page, walk):
     """The lines of "Pool your PostgreSQL"."""
     lines = page.block("Pool your PostgreSQL")
-    hba, make_roles, install, serve, client, console = lines
-    passes.same("the page's six lines are those that this script knows",
-                [it.split()[0] for it in lines], ["#", "psql", "make", "pgsess", "psql", "psql"])
+    make_roles, install, serve, client, console = lines
+    passes.same("the page's five lines are those that this script knows", [it.split()[0] for it in lines], ["psql", "make", "pgsess", "psql", "psql"])
     passes.same(install.split("  ")[0], walk.run(install).returncode, 0)
 
     passes.holds("the pool listens", walk.serve(serve))
     walk.run(client, "SELECT 1")
-    wanted = f"server {HERE}:{walk.server.port} asks for SCRAM"
-    passes.holds("before the server's two lines, the log says that it asks for SCRAM", until(lambda: wanted in walk.said(), 5), walk.said())
+    wanted = f"server {HERE}:{walk.server.port} refused the start: 28P01"
+    passes.holds("before the role is there, the log says what the server says", until(lambda: wanted in walk.said(), 5), walk.said())
     walk.stop()
 
-    named = walk.run(re.search(r'psql -c ".*?"', hba).group() + " -XAt").stdout.strip()
-    passes.same("the file that the page tells to change", named, str(walk.server.data / "pg_hba.conf"))
-    walk.server.put_first(re.search(r"host .*", hba).group())
     told = walk.run(make_roles)
-    passes.same("the roles, the database, and the file read again", (told.returncode, told.stdout.split()),
-                (0, ["SET", "CREATE", "ROLE", "CREATE", "DATABASE", "pg_reload_conf", "-" * 16, "t", "(1", "row)"]))
+    passes.same("the role and the database", (told.returncode, told.stdout.split()), (0, ["CREATE", "ROLE", "CREATE", "DATABASE"]))
     passes.holds("the pool listens again", walk.serve(serve))
-    # the server reads its file some time after it was told to
     holds = until(lambda: walk.run(client.split("#")[0] + " -XAt", "SELECT current_user, current_database()").stdout.strip() == "ann|shop", 10)
     passes.holds("a client of the pool", holds, walk.said())
     told = walk.run(console)

@@ -1,0 +1,511 @@
+#!/usr/bin/env python3
+"""Shows that `pgsess serve` answers servers that ask for SCRAM-SHA-256, and lets clients in by those alone that know the password too.
+
+Usage: scram_servers.py PROGRAM, at the top of the repository.
+
+First a PostgreSQL of Debian as it is installed, by each auth_type of the pooler: psql, pgbench and plain clients, passwords that SASLprep
+changes, a secret that is but a digest, one that is wrong, and one that is changed. Then servers of this script over TCP, each behind a row of
+its own. Some play the exchange right: dripped, between notices, among other mechanisms. The others play it wrongly in one place: their
+clients are told so, and they are sent nothing behind it. Each message that a server was sent is compared with what Python makes of RFC 5802
+and RFC 7677. At the end neither the log nor the program's output has a secret in it.
+"""
+import base64
+import collections
+import functools
+import hashlib
+import os
+import re
+import signal
+import socket
+import sys
+import threading
+import time
+from concurrent.futures import ThreadPoolExecutor
+
+from cluster import HERE, USERS, Cluster, Passes, Place, Pooler, set_up, until
+from faulty_servers import START, TERMINATE, authentication, packet
+from logins import fatal
+from plain_reader import IDLE, OK, TAG
+from postgres import failures, run
+from reach import UNREACHED, outcome
+from scram import ASKS_SASL, CONTINUES, ENDS, MECHANISM, another, exchange, first, initial, prepared
+from wire import Client, Cut, Refused, message, query, startup
+
+SECONDS = 20
+REST = 0.001
+AUTH_TYPES = ["md5", "plain", "trust"]
+# by passwords that the server knows too; SASLprep leaves the second as it is, takes a soft hyphen out of the third, and writes its other
+# characters as a space and four letters
+KNOWN = {"ann": "pencil-of-ann", "ute": "p\u00e4ssw\u00f6rd", "soft": "so\u00adft\u00a0hyphen\u2168\ufb01"}
+BEFORE, AFTER, DIGESTED = "before-the-change", "behind-the-change", "only-digested"
+AT_SERVER, AT_POOLER = "known-to-the-server", "known-to-the-pooler"
+DIGEST = "md5" + hashlib.md5(f"{DIGESTED}bc".encode()).hexdigest()
+PEOPLE = {
+    **{name: (password, password) for name, password in KNOWN.items()},
+    "mo": (BEFORE, BEFORE),
+    "wanda": (AT_SERVER, AT_POOLER),
+    "bc": (DIGESTED, DIGEST),
+    "root": ("root-of-the-pooler", "root-of-the-pooler"),
+}
+# an encryption request's code
+SSL, GSS = (80877103).to_bytes(4, "big"), (80877104).to_bytes(4, "big")
+LET_IN = [["1"]]
+# a PostgreSQL's rounds, unless it is told others; and those of most servers here, for the sake of the checked builds
+USUAL, FEW = 4096, 50
+# that of a server which keeps it, as PostgreSQL does
+SALT = bytes(range(16))
+NOTICE = message(b"N", b"SNOTICE\0C00000\0Mhello\0\0")
+ONE = (message(b"T", b"\0\1?column?\0" + bytes(6) + b"\0\0\0\x17\0\4" + b"\xff" * 4 + bytes(2)) + message(b"D", b"\0\1\0\0\0\0011")
+       + message(b"C", b"SELECT 1\0") + IDLE)
+ANSWERS = {query("SELECT 1"): ONE, query("DISCARD ALL"): TAG + IDLE}
+OWN_ERROR = 'password authentication failed for user "somebody"'
+
+
+# ---- the exchange
+
+class Talk:
+    """One start at a server of this script: what it was sent, and the texts of its exchange."""
+
+    def __init__(self, start, case):
+        words = start[8:].split(b"\0")
+        self.password = USERS[dict(zip(words[::2], words[1::2]))[b"user"].decode()][0]
+        self.rounds, self.salt, self.more = case.rounds, case.salt or os.urandom(16), base64.b64encode(os.urandom(18))
+        self.sent, self.rest, self.fault, self.is_over = [], b"", "", threading.Event()
+
+    @property
+    def own(self):
+        """The client's nonce."""
+        return first(initial(self.sent[0][5:])[0])[2]
+
+    @functools.cached_property
+    def texts(self):
+        """The client's first message, the challenge, the client's last one, and the server's."""
+        return exchange(prepared(self.password.encode()), self.salt, self.rounds, self.own, self.own + self.more)[:4]
+
+    def faults(self, count, is_over):
+        """What is wrong with what it was sent, which is so many messages, and nothing behind them where it is over."""
+        yield self.fault
+        if is_over and not self.is_over.wait(SECONDS):
+            yield "its connection isn't closed"
+        if len(self.sent) != count or self.rest:
+            yield f"it was sent {[it.hex() for it in self.sent]}, and {self.rest.hex()!r} behind that, for {count} messages"
+        if self.sent:
+            nonce = self.sent[0][-24:]
+            text = b"n,,n=,r=" + nonce
+            wanted = message(b"p", MECHANISM + b"\0" + len(text).to_bytes(4, "big") + text)
+            if self.sent[0] != wanted or not re.fullmatch(rb"[!-+\--~]{24}", nonce):
+                yield f"the client's first message {self.sent[0]!r}"
+        if len(self.sent) > 1 and self.sent[1] != message(b"p", self.texts[2]):
+            yield f"the client's last message {self.sent[1]!r} for {self.texts[2]!r}"
+
+    def secrets(self):
+        """What the log has no business with."""
+        if not self.sent:
+            return []
+        _, _, last, final = self.texts
+        return [self.own, self.more, last.rpartition(b",p=")[2], final[2:]]
+
+
+# ---- what a server says, of a talk
+
+def question(*names):
+    return authentication(ASKS_SASL, b"".join(name + b"\0" for name in names) + b"\0")
+
+
+def challenge(talk):
+    return authentication(CONTINUES, talk.texts[1])
+
+
+def proof(talk):
+    return authentication(ENDS, talk.texts[3])
+
+
+def end(talk):
+    return proof(talk) + START
+
+
+def challenged(form="r={own}{more},s={salt},i={rounds}", **changes):
+    """A challenge of this form, with these in place of what belongs there."""
+    def said(talk):
+        parts = {"own": talk.own.decode(), "more": talk.more.decode(), "salt": base64.b64encode(talk.salt).decode(), "rounds": talk.rounds, **changes}
+        return authentication(CONTINUES, form.format(**parts).encode())
+    return said
+
+
+def proved(change):
+    """The end of a start with the server's last text changed so."""
+    return lambda talk: authentication(ENDS, change(talk.texts[3])) + START
+
+
+def between_notices(*parts):
+    return [lambda talk, part=part: NOTICE + (part(talk) if callable(part) else part).replace(OK, NOTICE + OK + NOTICE) for part in parts]
+
+
+# ---- the cases
+
+# Behind each of its parts but the last the server waits for a message. The last is its lie, unless the client is let in.
+Case = collections.namedtuple("Case", "parts told why user rounds salt drips", defaults=(UNREACHED, "", "ann", FEW, None, False))
+
+SCRAM = question(MECHANISM)
+OTHER = r" answered its start by no message that belongs there \(P7\)"
+HONEST = {
+    "honest": Case([SCRAM, challenge, end], LET_IN, rounds=USUAL, salt=SALT),
+    "the_same_salt_in_fewer_rounds": Case([SCRAM, challenge, end], LET_IN, salt=SALT),
+    "the_same_salt_for_another_user": Case([SCRAM, challenge, end], LET_IN, salt=SALT, user="ute"),
+    "another_salt_each_time": Case([SCRAM, challenge, end], LET_IN),
+    "a_salt_of_one_byte": Case([SCRAM, challenge, end], LET_IN, salt=b"\0"),
+    "a_salt_of_64_bytes": Case([SCRAM, challenge, end], LET_IN, salt=bytes(64)),
+    "password_in_UTF_8": Case([SCRAM, challenge, end], LET_IN, user="ute"),
+    "password_of_strange_characters": Case([SCRAM, challenge, end], LET_IN, user="soft"),
+    "first_of_other_mechanisms": Case([question(MECHANISM, b"SCRAM-SHA-1"), challenge, end], LET_IN),
+    "with_plus_before": Case([question(MECHANISM + b"-PLUS", MECHANISM), challenge, end], LET_IN),
+    "one_round": Case([SCRAM, challenge, end], LET_IN, rounds=1),
+    "byte_by_byte": Case([SCRAM, challenge, end], LET_IN, drips=True),
+    "notices_between": Case(between_notices(SCRAM, challenge, end), LET_IN),
+    "welcome_apart": Case([SCRAM, challenge, lambda talk: proof(talk) + NOTICE + START], LET_IN),
+}
+# psql takes no notice there, and no channel binding without TLS
+NOT_FOR_PSQL = ["with_plus_before", "notices_between", "welcome_apart"]
+# once the user's password is another one
+RELOADED = {"the_same_salt_behind_a_reload": Case([SCRAM, challenge, end], LET_IN, salt=SALT)}
+
+
+def asks(number):
+    return rf" asks for .*authentication method {number}\b.*\(P7\)"
+
+
+UNANSWERABLE = {
+    "only_SCRAM_SHA_1": Case([question(b"SCRAM-SHA-1")], why=asks(10)),
+    "only_plus": Case([question(MECHANISM + b"-PLUS")], why=asks(10)),
+    "no_mechanism": Case([question()], why=asks(10)),
+    "a_longer_name": Case([question(MECHANISM + b"X", b"X" + MECHANISM)], why=asks(10)),
+    "a_digest_for_a_secret": Case([SCRAM], why=asks(10), user="bc"),
+    **{f"kind_{number}": Case([authentication(number)], why=asks(number)) for number in (7, 8, 9)},
+}
+INSTEAD_OF_CHALLENGE = {
+    "let_in_without_a_challenge": START,
+    "a_second_question": SCRAM,
+    "then_asks_for_the_password": authentication(3),
+    "then_asks_for_its_digest": authentication(5, b"salt"),
+    "proof_without_a_challenge": authentication(ENDS, b"v=" + base64.b64encode(bytes(32))),
+    "another_nonce": challenged(own="A" * 24),
+    "a_nonce_behind_its_own": challenged("r={more}{own},s={salt},i={rounds}"),
+    "nonce_not_continued": challenged(more=""),
+    "a_nonce_too_long": challenged(more="A" * 169),
+    **{f"rounds_{rounds}": challenged(rounds=rounds) for rounds in (0, 1_000_001, 4_000_000_000, 2**32 + 1)},
+    "rounds_negative": challenged(rounds=-1),
+    "no_rounds": challenged("r={own}{more},s={salt}"),
+    "no_salt": challenged("r={own}{more},i={rounds}"),
+    "an_empty_salt": challenged(salt=""),
+    "a_salt_not_in_base64": challenged(salt="not*base64**"),
+    "a_salt_cut_short": challenged(salt="AAA"),
+    "a_salt_too_long": challenged(salt=base64.b64encode(bytes(65)).decode()),
+    "an_extension_before": challenged("m=more,r={own}{more},s={salt},i={rounds}"),
+    "an_extension_behind": challenged("r={own}{more},s={salt},i={rounds},x=more"),
+    "an_empty_challenge": challenged(""),
+}
+INSTEAD_OF_PROOF = {
+    "wrong_signature": proved(another),
+    "signature_of_nothing": proved(lambda text: b"v="),
+    "no_final_text": proved(lambda text: b""),
+    "signature_cut_short": proved(lambda text: text[:-4]),
+    "signature_and_an_extension": proved(lambda text: text + b",x=more"),
+    "an_error_for_a_signature": proved(lambda text: b"e=invalid-proof"),
+    "let_in_without_a_signature": START,
+    "a_challenge_again": challenge,
+    "signature_as_a_challenge": lambda talk: authentication(CONTINUES, talk.texts[3]) + START,
+    "signature_twice": lambda talk: proof(talk) + end(talk),
+    "signature_alone_and_a_welcome": lambda talk: proof(talk) + START[len(OK):],
+    "then_asks_for_the_password_after_all": lambda talk: proof(talk) + authentication(3),
+}
+CASES = {
+    **HONEST,
+    **UNANSWERABLE,
+    **{name: Case([SCRAM, lie], why=OTHER) for name, lie in INSTEAD_OF_CHALLENGE.items()},
+    **{name: Case([SCRAM, challenge, lie], why=OTHER) for name, lie in INSTEAD_OF_PROOF.items()},
+    "refuses_the_proof": Case([SCRAM, challenge, fatal("28P01", OWN_ERROR)], f"28P01 {OWN_ERROR}", " refused the start: 28P01 password"),
+    "refuses_the_first_message": Case([SCRAM, fatal("28000", OWN_ERROR)], f"28000 {OWN_ERROR}", " refused the start: 28000 password"),
+}
+
+
+# ---- the servers
+
+class Server:
+    """Plays its case on each connection."""
+
+    def __init__(self, case):
+        self.case, self.talks = case, []
+        self.listener = socket.create_server((HERE, 0), backlog=16)
+        self.port = self.listener.getsockname()[1]
+        threading.Thread(target=self.run, daemon=True).start()
+
+    def run(self):
+        while True:
+            it, _ = self.listener.accept()
+            it.setsockopt(socket.IPPROTO_TCP, socket.TCP_NODELAY, 1)
+            threading.Thread(target=self.serve, args=(it,), daemon=True).start()
+
+    def serve(self, it):
+        start = packet(it, 0)
+        while start[4:] in (SSL, GSS):
+            it.sendall(b"N")
+            start = packet(it, 0)
+        talk = Talk(start, self.case)
+        self.talks.append(talk)
+        try:
+            self.converse(it, talk)
+        except (BrokenPipeError, ConnectionResetError):
+            pass
+        except Exception as error:
+            talk.fault = f"{error!r} of what it was sent: {talk.sent}"
+        it.close()
+        talk.is_over.set()
+
+    def converse(self, it, talk):
+        *asked, last = self.case.parts
+        for part in asked:
+            self.say(it, part, talk)
+            said = packet(it, 1)
+            if not said:
+                return
+            talk.sent.append(said)
+        self.say(it, last, talk)
+        if self.case.told == LET_IN:
+            self.answer(it, talk)
+        else:
+            while piece := it.recv(4096):
+                talk.rest += piece
+
+    def say(self, it, part, talk):
+        text = part(talk) if callable(part) else part
+        for piece in [text[at:at + 1] for at in range(len(text))] if self.case.drips else [text]:
+            it.sendall(piece)
+            if self.case.drips:
+                time.sleep(REST)
+
+    @staticmethod
+    def answer(it, talk):
+        """Answers statements until its client leaves."""
+        while (said := packet(it, 1)) in ANSWERS:
+            it.sendall(ANSWERS[said])
+        if said not in (b"", TERMINATE):
+            talk.rest = said
+
+
+# ---- a PostgreSQL
+
+class Installed(Cluster):
+    """It keeps passwords as it does by default, and asks for SCRAM over TCP, as Debian has it."""
+
+    def start(self):
+        for name, old, new in (("postgresql.conf", "password_encryption = md5\n", ""), ("pg_hba.conf", " md5\n", " scram-sha-256\n")):
+            file = self.data / name
+            file.write_text(file.read_text().replace(old, new))
+        super().start()
+
+
+def shown(text):
+    """A text as the log would have it."""
+    return "".join(chr(it) if 32 <= it < 127 and it != 92 else f"\\x{it:02x}" for it in text.encode()).encode()
+
+
+class Show:
+    def __init__(self, program):
+        self.program, self.passes, self.place, self.said = program, Passes("scram servers"), Place(), b""
+        USERS.clear()
+        USERS.update(PEOPLE)
+
+    def pooler(self, **settings):
+        single = f"single = host={HERE} port={self.cluster.port} dbname=shop pool_size=1"
+        logs = {f"^log_{it} = .*": f"log_{it} = 1" for it in ("connections", "disconnections")}
+        return Pooler(self.place, self.cluster, self.program, more_rows=single, changes=logs, **settings)
+
+    @property
+    def log(self):
+        return self.place.folder / "pgsess.err"
+
+    def logs(self, line, count=1):
+        """Whether the log comes to have so many such lines."""
+        return until(lambda: len(re.findall(line, self.log.read_text(), re.M)) == count, 5)
+
+    def ends(self, pooler, name):
+        """Ends a pooler, and keeps what it said."""
+        fault = pooler.shut() if pooler.runs() else f"it had ended with {pooler.process.returncode}, and said last {self.log.read_text()[-600:]!r}"
+        self.passes.tell(f"{name}: it ends by SHUTDOWN", fault)
+        self.said += pooler.process.stdout.read()
+        pooler.stop()
+        self.said += self.log.read_bytes()
+        self.log.unlink()
+
+    # ---- in front of a PostgreSQL
+
+    def installed(self):
+        told = self.cluster.tell("SELECT setting, source FROM pg_settings WHERE name = 'password_encryption'")
+        self.passes.same("the server's password_encryption", told, [["scram-sha-256", "default"]])
+        kept = self.cluster.tell("SELECT DISTINCT left(rolpassword, 14) FROM pg_authid WHERE rolpassword IS NOT NULL")
+        self.passes.same("each role's password is kept as a verifier", kept, [["SCRAM-SHA-256$"]])
+        client = Client(self.cluster.port)
+        client.send(startup("ann", "shop"))
+        self.passes.same("the server asks for SCRAM-SHA-256", client.next(), (b"R", SCRAM[5:]))
+        client.socket.close()
+
+    def through(self, auth):
+        """What clients see of it by this auth_type."""
+        pooler, name = self.pooler(auth=auth, size=4), f"auth_type {auth}"
+        with ThreadPoolExecutor() as pool:
+            wrong = pool.submit(outcome, lambda: Client(pooler.port, "wanda", "shop", AT_POOLER))
+            known = pool.map(lambda user: run(["psql", "-X", "-A", "-t", "-c", "SELECT 1"], pooler.port, user), KNOWN)
+        for user, told in zip(KNOWN, known):
+            self.passes.same(f"{name}: psql -c 'SELECT 1' of {user}", told, (0, b"1\n", ""))
+        own = '28P01 password authentication failed for user "wanda"'
+        self.passes.same(f"{name}: a user with a wrong secret is told by the server", wrong.result(), own)
+        for what, words in {"pgbench -i": ["-i", "-q"], "pgbench -C": ["-C", "-c", "8", "-j", "8", "-t", "20"]}.items():
+            status, out, errors = run(["pgbench", *words], pooler.port, "ann")
+            self.passes.same(f"{name}: {what}", (status, failures(out, errors)), (0, []))
+        self.reuses(pooler, name)
+        self.refuses(pooler, name)
+        self.ends(pooler, name)
+
+    def reuses(self, pooler, name):
+        """Clients one after the other over the one link of a pool."""
+        logins, processes = self.cluster.logins(), []
+        for _ in range(3):
+            client = Client(pooler.port, "ann", "single", USERS["ann"][0])
+            processes += client.ask("SELECT pg_backend_pid()")
+            client.leave()
+        self.passes.same(f"{name}: three clients share a link", (processes, self.cluster.logins() - logins), (processes[:1] * 3, 1))
+
+    def refuses(self, pooler, name):
+        told = outcome(lambda: Client(pooler.port, "bc", "shop", DIGESTED))
+        self.passes.same(f"{name}: a user with a digest alone is told", told, UNREACHED)
+        line = rf"^pgsess: client \d+ bc@shop from .* refused after .*: server {HERE}:{self.cluster.port}{asks(10)}$"
+        self.passes.holds(f"{name}: the log tells that authentication method 10 is asked for", self.logs(line), self.log.read_text()[-600:])
+
+    def reloads(self, pooler, user):
+        """Gives a user another password in the user file alone."""
+        console = Client(pooler.port, "root", "pgbouncer", USERS["root"][0])
+        USERS[user] = (AFTER, AFTER)
+        self.place.write("users.txt", "".join(f'"{name}" "{secret}"\n' for name, (_, secret) in USERS.items()))
+        console.ask("RELOAD")
+        console.leave()
+
+    def changes(self):
+        """A role's password is changed, and then its user file: while a client has the one link that there is, each other needs a new one."""
+        pooler = self.pooler(auth="md5")
+        before, after = (lambda: Client(pooler.port, "mo", "shop", BEFORE)), (lambda: Client(pooler.port, "mo", "shop", AFTER))
+        holder = before()
+        self.cluster.tell(f"ALTER ROLE mo PASSWORD '{AFTER}'")
+        own = "28P01 password authentication failed"
+        told = [outcome(before), outcome(after)]
+        self.passes.same("a password is changed at the server alone", told, [f'{own} for user "mo"', own])
+        self.reloads(pooler, "mo")
+        logins = self.cluster.logins("mo")
+        told = [outcome(after), outcome(before), self.cluster.logins("mo") - logins, holder.ask("SELECT 1")]
+        self.passes.same("and in the user file: RELOAD, and a new client gets in over a new link", told, [LET_IN, own, 1, LET_IN])
+        holder.leave()
+        self.ends(pooler, "a changed password")
+
+    # ---- in front of servers of this script
+
+    def visit(self, name, user):
+        """A client of a row, if it gets in, and what it is told."""
+        client = None
+        try:
+            client = Client(self.lying.port, user, name)
+            return client, client.ask("SELECT 1")
+        except Refused as error:
+            return client, f"{error.code} {error.text}"
+        except (Cut, OSError) as error:
+            return client, repr(error)
+
+    def faults(self, name, case):
+        """What is wrong with two clients of a row, the second of which comes while the first is there, and with what its server was sent."""
+        clients, told = zip(*(self.visit(name, case.user) for _ in range(2)))
+        if told != (case.told,) * 2:
+            yield f"its clients are told {told}"
+        talks, is_over = self.servers[name].talks, case.told != LET_IN
+        if len(talks) != 2:
+            yield f"{len(talks)} starts of 2 clients"
+        for talk in talks:
+            yield from talk.faults(len(case.parts) - 1, is_over)
+        line = rf"^pgsess: client \d+ {case.user}@{name} from .* refused after .*: server {HERE}:{self.servers[name].port}{case.why}"
+        if not self.logs(line, 2 if is_over else 0):
+            yield f"the log has {re.findall(rf'.*@{name} .*', self.log.read_text())}"
+        for client in clients:
+            if client:
+                client.leave()
+
+    def control(self):
+        """psql logs in to the servers of this script as it should: they are right themselves."""
+        for name in [*(name for name in HONEST if name not in NOT_FOR_PSQL), "wrong_signature"]:
+            server, case = self.servers[name], CASES[name]
+            told = run(["psql", "-X", "-A", "-t", "-c", "SELECT 1"], server.port, case.user)[:2]
+            faults = [it for talk in server.talks for it in talk.faults(2, True) if it]
+            self.passes.same(f"{name.replace('_', ' ')}: psql itself", (faults, *told), ([], 0, b"1\n") if name in HONEST else ([], 2, b""))
+            server.talks.clear()
+
+    def plays(self, cases):
+        for name, case in cases.items():
+            found = [it for it in self.faults(name, case) if it]
+            if not self.lying.runs():
+                found.append("the pooler ended")
+            self.passes.tell(f"{name.replace('_', ' ')}: {'its clients get in' if case.told == LET_IN else case.told[:5]}", "; ".join(found))
+
+    def lies(self):
+        """Plays all cases, and gives what their starts kept secret."""
+        self.servers = {name: Server(case) for name, case in {**CASES, **RELOADED}.items()}
+        self.control()
+        self.lying = self.pooler(auth="trust", more={name: server.port for name, server in self.servers.items()})
+        self.plays(CASES)
+        self.reloads(self.lying, "ann")
+        self.plays(RELOADED)
+        talks = [talk for server in self.servers.values() for talk in server.talks if talk.sent]
+        count = len({talk.own for talk in talks})
+        self.passes.holds(f"{len(talks)} starts have as many nonces", count == len(talks) > len(CASES), f"{count} nonces")
+        self.ends(self.lying, "servers of this script")
+        return [secret for talk in talks for secret in talk.secrets()]
+
+    # ---- what is said
+
+    def is_silent(self, more):
+        """Nothing of a secret stands in a log, nor in the program's output."""
+        passwords = {password for pair in [*PEOPLE.values(), (AFTER, AFTER)] for password in pair}
+        forms = [form for it in passwords for form in (it.encode(), prepared(it.encode()), shown(it), shown(prepared(it.encode()).decode()))]
+        found = {it for it in [*forms, *more, b"SCRAM-SHA-256$", b"biws", b"v=", b"p="] if it and it in self.said}
+        found |= set(re.findall(rb"[A-Za-z0-9+/]{43}=", self.said))
+        self.passes.same(f"none of {len(forms) + len(more)} secrets is in {len(self.said)} bytes of logs and output", found, set())
+        lines = self.said.count(b" in\n"), self.said.count(b" refused after ")
+        self.passes.holds(f"which tell of {lines[0]} clients let in, and of {lines[1]} refused", lines[0] > 100 and lines[1] > len(CASES))
+
+    def all(self):
+        self.cluster = Installed(self.place)
+        self.installed()
+        for auth in AUTH_TYPES:
+            self.through(auth)
+        self.changes()
+        self.is_silent(self.lies())
+        self.cluster.stop()
+        self.passes.same("no process is left", self.place.processes(), [])
+
+
+def main():
+    if len(sys.argv) != 2:
+        sys.exit(__doc__)
+    set_up()
+    signal.signal(signal.SIGTERM, lambda *_: sys.exit(1))
+    began = time.monotonic()
+    show = Show(os.path.abspath(sys.argv[1]))
+    try:
+        show.all()
+    finally:
+        signal.signal(signal.SIGTERM, signal.SIG_IGN)
+        for pid in show.place.processes():
+            os.kill(pid, signal.SIGKILL)
+        until(lambda: not show.place.processes())
+        show.place.clear()
+    print(f"scram servers: {time.monotonic() - began:.0f} s")
+    show.passes.end()
+
+
+if __name__ == "__main__":
+    main()
