@@ -134,6 +134,8 @@ class Show:
         self.passes.same("once more", self.first_word(COUNTED), FIRST_WORD)
         words = {self.first_word(os.urandom(32)) for _ in range(2)}
         self.passes.same("of two other seeds it is another", len(words - {FIRST_WORD}), 2)
+        words = {self.first_word(None) for _ in range(2)}
+        self.passes.same("and of the system's, at two starts without a file", len(words - {FIRST_WORD}), 2)
 
     def addresses(self):
         """A server at another address of this machine, and a cancel there; nothing listens at its port here."""

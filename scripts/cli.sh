@@ -63,7 +63,7 @@ helped() {
 helped help 'Commands:' --help
 helped help 'replay  ' --help
 helped 'short help' 'Usage: pgsess <COMMAND>' -h
-helped 'help of serve' 'Example: pgsess serve --ini pgsess.ini --users users.txt --key-seed seed.bin' serve --help
+helped 'help of serve' 'Example: pgsess serve --ini pgsess.ini --users users.txt' serve --help
 helped 'help of stub' 'Example: pgsess stub --port 5432 --catalogue catalogue.tsv' stub --help
 helped 'help of replay' 'Example: pgsess replay' replay --help
 helped 'help subcommand' 'Commands:' help
@@ -82,7 +82,7 @@ ends 'a path that is not UTF-8' 2 "error: a word of the command line isn't UTF-8
 refused 'a word too many' "error: unexpected argument 'x' found" replay x
 refused 'no ini' '--ini <FILE>' serve --users u --key-seed k
 refused 'no users' '--users <FILE>' serve --ini i --key-seed k
-refused 'no seed' '--key-seed <FILE>' serve --ini i --users u
+refused 'a seed without a value' '--key-seed <FILE>' serve --ini i --users u --key-seed
 refused 'ini twice' 'cannot be used multiple times' serve --ini a --ini b --users u --key-seed k
 refused 'ini without a value' '--ini <FILE>' serve --users u --key-seed k --ini
 refused 'port 0' "error: invalid value '0' for '--port <N>': 0 is not in 1..=65535" stub --port 0 --catalogue c
@@ -149,6 +149,7 @@ sed "s/^listen_port = .*/listen_port = $port/" "$here/examples/pgsess.ini" >exam
 printf '[pgbouncer]\nlisten_port = %s\n' "$port" | cat - largest | head -c 16777215 >large.ini
 echo >>large.ini
 listens 'good files' "listening 127.0.0.1 $port" "$port" serve --ini listens.ini --users good.txt --key-seed good.bin
+listens 'no seed' "listening 127.0.0.1 $port" "$port" serve --ini listens.ini --users good.txt
 listens 'no users' "listening 127.0.0.1 $port" "$port" serve --ini listens.ini --users empty --key-seed good.bin
 listens 'all addresses' "listening 0.0.0.0 $port" "$port" serve --ini everywhere.ini --users good.txt --key-seed good.bin
 listens 'the example' "listening 127.0.0.1 $port" "$port" serve --ini example.ini --users "$here/examples/users.txt" --key-seed good.bin

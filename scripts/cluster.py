@@ -254,9 +254,10 @@ class Pooler:
         }
         words = [part for old, new in changes.items() for part in ("-e", f"s/{old}/{new}/")]
         settings = subprocess.run(["sed", *words, TOP / "examples/pgsess.ini"], capture_output=True, check=True).stdout + lines.encode()
-        ini, seed = place.write("pgsess.ini", settings), place.write("seed", seed or os.urandom(32))
+        ini = place.write("pgsess.ini", settings)
+        seed_words = ["--key-seed", place.write("seed", seed)] if seed else []
         limit = ["prlimit", f"--nofile={files}"] if files else []
-        self.process = place.start(*limit, program, "serve", "--ini", ini, "--users", users, "--key-seed", seed, stdout=subprocess.PIPE, stderr=self.errors)
+        self.process = place.start(*limit, program, "serve", "--ini", ini, "--users", users, *seed_words, stdout=subprocess.PIPE, stderr=self.errors)
         line = self.process.stdout.readline().decode().strip()
         if line != f"listening {HERE} {self.port}":
             self.process.wait(SECONDS)

@@ -20,13 +20,19 @@ fn the_job_replay(rt: HostRuntime) -> Result<(), Fail> {
 
 #[test]
 fn the_job_serve(rt: HostRuntime) -> Result<(), Fail> {
-    let words = words_of(rt.alloc(), "pgsess serve --users u --ini=i --key-seed k")?;
-    let wanted = Job::Serve {
-        ini: "i",
-        users: "u",
-        key_seed: "k",
-    };
-    assert!(rt; matches!(read_line(rt.alloc(), words.as_slice()), Ok(job) if job == wanted));
+    let rows = [
+        ("pgsess serve --users u --ini=i --key-seed k", Some("k")),
+        ("pgsess serve --ini i --users u", None),
+    ];
+    for (text, key_seed) in rows {
+        let words = words_of(rt.alloc(), text)?;
+        let wanted = Job::Serve {
+            ini: "i",
+            users: "u",
+            key_seed,
+        };
+        assert!(rt; matches!(read_line(rt.alloc(), words.as_slice()), Ok(job) if job == wanted));
+    }
     Ok(())
 }
 
@@ -51,7 +57,7 @@ fn statuses_of_the_line(rt: HostRuntime) -> Result<(), Fail> {
         ("pgsess", 2),
         ("pgsess bogus", 2),
         ("pgsess replay x", 2),
-        ("pgsess serve --ini i --users u", 2),
+        ("pgsess serve --ini i", 2),
         ("pgsess stub --port 0 --catalogue c", 2),
         ("pgsess stub --port 65536 --catalogue c", 2),
         ("pgsess stub --port 1", 2),

@@ -24,7 +24,7 @@ unread_text gives means o r value is t has =
     means t read.0 read.1
 
 -- `serve` and `stub` without one of their options are no job
-pub serve_without : (options : List Row) → Lacks (codes "ini") options ⊎ (Lacks (codes "users") options ⊎ Lacks (codes "key-seed") options) → IsNoJob (codes "serve") options
+pub serve_without : (options : List Row) → Lacks (codes "ini") options ⊎ Lacks (codes "users") options → IsNoJob (codes "serve") options
 serve_without options lacks = ((λ e. cc), (λ e. lacks), (λ e. absurd (cc)))
 
 pub stub_without : (options : List Row) → Lacks (codes "catalogue") options ⊎ ((t : Text) → one_of (codes "port") options ≡ Some t → IsNoPort t)

@@ -16,3 +16,7 @@ serve_taken = refl
 pub stub_taken : takes pgsess (codes "pgsess" ∷ codes "stub" ∷ codes "--port" ∷ codes "5432" ∷ codes "--catalogue" ∷ codes "c" ∷ []) ≡ true
 unfolding walked walk_passes
 stub_taken = refl
+
+pub seedless_taken : takes pgsess (codes "pgsess" ∷ codes "serve" ∷ codes "--ini" ∷ codes "a" ∷ codes "--users" ∷ codes "b" ∷ []) ≡ true
+unfolding walked walk_passes
+seedless_taken = refl

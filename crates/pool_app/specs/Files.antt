@@ -1,5 +1,5 @@
 -- What the files of the pooler come to.
-use Rattle.std.specs.Prelude.{◌≡◌, ◌≢◌, ◌⊎◌, ◌<◌, ℕ, List, length, Option, IfSome, Result, Ok, Err}
+use Rattle.std.specs.Prelude.{◌≡◌, ◌≢◌, ◌⊎◌, ◌<◌, ℕ, List, length, Option, Some, None, IfSome, Result, Ok, Err, codes}
 use Rattle.std.specs.Borrow.{Bor}
 use Rattle.ini_config.specs.Reading as ini
 use Rattle.ini_config.specs.declared.option_values.Settings.{Settings}
@@ -60,5 +60,14 @@ IsCatalogueFault path other = IsUnread path other
 abbrev pub IsAgainFault : Bor (List ℕ) → Bor (List ℕ) → AppFault → Type 0
 IsAgainFault ini users fault = IsSettingsFault ini fault ⊎ IsUsersFault users fault
 
-abbrev pub IsInputsFault : Bor (List ℕ) → Bor (List ℕ) → Bor (List ℕ) → AppFault → Type 0
-IsInputsFault ini users key_seed fault = IsSettingsFault ini fault ⊎ (IsUsersFault users fault ⊎ IsUnread key_seed fault)
+-- the system's random bytes can't be had
+abbrev pub IsSystemFault : AppFault → Type 0
+IsSystemFault (File path) = path.now ≡ codes "/dev/urandom"
+IsSystemFault other = other ≡ Memory
+
+abbrev pub IsSeedFault : Option (Bor (List ℕ)) → AppFault → Type 0
+IsSeedFault (Some path) fault = IsUnread path fault
+IsSeedFault None fault = IsSystemFault fault
+
+abbrev pub IsInputsFault : Bor (List ℕ) → Bor (List ℕ) → Option (Bor (List ℕ)) → AppFault → Type 0
+IsInputsFault ini users key_seed fault = IsSettingsFault ini fault ⊎ (IsUsersFault users fault ⊎ IsSeedFault key_seed fault)

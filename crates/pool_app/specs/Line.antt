@@ -1,5 +1,5 @@
 -- The command line of the program, and what its words ask for.
-use Rattle.std.specs.Prelude.{◌≡◌, ◌≢◌, ◌⊎◌, ◌<◌, ⊤, pos, ℕ, List, Option, Some, None, true, codes}
+use Rattle.std.specs.Prelude.{◌≡◌, ◌≢◌, ◌⊎◌, ◌<◌, ⊤, pos, ℕ, List, Option, Some, None, option_map, true, codes}
 use Rattle.std.specs.Str.Parse.{IsNumeral, digits_value, without_leading_plus}
 use Rattle.clap.specs.Takes.{takes}
 use Rattle.clap.specs.Values.{kind_of}
@@ -16,6 +16,10 @@ use Rattle.pool_app.specs.declared.line.LineFault.TheVariants.{Refused, NoJob}
 abbrev pub needed : Text → Rule
 needed name = record (new_rule name) { long = Some name; required = true; value_names = 1 }
 
+-- the one that may be left out
+abbrev pub seed_option : Rule
+seed_option = record (new_rule (codes "key-seed")) { long = Some (codes "key-seed"); value_names = 1 }
+
 -- one whose value is a port
 abbrev pub port_option : Rule
 port_option = record (needed (codes "port")) { parser = Some (Signed (pos 1) (pos 65535)) }
@@ -24,7 +28,7 @@ abbrev pub replay : App
 replay = new_app (codes "replay")
 
 abbrev pub serve : App
-serve = with_rule (with_rule (with_rule (new_app (codes "serve")) (needed (codes "ini"))) (needed (codes "users"))) (needed (codes "key-seed"))
+serve = with_rule (with_rule (with_rule (new_app (codes "serve")) (needed (codes "ini"))) (needed (codes "users"))) seed_option
 
 abbrev pub stub : App
 stub = with_rule (with_rule (new_app (codes "stub")) port_option) (needed (codes "catalogue"))
@@ -47,7 +51,7 @@ IsJobBy name options Replay = name ≡ codes "replay"
 IsJobBy name options (Serve ini users key_seed) =
     (name ≡ codes "serve")
     × (first_of (codes "ini") options ≡ Some ini.now) × (first_of (codes "users") options ≡ Some users.now)
-    × (first_of (codes "key-seed") options ≡ Some key_seed.now)
+    × (first_of (codes "key-seed") options ≡ option_map (λ path. path.now) key_seed)
 IsJobBy name options (Stub port catalogue) =
     (name ≡ codes "stub")
     × ((text : List ℕ) × (one_of (codes "port") options ≡ Some text) × (port ≡ digits_value 10 (without_leading_plus text)))
@@ -70,7 +74,7 @@ IsNoPort text = IsNumeral 10 (without_leading_plus text) × (digits_value 10 (wi
 abbrev pub IsNoJob : Text → List Row → Type 0
 IsNoJob name options =
     (name ≢ codes "replay")
-    × (name ≡ codes "serve" → Lacks (codes "ini") options ⊎ (Lacks (codes "users") options ⊎ Lacks (codes "key-seed") options))
+    × (name ≡ codes "serve" → Lacks (codes "ini") options ⊎ Lacks (codes "users") options)
     × (name ≡ codes "stub" → Lacks (codes "catalogue") options ⊎ ((text : Text) → one_of (codes "port") options ≡ Some text → IsNoPort text))
 
 abbrev pub NamesNone : Named → Type 0

@@ -17,6 +17,9 @@ use user_file::{Users, read_users};
 /// How many bytes a file, or standard input, may have.
 pub const MOST_BYTES: u64 = 16_777_216;
 
+/// Where the system's random bytes are had, without an end.
+const SYSTEM_SEED: &str = "/dev/urandom";
+
 /// What a whole read came to: more bytes than allowed, or a fault of the reader.
 #[derive(Drop)]
 pub enum ReadFault {
@@ -139,14 +142,28 @@ fn seed_at<'a, R: Files>(rt: &R, alloc: Global, path: &'a str) -> Result<[u8; 32
     seed_of(path, bytes.as_slice())
 }
 
-/// The files of the pooler. Each is read and checked before the next: settings, users, key seed. The settings are within their
-/// bounds. A fault is one of a file's lines, or names the file; or memory was refused.
+/// A key seed that the system makes.
+fn seed_of_system<'a, R: Files>(rt: &R, alloc: Global) -> Result<[u8; 32], AppFault<'a>>
+    ensures { IfErr result spec.IsSystemFault }
+{
+    let file = match fs::open(rt, SYSTEM_SEED) {
+        Ok(file) => file,
+        Err(error) => return Err(unread(SYSTEM_SEED, ReadFault::Io(error))),
+    };
+    match read_all(alloc, file.take(32), 32) {
+        Ok(bytes) => seed_of(SYSTEM_SEED, bytes.as_slice()),
+        Err(fault) => Err(unread(SYSTEM_SEED, fault)),
+    }
+}
+
+/// The files of the pooler. Each is read and checked before the next: settings, users, key seed, which the system makes where no file is
+/// named for it. The settings are within their bounds. A fault is one of a file's lines, or names the file; or memory was refused.
 pub fn read_inputs<'a, R: Files>(
     rt: &R,
     alloc: Global,
     ini: &'a str,
     users: &'a str,
-    key_seed: &'a str,
+    key_seed: Option<&'a str>,
 ) -> Result<Inputs, AppFault<'a>>
     ensures bounds { IfOk result (λ inputs. AreWithinBounds inputs.settings) }
     ensures fault { IfErr result (spec.IsInputsFault ini.entry users.entry key_seed.entry) }
@@ -154,7 +171,10 @@ pub fn read_inputs<'a, R: Files>(
     Ok(Inputs {
         settings: settings_at(rt, alloc, ini)?,
         users: users_at(rt, alloc, users)?,
-        seed: seed_at(rt, alloc, key_seed)?,
+        seed: match key_seed {
+            Some(path) => seed_at(rt, alloc, path)?,
+            None => seed_of_system(rt, alloc)?,
+        },
     })
 }
 

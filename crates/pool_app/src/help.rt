@@ -7,8 +7,7 @@ A fault is told in one line on standard error, and the status is 1:
   pgsess: stdout  standard output is closed or full
   pgsess: memory  no memory was left";
 
-pub(crate) const SERVE: &str =
-    "Example: pgsess serve --ini pgsess.ini --users users.txt --key-seed seed.bin
+pub(crate) const SERVE: &str = "Example: pgsess serve --ini pgsess.ini --users users.txt
 
 A fault is told in one line on standard error, as `pgsess: C3 line 7`, and the status is 1.
   file F  the file F can't be read or is too long, or the key seed hasn't 32 bytes

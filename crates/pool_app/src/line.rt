@@ -21,11 +21,11 @@ const VERSION: &str = "1.1";
 pub enum Job<'a> {
     /// One client's bytes on standard input, its replies on standard output.
     Replay,
-    /// The pooler. Each text is the path of a file.
+    /// The pooler. Each text is the path of a file; where none is named for the key seed, the system makes it.
     Serve {
         ini: &'a str,
         users: &'a str,
-        key_seed: &'a str,
+        key_seed: Option<&'a str>,
     },
     /// The stand-in server on a port from 1 to 65,535. The text is the path of its catalogue.
     Stub {
@@ -82,6 +82,19 @@ fn file_option<'a>(alloc: Global, name: &'a str, help: &'a str) -> Arg<'a>
         .help(help)
 }
 
+/// The option that names the file of the key seed, which may be left out.
+fn seed_option<'a>(alloc: Global) -> Arg<'a>
+    ensures rule { rule_of result ≡ spec.seed_option }
+    ensures local { result.global ≡ false }
+{
+    Arg::new(alloc, "key-seed")
+        .long("key-seed")
+        .value_name("FILE")
+        .help(
+            "32 random bytes, from which the clients' cancel keys and salts are made; the system's, where none is named",
+        )
+}
+
 /// The option that names a port.
 fn port_option<'a>(alloc: Global) -> Arg<'a>
     ensures rule { rule_of result ≡ spec.port_option }
@@ -126,6 +139,14 @@ fn with_file<'a>(
     command.arg(file_option(alloc, name, help))
 }
 
+/// The command with the option that names the file of the key seed.
+fn with_seed<'a>(alloc: Global, command: Command<'a>) -> Result<Command<'a>, AllocError>
+    ensures app { IfOk result (λ c. app_of c ≡ with_rule (app_of command.entry) spec.seed_option) }
+    ensures local { (fields_of command.entry).has_globals ≡ false → IfOk result (λ c. (fields_of c).has_globals ≡ false) }
+{
+    command.arg(seed_option(alloc))
+}
+
 /// The subcommand `serve`.
 fn serve_command<'a>(alloc: Global) -> Result<Command<'a>, AllocError>
     ensures app { IfOk result (λ c. app_of c ≡ spec.serve) }
@@ -138,8 +159,7 @@ fn serve_command<'a>(alloc: Global) -> Result<Command<'a>, AllocError>
     let command = with_file(alloc, command, "ini", ini)?;
     let users = "The users and their secrets, in the format of userlist.txt";
     let command = with_file(alloc, command, "users", users)?;
-    let seed = "32 random bytes, from which the clients' cancel keys and salts are made";
-    with_file(alloc, command, "key-seed", seed)
+    with_seed(alloc, command)
 }
 
 /// The subcommand `stub`.
@@ -206,7 +226,7 @@ fn serve_job<'a>(options: &ArgMatches<'a>) -> Option<Job<'a>>
 {
     let ini = options.get_str("ini")?;
     let users = options.get_str("users")?;
-    let key_seed = options.get_str("key-seed")?;
+    let key_seed = options.get_str("key-seed");
     Some(Job::Serve {
         ini,
         users,

@@ -1,5 +1,5 @@
 use Rattle.std.proofs.Common.{rules, inl, inr, refl, Some, None}
-use Rattle.std.specs.Prelude.{codes}
+use Rattle.std.specs.Prelude.{codes, option_map}
 use Rattle.clap.specs.Words.{found_of, rows_of}
 use Rattle.pool_app.proofs.Options.{serve_without, value}
 use Rattle.pool_app.proofs.line.serve_job.Goals as goal
@@ -12,12 +12,7 @@ returns-in_err-ini-clause-none c _ =
 pub returns-in_err-users-clause-none : goal.returns-in_err-users-clause-none
 returns-in_err-users-clause-none c _ =
     let found = found_of c.args.options.now in
-    serve_without (rows_of found) (inr (inl (value found (codes "users") None (search rules))))
-
-pub returns-in_err-key_seed-clause-none : goal.returns-in_err-key_seed-clause-none
-returns-in_err-key_seed-clause-none c _ =
-    let found = found_of c.args.options.now in
-    serve_without (rows_of found) (inr (inr (value found (codes "key-seed") None (search rules))))
+    serve_without (rows_of found) (inr (value found (codes "users") None (search rules)))
 
 pub returns-clause-job : goal.returns-clause-job
 returns-clause-job c =
@@ -25,5 +20,5 @@ returns-clause-job c =
       refl,
       value found (codes "ini") (Some c.in_ok-ini.ini.now) (search rules),
       value found (codes "users") (Some c.in_ok-users.users.now) (search rules),
-      value found (codes "key-seed") (Some c.in_ok-key_seed.key_seed.now) (search rules),
+      value found (codes "key-seed") (option_map (λ path. path.now) c.get_str-key_seed.result) c.get_str-key_seed.ensures,
     )
