@@ -2,7 +2,7 @@
 use arrayvec::ArrayString;
 use log_lines::events::{Event, Heard, Rates, Totals, put_event};
 use log_lines::lines::put_note;
-use log_lines::notes::{Client, Loss, Note, Server, Unstarted, Visit};
+use log_lines::notes::{Client, LoginFailure, Loss, Note, Server, Unstarted, Visit};
 use message_view::Refusal;
 use std::alloc::Global;
 use std::test::Fail;
@@ -56,7 +56,7 @@ fn goes_on(alloc: Global, note: Note<'_>, ms: Option<u64>, wanted: &[u8]) -> Res
 
 #[test]
 fn what_a_client_comes_to(rt: HostRuntime) -> Result<(), Fail> {
-    let rows: [(Note<'_>, Option<u64>, &[u8]); 14] = [
+    let rows: [(Note<'_>, Option<u64>, &[u8]); 18] = [
         (Note::LoggedIn, Some(7), b" in"),
         (Note::Closed, Some(3_299), b" out after 3.2 s"),
         (Note::Closed, None, b" out"),
@@ -76,9 +76,29 @@ fn what_a_client_comes_to(rt: HostRuntime) -> Result<(), Fail> {
             b" refused after 0.0 s: unsupported startup parameter \"search_path\" (P4)",
         ),
         (
-            Note::WrongPassword,
+            Note::LoginFailed(LoginFailure::WrongPassword),
             Some(99),
-            b" failed after 0.0 s: password authentication failed (28P01)",
+            b" failed after 0.0 s: password authentication failed (28P01): wrong password",
+        ),
+        (
+            Note::LoginFailed(LoginFailure::NoUser),
+            Some(99),
+            b" failed after 0.0 s: password authentication failed (28P01): no such user",
+        ),
+        (
+            Note::LoginFailed(LoginFailure::NoAdmin),
+            Some(99),
+            b" failed after 0.0 s: password authentication failed (28P01): not of admin_users or stats_users",
+        ),
+        (
+            Note::LoginFailed(LoginFailure::Verifier),
+            Some(99),
+            b" failed after 0.0 s: password authentication failed (28P01): its secret is a SCRAM verifier, by which no client is let in yet",
+        ),
+        (
+            Note::LoginFailed(LoginFailure::NoSecret),
+            None,
+            b" failed: password authentication failed (28P01): its secret is empty, or a spoiled SCRAM verifier",
         ),
         (
             Note::NoDatabase,
@@ -112,11 +132,11 @@ const SERVER_ERROR: &[u8] =
 
 #[test]
 fn why_no_link_was_started(rt: HostRuntime) -> Result<(), Fail> {
-    let rows: [(Unstarted<'_>, &[u8]); 8] = [
+    let rows: [(Unstarted<'_>, &[u8]); 9] = [
         (Unstarted::NotReached, b" could not be reached (P7)"),
         (
             Unstarted::Unanswerable(10),
-            b" asks for SCRAM (authentication method 10), which can't be answered: the user file has but a digest, or SCRAM-SHA-256 isn't offered (P7)",
+            b" asks for SCRAM (authentication method 10), which can't be answered: the user file has no password, or SCRAM-SHA-256 isn't offered (P7)",
         ),
         (
             Unstarted::Unanswerable(7),
@@ -124,7 +144,11 @@ fn why_no_link_was_started(rt: HostRuntime) -> Result<(), Fail> {
         ),
         (
             Unstarted::Unanswerable(3),
-            b" asks for a password (authentication method 3), which can't be given: the user file has but its digest (P7)",
+            b" asks for a password (authentication method 3), which can't be given: the user file has none (P7)",
+        ),
+        (
+            Unstarted::Unanswerable(5),
+            b" asks for MD5 (authentication method 5), which can't be answered: the user file has neither a password nor its digest (P7)",
         ),
         (
             Unstarted::Lost,
@@ -246,7 +270,7 @@ fn what_the_program_tells(rt: HostRuntime) -> Result<(), Fail> {
         left: 3,
         others: 2,
     };
-    let rows: [(Event<'_>, &[u8]); 12] = [
+    let rows: [(Event<'_>, &[u8]); 13] = [
         (
             Event::Listening(b"127.0.0.1", 6432),
             b"pgsess: listening 127.0.0.1 6432",
@@ -279,6 +303,10 @@ fn what_the_program_tells(rt: HostRuntime) -> Result<(), Fail> {
         (
             Event::NotReloaded(b"file /etc/pgsess.ini: C3 line 7"),
             b"pgsess: not reloaded: file /etc/pgsess.ini: C3 line 7",
+        ),
+        (
+            Event::NoPasswords(2, b"ann"),
+            b"pgsess: 2 secrets of the user file accept no password, the first that of ann",
         ),
         (
             Event::Wanting(17),

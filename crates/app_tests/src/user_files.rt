@@ -37,7 +37,7 @@ fn faults_and_their_lines(rt: HostRuntime) -> Result<(), Fail> {
 fn is_plain(row: &UserRow, password: &[u8]) -> bool {
     match &row.secret {
         Secret::Plain(text) => text.as_bytes() == password,
-        Secret::Md5(_) => false,
+        Secret::Md5(_) | Secret::Scram(_) | Secret::Unusable => false,
     }
 }
 
@@ -51,12 +51,12 @@ fn has_user(users: &Users, name: &[u8], password: &[u8]) -> bool {
 
 #[test]
 fn users_of_a_file(rt: HostRuntime) -> Result<(), Fail> {
-    let text = b"# users\r\n\"a\"\"b\" \"c d\" rest\r\n \"e\"\t\"\"x\n\"Ann\" \"\"\"\"\n";
+    let text = b"# users\r\n\"a\"\"b\" \"c d\" rest\r\n \"e\"\t\"f\"x\n\"Ann\" \"\"\"\"\n";
     let users = read_users(rt.alloc(), text)?;
     assert!(rt; users.len() == 3);
     let rows: [(&[u8], &[u8], bool); 4] = [
         (b"a\"b", b"c d", true),
-        (b"e", b"", true),
+        (b"e", b"f", true),
         (b"Ann", b"\"", true),
         (b"ann", b"\"", false),
     ];
@@ -82,8 +82,14 @@ fn users_show_no_secret(rt: HostRuntime) -> Result<(), Fail> {
 
 #[test]
 fn secrets_show_their_kind_alone(rt: HostRuntime) -> Result<(), Fail> {
-    let rows: [(&[u8], &str); 2] = [
+    let rows: [(&[u8], &str); 5] = [
         (b"hunter2", "Plain(..)"),
+        (b"", "Unusable"),
+        (b"SCRAM-SHA-256$4096", "Unusable"),
+        (
+            b"SCRAM-SHA-256$1:AA==$AAAAAAAAAAAAAAAAAAAAAAAAAAAAAAAAAAAAAAAAAAA=:AAAAAAAAAAAAAAAAAAAAAAAAAAAAAAAAAAAAAAAAAAA=",
+            "Scram(..)",
+        ),
         (b"md5900150983cd24fb0d6963f7d28e17f72", "Md5(..)"),
     ];
     for (text, expected) in rows {

@@ -7,7 +7,7 @@ use Rattle.frame_view.specs.Frames.{FrameOf}
 use Rattle.message_view.specs.Messages.{message}
 use Rattle.message_view.specs.declared.KeyWord.{KeyWord}
 use Rattle.user_file.specs.declared.secrets.Secret.{Secret}
-use Rattle.user_file.specs.declared.secrets.Secret.TheVariants.{Plain, Md5}
+use Rattle.user_file.specs.declared.secrets.Secret.TheVariants.{Plain, Md5, Scram, Unusable}
 use Rattle.scram.specs.Messages.{first, nonce_of}
 
 abbrev pub Text : Type 0
@@ -25,13 +25,15 @@ abbrev pub start_nonce : KeyWord → ℕ → Text
 start_nonce word number =
     nonce_of (codes "link" ++ to_be_bytes w32 word.pid ++ to_be_bytes w32 word.secret ++ word.salt ++ to_be_bytes w64 number)
 
--- a password answers, its digest doesn't
-abbrev pub is_password : Secret → Bool
-is_password (Plain password) = true
-is_password (Md5 digits) = false
+-- a password answers, what is made of one doesn't
+abbrev pub has_password : Secret → Bool
+has_password (Plain password) = true
+has_password (Md5 digits) = false
+has_password (Scram verifier) = false
+has_password Unusable = false
 
 abbrev pub answers_scram : CredentialOf → Bool
-answers_scram c = is_password c.secret
+answers_scram c = has_password c.secret
 
 -- SASLInitialResponse: the mechanism's name with a zero byte, and the client's first message behind its length
 abbrev pub initial_response : Text → FrameOf

@@ -1,13 +1,13 @@
 -- What a password makes of a server's challenge (RFC 5802, section 3).
-use Rattle.std.specs.Prelude.{ℕ, List, ◌++◌, Option, None, option_map, codes}
+use Rattle.std.specs.Prelude.{◌≡◌, ℕ, List, ◌++◌, Option, Some, None, option_map, codes}
 use Rattle.user_file.specs.declared.secrets.Secret.{Secret}
-use Rattle.user_file.specs.declared.secrets.Secret.TheVariants.{Plain, Md5}
+use Rattle.user_file.specs.declared.secrets.Secret.TheVariants.{Plain, Md5, Scram, Unusable}
 use Rattle.sasl_prep.specs.Prepared.{prepared}
 use Rattle.scram.specs.Hmac.{hi}
 use Rattle.scram.specs.declared.keys.ClientKeys.{ClientKeys}
 use Rattle.scram.specs.Keys.{auth_message, client_keys, proof}
 use Rattle.scram.specs.Messages.{ChallengeOf, challenge_of, final, last, unproved}
-use Rattle.credentials.specs.Credentials.{Text, CredentialOf}
+use Rattle.credentials.specs.Credentials.{Text, CredentialOf, credential_of}
 
 -- the client's answer, and the server's own proof, which has to follow
 pub record ExchangeOf : Type 0 where
@@ -31,7 +31,23 @@ exchange_with password nonce challenge c = exchange_by (client_keys (hi (prepare
 abbrev pub exchange_over : Secret → (nonce challenge : Text) → Option ExchangeOf
 exchange_over (Plain password) nonce challenge = option_map (exchange_with password nonce challenge) (challenge_of nonce challenge)
 exchange_over (Md5 digits) nonce challenge = None
+exchange_over (Scram verifier) nonce challenge = None
+exchange_over Unusable nonce challenge = None
 
 -- none where there is no password, or the text is no challenge to the nonce
 unfoldable pub exchange_of : CredentialOf → Text → Option ExchangeOf
 exchange_of c challenge = exchange_over c.secret c.nonce challenge
+
+-- ---- what was made once, and is kept
+
+pub record MadeOf : Type 0 where
+  pub password : Text
+  pub nonce : Text
+  pub challenge : Text
+  pub exchange : ExchangeOf
+
+abbrev pub made_of : (password nonce challenge : Text) → ExchangeOf → MadeOf
+made_of password nonce challenge exchange = record { password = password; nonce = nonce; challenge = challenge; exchange = exchange }
+
+abbrev pub IsMade : MadeOf → Type 0
+IsMade m = exchange_of (credential_of (Plain m.password) m.nonce) m.challenge ≡ Some m.exchange

@@ -1,13 +1,16 @@
 //! A secret, with the nonce of one start.
-ghost use Rattle.std.specs.Prelude.{◌≡◌, IfOk, length, true};
+ghost use Rattle.std.specs.Prelude.{◌≡◌, IfOk, IfSome, Some, length, true};
+ghost use Rattle.user_file.specs.declared.secrets.Secret.TheVariants.{Plain};
 ghost use Rattle.message_view.specs.Parts.{Puts};
 ghost use Rattle.credentials.specs.Credentials.{answers_scram, credential_of, first_response, start_nonce};
 ghost use Rattle.credentials.specs.Exchanges.{exchange_of};
 
 use crate::exchange::Exchange;
+use crate::made::Made;
 use bytes::BytesMut;
 use frame_view::client::PASSWORD_MESSAGE;
 use message_view::{KeyWord, put_message};
+use once_cell::race::OnceBox;
 use scram::Message;
 use scram::client_messages::first_message;
 use scram::server_messages::{Challenge, nonce};
@@ -15,10 +18,12 @@ use std::alloc::{AllocError, Global};
 use std::marker::Model;
 use user_file::Secret;
 
-/// The secret by which a user is let in at a server, and the nonce by which it asks for that by SCRAM. A start has a nonce of its own.
+/// The secret by which a user is let in at a server, and the nonce by which it asks for that by SCRAM. A start has a nonce of its own, and
+/// comes to one challenge: what was made of that is kept, which contracts don't see.
 pub struct Credential<'a> {
     secret: &'a Secret,
     nonce: [u8; 24],
+    made: OnceBox<Made>,
 }
 
 impl<'a> Drop for Credential<'a> {
@@ -26,6 +31,7 @@ impl<'a> Drop for Credential<'a> {
         let Credential {
             secret: _,
             nonce: _,
+            made: _,
         } = self;
     }
 }
@@ -54,12 +60,13 @@ fn nonce_of(word: &KeyWord, number: u64) -> [u8; 24]
 
 impl<'a> Credential<'a> {
     /// The credential of a user with this secret for the start of a link of this number, for a client with this key word.
-    pub fn new(secret: &'a Secret, word: &KeyWord, number: u64) -> Credential<'a>
+    pub fn new(alloc: Global, secret: &'a Secret, word: &KeyWord, number: u64) -> Credential<'a>
         ensures { result ≡ credential_of secret.now (start_nonce word.now number) }
     {
         Credential {
             secret,
             nonce: nonce_of(word, number),
+            made: OnceBox::new(alloc),
         }
     }
 
@@ -75,7 +82,7 @@ impl<'a> Credential<'a> {
     {
         match self.secret {
             Secret::Plain(_) => true,
-            Secret::Md5(_) => false,
+            Secret::Md5(_) | Secret::Scram(_) | Secret::Unusable => false,
         }
     }
 
@@ -91,8 +98,18 @@ impl<'a> Credential<'a> {
         put_message(out, PASSWORD_MESSAGE, &[b"SCRAM-SHA-256\0", &length, text])
     }
 
+    /// What was made of this challenge, if it was kept.
+    #[tactic(auto, unfolding(crate::specs::Exchanges::exchange_of))]
+    fn made(&self, password: &[u8], challenge: &[u8]) -> Option<Exchange>
+        ensures { IfSome result (λ e. exchange_of (credential_of (Plain password.now) self.now.nonce) challenge.now ≡ Some e) }
+    {
+        self.made
+            .get()?
+            .exchange_of(password, &self.nonce, challenge)
+    }
+
     /// What it makes of a server's challenge, by its text; none where it answers no SCRAM, or the text is no challenge to its nonce
-    /// ([`Challenge::read`]). The only error is out of memory.
+    /// ([`Challenge::read`]). It is made at the first call, and kept. The only error is out of memory.
     #[tactic(auto, unfolding(crate::specs::Exchanges::exchange_of))]
     pub fn exchange(&self, alloc: Global, challenge: &[u8]) -> Result<Option<Exchange>, AllocError>
         ensures { IfOk result (λ o. o ≡ exchange_of self.now challenge.now) }
@@ -100,10 +117,23 @@ impl<'a> Credential<'a> {
         let Secret::Plain(password) = self.secret else {
             return Ok(None);
         };
+        if let Some(made) = self.made(password.as_bytes(), challenge) {
+            return Ok(Some(made));
+        }
         let Some(read) = Challenge::read(alloc, &self.nonce, challenge)? else {
             return Ok(None);
         };
         let salted = password.salted(alloc, &read.salt, read.rounds)?;
-        Ok(Some(Exchange::of(&salted, &self.nonce, challenge, read.nonce)))
+        let exchange = Exchange::of(&salted, &self.nonce, challenge, read.nonce);
+        if let Ok(made) = Made::new(
+            alloc,
+            password.as_bytes(),
+            &self.nonce,
+            challenge,
+            &exchange,
+        ) {
+            let _ = self.made.set(made);
+        }
+        Ok(Some(exchange))
     }
 }

@@ -59,6 +59,16 @@ impl Exchange {
         }
     }
 
+    /// The same once more.
+    pub(crate) fn copy(&self) -> Exchange
+        ensures { result ≡ self.now }
+    {
+        Exchange {
+            last: self.last,
+            proof: self.proof,
+        }
+    }
+
     /// Puts the SASLResponse with the client's last message.
     ///
     /// `AllocError` where a growth is refused; then `out` is unchanged.

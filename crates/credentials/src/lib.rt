@@ -4,6 +4,7 @@
 
 mod credential;
 mod exchange;
+mod made;
 
 pub use credential::Credential;
 pub use exchange::Exchange;

@@ -1,4 +1,5 @@
 //! The desk of the tests.
+use credentials::Credential;
 use memory_ends::gone_end::GoneEnd;
 use pool_desk::answers::Strike;
 use pool_desk::desk::Desk;
@@ -55,7 +56,13 @@ impl Outside for Nowhere {
 
     ghost home = { unknown_home };
 
-    fn dial(&self, _number: u64, _key: &StartKey, _seconds: u32) -> Option<GoneEnd> {
+    fn dial(
+        &self,
+        _number: u64,
+        _key: &StartKey,
+        _credential: &Credential<'_>,
+        _seconds: u32,
+    ) -> Option<GoneEnd> {
         Some(GoneEnd::new())
     }
 

@@ -21,13 +21,14 @@ pub record HomeOf : Type 0 where
 abbrev pub unknown_home : HomeOf
 unknown_home = record { catalogue = λ address. record { version = []; databases = []; tables = [] }; follows = false; strikable = true; lets_in = λ name credential. false }
 
--- an end that was dialled to the servers of this key's address, and waits for its StartupMessage
-pub record IsDialled (home : HomeOf) (dialled : StartKeyOf) (at : Standing) : Type 0 where
-  pub start : CanStart at
+-- An end that was dialled to the servers of this key's address, and waits for its StartupMessage: for a start with this credential, so what
+-- its server asks are questions of that.
+pub record IsDialled (home : HomeOf) (dialled : StartKeyOf) (credential : CredentialOf) (at : Standing) : Type 0 where
+  pub start : CanStart credential dialled.user at
   pub follows : home.follows ≡ true → at.follows ≡ true
   pub catalogue : at.follows ≡ true → at.server.catalogue ≡ home.catalogue (address_of dialled)
   pub strikable : at.follows ≡ true → at.server.strikable ≡ home.strikable
-  pub lets_in : (key : StartKeyOf) (credential : CredentialOf) → home.lets_in key.user credential ≡ true → IsLetIn at key credential
+  pub lets_in : home.lets_in dialled.user credential ≡ true → IsLetIn at dialled credential
 
 -- A link to the servers of its key's address.
 pub record IsAtHome (home : HomeOf) (link : LinkView) : Type 0 where

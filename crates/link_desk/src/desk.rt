@@ -22,6 +22,7 @@ use crate::answers::{
 use book_model::events::Beyond;
 use book_model::limits::Limits;
 use book_register::view::BookView;
+use credentials::Credential;
 use link_start::links::CleanLink;
 use log_lines::notes::{Client, Note};
 use message_view::KeyView;
@@ -147,10 +148,16 @@ pub trait LinkDesk {
         ensures told { told pass.new ≡ after_leaving (told pass.old) result }
         ensures holder { holder pass.new ≡ left (holder pass.old) };
 
-    /// A new end of this key's server for the link of this number, which waits for its StartupMessage; `None` where it can't be reached
-    /// in so many seconds (0: as the desk likes), or the key has no server.
-    fn dial(&self, number: u64, key: &StartKey, seconds: u32) -> Option<Self::End>
-        ensures { IfSome result (λ e. IsDialled home key.now (Self.End.standing e)) };
+    /// A new end of this key's server for the link of this number, which waits for its StartupMessage, by this credential; `None` where it
+    /// can't be reached in so many seconds (0: as the desk likes), or the key has no server.
+    fn dial(
+        &self,
+        number: u64,
+        key: &StartKey,
+        credential: &Credential<'_>,
+        seconds: u32,
+    ) -> Option<Self::End>
+        ensures { IfSome result (λ e. IsDialled home key.now credential.now (Self.End.standing e)) };
 
     /// The book as it is now, in rows of the caller's own; what was made through the pass is among its decisions.
     ///

@@ -9,6 +9,9 @@ use Rattle.message_view.specs.declared.kinds.TheConstants.{ASKS_NOTHING, ASKS_CL
 use Rattle.message_view.specs.Reading.{authentication_of}
 use Rattle.session_values.specs.declared.cause.Cause.{Cause}
 use Rattle.session_values.specs.State.{State}
+use Rattle.user_file.specs.declared.secrets.Secret.{Secret}
+use Rattle.user_file.specs.declared.secrets.Secret.TheVariants as secrets
+use Rattle.user_file.specs.Secrets.{answer, answers_md5}
 use Rattle.credentials.specs.Credentials.{CredentialOf, answers_scram, first_response}
 use Rattle.credentials.specs.Exchanges.{ExchangeOf, exchange_of}
 use Rattle.link_laws.specs.Stages.{Server, Question, Round, Packet, Closed, Turn, asks, goes_on, is_answer, let_in, opened, opens, wrong_password, started_by, answers}
@@ -34,10 +37,17 @@ given_if : (b : Bool) (body a : List ℕ) → if_answered b body ≡ Some a → 
 given_if true body a e = refl
 given_if false body a e = absurd cc
 
+-- a secret with an answer to one MD5 question has one to each
+pub answers_digest : (secret : Secret) (user salt : Text) (a : List ℕ) → option_map text (answer secret user salt) ≡ Some a → answers_md5 secret ≡ true
+answers_digest (secrets.Plain password) user salt a e = refl
+answers_digest (secrets.Md5 own) user salt a e = refl
+answers_digest (secrets.Scram verifier) user salt a e = absurd cc
+answers_digest secrets.Unusable user salt a e = absurd cc
+
 -- what has an answer can be answered
 pub answered_can : (cred : CredentialOf) (user : Text) (q : ServerQuestion) (a : List ℕ) → answer_to cred user q ≡ Some a → can_answer cred q ≡ true
 answered_can cred user Cleartext a e = some_text (password_of cred.secret) a e
-answered_can cred user (Md5 salt) a e = refl
+answered_can cred user (Md5 salt) a e = answers_digest cred.secret user salt a e
 answered_can cred user Scram a e = given_if (answers_scram cred) (first_response cred).body a e
 answered_can cred user (Challenge exchange) a e = refl
 answered_can cred user (Unknown kind) a e = absurd cc

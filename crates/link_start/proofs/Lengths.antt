@@ -100,8 +100,8 @@ module _ (cred : CredentialOf) (user : Text) (v : Server) (told : List Question)
       by again true right = omega (arith, again can (asks_more (right_is r.answer x right)), next_wants cred h r.question p g own.1)
       by again false wrong_one = omega (arith, wanted_few h g, ap length (closed_says v (answer_packets given)))
 
-replies_count : (cred : CredentialOf) (user : Text) (v : Server) (auth : Auth) (key : StartKeyOf) (given : List (List ℕ)) → AsksQuestions auth → AreOwn cred user auth given → length (start_replies v auth key given) ≤ 15
-replies_count cred user v auth key given a own = omega (arith, said_count cred user v auth.told (start_body key) Nothing auth.rounds given tt (a cred user) own)
+replies_count : (cred : CredentialOf) (user : Text) (v : Server) (auth : Auth) (key : StartKeyOf) (given : List (List ℕ)) → AsksQuestions cred user auth → AreOwn cred user auth given → length (start_replies v auth key given) ≤ 15
+replies_count cred user v auth key given a own = omega (arith, said_count cred user v auth.told (start_body key) Nothing auth.rounds given tt a own)
 
 -- frames of the greatest length, so many
 spelled_length : (fs : List FrameOf) → AllByRecursion IsShortReply fs → length (flat_map spelling fs) ≤ 65537 * length fs
@@ -109,6 +109,6 @@ spelled_length [] s = omega arith
 spelled_length (f ∷ fs) s =
     omega (arith, s.0.size, spelled_length fs s.1, length-append (spelling f) (flat_map spelling fs), length-append (to_be_bytes w32 (4 + length f.body)) f.body)
 
-pub replies_are_short : (cred : CredentialOf) (user : Text) (v : Server) (auth : Auth) (key : StartKeyOf) (given : List (List ℕ)) → AsksQuestions auth → AreOwn cred user auth given → AllByRecursion IsShortReply (start_replies v auth key given)
+pub replies_are_short : (cred : CredentialOf) (user : Text) (v : Server) (auth : Auth) (key : StartKeyOf) (given : List (List ℕ)) → AsksQuestions cred user auth → AreOwn cred user auth given → AllByRecursion IsShortReply (start_replies v auth key given)
     → length (flat_map spelling (start_replies v auth key given)) ≤ LONGEST_WELCOME
 replies_are_short cred user v auth key given a own each = omega (arith, replies_count cred user v auth key given a own, spelled_length (start_replies v auth key given) each)

@@ -188,11 +188,11 @@ has_started began cred v bytes x w =
 
 -- ---- what a server that follows has said
 
-module _ (began : Standing) (cred : CredentialOf) (v : StartView) (c : CanStart began) (k : IsLinkKey v.key) (x : IsStartUnderWay began cred v) (f : began.follows ≡ true) (bytes : AreBytes v.received) where
+module _ (began : Standing) (cred : CredentialOf) (v : StartView) (c : CanStart cred v.key.user began) (k : IsLinkKey v.key) (x : IsStartUnderWay began cred v) (f : began.follows ≡ true) (bytes : AreBytes v.received) where
   auth : Auth
   auth = auth_of began.stage
 
-  can : IsStartable began
+  can : IsStartable cred v.key.user began
   can = c f
 
   to : AreToQuestions x.given auth
@@ -275,7 +275,7 @@ module _ (began : Standing) (cred : CredentialOf) (v : StartView) (c : CanStart 
   unfolding got tail replies auth
   question_is q e =
       ⊎_elim (λ (z : Nothing ≡ Asked q). absurd cc) (λ (y : IsLocated cred v.key.user Nothing (auth_of began.stage).rounds x.given q). y)
-      (located cred v.key.user began.server auth.told (start_body v.key) Nothing auth.rounds x.given got told.more q tt (can.questions cred v.key.user) (x.own f) (sym told.frames)
+      (located cred v.key.user began.server auth.told (start_body v.key) Nothing auth.rounds x.given got told.more q tt can.questions (x.own f) (sym told.frames)
       (before_is cred (heard_all cred Nothing got) (Asked q) tail e (λ z. cc)))
 
   pub refusal_is : heard cred v.received ≡ Refused → IsRefusalOf began cred v.key (error_in (frames FromServer 65536 v.received).frames)
@@ -369,9 +369,18 @@ own_key began cred v key d f bytes t =
     let y = key_is began cred v d.can_start d.key d.under_way f bytes d.welcomed in
     subst (IsOwnKey began.server) (some_key y.key key _ y.told t) y.own
 
-pub done_from : (began : Standing) (cred : CredentialOf) (key : StartKeyOf) (v w : StartView) → CanStart began → IsLinkKey key → v.key ≡ key → w.key ≡ v.key → IsStartUnderWay began cred v
-    → (CanStart began → IsLinkKey v.key → IsStartUnderWay began cred v → IsStartUnderWay began cred w) → IsWelcomed cred w → IsDoneFrom began cred w
-done_from began cred key v w can k e same x go welcomed = record { can_start = can; key = subst IsLinkKey (sym (same ∙ e)) k; under_way = go can (subst IsLinkKey (sym e) k) x; welcomed = welcomed }
+-- a start of the same key
+pub can_at : (began : Standing) (cred : CredentialOf) (k l : StartKeyOf) → l ≡ k → CanStart cred k.user began → CanStart cred l.user began
+can_at began cred k l e can = subst (λ (z : StartKeyOf). CanStart cred z.user began) (sym e) can
+
+pub done_from : (began : Standing) (cred : CredentialOf) (key : StartKeyOf) (v w : StartView) → CanStart cred key.user began → IsLinkKey key → v.key ≡ key → w.key ≡ v.key → IsStartUnderWay began cred v
+    → (CanStart cred v.key.user began → IsLinkKey v.key → IsStartUnderWay began cred v → IsStartUnderWay began cred w) → IsWelcomed cred w → IsDoneFrom began cred w
+done_from began cred key v w can k e same x go welcomed = record {
+  can_start = can_at began cred key w.key (same ∙ e) can;
+  key = subst IsLinkKey (sym (same ∙ e)) k;
+  under_way = go (can_at began cred key v.key e can) (subst IsLinkKey (sym e) k) x;
+  welcomed = welcomed;
+}
 
 -- ---- why it ends, by what was heard
 
@@ -380,7 +389,7 @@ error_is cred received e =
     let got = (frames FromServer 65536 received).frames in
     is_error cred Nothing got (λ z. cc) (before_is cred (heard_all cred Nothing got) Refused (frames FromServer 65536 received).rest e (λ z. cc))
 
-pub refused_cause : (began : Standing) (cred : CredentialOf) (v : StartView) (error : List ℕ) → CanStart began → IsLinkKey v.key → IsStartUnderWay began cred v → AreBytes v.received → heard cred v.received ≡ Refused
+pub refused_cause : (began : Standing) (cred : CredentialOf) (v : StartView) (error : List ℕ) → CanStart cred v.key.user began → IsLinkKey v.key → IsStartUnderWay began cred v → AreBytes v.received → heard cred v.received ≡ Refused
     → error ≡ error_in (frames FromServer 65536 v.received).frames → IsStartCause began v.end cred v.key (causes.Refused error)
 refused_cause began cred v error c k x bytes h e = (
   came_as began cred v (IsErrorHeard cred error) x (h, e, subst IsError (sym e) (error_is cred v.received h)),
@@ -388,7 +397,7 @@ refused_cause began cred v error c k x bytes h e = (
 )
 
 -- an answer behind those that were given, which is the next one where the server follows
-pub next_answered : (began : Standing) (cred : CredentialOf) (v : StartView) (q : ServerQuestion) (w body : List ℕ) → CanStart began → IsLinkKey v.key → IsStartUnderWay began cred v → AreBytes v.received → heard cred v.received ≡ Asked q
+pub next_answered : (began : Standing) (cred : CredentialOf) (v : StartView) (q : ServerQuestion) (w body : List ℕ) → CanStart cred v.key.user began → IsLinkKey v.key → IsStartUnderWay began cred v → AreBytes v.received → heard cred v.received ≡ Asked q
     → v.answered + 1 ≡ answers_wanted q → answer_to cred v.key.user q ≡ Some body → w ≡ v.unsent ++ spelling (answer_message body) → 4 + length body < 2 ^ 32
     → IsStartUnderWay began cred (start_view v.end v.key v.number v.born (v.answered + 1) w v.received)
 next_answered began cred v q w body c k x bytes h one s e l =
@@ -396,7 +405,7 @@ next_answered began cred v q w body c k x bytes h one s e l =
     (λ f. let n = (question_is began cred v c k x f bytes q h).next (omega (arith, one, x.count)) in (n.own body s, n.to body))
 
 -- a server that follows asks no question before the one before it is answered
-pub early_answered : (began : Standing) (cred : CredentialOf) (v : StartView) (q : ServerQuestion) (w body : List ℕ) → CanStart began → IsLinkKey v.key → IsStartUnderWay began cred v → AreBytes v.received → heard cred v.received ≡ Asked q
+pub early_answered : (began : Standing) (cred : CredentialOf) (v : StartView) (q : ServerQuestion) (w body : List ℕ) → CanStart cred v.key.user began → IsLinkKey v.key → IsStartUnderWay began cred v → AreBytes v.received → heard cred v.received ≡ Asked q
     → v.answered + 1 < answers_wanted q → w ≡ v.unsent ++ spelling (answer_message body) → 4 + length body < 2 ^ 32
     → IsStartUnderWay began cred (start_view v.end v.key v.number v.born (v.answered + 1) w v.received)
 early_answered began cred v q w body c k x bytes h early e l =
@@ -421,14 +430,14 @@ none_put false old new (Some body) e x = absurd x
 none_put false old new None e x = refl
 
 -- the answer that is wanted next has none
-pub unanswerable_cause : (began : Standing) (cred : CredentialOf) (v : StartView) (q : ServerQuestion) → CanStart began → IsLinkKey v.key → (x : IsStartUnderWay began cred v) → AreBytes v.received → heard cred v.received ≡ Asked q → answer_to cred v.key.user q ≡ None
+pub unanswerable_cause : (began : Standing) (cred : CredentialOf) (v : StartView) (q : ServerQuestion) → CanStart cred v.key.user began → IsLinkKey v.key → (x : IsStartUnderWay began cred v) → AreBytes v.received → heard cred v.received ≡ Asked q → answer_to cred v.key.user q ≡ None
     → v.answered < answers_wanted q → IsStartCause began v.end cred v.key (Unanswerable q)
 unanswerable_cause began cred v q c k x bytes h n l = (
   came_as began cred v (IsUnanswerableHeard cred v.key.user q) x (h, n),
   λ f. ((question_is began cred v c k x f bytes q h).next (omega (arith, l, x.count))).lacks n,
 )
 
-pub other_cause : (began : Standing) (cred : CredentialOf) (v : StartView) → CanStart began → IsLinkKey v.key → IsStartUnderWay began cred v → AreBytes v.received → heard cred v.received ≡ Other → IsStartCause began v.end cred v.key Unexpected
+pub other_cause : (began : Standing) (cred : CredentialOf) (v : StartView) → CanStart cred v.key.user began → IsLinkKey v.key → IsStartUnderWay began cred v → AreBytes v.received → heard cred v.received ≡ Other → IsStartCause began v.end cred v.key Unexpected
 other_cause began cred v c k x bytes h = (came_as began cred v (IsUnexpectedHeard cred) x (inl h), λ f. never_unexpected began cred v c k x f bytes h)
 
 -- ---- how long it goes on
@@ -453,7 +462,7 @@ has_tried began cred v turns x t w = record {
 }
 
 -- more came than any start's answer has, and more of it is to come
-pub long_cause : (began : Standing) (cred : CredentialOf) (v : StartView) → CanStart began → IsLinkKey v.key → IsStartUnderWay began cred v → AreBytes v.received → LONGEST_WELCOME < length v.received → IsWaitingStart cred v
+pub long_cause : (began : Standing) (cred : CredentialOf) (v : StartView) → CanStart cred v.key.user began → IsLinkKey v.key → IsStartUnderWay began cred v → AreBytes v.received → LONGEST_WELCOME < length v.received → IsWaitingStart cred v
     → IsStartCause began v.end cred v.key Unexpected
 long_cause began cred v c k x bytes l w = (
   came_as began cred v (IsUnexpectedHeard cred) x (inr (inr (l, still_waits (heard cred v.received) (IsAnsweredBy v.answered) (λ q. Unit {0}) (λ q _. tt) w))),

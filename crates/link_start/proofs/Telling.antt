@@ -152,10 +152,10 @@ module _ (cred : CredentialOf) (user : Text) (v : Server) (key : StartKeyOf) (to
       by again true right = again can (asks_more (right_is r.answer x right))
       by again false wrong_one = subst (λ (fs : List FrameOf). IsHeard cred v key (Asked p) (wrong_password ∷ fs) (Some wrong_password)) (sym (closed_says v (answer_packets given))) (wrong_heard cred v key p can)
 
-pub replies_heard : (cred : CredentialOf) (user : Text) (v : Server) (auth : Auth) (key : StartKeyOf) (given : List (List ℕ)) → IsLawfulCatalogue v.catalogue → IsLinkKey key → AsksQuestions auth → AreOwn cred user auth given
+pub replies_heard : (cred : CredentialOf) (user : Text) (v : Server) (auth : Auth) (key : StartKeyOf) (given : List (List ℕ)) → IsLawfulCatalogue v.catalogue → IsLinkKey key → AsksQuestions cred user auth → AreOwn cred user auth given
     → IsHeard cred v key Nothing (start_replies v auth key given) (start_refusal v auth key given)
 unfolding error
-replies_heard cred user v auth key given c k a own = replies_on cred user v key auth.told c k Nothing auth.rounds given tt (a cred user) own
+replies_heard cred user v auth key given c k a own = replies_on cred user v key auth.told c k Nothing auth.rounds given tt a own
 
 -- ---- the beginning of a frame
 

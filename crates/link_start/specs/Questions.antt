@@ -9,7 +9,7 @@ use Rattle.bytes.specs.Filled.{Filled}
 use Rattle.message_view.specs.Parts.{FitsLength}
 use Rattle.user_file.specs.declared.secrets.Secret.{Secret}
 use Rattle.user_file.specs.declared.secrets.Secret.TheVariants as secrets
-use Rattle.user_file.specs.Secrets.{answer}
+use Rattle.user_file.specs.Secrets.{answer, answers_md5}
 use Rattle.credentials.specs.Credentials.{CredentialOf, answers_scram, first_response}
 use Rattle.link_laws.specs.Dialogues.{answer_message}
 use Rattle.link_start.specs.declared.start_reply.ServerQuestion.{ServerQuestion}
@@ -22,6 +22,8 @@ with_zero t = list_any (λ b. b == 0) t
 abbrev pub password_of : Secret → Option Text
 password_of (secrets.Plain password) = if with_zero password then None else Some password
 password_of (secrets.Md5 digits) = None
+password_of (secrets.Scram verifier) = None
+password_of secrets.Unusable = None
 
 abbrev pub if_answered : Bool → List ℕ → Option (List ℕ)
 if_answered true body = Some body
@@ -30,14 +32,14 @@ if_answered false body = None
 -- the body of this user's answer; none where it can't answer
 abbrev pub answer_to : CredentialOf → Text → ServerQuestion → Option (List ℕ)
 answer_to c user Cleartext = option_map text (password_of c.secret)
-answer_to c user (Md5 salt) = Some (text (answer c.secret user salt))
+answer_to c user (Md5 salt) = option_map text (answer c.secret user salt)
 answer_to c user Scram = if_answered (answers_scram c) (first_response c).body
 answer_to c user (Challenge exchange) = Some exchange.last
 answer_to c user (Unknown kind) = None
 
 abbrev pub can_answer : CredentialOf → ServerQuestion → Bool
 can_answer c Cleartext = is_some (password_of c.secret)
-can_answer c (Md5 salt) = true
+can_answer c (Md5 salt) = answers_md5 c.secret
 can_answer c Scram = answers_scram c
 can_answer c (Challenge exchange) = true
 can_answer c (Unknown kind) = false

@@ -37,18 +37,23 @@ AsksOn c user told h [] = TellsOn c h told
 AsksOn c user told h (r ∷ rounds) =
     (question : ServerQuestion) × (spec.heard_by c h (asks r.question) ≡ heard.Asked question) × (answer_to c user question ≡ Some r.answer → AsksOn c user told (heard.Asked question) rounds)
 
--- whoever starts
-abbrev pub AsksQuestions : Auth → Type 0
-AsksQuestions auth = (c : CredentialOf) (user : Text) → AsksOn c user auth.told heard.Nothing auth.rounds
+-- of the user of this name, who starts with this credential
+abbrev pub AsksQuestions : CredentialOf → Text → Auth → Type 0
+AsksQuestions c user auth = AsksOn c user auth.told heard.Nothing auth.rounds
 
--- Where the end follows, its server waits for a StartupMessage, with nothing under way; and what it asks are questions.
-pub record IsStartable (at : Standing) : Type 0 where
+-- Its server waits for a StartupMessage, with nothing under way; and what it asks of this user are questions.
+pub record IsStartable (c : CredentialOf) (user : Text) (at : Standing) : Type 0 where
   pub is_new : IsNew at
   pub in_frame : AsksInFrame (auth_of at.stage)
-  pub questions : AsksQuestions (auth_of at.stage)
+  pub questions : AsksQuestions c user (auth_of at.stage)
 
-abbrev pub CanStart : Standing → Type 0
-CanStart at = at.follows ≡ true → IsStartable at
+-- where the end follows
+abbrev pub CanStart : CredentialOf → Text → Standing → Type 0
+CanStart c user at = at.follows ≡ true → IsStartable c user at
+
+-- whoever starts
+abbrev pub CanStartAll : Standing → Type 0
+CanStartAll at = (c : CredentialOf) (user : Text) → CanStart c user at
 
 -- the key of a client, with a database
 abbrev pub IsLinkKey : StartKeyOf → Type 0
@@ -136,7 +141,7 @@ pub record IsWelcomed (c : CredentialOf) (v : StartView) : Type 0 where
 
 -- It was begun there as it may be, and is welcomed.
 pub record IsDoneFrom (began : Standing) (c : CredentialOf) (v : StartView) : Type 0 where
-  pub can_start : CanStart began
+  pub can_start : CanStart c v.key.user began
   pub key : IsLinkKey v.key
   pub under_way : IsStartUnderWay began c v
   pub welcomed : IsWelcomed c v

@@ -43,7 +43,7 @@ pub(crate) fn password_of(secret: &Secret) -> Option<&[u8]>
             Some(_) => None,
             None => Some(password.as_bytes()),
         },
-        Secret::Md5(_) => None,
+        Secret::Md5(_) | Secret::Scram(_) | Secret::Unusable => None,
     }
 }
 
@@ -64,7 +64,9 @@ pub(crate) fn put_answer(
             put_password_message(out, password)?;
         }
         ServerQuestion::Md5(salt) => {
-            let digest = credential.secret().answer(user, *salt);
+            let Some(digest) = credential.secret().answer(user, *salt) else {
+                return Ok(false);
+            };
             put_password_message(out, &digest)?;
         }
         ServerQuestion::Scram => {

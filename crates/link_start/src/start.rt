@@ -318,7 +318,7 @@ impl<E: ServerEnd> Start<E> {
         requires asked { heard credential.now self.old.received ≡ came.Asked question.now }
         requires bytes { AreBytes self.old.received }
         requires fewer { self.old.answered < answers_wanted question.now }
-        ensures under_way { (b : Standing) → CanStart b → IsLinkKey self.old.key → IsStartUnderWay b credential.now self.old → OnOk result (IsStartUnderWay b credential.now self.new) }
+        ensures under_way { (b : Standing) → CanStart credential.now self.old.key.user b → IsLinkKey self.old.key → IsStartUnderWay b credential.now self.old → OnOk result (IsStartUnderWay b credential.now self.new) }
         ensures same { IsSameStart self.old self.new }
         ensures end { self.new.end ≡ self.old.end }
         ensures received { self.new.received ≡ self.old.received }
@@ -341,7 +341,7 @@ impl<E: ServerEnd> Start<E> {
     ) -> Result<(), StartCause>
         requires asked { heard credential.now self.old.received ≡ came.Asked question }
         requires bytes { AreBytes self.old.received }
-        ensures under_way { (b : Standing) → CanStart b → IsLinkKey self.old.key → IsStartUnderWay b credential.now self.old → OnOk result (IsStartUnderWay b credential.now self.new) }
+        ensures under_way { (b : Standing) → CanStart credential.now self.old.key.user b → IsLinkKey self.old.key → IsStartUnderWay b credential.now self.old → OnOk result (IsStartUnderWay b credential.now self.new) }
         ensures same { IsSameStart self.old self.new }
         ensures end { self.new.end ≡ self.old.end }
         ensures received { self.new.received ≡ self.old.received }
@@ -349,7 +349,7 @@ impl<E: ServerEnd> Start<E> {
         ensures left { OnOk result (bytes_left self.new ≤ bytes_left self.old) }
         ensures no_turns { IfErr result (λ c. c ≢ causes.Turns) }
         ensures in_time { IfErr result (λ c. c ≢ causes.Late) }
-        ensures cause { (b : Standing) → CanStart b → IsLinkKey self.old.key → IsStartUnderWay b credential.now self.old → IfErr result (λ c. IsStartCause b self.new.end credential.now self.old.key c) }
+        ensures cause { (b : Standing) → CanStart credential.now self.old.key.user b → IsLinkKey self.old.key → IsStartUnderWay b credential.now self.old → IfErr result (λ c. IsStartCause b self.new.end credential.now self.old.key c) }
     {
         if self.answered >= question.answers_wanted() {
             return Ok(());
@@ -365,7 +365,7 @@ impl<E: ServerEnd> Start<E> {
 
     /// What came so far: whether it is the whole welcome. A question is answered, once.
     fn hear(&mut self, alloc: Global, credential: &Credential<'_>) -> Result<bool, StartCause>
-        ensures under_way { (b : Standing) → CanStart b → IsLinkKey self.old.key → IsStartUnderWay b credential.now self.old → OnOk result (IsStartUnderWay b credential.now self.new) }
+        ensures under_way { (b : Standing) → CanStart credential.now self.old.key.user b → IsLinkKey self.old.key → IsStartUnderWay b credential.now self.old → OnOk result (IsStartUnderWay b credential.now self.new) }
         ensures same { IsSameStart self.old self.new }
         ensures end { self.new.end ≡ self.old.end }
         ensures received { OnOk result (self.new.received ≡ self.old.received) }
@@ -376,7 +376,7 @@ impl<E: ServerEnd> Start<E> {
         ensures unsent { IfOk result (λ r. r ≡ true → self.new.unsent ≡ self.old.unsent) }
         ensures no_turns { IfErr result (λ c. c ≢ causes.Turns) }
         ensures in_time { IfErr result (λ c. c ≢ causes.Late) }
-        ensures cause { (b : Standing) → CanStart b → IsLinkKey self.old.key → IsStartUnderWay b credential.now self.old → IfErr result (λ c. IsStartCause b self.new.end credential.now self.old.key c) }
+        ensures cause { (b : Standing) → CanStart credential.now self.old.key.user b → IsLinkKey self.old.key → IsStartUnderWay b credential.now self.old → IfErr result (λ c. IsStartCause b self.new.end credential.now self.old.key c) }
     {
         match self.read_start_reply(alloc, credential)? {
             StartProgress::Ready => Ok(true),
@@ -393,7 +393,7 @@ impl<E: ServerEnd> Start<E> {
     /// Writes at most once and, where all is sent, reads at most once.
     fn turn(&mut self, alloc: Global, credential: &Credential<'_>) -> Result<Progress, StartCause>
         requires { IsWaitingStart credential.now self.old }
-        ensures under_way { (b : Standing) → CanStart b → IsLinkKey self.old.key → IsStartUnderWay b credential.now self.old → OnOk result (IsStartUnderWay b credential.now self.new) }
+        ensures under_way { (b : Standing) → CanStart credential.now self.old.key.user b → IsLinkKey self.old.key → IsStartUnderWay b credential.now self.old → OnOk result (IsStartUnderWay b credential.now self.new) }
         ensures same { IsSameStart self.old self.new }
         ensures waits { IfOk result (λ p. p ≢ progress.Ready → IsWaitingStart credential.now self.new) }
         ensures welcomed { IfOk result (λ p. p ≡ progress.Ready → IsWelcomed credential.now self.new) }
@@ -408,7 +408,7 @@ impl<E: ServerEnd> Start<E> {
         ensures last { IfOk result (λ p. p ≡ progress.Ready → waits_of self.new.end ≡ waits_of self.old.end) }
         ensures no_turns { IfErr result (λ c. c ≢ causes.Turns) }
         ensures in_time { IfErr result (λ c. c ≢ causes.Late) }
-        ensures cause { (b : Standing) → CanStart b → IsLinkKey self.old.key → IsStartUnderWay b credential.now self.old → IfErr result (λ c. IsStartCause b self.new.end credential.now self.old.key c) }
+        ensures cause { (b : Standing) → CanStart credential.now self.old.key.user b → IsLinkKey self.old.key → IsStartUnderWay b credential.now self.old → IfErr result (λ c. IsStartCause b self.new.end credential.now self.old.key c) }
     {
         let wrote = self.send()?;
         if !self.is_sent() {
@@ -529,7 +529,7 @@ pub fn start_link<E: ServerEnd, G: Gate<E>>(
     gate: &mut G,
     turns: u32,
 ) -> Result<CleanLink<E>, StartLinkFault<E>>
-    requires can_start { CanStart (E.standing end) }
+    requires can_start { CanStart credential.now (arc_value key).user (E.standing end) }
     requires key { IsLinkKey (arc_value key) }
     ensures started { IfOk result (λ l. IsStarted (E.standing end) credential.now l) }
     ensures own_key { (E.standing end).follows ≡ true → IfOk result (λ l. IsOwnKey (E.standing end).server l.server_key) }

@@ -262,8 +262,9 @@ fn can_answer(credential: &Credential<'_>, question: &ServerQuestion) -> bool
 {
     match question {
         ServerQuestion::Cleartext => password_of(credential.secret()).is_some(),
+        ServerQuestion::Md5(_) => credential.secret().answers_md5(),
         ServerQuestion::Scram => credential.answers_scram(),
-        ServerQuestion::Md5(_) | ServerQuestion::Challenge(_) => true,
+        ServerQuestion::Challenge(_) => true,
         ServerQuestion::Unknown(_) => false,
     }
 }

@@ -26,7 +26,7 @@ const PROOF: &[u8] = b"v=k7dU0WG8rOSieGIUSd7/a6vlu5IEbupz7A/AUVk5hP8=";
 fn password_answers_a_challenge(rt: HostRuntime) -> Result<(), Fail> {
     let alloc = rt.alloc();
     let secret = Secret::read(alloc, b"pencil")?;
-    let credential = Credential::new(&secret, &WORD, 5);
+    let credential = Credential::new(alloc, &secret, &WORD, 5);
     assert!(rt; credential.answers_scram());
     let mut out = BytesMut::new(alloc);
     credential.put_first(&mut out)?;
@@ -47,7 +47,7 @@ fn password_answers_a_challenge(rt: HostRuntime) -> Result<(), Fail> {
 fn each_link_has_a_nonce_of_its_own(rt: HostRuntime) -> Result<(), Fail> {
     let alloc = rt.alloc();
     let secret = Secret::read(alloc, b"pencil")?;
-    let other = Credential::new(&secret, &WORD, 6);
+    let other = Credential::new(alloc, &secret, &WORD, 6);
     assert!(rt; other.exchange(alloc, CHALLENGE)?.is_none());
     Ok(())
 }
@@ -56,7 +56,7 @@ fn each_link_has_a_nonce_of_its_own(rt: HostRuntime) -> Result<(), Fail> {
 fn digest_answers_no_scram(rt: HostRuntime) -> Result<(), Fail> {
     let alloc = rt.alloc();
     let secret = Secret::Md5([b'0'; 32]);
-    let credential = Credential::new(&secret, &WORD, 5);
+    let credential = Credential::new(alloc, &secret, &WORD, 5);
     assert!(rt; !credential.answers_scram());
     assert!(rt; credential.exchange(alloc, CHALLENGE)?.is_none());
     assert!(rt; matches!(credential.secret(), Secret::Md5(_)));

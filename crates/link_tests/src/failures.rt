@@ -1,8 +1,8 @@
 //! Ends that fail at each of their calls in turn, on either side of a lease: what becomes of the link, and what the next client finds.
 ghost use Rattle.std.specs.Prelude.{◌<◌};
-ghost use Rattle.link_start.specs.Starts.{CanStart};
+ghost use Rattle.link_start.specs.Starts.{CanStartAll};
 
-use crate::making::{SHOP, begin, server};
+use crate::making::{SHOP, begin, failing_at, server};
 use link_run::links::CleanLink;
 use link_run::reset::{ResetFault, reset_link};
 use link_start::start::StartCause;
@@ -137,7 +137,7 @@ fn after_lease<E: ServerEnd>(alloc: Global, next: Next, link: Returned<E>) -> Ou
 /// A link is started over this end, leased to a client of this talk and reset. The client is given a beginning of what it is to be
 /// given.
 fn run<E: ServerEnd>(alloc: Global, end: E, talk: Talk, whole: &[u8]) -> Result<Outcome, Fail>
-    requires { CanStart (E.standing end) }
+    requires { CanStartAll (E.standing end) }
 {
     let link = match begin(alloc, end, SHOP)? {
         Ok(link) => link,
@@ -168,8 +168,7 @@ fn server_faults(alloc: Global, talk: Talk) -> Result<[u64; 3], Fail> {
     let whole = whole(alloc, talk)?;
     let mut counts = [0u64, 0, 0];
     for call in 1..MOST_CALLS {
-        let end = FailingEnd::new(server(alloc, ServerAuth::Trust, CUT, None)?, call);
-        match run(alloc, end, talk, whole.as_slice())? {
+        match run(alloc, failing_at(alloc, CUT, call)?, talk, whole.as_slice())? {
             Outcome::NotStarted => counts[0] = counts[0].saturating_add(1),
             Outcome::LostInLease => counts[1] = counts[1].saturating_add(1),
             Outcome::NotReset => counts[2] = counts[2].saturating_add(1),

@@ -1,6 +1,6 @@
 //! One link serves two clients, one after the other, over ends that move few bytes a call.
 ghost use Rattle.std.specs.Prelude.{◌<◌};
-ghost use Rattle.link_start.specs.Starts.{CanStart};
+ghost use Rattle.link_start.specs.Starts.{CanStartAll};
 
 use crate::making::server;
 use crate::resets::{link, reports};
@@ -28,7 +28,7 @@ const FRESH: &[u8] =
 
 /// The second client of a link, which was reset behind the first; their ends move so many bytes a call.
 fn second<E: ServerEnd>(alloc: Global, end: E, cut: usize) -> Result<MemoryClient, Fail>
-    requires can_start { CanStart (E.standing end) }
+    requires can_start { CanStartAll (E.standing end) }
     requires cut { 0 < cut }
 {
     let (_, returned) = lease(alloc, link(alloc, end)?, cut, 1, &[FIRST])?;

@@ -4,13 +4,15 @@
 ghost use Rattle.std.specs.Prelude.{◌≡◌, ◌<◌, IfOk};
 ghost use Rattle.std.specs.Arc.{arc_value};
 ghost use Rattle.session_values.specs.Lawful.{IsLawfulCatalogue};
-ghost use Rattle.link_start.specs.Starts.{CanStart, IsLinkKey};
+ghost use Rattle.link_start.specs.Starts.{CanStartAll, IsLinkKey};
+ghost use Rattle.memory_ends.specs.Failing.{failing_server};
 ghost use Rattle.memory_start_laws.specs.Starts.{HasSalt};
 ghost use Rattle.link_tests.specs.Keys.{ann_on};
 
 use credentials::Credential;
 use link_run::links::CleanLink;
 use link_start::start::{StartCause, start_link};
+use memory_ends::failing_end::FailingEnd;
 use memory_ends::memory_server::{MemoryServer, ServerAuth};
 use memory_start_laws::memory_servers_can_start;
 use message_view::KeyWord;
@@ -93,7 +95,7 @@ pub fn server(
 ) -> Result<MemoryServer, Fail>
     requires cut { 0 < cut }
     requires salt { HasSalt auth }
-    ensures { IfOk result (λ s. CanStart s.standing) }
+    ensures { IfOk result (λ s. CanStartAll s.standing) }
 {
     memory_servers_can_start();
     let catalogue = catalogue(alloc)?;
@@ -101,6 +103,16 @@ pub fn server(
         Ok(server) => Ok(server),
         Err(_) => Err("no memory")?,
     }
+}
+
+/// A server that asks for nothing, and whose end fails at this call.
+pub fn failing_at(alloc: Global, cut: usize, call: u64) -> Result<FailingEnd<MemoryServer>, Fail>
+    requires cut { 0 < cut }
+    requires call { 0 < call }
+    ensures { IfOk result (λ e. CanStartAll (failing_server e.calls e.inner.standing)) }
+{
+    let server = server(alloc, ServerAuth::Trust, cut, None)?;
+    Ok(FailingEnd::new(server, call))
 }
 
 /// What is asked of a start: its password, whether its database is there, and how many turns it has.
@@ -125,10 +137,10 @@ pub fn begin_by<E: ServerEnd, G: Gate<E>>(
     start: Start,
     gate: &mut G,
 ) -> Result<Result<CleanLink<E>, StartCause>, Fail>
-    requires { CanStart (E.standing end) }
+    requires { CanStartAll (E.standing end) }
 {
     let secret = Secret::read(alloc, start.password)?;
-    let credential = Credential::new(&secret, &OWN, 5);
+    let credential = Credential::new(alloc, &secret, &OWN, 5);
     let key = key(alloc, start.is_there)?;
     match start_link(alloc, end, key, &credential, 5, 9, gate, start.turns) {
         Ok(link) => Ok(Ok(link)),
@@ -142,7 +154,7 @@ pub fn begin<E: ServerEnd>(
     end: E,
     start: Start,
 ) -> Result<Result<CleanLink<E>, StartCause>, Fail>
-    requires { CanStart (E.standing end) }
+    requires { CanStartAll (E.standing end) }
 {
     begin_by(alloc, end, start, &mut OpenGate::new())
 }

@@ -1,11 +1,10 @@
 //! Leases of one link to clients, and its reset between them (PostgreSQL manual, "Message Flow" and "Message Formats").
 ghost use Rattle.std.specs.Prelude.{◌<◌};
-ghost use Rattle.link_start.specs.Starts.{CanStart};
+ghost use Rattle.link_start.specs.Starts.{CanStartAll};
 
-use crate::making::{SHOP, begin, server};
+use crate::making::{SHOP, begin, failing_at, server};
 use link_run::links::{CleanLink, UsedLink};
 use link_run::reset::{ResetFault, reset_link};
-use memory_ends::failing_end::FailingEnd;
 use memory_ends::memory_server::ServerAuth;
 use message_view::KeyWord;
 use paced_client::PacedClient;
@@ -93,7 +92,7 @@ fn lease<E: ServerEnd>(
 
 /// A link over this end.
 pub fn link<E: ServerEnd>(alloc: Global, end: E) -> Result<CleanLink<E>, Fail>
-    requires { CanStart (E.standing end) }
+    requires { CanStartAll (E.standing end) }
 {
     let Ok(link) = begin(alloc, end, SHOP)? else {
         return Err("not started")?;
@@ -103,7 +102,7 @@ pub fn link<E: ServerEnd>(alloc: Global, end: E) -> Result<CleanLink<E>, Fail>
 
 /// A link over this end after its first lease, and what its client was given.
 fn used<E: ServerEnd>(alloc: Global, end: E) -> Result<(PacedClient, UsedLink<E>), Fail>
-    requires { CanStart (E.standing end) }
+    requires { CanStartAll (E.standing end) }
 {
     let (client, Returned::Used(link)) = lease(alloc, link(alloc, end)?, 1, set())? else {
         return Err("not used")?;
@@ -113,7 +112,7 @@ fn used<E: ServerEnd>(alloc: Global, end: E) -> Result<(PacedClient, UsedLink<E>
 
 /// Whether the second client of a link is given nothing of the first.
 fn is_clean<E: ServerEnd>(alloc: Global, end: E) -> Result<bool, Fail>
-    requires { CanStart (E.standing end) }
+    requires { CanStartAll (E.standing end) }
 {
     let (first, link) = used(alloc, end)?;
     let Ok(link) = reset_link(alloc, link, &mut OpenGate::new(), 20) else {
@@ -135,7 +134,7 @@ fn a_second_client_is_given_nothing_of_the_first(rt: HostRuntime) -> Result<(), 
 
 /// Why a used link isn't reset in so many turns.
 fn fault<E: ServerEnd>(alloc: Global, end: E, turns: u32) -> Result<Option<ResetFault>, Fail>
-    requires { CanStart (E.standing end) }
+    requires { CanStartAll (E.standing end) }
 {
     let (_, link) = used(alloc, end)?;
     match reset_link(alloc, link, &mut OpenGate::new(), turns) {
@@ -150,7 +149,6 @@ fn a_reset_fails(rt: HostRuntime) -> Result<(), Fail> {
     let alloc = rt.alloc();
     let slow = server(alloc, ServerAuth::Trust, 1, None)?;
     assert!(rt; fault(alloc, slow, 1)? == Some(ResetFault::Turns));
-    let failing = FailingEnd::new(server(alloc, ServerAuth::Trust, 100, None)?, 7);
-    assert!(rt; fault(alloc, failing, 20)? == Some(ResetFault::Lost));
+    assert!(rt; fault(alloc, failing_at(alloc, 100, 7)?, 20)? == Some(ResetFault::Lost));
     Ok(())
 }

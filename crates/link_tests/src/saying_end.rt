@@ -1,7 +1,7 @@
 //! A server that says what it is told to, and a link over it.
 ghost use Rattle.std.specs.Prelude.{◌≡◌, [], IfOk};
 ghost use Rattle.std.specs.Arc.{arc_value};
-ghost use Rattle.link_start.specs.Starts.{CanStart};
+ghost use Rattle.link_start.specs.Starts.{CanStartAll};
 ghost use Rattle.link_tests.specs.Saying.{saying};
 
 use crate::making::key;
@@ -90,7 +90,7 @@ impl ServerEnd for SayingEnd {
 
 /// A server that says these words, so many bytes a call at most. A link can be started over it, since it follows no session.
 pub fn saying_end(alloc: Global, words: &'static [u8], cut: usize) -> Result<SayingEnd, Fail>
-    ensures { IfOk result (λ s. CanStart (saying (arc_value s.key) s.words.now s.accepted.bytes s.given.bytes)) }
+    ensures { IfOk result (λ s. CanStartAll (saying (arc_value s.key) s.words.now s.accepted.bytes s.given.bytes)) }
 {
     let key = key(alloc, true)?;
     Ok(SayingEnd::new(&key, words, cut)?)

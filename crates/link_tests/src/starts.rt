@@ -1,13 +1,12 @@
 //! Starts over servers in memory (PostgreSQL manual, "Message Flow", "Start-up").
 ghost use Rattle.std.specs.Prelude.{◌<◌};
-ghost use Rattle.link_start.specs.Starts.{CanStart};
+ghost use Rattle.link_start.specs.Starts.{CanStartAll};
 ghost use Rattle.memory_start_laws.specs.Starts.{HasSalt};
 
-use crate::making::{SHOP, Start, begin_by, server};
+use crate::making::{SHOP, Start, begin_by, failing_at, server};
 use crate::short_gate::ShortGate;
 use link_run::welcome::welcome_over;
 use link_start::start::{StartCause, StartError};
-use memory_ends::failing_end::FailingEnd;
 use memory_ends::memory_server::ServerAuth;
 use message_view::{KeyView, KeyWord};
 use server_end::ServerEnd;
@@ -53,7 +52,7 @@ fn told_by<E: ServerEnd, G: Gate<E>>(
     how: Start,
     gate: &mut G,
 ) -> Result<Result<Begun, StartCause>, Fail>
-    requires { CanStart (E.standing end) }
+    requires { CanStartAll (E.standing end) }
 {
     let word = KeyWord {
         pid: 1,
@@ -76,7 +75,7 @@ fn told_by<E: ServerEnd, G: Gate<E>>(
 
 /// The same by a gate that is never late.
 fn told<E: ServerEnd>(alloc: Global, end: E, how: Start) -> Result<Result<Begun, StartCause>, Fail>
-    requires { CanStart (E.standing end) }
+    requires { CanStartAll (E.standing end) }
 {
     told_by(alloc, end, how, &mut OpenGate::new())
 }
@@ -206,7 +205,7 @@ fn a_server_dies(rt: HostRuntime) -> Result<(), Fail> {
 fn is_lost_at(alloc: Global, nth: u64) -> Result<bool, Fail>
     requires { 0 < nth }
 {
-    let end = FailingEnd::new(server(alloc, ServerAuth::Trust, 100, None)?, nth);
+    let end = failing_at(alloc, 100, nth)?;
     Ok(matches!(told(alloc, end, SHOP)?, Err(StartCause::Lost)))
 }
 

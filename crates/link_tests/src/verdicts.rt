@@ -1,6 +1,6 @@
 //! What becomes of a link by what went over it.
 ghost use Rattle.std.specs.Prelude.{◌<◌};
-ghost use Rattle.link_start.specs.Starts.{CanStart};
+ghost use Rattle.link_start.specs.Starts.{CanStartAll};
 
 use crate::making::server;
 use crate::resets::link;
@@ -88,7 +88,7 @@ pub fn lease<E: ServerEnd>(
 
 /// What went over a link of this end by these messages of its client.
 fn counts_of<E: ServerEnd>(alloc: Global, end: E, messages: &[&[u8]]) -> Result<Counts, Fail>
-    requires { CanStart (E.standing end) }
+    requires { CanStartAll (E.standing end) }
 {
     let relay = pumped(alloc, link(alloc, end)?, 1_000, 1, messages)?;
     Ok(relay.counts())
@@ -107,7 +107,7 @@ fn fate_of<E: ServerEnd>(
     messages: &[&[u8]],
     last: &[u8],
 ) -> Result<(Fate, bool), Fail>
-    requires { CanStart (E.standing end) }
+    requires { CanStartAll (E.standing end) }
 {
     let (client, link) = lease(alloc, link(alloc, end)?, 1_000, 1, messages)?;
     let told = client.given().ends_with(last);

@@ -13,6 +13,10 @@ use Rattle.log_lines.specs.declared.notes.Unstarted.{Unstarted}
 use Rattle.log_lines.specs.declared.notes.Unstarted.TheVariants as unstarted
 use Rattle.log_lines.specs.declared.notes.Loss.{Loss}
 use Rattle.log_lines.specs.declared.notes.Loss.TheVariants as loss
+use Rattle.message_view.specs.declared.kinds.TheConstants.{ASKS_CLEARTEXT, ASKS_MD5}
+use Rattle.log_lines.specs.declared.lines.TheConstants.{SASL}
+use Rattle.log_lines.specs.declared.notes.LoginFailure.{LoginFailure}
+use Rattle.log_lines.specs.declared.notes.LoginFailure.TheVariants as failure
 use Rattle.log_lines.specs.declared.notes.Note.{Note}
 use Rattle.log_lines.specs.declared.notes.Note.TheVariants as note
 use Rattle.log_lines.specs.declared.events.Totals.{Totals}
@@ -20,7 +24,7 @@ use Rattle.log_lines.specs.declared.events.Rates.{Rates}
 use Rattle.log_lines.specs.declared.events.Event.{Event}
 use Rattle.log_lines.specs.declared.events.Event.TheVariants as event
 use Rattle.log_lines.specs.Shown.{Text, is_printing, hex_digit, shown_byte, shown, shown_text, shown_name, quoted, shown_host, address, after}
-use Rattle.log_lines.specs.Lines.{numbered, named, who, state_and_text, fields_or_none, field, asks_for, unstarted_words, loss_words, refusal_words, parameter_words, words, line}
+use Rattle.log_lines.specs.Lines.{numbered, named, who, state_and_text, fields_or_none, field, asks_for, unstarted_words, loss_words, refusal_words, parameter_words, words, line, failure_words}
 use Rattle.log_lines.specs.Events.{counted, counts, place, rates, event_words, heard_words}
 use Rattle.log_lines.specs.declared.events.Heard.{Heard}
 use Rattle.log_lines.specs.declared.events.Heard.TheVariants as heard
@@ -120,8 +124,8 @@ errors : (fields : List (ℕ × Text)) → Prints (state_and_text fields)
 errors fields = both (shown_text (field 67 fields)) (32 ∷ shown_text (field 77 fields)) (texts 92 (field 67 fields)) (texts 92 (field 77 fields))
 
 asked : (n : ℕ) → Prints (asks_for n)
-asked n = by_branch Prints (n == 10) _ _ (λ _. refl) (λ _. by_branch Prints (n == 3) _ _ (λ _. refl)
-    (λ _. both (decimal n) (codes ", which isn't served: use SCRAM, md5 or a password") (decimals n) refl))
+asked n = by_branch Prints (n == SASL) _ _ (λ _. refl) (λ _. by_branch Prints (n == ASKS_CLEARTEXT) _ _ (λ _. refl) (λ _. by_branch Prints (n == ASKS_MD5) _ _ (λ _. refl)
+    (λ _. both (decimal n) (codes ", which isn't served: use SCRAM, md5 or a password") (decimals n) refl)))
 
 starts : (why : Unstarted) → Prints (unstarted_words why)
 starts unstarted.NotReached = refl
@@ -138,6 +142,13 @@ losses loss.Unanswered = refl
 losses loss.Foreign = refl
 losses loss.NotReset = refl
 losses loss.Cancelled = refl
+
+failures : (why : LoginFailure) → Prints (failure_words why)
+failures failure.NoUser = refl
+failures failure.Verifier = refl
+failures failure.NoSecret = refl
+failures failure.NoAdmin = refl
+failures failure.WrongPassword = refl
 
 refusals : (r : Refusal) → Prints (refusal_words r)
 refusals TooManyClients = refl
@@ -160,7 +171,8 @@ notes note.Late ms = both (after ms) (codes ": not through its login in client_l
 notes (note.Refused r) ms = both (after ms ++ codes ": ") (refusal_words r) (both (after ms) (codes ": ") (times ms) refl) (refusals r)
 notes (note.UnsupportedParameter name) ms = both (after ms ++ codes ": ") (parameter_words name.now) (both (after ms) (codes ": ") (times ms) refl)
     (both (quoted name.now) (codes " (P4)") (quotes name.now) refl)
-notes note.WrongPassword ms = both (after ms) (codes ": password authentication failed (28P01)") (times ms) refl
+notes (note.LoginFailed why) ms = both (after ms ++ codes ": password authentication failed (28P01): ") (failure_words why)
+    (both (after ms) (codes ": password authentication failed (28P01): ") (times ms) refl) (failures why)
 notes note.NoDatabase ms = both (after ms) (codes ": database does not exist (3D000)") (times ms) refl
 notes (note.Unstarted server why) ms = both (after ms ++ codes ": server " ++ address server.host.now server.port) (unstarted_words why)
     (both (after ms ++ codes ": server ") (address server.host.now server.port) (both (after ms) (codes ": server ") (times ms) refl) (addresses server.host.now server.port)) (starts why)
@@ -208,6 +220,8 @@ told (event.NotListeningForMetrics host port why) = both (address host.now port)
 told (event.Unreached host port why) = both (address host.now port) (codes " not reached: " ++ shown_text why.now) (addresses host.now port) (texts 92 why.now)
 told event.Reloaded = refl
 told (event.NotReloaded fault) = texts 92 fault.now
+told (event.NoPasswords n first) = both (counted (n, codes " secrets of the user file accept no password, the first that of ")) (shown_name first.now)
+    (count n (codes " secrets of the user file accept no password, the first that of ") refl) (texts 32 first.now)
 told (event.Wanting n) = count n (codes " connections closed for want of a thread, a poll, a file or memory") refl
 told (event.Late n) = count n (codes " connections closed that didn't say who they are in client_login_timeout") refl
 told (event.Dropped n) = count n (codes " lines of the log were dropped") refl

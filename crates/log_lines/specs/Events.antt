@@ -44,6 +44,9 @@ no_metrics host port why = codes "not listening for metrics at " ++ (address hos
 abbrev pub unreached : Text → ℕ → Text → Text
 unreached host port why = codes "server " ++ (address host port ++ (codes " not reached: " ++ shown_text why))
 
+abbrev pub no_passwords : ℕ → Text → Text
+no_passwords n first = counted (n, codes " secrets of the user file accept no password, the first that of ") ++ shown_name first
+
 abbrev pub heard_words : Heard → Text
 heard_words heard.Ended = codes "server connection ended"
 heard_words (heard.Said message) = codes "its server said " ++ error_words message.now
@@ -57,6 +60,7 @@ event_words (event.NotListeningForMetrics host port why) = no_metrics host.now p
 event_words (event.Unreached host port why) = unreached host.now port why.now
 event_words event.Reloaded = codes "reloaded"
 event_words (event.NotReloaded fault) = codes "not reloaded: " ++ shown_text fault.now
+event_words (event.NoPasswords n first) = no_passwords n first.now
 event_words (event.Wanting n) = counted (n, codes " connections closed for want of a thread, a poll, a file or memory")
 event_words (event.Late n) = counted (n, codes " connections closed that didn't say who they are in client_login_timeout")
 event_words (event.Dropped n) = counted (n, codes " lines of the log were dropped")

@@ -4,11 +4,15 @@ use Rattle.message_view.specs.declared.refusal.Refusal.{Refusal}
 use Rattle.message_view.specs.declared.ViewFault.{ViewFault}
 use Rattle.message_view.specs.Refusals.{telling}
 use Rattle.message_view.specs.Reading.{note_of}
+use Rattle.message_view.specs.declared.kinds.TheConstants.{ASKS_CLEARTEXT, ASKS_MD5}
+use Rattle.log_lines.specs.declared.lines.TheConstants.{SASL}
 use Rattle.log_lines.specs.declared.notes.Client.{Client}
 use Rattle.log_lines.specs.declared.notes.Unstarted.{Unstarted}
 use Rattle.log_lines.specs.declared.notes.Unstarted.TheVariants as unstarted
 use Rattle.log_lines.specs.declared.notes.Loss.{Loss}
 use Rattle.log_lines.specs.declared.notes.Loss.TheVariants as loss
+use Rattle.log_lines.specs.declared.notes.LoginFailure.{LoginFailure}
+use Rattle.log_lines.specs.declared.notes.LoginFailure.TheVariants as failure
 use Rattle.log_lines.specs.declared.notes.Note.{Note}
 use Rattle.log_lines.specs.declared.notes.Note.TheVariants as note
 use Rattle.log_lines.specs.Shown.{Text, shown_name, quoted, shown_text, address, after}
@@ -55,9 +59,10 @@ error_words message = state_and_text (fields_or_none (note_of (drop 5 message)))
 -- the server's question for another authentication
 abbrev pub asks_for : ℕ → Text
 asks_for n =
-    if n == 10 then codes " asks for SCRAM (authentication method 10), which can't be answered: the user file has but a digest, or SCRAM-SHA-256 isn't offered" else (
-    if n == 3 then codes " asks for a password (authentication method 3), which can't be given: the user file has but its digest" else
-    codes " asks for authentication method " ++ decimal n ++ codes ", which isn't served: use SCRAM, md5 or a password")
+    if n == SASL then codes " asks for SCRAM (authentication method 10), which can't be answered: the user file has no password, or SCRAM-SHA-256 isn't offered" else (
+    if n == ASKS_CLEARTEXT then codes " asks for a password (authentication method 3), which can't be given: the user file has none" else (
+    if n == ASKS_MD5 then codes " asks for MD5 (authentication method 5), which can't be answered: the user file has neither a password nor its digest" else
+    codes " asks for authentication method " ++ decimal n ++ codes ", which isn't served: use SCRAM, md5 or a password"))
 
 abbrev pub unstarted_words : Unstarted → Text
 unstarted_words unstarted.NotReached = codes " could not be reached (P7)"
@@ -87,6 +92,14 @@ refusal_words r = (telling r).message ++ codes " (" ++ (telling r).number ++ cod
 abbrev pub parameter_words : Text → Text
 parameter_words name = codes "unsupported startup parameter " ++ quoted name ++ codes " (P4)"
 
+-- why a login failed
+abbrev pub failure_words : LoginFailure → Text
+failure_words failure.NoUser = codes "no such user"
+failure_words failure.Verifier = codes "its secret is a SCRAM verifier, by which no client is let in yet"
+failure_words failure.NoSecret = codes "its secret is empty, or a spoiled SCRAM verifier"
+failure_words failure.NoAdmin = codes "not of admin_users or stats_users"
+failure_words failure.WrongPassword = codes "wrong password"
+
 -- after so many milliseconds, where they are known
 abbrev pub words : Note → Option ℕ → Text
 words note.LoggedIn ms = codes " in"
@@ -94,7 +107,7 @@ words note.Closed ms = codes " out" ++ after ms
 words note.Late ms = codes " closed" ++ after ms ++ codes ": not through its login in client_login_timeout"
 words (note.Refused r) ms = codes " refused" ++ after ms ++ codes ": " ++ refusal_words r
 words (note.UnsupportedParameter name) ms = codes " refused" ++ after ms ++ codes ": " ++ parameter_words name.now
-words note.WrongPassword ms = codes " failed" ++ after ms ++ codes ": password authentication failed (28P01)"
+words (note.LoginFailed why) ms = codes " failed" ++ after ms ++ codes ": password authentication failed (28P01): " ++ failure_words why
 words note.NoDatabase ms = codes " failed" ++ after ms ++ codes ": database does not exist (3D000)"
 words (note.Unstarted server why) ms = codes " refused" ++ after ms ++ codes ": server " ++ address server.host.now server.port ++ unstarted_words why
 words (note.LinkLost number why) ms = codes " link " ++ decimal number ++ codes " closed: " ++ loss_words why

@@ -78,6 +78,8 @@ pub enum Event<'a> {
     Reloaded,
     /// They weren't, because of this fault.
     NotReloaded(&'a [u8]),
+    /// So many users have a secret that accepts no password; this is the first of them.
+    NoPasswords(u64, &'a [u8]),
     /// So many connections were closed unserved, for want of a thread, a poll, a file or memory.
     Wanting(u64),
     /// So many connections were closed that were late, and hadn't said who they are.
@@ -144,6 +146,17 @@ fn put_fault(line: &mut Vec<u8>, fault: &[u8]) -> Result<(), AllocError>
 {
     line.extend_from_slice(b"not reloaded: ")?;
     put_text(line, fault)
+}
+
+fn put_no_passwords(line: &mut Vec<u8>, n: u64, first: &[u8]) -> Result<(), AllocError>
+    ensures { OnOk result (line.new.items ≡ line.old.items ++ spec.no_passwords n first.now) }
+{
+    put_count(
+        line,
+        n,
+        b" secrets of the user file accept no password, the first that of ",
+    )?;
+    put_name(line, first)
 }
 
 /// A host or folder, and a port.
@@ -249,6 +262,7 @@ fn put_words(line: &mut Vec<u8>, event: Event<'_>) -> Result<(), AllocError>
         Event::Unreached(host, port, why) => put_unreached(line, host, port, why),
         Event::Reloaded => line.extend_from_slice(b"reloaded"),
         Event::NotReloaded(fault) => put_fault(line, fault),
+        Event::NoPasswords(n, first) => put_no_passwords(line, n, first),
         Event::Wanting(n) => put_count(
             line,
             n,

@@ -8,17 +8,16 @@ ghost use Rattle.message_view.specs.Refusals.{telling};
 ghost use Rattle.log_lines.specs.Shown.{address, after};
 ghost use Rattle.log_lines.specs.Lines as spec;
 
-use crate::notes::{Client, Loss, Note, Server, Unstarted};
+use crate::notes::{Client, LoginFailure, Loss, Note, Server, Unstarted};
 use crate::shown::{put_address, put_after, put_name, put_number, put_quoted, put_text};
+use message_view::kinds::{ASKS_CLEARTEXT, ASKS_MD5};
 use message_view::{Fields, NoteView, Refusal};
 use std::alloc::AllocError;
 
 /// What precedes the body in a message: its type and length.
 const HEAD: usize = 5;
 
-/// The authentication methods of which the log says more than their number: a password, and SASL.
-const PASSWORD: u32 = 3;
-
+/// The authentication method by which SASL is asked for, of which the log says more than its number, as of a password and its digest.
 const SASL: u32 = 10;
 
 fn put_numbered(line: &mut Vec<u8>, number: Option<u64>) -> Result<(), AllocError>
@@ -131,12 +130,17 @@ fn put_asked(line: &mut Vec<u8>, method: u32) -> Result<(), AllocError>
 {
     if method == SASL {
         return line.extend_from_slice(
-            b" asks for SCRAM (authentication method 10), which can't be answered: the user file has but a digest, or SCRAM-SHA-256 isn't offered",
+            b" asks for SCRAM (authentication method 10), which can't be answered: the user file has no password, or SCRAM-SHA-256 isn't offered",
         );
     }
-    if method == PASSWORD {
+    if method == ASKS_CLEARTEXT {
         return line.extend_from_slice(
-            b" asks for a password (authentication method 3), which can't be given: the user file has but its digest",
+            b" asks for a password (authentication method 3), which can't be given: the user file has none",
+        );
+    }
+    if method == ASKS_MD5 {
+        return line.extend_from_slice(
+            b" asks for MD5 (authentication method 5), which can't be answered: the user file has neither a password nor its digest",
         );
     }
     line.extend_from_slice(b" asks for authentication method ")?;
@@ -173,6 +177,19 @@ fn loss_words(loss: Loss) -> &'static [u8]
         Loss::Foreign => b"malformed server message",
         Loss::NotReset => b"not reset by DISCARD ALL",
         Loss::Cancelled => b"cancel requested",
+    }
+}
+
+fn failure_words(why: LoginFailure) -> &'static [u8]
+    ensures { result.now ≡ spec.failure_words why }
+{
+    match why {
+        LoginFailure::NoUser => b"no such user",
+        LoginFailure::Verifier =>
+            b"its secret is a SCRAM verifier, by which no client is let in yet",
+        LoginFailure::NoSecret => b"its secret is empty, or a spoiled SCRAM verifier",
+        LoginFailure::NoAdmin => b"not of admin_users or stats_users",
+        LoginFailure::WrongPassword => b"wrong password",
     }
 }
 
@@ -286,12 +303,15 @@ fn put_words(line: &mut Vec<u8>, note: Note<'_>, ms: Option<u64>) -> Result<(), 
             put_timed(line, b" refused", ms, b": ")?;
             put_parameter(line, name)
         }
-        Note::WrongPassword => put_timed(
-            line,
-            b" failed",
-            ms,
-            b": password authentication failed (28P01)",
-        ),
+        Note::LoginFailed(why) => {
+            put_timed(
+                line,
+                b" failed",
+                ms,
+                b": password authentication failed (28P01): ",
+            )?;
+            line.extend_from_slice(failure_words(why))
+        }
         Note::NoDatabase => put_timed(line, b" failed", ms, b": database does not exist (3D000)"),
         Note::Unstarted(server, why) => put_refused_by(line, server, why, ms),
         Note::LinkLost(number, loss) => put_lost(line, number, loss),

@@ -38,8 +38,8 @@ pub struct Server<'a> {
 pub enum Unstarted<'a> {
     /// No connection to the server can be had.
     NotReached,
-    /// The server asks for another authentication than this pooler's, of this number; or for a password (3), or by SASL for SCRAM (10),
-    /// where the user file has but a digest, or for another mechanism of SASL than SCRAM-SHA-256.
+    /// The server asks for another authentication than this pooler's, of this number; or for a password (3), its MD5 digest (5), or by SASL
+    /// for SCRAM (10), of which the user file has nothing, or for another mechanism of SASL than SCRAM-SHA-256.
     Unanswerable(u32),
     /// The connection was lost in the dialogue.
     Lost,
@@ -68,6 +68,21 @@ pub enum Loss {
     Cancelled,
 }
 
+/// Why a client isn't let in by its password, which the client isn't told.
+#[derive(Clone, Copy)]
+pub enum LoginFailure {
+    /// The user file has no user of this name.
+    NoUser,
+    /// The user's secret is a SCRAM verifier, by which no client is let in yet.
+    Verifier,
+    /// It has no bytes, or begins as a verifier does and is none.
+    NoSecret,
+    /// The database is the console's, and the user none of it.
+    NoAdmin,
+    /// The password, or the answer to the question, isn't the user's.
+    WrongPassword,
+}
+
 /// What a pool's log is told.
 #[derive(Clone, Copy)]
 pub enum Note<'a> {
@@ -81,8 +96,8 @@ pub enum Note<'a> {
     Refused(Refusal),
     /// It was refused because of this startup parameter.
     UnsupportedParameter(&'a [u8]),
-    /// The user is unknown, or its password wrong.
-    WrongPassword,
+    /// The client was told 28P01.
+    LoginFailed(LoginFailure),
     /// The settings have no such database.
     NoDatabase,
     /// No link could be started for the client.

@@ -4,6 +4,7 @@ use Rattle.std.specs.Prelude.{IfOk, IfSome}
 use Rattle.std.specs.Result.{result_ok}
 use Rattle.session_values.specs.Lawful.{IsLawfulCatalogue}
 use Rattle.session_values.specs.State.{Address, StartKeyOf, address_of}
+use Rattle.credentials.specs.Credentials.{CredentialOf}
 use Rattle.link_laws.specs.Stages.{Server, no_auth}
 use Rattle.memory_ends.specs.declared.memory_server.ServerAuth.TheVariants.{Trust}
 use Rattle.memory_ends.specs.Servers.{ServerOf, new_server}
@@ -11,14 +12,14 @@ use Rattle.memory_start_laws.specs.Starts.{MemoryServersCanStart}
 use Rattle.link_desk.specs.Homes.{HomeOf, IsDialled}
 
 -- a server that was just made, and asks for nothing
-pub new_dialled : (home : HomeOf) (key : StartKeyOf) (v : Server) (cut : ℕ) (s : ServerOf) → ((address : Address) → v.catalogue ≡ home.catalogue address) → v.strikable ≡ home.strikable → IsLawfulCatalogue v.catalogue → MemoryServersCanStart
-    → s ≡ new_server v no_auth cut None → IsDialled home key s.standing
-new_dialled home key v cut s c f lawful can e = subst (λ (x : ServerOf). IsDialled home key x.standing) (sym e) (record {
-  start = can v Trust cut None lawful tt;
+pub new_dialled : (home : HomeOf) (key : StartKeyOf) (credential : CredentialOf) (v : Server) (cut : ℕ) (s : ServerOf) → ((address : Address) → v.catalogue ≡ home.catalogue address) → v.strikable ≡ home.strikable → IsLawfulCatalogue v.catalogue → MemoryServersCanStart
+    → s ≡ new_server v no_auth cut None → IsDialled home key credential s.standing
+new_dialled home key credential v cut s c f lawful can e = subst (λ (x : ServerOf). IsDialled home key credential x.standing) (sym e) (record {
+  start = can v Trust cut None lawful tt credential key.user;
   follows = λ _. refl;
   catalogue = λ _. c (address_of key);
   strikable = λ _. f;
-  lets_in = λ k credential _. refl;
+  lets_in = λ _. refl;
 })
 
 pub some_if : {A E : Type 0} (P Q : A → Type 0) (r : Result A E) (o : Option A) → o ≡ result_ok r → IfOk r P → ((x : A) → P x → Q x) → IfSome o Q

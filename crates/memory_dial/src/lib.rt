@@ -8,6 +8,7 @@ ghost use Rattle.memory_dial.specs.Homes.{IsEverywhere};
 
 pub mod strikable;
 
+use credentials::Credential;
 use memory_ends::memory_server::{MemoryServer, ServerAuth};
 use memory_start_laws::memory_servers_can_start;
 use message_view::KeyWord;
@@ -80,7 +81,13 @@ impl<N: Naming> Outside for MemoryDial<N> {
 
     ghost home = { open_home N.catalogue };
 
-    fn dial(&self, _number: u64, _key: &StartKey, _seconds: u32) -> Option<MemoryServer> {
+    fn dial(
+        &self,
+        _number: u64,
+        _key: &StartKey,
+        _credential: &Credential<'_>,
+        _seconds: u32,
+    ) -> Option<MemoryServer> {
         memory_servers_can_start();
         self.catalogue.is_lawful();
         let catalogue = Arc::try_clone(&self.catalogue).ok()?;

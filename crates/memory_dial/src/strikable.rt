@@ -2,10 +2,12 @@
 ghost use Rattle.std.specs.Prelude.{◌≡◌, ◌<◌, IfSome, true};
 ghost use Rattle.std.specs.Arc.{arc_value};
 ghost use Rattle.session_values.specs.State.{StartKeyOf};
+ghost use Rattle.credentials.specs.Credentials.{CredentialOf};
 ghost use Rattle.link_desk.specs.Homes.{IsDialled};
 ghost use Rattle.memory_dial.specs.Homes.{IsEverywhere, strikable_home};
 
 use crate::Naming;
+use credentials::Credential;
 use memory_ends::memory_server::{MemoryServer, ServerAuth};
 use memory_ends::striker::Striker;
 use memory_start_laws::memory_servers_can_start;
@@ -74,7 +76,7 @@ impl<R: Wait + Drop, N: Naming> StrikableDial<R, N> {
     /// A new server with this key word, which cancels reach.
     fn server(&self, own: KeyWord) -> Option<MemoryServer>
         ensures reached { IfSome result (λ e. e.standing.server.strikable ≡ true) }
-        ensures dialled { IfSome result (λ e. (key : StartKeyOf) → IsDialled (strikable_home N.catalogue) key e.standing) }
+        ensures dialled { IfSome result (λ e. (key : StartKeyOf) (credential : CredentialOf) → IsDialled (strikable_home N.catalogue) key credential e.standing) }
     {
         memory_servers_can_start();
         self.catalogue.is_lawful();
@@ -98,7 +100,13 @@ impl<R: Wait + Drop, N: Naming> Outside for StrikableDial<R, N> {
 
     ghost home = { strikable_home N.catalogue };
 
-    fn dial(&self, _number: u64, _key: &StartKey, _seconds: u32) -> Option<MemoryServer> {
+    fn dial(
+        &self,
+        _number: u64,
+        _key: &StartKey,
+        _credential: &Credential<'_>,
+        _seconds: u32,
+    ) -> Option<MemoryServer> {
         let mut strikers = self.strikers.lock(&self.rt);
         let server = self.server(next_word(strikers.len())?)?;
         strikers.push(server.striker().ok()?).ok()?;

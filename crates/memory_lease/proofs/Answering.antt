@@ -358,8 +358,8 @@ unstarted dies start first_own server cred key word limit turns bytes old new c 
     (λ e. subst (λ (y : OwnOf). HasTried y.standing cred key server.standing turns) o (h e)) u refl n t
 
 -- a start may begin as one of the server alone
-pub can_start : (dies : Option ℕ) (start : Standing) (first_own : OwnOf) → first_own ≡ own_server dies start → IsStartable start → CanStart first_own.standing
-can_start dies start first_own o s = subst (λ (y : OwnOf). CanStart y.standing) (sym o) (λ f. record {
+pub can_start : (cred : CredentialOf) (user : List ℕ) (dies : Option ℕ) (start : Standing) (first_own : OwnOf) → first_own ≡ own_server dies start → IsStartable cred user start → CanStart cred user first_own.standing
+can_start cred user dies start first_own o s = subst (λ (y : OwnOf). CanStart cred user y.standing) (sym o) (λ f. record {
   is_new = record { stage = s.is_new.stage; inbox = s.is_new.inbox; outbox = s.is_new.outbox; lawful = s.is_new.lawful };
   in_frame = s.in_frame;
   questions = s.questions;

@@ -191,7 +191,7 @@ pub fn serve_alone(
     cut: usize,
     bytes: &[u8],
 ) -> Result<BytesMut, ServeError>
-    requires startable { IsStartable server.standing }
+    requires startable { IsStartable credential.now (arc_value key).user server.standing }
     requires follows { server.standing.follows ≡ true }
     requires spared { server.standing.server.strikable ≡ false }
     requires let_in { IsLetIn server.standing (arc_value key) credential.now }

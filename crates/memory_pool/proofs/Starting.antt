@@ -9,7 +9,7 @@ use Rattle.link_laws.specs.Stages.{Auth, no_auth, Server}
 use Rattle.link_laws.specs.Standing.{Standing}
 use Rattle.link_run.specs.Links.{LinkView}
 use Rattle.memory_ends.specs.Servers.{ServerOf, new_server}
-use Rattle.link_start.specs.Starts.{CanStart, IsStartCause, IsRefusalOf, IsStarted, own_answers}
+use Rattle.link_start.specs.Starts.{CanStartAll, IsStartCause, IsRefusalOf, IsStarted, own_answers}
 use Rattle.link_start.specs.declared.start.StartCause.{StartCause}
 use Rattle.link_start.specs.declared.start.StartCause.TheVariants as cause
 use Rattle.memory_pool.specs.declared.answers.Taken.{Taken}
@@ -17,7 +17,7 @@ use Rattle.memory_pool.specs.declared.answers.Taken.TheVariants as taken
 use Rattle.memory_pool.specs.MemoryPools.{IsAtHome, IsNewServer, IsStartError, IsTaken, IsUnstarted, IsStartRefusal}
 
 -- a server that was just made, and asks for nothing
-pub new_home : (cat : CatalogueOf) (v : Server) (cut : ℕ) (left : Option ℕ) (s : ServerOf) → v.catalogue ≡ cat → v.strikable ≡ false → CanStart (new_server v no_auth cut left).standing → s ≡ new_server v no_auth cut left → IsNewServer cat s.standing
+pub new_home : (cat : CatalogueOf) (v : Server) (cut : ℕ) (left : Option ℕ) (s : ServerOf) → v.catalogue ≡ cat → v.strikable ≡ false → CanStartAll (new_server v no_auth cut left).standing → s ≡ new_server v no_auth cut left → IsNewServer cat s.standing
 new_home cat v cut left s c f can e = subst (λ (x : ServerOf). IsNewServer cat x.standing) (sym e) (record { home = record { follows = refl; catalogue = c; spared = f }; starts = can; trusts = refl })
 
 pub on_ok : {A E : Type 0} (P Q : A → Type 0) (r : Result A E) → IfOk r P → ((x : A) → P x → Q x) → IfOk r Q

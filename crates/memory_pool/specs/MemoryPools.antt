@@ -10,7 +10,7 @@ use Rattle.link_laws.specs.Dialogues.{auth_of, start_error}
 use Rattle.link_laws.specs.Stages.{no_auth}
 use Rattle.link_laws.specs.Standing.{Standing}
 use Rattle.link_run.specs.Links.{LinkView}
-use Rattle.link_start.specs.Starts.{CanStart}
+use Rattle.link_start.specs.Starts.{CanStartAll}
 use Rattle.link_start.specs.declared.start.StartCause.{StartCause}
 use Rattle.link_start.specs.declared.start.StartCause.TheVariants as cause
 use Rattle.link_start.specs.declared.start.StartRefusal.{StartRefusal}
@@ -46,7 +46,7 @@ AreAtHome cat links = AllByRecursion (IsAtHome cat) links
 -- a new server of this catalogue, which waits for a StartupMessage and asks for nothing
 pub record IsNewServer (cat : CatalogueOf) (at : Standing) : Type 0 where
   pub home : IsServerOf cat at
-  pub starts : CanStart at
+  pub starts : CanStartAll at
   pub trusts : auth_of at.stage ≡ no_auth
 
 -- the idle links of a pool

@@ -1,2 +1,3 @@
+mod Scram
 mod Servers
 mod Unfollowed

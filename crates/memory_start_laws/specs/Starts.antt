@@ -9,7 +9,7 @@ use Rattle.memory_ends.specs.declared.memory_server.ServerAuth.TheVariants.{Trus
 use Rattle.memory_ends.specs.Gone.{start_of, welcome_of}
 use Rattle.memory_ends.specs.Servers.{auth_asked, new_server}
 use Rattle.link_run.specs.Receipts.{IsClean}
-use Rattle.link_start.specs.Starts.{CanStart}
+use Rattle.link_start.specs.Starts.{CanStartAll}
 
 -- an MD5 question has a salt of four bytes
 abbrev pub HasSalt : ServerAuth → Type 0
@@ -17,9 +17,9 @@ HasSalt Trust = Unit {0}
 HasSalt (Plain password) = Unit {0}
 HasSalt (Md5 salt digest) = length salt ≡ 4
 
--- A stand-in server in memory can be started.
+-- A stand-in server in memory can be started, by anybody.
 abbrev pub MemoryServersCanStart : Type 0
-MemoryServersCanStart = (v : TheServer) (auth : ServerAuth) (cut : ℕ) (left : Option ℕ) → IsLawfulCatalogue v.catalogue → HasSalt auth → CanStart (new_server v (auth_asked auth) cut left).standing
+MemoryServersCanStart = (v : TheServer) (auth : ServerAuth) (cut : ℕ) (left : Option ℕ) → IsLawfulCatalogue v.catalogue → HasSalt auth → CanStartAll (new_server v (auth_asked auth) cut left).standing
 
 -- An end that follows nothing, and tells that it was sent the StartupMessage of the key and gave the shortest answer, makes a clean
 -- link: so tests have links that were never started.

@@ -29,6 +29,7 @@ use crate::outside::Outside;
 use book_model::events::Beyond;
 use book_model::limits::Limits;
 use book_register::view::BookView;
+use credentials::Credential;
 use desk_tallies::answers::{
     Arrival, Asked, Back, Cancelled, Changed, Gone, Grant, Keying, Place, Release, Strike,
 };
@@ -492,8 +493,14 @@ impl<R: Wait + Clock, S: Outside, K: Ledgers> LinkDesk for Desk<R, S, K> {
         }
     }
 
-    fn dial(&self, number: u64, key: &StartKey, seconds: u32) -> Option<S::End> {
-        self.outside.dial(number, key, seconds)
+    fn dial(
+        &self,
+        number: u64,
+        key: &StartKey,
+        credential: &Credential<'_>,
+        seconds: u32,
+    ) -> Option<S::End> {
+        self.outside.dial(number, key, credential, seconds)
     }
 
     fn view(&self, alloc: Global, pass: &mut Pass<K>) -> Result<BookView, AllocError> {

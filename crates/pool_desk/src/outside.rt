@@ -4,6 +4,7 @@ ghost use Rattle.std.specs.Arc.{arc_value};
 ghost use Rattle.desk_tallies.specs.Homes.{IsDialled};
 
 use book_model::limits::Limits;
+use credentials::Credential;
 use desk_tallies::answers::Strike;
 use log_lines::notes::{Client, Note};
 use server_end::ServerEnd;
@@ -18,10 +19,16 @@ pub trait Outside {
 
     ghost home: { HomeOf };
 
-    /// A new end of this key's server for the link of this number, which waits for its StartupMessage; `None` where it can't be reached,
-    /// in so many seconds (0: as whoever dials likes), or the key has no server.
-    fn dial(&self, number: u64, key: &StartKey, seconds: u32) -> Option<Self::End>
-        ensures { IfSome result (λ e. IsDialled home key.now (Self.End.standing e)) };
+    /// A new end of this key's server for the link of this number, which waits for its StartupMessage, by this credential; `None` where it
+    /// can't be reached, in so many seconds (0: as whoever dials likes), or the key has no server.
+    fn dial(
+        &self,
+        number: u64,
+        key: &StartKey,
+        credential: &Credential<'_>,
+        seconds: u32,
+    ) -> Option<Self::End>
+        ensures { IfSome result (λ e. IsDialled home key.now credential.now (Self.End.standing e)) };
 
     /// From now on the end of the link of this number is minded, which nobody uses: who runs the desk hears when its server hangs up or says
     /// something, and tells it so ([`crate::desk::Desk::hung_up`]). That it can't be minded is ignored. It is called under the desk's lock, and

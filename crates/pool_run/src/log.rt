@@ -10,6 +10,7 @@ use std::io;
 use std::rt::Clock;
 use std::sync::{Arc, Mutex, Wait};
 use std::time::Instant;
+use user_file::Users;
 
 /// A log, and the connections that weren't served since it was told of some.
 pub(crate) struct PoolLog<R> {
@@ -110,6 +111,26 @@ impl<R: Wait + Clock> PoolLog<R> {
     /// The files were read again.
     pub(crate) fn reloaded(&self) {
         self.event(Event::Reloaded);
+    }
+
+    /// These are the users of later clients: tells of secrets that accept no password.
+    pub(crate) fn users(&self, users: &Users) {
+        let mut count = 0u64;
+        let mut first: &[u8] = b"";
+        for place in 0..users.len() {
+            match users.at(place) {
+                Some(user) if !user.secret.answers_md5() => {
+                    if count == 0 {
+                        first = user.name.as_bytes();
+                    }
+                    count = count.saturating_add(1);
+                }
+                _ => {}
+            }
+        }
+        if count > 0 {
+            self.event(Event::NoPasswords(count, first));
+        }
     }
 
     /// They weren't, because of this fault.

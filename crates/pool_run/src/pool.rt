@@ -585,6 +585,7 @@ fn serve_all<
         mut acceptor,
         metrics,
     } = listening.begin(&rt, alloc, &log)?;
+    log.users(&users);
     let mut workers = Workers::<Connection<R, F, K>>::new(alloc)?;
     let keys = KeySource::new(seed, settings.peer_id());
     let idle = IdlePoll::new(&rt, alloc)?;

@@ -10,6 +10,7 @@ use crate::pool::{MOST_CUT, a_moment};
 use crate::runtime::PoolRuntime;
 use book_model::limits::Limits;
 use bytes::BytesMut;
+use credentials::Credential;
 use keep_alive::Keepalive;
 use link_desk::answers::Strike;
 use log_lines::notes::{Client, Note};
@@ -120,7 +121,13 @@ impl<R: PoolRuntime, F: Source> Outside for Surroundings<R, F> {
 
     ghost home = { unknown_home };
 
-    fn dial(&self, number: u64, key: &StartKey, seconds: u32) -> Option<TcpEnd> {
+    fn dial(
+        &self,
+        number: u64,
+        key: &StartKey,
+        _credential: &Credential<'_>,
+        seconds: u32,
+    ) -> Option<TcpEnd> {
         let Some(host) = &key.host else {
             return None;
         };
@@ -165,6 +172,9 @@ impl<R: PoolRuntime, F: Source> Outside for Surroundings<R, F> {
         match self.keeper.reload() {
             Ok(limits) => {
                 self.log.reloaded();
+                if let Ok((_, users)) = self.keeper.share() {
+                    self.log.users(&users);
+                }
                 Some(limits)
             }
             Err(Unread::Fault(fault)) => {

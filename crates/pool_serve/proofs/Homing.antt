@@ -43,7 +43,7 @@ module _ (home : HomeOf) (client : ClientFacts) (link : LinkView) (word : KeyWor
 -- ---- a new link
 
 -- a link that was started over an end of its key's server
-pub started_home : (home : HomeOf) (began : Standing) (cred : CredentialOf) (key : StartKeyOf) (l : LinkView) → IsDialled home key began → IsStarted began cred l → l.key ≡ key → IsAtHome home l
+pub started_home : (home : HomeOf) (began : Standing) (cred : CredentialOf) (key : StartKeyOf) (l : LinkView) → IsDialled home key cred began → IsStarted began cred l → l.key ≡ key → IsAtHome home l
 started_home home began cred key l d st k =
     let m = st.under_way.starting.moves in
     record {

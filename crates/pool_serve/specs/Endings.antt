@@ -91,9 +91,9 @@ pub record IsUnstarted (home : HomeOf) (g : LoggedIn) (cause : StartCause) : Typ
   pub user_is : Some user ≡ user_named (arc_value g.key).user g.login.users
   pub began : Standing
   pub now : Standing
-  pub dialled : IsDialled home (arc_value g.key) began
   -- of the link that was to be started
   pub number : ℕ
+  pub dialled : IsDialled home (arc_value g.key) (credential_of user.secret (start_nonce g.word number)) began
   pub is_cause : IsStartCause began now (credential_of user.secret (start_nonce g.word number)) (arc_value g.key) cause
   pub tried : cause ≡ Turns → HasTried began (credential_of user.secret (start_nonce g.word number)) (arc_value g.key) now TURNS
   pub unanswered : cause ≡ Late → HasTried began (credential_of user.secret (start_nonce g.word number)) (arc_value g.key) now 0

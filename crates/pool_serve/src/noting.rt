@@ -7,7 +7,7 @@ use link_desk::answers::Cancelled;
 use link_desk::desk::LinkDesk;
 use link_run::reset::ResetFault;
 use link_start::start::StartCause;
-use log_lines::notes::{Client, Loss, Note, Server, Unstarted, Visit};
+use log_lines::notes::{Client, LoginFailure, Loss, Note, Server, Unstarted, Visit};
 use login_core::Failure;
 use login_run::{LoginReply, LoginRun};
 use message_view::Refusal;
@@ -15,6 +15,7 @@ use relay_core::relay::GoneCause;
 use server_end::ClientEnd;
 use start_keys::StartKey;
 use std::sync::Arc;
+use user_file::Secret;
 
 /// A client of this key, where it is known, as the log names it.
 pub(crate) fn named<'a>(
@@ -42,14 +43,38 @@ pub(crate) fn own_key<C: ClientEnd>(run: &LoginRun<C>) -> Option<Arc<StartKey>> 
     }
 }
 
+/// Why a client isn't let in by its password.
+fn login_failure<C: ClientEnd>(run: &LoginRun<C>) -> LoginFailure {
+    let Some(key) = run.key() else {
+        return LoginFailure::NoUser;
+    };
+    let name = key.user.as_slice();
+    let Some(user) = run.login().users().row(name) else {
+        return LoginFailure::NoUser;
+    };
+    let settings = run.login().settings();
+    match &user.secret {
+        Secret::Scram(_) => LoginFailure::Verifier,
+        Secret::Unusable => LoginFailure::NoSecret,
+        Secret::Plain(_) | Secret::Md5(_) => {
+            if key.row.is(b"pgbouncer") & !(settings.is_admin(name) | settings.may_look(name)) {
+                return LoginFailure::NoAdmin;
+            }
+            LoginFailure::WrongPassword
+        }
+    }
+}
+
 /// How a login ended that goes no further; nothing, where its client went.
-fn login_note<'a>(said: LoginReply, parameter: Option<&'a [u8]>) -> Option<Note<'a>> {
-    match (said, parameter) {
+fn login_note<C: ClientEnd>(run: &LoginRun<C>) -> Option<Note<'_>> {
+    match (run.said(), run.login().unsupported_parameter()) {
         (LoginReply::Refusal(Refusal::UnsupportedParameter), Some(name)) => Some(
             Note::UnsupportedParameter(name),
         ),
         (LoginReply::Refusal(refusal), _) => Some(Note::Refused(refusal)),
-        (LoginReply::Failure(Failure::WrongPassword), _) => Some(Note::WrongPassword),
+        (LoginReply::Failure(Failure::WrongPassword), _) => Some(Note::LoginFailed(login_failure(
+            run,
+        ))),
         (LoginReply::Failure(Failure::NoDatabase), _) => Some(Note::NoDatabase),
         (LoginReply::Nothing | LoginReply::Question(_) | LoginReply::LetIn, _) => None,
     }
@@ -63,7 +88,7 @@ pub(crate) fn note_login<C: ClientEnd, D: LinkDesk>(
     number: Option<u64>,
     is_late: bool,
 ) {
-    let note = match login_note(run.said(), run.login().unsupported_parameter()) {
+    let note = match login_note(run) {
         Some(note) => note,
         None if is_late => Note::Late,
         None => return,

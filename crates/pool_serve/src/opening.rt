@@ -59,11 +59,11 @@ fn start_anew<D: LinkDesk, G: Gate<D::End>>(
     let Ok(key) = Arc::try_clone(&logged_in.key) else {
         return Err(Ending::Memory);
     };
-    let Some(mut end) = desk.dial(number, &logged_in.key, seconds) else {
+    let credential = Credential::new(alloc, &user.secret, &logged_in.word, number);
+    let Some(mut end) = desk.dial(number, &logged_in.key, &credential, seconds) else {
         return Err(Ending::Unreached);
     };
     gate.watch(&mut end);
-    let credential = Credential::new(&user.secret, &logged_in.word, number);
     match start_link(alloc, end, key, &credential, number, born, gate, TURNS) {
         Ok(link) => Ok(link),
         Err(fault) => Err(Ending::Unstarted(fault.cause)),

@@ -2,6 +2,7 @@
 ghost use Rattle.std.specs.Prelude.{◌≡◌, true};
 ghost use Rattle.server_end.specs.Moves.{ClientReads, ClientWrites, IsWithin, moved};
 
+use credentials::Credential;
 use memory_dial::{MemoryDial, Naming};
 use memory_ends::failing_end::FailingEnd;
 use memory_ends::memory_server::MemoryServer;
@@ -79,8 +80,14 @@ impl<'a, N: Naming> Outside for FailingDial<'a, N> {
 
     ghost home = { open_home N.catalogue };
 
-    fn dial(&self, number: u64, key: &StartKey, seconds: u32) -> Option<FailingServer<'a>> {
-        let server = self.dialer.dial(number, key, seconds)?;
+    fn dial(
+        &self,
+        number: u64,
+        key: &StartKey,
+        credential: &Credential<'_>,
+        seconds: u32,
+    ) -> Option<FailingServer<'a>> {
+        let server = self.dialer.dial(number, key, credential, seconds)?;
         Some(FailingServer {
             end: FailingEnd::new(server, self.next_call().max(1)),
             has_failed: self.has_failed,

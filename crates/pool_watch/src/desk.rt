@@ -5,6 +5,7 @@ use crate::watch::Watch;
 use book_model::events::Beyond;
 use book_model::limits::Limits;
 use book_register::view::BookView;
+use credentials::Credential;
 use ini_config::Settings;
 use link_desk::answers::{
     Arrival, Asked, Back, Cancelled, Changed, Gone, Grant, Keying, Place, Release, Strike,
@@ -127,8 +128,14 @@ impl<'a, R: Wait + Clock, D: LinkDesk> LinkDesk for WatchedDesk<'a, R, D> {
         self.desk.leave(pass)
     }
 
-    fn dial(&self, number: u64, key: &StartKey, seconds: u32) -> Option<D::End> {
-        self.desk.dial(number, key, seconds)
+    fn dial(
+        &self,
+        number: u64,
+        key: &StartKey,
+        credential: &Credential<'_>,
+        seconds: u32,
+    ) -> Option<D::End> {
+        self.desk.dial(number, key, credential, seconds)
     }
 
     fn view(&self, alloc: Global, pass: &mut D::Pass) -> Result<BookView, AllocError> {

@@ -1,6 +1,6 @@
 //! Starts and resets of links. Where memory is refused they hand the end back, which goes on; or the end itself was refused memory and
 //! has ended.
-ghost use Rattle.link_start.specs.Starts.{CanStart};
+ghost use Rattle.link_start.specs.Starts.{CanStartAll};
 
 use crate::KEY_WORD;
 use crate::ends::{has_ended, is_alive, reads_all, writes_all};
@@ -46,12 +46,12 @@ fn started<E: ServerEnd>(
     end: E,
     out: &mut Vec<u8>,
 ) -> Result<Option<CleanLink<E>>, AllocError>
-    requires { CanStart (E.standing end) }
+    requires { CanStartAll (E.standing end) }
 {
     let Ok(secret) = Secret::read(alloc, PASSWORD) else {
         return Err(AllocError);
     };
-    let credential = Credential::new(&secret, &KEY_WORD, 5);
+    let credential = Credential::new(alloc, &secret, &KEY_WORD, 5);
     let key = key(alloc)?;
     match start_link(
         alloc,
@@ -77,7 +77,7 @@ pub fn link<E: ServerEnd>(
     end: E,
     out: &mut Vec<u8>,
 ) -> Result<CleanLink<E>, AllocError>
-    requires { CanStart (E.standing end) }
+    requires { CanStartAll (E.standing end) }
 {
     match started(alloc, end, out)? {
         Some(link) => Ok(link),
@@ -106,8 +106,8 @@ fn put_start<E: ServerEnd>(
     next: E,
     out: &mut Vec<u8>,
 ) -> Result<(), AllocError>
-    requires first { CanStart (E.standing end) }
-    requires next { CanStart (E.standing next) }
+    requires first { CanStartAll (E.standing end) }
+    requires next { CanStartAll (E.standing next) }
 {
     if let Some(link) = started(alloc, end, out)? {
         return put_link(alloc, &link, out);
@@ -125,7 +125,7 @@ pub fn told_of_starts(alloc: Global, out: &mut Vec<u8>) -> Result<(), AllocError
 
 /// A link that a client has used.
 fn used<E: ServerEnd>(alloc: Global, end: E, out: &mut Vec<u8>) -> Result<UsedLink<E>, AllocError>
-    requires { CanStart (E.standing end) }
+    requires { CanStartAll (E.standing end) }
 {
     let link = link(alloc, end, out)?;
     let client = MemoryClient::new(alloc, TALK, CUT)?;
@@ -184,8 +184,8 @@ fn put_reset<E: ServerEnd>(
     next: E,
     out: &mut Vec<u8>,
 ) -> Result<(), AllocError>
-    requires first { CanStart (E.standing end) }
-    requires next { CanStart (E.standing next) }
+    requires first { CanStartAll (E.standing end) }
+    requires next { CanStartAll (E.standing next) }
 {
     let first = used(alloc, end, out)?;
     if let Some(link) = reset(alloc, first, out)? {

@@ -1,7 +1,7 @@
 //! A key, a server and the limits of a book.
 ghost use Rattle.std.specs.Prelude.{◌≡◌, true, IfOk};
 ghost use Rattle.std.specs.Arc.{arc_value};
-ghost use Rattle.link_start.specs.Starts.{CanStart, IsLinkKey};
+ghost use Rattle.link_start.specs.Starts.{CanStartAll, IsLinkKey};
 ghost use Rattle.memory_start_laws.specs.Starts.{HasSalt};
 ghost use Rattle.refusals.specs.Keys.{anns_key};
 
@@ -47,7 +47,7 @@ pub fn key(alloc: Global) -> Result<Arc<StartKey>, AllocError>
 /// A server that waits for a StartupMessage and asks this.
 fn asking(alloc: Global, auth: ServerAuth<'_>) -> Result<MemoryServer, AllocError>
     requires { HasSalt auth }
-    ensures can_start { IfOk result (λ s. CanStart s.standing) }
+    ensures can_start { IfOk result (λ s. CanStartAll s.standing) }
     ensures strikable { IfOk result (λ s. s.standing.server.strikable ≡ true) }
 {
     memory_servers_can_start();
@@ -58,7 +58,7 @@ fn asking(alloc: Global, auth: ServerAuth<'_>) -> Result<MemoryServer, AllocErro
 
 /// One that asks for Ann's password.
 pub fn server(alloc: Global) -> Result<MemoryServer, AllocError>
-    ensures can_start { IfOk result (λ s. CanStart s.standing) }
+    ensures can_start { IfOk result (λ s. CanStartAll s.standing) }
     ensures strikable { IfOk result (λ s. s.standing.server.strikable ≡ true) }
 {
     asking(alloc, ServerAuth::Plain(PASSWORD))

@@ -1,5 +1,5 @@
 -- A stand-in server that asks for nothing can be started.
-use Rattle.std.proofs.Common.{◌≡◌, ℕ, Option, refl, sym, subst}
+use Rattle.std.proofs.Common.{◌≡◌, ℕ, List, Option, refl, sym, subst}
 use Rattle.message_view.specs.Reading.{authentication_of, int32_at}
 use Rattle.session_values.specs.Lawful.{IsLawfulCatalogue}
 use Rattle.credentials.specs.Credentials.{CredentialOf}
@@ -13,9 +13,9 @@ trusts : (c : CredentialOf) → heard_by c Nothing let_in ≡ LetIn
 unfolding authentication_of int32_at
 trusts c = refl
 
-pub startable : (v : Server) (cut : ℕ) (left : Option ℕ) (s : ServerOf) → IsLawfulCatalogue v.catalogue → s ≡ new_server v no_auth cut left → IsStartable s.standing
-startable v cut left s c e = subst (λ (x : ServerOf). IsStartable x.standing) (sym e) (record {
+pub startable : (credential : CredentialOf) (user : List ℕ) (v : Server) (cut : ℕ) (left : Option ℕ) (s : ServerOf) → IsLawfulCatalogue v.catalogue → s ≡ new_server v no_auth cut left → IsStartable credential user s.standing
+startable credential user v cut left s c e = subst (λ (x : ServerOf). IsStartable credential user x.standing) (sym e) (record {
   is_new = record { stage = refl; inbox = refl; outbox = refl; lawful = c };
   in_frame = (tt, tt);
-  questions = λ credential user. trusts credential;
+  questions = trusts credential;
 })

@@ -4,6 +4,7 @@ ghost use Rattle.link_laws.specs.Standing.{Moves};
 ghost use Rattle.serving_tests.specs.Ends.{unfollowed};
 ghost use Rattle.server_end.specs.Moves.{CountsRead, CountsWrite, IsWithin, moved};
 
+use credentials::Credential;
 use log_lines::notes::{Client, Loss, Note, Unstarted};
 use memory_ends::memory_server::{MemoryServer, ServerAuth};
 use pool_desk::answers::Strike;
@@ -218,7 +219,13 @@ impl Outside for Servers {
 
     ghost home = { unknown_home };
 
-    fn dial(&self, _number: u64, _key: &StartKey, _seconds: u32) -> Option<TestServer> {
+    fn dial(
+        &self,
+        _number: u64,
+        _key: &StartKey,
+        _credential: &Credential<'_>,
+        _seconds: u32,
+    ) -> Option<TestServer> {
         if let Behind::Nobody = self.behind {
             return None;
         }

@@ -1,10 +1,12 @@
 -- Secrets, and what proves that a client knows one (RFC 1321; PostgreSQL manual, "Password authentication").
-use Rattle.std.specs.Prelude.{ℕ, Bool, List, ◌++◌, ◌==◌, ◌&&◌, ◌||◌, if◌then◌else◌, nat_le, nat_eq, length, drop, Option, Some, None, bytes_eq, codes}
+use Rattle.std.specs.Prelude.{ℕ, Bool, true, false, List, ◌++◌, ◌==◌, ◌&&◌, ◌||◌, if◌then◌else◌, nat_le, nat_eq, length, drop, Option, Some, None, option_map, bytes_eq, codes}
 use Rattle.std.specs.List.{list_all, starts_with}
 use Rattle.md5.specs.Md5.{md5}
 use Rattle.hex.specs.Hex.{encode_lower}
+use Rattle.scram.specs.declared.verifier.Verifier.{Verifier}
+use Rattle.scram.specs.Verifiers.{verifier_of}
 use Rattle.user_file.specs.declared.secrets.Secret.{Secret}
-use Rattle.user_file.specs.declared.secrets.Secret.TheVariants.{Plain, Md5}
+use Rattle.user_file.specs.declared.secrets.Secret.TheVariants.{Plain, Md5, Scram, Unusable}
 
 abbrev pub Text : Type 0
 Text = List ℕ
@@ -19,11 +21,19 @@ abbrev pub md5_digits : Text → Option Text
 md5_digits text =
     if length text == 35 && starts_with nat_eq text (codes "md5") && list_all is_lower_hex (drop 3 text) then Some (drop 3 text) else None
 
-abbrev pub secret_by : Text → Option Text → Secret
-secret_by text None = Plain text
-secret_by text (Some digits) = Md5 digits
+-- no bytes are no password; and what begins as a verifier does is none, lest who reads a spoiled verifier logs in by its text
+abbrev pub is_password : Text → Bool
+is_password text = if length text == 0 then false else (if starts_with nat_eq text (codes "SCRAM-SHA-") then false else true)
 
--- every other text is a plain secret
+-- the text of no digest
+abbrev pub other_secret : Text → Option Verifier → Secret
+other_secret text (Some verifier) = Scram verifier
+other_secret text None = if is_password text then Plain text else Unusable
+
+abbrev pub secret_by : Text → Option Text → Secret
+secret_by text (Some digits) = Md5 digits
+secret_by text None = other_secret text (verifier_of text)
+
 abbrev pub secret_of : Text → Secret
 secret_of text = secret_by text (md5_digits text)
 
@@ -33,18 +43,37 @@ secret_of text = secret_by text (md5_digits text)
 abbrev pub digits : Text → Text → Text
 digits password user = encode_lower (md5 (password ++ user))
 
-abbrev pub stored : Secret → Text → Text
-stored (Plain password) user = digits password user
-stored (Md5 own) user = own
+-- a verifier keeps none, of which such an answer could be made
+abbrev pub stored : Secret → Text → Option Text
+stored (Plain password) user = Some (digits password user)
+stored (Md5 own) user = Some own
+stored (Scram verifier) user = None
+stored Unusable user = None
+
+abbrev pub answers_md5 : Secret → Bool
+answers_md5 (Plain password) = true
+answers_md5 (Md5 own) = true
+answers_md5 (Scram verifier) = false
+answers_md5 Unusable = false
+
+abbrev pub salted_answer : (salt own : Text) → Text
+salted_answer salt own = codes "md5" ++ encode_lower (md5 (own ++ salt))
 
 -- the answer to an MD5 question
-abbrev pub answer : Secret → Text → Text → Text
-answer secret user salt = codes "md5" ++ encode_lower (md5 (stored secret user ++ salt))
+abbrev pub answer : Secret → Text → Text → Option Text
+answer secret user salt = option_map (salted_answer salt) (stored secret user)
 
 -- a password that came as it is
 abbrev pub accepts_plain : Secret → Text → Text → Bool
 accepts_plain (Plain own) user password = bytes_eq password own
 accepts_plain (Md5 own) user password = bytes_eq (digits password user) own
+accepts_plain (Scram verifier) user password = false
+accepts_plain Unusable user password = false
+
+-- nothing is right where there is no answer
+abbrev pub is_right : Text → Option Text → Bool
+is_right given (Some right) = bytes_eq given right
+is_right given None = false
 
 abbrev pub accepts_md5 : Secret → Text → Text → Text → Bool
-accepts_md5 secret user salt given = bytes_eq given (answer secret user salt)
+accepts_md5 secret user salt given = is_right given (answer secret user salt)

@@ -6,7 +6,7 @@ use Rattle.link_laws.specs.Standing.{Standing}
 use Rattle.link_start.specs.declared.start.Progress.TheVariants.{Idle, Moved, Ready}
 use Rattle.link_start.specs.declared.start.StartCause.{StartCause}
 use Rattle.link_start.specs.Starts.{HasTried, IsStartCause, IsLinkKey}
-use Rattle.link_start.proofs.Starting.{done_from, has_tried}
+use Rattle.link_start.proofs.Starting.{can_at, done_from, has_tried}
 use Rattle.link_start.proofs.start.start_link.Goals as goal
 
 pub returns-in-Ok-Ready-clause-started : goal.returns-in-Ok-Ready-clause-started
@@ -27,7 +27,7 @@ returns-in-Err-clause-cause g c =
     subst (λ (k : StartKeyOf). IsStartCause (g.E.ServerEnd.standing c.args.end) (g.E.ServerEnd.standing c.fail-in-Err.result.end) c.args.credential.now k c.fail-in-Err.result.cause) c.loop-left.invariant.key
     (subst (λ (s : Standing). IsStartCause (g.E.ServerEnd.standing c.args.end) s c.args.credential.now c.loop-left.start.key c.fail-in-Err.result.cause) (sym c.fail-in-Err.ensures.end)
     (subst (λ (cause : StartCause). IsStartCause (g.E.ServerEnd.standing c.args.end) c.turn.new.self.end c.args.credential.now c.loop-left.start.key cause) (sym c.fail-in-Err.ensures.cause)
-    (c.in-Err.ensures.cause _ c.requires.can_start (subst (λ (k : StartKeyOf). IsLinkKey k) (sym c.loop-left.invariant.key) c.requires.key) c.loop-left.invariant.under_way)))
+    (c.in-Err.ensures.cause _ (can_at _ _ _ _ c.loop-left.invariant.key c.requires.can_start) (subst (λ (k : StartKeyOf). IsLinkKey k) (sym c.loop-left.invariant.key) c.requires.key) c.loop-left.invariant.under_way)))
 
 pub returns-clause-turns : goal.returns-clause-turns
 returns-clause-turns g c = λ _.
@@ -45,7 +45,7 @@ pub loop-left-preserved-in-Ok-Idle : goal.loop-left-preserved-in-Ok-Idle
 loop-left-preserved-in-Ok-Idle g c =
     let more : c.in-Ok-Idle.field-0 ≢ Ready = λ r. let z : Idle ≡ Ready = sym c.in-Ok-Idle.field-0-is ∙ r in cc in
     record {
-      under_way = c.in-Ok-Idle.ensures.under_way _ c.requires.can_start (subst (λ (k : StartKeyOf). IsLinkKey k) (sym c.loop-left.invariant.key) c.requires.key) c.loop-left.invariant.under_way;
+      under_way = c.in-Ok-Idle.ensures.under_way _ (can_at _ _ _ _ c.loop-left.invariant.key c.requires.can_start) (subst (λ (k : StartKeyOf). IsLinkKey k) (sym c.loop-left.invariant.key) c.requires.key) c.loop-left.invariant.under_way;
       key = c.in-Ok-Idle.ensures.same.0 ∙ c.loop-left.invariant.key;
       number = c.in-Ok-Idle.ensures.same.1 ∙ c.loop-left.invariant.number;
       born = c.in-Ok-Idle.ensures.same.2 ∙ c.loop-left.invariant.born;
@@ -61,7 +61,7 @@ pub loop-left-preserved : goal.loop-left-preserved
 loop-left-preserved g c =
     let more : c.in-Ok-Moved.field-0 ≢ Ready = λ r. let z : Moved ≡ Ready = sym c.in-Ok-Moved.field-0-is ∙ r in cc in
     record {
-      under_way = c.in-Ok-Moved.ensures.under_way _ c.requires.can_start (subst (λ (k : StartKeyOf). IsLinkKey k) (sym c.loop-left.invariant.key) c.requires.key) c.loop-left.invariant.under_way;
+      under_way = c.in-Ok-Moved.ensures.under_way _ (can_at _ _ _ _ c.loop-left.invariant.key c.requires.can_start) (subst (λ (k : StartKeyOf). IsLinkKey k) (sym c.loop-left.invariant.key) c.requires.key) c.loop-left.invariant.under_way;
       key = c.in-Ok-Moved.ensures.same.0 ∙ c.loop-left.invariant.key;
       number = c.in-Ok-Moved.ensures.same.1 ∙ c.loop-left.invariant.number;
       born = c.in-Ok-Moved.ensures.same.2 ∙ c.loop-left.invariant.born;

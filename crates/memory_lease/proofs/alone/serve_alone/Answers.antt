@@ -6,7 +6,7 @@ use Rattle.memory_lease.specs.declared.alone.TheConstants.{START_TURNS}
 use Rattle.memory_lease.proofs.alone.serve_alone.Goals as goal
 
 pub start_link-requires-clause-can_start : goal.start_link-requires-clause-can_start
-start_link-requires-clause-can_start c = can_start c.args.server.left c.args.server.standing c.new-server.result c.new-server.ensures c.requires.startable
+start_link-requires-clause-can_start c = can_start c.args.credential.now (arc_value c.args.key).user c.args.server.left c.args.server.standing c.new-server.result c.new-server.ensures c.requires.startable
 
 pub returns-in-Err-clause-answer : goal.returns-in-Err-clause-answer
 returns-in-Err-clause-answer c = unstarted c.args.server.left c.args.server.standing c.new-server.result c.in-Err.fault.end c.args.credential.now (arc_value c.args.key) c.args.word c.args.limit START_TURNS c.args.bytes.now _ _ _ c.new-server.ensures c.requires.follows c.requires.let_in c.in-Err.ensures.cause

@@ -13,20 +13,20 @@ use Rattle.pool_serve.proofs.opening.start_anew.Goals as goal
 pub returns-in-Ok-start_link-clause-home : goal.returns-in-Ok-start_link-clause-home
 returns-in-Ok-start_link-clause-home g c =
     started_home g.D.LinkDesk.home (g.D.End.ServerEnd.standing c.watch.new.end) c.new-credential.result (arc_value c.args.logged_in.now.key) c.in-Ok-start_link.link
-    (subst (λ (k : StartKeyOf). IsDialled g.D.LinkDesk.home k (g.D.End.ServerEnd.standing c.watch.new.end)) c.deref.ensures (subst (λ (s : Standing). IsDialled g.D.LinkDesk.home c.deref.result.now s) (sym c.watch.ensures.stands) c.in-Some-dial.ensures))
+    (subst (λ (k : StartKeyOf). IsDialled g.D.LinkDesk.home k c.new-credential.result (g.D.End.ServerEnd.standing c.watch.new.end)) c.deref.ensures (subst (λ (s : Standing). IsDialled g.D.LinkDesk.home c.deref.result.now c.new-credential.result s) (sym c.watch.ensures.stands) c.in-Some-dial.ensures))
     c.in-Ok-start_link.ensures.started
     (c.in-Ok-start_link.ensures.key ∙ c.in-Ok.ensures)
 
 pub returns-clause-told : goal.returns-clause-told
 returns-clause-told g c = λ lets.
     let end = c.watch.new.end in
-    let dialled = subst (λ (k : StartKeyOf). IsDialled g.D.LinkDesk.home k (g.D.End.ServerEnd.standing c.watch.new.end)) c.deref.ensures (subst (λ (s : Standing). IsDialled g.D.LinkDesk.home c.deref.result.now s) (sym c.watch.ensures.stands) c.in-Some-dial.ensures) in
+    let dialled = subst (λ (k : StartKeyOf). IsDialled g.D.LinkDesk.home k c.new-credential.result (g.D.End.ServerEnd.standing c.watch.new.end)) c.deref.ensures (subst (λ (s : Standing). IsDialled g.D.LinkDesk.home c.deref.result.now c.new-credential.result s) (sym c.watch.ensures.stands) c.in-Some-dial.ensures) in
     let key = arc_value c.args.logged_in.now.key in
     let user = c.in-Some.user.now in
     unstarted (g.D.LinkDesk.home.catalogue (address_of key)) (g.D.End.ServerEnd.standing end) (g.D.End.ServerEnd.standing c.in-Err.fault.end) c.new-credential.result key c.args.logged_in.now.word c.in-Err.fault.cause _ refl
     (dialled.catalogue (dialled.follows lets.follow))
     (dialled.follows lets.follow)
-    (dialled.lets_in key c.new-credential.result (ap (g.D.LinkDesk.home.lets_in key.user) c.new-credential.ensures ∙ lets.accept key.user user _ (sym c.in-Some.ensures)))
+    (dialled.lets_in (ap (g.D.LinkDesk.home.lets_in key.user) c.new-credential.ensures ∙ lets.accept key.user user _ (sym c.in-Some.ensures)))
     (subst (λ (k : StartKeyOf). IsStartCause (g.D.End.ServerEnd.standing end) (g.D.End.ServerEnd.standing c.in-Err.fault.end) c.new-credential.result k c.in-Err.fault.cause) c.in-Ok.ensures c.in-Err.ensures.cause)
 
 pub returns-clause-why : goal.returns-clause-why
@@ -37,7 +37,8 @@ returns-clause-why g c =
       user_is = c.in-Some.ensures;
       began = g.D.End.ServerEnd.standing end;
       now = g.D.End.ServerEnd.standing c.in-Err.fault.end;
-      dialled = subst (λ (k : StartKeyOf). IsDialled g.D.LinkDesk.home k (g.D.End.ServerEnd.standing c.watch.new.end)) c.deref.ensures (subst (λ (s : Standing). IsDialled g.D.LinkDesk.home c.deref.result.now s) (sym c.watch.ensures.stands) c.in-Some-dial.ensures);
+      dialled = subst (λ (cred : CredentialOf). IsDialled g.D.LinkDesk.home (arc_value c.args.logged_in.now.key) cred (g.D.End.ServerEnd.standing end)) c.new-credential.ensures
+          (subst (λ (k : StartKeyOf). IsDialled g.D.LinkDesk.home k c.new-credential.result (g.D.End.ServerEnd.standing c.watch.new.end)) c.deref.ensures (subst (λ (s : Standing). IsDialled g.D.LinkDesk.home c.deref.result.now c.new-credential.result s) (sym c.watch.ensures.stands) c.in-Some-dial.ensures));
       number = c.args.number;
       is_cause = subst (λ (cred : CredentialOf). IsStartCause (g.D.End.ServerEnd.standing end) (g.D.End.ServerEnd.standing c.in-Err.fault.end) cred (arc_value c.args.logged_in.now.key) c.in-Err.fault.cause) c.new-credential.ensures
           (subst (λ (k : StartKeyOf). IsStartCause (g.D.End.ServerEnd.standing end) (g.D.End.ServerEnd.standing c.in-Err.fault.end) c.new-credential.result k c.in-Err.fault.cause) c.in-Ok.ensures c.in-Err.ensures.cause);

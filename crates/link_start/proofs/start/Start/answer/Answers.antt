@@ -11,7 +11,7 @@ use Rattle.link_start.specs.declared.start_reply.StartProgress.TheVariants.{Aske
 use Rattle.link_start.specs.declared.start.StartCause.TheVariants as causes
 use Rattle.link_start.specs.Starts.{StartView, start_view, IsStartUnderWay, IsLinkKey, bytes_left}
 use Rattle.link_start.proofs.Lengths.{wanted_most}
-use Rattle.link_start.proofs.Starting.{caused, left_answered, next_answered, none_put, put_so, unanswerable_cause}
+use Rattle.link_start.proofs.Starting.{can_at, caused, left_answered, next_answered, none_put, put_so, unanswerable_cause}
 use Rattle.link_start.proofs.start.Start.answer.Goals as goal
 
 pub returns-then-not-branch-clause-cause : goal.returns-then-not-branch-clause-cause
@@ -22,7 +22,7 @@ returns-then-not-branch-clause-cause g c = λ b can k x.
     let user = c.as_slice-user.ensures ∙ ap (λ (o : StartKeyOf). o.user) (c.behind-self.view_is ∙ c.deref.ensures) in
     let none = none_put c.in_ok-put_answer.field-0 _ _ _ c.if-not-branch.true c.in_ok-put_answer.ensures in
     caused b _ c.args.credential.now _ c.args.self.now.key (causes.Unanswerable c.args.question) key
-    (unanswerable_cause b c.args.credential.now _ c.args.question can (subst IsLinkKey (sym key) k)
+    (unanswerable_cause b c.args.credential.now _ c.args.question (can_at b c.args.credential.now _ _ key can) (subst IsLinkKey (sym key) k)
     (subst (λ (v : StartView). IsStartUnderWay b c.args.credential.now v) (sym view) (c.in_ok-answer_before.ensures.under_way b can k x))
     (subst AreBytes (sym received) c.requires.bytes) (subst (λ (bytes : List ℕ). heard c.args.credential.now bytes ≡ Asked c.args.question) (sym received) c.requires.asked)
     (ap (λ (u : Text). answer_to c.args.credential.now u c.args.question) (sym user) ∙ none)
@@ -40,7 +40,7 @@ returns-clause-under_way g c = λ b can k x.
     let key = ap (λ (v : StartView). v.key) view ∙ c.in_ok-answer_before.ensures.same.0 in
     let user = c.as_slice-user.ensures ∙ ap (λ (o : StartKeyOf). o.user) (c.behind-self.view_is ∙ c.deref.ensures) in
     let put = put_so c.in_ok-put_answer.field-0 _ _ _ c.if-not-branch.false c.in_ok-put_answer.ensures in
-    next_answered b c.args.credential.now _ c.args.question _ put.0 can (subst IsLinkKey (sym key) k)
+    next_answered b c.args.credential.now _ c.args.question _ put.0 (can_at b c.args.credential.now _ _ key can) (subst IsLinkKey (sym key) k)
     (subst (λ (v : StartView). IsStartUnderWay b c.args.credential.now v) (sym view) (c.in_ok-answer_before.ensures.under_way b can k x))
     (subst AreBytes (sym received) c.requires.bytes) (subst (λ (bytes : List ℕ). heard c.args.credential.now bytes ≡ Asked c.args.question) (sym received) c.requires.asked)
     (ap (λ (v : StartView). v.answered + 1) view ∙ c.in_ok-answer_before.ensures.one)

@@ -10,4 +10,4 @@ returns-clause-dialled g c =
     let same : arc_value c.in_ok-catalogue.catalogue ≡ arc_value c.self.inside.catalogue = search rules in
     let lawful : c.deref.result.now ≡ arc_value c.in_ok-catalogue.catalogue = search rules in
     some_if _ _ c.new.result c.ok-2.result c.ok-2.ensures.value c.new.ensures
-    (λ s e key. new_dialled (strikable_home g.N.Naming.catalogue) key _ c.self.inside.cut s (λ a. same ∙ sym (c.self.invariant.1.each a)) refl (subst IsLawfulCatalogue lawful c.is_lawful.ensures) c.memory_servers_can_start.ensures e)
+    (λ s e key credential. new_dialled (strikable_home g.N.Naming.catalogue) key credential _ c.self.inside.cut s (λ a. same ∙ sym (c.self.invariant.1.each a)) refl (subst IsLawfulCatalogue lawful c.is_lawful.ensures) c.memory_servers_can_start.ensures e)
