@@ -13,6 +13,7 @@ import threading
 import time
 
 from cluster import HERE, USERS, Cluster, Passes, Place, Pooler, free_port, set_up, until
+from scram import kept
 from wire import Client, Cut, Refused, startup
 
 COLUMNS = {
@@ -291,8 +292,7 @@ class Show:
         self.told(pooler, "a client that is let in", rf"^pgsess: {ann} in$")
         self.refused(pooler, "query_wait_timeout", "57P03", "ann")
         self.told(pooler, "a client that has waited too long", rf"^pgsess: {ann} refused after \d+\.\d s: query_wait_timeout \(P5\)$")
-        self.refused(pooler, "a wrong password", "28P01", "ann", password="other")
-        self.told(pooler, "a wrong password", r"failed after \d+\.\d s: password authentication failed \(28P01\)$")
+        self.login_failures(pooler)
         self.refused(pooler, "an unknown database", "3D000", "ann", database="nowhere")
         self.told(pooler, "an unknown database", r"failed after \d+\.\d s: database does not exist \(3D000\)$")
         self.refused(pooler, "a parameter", "0A000", "ann", search_path="x")
@@ -310,6 +310,29 @@ class Show:
         self.asks_for_more(pooler, shop)
         pooler.stop()
 
+    def login_failures(self, pooler):
+        """Why a login failed, which its client isn't told."""
+        users, verifier = self.place.folder / "users.txt", kept("pencil")
+        whole = users.read_text()
+        users.write_text(whole + f'"vera" "{verifier}"\n"spoilt" "{verifier[:-1]}"\n"empty" ""\n')
+        console(pooler.port, "RELOAD")
+        self.told(pooler, "secrets that accept no password", r"^pgsess: 3 secrets of the user file accept no password, the first that of vera$")
+        is_verifier, is_none = "its secret is a SCRAM verifier, by which no client is let in yet", "its secret is empty, or a spoiled SCRAM verifier"
+        for user, database, password, why in [
+            ("ann", "shop", "other", "wrong password"),
+            ("zed", "shop", "other", "no such user"),
+            ("ann", "pgbouncer", USERS["ann"][0], "not of admin_users or stats_users"),
+            ("vera", "shop", "pencil", is_verifier),
+            ("vera", "shop", verifier, is_verifier),
+            ("spoilt", "shop", verifier[:-1], is_none),
+            ("empty", "shop", "", is_none),
+        ]:
+            self.refused(pooler, why, "28P01", user, database, password)
+            line = rf"^pgsess: client \d+ {user}@{database} from .* failed after \d+\.\d s: password authentication failed \(28P01\): {why}$"
+            self.told(pooler, why, line)
+        users.write_text(whole)
+        console(pooler.port, "RELOAD")
+
     def asks_for_more(self, pooler, shop):
         """A server that refuses a user, and one that asks for SCRAM."""
         self.cluster.tell("ALTER ROLE ann NOLOGIN", "postgres")
@@ -318,7 +341,7 @@ class Show:
         self.cluster.tell("SET password_encryption = 'scram-sha-256'; ALTER ROLE ann LOGIN PASSWORD 'secret'; ALTER ROLE bc PASSWORD 'a'", "postgres")
         self.refused(pooler, "a server that asks for SCRAM, and a password", "let in", "ann")
         self.refused(pooler, "a server that asks for SCRAM, and a digest", "08001", "bc")
-        why = r"which can't be answered: the user file has but a digest, or SCRAM-SHA-256 isn't offered \(P7\)$"
+        why = r"which can't be answered: the user file has no password, or SCRAM-SHA-256 isn't offered \(P7\)$"
         self.told(pooler, "a server that asks for SCRAM", rf"server {shop} asks for SCRAM \(authentication method 10\), {why}")
         self.cluster.tell("ALTER ROLE ann PASSWORD 'secret'; ALTER ROLE bc PASSWORD 'a'", "postgres")
 
@@ -342,8 +365,7 @@ class Show:
         pooler.stop()
         reader, writer = os.pipe()
         folder = self.place.folder
-        process = self.place.start(self.program, "serve", "--ini", folder / "pgsess.ini", "--users", folder / "users.txt", "--key-seed", folder / "seed",
-                                   stdout=subprocess.PIPE, stderr=writer)
+        process = self.place.start(self.program, "serve", "--ini", folder / "pgsess.ini", "--users", folder / "users.txt", stdout=subprocess.PIPE, stderr=writer)
         os.close(writer)
         process.stdout.readline()
         pooler.process, pooler.errors = process, open(os.devnull, "ab")

@@ -71,6 +71,13 @@ def keys(under):
     return client, digest(client), mac(under, b"Server Key")
 
 
+def kept(password, salt=bytes(range(16)), rounds=4096):
+    """What a PostgreSQL keeps of a password of ASCII."""
+    _, *made = keys(salted(password.encode(), salt, rounds))
+    stored, server = (base64.b64encode(key).decode() for key in made)
+    return f"{MECHANISM.decode()}${rounds}:{base64.b64encode(salt).decode()}${stored}:{server}"
+
+
 def exchange(password, salt, rounds, own, joint):
     """The four messages, and the client key."""
     client, stored, server = keys(salted(password, salt, rounds))

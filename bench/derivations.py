@@ -1,0 +1,114 @@
+#!/usr/bin/env python3
+"""How often `pgsess serve` derives keys of its users' passwords for servers that ask for SCRAM, counted by callgrind: once for each of a
+user's salts, however many links are started.
+
+Usage: derivations.py PROGRAM
+"""
+import os
+import pathlib
+import re
+import signal
+import subprocess
+import sys
+
+sys.path.insert(0, str(pathlib.Path(__file__).resolve().parent.parent / "scripts"))
+from cluster import USERS, Passes, Place, Pooler, need, set_up, until
+from postgres import run
+from scram_servers import BEFORE, HONEST, PEOPLE, Case, Installed, Server
+from wire import Client
+
+# a password that is salted in so many rounds, in the program's symbols
+DERIVES = re.compile(r"scram\W+keys\W+salted\b|scram.*salted")
+CLIENTS, EACH = 8, 5
+SALTS = [bytes([it]) * 16 for it in range(4)]
+
+
+class Count:
+    def __init__(self, program):
+        self.passes, self.place = Passes("derivations"), Place()
+        USERS.clear()
+        USERS.update(PEOPLE)
+        self.program = self.counted(program)
+        self.cluster = Installed(self.place)
+
+    def counted(self, program):
+        """A program that is that one under callgrind."""
+        path = self.place.write("pgsess", f'#!/bin/sh\nexec valgrind --quiet --tool=callgrind --callgrind-out-file={self.place.folder}/calls.%p "{program}" "$@"\n')
+        os.chmod(path, 0o755)
+        return path
+
+    def derived(self, pooler):
+        """How many keys were derived since it was asked last."""
+        pid = pooler.process.pid
+        known = set(self.place.folder.glob("calls.*"))
+        subprocess.run(["callgrind_control", "-d", str(pid)], check=True, capture_output=True)
+        until(lambda: set(self.place.folder.glob("calls.*")) - known, 20)
+        return sum(calls_in(file.read_text()) for file in set(self.place.folder.glob("calls.*")) - known)
+
+    def poolers(self, **more):
+        return Pooler(self.place, self.cluster, self.program, size=CLIENTS, clients=4 * CLIENTS, wait=60, **more)
+
+    def installed(self):
+        """In front of a PostgreSQL as it is installed."""
+        pooler = self.poolers(auth="md5")
+        for user in ("ann", "ute", "soft"):
+            Client(pooler.port, user, "shop", USERS[user][0], seconds=120).leave()
+        self.passes.same("three users log in", self.derived(pooler), 3)
+        words = ["pgbench", "-n", "-S", "-C", "-c", str(CLIENTS), "-j", str(CLIENTS), "-t", str(EACH)]
+        run(["pgbench", "-i", "-q"], self.cluster.port, "ann")
+        status, _, errors = run(words, pooler.port, "ann")
+        self.passes.same(f"pgbench -C with {CLIENTS} clients", (status, self.derived(pooler)), (0, 0))
+        holder = Client(pooler.port, "mo", "shop", BEFORE, seconds=120)
+        self.passes.same("a fourth user", self.derived(pooler), 1)
+        self.cluster.tell(f"ALTER ROLE mo PASSWORD '{BEFORE}'")
+        for _ in range(3):
+            Client(pooler.port, "mo", "shop", BEFORE, seconds=120, application_name=os.urandom(4).hex()).leave()
+        self.passes.same("whose role got its password anew, three links", self.derived(pooler), 1)
+        holder.leave()
+        pooler.stop()
+
+    def salted(self):
+        """Servers of four salts behind one user, each dialled three times."""
+        servers = {f"salt{it}": Server(Case(HONEST["honest"].parts, HONEST["honest"].told, salt=salt)) for it, salt in enumerate(SALTS)}
+        pooler = self.poolers(auth="trust", more={name: server.port for name, server in servers.items()})
+        for round in range(3):
+            for name in servers:
+                Client(pooler.port, "ann", name, seconds=120, application_name=f"round{round}").leave()
+        self.passes.same(f"four servers of four salts, {3 * len(servers)} starts", self.derived(pooler), len(SALTS))
+        pooler.stop()
+
+
+def calls_in(text):
+    """The calls of the function that derives, in a file of callgrind: each name stands once, and its number behind that."""
+    names, called, count = {}, "", 0
+    for line in text.splitlines():
+        if named := re.match(r"c?fn=\((\d+)\)(?: (.*))?$", line):
+            names.setdefault(named[1], named[2] or "")
+            if line.startswith("c"):
+                called = names[named[1]]
+        elif line.startswith("calls=") and DERIVES.search(called):
+            count += int(line[6:].split()[0])
+    return count
+
+
+def main():
+    if len(sys.argv) != 2:
+        sys.exit(__doc__)
+    set_up()
+    need(["valgrind"], ["valgrind"])
+    signal.signal(signal.SIGTERM, lambda *_: sys.exit(1))
+    count = Count(os.path.abspath(sys.argv[1]))
+    try:
+        count.installed()
+        count.salted()
+        count.cluster.stop()
+    finally:
+        for pid in count.place.processes():
+            os.kill(pid, signal.SIGKILL)
+        until(lambda: not count.place.processes())
+        count.place.clear()
+    count.passes.end()
+
+
+if __name__ == "__main__":
+    main()
