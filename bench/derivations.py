@@ -8,7 +8,6 @@ import os
 import pathlib
 import re
 import signal
-import subprocess
 import sys
 
 sys.path.insert(0, str(pathlib.Path(__file__).resolve().parent.parent / "scripts"))
@@ -17,8 +16,9 @@ from postgres import run
 from scram_servers import BEFORE, HONEST, PEOPLE, Case, Installed, Server
 from wire import Client
 
-# a password that is salted in so many rounds, in the program's symbols
-DERIVES = re.compile(r"scram\W+keys\W+salted\b|scram.*salted")
+# what each round of a derivation calls once, in the program's symbols; all else together calls it some ten times a login
+ROUND = re.compile(r"scram::hmac_key::HmacKey::of\b")
+ROUNDS = 4096
 CLIENTS, EACH = 8, 5
 SALTS = [bytes([it]) * 16 for it in range(4)]
 
@@ -41,9 +41,9 @@ class Count:
         """How many keys were derived since it was asked last."""
         pid = pooler.process.pid
         known = set(self.place.folder.glob("calls.*"))
-        subprocess.run(["callgrind_control", "-d", str(pid)], check=True, capture_output=True)
+        self.place.run("callgrind_control", "-d", str(pid))
         until(lambda: set(self.place.folder.glob("calls.*")) - known, 20)
-        return sum(calls_in(file.read_text()) for file in set(self.place.folder.glob("calls.*")) - known)
+        return sum(calls_in(file.read_text()) for file in set(self.place.folder.glob("calls.*")) - known) // ROUNDS
 
     def poolers(self, **more):
         return Pooler(self.place, self.cluster, self.program, size=CLIENTS, clients=4 * CLIENTS, wait=60, **more)
@@ -69,7 +69,7 @@ class Count:
 
     def salted(self):
         """Servers of four salts behind one user, each dialled three times."""
-        servers = {f"salt{it}": Server(Case(HONEST["honest"].parts, HONEST["honest"].told, salt=salt)) for it, salt in enumerate(SALTS)}
+        servers = {f"salt{it}": Server(Case(HONEST["honest"].parts, HONEST["honest"].told, rounds=ROUNDS, salt=salt)) for it, salt in enumerate(SALTS)}
         pooler = self.poolers(auth="trust", more={name: server.port for name, server in servers.items()})
         for round in range(3):
             for name in servers:
@@ -79,14 +79,14 @@ class Count:
 
 
 def calls_in(text):
-    """The calls of the function that derives, in a file of callgrind: each name stands once, and its number behind that."""
+    """The rounds, in a file of callgrind: each name stands once, and its number behind that."""
     names, called, count = {}, "", 0
     for line in text.splitlines():
         if named := re.match(r"c?fn=\((\d+)\)(?: (.*))?$", line):
             names.setdefault(named[1], named[2] or "")
             if line.startswith("c"):
                 called = names[named[1]]
-        elif line.startswith("calls=") and DERIVES.search(called):
+        elif line.startswith("calls=") and ROUND.search(called):
             count += int(line[6:].split()[0])
     return count
 
