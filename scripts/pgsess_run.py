@@ -6,6 +6,7 @@ Usage: pgsess_run.py PROGRAM
 
 Where the caller may not make a namespace of processes, or isn't root, the cases that want it are left out, and that is told.
 """
+import contextlib
 import hashlib
 import os
 import pathlib
@@ -174,10 +175,11 @@ def asks_for_scram(port):
     def serve():
         while True:
             it, _ = listener.accept()
-            it.recv(1024)
-            it.sendall(b"R\0\0\0\x17\0\0\0\x0aSCRAM-SHA-256\0\0")
-            it.recv(1024)
-            it.close()
+            # who closes before it has read all resets the connection
+            with it, contextlib.suppress(ConnectionError):
+                it.recv(1024)
+                it.sendall(b"R\0\0\0\x17\0\0\0\x0aSCRAM-SHA-256\0\0")
+                it.recv(1024)
     threading.Thread(target=serve, daemon=True).start()
 
 
