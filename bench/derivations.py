@@ -1,6 +1,7 @@
 #!/usr/bin/env python3
-"""How often `pgsess serve` derives keys of its users' passwords for servers that ask for SCRAM, counted by callgrind: once for each of a
-user's salts, however many links are started.
+"""How often `pgsess serve` derives keys of its users' passwords, counted by callgrind: for servers that ask for SCRAM once for each of a
+user's salts, however many links are started; for clients once for each user behind the start, and not again behind RELOAD. And that a login
+that fails costs the same, whoever it names.
 
 Usage: derivations.py PROGRAM
 """
@@ -11,9 +12,11 @@ import signal
 import sys
 
 sys.path.insert(0, str(pathlib.Path(__file__).resolve().parent.parent / "scripts"))
-from cluster import USERS, Passes, Place, Pooler, need, set_up, until
+from cluster import USERS, Installed, Passes, Place, Pooler, need, set_up, until
 from postgres import run
-from scram_servers import BEFORE, HONEST, PEOPLE, Case, Installed, Server
+from reach import outcome
+from scram import prepared
+from scram_servers import BEFORE, HONEST, PEOPLE, Case, Server
 from wire import Client
 
 # what each round of a derivation calls once, in the program's symbols; all else together calls it some ten times a login
@@ -39,11 +42,15 @@ class Count:
 
     def derived(self, pooler):
         """How many keys were derived since it was asked last."""
+        return self.hmacs(pooler) // ROUNDS
+
+    def hmacs(self, pooler):
+        """How many HMACs were made since it was asked last."""
         pid = pooler.process.pid
         known = set(self.place.folder.glob("calls.*"))
         self.place.run("callgrind_control", "-d", str(pid))
         until(lambda: set(self.place.folder.glob("calls.*")) - known, 20)
-        return sum(calls_in(file.read_text()) for file in set(self.place.folder.glob("calls.*")) - known) // ROUNDS
+        return sum(calls_in(file.read_text()) for file in set(self.place.folder.glob("calls.*")) - known)
 
     def poolers(self, **more):
         return Pooler(self.place, self.cluster, self.program, size=CLIENTS, clients=4 * CLIENTS, wait=60, **more)
@@ -65,6 +72,29 @@ class Count:
             Client(pooler.port, "mo", "shop", BEFORE, seconds=120, application_name=os.urandom(4).hex()).leave()
         self.passes.same("whose role got its password anew, three links", self.derived(pooler), 1)
         holder.leave()
+        pooler.stop()
+
+    def by_scram(self):
+        """Clients that are asked for SCRAM, in front of such a server."""
+        pooler, plain = self.poolers(auth="scram-sha-256"), [name for name, (_, secret) in PEOPLE.items() if not secret.startswith(("md5", "SCRAM"))]
+        derived = []
+        until(lambda: derived.append(self.derived(pooler)) or sum(derived) >= len(plain), 120)
+        self.passes.same(f"behind the start, {len(plain)} passwords", sum(derived), len(plain))
+        for user in ("ann", "ute", "soft"):
+            Client(pooler.port, user, "shop", prepared(USERS[user][0].encode()).decode(), seconds=120).leave()
+        self.passes.same("three users log in by SCRAM: once each, for the server", self.derived(pooler), 3)
+        words = ["pgbench", "-n", "-S", "-C", "-c", str(CLIENTS), "-j", str(CLIENTS), "-t", str(EACH)]
+        status, _, errors = run(words, pooler.port, "ann")
+        self.passes.same(f"pgbench -C with {CLIENTS} clients, by SCRAM on both sides", (status, self.derived(pooler)), (0, 0))
+        console = Client(pooler.port, "root", "pgbouncer", USERS["root"][0], seconds=120)
+        console.ask("RELOAD")
+        console.leave()
+        self.hmacs(pooler)
+        costs = {}
+        for who in ("ann", "bc", "vera", "nobody"):
+            told = outcome(lambda: Client(pooler.port, who, "shop", "a wrong password", seconds=120))
+            costs[who] = (told[:5], self.hmacs(pooler))
+        self.passes.same(f"a wrong proof of a password's user, a digest's, a verifier's and nobody: {costs}", len(set(costs.values())), 1)
         pooler.stop()
 
     def salted(self):
@@ -100,6 +130,7 @@ def main():
     count = Count(os.path.abspath(sys.argv[1]))
     try:
         count.installed()
+        count.by_scram()
         count.salted()
         count.cluster.stop()
     finally:

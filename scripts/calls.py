@@ -103,7 +103,7 @@ def main(program, most):
             client.leave()
 
         connect()
-        until(lambda: pooler.threads() <= 11, 5)
+        until(lambda: pooler.threads() <= 12, 5)
         counts = Counts(place, pooler.process.pid, lambda: [connect() for _ in range(CONNECTIONS)])
         each, vain = counts.all(idle) / CONNECTIONS, counts.vain() / CONNECTIONS
         print(f"a connection with one query: {each:.2f} calls, {vain:.2f} of them in vain; {counts.calls}")

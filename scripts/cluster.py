@@ -169,6 +169,16 @@ class Cluster:
         return self.log.read_text(errors="replace").count(f"connection authorized: user={user} ")
 
 
+class Installed(Cluster):
+    """It keeps passwords as it does by default, and asks for SCRAM over TCP, as Debian has it."""
+
+    def start(self):
+        for name, old, new in (("postgresql.conf", "password_encryption = md5\n", ""), ("pg_hba.conf", " md5\n", " scram-sha-256\n")):
+            file = self.data / name
+            file.write_text(file.read_text().replace(old, new))
+        super().start()
+
+
 class Stub:
     """The stand-in server over a catalogue."""
 

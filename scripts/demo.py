@@ -15,7 +15,7 @@ import subprocess
 import sys
 import time
 
-from cluster import HERE, TOP, USERS, Cluster, Place, free_port, set_up, until
+from cluster import HERE, TOP, USERS, Installed, Place, free_port, set_up, until
 
 SECONDS = 900
 # how often it is said that the build goes on
@@ -77,7 +77,7 @@ def main():
     place, pooler = Place(), None
     try:
         say("making a PostgreSQL server in a temporary folder")
-        cluster, port = Cluster(place), free_port()
+        cluster, port = Installed(place), free_port()
         pooler = serve(sys.argv[1] if len(sys.argv) > 1 else None, place, cluster, port)
         if not waited(pooler, port):
             sys.exit("pgsess doesn't listen: see `cd crates/pgsess && rt try -- serve --help`")

@@ -35,6 +35,7 @@ GIVEN = {
     "ok": authentication(0),
     "cleartext": authentication(3),
     "md5": authentication(5, bytes([1, 2, 3, 4])),
+    "sasl": authentication(10, b"SCRAM-SHA-256\0\0"),
     "28P01": fatal("28P01", "password authentication failed"),
     "3D000": fatal("3D000", "database does not exist"),
     "P2": fatal("0A000", "unsupported protocol version"),
@@ -43,14 +44,22 @@ GIVEN = {
 }
 
 
+def given(word):
+    """The bytes of a word: `=0b:TEXT` is the Authentication message of this number with this text."""
+    if word.startswith("="):
+        number, _, text = word[1:].partition(":")
+        return authentication(int(number, 16), text.encode())
+    return GIVEN[word]
+
+
 class Login:
     """A line of expected.txt."""
 
     def __init__(self, folder, line):
-        self.name, self.settings, given, key, self.ending = line.split("\t")
+        self.name, self.settings, words, key, self.ending = line.split("\t")
         self.files = [str(folder / f"{self.settings}.ini"), str(folder / "users.txt")]
         self.data = (folder / f"{self.name}.in").read_bytes()
-        parts = [b"".join(GIVEN[word] for word in part.split()).hex() for part in given.split("arrives")]
+        parts = [b"".join(map(given, part.split())).hex() for part in words.split("arrives")]
         if (len(parts) == 2) != (key != "-"):
             sys.exit(f"{folder}/expected.txt, {self.name}: a client arrives with a key")
         self.lines = [parts[0], f"arrived {key}", parts[1]] if key != "-" else parts

@@ -97,7 +97,7 @@ sweep 'serve with the example files' "$work/taken" 'pgsess: (memory|C8 line [0-9
 sweep 'stub with the example file' "$work/taken" 'pgsess: (memory|K4 line [0-9]+)' /dev/null \
     "$program" stub --port "$port" --catalogue examples/catalogue.tsv
 whole=0
-for login in plain_behind_encryption md5; do
+for login in plain_behind_encryption md5 scram; do
     python3 scripts/logins.py answer tests/logins "$login" >"$work/answer"
     sweep "login of $login" "$work/answer" 'trials: memory' "tests/logins/$login.in" \
         "$trials" login "tests/logins/${login%%_*}.ini" tests/logins/users.txt 0

@@ -38,8 +38,8 @@ TERMINATE, OK = message(b"X"), GIVEN["ok"]
 ASKED = GIVEN["md5"][:9]
 TALK = [query("SHOW application_name"), query("CREATE TEMP TABLE t (a text)"), query("SET application_name TO 'x'"), query("SELECT name FROM city")]
 CONSOLE = [query(text) for text in ("SHOW CONFIG", "SHOW POOLS", "RELOAD", "SHOW DATABASES")]
-# at rest: who accepts, the clock, the log, and those that wait for a connection
-MOST_THREADS = 3 + 8
+# at rest: who accepts, the clock, the log, who derives keys, and those that wait for a connection
+MOST_THREADS = 4 + 8
 
 
 class Page:

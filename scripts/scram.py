@@ -19,14 +19,12 @@ import sys
 import unicodedata
 
 from cluster import Cluster, Place, set_up
-from wire import Client, Refused, message, startup
+from wire import ASKS_SASL, CONTINUES, ENDS, MECHANISM, Client, Refused, Strange, message, startup
 
 SEED = 1
 SECONDS = 600
-MECHANISM = b"SCRAM-SHA-256"
 LONGEST_NONCE, LONGEST_JOINT, LONGEST_SALT = 128, 192, 64
 MOST_ROUNDS, MOST_KEPT = 1_000_000, 2**31 - 1
-ASKS_SASL, CONTINUES, ENDS = 10, 11, 12
 
 
 # ---- passwords
@@ -299,10 +297,6 @@ def compare(tool, count, characters):
 
 
 # ---- a real server
-
-class Strange(Exception):
-    """What no server says that lets in by the right password alone."""
-
 
 def another(text):
     """A last message with another proof."""

@@ -22,7 +22,7 @@ import threading
 import time
 from concurrent.futures import ThreadPoolExecutor
 
-from cluster import HERE, USERS, Cluster, Passes, Place, Pooler, set_up, until
+from cluster import HERE, USERS, Installed, Passes, Place, Pooler, set_up, until
 from faulty_servers import START, TERMINATE, authentication, packet
 from logins import fatal
 from plain_reader import IDLE, OK, TAG
@@ -33,7 +33,7 @@ from wire import Client, Cut, Refused, message, query, startup
 
 SECONDS = 20
 REST = 0.001
-AUTH_TYPES = ["md5", "plain", "trust"]
+AUTH_TYPES = ["md5", "plain", "trust", "scram-sha-256"]
 # by passwords that the server knows too; SASLprep leaves the second as it is, takes a soft hyphen out of the third, and writes its other
 # characters as a space and four letters
 KNOWN = {"ann": "pencil-of-ann", "ute": "p\u00e4ssw\u00f6rd", "soft": "so\u00adft\u00a0hyphen\u2168\ufb01"}
@@ -298,18 +298,6 @@ class Server:
             talk.rest = said
 
 
-# ---- a PostgreSQL
-
-class Installed(Cluster):
-    """It keeps passwords as it does by default, and asks for SCRAM over TCP, as Debian has it."""
-
-    def start(self):
-        for name, old, new in (("postgresql.conf", "password_encryption = md5\n", ""), ("pg_hba.conf", " md5\n", " scram-sha-256\n")):
-            file = self.data / name
-            file.write_text(file.read_text().replace(old, new))
-        super().start()
-
-
 def shown(text):
     """A text as the log would have it."""
     return "".join(chr(it) if 32 <= it < 127 and it != 92 else f"\\x{it:02x}" for it in text.encode()).encode()
@@ -382,10 +370,15 @@ class Show:
         self.passes.same(f"{name}: three clients share a link", (processes, self.cluster.logins() - logins), (processes[:1] * 3, 1))
 
     def refuses(self, pooler, name):
-        for given in (VERIFIED, VERIFIER):
+        # a verifier lets its user in, and answers no server
+        for what, given in {"its password": VERIFIED, "its text": VERIFIER}.items():
             told = outcome(lambda: Client(pooler.port, "vera", "shop", given))
-            self.passes.same(f"{name}: a user with a verifier is told", told, UNREACHED if name.endswith("trust") else "28P01 password authentication failed")
+            wrong = given == VERIFIER and not name.endswith("trust")
+            self.passes.same(f"{name}: a user with a verifier, by {what}, is told", told, "28P01 password authentication failed" if wrong else UNREACHED)
         told = outcome(lambda: Client(pooler.port, "bc", "shop", DIGESTED))
+        if name.endswith("scram-sha-256"):
+            self.passes.same(f"{name}: a user with a digest alone is told", told, "28P01 password authentication failed")
+            return
         self.passes.same(f"{name}: a user with a digest alone is told", told, UNREACHED)
         line = rf"^pgsess: client \d+ bc@shop from .* refused after .*: server {HERE}:{self.cluster.port}{asks(10)}$"
         self.passes.holds(f"{name}: the log tells that authentication method 10 is asked for", self.logs(line), self.log.read_text()[-600:])

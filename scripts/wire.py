@@ -1,12 +1,16 @@
 """A plain client of PostgreSQL's protocol 3.0, for what psql and pgbench can't do: half a message, a cut, many idle connections."""
+import base64
 import hashlib
+import hmac
+import os
 import socket
 import struct
 
 SECONDS = 20
 PROTOCOL_3_0 = 196608
 CANCEL_REQUEST = 80877102
-ASKS_NOTHING, ASKS_CLEARTEXT, ASKS_MD5 = 0, 3, 5
+ASKS_NOTHING, ASKS_CLEARTEXT, ASKS_MD5, ASKS_SASL, CONTINUES, ENDS = 0, 3, 5, 10, 11, 12
+MECHANISM = b"SCRAM-SHA-256"
 
 
 def message(kind, body=b""):
@@ -34,6 +38,31 @@ def md5_answer(user, password, salt):
     return "md5" + hashlib.md5(inner.encode() + salt).hexdigest()
 
 
+def initial(text, mechanism=MECHANISM):
+    """A SASLInitialResponse with this text."""
+    return message(b"p", mechanism + b"\0" + len(text).to_bytes(4, "big") + text)
+
+
+class Scram:
+    """A client's side of SCRAM-SHA-256 (RFC 5802), with a password of ASCII."""
+
+    def __init__(self, password, header=b"n,,", name=b"", own=None):
+        self.password, self.header, self.own = password.encode(), header, own or base64.b64encode(os.urandom(18))
+        self.bare = b"n=" + name + b",r=" + self.own
+        self.first, self.final = header + self.bare, b""
+
+    def last(self, challenge):
+        """The last message; the server's own is then known too."""
+        joint, salt, rounds = (part[2:] for part in challenge.split(b","))
+        key = hashlib.pbkdf2_hmac("sha256", self.password, base64.b64decode(salt), int(rounds))
+        client, server = (hmac.digest(key, name, "sha256") for name in (b"Client Key", b"Server Key"))
+        unproved = b"c=" + base64.b64encode(self.header) + b",r=" + joint
+        whole = b",".join([self.bare, challenge, unproved])
+        proof = bytes(it ^ other for it, other in zip(client, hmac.digest(hashlib.sha256(client).digest(), whole, "sha256")))
+        self.final = b"v=" + base64.b64encode(hmac.digest(server, whole, "sha256"))
+        return unproved + b",p=" + base64.b64encode(proof)
+
+
 def fields(body):
     """The fields of an ErrorResponse or a NoticeResponse."""
     return {part[:1].decode(): part[1:].decode() for part in body.split(b"\0") if part}
@@ -41,6 +70,10 @@ def fields(body):
 
 class Cut(Exception):
     """The other side closed the connection."""
+
+
+class Strange(Exception):
+    """What no server says that knows the password too."""
 
 
 class Refused(Exception):
@@ -117,16 +150,22 @@ class Client:
 
     def log_in(self, user, database, password, parameters):
         self.send(startup(user, database, **parameters))
+        scram = Scram(password)
         while True:
             _, body = self.until(b"R")
-            asked = int.from_bytes(body[:4], "big")
+            asked, text = int.from_bytes(body[:4], "big"), body[4:]
             if asked == ASKS_NOTHING:
                 break
-            if asked == ASKS_CLEARTEXT:
-                answer = password
+            if asked == ASKS_SASL:
+                self.send(initial(scram.first))
+            elif asked == CONTINUES:
+                self.send(message(b"p", scram.last(text)))
+            elif asked == ENDS:
+                if text != scram.final:
+                    raise Strange(text)
             else:
-                answer = md5_answer(user, password, body[4:8])
-            self.send(message(b"p", answer.encode() + b"\0"))
+                answer = password if asked == ASKS_CLEARTEXT else md5_answer(user, password, text[:4])
+                self.send(message(b"p", answer.encode() + b"\0"))
         self.until(b"Z")
 
     def ask(self, text):

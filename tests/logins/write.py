@@ -2,9 +2,11 @@
 """Writes the logins of this folder, NAME.in, and expected.txt. Usage: write.py FOLDER
 
 The bytes are those of the PostgreSQL manual ("Message Formats"), the MD5 answers those of its page
-"Message Flow": md5 and md5(md5(password ++ user) ++ salt), each digest in lower-case hex.
+"Message Flow": md5 and md5(md5(password ++ user) ++ salt), each digest in lower-case hex; SCRAM's texts are RFC 5802's.
 """
+import base64
 import hashlib
+import hmac
 import pathlib
 import sys
 
@@ -46,6 +48,47 @@ def digest(data):
 def md5_answer(secret, user, salt=SALT):
     return "md5" + digest(digest((secret + user).encode()).encode() + salt)
 
+
+# ---- SCRAM-SHA-256: the client's nonce is the same each time; the server's is of the words of its key, a name's salt of 32 zeros
+
+OWN, SCRAM = b"rOprNGfwEbeRWgbNEkqO", b"SCRAM-SHA-256"
+SERVERS = base64.b64encode(hashlib.sha256((1).to_bytes(4, "big") + (2).to_bytes(4, "big") + SALT).digest()[:18])
+
+
+def initial(text, mechanism=SCRAM):
+    return message(b"p", mechanism + b"\0" + len(text).to_bytes(4, "big") + text)
+
+
+def name_salt(name):
+    return hmac.digest(bytes(32), name.encode(), "sha256")[:16]
+
+
+class Exchange:
+    """What a client with this password and this salt says, and what it is told: its `given` are words of expected.txt."""
+
+    def __init__(self, name, secret, salt=None, rounds=4096, header=b"n,,", named=b"", more=b""):
+        bare = b"n=" + named + b",r=" + OWN + more
+        self.first, joint = initial(header + bare), OWN + SERVERS
+        challenge = b"r=" + joint + b",s=" + base64.b64encode(salt or name_salt(name)) + b",i=%d" % rounds
+        salted = hashlib.pbkdf2_hmac("sha256", secret.encode(), salt or name_salt(name), rounds)
+        client, server = (hmac.digest(salted, word, "sha256") for word in (b"Client Key", b"Server Key"))
+        self.unproved = b"c=" + base64.b64encode(header) + b",r=" + joint
+        whole = b",".join([bare, challenge, self.unproved])
+        self.proof = bytes(a ^ b for a, b in zip(client, hmac.digest(hashlib.sha256(client).digest(), whole, "sha256")))
+        self.last = self.with_proof(self.proof)
+        self.asked = f"sasl =0b:{challenge.decode()}"
+        self.proved = f"=0c:v={base64.b64encode(hmac.digest(server, whole, 'sha256')).decode()}"
+
+    def with_proof(self, proof):
+        return message(b"p", self.unproved + b",p=" + base64.b64encode(proof))
+
+
+BY = Exchange("ann", "secret")
+# a password that SASLprep leaves as it is; a verifier of eight bytes of salt and seven rounds
+BY_UTE = Exchange("ute", "p\u00e4ssw\u00f6rd")
+BY_VERA = Exchange("vera", "pencil", salt=bytes(range(1, 9)), rounds=7, header=b"y,,", named=b"*", more=b",x=passed over")
+UTE, VERA = start("ute", "shop"), start("vera", "shop")
+OTHER_PROOF = BY.with_proof(BY.proof[:-1] + bytes([BY.proof[-1] ^ 1]))
 
 SSL, GSS = request(80877103), request(80877104)
 CANCEL = packet((1).to_bytes(4, "big") + (2).to_bytes(4, "big"), 80877102)
@@ -155,6 +198,36 @@ LOGINS = [
     ("md5_console", "md5", CONSOLE + password(md5_answer("r", "root")), "arrives md5",
      key("root", "pgbouncer"), ended("console")),
     ("md5_terminate", "md5", ANN + TERMINATE, "arrives md5", key(), ended("left")),
+    ("md5_for_a_verifier", "md5", VERA + BY_VERA.first + BY_VERA.last, f"arrives {BY_VERA.asked} {BY_VERA.proved} ok", key("vera"), passed("vera")),
+
+    ("scram", "scram", ANN + BY.first + BY.last, f"arrives {BY.asked} {BY.proved} ok", key(), passed()),
+    ("scram_and_query", "scram", ANN + BY.first + BY.last + QUERY, f"arrives {BY.asked} {BY.proved} ok", key(), passed(unused=len(QUERY))),
+    ("scram_behind_encryptions", "scram", SSL + GSS + ANN + BY.first + BY.last, f"N N arrives {BY.asked} {BY.proved} ok", key(), passed()),
+    ("scram_beyond_ascii", "scram", UTE + BY_UTE.first + BY_UTE.last, f"arrives {BY_UTE.asked} {BY_UTE.proved} ok", key("ute"), passed("ute")),
+    ("scram_for_a_verifier", "scram", VERA + BY_VERA.first + BY_VERA.last, f"arrives {BY_VERA.asked} {BY_VERA.proved} ok", key("vera"), passed("vera")),
+    ("scram_wrong", "scram", ANN + BY.first + OTHER_PROOF, f"arrives {BY.asked} 28P01", key(), ended("failed 28P01")),
+    ("scram_unknown_user", "scram", ZED + BY.first + Exchange("zed", "secret").last, f"arrives {Exchange('zed', 'secret').asked} 28P01", key("zed"), ended("failed 28P01")),
+    ("scram_for_a_digest", "scram", BC + BY.first + Exchange("bc", "a").last, f"arrives {Exchange('bc', 'a').asked} 28P01", key("bc"), ended("failed 28P01")),
+    ("scram_nowhere", "scram", start("ann", "nowhere") + BY.first + BY.last, f"arrives {BY.asked} 3D000", key("ann", "nowhere"), ended("failed 3D000")),
+    ("scram_wrong_nowhere", "scram", start("ann", "nowhere") + BY.first + OTHER_PROOF, f"arrives {BY.asked} 28P01", key("ann", "nowhere"), ended("failed 28P01")),
+    ("scram_console", "scram", CONSOLE + BY.first + Exchange("root", "r").last, f"arrives {Exchange('root', 'r').asked} {Exchange('root', 'r').proved}",
+     key("root", "pgbouncer"), ended("console")),
+    ("scram_console_of_no_admin", "scram", start("ann", "pgbouncer") + BY.first + BY.last, f"arrives {BY.asked} 28P01",
+     key("ann", "pgbouncer"), ended("failed 28P01")),
+    ("scram_not_yet", "scram", ANN + BY.first, f"arrives {BY.asked}", key(), ended("unfinished")),
+    ("scram_terminate", "scram", ANN + TERMINATE, "arrives sasl", key(), ended("left")),
+    ("scram_terminate_behind_its_challenge", "scram", ANN + BY.first + TERMINATE, f"arrives {BY.asked}", key(), ended("left")),
+    ("scram_password_instead", "scram", ANN + SECRET, "arrives sasl P3", key(), ended("refused P3")),
+    ("scram_another_mechanism", "scram", ANN + initial(b"n,,n=,r=" + OWN, b"SCRAM-SHA-1"), "arrives sasl P3", key(), ended("refused P3")),
+    ("scram_bound_channel", "scram", ANN + initial(b"p=tls-unique,,n=,r=" + OWN), "arrives sasl P3", key(), ended("refused P3")),
+    ("scram_somebody_elses_name", "scram", ANN + initial(b"n,a=bc,n=,r=" + OWN), "arrives sasl P3", key(), ended("refused P3")),
+    ("scram_mandatory_extension", "scram", ANN + initial(b"n,,m=x,n=,r=" + OWN), "arrives sasl P3", key(), ended("refused P3")),
+    ("scram_no_nonce", "scram", ANN + initial(b"n,,n=,r="), "arrives sasl P3", key(), ended("refused P3")),
+    ("scram_longest_nonce", "scram", ANN + initial(b"n,,n=,r=" + b"a" * 129), "arrives sasl P3", key(), ended("refused P3")),
+    ("scram_proof_of_31_bytes", "scram", ANN + BY.first + BY.with_proof(BY.proof[:31]), f"arrives {BY.asked} P3", key(), ended("refused P3")),
+    ("scram_another_header", "scram", ANN + BY.first + message(b"p", BY.last[5:].replace(b"c=biws", b"c=eSws")), f"arrives {BY.asked} P3", key(), ended("refused P3")),
+    ("scram_another_nonce", "scram", ANN + BY.first + message(b"p", BY.last[5:].replace(SERVERS, SERVERS[::-1])), f"arrives {BY.asked} P3", key(), ended("refused P3")),
+    ("scram_first_message_twice", "scram", ANN + BY.first + BY.first, f"arrives {BY.asked} P3", key(), ended("refused P3")),
 ]
 
 

@@ -51,6 +51,7 @@ fn faults_of_keys(rt: HostRuntime) -> Result<(), Fail> {
             3,
         ),
         (b"[pgbouncer]\nauth_type = MD5", IniCause::BadValue, 2),
+        (b"[pgbouncer]\nauth_type = scram", IniCause::BadValue, 2),
         (
             b"[pgbouncer]\nlisten_port = 1\nlisten_port = 0",
             IniCause::BadValue,

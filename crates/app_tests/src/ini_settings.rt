@@ -113,8 +113,13 @@ fn has_choices(settings: &Settings, addresses: &[&[u8]], auth_type: AuthType) ->
 
 #[test]
 fn settings_of_choices(rt: HostRuntime) -> Result<(), Fail> {
-    let files: [(&[u8], &[&[u8]], AuthType); 2] = [
+    let files: [(&[u8], &[&[u8]], AuthType); 3] = [
         (b"", &[b"127.0.0.1"], AuthType::Md5),
+        (
+            b"[pgbouncer]\nauth_type = scram-sha-256",
+            &[b"127.0.0.1"],
+            AuthType::ScramSha256,
+        ),
         (
             EVERY_KEY,
             &[b"0.0.0.0", b"::1", b"127.0.0.1"],

@@ -56,7 +56,7 @@ fn goes_on(alloc: Global, note: Note<'_>, ms: Option<u64>, wanted: &[u8]) -> Res
 
 #[test]
 fn what_a_client_comes_to(rt: HostRuntime) -> Result<(), Fail> {
-    let rows: [(Note<'_>, Option<u64>, &[u8]); 18] = [
+    let rows: [(Note<'_>, Option<u64>, &[u8]); 19] = [
         (Note::LoggedIn, Some(7), b" in"),
         (Note::Closed, Some(3_299), b" out after 3.2 s"),
         (Note::Closed, None, b" out"),
@@ -91,9 +91,14 @@ fn what_a_client_comes_to(rt: HostRuntime) -> Result<(), Fail> {
             b" failed after 0.0 s: password authentication failed (28P01): not of admin_users or stats_users",
         ),
         (
-            Note::LoginFailed(LoginFailure::Verifier),
+            Note::LoginFailed(LoginFailure::Digest),
             Some(99),
-            b" failed after 0.0 s: password authentication failed (28P01): its secret is a SCRAM verifier, by which no client is let in yet",
+            b" failed after 0.0 s: password authentication failed (28P01): its secret is an MD5 digest, by which SCRAM judges nobody",
+        ),
+        (
+            Note::LoginFailed(LoginFailure::Rounds),
+            Some(99),
+            b" failed after 0.0 s: password authentication failed (28P01): its SCRAM verifier has more than 1,000,000 rounds",
         ),
         (
             Note::LoginFailed(LoginFailure::NoSecret),

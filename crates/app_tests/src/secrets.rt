@@ -1,4 +1,5 @@
 //! Secrets, and what proves that a client knows one.
+use std::alloc::Global;
 use std::test::Fail;
 use user_file::Secret;
 
@@ -13,13 +14,23 @@ const SHORT: &[u8] = b"md5900150983cd24fb0d6963f7d28e17f7";
 const VERIFIER: &[u8] =
     b"SCRAM-SHA-256$4096:AQIDBA==$iV3GRKYjRyrL2B22GcIQ7Csv+pBTGrbrlsi79t341m0=:1WYBkvZVFp03Z68FNIt8G4ukk9Zt+gW0hMWzQMkoVlw=";
 
+/// The same of one round more than a password is tried by.
+const MANY_ROUNDS: &[u8] =
+    b"SCRAM-SHA-256$1000001:AQIDBA==$iV3GRKYjRyrL2B22GcIQ7Csv+pBTGrbrlsi79t341m0=:1WYBkvZVFp03Z68FNIt8G4ukk9Zt+gW0hMWzQMkoVlw=";
+
 /// The same without its last byte, which makes it none.
 const SPOILED: &[u8] =
     b"SCRAM-SHA-256$4096:AQIDBA==$iV3GRKYjRyrL2B22GcIQ7Csv+pBTGrbrlsi79t341m0=:1WYBkvZVFp03Z68FNIt8G4ukk9Zt+gW0hMWzQMkoVlw";
 
+/// Whether the secret of a text accepts a password; none where memory was refused.
+fn accepts(alloc: Global, secret: &[u8], user: &[u8], password: &[u8]) -> Option<bool> {
+    let secret = Secret::read(alloc, secret).ok()?;
+    secret.accepts_plain(alloc, user, password).ok()
+}
+
 #[test]
 fn passwords(rt: HostRuntime) -> Result<(), Fail> {
-    let rows: [(&[u8], &[u8], &[u8], bool); 15] = [
+    let rows: [(&[u8], &[u8], &[u8], bool); 17] = [
         (ABC, b"bc", b"a", true),
         (ABC, b"c", b"ab", true),
         (ABC, b"bc", b"b", false),
@@ -29,7 +40,9 @@ fn passwords(rt: HostRuntime) -> Result<(), Fail> {
         (SHORT, b"bc", SHORT, true),
         (b"a", b"bc", b"a", true),
         (VERIFIER, b"bc", VERIFIER, false),
-        (VERIFIER, b"bc", b"a", false),
+        (VERIFIER, b"bc", b"a", true),
+        (VERIFIER, b"bc", b"b", false),
+        (MANY_ROUNDS, b"bc", b"a", false),
         (SPOILED, b"bc", SPOILED, false),
         (
             b"SCRAM-SHA-1$4096:AA==",
@@ -42,8 +55,7 @@ fn passwords(rt: HostRuntime) -> Result<(), Fail> {
         (b"", b"bc", b"a", false),
     ];
     for (secret, user, password, accepted) in rows {
-        let secret = Secret::read(rt.alloc(), secret)?;
-        assert!(rt; secret.accepts_plain(user, password) == accepted);
+        assert!(rt; accepts(rt.alloc(), secret, user, password) == Some(accepted));
     }
     Ok(())
 }

@@ -2,7 +2,7 @@
 use std::alloc::Global;
 use std::fmt::Debug;
 use std::test::Fail;
-use user_file::{Secret, UserCause, UserFault, UserRow, Users, read_users};
+use user_file::{Secret, UserCause, UserFault, UserRow, UserTable, read_users};
 
 fn fault(alloc: Global, text: &[u8]) -> Option<(UserCause, usize)> {
     match read_users(alloc, text) {
@@ -42,7 +42,7 @@ fn is_plain(row: &UserRow, password: &[u8]) -> bool {
 }
 
 /// Whether the file has this user with this password.
-fn has_user(users: &Users, name: &[u8], password: &[u8]) -> bool {
+fn has_user(users: &UserTable, name: &[u8], password: &[u8]) -> bool {
     match users.row(name) {
         Some(user) => user.name.as_bytes() == name && is_plain(user, password),
         None => false,
@@ -74,7 +74,7 @@ fn shows<D: Debug>(alloc: Global, value: &D, expected: &str) -> Result<bool, Fai
 #[test]
 fn users_show_no_secret(rt: HostRuntime) -> Result<(), Fail> {
     let users = read_users(rt.alloc(), b"\"ann\" \"hunter2\"")?;
-    assert!(rt; shows(rt.alloc(), &users, "Users(..)")?);
+    assert!(rt; shows(rt.alloc(), &users, "UserTable(..)")?);
     let user = users.row(b"ann").ok_or("no row")?;
     assert!(rt; shows(rt.alloc(), user, "UserRow(..)")?);
     Ok(())

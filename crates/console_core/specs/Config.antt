@@ -2,7 +2,7 @@
 use Rattle.std.specs.Prelude.{Bool, ℕ, ◌+◌, ◌/◌, ◌%◌, List, [], ◌∷◌, ◌++◌, codes, decimal, if◌then◌else◌}
 use Rattle.std.specs.List.{flat_map}
 use Rattle.ini_config.specs.declared.option_values.AuthType.{AuthType}
-use Rattle.ini_config.specs.declared.option_values.AuthType.TheVariants.{Trust, Plain, Md5}
+use Rattle.ini_config.specs.declared.option_values.AuthType.TheVariants.{Trust, Plain, Md5, ScramSha256}
 use Rattle.ini_config.specs.declared.option_values.ConsoleStyle.{ConsoleStyle}
 use Rattle.ini_config.specs.declared.option_values.ConsoleStyle.TheVariants.{Own, PgBouncer}
 use Rattle.ini_config.specs.declared.option_values.Settings.{Settings}
@@ -30,6 +30,7 @@ abbrev pub auth_name : AuthType → Text
 auth_name Trust = codes "trust"
 auth_name Plain = codes "plain"
 auth_name Md5 = codes "md5"
+auth_name ScramSha256 = codes "scram-sha-256"
 
 abbrev pub style_name : ConsoleStyle → Text
 style_name Own = codes "pgsess"

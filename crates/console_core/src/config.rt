@@ -32,6 +32,7 @@ fn auth_name(auth_type: AuthType) -> &'static [u8]
         AuthType::Trust => b"trust",
         AuthType::Plain => b"plain",
         AuthType::Md5 => b"md5",
+        AuthType::ScramSha256 => b"scram-sha-256",
     }
 }
 

@@ -76,7 +76,7 @@ impl<'a> Credential<'a> {
         self.secret
     }
 
-    /// Whether it answers a server that asks for SCRAM: by a password, of which a digest keeps nothing that SCRAM could use.
+    /// Whether it answers a server that asks for SCRAM: by a password. Neither a digest nor a verifier keeps what SCRAM wants of a client.
     pub fn answers_scram(&self) -> bool
         ensures { result ≡ answers_scram self.now }
     {

@@ -11,7 +11,7 @@ use Rattle.ini_config.specs.declared.option_keys.Key.TheVariants as key
 use Rattle.ini_config.specs.declared.option_keys.Setting.{Setting}
 use Rattle.ini_config.specs.declared.option_keys.Setting.TheVariants as setting
 use Rattle.ini_config.specs.declared.option_values.AuthType.{AuthType}
-use Rattle.ini_config.specs.declared.option_values.AuthType.TheVariants.{Trust, Plain, Md5}
+use Rattle.ini_config.specs.declared.option_values.AuthType.TheVariants.{Trust, Plain, Md5, ScramSha256}
 use Rattle.ini_config.specs.declared.option_values.ConsoleStyle.{ConsoleStyle}
 use Rattle.ini_config.specs.declared.option_values.ConsoleStyle.TheVariants.{Own, PgBouncer}
 use Rattle.ini_config.specs.declared.option_values.Settings.{Settings}
@@ -57,7 +57,8 @@ unfoldable pub auth_type : Text → Option AuthType
 auth_type text =
     if bytes_eq text (codes "trust") then Some Trust else (
     if bytes_eq text (codes "plain") then Some Plain else (
-    if bytes_eq text (codes "md5") then Some Md5 else None))
+    if bytes_eq text (codes "md5") then Some Md5 else (
+    if bytes_eq text (codes "scram-sha-256") then Some ScramSha256 else None)))
 
 unfoldable pub console_style : Text → Option ConsoleStyle
 console_style text =

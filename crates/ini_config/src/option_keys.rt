@@ -202,6 +202,9 @@ fn auth_type(value: &[u8]) -> Option<AuthType>
     if value == b"md5".as_slice() {
         return Some(AuthType::Md5);
     }
+    if value == b"scram-sha-256".as_slice() {
+        return Some(AuthType::ScramSha256);
+    }
     None
 }
 

@@ -21,6 +21,8 @@ pub enum AuthType {
     Plain,
     /// By the MD5 answer.
     Md5,
+    /// By SCRAM-SHA-256.
+    ScramSha256,
 }
 
 /// Whose columns the console's tables have.

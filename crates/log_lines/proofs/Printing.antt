@@ -145,7 +145,8 @@ losses loss.Cancelled = refl
 
 failures : (why : LoginFailure) → Prints (failure_words why)
 failures failure.NoUser = refl
-failures failure.Verifier = refl
+failures failure.Digest = refl
+failures failure.Rounds = refl
 failures failure.NoSecret = refl
 failures failure.NoAdmin = refl
 failures failure.WrongPassword = refl

@@ -95,7 +95,8 @@ parameter_words name = codes "unsupported startup parameter " ++ quoted name ++ 
 -- why a login failed
 abbrev pub failure_words : LoginFailure → Text
 failure_words failure.NoUser = codes "no such user"
-failure_words failure.Verifier = codes "its secret is a SCRAM verifier, by which no client is let in yet"
+failure_words failure.Digest = codes "its secret is an MD5 digest, by which SCRAM judges nobody"
+failure_words failure.Rounds = codes "its SCRAM verifier has more than 1,000,000 rounds"
 failure_words failure.NoSecret = codes "its secret is empty, or a spoiled SCRAM verifier"
 failure_words failure.NoAdmin = codes "not of admin_users or stats_users"
 failure_words failure.WrongPassword = codes "wrong password"

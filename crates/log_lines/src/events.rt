@@ -78,7 +78,7 @@ pub enum Event<'a> {
     Reloaded,
     /// They weren't, because of this fault.
     NotReloaded(&'a [u8]),
-    /// So many users have a secret that accepts no password; this is the first of them.
+    /// So many users have a secret by which nobody can log in; this is the first of them.
     NoPasswords(u64, &'a [u8]),
     /// So many connections were closed unserved, for want of a thread, a poll, a file or memory.
     Wanting(u64),

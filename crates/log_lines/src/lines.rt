@@ -185,8 +185,8 @@ fn failure_words(why: LoginFailure) -> &'static [u8]
 {
     match why {
         LoginFailure::NoUser => b"no such user",
-        LoginFailure::Verifier =>
-            b"its secret is a SCRAM verifier, by which no client is let in yet",
+        LoginFailure::Digest => b"its secret is an MD5 digest, by which SCRAM judges nobody",
+        LoginFailure::Rounds => b"its SCRAM verifier has more than 1,000,000 rounds",
         LoginFailure::NoSecret => b"its secret is empty, or a spoiled SCRAM verifier",
         LoginFailure::NoAdmin => b"not of admin_users or stats_users",
         LoginFailure::WrongPassword => b"wrong password",

@@ -73,9 +73,11 @@ pub enum Loss {
 pub enum LoginFailure {
     /// The user file has no user of this name.
     NoUser,
-    /// The user's secret is a SCRAM verifier, by which no client is let in yet.
-    Verifier,
-    /// It has no bytes, or begins as a verifier does and is none.
+    /// The client was asked for SCRAM, and the user's secret is an MD5 digest.
+    Digest,
+    /// The client was asked for its password, and the user's secret is a SCRAM verifier of more than 1,000,000 rounds.
+    Rounds,
+    /// The user's secret has no bytes, or begins as a verifier does and is none.
     NoSecret,
     /// The database is the console's, and the user none of it.
     NoAdmin,

@@ -1,5 +1,5 @@
 -- What the cutters of packets tell of the bytes that are held.
-use Rattle.std.proofs.Common.{◌≡◌, ℕ, ◌<◌, List, [], refl, sym, ap, ap₂, ◌∙◌, Bool, true, false, Ok, Err}
+use Rattle.std.proofs.Common.{◌≡◌, ℕ, ◌<◌, List, [], refl, sym, ap, ap₂, ◌∙◌, Bool, true, false}
 use Rattle.std.specs.Borrow.{Bor}
 use Rattle.frame_view.specs.declared.FrameFault.{FrameFault}
 use Rattle.frame_view.specs.declared.FirstStep.TheVariants as first
@@ -10,22 +10,20 @@ use Rattle.frame_view.specs.declared.client.TheConstants.{PASSWORD_MESSAGE, TERM
 use Rattle.frame_view.specs.Frames.{Front, AFrame, Lacks, Faulty, front, Start, Cancels, AsksTls, AsksGss, FirstFront, AFirst, LacksFirst, FaultyFirst, first_front}
 use Rattle.frame_view.specs.Answers.{Tells, TellsFirst}
 use Rattle.message_view.specs.declared.KeyWord.{KeyWord}
-use Rattle.message_view.specs.declared.ViewFault.{ViewFault}
 use Rattle.message_view.specs.declared.refusal.Refusal.{Refusal}
 use Rattle.message_view.specs.declared.refusal.Refusal.TheVariants.{MalformedClientMessage}
-use Rattle.message_view.specs.Reading.{startup_of, password_of}
+use Rattle.message_view.specs.Reading.{startup_of}
 use Rattle.session_values.specs.State.{StartKeyOf}
-use Rattle.param_track.specs.StartKeys.{Text}
 use Rattle.login_core.specs.declared.steps.LoginStep.{LoginStep}
 use Rattle.login_core.specs.declared.steps.LoginStep.TheVariants as step
 use Rattle.login_core.specs.declared.steps.Question.TheVariants as question
 use Rattle.login_core.specs.Talk.{Cut}
 use Rattle.login_core.specs.Talk.Cut.{Whole, Need, Bad}
 use Rattle.login_core.specs.Talk.Reaction.{Stops}
-use Rattle.login_core.specs.Dialogue.{Rows, Packet, First, Message, Reason, Refused, Left, AtFirst, Asked, refusal_of, of_first, of_front, packet, react, key_of, judged, to_message, to_password, longest_message}
+use Rattle.login_core.specs.Dialogue.{Rows, Packet, First, Message, Reason, Refused, Left, AtFirst, Asked, Asking, refusal_of, of_first, of_front, packet, react, key_of, to_answer, to_message, longest_message}
 use Rattle.login_core.specs.Laws.{PacketsGrow}
-use Rattle.login_core.specs.Logins.{Awaiting, AwaitsPacket, Over, Fits, StepIs, Decides, StartMeans, left_after}
-use Rattle.login_core.proofs.Turning.{turned_bad, turned_stop, turned_left, turned_cancel, turned_more, tls_from, gss_from, tls_twice, gss_twice, turned_start, decided_by_answer}
+use Rattle.login_core.specs.Logins.{Awaiting, AwaitsPacket, Over, Fits, StepIs, StartMeans, IsReaction, TakesMemory, left_after}
+use Rattle.login_core.proofs.Turning.{turned_bad, turned_stop, turned_left, turned_cancel, turned_more, tls_from, gss_from, tls_twice, gss_twice, turned_start, answered_by}
 
 abbrev IsWhole : Cut Packet Reason → Packet → Type 0
 IsWhole c p = (rest : List ℕ) × (c ≡ Whole p rest)
@@ -87,8 +85,8 @@ told_bad fault bytes (Faulty o) h = refl
 told_bad fault bytes (AFrame kind body rest) h = absurd h
 told_bad fault bytes (Lacks m) h = absurd h
 
-to_stop : (row : _) (word : KeyWord) (key : StartKeyOf) (kind : ℕ) (body : List ℕ) → kind ≡ TERMINATE → to_message row word key kind body ≡ Stops [] Left
-to_stop row word key kind body e = ap (λ (k : ℕ). to_message row word key k body) e
+to_stop : (row : _) (word : KeyWord) (key : StartKeyOf) (asking : Asking) (kind : ℕ) (body : List ℕ) → kind ≡ TERMINATE → to_message row word key asking kind body ≡ Stops [] Left
+to_stop row word key asking kind body e = ap (λ (k : ℕ). to_message row word key asking k body) e
 
 module _ (grow : PacketsGrow) (rows : Rows) (word : KeyWord) where
   module _ (tls gss : Bool) (held : List ℕ) (fits : Fits (AwaitsPacket (AtFirst tls gss)) held) where
@@ -117,25 +115,23 @@ module _ (grow : PacketsGrow) (rows : Rows) (word : KeyWord) where
     pub hears_fault : (fault : FrameFault) (r : Refusal) → TellsFirst (first.Bad fault) (first_front held) → r ≡ refusal_of fault → StepIs rows word (AwaitsPacket (AtFirst tls gss)) held (step.Refused r) Over []
     hears_fault fault r h e = turned_bad grow rows word (AtFirst tls gss) held r (told_fault fault (first_front held) h ∙ ap (λ (x : Refusal). Bad (Refused x)) (sym e))
 
-  module _ (key : StartKeyOf) (held : List ℕ) (fits : Fits (AwaitsPacket (Asked key)) held) where
-    pub hears_part : (n : ℕ) → Tells (message.Need n) held (front Client longest_message held) → StepIs rows word (AwaitsPacket (Asked key)) held step.More (AwaitsPacket (Asked key)) held
-    hears_part n h = let t = told_lack n held (front Client longest_message held) h in turned_more grow rows word (Asked key) held t.0 fits t.1 t.2
+  module _ (asking : Asking) (key : StartKeyOf) (held : List ℕ) (fits : Fits (AwaitsPacket (Asked asking key)) held) where
+    pub hears_part : (n : ℕ) → Tells (message.Need n) held (front Client longest_message held) → StepIs rows word (AwaitsPacket (Asked asking key)) held step.More (AwaitsPacket (Asked asking key)) held
+    hears_part n h = let t = told_lack n held (front Client longest_message held) h in turned_more grow rows word (Asked asking key) held t.0 fits t.1 t.2
 
-    pub hears_bad : (fault : FrameFault) → Tells (message.Bad fault) held (front Client longest_message held) → StepIs rows word (AwaitsPacket (Asked key)) held (step.Refused MalformedClientMessage) Over []
-    hears_bad fault h = turned_bad grow rows word (Asked key) held MalformedClientMessage (told_bad fault held (front Client longest_message held) h)
+    pub hears_bad : (fault : FrameFault) → Tells (message.Bad fault) held (front Client longest_message held) → StepIs rows word (AwaitsPacket (Asked asking key)) held (step.Refused MalformedClientMessage) Over []
+    hears_bad fault h = turned_bad grow rows word (Asked asking key) held MalformedClientMessage (told_bad fault held (front Client longest_message held) h)
 
     module _ (frame : Frame) (h : Tells (message.Whole frame) held (front Client longest_message held)) where
-      whole : IsWhole (packet (Asked key) held) (Message frame.kind frame.body.now)
+      whole : IsWhole (packet (Asked asking key) held) (Message frame.kind frame.body.now)
       whole = told_whole frame held (front Client longest_message held) h
 
-      pub hears_end : frame.kind ≡ TERMINATE → StepIs rows word (AwaitsPacket (Asked key)) held step.Left Over []
-      hears_end e = turned_left grow rows word (Asked key) held (Message frame.kind frame.body.now) whole.0 fits whole.1 (to_stop (rows key.row key.user) word key frame.kind frame.body.now e)
+      pub hears_end : frame.kind ≡ TERMINATE → StepIs rows word (AwaitsPacket (Asked asking key)) held step.Left Over []
+      hears_end e = turned_left grow rows word (Asked asking key) held (Message frame.kind frame.body.now) whole.0 fits whole.1 (to_stop (rows key.row key.user) word key asking frame.kind frame.body.now e)
 
-      pub hears_stop : react rows word (Asked key) (Message frame.kind frame.body.now) ≡ Stops [] (Refused MalformedClientMessage) → StepIs rows word (AwaitsPacket (Asked key)) held (step.Refused MalformedClientMessage) Over []
-      hears_stop e = turned_stop grow rows word (Asked key) held (Message frame.kind frame.body.now) whole.0 MalformedClientMessage fits whole.1 e
+      pub hears_stop : react rows word (Asked asking key) (Message frame.kind frame.body.now) ≡ Stops [] (Refused MalformedClientMessage) → StepIs rows word (AwaitsPacket (Asked asking key)) held (step.Refused MalformedClientMessage) Over []
+      hears_stop e = turned_stop grow rows word (Asked asking key) held (Message frame.kind frame.body.now) whole.0 MalformedClientMessage fits whole.1 e
 
-      pub hears_unread : (fault : ViewFault) → frame.kind ≡ PASSWORD_MESSAGE → password_of frame.body.now ≡ Err fault → StepIs rows word (AwaitsPacket (Asked key)) held (step.Refused MalformedClientMessage) Over []
-      hears_unread fault e f = hears_stop (ap (λ (k : ℕ). to_message (rows key.row key.user) word key k frame.body.now) e ∙ ap (to_password (rows key.row key.user) word key) f)
-
-      pub hears_password : (given : Text) (s : LoginStep) → frame.kind ≡ PASSWORD_MESSAGE → password_of frame.body.now ≡ Ok given → Decides s (judged (rows key.row key.user) word key given) → StepIs rows word (AwaitsPacket (Asked key)) held s Over (left_after s held)
-      hears_password given s e f d = decided_by_answer grow rows word key held frame.body.now whole.0 frame.kind given s fits whole.1 e f d
+      pub hears_answer : (s : LoginStep) (to : Awaiting) → frame.kind ≡ PASSWORD_MESSAGE → IsReaction (TakesMemory (rows key.row key.user) asking) (to_answer (rows key.row key.user) word key asking frame.body.now) s to →
+          StepIs rows word (AwaitsPacket (Asked asking key)) held s to (left_after s held)
+      hears_answer s to e d = answered_by grow rows word asking key held frame.body.now whole.0 frame.kind fits whole.1 e s to d

@@ -107,7 +107,7 @@ module _ (more : List ℕ) where
 
 pub packets : FirstGrows → FrontGrows → PacketsGrow
 packets first other (AtFirst tls gss) bytes more = first_cuts more (first_front bytes) (first_front (bytes ++ more)) (length bytes) (first bytes more)
-packets first other (Asked key) bytes more = front_cuts more (front Client longest_message bytes) (front Client longest_message (bytes ++ more)) (length bytes) (other Client longest_message bytes more)
+packets first other (Asked asking key) bytes more = front_cuts more (front Client longest_message bytes) (front Client longest_message (bytes ++ more)) (length bytes) (other Client longest_message bytes more)
 
 pub are_stable : PacketsGrow → IsStable packet
 are_stable grow = record {
@@ -123,4 +123,4 @@ grown_later more a b l = record {
 }
 
 pub logins : PacketsGrow → LoginsGrow
-logins grow rows word bytes more = grown_later more _ _ (later _ _ _ _ packet (react rows word) (are_stable grow) 4 (AtFirst false false) bytes more)
+logins grow rows word bytes more = grown_later more _ _ (later _ _ _ _ packet (react rows word) (are_stable grow) 5 (AtFirst false false) bytes more)

@@ -7,3 +7,4 @@ pub mod Turning
 pub mod Taking
 pub mod Starting
 pub mod Awaiting
+pub mod Pieces

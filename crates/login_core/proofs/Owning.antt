@@ -1,24 +1,24 @@
 -- The login under settings and users is that of one row.
-use Rattle.std.proofs.Common.{◌≡◌, ℕ, zero, suc, List, [], ◌∷◌, refl, sym, ap, ◌∙◌, Bool, true, false, Option, Some, None, Result, Ok, Err}
-use Rattle.std.specs.Prelude.{◌==◌, codes}
+use Rattle.std.proofs.Common.{◌≡◌, ℕ, zero, suc, List, [], ◌∷◌, refl, sym, ap, ◌∙◌, subst, Bool, true, false, Option, Some, None, Result, Ok, Err}
+use Rattle.std.specs.Prelude.{◌==◌, codes, if◌then◌else◌}
 use Rattle.frame_view.specs.Frames.{Start, Cancels, AsksTls, AsksGss, FirstFront, AFirst, LacksFirst, FaultyFirst, first_front}
 use Rattle.frame_view.specs.declared.client.TheConstants.{PASSWORD_MESSAGE, TERMINATE}
 use Rattle.ini_config.specs.declared.option_values.AuthType.{AuthType}
-use Rattle.ini_config.specs.declared.option_values.AuthType.TheVariants.{Trust, Plain, Md5}
+use Rattle.ini_config.specs.declared.option_values.AuthType.TheVariants.{Trust, Plain, Md5, ScramSha256}
 use Rattle.ini_config.specs.declared.database_rows.DbRow.{DbRow}
 use Rattle.message_view.specs.declared.KeyWord.{KeyWord}
 use Rattle.message_view.specs.declared.ViewFault.{ViewFault}
 use Rattle.message_view.specs.declared.refusal.Refusal.{Refusal}
-use Rattle.message_view.specs.Reading.{startup_of, password_of}
+use Rattle.message_view.specs.Reading.{startup_of}
 use Rattle.session_values.specs.State.{StartKeyOf}
 use Rattle.param_track.specs.declared.StartFault.{StartFault}
 use Rattle.param_track.specs.StartKeys.{Text, Pair, Names, database_in, user_in, key_at, unless, refusal, parameters_in}
 use Rattle.login_core.specs.Talk.{Cut, says, talk, follow, on_cut}
 use Rattle.login_core.specs.Talk.Cut.{Whole, Need, Bad}
 use Rattle.login_core.specs.Talk.Reaction.{Goes, Passes, Stops}
-use Rattle.login_core.specs.Dialogue.{Rows, LoginRow, Reacts, Dialogue, Packet, First, Message, Reason, Stage, AtFirst, Asked, of_first, packet, react, key_of, or_refusal, asked, asks, begins, judged, not_twice, to_message, asks_cleartext, asks_md5}
+use Rattle.login_core.specs.Dialogue.{Rows, LoginRow, Reacts, Dialogue, Packet, First, Message, Reason, Stage, AtFirst, Asked, Asking, ForPassword, ForFirst, of_first, packet, react, key_of, or_refusal, asked, asks, begins, judged, has_verifier, offers_scram, not_twice, to_message, asks_cleartext, asks_md5, asks_scram}
 use Rattle.login_core.specs.Laws.{names_of_pairs, names_in_front, names_within, row_for, LoginIsOfItsRow}
-use Rattle.login_core.proofs.Endings.{Ends, judged_ends, message_ends}
+use Rattle.login_core.proofs.Endings.{Ends, GoesBy, judged_ends, message_goes}
 
 -- ---- the key's names are those that were asked for
 
@@ -52,25 +52,38 @@ module _ (rows : Rows) (word : KeyWord) where
   ends_alike a b n more (Stops pieces reason) h = refl
 
   module _ (row : LoginRow) (key : StartKeyOf) (same : rows key.row key.user ≡ row) where
-    message_alike : (n : ℕ) (rest : List ℕ) (kind : ℕ) (body : List ℕ) → from rows n rest (to_message (rows key.row key.user) word key kind body) ≡ from (one row) n rest (to_message row word key kind body)
-    message_alike n rest kind body =
-        ap (λ (r : LoginRow). from rows n rest (to_message r word key kind body)) same
-        ∙ ends_alike rows (one row) n rest (to_message row word key kind body) (message_ends word row key (kind == PASSWORD_MESSAGE) (kind == TERMINATE) (password_of body))
+    abbrev both : ℕ → List ℕ → Stage → Type 0
+    both n rest s = talk packet (react rows word) n s rest ≡ talk packet (react (one row) word) n s rest
 
-    cut_alike : (n : ℕ) (c : Cut Packet Reason) → on_cut (react rows word (Asked key)) (talk packet (react rows word) n) c ≡ on_cut (react (one row) word (Asked key)) (talk packet (react (one row) word) n) c
-    cut_alike n (Whole (Message kind body) rest) = message_alike n rest kind body
-    cut_alike n (Whole (First p) rest) = refl
-    cut_alike n (Need m) = refl
-    cut_alike n (Bad r) = refl
+    -- a reaction that goes on, if at all, by a stage from which the talks are alike
+    reaction_alike : (n : ℕ) (rest : List ℕ) (r : Reacts) → ((a : Asking) → both n rest (Asked a key)) → GoesBy key r → from rows n rest r ≡ from (one row) n rest r
+    reaction_alike n rest (Goes pieces (AtFirst tls gss)) ih h = absurd h
+    reaction_alike n rest (Goes pieces (Asked a k)) ih h = ap (says pieces) (subst (λ (x : StartKeyOf). both n rest (Asked a x)) (sym h) (ih a))
+    reaction_alike n rest (Passes pieces way) ih h = refl
+    reaction_alike n rest (Stops pieces reason) ih h = refl
 
-    asked_alike : (n : ℕ) (more : List ℕ) → talk packet (react rows word) n (Asked key) more ≡ talk packet (react (one row) word) n (Asked key) more
-    asked_alike zero more = refl
-    asked_alike (suc n) more = cut_alike n (packet (Asked key) more)
+    asked_alike : (n : ℕ) (more : List ℕ) (a : Asking) → both n more (Asked a key)
+    asked_alike zero more a = refl
+    asked_alike (suc n) more a = go (packet (Asked a key) more) (λ rest b. asked_alike n rest b)
+      where
+        go : (c : Cut Packet Reason) → ((rest : List ℕ) (b : Asking) → both n rest (Asked b key)) → on_cut (react rows word (Asked a key)) (talk packet (react rows word) n) c ≡ on_cut (react (one row) word (Asked a key)) (talk packet (react (one row) word) n) c
+        go (Whole (Message kind body) rest) ih =
+            ap (λ (r : LoginRow). from rows n rest (to_message r word key a kind body)) same
+            ∙ reaction_alike n rest (to_message row word key a kind body) (ih rest) (message_goes word row key a (kind == PASSWORD_MESSAGE) (kind == TERMINATE) body)
+        go (Whole (First p) rest) ih = refl
+        go (Need m) ih = refl
+        go (Bad r) ih = refl
+
+    md5_alike : (n : ℕ) (more : List ℕ) (b : Bool) → from rows n more (if b then offers_scram key else Goes (asks_md5 word.salt ∷ []) (Asked ForPassword key))
+        ≡ from (one row) n more (if b then offers_scram key else Goes (asks_md5 word.salt ∷ []) (Asked ForPassword key))
+    md5_alike n more true = ap (says (asks_scram ∷ [])) (asked_alike n more ForFirst)
+    md5_alike n more false = ap (says (asks_md5 word.salt ∷ [])) (asked_alike n more ForPassword)
 
     asks_alike : (n : ℕ) (more : List ℕ) (auth : AuthType) → from rows n more (asks auth row word key) ≡ from (one row) n more (asks auth row word key)
     asks_alike n more Trust = ends_alike rows (one row) n more (judged row word key []) (judged_ends word row key [])
-    asks_alike n more Plain = ap (says (asks_cleartext ∷ [])) (asked_alike n more)
-    asks_alike n more Md5 = ap (says (asks_md5 word.salt ∷ [])) (asked_alike n more)
+    asks_alike n more Plain = ap (says (asks_cleartext ∷ [])) (asked_alike n more ForPassword)
+    asks_alike n more Md5 = md5_alike n more (has_verifier row.user)
+    asks_alike n more ScramSha256 = ap (says (asks_scram ∷ [])) (asked_alike n more ForFirst)
 
     key_alike : (n : ℕ) (more : List ℕ) → from rows n more (asked rows word key) ≡ from (one row) n more (asked (one row) word key)
     key_alike n more = ap (λ (r : LoginRow). from rows n more (asks r.auth r word key)) same ∙ asks_alike n more row.auth
@@ -109,4 +122,4 @@ module _ (rows : Rows) (word : KeyWord) where
       go (FaultyFirst fault) ih = refl
 
 pub its_row : LoginIsOfItsRow
-its_row rows word bytes = of_its_row rows word 4 false false bytes
+its_row rows word bytes = of_its_row rows word 5 false false bytes

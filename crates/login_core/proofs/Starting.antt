@@ -6,14 +6,14 @@ use Rattle.message_view.specs.declared.refusal.Refusal.TheVariants.{MalformedCli
 use Rattle.message_view.specs.declared.ViewFault.{ViewFault}
 use Rattle.message_view.specs.Reading.{startup_of}
 use Rattle.ini_config.specs.declared.option_values.Settings.{Settings}
-use Rattle.user_file.specs.declared.user_table.UserRow.{UserRow}
+use Rattle.user_file.specs.Users.{UsersOf}
 use Rattle.session_values.specs.State.{StartKeyOf}
 use Rattle.param_track.specs.declared.StartFault.{StartFault}
 use Rattle.param_track.specs.declared.StartFault.TheVariants.{NoUser, UnsupportedParameter, Replication, Memory}
 use Rattle.param_track.specs.StartKeys.{Pair, Answers, start_key_under}
 use Rattle.login_core.specs.Dialogue.{row_in, key_of, or_refusal, start_refusal}
 
-module _ (s : Settings) (users : List UserRow) (text : List ℕ) where
+module _ (s : Settings) (users : UsersOf) (text : List ℕ) where
   pub key_made : (pairs : List Pair) (key : StartKeyOf) → startup_of text ≡ Ok pairs → start_key_under s pairs ≡ Ok key → key_of (row_in s users) (startup_of text) ≡ Ok key
   unfolding row_in
   key_made pairs key e k = ap (key_of (row_in s users)) e ∙ ap or_refusal k

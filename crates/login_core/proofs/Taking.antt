@@ -2,14 +2,14 @@
 use Rattle.std.proofs.Common.{◌≡◌, inl, inr, ℕ, ◌≤◌, List, [], ◌∷◌, ◌++◌, length, take, refl, sym, ap, arith, ◌∙◌, subst, Bool, true, false, append_assoc, append-nil, length-take}
 use Rattle.message_view.specs.declared.KeyWord.{KeyWord}
 use Rattle.ini_config.specs.declared.option_values.Settings.{Settings}
-use Rattle.user_file.specs.declared.user_table.UserRow.{UserRow}
+use Rattle.user_file.specs.Users.{UsersOf}
 use Rattle.login_core.specs.declared.steps.LoginStep.{LoginStep}
 use Rattle.login_core.specs.declared.steps.LoginStep.TheVariants as step
 use Rattle.login_core.specs.Talk.{Cut}
 use Rattle.login_core.specs.Talk.Cut.{Whole, Need, Bad}
 use Rattle.login_core.specs.Dialogue.{Rows, row_in, Packet, Reason, Stage, packet, dialogue_from}
 use Rattle.login_core.specs.Laws.{PacketsGrow}
-use Rattle.login_core.specs.Logins.{Awaiting, AwaitsPacket, Arriving, Over, LoginView, login_view, rows_of, with_held, goes_from, Fits, FitsCut, missing, missing_of, StepMeans, StepIs, OrNoMemory, GivesKey, left_after, IsMore}
+use Rattle.login_core.specs.Logins.{Awaiting, AwaitsPacket, Arriving, Over, LoginView, login_view, rows_of, with_held, goes_from, Fits, FitsCut, missing, missing_of, StepMeans, StepIs, OrNoMemory, NeedsMemory, left_after, IsMore}
 
 none_more : (bytes : List ℕ) → length bytes ≤ 0 → bytes ≡ []
 none_more [] h = refl
@@ -55,8 +55,8 @@ or_changed (step.Refused r) A B C D f g (inr c) = inr (c.0, g c.1)
 or_changed step.More A B C D f g a = f a
 or_changed (step.Arrived k) A B C D f g a = f a
 or_changed (step.Ask q) A B C D f g a = f a
-or_changed (step.Passed k) A B C D f g a = f a
-or_changed step.Console A B C D f g a = f a
+or_changed (step.Passed k told) A B C D f g a = f a
+or_changed (step.Console told) A B C D f g a = f a
 or_changed (step.Failed x) A B C D f g a = f a
 or_changed (step.Cancel pid secret) A B C D f g a = f a
 or_changed step.Left A B C D f g a = f a
@@ -69,7 +69,7 @@ heard_after old mid new bytes s l e h = from (subst (λ (v : LoginView). StepMea
     from x = record {
       said = or_changed s _ _ _ _
           (λ f more. said_after (rows_of old) old.word old.awaiting old.held bytes l more ∙ f more)
-          (λ k. subst (λ (b : List ℕ). GivesKey (rows_of old) old.awaiting b) (append-nil (old.held ++ bytes)) k)
+          (λ k. subst (λ (b : List ℕ). NeedsMemory (rows_of old) old.awaiting b) (append-nil (old.held ++ bytes)) k)
           x.said;
       leads = x.leads;
       settings = x.settings;
@@ -77,12 +77,12 @@ heard_after old mid new bytes s l e h = from (subst (λ (v : LoginView). StepMea
       word = x.word;
     }
 
-turned_heard : (settings : Settings) (users : List UserRow) (word : KeyWord) (h : Awaiting) (held : List ℕ) (s : LoginStep) (to : Awaiting) (left : List ℕ) (old : LoginView) →
+turned_heard : (settings : Settings) (users : UsersOf) (word : KeyWord) (h : Awaiting) (held : List ℕ) (s : LoginStep) (to : Awaiting) (left : List ℕ) (old : LoginView) →
     login_view settings users word h held ≡ old → StepIs (row_in settings users) word h held s to left → StepMeans old [] s (login_view settings users word to left)
 turned_heard settings users word h held s to left old e t =
     subst (λ (v : LoginView). StepMeans v [] s (login_view settings users word to left)) e
     (record {
-      said = or_changed s _ _ _ _ (λ f. f) (λ k. subst (λ (b : List ℕ). GivesKey (row_in settings users) h b) (sym (append-nil held)) k) t.said;
+      said = or_changed s _ _ _ _ (λ f. f) (λ k. subst (λ (b : List ℕ). NeedsMemory (row_in settings users) h b) (sym (append-nil held)) k) t.said;
       leads = t.leads;
       settings = refl;
       users = refl;
@@ -90,7 +90,7 @@ turned_heard settings users word h held s to left old e t =
     })
 
 -- a step on what is held with the bytes that were taken, as far as those that were missing are there
-pub heard : (settings : Settings) (users : List UserRow) (word : KeyWord) (h from to : Awaiting) (held piece now read left end : List ℕ) (w u : ℕ) (s : LoginStep) (old : LoginView) →
+pub heard : (settings : Settings) (users : UsersOf) (word : KeyWord) (h from to : Awaiting) (held piece now read left end : List ℕ) (w u : ℕ) (s : LoginStep) (old : LoginView) →
     login_view settings users word h held ≡ old → w ≡ missing h held → u ≤ w → now ≡ held ++ take u piece → from ≡ h → read ≡ now → left ≡ end →
     StepIs (row_in settings users) word from read s to left → StepMeans old (take u piece) s (login_view settings users word to end)
 heard settings users word h from to held piece now read left end w u s old e m l n a r x t =
@@ -107,8 +107,8 @@ pub left_if : (s : LoginStep) (b : Bool) (held : List ℕ) → IsMore b s → b 
 left_if step.More b held m e = refl
 left_if (step.Arrived k) b held m e = absurd cc
 left_if (step.Ask q) b held m e = absurd cc
-left_if (step.Passed k) b held m e = absurd cc
-left_if step.Console b held m e = absurd cc
+left_if (step.Passed k told) b held m e = absurd cc
+left_if (step.Console told) b held m e = absurd cc
 left_if (step.Refused r) b held m e = absurd cc
 left_if (step.Failed f) b held m e = absurd cc
 left_if (step.Cancel pid secret) b held m e = absurd cc
@@ -118,8 +118,8 @@ pub left_unless : (s : LoginStep) (b : Bool) (held : List ℕ) → IsMore b s �
 left_unless step.More b held m e = absurd cc
 left_unless (step.Arrived k) b held m e = refl
 left_unless (step.Ask q) b held m e = refl
-left_unless (step.Passed k) b held m e = refl
-left_unless step.Console b held m e = refl
+left_unless (step.Passed k told) b held m e = refl
+left_unless (step.Console told) b held m e = refl
 left_unless (step.Refused r) b held m e = refl
 left_unless (step.Failed f) b held m e = refl
 left_unless (step.Cancel pid secret) b held m e = refl

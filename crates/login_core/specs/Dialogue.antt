@@ -1,6 +1,6 @@
 -- The login: what is said to a client's first bytes, and what it leads to (PostgreSQL manual,
--- "Message Flow", "Start-up" and "SSL Session Encryption"; RFC 1321 for the MD5 answer).
-use Rattle.std.specs.Prelude.{ℕ, List, [], ◌∷◌, Option, Some, None, Result, Ok, Err, Bool, true, false, ◌==◌, ◌&&◌, ◌||◌, if◌then◌else◌, bytes_eq, codes}
+-- "Message Flow", "Start-up", "SASL Authentication" and "SSL Session Encryption"; RFC 1321 for the MD5 answer, RFC 5802 for SCRAM).
+use Rattle.std.specs.Prelude.{ℕ, List, [], ◌∷◌, ◌++◌, Option, Some, None, Result, Ok, Err, Bool, true, false, ◌==◌, ◌&&◌, ◌||◌, if◌then◌else◌, bytes_eq, codes, is_some}
 use Rattle.std.specs.List.{list_any}
 use Rattle.frame_view.specs.declared.FrameFault.{FrameFault}
 use Rattle.frame_view.specs.declared.FrameFault.TheVariants.{UnknownType, TooShort, TooLong, UnknownCode}
@@ -12,16 +12,23 @@ use Rattle.message_view.specs.declared.ViewFault.{ViewFault}
 use Rattle.message_view.specs.declared.views.KeyView.{KeyView}
 use Rattle.message_view.specs.declared.refusal.Refusal.{Refusal}
 use Rattle.message_view.specs.declared.refusal.Refusal.TheVariants.{UnsupportedProtocol, MalformedClientMessage, UnsupportedParameter, OutOfMemory}
+use Rattle.message_view.specs.Bodies.{int32}
 use Rattle.message_view.specs.Messages.{authentication, error_response}
 use Rattle.message_view.specs.Reading.{startup_of, password_of}
 use Rattle.ini_config.specs.declared.database_rows.DbRow.{DbRow}
 use Rattle.ini_config.specs.declared.option_values.AuthType.{AuthType}
-use Rattle.ini_config.specs.declared.option_values.AuthType.TheVariants.{Trust, Plain, Md5}
+use Rattle.ini_config.specs.declared.option_values.AuthType.TheVariants.{Trust, Plain, Md5, ScramSha256}
 use Rattle.ini_config.specs.declared.option_values.Settings.{Settings}
 use Rattle.ini_config.specs.Tables.{row_for}
 use Rattle.user_file.specs.declared.user_table.UserRow.{UserRow}
-use Rattle.user_file.specs.Secrets.{accepts_plain, accepts_md5}
-use Rattle.user_file.specs.Users.{user_named}
+use Rattle.user_file.specs.Secrets.{accepts_plain, accepts_md5, is_verifier}
+use Rattle.user_file.specs.Salts.{keys_for, salt_for, salting_for}
+use Rattle.user_file.specs.declared.salts.Salting.{Salting}
+use Rattle.user_file.specs.Users.{UsersOf, user_named}
+use Rattle.scram.specs.declared.keys.ServerKeys.{ServerKeys}
+use Rattle.scram.specs.Keys.{auth_message, revealed}
+use Rattle.scram.specs.Messages.{FirstOf as FirstText, LastOf as LastText, challenge, final, first_of, last_of, nonce_of}
+use Rattle.scram.specs.Wire.{initial_response_of}
 use Rattle.session_values.specs.State.{StartKeyOf}
 use Rattle.param_track.specs.declared.StartFault.{StartFault}
 use Rattle.param_track.specs.declared.StartFault.TheVariants.{NoUser, UnsupportedParameter as Unsupported, Replication, Memory}
@@ -40,13 +47,23 @@ pub record LoginRow : Type 0 where
   pub lookers : List Text
   pub database : Option DbRow
   pub user : Option UserRow
+  -- the key of the salts that names have
+  pub salts : Text
 
 -- the login row of a database's and a user's name
 abbrev pub Rows : Type 0
 Rows = Text → Text → LoginRow
 
-unfoldable pub row_in : Settings → List UserRow → Rows
-row_in s users database user = record { auth = s.auth_type; names = names_of s; admins = s.admin_users; lookers = s.stats_users; database = row_for database s.rows; user = user_named user users }
+unfoldable pub row_in : Settings → UsersOf → Rows
+row_in s users database user = record {
+  auth = s.auth_type;
+  names = names_of s;
+  admins = s.admin_users;
+  lookers = s.stats_users;
+  database = row_for database s.rows;
+  user = user_named user users.rows;
+  salts = users.salts;
+}
 
 -- ---- the dialogue's parts
 
@@ -63,10 +80,16 @@ pub data Way : Type 0 where
   ToLink : StartKeyOf → Way
   ToConsole : Way
 
--- before its start (whether SSLRequest and GSSENCRequest came), or asked for its password
+-- what a client is asked for: its password, or its digest; the first message of SCRAM; the last one, where this was the first
+pub data Asking : Type 0 where
+  ForPassword : Asking
+  ForFirst : Asking
+  ForLast : (first : Text) → Asking
+
+-- before its start (whether SSLRequest and GSSENCRequest came), or asked
 pub data Stage : Type 0 where
   AtFirst : (tls gss : Bool) → Stage
-  Asked : StartKeyOf → Stage
+  Asked : Asking → StartKeyOf → Stage
 
 pub data Packet : Type 0 where
   First : FirstOf → Packet
@@ -102,7 +125,7 @@ longest_message = 10000
 
 abbrev pub packet : Stage → List ℕ → Cut Packet Reason
 packet (AtFirst tls gss) bytes = of_first (first_front bytes)
-packet (Asked key) bytes = of_front (front Client longest_message bytes)
+packet (Asked asking key) bytes = of_front (front Client longest_message bytes)
 
 -- ---- what the client is given
 
@@ -118,6 +141,16 @@ asks_cleartext = spelling (authentication 3 [])
 
 abbrev pub asks_md5 : List ℕ → List ℕ
 asks_md5 salt = spelling (authentication 5 salt)
+
+-- SCRAM-SHA-256 is all that is offered
+abbrev pub asks_scram : List ℕ
+asks_scram = spelling (authentication 10 (codes "SCRAM-SHA-256" ++ 0 ∷ 0 ∷ []))
+
+abbrev pub challenges : Text → List ℕ
+challenges text = spelling (authentication 11 text)
+
+abbrev pub proves : Text → List ℕ
+proves text = spelling (authentication 12 text)
 
 abbrev pub wrong_password : List ℕ
 wrong_password = spelling (error_response (codes "FATAL") (codes "28P01") (codes "password authentication failed"))
@@ -139,6 +172,7 @@ is_right_for auth None salt user given = false
 is_right_for Trust (Some row) salt user given = true
 is_right_for Plain (Some row) salt user given = accepts_plain row.secret user given
 is_right_for Md5 (Some row) salt user given = accepts_md5 row.secret user salt given
+is_right_for ScramSha256 (Some row) salt user given = false
 
 abbrev pub is_right : LoginRow → KeyWord → StartKeyOf → Text → Bool
 is_right row word key given = is_right_for row.auth row.user word.salt key.user given
@@ -151,25 +185,89 @@ enters_console row user = list_any (λ n. bytes_eq n user) row.admins || list_an
 abbrev pub is_for_console : LoginRow → StartKeyOf → Bool
 is_for_console row key = bytes_eq key.row (codes "pgbouncer") && enters_console row key.user
 
-abbrev pub to_database : Option DbRow → StartKeyOf → Reacts
-to_database None key = Stops (no_database ∷ []) Failed
-to_database (Some row) key = Passes (ok ∷ []) (ToLink key)
+-- what it is told that it is let in: behind the server's own proof, where there is one
+abbrev pub to_database : (proof : List ℕ) → Option DbRow → StartKeyOf → Reacts
+to_database proof None key = Stops (no_database ∷ []) Failed
+to_database proof (Some row) key = Passes ((proof ++ ok) ∷ []) (ToLink key)
 
-abbrev pub to_console : Bool → Reacts
-to_console true = Passes [] ToConsole
-to_console false = wrong
+abbrev pub if_any : List ℕ → List (List ℕ)
+if_any [] = []
+if_any (b ∷ bs) = (b ∷ bs) ∷ []
 
-abbrev pub admitted : LoginRow → StartKeyOf → Reacts
-admitted row key = if bytes_eq key.row (codes "pgbouncer") then to_console (enters_console row key.user) else to_database row.database key
+abbrev pub to_console : (proof : List ℕ) → Bool → Reacts
+to_console proof true = Passes (if_any proof) ToConsole
+to_console proof false = wrong
+
+abbrev pub admitted : (proof : List ℕ) → LoginRow → StartKeyOf → Reacts
+admitted proof row key = if bytes_eq key.row (codes "pgbouncer") then to_console proof (enters_console row key.user) else to_database proof row.database key
 
 abbrev pub judged : LoginRow → KeyWord → StartKeyOf → Text → Reacts
-judged row word key given = if is_right row word key given then admitted row key else wrong
+judged row word key given = if is_right row word key given then admitted [] row key else wrong
+
+-- ---- SCRAM
+
+-- how the user's password is salted, be there such a user or not
+abbrev pub name_salt : LoginRow → StartKeyOf → List ℕ
+name_salt row key = salt_for row.salts key.user
+
+abbrev pub salting : LoginRow → StartKeyOf → Salting
+salting row key = salting_for row.user (name_salt row key)
+
+-- the keys that its proof has to fit
+abbrev pub keys : LoginRow → StartKeyOf → Option ServerKeys
+keys row key = keys_for row.user (name_salt row key)
+
+-- the server's part of the nonce: a key word is used once
+abbrev pub own_nonce : KeyWord → Text
+own_nonce word = nonce_of (int32 word.pid ++ int32 word.secret ++ word.salt)
+
+abbrev pub joint_nonce : KeyWord → FirstText → Text
+joint_nonce word first = first.nonce ++ own_nonce word
+
+abbrev pub challenge_to : LoginRow → KeyWord → StartKeyOf → FirstText → Text
+challenge_to row word key first = challenge (joint_nonce word first) (salting row key).salt (salting row key).rounds
+
+abbrev pub to_first_message : LoginRow → KeyWord → StartKeyOf → Text → Option FirstText → Reacts
+to_first_message row word key text None = malformed
+to_first_message row word key text (Some first) = Goes (challenges (challenge_to row word key first) ∷ []) (Asked (ForLast text) key)
+
+abbrev pub to_initial : LoginRow → KeyWord → StartKeyOf → Option Text → Reacts
+to_initial row word key None = malformed
+to_initial row word key (Some text) = to_first_message row word key text (first_of text)
+
+-- a right proof is answered by the server's
+abbrev pub proof_by : Option ServerKeys → (auth : Text) → (given : List ℕ) → Option (List ℕ)
+proof_by None auth given = None
+proof_by (Some keys) auth given = if is_some (revealed keys.stored auth given) then Some (proves (final keys.server auth)) else None
+
+abbrev pub if_proved : LoginRow → StartKeyOf → Option (List ℕ) → Reacts
+if_proved row key None = wrong
+if_proved row key (Some proof) = admitted proof row key
+
+abbrev pub by_proof : LoginRow → KeyWord → StartKeyOf → FirstText → Option LastText → Reacts
+by_proof row word key first None = malformed
+by_proof row word key first (Some last) = if_proved row key (proof_by (keys row key) (auth_message first.bare (challenge_to row word key first) last.unproved) last.proof)
+
+abbrev pub to_last : LoginRow → KeyWord → StartKeyOf → Text → Option FirstText → Reacts
+to_last row word key text None = malformed
+to_last row word key text (Some first) = by_proof row word key first (last_of first.header (joint_nonce word first) text)
+
+-- ---- questions
+
+-- a user with a verifier is asked for SCRAM in the stead of MD5
+abbrev pub has_verifier : Option UserRow → Bool
+has_verifier None = false
+has_verifier (Some user) = is_verifier user.secret
+
+abbrev pub offers_scram : StartKeyOf → Reacts
+offers_scram key = Goes (asks_scram ∷ []) (Asked ForFirst key)
 
 -- the key is there: the question, or the judgement where there is none
 abbrev pub asks : AuthType → LoginRow → KeyWord → StartKeyOf → Reacts
 asks Trust row word key = judged row word key []
-asks Plain row word key = Goes (asks_cleartext ∷ []) (Asked key)
-asks Md5 row word key = Goes (asks_md5 word.salt ∷ []) (Asked key)
+asks Plain row word key = Goes (asks_cleartext ∷ []) (Asked ForPassword key)
+asks Md5 row word key = if has_verifier row.user then offers_scram key else Goes (asks_md5 word.salt ∷ []) (Asked ForPassword key)
+asks ScramSha256 row word key = offers_scram key
 
 abbrev pub start_refusal : StartFault → Refusal
 start_refusal NoUser = MalformedClientMessage
@@ -209,26 +307,37 @@ abbrev pub to_password : LoginRow → KeyWord → StartKeyOf → Result Text Vie
 to_password row word key (Err fault) = malformed
 to_password row word key (Ok given) = judged row word key given
 
+-- the three messages that answer a question are of one type
+abbrev pub to_answer : LoginRow → KeyWord → StartKeyOf → Asking → List ℕ → Reacts
+to_answer row word key ForPassword body = to_password row word key (password_of body)
+to_answer row word key ForFirst body = to_initial row word key (initial_response_of body)
+to_answer row word key (ForLast first) body = to_last row word key body (first_of first)
+
 -- Terminate closes without a byte
-abbrev pub to_message : LoginRow → KeyWord → StartKeyOf → ℕ → List ℕ → Reacts
-to_message row word key kind body =
-    if kind == PASSWORD_MESSAGE then to_password row word key (password_of body) else (if kind == TERMINATE then Stops [] Left else malformed)
+abbrev pub to_message : LoginRow → KeyWord → StartKeyOf → Asking → ℕ → List ℕ → Reacts
+to_message row word key asking kind body =
+    if kind == PASSWORD_MESSAGE then to_answer row word key asking body else (if kind == TERMINATE then Stops [] Left else malformed)
 
 abbrev pub react : Rows → KeyWord → Stage → Packet → Reacts
 react rows word (AtFirst tls gss) (First p) = to_first rows word tls gss p
-react rows word (Asked key) (Message kind body) = to_message (rows key.row key.user) word key kind body
+react rows word (Asked asking key) (Message kind body) = to_message (rows key.row key.user) word key asking kind body
 react rows word (AtFirst tls gss) (Message kind body) = malformed
-react rows word (Asked key) (First p) = malformed
+react rows word (Asked asking key) (First p) = malformed
 
 -- ---- the login
 
 -- the packets that may still come
+abbrev pub answers_left : Asking → ℕ
+answers_left ForPassword = 1
+answers_left ForFirst = 2
+answers_left (ForLast first) = 1
+
 abbrev pub packets_left : Stage → ℕ
-packets_left (AtFirst false false) = 4
-packets_left (AtFirst true false) = 3
-packets_left (AtFirst false true) = 3
-packets_left (AtFirst true true) = 2
-packets_left (Asked key) = 1
+packets_left (AtFirst false false) = 5
+packets_left (AtFirst true false) = 4
+packets_left (AtFirst false true) = 4
+packets_left (AtFirst true true) = 3
+packets_left (Asked asking key) = answers_left asking
 
 abbrev pub dialogue_from : Rows → KeyWord → Stage → List ℕ → Dialogue
 dialogue_from rows word stage bytes = talk packet (react rows word) (packets_left stage) stage bytes

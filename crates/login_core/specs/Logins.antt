@@ -1,5 +1,5 @@
 -- A login under way, and what its calls answer.
-use Rattle.std.specs.Prelude.{◌≡◌, ◌⊎◌, ℕ, ◌+◌, ◌≤◌, ◌<◌, List, [], ◌∷◌, ◌++◌, length, Result, Ok, Err, Bool, true, false, IsOk}
+use Rattle.std.specs.Prelude.{◌≡◌, ◌⊎◌, ℕ, ◌+◌, ◌≤◌, ◌<◌, List, [], ◌∷◌, ◌++◌, length, Option, Result, Ok, Err, Bool, true, false, IsOk}
 use Rattle.std.specs.Arc.{arc_value}
 use Rattle.std.specs.declared.sync.Arc.{Arc}
 use Rattle.frame_view.specs.Frames.{Start}
@@ -7,8 +7,12 @@ use Rattle.message_view.specs.declared.KeyWord.{KeyWord}
 use Rattle.message_view.specs.declared.refusal.Refusal.{Refusal}
 use Rattle.message_view.specs.declared.refusal.Refusal.TheVariants.{OutOfMemory}
 use Rattle.message_view.specs.Reading.{startup_of}
+use Rattle.ini_config.specs.declared.option_values.AuthType.{AuthType}
+use Rattle.ini_config.specs.declared.option_values.AuthType.TheVariants.{Trust, Plain, Md5, ScramSha256}
 use Rattle.ini_config.specs.declared.option_values.Settings.{Settings}
 use Rattle.user_file.specs.declared.user_table.UserRow.{UserRow}
+use Rattle.user_file.specs.Users.{UsersOf}
+use Rattle.scram.specs.Short.{text_of}
 use Rattle.session_values.specs.State.{StartKeyOf}
 use Rattle.login_core.specs.declared.steps.Question.{Question}
 use Rattle.login_core.specs.declared.steps.Question.TheVariants as question
@@ -19,13 +23,15 @@ use Rattle.login_core.specs.declared.steps.LoginStep.TheVariants as step
 use Rattle.login_core.specs.declared.dialogue.Rules.{Rules}
 use Rattle.login_core.specs.declared.dialogue.Verdict.{Verdict}
 use Rattle.login_core.specs.declared.dialogue.Verdict.TheVariants as verdict
+use Rattle.login_core.specs.declared.dialogue.Asking.{Asking as TheAsking}
+use Rattle.login_core.specs.declared.dialogue.Asking.TheVariants as asking
 use Rattle.login_core.specs.declared.dialogue.Place.{Place}
 use Rattle.login_core.specs.declared.dialogue.Place.TheVariants as place
 use Rattle.login_core.specs.Talk.{Cut, says, follow, talk}
 use Rattle.login_core.specs.Talk.Cut.{Whole, Need, Bad}
-use Rattle.login_core.specs.Talk.Reaction.{Passes, Stops}
+use Rattle.login_core.specs.Talk.Reaction.{Goes, Passes, Stops}
 use Rattle.login_core.specs.Talk.End.{Passed, Stopped}
-use Rattle.login_core.specs.Dialogue.{Rows, row_in, Reacts, Dialogue, Packet, First, Reason, Refused, Failed, Left, Cancelling, ToLink, ToConsole, Stage, AtFirst, Asked, packet, react, dialogue_from, login_among, is_for_console, key_of, asked, no_encryption, asks_cleartext, wrong_password, no_database, ok, wrong}
+use Rattle.login_core.specs.Dialogue.{Rows, LoginRow, row_in, Reacts, Dialogue, Packet, First, Reason, Refused, Failed, Left, Cancelling, ToLink, ToConsole, Message, Asking, ForPassword, ForFirst, ForLast, Stage, AtFirst, Asked, packet, react, dialogue_from, login_among, is_for_console, key_of, asked, has_verifier, to_answer, no_encryption, asks_cleartext, asks_scram, wrong_password, no_database, ok, if_any, wrong}
 
 -- what it waits for: a packet, the word to go on, or nothing any more
 pub data Awaiting : Type 0 where
@@ -35,13 +41,13 @@ pub data Awaiting : Type 0 where
 
 pub record LoginView : Type 0 where
   pub settings : Settings
-  pub users : List UserRow
+  pub users : UsersOf
   pub word : KeyWord
   pub awaiting : Awaiting
   -- the bytes of the packet that it waits for
   pub held : List ℕ
 
-abbrev pub login_view : Settings → List UserRow → KeyWord → Awaiting → List ℕ → LoginView
+abbrev pub login_view : Settings → UsersOf → KeyWord → Awaiting → List ℕ → LoginView
 login_view settings users word awaiting held = record { settings = settings; users = users; word = word; awaiting = awaiting; held = held }
 
 abbrev pub rows_of : LoginView → Rows
@@ -60,7 +66,7 @@ arrives_at_console rows _ = false
 -- when these bytes come
 abbrev pub goes_from : Rows → KeyWord → Awaiting → List ℕ → List ℕ → Dialogue
 goes_from rows word (AwaitsPacket stage) held more = dialogue_from rows word stage (held ++ more)
-goes_from rows word (Arriving key) held more = follow more (λ s. talk packet (react rows word) 1 s more) (asked rows word key)
+goes_from rows word (Arriving key) held more = follow more (λ s. talk packet (react rows word) 2 s more) (asked rows word key)
 goes_from rows word Over held more = record { pieces = []; ended = Stopped Left }
 
 abbrev pub goes_on : LoginView → List ℕ → Dialogue
@@ -101,6 +107,8 @@ abbrev pub question_bytes : Question → List ℕ
 question_bytes question.Encryption = no_encryption
 question_bytes question.Cleartext = asks_cleartext
 question_bytes (question.Md5 frame) = frame
+question_bytes question.Scram = asks_scram
+question_bytes (question.Challenge frame) = text_of frame
 
 abbrev pub failure_bytes : Failure → List ℕ
 failure_bytes failure.WrongPassword = wrong_password
@@ -111,8 +119,8 @@ abbrev pub after : LoginStep → List ℕ → Dialogue → Dialogue
 after step.More more rest = rest
 after (step.Arrived key) more rest = rest
 after (step.Ask q) more rest = says (question_bytes q ∷ []) rest
-after (step.Passed key) more rest = record { pieces = ok ∷ []; ended = Passed (ToLink (arc_value key)) more }
-after step.Console more rest = record { pieces = []; ended = Passed ToConsole more }
+after (step.Passed key told) more rest = record { pieces = text_of told ∷ []; ended = Passed (ToLink (arc_value key)) more }
+after (step.Console told) more rest = record { pieces = if_any (text_of told); ended = Passed ToConsole more }
 after (step.Refused refusal) more rest = record { pieces = []; ended = Stopped (Refused refusal) }
 after (step.Failed f) more rest = record { pieces = failure_bytes f ∷ []; ended = Stopped Failed }
 after (step.Cancel pid secret) more rest = record { pieces = []; ended = Stopped (Cancelling (record { pid = pid; secret = secret })) }
@@ -123,23 +131,42 @@ abbrev pub IsKeyed : Rows → Cut Packet Reason → Type 0
 IsKeyed rows (Whole (First (Start text)) rest) = IsOk (key_of rows (startup_of text))
 IsKeyed rows _ = ⊥
 
-abbrev pub GivesKey : Rows → Awaiting → List ℕ → Type 0
-GivesKey rows (AwaitsPacket stage) held = IsKeyed rows (packet stage held)
-GivesKey rows (Arriving key) held = ⊥
-GivesKey rows Over held = ⊥
+-- an answer that isn't judged without memory: a password by a verifier, and SCRAM's messages
+abbrev pub wants_memory : AuthType → Option UserRow → Bool
+wants_memory Plain user = has_verifier user
+wants_memory Trust user = false
+wants_memory Md5 user = false
+wants_memory ScramSha256 user = false
 
--- what it says is said; or a growth was refused while the key was made
+abbrev pub TakesMemory : LoginRow → Asking → Type 0
+TakesMemory row ForPassword = wants_memory row.auth row.user ≡ true
+TakesMemory row ForFirst = Unit {0}
+TakesMemory row (ForLast first) = Unit {0}
+
+abbrev pub IsWhole : Cut Packet Reason → Type 0
+IsWhole (Whole p rest) = Unit {0}
+IsWhole (Need missing) = ⊥
+IsWhole (Bad reason) = ⊥
+
+-- where a growth may be refused: a key is made, or such an answer is judged
+abbrev pub NeedsMemory : Rows → Awaiting → List ℕ → Type 0
+NeedsMemory rows (AwaitsPacket (AtFirst tls gss)) held = IsKeyed rows (packet (AtFirst tls gss) held)
+NeedsMemory rows (AwaitsPacket (Asked asking key)) held = TakesMemory (rows key.row key.user) asking × IsWhole (packet (Asked asking key) held)
+NeedsMemory rows (Arriving key) held = ⊥
+NeedsMemory rows Over held = ⊥
+
+-- what it says is said; or a growth was refused where memory was needed
 abbrev pub OrNoMemory : LoginStep → Type 0 → Type 0 → Type 0
-OrNoMemory (step.Refused refusal) said keyed = said ⊎ ((refusal ≡ OutOfMemory) × keyed)
-OrNoMemory _ said keyed = said
+OrNoMemory (step.Refused refusal) said needed = said ⊎ ((refusal ≡ OutOfMemory) × needed)
+OrNoMemory _ said needed = said
 
 -- after More and Ask bytes are known to be missing; the key that arrived is waited with; the others are ends
 abbrev pub LeadsTo : LoginStep → Awaiting → List ℕ → Type 0
 LeadsTo step.More awaiting held = 0 < missing awaiting held
 LeadsTo (step.Ask q) awaiting held = 0 < missing awaiting held
 LeadsTo (step.Arrived key) awaiting held = awaiting ≡ Arriving (arc_value key)
-LeadsTo (step.Passed key) awaiting held = awaiting ≡ Over
-LeadsTo step.Console awaiting held = awaiting ≡ Over
+LeadsTo (step.Passed key told) awaiting held = awaiting ≡ Over
+LeadsTo (step.Console told) awaiting held = awaiting ≡ Over
 LeadsTo (step.Refused refusal) awaiting held = awaiting ≡ Over
 LeadsTo (step.Failed f) awaiting held = awaiting ≡ Over
 LeadsTo (step.Cancel pid secret) awaiting held = awaiting ≡ Over
@@ -163,13 +190,13 @@ IsAfterArrival _ = Unit {0}
 -- each client that is asked for its password, let in or told no arrives before that, and once
 abbrev pub ArrivesOnce : Awaiting → LoginStep → Type 0
 ArrivesOnce (AwaitsPacket (AtFirst tls gss)) s = IsBeforeArrival s
-ArrivesOnce (AwaitsPacket (Asked key)) s = IsAfterArrival s
+ArrivesOnce (AwaitsPacket (Asked asking key)) s = IsAfterArrival s
 ArrivesOnce (Arriving key) s = IsAfterArrival s
 ArrivesOnce Over s = IsAfterArrival s
 
 -- these bytes were taken, and this was answered
 pub record StepMeans (old : LoginView) (bytes : List ℕ) (s : LoginStep) (new : LoginView) : Type 0 where
-  pub said : OrNoMemory s ((more : List ℕ) → goes_on old (bytes ++ more) ≡ after s more (goes_on new more)) (GivesKey (rows_of old) old.awaiting (old.held ++ bytes))
+  pub said : OrNoMemory s ((more : List ℕ) → goes_on old (bytes ++ more) ≡ after s more (goes_on new more)) (NeedsMemory (rows_of old) old.awaiting (old.held ++ bytes))
   pub leads : LeadsTo s new.awaiting new.held
   pub settings : new.settings ≡ old.settings
   pub users : new.users ≡ old.users
@@ -180,9 +207,14 @@ pub record StepMeans (old : LoginView) (bytes : List ℕ) (s : LoginStep) (new :
 abbrev pub rows_under : Rules → Rows
 rows_under rules = row_in (arc_value rules.settings) (arc_value rules.users)
 
+abbrev pub asking_of : TheAsking → Asking
+asking_of asking.Password = ForPassword
+asking_of asking.First = ForFirst
+asking_of (asking.Last first) = ForLast first
+
 abbrev pub awaiting_of : Place → Awaiting
 awaiting_of (place.First tls gss) = AwaitsPacket (AtFirst tls gss)
-awaiting_of (place.Asked key) = AwaitsPacket (Asked (arc_value key))
+awaiting_of (place.Asked asking key) = AwaitsPacket (Asked (asking_of asking) (arc_value key))
 awaiting_of (place.Arriving key) = Arriving (arc_value key)
 awaiting_of place.Over = Over
 
@@ -197,18 +229,27 @@ StartMeans wanted (step.Arrived key) (Arriving other) = (wanted ≡ Ok other) ×
 StartMeans wanted (step.Refused refusal) Over = (wanted ≡ Err refusal) ⊎ ((refusal ≡ OutOfMemory) × IsOk wanted)
 StartMeans wanted _ _ = ⊥
 
-abbrev pub verdict_of : Verdict → StartKeyOf → Reacts
-verdict_of verdict.ToLink key = Passes (ok ∷ []) (ToLink key)
-verdict_of verdict.ToConsole key = Passes [] ToConsole
-verdict_of verdict.Wrong key = wrong
-verdict_of verdict.Nowhere key = Stops (no_database ∷ []) Failed
+abbrev pub verdict_of : (proof : List ℕ) → Verdict → StartKeyOf → Reacts
+verdict_of proof verdict.ToLink key = Passes ((proof ++ ok) ∷ []) (ToLink key)
+verdict_of proof verdict.ToConsole key = Passes (if_any proof) ToConsole
+verdict_of proof verdict.Wrong key = wrong
+verdict_of proof verdict.Nowhere key = Stops (no_database ∷ []) Failed
 
 -- a step that says what the reaction says, and is the last
 abbrev pub Decides : LoginStep → Reacts → Type 0
-Decides (step.Passed key) reaction = reaction ≡ Passes (ok ∷ []) (ToLink (arc_value key))
-Decides step.Console reaction = reaction ≡ Passes [] ToConsole
+Decides (step.Passed key told) reaction = reaction ≡ Passes (text_of told ∷ []) (ToLink (arc_value key))
+Decides (step.Console told) reaction = reaction ≡ Passes (if_any (text_of told)) ToConsole
 Decides (step.Failed f) reaction = reaction ≡ Stops (failure_bytes f ∷ []) Failed
 Decides _ reaction = ⊥
+
+-- the same of an answer to a question, and of the place that it leads to; or a growth was refused, where memory was needed
+abbrev pub IsReaction : Type 0 → Reacts → LoginStep → Awaiting → Type 0
+IsReaction needed reaction (step.Ask q) to = (s : Stage) × (reaction ≡ Goes (question_bytes q ∷ []) s) × (to ≡ AwaitsPacket s)
+IsReaction needed reaction (step.Refused refusal) to = ((reaction ≡ Stops [] (Refused refusal)) ⊎ ((refusal ≡ OutOfMemory) × needed)) × (to ≡ Over)
+IsReaction needed reaction s to = Decides s reaction × (to ≡ Over)
+
+abbrev pub Answers : Rows → KeyWord → StartKeyOf → Asking → List ℕ → (LoginStep × Place) → Type 0
+Answers rows word key asking body r = IsReaction (TakesMemory (rows key.row key.user) asking) (to_answer (rows key.row key.user) word key asking body) r.0 (awaiting_of r.1)
 
 -- what is held after a step
 abbrev pub left_after : LoginStep → List ℕ → List ℕ
@@ -221,6 +262,6 @@ IsMore b _ = b ≡ false
 
 -- a step from what is held, and the place that it leads to
 pub record StepIs (rows : Rows) (word : KeyWord) (from : Awaiting) (held : List ℕ) (s : LoginStep) (to : Awaiting) (left : List ℕ) : Type 0 where
-  pub said : OrNoMemory s ((more : List ℕ) → goes_from rows word from held more ≡ after s more (goes_from rows word to left more)) (GivesKey rows from held)
+  pub said : OrNoMemory s ((more : List ℕ) → goes_from rows word from held more ≡ after s more (goes_from rows word to left more)) (NeedsMemory rows from held)
   pub fits : Fits to left
   pub leads : LeadsTo s to left

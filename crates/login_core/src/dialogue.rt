@@ -1,11 +1,20 @@
 //! One step of the dialogue, from the bytes that are held.
-ghost use Rattle.std.specs.Prelude.{◌≡◌, ℕ, List, []};
+ghost use Rattle.std.specs.Prelude.{◌≡◌, ◌≤◌, ◌+◌, ◌++◌, ℕ, IfErr, IfOk, IfSome, List, [], length, option_map};
+ghost use Rattle.frame_view.specs.Frames.{spelling};
+ghost use Rattle.message_view.specs.Messages.{authentication};
+ghost use Rattle.scram.specs.Keys.{auth_message};
+ghost use Rattle.scram.specs.Messages.{first_view};
+ghost use Rattle.scram.specs.Short.{text_of};
+ghost use Rattle.scram.specs.declared.client_messages.TheConstants.{LONGEST_JOINT_NONCE, LONGEST_NONCE};
 ghost use Rattle.std.specs.Arc.{arc_value};
 ghost use Rattle.message_view.specs.Reading.{startup_of};
+ghost use Rattle.user_file.specs.Salts.{judged_by};
 ghost use Rattle.login_core.specs.Dialogue as login;
-ghost use Rattle.login_core.specs.Dialogue.{AtFirst, Asked};
-ghost use Rattle.login_core.specs.declared.steps.LoginStep.TheVariants.{Left};
-ghost use Rattle.login_core.specs.Logins.{ArrivesOnce, Begun, Decides, Fits, AwaitsPacket, Arriving, IsBeforeArrival, Over, StartMeans, StepIs, awaiting_of, left_after, missing, rows_under, verdict_of};
+ghost use Rattle.login_core.specs.Dialogue.{AtFirst, Asked, ForFirst, ForLast, ForPassword, proof_by};
+ghost use Rattle.ini_config.specs.declared.option_values.AuthType.TheVariants.{Trust};
+ghost use Rattle.login_core.specs.declared.steps.LoginStep.TheVariants.{Ask, Left, Refused};
+ghost use Rattle.login_core.specs.declared.steps.Question.TheVariants.{Scram};
+ghost use Rattle.login_core.specs.Logins.{Answers, ArrivesOnce, Begun, Decides, Fits, AwaitsPacket, Arriving, IsBeforeArrival, Over, StartMeans, StepIs, TakesMemory, asking_of, awaiting_of, left_after, missing, rows_under, verdict_of};
 
 use crate::laws::packets_grow;
 use crate::steps::{Failure, LoginStep, Question};
@@ -16,11 +25,14 @@ use frame_view::{
 use ini_config::{AuthType, Settings};
 use message_view::{KeyWord, PasswordView, Refusal, StartupView};
 use param_track::{StartFault, start_key, unsupported_name};
+use scram::client_messages::{First, Last};
+use scram::server_messages::{challenge_message, final_message, nonce};
+use scram::{Message, initial_response};
 use start_keys::StartKey;
 use start_keys::text::Text;
-use std::alloc::Global;
+use std::alloc::{AllocError, Global};
 use std::sync::Arc;
-use user_file::Users;
+use user_file::{Judging, Salting, Users};
 
 /// The greatest length of a message in the login.
 pub(crate) const LONGEST_MESSAGE: u32 = 10_000;
@@ -51,14 +63,25 @@ impl Drop for Rules {
     }
 }
 
+/// What a client was asked for.
+#[derive(Drop)]
+pub(crate) enum Asking {
+    /// Its password, or the digest of it.
+    Password,
+    /// The first message of SCRAM.
+    First,
+    /// The last message of SCRAM, where this was the first.
+    Last(Text),
+}
+
 /// Where a login stands.
 #[derive(Drop)]
 pub(crate) enum Place {
     /// Before the client's start: whether its SSLRequest and its GSSENCRequest came.
     First { tls: bool, gss: bool },
     Arriving(Arc<StartKey>),
-    /// The client was asked for its password.
-    Asked(Arc<StartKey>),
+    /// The client was asked.
+    Asked(Asking, Arc<StartKey>),
     Over,
 }
 
@@ -124,8 +147,98 @@ fn md5_question(salt: [u8; 4]) -> [u8; 13]
     frame
 }
 
+/// An Authentication message with a text of SCRAM.
+fn sasl_message(kind: u32, text: &[u8]) -> Message
+    requires { length text.now ≤ 328 }
+    ensures value { text_of result ≡ spelling (authentication kind text.now) }
+    ensures short { length (text_of result) ≤ 9 + length text.now }
+{
+    let mut frame = Message::new();
+    frame.push(b"R");
+    frame.push(&(8 + text.len() as u32).to_be_bytes());
+    frame.push(&kind.to_be_bytes());
+    frame.push(text);
+    frame
+}
+
+/// AuthenticationOk, behind the server's proof where there is one.
+fn let_in(proof: &Message) -> Message
+    requires { length (text_of proof.now) ≤ 337 }
+    ensures { text_of result ≡ text_of proof.now ++ login.ok }
+{
+    let mut told = *proof;
+    told.push(b"R\0\0\0\x08\0\0\0\0");
+    told
+}
+
+/// The last step of a client about which this was decided, behind this proof of the server.
+fn last_step(verdict: Verdict, key: Arc<StartKey>, proof: &Message) -> LoginStep
+    requires { length (text_of proof.now) ≤ 337 }
+    ensures { Decides result (verdict_of (text_of proof.now) verdict (arc_value key)) }
+{
+    match verdict {
+        Verdict::ToLink => LoginStep::Passed(key, let_in(proof)),
+        Verdict::ToConsole => LoginStep::Console(*proof),
+        Verdict::Wrong => LoginStep::Failed(Failure::WrongPassword),
+        Verdict::Nowhere => LoginStep::Failed(Failure::NoDatabase),
+    }
+}
+
 /// What a call answers, where the login then stands, and how many bytes are then known to be missing.
 type Turned = (LoginStep, Place, usize);
+
+/// What an answer leads to.
+type Answered = (LoginStep, Place);
+
+fn refused(refusal: Refusal) -> Answered
+    ensures step { result.0 ≡ Refused refusal }
+    ensures over { awaiting_of result.1 ≡ Over }
+{
+    (LoginStep::Refused(refusal), Place::Over)
+}
+
+/// The client of this key is asked for SCRAM.
+fn scram_asked(key: Arc<StartKey>) -> Turned
+    ensures step { result.0 ≡ Ask Scram }
+    ensures place { awaiting_of result.1 ≡ AwaitsPacket (Asked ForFirst (arc_value key)) }
+    ensures lacks { result.2 ≡ 5 }
+{
+    (
+        LoginStep::Ask(Question::Scram),
+        Place::Asked(Asking::First, key),
+        HEAD,
+    )
+}
+
+/// The bytes that are known to be missing where nothing of a message is held.
+fn head_after(place: &Place) -> usize
+    ensures { result ≡ missing (awaiting_of place.now) [] }
+{
+    match place {
+        Place::Asked(_, _) => HEAD,
+        Place::First { .. } => FIRST_HEAD,
+        Place::Arriving(_) | Place::Over => 0,
+    }
+}
+
+/// The server's proof, where the client's is right. A proof that can't be right is compared too, so that it takes as long.
+fn server_proof(
+    judging: &Judging,
+    first: &First<'_>,
+    challenge: &[u8],
+    message: &Last<'_>,
+) -> Option<Message>
+    ensures value { option_map text_of result ≡ proof_by (judged_by judging.now) (auth_message first.now.bare.now challenge.now message.now.unproved.now) message.now.proof }
+    ensures short { IfSome result (λ m. length (text_of m) ≤ 337) }
+{
+    let keys = judging.keys;
+    let revealed = keys.revealed(first.bare, challenge, message.unproved, &message.proof);
+    if !(judging.counts & revealed.is_some()) {
+        return None;
+    }
+    let text = final_message(&keys.server, first.bare, challenge, message.unproved);
+    Some(sasl_message(12, text.as_bytes()))
+}
 
 impl Rules {
     /// The key of a StartupMessage, from what follows its code.
@@ -152,19 +265,21 @@ impl Rules {
         self.settings.auth_type()
     }
 
-    /// Whether the client knows its password; an unknown user knows none.
+    /// Whether the client knows its password; an unknown user knows none. The only error is out of memory.
     #[tactic(auto, unfolding(crate::specs::Dialogue::row_in))]
-    fn is_right(&self, key: &StartKey, given: &[u8]) -> bool
-        ensures { result ≡ login.is_right (rows_under self.now key.now.row key.now.user) self.now.word key.now given.now }
+    fn is_right(&self, alloc: Global, key: &StartKey, given: &[u8]) -> Result<bool, AllocError>
+        ensures value { IfOk result (λ b. b ≡ login.is_right (rows_under self.now key.now.row key.now.user) self.now.word key.now given.now) }
+        ensures memory { IfErr result (λ e. TakesMemory (rows_under self.now key.now.row key.now.user) ForPassword) }
     {
         let user = key.user.as_slice();
         let Some(row) = self.users.row(user) else {
-            return false;
+            return Ok(false);
         };
         match self.settings.auth_type() {
-            AuthType::Trust => true,
-            AuthType::Plain => row.secret.accepts_plain(user, given),
-            AuthType::Md5 => row.secret.accepts_md5(user, self.word.salt, given),
+            AuthType::Trust => Ok(true),
+            AuthType::Plain => row.secret.accepts_plain(alloc, user, given),
+            AuthType::Md5 => Ok(row.secret.accepts_md5(user, self.word.salt, given)),
+            AuthType::ScramSha256 => Ok(false),
         }
     }
 
@@ -187,7 +302,7 @@ impl Rules {
     /// Where a client goes that proved who it is.
     #[tactic(auto, unfolding(crate::specs::Dialogue::row_in))]
     fn admit(&self, key: &StartKey) -> Verdict
-        ensures { login.admitted (rows_under self.now key.now.row key.now.user) key.now ≡ verdict_of result key.now }
+        ensures { (proof : List ℕ) → login.admitted proof (rows_under self.now key.now.row key.now.user) key.now ≡ verdict_of proof result key.now }
     {
         if key.row.is(b"pgbouncer") {
             if self.enters_console(key) {
@@ -201,25 +316,102 @@ impl Rules {
         }
     }
 
-    fn judge(&self, key: &StartKey, given: &[u8]) -> Verdict
-        ensures { login.judged (rows_under self.now key.now.row key.now.user) self.now.word key.now given.now ≡ verdict_of result key.now }
+    fn judge(&self, alloc: Global, key: &StartKey, given: &[u8]) -> Result<Verdict, AllocError>
+        ensures value { IfOk result (λ v. login.judged (rows_under self.now key.now.row key.now.user) self.now.word key.now given.now ≡ verdict_of [] v key.now) }
+        ensures memory { IfErr result (λ e. TakesMemory (rows_under self.now key.now.row key.now.user) ForPassword) }
     {
-        if self.is_right(key, given) {
-            return self.admit(key);
+        if self.is_right(alloc, key, given)? {
+            return Ok(self.admit(key));
         }
-        Verdict::Wrong
+        Ok(Verdict::Wrong)
     }
 
     /// The last step of a client that gave this password.
-    fn judged(&self, key: Arc<StartKey>, given: &[u8]) -> LoginStep
-        ensures { Decides result (login.judged (rows_under self.now (arc_value key).row (arc_value key).user) self.now.word (arc_value key) given.now) }
+    fn judged(
+        &self,
+        alloc: Global,
+        key: Arc<StartKey>,
+        given: &[u8],
+    ) -> Result<LoginStep, AllocError>
+        ensures value { IfOk result (λ s. Decides s (login.judged (rows_under self.now (arc_value key).row (arc_value key).user) self.now.word (arc_value key) given.now)) }
+        ensures memory { IfErr result (λ e. TakesMemory (rows_under self.now (arc_value key).row (arc_value key).user) ForPassword) }
     {
-        match self.judge(&key, given) {
-            Verdict::ToLink => LoginStep::Passed(key),
-            Verdict::ToConsole => LoginStep::Console,
-            Verdict::Wrong => LoginStep::Failed(Failure::WrongPassword),
-            Verdict::Nowhere => LoginStep::Failed(Failure::NoDatabase),
+        let verdict = self.judge(alloc, &key, given)?;
+        Ok(last_step(verdict, key, &Message::new()))
+    }
+
+    /// Where a client goes that isn't asked: an unknown user nowhere.
+    #[tactic(auto, unfolding(crate::specs::Dialogue::row_in))]
+    fn trusted(&self, key: &StartKey) -> Verdict
+        ensures { (rows_under self.now key.now.row key.now.user).auth ≡ Trust → login.judged (rows_under self.now key.now.row key.now.user) self.now.word key.now [] ≡ verdict_of [] result key.now }
+    {
+        if self.users.row(key.user.as_slice()).is_none() {
+            return Verdict::Wrong;
         }
+        self.admit(key)
+    }
+
+    /// Whether the user's secret is a verifier.
+    #[tactic(auto, unfolding(crate::specs::Dialogue::row_in))]
+    fn has_verifier(&self, key: &StartKey) -> bool
+        ensures { result ≡ login.has_verifier (rows_under self.now key.now.row key.now.user).user }
+    {
+        match self.users.row(key.user.as_slice()) {
+            Some(row) => row.secret.is_verifier(),
+            None => false,
+        }
+    }
+
+    /// How the user's password is salted, be there such a user or not.
+    #[tactic(auto, unfolding(crate::specs::Dialogue::row_in))]
+    fn salting(&self, key: &StartKey) -> Salting
+        ensures { result ≡ login.salting (rows_under self.now key.now.row key.now.user) key.now }
+    {
+        self.users.salting(key.user.as_slice())
+    }
+
+    /// The keys by which the user's proof is judged.
+    #[tactic(auto, unfolding(crate::specs::Dialogue::row_in))]
+    fn judging(&self, alloc: Global, key: &StartKey) -> Result<Judging, AllocError>
+        ensures { IfOk result (λ j. judged_by j ≡ login.keys (rows_under self.now key.now.row key.now.user) key.now) }
+    {
+        self.users.judging(alloc, key.user.as_slice())
+    }
+
+    /// The server's part of the nonce.
+    fn own_nonce(&self) -> [u8; 24]
+        ensures { result ≡ login.own_nonce self.now.word }
+    {
+        let mut secret = [0u8; 12];
+        secret[..4].copy_from_slice(&self.word.pid.to_be_bytes());
+        secret[4..8].copy_from_slice(&self.word.secret.to_be_bytes());
+        secret[8..].copy_from_slice(&self.word.salt);
+        nonce(&secret)
+    }
+
+    fn joint_nonce(&self, first: &First<'_>) -> Message
+        requires { length first.now.nonce.now ≤ LONGEST_NONCE }
+        ensures value { text_of result ≡ login.joint_nonce self.now.word (first_view first.now) }
+        ensures short { length (text_of result) ≤ LONGEST_JOINT_NONCE }
+    {
+        let mut joint = Message::new();
+        joint.push(first.nonce);
+        joint.push(&self.own_nonce());
+        joint
+    }
+
+    fn challenge(&self, key: &StartKey, first: &First<'_>) -> Message
+        requires { length first.now.nonce.now ≤ LONGEST_NONCE }
+        ensures value { text_of result ≡ login.challenge_to (rows_under self.now key.now.row key.now.user) self.now.word key.now (first_view first.now) }
+        ensures short { length (text_of result) ≤ 328 }
+    {
+        let salting = self.salting(key);
+        challenge_message(
+            first.nonce,
+            &self.own_nonce(),
+            &salting.salt,
+            salting.rounds,
+        )
     }
 
     /// A client's StartupMessage.
@@ -282,27 +474,112 @@ impl Rules {
         ensures step { StepIs (rows_under self.now) self.now.word (Arriving (arc_value key)) [] result.0 (awaiting_of result.1) [] }
         ensures lacks { result.2 ≡ missing (awaiting_of result.1) [] }
     {
+        packets_grow();
         match self.auth_type(&key) {
-            AuthType::Trust => (self.judged(key, b""), Place::Over, 0),
-            AuthType::Plain => (LoginStep::Ask(Question::Cleartext), Place::Asked(key), HEAD),
-            AuthType::Md5 => (
-                LoginStep::Ask(Question::Md5(md5_question(self.word.salt))),
-                Place::Asked(key),
+            AuthType::Trust => {
+                let verdict = self.trusted(&key);
+                (last_step(verdict, key, &Message::new()), Place::Over, 0)
+            }
+            AuthType::Plain => (
+                LoginStep::Ask(Question::Cleartext),
+                Place::Asked(Asking::Password, key),
                 HEAD,
             ),
+            AuthType::Md5 => {
+                if self.has_verifier(&key) {
+                    return scram_asked(key);
+                }
+                (
+                    LoginStep::Ask(Question::Md5(md5_question(self.word.salt))),
+                    Place::Asked(Asking::Password, key),
+                    HEAD,
+                )
+            }
+            AuthType::ScramSha256 => scram_asked(key),
         }
     }
 
-    fn on_password_message(&self, held: &[u8], key: Arc<StartKey>) -> Turned
-        requires { Fits (AwaitsPacket (Asked (arc_value key))) held.now }
-        ensures step { StepIs (rows_under self.now) self.now.word (AwaitsPacket (Asked (arc_value key))) held.now result.0 (awaiting_of result.1) (left_after result.0 held.now) }
-        ensures once { ArrivesOnce (AwaitsPacket (Asked (arc_value key))) result.0 }
+    /// A PasswordMessage.
+    fn on_password(&self, alloc: Global, key: Arc<StartKey>, body: &[u8]) -> Answered
+        ensures { Answers (rows_under self.now) self.now.word (arc_value key) ForPassword body.now result }
+    {
+        let Ok(view) = PasswordView::read(body) else {
+            return refused(MALFORMED);
+        };
+        match self.judged(alloc, key, view.password) {
+            Ok(step) => (step, Place::Over),
+            Err(_) => refused(Refusal::OutOfMemory),
+        }
+    }
+
+    /// A SASLInitialResponse.
+    fn on_first(&self, alloc: Global, key: Arc<StartKey>, body: &[u8]) -> Answered
+        ensures { Answers (rows_under self.now) self.now.word (arc_value key) ForFirst body.now result }
+    {
+        let Some(text) = initial_response(body) else {
+            return refused(MALFORMED);
+        };
+        let Some(first) = First::read(text) else {
+            return refused(MALFORMED);
+        };
+        let Ok(copy) = Text::from_slice(alloc, text) else {
+            return refused(Refusal::OutOfMemory);
+        };
+        let challenge = self.challenge(&key, &first);
+        let question = Question::Challenge(sasl_message(11, challenge.as_bytes()));
+        (
+            LoginStep::Ask(question),
+            Place::Asked(Asking::Last(copy), key),
+        )
+    }
+
+    /// A SASLResponse, where the client's first message was this.
+    fn on_last(&self, alloc: Global, key: Arc<StartKey>, first: &[u8], body: &[u8]) -> Answered
+        ensures { Answers (rows_under self.now) self.now.word (arc_value key) (ForLast first.now) body.now result }
+    {
+        let Some(first) = First::read(first) else {
+            return refused(MALFORMED);
+        };
+        let nonce = self.joint_nonce(&first);
+        let Ok(read) = Last::read(alloc, first.header, nonce.as_bytes(), body) else {
+            return refused(Refusal::OutOfMemory);
+        };
+        let Some(message) = read else {
+            return refused(MALFORMED);
+        };
+        let Ok(judging) = self.judging(alloc, &key) else {
+            return refused(Refusal::OutOfMemory);
+        };
+        let challenge = self.challenge(&key, &first);
+        match server_proof(&judging, &first, challenge.as_bytes(), &message) {
+            Some(proof) => {
+                let verdict = self.admit(&key);
+                (last_step(verdict, key, &proof), Place::Over)
+            }
+            None => (LoginStep::Failed(Failure::WrongPassword), Place::Over),
+        }
+    }
+
+    fn on_answer(&self, alloc: Global, asking: Asking, key: Arc<StartKey>, body: &[u8]) -> Answered
+        ensures { Answers (rows_under self.now) self.now.word (arc_value key) (asking_of asking) body.now result }
+    {
+        match asking {
+            Asking::Password => self.on_password(alloc, key, body),
+            Asking::First => self.on_first(alloc, key, body),
+            Asking::Last(first) => self.on_last(alloc, key, first.as_slice(), body),
+        }
+    }
+
+    fn on_message(&self, alloc: Global, held: &[u8], asking: Asking, key: Arc<StartKey>) -> Turned
+        requires { Fits (AwaitsPacket (Asked (asking_of asking) (arc_value key))) held.now }
+        ensures step { StepIs (rows_under self.now) self.now.word (AwaitsPacket (Asked (asking_of asking) (arc_value key))) held.now result.0 (awaiting_of result.1) (left_after result.0 held.now) }
+        ensures once { ArrivesOnce (AwaitsPacket (Asked (asking_of asking) (arc_value key))) result.0 }
         ensures lacks { result.2 ≡ missing (awaiting_of result.1) (left_after result.0 held.now) }
     {
         packets_grow();
         let frame = match next_frame(held, 0, LONGEST_MESSAGE, Side::Client) {
             Step::Whole(frame) => frame,
-            Step::Need(count) => return (LoginStep::More, Place::Asked(key), count),
+            Step::Need(count) => return (LoginStep::More, Place::Asked(asking, key), count),
             Step::Bad(_) => return (LoginStep::Refused(MALFORMED), Place::Over, 0),
         };
         if frame.kind == TERMINATE {
@@ -311,10 +588,9 @@ impl Rules {
         if frame.kind != PASSWORD_MESSAGE {
             return (LoginStep::Refused(MALFORMED), Place::Over, 0);
         }
-        match PasswordView::read(frame.body) {
-            Ok(view) => (self.judged(key, view.password), Place::Over, 0),
-            Err(_) => (LoginStep::Refused(MALFORMED), Place::Over, 0),
-        }
+        let (step, place) = self.on_answer(alloc, asking, key, frame.body);
+        let lacking = head_after(&place);
+        (step, place, lacking)
     }
 
     /// One step from what is held, and what it leads to.
@@ -328,7 +604,7 @@ impl Rules {
         match place {
             Place::First { tls, gss } => self.on_first_packet(alloc, held, tls, gss),
             Place::Arriving(key) => self.go_on(key),
-            Place::Asked(key) => self.on_password_message(held, key),
+            Place::Asked(asking, key) => self.on_message(alloc, held, asking, key),
             Place::Over => (LoginStep::Left, Place::Over, 0),
         }
     }

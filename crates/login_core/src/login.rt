@@ -123,7 +123,7 @@ impl Login {
     {
         match &self.place {
             Place::Arriving(key) => self.rules.is_for_console(key),
-            Place::First { .. } | Place::Asked(_) | Place::Over => false,
+            Place::First { .. } | Place::Asked(_, _) | Place::Over => false,
         }
     }
 
@@ -140,7 +140,8 @@ impl Login {
     /// After [`LoginStep::Arrived`] it is called with no bytes. After [`LoginStep::Passed`], [`LoginStep::Console`],
     /// [`LoginStep::Refused`], [`LoginStep::Failed`], [`LoginStep::Cancel`] and [`LoginStep::Left`] it takes none and answers
     /// [`LoginStep::Left`].
-    /// Want of memory is refused as [`message_view::Refusal::OutOfMemory`], and comes only where a start key is made.
+    /// Want of memory is refused as [`message_view::Refusal::OutOfMemory`], and comes only where a start key is made, a message of SCRAM is
+    /// judged, or a password by a verifier.
     pub fn on_bytes(&mut self, alloc: Global, piece: &[u8]) -> (usize, LoginStep)
         ensures used { result.0 ≡ min (missing self.old.awaiting self.old.held) (length piece.now) }
         ensures means { StepMeans self.old (take result.0 piece.now) result.1 self.new }

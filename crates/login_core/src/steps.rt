@@ -3,6 +3,7 @@ ghost use Rattle.std.specs.Prelude.{◌≡◌};
 ghost use Rattle.login_core.specs.Logins as spec;
 
 use message_view::Refusal;
+use scram::Message;
 use start_keys::StartKey;
 use std::sync::Arc;
 
@@ -15,6 +16,10 @@ pub enum Question {
     Cleartext,
     /// This AuthenticationMD5Password, with its salt.
     Md5([u8; 13]),
+    /// AuthenticationSASL, which offers SCRAM-SHA-256.
+    Scram,
+    /// This AuthenticationSASLContinue, with SCRAM's challenge.
+    Challenge(Message),
 }
 
 impl Question {
@@ -26,6 +31,8 @@ impl Question {
             Question::Encryption => b"N",
             Question::Cleartext => b"R\0\0\0\x08\0\0\0\x03",
             Question::Md5(frame) => frame.as_slice(),
+            Question::Scram => b"R\0\0\0\x17\0\0\0\x0aSCRAM-SHA-256\0\0",
+            Question::Challenge(frame) => frame.as_bytes(),
         }
     }
 }
@@ -62,10 +69,12 @@ pub enum LoginStep {
     Ask(Question),
     /// The client has arrived, with this start key. The login goes on at the next call, which takes no byte.
     Arrived(Arc<StartKey>),
-    /// The client is let in with this start key. The caller gives it AuthenticationOk.
-    Passed(Arc<StartKey>),
-    /// The client is let in to the console. The caller gives it AuthenticationOk.
-    Console,
+    /// The client is let in with this start key. The caller gives it this: AuthenticationOk, behind AuthenticationSASLFinal where the
+    /// client was asked for SCRAM.
+    Passed(Arc<StartKey>, Message),
+    /// The client is let in to the console. The caller gives it this, which is AuthenticationSASLFinal where the client was asked for SCRAM
+    /// and else nothing, and then AuthenticationOk.
+    Console(Message),
     /// The client is given this refusal and closed.
     Refused(Refusal),
     /// The client is given this error and closed.

@@ -1,5 +1,5 @@
 -- The key with which a login ends whose client asks to cancel: it stands in the CancelRequest.
-use Rattle.std.proofs.Common.{◌≡◌, ℕ, zero, suc, ◌+◌, List, [], ◌++◌, length, Option, Some, None, Result, Ok, Err, refl, ap, ◌∙◌, sym, subst, Bool, true, false, arith, append_assoc, get_or-append-add}
+use Rattle.std.proofs.Common.{◌≡◌, ℕ, zero, suc, ◌+◌, List, [], ◌∷◌, ◌++◌, length, Option, Some, None, Result, Ok, Err, refl, ap, ◌∙◌, sym, subst, Bool, true, false, arith, append_assoc, get_or-append-add}
 use Rattle.std.specs.Prelude.{if◌then◌else◌, ◌==◌, bytes_eq, codes}
 use Rattle.frame_view.specs.Frames.{AreBytes, FirstOf, Start, Cancels, AsksTls, AsksGss, FirstFront, AFirst, LacksFirst, FaultyFirst, Front, AFrame, Lacks, Faulty, first_front, first_spelling, front}
 use Rattle.frame_view.specs.Laws.{FirstReadIsSpelled}
@@ -11,14 +11,17 @@ use Rattle.message_view.specs.declared.refusal.Refusal.{Refusal}
 use Rattle.message_view.specs.Reading.{startup_of, password_of}
 use Rattle.ini_config.specs.declared.database_rows.DbRow.{DbRow}
 use Rattle.ini_config.specs.declared.option_values.AuthType.{AuthType}
-use Rattle.ini_config.specs.declared.option_values.AuthType.TheVariants.{Trust, Plain, Md5}
+use Rattle.ini_config.specs.declared.option_values.AuthType.TheVariants.{Trust, Plain, Md5, ScramSha256}
+use Rattle.scram.specs.Keys.{auth_message}
+use Rattle.scram.specs.Messages.{FirstOf as FirstText, LastOf as LastText, first_of, last_of}
+use Rattle.scram.specs.Wire.{initial_response_of}
 use Rattle.session_values.specs.State.{StartKeyOf}
 use Rattle.param_track.specs.StartKeys.{Text}
 use Rattle.key_laws.proofs.Choices.{choose}
 use Rattle.login_core.specs.Talk.{End, follow, on_cut, talk}
 use Rattle.login_core.specs.Talk.Reaction.{Goes, Passes, Stops}
 use Rattle.login_core.specs.Talk.End.{Unfinished, Passed, Stopped}
-use Rattle.login_core.specs.Dialogue.{LoginRow, Rows, Reason, Refused, Failed, Left, Cancelling, Way, Stage, AtFirst, Asked, Reacts, packet, of_first, of_front, longest_message, react, to_message, to_password, to_console, to_database, begins, asks, judged, admitted, is_right, enters_console, wrong, malformed, not_twice, key_of}
+use Rattle.login_core.specs.Dialogue.{LoginRow, Rows, Reason, Refused, Failed, Left, Cancelling, Way, to_answer, to_first_message, to_initial, to_last, by_proof, if_proved, proof_by, keys, challenge_to, joint_nonce, has_verifier, offers_scram, asks_md5, Asking, ForPassword, ForFirst, ForLast, Stage, AtFirst, Asked, Reacts, packet, of_first, of_front, longest_message, react, to_message, to_password, to_console, to_database, begins, asks, judged, admitted, is_right, enters_console, wrong, malformed, not_twice, key_of}
 use Rattle.login_laws.specs.Cancels.{CancelKeysAreSent, HasCancelRequest}
 
 -- ---- what ends otherwise
@@ -32,33 +35,37 @@ IsOtherEnd (Stopped Left) = Unit {0}
 IsOtherEnd (Stopped (Cancelling key)) = ⊥
 
 abbrev IsAsked : Stage → Type 0
-IsAsked (Asked key) = Unit {0}
+IsAsked (Asked asking key) = Unit {0}
 IsAsked (AtFirst tls gss) = ⊥
 
--- a reaction that ends otherwise, or asks for a password
+-- a reaction that ends otherwise, or asks
 abbrev IsOther : Reacts → Type 0
 IsOther (Goes pieces stage) = IsAsked stage
 IsOther (Passes pieces way) = Unit {0}
 IsOther (Stops pieces reason) = IsOtherEnd (Stopped reason)
 
 module _ (rows : Rows) (word : KeyWord) where
-  console_other : (b : Bool) → IsOther (to_console b)
-  console_other true = tt
-  console_other false = tt
+  console_other : (proof : List ℕ) (b : Bool) → IsOther (to_console proof b)
+  console_other proof true = tt
+  console_other proof false = tt
 
-  database_other : (row : Option DbRow) (key : StartKeyOf) → IsOther (to_database row key)
-  database_other None key = tt
-  database_other (Some row) key = tt
+  database_other : (proof : List ℕ) (row : Option DbRow) (key : StartKeyOf) → IsOther (to_database proof row key)
+  database_other proof None key = tt
+  database_other proof (Some row) key = tt
+
+  admitted_other : (proof : List ℕ) (row : LoginRow) (key : StartKeyOf) → IsOther (admitted proof row key)
+  admitted_other proof row key =
+      choose IsOther (bytes_eq key.row (codes "pgbouncer")) (to_console proof (enters_console row key.user)) (to_database proof row.database key) (λ f. console_other proof (enters_console row key.user)) (λ f. database_other proof row.database key)
 
   judged_other : (row : LoginRow) (key : StartKeyOf) (given : Text) → IsOther (judged row word key given)
   judged_other row key given =
-      choose IsOther (is_right row word key given) (admitted row key) wrong
-      (λ e. choose IsOther (bytes_eq key.row (codes "pgbouncer")) (to_console (enters_console row key.user)) (to_database row.database key) (λ f. console_other (enters_console row key.user)) (λ f. database_other row.database key)) (λ e. tt)
+      choose IsOther (is_right row word key given) (admitted [] row key) wrong (λ e. admitted_other [] row key) (λ e. tt)
 
   asks_other : (auth : AuthType) (row : LoginRow) (key : StartKeyOf) → IsOther (asks auth row word key)
   asks_other Trust row key = judged_other row key []
   asks_other Plain row key = tt
-  asks_other Md5 row key = tt
+  asks_other Md5 row key = choose IsOther (has_verifier row.user) (offers_scram key) (Goes (asks_md5 word.salt ∷ []) (Asked ForPassword key)) (λ e. tt) (λ e. tt)
+  asks_other ScramSha256 row key = tt
 
   begins_other : (r : Result StartKeyOf Refusal) → IsOther (begins rows word r)
   begins_other (Ok key) = asks_other (rows key.row key.user).auth (rows key.row key.user) key
@@ -68,26 +75,52 @@ module _ (rows : Rows) (word : KeyWord) where
   password_other row key (Ok given) = judged_other row key given
   password_other row key (Err fault) = tt
 
-  message_other : (row : LoginRow) (key : StartKeyOf) (kind : ℕ) (body : List ℕ) → IsOther (to_message row word key kind body)
-  message_other row key kind body =
-      choose IsOther (kind == PASSWORD_MESSAGE) (to_password row word key (password_of body)) (if kind == TERMINATE then Stops [] Left else malformed)
-      (λ e. password_other row key (password_of body)) (λ e. choose IsOther (kind == TERMINATE) (Stops [] Left) malformed (λ f. tt) (λ f. tt))
+  first_other : (row : LoginRow) (key : StartKeyOf) (text : Text) (first : Option FirstText) → IsOther (to_first_message row word key text first)
+  first_other row key text None = tt
+  first_other row key text (Some first) = tt
 
-  follow_other : (n : ℕ) (rest : List ℕ) (r : Reacts) → ((key : StartKeyOf) → IsOtherEnd (talk packet (react rows word) n (Asked key) rest).ended) → IsOther r → IsOtherEnd (follow rest (λ s. talk packet (react rows word) n s rest) r).ended
-  follow_other n rest (Goes pieces (Asked key)) asked h = asked key
+  initial_other : (row : LoginRow) (key : StartKeyOf) (text : Option Text) → IsOther (to_initial row word key text)
+  initial_other row key None = tt
+  initial_other row key (Some text) = first_other row key text (first_of text)
+
+  proved_other : (row : LoginRow) (key : StartKeyOf) (proof : Option (List ℕ)) → IsOther (if_proved row key proof)
+  proved_other row key None = tt
+  proved_other row key (Some proof) = admitted_other proof row key
+
+  proof_other : (row : LoginRow) (key : StartKeyOf) (first : FirstText) (last : Option LastText) → IsOther (by_proof row word key first last)
+  proof_other row key first None = tt
+  proof_other row key first (Some last) = proved_other row key (proof_by (keys row key) (auth_message first.bare (challenge_to row word key first) last.unproved) last.proof)
+
+  last_other : (row : LoginRow) (key : StartKeyOf) (text : Text) (first : Option FirstText) → IsOther (to_last row word key text first)
+  last_other row key text None = tt
+  last_other row key text (Some first) = proof_other row key first (last_of first.header (joint_nonce word first) text)
+
+  answer_other : (row : LoginRow) (key : StartKeyOf) (asking : Asking) (body : List ℕ) → IsOther (to_answer row word key asking body)
+  answer_other row key ForPassword body = password_other row key (password_of body)
+  answer_other row key ForFirst body = initial_other row key (initial_response_of body)
+  answer_other row key (ForLast first) body = last_other row key body (first_of first)
+
+  message_other : (row : LoginRow) (key : StartKeyOf) (asking : Asking) (kind : ℕ) (body : List ℕ) → IsOther (to_message row word key asking kind body)
+  message_other row key asking kind body =
+      choose IsOther (kind == PASSWORD_MESSAGE) (to_answer row word key asking body) (if kind == TERMINATE then Stops [] Left else malformed)
+      (λ e. answer_other row key asking body) (λ e. choose IsOther (kind == TERMINATE) (Stops [] Left) malformed (λ f. tt) (λ f. tt))
+
+  follow_other : (n : ℕ) (rest : List ℕ) (r : Reacts) → ((asking : Asking) (key : StartKeyOf) → IsOtherEnd (talk packet (react rows word) n (Asked asking key) rest).ended) → IsOther r → IsOtherEnd (follow rest (λ s. talk packet (react rows word) n s rest) r).ended
+  follow_other n rest (Goes pieces (Asked asking key)) asked h = asked asking key
   follow_other n rest (Goes pieces (AtFirst tls gss)) asked h = absurd h
   follow_other n rest (Passes pieces way) asked h = tt
   follow_other n rest (Stops pieces reason) asked h = h
 
-  front_other : (n : ℕ) (key : StartKeyOf) (f : Front) → ((rest : List ℕ) (k : StartKeyOf) → IsOtherEnd (talk packet (react rows word) n (Asked k) rest).ended) → IsOtherEnd (on_cut (react rows word (Asked key)) (talk packet (react rows word) n) (of_front f)).ended
-  front_other n key (AFrame kind body rest) asked = follow_other n rest (to_message (rows key.row key.user) word key kind body) (asked rest) (message_other (rows key.row key.user) key kind body)
-  front_other n key (Lacks m) asked = tt
-  front_other n key (Faulty fault) asked = tt
+  front_other : (n : ℕ) (asking : Asking) (key : StartKeyOf) (f : Front) → ((rest : List ℕ) (a : Asking) (k : StartKeyOf) → IsOtherEnd (talk packet (react rows word) n (Asked a k) rest).ended)
+      → IsOtherEnd (on_cut (react rows word (Asked asking key)) (talk packet (react rows word) n) (of_front f)).ended
+  front_other n asking key (AFrame kind body rest) asked = follow_other n rest (to_message (rows key.row key.user) word key asking kind body) (asked rest) (message_other (rows key.row key.user) key asking kind body)
+  front_other n asking key (Lacks m) asked = tt
+  front_other n asking key (Faulty fault) asked = tt
 
-  -- once it was asked for its password
-  asked_other : (n : ℕ) (bytes : List ℕ) (key : StartKeyOf) → IsOtherEnd (talk packet (react rows word) n (Asked key) bytes).ended
-  asked_other zero bytes key = tt
-  asked_other (suc n) bytes key = front_other n key (front Client longest_message bytes) (λ rest k. asked_other n rest k)
+  -- once it was asked
+  asked_other : (n : ℕ) (bytes : List ℕ) (asking : Asking) (key : StartKeyOf) → IsOtherEnd (talk packet (react rows word) n (Asked asking key) bytes).ended
+  asked_other zero bytes asking key = tt
+  asked_other (suc n) bytes asking key = front_other n asking key (front Client longest_message bytes) (λ rest a k. asked_other n rest a k)
 
 -- ---- what is said to first packets
 
@@ -149,4 +182,4 @@ module _ (read : FirstReadIsSpelled) (rows : Rows) (word : KeyWord) where
   first_heard (suc n) tls gss bytes fit = front_heard n tls gss bytes (first_front bytes) fit refl (λ t g more k. first_heard n t g more k)
 
 pub cancel_keys_are_sent : FirstReadIsSpelled → CancelKeysAreSent
-cancel_keys_are_sent read rows word bytes key fit e = subst (Heard bytes) e (first_heard read rows word 4 false false bytes fit)
+cancel_keys_are_sent read rows word bytes key fit e = subst (Heard bytes) e (first_heard read rows word 5 false false bytes fit)

@@ -11,7 +11,10 @@ use Rattle.message_view.specs.declared.refusal.Refusal.{Refusal}
 use Rattle.message_view.specs.Reading.{startup_of, password_of}
 use Rattle.ini_config.specs.declared.database_rows.DbRow.{DbRow}
 use Rattle.ini_config.specs.declared.option_values.AuthType.{AuthType}
-use Rattle.ini_config.specs.declared.option_values.AuthType.TheVariants.{Trust, Plain, Md5}
+use Rattle.ini_config.specs.declared.option_values.AuthType.TheVariants.{Trust, Plain, Md5, ScramSha256}
+use Rattle.scram.specs.Keys.{auth_message}
+use Rattle.scram.specs.Messages.{FirstOf as FirstText, LastOf as LastText, first_of, last_of}
+use Rattle.scram.specs.Wire.{initial_response_of}
 use Rattle.session_values.specs.Lawful.{IsClientKey}
 use Rattle.session_values.specs.State.{StartKeyOf}
 use Rattle.param_track.specs.declared.StartFault.{StartFault}
@@ -25,7 +28,7 @@ use Rattle.login_core.specs.Talk.{Cut, End, Said, follow, on_cut, talk}
 use Rattle.login_core.specs.Talk.Cut.{Whole, Need, Bad}
 use Rattle.login_core.specs.Talk.Reaction.{Goes, Passes, Stops}
 use Rattle.login_core.specs.Talk.End.{Unfinished, Passed, Stopped}
-use Rattle.login_core.specs.Dialogue.{login_among, LoginRow, Rows, Reason, Left, Way, ToLink, ToConsole, Stage, AtFirst, Asked, Packet, First, Message, Reacts, packet, of_first, of_front, longest_message, react, to_first, to_password, to_console, to_database, begins, asks, judged, admitted, is_right, enters_console, wrong, malformed, not_twice, key_of, or_refusal}
+use Rattle.login_core.specs.Dialogue.{login_among, LoginRow, Rows, Reason, Left, Way, ToLink, ToConsole, to_answer, to_first_message, to_initial, to_last, by_proof, if_proved, proof_by, keys, challenge_to, joint_nonce, has_verifier, offers_scram, asks_md5, Asking, ForPassword, ForFirst, ForLast, Stage, AtFirst, Asked, Packet, First, Message, Reacts, packet, of_first, of_front, longest_message, react, to_first, to_password, to_console, to_database, begins, asks, judged, admitted, is_right, enters_console, wrong, malformed, not_twice, key_of, or_refusal}
 use Rattle.login_laws.specs.Laws.{AreLawfulRows, IsLinkKey, IsOfRow, PassedKeysAreLinkKeys, PassedKeysAreOfTheirRows}
 
 -- ---- the key of these pairs
@@ -133,7 +136,7 @@ first-short (a ∷ b ∷ c ∷ []) = tt
 module _ (rows : Rows) where
   abbrev IsLawfulStage : Stage → Type 0
   IsLawfulStage (AtFirst tls gss) = Unit {0}
-  IsLawfulStage (Asked key) = IsKey rows key
+  IsLawfulStage (Asked asking key) = IsKey rows key
 
   abbrev IsLawfulWay : Way → Type 0
   IsLawfulWay (ToLink key) = IsLinkKey key × IsOfRow (rows key.row key.user).database key
@@ -176,25 +179,30 @@ module _ (rows : Rows) where
 
   packet-lawful : (stage : Stage) (bytes : List ℕ) → IsLawfulCut (packet stage bytes)
   packet-lawful (AtFirst tls gss) bytes = of_first-lawful (first_front bytes) (first-short bytes)
-  packet-lawful (Asked key) bytes = of_front-lawful (front Client longest_message bytes)
+  packet-lawful (Asked asking key) bytes = of_front-lawful (front Client longest_message bytes)
 
-  to_console-lawful : (b : Bool) → IsLawfulReaction (to_console b)
-  to_console-lawful true = tt
-  to_console-lawful false = tt
+  to_console-lawful : (proof : List ℕ) (b : Bool) → IsLawfulReaction (to_console proof b)
+  to_console-lawful proof true = tt
+  to_console-lawful proof false = tt
 
-  to_database-lawful : (row : Option DbRow) (key : StartKeyOf) → IsClientKey key → IsServed row key → row ≡ (rows key.row key.user).database → IsLawfulReaction (to_database row key)
-  to_database-lawful None key h k e = tt
-  to_database-lawful (Some row) key h k e = (record { client = h; dbname = k.0 }, subst (λ (o : Option DbRow). IsOfRow o key) e k.1)
+  to_database-lawful : (proof : List ℕ) (row : Option DbRow) (key : StartKeyOf) → IsClientKey key → IsServed row key → row ≡ (rows key.row key.user).database → IsLawfulReaction (to_database proof row key)
+  to_database-lawful proof None key h k e = tt
+  to_database-lawful proof (Some row) key h k e = (record { client = h; dbname = k.0 }, subst (λ (o : Option DbRow). IsOfRow o key) e k.1)
+
+  admitted-lawful : (proof : List ℕ) (row : LoginRow) (key : StartKeyOf) → IsClientKey key → IsServed row.database key → row.database ≡ (rows key.row key.user).database → IsLawfulReaction (admitted proof row key)
+  admitted-lawful proof row key h k of =
+      choose IsLawfulReaction (bytes_eq key.row (codes "pgbouncer")) (to_console proof (enters_console row key.user)) (to_database proof row.database key) (λ f. to_console-lawful proof (enters_console row key.user)) (λ f. to_database-lawful proof row.database key h k of)
 
   judged-lawful : (row : LoginRow) (word : KeyWord) (key : StartKeyOf) (given : Text) → IsClientKey key → IsServed row.database key → row.database ≡ (rows key.row key.user).database → IsLawfulReaction (judged row word key given)
   judged-lawful row word key given h k of =
-      choose IsLawfulReaction (is_right row word key given) (admitted row key) wrong
-      (λ e. choose IsLawfulReaction (bytes_eq key.row (codes "pgbouncer")) (to_console (enters_console row key.user)) (to_database row.database key) (λ f. to_console-lawful (enters_console row key.user)) (λ f. to_database-lawful row.database key h k of)) (λ e. tt)
+      choose IsLawfulReaction (is_right row word key given) (admitted [] row key) wrong (λ e. admitted-lawful [] row key h k of) (λ e. tt)
 
   asks-lawful : (auth : AuthType) (word : KeyWord) (key : StartKeyOf) → IsKey rows key → IsLawfulReaction (asks auth (rows key.row key.user) word key)
   asks-lawful Trust word key h = judged-lawful (rows key.row key.user) word key [] h.0 h.1 refl
   asks-lawful Plain word key h = h
-  asks-lawful Md5 word key h = h
+  asks-lawful Md5 word key h =
+      choose IsLawfulReaction (has_verifier (rows key.row key.user).user) (offers_scram key) (Goes (asks_md5 word.salt ∷ []) (Asked ForPassword key)) (λ e. h) (λ e. h)
+  asks-lawful ScramSha256 word key h = h
 
   begins-lawful : (word : KeyWord) (r : Result StartKeyOf Refusal) → OfKey (IsKey rows) r → IsLawfulReaction (begins rows word r)
   begins-lawful word (Ok key) h = asks-lawful (rows key.row key.user).auth word key h
@@ -214,13 +222,40 @@ module _ (rows : Rows) where
   password-lawful word key (Ok given) h = judged-lawful (rows key.row key.user) word key given h.0 h.1 refl
   password-lawful word key (Err fault) h = tt
 
+  first_message-lawful : (word : KeyWord) (key : StartKeyOf) (text : Text) (first : Option FirstText) → IsKey rows key → IsLawfulReaction (to_first_message (rows key.row key.user) word key text first)
+  first_message-lawful word key text None h = tt
+  first_message-lawful word key text (Some first) h = h
+
+  initial-lawful : (word : KeyWord) (key : StartKeyOf) (text : Option Text) → IsKey rows key → IsLawfulReaction (to_initial (rows key.row key.user) word key text)
+  initial-lawful word key None h = tt
+  initial-lawful word key (Some text) h = first_message-lawful word key text (first_of text) h
+
+  proved-lawful : (key : StartKeyOf) (proof : Option (List ℕ)) → IsKey rows key → IsLawfulReaction (if_proved (rows key.row key.user) key proof)
+  proved-lawful key None h = tt
+  proved-lawful key (Some proof) h = admitted-lawful proof (rows key.row key.user) key h.0 h.1 refl
+
+  by_proof-lawful : (word : KeyWord) (key : StartKeyOf) (first : FirstText) (last : Option LastText) → IsKey rows key → IsLawfulReaction (by_proof (rows key.row key.user) word key first last)
+  by_proof-lawful word key first None h = tt
+  by_proof-lawful word key first (Some last) h =
+      let row : LoginRow = rows key.row key.user in
+      proved-lawful key (proof_by (keys row key) (auth_message first.bare (challenge_to row word key first) last.unproved) last.proof) h
+
+  last-lawful : (word : KeyWord) (key : StartKeyOf) (text : Text) (first : Option FirstText) → IsKey rows key → IsLawfulReaction (to_last (rows key.row key.user) word key text first)
+  last-lawful word key text None h = tt
+  last-lawful word key text (Some first) h = by_proof-lawful word key first (last_of first.header (joint_nonce word first) text) h
+
+  answer-lawful : (word : KeyWord) (key : StartKeyOf) (asking : Asking) (body : List ℕ) → IsKey rows key → IsLawfulReaction (to_answer (rows key.row key.user) word key asking body)
+  answer-lawful word key ForPassword body h = password-lawful word key (password_of body) h
+  answer-lawful word key ForFirst body h = initial-lawful word key (initial_response_of body) h
+  answer-lawful word key (ForLast first) body h = last-lawful word key body (first_of first) h
+
   react-lawful : AreLawfulRows rows → (word : KeyWord) (stage : Stage) (p : Packet) → IsLawfulStage stage → IsLawfulPacket p → IsLawfulReaction (react rows word stage p)
   react-lawful lawful word (AtFirst tls gss) (First p) h k = first-lawful lawful word tls gss p k
   react-lawful lawful word (AtFirst tls gss) (Message kind body) h k = tt
-  react-lawful lawful word (Asked key) (First p) h k = tt
-  react-lawful lawful word (Asked key) (Message kind body) h k =
-      choose IsLawfulReaction (kind == PASSWORD_MESSAGE) (to_password (rows key.row key.user) word key (password_of body)) (if kind == TERMINATE then Stops [] Left else malformed)
-      (λ e. password-lawful word key (password_of body) h) (λ e. choose IsLawfulReaction (kind == TERMINATE) (Stops [] Left) malformed (λ f. tt) (λ f. tt))
+  react-lawful lawful word (Asked asking key) (First p) h k = tt
+  react-lawful lawful word (Asked asking key) (Message kind body) h k =
+      choose IsLawfulReaction (kind == PASSWORD_MESSAGE) (to_answer (rows key.row key.user) word key asking body) (if kind == TERMINATE then Stops [] Left else malformed)
+      (λ e. answer-lawful word key asking body h) (λ e. choose IsLawfulReaction (kind == TERMINATE) (Stops [] Left) malformed (λ f. tt) (λ f. tt))
 
   follow-lawful : (rest : List ℕ) (next : Stage → Said Way Reason) (r : Reacts) → ((stage : Stage) → IsLawfulStage stage → IsLawfulEnd (next stage).ended) → IsLawfulReaction r → IsLawfulEnd (follow rest next r).ended
   follow-lawful rest next (Goes pieces stage) f h = f stage h
@@ -239,7 +274,7 @@ module _ (rows : Rows) where
       on_cut-lawful (react rows word stage) (talk packet (react rows word) n) (packet stage bytes) (λ p k. react-lawful lawful word stage p h k) (λ s b k. talk-lawful lawful word n s b k) (packet-lawful stage bytes)
 
 passed-lawful : (rows : Rows) (word : KeyWord) (bytes left : List ℕ) (key : StartKeyOf) → AreLawfulRows rows → (login_among rows word bytes).ended ≡ Passed (ToLink key) left → IsLawfulEnd rows (Passed (ToLink key) left)
-passed-lawful rows word bytes left key lawful e = subst (IsLawfulEnd rows) e (talk-lawful rows lawful word 4 (AtFirst false false) bytes tt)
+passed-lawful rows word bytes left key lawful e = subst (IsLawfulEnd rows) e (talk-lawful rows lawful word 5 (AtFirst false false) bytes tt)
 
 pub passed_keys-linked : PassedKeysAreLinkKeys
 passed_keys-linked rows word bytes left key lawful e = (passed-lawful rows word bytes left key lawful e).0

@@ -6,7 +6,7 @@ use Rattle.ini_config.specs.Reading.{IsReadOf}
 use Rattle.ini_config.specs.Bounds.{AreWithinBounds}
 use Rattle.ini_config.specs.declared.database_rows.DbRow.{DbRow}
 use Rattle.message_view.specs.declared.KeyWord.{KeyWord}
-use Rattle.user_file.specs.declared.user_table.UserRow.{UserRow}
+use Rattle.user_file.specs.Users.{UsersOf}
 use Rattle.session_values.specs.Lawful.{IsClientKey}
 use Rattle.session_values.specs.State.{StartKeyOf}
 use Rattle.param_track.specs.StartKeys.{Text}
@@ -43,12 +43,12 @@ PassedKeysAreOfTheirRows = (rows : Rows) (word : KeyWord) (bytes left : List ℕ
 
 -- Rows of settings are such where each database row is.
 abbrev pub SettingsRowsAreLawful : Type 0
-SettingsRowsAreLawful = (s : Settings) (users : List UserRow) → AllByRecursion (λ row. IsLawfulRow (Some row)) s.rows → AreLawfulRows (row_in s users)
+SettingsRowsAreLawful = (s : Settings) (users : UsersOf) → AllByRecursion (λ row. IsLawfulRow (Some row)) s.rows → AreLawfulRows (row_in s users)
 
 -- Rows of settings that a file spells are.
 abbrev pub ReadRowsAreLawful : Type 0
-ReadRowsAreLawful = (lines : List Text) (s : Settings) (users : List UserRow) → IsReadOf lines (Ok s) → AreLawfulRows (row_in s users)
+ReadRowsAreLawful = (lines : List Text) (s : Settings) (users : UsersOf) → IsReadOf lines (Ok s) → AreLawfulRows (row_in s users)
 
 -- Rows of settings within their bounds are.
 abbrev pub BoundedRowsAreLawful : Type 0
-BoundedRowsAreLawful = (s : Settings) (users : List UserRow) → AreWithinBounds s → AreLawfulRows (row_in s users)
+BoundedRowsAreLawful = (s : Settings) (users : UsersOf) → AreWithinBounds s → AreLawfulRows (row_in s users)

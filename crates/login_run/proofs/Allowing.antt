@@ -75,7 +75,8 @@ said_allowed : (v : LoginView) (taken given : List ℕ) (done : List (List ℕ))
     → AllowedBy (IsRefusedByLogin v taken) given all
 said_allowed v taken given done said.Nothing sent all g c h = inl (part_allowed given done said.Nothing sent all tt g c)
 said_allowed v taken given done (said.Question q) sent all g c h = inl (part_allowed given done (said.Question q) sent all tt g c)
-said_allowed v taken given done said.LetIn sent all g c h = inl (part_allowed given done said.LetIn sent all tt g c)
+said_allowed v taken given done (said.LetIn told) sent all g c h = inl (part_allowed given done (said.LetIn told) sent all tt g c)
+said_allowed v taken given done (said.Proof told) sent all g c h = inl (part_allowed given done (said.Proof told) sent all tt g c)
 said_allowed v taken given done (said.Failure f) sent all g c h = inl (part_allowed given done (said.Failure f) sent all tt g c)
 said_allowed v taken given done (said.Refusal r) sent all g c h = refusal_allowed (IsRefusedByLogin v taken) given done r sent all g c (refused_by v taken (done ++ []) r h)
 

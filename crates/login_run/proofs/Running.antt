@@ -7,6 +7,7 @@ use Rattle.message_view.specs.declared.KeyWord.{KeyWord}
 use Rattle.message_view.specs.declared.refusal.Refusal.{Refusal}
 use Rattle.message_view.specs.declared.refusal.Refusal.TheVariants.{OutOfMemory}
 use Rattle.message_view.specs.Refusals.{joined_pieces}
+use Rattle.scram.specs.Short.{text_of}
 use Rattle.link_laws.specs.Standing.{ClientFacts}
 use Rattle.server_end.specs.declared.Moved.{Moved}
 use Rattle.server_end.specs.declared.Moved.TheVariants.{Ended, Fault}
@@ -17,6 +18,7 @@ use Rattle.login_core.specs.Talk.{End}
 use Rattle.login_core.specs.Talk.End.{Stopped as StoppedFor}
 use Rattle.login_core.specs.Dialogue.{Rows, Dialogue, Way, Reason, Refused as RefusedBy, AtFirst, row_in, login_among}
 use Rattle.login_core.specs.Logins.{Awaiting, AwaitsPacket, Arriving, LoginView, login_view, rows_of, goes_on, Tells, StepMeans, missing}
+use Rattle.login_core.proofs.Pieces.{joined_if_any}
 use Rattle.login_core.specs.Laws.{waits, arrived, asks, NewTells, StepsTell, StepsSay}
 use Rattle.login_run.specs.declared.login_reply.LoginReply.{LoginReply}
 use Rattle.login_run.specs.declared.login_reply.LoginReply.TheVariants as said
@@ -36,7 +38,8 @@ module _ (rows : Rows) (word : KeyWord) where
   stopped_begun : (taken : List ℕ) (pieces : List (List ℕ)) (s : LoginReply) → IsStopped rows word taken pieces s → IsBegun rows word taken pieces
   stopped_begun taken pieces said.Nothing h = ended_begun taken pieces _ h
   stopped_begun taken pieces (said.Question q) h = absurd h
-  stopped_begun taken pieces said.LetIn h = absurd h
+  stopped_begun taken pieces (said.LetIn told) h = absurd h
+  stopped_begun taken pieces (said.Proof told) h = absurd h
   stopped_begun taken pieces (said.Failure f) h = ended_begun taken pieces _ h
   stopped_begun taken pieces (said.Refusal r) (inl h) = ended_begun taken pieces _ h
   stopped_begun taken pieces (said.Refusal r) (inr h) = h.1
@@ -44,21 +47,24 @@ module _ (rows : Rows) (word : KeyWord) where
   cut_begun : (taken : List ℕ) (pieces : List (List ℕ)) (s : LoginReply) → IsCutOff rows word taken pieces s → IsBegun rows word taken pieces
   cut_begun taken pieces said.Nothing h = h
   cut_begun taken pieces (said.Question q) h = h
-  cut_begun taken pieces said.LetIn h = h
+  cut_begun taken pieces (said.LetIn told) h = h
+  cut_begun taken pieces (said.Proof told) h = h
   cut_begun taken pieces (said.Failure f) h = h
   cut_begun taken pieces (said.Refusal r) h = stopped_begun taken pieces (said.Refusal r) h
 
   begun_cut : (taken : List ℕ) (pieces : List (List ℕ)) (s : LoginReply) → IsPiece s → IsBegun rows word taken pieces → IsCutOff rows word taken pieces s
   begun_cut taken pieces said.Nothing p h = h
   begun_cut taken pieces (said.Question q) p h = h
-  begun_cut taken pieces said.LetIn p h = h
+  begun_cut taken pieces (said.LetIn told) p h = h
+  begun_cut taken pieces (said.Proof told) p h = h
   begun_cut taken pieces (said.Failure f) p h = h
   begun_cut taken pieces (said.Refusal r) p h = absurd p
 
   stopped_cut : (taken : List ℕ) (pieces : List (List ℕ)) (s : LoginReply) → IsStopped rows word taken pieces s → IsCutOff rows word taken pieces s
   stopped_cut taken pieces said.Nothing h = stopped_begun taken pieces said.Nothing h
   stopped_cut taken pieces (said.Question q) h = absurd h
-  stopped_cut taken pieces said.LetIn h = absurd h
+  stopped_cut taken pieces (said.LetIn told) h = absurd h
+  stopped_cut taken pieces (said.Proof told) h = absurd h
   stopped_cut taken pieces (said.Failure f) h = stopped_begun taken pieces (said.Failure f) h
   stopped_cut taken pieces (said.Refusal r) h = h
 
@@ -115,8 +121,8 @@ pub heard_stands : StepsTell → StepsSay → (old new : LoginView) (taken bytes
 heard_stands tell say old new taken bytes done step.More t h = tell old new taken bytes done step.More waits t h
 heard_stands tell say old new taken bytes done (step.Ask q) t h = tell old new taken bytes done (step.Ask q) (asks q) t h
 heard_stands tell say old new taken bytes done (step.Arrived key) t h = tell old new taken bytes done (step.Arrived key) (arrived key) t h
-heard_stands tell say old new taken bytes done (step.Passed key) t h = ended_on old new bytes (taken ++ bytes) _ _ (step.Passed key) h (say old new taken bytes done (step.Passed key) t h)
-heard_stands tell say old new taken bytes done step.Console t h = ended_on old new bytes (taken ++ bytes) _ _ step.Console h (say old new taken bytes done step.Console t h)
+heard_stands tell say old new taken bytes done (step.Passed key told) t h = ended_on old new bytes (taken ++ bytes) _ _ (step.Passed key told) h (say old new taken bytes done (step.Passed key told) t h)
+heard_stands tell say old new taken bytes done (step.Console told) t h = ended_on old new bytes (taken ++ bytes) _ _ (step.Console told) h (say old new taken bytes done (step.Console told) t h)
 heard_stands tell say old new taken bytes done (step.Refused r) t h = refused_stands old new taken bytes done r _ t h (say old new taken bytes done (step.Refused r) t h)
 heard_stands tell say old new taken bytes done (step.Failed f) t h = ended_on old new bytes (taken ++ bytes) _ _ (step.Failed f) h (say old new taken bytes done (step.Failed f) t h)
 heard_stands tell say old new taken bytes done (step.Cancel pid secret) t h = ended_on old new bytes (taken ++ bytes) _ _ (step.Cancel pid secret) h (say old new taken bytes done (step.Cancel pid secret) t h)
@@ -129,8 +135,8 @@ pub heard_awaits : (old new : LoginView) (bytes : List ℕ) (s : LoginStep) → 
 heard_awaits old new bytes step.More h = (tt, h.leads)
 heard_awaits old new bytes (step.Ask q) h = (tt, h.leads)
 heard_awaits old new bytes (step.Arrived key) h = (tt, arriving new.awaiting _ h.leads)
-heard_awaits old new bytes (step.Passed key) h = tt
-heard_awaits old new bytes step.Console h = tt
+heard_awaits old new bytes (step.Passed key told) h = tt
+heard_awaits old new bytes (step.Console told) h = tt
 heard_awaits old new bytes (step.Refused r) h = tt
 heard_awaits old new bytes (step.Failed f) h = tt
 heard_awaits old new bytes (step.Cancel pid secret) h = refl
@@ -141,7 +147,8 @@ heard_awaits old new bytes step.Left h = tt
 pub joined_said : (s : LoginReply) → IsPiece s → joined_pieces (said_pieces s) ≡ said_bytes s
 joined_said said.Nothing p = refl
 joined_said (said.Question q) p = append-nil _
-joined_said said.LetIn p = append-nil _
+joined_said (said.LetIn told) p = append-nil _
+joined_said (said.Proof told) p = joined_if_any (text_of told)
 joined_said (said.Failure f) p = append-nil _
 joined_said (said.Refusal r) p = absurd p
 

@@ -6,13 +6,14 @@ use Rattle.message_view.specs.declared.KeyWord.{KeyWord}
 use Rattle.message_view.specs.declared.refusal.Refusal.TheVariants.{OutOfMemory}
 use Rattle.message_view.specs.declared.views.KeyView.{KeyView}
 use Rattle.message_view.specs.Refusals.{joined_pieces, refusal}
+use Rattle.scram.specs.Short.{text_of}
 use Rattle.session_values.specs.State.{StartKeyOf}
 use Rattle.link_laws.specs.Standing.{ClientFacts}
 use Rattle.login_core.specs.declared.steps.LoginStep.{LoginStep}
 use Rattle.login_core.specs.declared.steps.LoginStep.TheVariants as step
 use Rattle.login_core.specs.Talk.{End}
 use Rattle.login_core.specs.Talk.End.{Passed as PassedWith, Stopped as StoppedFor}
-use Rattle.login_core.specs.Dialogue.{Rows, Way, ToLink, ToConsole, Reason, Refused as RefusedBy, Failed, Left, Cancelling as CancellingOf, ok, login_among}
+use Rattle.login_core.specs.Dialogue.{Rows, Way, ToLink, ToConsole, Reason, Refused as RefusedBy, Failed, Left, Cancelling as CancellingOf, if_any, login_among}
 use Rattle.login_core.specs.Logins.{Awaiting, Arriving, LoginView, rows_of, Tells, missing, question_bytes, failure_bytes}
 use Rattle.login_run.specs.declared.login_reply.LoginReply.{LoginReply}
 use Rattle.login_run.specs.declared.login_reply.LoginReply.TheVariants as said
@@ -60,7 +61,8 @@ has_gone _ = false
 abbrev pub said_bytes : LoginReply → List ℕ
 said_bytes said.Nothing = []
 said_bytes (said.Question q) = question_bytes q
-said_bytes said.LetIn = ok
+said_bytes (said.LetIn told) = text_of told
+said_bytes (said.Proof told) = text_of told
 said_bytes (said.Failure f) = failure_bytes f
 said_bytes (said.Refusal r) = refusal r
 
@@ -68,7 +70,8 @@ said_bytes (said.Refusal r) = refusal r
 abbrev pub said_pieces : LoginReply → List (List ℕ)
 said_pieces said.Nothing = []
 said_pieces (said.Question q) = question_bytes q ∷ []
-said_pieces said.LetIn = ok ∷ []
+said_pieces (said.LetIn told) = text_of told ∷ []
+said_pieces (said.Proof told) = if_any (text_of told)
 said_pieces (said.Failure f) = failure_bytes f ∷ []
 said_pieces (said.Refusal r) = []
 
@@ -81,8 +84,8 @@ abbrev pub phase_after : LoginStep → PhaseOf
 phase_after step.More = Talking
 phase_after (step.Ask q) = Talking
 phase_after (step.Arrived key) = Arrived
-phase_after (step.Passed key) = Passed (arc_value key)
-phase_after step.Console = Console
+phase_after (step.Passed key told) = Passed (arc_value key)
+phase_after (step.Console told) = Console
 phase_after (step.Refused r) = Stopped
 phase_after (step.Failed f) = Stopped
 phase_after (step.Cancel pid secret) = Cancelling (record { pid = pid; secret = secret })
@@ -92,8 +95,8 @@ abbrev pub said_after : LoginStep → LoginReply
 said_after step.More = said.Nothing
 said_after (step.Ask q) = said.Question q
 said_after (step.Arrived key) = said.Nothing
-said_after (step.Passed key) = said.LetIn
-said_after step.Console = said.Nothing
+said_after (step.Passed key told) = said.LetIn told
+said_after (step.Console told) = said.Proof told
 said_after (step.Refused r) = said.Refusal r
 said_after (step.Failed f) = said.Failure f
 said_after (step.Cancel pid secret) = said.Nothing
@@ -113,7 +116,8 @@ HasEnded rows word taken pieces ended = (more : List ℕ) → login_among rows w
 abbrev pub IsStopped : Rows → KeyWord → List ℕ → List (List ℕ) → LoginReply → Type 0
 IsStopped rows word taken pieces said.Nothing = HasEnded rows word taken pieces (λ more. StoppedFor Left)
 IsStopped rows word taken pieces (said.Question q) = ⊥
-IsStopped rows word taken pieces said.LetIn = ⊥
+IsStopped rows word taken pieces (said.LetIn told) = ⊥
+IsStopped rows word taken pieces (said.Proof told) = ⊥
 IsStopped rows word taken pieces (said.Failure f) = HasEnded rows word taken pieces (λ more. StoppedFor Failed)
 IsStopped rows word taken pieces (said.Refusal r) =
     HasEnded rows word taken pieces (λ more. StoppedFor (RefusedBy r)) ⊎ ((r ≡ OutOfMemory) × IsBegun rows word taken pieces)

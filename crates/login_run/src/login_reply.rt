@@ -4,14 +4,17 @@ ghost use Rattle.login_run.specs.Runs as spec;
 
 use login_core::{Failure, Question};
 use message_view::{Refusal, refusal_bytes};
+use scram::Message;
 
 /// What a client is given at a step of its login.
 #[derive(Clone, Copy, Drop)]
 pub enum LoginReply {
     Nothing,
     Question(Question),
-    /// AuthenticationOk.
-    LetIn,
+    /// AuthenticationOk, behind the server's proof where the client was asked for SCRAM.
+    LetIn(Message),
+    /// The server's proof, before the console's AuthenticationOk; nothing where the client wasn't asked for SCRAM.
+    Proof(Message),
     Failure(Failure),
     Refusal(Refusal),
 }
@@ -24,7 +27,8 @@ impl LoginReply {
         match self {
             LoginReply::Nothing => b"",
             LoginReply::Question(question) => question.as_bytes(),
-            LoginReply::LetIn => b"R\0\0\0\x08\0\0\0\0",
+            LoginReply::LetIn(told) => told.as_bytes(),
+            LoginReply::Proof(told) => told.as_bytes(),
             LoginReply::Failure(failure) => failure.as_bytes(),
             LoginReply::Refusal(refusal) => refusal_bytes(*refusal),
         }

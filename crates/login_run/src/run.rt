@@ -103,8 +103,8 @@ fn after(step: LoginStep) -> (Phase, LoginReply)
         LoginStep::More => (Phase::Talking, LoginReply::Nothing),
         LoginStep::Ask(question) => (Phase::Talking, LoginReply::Question(question)),
         LoginStep::Arrived(_) => (Phase::Arrived, LoginReply::Nothing),
-        LoginStep::Passed(key) => (Phase::Passed(key), LoginReply::LetIn),
-        LoginStep::Console => (Phase::Console, LoginReply::Nothing),
+        LoginStep::Passed(key, told) => (Phase::Passed(key), LoginReply::LetIn(told)),
+        LoginStep::Console(told) => (Phase::Console, LoginReply::Proof(told)),
         LoginStep::Refused(refusal) => (Phase::Stopped, LoginReply::Refusal(refusal)),
         LoginStep::Failed(failure) => (Phase::Stopped, LoginReply::Failure(failure)),
         LoginStep::Cancel { pid, secret } => (

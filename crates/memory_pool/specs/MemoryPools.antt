@@ -4,7 +4,7 @@ use Rattle.std.specs.List.{AllByRecursion}
 use Rattle.frame_view.specs.Frames.{FrameOf, spelling}
 use Rattle.ini_config.specs.Bounds.{AreWithinBounds}
 use Rattle.ini_config.specs.declared.option_values.Settings.{Settings}
-use Rattle.user_file.specs.declared.user_table.UserRow.{UserRow}
+use Rattle.user_file.specs.Users.{UsersOf}
 use Rattle.session_values.specs.State.{CatalogueOf, StartKeyOf, fresh}
 use Rattle.link_laws.specs.Dialogues.{auth_of, start_error}
 use Rattle.link_laws.specs.Stages.{no_auth}
@@ -23,10 +23,10 @@ use Rattle.memory_pool.specs.declared.answers.Taken.TheVariants as taken
 
 pub record MemoryPoolOf : Type 0 where
   pub settings : Settings
-  pub users : List UserRow
+  pub users : UsersOf
   pub catalogue : CatalogueOf
 
-abbrev pub memory_pool_of : Settings → List UserRow → CatalogueOf → MemoryPoolOf
+abbrev pub memory_pool_of : Settings → UsersOf → CatalogueOf → MemoryPoolOf
 memory_pool_of settings users catalogue = record { settings = settings; users = users; catalogue = catalogue }
 
 -- ---- its links

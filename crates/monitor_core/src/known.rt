@@ -18,7 +18,7 @@ fn user_row(alloc: Global, user: &UserRow) -> Result<Row, AllocError>
 }
 
 fn user_rows(alloc: Global, users: &Users) -> Result<Vec<Row>, AllocError>
-    ensures { IfOk result (λ v. v.items ≡ map spec.user_row users.now) }
+    ensures { IfOk result (λ v. v.items ≡ map spec.user_row users.now.rows) }
 {
     let mut rows = Vec::new(alloc);
     'users: while let Some(user) = users.at(rows.len()) {

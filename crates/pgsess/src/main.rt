@@ -29,7 +29,7 @@ use std::sync::Wait;
 use std::thread::Threads;
 use std::{env, io, net};
 use stub_server::server::stub_on;
-use user_file::Users;
+use user_file::UserTable;
 
 /// A listener on this port.
 fn listen<'a, R: Net>(rt: &R, address: Ipv4Addr, port: u16) -> Result<TcpListener, AppFault<'a>> {
@@ -67,7 +67,7 @@ fn named_files(
 }
 
 impl Source for NamedFiles {
-    fn read(&self) -> Result<(Settings, Users), Unread> {
+    fn read(&self) -> Result<(Settings, UserTable), Unread> {
         let fault = match files::read_again(&self.rt, self.alloc, &self.ini, &self.users) {
             Ok(read) => return Ok(read),
             Err(fault) => fault,

@@ -1,8 +1,11 @@
 -- A client's login, step by step.
 use Rattle.std.proofs.Common.{◌≡◌, ℕ, List, [], ◌∷◌, ◌++◌, refl, sym, ap, ap₂, ◌∙◌, append_assoc, append-nil, subst, drop, take-append-drop, arith, ◌<◌}
+use Rattle.std.proofs.lemmas.Grind.{flat_map-append}
 use Rattle.std.specs.Arc.{arc_value}
 use Rattle.message_view.specs.declared.KeyWord.{KeyWord}
 use Rattle.message_view.specs.Refusals.{joined_pieces}
+use Rattle.scram.specs.Short.{text_of}
+use Rattle.scram.specs.declared.message.Message.{Message}
 use Rattle.session_values.specs.State.{StartKeyOf}
 use Rattle.login_core.specs.declared.steps.LoginStep.{LoginStep}
 use Rattle.login_core.specs.declared.steps.LoginStep.TheVariants as step
@@ -10,10 +13,11 @@ use Rattle.login_core.specs.declared.steps.Question.{Question}
 use Rattle.login_core.specs.declared.steps.Failure.{Failure}
 use Rattle.login_core.specs.Talk.{says}
 use Rattle.login_core.specs.Talk.End.{Passed}
-use Rattle.login_core.specs.Dialogue.{Dialogue, Rows, AtFirst, ToLink, login_among, ok, row_in}
+use Rattle.login_core.specs.Dialogue.{Dialogue, Rows, AtFirst, ToLink, if_any, login_among, row_in}
 use Rattle.login_core.specs.Laws.{GoesOn, given_by}
 use Rattle.login_core.specs.Laws.GoesOn.{waits, arrived, asks}
 use Rattle.login_core.specs.Logins.{StepMeans, AwaitsPacket, LoginView, Tells, after, failure_bytes, goes_on, login_view, missing, question_bytes, rows_of as login_rows}
+use Rattle.login_core.proofs.Pieces.{joined_if_any}
 use Rattle.login_core.proofs.Telling.{new_tells, steps_say, steps_tell}
 use Rattle.ini_config.specs.Bounds.{AreWithinBounds}
 use Rattle.link_start.specs.Starts.{IsLinkKey as IsStartKey}
@@ -114,10 +118,10 @@ said h word c s l x f more =
     sym (ap₂ (λ (r : Rows) (k : KeyWord). login_among r k (taken c ++ more)) (same_rows h x.old x.settings x.users) x.word_is)
     ∙ (ap (λ (b : List ℕ). login_among (login_rows x.old) x.old.word (b ++ more)) x.taken_is ∙ f more)
 
-pub passes : (h : MemoryPoolOf) (word : KeyWord) (c : ActClientOf) (key : _) (l : LoginView) → Steps h word c (step.Passed key) l → IsLetIn h word c (arc_value key)
-passes h word c key l x = record {
+pub passes : (h : MemoryPoolOf) (word : KeyWord) (c : ActClientOf) (key : _) (told : Message) (l : LoginView) → Steps h word c (step.Passed key told) l → IsLetIn h word c (arc_value key) (text_of told)
+passes h word c key told l x = record {
   pieces = x.pieces;
-  passed = said h word c (step.Passed key) l x (steps_say x.old l x.before x.bytes x.pieces (step.Passed key) x.tells x.heard);
+  passed = said h word c (step.Passed key told) l x (steps_say x.old l x.before x.bytes x.pieces (step.Passed key told) x.tells x.heard);
   given = x.given;
 }
 
@@ -127,12 +131,19 @@ fails h word c f l x =
     (ap (login_among (rows_of h) word) (sym (input_is c)) ∙ said h word c (step.Failed f) l x (steps_say x.old l x.before x.bytes x.pieces (step.Failed f) x.tells x.heard) (drop c.at c.input))
     (append-nil (x.pieces ++ failure_bytes f ∷ [])) (ap (λ (b : List ℕ). b ++ failure_bytes f) x.given ∙ joined_one x.pieces (failure_bytes f))
 
--- AuthenticationOk was given
-pub let_in_waits : (h : MemoryPoolOf) (word : KeyWord) (c : ActClientOf) (key : StartKeyOf) → IsLetIn h word c key → Waits h word (given_more c ok) key
-let_in_waits h word c key x = record {
-  pieces = x.pieces ++ ok ∷ [];
+pub to_console : (h : MemoryPoolOf) (word : KeyWord) (c : ActClientOf) (told : Message) (l : LoginView) → Steps h word c (step.Console told) l → IsAtPiece h word (given_more c (text_of told))
+to_console h word c told l x =
+    login_piece h word (given_more c (text_of told)) _ (x.pieces ++ if_any (text_of told)) []
+    (ap (login_among (rows_of h) word) (sym (input_is c)) ∙ said h word c (step.Console told) l x (steps_say x.old l x.before x.bytes x.pieces (step.Console told) x.tells x.heard) (drop c.at c.input))
+    (append-nil (x.pieces ++ if_any (text_of told)))
+    (ap₂ (λ (a b : List ℕ). a ++ b) x.given (sym (joined_if_any (text_of told))) ∙ sym (flat_map-append (λ (p : List ℕ). p) x.pieces (if_any (text_of told))))
+
+-- the client was told that it is let in
+pub let_in_waits : (h : MemoryPoolOf) (word : KeyWord) (c : ActClientOf) (key : StartKeyOf) (told : List ℕ) → IsLetIn h word c key told → Waits h word (given_more c told) key
+let_in_waits h word c key told x = record {
+  pieces = x.pieces ++ told ∷ [];
   passed = x.passed;
-  given = ap (λ (b : List ℕ). b ++ ok) x.given ∙ joined_one x.pieces ok;
+  given = ap (λ (b : List ℕ). b ++ told) x.given ∙ joined_one x.pieces told;
 }
 
 -- its key can start a link
@@ -141,8 +152,8 @@ key_starts rows law h word c key b x =
     let k = law (rows_of h) word c.input (drop c.at c.input) key (rows h.settings h.users b) (ap (λ (d : Dialogue). d.ended) (passed_at h word c key x.pieces x.passed)) in
     (k.client, k.dbname)
 
-pub let_in_piece : (h : MemoryPoolOf) (word : KeyWord) (c : ActClientOf) (key : StartKeyOf) → IsLetIn h word c key → IsAtPiece h word (given_more c ok)
-let_in_piece h word c key x = waits_piece h word (given_more c ok) key (let_in_waits h word c key x)
+pub let_in_piece : (h : MemoryPoolOf) (word : KeyWord) (c : ActClientOf) (key : StartKeyOf) (told : List ℕ) → IsLetIn h word c key told → IsAtPiece h word (given_more c told)
+let_in_piece h word c key told x = waits_piece h word (given_more c told) key (let_in_waits h word c key told x)
 
 -- a step after which the login waits for more
 pub more_at : (h : MemoryPoolOf) (word : KeyWord) (c d : ActClientOf) (l : LoginView) → Steps h word c step.More l → d ≡ c → (d.input ≡ c.input) × LogsIn h word d l × (0 < missing l.awaiting l.held)

@@ -2,6 +2,7 @@
 ghost use Rattle.std.specs.Prelude.{◌≡◌, ◌<◌, [], IfOk};
 ghost use Rattle.std.specs.Arc.{arc_value};
 ghost use Rattle.login_core.specs.Logins.{missing};
+ghost use Rattle.scram.specs.Short.{text_of};
 ghost use Rattle.play.specs.Players.{IsAt, IsLetIn, LogsIn, Steps};
 
 use crate::stage::{Stage, leave, refuse};
@@ -11,6 +12,7 @@ use login_core::{Login, LoginStep};
 use memory_pool::MemoryPool;
 use memory_pool::answers::Answer;
 use message_view::{KeyWord, Refusal};
+use scram::Message;
 use server_end::Moved;
 use start_keys::StartKey;
 use std::alloc::{AllocError, Global};
@@ -18,9 +20,6 @@ use std::sync::Arc;
 
 /// The bytes that a turn reads at most.
 const CHUNK: usize = 256;
-
-/// AuthenticationOk.
-static LET_IN: [u8; 9] = *b"R\0\0\0\x08\0\0\0\0";
 
 /// A turn of a client's login: it reads once of the packet that the login waits for.
 #[tactic(auto, using(crate::proofs::Logins::logs_in_piece, crate::proofs::Pieces::piece_done, crate::proofs::Logins::takes))]
@@ -86,7 +85,7 @@ fn on_step<'a>(
 }
 
 /// Any other step of the login. A client that asks to cancel is closed without a byte: no cancel reaches a play's servers.
-#[tactic(auto, using(crate::proofs::Logins::steps_piece, crate::proofs::Pieces::piece_done, crate::proofs::Logins::goes_more, crate::proofs::Logins::goes_asked, crate::proofs::Logins::passes, crate::proofs::Logins::fails))]
+#[tactic(auto, using(crate::proofs::Logins::steps_piece, crate::proofs::Pieces::piece_done, crate::proofs::Logins::goes_more, crate::proofs::Logins::goes_asked, crate::proofs::Logins::passes, crate::proofs::Logins::to_console, crate::proofs::Logins::fails))]
 fn follow<'a>(
     pool: &mut MemoryPool,
     word: KeyWord,
@@ -102,14 +101,18 @@ fn follow<'a>(
     match step {
         LoginStep::More => {}
         LoginStep::Ask(question) => client.give(question.as_bytes())?,
-        LoginStep::Passed(key) => return ask(pool, word, client, key, number),
+        LoginStep::Passed(key, told) => return ask(pool, word, client, key, told, number),
         LoginStep::Refused(Refusal::OutOfMemory) => return Err(AllocError),
         LoginStep::Refused(refusal) => return refuse(pool, word, client, number, refusal),
         LoginStep::Failed(failure) => {
             client.give(failure.as_bytes())?;
             return Ok(leave(pool, word, client, number));
         }
-        LoginStep::Arrived(_) | LoginStep::Console | LoginStep::Cancel { .. } | LoginStep::Left => {
+        LoginStep::Console(told) => {
+            client.give(told.as_bytes())?;
+            return Ok(leave(pool, word, client, number));
+        }
+        LoginStep::Arrived(_) | LoginStep::Cancel { .. } | LoginStep::Left => {
             return Ok(leave(pool, word, client, number));
         }
     }
@@ -120,20 +123,21 @@ fn follow<'a>(
     })
 }
 
-/// The client is let in, and asks for a link of this key.
+/// The client is let in, is told so, and asks for a link of this key.
 #[tactic(auto, using(crate::proofs::Logins::let_in_waits, crate::proofs::Logins::waits_piece, crate::proofs::Pieces::piece_done, crate::proofs::Logins::let_in_piece))]
 fn ask<'a>(
     pool: &mut MemoryPool,
     word: KeyWord,
     mut client: ActClient<'a>,
     key: Arc<StartKey>,
+    told: Message,
     number: Option<u64>,
 ) -> Result<Stage<'a>, AllocError>
-    requires { IsLetIn pool.old word client (arc_value key) }
+    requires { IsLetIn pool.old word client (arc_value key) (text_of told) }
     ensures same { pool.new ≡ pool.old }
     ensures at { IfOk result (IsAt pool.old word client.entry.input) }
 {
-    client.give(&LET_IN)?;
+    client.give(told.as_bytes())?;
     let Some(asks) = number else {
         return Ok(leave(pool, word, client, None));
     };

@@ -35,7 +35,7 @@ pub fn settings_of(alloc: Global, text: &[u8]) -> Result<Settings, AllocError>
 /// Ann alone.
 pub fn users(alloc: Global) -> Result<Arc<Users>, AllocError> {
     match read_users(alloc, USERS) {
-        Ok(users) => Ok(Arc::new(alloc, users)?),
+        Ok(table) => Ok(Arc::new(alloc, Users::new(table, [0; 32]))?),
         Err(_) => Err(AllocError),
     }
 }

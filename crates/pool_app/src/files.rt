@@ -12,7 +12,7 @@ use std::alloc::Global;
 use std::io::{ErrorKind, Read};
 use std::rt::Files;
 use std::{fs, io};
-use user_file::{Users, read_users};
+use user_file::{UserTable, read_users};
 
 /// How many bytes a file, or standard input, may have.
 pub const MOST_BYTES: u64 = 16_777_216;
@@ -31,7 +31,7 @@ pub enum ReadFault {
 #[derive(Drop)]
 pub struct Inputs {
     pub settings: Settings,
-    pub users: Users,
+    pub users: UserTable,
     pub seed: [u8; 32],
 }
 
@@ -105,7 +105,7 @@ pub fn settings_of<'a>(alloc: Global, text: &[u8]) -> Result<Settings, AppFault<
 }
 
 /// The users of a file's text.
-pub fn users_of<'a>(alloc: Global, text: &[u8]) -> Result<Users, AppFault<'a>>
+pub fn users_of<'a>(alloc: Global, text: &[u8]) -> Result<UserTable, AppFault<'a>>
     ensures { spec.IsUsersOf (lines text.now) result }
 {
     match read_users(alloc, text) {
@@ -127,7 +127,7 @@ fn settings_at<'a, R: Files>(rt: &R, alloc: Global, path: &'a str) -> Result<Set
 }
 
 /// The users in the file at this path.
-fn users_at<'a, R: Files>(rt: &R, alloc: Global, path: &'a str) -> Result<Users, AppFault<'a>>
+fn users_at<'a, R: Files>(rt: &R, alloc: Global, path: &'a str) -> Result<UserTable, AppFault<'a>>
     ensures { IfErr result (spec.IsUsersFault path.entry) }
 {
     let text = read_file(rt, alloc, path)?;
@@ -185,7 +185,7 @@ pub fn read_again<'a, R: Files>(
     alloc: Global,
     ini: &'a str,
     users: &'a str,
-) -> Result<(Settings, Users), AppFault<'a>>
+) -> Result<(Settings, UserTable), AppFault<'a>>
     ensures bounds { IfOk result (λ read. AreWithinBounds read.0) }
     ensures fault { IfErr result (spec.IsAgainFault ini.entry users.entry) }
 {

@@ -4,6 +4,7 @@ use Rattle.std.specs.Arc.{arc_value}
 use Rattle.std.specs.declared.sync.Arc.{Arc}
 use Rattle.message_view.specs.Bodies.{Text}
 use Rattle.user_file.specs.declared.user_table.UserRow.{UserRow}
+use Rattle.user_file.specs.Users.{UsersOf}
 use Rattle.pool_figures.specs.declared.decisions.DecisionSeen.{DecisionSeen}
 use Rattle.pool_figures.specs.declared.figures.Figures.{Figures}
 use Rattle.pool_figures.specs.declared.seen.Activity.{Activity}
@@ -29,9 +30,9 @@ pub record ClientOf : Type 0 where
   pub figures : Figures
 
 -- none, where they aren't known
-abbrev pub users_in : {Z : Type 0} → Option (Arc (List UserRow) Z) → List UserRow
+abbrev pub users_in : {Z : Type 0} → Option (Arc UsersOf Z) → List UserRow
 users_in None = []
-users_in (Some users) = arc_value users
+users_in (Some users) = (arc_value users).rows
 
 pub record SeenOf : Type 0 where
   pub databases : List DatabaseOf

@@ -1,2 +1,3 @@
 pub mod Logins
+pub mod Salts
 pub mod Telling

@@ -5,17 +5,19 @@ ghost use Rattle.ini_config.specs.Bounds.{AreWithinBounds};
 ghost use Rattle.pool_run.specs.Logins.{IsNewLogin};
 ghost use Rattle.pool_run.specs.Telling as spec;
 
+use crate::log::PoolLog;
 use book_model::limits::Limits;
 use book_model::settings::limits_of;
-use ini_config::Settings;
+use ini_config::{AuthType, Settings};
 use keep_alive::Keepalive;
 use log_lines::notes::Note;
 use login_core::Login;
 use message_view::KeyWord;
 use std::alloc::{AllocError, Global};
 use std::marker::Model;
-use std::sync::{Arc, Mutex, Wait};
-use user_file::Users;
+use std::rt::Clock;
+use std::sync::{Arc, Condvar, Mutex, Wait};
+use user_file::{UserTable, Users};
 
 /// Why files aren't read again.
 #[derive(Drop)]
@@ -35,7 +37,7 @@ impl From<AllocError> for Unread {
 /// Where the files of settings and users are.
 pub trait Source: Drop {
     /// What both say now: settings within their bounds, and users.
-    fn read(&self) -> Result<(Settings, Users), Unread>
+    fn read(&self) -> Result<(Settings, UserTable), Unread>
         ensures { IfOk result (λ read. AreWithinBounds read.0) };
 
     /// The pool is about to listen no more.
@@ -116,16 +118,46 @@ pub(crate) struct Arrival {
 struct Kept {
     settings: Bounded,
     users: Arc<Users>,
+    /// How often they were read again.
+    reloads: u64,
+    has_ended: bool,
 }
 
 impl Kept {
-    fn new(alloc: Global, settings: Settings, users: Users) -> Result<Kept, AllocError>
+    fn new(
+        alloc: Global,
+        settings: Settings,
+        users: Users,
+        reloads: u64,
+    ) -> Result<Kept, AllocError>
         requires { AreWithinBounds settings }
     {
         Ok(Kept {
             settings: Bounded::new(alloc, settings)?,
             users: Arc::new(alloc, users)?,
+            reloads,
+            has_ended: false,
         })
+    }
+
+    /// Whether clients are asked for SCRAM by their names alone, and not all users' keys are derived.
+    fn wants_keys(&self) -> bool {
+        self.settings.settings.auth_type() == AuthType::ScramSha256 && !self.users.is_derived()
+    }
+}
+
+/// The users that keys are to be derived of, and at which reload they were read.
+struct Underived {
+    users: Arc<Users>,
+    reloads: u64,
+}
+
+impl Drop for Underived {
+    fn drop(self) {
+        let Underived {
+            users: _,
+            reloads: _,
+        } = self;
     }
 }
 
@@ -147,6 +179,10 @@ pub(crate) struct Keeper<R, F: Source> {
     rt: R,
     alloc: Global,
     kept: Mutex<Kept>,
+    /// Other settings and users came, or the pool has ended.
+    changed: Condvar,
+    /// The key of the salts that names have, as long as the program runs.
+    salts: [u8; 32],
     source: F,
 }
 
@@ -156,27 +192,32 @@ impl<R: Drop, F: Source> Drop for Keeper<R, F> {
             rt: _,
             alloc: _,
             kept: _,
+            changed: _,
+            salts: _,
             source: _,
         } = self;
     }
 }
 
 impl<R: Drop, F: Source> Keeper<R, F> {
-    /// Keeps these. The only error is that an allocation failed.
+    /// Keeps these, and the users under this key of their salts, as all that are read later. The only error is that an allocation failed.
     pub(crate) fn new(
         rt: R,
         alloc: Global,
         settings: Settings,
-        users: Users,
+        users: UserTable,
+        salts: [u8; 32],
         source: F,
     ) -> Result<Keeper<R, F>, AllocError>
         requires { AreWithinBounds settings }
     {
-        let kept = Kept::new(alloc, settings, users)?;
+        let kept = Kept::new(alloc, settings, Users::new(users, salts), 0)?;
         Ok(Keeper {
             rt,
             alloc,
             kept: Mutex::new(kept),
+            changed: Condvar::new(),
+            salts,
             source,
         })
     }
@@ -225,15 +266,89 @@ impl<R: Wait, F: Source> Keeper<R, F> {
         self.source.stops_listening();
     }
 
-    /// Reads the files again, and keeps what they say for later clients; the limits of the settings, twice. Where a file has a fault
-    /// or an allocation fails nothing is kept.
+    /// Reads the files again, and keeps what they say for later clients; the limits of the settings, twice. What was derived of a
+    /// password is kept where it is still the user's. Where a file has a fault or an allocation fails nothing is kept.
     pub(crate) fn reload(&self) -> Result<(Arc<Limits>, Arc<Limits>), Unread>
         ensures { IfOk result (λ p. arc_value p.1 ≡ arc_value p.0) }
     {
-        let (settings, users) = self.source.read()?;
+        let (settings, table) = self.source.read()?;
         let limits = limits_twice(self.alloc, &settings)?;
-        let kept = Kept::new(self.alloc, settings, users)?;
+        let users = Users::new(table, self.salts);
+        let earlier = self.underived()?;
+        users.take_over(self.alloc, &earlier.users);
+        let kept = Kept::new(self.alloc, settings, users, earlier.reloads.wrapping_add(1))?;
         *self.kept.lock(&self.rt) = kept;
+        self.changed.notify_all();
         Ok(limits)
+    }
+
+    /// The users of later clients.
+    fn underived(&self) -> Result<Underived, AllocError> {
+        let kept = self.kept.lock(&self.rt);
+        Ok(Underived {
+            users: Arc::try_clone(&kept.users)?,
+            reloads: kept.reloads,
+        })
+    }
+
+    /// The pool has ended.
+    pub(crate) fn end(&self) {
+        self.kept.lock(&self.rt).has_ended = true;
+        self.changed.notify_all();
+    }
+
+    /// Waits for users whose keys aren't derived yet. None once the pool has ended.
+    fn next_underived(&self) -> Option<Underived> {
+        let mut kept = self.kept.lock(&self.rt);
+        for _ in self.rt.forever() {
+            if kept.has_ended {
+                return None;
+            }
+            if kept.wants_keys() {
+                return Some(Underived {
+                    users: Arc::try_clone(&kept.users).ok()?,
+                    reloads: kept.reloads,
+                });
+            }
+            kept = self.changed.wait(&self.rt, kept);
+        }
+        unreachable!()
+    }
+
+    /// Whether these users are still those of later clients.
+    fn are_current(&self, underived: &Underived) -> bool {
+        let kept = self.kept.lock(&self.rt);
+        kept.reloads == underived.reloads && !kept.has_ended
+    }
+
+    /// Derives the users' keys, one after the other, as long as later clients have these users.
+    fn derive(&self, underived: &Underived) {
+        for place in 0..underived.users.len() {
+            if !self.are_current(underived) {
+                return;
+            }
+            underived.users.derive(self.alloc, place);
+        }
+        underived.users.set_derived();
+    }
+
+    /// Derives the keys of users who are asked for SCRAM, at the start and behind each reload, until the pool has ended: so no client waits
+    /// for its own, and how long one waits tells nobody which names there are.
+    pub(crate) fn derive_keys(&self) {
+        for _ in self.rt.forever() {
+            let Some(underived) = self.next_underived() else {
+                return;
+            };
+            self.derive(&underived);
+        }
+    }
+}
+
+impl<R: Wait + Clock, F: Source> Keeper<R, F> {
+    /// Tells the log of secrets by which no later client can log in.
+    pub(crate) fn tell_users(&self, log: &PoolLog<R>) {
+        if let Ok((settings, users)) = self.share() {
+            log.users(settings.auth_type(), &users);
+        }
     }
 }

@@ -1,16 +1,18 @@
 //! The pool's log, as its threads tell it. No contract says what a log is told; scripts/console.py shows it.
 
+use ini_config::AuthType;
 use log_lines::events::{Event, Heard, Rates, Totals};
 use log_lines::notes::{Client, Note};
 use log_writer::limiter::Limiter;
 use log_writer::log::Log;
 use pool_figures::figures::Figures;
+use scram::server_messages::MOST_ROUNDS;
 use std::alloc::Global;
 use std::io;
 use std::rt::Clock;
 use std::sync::{Arc, Mutex, Wait};
 use std::time::Instant;
-use user_file::Users;
+use user_file::{Secret, Users};
 
 /// A log, and the connections that weren't served since it was told of some.
 pub(crate) struct PoolLog<R> {
@@ -42,6 +44,17 @@ impl<R> PoolLog<R> {
             unserved: Mutex::new(Limiter::new()),
             late: Mutex::new(Limiter::new()),
         }
+    }
+}
+
+/// Whether a client that is asked so can log in by this secret.
+fn lets_in(auth_type: AuthType, secret: &Secret) -> bool {
+    match (secret, auth_type) {
+        (_, AuthType::Trust) => true,
+        (Secret::Unusable, _) => false,
+        (Secret::Md5(_), _) => auth_type != AuthType::ScramSha256,
+        (Secret::Scram(verifier), AuthType::Plain) => verifier.rounds <= MOST_ROUNDS,
+        (Secret::Plain(_) | Secret::Scram(_), _) => true,
     }
 }
 
@@ -113,13 +126,13 @@ impl<R: Wait + Clock> PoolLog<R> {
         self.event(Event::Reloaded);
     }
 
-    /// These are the users of later clients: tells of secrets that accept no password.
-    pub(crate) fn users(&self, users: &Users) {
+    /// These are the users of later clients, who are asked so: tells of secrets by which nobody can log in.
+    pub(crate) fn users(&self, auth_type: AuthType, users: &Users) {
         let mut count = 0u64;
         let mut first: &[u8] = b"";
         for place in 0..users.len() {
             match users.at(place) {
-                Some(user) if !user.secret.answers_md5() => {
+                Some(user) if !lets_in(auth_type, &user.secret) => {
                     if count == 0 {
                         first = user.name.as_bytes();
                     }

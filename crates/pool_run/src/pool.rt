@@ -4,6 +4,7 @@ ghost use Rattle.ini_config.specs.Bounds.{AreWithinBounds};
 ghost use Rattle.desk_tallies.specs.declared.passes.TheConstants.{ALL_PARTS};
 ghost use Rattle.desk_tallies.specs.Shares.{names_of, of_each, parts_of};
 ghost use Rattle.pool_run.specs.Logins.{IsNewLogin};
+ghost use Rattle.pool_run.specs.Salts.{salts_key};
 ghost use Rattle.server_end.specs.Moves.{IsWithin};
 ghost use Rattle.pool_run.specs.declared.pool.TheConstants.{HEARD};
 
@@ -34,6 +35,7 @@ use pool_watch::desk::WatchedDesk;
 use pool_watch::seats::Seat;
 use pool_watch::watch::Watch;
 use relay_flow::buffers::Buffers;
+use scram::hmac;
 use server_end::gate::Gate;
 use server_end::{Moved, ServerEnd};
 use std::alloc::{AllocError, Global};
@@ -48,7 +50,7 @@ use tcp_end::acceptor::{Acceptor, Peer, Turn};
 use tcp_end::connection::TcpEnd;
 use tcp_end::gate::{GatePoll, TcpGate};
 use tcp_end::idle::{IdlePoll, Minder};
-use user_file::Users;
+use user_file::UserTable;
 use worker_threads::Workers;
 
 /// A pass that no client holds, nor a link.
@@ -111,7 +113,8 @@ impl<R: PoolRuntime, F: Source, K: Ledgers> Pool<R, F, K> {
         rt: R,
         alloc: Global,
         settings: Settings,
-        users: Users,
+        users: UserTable,
+        salts: [u8; 32],
         source: F,
         log: &Arc<PoolLog<R>>,
         minder: Minder,
@@ -123,7 +126,7 @@ impl<R: PoolRuntime, F: Source, K: Ledgers> Pool<R, F, K> {
         requires all { parts_of blanks ≡ of_each ALL_PARTS }
     {
         let limits = Arc::new(alloc, limits_of(alloc, &settings)?)?;
-        let keeper = Keeper::new(rt, alloc, settings, users, source)?;
+        let keeper = Keeper::new(rt, alloc, settings, users, salts, source)?;
         let keeper = Arc::new(alloc, keeper)?;
         let watch = Arc::new(alloc, Watch::new(rt, alloc))?;
         let outside = Surroundings {
@@ -558,6 +561,13 @@ fn totals_of<R: PoolRuntime, F: Source, K: Ledgers>(
     }
 }
 
+/// The key of the salts that names have, of the seed of the key words.
+fn salts_key(seed: &[u8; 32]) -> [u8; 32]
+    ensures { result ≡ salts_key seed.now }
+{
+    hmac(seed, b"salts")
+}
+
 /// Serves the connections of these listeners until the last is done, as [`serve_on`] says, over these ledgers.
 fn serve_all<
     R: PoolRuntime + 'static,
@@ -568,7 +578,7 @@ fn serve_all<
     alloc: Global,
     listening: Listening,
     settings: Settings,
-    users: Users,
+    users: UserTable,
     source: F,
     seed: [u8; 32],
     count: Option<u64>,
@@ -585,13 +595,18 @@ fn serve_all<
         mut acceptor,
         metrics,
     } = listening.begin(&rt, alloc, &log)?;
-    log.users(&users);
     let mut workers = Workers::<Connection<R, F, K>>::new(alloc)?;
     let keys = KeySource::new(seed, settings.peer_id());
     let idle = IdlePoll::new(&rt, alloc)?;
     let minder = idle.minder()?;
-    let pool = Pool::<R, F, K>::open(rt, alloc, settings, users, source, &log, minder, blanks)?;
+    let salts = salts_key(&seed);
+    let pool = Pool::<R, F, K>::open(
+        rt, alloc, settings, users, salts, source, &log, minder, blanks,
+    )?;
     let pool = Arc::new(alloc, pool)?;
+    pool.keeper.tell_users(&log);
+    let keeper = Arc::try_clone(&pool.keeper)?;
+    let deriving = thread::spawn(&rt, move || keeper.derive_keys())?;
     let shared = Arc::try_clone(&pool)?;
     let clock = thread::spawn(&rt, move || shared.run_clock(&rt, idle))?;
     let scraped = Arc::try_clone(&pool)?;
@@ -607,6 +622,8 @@ fn serve_all<
     figures.join(&rt);
     workers.join_all(&rt);
     pool.has_ended.store(true, Ordering::SeqCst);
+    pool.keeper.end();
+    deriving.join(&rt);
     clock.join(&rt);
     let totals = totals_of(&rt, pool);
     log.ended(&totals);
@@ -619,7 +636,8 @@ fn serve_all<
 /// that are idle and whose servers hang up; and one writes the log to `out`. Nobody waits for that, but for a second at the end. A thread
 /// whose connection is done serves a later one ([`Workers`]).
 ///
-/// The clients' key words come of the seed and the settings' `peer_id`, which a RELOAD doesn't change.
+/// The clients' key words come of the seed and the settings' `peer_id`, which a RELOAD doesn't change; the key of the salts that names
+/// have for SCRAM comes of the seed alone. One thread more derives what SCRAM makes of the users' passwords.
 ///
 /// A connection for which there is no thread, no poll, no pass or no memory is closed, and the others go on. The error is that the
 /// system has no poll for the listeners or for the idle links, or no thread for the clock or the log, or that an allocation failed
@@ -633,7 +651,7 @@ pub fn serve_on<
     alloc: Global,
     listening: Listening,
     settings: Settings,
-    users: Users,
+    users: UserTable,
     source: F,
     out: W,
     seed: [u8; 32],

@@ -172,9 +172,7 @@ impl<R: PoolRuntime, F: Source> Outside for Surroundings<R, F> {
         match self.keeper.reload() {
             Ok(limits) => {
                 self.log.reloaded();
-                if let Ok((_, users)) = self.keeper.share() {
-                    self.log.users(&users);
-                }
+                self.keeper.tell_users(&self.log);
                 Some(limits)
             }
             Err(Unread::Fault(fault)) => {

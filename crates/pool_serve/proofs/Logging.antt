@@ -8,7 +8,7 @@ use Rattle.message_view.specs.declared.refusal.Refusal.TheVariants.{OutOfMemory}
 use Rattle.ini_config.specs.Bounds.{AreWithinBounds}
 use Rattle.ini_config.specs.Tables.{row_for as row_of_database}
 use Rattle.ini_config.specs.declared.option_values.Settings.{Settings}
-use Rattle.user_file.specs.declared.user_table.UserRow.{UserRow}
+use Rattle.user_file.specs.Users.{UsersOf}
 use Rattle.session_values.specs.State.{Address, CatalogueOf, StartKeyOf}
 use Rattle.link_laws.specs.Standing.{ClientFacts}
 use Rattle.login_core.specs.Talk.End.{Stopped as StoppedFor}
@@ -39,7 +39,7 @@ owes catalogue rows word marks bytes = solo_in catalogue (row_for rows (names_in
 
 same_owed : (catalogue : Address → CatalogueOf) (v w : LoginView) (marks : List Bool) (bytes : List ℕ) → w.settings ≡ v.settings → w.users ≡ v.users → w.word ≡ v.word → own catalogue w marks bytes ≡ own catalogue v marks bytes
 same_owed catalogue v w marks bytes s u k =
-    ap₂ (λ (r : Rows) (x : KeyWord). solo_in catalogue (row_for r (names_in bytes)) x marks bytes) (ap₂ (λ (a : Settings) (b : List UserRow). row_in a b) s u) k
+    ap₂ (λ (r : Rows) (x : KeyWord). solo_in catalogue (row_for r (names_in bytes)) x marks bytes) (ap₂ (λ (a : Settings) (b : UsersOf). row_in a b) s u) k
 
 pub same_rows : (old new : RunView) → IsSameLogin old new → rows_of new.login ≡ rows_of old.login
 same_rows old new s = ap₂ row_in s.settings s.users

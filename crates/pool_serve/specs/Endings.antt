@@ -88,7 +88,7 @@ HasRelayed link g before after other = ⊥
 -- only where no answer had come that says more.
 pub record IsUnstarted (home : HomeOf) (g : LoggedIn) (cause : StartCause) : Type 0 where
   pub user : UserRow
-  pub user_is : Some user ≡ user_named (arc_value g.key).user g.login.users
+  pub user_is : Some user ≡ user_named (arc_value g.key).user g.login.users.rows
   pub began : Standing
   pub now : Standing
   -- of the link that was to be started

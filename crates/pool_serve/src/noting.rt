@@ -3,6 +3,7 @@
 use crate::ending::Ending;
 use crate::logged_in::LoggedIn;
 use disposal::Verdict;
+use ini_config::AuthType;
 use link_desk::answers::Cancelled;
 use link_desk::desk::LinkDesk;
 use link_run::reset::ResetFault;
@@ -12,6 +13,7 @@ use login_core::Failure;
 use login_run::{LoginReply, LoginRun};
 use message_view::Refusal;
 use relay_core::relay::GoneCause;
+use scram::server_messages::MOST_ROUNDS;
 use server_end::ClientEnd;
 use start_keys::StartKey;
 use std::sync::Arc;
@@ -53,16 +55,18 @@ fn login_failure<C: ClientEnd>(run: &LoginRun<C>) -> LoginFailure {
         return LoginFailure::NoUser;
     };
     let settings = run.login().settings();
-    match &user.secret {
-        Secret::Scram(_) => LoginFailure::Verifier,
-        Secret::Unusable => LoginFailure::NoSecret,
-        Secret::Plain(_) | Secret::Md5(_) => {
-            if key.row.is(b"pgbouncer") & !(settings.is_admin(name) | settings.may_look(name)) {
-                return LoginFailure::NoAdmin;
-            }
-            LoginFailure::WrongPassword
+    match (&user.secret, settings.auth_type()) {
+        (Secret::Unusable, _) => return LoginFailure::NoSecret,
+        (Secret::Md5(_), AuthType::ScramSha256) => return LoginFailure::Digest,
+        (Secret::Scram(verifier), AuthType::Plain) if verifier.rounds > MOST_ROUNDS => {
+            return LoginFailure::Rounds;
         }
+        _ => {}
     }
+    if key.row.is(b"pgbouncer") & !(settings.is_admin(name) | settings.may_look(name)) {
+        return LoginFailure::NoAdmin;
+    }
+    LoginFailure::WrongPassword
 }
 
 /// How a login ended that goes no further; nothing, where its client went.
@@ -76,7 +80,13 @@ fn login_note<C: ClientEnd>(run: &LoginRun<C>) -> Option<Note<'_>> {
             run,
         ))),
         (LoginReply::Failure(Failure::NoDatabase), _) => Some(Note::NoDatabase),
-        (LoginReply::Nothing | LoginReply::Question(_) | LoginReply::LetIn, _) => None,
+        (
+            LoginReply::Nothing
+            | LoginReply::Question(_)
+            | LoginReply::LetIn(_)
+            | LoginReply::Proof(_),
+            _,
+        ) => None,
     }
 }
 

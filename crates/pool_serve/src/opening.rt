@@ -21,7 +21,7 @@ use user_file::UserRow;
 
 /// The row of a client's user.
 fn user_of(logged_in: &LoggedIn) -> Option<&UserRow>
-    ensures { option_copied result ≡ user_named (arc_value logged_in.now.key).user logged_in.now.login.users }
+    ensures { option_copied result ≡ user_named (arc_value logged_in.now.key).user logged_in.now.login.users.rows }
 {
     logged_in.login.users().row(logged_in.key.user.as_slice())
 }

@@ -28,7 +28,7 @@ pub fn settings(alloc: Global) -> Result<Arc<Settings>, AllocError> {
 /// Ann alone.
 pub fn users(alloc: Global) -> Result<Arc<Users>, AllocError> {
     match read_users(alloc, USERS) {
-        Ok(users) => Ok(Arc::new(alloc, users)?),
+        Ok(table) => Ok(Arc::new(alloc, Users::new(table, [0; 32]))?),
         Err(_) => Err(AllocError),
     }
 }

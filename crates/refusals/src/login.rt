@@ -57,7 +57,7 @@ fn put_step(
     out: &mut Vec<u8>,
 ) -> Result<(), AllocError> {
     match step {
-        LoginStep::Passed(key) => {
+        LoginStep::Passed(key, _) => {
             put_bytes(alloc, b"user", key.user.as_slice(), out)?;
             for (name, value) in &key.parameters {
                 put_bytes(alloc, b"name", name.as_slice(), out)?;

@@ -17,7 +17,7 @@ use Rattle.login_core.specs.declared.steps.LoginStep.{LoginStep}
 use Rattle.login_core.specs.declared.steps.LoginStep.TheVariants as step
 use Rattle.login_core.specs.Laws.{LoginIsOfItsRow}
 use Rattle.login_core.specs.Talk.End.{Unfinished, Passed, Stopped}
-use Rattle.login_core.specs.Dialogue.{Rows, Dialogue, Way, ToConsole, ToLink, ok, Packet, Reason, Refused, Failed, Left, Cancelling, Stage, AtFirst, Asked, dialogue_from, login, login_among, packet, packets_left, react}
+use Rattle.login_core.specs.Dialogue.{Rows, Dialogue, Way, ToConsole, ToLink, Packet, Reason, Refused, Failed, Left, Cancelling, Stage, AtFirst, Asked, ForPassword, ForFirst, ForLast, dialogue_from, login, login_among, packet, packets_left, react}
 use Rattle.login_core.specs.Logins.{LoginView, Awaiting, AwaitsPacket, Arriving, Over, after, goes_on, goes_from, login_view, missing, missing_of, question_bytes, rows_of}
 use Rattle.login_core.specs.Solo.{after_login, service_pieces}
 use Rattle.login_laws.specs.Laws.{AreLawfulRows, PassedKeysAreLinkKeys, SettingsRowsAreLawful}
@@ -32,11 +32,13 @@ use Rattle.replay_run.specs.Told.{Adds, HasLinkKey, IsKeyed, IsPastArrival, Says
 -- ---- nothing comes
 
 some_left : (s : Stage) → (n : ℕ) × (packets_left s ≡ suc n)
-some_left (AtFirst false false) = (3, refl)
-some_left (AtFirst true false) = (2, refl)
-some_left (AtFirst false true) = (2, refl)
-some_left (AtFirst true true) = (1, refl)
-some_left (Asked key) = (0, refl)
+some_left (AtFirst false false) = (4, refl)
+some_left (AtFirst true false) = (3, refl)
+some_left (AtFirst false true) = (3, refl)
+some_left (AtFirst true true) = (2, refl)
+some_left (Asked ForPassword key) = (0, refl)
+some_left (Asked ForFirst key) = (1, refl)
+some_left (Asked (ForLast first) key) = (0, refl)
 
 cut_silent : (rows : Rows) (word : KeyWord) (s : Stage) (n : ℕ) (c : Cut Packet Reason) → 0 < missing_of c → on_cut (react rows word s) (talk packet (react rows word) n) c ≡ silence
 cut_silent rows word s n (Whole p rest) k = absurd (omega (arith, k))
@@ -72,8 +74,8 @@ step_last : (s : LoginStep) (rest : List ℕ) (d : Dialogue) → is_end s ≡ tr
 step_last step.More rest d e = absurd cc
 step_last (step.Ask q) rest d e = absurd cc
 step_last (step.Arrived k) rest d e = absurd cc
-step_last (step.Passed k) rest d e = refl
-step_last step.Console rest d e = refl
+step_last (step.Passed k told) rest d e = refl
+step_last (step.Console told) rest d e = refl
 step_last (step.Refused r) rest d e = refl
 step_last (step.Failed f) rest d e = refl
 step_last (step.Cancel pid secret) rest d e = refl
@@ -98,8 +100,8 @@ step_on : (dies : Option ℕ) (cat : CatalogueOf) (s : LoginStep) (rest : List �
 step_on dies cat step.More rest d old mid new e x y = says_on dies cat [] d old mid new x y
 step_on dies cat (step.Arrived k) rest d old mid new e x y = says_on dies cat [] d old mid new x y
 step_on dies cat (step.Ask q) rest d old mid new e x y = says_on dies cat (question_bytes q ∷ []) d old mid new x y
-step_on dies cat (step.Passed k) rest d old mid new e x y = absurd cc
-step_on dies cat step.Console rest d old mid new e x y = absurd cc
+step_on dies cat (step.Passed k told) rest d old mid new e x y = absurd cc
+step_on dies cat (step.Console told) rest d old mid new e x y = absurd cc
 step_on dies cat (step.Refused r) rest d old mid new e x y = absurd cc
 step_on dies cat (step.Failed f) rest d old mid new e x y = absurd cc
 step_on dies cat (step.Cancel pid secret) rest d old mid new e x y = absurd cc
@@ -124,8 +126,8 @@ pub missing_on : (s : LoginStep) (v : LoginView) → IsPastArrival s v → is_en
 missing_on step.More v p e = p
 missing_on (step.Ask q) v p e = p
 missing_on (step.Arrived k) v p e = absurd p
-missing_on (step.Passed k) v p e = absurd cc
-missing_on step.Console v p e = absurd cc
+missing_on (step.Passed k told) v p e = absurd cc
+missing_on (step.Console told) v p e = absurd cc
 missing_on (step.Refused r) v p e = absurd cc
 missing_on (step.Failed f) v p e = absurd cc
 missing_on (step.Cancel pid secret) v p e = absurd cc
@@ -151,8 +153,8 @@ step_key : (s : LoginStep) (rest : List ℕ) (d : Dialogue) → IsKeyed (after s
 step_key step.More rest d k = tt
 step_key (step.Ask q) rest d k = tt
 step_key (step.Arrived key) rest d k = tt
-step_key (step.Passed key) rest d k = k
-step_key step.Console rest d k = tt
+step_key (step.Passed key told) rest d k = k
+step_key (step.Console told) rest d k = tt
 step_key (step.Refused r) rest d k = tt
 step_key (step.Failed f) rest d k = tt
 step_key (step.Cancel pid secret) rest d k = tt
@@ -170,8 +172,8 @@ keyed_rest : (s : LoginStep) (rest : List ℕ) (d : Dialogue) → is_end s ≡ f
 keyed_rest step.More rest d e k = k
 keyed_rest (step.Ask q) rest d e k = k
 keyed_rest (step.Arrived key) rest d e k = k
-keyed_rest (step.Passed key) rest d e k = absurd cc
-keyed_rest step.Console rest d e k = absurd cc
+keyed_rest (step.Passed key told) rest d e k = absurd cc
+keyed_rest (step.Console told) rest d e k = absurd cc
 keyed_rest (step.Refused r) rest d e k = absurd cc
 keyed_rest (step.Failed f) rest d e k = absurd cc
 keyed_rest (step.Cancel pid secret) rest d e k = absurd cc
@@ -202,12 +204,12 @@ standing_limit = refl
 
 -- ---- a login that has passed
 
-pub passed_given : (dies : Option ℕ) (cat : CatalogueOf) (key : StartKeyOf) (rest old greeted new answer : List ℕ) → greeted ≡ old ++ ok → IsAnswer dies LONGEST_FRAME rest answer (service_pieces cat key standing_word [] rest) → new ≡ greeted ++ answer
-    → Adds dies cat (record { pieces = ok ∷ []; ended = Passed (ToLink key) rest }) old new
-passed_given dies cat key rest old greeted new answer g a n = record {
-  given = ok ++ answer;
-  answered = record { more = answer; follows = a; out_is = ap (λ (o : List ℕ). o ++ answer) (sym (append-nil ok)) };
-  both = n ∙ (ap (λ (o : List ℕ). o ++ answer) g ∙ append_assoc old ok answer);
+pub passed_given : (dies : Option ℕ) (cat : CatalogueOf) (key : StartKeyOf) (told rest old greeted new answer : List ℕ) → greeted ≡ old ++ told → IsAnswer dies LONGEST_FRAME rest answer (service_pieces cat key standing_word [] rest) → new ≡ greeted ++ answer
+    → Adds dies cat (record { pieces = told ∷ []; ended = Passed (ToLink key) rest }) old new
+passed_given dies cat key told rest old greeted new answer g a n = record {
+  given = told ++ answer;
+  answered = record { more = answer; follows = a; out_is = ap (λ (o : List ℕ). o ++ answer) (sym (append-nil told)) };
+  both = n ∙ (ap (λ (o : List ℕ). o ++ answer) g ∙ append_assoc old told answer);
 }
 
 -- ---- the whole answer

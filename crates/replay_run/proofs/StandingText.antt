@@ -18,7 +18,7 @@ use Rattle.session_catalogue.specs.Catalogues.{catalogue_of, fields, said, parts
 use Rattle.session_values.specs.State.{CatalogueOf}
 use Rattle.session_catalogue.specs.declared.catalogue_fault.CatalogueCause.{CatalogueCause}
 use Rattle.replay_run.specs.declared.standing.TheConstants.{CATALOGUE, SETTINGS, USERS}
-use Rattle.replay_run.specs.Replay.{standing_catalogue, standing_settings, standing_users}
+use Rattle.replay_run.specs.Replay.{standing_catalogue, standing_settings, standing_table}
 
 -- ---- the settings
 
@@ -26,8 +26,8 @@ pub settings_spelled : (said_by ini.with_line ini.fault_of ini.empty_file (lines
 unfolding standing_settings lines_from line_len kept_start kept_end spans_from pieces_from first_of matches_from split_at said_by said_in row_of values_in host_of is_host is_folder is_ip_host dotted octet number_between ini.with_row ini.with_option key_named change_of auth_type names
 settings_spelled = refl
 
-pub users_spelled : said_by users.with_line users.fault_of [] (lines USERS.now) ≡ standing_users
-unfolding standing_users lines_from line_len kept_start kept_end spans_from pieces_from matches_from replaced_at said_by users.user_of user_fields.fields user_fields.quoted
+pub users_spelled : said_by users.with_line users.fault_of [] (lines USERS.now) ≡ standing_table
+unfolding standing_table lines_from line_len kept_start kept_end spans_from pieces_from matches_from replaced_at said_by users.user_of user_fields.fields user_fields.quoted
 users_spelled = refl
 
 -- ---- the catalogue

@@ -29,8 +29,8 @@ abbrev pub is_end : LoginStep → Bool
 is_end step.More = false
 is_end (step.Ask q) = false
 is_end (step.Arrived key) = false
-is_end (step.Passed key) = true
-is_end step.Console = true
+is_end (step.Passed key told) = true
+is_end (step.Console told) = true
 is_end (step.Refused refusal) = true
 is_end (step.Failed f) = true
 is_end (step.Cancel pid secret) = true
@@ -41,8 +41,8 @@ abbrev pub IsPastArrival : LoginStep → LoginView → Type 0
 IsPastArrival (step.Arrived key) v = ⊥
 IsPastArrival step.More v = 0 < missing v.awaiting v.held
 IsPastArrival (step.Ask q) v = 0 < missing v.awaiting v.held
-IsPastArrival (step.Passed key) v = Unit {0}
-IsPastArrival step.Console v = Unit {0}
+IsPastArrival (step.Passed key told) v = Unit {0}
+IsPastArrival (step.Console told) v = Unit {0}
 IsPastArrival (step.Refused refusal) v = Unit {0}
 IsPastArrival (step.Failed f) v = Unit {0}
 IsPastArrival (step.Cancel pid secret) v = Unit {0}
@@ -65,8 +65,8 @@ abbrev pub HasLinkKey : LoginStep → Type 0
 HasLinkKey step.More = Unit {0}
 HasLinkKey (step.Ask q) = Unit {0}
 HasLinkKey (step.Arrived key) = Unit {0}
-HasLinkKey (step.Passed key) = IsLinkKey (arc_value key)
-HasLinkKey step.Console = Unit {0}
+HasLinkKey (step.Passed key told) = IsLinkKey (arc_value key)
+HasLinkKey (step.Console told) = Unit {0}
 HasLinkKey (step.Refused refusal) = Unit {0}
 HasLinkKey (step.Failed f) = Unit {0}
 HasLinkKey (step.Cancel pid secret) = Unit {0}

@@ -6,13 +6,14 @@ ghost use Rattle.frame_view.specs.declared.frames.TheConstants.{LONGEST_FRAME};
 ghost use Rattle.message_view.specs.Refusals.{refusal};
 ghost use Rattle.message_view.specs.declared.refusal.Refusal.TheVariants as refused;
 ghost use Rattle.link_start.specs.Starts.{IsLinkKey};
-ghost use Rattle.login_core.specs.Dialogue.{AtFirst, ToLink, ok};
+ghost use Rattle.login_core.specs.Dialogue.{AtFirst, ToLink};
 ghost use Rattle.login_core.specs.Logins.{AwaitsPacket, after, goes_on, login_view, missing};
 ghost use Rattle.login_core.specs.Solo.{service_pieces};
 ghost use Rattle.login_core.specs.Talk.End.{Passed};
 ghost use Rattle.memory_lease.specs.Answers.{IsAnswer};
 ghost use Rattle.pool_app.specs.declared.fault.AppFault.TheVariants as told;
 ghost use Rattle.replay_run.specs.Replay.{IsLeft, IsReply, WritesReply, standing_catalogue, standing_settings, standing_users, standing_word};
+ghost use Rattle.scram.specs.Short.{text_of};
 ghost use Rattle.replay_run.specs.Told.{Adds, IsKeyed, IsPastArrival, Says, WantsMemory, HasLinkKey, is_end, silence};
 
 use crate::standing::{KEY_WORD, catalogue, settings, users};
@@ -23,9 +24,10 @@ use login_core::{Login, LoginStep};
 use login_laws::laws::{passed_keys_are_link_keys, settings_rows_are_lawful};
 use memory_ends::memory_server::{MemoryServer, ServerAuth};
 use memory_lease::alone::{ServeError, serve_alone};
-use message_view::{KeyWord, Refusal, put_authentication_ok, refusal_bytes};
+use message_view::{KeyWord, Refusal, refusal_bytes};
 use pool_app::fault::AppFault;
 use pool_app::files::{MOST_BYTES, ReadFault, read_all};
+use scram::Message;
 use session_catalogue::Catalogue;
 use session_machine::solo_bytes;
 use start_keys::StartKey;
@@ -134,18 +136,19 @@ fn served(
     }
 }
 
-/// What follows a login that has passed: AuthenticationOk, and what the client is answered over its link.
+/// What follows a login that has passed: what the client is told, and what it is answered over its link.
 fn put_passed(
     alloc: Global,
     service: &Service,
     key: &Arc<StartKey>,
+    told: &Message,
     rest: &[u8],
     out: &mut BytesMut,
 ) -> Result<(), AllocError>
     requires key { IsLinkKey (arc_value key.now) }
-    ensures { OnOk result (Adds service.now.dies_after (arc_value service.now.catalogue) (record { pieces = ok ∷ []; ended = Passed (ToLink (arc_value key.now)) rest.now }) out.old.items out.new.items) }
+    ensures { OnOk result (Adds service.now.dies_after (arc_value service.now.catalogue) (record { pieces = text_of told.now ∷ []; ended = Passed (ToLink (arc_value key.now)) rest.now }) out.old.items out.new.items) }
 {
-    put_authentication_ok(out)?;
+    out.extend_from_slice(told.as_bytes())?;
     let answer = served(alloc, service, key, rest)?;
     out.extend_from_slice(answer.as_slice())?;
     Ok(())
@@ -166,14 +169,13 @@ fn put_step(
 {
     match step {
         LoginStep::Ask(question) => out.extend_from_slice(question.as_bytes()),
-        LoginStep::Passed(key) => put_passed(alloc, service, key, rest, out),
+        LoginStep::Passed(key, told) => put_passed(alloc, service, key, told, rest, out),
+        LoginStep::Console(told) => out.extend_from_slice(told.as_bytes()),
         LoginStep::Refused(refusal) => put_refusal(out, *refusal),
         LoginStep::Failed(failure) => out.extend_from_slice(failure.as_bytes()),
-        LoginStep::More
-        | LoginStep::Arrived(_)
-        | LoginStep::Console
-        | LoginStep::Cancel { .. }
-        | LoginStep::Left => Ok(()),
+        LoginStep::More | LoginStep::Arrived(_) | LoginStep::Cancel { .. } | LoginStep::Left => Ok(
+            (),
+        ),
     }
 }
 

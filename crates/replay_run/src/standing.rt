@@ -34,12 +34,12 @@ pub(crate) fn settings(alloc: Global) -> Result<Settings, AllocError>
     }
 }
 
-/// The standing users.
+/// The standing users. Nobody is asked for SCRAM, so the key of the salts is any.
 pub(crate) fn users(alloc: Global) -> Result<Users, AllocError>
     ensures { IfOk result (λ u. u ≡ standing_users) }
 {
     match read_users(alloc, USERS) {
-        Ok(users) => Ok(users),
+        Ok(table) => Ok(Users::new(table, [0; 32])),
         Err(_) => Err(AllocError),
     }
 }

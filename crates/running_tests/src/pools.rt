@@ -23,7 +23,7 @@ use std::time::Duration;
 use std::{io, net, thread};
 use stub_server::server::stub_on;
 use tcp_end::acceptor::Listener;
-use user_file::{Users, read_users};
+use user_file::{UserTable, read_users};
 
 /// AuthenticationOk, nine reports, BackendKeyData and ReadyForQuery.
 pub const WELCOME: usize = 260;
@@ -36,7 +36,7 @@ fn catalogue(alloc: Global) -> Result<Catalogue, Fail> {
     )
 }
 
-fn users(alloc: Global) -> Option<Users> {
+fn users(alloc: Global) -> Option<UserTable> {
     read_users(alloc, b"\"ann\" \"secret\"\n").ok()
 }
 
@@ -123,7 +123,7 @@ pub fn nowhere_else(alloc: Global, port: u16) -> Elsewhere {
 }
 
 impl Source for Elsewhere {
-    fn read(&self) -> Result<(Settings, Users), Unread> {
+    fn read(&self) -> Result<(Settings, UserTable), Unread> {
         if !self.was_asked.swap(true, Ordering::SeqCst) {
             return Err(Unread::Memory);
         }

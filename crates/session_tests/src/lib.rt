@@ -1,5 +1,5 @@
-//! Tests of a session, from `session_values` up to `session_machine`, and of the files that name its catalogue; of start keys and what
-//! servers report of their parameters (`start_keys`, `param_track`); and of the login (`login_core`).
+//! Tests of a session, from `session_values` up to `session_machine`, and of the files that name its catalogue; and of start keys and what
+//! servers report of their parameters (`start_keys`, `param_track`).
 #![tactic(auto)]
 
 #[cfg(test)]
@@ -10,8 +10,6 @@ mod client_keys;
 mod conversations;
 #[cfg(test)]
 mod key_parts;
-#[cfg(test)]
-mod logins;
 #[cfg(test)]
 mod reports;
 #[cfg(test)]

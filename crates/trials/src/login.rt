@@ -13,9 +13,6 @@ use std::rt::Files;
 use std::sync::Arc;
 use user_file::Users;
 
-/// AuthenticationOk of a client that goes on to a link, which a login leaves to its caller. That of the console is the console's.
-const OK: &[u8] = b"R\0\0\0\x08\0\0\0\0";
-
 /// How a login ends.
 #[derive(Drop)]
 enum Ending {
@@ -90,11 +87,14 @@ fn on_step(alloc: Global, step: LoginStep, told: &mut Told) -> Result<Next, Allo
             put_arrived(alloc, &key, told)?;
             Ok(Next::NoBytes)
         }
-        LoginStep::Passed(key) => {
-            told.given.extend_from_slice(OK)?;
+        LoginStep::Passed(key, said) => {
+            told.given.extend_from_slice(said.as_bytes())?;
             Ok(Next::Nothing(Ending::Passed(key)))
         }
-        LoginStep::Console => Ok(Next::Nothing(Ending::Console)),
+        LoginStep::Console(said) => {
+            told.given.extend_from_slice(said.as_bytes())?;
+            Ok(Next::Nothing(Ending::Console))
+        }
         LoginStep::Refused(Refusal::OutOfMemory) => Err(AllocError),
         LoginStep::Refused(refusal) => {
             told.given.extend_from_slice(refusal_bytes(refusal))?;
@@ -210,7 +210,7 @@ pub fn answer<'a, R: Files + Input>(
     let text = read_file(rt, alloc, ini)?;
     let settings = settings_of(alloc, text.as_slice())?;
     let text = read_file(rt, alloc, users)?;
-    let users = users_of(alloc, text.as_slice())?;
+    let users = Users::new(users_of(alloc, text.as_slice())?, [0; 32]);
     let bytes = read_input(rt, alloc)?;
     match lines_of(alloc, settings, users, bytes.as_slice(), cut) {
         Ok(lines) => Ok(lines),

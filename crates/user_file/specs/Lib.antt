@@ -1,4 +1,5 @@
 pub mod Fields
 pub mod Passwords
+pub mod Salts
 pub mod Secrets
 pub mod Users

@@ -1,10 +1,15 @@
--- Secrets, and what proves that a client knows one (RFC 1321; PostgreSQL manual, "Password authentication").
+-- Secrets, and what proves that a client knows one (RFC 1321; RFC 5802, section 3; PostgreSQL manual,
+-- "Password authentication").
 use Rattle.std.specs.Prelude.{ℕ, Bool, true, false, List, ◌++◌, ◌==◌, ◌&&◌, ◌||◌, if◌then◌else◌, nat_le, nat_eq, length, drop, Option, Some, None, option_map, bytes_eq, codes}
 use Rattle.std.specs.List.{list_all, starts_with}
 use Rattle.md5.specs.Md5.{md5}
 use Rattle.hex.specs.Hex.{encode_lower}
 use Rattle.scram.specs.declared.verifier.Verifier.{Verifier}
 use Rattle.scram.specs.Verifiers.{verifier_of}
+use Rattle.scram.specs.Hmac.{hi}
+use Rattle.scram.specs.Keys.{server_keys}
+use Rattle.scram.specs.declared.server_messages.TheConstants.{MOST_ROUNDS}
+use Rattle.sasl_prep.specs.Prepared.{prepared}
 use Rattle.user_file.specs.declared.secrets.Secret.{Secret}
 use Rattle.user_file.specs.declared.secrets.Secret.TheVariants.{Plain, Md5, Scram, Unusable}
 
@@ -50,6 +55,12 @@ stored (Md5 own) user = Some own
 stored (Scram verifier) user = None
 stored Unusable user = None
 
+abbrev pub is_verifier : Secret → Bool
+is_verifier (Plain password) = false
+is_verifier (Md5 own) = false
+is_verifier (Scram verifier) = true
+is_verifier Unusable = false
+
 abbrev pub answers_md5 : Secret → Bool
 answers_md5 (Plain password) = true
 answers_md5 (Md5 own) = true
@@ -63,11 +74,17 @@ salted_answer salt own = codes "md5" ++ encode_lower (md5 (own ++ salt))
 abbrev pub answer : Secret → Text → Text → Option Text
 answer secret user salt = option_map (salted_answer salt) (stored secret user)
 
+-- a password is a verifier's where its keys are; more rounds than a server may ask of its client aren't computed
+abbrev pub is_verified : Verifier → Text → Bool
+is_verified verifier password =
+    if nat_le verifier.rounds MOST_ROUNDS then bytes_eq (server_keys (hi (prepared password) verifier.salt verifier.rounds)).stored verifier.keys.stored
+    else false
+
 -- a password that came as it is
 abbrev pub accepts_plain : Secret → Text → Text → Bool
 accepts_plain (Plain own) user password = bytes_eq password own
 accepts_plain (Md5 own) user password = bytes_eq (digits password user) own
-accepts_plain (Scram verifier) user password = false
+accepts_plain (Scram verifier) user password = is_verified verifier password
 accepts_plain Unusable user password = false
 
 -- nothing is right where there is no answer

@@ -10,6 +10,14 @@ use Rattle.user_file.specs.declared.faults.UserCause.TheVariants.{BadQuoting, Na
 use Rattle.user_file.specs.declared.faults.UserFault.{UserFault}
 use Rattle.user_file.specs.declared.user_table.UserRow.{UserRow}
 
+-- the users that a login goes by, and the key of the salts that names have
+pub record UsersOf : Type 0 where
+  pub rows : List UserRow
+  pub salts : Text
+
+abbrev pub users_of : List UserRow → Text → UsersOf
+users_of rows salts = record { rows = rows; salts = salts }
+
 -- the first user of the name
 abbrev pub user_named : Text → List UserRow → Option UserRow
 user_named name users = find (λ user. bytes_eq name user.name) users

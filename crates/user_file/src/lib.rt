@@ -5,11 +5,15 @@ mod faults;
 mod fields;
 mod password;
 mod reading;
+mod salts;
 mod secrets;
 mod user_table;
+mod users;
 
 pub use faults::{UserCause, UserFault};
 pub use password::Password;
 pub use reading::read_users;
+pub use salts::{Judging, ROUNDS, Salting};
 pub use secrets::Secret;
-pub use user_table::{UserRow, Users};
+pub use user_table::{UserRow, UserTable};
+pub use users::Users;

@@ -9,13 +9,13 @@ ghost use Rattle.user_file.specs.Users as spec;
 use crate::faults::{UserCause, UserFault};
 use crate::fields::{fields, unquoted};
 use crate::secrets::Secret;
-use crate::user_table::{UserRow, Users};
+use crate::user_table::{UserRow, UserTable};
 use bstr::ByteSlice;
 use std::alloc::{AllocError, Global};
 use text_lines::{Text, is_ignored, trimmed};
 
 /// The text of a name's field, if no user has that name yet. Where there is no memory for it, the field is compared with each name.
-fn new_name(users: &Users, alloc: Global, field: &[u8]) -> Result<Text, UserCause>
+fn new_name(users: &UserTable, alloc: Global, field: &[u8]) -> Result<Text, UserCause>
     ensures { spec.IsNewName users.now field.now result }
 {
     let Ok(name) = unquoted(alloc, field) else {
@@ -41,7 +41,7 @@ fn secret_of(alloc: Global, field: &[u8]) -> Result<Secret, AllocError>
 
 /// Takes a trimmed line, or reports its first fault. Out of memory comes after all others.
 #[tactic(auto, unfolding(crate::specs::Users::user_of))]
-fn take_line(users: &mut Users, alloc: Global, line: &[u8]) -> Result<(), UserCause>
+fn take_line(users: &mut UserTable, alloc: Global, line: &[u8]) -> Result<(), UserCause>
     ensures { TookLine UserCause.Memory (spec.keeps line.now) (spec.fault_of users.old line.now) (spec.with_line users.old line.now) users.new result }
 {
     if is_ignored(line) {
@@ -62,10 +62,10 @@ fn take_line(users: &mut Users, alloc: Global, line: &[u8]) -> Result<(), UserCa
 /// A line ends with LF or CR LF or the end of the file; spaces and tabs at its ends are dropped. Of several faults on one line the
 /// one with the lowest number is reported. Out of memory is reported with a line that names a user, and neither that line nor one
 /// before it has another fault.
-pub fn read_users(alloc: Global, text: &[u8]) -> Result<Users, UserFault>
+pub fn read_users(alloc: Global, text: &[u8]) -> Result<UserTable, UserFault>
     ensures { spec.IsReadOf (lines_of_file text.now) result }
 {
-    let mut users = Users::new(alloc);
+    let mut users = UserTable::new(alloc);
     let mut number = 0usize;
     for line in text.lines() {
         number += 1;

@@ -1,11 +1,16 @@
 //! Secrets, and what proves that a client knows one.
-ghost use Rattle.std.specs.Prelude.{◌≡◌, IfOk, IfSome, bytes_eq};
+ghost use Rattle.std.specs.Prelude.{◌≡◌, IfErr, IfOk, IfSome, bytes_eq, true};
 ghost use Rattle.std.specs.List.{list_all};
+ghost use Rattle.user_file.specs.Salts.{keys_of, salting_of};
 ghost use Rattle.user_file.specs.Secrets as spec;
 
 use crate::password::Password;
+use crate::salts::{ROUNDS, Salting};
 use md5::{Digest, Md5};
-use scram::Verifier;
+use sasl_prep::prepared;
+use scram::keys::salted;
+use scram::server_messages::MOST_ROUNDS;
+use scram::{Salt, ServerKeys, Verifier};
 use std::alloc::{AllocError, Global};
 use std::fmt;
 use text_lines::Text;
@@ -16,7 +21,7 @@ pub enum Secret {
     Plain(Password),
     /// The 32 lower-case hex digits of the MD5 digest of the password followed by the user's name.
     Md5([u8; 32]),
-    /// What PostgreSQL keeps of the password (`pg_authid.rolpassword`), by which SCRAM alone could judge. It accepts nothing yet.
+    /// What PostgreSQL keeps of the password (`pg_authid.rolpassword`), by which a proof of SCRAM is judged, or a password.
     Scram(Verifier),
     /// No secret: it accepts nothing.
     Unusable,
@@ -118,6 +123,19 @@ fn salted_answer(salt: [u8; 4], own: [u8; 32]) -> [u8; 35]
     text
 }
 
+/// Whether a password's keys are the verifier's. The only error is out of memory.
+fn is_verified(alloc: Global, verifier: &Verifier, password: &[u8]) -> Result<bool, AllocError>
+    ensures { IfOk result (λ b. b ≡ spec.is_verified verifier.now password.now) }
+{
+    if verifier.rounds > MOST_ROUNDS {
+        return Ok(false);
+    }
+    let text = prepared(alloc, password)?;
+    let salted = salted(text.as_slice(), verifier.salt.as_bytes(), verifier.rounds);
+    let keys = ServerKeys::of(&salted);
+    Ok(is_same(keys.stored.as_slice(), verifier.keys.stored.as_slice()))
+}
+
 impl Secret {
     /// The secret of a text: `md5` and 32 lower-case hex digits are an MD5 secret, a verifier ([`Verifier::read`]) is a SCRAM secret; no
     /// bytes, and another text that begins with `SCRAM-SHA-`, are no secret; every other text is a plain one. The only error is out of
@@ -167,18 +185,25 @@ impl Secret {
         Some(salted_answer(salt, own))
     }
 
-    /// Whether a password that came as it is, is this user's: equal to a plain secret, or its digits equal to an MD5 secret. A verifier
-    /// accepts none yet.
+    /// Whether a password that came as it is, is this user's: equal to a plain secret, its digits equal to an MD5 secret, or its keys to
+    /// a verifier's, which takes the verifier's rounds; one of more than 1,000,000 rounds accepts none.
     ///
-    /// It takes no memory. The comparison goes through every byte that both texts have, whatever differs, so its time tells
-    /// nothing of where the first wrong byte stands.
-    pub fn accepts_plain(&self, user: &[u8], password: &[u8]) -> bool
-        ensures { result ≡ spec.accepts_plain self.now user.now password.now }
+    /// The comparison goes through every byte that both texts have, whatever differs, so its time tells nothing of where the first
+    /// wrong byte stands. The only error is out of memory, and comes of a verifier alone.
+    pub fn accepts_plain(
+        &self,
+        alloc: Global,
+        user: &[u8],
+        password: &[u8],
+    ) -> Result<bool, AllocError>
+        ensures value { IfOk result (λ b. b ≡ spec.accepts_plain self.now user.now password.now) }
+        ensures memory { IfErr result (λ e. spec.is_verifier self.now ≡ true) }
     {
         match self {
-            Secret::Plain(own) => is_same(password, own.as_bytes()),
-            Secret::Md5(own) => is_same(digits(password, user).as_slice(), own.as_slice()),
-            Secret::Scram(_) | Secret::Unusable => false,
+            Secret::Plain(own) => Ok(is_same(password, own.as_bytes())),
+            Secret::Md5(own) => Ok(is_same(digits(password, user).as_slice(), own.as_slice())),
+            Secret::Scram(verifier) => is_verified(alloc, verifier, password),
+            Secret::Unusable => Ok(false),
         }
     }
 
@@ -191,6 +216,52 @@ impl Secret {
         match self.answer(user, salt) {
             Some(right) => is_same(answer, right.as_slice()),
             None => false,
+        }
+    }
+
+    /// Whether it is a verifier.
+    pub fn is_verifier(&self) -> bool
+        ensures { result ≡ spec.is_verifier self.now }
+    {
+        matches!(self, Secret::Scram(_))
+    }
+
+    /// How the password is salted: as a verifier says, else by this salt.
+    pub(crate) fn salting(&self, salt: Salt) -> Salting
+        ensures { result ≡ salting_of self.now salt }
+    {
+        match self {
+            Secret::Scram(verifier) => Salting {
+                salt: Salt::new(verifier.salt.as_bytes()),
+                rounds: verifier.rounds,
+            },
+            Secret::Plain(_) | Secret::Md5(_) | Secret::Unusable => Salting {
+                salt,
+                rounds: ROUNDS,
+            },
+        }
+    }
+
+    /// The keys that a proof has to fit, of a password that is salted by this salt where no verifier says how. The only error is out of
+    /// memory.
+    pub(crate) fn server_keys(
+        &self,
+        alloc: Global,
+        salt: &Salt,
+    ) -> Result<Option<ServerKeys>, AllocError>
+        ensures { IfOk result (λ k. k ≡ keys_of self.now salt.now) }
+    {
+        match self {
+            Secret::Plain(password) => Ok(Some(password.server_keys(alloc, salt, ROUNDS)?)),
+            Secret::Scram(verifier) => Ok(Some(verifier.keys)),
+            Secret::Md5(_) | Secret::Unusable => Ok(None),
+        }
+    }
+
+    /// Takes over what was derived of an equal plain secret.
+    pub(crate) fn take_over(&self, alloc: Global, earlier: &Secret) {
+        if let (Secret::Plain(own), Secret::Plain(before)) = (self, earlier) {
+            own.take_over(alloc, before);
         }
     }
 }

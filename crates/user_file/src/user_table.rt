@@ -29,18 +29,18 @@ impl fmt::Debug for UserRow {
     }
 }
 
-/// Users in the order of the file, found by name.
-pub struct Users {
+/// The users that a file spells, in its order, found by name.
+pub struct UserTable {
     by_name: IndexMap<Vec<u8>, UserRow>,
 }
 
-impl Drop for Users {
+impl Drop for UserTable {
     fn drop(self) {
-        let Users { by_name: _ } = self;
+        let UserTable { by_name: _ } = self;
     }
 }
 
-impl Model for Users {
+impl Model for UserTable {
     ghost use Rattle.std.specs.Prelude.{◌≡◌, List, map};
     ghost use Rattle.user_file.specs.declared.user_table.UserRow.{UserRow};
 
@@ -51,18 +51,18 @@ impl Model for Users {
     ghost invariant = { λ u. map (λ e. e.0.items) u.by_name.entries ≡ map (λ e. e.1.name) u.by_name.entries };
 }
 
-impl fmt::Debug for Users {
+impl fmt::Debug for UserTable {
     fn fmt<W: fmt::Write>(&self, f: &mut fmt::Formatter<W>) -> fmt::Result {
-        f.write_str("Users(..)")
+        f.write_str("UserTable(..)")
     }
 }
 
-impl Users {
+impl UserTable {
     /// No users. It takes no memory.
-    pub fn new(alloc: Global) -> Users
+    pub fn new(alloc: Global) -> UserTable
         ensures { result ≡ [] }
     {
-        Users {
+        UserTable {
             by_name: IndexMap::new(alloc),
         }
     }

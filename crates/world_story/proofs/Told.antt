@@ -72,7 +72,7 @@ abbrev user : UserRow
 user = record { name = codes "ann"; secret = Plain (codes "p") }
 
 abbrev pub row : LoginRow
-row = record { auth = Trust; names = record { followed = always_followed; ignored = [] }; admins = []; lookers = []; database = Some db; user = Some user }
+row = record { auth = Trust; names = record { followed = always_followed; ignored = [] }; admins = []; lookers = []; database = Some db; user = Some user; salts = [] }
 
 pub lawful_row : IsLawfulRow row.database
 lawful_row = (omega arith, (omega arith, (omega arith, (omega arith, (omega arith, tt)))))

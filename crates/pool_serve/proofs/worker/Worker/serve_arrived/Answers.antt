@@ -1,7 +1,7 @@
 use Rattle.std.proofs.Common.{List, inl, refl, sym, ap, ◌∙◌, subst}
 use Rattle.ini_config.specs.Bounds.{AreWithinBounds}
 use Rattle.ini_config.specs.declared.option_values.Settings.{Settings}
-use Rattle.user_file.specs.declared.user_table.UserRow.{UserRow}
+use Rattle.user_file.specs.Users.{UsersOf}
 use Rattle.link_laws.specs.Standing.{ClientFacts}
 use Rattle.login_core.specs.Logins.{LoginView}
 use Rattle.pool_serve.specs.declared.logged_in.LoggedIn.{LoggedIn}
@@ -43,7 +43,7 @@ returns-in-Some-clause-serves g c = λ t l.
     c.finish-client-2.ensures.login
     t
     (c.host.ensures.ended.ended.serves (ap (λ (x : ClientFacts). x.tells) c.finish-client-2.ensures.client ∙ (c.drive_login.ensures.login.tells ∙ t))
-    (subst (λ (u : List UserRow). LetsIn g.D.LinkDesk.home u) (sym (ap (λ (x : LoginView). x.users) c.finish-client-2.ensures.login ∙ c.drive_login.ensures.login.users)) l)))
+    (subst (λ (u : UsersOf). LetsIn g.D.LinkDesk.home u) (sym (ap (λ (x : LoginView). x.users) c.finish-client-2.ensures.login ∙ c.drive_login.ensures.login.users)) l)))
 
 pub returns-in-None-clause-serves : goal.returns-in-None-clause-serves
 returns-in-None-clause-serves g c = λ t l. run_ends c.runs_are_allowed.ensures g.D.LinkDesk.home c.args.run c.drive_login.new.run (g.C.ClientEnd.facts c.finish-client-2.result.0) c.drive_login.ensures.login c.finish-client-2.ensures.run c.finish-client-2.ensures.client t

@@ -1,12 +1,11 @@
 //! Worked logins, each cut at every byte.
-use ini_config::{Settings, read_settings};
-use login_core::{KeyWord, Login, LoginStep};
-use message_view::refusal_bytes;
-use start_keys::StartKey;
+use crate::login_parts::{
+    ANN, ARRIVES, BC, End, MALFORMED, OK, ROOT_AT_CONSOLE, WRONG, ZED, cut_at, is_login, joined,
+    login,
+};
+use login_core::LoginStep;
 use std::alloc::Global;
-use std::sync::Arc;
 use std::test::Fail;
-use user_file::{Users, read_users};
 
 const SHOP: &[u8] =
     b"[databases]\nshop = host=127.0.0.1 port=5432 dbname=shop\n[pgbouncer]\nauth_type = trust\nadmin_users = root\n";
@@ -20,174 +19,19 @@ const SHOP_MD5: &[u8] =
 const LOOKED_AT: &[u8] =
     b"[databases]\nshop = host=127.0.0.1\n[pgbouncer]\nauth_type = plain\nadmin_users = root\nstats_users = bc\n";
 
-const USERS: &[u8] =
-    b"\"ann\" \"secret\"\n\"bc\" \"md5900150983cd24fb0d6963f7d28e17f72\"\n\"root\" \"r\"\n";
-
-const WORD: KeyWord = KeyWord {
-    pid: 1,
-    secret: 2,
-    salt: [1, 2, 3, 4],
-};
-
-/// What stands among the given bytes where the client arrives.
-const ARRIVES: &[u8] = b"<arrives>";
-
-const OK: &[u8] = b"R\0\0\0\x08\0\0\0\0";
-
 const CLEARTEXT: &[u8] = b"R\0\0\0\x08\0\0\0\x03";
 
 const SALTED: &[u8] = b"R\0\0\0\x0c\0\0\0\x05\x01\x02\x03\x04";
 
-const WRONG: &[u8] = b"E\0\0\0\x3aSFATAL\0VFATAL\0C28P01\0Mpassword authentication failed\0\0";
-
 const NOWHERE: &[u8] = b"E\0\0\0\x33SFATAL\0VFATAL\0C3D000\0Mdatabase does not exist\0\0";
-
-const MALFORMED: &[u8] = b"E\0\0\0\x34SFATAL\0VFATAL\0C08P01\0Mmalformed client message\0\0";
 
 const VERSION: &[u8] = b"E\0\0\0\x38SFATAL\0VFATAL\0C0A000\0Munsupported protocol version\0\0";
 
 const PARAMETER: &[u8] = b"E\0\0\0\x39SFATAL\0VFATAL\0C0A000\0Munsupported startup parameter\0\0";
 
-const ANN: &[u8] = b"\0\0\0\x20\0\x03\0\0user\0ann\0database\0shop\0\0";
-
-const BC: &[u8] = b"\0\0\0\x1f\0\x03\0\0user\0bc\0database\0shop\0\0";
-
-const ZED: &[u8] = b"\0\0\0\x20\0\x03\0\0user\0zed\0database\0shop\0\0";
-
 const SSL: &[u8] = b"\0\0\0\x08\x04\xd2\x16\x2f";
 
 const GSS: &[u8] = b"\0\0\0\x08\x04\xd2\x16\x30";
-
-/// How a login has ended, if it has.
-#[derive(Clone, Copy, PartialEq, Eq, Drop)]
-enum End {
-    Open,
-    Passed,
-    Console,
-    Cancel { pid: u32, secret: u32 },
-    Closed,
-}
-
-/// What a client was given and where it arrived, and what was taken of its bytes.
-#[derive(Drop)]
-struct Seen {
-    out: Vec<u8>,
-    taken: usize,
-    key: Option<Arc<StartKey>>,
-    end: End,
-}
-
-/// What a client is given at a step, and that it has arrived. AuthenticationOk is the caller's.
-fn see(seen: &mut Seen, step: LoginStep) -> Result<(), Fail> {
-    match step {
-        LoginStep::More => {}
-        LoginStep::Arrived(_) => seen.out.extend_from_slice(ARRIVES)?,
-        LoginStep::Ask(question) => seen.out.extend_from_slice(question.as_bytes())?,
-        LoginStep::Passed(key) => {
-            seen.out.extend_from_slice(OK)?;
-            seen.key = Some(key);
-            seen.end = End::Passed;
-        }
-        LoginStep::Console => seen.end = End::Console,
-        LoginStep::Refused(refusal) => {
-            seen.out.extend_from_slice(refusal_bytes(refusal))?;
-            seen.end = End::Closed;
-        }
-        LoginStep::Failed(failure) => {
-            seen.out.extend_from_slice(failure.as_bytes())?;
-            seen.end = End::Closed;
-        }
-        LoginStep::Cancel { pid, secret } => seen.end = End::Cancel { pid, secret },
-        LoginStep::Left => seen.end = End::Closed,
-    }
-    Ok(())
-}
-
-/// Hands over a piece, with as many calls as are answered by more than [`LoginStep::More`].
-fn feed(alloc: Global, login: &mut Login, piece: &[u8], seen: &mut Seen) -> Result<(), Fail> {
-    let mut rest = piece;
-    for _ in 0..32 {
-        if seen.end != End::Open {
-            return Ok(());
-        }
-        let (used, step) = login.on_bytes(alloc, rest);
-        rest = &rest[used..];
-        seen.taken = seen.taken.saturating_add(used);
-        let waits = matches!(&step, LoginStep::More) && rest.is_empty();
-        see(seen, step)?;
-        if waits {
-            return Ok(());
-        }
-    }
-    Ok(())
-}
-
-fn login(alloc: Global, ini: &[u8]) -> Result<Login, Fail> {
-    let settings: Settings = read_settings(alloc, ini)?;
-    let users: Users = read_users(alloc, USERS)?;
-    Ok(Login::new(
-        alloc,
-        Arc::new(alloc, settings)?,
-        Arc::new(alloc, users)?,
-        WORD,
-    )?)
-}
-
-/// The login of these bytes, handed over in two pieces.
-fn cut_at(alloc: Global, ini: &[u8], input: &[u8], cut: usize) -> Result<Seen, Fail> {
-    let mut login = login(alloc, ini)?;
-    let mut seen = Seen {
-        out: Vec::new(alloc),
-        taken: 0,
-        key: None,
-        end: End::Open,
-    };
-    let cut = cut.min(input.len());
-    feed(alloc, &mut login, &input[..cut], &mut seen)?;
-    feed(alloc, &mut login, &input[cut..], &mut seen)?;
-    if seen.end != End::Open {
-        let (used, step) = login.on_bytes(alloc, input);
-        let is_left = matches!(step, LoginStep::Left);
-        if used != 0 || !is_left || login.wants() != 0 {
-            return Err("it goes on after its end")?;
-        }
-    }
-    Ok(seen)
-}
-
-/// These bytes one after the other.
-fn joined(alloc: Global, parts: &[&[u8]]) -> Result<Vec<u8>, Fail> {
-    let mut all: Vec<u8> = Vec::new(alloc);
-    for part in parts {
-        all.extend_from_slice(part)?;
-    }
-    Ok(all)
-}
-
-/// Whether the login of these packets, cut at every byte, gives the client this and ends so.
-///
-/// All that must be dropped is held here and in `has_key`: a test that held it would have to show how on each of its ways out.
-fn is_login(
-    alloc: Global,
-    ini: &[u8],
-    packets: &[&[u8]],
-    out: &[&[u8]],
-    end: End,
-    left: usize,
-) -> Result<bool, Fail> {
-    let input = joined(alloc, packets)?;
-    let wanted = joined(alloc, out)?;
-    for cut in 0..input.len() {
-        let seen = cut_at(alloc, ini, input.as_slice(), cut)?;
-        let is_same = seen.out.as_slice() == wanted.as_slice()
-            && seen.end == end
-            && seen.taken.saturating_add(left) == input.len();
-        if !is_same {
-            return Ok(false);
-        }
-    }
-    Ok(true)
-}
 
 /// Whether the login of these packets passes with ann's key on shop, and with this `application_name` alone, if one is named.
 fn has_key(
@@ -369,8 +213,6 @@ fn users_databases_and_the_console(rt: HostRuntime) -> Result<(), Fail> {
     Ok(())
 }
 
-const ROOT_AT_CONSOLE: &[u8] = b"\0\0\0\x26\0\x03\0\0user\0root\0database\0pgbouncer\0\0";
-
 const BC_AT_CONSOLE: &[u8] = b"\0\0\0\x24\0\x03\0\0user\0bc\0database\0pgbouncer\0\0";
 
 const ANN_AT_CONSOLE: &[u8] = b"\0\0\0\x25\0\x03\0\0user\0ann\0database\0pgbouncer\0\0";
@@ -509,7 +351,7 @@ fn a_login_tells_what_it_wants(rt: HostRuntime) -> Result<(), Fail> {
     let (used, _) = login.on_bytes(alloc, &ANN[..8]);
     assert!(rt; used == 8);
     assert!(rt; login.wants() == 24);
-    assert!(rt; login.users().len() == 3);
+    assert!(rt; login.users().len() == 4);
     assert!(rt; login.settings().listen_port() == 6432);
     Ok(())
 }

@@ -1,7 +1,7 @@
 use Rattle.std.proofs.Common.{◌∙◌, ap}
 use Rattle.user_file.specs.Users.{user_named}
 use Rattle.text_lines.proofs.Tables.{lookup-named}
-use Rattle.user_file.proofs.user_table.Users.row.Goals as goal
+use Rattle.user_file.proofs.user_table.UserTable.row.Goals as goal
 
 pub returns : goal.returns
 returns c =

@@ -3,7 +3,7 @@ use Rattle.std.specs.Prelude.{map}
 use Rattle.indexmap.proofs.CallerLemmas.{insert_entry-new}
 use Rattle.user_file.specs.Users.{user_named}
 use Rattle.text_lines.proofs.Tables.{lookup-named, rows-added, named-added}
-use Rattle.user_file.proofs.user_table.Users.add.Goals as goal
+use Rattle.user_file.proofs.user_table.UserTable.add.Goals as goal
 
 pub invariant_of-self-2 : goal.invariant_of-self-2
 invariant_of-self-2 c =

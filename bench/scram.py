@@ -1,0 +1,82 @@
+#!/usr/bin/env python3
+"""What a connect costs by SCRAM on both sides, beside MD5 on both, through pgsess and through PgBouncer with equal settings.
+
+Usage: scram.py PROGRAM [ROUNDS [SECONDS]]: so many rounds (5), each measurement of so many seconds (2). What is printed is the median
+of the rounds: connects a second, the pooler's processor time a connect, and of both the ratio of pgsess to PgBouncer.
+"""
+import os
+import pathlib
+import random
+import re
+import signal
+import statistics
+import subprocess
+import sys
+
+sys.path.insert(0, str(pathlib.Path(__file__).resolve().parent.parent / "scripts"))
+from cluster import HERE, USERS, Cluster, Installed, Place, Pooler, need, set_up, until
+from wire import Client
+
+CLIENTS = (1, 8, 32)
+LINKS = 40
+KINDS = ("pgsess", "pgbouncer")
+
+
+class Bench:
+    def __init__(self, program, rounds, seconds):
+        self.program, self.rounds, self.seconds, self.found = program, rounds, seconds, {}
+        self.places, self.poolers = {}, {}
+        for auth, kind_of_cluster in (("md5", Cluster), ("scram-sha-256", Installed)):
+            self.places[auth] = Place()
+            cluster = kind_of_cluster(self.places[auth])
+            for kind in KINDS:
+                self.poolers[auth, kind] = Pooler(self.places[auth], cluster, program, kind, auth=auth, size=LINKS, clients=1000, wait=0)
+        for pooler in self.poolers.values():
+            Client(pooler.port, "ann", "shop", USERS["ann"][0]).leave()
+
+    def measure(self, auth, kind, clients):
+        """Connects a second, and the pooler's microseconds for each."""
+        pooler = self.poolers[auth, kind]
+        words = ["pgbench", "-n", "-C", "-f", "/dev/stdin", "-c", str(clients), "-j", str(clients), "-T", str(self.seconds)]
+        environment = {**os.environ, "PGHOST": HERE, "PGPORT": str(pooler.port), "PGUSER": "ann", "PGDATABASE": "shop", "PGPASSWORD": USERS["ann"][0]}
+        before = pooler.used()
+        done = subprocess.run(words, input="SELECT 1;\n", env=environment, capture_output=True, text=True, check=True, timeout=120)
+        count = int(re.search(r"actually processed: (\d+)", done.stdout)[1])
+        self.found.setdefault((auth, clients, kind), []).append((count / self.seconds, (pooler.used() - before) / count * 1e6))
+
+    def run(self):
+        tasks = [(auth, kind, clients) for auth, kind in self.poolers for clients in CLIENTS]
+        for number in range(self.rounds):
+            for task in random.sample(tasks, len(tasks)):
+                self.measure(*task)
+            print(f"round {number + 1} of {self.rounds}", file=sys.stderr, flush=True)
+
+    def tell(self):
+        print("auth_type      clients  connects a second: pgsess, PgBouncer, ratio   microseconds of the pooler a connect: pgsess, PgBouncer, ratio")
+        for auth in self.places:
+            for clients in CLIENTS:
+                rates, costs = zip(*((statistics.median(it[0] for it in found), statistics.median(it[1] for it in found))
+                                     for found in (self.found[auth, clients, kind] for kind in KINDS)))
+                print(f"{auth:14} {clients:7}  {rates[0]:24.0f}, {rates[1]:9.0f}, {rates[0] / rates[1]:5.2f}   {costs[0]:44.0f}, {costs[1]:9.0f}, {costs[0] / costs[1]:5.2f}")
+
+
+def main():
+    if not 2 <= len(sys.argv) <= 4:
+        sys.exit(__doc__)
+    set_up()
+    need(["pgbouncer"], ["pgbouncer"])
+    signal.signal(signal.SIGTERM, lambda *_: sys.exit(1))
+    bench = Bench(os.path.abspath(sys.argv[1]), *map(int, sys.argv[2:] or []), *[5, 2][len(sys.argv) - 2:])
+    try:
+        bench.run()
+        bench.tell()
+    finally:
+        for place in bench.places.values():
+            for pid in place.processes():
+                os.kill(pid, signal.SIGKILL)
+            until(lambda: not place.processes())
+            place.clear()
+
+
+if __name__ == "__main__":
+    main()
