@@ -77,9 +77,9 @@ class Count:
     def by_scram(self):
         """Clients that are asked for SCRAM, in front of such a server."""
         pooler, plain = self.poolers(auth="scram-sha-256"), [name for name, (_, secret) in PEOPLE.items() if not secret.startswith(("md5", "SCRAM"))]
-        derived = []
-        until(lambda: derived.append(self.derived(pooler)) or sum(derived) >= len(plain), 120)
-        self.passes.same(f"behind the start, {len(plain)} passwords", sum(derived), len(plain))
+        made = []
+        until(lambda: made.append(self.hmacs(pooler)) or sum(made) >= len(plain) * ROUNDS, 120)
+        self.passes.same(f"behind the start, {len(plain)} passwords", sum(made) // ROUNDS, len(plain))
         for user in ("ann", "ute", "soft"):
             Client(pooler.port, user, "shop", prepared(USERS[user][0].encode()).decode(), seconds=120).leave()
         self.passes.same("three users log in by SCRAM: once each, for the server", self.derived(pooler), 3)
