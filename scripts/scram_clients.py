@@ -167,7 +167,7 @@ class Show:
         self.passes.same(f"{name}: psycopg 3 of {user}", (done.stdout.strip(), done.returncode), (wanted, 0))
 
     def jdbc(self, pooler, name, user, password, wanted):
-        if not JDBC.exists() or not shutil.which("java"):
+        if not JDBC.exists() or not shutil.which("javac"):
             print(f"not tried: JDBC isn't installed ({name})", flush=True)
             return
         with tempfile.TemporaryDirectory() as folder:
