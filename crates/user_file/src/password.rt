@@ -207,15 +207,19 @@ impl Password {
         Ok(self.derived(alloc, salt, rounds)?.keys)
     }
 
-    /// Takes over what was derived of an equal password, if there is memory.
-    pub(crate) fn take_over(&self, alloc: Global, earlier: &Password) {
-        if self.text.as_bytes() != earlier.text.as_bytes() {
-            return;
-        }
+    /// Takes over what was derived of an equal password with this salt and rounds, if there is memory. Salts of servers aren't taken
+    /// over: those that no server has any more would hold the places of others for ever.
+    pub(crate) fn take_over(&self, alloc: Global, earlier: &Password, salt: &Salt, rounds: u32) {
         for cell in &earlier.cells {
             if let Some(derived) = cell.get() {
-                if let Ok(copy) = derived.copied(alloc) {
-                    self.keep(alloc, copy);
+                if derived
+                    .salted_so(self.text.as_bytes(), salt, rounds)
+                    .is_some()
+                {
+                    if let Ok(copy) = derived.copied(alloc) {
+                        self.keep(alloc, copy);
+                    }
+                    return;
                 }
             }
         }

@@ -258,10 +258,10 @@ impl Secret {
         }
     }
 
-    /// Takes over what was derived of an equal plain secret.
-    pub(crate) fn take_over(&self, alloc: Global, earlier: &Secret) {
+    /// Takes over the keys that were derived of an equal plain secret with this salt.
+    pub(crate) fn take_over(&self, alloc: Global, earlier: &Secret, salt: &Salt) {
         if let (Secret::Plain(own), Secret::Plain(before)) = (self, earlier) {
-            own.take_over(alloc, before);
+            own.take_over(alloc, before, salt, ROUNDS);
         }
     }
 }

@@ -152,14 +152,16 @@ impl Users {
         let _ = self.derived.set(true);
     }
 
-    /// Takes over what was derived of equal secrets, if there is memory.
+    /// Takes over the keys that were derived of equal secrets under an equal key of the salts, if there is memory.
     pub fn take_over(&self, alloc: Global, earlier: &Users) {
         for place in 0..self.len() {
             let Some(user) = self.at(place) else {
                 return;
             };
-            if let Some(before) = earlier.row(user.name.as_bytes()) {
-                user.secret.take_over(alloc, &before.secret);
+            let name = user.name.as_bytes();
+            if let Some(before) = earlier.row(name) {
+                let salt = salt_for(&self.salts, name);
+                user.secret.take_over(alloc, &before.secret, &salt);
             }
         }
     }
