@@ -4,7 +4,6 @@ ghost use Rattle.message_view.specs.Messages.{message};
 ghost use Rattle.message_view.specs.Parts.{Puts};
 ghost use Rattle.frame_view.specs.declared.client.TheConstants.{PASSWORD_MESSAGE};
 ghost use Rattle.scram.specs.declared.client_messages.TheConstants.{LONGEST_JOINT_NONCE, LONGEST_NONCE};
-ghost use Rattle.scram.specs.Keys.{client_keys};
 ghost use Rattle.credentials.specs.Exchanges.{exchange_by};
 
 use bytes::BytesMut;
@@ -38,17 +37,16 @@ impl Model for Exchange {
 }
 
 impl Exchange {
-    /// That of a salted password, of a client with this nonce, over this challenge, whose nonce is that of both.
+    /// That of these keys, of a client with this nonce, over this challenge, whose nonce is that of both.
     pub(crate) fn of(
-        salted: &[u8; 32],
+        keys: &ClientKeys,
         nonce: &[u8; 24],
         challenge: &[u8],
         joint: &[u8],
     ) -> Exchange
         requires { length joint.now ≤ LONGEST_JOINT_NONCE }
-        ensures { result ≡ exchange_by (client_keys salted.now) nonce.now challenge.now joint.now }
+        ensures { result ≡ exchange_by keys.now nonce.now challenge.now joint.now }
     {
-        let keys = ClientKeys::of(salted);
         let first = first_message(nonce);
         let bare = &first.as_bytes()[3..];
         let unproved = last_unproved(joint);

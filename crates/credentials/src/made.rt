@@ -1,5 +1,5 @@
 //! An exchange that is kept, with what it was made of.
-ghost use Rattle.std.specs.Prelude.{◌≡◌, IfOk, IfSome, Some};
+ghost use Rattle.std.specs.Prelude.{◌≡◌, IfOk, IfSome, None, Some};
 ghost use Rattle.user_file.specs.declared.secrets.Secret.TheVariants.{Plain};
 ghost use Rattle.credentials.specs.Credentials.{credential_of};
 ghost use Rattle.credentials.specs.Exchanges.{exchange_of, made_of};
@@ -48,7 +48,7 @@ impl Made {
         challenge: &[u8],
         exchange: &Exchange,
     ) -> Result<Box<Made>, AllocError>
-        requires { exchange_of (credential_of (Plain password.now) nonce.now) challenge.now ≡ Some exchange.now }
+        requires { exchange_of (credential_of (Plain password.now) None nonce.now) challenge.now ≡ Some exchange.now }
     {
         let made = Made {
             password: Text::copy(alloc, password)?,
@@ -66,7 +66,7 @@ impl Made {
         nonce: &[u8; 24],
         challenge: &[u8],
     ) -> Option<Exchange>
-        ensures { IfSome result (λ e. exchange_of (credential_of (Plain password.now) nonce.now) challenge.now ≡ Some e) }
+        ensures { IfSome result (λ e. exchange_of (credential_of (Plain password.now) None nonce.now) challenge.now ≡ Some e) }
     {
         if self.password.as_bytes() != password || self.challenge.as_bytes() != challenge {
             return None;

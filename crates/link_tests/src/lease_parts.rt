@@ -81,7 +81,7 @@ pub(crate) fn served(
     )?;
     // the server asks for nothing
     let unasked = Secret::Md5([0; 32]);
-    let credential = Credential::new(alloc, &unasked, &CLIENT, 0);
+    let credential = Credential::new(alloc, &unasked, None, &CLIENT, 0);
     match serve_alone(
         alloc,
         server,

@@ -140,7 +140,7 @@ pub fn begin_by<E: ServerEnd, G: Gate<E>>(
     requires { CanStartAll (E.standing end) }
 {
     let secret = Secret::read(alloc, start.password)?;
-    let credential = Credential::new(alloc, &secret, &OWN, 5);
+    let credential = Credential::new(alloc, &secret, None, &OWN, 5);
     let key = key(alloc, start.is_there)?;
     match start_link(alloc, end, key, &credential, 5, 9, gate, start.turns) {
         Ok(link) => Ok(Ok(link)),

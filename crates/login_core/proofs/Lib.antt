@@ -8,3 +8,4 @@ pub mod Taking
 pub mod Starting
 pub mod Awaiting
 pub mod Pieces
+pub mod Revealing

@@ -1,5 +1,5 @@
 -- Bytes taken into the buffer.
-use Rattle.std.proofs.Common.{◌≡◌, inl, inr, ℕ, ◌≤◌, List, [], ◌∷◌, ◌++◌, length, take, refl, sym, ap, arith, ◌∙◌, subst, Bool, true, false, append_assoc, append-nil, length-take}
+use Rattle.std.proofs.Common.{◌≡◌, inl, inr, ℕ, ◌≤◌, List, [], ◌∷◌, ◌++◌, length, take, refl, sym, ap, arith, ◌∙◌, subst, Bool, true, false, Option, append_assoc, append-nil, length-take}
 use Rattle.message_view.specs.declared.KeyWord.{KeyWord}
 use Rattle.ini_config.specs.declared.option_values.Settings.{Settings}
 use Rattle.user_file.specs.Users.{UsersOf}
@@ -7,9 +7,10 @@ use Rattle.login_core.specs.declared.steps.LoginStep.{LoginStep}
 use Rattle.login_core.specs.declared.steps.LoginStep.TheVariants as step
 use Rattle.login_core.specs.Talk.{Cut}
 use Rattle.login_core.specs.Talk.Cut.{Whole, Need, Bad}
+use Rattle.param_track.specs.StartKeys.{Text}
 use Rattle.login_core.specs.Dialogue.{Rows, row_in, Packet, Reason, Stage, packet, dialogue_from}
 use Rattle.login_core.specs.Laws.{PacketsGrow}
-use Rattle.login_core.specs.Logins.{Awaiting, AwaitsPacket, Arriving, Over, LoginView, login_view, rows_of, with_held, goes_from, Fits, FitsCut, missing, missing_of, StepMeans, StepIs, OrNoMemory, NeedsMemory, left_after, IsMore}
+use Rattle.login_core.specs.Logins.{Awaiting, AwaitsPacket, Arriving, Over, LoginView, revealing_view, rows_of, with_held, goes_from, Fits, FitsCut, missing, missing_of, StepMeans, StepIs, OrNoMemory, NeedsMemory, left_after, IsMore}
 
 none_more : (bytes : List ℕ) → length bytes ≤ 0 → bytes ≡ []
 none_more [] h = refl
@@ -77,10 +78,10 @@ heard_after old mid new bytes s l e h = from (subst (λ (v : LoginView). StepMea
       word = x.word;
     }
 
-turned_heard : (settings : Settings) (users : UsersOf) (word : KeyWord) (h : Awaiting) (held : List ℕ) (s : LoginStep) (to : Awaiting) (left : List ℕ) (old : LoginView) →
-    login_view settings users word h held ≡ old → StepIs (row_in settings users) word h held s to left → StepMeans old [] s (login_view settings users word to left)
-turned_heard settings users word h held s to left old e t =
-    subst (λ (v : LoginView). StepMeans v [] s (login_view settings users word to left)) e
+turned_heard : (settings : Settings) (users : UsersOf) (word : KeyWord) (h : Awaiting) (held : List ℕ) (s : LoginStep) (to : Awaiting) (left : List ℕ) (was is : Option Text) (old : LoginView) →
+    revealing_view settings users word h held was ≡ old → StepIs (row_in settings users) word h held s to left → StepMeans old [] s (revealing_view settings users word to left is)
+turned_heard settings users word h held s to left was is old e t =
+    subst (λ (v : LoginView). StepMeans v [] s (revealing_view settings users word to left is)) e
     (record {
       said = or_changed s _ _ _ _ (λ f. f) (λ k. subst (λ (b : List ℕ). NeedsMemory (row_in settings users) h b) (sym (append-nil held)) k) t.said;
       leads = t.leads;
@@ -90,18 +91,18 @@ turned_heard settings users word h held s to left old e t =
     })
 
 -- a step on what is held with the bytes that were taken, as far as those that were missing are there
-pub heard : (settings : Settings) (users : UsersOf) (word : KeyWord) (h from to : Awaiting) (held piece now read left end : List ℕ) (w u : ℕ) (s : LoginStep) (old : LoginView) →
-    login_view settings users word h held ≡ old → w ≡ missing h held → u ≤ w → now ≡ held ++ take u piece → from ≡ h → read ≡ now → left ≡ end →
-    StepIs (row_in settings users) word from read s to left → StepMeans old (take u piece) s (login_view settings users word to end)
-heard settings users word h from to held piece now read left end w u s old e m l n a r x t =
+pub heard : (settings : Settings) (users : UsersOf) (word : KeyWord) (h from to : Awaiting) (held piece now read left end : List ℕ) (was is : Option Text) (w u : ℕ) (s : LoginStep) (old : LoginView) →
+    revealing_view settings users word h held was ≡ old → w ≡ missing h held → u ≤ w → now ≡ held ++ take u piece → from ≡ h → read ≡ now → left ≡ end →
+    StepIs (row_in settings users) word from read s to left → StepMeans old (take u piece) s (revealing_view settings users word to end is)
+heard settings users word h from to held piece now read left end was is w u s old e m l n a r x t =
     let step : StepIs (row_in settings users) word h now s to end =
     subst (λ (k : Awaiting). StepIs (row_in settings users) word k now s to end) a
     (subst (λ (b : List ℕ). StepIs (row_in settings users) word from b s to end) r (subst (λ (b : List ℕ). StepIs (row_in settings users) word from read s to b) x t)) in
-    subst (λ (v : LoginView). StepMeans v (take u piece) s (login_view settings users word to end)) e
-    (heard_after (login_view settings users word h held) (login_view settings users word h now) (login_view settings users word to end) (take u piece) s
+    subst (λ (v : LoginView). StepMeans v (take u piece) s (revealing_view settings users word to end is)) e
+    (heard_after (revealing_view settings users word h held was) (revealing_view settings users word h now was) (revealing_view settings users word to end is) (take u piece) s
     (omega (arith, m, l, length-take u piece))
-    (ap (login_view settings users word h) n)
-    (turned_heard settings users word h now s to end (login_view settings users word h now) refl step))
+    (ap (λ (b : List ℕ). revealing_view settings users word h b was) n)
+    (turned_heard settings users word h now s to end was is (revealing_view settings users word h now was) refl step))
 
 pub left_if : (s : LoginStep) (b : Bool) (held : List ℕ) → IsMore b s → b ≡ true → left_after s held ≡ held
 left_if step.More b held m e = refl

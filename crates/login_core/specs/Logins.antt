@@ -1,5 +1,5 @@
 -- A login under way, and what its calls answer.
-use Rattle.std.specs.Prelude.{◌≡◌, ◌⊎◌, ℕ, ◌+◌, ◌≤◌, ◌<◌, List, [], ◌∷◌, ◌++◌, length, Option, Result, Ok, Err, Bool, true, false, IsOk}
+use Rattle.std.specs.Prelude.{◌≡◌, ◌⊎◌, ℕ, ◌+◌, ◌≤◌, ◌<◌, List, [], ◌∷◌, ◌++◌, length, Option, Some, None, Result, Ok, Err, Bool, true, false, IsOk}
 use Rattle.std.specs.Arc.{arc_value}
 use Rattle.std.specs.declared.sync.Arc.{Arc}
 use Rattle.frame_view.specs.Frames.{Start}
@@ -11,6 +11,7 @@ use Rattle.ini_config.specs.declared.option_values.AuthType.{AuthType}
 use Rattle.ini_config.specs.declared.option_values.AuthType.TheVariants.{Trust, Plain, Md5, ScramSha256}
 use Rattle.ini_config.specs.declared.option_values.Settings.{Settings}
 use Rattle.user_file.specs.declared.user_table.UserRow.{UserRow}
+use Rattle.user_file.specs.Secrets.{IsRevealedOf}
 use Rattle.user_file.specs.Users.{UsersOf}
 use Rattle.scram.specs.Short.{text_of}
 use Rattle.session_values.specs.State.{StartKeyOf}
@@ -25,8 +26,10 @@ use Rattle.login_core.specs.declared.dialogue.Verdict.{Verdict}
 use Rattle.login_core.specs.declared.dialogue.Verdict.TheVariants as verdict
 use Rattle.login_core.specs.declared.dialogue.Asking.{Asking as TheAsking}
 use Rattle.login_core.specs.declared.dialogue.Asking.TheVariants as asking
+use Rattle.login_core.specs.declared.scram_dialogue.Proved.{Proved}
 use Rattle.login_core.specs.declared.dialogue.Place.{Place}
 use Rattle.login_core.specs.declared.dialogue.Place.TheVariants as place
+use Rattle.param_track.specs.StartKeys.{Text}
 use Rattle.login_core.specs.Talk.{Cut, says, follow, talk}
 use Rattle.login_core.specs.Talk.Cut.{Whole, Need, Bad}
 use Rattle.login_core.specs.Talk.Reaction.{Goes, Passes, Stops}
@@ -46,15 +49,22 @@ pub record LoginView : Type 0 where
   pub awaiting : Awaiting
   -- the bytes of the packet that it waits for
   pub held : List ℕ
+  -- what its client revealed of its secret, once it was let in
+  pub revealed : Option Text
 
+abbrev pub revealing_view : Settings → UsersOf → KeyWord → Awaiting → List ℕ → Option Text → LoginView
+revealing_view settings users word awaiting held revealed =
+    record { settings = settings; users = users; word = word; awaiting = awaiting; held = held; revealed = revealed }
+
+-- of which nothing was revealed
 abbrev pub login_view : Settings → UsersOf → KeyWord → Awaiting → List ℕ → LoginView
-login_view settings users word awaiting held = record { settings = settings; users = users; word = word; awaiting = awaiting; held = held }
+login_view settings users word awaiting held = revealing_view settings users word awaiting held None
 
 abbrev pub rows_of : LoginView → Rows
 rows_of v = row_in v.settings v.users
 
 abbrev pub with_held : LoginView → List ℕ → LoginView
-with_held v held = login_view v.settings v.users v.word v.awaiting held
+with_held v held = revealing_view v.settings v.users v.word v.awaiting held v.revealed
 
 -- a client has arrived and is to go on, by a key of the console's
 abbrev pub arrives_at_console : Rows → Awaiting → Bool
@@ -202,6 +212,27 @@ pub record StepMeans (old : LoginView) (bytes : List ℕ) (s : LoginStep) (new :
   pub users : new.users ≡ old.users
   pub word : new.word ≡ old.word
 
+-- ---- what is revealed
+
+abbrev pub RevealsOf : Option UserRow → Option Text → Type 0
+RevealsOf (Some user) revealed = IsRevealedOf user.secret revealed
+RevealsOf None revealed = revealed ≡ None
+
+-- what a client reveals that proves to know its secret; who isn't asked may reveal nothing
+abbrev pub RevealsUnder : AuthType → Option UserRow → Option Text → Type 0
+RevealsUnder Trust user revealed = (revealed ≡ None) ⊎ RevealsOf user revealed
+RevealsUnder Plain user revealed = RevealsOf user revealed
+RevealsUnder Md5 user revealed = RevealsOf user revealed
+RevealsUnder ScramSha256 user revealed = RevealsOf user revealed
+
+abbrev pub IsRevealed : LoginRow → Option Text → Type 0
+IsRevealed row revealed = RevealsUnder row.auth row.user revealed
+
+-- at a step by which it is let in
+abbrev pub Reveals : Rows → LoginStep → Option Text → Type 0
+Reveals rows (step.Passed key told) revealed = IsRevealed (rows (arc_value key).row (arc_value key).user) revealed
+Reveals rows _ revealed = Unit {0}
+
 -- ---- the parts of a call
 
 abbrev pub rows_under : Rules → Rows
@@ -216,7 +247,11 @@ abbrev pub awaiting_of : Place → Awaiting
 awaiting_of (place.First tls gss) = AwaitsPacket (AtFirst tls gss)
 awaiting_of (place.Asked asking key) = AwaitsPacket (Asked (asking_of asking) (arc_value key))
 awaiting_of (place.Arriving key) = Arriving (arc_value key)
-awaiting_of place.Over = Over
+awaiting_of (place.Over revealed) = Over
+
+abbrev pub revealed_of : Place → Option Text
+revealed_of (place.Over revealed) = revealed
+revealed_of _ = None
 
 -- the key that a start message gives, or its refusal, or that of a growth in the stead of the key
 abbrev pub Begun : {Z : Type 0} → Result (Arc StartKeyOf Z) Refusal → Result StartKeyOf Refusal → Type 0
@@ -250,6 +285,14 @@ IsReaction needed reaction s to = Decides s reaction × (to ≡ Over)
 
 abbrev pub Answers : Rows → KeyWord → StartKeyOf → Asking → List ℕ → (LoginStep × Place) → Type 0
 Answers rows word key asking body r = IsReaction (TakesMemory (rows key.row key.user) asking) (to_answer (rows key.row key.user) word key asking body) r.0 (awaiting_of r.1)
+
+abbrev pub told_of : Proved → List ℕ
+told_of p = text_of p.told
+
+-- who goes to a link
+abbrev pub IfToLink : Verdict → Type 0 → Type 0
+IfToLink verdict.ToLink P = P
+IfToLink _ P = Unit {0}
 
 -- what is held after a step
 abbrev pub left_after : LoginStep → List ℕ → List ℕ

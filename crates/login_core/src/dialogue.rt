@@ -1,20 +1,15 @@
 //! One step of the dialogue, from the bytes that are held.
-ghost use Rattle.std.specs.Prelude.{◌≡◌, ◌≤◌, ◌+◌, ◌++◌, ℕ, IfErr, IfOk, IfSome, List, [], length, option_map};
-ghost use Rattle.frame_view.specs.Frames.{spelling};
-ghost use Rattle.message_view.specs.Messages.{authentication};
-ghost use Rattle.scram.specs.Keys.{auth_message};
-ghost use Rattle.scram.specs.Messages.{first_view};
+ghost use Rattle.std.specs.Prelude.{◌≡◌, ◌≤◌, ◌+◌, ◌++◌, ℕ, IfErr, IfOk, List, None, [], length, true};
 ghost use Rattle.scram.specs.Short.{text_of};
-ghost use Rattle.scram.specs.declared.client_messages.TheConstants.{LONGEST_JOINT_NONCE, LONGEST_NONCE};
 ghost use Rattle.std.specs.Arc.{arc_value};
 ghost use Rattle.message_view.specs.Reading.{startup_of};
-ghost use Rattle.user_file.specs.Salts.{judged_by};
+ghost use Rattle.user_file.specs.Secrets.{IsRevealedOf, accepts_plain, is_verifier};
 ghost use Rattle.login_core.specs.Dialogue as login;
-ghost use Rattle.login_core.specs.Dialogue.{AtFirst, Asked, ForFirst, ForLast, ForPassword, proof_by};
+ghost use Rattle.login_core.specs.Dialogue.{AtFirst, Asked, ForFirst, ForPassword};
 ghost use Rattle.ini_config.specs.declared.option_values.AuthType.TheVariants.{Trust};
 ghost use Rattle.login_core.specs.declared.steps.LoginStep.TheVariants.{Ask, Left, Refused};
 ghost use Rattle.login_core.specs.declared.steps.Question.TheVariants.{Scram};
-ghost use Rattle.login_core.specs.Logins.{Answers, ArrivesOnce, Begun, Decides, Fits, AwaitsPacket, Arriving, IsBeforeArrival, Over, StartMeans, StepIs, TakesMemory, asking_of, awaiting_of, left_after, missing, rows_under, verdict_of};
+ghost use Rattle.login_core.specs.Logins.{Answers, ArrivesOnce, Begun, Decides, Fits, AwaitsPacket, Arriving, IfToLink, IsBeforeArrival, IsRevealed, Over, Reveals, StartMeans, StepIs, TakesMemory, asking_of, awaiting_of, left_after, missing, revealed_of, rows_under, verdict_of};
 
 use crate::laws::packets_grow;
 use crate::steps::{Failure, LoginStep, Question};
@@ -25,14 +20,12 @@ use frame_view::{
 use ini_config::{AuthType, Settings};
 use message_view::{KeyWord, PasswordView, Refusal, StartupView};
 use param_track::{StartFault, start_key, unsupported_name};
-use scram::client_messages::{First, Last};
-use scram::server_messages::{challenge_message, final_message, nonce};
-use scram::{Message, initial_response};
+use scram::Message;
 use start_keys::StartKey;
 use start_keys::text::Text;
 use std::alloc::{AllocError, Global};
 use std::sync::Arc;
-use user_file::{Judging, Salting, Users};
+use user_file::{Secret, Users};
 
 /// The greatest length of a message in the login.
 pub(crate) const LONGEST_MESSAGE: u32 = 10_000;
@@ -44,7 +37,7 @@ pub(crate) const FIRST_HEAD: usize = 8;
 const HEAD: usize = 5;
 
 /// What a client is told of a packet that can't be read, or isn't its turn to send.
-const MALFORMED: Refusal = Refusal::MalformedClientMessage;
+pub(crate) const MALFORMED: Refusal = Refusal::MalformedClientMessage;
 
 /// What decides about a client.
 pub(crate) struct Rules {
@@ -82,12 +75,53 @@ pub(crate) enum Place {
     Arriving(Arc<StartKey>),
     /// The client was asked.
     Asked(Asking, Arc<StartKey>),
-    Over,
+    /// With the client key that the client revealed of a verifier, if it was let in.
+    Over(Option<[u8; 32]>),
+}
+
+/// What a password comes to.
+#[derive(Drop)]
+struct Judged {
+    is_right: bool,
+    /// The client key that it reveals of a verifier.
+    revealed: Option<[u8; 32]>,
+}
+
+/// A password that reveals nothing.
+fn unrevealing(is_right: bool) -> Judged
+    ensures right { result.is_right ≡ is_right }
+    ensures revealed { result.revealed ≡ None }
+{
+    Judged {
+        is_right,
+        revealed: None,
+    }
+}
+
+/// What a password that came as it is comes to, of who has this secret. The only error is out of memory.
+fn judge_plain(
+    alloc: Global,
+    secret: &Secret,
+    user: &[u8],
+    given: &[u8],
+) -> Result<Judged, AllocError>
+    ensures value { IfOk result (λ j. j.is_right ≡ accepts_plain secret.now user.now given.now) }
+    ensures reveals { IfOk result (λ j. j.is_right ≡ true → IsRevealedOf secret.now j.revealed) }
+    ensures memory { IfErr result (λ e. is_verifier secret.now ≡ true) }
+{
+    if !secret.is_verifier() {
+        return Ok(unrevealing(secret.accepts_plain(alloc, user, given)?));
+    }
+    let revealed = secret.revealed_by(alloc, given)?;
+    Ok(Judged {
+        is_right: revealed.is_some(),
+        revealed,
+    })
 }
 
 /// What a client is to whom nothing is left to ask.
 #[derive(Clone, Copy, Drop)]
-enum Verdict {
+pub(crate) enum Verdict {
     ToLink,
     ToConsole,
     Wrong,
@@ -147,20 +181,6 @@ fn md5_question(salt: [u8; 4]) -> [u8; 13]
     frame
 }
 
-/// An Authentication message with a text of SCRAM.
-fn sasl_message(kind: u32, text: &[u8]) -> Message
-    requires { length text.now ≤ 328 }
-    ensures value { text_of result ≡ spelling (authentication kind text.now) }
-    ensures short { length (text_of result) ≤ 9 + length text.now }
-{
-    let mut frame = Message::new();
-    frame.push(b"R");
-    frame.push(&(8 + text.len() as u32).to_be_bytes());
-    frame.push(&kind.to_be_bytes());
-    frame.push(text);
-    frame
-}
-
 /// AuthenticationOk, behind the server's proof where there is one.
 fn let_in(proof: &Message) -> Message
     requires { length (text_of proof.now) ≤ 337 }
@@ -172,7 +192,7 @@ fn let_in(proof: &Message) -> Message
 }
 
 /// The last step of a client about which this was decided, behind this proof of the server.
-fn last_step(verdict: Verdict, key: Arc<StartKey>, proof: &Message) -> LoginStep
+pub(crate) fn last_step(verdict: Verdict, key: Arc<StartKey>, proof: &Message) -> LoginStep
     requires { length (text_of proof.now) ≤ 337 }
     ensures { Decides result (verdict_of (text_of proof.now) verdict (arc_value key)) }
 {
@@ -188,13 +208,13 @@ fn last_step(verdict: Verdict, key: Arc<StartKey>, proof: &Message) -> LoginStep
 type Turned = (LoginStep, Place, usize);
 
 /// What an answer leads to.
-type Answered = (LoginStep, Place);
+pub(crate) type Answered = (LoginStep, Place);
 
-fn refused(refusal: Refusal) -> Answered
+pub(crate) fn refused(refusal: Refusal) -> Answered
     ensures step { result.0 ≡ Refused refusal }
     ensures over { awaiting_of result.1 ≡ Over }
 {
-    (LoginStep::Refused(refusal), Place::Over)
+    (LoginStep::Refused(refusal), Place::Over(None))
 }
 
 /// The client of this key is asked for SCRAM.
@@ -217,27 +237,8 @@ fn head_after(place: &Place) -> usize
     match place {
         Place::Asked(_, _) => HEAD,
         Place::First { .. } => FIRST_HEAD,
-        Place::Arriving(_) | Place::Over => 0,
+        Place::Arriving(_) | Place::Over(_) => 0,
     }
-}
-
-/// The server's proof, where the client's is right. A proof that can't be right is compared too, so that it takes as long.
-fn server_proof(
-    judging: &Judging,
-    first: &First<'_>,
-    challenge: &[u8],
-    message: &Last<'_>,
-) -> Option<Message>
-    ensures value { option_map text_of result ≡ proof_by (judged_by judging.now) (auth_message first.now.bare.now challenge.now message.now.unproved.now) message.now.proof }
-    ensures short { IfSome result (λ m. length (text_of m) ≤ 337) }
-{
-    let keys = judging.keys;
-    let revealed = keys.revealed(first.bare, challenge, message.unproved, &message.proof);
-    if !(judging.counts & revealed.is_some()) {
-        return None;
-    }
-    let text = final_message(&keys.server, first.bare, challenge, message.unproved);
-    Some(sasl_message(12, text.as_bytes()))
 }
 
 impl Rules {
@@ -265,21 +266,22 @@ impl Rules {
         self.settings.auth_type()
     }
 
-    /// Whether the client knows its password; an unknown user knows none. The only error is out of memory.
+    /// Whether the client knows its password, and what it reveals; an unknown user knows none. The only error is out of memory.
     #[tactic(auto, unfolding(crate::specs::Dialogue::row_in))]
-    fn is_right(&self, alloc: Global, key: &StartKey, given: &[u8]) -> Result<bool, AllocError>
-        ensures value { IfOk result (λ b. b ≡ login.is_right (rows_under self.now key.now.row key.now.user) self.now.word key.now given.now) }
+    fn is_right(&self, alloc: Global, key: &StartKey, given: &[u8]) -> Result<Judged, AllocError>
+        ensures value { IfOk result (λ j. j.is_right ≡ login.is_right (rows_under self.now key.now.row key.now.user) self.now.word key.now given.now) }
+        ensures reveals { IfOk result (λ j. j.is_right ≡ true → IsRevealed (rows_under self.now key.now.row key.now.user) j.revealed) }
         ensures memory { IfErr result (λ e. TakesMemory (rows_under self.now key.now.row key.now.user) ForPassword) }
     {
         let user = key.user.as_slice();
         let Some(row) = self.users.row(user) else {
-            return Ok(false);
+            return Ok(unrevealing(false));
         };
         match self.settings.auth_type() {
-            AuthType::Trust => Ok(true),
-            AuthType::Plain => row.secret.accepts_plain(alloc, user, given),
-            AuthType::Md5 => Ok(row.secret.accepts_md5(user, self.word.salt, given)),
-            AuthType::ScramSha256 => Ok(false),
+            AuthType::Trust => Ok(unrevealing(true)),
+            AuthType::Plain => judge_plain(alloc, &row.secret, user, given),
+            AuthType::Md5 => Ok(unrevealing(row.secret.accepts_md5(user, self.word.salt, given))),
+            AuthType::ScramSha256 => Ok(unrevealing(false)),
         }
     }
 
@@ -301,7 +303,7 @@ impl Rules {
 
     /// Where a client goes that proved who it is.
     #[tactic(auto, unfolding(crate::specs::Dialogue::row_in))]
-    fn admit(&self, key: &StartKey) -> Verdict
+    pub(crate) fn admit(&self, key: &StartKey) -> Verdict
         ensures { (proof : List ℕ) → login.admitted proof (rows_under self.now key.now.row key.now.user) key.now ≡ verdict_of proof result key.now }
     {
         if key.row.is(b"pgbouncer") {
@@ -316,14 +318,22 @@ impl Rules {
         }
     }
 
-    fn judge(&self, alloc: Global, key: &StartKey, given: &[u8]) -> Result<Verdict, AllocError>
-        ensures value { IfOk result (λ v. login.judged (rows_under self.now key.now.row key.now.user) self.now.word key.now given.now ≡ verdict_of [] v key.now) }
+    /// Where a client goes that gave this password, and what it revealed.
+    fn judge(
+        &self,
+        alloc: Global,
+        key: &StartKey,
+        given: &[u8],
+    ) -> Result<(Verdict, Option<[u8; 32]>), AllocError>
+        ensures value { IfOk result (λ v. login.judged (rows_under self.now key.now.row key.now.user) self.now.word key.now given.now ≡ verdict_of [] v.0 key.now) }
+        ensures reveals { IfOk result (λ v. IfToLink v.0 (IsRevealed (rows_under self.now key.now.row key.now.user) v.1)) }
         ensures memory { IfErr result (λ e. TakesMemory (rows_under self.now key.now.row key.now.user) ForPassword) }
     {
-        if self.is_right(alloc, key, given)? {
-            return Ok(self.admit(key));
+        let judged = self.is_right(alloc, key, given)?;
+        if judged.is_right {
+            return Ok((self.admit(key), judged.revealed));
         }
-        Ok(Verdict::Wrong)
+        Ok((Verdict::Wrong, None))
     }
 
     /// The last step of a client that gave this password.
@@ -332,12 +342,17 @@ impl Rules {
         alloc: Global,
         key: Arc<StartKey>,
         given: &[u8],
-    ) -> Result<LoginStep, AllocError>
-        ensures value { IfOk result (λ s. Decides s (login.judged (rows_under self.now (arc_value key).row (arc_value key).user) self.now.word (arc_value key) given.now)) }
+    ) -> Result<Answered, AllocError>
+        ensures value { IfOk result (λ a. Decides a.0 (login.judged (rows_under self.now (arc_value key).row (arc_value key).user) self.now.word (arc_value key) given.now)) }
+        ensures over { IfOk result (λ a. awaiting_of a.1 ≡ Over) }
+        ensures reveals { IfOk result (λ a. Reveals (rows_under self.now) a.0 (revealed_of a.1)) }
         ensures memory { IfErr result (λ e. TakesMemory (rows_under self.now (arc_value key).row (arc_value key).user) ForPassword) }
     {
-        let verdict = self.judge(alloc, &key, given)?;
-        Ok(last_step(verdict, key, &Message::new()))
+        let (verdict, revealed) = self.judge(alloc, &key, given)?;
+        Ok((
+            last_step(verdict, key, &Message::new()),
+            Place::Over(revealed),
+        ))
     }
 
     /// Where a client goes that isn't asked: an unknown user nowhere.
@@ -353,7 +368,7 @@ impl Rules {
 
     /// Whether the user's secret is a verifier.
     #[tactic(auto, unfolding(crate::specs::Dialogue::row_in))]
-    fn has_verifier(&self, key: &StartKey) -> bool
+    pub(crate) fn has_verifier(&self, key: &StartKey) -> bool
         ensures { result ≡ login.has_verifier (rows_under self.now key.now.row key.now.user).user }
     {
         match self.users.row(key.user.as_slice()) {
@@ -362,70 +377,23 @@ impl Rules {
         }
     }
 
-    /// How the user's password is salted, be there such a user or not.
-    #[tactic(auto, unfolding(crate::specs::Dialogue::row_in))]
-    fn salting(&self, key: &StartKey) -> Salting
-        ensures { result ≡ login.salting (rows_under self.now key.now.row key.now.user) key.now }
-    {
-        self.users.salting(key.user.as_slice())
-    }
-
-    /// The keys by which the user's proof is judged.
-    #[tactic(auto, unfolding(crate::specs::Dialogue::row_in))]
-    fn judging(&self, alloc: Global, key: &StartKey) -> Result<Judging, AllocError>
-        ensures { IfOk result (λ j. judged_by j ≡ login.keys (rows_under self.now key.now.row key.now.user) key.now) }
-    {
-        self.users.judging(alloc, key.user.as_slice())
-    }
-
-    /// The server's part of the nonce.
-    fn own_nonce(&self) -> [u8; 24]
-        ensures { result ≡ login.own_nonce self.now.word }
-    {
-        let mut secret = [0u8; 12];
-        secret[..4].copy_from_slice(&self.word.pid.to_be_bytes());
-        secret[4..8].copy_from_slice(&self.word.secret.to_be_bytes());
-        secret[8..].copy_from_slice(&self.word.salt);
-        nonce(&secret)
-    }
-
-    fn joint_nonce(&self, first: &First<'_>) -> Message
-        requires { length first.now.nonce.now ≤ LONGEST_NONCE }
-        ensures value { text_of result ≡ login.joint_nonce self.now.word (first_view first.now) }
-        ensures short { length (text_of result) ≤ LONGEST_JOINT_NONCE }
-    {
-        let mut joint = Message::new();
-        joint.push(first.nonce);
-        joint.push(&self.own_nonce());
-        joint
-    }
-
-    fn challenge(&self, key: &StartKey, first: &First<'_>) -> Message
-        requires { length first.now.nonce.now ≤ LONGEST_NONCE }
-        ensures value { text_of result ≡ login.challenge_to (rows_under self.now key.now.row key.now.user) self.now.word key.now (first_view first.now) }
-        ensures short { length (text_of result) ≤ 328 }
-    {
-        let salting = self.salting(key);
-        challenge_message(
-            first.nonce,
-            &self.own_nonce(),
-            &salting.salt,
-            salting.rounds,
-        )
-    }
-
     /// A client's StartupMessage.
     fn on_startup_message(&self, alloc: Global, text: &[u8]) -> Turned
         ensures means { StartMeans (login.key_of (rows_under self.now) (startup_of text.now)) result.0 (awaiting_of result.1) }
         ensures once { IsBeforeArrival result.0 }
         ensures lacks { (held : List ℕ) → result.2 ≡ missing (awaiting_of result.1) (left_after result.0 held) }
+        ensures reveals { Reveals (rows_under self.now) result.0 (revealed_of result.1) }
     {
         match self.begin(alloc, text) {
             Ok(key) => match Arc::try_clone(&key) {
                 Ok(copy) => (LoginStep::Arrived(copy), Place::Arriving(key), 0),
-                Err(_) => (LoginStep::Refused(Refusal::OutOfMemory), Place::Over, 0),
+                Err(_) => (
+                    LoginStep::Refused(Refusal::OutOfMemory),
+                    Place::Over(None),
+                    0,
+                ),
             },
-            Err(refusal) => (LoginStep::Refused(refusal), Place::Over, 0),
+            Err(refusal) => (LoginStep::Refused(refusal), Place::Over(None), 0),
         }
     }
 
@@ -434,18 +402,19 @@ impl Rules {
         ensures step { StepIs (rows_under self.now) self.now.word (AwaitsPacket (AtFirst tls gss)) held.now result.0 (awaiting_of result.1) (left_after result.0 held.now) }
         ensures once { ArrivesOnce (AwaitsPacket (AtFirst tls gss)) result.0 }
         ensures lacks { result.2 ≡ missing (awaiting_of result.1) (left_after result.0 held.now) }
+        ensures reveals { Reveals (rows_under self.now) result.0 (revealed_of result.1) }
     {
         packets_grow();
         match first_packet(held) {
             FirstStep::Startup(text) => self.on_startup_message(alloc, text),
             FirstStep::Cancel { pid, secret } => (
                 LoginStep::Cancel { pid, secret },
-                Place::Over,
+                Place::Over(None),
                 0,
             ),
             FirstStep::Tls => {
                 if tls {
-                    return (LoginStep::Refused(MALFORMED), Place::Over, 0);
+                    return (LoginStep::Refused(MALFORMED), Place::Over(None), 0);
                 }
                 (
                     LoginStep::Ask(Question::Encryption),
@@ -455,7 +424,7 @@ impl Rules {
             }
             FirstStep::Gss => {
                 if gss {
-                    return (LoginStep::Refused(MALFORMED), Place::Over, 0);
+                    return (LoginStep::Refused(MALFORMED), Place::Over(None), 0);
                 }
                 (
                     LoginStep::Ask(Question::Encryption),
@@ -464,7 +433,7 @@ impl Rules {
                 )
             }
             FirstStep::Need(count) => (LoginStep::More, Place::First { tls, gss }, count),
-            FirstStep::Bad(fault) => (LoginStep::Refused(refusal_of(fault)), Place::Over, 0),
+            FirstStep::Bad(fault) => (LoginStep::Refused(refusal_of(fault)), Place::Over(None), 0),
         }
     }
 
@@ -473,12 +442,17 @@ impl Rules {
         ensures once { ArrivesOnce (Arriving (arc_value key)) result.0 }
         ensures step { StepIs (rows_under self.now) self.now.word (Arriving (arc_value key)) [] result.0 (awaiting_of result.1) [] }
         ensures lacks { result.2 ≡ missing (awaiting_of result.1) [] }
+        ensures reveals { Reveals (rows_under self.now) result.0 (revealed_of result.1) }
     {
         packets_grow();
         match self.auth_type(&key) {
             AuthType::Trust => {
                 let verdict = self.trusted(&key);
-                (last_step(verdict, key, &Message::new()), Place::Over, 0)
+                (
+                    last_step(verdict, key, &Message::new()),
+                    Place::Over(None),
+                    0,
+                )
             }
             AuthType::Plain => (
                 LoginStep::Ask(Question::Cleartext),
@@ -501,67 +475,21 @@ impl Rules {
 
     /// A PasswordMessage.
     fn on_password(&self, alloc: Global, key: Arc<StartKey>, body: &[u8]) -> Answered
-        ensures { Answers (rows_under self.now) self.now.word (arc_value key) ForPassword body.now result }
+        ensures answers { Answers (rows_under self.now) self.now.word (arc_value key) ForPassword body.now result }
+        ensures reveals { Reveals (rows_under self.now) result.0 (revealed_of result.1) }
     {
         let Ok(view) = PasswordView::read(body) else {
             return refused(MALFORMED);
         };
         match self.judged(alloc, key, view.password) {
-            Ok(step) => (step, Place::Over),
+            Ok(answered) => answered,
             Err(_) => refused(Refusal::OutOfMemory),
         }
     }
 
-    /// A SASLInitialResponse.
-    fn on_first(&self, alloc: Global, key: Arc<StartKey>, body: &[u8]) -> Answered
-        ensures { Answers (rows_under self.now) self.now.word (arc_value key) ForFirst body.now result }
-    {
-        let Some(text) = initial_response(body) else {
-            return refused(MALFORMED);
-        };
-        let Some(first) = First::read(text) else {
-            return refused(MALFORMED);
-        };
-        let Ok(copy) = Text::from_slice(alloc, text) else {
-            return refused(Refusal::OutOfMemory);
-        };
-        let challenge = self.challenge(&key, &first);
-        let question = Question::Challenge(sasl_message(11, challenge.as_bytes()));
-        (
-            LoginStep::Ask(question),
-            Place::Asked(Asking::Last(copy), key),
-        )
-    }
-
-    /// A SASLResponse, where the client's first message was this.
-    fn on_last(&self, alloc: Global, key: Arc<StartKey>, first: &[u8], body: &[u8]) -> Answered
-        ensures { Answers (rows_under self.now) self.now.word (arc_value key) (ForLast first.now) body.now result }
-    {
-        let Some(first) = First::read(first) else {
-            return refused(MALFORMED);
-        };
-        let nonce = self.joint_nonce(&first);
-        let Ok(read) = Last::read(alloc, first.header, nonce.as_bytes(), body) else {
-            return refused(Refusal::OutOfMemory);
-        };
-        let Some(message) = read else {
-            return refused(MALFORMED);
-        };
-        let Ok(judging) = self.judging(alloc, &key) else {
-            return refused(Refusal::OutOfMemory);
-        };
-        let challenge = self.challenge(&key, &first);
-        match server_proof(&judging, &first, challenge.as_bytes(), &message) {
-            Some(proof) => {
-                let verdict = self.admit(&key);
-                (last_step(verdict, key, &proof), Place::Over)
-            }
-            None => (LoginStep::Failed(Failure::WrongPassword), Place::Over),
-        }
-    }
-
     fn on_answer(&self, alloc: Global, asking: Asking, key: Arc<StartKey>, body: &[u8]) -> Answered
-        ensures { Answers (rows_under self.now) self.now.word (arc_value key) (asking_of asking) body.now result }
+        ensures answers { Answers (rows_under self.now) self.now.word (arc_value key) (asking_of asking) body.now result }
+        ensures reveals { Reveals (rows_under self.now) result.0 (revealed_of result.1) }
     {
         match asking {
             Asking::Password => self.on_password(alloc, key, body),
@@ -575,18 +503,19 @@ impl Rules {
         ensures step { StepIs (rows_under self.now) self.now.word (AwaitsPacket (Asked (asking_of asking) (arc_value key))) held.now result.0 (awaiting_of result.1) (left_after result.0 held.now) }
         ensures once { ArrivesOnce (AwaitsPacket (Asked (asking_of asking) (arc_value key))) result.0 }
         ensures lacks { result.2 ≡ missing (awaiting_of result.1) (left_after result.0 held.now) }
+        ensures reveals { Reveals (rows_under self.now) result.0 (revealed_of result.1) }
     {
         packets_grow();
         let frame = match next_frame(held, 0, LONGEST_MESSAGE, Side::Client) {
             Step::Whole(frame) => frame,
             Step::Need(count) => return (LoginStep::More, Place::Asked(asking, key), count),
-            Step::Bad(_) => return (LoginStep::Refused(MALFORMED), Place::Over, 0),
+            Step::Bad(_) => return (LoginStep::Refused(MALFORMED), Place::Over(None), 0),
         };
         if frame.kind == TERMINATE {
-            return (LoginStep::Left, Place::Over, 0);
+            return (LoginStep::Left, Place::Over(None), 0);
         }
         if frame.kind != PASSWORD_MESSAGE {
-            return (LoginStep::Refused(MALFORMED), Place::Over, 0);
+            return (LoginStep::Refused(MALFORMED), Place::Over(None), 0);
         }
         let (step, place) = self.on_answer(alloc, asking, key, frame.body);
         let lacking = head_after(&place);
@@ -600,12 +529,13 @@ impl Rules {
         ensures once { ArrivesOnce (awaiting_of place) result.0 }
         ensures over { awaiting_of place ≡ Over → result.0 ≡ Left }
         ensures lacks { result.2 ≡ missing (awaiting_of result.1) (left_after result.0 held.now) }
+        ensures reveals { Reveals (rows_under self.now) result.0 (revealed_of result.1) }
     {
         match place {
             Place::First { tls, gss } => self.on_first_packet(alloc, held, tls, gss),
             Place::Arriving(key) => self.go_on(key),
             Place::Asked(asking, key) => self.on_message(alloc, held, asking, key),
-            Place::Over => (LoginStep::Left, Place::Over, 0),
+            Place::Over(_) => (LoginStep::Left, Place::Over(None), 0),
         }
     }
 }

@@ -5,6 +5,7 @@
 mod dialogue;
 pub mod laws;
 mod login;
+mod scram_dialogue;
 mod steps;
 
 pub use login::Login;

@@ -2,7 +2,7 @@
 ghost use Rattle.std.specs.Prelude.{◌≡◌, ◌<◌, ◌≤◌, ◌+◌, ◌++◌, [], length, take, min, IfOk, false, vec_capacity};
 ghost use Rattle.std.specs.Arc.{arc_value};
 ghost use Rattle.login_core.specs.Dialogue.{AtFirst};
-ghost use Rattle.login_core.specs.Logins.{ArrivesOnce, StepMeans, AwaitsPacket, Over, arrives_at_console, awaiting_of, login_view, missing, rows_of};
+ghost use Rattle.login_core.specs.Logins.{ArrivesOnce, StepMeans, AwaitsPacket, Over, Reveals, arrives_at_console, awaiting_of, login_view, missing, rows_of};
 ghost use Rattle.login_core.specs.declared.steps.LoginStep.TheVariants.{Left};
 
 use crate::dialogue::{FIRST_HEAD, LONGEST_MESSAGE, Place, Rules, note_unsupported};
@@ -48,11 +48,11 @@ impl Drop for Login {
 impl Model for Login {
     ghost use Rattle.std.specs.Prelude.{◌≡◌, ◌≤◌, vec_capacity};
     ghost use Rattle.std.specs.Arc.{arc_value};
-    ghost use Rattle.login_core.specs.Logins.{LoginView, login_view, awaiting_of, missing, Fits};
+    ghost use Rattle.login_core.specs.Logins.{LoginView, revealing_view, awaiting_of, missing, revealed_of, Fits};
 
     ghost Value = { LoginView };
 
-    ghost view = { λ l. login_view (arc_value l.rules.settings) (arc_value l.rules.users) l.rules.word (awaiting_of l.place) l.held.items };
+    ghost view = { λ l. revealing_view (arc_value l.rules.settings) (arc_value l.rules.users) l.rules.word (awaiting_of l.place) l.held.items (revealed_of l.place) };
 
     ghost invariant = { λ l. Fits (awaiting_of l.place) l.held.items × (10001 ≤ vec_capacity l.held) × (l.lacking ≡ missing (awaiting_of l.place) l.held.items) };
 }
@@ -107,6 +107,17 @@ impl Login {
         &self.rules.users
     }
 
+    /// The client key that the client revealed of its user's verifier, once it was let in by a password or a proof: by it the client is let in
+    /// at each server that has the same verifier (RFC 5802, section 3). None of a secret that is no verifier.
+    pub fn revealed(&self) -> Option<[u8; 32]>
+        ensures { result ≡ self.now.revealed }
+    {
+        match &self.place {
+            Place::Over(revealed) => *revealed,
+            Place::First { .. } | Place::Arriving(_) | Place::Asked(_, _) => None,
+        }
+    }
+
     /// The name of the parameter for which the client was refused as [`message_view::Refusal::UnsupportedParameter`], as it was
     /// sent. None where it wasn't refused so, or where there was no memory for the name.
     pub fn unsupported_parameter(&self) -> Option<&[u8]> {
@@ -123,7 +134,7 @@ impl Login {
     {
         match &self.place {
             Place::Arriving(key) => self.rules.is_for_console(key),
-            Place::First { .. } | Place::Asked(_, _) | Place::Over => false,
+            Place::First { .. } | Place::Asked(_, _) | Place::Over(_) => false,
         }
     }
 
@@ -146,12 +157,13 @@ impl Login {
         ensures used { result.0 ≡ min (missing self.old.awaiting self.old.held) (length piece.now) }
         ensures means { StepMeans self.old (take result.0 piece.now) result.1 self.new }
         ensures once { ArrivesOnce self.old.awaiting result.1 }
+        ensures reveals { Reveals (rows_of self.old) result.1 self.new.revealed }
         ensures over { self.old.awaiting ≡ Over → (result.0 ≡ 0) × (result.1 ≡ Left) }
     {
         packets_grow();
         let used = self.lacking.min(piece.len());
         hold(&mut self.held, &piece[..used]);
-        let place = mem::replace(&mut self.place, Place::Over);
+        let place = mem::replace(&mut self.place, Place::Over(None));
         let (step, next, lacking) = self.rules.turn(alloc, self.held.as_slice(), place);
         self.place = next;
         self.lacking = lacking;

@@ -115,7 +115,7 @@ own_passed law catalogue v key marks bytes pieces left e = own_by law catalogue 
 
 pub passed_let_in : LoginIsOfItsRow → PassedRunsAreLetIn
 passed_let_in law v catalogue key x t e n =
-    let p : IsPiece v.said = subst (λ (q : PhaseOf). Awaits q v.said v.login) e x.1 in
+    let p : IsPiece v.said = (subst (λ (q : PhaseOf). Awaits q v.said v.login) e x.1).0 in
     let h = taken_ended v key x.2 e t in
     record {
       pieces = x.2.done ++ said_pieces v.said;

@@ -1,6 +1,7 @@
 -- What the turns of a login keep.
 use Rattle.std.proofs.Common.{◌≡◌, ◌⊎◌, inl, inr, ℕ, ◌+◌, ◌<◌, ◌≤◌, true, false, List, [], ◌++◌, length, take, drop, refl, sym, ap, ap₂, ◌∙◌, subst, arith, append_assoc, append-nil, take_all, length-drop, length-take}
 use Rattle.std.specs.Prelude.{min}
+use Rattle.std.specs.Arc.{arc_value}
 use Rattle.std.proofs.Math.Seq.{take-add}
 use Rattle.std.proofs.lemmas.Grind.{flat_map-append}
 use Rattle.message_view.specs.declared.KeyWord.{KeyWord}
@@ -17,7 +18,7 @@ use Rattle.login_core.specs.declared.steps.LoginStep.TheVariants as step
 use Rattle.login_core.specs.Talk.{End}
 use Rattle.login_core.specs.Talk.End.{Stopped as StoppedFor}
 use Rattle.login_core.specs.Dialogue.{Rows, Dialogue, Way, Reason, Refused as RefusedBy, AtFirst, row_in, login_among}
-use Rattle.login_core.specs.Logins.{Awaiting, AwaitsPacket, Arriving, LoginView, login_view, rows_of, goes_on, Tells, StepMeans, missing}
+use Rattle.login_core.specs.Logins.{Awaiting, AwaitsPacket, Arriving, LoginView, login_view, rows_of, goes_on, IsRevealed, Reveals, Tells, StepMeans, missing}
 use Rattle.login_core.proofs.Pieces.{joined_if_any}
 use Rattle.login_core.specs.Laws.{waits, arrived, asks, NewTells, StepsTell, StepsSay}
 use Rattle.login_run.specs.declared.login_reply.LoginReply.{LoginReply}
@@ -84,7 +85,7 @@ stands_begun Gone s v taken pieces h = cut_begun (rows_of v) v.word taken pieces
 pub stands_cut : (p : PhaseOf) (s : LoginReply) (v : LoginView) (taken : List ℕ) (pieces : List (List ℕ)) → Awaits p s v → StandsAt p s v taken pieces → IsCutOff (rows_of v) v.word taken pieces s
 stands_cut Talking s v taken pieces a h = begun_cut (rows_of v) v.word taken pieces s a.0 (stands_begun Talking s v taken pieces h)
 stands_cut Arrived s v taken pieces a h = begun_cut (rows_of v) v.word taken pieces s a.0 (stands_begun Arrived s v taken pieces h)
-stands_cut (Passed key) s v taken pieces a h = begun_cut (rows_of v) v.word taken pieces s a (stands_begun (Passed key) s v taken pieces h)
+stands_cut (Passed key) s v taken pieces a h = begun_cut (rows_of v) v.word taken pieces s a.0 (stands_begun (Passed key) s v taken pieces h)
 stands_cut Console s v taken pieces a h = begun_cut (rows_of v) v.word taken pieces s a (stands_begun Console s v taken pieces h)
 stands_cut (Cancelling key) s v taken pieces a h = begun_cut (rows_of v) v.word taken pieces s (subst IsPiece (sym a) tt) (stands_begun (Cancelling key) s v taken pieces h)
 stands_cut Stopped s v taken pieces a h = stopped_cut (rows_of v) v.word taken pieces s h
@@ -131,16 +132,16 @@ heard_stands tell say old new taken bytes done step.Left t h = ended_on old new 
 arriving : (h : Awaiting) (key : _) → h ≡ Arriving key → IsArriving h
 arriving h key e = subst IsArriving (sym e) tt
 
-pub heard_awaits : (old new : LoginView) (bytes : List ℕ) (s : LoginStep) → StepMeans old bytes s new → Awaits (phase_after s) (said_after s) new
-heard_awaits old new bytes step.More h = (tt, h.leads)
-heard_awaits old new bytes (step.Ask q) h = (tt, h.leads)
-heard_awaits old new bytes (step.Arrived key) h = (tt, arriving new.awaiting _ h.leads)
-heard_awaits old new bytes (step.Passed key told) h = tt
-heard_awaits old new bytes (step.Console told) h = tt
-heard_awaits old new bytes (step.Refused r) h = tt
-heard_awaits old new bytes (step.Failed f) h = tt
-heard_awaits old new bytes (step.Cancel pid secret) h = refl
-heard_awaits old new bytes step.Left h = tt
+pub heard_awaits : (old new : LoginView) (bytes : List ℕ) (s : LoginStep) → StepMeans old bytes s new → Reveals (rows_of old) s new.revealed → Awaits (phase_after s) (said_after s) new
+heard_awaits old new bytes step.More h x = (tt, h.leads)
+heard_awaits old new bytes (step.Ask q) h x = (tt, h.leads)
+heard_awaits old new bytes (step.Arrived key) h x = (tt, arriving new.awaiting _ h.leads)
+heard_awaits old new bytes (step.Passed key told) h x = (tt, subst (λ (rows : Rows). IsRevealed (rows (arc_value key).row (arc_value key).user) new.revealed) (rows_same old new bytes (step.Passed key told) h) x)
+heard_awaits old new bytes (step.Console told) h x = tt
+heard_awaits old new bytes (step.Refused r) h x = tt
+heard_awaits old new bytes (step.Failed f) h x = tt
+heard_awaits old new bytes (step.Cancel pid secret) h x = refl
+heard_awaits old new bytes step.Left h x = tt
 
 -- ---- what was said and given
 
@@ -266,11 +267,11 @@ heard_runs tell say c d v w s sent got step heard done t h taken given = record 
   given = λ tells. given tells ∙ sym (append-nil (joined_pieces (done ++ said_pieces s)));
 }
 
-read_on : StepsTell → StepsSay → (c d : ClientFacts) (v w : LoginView) (s : LoginReply) (sent : ℕ) (got : List ℕ) (m : Moved) (step : LoginStep) → sent ≡ length (said_bytes s) → ClientReads c d got m → StepMeans v got step w → IsRun (run_view c v Talking s sent)
+read_on : StepsTell → StepsSay → (c d : ClientFacts) (v w : LoginView) (s : LoginReply) (sent : ℕ) (got : List ℕ) (m : Moved) (step : LoginStep) → sent ≡ length (said_bytes s) → ClientReads c d got m → StepMeans v got step w → Reveals (rows_of v) step w.revealed → IsRun (run_view c v Talking s sent)
     → IsRun (run_view d w (phase_after step) (said_after step) 0)
-read_on tell say c d v w s sent got m step n k h x = (
+read_on tell say c d v w s sent got m step n k h revealed x = (
   omega arith,
-  heard_awaits v w got step h,
+  heard_awaits v w got step h revealed,
   heard_runs tell say c d v w s sent got step x.2.heard x.2.done x.2.stands h
       (λ tells. k.taken (sym k.tells ∙ tells) ∙ ap (λ (l : List ℕ). l ++ got) (x.2.taken (sym k.tells ∙ tells)))
       (λ tells. k.given (sym k.tells ∙ tells) ∙ settled c.given x.2.done s sent x.1.0 n (x.2.given (sym k.tells ∙ tells))),
@@ -280,9 +281,9 @@ after_step : (c : ClientFacts) (v : LoginView) (step : LoginStep) (p : PhaseOf) 
 after_step c v step p s e f x = rw (e, f) x
 
 pub read_some : StepsTell → StepsSay → (c d : ClientFacts) (v w : LoginView) (p : PhaseOf) (s : LoginReply) (sent : ℕ) (u : RunView) (got heard : List ℕ) (m : Moved) (step : LoginStep) (q : PhaseOf) (r : LoginReply) → run_view c v p s sent ≡ u → u.phase ≡ Talking → IsAllGiven u
-    → q ≡ phase_after step → r ≡ said_after step → heard ≡ got → ClientReads c d got m → StepMeans v heard step w → IsRun (run_view c v p s sent) → IsRun (run_view d w q r 0)
-read_some tell say c d v w p s sent u got heard m step q r e t n eq er same k h x =
-    after_step d w step q r eq er (read_on tell say c d v w s sent got m step (all_given c v p s sent u e n) k (subst (λ (l : List ℕ). StepMeans v l step w) same h) (talks c v p s sent u e t x))
+    → q ≡ phase_after step → r ≡ said_after step → heard ≡ got → ClientReads c d got m → StepMeans v heard step w → Reveals (rows_of v) step w.revealed → IsRun (run_view c v p s sent) → IsRun (run_view d w q r 0)
+read_some tell say c d v w p s sent u got heard m step q r e t n eq er same k h revealed x =
+    after_step d w step q r eq er (read_on tell say c d v w s sent got m step (all_given c v p s sent u e n) k (subst (λ (l : List ℕ). StepMeans v l step w) same h) revealed (talks c v p s sent u e t x))
 
 -- no more is read than the login waits for, so it takes all
 pub all_used : (used count missing : ℕ) (chunk : List ℕ) → used ≡ min missing (length (take count chunk)) → count ≤ missing → take used (take count chunk) ≡ take count chunk
@@ -293,10 +294,10 @@ all_used used count missing chunk e l = take_all used (take count chunk) (omega 
 arrives : (c : ClientFacts) (v : LoginView) (p : PhaseOf) (s : LoginReply) (sent : ℕ) (w : RunView) → run_view c v p s sent ≡ w → w.phase ≡ Arrived → IsRun (run_view c v p s sent) → IsRun (run_view c v Arrived s sent)
 arrives c v p s sent w e t x = subst (λ (q : PhaseOf). IsRun (run_view c v q s sent)) (ap (λ (y : RunView). y.phase) e ∙ t) x
 
-go_on : StepsTell → StepsSay → (c : ClientFacts) (v w : LoginView) (s : LoginReply) (sent : ℕ) (step : LoginStep) → sent ≡ length (said_bytes s) → StepMeans v [] step w → IsRun (run_view c v Arrived s sent) → IsRun (run_view c w (phase_after step) (said_after step) 0)
-go_on tell say c v w s sent step n h x = (
+go_on : StepsTell → StepsSay → (c : ClientFacts) (v w : LoginView) (s : LoginReply) (sent : ℕ) (step : LoginStep) → sent ≡ length (said_bytes s) → StepMeans v [] step w → Reveals (rows_of v) step w.revealed → IsRun (run_view c v Arrived s sent) → IsRun (run_view c w (phase_after step) (said_after step) 0)
+go_on tell say c v w s sent step n h revealed x = (
   omega arith,
-  heard_awaits v w [] step h,
+  heard_awaits v w [] step h revealed,
   heard_runs tell say c c v w s sent [] step x.2.heard x.2.done x.2.stands h
       (λ tells. x.2.taken tells ∙ sym (append-nil x.2.heard))
       (λ tells. settled c.given x.2.done s sent x.1.0 n (x.2.given tells)),
@@ -305,7 +306,7 @@ go_on tell say c v w s sent step n h x = (
 nothing_of : (n : ℕ) → take {A = ℕ} n [] ≡ []
 nothing_of n = take_all {A = ℕ} n [] (omega arith)
 
-pub went_on : StepsTell → StepsSay → (c : ClientFacts) (v w : LoginView) (p : PhaseOf) (s : LoginReply) (sent used : ℕ) (u : RunView) (step : LoginStep) (q : PhaseOf) (r : LoginReply) → run_view c v p s sent ≡ u → u.phase ≡ Arrived → IsAllGiven u → q ≡ phase_after step → r ≡ said_after step → StepMeans v (take used []) step w
+pub went_on : StepsTell → StepsSay → (c : ClientFacts) (v w : LoginView) (p : PhaseOf) (s : LoginReply) (sent used : ℕ) (u : RunView) (step : LoginStep) (q : PhaseOf) (r : LoginReply) → run_view c v p s sent ≡ u → u.phase ≡ Arrived → IsAllGiven u → q ≡ phase_after step → r ≡ said_after step → StepMeans v (take used []) step w → Reveals (rows_of v) step w.revealed
     → IsRun (run_view c v p s sent) → IsRun (run_view c w q r 0)
-went_on tell say c v w p s sent used u step q r e t n eq er h x =
-    after_step c w step q r eq er (go_on tell say c v w s sent step (all_given c v p s sent u e n) (subst (λ (l : List ℕ). StepMeans v l step w) (nothing_of used) h) (arrives c v p s sent u e t x))
+went_on tell say c v w p s sent used u step q r e t n eq er h revealed x =
+    after_step c w step q r eq er (go_on tell say c v w s sent step (all_given c v p s sent u e n) (subst (λ (l : List ℕ). StepMeans v l step w) (nothing_of used) h) revealed (arrives c v p s sent u e t x))

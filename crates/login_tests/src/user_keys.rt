@@ -65,7 +65,7 @@ fn kept_keys_are_the_same(rt: HostRuntime) -> Result<(), Fail> {
         first.derive(alloc, place);
     }
     assert!(rt; !first.is_derived());
-    first.set_derived();
+    first.look_derived();
     assert!(rt; first.is_derived());
     let later = users(alloc)?;
     later.take_over(alloc, &first);

@@ -273,7 +273,7 @@ impl MemoryPool {
     {
         // the server asks for nothing
         let unasked = Secret::Md5([0; 32]);
-        let credential = Credential::new(self.alloc, &unasked, &SERVER_WORD, number);
+        let credential = Credential::new(self.alloc, &unasked, None, &SERVER_WORD, number);
         start_link(
             self.alloc,
             server,

@@ -6,7 +6,7 @@ use Rattle.message_view.specs.Reading.{authentication_of, int32_at}
 use Rattle.message_view.specs.Bodies.{Text}
 use Rattle.user_file.specs.declared.secrets.Secret.{Secret}
 use Rattle.user_file.specs.declared.secrets.Secret.TheVariants as secrets
-use Rattle.credentials.specs.Credentials.{CredentialOf, first_response, has_password}
+use Rattle.credentials.specs.Credentials.{CredentialOf, first_response, has_client_key}
 use Rattle.credentials.specs.Exchanges.{ExchangeOf, exchange_of, exchange_over}
 use Rattle.frame_view.specs.Frames.{FrameOf}
 use Rattle.session_values.specs.State.{fresh}
@@ -27,16 +27,17 @@ mechanisms : (c : CredentialOf) (names : Text) → heard_by c Nothing (asks (tel
 unfolding authentication_of int32_at
 mechanisms c names = refl
 
--- who has an exchange has a password
-password : (secret : Secret) (nonce challenge : Text) (own : ExchangeOf) → exchange_over secret nonce challenge ≡ Some own → has_password secret ≡ true
-password (secrets.Plain text) nonce challenge own e = refl
-password (secrets.Md5 digits) nonce challenge own e = absurd cc
-password (secrets.Scram verifier) nonce challenge own e = absurd cc
-password secrets.Unusable nonce challenge own e = absurd cc
+-- who has an exchange has a password or a client key
+client_key : (secret : Secret) (revealed : Option Text) (nonce challenge : Text) (own : ExchangeOf) → exchange_over secret revealed nonce challenge ≡ Some own → has_client_key secret revealed ≡ true
+client_key (secrets.Plain text) revealed nonce challenge own e = refl
+client_key (secrets.Md5 digits) revealed nonce challenge own e = absurd cc
+client_key (secrets.Scram verifier) None nonce challenge own e = absurd cc
+client_key (secrets.Scram verifier) (Some client) nonce challenge own e = refl
+client_key secrets.Unusable revealed nonce challenge own e = absurd cc
 
-answerable : (c : CredentialOf) (challenge : Text) (own : ExchangeOf) → exchange_of c challenge ≡ Some own → has_password c.secret ≡ true
+answerable : (c : CredentialOf) (challenge : Text) (own : ExchangeOf) → exchange_of c challenge ≡ Some own → has_client_key c.secret c.revealed ≡ true
 unfolding exchange_of
-answerable c challenge own e = password c.secret c.nonce challenge own e
+answerable c challenge own e = client_key c.secret c.revealed c.nonce challenge own e
 
 behind_first : (c : CredentialOf) (challenge : Text) → after_question c Scram (asks (tells SASL_CONTINUES challenge)) ≡ challenged (exchange_of c challenge)
 unfolding authentication_of int32_at

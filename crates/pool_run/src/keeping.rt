@@ -297,14 +297,15 @@ impl<R: Wait, F: Source> Keeper<R, F> {
         self.changed.notify_all();
     }
 
-    /// Waits for users whose keys aren't derived yet. None once the pool has ended.
-    fn next_underived(&self) -> Option<Underived> {
+    /// Waits for users whose keys aren't derived yet, and who weren't read at this reload, which was gone through. None once the pool has
+    /// ended.
+    fn next_underived(&self, done: Option<u64>) -> Option<Underived> {
         let mut kept = self.kept.lock(&self.rt);
         for _ in self.rt.forever() {
             if kept.has_ended {
                 return None;
             }
-            if kept.wants_keys() {
+            if kept.wants_keys() && done != Some(kept.reloads) {
                 return Some(Underived {
                     users: Arc::try_clone(&kept.users).ok()?,
                     reloads: kept.reloads,
@@ -329,17 +330,19 @@ impl<R: Wait, F: Source> Keeper<R, F> {
             }
             underived.users.derive(self.alloc, place);
         }
-        underived.users.set_derived();
+        underived.users.look_derived();
     }
 
     /// Derives the keys of users who are asked for SCRAM, at the start and behind each reload, until the pool has ended: so no client waits
     /// for its own, and how long one waits tells nobody which names there are.
     pub(crate) fn derive_keys(&self) {
+        let mut done = None;
         for _ in self.rt.forever() {
-            let Some(underived) = self.next_underived() else {
+            let Some(underived) = self.next_underived(done) else {
                 return;
             };
             self.derive(&underived);
+            done = Some(underived.reloads);
         }
     }
 }

@@ -93,10 +93,10 @@ pub record IsUnstarted (home : HomeOf) (g : LoggedIn) (cause : StartCause) : Typ
   pub now : Standing
   -- of the link that was to be started
   pub number : ℕ
-  pub dialled : IsDialled home (arc_value g.key) (credential_of user.secret (start_nonce g.word number)) began
-  pub is_cause : IsStartCause began now (credential_of user.secret (start_nonce g.word number)) (arc_value g.key) cause
-  pub tried : cause ≡ Turns → HasTried began (credential_of user.secret (start_nonce g.word number)) (arc_value g.key) now TURNS
-  pub unanswered : cause ≡ Late → HasTried began (credential_of user.secret (start_nonce g.word number)) (arc_value g.key) now 0
+  pub dialled : IsDialled home (arc_value g.key) (credential_of user.secret g.login.revealed (start_nonce g.word number)) began
+  pub is_cause : IsStartCause began now (credential_of user.secret g.login.revealed (start_nonce g.word number)) (arc_value g.key) cause
+  pub tried : cause ≡ Turns → HasTried began (credential_of user.secret g.login.revealed (start_nonce g.word number)) (arc_value g.key) now TURNS
+  pub unanswered : cause ≡ Late → HasTried began (credential_of user.secret g.login.revealed (start_nonce g.word number)) (arc_value g.key) now 0
 
 abbrev pub IsUnopened : HomeOf → LoggedIn → Ending → Type 0
 IsUnopened home g ending.Unreached = Unit {0}
@@ -124,4 +124,4 @@ pub record HasEnded (home : HomeOf) (g : LoggedIn) (since : Since) (p q : PassOf
   pub tells : after.tells ≡ before.tells
   pub traces : Traces since p q e
   pub came : Came home g before after e
-  pub serves : before.tells ≡ true → LetsIn home g.login.users → Serves (limit_of g) home.strikable before after (owed home.catalogue g) (word_of e)
+  pub serves : before.tells ≡ true → LetsIn home g.login → Serves (limit_of g) home.strikable before after (owed home.catalogue g) (word_of e)

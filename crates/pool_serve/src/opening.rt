@@ -51,7 +51,7 @@ fn start_anew<D: LinkDesk, G: Gate<D::End>>(
     ensures born { IfOk result (λ l. l.born ≡ born) }
     ensures home { IfOk result (λ l. IsAtHome D.home l) }
     ensures why { IfErr result (λ e. IsUnopened D.home logged_in.now e) }
-    ensures told { LetsIn D.home logged_in.now.login.users → IfErr result (λ e. MayEnd [] (owed D.home.catalogue logged_in.now [] []) (word_of e)) }
+    ensures told { LetsIn D.home logged_in.now.login → IfErr result (λ e. MayEnd [] (owed D.home.catalogue logged_in.now [] []) (word_of e)) }
 {
     let Some(user) = user_of(logged_in) else {
         return Err(Ending::Unreached);
@@ -59,7 +59,8 @@ fn start_anew<D: LinkDesk, G: Gate<D::End>>(
     let Ok(key) = Arc::try_clone(&logged_in.key) else {
         return Err(Ending::Memory);
     };
-    let credential = Credential::new(alloc, &user.secret, &logged_in.word, number);
+    let revealed = logged_in.login.revealed();
+    let credential = Credential::new(alloc, &user.secret, revealed, &logged_in.word, number);
     let Some(mut end) = desk.dial(number, &logged_in.key, &credential, seconds) else {
         return Err(Ending::Unreached);
     };
@@ -85,7 +86,7 @@ pub(crate) fn open_link<D: LinkDesk, G: Gate<D::End>>(
     ensures born { IfOk result (λ l. l.born ≡ born) }
     ensures home { IfOk result (λ l. IsAtHome D.home l) }
     ensures why { IfErr result (λ e. IsUnopened D.home logged_in.now e) }
-    ensures told { LetsIn D.home logged_in.now.login.users → IfErr result (λ e. MayEnd [] (owed D.home.catalogue logged_in.now [] []) (word_of e)) }
+    ensures told { LetsIn D.home logged_in.now.login → IfErr result (λ e. MayEnd [] (owed D.home.catalogue logged_in.now [] []) (word_of e)) }
 {
     let seconds = logged_in.login.settings().server_connect_timeout();
     gate.limit(time_of(seconds));

@@ -163,7 +163,7 @@ impl<'a, D: LinkDesk, G: Gate<D::End>> Worker<'a, D, G> {
         ensures leased { HasLeased (D.holder self.old.pass) (D.holder self.new.pass) result.1 }
         ensures traces { TracesAtLast D.home run.login AtAsking (D.told self.old.pass) (D.told self.new.pass) result.1 }
         ensures came { CameIn D.home run.login (C.facts result.0) result.1 }
-        ensures serves { run.client.tells ≡ true → LetsIn D.home run.login.users → ServesAs D.home run.login (C.facts result.0) result.1 }
+        ensures serves { run.client.tells ≡ true → LetsIn D.home run.login → ServesAs D.home run.login (C.facts result.0) result.1 }
     {
         bounded_rows_are_lawful();
         passed_keys_are_link_keys();
@@ -226,7 +226,7 @@ impl<'a, D: LinkDesk, G: Gate<D::End>> Worker<'a, D, G> {
         ensures refused { (D.holder self.new.pass).refused ≡ refusal_in result.1 }
         ensures traces { TracesAtLast D.home run.login AtArrival (D.told self.old.pass) (D.told self.new.pass) result.1 }
         ensures came { CameIn D.home run.login (C.facts result.0) result.1 }
-        ensures serves { run.client.tells ≡ true → LetsIn D.home run.login.users → ServesAs D.home run.login (C.facts result.0) result.1 }
+        ensures serves { run.client.tells ≡ true → LetsIn D.home run.login → ServesAs D.home run.login (C.facts result.0) result.1 }
     {
         runs_stand_at_pieces();
         match self.arrive(&run) {
@@ -295,7 +295,7 @@ pub fn serve<C: ClientEnd, D: LinkDesk, G: Gate<D::End> + Drop>(
     requires free { (D.holder pass).client ≡ None }
     requires none { (D.holder pass).lease ≡ None }
     ensures tells { (C.facts result.0).tells ≡ (C.facts client).tells }
-    ensures allowed { (C.facts client).tells ≡ true → LetsIn D.home login.users → IsAllowed D.home login (D.told pass) (D.told result.1) (C.facts result.0) ⊎ IsAtConsole login (C.facts result.0) }
+    ensures allowed { (C.facts client).tells ≡ true → LetsIn D.home login → IsAllowed D.home login (D.told pass) (D.told result.1) (C.facts result.0) ⊎ IsAtConsole login (C.facts result.0) }
     ensures share { Settles (D.told pass) (D.told result.1) }
     ensures free { (D.holder result.1).client ≡ None }
     ensures none { (D.holder result.1).lease ≡ None }

@@ -51,7 +51,7 @@ fn started<E: ServerEnd>(
     let Ok(secret) = Secret::read(alloc, PASSWORD) else {
         return Err(AllocError);
     };
-    let credential = Credential::new(alloc, &secret, &KEY_WORD, 5);
+    let credential = Credential::new(alloc, &secret, None, &KEY_WORD, 5);
     let key = key(alloc)?;
     match start_link(
         alloc,

@@ -108,7 +108,7 @@ fn served(
     let catalogue = Arc::try_clone(&service.catalogue)?;
     // the server asks for nothing
     let unasked = Secret::Md5([0; 32]);
-    let credential = Credential::new(alloc, &unasked, &KEY_WORD, 0);
+    let credential = Credential::new(alloc, &unasked, None, &KEY_WORD, 0);
     let server = MemoryServer::spared(
         alloc,
         catalogue,

@@ -68,9 +68,15 @@ impl ServerKeys {
         }
     }
 
-    /// The client key that a client's proof reveals, where it is right: where its SHA-256 is StoredKey. None where the proof is wrong.
-    ///
-    /// The two digests are compared whole, with no branch on any of their bytes.
+    /// Whether this is the client's key: whether its SHA-256 is StoredKey. The two digests are compared whole, with no branch on any of
+    /// their bytes.
+    pub fn is_client_key(&self, client: &[u8; 32]) -> bool
+        ensures { result ≡ spec.is_client_key self.now.stored client.now }
+    {
+        is_same(&Sha256::digest(client), &self.stored)
+    }
+
+    /// The client key that a client's proof reveals, where it is right ([`ServerKeys::is_client_key`]). None where the proof is wrong.
     pub fn revealed(
         &self,
         bare: &[u8],
@@ -82,7 +88,7 @@ impl ServerKeys {
     {
         let signature = HmacKey::new(&self.stored).of_exchange(bare, challenge, unproved);
         let client = xor(given, &signature);
-        if is_same(&Sha256::digest(client), &self.stored) {
+        if self.is_client_key(&client) {
             Some(client)
         } else {
             None

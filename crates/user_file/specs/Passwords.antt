@@ -2,7 +2,6 @@
 use Rattle.std.specs.Prelude.{◌≡◌, ℕ, List}
 use Rattle.scram.specs.Hmac.{hi}
 use Rattle.scram.specs.Keys.{server_keys}
-use Rattle.scram.specs.declared.keys.ServerKeys.{ServerKeys}
 use Rattle.sasl_prep.specs.Prepared.{prepared}
 use Rattle.user_file.specs.declared.password.Salted.{Salted}
 

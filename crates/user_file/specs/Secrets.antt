@@ -1,13 +1,13 @@
 -- Secrets, and what proves that a client knows one (RFC 1321; RFC 5802, section 3; PostgreSQL manual,
 -- "Password authentication").
-use Rattle.std.specs.Prelude.{ℕ, Bool, true, false, List, ◌++◌, ◌==◌, ◌&&◌, ◌||◌, if◌then◌else◌, nat_le, nat_eq, length, drop, Option, Some, None, option_map, bytes_eq, codes}
+use Rattle.std.specs.Prelude.{◌≡◌, ℕ, Bool, true, false, List, ◌++◌, ◌==◌, ◌&&◌, ◌||◌, if◌then◌else◌, nat_le, nat_eq, length, drop, Option, Some, None, option_map, bytes_eq, codes}
 use Rattle.std.specs.List.{list_all, starts_with}
 use Rattle.md5.specs.Md5.{md5}
 use Rattle.hex.specs.Hex.{encode_lower}
 use Rattle.scram.specs.declared.verifier.Verifier.{Verifier}
 use Rattle.scram.specs.Verifiers.{verifier_of}
 use Rattle.scram.specs.Hmac.{hi}
-use Rattle.scram.specs.Keys.{server_keys}
+use Rattle.scram.specs.Keys.{client_key, is_client_key}
 use Rattle.scram.specs.declared.server_messages.TheConstants.{MOST_ROUNDS}
 use Rattle.sasl_prep.specs.Prepared.{prepared}
 use Rattle.user_file.specs.declared.secrets.Secret.{Secret}
@@ -74,11 +74,12 @@ salted_answer salt own = codes "md5" ++ encode_lower (md5 (own ++ salt))
 abbrev pub answer : Secret → Text → Text → Option Text
 answer secret user salt = option_map (salted_answer salt) (stored secret user)
 
--- a password is a verifier's where its keys are; more rounds than a server may ask of its client aren't computed
+-- a password is a verifier's where its client key is; more rounds than a server may ask of its client aren't computed
+abbrev pub client_key_by : Verifier → Text → List ℕ
+client_key_by verifier password = client_key (hi (prepared password) verifier.salt verifier.rounds)
+
 abbrev pub is_verified : Verifier → Text → Bool
-is_verified verifier password =
-    if nat_le verifier.rounds MOST_ROUNDS then bytes_eq (server_keys (hi (prepared password) verifier.salt verifier.rounds)).stored verifier.keys.stored
-    else false
+is_verified verifier password = if nat_le verifier.rounds MOST_ROUNDS then is_client_key verifier.keys.stored (client_key_by verifier password) else false
 
 -- a password that came as it is
 abbrev pub accepts_plain : Secret → Text → Text → Bool
@@ -86,6 +87,21 @@ accepts_plain (Plain own) user password = bytes_eq password own
 accepts_plain (Md5 own) user password = bytes_eq (digits password user) own
 accepts_plain (Scram verifier) user password = is_verified verifier password
 accepts_plain Unusable user password = false
+
+-- what a password that came as it is reveals of a verifier: the client key, by which its user is let in at every server that has the same one
+abbrev pub revealed_by : Secret → Text → Option (List ℕ)
+revealed_by (Scram verifier) password = if is_verified verifier password then Some (client_key_by verifier password) else None
+revealed_by (Plain own) password = None
+revealed_by (Md5 own) password = None
+revealed_by Unusable password = None
+
+-- and what a client reveals that proves to know a secret: of a verifier the client key, of the others nothing
+abbrev pub IsRevealedOf : Secret → Option (List ℕ) → Type 0
+IsRevealedOf (Scram verifier) (Some client) = is_client_key verifier.keys.stored client ≡ true
+IsRevealedOf (Scram verifier) None = ⊥
+IsRevealedOf (Plain own) revealed = revealed ≡ None
+IsRevealedOf (Md5 own) revealed = revealed ≡ None
+IsRevealedOf Unusable revealed = revealed ≡ None
 
 -- nothing is right where there is no answer
 abbrev pub is_right : Text → Option Text → Bool

@@ -207,6 +207,11 @@ impl Password {
         Ok(self.derived(alloc, salt, rounds)?.keys)
     }
 
+    /// Whether what it gives, salted so, is kept.
+    pub(crate) fn is_derived(&self, salt: &Salt, rounds: u32) -> bool {
+        self.kept(salt, rounds).is_some()
+    }
+
     /// Takes over what was derived of an equal password with this salt and rounds, if there is memory. Salts of servers aren't taken
     /// over: those that no server has any more would hold the places of others for ever.
     pub(crate) fn take_over(&self, alloc: Global, earlier: &Password, salt: &Salt, rounds: u32) {

@@ -1,5 +1,5 @@
 //! Secrets, and what proves that a client knows one.
-ghost use Rattle.std.specs.Prelude.{◌≡◌, IfErr, IfOk, IfSome, bytes_eq, true};
+ghost use Rattle.std.specs.Prelude.{◌≡◌, IfErr, IfOk, IfSome, None, Some, bytes_eq, if◌then◌else◌, true};
 ghost use Rattle.std.specs.List.{list_all};
 ghost use Rattle.user_file.specs.Salts.{keys_of, salting_of};
 ghost use Rattle.user_file.specs.Secrets as spec;
@@ -10,7 +10,7 @@ use md5::{Digest, Md5};
 use sasl_prep::prepared;
 use scram::keys::salted;
 use scram::server_messages::MOST_ROUNDS;
-use scram::{Salt, ServerKeys, Verifier};
+use scram::{ClientKeys, Salt, ServerKeys, Verifier};
 use std::alloc::{AllocError, Global};
 use std::fmt;
 use text_lines::Text;
@@ -123,17 +123,24 @@ fn salted_answer(salt: [u8; 4], own: [u8; 32]) -> [u8; 35]
     text
 }
 
-/// Whether a password's keys are the verifier's. The only error is out of memory.
-fn is_verified(alloc: Global, verifier: &Verifier, password: &[u8]) -> Result<bool, AllocError>
-    ensures { IfOk result (λ b. b ≡ spec.is_verified verifier.now password.now) }
+/// The client key of a password, where it is the verifier's. The only error is out of memory.
+fn verified(
+    alloc: Global,
+    verifier: &Verifier,
+    password: &[u8],
+) -> Result<Option<[u8; 32]>, AllocError>
+    ensures { IfOk result (λ k. k ≡ (if spec.is_verified verifier.now password.now then Some (spec.client_key_by verifier.now password.now) else None)) }
 {
     if verifier.rounds > MOST_ROUNDS {
-        return Ok(false);
+        return Ok(None);
     }
     let text = prepared(alloc, password)?;
     let salted = salted(text.as_slice(), verifier.salt.as_bytes(), verifier.rounds);
-    let keys = ServerKeys::of(&salted);
-    Ok(is_same(keys.stored.as_slice(), verifier.keys.stored.as_slice()))
+    let ClientKeys { client, server: _ } = ClientKeys::of(&salted);
+    if verifier.keys.is_client_key(&client) {
+        return Ok(Some(client));
+    }
+    Ok(None)
 }
 
 impl Secret {
@@ -202,8 +209,25 @@ impl Secret {
         match self {
             Secret::Plain(own) => Ok(is_same(password, own.as_bytes())),
             Secret::Md5(own) => Ok(is_same(digits(password, user).as_slice(), own.as_slice())),
-            Secret::Scram(verifier) => is_verified(alloc, verifier, password),
+            Secret::Scram(_) => Ok(self.revealed_by(alloc, password)?.is_some()),
             Secret::Unusable => Ok(false),
+        }
+    }
+
+    /// The client key that a password reveals, where it is this verifier's: by it a client is let in at every server that has the same
+    /// verifier (RFC 5802, section 3). It takes the verifier's rounds; one of more than 1,000,000 accepts no password. None of a secret that
+    /// is no verifier. The only error is out of memory, and comes of a verifier alone.
+    pub fn revealed_by(
+        &self,
+        alloc: Global,
+        password: &[u8],
+    ) -> Result<Option<[u8; 32]>, AllocError>
+        ensures value { IfOk result (λ k. k ≡ spec.revealed_by self.now password.now) }
+        ensures memory { IfErr result (λ e. spec.is_verifier self.now ≡ true) }
+    {
+        match self {
+            Secret::Scram(verifier) => verified(alloc, verifier, password),
+            Secret::Plain(_) | Secret::Md5(_) | Secret::Unusable => Ok(None),
         }
     }
 
@@ -255,6 +279,14 @@ impl Secret {
             Secret::Plain(password) => Ok(Some(password.server_keys(alloc, salt, ROUNDS)?)),
             Secret::Scram(verifier) => Ok(Some(verifier.keys)),
             Secret::Md5(_) | Secret::Unusable => Ok(None),
+        }
+    }
+
+    /// Whether there is nothing to derive of it with this salt that isn't kept.
+    pub(crate) fn is_derived(&self, salt: &Salt) -> bool {
+        match self {
+            Secret::Plain(password) => password.is_derived(salt, ROUNDS),
+            Secret::Md5(_) | Secret::Scram(_) | Secret::Unusable => true,
         }
     }
 

@@ -122,7 +122,7 @@ impl Users {
         }
     }
 
-    /// Whether [`Users::set_derived`] was called.
+    /// Whether the keys of all users were found to be kept ([`Users::look_derived`]).
     pub fn is_derived(&self) -> bool {
         self.derived.get().is_some()
     }
@@ -147,22 +147,36 @@ impl Users {
         }
     }
 
-    /// The keys of all users were derived: from here on nobody's cost nothing either.
-    pub fn set_derived(&self) {
+    /// Looks whether the keys of all users are kept. Where they are, nobody's cost nothing either from here on.
+    pub fn look_derived(&self) {
+        for place in 0..self.len() {
+            if let Some(user) = self.at(place) {
+                let salt = salt_for(&self.salts, user.name.as_bytes());
+                if !user.secret.is_derived(&salt) {
+                    return;
+                }
+            }
+        }
         let _ = self.derived.set(true);
     }
 
-    /// Takes over the keys that were derived of equal secrets under an equal key of the salts, if there is memory.
+    /// Takes over the keys that were derived of equal secrets under an equal key of the salts, if there is memory. Where these are the keys
+    /// of all users, nobody's cost nothing either from here on.
     pub fn take_over(&self, alloc: Global, earlier: &Users) {
+        let mut all = true;
         for place in 0..self.len() {
             let Some(user) = self.at(place) else {
                 return;
             };
             let name = user.name.as_bytes();
+            let salt = salt_for(&self.salts, name);
             if let Some(before) = earlier.row(name) {
-                let salt = salt_for(&self.salts, name);
                 user.secret.take_over(alloc, &before.secret, &salt);
             }
+            all = all && user.secret.is_derived(&salt);
+        }
+        if all {
+            let _ = self.derived.set(true);
         }
     }
 }

@@ -1,15 +1,13 @@
 use Rattle.std.proofs.Common.{List, inl, inr, sym, ap, ◌∙◌, subst}
-use Rattle.user_file.specs.Users.{UsersOf}
 use Rattle.link_laws.specs.Standing.{ClientFacts}
 use Rattle.login_core.specs.Logins.{LoginView}
-use Rattle.pool_serve.specs.Serving.{LetsIn}
 use Rattle.pool_serve.specs.Stays.{IsAllowed, ServesAs}
 use Rattle.pool_serve.specs.Words.{HasGiven, last_bytes}
 use Rattle.pool_serve.specs.declared.word.FinalMessage.{FinalMessage}
 use Rattle.pool_serve.proofs.Again.{traces_first}
 use Rattle.pool_serve.proofs.Cancelling.{dismissed_is_over, dismissed_keeps, dismissed_settles}
 use Rattle.pool_serve.proofs.Leases.{came_first}
-use Rattle.pool_serve.proofs.Logging.{run_ends}
+use Rattle.pool_serve.proofs.Logging.{run_ends, still_lets_in}
 use Rattle.pool_serve.proofs.Managing.{same_serves, told_as}
 use Rattle.pool_serve.proofs.Telling.{untold_client}
 use Rattle.pool_serve.proofs.serve.serve.Goals as goal
@@ -34,7 +32,7 @@ returns-clause-allowed g c = λ t l.
     let client = g.C.ClientEnd.facts c.admit-client.result.0 in
     let end = c.admit-client.result.1 in
     let tells = c.drive_login.ensures.login.tells ∙ (ap (λ (x : ClientFacts). x.tells) c.new-run.ensures.client ∙ t) in
-    let lets = subst (λ (u : UsersOf). LetsIn g.D.LinkDesk.home u) (sym (c.drive_login.ensures.login.users ∙ ap (λ (x : LoginView). x.users) c.new-run.ensures.login)) l in
+    let lets = still_lets_in g.D.LinkDesk.home c.args.login c.drive_login.new.run.login (c.drive_login.ensures.login.settings ∙ ap (λ (x : LoginView). x.settings) c.new-run.ensures.login) (c.drive_login.ensures.login.users ∙ ap (λ (x : LoginView). x.users) c.new-run.ensures.login) l in
     let x = traces_first g.D.LinkDesk.home c.args.login c.new-run.result c.drive_login.new.run _ _ end c.new-run.ensures.login c.drive_login.ensures.login c.admit-client.ensures.traces in
     told_as g.D.LinkDesk.home c.args.login client (g.C.ClientEnd.facts c.tell.new.client) (g.D.LinkDesk.told c.args.pass) (g.D.LinkDesk.told c.admit-client.new.self.pass) x.last x.again end
     (subst (λ (w : FinalMessage). HasGiven client (g.C.ClientEnd.facts c.tell.new.client) (last_bytes w)) c.into_word.ensures c.tell.ensures.given)

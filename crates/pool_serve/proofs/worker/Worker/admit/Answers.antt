@@ -1,11 +1,9 @@
 use Rattle.std.proofs.Common.{List, sym, ap, ◌∙◌, subst}
-use Rattle.user_file.specs.Users.{UsersOf}
 use Rattle.link_laws.specs.Standing.{ClientFacts}
-use Rattle.pool_serve.specs.Serving.{LetsIn}
 use Rattle.pool_serve.proofs.Again.{asked_once, same_asking, stay_at_last}
 use Rattle.pool_serve.proofs.Causing.{arrival_traces}
 use Rattle.pool_serve.proofs.Leases.{same_came}
-use Rattle.pool_serve.proofs.Logging.{arrival_ends}
+use Rattle.pool_serve.proofs.Logging.{arrival_ends, still_lets_in}
 use Rattle.pool_serve.proofs.Managing.{same_serves}
 use Rattle.pool_serve.proofs.worker.Worker.admit.Goals as goal
 
@@ -15,7 +13,7 @@ returns-in-Client-clause-came g c = same_came _ c.args.run c.go_on.new.self _ c.
 pub returns-in-Client-clause-serves : goal.returns-in-Client-clause-serves
 returns-in-Client-clause-serves g c = λ t l.
     same_serves g.D.LinkDesk.home c.args.run c.go_on.new.self (g.C.ClientEnd.facts c.serve_arrived-served.result.0) c.serve_arrived-served.result.1 c.go_on.ensures.login
-    (c.serve_arrived-served.ensures.serves (ap (λ (x : ClientFacts). x.tells) c.go_on.ensures.client ∙ t) (subst (λ (u : UsersOf). LetsIn g.D.LinkDesk.home u) (sym c.go_on.ensures.login.users) l))
+    (c.serve_arrived-served.ensures.serves (ap (λ (x : ClientFacts). x.tells) c.go_on.ensures.client ∙ t) (still_lets_in g.D.LinkDesk.home c.args.run.login c.go_on.new.self.login c.go_on.ensures.login.settings c.go_on.ensures.login.users l))
 
 pub returns-in-Refused-clause-serves : goal.returns-in-Refused-clause-serves
 returns-in-Refused-clause-serves g c = λ t l. arrival_ends c.runs_stand_at_pieces.ensures g.D.LinkDesk.home c.args.run (g.C.ClientEnd.facts c.finish-client.result.0) c.in-Refused.refusal c.in-Refused.ensures.refused c.requires.arrived c.requires.given c.finish-client.ensures.run c.finish-client.ensures.client t

@@ -1,15 +1,13 @@
 use Rattle.std.proofs.Common.{List, inl, refl, sym, ap, ◌∙◌, subst}
 use Rattle.ini_config.specs.Bounds.{AreWithinBounds}
 use Rattle.ini_config.specs.declared.option_values.Settings.{Settings}
-use Rattle.user_file.specs.Users.{UsersOf}
 use Rattle.link_laws.specs.Standing.{ClientFacts}
 use Rattle.login_core.specs.Logins.{LoginView}
 use Rattle.pool_serve.specs.declared.logged_in.LoggedIn.{LoggedIn}
-use Rattle.pool_serve.specs.Serving.{LetsIn}
 use Rattle.pool_serve.proofs.Again.{guest_traces}
 use Rattle.pool_serve.proofs.Leases.{came_in, same_came}
 use Rattle.pool_serve.proofs.Managing.{logged_in_serves, same_serves}
-use Rattle.pool_serve.proofs.Logging.{logged_in_ends, is_logged_in, key_is, run_ends}
+use Rattle.pool_serve.proofs.Logging.{is_logged_in, key_is, logged_in_ends, run_ends, still_lets_in}
 use Rattle.pool_serve.proofs.worker.Worker.serve_arrived.Goals as goal
 
 pub host-requires-clause-logged_in : goal.host-requires-clause-logged_in
@@ -43,7 +41,7 @@ returns-in-Some-clause-serves g c = λ t l.
     c.finish-client-2.ensures.login
     t
     (c.host.ensures.ended.ended.serves (ap (λ (x : ClientFacts). x.tells) c.finish-client-2.ensures.client ∙ (c.drive_login.ensures.login.tells ∙ t))
-    (subst (λ (u : UsersOf). LetsIn g.D.LinkDesk.home u) (sym (ap (λ (x : LoginView). x.users) c.finish-client-2.ensures.login ∙ c.drive_login.ensures.login.users)) l)))
+    (still_lets_in g.D.LinkDesk.home c.args.run.login c.finish-client-2.result.1 (ap (λ (x : LoginView). x.settings) c.finish-client-2.ensures.login ∙ c.drive_login.ensures.login.settings) (ap (λ (x : LoginView). x.users) c.finish-client-2.ensures.login ∙ c.drive_login.ensures.login.users) l)))
 
 pub returns-in-None-clause-serves : goal.returns-in-None-clause-serves
 returns-in-None-clause-serves g c = λ t l. run_ends c.runs_are_allowed.ensures g.D.LinkDesk.home c.args.run c.drive_login.new.run (g.C.ClientEnd.facts c.finish-client-2.result.0) c.drive_login.ensures.login c.finish-client-2.ensures.run c.finish-client-2.ensures.client t
