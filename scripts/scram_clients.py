@@ -5,9 +5,10 @@ know their passwords.
 Usage: scram_clients.py PROGRAM, at the top of the repository.
 
 psql, pgbench, psycopg 3 and JDBC (where the system has them or they can be installed) log in by `auth_type = scram-sha-256`, with passwords and
-with a verifier in the user file, and by `md5` and `plain` with the verifier. A verifier's text is no password. A name's salt is the same at each
-try and behind RELOAD, whether there is such a user or not, and another under another seed. Spoiled messages by the thousand come each to an end
-that has a name. At the end the log has no secret in it.
+with a verifier in the user file, and by `md5` and `plain` with the verifier; and once more where the user file has nothing but the verifiers
+that the server keeps in pg_authid, so that what a client reveals starts its link. A verifier's text is no password. A name's salt is the same at
+each try and behind RELOAD, whether there is such a user or not, and another under another seed. Spoiled messages by the thousand come each to an
+end that has a name. At the end the log has no secret in it.
 """
 import base64
 import collections
@@ -109,7 +110,7 @@ def spoiled(chance, text):
 
 class Show:
     def __init__(self, program):
-        self.program, self.passes, self.place, self.said = program, Passes("scram clients"), Place(), b""
+        self.program, self.passes, self.place, self.said, self.forms = program, Passes("scram clients"), Place(), b"", set()
         USERS.clear()
         USERS.update(PEOPLE)
 
@@ -333,8 +334,61 @@ class Show:
             self.console(pooler, name)
             self.ends(pooler, name)
 
+    def verifiers_alone(self):
+        """The user file is the server's own list, in which nobody's password stands."""
+        self.forms |= {verifier for _, verifier in USERS.values()}
+        for name, verifier in self.cluster.tell("SELECT rolname, rolpassword FROM pg_authid WHERE rolpassword LIKE 'SCRAM-SHA-256$%'"):
+            USERS[name] = (USERS[name][0], verifier)
+        self.forms |= {verifier for _, verifier in USERS.values()}
+        for name in ("scram-sha-256", "md5", "plain"):
+            what = f"verifiers alone by {name}"
+            pooler = self.pooler(auth=name, changes={"^log_connections = .*": "log_connections = 1"})
+            self.psql(pooler, what, ["ann", "bc", "vera"])
+            self.pgbench(pooler, what)
+            self.drivers(pooler, what)
+            self.passes.same(f"{what}: a verifier's own text", self.plain_client(pooler, "ann", USERS["ann"][1]), WRONG)
+            self.unlike(pooler, what)
+            self.ends(pooler, what)
+        self.unasked()
+
+    def unlike(self, pooler, what):
+        """The server has another verifier, or asks for the password itself: the client proves to know its password, and no server is had."""
+        self.cluster.tell(f"ALTER ROLE bc PASSWORD '{kept(DIGESTED, salt=b'another salt')}'")
+        self.reset(pooler)
+        self.passes.same(f"{what}: a server with another verifier of the same password", self.plain_client(pooler, "bc", DIGESTED), UNREACHED)
+        self.told("another verifier", r"^pgsess: link \d+ bc@shop .* unexpected")
+        self.cluster.tell(f"ALTER ROLE bc PASSWORD '{USERS['bc'][1]}'")
+        self.passes.same(f"{what}: with the same one again", self.plain_client(pooler, "bc", DIGESTED), ROW)
+        for method, number in (("password", 3), ("trust", None)):
+            self.asks("bc", method)
+            self.reset(pooler)
+            self.passes.same(f"{what}: a server by {method}", self.plain_client(pooler, "bc", DIGESTED), UNREACHED if number else ROW)
+            if number:
+                self.told("what it asks", rf"asks for .*authentication method {number}\b")
+        self.asks("bc", "scram-sha-256")
+
+    def asks(self, user, method):
+        """The server asks this user so."""
+        rules = self.cluster.data / "pg_hba.conf"
+        rules.write_text(f"host all {user} {HERE}/32 {method}\n" + re.sub(rf"^host all {user} .*\n", "", rules.read_text(), flags=re.M))
+        self.cluster.tell("SELECT pg_reload_conf()")
+        time.sleep(0.3)
+
+    def reset(self, pooler):
+        """No link that is there is lent again."""
+        console = Client(pooler.port, "root", "pgbouncer", USERS["root"][0])
+        console.ask("RECONNECT")
+        console.leave()
+
+    def unasked(self):
+        """Who isn't asked reveals nothing, so nothing answers a server."""
+        pooler = self.pooler(auth="trust")
+        self.passes.same("verifiers alone by trust", self.plain_client(pooler, "ann", ""), UNREACHED)
+        self.told("what the server asks", r"asks for SCRAM \(authentication method 10\)")
+        self.ends(pooler, "verifiers alone by trust")
+
     def is_silent(self):
-        forms = [it.encode() for pair in PEOPLE.values() for it in pair]
+        forms = [it.encode() for it in self.forms.union(*PEOPLE.values())]
         found = {it for it in [*forms, b"SCRAM-SHA-256$", b"biws", b"v=", b"p="] if it in self.said}
         found |= set(re.findall(rb"[A-Za-z0-9+/]{43}=", self.said))
         self.passes.same(f"none of {len(forms)} secrets is in {len(self.said)} bytes of logs and output", found, set())
@@ -342,13 +396,11 @@ class Show:
     def all(self):
         self.install()
         self.cluster = Installed(self.place)
-        # a server that asks for SCRAM lets no verifier in, so who has one comes in there without a password
-        rules = self.cluster.data / "pg_hba.conf"
-        rules.write_text(f"host all vera {HERE}/32 trust\n" + rules.read_text())
-        self.cluster.tell("SELECT pg_reload_conf()")
+        self.cluster.tell(f"ALTER ROLE vera PASSWORD '{VERIFIER}'")
         self.by_scram()
         self.by_others()
         self.names()
+        self.verifiers_alone()
         self.is_silent()
         self.cluster.stop()
         self.passes.same("no process is left", self.place.processes(), [])

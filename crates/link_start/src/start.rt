@@ -77,11 +77,12 @@ pub enum StartCause {
     /// The end faulted or ended.
     Lost,
     /// The server asks this, which is neither for a password, nor for its MD5 digest, nor for SCRAM-SHA-256; or for a password or for SCRAM
-    /// where the secret keeps only its digest; or for any of them where it is a verifier or none; or for a password with a zero byte in it.
-    /// What stands behind it isn't looked at.
+    /// where the secret keeps only its digest; or for a password or its digest where it is a verifier, and for SCRAM where its client key
+    /// isn't known; or for any of them where it is no secret; or for a password with a zero byte in it. What stands behind it isn't looked
+    /// at.
     Unanswerable(ServerQuestion),
-    /// Something else was answered, so a challenge that doesn't continue our nonce, another proof than the server's own, or AuthenticationOk
-    /// before that; a report or the server's key can't be read, more than 64 names were reported, a frame is longer
+    /// Something else was answered, so a challenge that doesn't continue our nonce or is salted otherwise than our verifier, another proof
+    /// than the server's own, or AuthenticationOk before that; a report or the server's key can't be read, more than 64 names were reported, a frame is longer
     /// than [`link_run::reply::LONGEST_REPLY`], or more than [`LONGEST_WELCOME`] bytes came and the answer isn't whole.
     Unexpected,
     /// An allocation failed, or the key has no StartupMessage of the greatest length.

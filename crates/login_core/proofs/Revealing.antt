@@ -1,6 +1,6 @@
 -- What a client reveals of its user's secret.
-use Rattle.std.proofs.Common.{◌≡◌, inr, ℕ, List, [], ◌∷◌, ◌++◌, Option, Some, None, refl, sym, ◌∙◌, subst, Bool, true, false}
-use Rattle.std.specs.Prelude.{IfSome, if◌then◌else◌, is_some, bytes_eq}
+use Rattle.std.proofs.Common.{◌≡◌, inr, ℕ, List, Option, Some, None, refl, sym, subst, Bool, true, false}
+use Rattle.std.specs.Prelude.{IfSome, if◌then◌else◌, is_some}
 use Rattle.std.specs.Arc.{arc_value}
 use Rattle.scram.specs.Keys.{is_client_key, revealed}
 use Rattle.scram.specs.declared.keys.ServerKeys.{ServerKeys}
@@ -81,7 +81,7 @@ proved auth user salt client judged r j h e =
 
 -- the last step of a client of which this was decided
 pub last_reveals : (rows : Rows) (proof : List ℕ) (v : Verdict) (key : StartKeyOf) (s : LoginStep) (r : Option Text) → Decides s (verdict_of proof v key) → IfToLink v (IsRevealed (rows key.row key.user) r) → Reveals rows s r
-last_reveals rows proof verdict.ToLink key (step.Passed k told) r d h = subst (λ (x : StartKeyOf). IsRevealed (rows x.row x.user) r) cc h
+last_reveals rows proof verdict.ToLink key (step.Passed k told) r d h = let same : key ≡ arc_value k = cc in subst (λ (x : StartKeyOf). IsRevealed (rows x.row x.user) r) same h
 last_reveals rows proof verdict.ToConsole key (step.Passed k told) r d h = absurd cc
 last_reveals rows proof verdict.Wrong key (step.Passed k told) r d h = absurd cc
 last_reveals rows proof verdict.Nowhere key (step.Passed k told) r d h = absurd cc

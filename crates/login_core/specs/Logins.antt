@@ -34,7 +34,7 @@ use Rattle.login_core.specs.Talk.{Cut, says, follow, talk}
 use Rattle.login_core.specs.Talk.Cut.{Whole, Need, Bad}
 use Rattle.login_core.specs.Talk.Reaction.{Goes, Passes, Stops}
 use Rattle.login_core.specs.Talk.End.{Passed, Stopped}
-use Rattle.login_core.specs.Dialogue.{Rows, LoginRow, row_in, Reacts, Dialogue, Packet, First, Reason, Refused, Failed, Left, Cancelling, ToLink, ToConsole, Message, Asking, ForPassword, ForFirst, ForLast, Stage, AtFirst, Asked, packet, react, dialogue_from, login_among, is_for_console, key_of, asked, has_verifier, to_answer, no_encryption, asks_cleartext, asks_scram, wrong_password, no_database, ok, if_any, wrong}
+use Rattle.login_core.specs.Dialogue.{Rows, LoginRow, row_in, Reacts, Dialogue, Packet, First, Reason, Refused, Failed, Left, Cancelling, ToLink, ToConsole, Asking, ForPassword, ForFirst, ForLast, Stage, AtFirst, Asked, packet, react, dialogue_from, login_among, is_for_console, key_of, asked, has_verifier, to_answer, no_encryption, asks_cleartext, asks_scram, wrong_password, no_database, ok, if_any, wrong}
 
 -- what it waits for: a packet, the word to go on, or nothing any more
 pub data Awaiting : Type 0 where

@@ -39,6 +39,7 @@ fn sasl_message(kind: u32, text: &[u8]) -> Message
 }
 
 /// What a right proof leads to.
+#[derive(Drop)]
 struct Proved {
     /// The server's proof.
     told: Message,
