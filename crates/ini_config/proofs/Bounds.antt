@@ -5,12 +5,13 @@ use Rattle.std.specs.List.{AllByRecursion, list_any, list_all}
 use Rattle.std.specs.Char.{is_ascii_digit}
 use Rattle.std.proofs.lemmas.Bool.{false≢true, leb-true}
 use Rattle.std.proofs.lemmas.Option.{none-some, same_Some}
+use Rattle.neutral_keys.specs.ReadOver.{is_read_over_in_row}
 use Rattle.ini_config.specs.Bounds.{IsWithin, IsCount, IsTime, IsSize, IsServedRow, AreWithinBounds, ReadSettingsAreWithinBounds}
 use Rattle.ini_config.specs.Hosts.{host_of}
 use Rattle.ini_config.specs.Values.{within, number_between, digits_value, split_at_first, parts}
 use Rattle.ini_config.specs.DatabaseValues.{RowValues, with_item, with_text, with_texts, nothing_said, values_in, is_console, is_database, row_with, row_of}
 use Rattle.ini_config.specs.Lines.{Said, Nothing, Opens, OpensUnknown, Gives, Unreadable, said}
-use Rattle.ini_config.specs.OptionValues.{Text, change_of, defaults, key_named}
+use Rattle.ini_config.specs.OptionValues.{Text, change_of, defaults, key_of}
 use Rattle.ini_config.specs.Reading.{add_row, with_row, change, change_key, with_option, with_pair_in, with_said, with_line, empty_file}
 use Rattle.ini_config.specs.declared.database_rows.DbRow.{DbRow}
 use Rattle.ini_config.specs.declared.lines.Section.{Section}
@@ -60,7 +61,8 @@ item-values r name value h =
     either (bytes_eq name (codes "host") && is_none r.host) _ _ (host (host_of value))
     (either (bytes_eq name (codes "port") && is_none r.port) _ _ (port (number_between 1 65535 value) (number-within 1 65535 value))
     (either (bytes_eq name (codes "dbname") && is_none r.dbname) _ _ (record { port = h.port; size = h.size })
-    (either (bytes_eq name (codes "pool_size") && is_none r.pool_size) _ None (size (number_between 1 10000 value) (number-within 1 10000 value)) tt)))
+    (either (bytes_eq name (codes "pool_size") && is_none r.pool_size) _ _ (size (number_between 1 10000 value) (number-within 1 10000 value))
+    (either (is_read_over_in_row name value) (Some r) None h tt))))
   where
     either : (b : Bool) (x y : Option RowValues) → OrNone x → OrNone y → OrNone (cond b x y)
     either true x y p q = p
@@ -203,7 +205,7 @@ row-kept r (Some row) h k = rows-on r.settings row h k
 pair-kept : (section : Section) (r : Reading) (name value : Text) → AreWithinBounds r.settings → AreWithinBounds (with_pair_in section r name value).settings
 unfolding with_row with_option
 pair-kept Databases r name value h = row-kept r (row_of name value) h (row-served name value)
-pair-kept Pgbouncer r name value h = key-kept r.settings (key_named name) value h
+pair-kept Pgbouncer r name value h = key-kept r.settings (key_of name value) value h
 pair-kept Preamble r name value h = h
 pair-kept Users r name value h = h
 pair-kept Peers r name value h = h

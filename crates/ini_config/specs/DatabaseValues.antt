@@ -1,6 +1,7 @@
 -- The rows of the section [databases] (PgBouncer manual, "Section [databases]").
 use Rattle.std.specs.Prelude.{ℕ, Bool, not, List, [], ◌∷◌, ◌==◌, ◌&&◌, ◌||◌, if◌then◌else◌, length, Option, Some, None, option_map, option_and_then, option_copied, unwrap_or, is_none, bytes_eq, codes}
 use Rattle.std.specs.List.{list_any}
+use Rattle.neutral_keys.specs.ReadOver.{is_read_over_in_row}
 use Rattle.ini_config.specs.Hosts.{host_of}
 use Rattle.ini_config.specs.Values.{parts, split_at_first, number_between}
 use Rattle.ini_config.specs.declared.database_values.Items.{Items}
@@ -14,14 +15,14 @@ pub record RowValues : Type 0 where
   pub dbname : Option (List ℕ)
   pub pool_size : Option ℕ
 
--- one more item: each key at most once
+-- one more item: each key at most once, but for those that are read over
 abbrev pub with_item : RowValues → List ℕ → List ℕ → Option RowValues
 with_item r key value =
     if bytes_eq key (codes "host") && is_none r.host then option_map (λ h. record r { host = Some h }) (host_of value) else (
     if bytes_eq key (codes "port") && is_none r.port then option_map (λ n. record r { port = Some n }) (number_between 1 65535 value) else (
     if bytes_eq key (codes "dbname") && is_none r.dbname then Some (record r { dbname = Some value }) else (
-    if bytes_eq key (codes "pool_size") && is_none r.pool_size then option_map (λ n. record r { pool_size = Some n }) (number_between 1 10000 value) else
-    None)))
+    if bytes_eq key (codes "pool_size") && is_none r.pool_size then option_map (λ n. record r { pool_size = Some n }) (number_between 1 10000 value) else (
+    if is_read_over_in_row key value then Some r else None))))
 
 -- an item is a key and a value
 abbrev pub with_text : RowValues → List ℕ → Option RowValues

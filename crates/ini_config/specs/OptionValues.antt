@@ -1,7 +1,8 @@
 -- The keys of the section [pgbouncer] (PgBouncer manual, "Generic settings" and after).
-use Rattle.std.specs.Prelude.{ℕ, Bool, true, false, not, map, List, [], ◌∷◌, if◌then◌else◌, Option, Some, None, option_map, bytes_eq, codes}
+use Rattle.std.specs.Prelude.{ℕ, Bool, true, false, not, ◌||◌, map, List, [], ◌∷◌, if◌then◌else◌, Option, Some, None, option_map, bytes_eq, codes}
 use Rattle.std.specs.Str.{str_eq_ignore_ascii_case}
 use Rattle.std.specs.List.{list_any, list_all, find}
+use Rattle.neutral_keys.specs.ReadOver.{is_read_over}
 use Rattle.ini_config.specs.Hosts.{listened, listen_addresses}
 use Rattle.ini_config.specs.Values.{number_between, mode, names}
 use Rattle.ini_config.specs.declared.faults.IniCause.{IniCause}
@@ -39,17 +40,9 @@ served =
     ∷ (codes "stats_users", key.StatsUsers) ∷ (codes "stats_period", key.StatsPeriod) ∷ (codes "log_stats", key.LogStats)
     ∷ (codes "console_style", key.ConsoleStyle) ∷ (codes "metrics_addr", key.MetricsAddr) ∷ (codes "metrics_port", key.MetricsPort) ∷ []
 
--- keys of PgBouncer that are read, with any value, and not used
-abbrev pub unused : List Text
-unused =
-    codes "auth_file" ∷ codes "logfile" ∷ codes "pidfile" ∷ codes "syslog" ∷ codes "verbose" ∷ codes "log_pooler_errors"
-    ∷ codes "job_name" ∷ codes "pkt_buf" ∷ codes "listen_backlog" ∷ codes "server_check_delay" ∷ codes "server_login_retry" ∷ codes "server_reset_query_always" ∷ []
-
-abbrev pub is_unused : Text → Bool
-is_unused name = list_any (λ k. bytes_eq k name) unused
-
-unfoldable pub key_named : Text → Option Key
-key_named name = if is_unused name then Some key.Unused else option_map (λ e. e.1) (find (λ e. bytes_eq e.0 name) served)
+-- the key of a line: one that is read over at this value, else one that is served
+unfoldable pub key_of : Text → Text → Option Key
+key_of name value = if is_read_over name value then Some key.Unused else option_map (λ e. e.1) (find (λ e. bytes_eq e.0 name) served)
 
 -- ---- values of keys
 
@@ -131,10 +124,14 @@ change_of key.MetricsAddr text = option_map (λ a s. record s { metrics_addr = a
 change_of key.MetricsPort text = option_map (λ n s. record s { metrics_port = n }) (number_between 1 65535 text)
 change_of key.Unused text = Some (λ s. s)
 
+-- the one reset that is served, as a statement with its end or without
+abbrev pub is_discard_all : Text → Bool
+is_discard_all text = str_eq_ignore_ascii_case text (codes "discard all") || str_eq_ignore_ascii_case text (codes "discard all;")
+
 -- what a value asks for that isn't served
 unfoldable pub refusal : Key → Text → Option IniCause
 refusal key.PoolMode text = if bytes_eq text (codes "session") then None else Some cause.PoolMode
-refusal key.ServerResetQuery text = if str_eq_ignore_ascii_case text (codes "discard all") then None else Some cause.ResetQuery
+refusal key.ServerResetQuery text = if is_discard_all text then None else Some cause.ResetQuery
 refusal other text = None
 
 -- the settings of an empty file

@@ -4,7 +4,7 @@ use Rattle.std.specs.List.{list_any}
 use Rattle.text_lines.specs.Files.{IsFaultless, IsReported, said_by}
 use Rattle.ini_config.specs.DatabaseValues.{row_of}
 use Rattle.ini_config.specs.Lines.{Said, Nothing, Opens, OpensUnknown, Gives, Unreadable, said}
-use Rattle.ini_config.specs.OptionValues.{Text, key_named, change_of, refusal, defaults}
+use Rattle.ini_config.specs.OptionValues.{Text, key_of, change_of, refusal, defaults}
 use Rattle.ini_config.specs.Tables.{row_named}
 use Rattle.ini_config.specs.declared.database_rows.DbRow.{DbRow}
 use Rattle.ini_config.specs.declared.faults.IniCause.{IniCause}
@@ -36,7 +36,7 @@ change_key s (Some key) value = change s (change_of key value)
 
 -- a key of [pgbouncer]
 unfoldable pub with_option : Reading → Text → Text → Reading
-with_option r name value = record r { keys = r.keys ++ name ∷ []; settings = change_key r.settings (key_named name) value }
+with_option r name value = record r { keys = r.keys ++ name ∷ []; settings = change_key r.settings (key_of name value) value }
 
 abbrev pub with_pair_in : Section → Reading → Text → Text → Reading
 with_pair_in Databases r name value = with_row r name value
@@ -75,7 +75,7 @@ key_fault keys name None value = Some cause.UnknownKey
 key_fault keys name (Some key) value = value_fault keys name key value (change_of key value)
 
 unfoldable pub option_fault : Reading → Text → Text → Option IniCause
-option_fault r name value = key_fault r.keys name (key_named name) value
+option_fault r name value = key_fault r.keys name (key_of name value) value
 
 -- a line that says something and begins no section, in [users] or [peers]; a pair before any section
 abbrev pub pair_fault_in : Section → Reading → Text → Text → Option IniCause

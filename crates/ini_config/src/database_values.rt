@@ -1,5 +1,5 @@
 //! The value of a database row.
-ghost use Rattle.std.specs.Prelude.{◌≡◌, ◌≤◌, length, option_copied, option_map, IfSome};
+ghost use Rattle.std.specs.Prelude.{◌≡◌, ◌≤◌, length, is_some, option_copied, option_map, IfSome};
 ghost use Rattle.ini_config.specs.Hosts.{IsShort};
 ghost use Rattle.ini_config.specs.DatabaseValues as spec;
 ghost use Rattle.server_host.specs.declared.TheConstants.{MAX_HOST};
@@ -7,6 +7,7 @@ ghost use Rattle.server_host.specs.declared.TheConstants.{MAX_HOST};
 use crate::hosts::host_of;
 use crate::values::{number, port, split_at_first};
 use bstr::ByteSlice;
+use neutral_keys::is_read_over_in_row;
 
 /// What the items of a row's value say.
 #[derive(Clone, Copy)]
@@ -29,7 +30,8 @@ pub(crate) struct RowText<'a> {
 
 const DEFAULT_PORT: u16 = 5432;
 
-/// The items with one more. None where its key is unknown or there already, or its value isn't one of the key.
+/// The items with one more. None where its key is unknown or there already, or its value isn't one of the key. One that is read over at
+/// its value changes nothing.
 fn with_item<'a>(items: Items<'a>, key: &[u8], value: &'a [u8]) -> Option<Items<'a>>
     requires short { IsShort (option_copied items.host) }
     ensures value { option_map spec.values_of result ≡ spec.with_item (spec.values_of items.entry) key.now value.entry.now }
@@ -51,7 +53,23 @@ fn with_item<'a>(items: Items<'a>, key: &[u8], value: &'a [u8]) -> Option<Items<
         let pool_size = Some(number(value, 1, 10_000)?);
         return Some(Items { pool_size, ..items });
     }
+    if is_read_over_in_row(key, value) {
+        return Some(items);
+    }
     None
+}
+
+/// Whether a row may have this item at all: a key that is served at one of its values, or that is read over at this value.
+pub fn takes_item(key: &[u8], value: &[u8]) -> bool
+    ensures { result ≡ is_some (spec.with_item spec.nothing_said key.now value.now) }
+{
+    let none = Items {
+        host: None,
+        port: None,
+        dbname: None,
+        pool_size: None,
+    };
+    with_item(none, key, value).is_some()
 }
 
 /// The items of a value, parted by spaces.

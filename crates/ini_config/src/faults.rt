@@ -7,7 +7,7 @@ pub enum IniCause {
     /// A header of a section that isn't `databases`, `pgbouncer`, `users` or `peers`, or a line within the last two.
     #[error("C1")]
     UnknownSection,
-    /// A key of `[pgbouncer]` that is neither served nor read and unused.
+    /// A key of `[pgbouncer]` that is neither served nor read over at this value.
     #[error("C2")]
     UnknownKey,
     /// A value that the key doesn't take, or a database row that can't be read or isn't served.

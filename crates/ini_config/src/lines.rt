@@ -7,7 +7,7 @@ use text_lines::{is_ignored, trimmed};
 
 /// The section that a line stands in.
 #[derive(Clone, Copy)]
-pub(crate) enum Section {
+pub enum Section {
     /// Before the first header.
     Preamble,
     Databases,
@@ -18,7 +18,7 @@ pub(crate) enum Section {
 
 /// A trimmed line.
 #[derive(Clone, Copy)]
-pub(crate) enum Line<'a> {
+pub enum Line<'a> {
     /// An empty line or a comment.
     Ignored,
     /// The header of a section.
@@ -59,7 +59,7 @@ fn pair(line: &[u8]) -> Line<'_>
 
 /// What a trimmed line says.
 #[tactic(auto, unfolding(crate::specs::Lines::said))]
-pub(crate) fn read_line(line: &[u8]) -> Line<'_>
+pub fn read_line(line: &[u8]) -> Line<'_>
     ensures { spec.said_of result ≡ spec.said line.now }
 {
     if is_ignored(line) {

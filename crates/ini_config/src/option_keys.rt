@@ -1,6 +1,6 @@
 //! The keys of the section `[pgbouncer]` and what their values say.
 ghost use Rattle.std.specs.Prelude.{◌≡◌, option_map, bytes_eq};
-ghost use Rattle.std.specs.List.{find, list_any};
+ghost use Rattle.std.specs.List.{find};
 ghost use Rattle.ini_config.specs.OptionValues as spec;
 
 use crate::always_followed::untracked;
@@ -8,6 +8,7 @@ use crate::faults::IniCause;
 use crate::hosts::listen_addresses;
 use crate::option_values::{AuthType, ConsoleStyle};
 use crate::values::{mode, number, port};
+use neutral_keys::is_read_over;
 
 /// A key that the file may have.
 #[derive(Clone, Copy)]
@@ -47,7 +48,7 @@ pub(crate) enum Key {
     ConsoleStyle,
     MetricsAddr,
     MetricsPort,
-    /// A key of PgBouncer that is read, with any value, and not used.
+    /// A key of PgBouncer that is read over at its value.
     Unused,
 }
 
@@ -128,21 +129,6 @@ static SERVED: [(&str, Key); 35] = [
     ("metrics_port", Key::MetricsPort),
 ];
 
-static UNUSED: [&str; 12] = [
-    "auth_file",
-    "logfile",
-    "pidfile",
-    "syslog",
-    "verbose",
-    "log_pooler_errors",
-    "job_name",
-    "pkt_buf",
-    "listen_backlog",
-    "server_check_delay",
-    "server_login_retry",
-    "server_reset_query_always",
-];
-
 const MOST_LINKS: u32 = 10_000;
 
 const MOST_SECONDS: u32 = 2_147_483_647;
@@ -153,18 +139,6 @@ const MAX_PEER_ID: u32 = 127;
 const SMALLEST_PACKET: u32 = 1024;
 
 const LARGEST_PACKET: u32 = 2_147_483_647;
-
-/// Whether the name is in a list.
-fn is_among(list: &[&str], name: &[u8]) -> bool
-    ensures { result ≡ list_any (λ k. bytes_eq k.now name.now) list.now }
-{
-    for key in list {
-        if key.as_bytes() == name {
-            return true;
-        }
-    }
-    false
-}
 
 /// The key at the name in a table.
 fn find_key(table: &[(&str, Key)], name: &[u8]) -> Option<Key>
@@ -178,12 +152,12 @@ fn find_key(table: &[(&str, Key)], name: &[u8]) -> Option<Key>
     None
 }
 
-/// The key of this name.
-#[tactic(auto, unfolding(crate::specs::OptionValues::key_named))]
-pub(crate) fn key_named(name: &[u8]) -> Option<Key>
-    ensures { result ≡ spec.key_named name.now }
+/// The key of a line. None where it is neither read over at this value nor served.
+#[tactic(auto, unfolding(crate::specs::OptionValues::key_of))]
+pub(crate) fn key_of(name: &[u8], value: &[u8]) -> Option<Key>
+    ensures { result ≡ spec.key_of name.now value.now }
 {
-    if is_among(UNUSED.as_slice(), name) {
+    if is_read_over(name, value) {
         return Some(Key::Unused);
     }
     find_key(SERVED.as_slice(), name)
@@ -286,6 +260,13 @@ pub(crate) fn read_setting(key: Key, value: &[u8]) -> Option<Setting<'_>>
     }
 }
 
+/// Whether the query is the one reset that is served. It may end with a semicolon.
+fn is_discard_all(query: &[u8]) -> bool
+    ensures { result ≡ spec.is_discard_all query.now }
+{
+    query.eq_ignore_ascii_case(b"discard all") || query.eq_ignore_ascii_case(b"discard all;")
+}
+
 /// What a value asks for that isn't served: another way of pooling, another reset query.
 #[tactic(auto, unfolding(crate::specs::OptionValues::refusal))]
 pub(crate) fn refusal(key: Key, value: &[u8]) -> Option<IniCause>
@@ -299,7 +280,7 @@ pub(crate) fn refusal(key: Key, value: &[u8]) -> Option<IniCause>
             Some(IniCause::PoolMode)
         }
         Key::ServerResetQuery => {
-            if value.eq_ignore_ascii_case(b"discard all") {
+            if is_discard_all(value) {
                 return None;
             }
             Some(IniCause::ResetQuery)

@@ -1,5 +1,5 @@
 //! The reading of a settings file, line by line.
-ghost use Rattle.std.specs.Prelude.{◌≡◌, ◌+◌};
+ghost use Rattle.std.specs.Prelude.{◌≡◌, ◌+◌, ◌⊎◌, IfErr, IfOk};
 ghost use Rattle.text_lines.specs.Files.{Took, TookLine};
 ghost use Rattle.text_lines.specs.Lines.{lines as lines_of_file};
 ghost use Rattle.ini_config.specs.Reading as spec;
@@ -7,26 +7,45 @@ ghost use Rattle.ini_config.specs.Reading as spec;
 use crate::database_values::read_row;
 use crate::faults::{IniCause, IniFault};
 use crate::lines::{Line, Section, read_line};
-use crate::option_keys::{key_named, read_setting, refusal};
+use crate::option_keys::{key_of, read_setting, refusal};
 use crate::option_values::Settings;
 use crate::seen_keys::SeenKeys;
 use bstr::ByteSlice;
-use std::alloc::Global;
+use std::alloc::{AllocError, Global};
 use text_lines::trimmed;
 
-/// What was read so far.
+/// What some lines of a settings file say that have no fault.
 #[derive(Drop)]
-pub(crate) struct Reading<'a> {
+pub struct Reading<'a> {
     section: Section,
     keys: SeenKeys<'a>,
     settings: Settings,
 }
 
 impl<'a> Reading<'a> {
+    /// Before the first line. The only error is out of memory.
+    pub fn empty(alloc: Global) -> Result<Reading<'a>, AllocError>
+        ensures { IfOk result (λ r. r ≡ spec.empty_file) }
+    {
+        Ok(Reading {
+            section: Section::Preamble,
+            keys: SeenKeys::new(alloc),
+            settings: Settings::defaults(alloc)?,
+        })
+    }
+
+    /// The section that the last header opened.
+    pub fn section(&self) -> Section
+        ensures { result ≡ self.now.section }
+    {
+        self.section
+    }
+
     /// Takes a line of the section `[databases]`.
     #[tactic(auto, unfolding(crate::specs::Reading::row_fault, crate::specs::Reading::with_row))]
     fn take_row(&mut self, alloc: Global, name: &'a [u8], value: &'a [u8]) -> Result<(), IniCause>
-        ensures { Took IniCause.Memory (spec.row_fault self.old name.entry.now value.entry.now) (spec.with_row self.old name.entry.now value.entry.now) self.new result }
+        ensures took { Took IniCause.Memory (spec.row_fault self.old name.entry.now value.entry.now) (spec.with_row self.old name.entry.now value.entry.now) self.new result }
+        ensures kept { IfErr result (λ cause. (cause ≡ IniCause.Memory) ⊎ (self.new ≡ self.old)) }
     {
         let Some(row) = read_row(name, value) else {
             return Err(IniCause::BadValue);
@@ -49,9 +68,10 @@ impl<'a> Reading<'a> {
         name: &'a [u8],
         value: &'a [u8],
     ) -> Result<(), IniCause>
-        ensures { Took IniCause.Memory (spec.option_fault self.old name.entry.now value.entry.now) (spec.with_option self.old name.entry.now value.entry.now) self.new result }
+        ensures took { Took IniCause.Memory (spec.option_fault self.old name.entry.now value.entry.now) (spec.with_option self.old name.entry.now value.entry.now) self.new result }
+        ensures kept { IfErr result (λ cause. (cause ≡ IniCause.Memory) ⊎ (self.new ≡ self.old)) }
     {
-        let Some(key) = key_named(name) else {
+        let Some(key) = key_of(name, value) else {
             return Err(IniCause::UnknownKey);
         };
         let Some(setting) = read_setting(key, value) else {
@@ -71,7 +91,8 @@ impl<'a> Reading<'a> {
 
     /// Takes a key and its value.
     fn take_pair(&mut self, alloc: Global, name: &'a [u8], value: &'a [u8]) -> Result<(), IniCause>
-        ensures { Took IniCause.Memory (spec.pair_fault self.old name.entry.now value.entry.now) (spec.with_pair self.old name.entry.now value.entry.now) self.new result }
+        ensures took { Took IniCause.Memory (spec.pair_fault self.old name.entry.now value.entry.now) (spec.with_pair self.old name.entry.now value.entry.now) self.new result }
+        ensures kept { IfErr result (λ cause. (cause ≡ IniCause.Memory) ⊎ (self.new ≡ self.old)) }
     {
         match self.section {
             Section::Databases => self.take_row(alloc, name, value),
@@ -81,9 +102,11 @@ impl<'a> Reading<'a> {
         }
     }
 
-    /// Takes a trimmed line, or reports its first fault. Out of memory comes after all others.
-    fn take_line(&mut self, alloc: Global, line: &'a [u8]) -> Result<(), IniCause>
-        ensures { TookLine IniCause.Memory (spec.keeps line.entry.now) (spec.fault_of self.old line.entry.now) (spec.with_line self.old line.entry.now) self.new result }
+    /// Takes a trimmed line, or reports its first fault. Out of memory comes after all others; at every other fault the reading is as it
+    /// was, and can go on with the next line.
+    pub fn take_line(&mut self, alloc: Global, line: &'a [u8]) -> Result<(), IniCause>
+        ensures took { TookLine IniCause.Memory (spec.keeps line.entry.now) (spec.fault_of self.old line.entry.now) (spec.with_line self.old line.entry.now) self.new result }
+        ensures kept { IfErr result (λ cause. (cause ≡ IniCause.Memory) ⊎ (self.new ≡ self.old)) }
     {
         match read_line(line) {
             Line::Ignored => Ok(()),
@@ -116,12 +139,8 @@ fn other_fault(section: Section) -> IniCause
 pub fn read_settings(alloc: Global, text: &[u8]) -> Result<Settings, IniFault>
     ensures { spec.IsReadOf (lines_of_file text.now) result }
 {
-    let mut reading = match Settings::defaults(alloc) {
-        Ok(settings) => Reading {
-            section: Section::Preamble,
-            keys: SeenKeys::new(alloc),
-            settings,
-        },
+    let mut reading = match Reading::empty(alloc) {
+        Ok(reading) => reading,
         Err(_) => {
             return Err(IniFault {
                 cause: IniCause::Memory,

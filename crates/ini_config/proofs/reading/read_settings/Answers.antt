@@ -6,7 +6,6 @@ use Rattle.text_lines.specs.Lines.{lines, raw_lines, trimmed}
 use Rattle.text_lines.proofs.SoFar.{ReadUpTo, at_start, at_end, taken, refused}
 use Rattle.ini_config.specs.Reading.{with_line, fault_of, empty_file, keeps}
 use Rattle.ini_config.specs.declared.faults.IniCause.TheVariants as cause
-use Rattle.ini_config.specs.declared.lines.Section.TheVariants.{Preamble}
 use Rattle.ini_config.proofs.reading.read_settings.Goals as goal
 
 pub loop-line-init : goal.loop-line-init
@@ -16,7 +15,7 @@ loop-line-init c =
     let raw : c.into_iter-line-iterator.result ≡ raw_lines text = search rules in
     record {
       read = at_start with_line fault_of empty_file (lines text) c.into_iter-line-iterator.result _ (ap (map trimmed) (sym raw))
-          (λ i. record { section = Preamble; keys = c.new.ensures i; settings = c.in-Ok.ensures i });
+          (c.in-Ok.ensures);
       bounded = omega (arith, length-map (raw_lines text) trimmed, ap length value, c.lines-line-items.ensures.len);
     }
 
@@ -26,7 +25,7 @@ loop-line-preserved c =
     let r = c.loop-line.reading in
     let n = c.loop-line.number in
     let so_far = subst (λ i. ReadUpTo with_line fault_of empty_file all n i r) c.in-Some.ensures.steps c.loop-line.invariant.read in
-    let took = subst (λ t. (fault_of r t ≡ None) × (c.take_line.new.self ≡ with_line r t)) c.trimmed.ensures c.in_default.ensures in
+    let took = subst (λ t. (fault_of r t ≡ None) × (c.take_line.new.self ≡ with_line r t)) c.trimmed.ensures c.in_default.ensures.took in
     record {
       read = taken with_line fault_of empty_file all n c.in-Some.line.now c.next.new.self r so_far c.take_line.new.self took.0 took.1;
       bounded = c.loop-line.invariant.bounded;
@@ -45,7 +44,7 @@ returns-in-Err-take_line c =
     let n = c.loop-line.number in
     let e = c.in-Err-take_line.cause in
     let so_far = subst (λ i. ReadUpTo with_line fault_of empty_file all n i r) c.in-Some.ensures.steps c.loop-line.invariant.read in
-    let took = subst (λ t. TookLine cause.Memory (keeps t) (fault_of r t) (with_line r t) c.take_line.new.self (Err e)) c.trimmed.ensures c.in-Err-take_line.ensures in
+    let took = subst (λ t. TookLine cause.Memory (keeps t) (fault_of r t) (with_line r t) c.take_line.new.self (Err e)) c.trimmed.ensures c.in-Err-take_line.ensures.took in
     inr (refused with_line fault_of empty_file all n c.in-Some.line.now c.next.new.self r so_far cause.Memory keeps (with_line r (trimmed c.in-Some.line.now)) c.take_line.new.self e took)
 
 pub returns : goal.returns
