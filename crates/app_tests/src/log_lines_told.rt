@@ -1,7 +1,7 @@
 //! The lines of the log. Each was worked out by hand from what is told.
 use arrayvec::ArrayString;
 use log_lines::events::{Event, Heard, Rates, Totals, put_event};
-use log_lines::lines::put_note;
+use log_lines::lines::{ends_session, put_note};
 use log_lines::notes::{Client, LoginFailure, Loss, Note, Server, Unstarted, Visit};
 use message_view::Refusal;
 use std::alloc::Global;
@@ -56,7 +56,7 @@ fn goes_on(alloc: Global, note: Note<'_>, ms: Option<u64>, wanted: &[u8]) -> Res
 
 #[test]
 fn what_a_client_comes_to(rt: HostRuntime) -> Result<(), Fail> {
-    let rows: [(Note<'_>, Option<u64>, &[u8]); 19] = [
+    let rows: [(Note<'_>, Option<u64>, &[u8]); 23] = [
         (Note::LoggedIn, Some(7), b" in"),
         (Note::Closed, Some(3_299), b" out after 3.2 s"),
         (Note::Closed, None, b" out"),
@@ -111,9 +111,29 @@ fn what_a_client_comes_to(rt: HostRuntime) -> Result<(), Fail> {
             b" failed after 0.1 s: database does not exist (3D000)",
         ),
         (
+            Note::AsksAgain(SERVER, NO_PLACE),
+            Some(1_500),
+            b" asks again after 1.5 s: server 127.0.0.1:5432 refused the start: 53300 sorry, too many clients already",
+        ),
+        (
+            Note::Lent(7, SERVER, Some(4_294_967_295)),
+            Some(5),
+            b" has link 7 to server 127.0.0.1:5432, process 4294967295",
+        ),
+        (
+            Note::Lent(7, SERVER, None),
+            Some(5),
+            b" has link 7 to server 127.0.0.1:5432",
+        ),
+        (
             Note::LinkLost(7, Loss::Ended),
             Some(5),
             b" link 7 closed: server connection ended",
+        ),
+        (
+            Note::LinkLost(7, Loss::Said(TERMINATED)),
+            Some(5),
+            b" link 7 closed: its server said 57P01 terminating connection due to administrator command",
         ),
         (
             Note::LinkLost(7, Loss::InBlock),
@@ -127,6 +147,34 @@ fn what_a_client_comes_to(rt: HostRuntime) -> Result<(), Fail> {
     ];
     for (note, ms, wanted) in rows {
         assert!(rt; goes_on(rt.alloc(), note, ms, wanted)?);
+    }
+    Ok(())
+}
+
+/// What a server says that has no slot left: 53300, `sorry, too many clients already`.
+const NO_PLACE: &[u8] = b"E\0\0\0\x3cSFATAL\0VFATAL\0C53300\0Msorry, too many clients already\0\0";
+
+/// What a server says whose administrator ends a session, in the words of a French one: 57P01.
+const TERMINATED: &[u8] =
+    b"E\0\0\0\x59SFATALE\0VFATAL\0C57P01\0Mterminating connection due to administrator command\0R\0\0";
+
+/// An error of a query, after which the session goes on: 42601.
+const SYNTAX: &[u8] = b"E\0\0\0\x30SERROR\0VERROR\0C42601\0Msyntax error at end\0\0";
+
+// A release before 9.6 has the severity in its own language alone.
+#[test]
+fn errors_by_which_a_session_ends(rt: HostRuntime) -> Result<(), Fail> {
+    let rows: [(&[u8], bool); 7] = [
+        (SERVER_ERROR, true),
+        (TERMINATED, true),
+        (SYNTAX, false),
+        (b"E\0\0\0\x1cSPANIC\0CXX000\0Mno WAL\0\0", true),
+        (b"E\0\0\0\x1dSFATALE\0C57P01\0Mgone\0\0\0\0", false),
+        (b"E\0\0\0\x05\0", false),
+        (b"E\0\0", false),
+    ];
+    for (message, wanted) in rows {
+        assert!(rt; ends_session(message) == wanted);
     }
     Ok(())
 }
@@ -275,7 +323,7 @@ fn what_the_program_tells(rt: HostRuntime) -> Result<(), Fail> {
         left: 3,
         others: 2,
     };
-    let rows: [(Event<'_>, &[u8]); 13] = [
+    let rows: [(Event<'_>, &[u8]); 15] = [
         (
             Event::Listening(b"127.0.0.1", 6432),
             b"pgsess: listening 127.0.0.1 6432",
@@ -293,6 +341,10 @@ fn what_the_program_tells(rt: HostRuntime) -> Result<(), Fail> {
             b"pgsess: server [::1]:5432 not reached: connection refused",
         ),
         (
+            Event::NoFile(b"::1", 5432, b"Too many open files (os error 24)"),
+            b"pgsess: no file left for a connection to server [::1]:5432: Too many open files (os error 24)",
+        ),
+        (
             Event::IdleClosed(7, Heard::Ended),
             b"pgsess: idle link 7 closed: server connection ended",
         ),
@@ -308,6 +360,10 @@ fn what_the_program_tells(rt: HostRuntime) -> Result<(), Fail> {
         (
             Event::NotReloaded(b"file /etc/pgsess.ini: C3 line 7"),
             b"pgsess: not reloaded: file /etc/pgsess.ini: C3 line 7",
+        ),
+        (
+            Event::AsAtStart(b"listen_port"),
+            b"pgsess: not changed by RELOAD: listen_port",
         ),
         (
             Event::NoPasswords(2, b"ann"),

@@ -9,6 +9,7 @@ use Rattle.message_view.specs.declared.refusal.Refusal.{Refusal}
 use Rattle.message_view.specs.declared.refusal.Refusal.TheVariants.{TooManyClients, UnsupportedProtocol, MalformedClientMessage, UnsupportedParameter, WaitedTooLong, ServerFailed, ServerNotReached, ShuttingDown, OutOfMemory, ClientMessageTooLong, MalformedServerMessage, LastDecision}
 use Rattle.message_view.specs.Reading.{note_of}
 use Rattle.log_lines.specs.declared.notes.Client.{Client}
+use Rattle.log_lines.specs.declared.notes.Server.{Server}
 use Rattle.log_lines.specs.declared.notes.Unstarted.{Unstarted}
 use Rattle.log_lines.specs.declared.notes.Unstarted.TheVariants as unstarted
 use Rattle.log_lines.specs.declared.notes.Loss.{Loss}
@@ -24,7 +25,7 @@ use Rattle.log_lines.specs.declared.events.Rates.{Rates}
 use Rattle.log_lines.specs.declared.events.Event.{Event}
 use Rattle.log_lines.specs.declared.events.Event.TheVariants as event
 use Rattle.log_lines.specs.Shown.{Text, is_printing, hex_digit, shown_byte, shown, shown_text, shown_name, quoted, shown_host, address, after}
-use Rattle.log_lines.specs.Lines.{numbered, named, who, state_and_text, fields_or_none, field, asks_for, unstarted_words, loss_words, refusal_words, parameter_words, words, line, failure_words}
+use Rattle.log_lines.specs.Lines.{numbered, named, who, state_and_text, fields_or_none, field, asks_for, unstarted_words, error_words, unstarted_by, process_words, lent_words, loss_words, refusal_words, parameter_words, words, line, failure_words}
 use Rattle.log_lines.specs.Events.{counted, counts, place, rates, event_words, heard_words}
 use Rattle.log_lines.specs.declared.events.Heard.{Heard}
 use Rattle.log_lines.specs.declared.events.Heard.TheVariants as heard
@@ -135,8 +136,25 @@ starts unstarted.Unexpected = refl
 starts unstarted.TimedOut = refl
 starts (unstarted.Refused message) = errors (fields_or_none (note_of (drop 5 message.now)))
 
+unstarts : (word : Text) → Prints word → (server : Server) (why : Unstarted) (ms : Option ℕ) → Prints (unstarted_by word server why ms)
+unstarts word p server why ms = both (word ++ after ms ++ codes ": server " ++ address server.host.now server.port) (unstarted_words why)
+    (both (word ++ after ms ++ codes ": server ") (address server.host.now server.port)
+    (both (word ++ after ms) (codes ": server ") (both word (after ms) p (times ms)) refl) (addresses server.host.now server.port)) (starts why)
+
+said : (message : Text) → Prints (error_words message)
+said message = errors (fields_or_none (note_of (drop 5 message)))
+
+processes : (process : Option ℕ) → Prints (process_words process)
+processes None = refl
+processes (Some process) = decimals process
+
+lends : (number : ℕ) (server : Server) (process : Option ℕ) → Prints (lent_words number server process)
+lends number server process = both (decimal number ++ codes " to server " ++ address server.host.now server.port) (process_words process)
+    (both (decimal number ++ codes " to server ") (address server.host.now server.port) (both (decimal number) (codes " to server ") (decimals number) refl) (addresses server.host.now server.port)) (processes process)
+
 losses : (why : Loss) → Prints (loss_words why)
 losses loss.Ended = refl
+losses (loss.Said message) = said message.now
 losses loss.InBlock = refl
 losses loss.Unanswered = refl
 losses loss.Foreign = refl
@@ -175,8 +193,9 @@ notes (note.UnsupportedParameter name) ms = both (after ms ++ codes ": ") (param
 notes (note.LoginFailed why) ms = both (after ms ++ codes ": password authentication failed (28P01): ") (failure_words why)
     (both (after ms) (codes ": password authentication failed (28P01): ") (times ms) refl) (failures why)
 notes note.NoDatabase ms = both (after ms) (codes ": database does not exist (3D000)") (times ms) refl
-notes (note.Unstarted server why) ms = both (after ms ++ codes ": server " ++ address server.host.now server.port) (unstarted_words why)
-    (both (after ms ++ codes ": server ") (address server.host.now server.port) (both (after ms) (codes ": server ") (times ms) refl) (addresses server.host.now server.port)) (starts why)
+notes (note.Unstarted server why) ms = unstarts (codes " refused") refl server why ms
+notes (note.AsksAgain server message) ms = unstarts (codes " asks again") refl server (unstarted.Refused message) ms
+notes (note.Lent number server process) ms = lends number server process
 notes (note.LinkLost number why) ms = both (decimal number ++ codes " closed: ") (loss_words why) (both (decimal number) (codes " closed: ") (decimals number) refl) (losses why)
 notes (note.Cancels number) ms = both (decimal number) (codes "'s statement") (decimals number) refl
 notes note.CancelsNobody ms = refl
@@ -210,7 +229,7 @@ places host port = both (shown_name host) (32 ∷ decimal port) (texts 32 host) 
 
 hears : (h : Heard) → Prints (heard_words h)
 hears heard.Ended = refl
-hears (heard.Said message) = errors (fields_or_none (note_of (drop 5 message.now)))
+hears (heard.Said message) = said message.now
 hears heard.Spoke = refl
 
 told : (e : Event) → Prints (event_words e)
@@ -219,8 +238,10 @@ told (event.NotListening folder port why) = both (place folder.now port) (codes 
 told (event.ListeningForMetrics host port) = addresses host.now port
 told (event.NotListeningForMetrics host port why) = both (address host.now port) (codes ": " ++ shown_text why.now) (addresses host.now port) (texts 92 why.now)
 told (event.Unreached host port why) = both (address host.now port) (codes " not reached: " ++ shown_text why.now) (addresses host.now port) (texts 92 why.now)
+told (event.NoFile host port why) = both (address host.now port) (codes ": " ++ shown_text why.now) (addresses host.now port) (texts 92 why.now)
 told event.Reloaded = refl
 told (event.NotReloaded fault) = texts 92 fault.now
+told (event.AsAtStart what) = texts 92 what.now
 told (event.NoPasswords n first) = both (counted (n, codes " secrets of the user file accept no password, the first that of ")) (shown_name first.now)
     (count n (codes " secrets of the user file accept no password, the first that of ") refl) (texts 32 first.now)
 told (event.Wanting n) = count n (codes " connections closed for want of a thread, a poll, a file or memory") refl

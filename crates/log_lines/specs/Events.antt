@@ -8,7 +8,7 @@ use Rattle.log_lines.specs.declared.events.Event.{Event}
 use Rattle.log_lines.specs.declared.events.Event.TheVariants as event
 use Rattle.log_lines.specs.declared.events.Heard.{Heard}
 use Rattle.log_lines.specs.declared.events.Heard.TheVariants as heard
-use Rattle.log_lines.specs.Lines.{error_words}
+use Rattle.log_lines.specs.Lines.{said_words}
 use Rattle.log_lines.specs.Shown.{Text, address, shown_name, shown_text}
 
 -- a number, and what there are so many of
@@ -44,12 +44,15 @@ no_metrics host port why = codes "not listening for metrics at " ++ (address hos
 abbrev pub unreached : Text → ℕ → Text → Text
 unreached host port why = codes "server " ++ (address host port ++ (codes " not reached: " ++ shown_text why))
 
+abbrev pub no_file : Text → ℕ → Text → Text
+no_file host port why = codes "no file left for a connection to server " ++ (address host port ++ (codes ": " ++ shown_text why))
+
 abbrev pub no_passwords : ℕ → Text → Text
 no_passwords n first = counted (n, codes " secrets of the user file accept no password, the first that of ") ++ shown_name first
 
 abbrev pub heard_words : Heard → Text
 heard_words heard.Ended = codes "server connection ended"
-heard_words (heard.Said message) = codes "its server said " ++ error_words message.now
+heard_words (heard.Said message) = said_words message.now
 heard_words heard.Spoke = codes "its server said what nobody asked for"
 
 abbrev pub event_words : Event → Text
@@ -58,8 +61,10 @@ event_words (event.NotListening folder port why) = not_listening folder.now port
 event_words (event.ListeningForMetrics host port) = codes "listening for metrics at " ++ address host.now port
 event_words (event.NotListeningForMetrics host port why) = no_metrics host.now port why.now
 event_words (event.Unreached host port why) = unreached host.now port why.now
+event_words (event.NoFile host port why) = no_file host.now port why.now
 event_words event.Reloaded = codes "reloaded"
 event_words (event.NotReloaded fault) = codes "not reloaded: " ++ shown_text fault.now
+event_words (event.AsAtStart what) = codes "not changed by RELOAD: " ++ shown_text what.now
 event_words (event.NoPasswords n first) = no_passwords n first.now
 event_words (event.Wanting n) = counted (n, codes " connections closed for want of a thread, a poll, a file or memory")
 event_words (event.Late n) = counted (n, codes " connections closed that didn't say who they are in client_login_timeout")

@@ -1,5 +1,5 @@
 -- The lines of the log about clients, each without its end: `pgsess: `, the client, and what is told of it.
-use Rattle.std.specs.Prelude.{ℕ, List, [], ◌∷◌, ◌++◌, ◌==◌, Option, Some, None, Result, Ok, Err, if◌then◌else◌, length, drop, codes, decimal}
+use Rattle.std.specs.Prelude.{ℕ, List, [], ◌∷◌, ◌++◌, ◌==◌, Option, Some, None, Result, Ok, Err, if◌then◌else◌, Bool, ◌||◌, bytes_eq, length, drop, codes, decimal}
 use Rattle.message_view.specs.declared.refusal.Refusal.{Refusal}
 use Rattle.message_view.specs.declared.ViewFault.{ViewFault}
 use Rattle.message_view.specs.Refusals.{telling}
@@ -7,6 +7,7 @@ use Rattle.message_view.specs.Reading.{note_of}
 use Rattle.message_view.specs.declared.kinds.TheConstants.{ASKS_CLEARTEXT, ASKS_MD5}
 use Rattle.log_lines.specs.declared.lines.TheConstants.{SASL}
 use Rattle.log_lines.specs.declared.notes.Client.{Client}
+use Rattle.log_lines.specs.declared.notes.Server.{Server}
 use Rattle.log_lines.specs.declared.notes.Unstarted.{Unstarted}
 use Rattle.log_lines.specs.declared.notes.Unstarted.TheVariants as unstarted
 use Rattle.log_lines.specs.declared.notes.Loss.{Loss}
@@ -42,17 +43,33 @@ abbrev pub fields_or_none : Result (List (ℕ × Text)) ViewFault → List (ℕ 
 fields_or_none (Ok fields) = fields
 fields_or_none (Err fault) = []
 
--- the SQLSTATE (C) of a whole message, whose body follows its type and length
+-- the same of a whole message, whose body follows its type and length
+abbrev pub field_of : ℕ → Text → Text
+field_of code message = field code (fields_or_none (note_of (drop 5 message)))
+
+-- the SQLSTATE (C) of a whole message
 abbrev pub sqlstate : Text → Text
-sqlstate message = field 67 (fields_or_none (note_of (drop 5 message)))
+sqlstate message = field_of 67 message
+
+-- the severity of a whole message: V, which is never translated; S where there is none, as of releases before 9.6
+abbrev pub severity : Text → Text
+severity message = if length (field_of 86 message) == 0 then field_of 83 message else field_of 86 message
+
+-- its session ends by it (PostgreSQL manual, "Message Severity Levels")
+abbrev pub ends_session : Text → Bool
+ends_session message = bytes_eq (severity message) (codes "FATAL") || bytes_eq (severity message) (codes "PANIC")
 
 -- its SQLSTATE (C) and its text (M)
 abbrev pub state_and_text : List (ℕ × Text) → Text
 state_and_text fields = shown_text (field 67 fields) ++ 32 ∷ shown_text (field 77 fields)
 
--- of the whole message, whose body follows its type and length
+-- of the whole message
 abbrev pub error_words : Text → Text
 error_words message = state_and_text (fields_or_none (note_of (drop 5 message)))
+
+-- what a server said of its session's end
+abbrev pub said_words : Text → Text
+said_words message = codes "its server said " ++ error_words message
 
 -- ---- why a link wasn't started
 
@@ -72,10 +89,25 @@ unstarted_words unstarted.Unexpected = codes " answered its start by no message 
 unstarted_words unstarted.TimedOut = codes " didn't answer its start in time (P7)"
 unstarted_words (unstarted.Refused message) = codes " refused the start: " ++ error_words message.now
 
+-- what its client does of it
+abbrev pub unstarted_by : Text → Server → Unstarted → Option ℕ → Text
+unstarted_by word server why ms = word ++ after ms ++ codes ": server " ++ address server.host.now server.port ++ unstarted_words why
+
+-- ---- which link a client has
+
+-- the process number of its server's BackendKeyData, where it told one
+abbrev pub process_words : Option ℕ → Text
+process_words None = []
+process_words (Some process) = codes ", process " ++ decimal process
+
+abbrev pub lent_words : ℕ → Server → Option ℕ → Text
+lent_words number server process = codes " has link " ++ decimal number ++ codes " to server " ++ address server.host.now server.port ++ process_words process
+
 -- ---- why a link was closed
 
 abbrev pub loss_words : Loss → Text
 loss_words loss.Ended = codes "server connection ended"
+loss_words (loss.Said message) = said_words message.now
 loss_words loss.InBlock = codes "left within a transaction block"
 loss_words loss.Unanswered = codes "left before all was answered"
 loss_words loss.Foreign = codes "malformed server message"
@@ -110,7 +142,9 @@ words (note.Refused r) ms = codes " refused" ++ after ms ++ codes ": " ++ refusa
 words (note.UnsupportedParameter name) ms = codes " refused" ++ after ms ++ codes ": " ++ parameter_words name.now
 words (note.LoginFailed why) ms = codes " failed" ++ after ms ++ codes ": password authentication failed (28P01): " ++ failure_words why
 words note.NoDatabase ms = codes " failed" ++ after ms ++ codes ": database does not exist (3D000)"
-words (note.Unstarted server why) ms = codes " refused" ++ after ms ++ codes ": server " ++ address server.host.now server.port ++ unstarted_words why
+words (note.Unstarted server why) ms = unstarted_by (codes " refused") server why ms
+words (note.AsksAgain server message) ms = unstarted_by (codes " asks again") server (unstarted.Refused message) ms
+words (note.Lent number server process) ms = lent_words number server process
 words (note.LinkLost number why) ms = codes " link " ++ decimal number ++ codes " closed: " ++ loss_words why
 words (note.Cancels number) ms = codes " cancels link " ++ decimal number ++ codes "'s statement"
 words note.CancelsNobody ms = codes " requests a cancel by a key that nobody has"

@@ -3,10 +3,9 @@ ghost use Rattle.std.specs.Prelude.{◌≡◌, ◌++◌, codes, decimal, OnOk};
 ghost use Rattle.std.specs.List.{flat_map};
 ghost use Rattle.log_lines.specs.Events.{counted, counted_view};
 ghost use Rattle.log_lines.specs.Events as spec;
-ghost use Rattle.log_lines.specs.Lines.{error_words};
 ghost use Rattle.log_lines.specs.Shown.{address, shown_text};
 
-use crate::lines::put_error;
+use crate::lines::put_said;
 use crate::shown::{put_address, put_name, put_number, put_text};
 use std::alloc::AllocError;
 
@@ -74,10 +73,14 @@ pub enum Event<'a> {
     NotListeningForMetrics(&'a [u8], u16, &'a [u8]),
     /// A server of this host and port couldn't be reached, because of this.
     Unreached(&'a [u8], u16, &'a [u8]),
+    /// No file was left for a connection to the server of this host and port, because of this.
+    NoFile(&'a [u8], u16, &'a [u8]),
     /// The settings and users were read again.
     Reloaded,
     /// They weren't, because of this fault.
     NotReloaded(&'a [u8]),
+    /// The files say this anew, which is as it was at the start.
+    AsAtStart(&'a [u8]),
     /// So many users have a secret by which nobody can log in; this is the first of them.
     NoPasswords(u64, &'a [u8]),
     /// So many connections were closed unserved, for want of a thread, a poll, a file or memory.
@@ -220,11 +223,12 @@ fn put_unreached(line: &mut Vec<u8>, host: &[u8], port: u16, why: &[u8]) -> Resu
     put_because(line, b" not reached: ", why)
 }
 
-fn put_said(line: &mut Vec<u8>, message: &[u8]) -> Result<(), AllocError>
-    ensures { OnOk result (line.new.items ≡ line.old.items ++ (codes "its server said " ++ error_words message.now)) }
+fn put_no_file(line: &mut Vec<u8>, host: &[u8], port: u16, why: &[u8]) -> Result<(), AllocError>
+    ensures { OnOk result (line.new.items ≡ line.old.items ++ spec.no_file host.now port why.now) }
 {
-    line.extend_from_slice(b"its server said ")?;
-    put_error(line, message)
+    line.extend_from_slice(b"no file left for a connection to server ")?;
+    put_address(line, host, port)?;
+    put_because(line, b": ", why)
 }
 
 fn put_heard(line: &mut Vec<u8>, heard: Heard<'_>) -> Result<(), AllocError>
@@ -260,8 +264,10 @@ fn put_words(line: &mut Vec<u8>, event: Event<'_>) -> Result<(), AllocError>
         ),
         Event::NotListeningForMetrics(host, port, why) => put_no_metrics(line, host, port, why),
         Event::Unreached(host, port, why) => put_unreached(line, host, port, why),
+        Event::NoFile(host, port, why) => put_no_file(line, host, port, why),
         Event::Reloaded => line.extend_from_slice(b"reloaded"),
         Event::NotReloaded(fault) => put_fault(line, fault),
+        Event::AsAtStart(what) => put_because(line, b"not changed by RELOAD: ", what),
         Event::NoPasswords(n, first) => put_no_passwords(line, n, first),
         Event::Wanting(n) => put_count(
             line,

@@ -1,11 +1,12 @@
 //! The lines about clients.
-ghost use Rattle.std.specs.Prelude.{◌≡◌, ◌++◌, codes, decimal, OnOk};
+ghost use Rattle.std.specs.Prelude.{◌≡◌, ◌++◌, ◌||◌, bytes_eq, codes, decimal, OnOk};
 ghost use Rattle.std.specs.Iterator.{YieldsFirstBy};
 ghost use Rattle.message_view.specs.Left.{fields_left};
 ghost use Rattle.message_view.specs.Views.{code_and_text_of};
 ghost use Rattle.message_view.specs.Reading.{note_of};
 ghost use Rattle.message_view.specs.Refusals.{telling};
 ghost use Rattle.log_lines.specs.Shown.{address, after};
+ghost use Rattle.log_lines.specs.declared.notes.Unstarted.TheVariants.{Refused};
 ghost use Rattle.log_lines.specs.Lines as spec;
 
 use crate::notes::{Client, LoginFailure, Loss, Note, Server, Unstarted};
@@ -103,9 +104,9 @@ pub(crate) fn put_error(line: &mut Vec<u8>, message: &[u8]) -> Result<(), AllocE
     put_error_body(line, &message[HEAD..])
 }
 
-/// The SQLSTATE of an ErrorResponse, the whole message; empty where it has none or can't be read.
-pub fn sqlstate(message: &[u8]) -> &[u8]
-    ensures { result.now ≡ spec.sqlstate message.now }
+/// The text of the first field of this code in an ErrorResponse, the whole message; empty where it has none or can't be read.
+fn field_of(message: &[u8], code: u8) -> &[u8]
+    ensures { result.now ≡ spec.field_of code message.now }
 {
     let body = if message.len() < HEAD {
         b""
@@ -113,9 +114,44 @@ pub fn sqlstate(message: &[u8]) -> &[u8]
         &message[HEAD..]
     };
     match NoteView::read(body) {
-        Ok(view) => field(view.fields(), b'C'),
+        Ok(view) => field(view.fields(), code),
         Err(_) => b"",
     }
+}
+
+/// The SQLSTATE of an ErrorResponse, the whole message; empty where it has none or can't be read.
+pub fn sqlstate(message: &[u8]) -> &[u8]
+    ensures { result.now ≡ spec.sqlstate message.now }
+{
+    field_of(message, b'C')
+}
+
+/// The severity of an ErrorResponse, the whole message, in the server's own words only where it tells no other.
+fn severity(message: &[u8]) -> &[u8]
+    ensures { result.now ≡ spec.severity message.now }
+{
+    let severity = field_of(message, b'V');
+    if severity.is_empty() {
+        return field_of(message, b'S');
+    }
+    severity
+}
+
+/// Whether an ErrorResponse, the whole message, is one by which its server ends the session: of severity FATAL or PANIC (PostgreSQL
+/// manual, "Message Severity Levels").
+pub fn ends_session(message: &[u8]) -> bool
+    ensures { result ≡ spec.ends_session message.now }
+{
+    let severity = severity(message);
+    severity == b"FATAL".as_slice() || severity == b"PANIC".as_slice()
+}
+
+/// What a server said of its session's end.
+pub(crate) fn put_said(line: &mut Vec<u8>, message: &[u8]) -> Result<(), AllocError>
+    ensures { OnOk result (line.new.items ≡ line.old.items ++ spec.said_words message.now) }
+{
+    line.extend_from_slice(b"its server said ")?;
+    put_error(line, message)
 }
 
 fn put_server_error(line: &mut Vec<u8>, message: &[u8]) -> Result<(), AllocError>
@@ -167,16 +203,18 @@ fn put_unstarted(line: &mut Vec<u8>, why: Unstarted<'_>) -> Result<(), AllocErro
     }
 }
 
-fn loss_words(loss: Loss) -> &'static [u8]
-    ensures { result.now ≡ spec.loss_words loss }
+/// Why a link was closed.
+fn put_loss(line: &mut Vec<u8>, loss: Loss<'_>) -> Result<(), AllocError>
+    ensures { OnOk result (line.new.items ≡ line.old.items ++ spec.loss_words loss.entry) }
 {
     match loss {
-        Loss::Ended => b"server connection ended",
-        Loss::InBlock => b"left within a transaction block",
-        Loss::Unanswered => b"left before all was answered",
-        Loss::Foreign => b"malformed server message",
-        Loss::NotReset => b"not reset by DISCARD ALL",
-        Loss::Cancelled => b"cancel requested",
+        Loss::Ended => line.extend_from_slice(b"server connection ended"),
+        Loss::Said(message) => put_said(line, message),
+        Loss::InBlock => line.extend_from_slice(b"left within a transaction block"),
+        Loss::Unanswered => line.extend_from_slice(b"left before all was answered"),
+        Loss::Foreign => line.extend_from_slice(b"malformed server message"),
+        Loss::NotReset => line.extend_from_slice(b"not reset by DISCARD ALL"),
+        Loss::Cancelled => line.extend_from_slice(b"cancel requested"),
     }
 }
 
@@ -245,27 +283,64 @@ fn put_parameter(line: &mut Vec<u8>, name: &[u8]) -> Result<(), AllocError>
     line.extend_from_slice(b" (P4)")
 }
 
-/// A client's refusal because of its server.
-fn put_refused_by(
+/// What a client does, or what is done to it, since no link of its server was started.
+fn put_unstarted_by(
     line: &mut Vec<u8>,
+    word: &[u8],
     server: Server<'_>,
     why: Unstarted<'_>,
     ms: Option<u64>,
 ) -> Result<(), AllocError>
-    ensures { OnOk result (line.new.items ≡ line.old.items ++ (codes " refused" ++ after ms ++ codes ": server " ++ address server.entry.host.now server.entry.port ++ spec.unstarted_words why.entry)) }
+    ensures { OnOk result (line.new.items ≡ line.old.items ++ spec.unstarted_by word.now server.entry why.entry ms) }
 {
-    put_timed(line, b" refused", ms, b": server ")?;
+    put_timed(line, word, ms, b": server ")?;
     put_address(line, server.host, server.port)?;
     put_unstarted(line, why)
 }
 
-fn put_lost(line: &mut Vec<u8>, number: u64, loss: Loss) -> Result<(), AllocError>
-    ensures { OnOk result (line.new.items ≡ line.old.items ++ (codes " link " ++ decimal number ++ codes " closed: " ++ spec.loss_words loss)) }
+/// That a client asks for another link, since its server refused the start of one by this message.
+fn put_asks_again(
+    line: &mut Vec<u8>,
+    server: Server<'_>,
+    message: &[u8],
+    ms: Option<u64>,
+) -> Result<(), AllocError>
+    ensures { OnOk result (line.new.items ≡ line.old.items ++ spec.unstarted_by (codes " asks again") server.entry (Refused message.entry) ms) }
 {
-    line.extend_from_slice(b" link ")?;
-    put_number(line, number)?;
-    line.extend_from_slice(b" closed: ")?;
-    line.extend_from_slice(loss_words(loss))
+    let why = Unstarted::Refused(message);
+    put_unstarted_by(line, b" asks again", server, why, ms)
+}
+
+/// A process of a server.
+fn put_process(line: &mut Vec<u8>, process: Option<u32>) -> Result<(), AllocError>
+    ensures { OnOk result (line.new.items ≡ line.old.items ++ spec.process_words process) }
+{
+    let Some(process) = process else {
+        return Ok(());
+    };
+    line.extend_from_slice(b", process ")?;
+    put_number(line, process as u64)
+}
+
+/// Which link a client was lent.
+fn put_lent(
+    line: &mut Vec<u8>,
+    number: u64,
+    server: Server<'_>,
+    process: Option<u32>,
+) -> Result<(), AllocError>
+    ensures { OnOk result (line.new.items ≡ line.old.items ++ spec.lent_words number server.entry process) }
+{
+    put_between(line, b" has link ", number, b" to server ")?;
+    put_address(line, server.host, server.port)?;
+    put_process(line, process)
+}
+
+fn put_lost(line: &mut Vec<u8>, number: u64, loss: Loss<'_>) -> Result<(), AllocError>
+    ensures { OnOk result (line.new.items ≡ line.old.items ++ (codes " link " ++ decimal number ++ codes " closed: " ++ spec.loss_words loss.entry)) }
+{
+    put_between(line, b" link ", number, b" closed: ")?;
+    put_loss(line, loss)
 }
 
 /// A number between two texts.
@@ -313,7 +388,9 @@ fn put_words(line: &mut Vec<u8>, note: Note<'_>, ms: Option<u64>) -> Result<(), 
             line.extend_from_slice(failure_words(why))
         }
         Note::NoDatabase => put_timed(line, b" failed", ms, b": database does not exist (3D000)"),
-        Note::Unstarted(server, why) => put_refused_by(line, server, why, ms),
+        Note::Unstarted(server, why) => put_unstarted_by(line, b" refused", server, why, ms),
+        Note::AsksAgain(server, message) => put_asks_again(line, server, message, ms),
+        Note::Lent(number, server, process) => put_lent(line, number, server, process),
         Note::LinkLost(number, loss) => put_lost(line, number, loss),
         Note::Cancels(number) => put_between(line, b" cancels link ", number, b"'s statement"),
         Note::CancelsNobody => line.extend_from_slice(

@@ -53,9 +53,11 @@ pub enum Unstarted<'a> {
 
 /// Why a link was closed at the end of its lease, or lost.
 #[derive(Clone, Copy)]
-pub enum Loss {
+pub enum Loss<'a> {
     /// Its server's connection ended or faulted.
     Ended,
+    /// The same, and this is the ErrorResponse by which the server ended the session, the whole message.
+    Said(&'a [u8]),
     /// The client left within a transaction block.
     InBlock,
     /// The client left before all was answered, or within a message.
@@ -104,8 +106,12 @@ pub enum Note<'a> {
     NoDatabase,
     /// No link could be started for the client.
     Unstarted(Server<'a>, Unstarted<'a>),
+    /// The server refused the start of the client's link by this ErrorResponse, the whole message, and the client asks for another.
+    AsksAgain(Server<'a>, &'a [u8]),
+    /// The client was lent the link of this number, to this process of its server, where the server told it.
+    Lent(u64, Server<'a>, Option<u32>),
     /// The client's link, of this number, is closed.
-    LinkLost(u64, Loss),
+    LinkLost(u64, Loss<'a>),
     /// It asked to have the statement cancelled of the client that has the link of this number.
     Cancels(u64),
     /// It asked to have a statement cancelled, and nobody has a link by that key.
