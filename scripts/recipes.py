@@ -158,9 +158,10 @@ def users(passes, place, program, cluster):
     passes.same("user list: made, the pool reloaded, and no reload where nothing changed", (statuses, count.read_text()), ([0, 0], "\n"))
     text = pool.users.read_text()
     passes.same("user list: its mode is kept", pool.users.stat().st_mode & 0o777, 0o640)
-    passes.same("user list: whom it has", re.findall('^("(?:[^"]|"")*")', text, re.M), ['"root"', '"bc"', '"ann"', '"d""q"'])
+    passes.same("user list: whom it has", re.findall('^("(?:[^"]|"")*")', text, re.M), ['"root"', '"bc"', '"ann"', '"d""q"', '"verified"'])
     passes.same("user list: by their digests a role logs in", served(pool.port, 2, 'd"q', "word"), 2)
     passes.same("user list: and so does one of before", served(pool.port, 2), 2)
+    passes.same("user list: and one by its verifier, which the server has too", served(pool.port, 2, "verified", "x"), 2)
     pool.process.terminate()
 
 
