@@ -1,7 +1,7 @@
 #!/usr/bin/env python3
 """How often `pgsess serve` derives keys of its users' passwords, counted by callgrind: for servers that ask for SCRAM once for each of a
-user's salts, however many links are started; for clients once for each user behind the start, and not again behind RELOAD. And that a login
-that fails costs the same, whoever it names.
+user's salts, however many links are started; for clients once for each user behind the start, and not again behind RELOAD; and not at all
+where the user file has the servers' verifiers. And that a login that fails costs the same, whoever it names.
 
 Usage: derivations.py PROGRAM
 """
@@ -107,6 +107,18 @@ class Count:
         self.passes.same(f"four servers of four salts, {3 * len(servers)} starts", self.derived(pooler), len(SALTS))
         pooler.stop()
 
+    def verified(self):
+        """Nothing but the server's own verifiers: what a client reveals starts its link."""
+        for name, verifier in self.cluster.tell("SELECT rolname, rolpassword FROM pg_authid WHERE rolpassword LIKE 'SCRAM-SHA-256$%'"):
+            USERS[name] = (USERS[name][0], verifier)
+        pooler = self.poolers(auth="scram-sha-256")
+        for user in ("ann", "ute", "soft"):
+            Client(pooler.port, user, "shop", prepared(USERS[user][0].encode()).decode(), seconds=120).leave()
+        words = ["pgbench", "-n", "-S", "-C", "-c", str(CLIENTS), "-j", str(CLIENTS), "-t", str(EACH)]
+        status, _, errors = run(words, pooler.port, "ann")
+        self.passes.same("verifiers alone: three users, and pgbench -C, by SCRAM on both sides", (status, self.derived(pooler)), (0, 0))
+        pooler.stop()
+
 
 def calls_in(text):
     """The rounds, in a file of callgrind: each name stands once, and its number behind that."""
@@ -132,6 +144,7 @@ def main():
         count.installed()
         count.by_scram()
         count.salted()
+        count.verified()
         count.cluster.stop()
     finally:
         for pid in count.place.processes():

@@ -356,7 +356,7 @@ class Show:
         self.cluster.tell(f"ALTER ROLE bc PASSWORD '{kept(DIGESTED, salt=b'another salt')}'")
         self.reset(pooler)
         self.passes.same(f"{what}: a server with another verifier of the same password", self.plain_client(pooler, "bc", DIGESTED), UNREACHED)
-        self.told("another verifier", r"^pgsess: link \d+ bc@shop .* unexpected")
+        self.told("another verifier", r"bc@shop from .* refused after .* answered its start by no message that belongs there")
         self.cluster.tell(f"ALTER ROLE bc PASSWORD '{USERS['bc'][1]}'")
         self.passes.same(f"{what}: with the same one again", self.plain_client(pooler, "bc", DIGESTED), ROW)
         for method, number in (("password", 3), ("trust", None)):
