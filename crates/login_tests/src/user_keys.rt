@@ -69,7 +69,10 @@ fn kept_keys_are_the_same(rt: HostRuntime) -> Result<(), Fail> {
     assert!(rt; first.is_derived());
     let later = users(alloc)?;
     later.take_over(alloc, &first);
-    assert!(rt; !later.is_derived());
+    assert!(rt; later.is_derived());
+    let other = users(alloc)?;
+    other.take_over(alloc, &users(alloc)?);
+    assert!(rt; !other.is_derived());
     for row in &NAMES {
         assert!(rt; has_name(&rt, &first, row)? && has_name(&rt, &later, row)?);
     }
