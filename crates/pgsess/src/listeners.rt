@@ -8,7 +8,7 @@ use std::alloc::Global;
 use std::io::ErrorKind;
 use std::net::{Net, SocketAddr, ToSocketAddrs};
 use std::{fs, io};
-use tcp_end::acceptor::Listener;
+use tcp_listen::acceptor::Listener;
 
 /// Whether this is the address of all, of IPv6 and, as systems have it unless they are told otherwise, of IPv4.
 fn is_all(address: &SocketAddr) -> bool {

@@ -8,8 +8,8 @@ use std::fs::{DirBuilder, Permissions};
 use std::io::ErrorKind;
 use std::os::unix::fs::{DirBuilderExt, FileTypeExt, MetadataExt, PermissionsExt, chown};
 use std::{fs, io};
-use tcp_end::dial::is_listened_at;
-use tcp_end::places::{Place, socket_path};
+use tcp_reach::connect::is_listened_at;
+use tcp_reach::places::{Place, socket_path};
 
 /// So many names are tried for a folder of one's own, where others of that name are left over.
 const NAMES: u32 = 10;

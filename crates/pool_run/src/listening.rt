@@ -9,7 +9,7 @@ use std::io;
 use std::net::Net;
 use std::rt::Clock;
 use std::sync::Wait;
-use tcp_end::acceptor::{Acceptor, Listener};
+use tcp_listen::acceptor::{Acceptor, Listener};
 use text_lines::Text;
 
 /// The address or folder of a listener, and its port.

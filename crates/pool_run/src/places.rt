@@ -1,7 +1,7 @@
 //! Where links lead whose hosts have several places.
 
 use std::alloc::{AllocError, Global};
-use tcp_end::places::Place;
+use tcp_reach::places::Place;
 
 /// So many links are remembered, the latest of those whose numbers leave the same rest.
 const REMEMBERED: u64 = 16_384;

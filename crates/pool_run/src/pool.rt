@@ -46,10 +46,10 @@ use std::sync::atomic::{AtomicBool, Ordering};
 use std::sync::{Arc, Mutex, Wait};
 use std::time::{Duration, Instant};
 use std::{io, thread};
-use tcp_end::acceptor::{Acceptor, Peer, Turn};
 use tcp_end::connection::TcpEnd;
 use tcp_end::gate::{GatePoll, TcpGate};
 use tcp_end::idle::{IdlePoll, Minder};
+use tcp_listen::acceptor::{Acceptor, Peer, Turn};
 use user_file::UserTable;
 use worker_threads::Workers;
 

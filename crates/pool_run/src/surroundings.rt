@@ -27,8 +27,8 @@ use std::{io, thread};
 use tcp_end::connection::TcpEnd;
 use tcp_end::dial::dial;
 use tcp_end::idle::Minder;
-use tcp_end::message::send_alone;
-use tcp_end::places::{Place, places_of};
+use tcp_reach::message::send_alone;
+use tcp_reach::places::{Place, places_of};
 
 /// As long as a cancel's connection may take, and as long as its server may then take for it.
 const CANCEL_SECONDS: u32 = 5;

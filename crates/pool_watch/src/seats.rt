@@ -8,7 +8,7 @@ use std::alloc::{AllocError, Global};
 use std::rt::Clock;
 use std::sync::atomic::{AtomicBool, Ordering};
 use std::sync::{Mutex, MutexGuard, Wait};
-use tcp_end::sight::{Sight, Stance};
+use tcp_notes::sight::{Sight, Stance};
 
 /// Where a client is with its link.
 #[derive(Clone, Copy, PartialEq, Eq, Drop)]

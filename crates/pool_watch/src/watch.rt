@@ -11,7 +11,7 @@ use std::alloc::{AllocError, Global};
 use std::rt::Clock;
 use std::sync::{Arc, Mutex, Wait};
 use std::time::SystemTime;
-use tcp_end::sight::Sight;
+use tcp_notes::sight::Sight;
 use user_file::Users;
 
 #[derive(Drop)]

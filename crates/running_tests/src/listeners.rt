@@ -3,9 +3,9 @@ use mio::net::TcpListener;
 use std::net;
 use std::net::{IpAddr, Ipv4Addr, Net, SocketAddr, TcpStream};
 use std::test::Fail;
-use tcp_end::acceptor::{Acceptor, Listener, Peer, Turn};
 use tcp_end::dial::dial;
-use tcp_end::places::Place;
+use tcp_listen::acceptor::{Acceptor, Listener, Peer, Turn};
+use tcp_reach::places::Place;
 
 /// Two addresses of this machine.
 const BOTH: &[u8] = b"127.0.0.1,127.0.0.2";

@@ -4,7 +4,8 @@ use std::net;
 use std::net::{Ipv4Addr, Net, SocketAddr};
 use std::test::Fail;
 use tcp_end::connection::TcpEnd;
-use tcp_end::dial::{CONNECT_SECONDS, dial};
+use tcp_end::dial::dial;
+use tcp_reach::connect::CONNECT_SECONDS;
 
 /// This machine, as an address.
 pub const HERE: &[u8] = b"127.0.0.1";

@@ -22,7 +22,7 @@ use std::thread::{JoinHandle, Threads};
 use std::time::Duration;
 use std::{io, net, thread};
 use stub_server::server::stub_on;
-use tcp_end::acceptor::Listener;
+use tcp_listen::acceptor::Listener;
 use user_file::{UserTable, read_users};
 
 /// AuthenticationOk, nine reports, BackendKeyData and ReadyForQuery.

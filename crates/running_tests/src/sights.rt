@@ -8,7 +8,7 @@ use std::thread::{join, sleep};
 use std::time::{Duration, Instant};
 use tcp_end::connection::TcpEnd;
 use tcp_end::gate::{GatePoll, TcpGate};
-use tcp_end::sight::{Sight, Stance};
+use tcp_notes::sight::{Sight, Stance};
 
 /// AuthenticationOk, which a client's end holds until more is given to it.
 const AUTHENTICATION_OK: &[u8] = b"R\0\0\0\x08\0\0\0\0";

@@ -15,9 +15,9 @@ use std::sync::atomic::AtomicBool;
 use std::sync::{Arc, Mutex, Wait};
 use std::thread::Threads;
 use std::{io, net};
-use tcp_end::acceptor::{Acceptor, Listener, Turn};
 use tcp_end::connection::TcpEnd;
 use tcp_end::gate::{GatePoll, TcpGate};
+use tcp_listen::acceptor::{Acceptor, Listener, Turn};
 use worker_threads::Workers;
 
 /// What the connections of a listener share.

@@ -1,4 +1,3 @@
 pub mod Connections
 pub mod Deferring
 pub mod Reading
-pub mod Turns

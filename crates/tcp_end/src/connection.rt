@@ -7,7 +7,6 @@ ghost use Rattle.server_end.specs.declared.Moved.TheVariants.{Ended};
 use crate::ahead::AHEAD;
 use crate::counted::Counted;
 use crate::idle::Minder;
-use crate::sight::Sight;
 use crate::socket::Socket;
 use crate::watched::Watched;
 use mio::net::TcpStream;
@@ -15,6 +14,7 @@ use mio::{Poll, Token};
 use server_end::{ClientEnd, Moved, ServerEnd};
 use std::alloc::{AllocError, Global};
 use std::marker::Model;
+use tcp_notes::sight::Sight;
 
 /// A TCP connection. While a gate minds it, it answers [`Moved::NotNow`] without a call of the system where the last read has emptied
 /// its socket, or the last write filled it, until the gate has seen an event. A read of none of the peer's bytes, when it has sent

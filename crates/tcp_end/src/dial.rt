@@ -1,178 +1,19 @@
-//! The connection to a server.
-ghost use Rattle.std.specs.Prelude.{◌≡◌, ◌==◌, if◌then◌else◌, IfOk};
+//! The end of a connection to a server.
+ghost use Rattle.std.specs.Prelude.{◌≡◌, IfOk};
 ghost use Rattle.tcp_end.specs.Connections.{new_connection};
-ghost use Rattle.tcp_end.specs.declared.dial.TheConstants.{CONNECT_SECONDS};
 
 use crate::connection::TcpEnd;
-use crate::places::{Place, places_of, stream_to};
 use keep_alive::Keepalive;
-use mio::net::TcpStream;
-use mio::{Events, Interest, Poll, Token};
 use std::alloc::Global;
 use std::io;
-use std::io::ErrorKind;
 use std::net::Net;
-use std::time::Duration;
-
-/// How long a connection may take, in seconds, where nothing else is asked for: PgBouncer's default of `server_connect_timeout`.
-pub const CONNECT_SECONDS: u32 = 15;
-
-/// As many seconds as it is waited for room at a Unix socket's listener, where there are no other places. One that is there makes room
-/// at once.
-const UNIX_SECONDS: u32 = 1;
-
-/// So often a second it is looked whether the connection is there, though no event says so.
-const LOOKS_A_SECOND: u64 = 10;
-
-/// How far a connection has come.
-enum Connecting {
-    Underway,
-    Connected,
-    Failed(io::Error),
-}
-
-fn progress(stream: &TcpStream) -> Connecting {
-    match stream.take_error() {
-        Ok(None) => {}
-        Ok(Some(error)) | Err(error) => return Connecting::Failed(error),
-    }
-    match stream.peer_addr() {
-        Ok(_) => Connecting::Connected,
-        Err(_) => Connecting::Underway,
-    }
-}
-
-/// The time that is left for a connection: so many looks, each of at most the tenth of a second.
-#[derive(Drop)]
-struct Left {
-    poll: Poll,
-    events: Events<Global>,
-    looks: u64,
-}
-
-impl Left {
-    fn new<R: Net>(rt: &R, alloc: Global, seconds: u32) -> io::Result<Left> {
-        Ok(Left {
-            poll: Poll::new(rt)?,
-            events: Events::with_capacity(alloc, 1)?,
-            looks: seconds as u64 * LOOKS_A_SECOND,
-        })
-    }
-
-    /// Waits for an event, for one look.
-    fn look(&mut self) -> io::Result<()> {
-        self.looks = self.looks.saturating_sub(1);
-        let wait = Duration::from_millis(1000 / LOOKS_A_SECOND);
-        self.poll.poll(&mut self.events, Some(wait))
-    }
-
-    /// Waits until the stream is connected, for at most so many looks.
-    fn wait_for(&mut self, stream: &mut TcpStream, looks: u64) -> io::Result<()> {
-        self.poll
-            .registry()
-            .register(stream, Token(0), Interest::WRITABLE)?;
-        for _ in 0..looks {
-            self.look()?;
-            match progress(stream) {
-                Connecting::Connected => return Ok(()),
-                Connecting::Failed(error) => return Err(error),
-                Connecting::Underway => {}
-            }
-        }
-        Err(io::Error::from(ErrorKind::TimedOut))
-    }
-
-    /// A stream to this place once it is connected, in at most so many looks.
-    fn connect<R: Net>(
-        &mut self,
-        rt: &R,
-        alloc: Global,
-        place: &Place,
-        looks: u64,
-    ) -> io::Result<TcpStream> {
-        if let Place::Ip(_) = place {
-            let mut stream = stream_to(rt, alloc, place)?;
-            self.wait_for(&mut stream, looks)?;
-            return Ok(stream);
-        }
-        // a Unix socket is connected at once, or its listener has no room at the time
-        for _ in 0..looks {
-            match stream_to(rt, alloc, place) {
-                Err(error) if error.kind() == ErrorKind::WouldBlock => self.look()?,
-                other => return other,
-            }
-        }
-        Err(io::Error::from(ErrorKind::TimedOut))
-    }
-}
-
-/// A stream to this place, once it is connected; an error where it can't be had, or not in so many seconds: of a Unix socket, not in one.
-pub(crate) fn connect<R: Net>(
-    rt: &R,
-    alloc: Global,
-    place: &Place,
-    seconds: u32,
-) -> io::Result<TcpStream> {
-    let seconds = match place {
-        Place::Ip(_) => seconds,
-        Place::Unix(_, _) => seconds.min(UNIX_SECONDS),
-    };
-    let mut left = Left::new(rt, alloc, seconds)?;
-    let looks = left.looks;
-    left.connect(rt, alloc, place, looks)
-}
-
-/// Whether somebody listens at this place: a connection to it can be had, and is closed at once, or isn't had in a second. The error
-/// says that this can't be told.
-pub fn is_listened_at<R: Net>(rt: &R, alloc: Global, place: &Place) -> io::Result<bool> {
-    match connect(rt, alloc, place, UNIX_SECONDS) {
-        Ok(_) => Ok(true),
-        Err(error) => match error.kind() {
-            ErrorKind::TimedOut => Ok(true),
-            ErrorKind::ConnectionRefused => Ok(false),
-            _ => Err(error),
-        },
-    }
-}
-
-/// A stream to the first of these places that can be had, from the one at this turn on, and which that is. Each that is still to be
-/// tried has an equal share of the seconds that are left. The error is the last place's.
-fn connect_any<R: Net>(
-    rt: &R,
-    alloc: Global,
-    places: &[Place],
-    turn: u64,
-    seconds: u32,
-) -> io::Result<(TcpStream, Place)> {
-    let mut left = Left::new(rt, alloc, seconds)?;
-    let count = places.len();
-    let mut last = io::Error::from(ErrorKind::NotFound);
-    for tried in 0..count {
-        let at = ((turn % count as u64) as usize + tried) % count;
-        let place = places[at];
-        let looks = left.looks.div_ceil((count - tried) as u64);
-        match left.connect(rt, alloc, &place, looks) {
-            Ok(stream) => return Ok((stream, place)),
-            Err(error) => last = error,
-        }
-    }
-    Err(last)
-}
-
-/// So many seconds, or as many as a connection may take where none are asked for.
-fn seconds_of(seconds: u32) -> u32
-    ensures { result ≡ (if seconds == 0 then CONNECT_SECONDS else seconds) }
-{
-    if seconds == 0 {
-        CONNECT_SECONDS
-    } else {
-        seconds
-    }
-}
+use tcp_reach::connect::connect_to;
+use tcp_reach::places::Place;
 
 /// The end of a new connection to a server of this host and port, and the place where it is. Where the host has several places, the
 /// one at this turn is tried first, and the others after it. Over IP it is kept alive, where it is said how. The error says that none
-/// could be had, or not in so many seconds (0: in [`CONNECT_SECONDS`]) besides what a look-up of names takes; or that an allocation failed.
+/// could be had, or not in so many seconds (0: in as many as PgBouncer waits, [`tcp_reach::connect::CONNECT_SECONDS`]) besides what a
+/// look-up of names takes; or that an allocation failed.
 pub fn dial<R: Net>(
     rt: &R,
     alloc: Global,
@@ -184,11 +25,6 @@ pub fn dial<R: Net>(
 ) -> io::Result<(TcpEnd, Place)>
     ensures { IfOk result (λ p. p.0 ≡ new_connection) }
 {
-    let places = places_of(rt, alloc, host, port)?;
-    let seconds = seconds_of(seconds);
-    let (stream, place) = connect_any(rt, alloc, places.as_slice(), turn, seconds)?;
-    if let (Place::Ip(_), Some(keepalive)) = (&place, keepalive) {
-        keepalive.keep(&stream);
-    }
+    let (stream, place) = connect_to(rt, alloc, host, port, turn, seconds, keepalive)?;
     Ok((TcpEnd::from_stream(alloc, stream)?, place))
 }

@@ -2,7 +2,6 @@
 ghost use Rattle.std.specs.Prelude.{◌≡◌, ◌+◌, true};
 
 use crate::connection::TcpEnd;
-use crate::reckoning::Reckoning;
 use crate::watched::Watched;
 use mio::{Events, Poll, Token};
 use server_end::gate::{Counts, Gate, Ready, TurnCount};
@@ -11,6 +10,7 @@ use std::io;
 use std::net::Net;
 use std::rt::Clock;
 use std::time::{Duration, Instant};
+use tcp_notes::reckoning::Reckoning;
 
 /// The client's connection among those of a poll, and the link's.
 const CLIENT: Token = Token(0);

@@ -11,7 +11,6 @@
 //! a write has found too little: a socket nearly always has room, and told so it would end a wait for bytes that haven't come.
 #![tactic(auto)]
 
-pub mod acceptor;
 mod ahead;
 pub mod connection;
 mod counted;
@@ -19,12 +18,5 @@ mod deferred;
 pub mod dial;
 pub mod gate;
 pub mod idle;
-pub mod message;
-mod notes;
-pub mod places;
-mod presence;
-mod reckoning;
-pub mod sight;
 mod socket;
-mod tally;
 mod watched;

@@ -10,8 +10,6 @@ ghost use Rattle.server_end.specs.declared.Moved.TheVariants.{Ended};
 use crate::ahead::{AHEAD, Ahead};
 use crate::deferred::{Deferred, PACKET};
 use crate::idle::Minder;
-use crate::notes::Notes;
-use crate::sight::Sight;
 use crate::watched::Watched;
 use mio::net::TcpStream;
 use mio::{Interest, Poll, Token};
@@ -21,6 +19,8 @@ use std::io;
 use std::io::{ErrorKind, Read, Write};
 use std::os::fd::AsRawFd;
 use std::sync::Arc;
+use tcp_notes::notes::Notes;
+use tcp_notes::sight::Sight;
 
 /// The socket of a connection.
 pub(crate) struct Socket {

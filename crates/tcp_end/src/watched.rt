@@ -1,11 +1,11 @@
 //! A connection that a gate minds.
 
-use crate::notes::Notes;
 use mio::event::Event;
 use mio::unix::SourceFd;
 use mio::{Interest, Poll, Token};
 use std::os::fd::RawFd;
 use std::sync::Arc;
+use tcp_notes::notes::Notes;
 
 /// A connection that a poll tells of: at first only of what comes, since nearly every write finds room.
 pub(crate) struct Watched {

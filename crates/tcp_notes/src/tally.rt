@@ -8,7 +8,7 @@ use std::sync::atomic::{AtomicU64, Ordering};
 const STANCES: u64 = 4;
 
 /// The words of one connection.
-pub(crate) struct Tally {
+pub struct Tally {
     received: AtomicU64,
     sent: AtomicU64,
     queries: AtomicU64,
@@ -62,7 +62,7 @@ fn stance_at(place: u64) -> Stance {
 
 impl Tally {
     /// That of a new connection.
-    pub(crate) fn new() -> Tally {
+    pub fn new() -> Tally {
         Tally {
             received: AtomicU64::new(0),
             sent: AtomicU64::new(0),
@@ -75,35 +75,35 @@ impl Tally {
     }
 
     /// So many bytes came in all.
-    pub(crate) fn tell_received(&self, count: u64) {
+    pub fn tell_received(&self, count: u64) {
         set(&self.received, count);
     }
 
     /// So many went.
-    pub(crate) fn tell_sent(&self, count: u64) {
+    pub fn tell_sent(&self, count: u64) {
         set(&self.sent, count);
     }
 
     /// So many answers came in all, and of them so many that ended a transaction.
-    pub(crate) fn tell_answers(&self, queries: u64, transactions: u64) {
+    pub fn tell_answers(&self, queries: u64, transactions: u64) {
         set(&self.queries, queries);
         set(&self.transactions, transactions);
     }
 
     /// So many microseconds in all.
-    pub(crate) fn tell_times(&self, query: u64, transaction: u64) {
+    pub fn tell_times(&self, query: u64, transaction: u64) {
         set(&self.query_time, query);
         set(&self.transaction_time, transaction);
     }
 
-    pub(crate) fn tell_stance(&self, stance: Stance, since: u64) {
+    pub fn tell_stance(&self, stance: Stance, since: u64) {
         let word = since
             .saturating_mul(STANCES)
             .saturating_add(place_of(stance));
         set(&self.stance, word);
     }
 
-    pub(crate) fn carried(&self) -> Carried {
+    pub fn carried(&self) -> Carried {
         Carried {
             received: get(&self.received),
             sent: get(&self.sent),
@@ -114,7 +114,7 @@ impl Tally {
         }
     }
 
-    pub(crate) fn stance(&self) -> (Stance, u64) {
+    pub fn stance(&self) -> (Stance, u64) {
         let word = get(&self.stance);
         (stance_at(word % STANCES), word / STANCES)
     }

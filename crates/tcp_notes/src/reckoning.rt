@@ -9,7 +9,7 @@ use std::time::Instant;
 
 /// What a gate was told last, and since when a query and a transaction are under way.
 #[derive(Clone, Copy, Drop)]
-pub(crate) struct Reckoning {
+pub struct Reckoning {
     /// When the connection came; without it no time is reckoned.
     start: Option<Instant>,
     told: Counts,
@@ -41,7 +41,7 @@ fn passed(time: u64, since: Option<u64>, now: u64) -> u64 {
 }
 
 impl Reckoning {
-    pub(crate) fn new() -> Reckoning {
+    pub fn new() -> Reckoning {
         Reckoning {
             start: None,
             told: Counts {
@@ -57,7 +57,7 @@ impl Reckoning {
         }
     }
 
-    pub(crate) fn begin(&mut self, start: Option<Instant>) {
+    pub fn begin(&mut self, start: Option<Instant>) {
         self.start = start;
     }
 
@@ -68,7 +68,7 @@ impl Reckoning {
     }
 
     /// Reckons with these counts, and tells whoever asks. Answers are told though the clock can't be read; the rest is tried again then.
-    pub(crate) fn tell<R: Clock>(&mut self, rt: &R, tally: &Tally, counts: Counts) {
+    pub fn tell<R: Clock>(&mut self, rt: &R, tally: &Tally, counts: Counts) {
         if counts == self.told {
             return;
         }

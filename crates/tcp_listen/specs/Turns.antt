@@ -3,8 +3,8 @@ use Rattle.std.specs.Prelude.{◌≡◌, Bool, true, false}
 use Rattle.std.specs.declared.io.ErrorKind.{ErrorKind}
 use Rattle.std.specs.declared.io.ErrorKind.TheVariants.{WouldBlock, Interrupted, ConnectionAborted}
 use Rattle.tcp_end.specs.Connections.{new_connection}
-use Rattle.tcp_end.specs.declared.acceptor.Turn.{Turn}
-use Rattle.tcp_end.specs.declared.acceptor.Turn.TheVariants as turn
+use Rattle.tcp_listen.specs.declared.acceptor.Turn.{Turn}
+use Rattle.tcp_listen.specs.declared.acceptor.Turn.TheVariants as turn
 
 -- an error in place of a connection, but for those that say that none was there, or that it went again
 abbrev pub is_failure : ErrorKind → Bool

@@ -1,9 +1,7 @@
 //! The connections that clients make.
 ghost use Rattle.std.specs.Prelude.{◌≡◌};
-ghost use Rattle.tcp_end.specs.Turns as spec;
+ghost use Rattle.tcp_listen.specs.Turns as spec;
 
-use crate::connection::TcpEnd;
-use crate::places::as_stream;
 use arrayvec::ArrayString;
 use mio::net::{TcpListener, TcpStream, UnixListener};
 use mio::{Events, Interest, Poll, Token};
@@ -13,6 +11,8 @@ use std::io;
 use std::io::ErrorKind;
 use std::net::{IpAddr, Net, SocketAddr};
 use std::time::Duration;
+use tcp_end::connection::TcpEnd;
+use tcp_reach::places::as_stream;
 
 /// As long as a turn waits at most, in milliseconds.
 const LONGEST_WAIT: u64 = 100;

@@ -56,7 +56,7 @@ pub fn places_of<R: Net>(rt: &R, alloc: Global, host: &[u8], port: u16) -> io::R
 }
 
 /// A stream to this place: connected, or on its way to be where it is reached over IP.
-pub(crate) fn stream_to<R: Net>(rt: &R, alloc: Global, place: &Place) -> io::Result<TcpStream> {
+pub fn stream_to<R: Net>(rt: &R, alloc: Global, place: &Place) -> io::Result<TcpStream> {
     match place {
         Place::Ip(address) => TcpStream::connect(rt, *address),
         Place::Unix(folder, port) => {
@@ -70,6 +70,6 @@ pub(crate) fn stream_to<R: Net>(rt: &R, alloc: Global, place: &Place) -> io::Res
 }
 
 /// A Unix socket as a stream: the system's calls for both are the same.
-pub(crate) fn as_stream(stream: UnixStream) -> TcpStream {
+pub fn as_stream(stream: UnixStream) -> TcpStream {
     TcpStream::from(OwnedFd::from(stream))
 }

@@ -22,7 +22,7 @@ const KNOWN: u64 = 2;
 const OVER: u64 = 3;
 
 /// Where a connection's client stands.
-pub(crate) struct Presence {
+pub struct Presence {
     word: AtomicU64,
 }
 
@@ -34,7 +34,7 @@ impl Drop for Presence {
 
 impl Presence {
     /// That of a stranger.
-    pub(crate) fn new() -> Presence {
+    pub fn new() -> Presence {
         Presence {
             word: AtomicU64::new(STRANGER),
         }
@@ -51,16 +51,16 @@ impl Presence {
     }
 
     /// The client has said who it is. One whose connection is cut stays a stranger.
-    pub(crate) fn know(&self) {
+    pub fn know(&self) {
         let _ = self.step(KNOWN);
     }
 
-    pub(crate) fn is_known(&self) -> bool {
+    pub fn is_known(&self) -> bool {
         self.word.load(Ordering::SeqCst) == KNOWN
     }
 
     /// Shuts the connection of this descriptor down in both directions, if its client is a stranger; whether it was.
-    pub(crate) fn cut(&self, fd: RawFd) -> bool {
+    pub fn cut(&self, fd: RawFd) -> bool {
         if self.step(CUTTING) != STRANGER {
             return false;
         }
@@ -71,7 +71,7 @@ impl Presence {
 
     /// The descriptor is to be closed: from now on nobody shuts it down. It is waited for one who does so at this moment, for as long as
     /// that call takes.
-    pub(crate) fn leave(&self) {
+    pub fn leave(&self) {
         for _ in 0..u64::MAX {
             if self.step(OVER) != CUTTING {
                 return;

@@ -46,7 +46,7 @@ impl Drop for Sight {
 
 impl Sight {
     /// That of the connection which has these notes and this descriptor.
-    pub(crate) fn new(notes: Arc<Notes>, fd: RawFd) -> Sight {
+    pub fn new(notes: Arc<Notes>, fd: RawFd) -> Sight {
         Sight { notes, fd }
     }
 

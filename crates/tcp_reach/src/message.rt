@@ -1,6 +1,6 @@
 //! One message on a connection of its own.
 
-use crate::dial::connect;
+use crate::connect::connect;
 use crate::places::Place;
 use mio::net::TcpStream;
 use mio::{Events, Interest, Poll, Token};

@@ -10,7 +10,7 @@ use std::io::ErrorKind;
 use std::sync::atomic::{AtomicBool, Ordering};
 
 /// The notes of one connection.
-pub(crate) struct Notes {
+pub struct Notes {
     /// A gate minds it.
     is_minded: AtomicBool,
     /// The last read came to something, and may have left more.
@@ -67,7 +67,7 @@ fn set(flag: &AtomicBool, value: bool) {
 
 impl Notes {
     /// Those of a new connection.
-    pub(crate) fn new() -> Notes {
+    pub fn new() -> Notes {
         Notes {
             is_minded: AtomicBool::new(false),
             may_have_more: AtomicBool::new(true),
@@ -83,17 +83,17 @@ impl Notes {
     }
 
     /// What other threads read of it.
-    pub(crate) fn tally(&self) -> &Tally {
+    pub fn tally(&self) -> &Tally {
         &self.tally
     }
 
     /// Where its client stands.
-    pub(crate) fn presence(&self) -> &Presence {
+    pub fn presence(&self) -> &Presence {
         &self.presence
     }
 
     /// A gate minds the connection from now on, or doesn't. What it doesn't mind is always tried.
-    pub(crate) fn mind(&self, is_minded: bool) {
+    pub fn mind(&self, is_minded: bool) {
         set(&self.is_minded, is_minded);
         set(&self.asks_for_room, false);
         set(&self.may_have_more, true);
@@ -101,14 +101,14 @@ impl Notes {
     }
 
     /// There is nothing to read until the gate sees an event, which a poll tells at once where something is there when it begins to mind.
-    pub(crate) fn await_event(&self) {
+    pub fn await_event(&self) {
         let is_minded = get(&self.is_minded);
         set(&self.is_empty, is_minded);
         set(&self.may_have_more, !is_minded);
     }
 
     /// A read into a slice of this length was answered so.
-    pub(crate) fn read(&self, answer: &io::Result<usize>, room: usize) {
+    pub fn read(&self, answer: &io::Result<usize>, room: usize) {
         let is_empty = is_exhausted(answer, room);
         set(&self.is_empty, is_empty);
         set(&self.may_have_more, !is_empty);
@@ -116,61 +116,61 @@ impl Notes {
     }
 
     /// A read was given bytes that were read ahead, and perhaps some are left of them.
-    pub(crate) fn gave(&self, is_left: bool) {
+    pub fn gave(&self, is_left: bool) {
         set(&self.may_have_more, is_left || !self.is_empty());
     }
 
     /// A write of so many bytes was answered so.
-    pub(crate) fn wrote(&self, answer: &io::Result<usize>, bytes: usize) {
+    pub fn wrote(&self, answer: &io::Result<usize>, bytes: usize) {
         set(&self.is_full, is_exhausted(answer, bytes));
         set(&self.was_written, true);
     }
 
     /// Whether a read would come to nothing.
-    pub(crate) fn is_empty(&self) -> bool {
+    pub fn is_empty(&self) -> bool {
         get(&self.is_minded) && get(&self.is_empty) && !get(&self.is_closing)
     }
 
     /// Whether a write would.
-    pub(crate) fn is_full(&self) -> bool {
+    pub fn is_full(&self) -> bool {
         get(&self.is_minded) && get(&self.is_full)
     }
 
     /// Whether a write found too little room, and the poll doesn't tell of it yet.
-    pub(crate) fn wants_room(&self) -> bool {
+    pub fn wants_room(&self) -> bool {
         self.is_full() && !get(&self.asks_for_room)
     }
 
     /// The poll tells of room from now on, where it could be asked.
-    pub(crate) fn asked_for_room(&self, was_asked: bool) {
+    pub fn asked_for_room(&self, was_asked: bool) {
         set(&self.asks_for_room, was_asked);
     }
 
     /// Whether the last read may have left more; asked once.
-    pub(crate) fn take_more(&self) -> bool {
+    pub fn take_more(&self) -> bool {
         self.may_have_more.swap(false, Ordering::SeqCst)
     }
 
     /// Whether the last read came to something, the first one behind a write; asked once. Further bytes of one answer call for nothing
     /// that the first ones didn't.
-    pub(crate) fn take_spoken(&self) -> bool {
+    pub fn take_spoken(&self) -> bool {
         self.has_spoken.swap(false, Ordering::SeqCst)
             && self.was_written.swap(false, Ordering::SeqCst)
     }
 
     /// There may be bytes again.
-    pub(crate) fn expect_more(&self) {
+    pub fn expect_more(&self) {
         set(&self.may_have_more, true);
     }
 
     /// Both are to be tried again.
-    pub(crate) fn open(&self) {
+    pub fn open(&self) {
         set(&self.is_empty, false);
         set(&self.is_full, false);
     }
 
     /// The gate saw this event of the connection.
-    pub(crate) fn saw(&self, event: &Event) {
+    pub fn saw(&self, event: &Event) {
         if event.is_read_closed() || event.is_error() {
             set(&self.is_closing, true);
         }

@@ -1,0 +1,4 @@
+//! The connections that clients make, at one listener or several.
+#![tactic(auto)]
+
+pub mod acceptor;
