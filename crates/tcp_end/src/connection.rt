@@ -1,11 +1,12 @@
 //! A TCP connection as an end of a lease: a server's or a client's.
-ghost use Rattle.std.specs.Prelude.{◌≡◌, ◌≢◌, ◌<◌, ◌-◌, ◌^◌, length, min, false, IfOk};
+ghost use Rattle.std.specs.Prelude.{◌≡◌, ◌≢◌, ◌<◌, ◌-◌, ◌^◌, length, min, false, IfOk, None, Some};
 ghost use Rattle.server_end.specs.Moves.{ClientWrites, IsWithin, moved};
 ghost use Rattle.tcp_end.specs.Connections.{Reads, Sends, facts_of, has_ended, is_broken, new_connection};
 ghost use Rattle.server_end.specs.declared.Moved.TheVariants.{Ended};
 
 use crate::ahead::AHEAD;
 use crate::counted::Counted;
+use crate::destination::Destination;
 use crate::idle::Minder;
 use crate::socket::Socket;
 use crate::watched::Watched;
@@ -15,6 +16,7 @@ use server_end::{ClientEnd, Moved, ServerEnd};
 use std::alloc::{AllocError, Global};
 use std::marker::Model;
 use tcp_notes::sight::Sight;
+use tcp_reach::stream::Stream;
 
 /// A TCP connection. While a gate minds it, it answers [`Moved::NotNow`] without a call of the system where the last read has emptied
 /// its socket, or the last write filled it, until the gate has seen an event. A read of none of the peer's bytes, when it has sent
@@ -32,7 +34,7 @@ use tcp_notes::sight::Sight;
 /// that. So a packet that is read in pieces costs one call. A server's end reads nothing ahead.
 ///
 /// Nothing is claimed of what the peer is or does: as a server's end it follows no server, though it tells what it accepted and what
-/// it gave, and as a client's it doesn't tell its bytes.
+/// it gave, and as a client's it doesn't tell its bytes. Clauses read of one that was dialled to which place its stream was made.
 pub struct TcpEnd {
     /// Allocated: an end moves through many frames of its thread's stack, where each byte of it would take its room in each.
     socket: Box<Socket>,
@@ -43,6 +45,7 @@ pub struct TcpEnd {
     faults: u64,
     read_waits: u64,
     write_waits: u64,
+    destination: Destination,
 }
 
 impl Drop for TcpEnd {
@@ -55,6 +58,7 @@ impl Drop for TcpEnd {
             faults: _,
             read_waits: _,
             write_waits: _,
+            destination: _,
         } = self;
     }
 }
@@ -71,14 +75,14 @@ impl Model for TcpEnd {
       faults = e.faults;
       read_waits = e.read_waits;
       write_waits = e.write_waits;
+      place = e.destination.place;
     } };
 }
 
 impl TcpEnd {
-    /// The end of a connection that is there, as one that was accepted. Its small packets are sent at once (TCP_NODELAY); that
-    /// they can't is ignored. The only error is that an allocation failed, which closes the connection.
-    pub fn from_stream(alloc: Global, stream: TcpStream) -> Result<TcpEnd, AllocError>
-        ensures { IfOk result (λ e. e ≡ new_connection) }
+    /// A new end of this stream. The only error is that an allocation failed, which closes the connection.
+    fn new(alloc: Global, stream: TcpStream, destination: Destination) -> Result<TcpEnd, AllocError>
+        ensures { IfOk result (λ e. e ≡ new_connection destination.place) }
     {
         let _ = stream.set_nodelay(true);
         Ok(TcpEnd {
@@ -89,7 +93,24 @@ impl TcpEnd {
             faults: 0,
             read_waits: 0,
             write_waits: 0,
+            destination,
         })
+    }
+
+    /// The end of a connection that is there, as one that was accepted. Its small packets are sent at once (TCP_NODELAY); that
+    /// they can't is ignored. The only error is that an allocation failed, which closes the connection.
+    pub fn from_stream(alloc: Global, stream: TcpStream) -> Result<TcpEnd, AllocError>
+        ensures { IfOk result (λ e. e ≡ new_connection None) }
+    {
+        TcpEnd::new(alloc, stream, Destination::unknown())
+    }
+
+    /// The same of a stream to a server, over which nothing was sent.
+    pub fn dialled(alloc: Global, stream: Stream) -> Result<TcpEnd, AllocError>
+        ensures { IfOk result (λ e. e ≡ new_connection (Some stream.place)) }
+    {
+        let (stream, place) = stream.into_parts();
+        TcpEnd::new(alloc, stream, Destination::of(&place))
     }
 
     /// Has the poll tell of this connection under this token; what its gate keeps of it. That the poll can't is ignored. The error is that

@@ -1,6 +1,7 @@
 //! The end of a connection to a server.
-ghost use Rattle.std.specs.Prelude.{◌≡◌, IfOk};
+ghost use Rattle.std.specs.Prelude.{◌≡◌, IfOk, Some};
 ghost use Rattle.tcp_end.specs.Connections.{new_connection};
+ghost use Rattle.tcp_reach.specs.Places.{IsPlaceOf};
 
 use crate::connection::TcpEnd;
 use keep_alive::Keepalive;
@@ -23,8 +24,9 @@ pub fn dial<R: Net>(
     seconds: u32,
     keepalive: &Option<Keepalive>,
 ) -> io::Result<(TcpEnd, Place)>
-    ensures { IfOk result (λ p. p.0 ≡ new_connection) }
+    ensures { IfOk result (λ p. (p.0 ≡ new_connection (Some p.1)) × IsPlaceOf host.now port p.1) }
 {
-    let (stream, place) = connect_to(rt, alloc, host, port, turn, seconds, keepalive)?;
-    Ok((TcpEnd::from_stream(alloc, stream)?, place))
+    let stream = connect_to(rt, alloc, host, port, turn, seconds, keepalive)?;
+    let place = stream.place();
+    Ok((TcpEnd::dialled(alloc, stream)?, place))
 }

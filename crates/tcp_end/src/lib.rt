@@ -15,6 +15,7 @@ mod ahead;
 pub mod connection;
 mod counted;
 mod deferred;
+pub mod destination;
 pub mod dial;
 pub mod gate;
 pub mod idle;

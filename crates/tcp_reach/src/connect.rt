@@ -1,11 +1,13 @@
 //! The connection to a server.
-ghost use Rattle.std.specs.Prelude.{◌≡◌, ◌==◌, if◌then◌else◌};
+ghost use Rattle.std.specs.Prelude.{◌≡◌, ◌==◌, Contains, IfOk, if◌then◌else◌};
+ghost use Rattle.tcp_reach.specs.Places.{IsPlaceOf};
+ghost use Rattle.tcp_reach.specs.Streams.{new_stream};
 ghost use Rattle.tcp_reach.specs.declared.connect.TheConstants.{CONNECT_SECONDS};
 
-use crate::places::{Place, places_of, stream_to};
+use crate::places::{Address, Place, places_of};
+use crate::stream::{Connecting, Stream};
 use keep_alive::Keepalive;
-use mio::net::TcpStream;
-use mio::{Events, Interest, Poll, Token};
+use mio::{Events, Interest, Poll};
 use std::alloc::Global;
 use std::io;
 use std::io::ErrorKind;
@@ -21,24 +23,6 @@ const UNIX_SECONDS: u32 = 1;
 
 /// So often a second it is looked whether the connection is there, though no event says so.
 const LOOKS_A_SECOND: u64 = 10;
-
-/// How far a connection has come.
-enum Connecting {
-    Underway,
-    Connected,
-    Failed(io::Error),
-}
-
-fn progress(stream: &TcpStream) -> Connecting {
-    match stream.take_error() {
-        Ok(None) => {}
-        Ok(Some(error)) | Err(error) => return Connecting::Failed(error),
-    }
-    match stream.peer_addr() {
-        Ok(_) => Connecting::Connected,
-        Err(_) => Connecting::Underway,
-    }
-}
 
 /// The time that is left for a connection: so many looks, each of at most the tenth of a second.
 #[derive(Drop)]
@@ -65,13 +49,13 @@ impl Left {
     }
 
     /// Waits until the stream is connected, for at most so many looks.
-    fn wait_for(&mut self, stream: &mut TcpStream, looks: u64) -> io::Result<()> {
-        self.poll
-            .registry()
-            .register(stream, Token(0), Interest::WRITABLE)?;
+    fn wait_for(&mut self, stream: &mut Stream, looks: u64) -> io::Result<()>
+        ensures { stream.new ≡ stream.old }
+    {
+        stream.register(&self.poll, Interest::WRITABLE)?;
         for _ in 0..looks {
             self.look()?;
-            match progress(stream) {
+            match stream.progress() {
                 Connecting::Connected => return Ok(()),
                 Connecting::Failed(error) => return Err(error),
                 Connecting::Underway => {}
@@ -87,15 +71,17 @@ impl Left {
         alloc: Global,
         place: &Place,
         looks: u64,
-    ) -> io::Result<TcpStream> {
-        if let Place::Ip(_) = place {
-            let mut stream = stream_to(rt, alloc, place)?;
+    ) -> io::Result<Stream>
+        ensures { IfOk result (λ s. s ≡ new_stream place.now) }
+    {
+        if let Address::Ip(_) = place.address() {
+            let mut stream = Stream::to(rt, alloc, place)?;
             self.wait_for(&mut stream, looks)?;
             return Ok(stream);
         }
         // a Unix socket is connected at once, or its listener has no room at the time
         for _ in 0..looks {
-            match stream_to(rt, alloc, place) {
+            match Stream::to(rt, alloc, place) {
                 Err(error) if error.kind() == ErrorKind::WouldBlock => self.look()?,
                 other => return other,
             }
@@ -110,10 +96,12 @@ pub(crate) fn connect<R: Net>(
     alloc: Global,
     place: &Place,
     seconds: u32,
-) -> io::Result<TcpStream> {
-    let seconds = match place {
-        Place::Ip(_) => seconds,
-        Place::Unix(_, _) => seconds.min(UNIX_SECONDS),
+) -> io::Result<Stream>
+    ensures { IfOk result (λ s. s ≡ new_stream place.now) }
+{
+    let seconds = match place.address() {
+        Address::Ip(_) => seconds,
+        Address::Unix => seconds.min(UNIX_SECONDS),
     };
     let mut left = Left::new(rt, alloc, seconds)?;
     let looks = left.looks;
@@ -133,7 +121,7 @@ pub fn is_listened_at<R: Net>(rt: &R, alloc: Global, place: &Place) -> io::Resul
     }
 }
 
-/// A stream to the first of these places that can be had, from the one at this turn on, and which that is. Each that is still to be
+/// A stream to the first of these places that can be had, from the one at this turn on. Each that is still to be
 /// tried has an equal share of the seconds that are left. The error is the last place's.
 fn connect_any<R: Net>(
     rt: &R,
@@ -141,16 +129,18 @@ fn connect_any<R: Net>(
     places: &[Place],
     turn: u64,
     seconds: u32,
-) -> io::Result<(TcpStream, Place)> {
+) -> io::Result<Stream>
+    ensures { IfOk result (λ s. (s ≡ new_stream s.place) × Contains places.now s.place) }
+{
     let mut left = Left::new(rt, alloc, seconds)?;
     let count = places.len();
     let mut last = io::Error::from(ErrorKind::NotFound);
     for tried in 0..count {
         let at = ((turn % count as u64) as usize + tried) % count;
-        let place = places[at];
+        let place = &places[at];
         let looks = left.looks.div_ceil((count - tried) as u64);
-        match left.connect(rt, alloc, &place, looks) {
-            Ok(stream) => return Ok((stream, place)),
+        match left.connect(rt, alloc, place, looks) {
+            Ok(stream) => return Ok(stream),
             Err(error) => last = error,
         }
     }
@@ -168,9 +158,9 @@ fn seconds_of(seconds: u32) -> u32
     }
 }
 
-/// A new connection to a server of this host and port, and the place where it is. Where the host has several places, the one at this turn is
-/// tried first, and the others after it. Over IP it is kept alive, where it is said how. The error says that none could be had, or not in so
-/// many seconds (0: in [`CONNECT_SECONDS`]) besides what a look-up of names takes; or that an allocation failed.
+/// A stream to a server of this host and port. Where the host has several places, the one at this turn is tried first, and the others after
+/// it. Over IP it is kept alive, where it is said how. The error says that none could be had, or not in so many seconds (0: in
+/// [`CONNECT_SECONDS`]) besides what a look-up of names takes; or that an allocation failed.
 pub fn connect_to<R: Net>(
     rt: &R,
     alloc: Global,
@@ -179,12 +169,14 @@ pub fn connect_to<R: Net>(
     turn: u64,
     seconds: u32,
     keepalive: &Option<Keepalive>,
-) -> io::Result<(TcpStream, Place)> {
+) -> io::Result<Stream>
+    ensures { IfOk result (λ s. (s ≡ new_stream s.place) × IsPlaceOf host.now port s.place) }
+{
     let places = places_of(rt, alloc, host, port)?;
     let seconds = seconds_of(seconds);
-    let (stream, place) = connect_any(rt, alloc, places.as_slice(), turn, seconds)?;
-    if let (Place::Ip(_), Some(keepalive)) = (&place, keepalive) {
-        keepalive.keep(&stream);
+    let stream = connect_any(rt, alloc, places.as_slice(), turn, seconds)?;
+    if let (Address::Ip(_), Some(keepalive)) = (stream.place().address(), keepalive) {
+        stream.keep(keepalive);
     }
-    Ok((stream, place))
+    Ok(stream)
 }

@@ -4,3 +4,4 @@
 pub mod connect;
 pub mod message;
 pub mod places;
+pub mod stream;
