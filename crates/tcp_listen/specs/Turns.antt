@@ -1,5 +1,5 @@
 -- What an acceptor's turn comes to.
-use Rattle.std.specs.Prelude.{◌≡◌, Bool, true, false}
+use Rattle.std.specs.Prelude.{◌≡◌, Bool, true, false, None}
 use Rattle.std.specs.declared.io.ErrorKind.{ErrorKind}
 use Rattle.std.specs.declared.io.ErrorKind.TheVariants.{WouldBlock, Interrupted, ConnectionAborted}
 use Rattle.tcp_end.specs.Connections.{new_connection}
@@ -15,6 +15,6 @@ is_failure _ = true
 
 -- a client's end is new
 abbrev pub IsTurn : Turn → Type 0
-IsTurn (turn.Client client peer) = client ≡ new_connection
+IsTurn (turn.Client client peer) = client ≡ new_connection None
 IsTurn turn.Nobody = Unit {0}
 IsTurn turn.Failed = Unit {0}

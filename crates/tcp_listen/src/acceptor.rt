@@ -2,17 +2,15 @@
 ghost use Rattle.std.specs.Prelude.{◌≡◌};
 ghost use Rattle.tcp_listen.specs.Turns as spec;
 
-use arrayvec::ArrayString;
-use mio::net::{TcpListener, TcpStream, UnixListener};
-use mio::{Events, Interest, Poll, Token};
+use crate::listener::{Listener, Peer};
+use mio::net::TcpStream;
+use mio::{Events, Poll, Token};
 use std::alloc::Global;
-use std::fmt::Write;
 use std::io;
 use std::io::ErrorKind;
-use std::net::{IpAddr, Net, SocketAddr};
+use std::net::Net;
 use std::time::Duration;
 use tcp_end::connection::TcpEnd;
-use tcp_reach::places::as_stream;
 
 /// As long as a turn waits at most, in milliseconds.
 const LONGEST_WAIT: u64 = 100;
@@ -20,19 +18,6 @@ const LONGEST_WAIT: u64 = 100;
 /// After so many connections all listeners are looked at again, though no event was waited for: one at which there always is another
 /// connection would else be the only one.
 const MOST_IN_A_ROW: u32 = 8;
-
-/// What a client is said to come from that comes over a Unix socket.
-const UNIX: &str = "unix";
-
-/// As many bytes as an address of IPv6 has as a text at most.
-const MAX_ADDRESS: usize = 45;
-
-/// The address and port that a client comes from; `unix` and the listener's own port where it comes over a Unix socket.
-#[derive(Clone, Copy)]
-pub struct Peer {
-    pub host: ArrayString<MAX_ADDRESS>,
-    pub port: u16,
-}
 
 /// What a turn came to.
 #[derive(Drop)]
@@ -43,60 +28,6 @@ pub enum Turn {
     Nobody,
     /// One couldn't be had: an allocation failed, or the system has no more files. The turns after this may have it.
     Failed,
-}
-
-/// What clients connect to.
-#[derive(Drop)]
-pub enum Listener {
-    Tcp(TcpListener),
-    /// A Unix socket, and the port that its name has.
-    Unix(UnixListener, u16),
-}
-
-/// A client over IP. One of IPv4 that came to an address of IPv6 has its own.
-fn peer_of(address: &SocketAddr) -> Option<Peer> {
-    let ip: IpAddr = address.ip().to_canonical();
-    let mut host = ArrayString::new();
-    write!(host, "{ip}").ok()?;
-    Some(Peer {
-        host,
-        port: address.port(),
-    })
-}
-
-/// A client over the Unix socket of this port.
-fn peer_at(port: u16) -> Option<Peer> {
-    Some(Peer {
-        host: ArrayString::from(UNIX).ok()?,
-        port,
-    })
-}
-
-impl Listener {
-    /// The next connection, and where it comes from.
-    fn accept(&self) -> io::Result<(TcpStream, Option<Peer>)> {
-        match self {
-            Listener::Tcp(listener) => {
-                let (stream, address) = listener.accept()?;
-                Ok((stream, peer_of(&address)))
-            }
-            Listener::Unix(listener, port) => {
-                let (stream, _) = listener.accept()?;
-                Ok((as_stream(stream), peer_at(*port)))
-            }
-        }
-    }
-
-    fn register(&mut self, poll: &Poll, token: Token) -> io::Result<()> {
-        match self {
-            Listener::Tcp(listener) => poll
-                .registry()
-                .register(listener, token, Interest::READABLE),
-            Listener::Unix(listener, _) => poll
-                .registry()
-                .register(listener, token, Interest::READABLE),
-        }
-    }
 }
 
 /// A listener among those of a poll.
