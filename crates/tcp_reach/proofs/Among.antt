@@ -1,7 +1,10 @@
 -- Places among others.
-use Rattle.std.proofs.Common.{◌≡◌, ℕ, suc, ◌<◌, List, [], ◌∷◌, ◌++◌, refl, sym, length, subst, arith}
-use Rattle.std.specs.Prelude.{All, Contains, slice_index_or}
+use Rattle.std.proofs.Common.{◌≡◌, ℕ, Bool, true, suc, ◌<◌, List, [], ◌∷◌, ◌++◌, refl, sym, length, subst, ◌∙◌, arith}
+use Rattle.std.specs.Prelude.{All, Contains, slice_index_or, bytes_eq}
 use Rattle.std.proofs.lemmas.List.Elements.{All-append, All-contains_itself}
+use Rattle.std.specs.List.{list_any}
+use Rattle.std.proofs.lemmas.Map.Views.{Contains-from_any}
+use Rattle.std.proofs.lemmas.Slice.Eq.{bytes_eq-Decides}
 use Rattle.tcp_reach.specs.Places.{PlaceOf, IsPlaceAt, IsPlaceOf, hosts_of}
 use Rattle.tcp_reach.specs.Streams.{StreamOf, new_stream}
 
@@ -35,3 +38,7 @@ add text port places more found left rest one own is at e =
       known = subst (All (IsPlaceOf text port)) (sym e) (All-append (IsPlaceOf text port) places found own.known (of_row text port one found (hosts 0 [] (omega arith)) at));
       hosts = λ k d fits. hosts (suc k) d (omega (arith, fits));
     }
+
+-- a host that passes the test is one of them
+pub found : (text host : List ℕ) (r : Bool) → r ≡ list_any (bytes_eq host) (hosts_of text) → r ≡ true → Contains (hosts_of text) host
+found text host r is passed = Contains-from_any (λ x y. (bytes_eq-Decides x y).0) host (hosts_of text) (sym is ∙ passed)

@@ -1,6 +1,6 @@
 -- The places at which the servers of a row's host are reached.
-use Rattle.std.specs.Prelude.{◌≡◌, ℕ, Bool, true, false, List, [], ◌∷◌, nat_eq, codes, Contains, Option, Some, None, if◌then◌else◌}
-use Rattle.std.specs.List.{starts_with}
+use Rattle.std.specs.Prelude.{◌≡◌, ℕ, Bool, true, false, List, [], ◌∷◌, nat_eq, ◌==◌, ◌&&◌, bytes_eq, codes, Contains, Option, Some, None, if◌then◌else◌}
+use Rattle.std.specs.List.{list_any, starts_with}
 use Rattle.std.specs.declared.net.ip_addr.IpAddr.{IpAddr}
 use Rattle.std.specs.declared.net.socket_addr.SocketAddr.{SocketAddr}
 use Rattle.std.specs.Net.Grammar.{IsIpText}
@@ -36,6 +36,10 @@ hosts_of text = split_at text 1 0 (matches text (44 ∷ []) 0)
 -- a place of one of a row's hosts, at the row's port
 abbrev pub IsPlaceOf : List ℕ → ℕ → PlaceOf → Type 0
 IsPlaceOf text port p = Contains (hosts_of text) p.host × (p.port ≡ port)
+
+-- whether it is
+abbrev pub is_place_of : List ℕ → ℕ → PlaceOf → Bool
+is_place_of text port p = p.port == port && list_any (bytes_eq p.host) (hosts_of text)
 
 -- of this host
 abbrev pub IsPlaceAt : List ℕ → ℕ → PlaceOf → Type 0

@@ -1,5 +1,6 @@
 //! Where the servers of a host are reached.
-ghost use Rattle.std.specs.Prelude.{◌≡◌, true, false, All, IfOk};
+ghost use Rattle.std.specs.Prelude.{◌≡◌, true, false, All, Contains, IfOk, bytes_eq};
+ghost use Rattle.std.specs.List.{list_any};
 ghost use Rattle.tcp_reach.specs.Places as spec;
 ghost use Rattle.tcp_reach.specs.Places.{IsPlaceAt, IsPlaceOf, IsSpelled};
 ghost use Rattle.tcp_reach.specs.declared.places.Address.TheVariants as address;
@@ -49,6 +50,15 @@ fn is_folder(host: &[u8]) -> bool
     host.starts_with(b"/")
 }
 
+/// Whether this is one of these hosts, which have commas between.
+#[tactic(auto, using(crate::proofs::Among::found))]
+fn has_host(hosts: &[u8], host: &[u8]) -> bool
+    ensures value { result ≡ list_any (bytes_eq host.now) (spec.hosts_of hosts.now) }
+    ensures own { result ≡ true → Contains (spec.hosts_of hosts.now) host.now }
+{
+    hosts.split_str(b",").any(|one| host == one)
+}
+
 impl Place {
     /// That of the Unix socket of this port in a folder; none where it is no path from the root.
     pub fn in_folder(folder: Host, port: u16) -> Option<Place>
@@ -77,6 +87,14 @@ impl Place {
             port,
             address: Address::Ip(address),
         }
+    }
+
+    /// Whether it is a place of one of these hosts, which have commas between, at this port.
+    pub fn is_of(&self, hosts: &[u8], port: u16) -> bool
+        ensures value { result ≡ spec.is_place_of hosts.now port self.now }
+        ensures own { result ≡ true → IsPlaceOf hosts.now port self.now }
+    {
+        self.port == port && has_host(hosts, self.host())
     }
 
     /// The host.
