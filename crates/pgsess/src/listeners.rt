@@ -6,14 +6,10 @@ use mio::net::TcpListener;
 use pool_run::listening::Listening;
 use std::alloc::Global;
 use std::io::ErrorKind;
-use std::net::{Net, SocketAddr, ToSocketAddrs};
+use std::net::{Net, ToSocketAddrs};
 use std::{fs, io};
-use tcp_listen::acceptor::Listener;
-
-/// Whether this is the address of all, of IPv6 and, as systems have it unless they are told otherwise, of IPv4.
-fn is_all(address: &SocketAddr) -> bool {
-    address.is_ipv6() && address.ip().is_unspecified()
-}
+use tcp_listen::binding::listen_at;
+use tcp_reach::places::Address;
 
 /// Whether who listens on all of IPv6 listens on IPv4 too.
 fn is_all_of_both(host: &HostRuntime) -> bool {
@@ -21,28 +17,6 @@ fn is_all_of_both(host: &HostRuntime) -> bool {
         Ok(text) => text.trim() == "0",
         Err(_) => false,
     }
-}
-
-/// The addresses of all names, at this port; of IPv6's for all first.
-fn addresses_of<R: Net>(rt: &R, alloc: Global, settings: &Settings) -> io::Result<Vec<SocketAddr>> {
-    let mut all = Vec::new(alloc);
-    let mut others = Vec::new(alloc);
-    for name in settings.listen_addr().as_slice() {
-        let Ok(text) = std::str::from_utf8(name.as_bytes()) else {
-            return Err(io::Error::from(ErrorKind::InvalidInput));
-        };
-        for address in (text, settings.listen_port()).to_socket_addrs(rt)? {
-            if is_all(&address) {
-                all.push(address)?;
-            } else {
-                others.push(address)?;
-            }
-        }
-    }
-    for address in others.as_slice() {
-        all.push(*address)?;
-    }
-    Ok(all)
 }
 
 /// Listens at each address and name of the settings. One of IPv4 that is taken where all of IPv6 is listened on is a part of that, where
@@ -54,23 +28,14 @@ pub fn listen_at_addresses<R: Net>(
     settings: &Settings,
     listening: &mut Listening,
 ) -> io::Result<()> {
-    let mut has_all = false;
-    for address in addresses_of(rt, alloc, settings)?.as_slice() {
-        match TcpListener::bind(rt, *address) {
-            Ok(listener) => {
-                has_all = has_all || (is_all(address) && is_all_of_both(host));
-                let name = format!(in alloc; "{}", address.ip())?;
-                listening.add(
-                    alloc,
-                    Listener::Tcp(listener),
-                    settings,
-                    name.as_bytes(),
-                    address.port(),
-                )?;
-            }
-            Err(error) if error.kind() == ErrorKind::AddrInUse && has_all && address.is_ipv4() => {}
-            Err(error) => return Err(error),
-        }
+    let names = settings.listen_addr().as_slice();
+    let port = settings.listen_port();
+    for listener in listen_at(rt, alloc, names, port, is_all_of_both(host))? {
+        let Address::Ip(address) = listener.place().address() else {
+            continue;
+        };
+        let name = format!(in alloc; "{}", address.ip())?;
+        listening.add(alloc, listener, settings, name.as_bytes(), port)?;
     }
     Ok(())
 }
@@ -127,13 +92,7 @@ pub fn listen_in_folder(
     }
     match listen_at_path(host, alloc, settings) {
         Ok((listener, file)) => {
-            listening.add(
-                alloc,
-                Listener::Unix(listener, port),
-                settings,
-                folder,
-                port,
-            )?;
+            listening.add(alloc, listener, settings, folder, port)?;
             Ok(Some(file))
         }
         Err(error) => {

@@ -11,7 +11,6 @@ mod socket_file;
 use crate::listeners::{listen_at_addresses, listen_for_metrics, listen_in_folder};
 use crate::socket_file::SocketFile;
 use ini_config::Settings;
-use mio::net::TcpListener;
 use pool_app::fault::{self, AppFault};
 use pool_app::files::{self, Inputs};
 use pool_app::line::{self, Job};
@@ -22,22 +21,15 @@ use pool_run::runtime::PoolRuntime;
 use replay_run::replay::replay;
 use session_catalogue::Catalogue;
 use std::alloc::{AllocError, Global};
-use std::net::{Ipv4Addr, Net, SocketAddr};
+use std::net::Net;
 use std::process::ExitCode;
 use std::rt::{Clock, Files};
 use std::sync::Wait;
 use std::thread::Threads;
 use std::{env, io, net};
 use stub_server::server::stub_on;
+use tcp_listen::binding::listen_at_name;
 use user_file::UserTable;
-
-/// A listener on this port.
-fn listen<'a, R: Net>(rt: &R, address: Ipv4Addr, port: u16) -> Result<TcpListener, AppFault<'a>> {
-    match TcpListener::bind(rt, SocketAddr::from((address, port))) {
-        Ok(listener) => Ok(listener),
-        Err(_) => Err(AppFault::Port(port)),
-    }
-}
 
 /// The files that the command line names, which are read again where the console is told so.
 #[derive(Drop)]
@@ -122,6 +114,9 @@ fn serve<'a, R: Print + PoolRuntime + 'static>(
     }
 }
 
+/// Where the stand-in server listens.
+const HERE: &[u8] = b"127.0.0.1";
+
 /// Serves as the stand-in server of this catalogue.
 fn stub<
     'a,
@@ -133,7 +128,9 @@ fn stub<
         + Send
         + 'static,
 >(rt: R, alloc: Global, port: u16, catalogue: Catalogue) -> Result<(), AppFault<'a>> {
-    let listener = listen(&rt, Ipv4Addr::LOCALHOST, port)?;
+    let Ok(listener) = listen_at_name(&rt, alloc, HERE, port) else {
+        return Err(AppFault::Port(port));
+    };
     match stub_on(rt, alloc, listener, catalogue, None) {
         Ok(()) => Ok(()),
         Err(_) => Err(AppFault::Memory),

@@ -8,6 +8,7 @@ use std::fs::{DirBuilder, Permissions};
 use std::io::ErrorKind;
 use std::os::unix::fs::{DirBuilderExt, FileTypeExt, MetadataExt, PermissionsExt, chown};
 use std::{fs, io};
+use tcp_listen::listener::Listener;
 use tcp_reach::connect::is_listened_at;
 use tcp_reach::places::{Place, socket_path};
 
@@ -128,20 +129,25 @@ fn bind_and_move(
     Ok((listener, file))
 }
 
+/// The place of the Unix socket of this port in a folder; none where that is no folder.
+fn place_in(folder: &[u8], port: u16) -> Option<Place> {
+    Place::in_folder(Host::new(folder)?, port)
+}
+
 /// A Unix socket in the folder of the settings, under the name that PostgreSQL gives one of that port. It is made in a folder of its own, so
 /// that it has its rights before others see it.
 pub fn listen_at_path(
     host: &HostRuntime,
     alloc: Global,
     settings: &Settings,
-) -> io::Result<(UnixListener, SocketFile)> {
+) -> io::Result<(Listener, SocketFile)> {
     let folder = settings.unix_socket_dir();
     let port = settings.listen_port();
-    let (Ok(text), Some(named)) = (std::str::from_utf8(folder), Host::new(folder)) else {
+    let (Ok(text), Some(place)) = (std::str::from_utf8(folder), place_in(folder, port)) else {
         return Err(io::Error::from(ErrorKind::InvalidInput));
     };
     let path = socket_path(alloc, text, port)?;
-    clear(host, alloc, &path, &Place::Unix(named, port))?;
+    clear(host, alloc, &path, &place)?;
     let own = make_folder(host, alloc, text, port)?;
     let at_first = format!(in alloc; "{own}/s")?;
     let bound = bind_and_move(host, settings, &at_first, path);
@@ -149,5 +155,6 @@ pub fn listen_at_path(
         let _ = fs::remove_file(host, &at_first);
     }
     let _ = fs::remove_dir(host, &own);
-    bound
+    let (listener, file) = bound?;
+    Ok((Listener::at_file(listener, place), file))
 }

@@ -9,7 +9,8 @@ use std::io;
 use std::net::Net;
 use std::rt::Clock;
 use std::sync::Wait;
-use tcp_listen::acceptor::{Acceptor, Listener};
+use tcp_listen::acceptor::Acceptor;
+use tcp_listen::listener::Listener;
 use text_lines::Text;
 
 /// The address or folder of a listener, and its port.
@@ -106,8 +107,8 @@ impl Listening {
         host: &[u8],
         port: u16,
     ) -> Result<(), AllocError> {
-        if let (Listener::Tcp(listener), Some(keepalive)) = (&listener, keepalive_of(settings)) {
-            keepalive.keep(listener);
+        if let Some(keepalive) = keepalive_of(settings) {
+            listener.keep(&keepalive);
         }
         self.names.push(Named {
             host: Text::copy(alloc, host)?,

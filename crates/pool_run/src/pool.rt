@@ -49,7 +49,8 @@ use std::{io, thread};
 use tcp_end::connection::TcpEnd;
 use tcp_end::gate::{GatePoll, TcpGate};
 use tcp_end::idle::{IdlePoll, Minder};
-use tcp_listen::acceptor::{Acceptor, Peer, Turn};
+use tcp_listen::acceptor::{Acceptor, Turn};
+use tcp_listen::listener::Peer;
 use user_file::UserTable;
 use worker_threads::Workers;
 

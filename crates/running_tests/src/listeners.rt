@@ -1,27 +1,28 @@
 //! Several places at which clients come in, and several at which a server is.
-use mio::net::TcpListener;
+use crate::pairs::listen_for_clients;
 use std::net;
 use std::net::{IpAddr, Ipv4Addr, Net, SocketAddr, TcpStream};
 use std::test::Fail;
 use tcp_end::dial::dial;
-use tcp_listen::acceptor::{Acceptor, Listener, Peer, Turn};
-use tcp_reach::places::Place;
+use tcp_listen::acceptor::{Acceptor, Turn};
+use tcp_listen::binding::listen_at_name;
+use tcp_listen::listener::{Listener, Peer};
+use tcp_reach::places::Address;
 
 /// Two addresses of this machine.
 const BOTH: &[u8] = b"127.0.0.1,127.0.0.2";
 
 /// The second of them.
+const TOO: &[u8] = b"127.0.0.2";
+
 fn too() -> Ipv4Addr {
     Ipv4Addr::new(127, 0, 0, 2)
 }
 
 /// Listeners at both addresses, at one port that was free at both, and the port.
-fn listen_at_both<R: Net<Listener = net::TcpListener, Stream = net::TcpStream>>(
-    rt: &R,
-) -> Result<(TcpListener, TcpListener, u16), Fail> {
-    let first = TcpListener::bind(rt, SocketAddr::from((Ipv4Addr::LOCALHOST, 0)))?;
-    let port = first.local_addr()?.port();
-    let second = TcpListener::bind(rt, SocketAddr::from((too(), port)))?;
+fn listen_at_both(rt: &HostRuntime) -> Result<(Listener, Listener, u16), Fail> {
+    let (first, port) = listen_for_clients(rt, rt.alloc())?;
+    let second = listen_at_name(rt, rt.alloc(), TOO, port)?;
     Ok((first, second, port))
 }
 
@@ -60,8 +61,8 @@ fn next_port(acceptor: &mut Acceptor) -> Option<u16> {
 fn no_listener_starves(rt: HostRuntime) -> Result<(), Fail> {
     let (first, second, port) = listen_at_both(&rt)?;
     let mut listeners = Vec::new(rt.alloc());
-    listeners.push(Listener::Tcp(first))?;
-    listeners.push(Listener::Tcp(second))?;
+    listeners.push(first)?;
+    listeners.push(second)?;
     let mut acceptor = Acceptor::new(&rt, rt.alloc(), listeners)?;
     let (_one, one) = client(&rt, Ipv4Addr::LOCALHOST, port)?;
     let (_two, two) = client(&rt, Ipv4Addr::LOCALHOST, port)?;
@@ -88,8 +89,8 @@ fn place_of(acceptor: &mut Acceptor, port: u16, count: u32) -> Option<u32> {
 fn a_late_client_beside_many_is_served(rt: HostRuntime) -> Result<(), Fail> {
     let (first, second, port) = listen_at_both(&rt)?;
     let mut listeners = Vec::new(rt.alloc());
-    listeners.push(Listener::Tcp(first))?;
-    listeners.push(Listener::Tcp(second))?;
+    listeners.push(first)?;
+    listeners.push(second)?;
     let mut acceptor = Acceptor::new(&rt, rt.alloc(), listeners)?;
     let mut many = Vec::new(rt.alloc());
     for _ in 0..40u32 {
@@ -104,8 +105,11 @@ fn a_late_client_beside_many_is_served(rt: HostRuntime) -> Result<(), Fail> {
 /// The address at which a server of both is reached at this turn.
 fn reached(rt: &HostRuntime, port: u16, turn: u64) -> Option<IpAddr> {
     match dial(rt, rt.alloc(), BOTH, port, turn, 15, &None) {
-        Ok((_, Place::Ip(address))) => Some(address.ip()),
-        _ => None,
+        Ok((_, place)) => match place.address() {
+            Address::Ip(address) => Some(address.ip()),
+            Address::Unix => None,
+        },
+        Err(_) => None,
     }
 }
 

@@ -1,10 +1,13 @@
 //! Two ends of one connection over the loopback network.
 use mio::net::TcpListener;
+use std::alloc::Global;
 use std::net;
 use std::net::{Ipv4Addr, Net, SocketAddr};
 use std::test::Fail;
 use tcp_end::connection::TcpEnd;
 use tcp_end::dial::dial;
+use tcp_listen::binding::listen_at_name;
+use tcp_listen::listener::Listener;
 use tcp_reach::connect::CONNECT_SECONDS;
 
 /// This machine, as an address.
@@ -16,6 +19,13 @@ pub fn listen<R: Net<Listener = net::TcpListener, Stream = net::TcpStream>>(
 ) -> Result<(TcpListener, u16), Fail> {
     let listener = TcpListener::bind(rt, SocketAddr::from((Ipv4Addr::LOCALHOST, 0)))?;
     let port = listener.local_addr()?.port();
+    Ok((listener, port))
+}
+
+/// The same, for clients.
+pub fn listen_for_clients<R: Net>(rt: &R, alloc: Global) -> Result<(Listener, u16), Fail> {
+    let listener = listen_at_name(rt, alloc, HERE, 0)?;
+    let port = listener.port()?;
     Ok((listener, port))
 }
 

@@ -2,11 +2,10 @@
 ghost use Rattle.std.specs.Prelude.{IfSome};
 ghost use Rattle.ini_config.specs.Bounds.{AreWithinBounds};
 
-use crate::pairs::{HERE, listen};
+use crate::pairs::{HERE, listen_for_clients};
 use ini_config::laws::read_settings_are_within_bounds;
 use ini_config::{Settings, read_settings};
 use log_lines::events::Totals;
-use mio::net::TcpListener;
 use pool_run::keeping::{Source, Unread};
 use pool_run::listening::Listening;
 use pool_run::pool::serve_on;
@@ -22,7 +21,7 @@ use std::thread::{JoinHandle, Threads};
 use std::time::Duration;
 use std::{io, net, thread};
 use stub_server::server::stub_on;
-use tcp_listen::acceptor::Listener;
+use tcp_listen::listener::Listener;
 use user_file::{UserTable, read_users};
 
 /// AuthenticationOk, nine reports, BackendKeyData and ReadyForQuery.
@@ -63,14 +62,12 @@ fn settings(alloc: Global, port: u16, options: &str) -> Option<Settings>
 /// A pool's listener at this port.
 fn listening_at(
     alloc: Global,
-    listener: TcpListener,
+    listener: Listener,
     settings: &Settings,
     port: u16,
 ) -> Option<Listening> {
     let mut listening = Listening::new(alloc);
-    listening
-        .add(alloc, Listener::Tcp(listener), settings, HERE, port)
-        .ok()?;
+    listening.add(alloc, listener, settings, HERE, port).ok()?;
     Some(listening)
 }
 
@@ -84,7 +81,7 @@ pub fn start_stub<
         + Send
         + 'static,
 >(rt: R, alloc: Global, count: u32) -> Result<(JoinHandle<bool>, u16), Fail> {
-    let (listener, port) = listen(&rt)?;
+    let (listener, port) = listen_for_clients(&rt, alloc)?;
     let catalogue = catalogue(alloc)?;
     let stub = thread::spawn(
         &rt,
@@ -156,7 +153,7 @@ pub fn start_pool_of<
     source: Elsewhere,
     count: Option<u64>,
 ) -> Result<(JoinHandle<Option<Totals>>, u16), Fail> {
-    let (listener, port) = listen(&rt)?;
+    let (listener, port) = listen_for_clients(&rt, alloc)?;
     let pool = thread::spawn(&rt, move || -> Option<Totals> {
         let settings = settings(alloc, server, options)?;
         let users = users(alloc)?;

@@ -1,6 +1,6 @@
 //! The stand-in server over the loopback network.
+use crate::pairs::listen_for_clients;
 use crate::pools::{connect, leave, read, start_stub};
-use mio::net::TcpListener;
 use session_catalogue::Catalogue;
 use std::alloc::Global;
 use std::io::{Read, Write};
@@ -55,8 +55,7 @@ fn given<
         + Send
         + 'static,
 >(rt: R, alloc: Global, clients: &[&[u8]]) -> Result<Vec<Vec<u8>>, Fail> {
-    let listener = TcpListener::bind(&rt, SocketAddr::from((Ipv4Addr::LOCALHOST, 0)))?;
-    let address = listener.local_addr()?;
+    let (listener, port) = listen_for_clients(&rt, alloc)?;
     let catalogue = catalogue(alloc)?;
     let count = u32::try_from(clients.len()).ok().ok_or("too many clients")?;
     let server = thread::spawn(
@@ -65,7 +64,7 @@ fn given<
     )?;
     let mut all = Vec::new(alloc);
     for sent in clients {
-        let mut stream = TcpStream::connect(&rt, address)?;
+        let mut stream = TcpStream::connect(&rt, SocketAddr::from((Ipv4Addr::LOCALHOST, port)))?;
         stream.write_all(sent)?;
         stream.shutdown(Shutdown::Write)?;
         let mut bytes = Vec::new(alloc);

@@ -6,7 +6,6 @@ use crate::strikers::Strikers;
 use crate::talk::Ending;
 use memory_ends::striker::Striker;
 use message_view::{KeyView, KeyWord};
-use mio::net::TcpListener;
 use session_catalogue::Catalogue;
 use std::alloc::{AllocError, Global};
 use std::net::Net;
@@ -17,7 +16,8 @@ use std::thread::Threads;
 use std::{io, net};
 use tcp_end::connection::TcpEnd;
 use tcp_end::gate::{GatePoll, TcpGate};
-use tcp_listen::acceptor::{Acceptor, Listener, Turn};
+use tcp_listen::acceptor::{Acceptor, Turn};
+use tcp_listen::listener::Listener;
 use worker_threads::Workers;
 
 /// What the connections of a listener share.
@@ -138,7 +138,7 @@ pub fn stub_on<
 >(
     rt: R,
     alloc: Global,
-    listener: TcpListener,
+    listener: Listener,
     catalogue: Catalogue,
     count: Option<u32>,
 ) -> io::Result<()> {
@@ -148,7 +148,7 @@ pub fn stub_on<
     };
     let stub = Arc::new(alloc, stub)?;
     let mut listeners = Vec::new(alloc);
-    listeners.push(Listener::Tcp(listener))?;
+    listeners.push(listener)?;
     let mut acceptor = Acceptor::new(&rt, alloc, listeners)?;
     let mut workers = Workers::<Connection<R>>::new(alloc)?;
     let mut accepted: u32 = 0;

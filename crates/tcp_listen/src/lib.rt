@@ -2,4 +2,5 @@
 #![tactic(auto)]
 
 pub mod acceptor;
+pub mod binding;
 pub mod listener;
