@@ -26,11 +26,14 @@ CANCELLED = "57014"
 LONG = "SELECT pg_sleep(30)"
 BUSY = "SELECT count(*) FROM pg_stat_activity WHERE query LIKE '%pg_sleep(30)%' AND state = 'active' AND pid <> pg_backend_pid()"
 ASKS_TLS = (8).to_bytes(4, "big") + (80877103).to_bytes(4, "big")
-# on an idle machine, in the best of some tries; and in any
-SOON, LATEST, TRIES = 0.2, 5.0, 5
-WORKERS, WRONG, FLOODS, FLOOD = 8, 1_000, 8, 250
-# so many late cancels, in pools of one link each, of these users
-ROUNDS, STATEMENT, SPAN, LANES = 2_000, 0.006, 0.012, ("ann", "bc")
+# in the best of some tries, of which there are more where the machine is busy; and in any
+SOON, LATEST, TRIES, MOST_TRIES = 0.2, 5.0, 5, 40
+# each of so many threads sends so many cancels, and then one in so many seconds until it is told to end
+WORKERS, WRONG, FLOODS, FLOOD, PAUSE = 8, 1_000, 8, 250, 0.02
+# so many late cancels, in pools of one link each, of these users; each comes at a moment of a span, in whose midst its statement ends
+ROUNDS, SPAN, LANES = 2_000, 0.012, ("ann", "bc")
+# the span grows where fewer than a quarter are struck, as on a busy machine
+LONGER, SHORTER = 1.01, 1.03
 HELD = 1.0
 # a cancel that its server never takes is given up after 5 s, and its connection may have taken as long before
 GIVEN_UP = (4.5, 10.5)
@@ -88,10 +91,11 @@ EXTENDED = (message(b"P", b"\0" + LONG.encode() + b"\0\0\0") + message(b"B", b"\
 
 
 class Slow:
-    """Stands before a server, and holds each connection that begins by a CancelRequest for some seconds."""
+    """Stands before a server, and holds each connection that begins by a CancelRequest for some seconds, or until it is told to let it go."""
 
-    def __init__(self, server, seconds):
-        self.server, self.seconds, self.passed = server, seconds, 0
+    def __init__(self, server):
+        self.server, self.seconds, self.held, self.passed = server, 60, 0, 0
+        self.goes = threading.Event()
         self.listener = socket.create_server((HERE, 0))
         self.port = self.listener.getsockname()[1]
         threading.Thread(target=self.run, daemon=True).start()
@@ -107,7 +111,8 @@ class Slow:
     def serve(self, near):
         first = near.recv(8, socket.MSG_WAITALL)
         if first[4:] == CANCEL_REQUEST.to_bytes(4, "big"):
-            time.sleep(self.seconds)
+            self.held += 1
+            self.goes.wait(self.seconds)
             self.passed += 1
         with near, socket.create_connection((HERE, self.server)) as far:
             far.sendall(first)
@@ -161,6 +166,14 @@ def told(port, key):
         return repr(error)
 
 
+def flooded(port, keys, backs, is_over):
+    """A cancel by each of these keys, and by the last one until it is over."""
+    for key in keys:
+        backs.append(told(port, key))
+    while not is_over.wait(PAUSE):
+        backs.append(told(port, keys[-1]))
+
+
 class Lane(threading.Thread):
     """Rounds of a race, one after the other: what came of the first clients, and which of the second ones were struck."""
 
@@ -172,12 +185,13 @@ class Lane(threading.Thread):
         self.start()
 
     def run(self):
-        canceller = Canceller(self.pooler.port)
+        canceller, span = Canceller(self.pooler.port), SPAN
         try:
             for _ in range(self.rounds):
-                first, struck = self.show.round(self.pooler, self.user, canceller, self.random.uniform(0, SPAN))
+                first, struck = self.show.round(self.pooler, self.user, canceller, self.random.uniform(0, span), span / 2)
                 self.told.append(first)
                 self.struck += struck
+                span = max(SPAN, span / SHORTER if first[0] == CANCELLED else span * LONGER)
         except (Cut, Refused, OSError) as error:
             self.fault = repr(error)
         canceller.end()
@@ -257,9 +271,9 @@ class Show:
     # ---- a. a statement ends
 
     def struck(self, pooler, name, packet, way, back):
-        """Clients whose statements are cancelled, one after the other, and what each sees of it."""
+        """Clients whose statements are cancelled, one after the other, and what each sees of it; how many."""
         times, ends, backs, after = [], [], [], []
-        for _ in range(TRIES):
+        while self.goes_on(times):
             client = self.client(pooler)
             client.send(packet)
             self.works()
@@ -269,9 +283,15 @@ class Show:
             times.append(time.monotonic() - begin)
             after.append(client.ask("SELECT 7"))
             client.leave()
-        self.passes.same(f"{name}: ends with {CANCELLED}, and the next statement doesn't", (ends, after), ([CANCELLED] * TRIES, [[["7"]]] * TRIES))
-        self.passes.same(f"{name}: its connection is closed with {back or 'no byte'}", backs, [back] * TRIES)
+        count = len(times)
+        self.passes.same(f"{name}: ends with {CANCELLED}, and the next statement doesn't", (ends, after), ([CANCELLED] * count, [[["7"]]] * count))
+        self.passes.same(f"{name}: its connection is closed with {back or 'no byte'}", backs, [back] * count)
         self.in_time(name, times)
+        return count
+
+    def goes_on(self, times):
+        """Whether there is one more try."""
+        return len(times) < TRIES or (min(times) >= SOON and len(times) < MOST_TRIES)
 
     def in_time(self, name, times):
         shown = ", ".join(f"{1000 * seconds:.0f}" for seconds in times)
@@ -280,22 +300,20 @@ class Show:
     def ends(self):
         """With one link, and with as many clients as may be: a cancel takes no place."""
         pooler = self.pooler(size=1, clients=1)
-        sessions = [self.session(pooler)]
+        sessions, count = [self.session(pooler)], 0
         for name, (way, back) in WAYS.items():
-            self.struck(pooler, f"a cancel {name}", SIMPLE, way, back)
+            count += self.struck(pooler, f"a cancel {name}", SIMPLE, way, back)
             sessions.append(self.session(pooler))
-        self.struck(pooler, "a cancel of a statement in the extended protocol, as JDBC sends it", EXTENDED, cancel, b"")
+        count += self.struck(pooler, "a cancel of a statement in the extended protocol, as JDBC sends it", EXTENDED, cancel, b"")
         sessions.append(self.session(pooler))
         self.passes.same("after a cancel the next client has another session", len(set(sessions)), len(sessions))
-        self.interrupted(pooler)
-        count = TRIES * (len(WAYS) + 2)
-        self.both_told(count)
+        self.both_told(count + self.interrupted(pooler))
         pooler.stop()
 
     def interrupted(self, pooler):
-        """psql, which is interrupted from its terminal."""
+        """psql, which is interrupted from its terminal; how often."""
         times, told = [], []
-        for _ in range(TRIES):
+        while self.goes_on(times):
             psql = subprocess.Popen(["psql", "-X", "-c", LONG], stdout=subprocess.PIPE, stderr=subprocess.PIPE, env=environment(pooler.port, "ann", "shop"))
             self.works()
             begin = time.monotonic()
@@ -303,8 +321,9 @@ class Show:
             _, errors = psql.communicate(timeout=60)
             times.append(time.monotonic() - begin)
             told.append((psql.returncode, errors.decode()))
-        self.passes.same("psql's Ctrl-C", told, [(1, "Cancel request sent\nERROR:  canceling statement due to user request\n")] * TRIES)
+        self.passes.same("psql's Ctrl-C", told, [(1, "Cancel request sent\nERROR:  canceling statement due to user request\n")] * len(times))
         self.in_time("psql's Ctrl-C", times)
+        return len(times)
 
     # ---- b. wrong keys
 
@@ -320,10 +339,10 @@ class Show:
         keys = [self.key_of_nobody(number, workers, gone) for number in range(WRONG)]
         self.meanwhile(f"{WRONG} cancels with wrong keys", workers, lambda: [told(pooler.port, key) for key in keys])
         sleeper = self.client(pooler)
-        self.meanwhile(f"{FLOODS} times {FLOOD} at once", workers, lambda: self.flood(pooler, keys, sleeper))
+        backs = self.meanwhile(f"{FLOODS} times {FLOOD} and more at once", workers, lambda: self.flood(pooler, keys, sleeper))
         self.passes.same("no worker was struck", [worker.end() for worker in workers], [None] * WORKERS)
         sleeper.leave()
-        self.same_in_the_log("each of them, and the one with a right key", (len(self.lines(NOBODY)), len(self.lines(FOUND)), len(self.lines(CLOSED))), (WRONG + FLOODS * FLOOD, 1, 1))
+        self.same_in_the_log("each of them, and the one with a right key", (len(self.lines(NOBODY)), len(self.lines(FOUND)), len(self.lines(CLOSED))), (WRONG + len(backs) - 1, 1, 1))
         self.nothing_lent(pooler, "after wrong keys")
         pooler.stop()
 
@@ -334,7 +353,7 @@ class Show:
         return [pid + other, other + secret, self.random.randbytes(8), gone[number % len(gone)]][number // WORKERS % 4]
 
     def meanwhile(self, name, workers, act):
-        """What comes back is nothing; and all workers go on."""
+        """What comes back is nothing; and all workers go on. All that came back."""
         counts, begin = [worker.asked for worker in workers], time.monotonic()
         backs = act()
         seconds = time.monotonic() - begin
@@ -342,23 +361,25 @@ class Show:
         self.passes.same(f"{name}: each connection is closed with no byte", [back for back in backs if back != b""][:3], [])
         self.passes.holds(f"{name}: each of {WORKERS} workers is served meanwhile", min(asked) > 0 and not any(worker.error for worker in workers), f"{asked} {[worker.error for worker in workers]}")
         print(f"       {len(backs) / seconds:.0f} cancels and {sum(asked) / seconds:.0f} statements a second")
+        return backs
 
     def flood(self, pooler, keys, sleeper):
-        """From several threads at once; in their midst one has the right key, and ends a statement."""
-        backs = []
-        threads = [threading.Thread(target=lambda: backs.extend([told(pooler.port, key) for key in keys[-FLOOD:]])) for _ in range(FLOODS)]
+        """From several threads at once; in their midst one has the right key, and ends a statement. They go on until that is over."""
+        backs, is_over = [], threading.Event()
+        threads = [threading.Thread(target=flooded, args=(pooler.port, keys[-FLOOD:], backs, is_over)) for _ in range(FLOODS)]
         for thread in threads:
             thread.start()
         sleeper.send(SIMPLE)
         self.works()
-        begin = time.monotonic()
-        backs.append(told(pooler.port, sleeper.key))
+        before, begin = len(backs), time.monotonic()
+        own = told(pooler.port, sleeper.key)
         code, seconds = outcome(sleeper), time.monotonic() - begin
-        floods = any(thread.is_alive() for thread in threads)
+        floods = before > 0 and until(lambda: len(backs) > before, LATEST)
+        is_over.set()
         for thread in threads:
             thread.join(60)
         self.passes.holds(f"in the midst of the flood a right key ends a statement ({1000 * seconds:.0f} ms)", floods and code == CANCELLED and seconds < LATEST, f"{floods} {code} {seconds}")
-        return backs
+        return backs + [own]
 
     # ---- c. late cancels
 
@@ -384,13 +405,13 @@ class Show:
         self.nothing_lent(pooler, "after the race")
         pooler.stop()
 
-    def round(self, pooler, user, canceller, moment):
+    def round(self, pooler, user, canceller, moment, length):
         """How the first client's statement ended, whether the second has another session, and what came of the second's statements:
         it asks on until the cancel is through."""
         first = self.client(pooler, user)
         session = self.asked(first, "SELECT pg_backend_pid()")[1]
         canceller.at(first.key, time.monotonic() + moment)
-        first.send(query(f"SELECT pg_sleep({STATEMENT})"))
+        first.send(query(f"SELECT pg_sleep({length:.4f})"))
         second = Client(pooler.port)
         second.send(startup(user, "shop"))
         code = outcome(first)
@@ -398,7 +419,7 @@ class Show:
         second.until(b"Z")
         ends = [self.asked(second, "SELECT pg_backend_pid()")]
         while not canceller.is_done.is_set():
-            ends.append(self.asked(second, f"SELECT pg_sleep({STATEMENT})"))
+            ends.append(self.asked(second, f"SELECT pg_sleep({length:.4f})"))
         ends.append(self.asked(second, "SELECT 7"))
         second.leave()
         return (code if isinstance(code, str) else None, session != ends[0][1]), [code for code, _ in ends if code]
@@ -413,26 +434,27 @@ class Show:
     # ---- d. slow servers
 
     def slow(self):
-        """A server that takes a cancel only after a second: meanwhile its client leaves, and the next one has another session."""
-        proxy = Slow(self.cluster.port, HELD)
+        """A server that takes a cancel only once it is told to: meanwhile its client leaves, and the next one has another session."""
+        proxy = Slow(self.cluster.port)
         pooler = self.pooler(server=proxy, size=1)
         first = self.client(pooler)
         session = self.asked(first, "SELECT pg_backend_pid()")[1]
         first.send(query("SELECT pg_sleep(0.3)"))
-        begin, backs = time.monotonic(), []
-        asking = threading.Thread(target=lambda: backs.append((told(pooler.port, first.key), time.monotonic() - begin)))
+        backs = []
+        asking = threading.Thread(target=lambda: backs.append(told(pooler.port, first.key)))
         asking.start()
-        self.passes.same("a cancel that is held for a second: its client is served", isinstance(outcome(first), list), True)
+        self.passes.holds("a cancel is held before its server", until(lambda: proxy.held == 1, LATEST))
+        self.passes.same("meanwhile its client is served", isinstance(outcome(first), list), True)
         first.leave()
         second = self.client(pooler)
         other = self.asked(second, "SELECT pg_backend_pid()")
-        soon = time.monotonic() - begin
-        self.passes.holds("the next client has another session, before the cancel is there", other[1] not in (None, session) and soon < HELD and proxy.passed == 0, f"{other} {session} {soon:.2f} s")
-        slept = self.asked(second, f"SELECT pg_sleep({HELD + 0.5})")
-        self.passes.same("nor is it struck once it is", (slept, proxy.passed), ((None, ""), 1))
+        self.passes.holds("the next client has another session, before the cancel is there", other[1] not in (None, session) and proxy.passed == 0 and not backs, f"{other} {session} {backs}")
+        second.send(query(f"SELECT pg_sleep({HELD})"))
+        proxy.goes.set()
+        self.passes.same("nor is it struck once it is", (isinstance(outcome(second), list), proxy.passed), (True, 1))
         second.leave()
         asking.join(SECONDS)
-        self.passes.holds("its connection is closed with no byte once the server has closed", len(backs) == 1 and backs[0][0] == b"" and backs[0][1] >= HELD, f"{backs}")
+        self.passes.same("its connection is closed with no byte once the server has closed", backs, [b""])
         self.struck_late(pooler, proxy)
         self.nothing_lent(pooler, "after slow cancels")
         pooler.stop()
@@ -443,7 +465,8 @@ class Show:
         client = self.client(pooler)
         client.send(SIMPLE)
         self.works()
-        begin = time.monotonic()
+        proxy.goes.clear()
+        proxy.seconds, begin = HELD, time.monotonic()
         back = told(pooler.port, client.key)
         code, seconds = outcome(client), time.monotonic() - begin
         self.passes.holds(f"who stays is struck ({seconds:.1f} s)", (code, back) == (CANCELLED, b"") and HELD <= seconds < HELD + LATEST, f"{code} {back}")

@@ -1,9 +1,7 @@
 //! What a pool's desk reaches outside: servers, the files, the log.
-ghost use Rattle.std.specs.Prelude.{◌≡◌, IfOk, IfSome, Some};
+ghost use Rattle.std.specs.Prelude.{◌≡◌, IfOk, Some};
 ghost use Rattle.message_view.specs.Messages.{cancel_request};
-ghost use Rattle.pool_run.specs.Reaching.{IsCancelled, IsOfKey, IsReached};
 ghost use Rattle.tcp_end.specs.Connections.{new_connection};
-ghost use Rattle.tcp_reach.specs.Places.{IsPlaceOf, is_of};
 
 use crate::keeping::{Keeper, Source, Unread};
 use crate::log::PoolLog;
@@ -29,9 +27,9 @@ use std::{io, thread};
 use tcp_end::connection::TcpEnd;
 use tcp_end::dial::dial;
 use tcp_end::idle::Minder;
-use tcp_reach::message::send_alone;
-use tcp_reach::places::{Place, places_of};
-use tcp_reach::stream::Stream;
+use tcp_reach::message::send_to_hosts;
+use tcp_reach::places::Place;
+use tcp_reach::stream::Sent;
 
 /// As long as a cancel's connection may take, and as long as its server may then take for it.
 const CANCEL_SECONDS: u32 = 5;
@@ -45,28 +43,23 @@ fn request_of(alloc: Global, strike: &Strike) -> Result<BytesMut, AllocError>
     Ok(request)
 }
 
-/// Sends a cancel to this place of its link's row, and waits until its server has closed the connection; the stream over which it went.
-fn send_to<R: Net>(rt: &R, alloc: Global, place: &Place, strike: &Strike) -> io::Result<Stream>
-    requires { IsPlaceOf strike.now.host strike.now.port place.now }
-    ensures { IfOk result (λ s. s ≡ record { place = place.now; sent = cancel_request strike.now.server.pid strike.now.server.secret }) }
-{
-    let request = request_of(alloc, strike)?;
-    send_alone(rt, alloc, place, request.as_slice(), CANCEL_SECONDS)
-}
-
 /// Sends a cancel where its link leads, if that is a place of its row; else, as where it isn't remembered, to each place of its host.
-fn send<R: Net>(rt: &R, alloc: Global, known: Option<Place>, strike: &Strike) -> io::Result<()> {
-    let host = strike.host.as_bytes();
-    if let Some(place) = known {
-        if place.is_of(host, strike.port) {
-            send_to(rt, alloc, &place, strike)?;
-            return Ok(());
-        }
-    }
-    for place in places_of(rt, alloc, host, strike.port)?.as_slice() {
-        let _ = send_to(rt, alloc, place, strike);
-    }
-    Ok(())
+fn send<R: Net>(
+    rt: &R,
+    alloc: Global,
+    known: Option<Place>,
+    strike: &Strike,
+) -> io::Result<Vec<Sent>> {
+    let request = request_of(alloc, strike)?;
+    send_to_hosts(
+        rt,
+        alloc,
+        known,
+        strike.host.as_bytes(),
+        strike.port,
+        request.as_slice(),
+        CANCEL_SECONDS,
+    )
 }
 
 /// Whether the system has no file left: for this process (24, EMFILE), or for all (23, ENFILE).
@@ -111,7 +104,7 @@ fn reach<R: Threads + Wait + Clock + Net<Listener = net::TcpListener, Stream = n
     keepalive: &Option<Keepalive>,
     watch: &Watch<R>,
 ) -> io::Result<(TcpEnd, Place)>
-    ensures { IfOk result (λ p. (p.0 ≡ new_connection (Some p.1)) × IsPlaceOf host.now port p.1) }
+    ensures { IfOk result (λ p. p.0 ≡ new_connection (Some p.1)) }
 {
     for _ in 0..MOST_CUT {
         match dial(rt, alloc, host, port, number, seconds, keepalive) {

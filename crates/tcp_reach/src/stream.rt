@@ -47,6 +47,26 @@ impl Model for Stream {
     ghost view = { λ s. record { place = s.place; sent = s.sent.bytes } };
 }
 
+/// All that was sent over a stream, and where it led. It takes no memory to keep the bytes: clauses alone read them.
+pub struct Sent {
+    place: Place,
+    sent: Transcript,
+}
+
+impl Drop for Sent {
+    fn drop(self) {
+        let Sent { place: _, sent: _ } = self;
+    }
+}
+
+impl Model for Sent {
+    ghost use Rattle.tcp_reach.specs.Streams.{StreamOf};
+
+    ghost Value = { StreamOf };
+
+    ghost view = { λ s. record { place = s.place; sent = s.sent.bytes } };
+}
+
 /// A Unix socket as a stream: the system's calls for both are the same.
 pub fn as_stream(stream: UnixStream) -> TcpStream {
     TcpStream::from(OwnedFd::from(stream))
@@ -87,6 +107,18 @@ impl Stream {
             sent: _,
         } = self;
         (socket, place)
+    }
+
+    /// Closes it; what was sent, and where.
+    pub(crate) fn close(self) -> Sent
+        ensures { result ≡ self }
+    {
+        let Stream {
+            socket: _,
+            place,
+            sent,
+        } = self;
+        Sent { place, sent }
     }
 
     /// Keeps the connection alive so.
