@@ -1,7 +1,7 @@
 #!/usr/bin/env python3
 """Shows that `pgsess serve` does what it is told: by its seed, by addresses, by settings and users, also at RELOAD; and that its log tells why
-a link is closed, where a client came from and how long it was there. In front of a PostgreSQL server of Debian, and of servers of this
-script that say what no PostgreSQL would.
+a link is closed, which one a client was lent, where a client came from and how long it was there. In front of a PostgreSQL server of Debian,
+and of servers of this script that say what no PostgreSQL would.
 
 Usage: as_told.py PROGRAM
 """
@@ -14,7 +14,7 @@ import threading
 import time
 
 from cluster import HERE, USERS, Cluster, Passes, Place, Pooler, set_up, until
-from wire import Client, Cut, Refused, message, query
+from wire import Client, Cut, Refused, md5_answer, message, query, startup
 
 TOO = "127.0.0.2"
 SECONDS = 20
@@ -72,6 +72,17 @@ class Server(threading.Thread):
                 raise OSError("a cancel")
             connection.sendall(self.welcome if first else self.answers[packet == RESET] if packet[:1] == b"Q" else b"")
         return held
+
+
+class Breaking(Server):
+    """One whose session breaks off behind what it says to a query."""
+
+    def answer(self, connection, held):
+        is_query = held[:1] == b"Q"
+        left = super().answer(connection, held)
+        if is_query:
+            raise OSError("it breaks off")
+        return left
 
 
 def outcome(port, user="ann", password=None, database="shop", asks="SELECT", host=HERE):
@@ -217,6 +228,123 @@ class Show:
         until(self.cluster.is_ready)
         client.socket.close()
 
+    def ended_sessions(self):
+        """Sessions that their server ends while clients have them."""
+        error = message(b"E", b"SERROR\0VERROR\0C42601\0Msyntax error\0\0")
+        old = message(b"E", b"SFATAL\0C57P01\0Mold age\0\0")
+        broken, aged = Breaking(answers=(error, b"")), Breaking(answers=(old, b""))
+        self.begin(more_rows="\n".join(f"{name} = host={HERE} port={it.port} dbname=shop" for name, it in (("broken", broken), ("aged", aged))))
+        port = self.pooler.port
+        said = r"link \d+ closed: its server said "
+        for what, ask in (("idles", None), ("works", "SELECT pg_sleep(20)")):
+            client = Client(port, "ann", "shop", USERS["ann"][0])
+            pid = client.ask("SELECT pg_backend_pid()")[0][0]
+            if ask:
+                client.send(query(ask))
+            self.before = len(self.log())
+            self.cluster.tell(f"SELECT pg_terminate_backend({pid})")
+            self.logs(f"a session that is terminated while its client {what}", said + "57P01 terminating connection due to administrator command$")
+            client.socket.close()
+        client = Client(port, "ann", "shop", USERS["ann"][0])
+        client.ask("SET idle_in_transaction_session_timeout = 100")
+        client.ask("BEGIN")
+        self.logs("and one that idles in a transaction for too long", said + "25P03 terminating connection due to idle-in-transaction timeout$")
+        client.socket.close()
+        clients = [Client(port, "ann", "shop", USERS["ann"][0]) for _ in range(2)]
+        os.kill(int(clients[0].ask("SELECT pg_backend_pid()")[0][0]), signal.SIGKILL)
+        self.logs("sessions that end since another one was killed are told", said + "57P02 terminating connection because of crash of another server process$")
+        self.logs("and the one that was", r"link \d+ closed: server connection ended$")
+        until(self.cluster.is_ready)
+        for client in clients:
+            client.socket.close()
+        self.before = len(self.log())
+        self.passes.same("a session that breaks off behind an error", outcome(port, database="broken"), "08006")
+        self.logs("is told as ended, without the error, by which no session ends", r"link \d+ closed: server connection ended$")
+        self.passes.same("one of a server of before 9.6", outcome(port, database="aged"), "57P01")
+        self.logs("is told with what that said", said + "57P01 old age$")
+
+    def leases(self):
+        """Which link a client was lent, and to which process."""
+        keyless = Server(welcome=OK + READY)
+        row = f"keyless = host={HERE} port={keyless.port} dbname=shop"
+        self.begin(size=1, more_rows=row, changes={"^log_connections = .*": "log_connections = 1"})
+        port, shop = self.pooler.port, rf"127\.0\.0\.1:{self.cluster.port}"
+        links = set()
+        for turn in ("a client", "the next one over that link"):
+            client = Client(port, "ann", "shop", USERS["ann"][0])
+            pid, own = client.ask("SELECT pg_backend_pid()")[0][0], client.socket.getsockname()[1]
+            found = self.logs(f"{turn} came in, and has its server's process", rf"^pgsess: (client \d+ ann@shop from 127\.0\.0\.1:{own}) in\n(?:.*\n)*?pgsess: \1 has link (\d+) to server {shop}, process {pid}$")
+            links.add(found and found[2])
+            client.leave()
+        self.passes.same("both have the same link", len(links), 1)
+        self.passes.same("a client of a server that tells no key", outcome(port, database="keyless"), "served")
+        self.logs("has a link, and no process", rf"ann@keyless from .* has link \d+ to server 127\.0\.0\.1:{keyless.port}$")
+        self.reload("pgsess.ini", ("^log_connections = .*", "log_connections = 0"))
+        self.before = len(self.log())
+        self.passes.same("log_connections = 0: a client", outcome(port), "served")
+        self.passes.same("is told neither as in nor with its link", re.findall(" in$| has link ", self.log()[self.before:], re.M), [])
+
+    def kept_settings(self):
+        """Settings that a RELOAD doesn't change, each of which the log names, and no other."""
+        self.begin()
+        again = {"listen_addr": TOO, "listen_port": "1", "unix_socket_dir": "/nowhere", "unix_socket_mode": "0700", "unix_socket_group": "ann",
+                 "peer_id": "7", "metrics_addr": TOO, "metrics_port": "2"}
+        kept_alive = {"tcp_keepalive": "0", "tcp_keepidle": "11", "tcp_keepintvl": "12", "tcp_keepcnt": "13", "tcp_user_timeout": "14"}
+        wanted = sorted([*again, *(f"{it} of clients' connections" for it in kept_alive)])
+        whole = (self.place.folder / "pgsess.ini").read_text()
+        for what, names, lines in (("no setting", [], {}), ("settings of clients and links", [], {"max_client_conn": "50", "max_links": "40", "default_pool_size": "2", "query_wait_timeout": "9"}),
+                                   ("listen_port alone", ["listen_port"], {"listen_port": "1"}), ("all that are read at the start", wanted, {**again, **kept_alive})):
+            text = whole
+            for name, value in lines.items():
+                text = re.sub(rf"^{name} *=.*\n", "", text, flags=re.M) + f"{name} = {value}\n"
+            self.place.write("pgsess.ini", text)
+            self.before = len(self.log())
+            self.console("RELOAD")
+            found = lambda: sorted(re.findall(r"^pgsess: not changed by RELOAD: (.*)$", self.log()[self.before:], re.M))
+            self.logs(f"RELOAD with other values of {what}", "^pgsess: reloaded$")
+            until(lambda: found() == names, 2)
+            self.passes.same("tells those that stay as they were", found(), names)
+
+    def asked(self):
+        """A client that is asked for its password, and the salt."""
+        client = Client(self.pooler.port)
+        client.send(startup("ann", "shop"))
+        return client, client.until(b"R")[1][4:8]
+
+    def without_files(self):
+        """A client that is there when no file is left: its server can't be reached."""
+        self.begin()
+        client, _ = self.asked()
+        taken = {int(it) for it in os.listdir(f"/proc/{self.pooler.process.pid}/fd")}
+        client.socket.close()
+        self.begin(files=min(set(range(len(taken) + 1)) - taken))
+        client, salt = self.asked()
+        client.send(message(b"p", md5_answer("ann", USERS["ann"][0], salt).encode() + b"\0"))
+        try:
+            told = client.until(b"Z")
+        except Refused as error:
+            told = error.code
+        self.passes.same("no file is left for a link: its client", told, "08001")
+        self.logs("is told as a want of files", rf"^pgsess: no file left for a connection to server 127\.0\.0\.1:{self.cluster.port}: Too many open files")
+        self.passes.same("and not as a server that isn't reached", re.findall("not reached", self.log()[self.before:]), [])
+        client.socket.close()
+
+    def asking_again(self):
+        """A client whose server has no place for its link until another is given back."""
+        self.cluster.tell("ALTER ROLE ann CONNECTION LIMIT 1", "postgres")
+        self.begin(size=2)
+        first, told = Client(self.pooler.port, "ann", "shop", USERS["ann"][0]), []
+        second = threading.Thread(target=lambda: told.append(outcome(self.pooler.port)))
+        second.start()
+        refused = "too many connections for role"
+        until(lambda: refused in self.cluster.log.read_text(errors="replace"), 5)
+        first.leave()
+        second.join(SECONDS)
+        self.passes.same("a client whose start was refused is served over the link that came back", told, ["served"])
+        self.logs("and is told to ask again", rf'^pgsess: client \d+ ann@shop from .* asks again after \d+\.\d s: server 127\.0\.0\.1:{self.cluster.port} refused the start: 53300 {refused} "ann"$')
+        self.passes.same("and not to be refused", re.findall(" refused after ", self.log()[self.before:]), [])
+        self.cluster.tell("ALTER ROLE ann CONNECTION LIMIT -1", "postgres")
+
     def visits(self):
         self.begin(listen=f"{HERE}, {TOO}", changes={"^log_connections = .*": "log_connections = 1", "^log_disconnections = .*": "log_disconnections = 1"})
         near = socket.socket()
@@ -235,7 +363,8 @@ class Show:
             self.passes.holds("by the clock", STAY <= float(found[1]) < STAY + 2, found[0])
 
     def run(self):
-        for part in (self.seeds, self.addresses, self.users, self.settings, self.strange_servers, self.visits):
+        for part in (self.seeds, self.addresses, self.users, self.settings, self.strange_servers, self.ended_sessions, self.leases, self.kept_settings,
+                     self.without_files, self.asking_again, self.visits):
             part()
         self.pooler.stop()
         self.cluster.stop()

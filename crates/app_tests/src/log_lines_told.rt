@@ -152,14 +152,14 @@ fn what_a_client_comes_to(rt: HostRuntime) -> Result<(), Fail> {
 }
 
 /// What a server says that has no slot left: 53300, `sorry, too many clients already`.
-const NO_PLACE: &[u8] = b"E\0\0\0\x3cSFATAL\0VFATAL\0C53300\0Msorry, too many clients already\0\0";
+const NO_PLACE: &[u8] = b"E\0\0\0\x3bSFATAL\0VFATAL\0C53300\0Msorry, too many clients already\0\0";
 
 /// What a server says whose administrator ends a session, in the words of a French one: 57P01.
 const TERMINATED: &[u8] =
-    b"E\0\0\0\x59SFATALE\0VFATAL\0C57P01\0Mterminating connection due to administrator command\0R\0\0";
+    b"E\0\0\0\x52SFATALE\0VFATAL\0C57P01\0Mterminating connection due to administrator command\0R\0\0";
 
 /// An error of a query, after which the session goes on: 42601.
-const SYNTAX: &[u8] = b"E\0\0\0\x30SERROR\0VERROR\0C42601\0Msyntax error at end\0\0";
+const SYNTAX: &[u8] = b"E\0\0\0\x2fSERROR\0VERROR\0C42601\0Msyntax error at end\0\0";
 
 // A release before 9.6 has the severity in its own language alone.
 #[test]
@@ -168,8 +168,8 @@ fn errors_by_which_a_session_ends(rt: HostRuntime) -> Result<(), Fail> {
         (SERVER_ERROR, true),
         (TERMINATED, true),
         (SYNTAX, false),
-        (b"E\0\0\0\x1cSPANIC\0CXX000\0Mno WAL\0\0", true),
-        (b"E\0\0\0\x1dSFATALE\0C57P01\0Mgone\0\0\0\0", false),
+        (b"E\0\0\0\x1bSPANIC\0CXX000\0Mno WAL\0\0", true),
+        (b"E\0\0\0\x1aSFATALE\0C57P01\0Mgone\0\0", false),
         (b"E\0\0\0\x05\0", false),
         (b"E\0\0", false),
     ];

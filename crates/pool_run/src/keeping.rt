@@ -6,6 +6,7 @@ ghost use Rattle.pool_run.specs.Logins.{IsNewLogin};
 ghost use Rattle.pool_run.specs.Telling as spec;
 
 use crate::log::PoolLog;
+use crate::staying::{of_clients, of_listeners};
 use book_model::limits::Limits;
 use book_model::settings::limits_of;
 use ini_config::{AuthType, Settings};
@@ -98,7 +99,7 @@ impl Bounded {
         ensures { result ≡ spec.is_told self.now note.now }
     {
         match note {
-            Note::LoggedIn => self.settings.log_connections(),
+            Note::LoggedIn | Note::Lent(..) => self.settings.log_connections(),
             Note::Closed => self.settings.log_disconnections(),
             _ => true,
         }
@@ -179,6 +180,8 @@ pub(crate) struct Keeper<R, F: Source> {
     rt: R,
     alloc: Global,
     kept: Mutex<Kept>,
+    /// The settings of the start.
+    at_start: Arc<Settings>,
     /// Other settings and users came, or the pool has ended.
     changed: Condvar,
     /// The key of the salts that names have, as long as the program runs.
@@ -192,6 +195,7 @@ impl<R: Drop, F: Source> Drop for Keeper<R, F> {
             rt: _,
             alloc: _,
             kept: _,
+            at_start: _,
             changed: _,
             salts: _,
             source: _,
@@ -212,10 +216,12 @@ impl<R: Drop, F: Source> Keeper<R, F> {
         requires { AreWithinBounds settings }
     {
         let kept = Kept::new(alloc, settings, Users::new(users, salts), 0)?;
+        let at_start = kept.settings.share()?;
         Ok(Keeper {
             rt,
             alloc,
             kept: Mutex::new(kept),
+            at_start,
             changed: Condvar::new(),
             salts,
             source,
@@ -352,6 +358,23 @@ impl<R: Wait + Clock, F: Source> Keeper<R, F> {
     pub(crate) fn tell_users(&self, log: &PoolLog<R>) {
         if let Ok((settings, users)) = self.share() {
             log.users(settings.auth_type(), &users);
+        }
+    }
+
+    /// Tells the log of settings that the files say anew, and that are as they were at the start.
+    pub(crate) fn tell_staying(&self, log: &PoolLog<R>) {
+        let Ok((settings, _)) = self.share() else {
+            return;
+        };
+        for (setting, has_changed) in of_listeners(&self.at_start, &settings) {
+            if has_changed {
+                log.as_at_start(setting);
+            }
+        }
+        for (setting, has_changed) in of_clients(&self.at_start, &settings) {
+            if has_changed {
+                log.as_at_start(setting);
+            }
         }
     }
 }

@@ -8,4 +8,5 @@ mod log;
 mod places;
 pub mod pool;
 pub mod runtime;
+mod staying;
 mod surroundings;

@@ -1,5 +1,6 @@
 //! The pool's log, as its threads tell it. No contract says what a log is told; scripts/console.py shows it.
 
+use crate::surroundings::is_short_of_files;
 use ini_config::AuthType;
 use log_lines::events::{Event, Heard, Rates, Totals};
 use log_lines::notes::{Client, Note};
@@ -109,10 +110,16 @@ impl<R: Wait + Clock> PoolLog<R> {
         }
     }
 
-    /// A server couldn't be reached, because of this.
+    /// A server couldn't be reached, because of this, which may be that no file is left here.
     pub(crate) fn unreached(&self, host: &[u8], port: u16, why: &io::Error) {
-        if let Ok(text) = format!(in self.alloc; "{why}") {
-            self.event(Event::Unreached(host, port, text.as_bytes()));
+        let Ok(text) = format!(in self.alloc; "{why}") else {
+            return;
+        };
+        let text = text.as_bytes();
+        if is_short_of_files(why) {
+            self.event(Event::NoFile(host, port, text));
+        } else {
+            self.event(Event::Unreached(host, port, text));
         }
     }
 
@@ -144,6 +151,11 @@ impl<R: Wait + Clock> PoolLog<R> {
         if count > 0 {
             self.event(Event::NoPasswords(count, first));
         }
+    }
+
+    /// The files say this setting anew, which is as it was at the start.
+    pub(crate) fn as_at_start(&self, setting: &[u8]) {
+        self.event(Event::AsAtStart(setting));
     }
 
     /// They weren't, because of this fault.

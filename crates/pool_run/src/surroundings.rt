@@ -63,7 +63,7 @@ fn send<R: Net>(
 }
 
 /// Whether the system has no file left: for this process (24, EMFILE), or for all (23, ENFILE).
-fn is_short_of_files(error: &io::Error) -> bool {
+pub(crate) fn is_short_of_files(error: &io::Error) -> bool {
     matches!(error.raw_os_error(), Some(23 | 24))
 }
 
@@ -176,6 +176,7 @@ impl<R: PoolRuntime, F: Source> Outside for Surroundings<R, F> {
             Ok(limits) => {
                 self.log.reloaded();
                 self.keeper.tell_users(&self.log);
+                self.keeper.tell_staying(&self.log);
                 Some(limits)
             }
             Err(Unread::Fault(fault)) => {

@@ -19,7 +19,7 @@ ghost use Rattle.pool_serve.specs.declared.ending.Ending.TheVariants as ending;
 
 use crate::ending::Ending;
 use crate::logged_in::LoggedIn;
-use crate::noting::ending_note;
+use crate::noting::asking_note;
 use crate::opening::open_link;
 use crate::worker::Worker;
 use link_desk::answers::{Asked, Grant, Keying, Place};
@@ -255,7 +255,7 @@ impl<'a, D: LinkDesk, G: Gate<D::End>> Worker<'a, D, G> {
                 .await_place(&mut self.pass, &logged_in.key, self.visit.since, seconds)
             {
                 Place::Free => {
-                    if let Some(note) = ending_note(logged_in, ending) {
+                    if let Some(note) = asking_note(logged_in, ending) {
                         self.note(logged_in, &note);
                     }
                     return true;

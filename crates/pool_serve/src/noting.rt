@@ -6,15 +6,18 @@ use disposal::Verdict;
 use ini_config::AuthType;
 use link_desk::answers::Cancelled;
 use link_desk::desk::LinkDesk;
+use link_run::links::CleanLink;
 use link_run::reset::ResetFault;
 use link_start::start::StartCause;
+use log_lines::lines::{ends_session, sqlstate};
 use log_lines::notes::{Client, LoginFailure, Loss, Note, Server, Unstarted, Visit};
 use login_core::Failure;
 use login_run::{LoginReply, LoginRun};
 use message_view::Refusal;
+use relay_core::last_note::LastNote;
 use relay_core::relay::GoneCause;
 use scram::server_messages::MOST_ROUNDS;
-use server_end::ClientEnd;
+use server_end::{ClientEnd, ServerEnd};
 use start_keys::StartKey;
 use std::sync::Arc;
 use user_file::Secret;
@@ -165,21 +168,59 @@ pub(crate) fn ending_note<'a>(logged_in: &'a LoggedIn, ending: &'a Ending) -> Op
     }
 }
 
-/// Why a link is closed after its lease, within which its server's connection may have ended.
-pub(crate) fn loss_of(cause: GoneCause, has_ended: bool) -> Loss {
+/// Why a client whose server had no place for its link asks again; nothing, where it ended otherwise.
+pub(crate) fn asking_note<'a>(logged_in: &'a LoggedIn, ending: &'a Ending) -> Option<Note<'a>> {
+    match ending {
+        Ending::Unstarted(StartCause::Refused(error)) => Some(Note::AsksAgain(
+            server_of(logged_in),
+            error.as_bytes(),
+        )),
+        _ => None,
+    }
+}
+
+/// Which link a client was lent, and to which process of its server.
+pub(crate) fn lent_note<'a, E: ServerEnd>(
+    logged_in: &'a LoggedIn,
+    link: &CleanLink<E>,
+) -> Note<'a> {
+    let process = match link.server_key() {
+        Some(key) => Some(key.pid),
+        None => None,
+    };
+    Note::Lent(link.number(), server_of(logged_in), process)
+}
+
+/// Whether a server warns that it ends all sessions (SQLSTATE 57P01, 57P02), as one does that ends at once.
+fn is_shutdown(message: &[u8]) -> bool {
+    let state = sqlstate(message);
+    state == b"57P01".as_slice() || state == b"57P02".as_slice()
+}
+
+/// How its server's connection ended, which said this last.
+fn loss_by(last: &LastNote) -> Loss<'_> {
+    let message = last.message();
+    if ends_session(message) || is_shutdown(message) {
+        return Loss::Said(message);
+    }
+    Loss::Ended
+}
+
+/// Why a link is closed after its lease, within which its server's connection may have ended, and which said this last.
+pub(crate) fn loss_of(cause: GoneCause, has_ended: bool, last: &LastNote) -> Loss<'_> {
     match cause {
         GoneCause::Left(Verdict::Broken) => Loss::Foreign,
-        GoneCause::Lost => Loss::Ended,
-        GoneCause::Left(_) if has_ended => Loss::Ended,
+        GoneCause::Lost => loss_by(last),
+        GoneCause::Left(_) if has_ended => loss_by(last),
         GoneCause::Left(Verdict::InBlock) => Loss::InBlock,
         GoneCause::Left(_) => Loss::Unanswered,
     }
 }
 
-/// Why a link is closed that wasn't reset.
-pub(crate) fn loss_in_reset(fault: ResetFault) -> Loss {
+/// Why a link is closed that wasn't reset, whose server said this last within its lease.
+pub(crate) fn loss_in_reset(fault: ResetFault, last: &LastNote) -> Loss<'_> {
     match fault {
-        ResetFault::Lost => Loss::Ended,
+        ResetFault::Lost => loss_by(last),
         ResetFault::Unexpected | ResetFault::Changed | ResetFault::Memory | ResetFault::Turns =>
             Loss::NotReset,
     }

@@ -15,6 +15,7 @@ ghost use Rattle.pool_serve.specs.Words.{word_of};
 
 use crate::ending::Ending;
 use crate::logged_in::LoggedIn;
+use crate::noting::lent_note;
 use crate::worker::Worker;
 use link_desk::desk::LinkDesk;
 use link_run::links::CleanLink;
@@ -76,7 +77,7 @@ fn pumped<C: ClientEnd, E: ServerEnd, G: Gate<E>>(
 }
 
 impl<'a, D: LinkDesk, G: Gate<D::End>> Worker<'a, D, G> {
-    /// Relays over the client's link, and gives that back, before the client is told why it is refused, if it is.
+    /// Relays over the client's link, of which the log is told, and gives that back, before the client is told why it is refused, if it is.
     pub(crate) fn relay<C: ClientEnd>(
         &mut self,
         client: C,
@@ -94,6 +95,7 @@ impl<'a, D: LinkDesk, G: Gate<D::End>> Worker<'a, D, G> {
     {
         leases_are_allowed();
         service_is_its_pieces();
+        self.note(logged_in, &lent_note(logged_in, &link));
         let number = link.number();
         let limit = logged_in.login.settings().max_packet_size();
         let mut relay = match Relay::begin_over(
@@ -112,8 +114,9 @@ impl<'a, D: LinkDesk, G: Gate<D::End>> Worker<'a, D, G> {
         };
         let (refusal, has_ended) = pumped(&mut relay, &mut self.gate);
         self.gate.tell(relay.counts());
+        let last = relay.last_note();
         let (client, link) = relay.close_over(self.kept);
-        self.hand_back(logged_in, number, link, has_ended);
+        self.hand_back(logged_in, number, link, has_ended, &last);
         (client, Ending::Relayed(refusal))
     }
 }

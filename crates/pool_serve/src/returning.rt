@@ -17,6 +17,7 @@ use link_run::links::{CleanLink, UsedLink};
 use link_run::reset::reset_link;
 use link_start::close::{close_link, offer_terminate};
 use log_lines::notes::{Loss, Note};
+use relay_core::last_note::LastNote;
 use relay_core::relay::{GoneCause, Returned};
 use server_end::gate::Gate;
 
@@ -46,7 +47,7 @@ impl<'a, D: LinkDesk, G: Gate<D::End>> Worker<'a, D, G> {
     }
 
     /// Reports the client's link, of this number, lost.
-    fn lose(&mut self, logged_in: &LoggedIn, number: u64, why: Loss)
+    fn lose(&mut self, logged_in: &LoggedIn, number: u64, why: Loss<'_>)
         requires some { IsSome (D.holder self.old.pass).lease }
         ensures share { Ends (D.told self.old.pass) (D.told self.new.pass) }
         ensures holder { D.holder self.new.pass ≡ without_lease Lost (D.holder self.old.pass) }
@@ -74,7 +75,13 @@ impl<'a, D: LinkDesk, G: Gate<D::End>> Worker<'a, D, G> {
 
     /// Ends the lease of the client's link, over which a lease is settled, and gives the link back once it is reset; one that a cancel
     /// is for is closed.
-    fn give_back_used(&mut self, logged_in: &LoggedIn, number: u64, link: UsedLink<D::End>)
+    fn give_back_used(
+        &mut self,
+        logged_in: &LoggedIn,
+        number: u64,
+        link: UsedLink<D::End>,
+        last: &LastNote,
+    )
         requires home { IsAtHome D.home link }
         requires own { HasLease (D.holder self.old.pass) link.number link.born }
         ensures share { Ends (D.told self.old.pass) (D.told self.new.pass) }
@@ -83,7 +90,7 @@ impl<'a, D: LinkDesk, G: Gate<D::End>> Worker<'a, D, G> {
         match self.desk.end_lease(&mut self.pass) {
             Release::Reset => match reset_link(self.alloc, link, &mut self.gate, TURNS) {
                 Ok(link) => self.give_back(link),
-                Err(disposed) => self.lose(logged_in, number, loss_in_reset(disposed.cause)),
+                Err(disposed) => self.lose(logged_in, number, loss_in_reset(disposed.cause, last)),
             },
             Release::Dispose | Release::Last | Release::Stranger => {
                 let mut parts = link.lend();
@@ -94,13 +101,14 @@ impl<'a, D: LinkDesk, G: Gate<D::End>> Worker<'a, D, G> {
     }
 
     /// Gives the link of a client whose time has ended, of this number, back: clean as it was, or reset; or offers its server a
-    /// Terminate and reports it lost. The log is told if its server's connection has ended.
+    /// Terminate and reports it lost. The log is told if its server's connection has ended, and what that said last.
     pub(crate) fn hand_back(
         &mut self,
         logged_in: &LoggedIn,
         number: u64,
         link: Returned<D::End>,
         has_ended: bool,
+        last: &LastNote,
     )
         requires home { IsBackHome D.home link }
         requires own { IsOwnLease (D.holder self.old.pass) link }
@@ -109,13 +117,13 @@ impl<'a, D: LinkDesk, G: Gate<D::End>> Worker<'a, D, G> {
     {
         match link {
             Returned::Unused(link) => self.give_back_unused(logged_in, link),
-            Returned::Used(link) => self.give_back_used(logged_in, number, link),
+            Returned::Used(link) => self.give_back_used(logged_in, number, link, last),
             Returned::Gone(link, cause) => {
                 let mut link = link;
                 if is_at_border(cause) {
                     offer_terminate(&mut link.end);
                 }
-                self.lose(logged_in, number, loss_of(cause, has_ended));
+                self.lose(logged_in, number, loss_of(cause, has_ended, last));
             }
         }
     }

@@ -3,6 +3,7 @@ ghost use Rattle.std.specs.Prelude.{◌≡◌, ◌<◌, length, true, false};
 ghost use Rattle.relay_laws.specs.Leases.{Keeps};
 ghost use Rattle.relay_laws.specs.Steps.{IsStuck, IsStuckClient, OnlyToClient, OnlyToLink, stops_here};
 
+use crate::last_note::hear;
 use crate::relay::Relay;
 use crate::reports::read_report;
 use crate::verdict::{tell_arrived, tell_sent};
@@ -72,6 +73,7 @@ impl<C: ClientEnd, E: ServerEnd> Relay<C, E> {
             calls_tell();
             let own = read_report(&mut self.link.reported, &self.to_client, passed);
             tell_arrived(&mut self.traffic, passed, own);
+            hear(&mut self.last_note, &self.to_client, passed);
         }
         true
     }

@@ -4,6 +4,7 @@ ghost use Rattle.frame_view.specs.declared.frames.TheConstants.{LONGEST_FRAME};
 
 use crate::answers::phase_after;
 use crate::flags::none_moved;
+use crate::last_note::LastNote;
 use crate::verdict::{is_settled, verdict_by};
 use bytes::BytesMut;
 use disposal::laws::settled_exactly;
@@ -54,6 +55,7 @@ pub struct Relay<C: ClientEnd, E: ServerEnd> {
     pub(crate) to_link: Flow,
     pub(crate) to_client: Flow,
     pub(crate) traffic: Traffic,
+    pub(crate) last_note: LastNote,
     pub(crate) flags: Flags,
     pub(crate) phase: Phase,
 }
@@ -69,6 +71,7 @@ impl<C: ClientEnd, E: ServerEnd> Drop for Relay<C, E> {
             to_link: _,
             to_client: _,
             traffic: _,
+            last_note: _,
             flags: _,
             phase: _,
         } = self;
@@ -155,6 +158,7 @@ impl<C: ClientEnd, E: ServerEnd> Relay<C, E> {
             to_link: Flow::new(to_link, Side::Client, limit),
             to_client: Flow::new(to_client, Side::Server, limit),
             traffic: Traffic::new(),
+            last_note: LastNote::none(),
             flags: Flags {
                 touched: false,
                 client_over: false,
@@ -227,6 +231,11 @@ impl<C: ClientEnd, E: ServerEnd> Relay<C, E> {
         }
     }
 
+    /// What the server said last, for the log: no contract tells which of its messages that is.
+    pub fn last_note(&self) -> LastNote {
+        LastNote::of(self.last_note.message())
+    }
+
     /// The lease ends: the client's end, and the link for what it is worth.
     pub fn close(self) -> (C, Returned<E>)
         ensures client { C.facts result.0 ≡ self.client }
@@ -252,6 +261,7 @@ impl<C: ClientEnd, E: ServerEnd> Relay<C, E> {
             to_link,
             to_client,
             traffic: _,
+            last_note: _,
             flags,
             phase: _,
         } = self;
