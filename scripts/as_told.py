@@ -251,7 +251,9 @@ class Show:
         self.logs("and one that idles in a transaction for too long", said + "25P03 terminating connection due to idle-in-transaction timeout$")
         client.socket.close()
         clients = [Client(port, "ann", "shop", USERS["ann"][0]) for _ in range(2)]
-        os.kill(int(clients[0].ask("SELECT pg_backend_pid()")[0][0]), signal.SIGKILL)
+        # a session that is just starting isn't always told
+        killed, _ = (client.ask("SELECT pg_backend_pid()")[0][0] for client in clients)
+        os.kill(int(killed), signal.SIGKILL)
         self.logs("sessions that end since another one was killed are told", said + "57P02 terminating connection because of crash of another server process$")
         self.logs("and the one that was", r"link \d+ closed: server connection ended$")
         until(self.cluster.is_ready)

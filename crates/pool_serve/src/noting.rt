@@ -7,7 +7,6 @@ use ini_config::AuthType;
 use link_desk::answers::Cancelled;
 use link_desk::desk::LinkDesk;
 use link_run::links::CleanLink;
-use link_run::reset::ResetFault;
 use link_start::start::StartCause;
 use log_lines::lines::{ends_session, sqlstate};
 use log_lines::notes::{Client, LoginFailure, Loss, Note, Server, Unstarted, Visit};
@@ -191,37 +190,38 @@ pub(crate) fn lent_note<'a, E: ServerEnd>(
     Note::Lent(link.number(), server_of(logged_in), process)
 }
 
-/// Whether a server warns that it ends all sessions (SQLSTATE 57P01, 57P02), as one does that ends at once.
-fn is_shutdown(message: &[u8]) -> bool {
-    let state = sqlstate(message);
-    state == b"57P01".as_slice() || state == b"57P02".as_slice()
-}
-
-/// How its server's connection ended, which said this last.
-fn loss_by(last: &LastNote) -> Loss<'_> {
+/// How the session of a link ended whose server said this last; nothing, where its connection hasn't ended, nor was that told by an error.
+fn server_loss(has_ended: bool, last: &LastNote) -> Option<Loss<'_>> {
     let message = last.message();
-    if ends_session(message) || is_shutdown(message) {
-        return Loss::Said(message);
+    if ends_session(message) {
+        return Some(Loss::Said(message));
     }
-    Loss::Ended
+    if !has_ended {
+        return None;
+    }
+    // a server that ends at once warns of it
+    let state = sqlstate(message);
+    if state == b"57P01".as_slice() || state == b"57P02".as_slice() {
+        return Some(Loss::Said(message));
+    }
+    Some(Loss::Ended)
 }
 
 /// Why a link is closed after its lease, within which its server's connection may have ended, and which said this last.
 pub(crate) fn loss_of(cause: GoneCause, has_ended: bool, last: &LastNote) -> Loss<'_> {
-    match cause {
-        GoneCause::Left(Verdict::Broken) => Loss::Foreign,
-        GoneCause::Lost => loss_by(last),
-        GoneCause::Left(_) if has_ended => loss_by(last),
-        GoneCause::Left(Verdict::InBlock) => Loss::InBlock,
-        GoneCause::Left(_) => Loss::Unanswered,
+    let verdict = match cause {
+        GoneCause::Left(verdict) => verdict,
+        GoneCause::Lost => return Loss::Ended,
+    };
+    match (verdict, server_loss(has_ended, last)) {
+        (Verdict::Broken, _) => Loss::Foreign,
+        (_, Some(loss)) => loss,
+        (Verdict::InBlock, None) => Loss::InBlock,
+        (_, None) => Loss::Unanswered,
     }
 }
 
-/// Why a link is closed that wasn't reset, whose server said this last within its lease.
-pub(crate) fn loss_in_reset(fault: ResetFault, last: &LastNote) -> Loss<'_> {
-    match fault {
-        ResetFault::Lost => loss_by(last),
-        ResetFault::Unexpected | ResetFault::Changed | ResetFault::Memory | ResetFault::Turns =>
-            Loss::NotReset,
-    }
+/// Why a link is closed that wasn't reset, whose server's connection may have ended by it, and which said this last within its lease.
+pub(crate) fn loss_in_reset(has_ended: bool, last: &LastNote) -> Loss<'_> {
+    server_loss(has_ended, last).unwrap_or(Loss::NotReset)
 }

@@ -14,12 +14,16 @@ use disposal::Verdict;
 use link_desk::answers::Release;
 use link_desk::desk::LinkDesk;
 use link_run::links::{CleanLink, UsedLink};
-use link_run::reset::reset_link;
+use link_run::reset::{Disposed, ResetFault, reset_link};
 use link_start::close::{close_link, offer_terminate};
 use log_lines::notes::{Loss, Note};
 use relay_core::last_note::LastNote;
 use relay_core::relay::{GoneCause, Returned};
 use server_end::gate::Gate;
+use server_end::{Moved, ServerEnd};
+
+/// As much as is read behind a server's answer to a reset.
+const REST: usize = 512;
 
 /// Whether whole messages went over the link, so that its server reads a Terminate as one.
 fn is_at_border(cause: GoneCause) -> bool {
@@ -27,6 +31,24 @@ fn is_at_border(cause: GoneCause) -> bool {
         cause,
         GoneCause::Left(Verdict::Unanswered) | GoneCause::Left(Verdict::InBlock)
     )
+}
+
+/// Whether the connection of a link that wasn't reset has ended. What ends a session is said to the reset first, so behind such an answer
+/// the end is waited for, for one turn.
+fn has_ended<E: ServerEnd, G: Gate<E>>(disposed: Disposed<E>, gate: &mut G) -> bool {
+    let Disposed { mut end, cause } = disposed;
+    match cause {
+        ResetFault::Lost => return true,
+        ResetFault::Unexpected => {}
+        ResetFault::Changed | ResetFault::Memory | ResetFault::Turns => return false,
+    }
+    let mut rest = [0u8; REST];
+    let mut moved = end.read_some(&mut rest);
+    if let Moved::NotNow = moved {
+        gate.turn_of_link();
+        moved = end.read_some(&mut rest);
+    }
+    matches!(moved, Moved::Ended | Moved::Fault)
 }
 
 impl<'a, D: LinkDesk, G: Gate<D::End>> Worker<'a, D, G> {
@@ -90,7 +112,10 @@ impl<'a, D: LinkDesk, G: Gate<D::End>> Worker<'a, D, G> {
         match self.desk.end_lease(&mut self.pass) {
             Release::Reset => match reset_link(self.alloc, link, &mut self.gate, TURNS) {
                 Ok(link) => self.give_back(link),
-                Err(disposed) => self.lose(logged_in, number, loss_in_reset(disposed.cause, last)),
+                Err(disposed) => {
+                    let why = loss_in_reset(has_ended(disposed, &mut self.gate), last);
+                    self.lose(logged_in, number, why);
+                }
             },
             Release::Dispose | Release::Last | Release::Stranger => {
                 let mut parts = link.lend();
