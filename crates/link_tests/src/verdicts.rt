@@ -9,6 +9,7 @@ use link_run::links::CleanLink;
 use memory_ends::memory_client::MemoryClient;
 use memory_ends::memory_server::ServerAuth;
 use message_view::KeyWord;
+use relay_core::last_note::LastNote;
 use relay_core::relay::{GoneCause, Relay, Returned};
 use relay_laws::Next;
 use server_end::ServerEnd;
@@ -100,6 +101,13 @@ fn counts(alloc: Global, messages: &[&[u8]]) -> Result<Counts, Fail> {
     counts_of(alloc, end, messages)
 }
 
+/// What is kept of what a server that asks for nothing said, by these messages of its client.
+fn last_note(alloc: Global, messages: &[&[u8]]) -> Result<LastNote, Fail> {
+    let end = server(alloc, ServerAuth::Trust, 1_000, None)?;
+    let relay = pumped(alloc, link(alloc, end)?, 1_000, 1, messages)?;
+    Ok(relay.last_note())
+}
+
 /// What becomes of the link, and whether the client was given these bytes last.
 fn fate_of<E: ServerEnd>(
     alloc: Global,
@@ -178,5 +186,19 @@ fn a_skipped_query_is_unanswered(rt: HostRuntime) -> Result<(), Fail> {
     )?;
     assert!(rt; idle == (unanswered, true));
     assert!(rt; left(alloc, &[REFUSED, SYNC], b"Z\0\0\0\x05I")? == (Fate::Used, true));
+    Ok(())
+}
+
+/// What follows an error takes nothing away from what is kept of it.
+#[test]
+fn the_last_error_is_kept(rt: HostRuntime) -> Result<(), Fail> {
+    let cases: [(&[&[u8]], &[u8]); 3] = [
+        (&[SHOW], b""),
+        (&[REFUSED, SYNC], ERROR),
+        (&[REFUSED, SYNC, SHOW], ERROR),
+    ];
+    for (messages, wanted) in cases {
+        assert!(rt; last_note(rt.alloc(), messages)?.message() == wanted);
+    }
     Ok(())
 }
