@@ -7,13 +7,13 @@ use log_lines::notes::{Client, Note};
 use log_writer::limiter::Limiter;
 use log_writer::log::Log;
 use pool_figures::figures::Figures;
-use scram::server_messages::MOST_ROUNDS;
+use pool_serve::secrets::uselessness;
 use std::alloc::Global;
 use std::io;
 use std::rt::Clock;
 use std::sync::{Arc, Mutex, Wait};
 use std::time::Instant;
-use user_file::{Secret, Users};
+use user_file::Users;
 
 /// A log, and the connections that weren't served since it was told of some.
 pub(crate) struct PoolLog<R> {
@@ -45,17 +45,6 @@ impl<R> PoolLog<R> {
             unserved: Mutex::new(Limiter::new()),
             late: Mutex::new(Limiter::new()),
         }
-    }
-}
-
-/// Whether a client that is asked so can log in by this secret.
-fn lets_in(auth_type: AuthType, secret: &Secret) -> bool {
-    match (secret, auth_type) {
-        (_, AuthType::Trust) => true,
-        (Secret::Unusable, _) => false,
-        (Secret::Md5(_), _) => auth_type != AuthType::ScramSha256,
-        (Secret::Scram(verifier), AuthType::Plain) => verifier.rounds <= MOST_ROUNDS,
-        (Secret::Plain(_) | Secret::Scram(_), _) => true,
     }
 }
 
@@ -139,7 +128,7 @@ impl<R: Wait + Clock> PoolLog<R> {
         let mut first: &[u8] = b"";
         for place in 0..users.len() {
             match users.at(place) {
-                Some(user) if !lets_in(auth_type, &user.secret) => {
+                Some(user) if uselessness(auth_type, &user.secret).is_some() => {
                     if count == 0 {
                         first = user.name.as_bytes();
                     }

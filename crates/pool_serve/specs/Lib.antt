@@ -8,3 +8,4 @@ pub mod Endings
 pub mod Again
 pub mod Stays
 pub mod Cancels
+pub mod Secrets

@@ -9,6 +9,7 @@ mod noting;
 mod opening;
 mod relaying;
 mod returning;
+pub mod secrets;
 pub mod serve;
 mod word;
 mod worker;

@@ -2,8 +2,8 @@
 
 use crate::ending::Ending;
 use crate::logged_in::LoggedIn;
+use crate::secrets::uselessness;
 use disposal::Verdict;
-use ini_config::AuthType;
 use link_desk::answers::Cancelled;
 use link_desk::desk::LinkDesk;
 use link_run::links::CleanLink;
@@ -15,11 +15,9 @@ use login_run::{LoginReply, LoginRun};
 use message_view::Refusal;
 use relay_core::last_note::LastNote;
 use relay_core::relay::GoneCause;
-use scram::server_messages::MOST_ROUNDS;
 use server_end::{ClientEnd, ServerEnd};
 use start_keys::StartKey;
 use std::sync::Arc;
-use user_file::Secret;
 
 /// A client of this key, where it is known, as the log names it.
 pub(crate) fn named<'a>(
@@ -57,13 +55,8 @@ fn login_failure<C: ClientEnd>(run: &LoginRun<C>) -> LoginFailure {
         return LoginFailure::NoUser;
     };
     let settings = run.login().settings();
-    match (&user.secret, settings.auth_type()) {
-        (Secret::Unusable, _) => return LoginFailure::NoSecret,
-        (Secret::Md5(_), AuthType::ScramSha256) => return LoginFailure::Digest,
-        (Secret::Scram(verifier), AuthType::Plain) if verifier.rounds > MOST_ROUNDS => {
-            return LoginFailure::Rounds;
-        }
-        _ => {}
+    if let Some(failure) = uselessness(settings.auth_type(), &user.secret) {
+        return failure;
     }
     if key.row.is(b"pgbouncer") & !(settings.is_admin(name) | settings.may_look(name)) {
         return LoginFailure::NoAdmin;
