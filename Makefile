@@ -169,7 +169,7 @@ dist: build/pgsess
 
 # all run; the status says whether a bound was missed
 bench: build/pgsess $(trials) $(scram_parts)
-	@status=0; bench/replay.sh build/pgsess || status=$$?; bench/tables.sh build/pgsess || status=$$?; bench/relay.sh $(trials) || status=$$?; bench/book.sh $(trials) || status=$$?; scripts/calls.py build/pgsess || status=$$?; bench/derivations.py build/pgsess || status=$$?; bench/scram.py build/pgsess || status=$$?; bench/pool.sh build/pgsess || status=$$?; scripts/scram.py $(scram_parts) --whole || status=$$?; exit $$status
+	@status=0; bench/replay.sh build/pgsess || status=$$?; bench/tables.sh build/pgsess || status=$$?; bench/relay.sh $(trials) || status=$$?; bench/book.sh $(trials) || status=$$?; scripts/calls.py build/pgsess || status=$$?; bench/derivations.py build/pgsess || status=$$?; bench/scram.py build/pgsess || status=$$?; bench/restart.py build/pgsess || status=$$?; bench/pool.sh build/pgsess || status=$$?; scripts/scram.py $(scram_parts) --whole || status=$$?; exit $$status
 
 clean:
 	rm -rf build crates/*/out

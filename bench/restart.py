@@ -1,0 +1,107 @@
+#!/usr/bin/env python3
+"""What clients meet whose server is restarted under them without a word, behind `pgsess serve` and behind PgBouncer: how many fail while it is
+away and once it is back, how long those wait that fail, and the slowest that is served. And whether what a client asks for in vain is its own
+affair.
+
+Usage: restart.py PROGRAM [ROUNDS]
+
+The server is stopped by `pg_ctl stop -m fast` while four clients connect one after another, each for one query, and is started three seconds
+later. The poolers are tried in turn, over a server of their own.
+"""
+import collections
+import os
+import pathlib
+import signal
+import statistics
+import sys
+import threading
+import time
+
+sys.path.insert(0, str(pathlib.Path(__file__).resolve().parent.parent / "scripts"))
+from cluster import Cluster, Place, Pooler, need, set_up, until
+from wire import Client, Cut, Refused
+
+LOOPS, APART = 4, 0.05
+BEFORE, AWAY, BEHIND = 3, 3, 16
+
+Visit = collections.namedtuple("Visit", "began ended told")
+
+
+def told(port, user="ann", **parameters):
+    """What a client is told that asks for one row."""
+    try:
+        client = Client(port, user, **parameters)
+        client.ask("SELECT 1")
+        client.leave()
+        return "served"
+    except Refused as error:
+        return f"{error.code} {error.text}"
+    except (Cut, OSError) as error:
+        return type(error).__name__
+
+
+def visits(port, until_when, found):
+    while time.monotonic() < until_when:
+        began = time.monotonic()
+        what = told(port)
+        found.append(Visit(began, time.monotonic(), what))
+        time.sleep(APART)
+
+
+def restarted(cluster, port):
+    """All visits, and when the server was back."""
+    found, end = [], time.monotonic() + BEFORE + AWAY + BEHIND
+    loops = [threading.Thread(target=visits, args=(port, end, found)) for _ in range(LOOPS)]
+    for it in loops:
+        it.start()
+    time.sleep(BEFORE)
+    cluster.stop("fast")
+    time.sleep(AWAY)
+    cluster.start()
+    back = time.monotonic()
+    for it in loops:
+        it.join()
+    return found, back
+
+
+def behind_another(port):
+    """How many of four clients fail that come behind one who asks for replication."""
+    told(port, replication="database")
+    return sum(told(port) != "served" for _ in range(4))
+
+
+def measured(program, kind):
+    place = Place()
+    try:
+        cluster = Cluster(place)
+        pooler = Pooler(place, cluster, program, kind=kind)
+        until(lambda: told(pooler.port) == "served", 10)
+        print(f"{kind}: {behind_another(pooler.port)} of 4 clients fail behind one who asks for replication", flush=True)
+        found, back = restarted(cluster, pooler.port)
+        failed = [it for it in found if it.told != "served"]
+        late = [it for it in failed if it.ended > back]
+        wait = statistics.median(it.ended - it.began for it in failed) if failed else 0
+        print(f"{kind}: {len(found) - len(failed)} served, the slowest in {max(it.ended - it.began for it in found if it.told == 'served'):.1f} s; "
+              f"{len(failed)} failed, half of them within {wait:.3f} s; {len(late)} once the server was back"
+              + (f", the last {max(it.ended for it in late) - back:.1f} s after that" if late else ""), flush=True)
+        pooler.stop()
+        cluster.stop()
+    finally:
+        for pid in place.processes():
+            os.kill(pid, signal.SIGKILL)
+        until(lambda: not place.processes())
+        place.clear()
+
+
+def main():
+    if len(sys.argv) not in (2, 3):
+        sys.exit(__doc__)
+    set_up()
+    need(["pgbouncer"], ["pgbouncer"])
+    for _ in range(int(sys.argv[2]) if len(sys.argv) > 2 else 1):
+        for kind in ("pgsess", "pgbouncer"):
+            measured(os.path.abspath(sys.argv[1]), kind)
+
+
+if __name__ == "__main__":
+    main()
