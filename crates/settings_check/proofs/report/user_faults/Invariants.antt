@@ -1,0 +1,9 @@
+use Rattle.std.proofs.Common.{◌≡◌, ◌++◌, drop}
+use Rattle.std.specs.Prelude.{map}
+use Rattle.settings_check.specs.Users.{found}
+use Rattle.settings_check.specs.Report as spec
+use Rattle.settings_check.proofs.report.user_faults.Given as goal
+
+abbrev pub invariant-loop-faulty : goal.invariant-loop-faulty
+invariant-loop-faulty l =
+    l.told.items ++ map (spec.user_line l.file) (map found (drop l.faulty-index l.faulty-items)) ≡ spec.user_faults l.file l.text
