@@ -1,5 +1,5 @@
 -- What is said of a settings file without a fault: what is read over, and where it differs from PgBouncer.
-use Rattle.std.specs.Prelude.{List, [], ◌∷◌, ◌++◌, ◌||◌, Option, Some, None, is_none, if◌then◌else◌, bytes_eq, codes}
+use Rattle.std.specs.Prelude.{Bool, List, [], ◌∷◌, ◌++◌, ◌||◌, Option, Some, None, is_none, if◌then◌else◌, bytes_eq, codes}
 use Rattle.std.specs.List.{flat_map}
 use Rattle.text_lines.specs.Files.{Line}
 use Rattle.log_lines.specs.Shown.{Text}
@@ -20,8 +20,8 @@ tls_notice (Some value) =
     if bytes_eq value (codes "allow") || bytes_eq value (codes "prefer") then (codes "no TLS to servers (server_tls_sslmode = " ++ value ++ codes ")") ∷ [] else []
 
 -- what the pool's start says
-abbrev pub notices : List Line → List Text
-notices lines = over_notice (read_over lines) ++ tls_notice (value_given (codes "server_tls_sslmode") lines)
+abbrev pub notices : Bool → List Line → List Text
+notices uses_auth_file lines = over_notice (read_over uses_auth_file lines) ++ tls_notice (value_given (codes "server_tls_sslmode") lines)
 
 -- keys whose default isn't PgBouncer's, and what that comes to
 abbrev pub unlike : List (Text × Text)

@@ -1,5 +1,5 @@
 -- What a settings file says in [pgbouncer], and which of its keys are read over (PgBouncer manual, "Generic settings" and after).
-use Rattle.std.specs.Prelude.{List, [], ◌∷◌, ◌++◌, Option, Some, None, if◌then◌else◌, filter, fold, map, option_map, bytes_eq}
+use Rattle.std.specs.Prelude.{Bool, not, ◌&&◌, List, [], ◌∷◌, ◌++◌, Option, Some, None, if◌then◌else◌, filter, fold, map, option_map, bytes_eq, codes}
 use Rattle.std.specs.List.{find, list_any}
 use Rattle.neutral_keys.specs.ReadOver.{Text, is_read_over}
 use Rattle.ini_config.specs.Lines.{Said, Opens, Gives, said}
@@ -39,6 +39,10 @@ value_given key lines = option_map (λ o. o.1) (find (λ o. bytes_eq o.0 key) (o
 abbrev pub with_name : List Text → Text → List Text
 with_name names name = if list_any (λ n. bytes_eq n name) names then names else names ++ name ∷ []
 
--- the keys that are read over, each once
-abbrev pub read_over : List Text → List Text
-read_over lines = fold with_name [] (map (λ o. o.0) (filter (λ o. is_read_over o.0 o.1) (options lines)))
+-- a key that the settings read over; `auth_file` isn't where it names the user file
+abbrev pub is_over : Bool → Text → Text → Bool
+is_over uses_auth_file name value = is_read_over name value && not (uses_auth_file && bytes_eq name (codes "auth_file"))
+
+-- their names, each once
+abbrev pub read_over : Bool → List Text → List Text
+read_over uses_auth_file lines = fold with_name [] (map (λ o. o.0) (filter (λ o. is_over uses_auth_file o.0 o.1) (options lines)))

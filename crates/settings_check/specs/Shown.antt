@@ -1,10 +1,10 @@
 -- What a report shows of a line: nothing of a password.
-use Rattle.std.specs.Prelude.{ℕ, ◌+◌, Bool, List, [], ◌∷◌, ◌++◌, if◌then◌else◌, nat_lt, length, take, codes}
+use Rattle.std.specs.Prelude.{ℕ, ◌+◌, Bool, [], ◌∷◌, ◌++◌, if◌then◌else◌, nat_lt, length, take, codes}
 use Rattle.std.specs.Str.{str_eq_ignore_ascii_case}
 use Rattle.log_lines.specs.Shown.{Text, shown_text}
-use Rattle.ini_config.specs.Lines.{Said, Nothing, Opens, OpensUnknown, Gives, Unreadable}
+use Rattle.ini_config.specs.Lines.{Said, Gives}
 use Rattle.ini_config.specs.declared.lines.Section.{Section}
-use Rattle.ini_config.specs.declared.lines.Section.TheVariants.{Preamble, Databases, Pgbouncer, Users, Peers}
+use Rattle.ini_config.specs.declared.lines.Section.TheVariants.{Databases, Pgbouncer}
 
 -- the case of ASCII letters doesn't count
 abbrev pub begins_password : Text → Bool

@@ -1,15 +1,15 @@
 -- Why a line of a settings file is faulty, in words.
-use Rattle.std.specs.Prelude.{ℕ, Bool, true, not, List, [], ◌∷◌, ◌++◌, ◌==◌, ◌&&◌, ◌||◌, if◌then◌else◌, nat_eq, length, Option, Some, None, is_some, bytes_eq, codes}
+use Rattle.std.specs.Prelude.{Bool, true, not, [], ◌++◌, ◌==◌, ◌&&◌, ◌||◌, if◌then◌else◌, nat_eq, length, Option, Some, None, is_some, bytes_eq, codes}
 use Rattle.std.specs.List.{find, list_any, starts_with}
 use Rattle.log_lines.specs.Shown.{Text, shown_text}
 use Rattle.neutral_keys.specs.ReadOver.{is_read_over}
 use Rattle.ini_config.specs.DatabaseValues.{is_console, nothing_said, with_item}
-use Rattle.ini_config.specs.Lines.{Said, Nothing, Opens, OpensUnknown, Gives, Unreadable, said}
+use Rattle.ini_config.specs.Lines.{Said, OpensUnknown, Gives, said}
 use Rattle.ini_config.specs.Values.{parts, split_at_first}
 use Rattle.ini_config.specs.declared.faults.IniCause.{IniCause}
 use Rattle.ini_config.specs.declared.faults.IniCause.TheVariants as cause
 use Rattle.ini_config.specs.declared.lines.Section.{Section}
-use Rattle.ini_config.specs.declared.lines.Section.TheVariants.{Preamble, Databases, Pgbouncer, Users, Peers}
+use Rattle.ini_config.specs.declared.lines.Section.TheVariants.{Databases}
 
 -- ---- keys of [pgbouncer]
 

@@ -81,13 +81,13 @@ fn add_tls(notices: &mut Vec<Text>, alloc: Global, mode: Option<&[u8]>) -> Resul
     Ok(())
 }
 
-/// What the start of the pool says of a file: which keys are read over, and that there is no TLS to servers where the file would have
-/// it. The only error is out of memory.
-pub fn notices(alloc: Global, text: &[u8]) -> Result<Vec<Text>, AllocError>
-    ensures { IfOk result (λ v. v.items ≡ spec.notices (lines_of_file text.now)) }
+/// What the start of the pool says of a file: which keys are read over (`auth_file` isn't where it names the user file), and that there
+/// is no TLS to servers where the file would have it. The only error is out of memory.
+pub fn notices(alloc: Global, uses_auth_file: bool, text: &[u8]) -> Result<Vec<Text>, AllocError>
+    ensures { IfOk result (λ v. v.items ≡ spec.notices uses_auth_file (lines_of_file text.now)) }
 {
     let mut notices = Vec::new(alloc);
-    let names = read_over(alloc, text)?;
+    let names = read_over(alloc, uses_auth_file, text)?;
     add_over(&mut notices, alloc, names.as_slice())?;
     add_tls(
         &mut notices,

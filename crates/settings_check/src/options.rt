@@ -65,16 +65,24 @@ fn add_once(names: &mut Vec<Text>, alloc: Global, name: &[u8]) -> Result<(), All
     Ok(())
 }
 
-/// The keys of `[pgbouncer]` that the settings read over, in the order of the file, each once. The only error is out of memory.
-pub fn read_over(alloc: Global, text: &[u8]) -> Result<Vec<Text>, AllocError>
-    ensures { IfOk result (λ v. v.items ≡ spec.read_over (lines_of_file text.now)) }
+/// Whether a key is read over at this value. `auth_file` isn't where it names the user file.
+fn is_over(uses_auth_file: bool, name: &[u8], value: &[u8]) -> bool
+    ensures { result ≡ spec.is_over uses_auth_file name.now value.now }
+{
+    is_read_over(name, value) && !(uses_auth_file && name == b"auth_file".as_slice())
+}
+
+/// The keys of `[pgbouncer]` that the settings read over, in the order of the file, each once; without `auth_file` where it names the
+/// user file. The only error is out of memory.
+pub fn read_over(alloc: Global, uses_auth_file: bool, text: &[u8]) -> Result<Vec<Text>, AllocError>
+    ensures { IfOk result (λ v. v.items ≡ spec.read_over uses_auth_file (lines_of_file text.now)) }
 {
     let mut names = Vec::new(alloc);
     let mut section = Section::Preamble;
     for raw in text.lines() {
         let line = read_line(trimmed(raw));
         if let Some((name, value)) = option_in(section, line) {
-            if is_read_over(name, value) {
+            if is_over(uses_auth_file, name, value) {
                 add_once(&mut names, alloc, name)?;
             }
         }

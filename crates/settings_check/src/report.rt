@@ -1,5 +1,5 @@
 //! The lines of a report on the files of a pool.
-ghost use Rattle.std.specs.Prelude.{◌≡◌, ◌++◌, IfOk, OnOk, decimal, map};
+ghost use Rattle.std.specs.Prelude.{◌≡◌, ◌∷◌, [], ◌++◌, ◌==◌, not, length, IfOk, OnOk, decimal, map};
 ghost use Rattle.log_lines.specs.Shown as log;
 ghost use Rattle.settings_check.specs.Faults as faults;
 ghost use Rattle.settings_check.specs.Report as spec;
@@ -16,6 +16,33 @@ use itoa::Buffer;
 use std::alloc::{AllocError, Global};
 use text_lines::Text;
 use user_file::UserCause;
+
+/// The user file of a report.
+#[derive(Clone, Copy)]
+pub enum UserFile<'a> {
+    /// Its path and its text.
+    Read(&'a [u8], &'a [u8]),
+    /// The path of one that can't be read.
+    Unread(&'a [u8]),
+    /// Nobody names one.
+    Unnamed,
+}
+
+/// A report.
+pub struct Report {
+    pub lines: Vec<Text>,
+    /// Whether there is a fault among them.
+    pub is_faulty: bool,
+}
+
+impl Drop for Report {
+    fn drop(self) {
+        let Report {
+            lines: _,
+            is_faulty: _,
+        } = self;
+    }
+}
 
 /// The file and the line.
 fn put_place(line: &mut Vec<u8>, file: &[u8], number: usize) -> Result<(), AllocError>
@@ -68,7 +95,7 @@ fn user_line(alloc: Global, file: &[u8], faulty: &FaultyUser) -> Result<Text, Al
 }
 
 /// A line for each fault of the settings in this file, in their order. The only error is out of memory.
-pub fn ini_faults(alloc: Global, file: &[u8], text: &[u8]) -> Result<Vec<Text>, AllocError>
+fn ini_faults(alloc: Global, file: &[u8], text: &[u8]) -> Result<Vec<Text>, AllocError>
     ensures { IfOk result (λ v. v.items ≡ spec.ini_faults file.now text.now) }
 {
     let mut told = Vec::new(alloc);
@@ -79,7 +106,7 @@ pub fn ini_faults(alloc: Global, file: &[u8], text: &[u8]) -> Result<Vec<Text>, 
 }
 
 /// A line for each fault of the users in this file, in their order. The only error is out of memory.
-pub fn user_faults(alloc: Global, file: &[u8], text: &[u8]) -> Result<Vec<Text>, AllocError>
+fn user_faults(alloc: Global, file: &[u8], text: &[u8]) -> Result<Vec<Text>, AllocError>
     ensures { IfOk result (λ v. v.items ≡ spec.user_faults file.now text.now) }
 {
     let mut told = Vec::new(alloc);
@@ -116,24 +143,70 @@ fn add_remarks(
     Ok(())
 }
 
-/// What is read over of the settings in this file, and what differs from PgBouncer. The only error is out of memory.
-pub fn remarks(alloc: Global, file: &[u8], text: &[u8]) -> Result<Vec<Text>, AllocError>
-    ensures { IfOk result (λ v. v.items ≡ spec.remarks file.now text.now) }
+/// What is read over of the settings in this file, and what differs from PgBouncer.
+fn remarks(
+    alloc: Global,
+    file: &[u8],
+    text: &[u8],
+    uses_auth_file: bool,
+) -> Result<Vec<Text>, AllocError>
+    ensures { IfOk result (λ v. v.items ≡ spec.remarks uses_auth_file file.now text.now) }
 {
     let mut told = Vec::new(alloc);
-    add_remarks(
-        &mut told,
-        alloc,
-        file,
-        b": ",
-        notices(alloc, text)?.as_slice(),
-    )?;
+    let notices = notices(alloc, uses_auth_file, text)?;
+    add_remarks(&mut told, alloc, file, b": ", notices.as_slice())?;
+    let differences = differences(alloc, text)?;
     add_remarks(
         &mut told,
         alloc,
         file,
         b": unlike PgBouncer: ",
-        differences(alloc, text)?.as_slice(),
+        differences.as_slice(),
     )?;
     Ok(told)
+}
+
+/// One line.
+fn only(alloc: Global, line: Text) -> Result<Vec<Text>, AllocError>
+    ensures { IfOk result (λ v. v.items ≡ line ∷ []) }
+{
+    let mut told = Vec::new(alloc);
+    told.push(line)?;
+    Ok(told)
+}
+
+/// A line for each fault of the users.
+fn faults_of_users(alloc: Global, users: UserFile<'_>) -> Result<Vec<Text>, AllocError>
+    ensures { IfOk result (λ v. v.items ≡ spec.faults_of_users users.entry) }
+{
+    match users {
+        UserFile::Read(path, text) => user_faults(alloc, path, text),
+        UserFile::Unread(path) => {
+            let unread = remark(alloc, path, b": ", b"the user file can't be read")?;
+            only(alloc, unread)
+        }
+        UserFile::Unnamed => {
+            let words = b"no user file: neither --users nor auth_file names one";
+            only(alloc, Text::copy(alloc, words)?)
+        }
+    }
+}
+
+/// The report on the settings in this file and on the users: each fault, in the order of the lines, then what is read over
+/// (`auth_file` isn't where it names the user file), then what differs from PgBouncer. The only error is out of memory.
+pub fn report_on(
+    alloc: Global,
+    file: &[u8],
+    text: &[u8],
+    users: UserFile<'_>,
+    uses_auth_file: bool,
+) -> Result<Report, AllocError>
+    ensures lines { IfOk result (λ r. r.lines.items ≡ spec.report file.now text.now users.entry uses_auth_file) }
+    ensures faulty { IfOk result (λ r. r.is_faulty ≡ not (length (spec.all_faults file.now text.now users.entry) == 0)) }
+{
+    let mut lines = ini_faults(alloc, file, text)?;
+    lines.append(&mut faults_of_users(alloc, users)?)?;
+    let is_faulty = !lines.is_empty();
+    lines.append(&mut remarks(alloc, file, text, uses_auth_file)?)?;
+    Ok(Report { lines, is_faulty })
 }

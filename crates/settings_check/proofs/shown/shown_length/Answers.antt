@@ -1,4 +1,4 @@
-use Rattle.std.proofs.Common.{rules, ◌≡◌, ◌<◌, ◌+◌, ap, ◌∙◌, sym, arith, length, drop, true, false, [], refl}
+use Rattle.std.proofs.Common.{rules, ◌≡◌, ap, ◌∙◌, sym, arith, drop, true, false}
 use Rattle.std.proofs.lemmas.List.{drop_all}
 use Rattle.settings_check.specs.Shown.{begins_password, shown_length}
 use Rattle.settings_check.proofs.Hiding.{stops, goes_on}
