@@ -2,11 +2,18 @@
 use Rattle.std.specs.Prelude.{ℕ, Result, Ok, Err}
 use Rattle.pool_app.specs.Faults.{status}
 use Rattle.pool_app.specs.declared.fault.AppFault.{AppFault}
+use Rattle.pgsess.specs.declared.Done.{Done}
+use Rattle.pgsess.specs.declared.Done.TheVariants.{Well, Faulty}
 use Rattle.std.specs.declared.io.ErrorKind.{ErrorKind}
 use Rattle.std.specs.declared.io.ErrorKind.TheVariants.{InvalidData}
 
-abbrev pub status_after : Result (Unit {0}) AppFault → ℕ
-status_after (Ok done) = 0
+-- a report that has a fault ends with 1
+abbrev pub status_of : Done → ℕ
+status_of Well = 0
+status_of Faulty = 1
+
+abbrev pub status_after : Result Done AppFault → ℕ
+status_after (Ok done) = status_of done
 status_after (Err fault) = status fault
 
 -- where the words of the command line can't be had: one isn't UTF-8, or memory was refused

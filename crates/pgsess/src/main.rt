@@ -21,6 +21,7 @@ use pool_run::runtime::PoolRuntime;
 use replay_run::replay::replay;
 use session_catalogue::Catalogue;
 use std::alloc::{AllocError, Global};
+use std::io::Write;
 use std::net::Net;
 use std::process::ExitCode;
 use std::rt::{Clock, Files};
@@ -29,6 +30,7 @@ use std::thread::Threads;
 use std::{env, io, net};
 use stub_server::server::stub_on;
 use tcp_listen::binding::listen_at_name;
+use text_lines::Text;
 use user_file::UserTable;
 
 /// The files that the command line names, which are read again where the console is told so.
@@ -37,7 +39,8 @@ struct NamedFiles {
     rt: HostRuntime,
     alloc: Global,
     ini: String,
-    users: String,
+    /// None: the settings name it.
+    users: Option<String>,
     /// That of the Unix socket, where there is one.
     socket: Option<SocketFile>,
 }
@@ -47,24 +50,34 @@ fn named_files(
     rt: HostRuntime,
     alloc: Global,
     ini: &str,
-    users: &str,
+    users: Option<&str>,
 ) -> Result<NamedFiles, AllocError> {
+    let users = match users {
+        Some(path) => Some(String::from_str(alloc, path)?),
+        None => None,
+    };
     Ok(NamedFiles {
         rt,
         alloc,
         ini: String::from_str(alloc, ini)?,
-        users: String::from_str(alloc, users)?,
+        users,
         socket: None,
     })
 }
 
 impl Source for NamedFiles {
     fn read(&self) -> Result<(Settings, UserTable), Unread> {
-        let fault = match files::read_again(&self.rt, self.alloc, &self.ini, &self.users) {
+        let users = match &self.users {
+            Some(path) => Some(path.as_str()),
+            None => None,
+        };
+        let fault = match files::read_again(&self.rt, self.alloc, &self.ini, users) {
             Ok(read) => return Ok(read),
             Err(fault) => fault,
         };
-        match fault::again_text(self.alloc, &fault, &self.ini, &self.users) {
+        // a fault of its lines tells the setting that names the file
+        let users = users.unwrap_or("auth_file");
+        match fault::again_text(self.alloc, &fault, &self.ini, users) {
             Ok(text) => Err(Unread::Fault(text)),
             Err(_) => Err(Unread::Memory),
         }
@@ -77,6 +90,48 @@ impl Source for NamedFiles {
     }
 }
 
+/// What a job that had no fault of its own came to.
+#[derive(Clone, Copy)]
+enum Done {
+    Well,
+    /// The report tells a fault.
+    Faulty,
+}
+
+/// Says what is to be said of the settings, a line each.
+fn say<W: Write>(log: &mut W, notices: &[Text]) -> io::Result<()> {
+    for notice in notices {
+        log.write_all(b"pgsess: ")?;
+        log.write_all(notice.as_bytes())?;
+        log.write_all(b"\n")?;
+    }
+    Ok(())
+}
+
+/// Prints the lines of a report.
+fn print_lines<W: Write>(output: &mut W, lines: &[Text]) -> io::Result<()> {
+    for line in lines {
+        output.write_all(line.as_bytes())?;
+        output.write_all(b"\n")?;
+    }
+    output.flush()
+}
+
+/// Prints the report on these files.
+fn check<'a, R: Files + Print>(
+    rt: &R,
+    alloc: Global,
+    ini: &'a str,
+    users: Option<&'a str>,
+) -> Result<Done, AppFault<'a>> {
+    let report = files::check(rt, alloc, ini, users)?;
+    print_lines(&mut io::writer(rt), report.lines.as_slice()).map_err(|_| AppFault::Stdout)?;
+    if report.is_faulty {
+        return Ok(Done::Faulty);
+    }
+    Ok(Done::Well)
+}
+
 /// Serves clients as the settings say, from when its line tells where, until the console ends it. Its log goes to standard error.
 fn serve<'a, R: Print + PoolRuntime + 'static>(
     rt: R,
@@ -84,7 +139,7 @@ fn serve<'a, R: Print + PoolRuntime + 'static>(
     alloc: Global,
     inputs: Inputs,
     source: NamedFiles,
-) -> Result<(), AppFault<'a>>
+) -> Result<Done, AppFault<'a>>
     requires { AreWithinBounds inputs.settings }
 {
     let port = inputs.settings.listen_port();
@@ -103,12 +158,14 @@ fn serve<'a, R: Print + PoolRuntime + 'static>(
         settings,
         users,
         seed,
+        notices,
     } = inputs;
-    let log = host.stderr();
+    let mut log = host.stderr();
+    let _ = say(&mut log, notices.as_slice());
     match serve_on(
         rt, alloc, listening, settings, users, source, log, seed, None,
     ) {
-        Ok(Some(_)) => Ok(()),
+        Ok(Some(_)) => Ok(Done::Well),
         Ok(None) => Err(AppFault::Totals),
         Err(_) => Err(AppFault::Memory),
     }
@@ -127,12 +184,12 @@ fn stub<
         + Copy
         + Send
         + 'static,
->(rt: R, alloc: Global, port: u16, catalogue: Catalogue) -> Result<(), AppFault<'a>> {
+>(rt: R, alloc: Global, port: u16, catalogue: Catalogue) -> Result<Done, AppFault<'a>> {
     let Ok(listener) = listen_at_name(&rt, alloc, HERE, port) else {
         return Err(AppFault::Port(port));
     };
     match stub_on(rt, alloc, listener, catalogue, None) {
-        Ok(()) => Ok(()),
+        Ok(()) => Ok(Done::Well),
         Err(_) => Err(AppFault::Memory),
     }
 }
@@ -151,9 +208,12 @@ fn run<
         + Send
         + Sync
         + 'static,
->(rt: R, host: HostRuntime, alloc: Global, job: Job<'a>) -> Result<(), AppFault<'a>> {
+>(rt: R, host: HostRuntime, alloc: Global, job: Job<'a>) -> Result<Done, AppFault<'a>> {
     match job {
-        Job::Replay => replay(alloc, rt.reader(), &mut io::writer(&rt)),
+        Job::Replay => {
+            replay(alloc, rt.reader(), &mut io::writer(&rt))?;
+            Ok(Done::Well)
+        }
         Job::Serve {
             ini,
             users,
@@ -163,6 +223,7 @@ fn run<
             let source = named_files(host, alloc, ini, users).map_err(|_| AppFault::Memory)?;
             serve(rt, host, alloc, inputs, source)
         }
+        Job::Check { ini, users } => check(&rt, alloc, ini, users),
         Job::Stub { port, catalogue } => {
             let catalogue = files::read_catalogue(&rt, alloc, catalogue)?;
             stub(rt, alloc, port, catalogue)
@@ -170,12 +231,14 @@ fn run<
     }
 }
 
-/// The status that the program ends with after its job: 0 where nothing failed, else that of the fault.
-fn status_after(done: &Result<(), AppFault<'_>>) -> u8
+/// The status that the program ends with after its job: 0 where nothing failed, 1 after a report that tells a fault, else that of the
+/// fault.
+fn status_after(done: &Result<Done, AppFault<'_>>) -> u8
     ensures { result ≡ spec.status_after done.now }
 {
     match done {
-        Ok(()) => 0,
+        Ok(Done::Well) => 0,
+        Ok(Done::Faulty) => 1,
         Err(fault) => fault::status(fault),
     }
 }

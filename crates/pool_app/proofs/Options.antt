@@ -1,6 +1,6 @@
 -- What the matches of a subcommand have of its options.
-use Rattle.std.proofs.Common.{◌≡◌, ◌⊎◌, ℕ, refl, sym, subst, ◌∙◌, List, Option, Some, None, Ok}
-use Rattle.std.specs.Prelude.{codes, Result, Err}
+use Rattle.std.proofs.Common.{◌≡◌, ◌⊎◌, ℕ, refl, sym, subst, ap, arith, ◌∙◌, List, Option, Some, None, Ok}
+use Rattle.std.specs.Prelude.{codes, slice_index, Result, Err}
 use Rattle.clap.specs.Words.{Row, Text, first_of, first_value, one_of, ReadsOne, rows_of}
 use Rattle.clap.specs.declared.parser.matches.Found.{Found}
 use Rattle.clap.proofs.WalkLemmas.{first_value-rows}
@@ -23,10 +23,16 @@ unread_text gives means o r value is t has =
     let read = subst (ReadsOne gives t) is (value t has) in
     means t read.0 read.1
 
--- `serve` and `stub` without one of their options are no job
-pub serve_without : (options : List Row) → Lacks (codes "ini") options ⊎ Lacks (codes "users") options → IsNoJob (codes "serve") options
-serve_without options lacks = ((λ e. cc), (λ e. lacks), (λ e. absurd (cc)))
+abbrev first_byte : Text → ℕ
+first_byte text = slice_index text 0
+
+-- `serve`, `check` and `stub` without one of their options are no job
+pub serve_without : (options : List Row) → Lacks (codes "ini") options → IsNoJob (codes "serve") options
+serve_without options lacks = ((λ e. cc), (λ e. lacks), (λ e. absurd (omega (arith, ap first_byte e))), (λ e. absurd (cc)))
+
+pub check_without : (options : List Row) → Lacks (codes "ini") options → IsNoJob (codes "check") options
+check_without options lacks = ((λ e. cc), (λ e. absurd (omega (arith, ap first_byte e))), (λ e. lacks), (λ e. absurd (cc)))
 
 pub stub_without : (options : List Row) → Lacks (codes "catalogue") options ⊎ ((t : Text) → one_of (codes "port") options ≡ Some t → IsNoPort t)
     → IsNoJob (codes "stub") options
-stub_without options lacks = ((λ e. cc), (λ e. absurd (cc)), (λ e. lacks))
+stub_without options lacks = ((λ e. cc), (λ e. absurd (cc)), (λ e. absurd (cc)), (λ e. lacks))

@@ -20,3 +20,11 @@ stub_taken = refl
 pub seedless_taken : takes pgsess (codes "pgsess" ∷ codes "serve" ∷ codes "--ini" ∷ codes "a" ∷ codes "--users" ∷ codes "b" ∷ []) ≡ true
 unfolding walked walk_passes
 seedless_taken = refl
+
+pub userless_taken : takes pgsess (codes "pgsess" ∷ codes "serve" ∷ codes "--ini" ∷ codes "a" ∷ []) ≡ true
+unfolding walked walk_passes
+userless_taken = refl
+
+pub check_taken : takes pgsess (codes "pgsess" ∷ codes "check" ∷ codes "--ini" ∷ codes "a" ∷ codes "--users" ∷ codes "b" ∷ []) ≡ true
+unfolding walked walk_passes
+check_taken = refl

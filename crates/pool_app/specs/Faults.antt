@@ -1,30 +1,12 @@
 -- The line that tells a fault, and the status of the program after it.
-use Rattle.std.specs.Prelude.{ℕ, List, ◌++◌, codes, decimal}
-use Rattle.ini_config.specs.declared.faults.IniCause.{IniCause}
-use Rattle.ini_config.specs.declared.faults.IniCause.TheVariants as ini
-use Rattle.user_file.specs.declared.faults.UserCause.{UserCause}
-use Rattle.user_file.specs.declared.faults.UserCause.TheVariants as users
+use Rattle.std.specs.Prelude.{ℕ, List, ◌++◌, codes, decimal, string_bytes}
+use Rattle.settings_check.specs.Codes.{ini_code, users_code}
 use Rattle.session_catalogue.specs.CatalogueCodes.{code_of}
 use Rattle.pool_app.specs.declared.fault.AppFault.{AppFault}
-use Rattle.pool_app.specs.declared.fault.AppFault.TheVariants.{File, Ini, Users, Catalogue, Stdin, Stdout, Memory, Port, Totals}
+use Rattle.pool_app.specs.declared.fault.AppFault.TheVariants.{File, Ini, Users, Catalogue, Stdin, Stdout, Memory, Port, Totals, AuthFile, NoUserFile}
 
 abbrev pub Text : Type 0
 Text = List ℕ
-
-abbrev pub ini_code : IniCause → Text
-ini_code ini.UnknownSection = codes "C1"
-ini_code ini.UnknownKey = codes "C2"
-ini_code ini.BadValue = codes "C3"
-ini_code ini.KeyTwice = codes "C4"
-ini_code ini.PoolMode = codes "C5"
-ini_code ini.ResetQuery = codes "C6"
-ini_code ini.NotALine = codes "C7"
-ini_code ini.Memory = codes "C8"
-
-abbrev pub users_code : UserCause → Text
-users_code users.BadQuoting = codes "U1"
-users_code users.NameTwice = codes "U2"
-users_code users.Memory = codes "U3"
 
 abbrev pub joined : Text → Text → Text
 joined first second = first ++ second
@@ -42,6 +24,8 @@ fault_line Stdout = codes "pgsess: stdout"
 fault_line Memory = codes "pgsess: memory"
 fault_line (Port port) = codes "pgsess: port " ++ decimal port
 fault_line Totals = codes "pgsess: totals"
+fault_line (AuthFile path) = codes "pgsess: file " ++ string_bytes path
+fault_line NoUserFile = codes "pgsess: no user file"
 
 -- ---- what the log is told of the files that are read again
 
@@ -52,10 +36,13 @@ abbrev pub again_text : Text → Text → AppFault → Text
 again_text ini users (File path) = codes "file " ++ path.now
 again_text ini users (Ini fault) = fault_in (ini_code fault.cause) fault.line ini
 again_text ini users (Users fault) = fault_in (users_code fault.cause) fault.line users
+again_text ini users (AuthFile path) = codes "file " ++ string_bytes path
+again_text ini users NoUserFile = codes "no user file"
 again_text ini users other = codes "memory"
 
 -- ---- the status
 
 abbrev pub status : AppFault → ℕ
 status (Port port) = 3
+status NoUserFile = 2
 status other = 1

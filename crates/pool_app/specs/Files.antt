@@ -7,10 +7,11 @@ use Rattle.session_catalogue.specs.Catalogues as catalogue
 use Rattle.session_values.specs.State.{CatalogueOf}
 use Rattle.user_file.specs.Users as users
 use Rattle.user_file.specs.declared.user_table.UserRow.{UserRow}
+use Rattle.settings_check.specs.Options.{value_given}
 use Rattle.pool_app.specs.declared.files.ReadFault.{ReadFault}
 use Rattle.pool_app.specs.declared.files.ReadFault.TheVariants.{TooLong, Io}
 use Rattle.pool_app.specs.declared.fault.AppFault.{AppFault}
-use Rattle.pool_app.specs.declared.fault.AppFault.TheVariants.{Catalogue, File, Ini, Memory, Users}
+use Rattle.pool_app.specs.declared.fault.AppFault.TheVariants.{AuthFile, Catalogue, File, Ini, Memory, NoUserFile, Users}
 
 -- the settings that the lines spell, or their fault
 abbrev pub IsSettingsOf : List (List ℕ) → Result Settings AppFault → Type 0
@@ -53,12 +54,37 @@ abbrev pub IsUsersFault : Bor (List ℕ) → AppFault → Type 0
 IsUsersFault path (Users fault) = Unit {0}
 IsUsersFault path other = IsUnread path other
 
+-- ---- the user file that the command line names, or the settings
+
+-- the file that the settings name
+abbrev pub auth_file : List (List ℕ) → Option (List ℕ)
+auth_file lines = value_given (codes "auth_file") lines
+
+-- one that nobody names has no path
+abbrev pub IsNamed : Option (List ℕ) → Type 0
+IsNamed None = ⊥
+IsNamed (Some path) = 0 < length path
+
+abbrev pub IsAuthFileFault : List (List ℕ) → AppFault → Type 0
+IsAuthFileFault lines (Users fault) = IsNamed (auth_file lines)
+IsAuthFileFault lines (AuthFile path) = IsNamed (auth_file lines)
+IsAuthFileFault lines NoUserFile = IsNamed (auth_file lines) → ⊥
+IsAuthFileFault lines other = other ≡ Memory
+
+abbrev pub IsUserFileFault : Option (Bor (List ℕ)) → List (List ℕ) → AppFault → Type 0
+IsUserFileFault (Some path) lines fault = IsUsersFault path fault
+IsUserFileFault None lines fault = IsAuthFileFault lines fault
+
+-- the same of a file whose text isn't known
+abbrev pub IsSomeUserFileFault : Option (Bor (List ℕ)) → AppFault → Type 0
+IsSomeUserFileFault users fault = (lines : List (List ℕ)) × IsUserFileFault users lines fault
+
 abbrev pub IsCatalogueFault : Bor (List ℕ) → AppFault → Type 0
 IsCatalogueFault path (Catalogue fault) = Unit {0}
 IsCatalogueFault path other = IsUnread path other
 
-abbrev pub IsAgainFault : Bor (List ℕ) → Bor (List ℕ) → AppFault → Type 0
-IsAgainFault ini users fault = IsSettingsFault ini fault ⊎ IsUsersFault users fault
+abbrev pub IsAgainFault : Bor (List ℕ) → Option (Bor (List ℕ)) → AppFault → Type 0
+IsAgainFault ini users fault = IsSettingsFault ini fault ⊎ IsSomeUserFileFault users fault
 
 -- the system's random bytes can't be had
 abbrev pub IsSystemFault : AppFault → Type 0
@@ -69,5 +95,5 @@ abbrev pub IsSeedFault : Option (Bor (List ℕ)) → AppFault → Type 0
 IsSeedFault (Some path) fault = IsUnread path fault
 IsSeedFault None fault = IsSystemFault fault
 
-abbrev pub IsInputsFault : Bor (List ℕ) → Bor (List ℕ) → Option (Bor (List ℕ)) → AppFault → Type 0
-IsInputsFault ini users key_seed fault = IsSettingsFault ini fault ⊎ (IsUsersFault users fault ⊎ IsSeedFault key_seed fault)
+abbrev pub IsInputsFault : Bor (List ℕ) → Option (Bor (List ℕ)) → Option (Bor (List ℕ)) → AppFault → Type 0
+IsInputsFault ini users key_seed fault = IsSettingsFault ini fault ⊎ (IsSomeUserFileFault users fault ⊎ IsSeedFault key_seed fault)

@@ -8,7 +8,7 @@ use Rattle.clap.specs.declared.error.kind.ErrorKind.{ErrorKind}
 use Rattle.clap.specs.declared.error.kind.ErrorKind.TheVariants.{DisplayHelp, DisplayVersion, OutOfMemory}
 use Rattle.clap.specs.declared.builder.value_parser.ValueParser.TheVariants.{Signed}
 use Rattle.pool_app.specs.declared.line.Job.{Job}
-use Rattle.pool_app.specs.declared.line.Job.TheVariants.{Replay, Serve, Stub}
+use Rattle.pool_app.specs.declared.line.Job.TheVariants.{Replay, Serve, Check, Stub}
 use Rattle.pool_app.specs.declared.line.LineFault.{LineFault}
 use Rattle.pool_app.specs.declared.line.LineFault.TheVariants.{Refused, NoJob}
 
@@ -16,9 +16,9 @@ use Rattle.pool_app.specs.declared.line.LineFault.TheVariants.{Refused, NoJob}
 abbrev pub needed : Text → Rule
 needed name = record (new_rule name) { long = Some name; required = true; value_names = 1 }
 
--- the one that may be left out
-abbrev pub seed_option : Rule
-seed_option = record (new_rule (codes "key-seed")) { long = Some (codes "key-seed"); value_names = 1 }
+-- one that may be left out
+abbrev pub optional : Text → Rule
+optional name = record (new_rule name) { long = Some name; value_names = 1 }
 
 -- one whose value is a port
 abbrev pub port_option : Rule
@@ -28,7 +28,10 @@ abbrev pub replay : App
 replay = new_app (codes "replay")
 
 abbrev pub serve : App
-serve = with_rule (with_rule (with_rule (new_app (codes "serve")) (needed (codes "ini"))) (needed (codes "users"))) seed_option
+serve = with_rule (with_rule (with_rule (new_app (codes "serve")) (needed (codes "ini"))) (optional (codes "users"))) (optional (codes "key-seed"))
+
+abbrev pub check : App
+check = with_rule (with_rule (new_app (codes "check")) (needed (codes "ini"))) (optional (codes "users"))
 
 abbrev pub stub : App
 stub = with_rule (with_rule (new_app (codes "stub")) port_option) (needed (codes "catalogue"))
@@ -39,7 +42,7 @@ program = let app = new_app (codes "pgsess") in record app { top = record app.to
 
 -- the whole command line
 abbrev pub pgsess : App
-pgsess = with_subcommand (with_subcommand (with_subcommand program replay.top) serve.top) stub.top
+pgsess = with_subcommand (with_subcommand (with_subcommand (with_subcommand program replay.top) serve.top) check.top) stub.top
 
 -- the subcommand that was named, with its options
 abbrev pub Named : Type 0
@@ -50,8 +53,11 @@ abbrev pub IsJobBy : Text → List Row → Job → Type 0
 IsJobBy name options Replay = name ≡ codes "replay"
 IsJobBy name options (Serve ini users key_seed) =
     (name ≡ codes "serve")
-    × (first_of (codes "ini") options ≡ Some ini.now) × (first_of (codes "users") options ≡ Some users.now)
+    × (first_of (codes "ini") options ≡ Some ini.now) × (first_of (codes "users") options ≡ option_map (λ path. path.now) users)
     × (first_of (codes "key-seed") options ≡ option_map (λ path. path.now) key_seed)
+IsJobBy name options (Check ini users) =
+    (name ≡ codes "check")
+    × (first_of (codes "ini") options ≡ Some ini.now) × (first_of (codes "users") options ≡ option_map (λ path. path.now) users)
 IsJobBy name options (Stub port catalogue) =
     (name ≡ codes "stub")
     × ((text : List ℕ) × (one_of (codes "port") options ≡ Some text) × (port ≡ digits_value 10 (without_leading_plus text)))
@@ -74,7 +80,8 @@ IsNoPort text = IsNumeral 10 (without_leading_plus text) × (digits_value 10 (wi
 abbrev pub IsNoJob : Text → List Row → Type 0
 IsNoJob name options =
     (name ≢ codes "replay")
-    × (name ≡ codes "serve" → Lacks (codes "ini") options ⊎ Lacks (codes "users") options)
+    × (name ≡ codes "serve" → Lacks (codes "ini") options)
+    × (name ≡ codes "check" → Lacks (codes "ini") options)
     × (name ≡ codes "stub" → Lacks (codes "catalogue") options ⊎ ((text : Text) → one_of (codes "port") options ≡ Some text → IsNoPort text))
 
 abbrev pub NamesNone : Named → Type 0

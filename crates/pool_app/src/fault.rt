@@ -4,6 +4,7 @@ ghost use Rattle.pool_app.specs.Faults as spec;
 
 use itoa::Buffer;
 use session_catalogue::CatalogueFault;
+use settings_check::codes::{ini_code, users_code};
 use std::alloc::{AllocError, Global};
 use std::io;
 
@@ -28,31 +29,10 @@ pub enum AppFault<'a> {
     Port(u16),
     /// The pooler has ended, and what was decided isn't known: a worker's count is missing.
     Totals,
-}
-
-fn ini_code(cause: ini_config::IniCause) -> &'static str
-    ensures { result.now ≡ spec.ini_code cause }
-{
-    match cause {
-        ini_config::IniCause::UnknownSection => "C1",
-        ini_config::IniCause::UnknownKey => "C2",
-        ini_config::IniCause::BadValue => "C3",
-        ini_config::IniCause::KeyTwice => "C4",
-        ini_config::IniCause::PoolMode => "C5",
-        ini_config::IniCause::ResetQuery => "C6",
-        ini_config::IniCause::NotALine => "C7",
-        ini_config::IniCause::Memory => "C8",
-    }
-}
-
-fn users_code(cause: user_file::UserCause) -> &'static str
-    ensures { result.now ≡ spec.users_code cause }
-{
-    match cause {
-        user_file::UserCause::BadQuoting => "U1",
-        user_file::UserCause::NameTwice => "U2",
-        user_file::UserCause::Memory => "U3",
-    }
+    /// The user file that the settings name can't be read, or is too long. The text is its path.
+    AuthFile(String),
+    /// Neither the command line nor the settings name a user file.
+    NoUserFile,
 }
 
 /// A text, and one that follows it.
@@ -92,6 +72,8 @@ pub fn fault_line(alloc: Global, fault: &AppFault<'_>) -> Result<String, AllocEr
             joined(alloc, "pgsess: port ", digits.format(*port))
         }
         AppFault::Totals => String::from_str(alloc, "pgsess: totals"),
+        AppFault::AuthFile(path) => joined(alloc, "pgsess: file ", path.as_str()),
+        AppFault::NoUserFile => String::from_str(alloc, "pgsess: no user file"),
     }
 }
 
@@ -121,16 +103,20 @@ pub fn again_text(
         AppFault::File(path) => joined(alloc, "file ", path),
         AppFault::Ini(fault) => fault_in(alloc, ini_code(fault.cause), fault.line, ini),
         AppFault::Users(fault) => fault_in(alloc, users_code(fault.cause), fault.line, users),
+        AppFault::AuthFile(path) => joined(alloc, "file ", path.as_str()),
+        AppFault::NoUserFile => String::from_str(alloc, "no user file"),
         _ => String::from_str(alloc, "memory"),
     }
 }
 
-/// The status that the program ends with: 3 where the port can't be had, 1 for every other fault.
+/// The status that the program ends with: 3 where the port can't be had, 2 where no user file is named, as for other faults of the
+/// command line, and 1 for every other fault.
 pub fn status(fault: &AppFault<'_>) -> u8
     ensures { result ≡ spec.status fault.now }
 {
     match fault {
         AppFault::Port(_) => 3,
+        AppFault::NoUserFile => 2,
         _ => 1,
     }
 }

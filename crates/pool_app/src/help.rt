@@ -14,6 +14,7 @@ A fault is told in one line on standard error, as `pgsess: C3 line 7`, and the s
   memory  no memory was left, elsewhere than in a file's text
   port N  the port N can't be had; then the status is 3
   totals  after SHUTDOWN, a worker's count is missing
+  no user file  neither --users nor auth_file names one; then the status is 2
 Of the settings:
   C1  a header of an unknown section, or a line in [users] or [peers]
   C2  an unknown key in [pgbouncer]
@@ -27,6 +28,12 @@ Of the users:
   U1  bad quoting, or an empty name
   U2  a name for the second time
   U3  no memory was left for the line";
+
+pub(crate) const CHECK: &str = "Example: pgsess check --ini pgsess.ini --users users.txt
+
+Each fault is told in a line on standard output: the file, the line, what stands there, the code of `pgsess serve --help`, and why.
+Then what is read over, and what differs from PgBouncer. The status is 0 where there is no fault, else 1. No port is opened, and no
+server is reached. Nothing is shown of a password, and of a user's line nothing but its name.";
 
 pub(crate) const STUB: &str = "Example: pgsess stub --port 5432 --catalogue catalogue.tsv
 

@@ -13,6 +13,11 @@ use clap::{Arg, ArgMatches, Command, Error};
 use std::alloc::{AllocError, Global};
 use std::io;
 
+const INI: &str = "The settings, in the format of pgbouncer.ini";
+
+const USERS: &str =
+    "The users and their secrets, in the format of userlist.txt; the file that auth_file names, where none is named";
+
 /// What `--version` tells behind the program's name.
 const VERSION: &str = "1.1";
 
@@ -21,11 +26,17 @@ const VERSION: &str = "1.1";
 pub enum Job<'a> {
     /// One client's bytes on standard input, its replies on standard output.
     Replay,
-    /// The pooler. Each text is the path of a file; where none is named for the key seed, the system makes it.
+    /// The pooler. Each text is the path of a file; where none is named for the users, the settings name it, and where none is named for
+    /// the key seed, the system makes it.
     Serve {
         ini: &'a str,
-        users: &'a str,
+        users: Option<&'a str>,
         key_seed: Option<&'a str>,
+    },
+    /// A report on the settings and users in these files.
+    Check {
+        ini: &'a str,
+        users: Option<&'a str>,
     },
     /// The stand-in server on a port from 1 to 65,535. The text is the path of its catalogue.
     Stub {
@@ -82,17 +93,15 @@ fn file_option<'a>(alloc: Global, name: &'a str, help: &'a str) -> Arg<'a>
         .help(help)
 }
 
-/// The option that names the file of the key seed, which may be left out.
-fn seed_option<'a>(alloc: Global) -> Arg<'a>
-    ensures rule { rule_of result ≡ spec.seed_option }
+/// An option whose value is the path of a file, and which may be left out.
+fn optional_file<'a>(alloc: Global, name: &'a str, help: &'a str) -> Arg<'a>
+    ensures rule { rule_of result ≡ spec.optional name.entry.now }
     ensures local { result.global ≡ false }
 {
-    Arg::new(alloc, "key-seed")
-        .long("key-seed")
+    Arg::new(alloc, name)
+        .long(name)
         .value_name("FILE")
-        .help(
-            "32 random bytes, from which the clients' cancel keys and salts are made; the system's, where none is named",
-        )
+        .help(help)
 }
 
 /// The option that names a port.
@@ -139,12 +148,17 @@ fn with_file<'a>(
     command.arg(file_option(alloc, name, help))
 }
 
-/// The command with the option that names the file of the key seed.
-fn with_seed<'a>(alloc: Global, command: Command<'a>) -> Result<Command<'a>, AllocError>
-    ensures app { IfOk result (λ c. app_of c ≡ with_rule (app_of command.entry) spec.seed_option) }
+/// The command with one more option that names a file and may be left out.
+fn with_optional<'a>(
+    alloc: Global,
+    command: Command<'a>,
+    name: &'a str,
+    help: &'a str,
+) -> Result<Command<'a>, AllocError>
+    ensures app { IfOk result (λ c. app_of c ≡ with_rule (app_of command.entry) (spec.optional name.entry.now)) }
     ensures local { (fields_of command.entry).has_globals ≡ false → IfOk result (λ c. (fields_of c).has_globals ≡ false) }
 {
-    command.arg(seed_option(alloc))
+    command.arg(optional_file(alloc, name, help))
 }
 
 /// The subcommand `serve`.
@@ -155,11 +169,23 @@ fn serve_command<'a>(alloc: Global) -> Result<Command<'a>, AllocError>
     let command = Command::new(alloc, "serve")
         .about("Pool the sessions of PostgreSQL servers")
         .after_help(help::SERVE);
-    let ini = "The settings, in the format of pgbouncer.ini";
-    let command = with_file(alloc, command, "ini", ini)?;
-    let users = "The users and their secrets, in the format of userlist.txt";
-    let command = with_file(alloc, command, "users", users)?;
-    with_seed(alloc, command)
+    let command = with_file(alloc, command, "ini", INI)?;
+    let command = with_optional(alloc, command, "users", USERS)?;
+    let seed =
+        "32 random bytes, from which the clients' cancel keys and salts are made; the system's, where none is named";
+    with_optional(alloc, command, "key-seed", seed)
+}
+
+/// The subcommand `check`.
+fn check_command<'a>(alloc: Global) -> Result<Command<'a>, AllocError>
+    ensures app { IfOk result (λ c. app_of c ≡ spec.check) }
+    ensures local { IfOk result (λ c. (fields_of c).has_globals ≡ false) }
+{
+    let command = Command::new(alloc, "check")
+        .about("Tell every fault of the settings and the users, and serve nothing")
+        .after_help(help::CHECK);
+    let command = with_file(alloc, command, "ini", INI)?;
+    with_optional(alloc, command, "users", USERS)
 }
 
 /// The subcommand `stub`.
@@ -186,12 +212,19 @@ fn program<'a>(alloc: Global) -> Command<'a>
         .subcommand_required(true)
 }
 
-/// The program with the subcommand `serve`. This step and the next stand apart from [`command`] for the prover's sake: each way out
+/// The program with the subcommand `serve`. This step and the next two stand apart from [`command`] for the prover's sake: each way out
 /// of a function that holds a command is shown with the drop of all its parts.
 fn with_serve<'a>(alloc: Global, program: Command<'a>) -> Result<Command<'a>, AllocError>
     ensures { IfOk result (λ c. app_of c ≡ with_subcommand (app_of program.entry) spec.serve.top) }
 {
     program.subcommand(serve_command(alloc)?)
+}
+
+/// The program with the subcommand `check`.
+fn with_check<'a>(alloc: Global, program: Command<'a>) -> Result<Command<'a>, AllocError>
+    ensures { IfOk result (λ c. app_of c ≡ with_subcommand (app_of program.entry) spec.check.top) }
+{
+    program.subcommand(check_command(alloc)?)
 }
 
 /// The program with the subcommand `stub`.
@@ -207,6 +240,7 @@ fn command<'a>(alloc: Global) -> Result<Command<'a>, AllocError>
 {
     let program = program(alloc).subcommand(replay_command(alloc))?;
     let program = with_serve(alloc, program)?;
+    let program = with_check(alloc, program)?;
     with_stub(alloc, program)
 }
 
@@ -225,13 +259,23 @@ fn serve_job<'a>(options: &ArgMatches<'a>) -> Option<Job<'a>>
     ensures none { result ≡ None → spec.IsNoJob (codes "serve") (rows_of (found_of options.now)) }
 {
     let ini = options.get_str("ini")?;
-    let users = options.get_str("users")?;
+    let users = options.get_str("users");
     let key_seed = options.get_str("key-seed");
     Some(Job::Serve {
         ini,
         users,
         key_seed,
     })
+}
+
+/// The job of a report, of the options of `check`.
+fn check_job<'a>(options: &ArgMatches<'a>) -> Option<Job<'a>>
+    ensures job { IfSome result (λ job. spec.IsJobBy (codes "check") (rows_of (found_of options.now)) job) }
+    ensures none { result ≡ None → spec.IsNoJob (codes "check") (rows_of (found_of options.now)) }
+{
+    let ini = options.get_str("ini")?;
+    let users = options.get_str("users");
+    Some(Job::Check { ini, users })
 }
 
 /// The stand-in server's job, of the options of `stub`.
@@ -255,6 +299,9 @@ fn job_of<'a>(matches: &ArgMatches<'a>) -> Option<Job<'a>>
     }
     if name == "serve" {
         return serve_job(options);
+    }
+    if name == "check" {
+        return check_job(options);
     }
     if name == "stub" {
         return stub_job(options);
