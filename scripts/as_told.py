@@ -75,12 +75,12 @@ class Server(threading.Thread):
 
 
 class Breaking(Server):
-    """One whose session breaks off behind what it says to a query."""
+    """One whose session breaks off behind an error."""
 
     def answer(self, connection, held):
-        is_query = held[:1] == b"Q"
+        is_last = held[:1] == b"Q" and self.answers[held == RESET][:1] == b"E"
         left = super().answer(connection, held)
-        if is_query:
+        if is_last:
             raise OSError("it breaks off")
         return left
 
@@ -232,8 +232,8 @@ class Show:
         """Sessions that their server ends while clients have them."""
         error = message(b"E", b"SERROR\0VERROR\0C42601\0Msyntax error\0\0")
         old = message(b"E", b"SFATAL\0C57P01\0Mold age\0\0")
-        broken, aged = Breaking(answers=(error, b"")), Breaking(answers=(old, b""))
-        self.begin(more_rows="\n".join(f"{name} = host={HERE} port={it.port} dbname=shop" for name, it in (("broken", broken), ("aged", aged))))
+        servers = {"broken": Breaking(answers=(error, b"")), "aged": Breaking(answers=(old, b"")), "resetting": Breaking(answers=(DONE, old))}
+        self.begin(more_rows="\n".join(f"{name} = host={HERE} port={it.port} dbname=shop" for name, it in servers.items()))
         port = self.pooler.port
         said = r"link \d+ closed: its server said "
         for what, ask in (("idles", None), ("works", "SELECT pg_sleep(20)")):
@@ -264,6 +264,9 @@ class Show:
         self.logs("is told as ended, without the error, by which no session ends", r"link \d+ closed: server connection ended$")
         self.passes.same("one of a server of before 9.6", outcome(port, database="aged"), "57P01")
         self.logs("is told with what that said", said + "57P01 old age$")
+        self.before = len(self.log())
+        self.passes.same("one that ends while it is reset", outcome(port, database="resetting"), "served")
+        self.logs("is told as ended, and not as one that wasn't reset", r"link \d+ closed: server connection ended$")
 
     def leases(self):
         """Which link a client was lent, and to which process."""

@@ -22,8 +22,11 @@ use relay_core::relay::{GoneCause, Returned};
 use server_end::gate::Gate;
 use server_end::{Moved, ServerEnd};
 
-/// As much as is read behind a server's answer to a reset.
+/// As much as is read at once behind a server's answer to a reset.
 const REST: usize = 512;
+
+/// The turns in which the end of a connection is waited for: the first waits for nothing, since the server has just spoken.
+const ENDING_TURNS: u32 = 3;
 
 /// Whether whole messages went over the link, so that its server reads a Terminate as one.
 fn is_at_border(cause: GoneCause) -> bool {
@@ -34,7 +37,7 @@ fn is_at_border(cause: GoneCause) -> bool {
 }
 
 /// Whether the connection of a link that wasn't reset has ended. What ends a session is said to the reset first, so behind such an answer
-/// the end is waited for, for one turn.
+/// the end is waited for, for a few turns.
 fn has_ended<E: ServerEnd, G: Gate<E>>(disposed: Disposed<E>, gate: &mut G) -> bool {
     let Disposed { mut end, cause } = disposed;
     match cause {
@@ -43,12 +46,13 @@ fn has_ended<E: ServerEnd, G: Gate<E>>(disposed: Disposed<E>, gate: &mut G) -> b
         ResetFault::Changed | ResetFault::Memory | ResetFault::Turns => return false,
     }
     let mut rest = [0u8; REST];
-    let mut moved = end.read_some(&mut rest);
-    if let Moved::NotNow = moved {
+    for _ in 0..ENDING_TURNS {
         gate.turn_of_link();
-        moved = end.read_some(&mut rest);
+        if let Moved::Ended | Moved::Fault = end.read_some(&mut rest) {
+            return true;
+        }
     }
-    matches!(moved, Moved::Ended | Moved::Fault)
+    false
 }
 
 impl<'a, D: LinkDesk, G: Gate<D::End>> Worker<'a, D, G> {
