@@ -123,6 +123,7 @@ gate:
 	scripts/refused_growths.sh $(program)
 	scripts/faulty_servers.sh $(program)
 	PGSESS=$(program) scripts/cli.sh
+	scripts/ini_files.py $(program)
 	scripts/welcomes.sh $(program)
 	scripts/cursors.sh $(program)
 	scripts/postgres.sh $(program)

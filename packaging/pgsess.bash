@@ -3,7 +3,7 @@ _pgsess() {
     local word=${COMP_WORDS[COMP_CWORD]} before=${COMP_WORDS[COMP_CWORD - 1]}
     COMPREPLY=()
     if [ "$COMP_CWORD" -eq 1 ]; then
-        mapfile -t COMPREPLY < <(compgen -W "serve stub replay --help --version" -- "$word")
+        mapfile -t COMPREPLY < <(compgen -W "serve check stub replay --help --version" -- "$word")
         return
     fi
     case $before in
@@ -12,6 +12,7 @@ _pgsess() {
     esac
     case ${COMP_WORDS[1]} in
         serve) mapfile -t COMPREPLY < <(compgen -W "--ini --users --key-seed --help" -- "$word") ;;
+        check) mapfile -t COMPREPLY < <(compgen -W "--ini --users --help" -- "$word") ;;
         stub) mapfile -t COMPREPLY < <(compgen -W "--port --catalogue --help" -- "$word") ;;
         replay) mapfile -t COMPREPLY < <(compgen -W "--help" -- "$word") ;;
     esac

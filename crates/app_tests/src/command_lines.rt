@@ -21,16 +21,35 @@ fn the_job_replay(rt: HostRuntime) -> Result<(), Fail> {
 #[test]
 fn the_job_serve(rt: HostRuntime) -> Result<(), Fail> {
     let rows = [
-        ("pgsess serve --users u --ini=i --key-seed k", Some("k")),
-        ("pgsess serve --ini i --users u", None),
+        (
+            "pgsess serve --users u --ini=i --key-seed k",
+            Some("u"),
+            Some("k"),
+        ),
+        ("pgsess serve --ini i --users u", Some("u"), None),
+        ("pgsess serve --ini i", None, None),
     ];
-    for (text, key_seed) in rows {
+    for (text, users, key_seed) in rows {
         let words = words_of(rt.alloc(), text)?;
         let wanted = Job::Serve {
             ini: "i",
-            users: "u",
+            users,
             key_seed,
         };
+        assert!(rt; matches!(read_line(rt.alloc(), words.as_slice()), Ok(job) if job == wanted));
+    }
+    Ok(())
+}
+
+#[test]
+fn the_job_check(rt: HostRuntime) -> Result<(), Fail> {
+    let rows = [
+        ("pgsess check --users u --ini=i", Some("u")),
+        ("pgsess check --ini i", None),
+    ];
+    for (text, users) in rows {
+        let words = words_of(rt.alloc(), text)?;
+        let wanted = Job::Check { ini: "i", users };
         assert!(rt; matches!(read_line(rt.alloc(), words.as_slice()), Ok(job) if job == wanted));
     }
     Ok(())
@@ -57,7 +76,9 @@ fn statuses_of_the_line(rt: HostRuntime) -> Result<(), Fail> {
         ("pgsess", 2),
         ("pgsess bogus", 2),
         ("pgsess replay x", 2),
-        ("pgsess serve --ini i", 2),
+        ("pgsess serve --users u", 2),
+        ("pgsess check --users u", 2),
+        ("pgsess check --ini i --key-seed k", 2),
         ("pgsess stub --port 0 --catalogue c", 2),
         ("pgsess stub --port 65536 --catalogue c", 2),
         ("pgsess stub --port 1", 2),

@@ -71,6 +71,12 @@ fn other_faults(rt: HostRuntime) -> Result<(), Fail> {
         (AppFault::Stdout, "pgsess: stdout", 1),
         (AppFault::Memory, "pgsess: memory", 1),
         (AppFault::Port(5432), "pgsess: port 5432", 3),
+        (AppFault::NoUserFile, "pgsess: no user file", 2),
+        (
+            AppFault::AuthFile(String::from_str(rt.alloc(), "a b.txt")?),
+            "pgsess: file a b.txt",
+            1,
+        ),
     ];
     check(&rt, rt.alloc(), &rows)
 }

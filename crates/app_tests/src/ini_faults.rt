@@ -36,6 +36,53 @@ fn faults_of_lines(rt: HostRuntime) -> Result<(), Fail> {
     check(&rt, rt.alloc(), rows)
 }
 
+// At these values they ask for what isn't done; the last but one is the default of another key.
+#[test]
+fn keys_that_ask_for_something(rt: HostRuntime) -> Result<(), Fail> {
+    let rows: &[(&[u8], IniCause, usize)] = &[
+        (b"[pgbouncer]\nmin_pool_size = 5", IniCause::UnknownKey, 2),
+        (b"[pgbouncer]\nmin_pool_size =", IniCause::UnknownKey, 2),
+        (b"[pgbouncer]\nmin_pool_size = 00", IniCause::UnknownKey, 2),
+        (
+            b"[pgbouncer]\nclient_tls_sslmode = prefer",
+            IniCause::UnknownKey,
+            2,
+        ),
+        (
+            b"[pgbouncer]\nserver_tls_sslmode = require",
+            IniCause::UnknownKey,
+            2,
+        ),
+        (
+            b"[pgbouncer]\nserver_tls_ca_file = f",
+            IniCause::UnknownKey,
+            2,
+        ),
+        (b"[pgbouncer]\nuser = postgres", IniCause::UnknownKey, 2),
+        (
+            b"[pgbouncer]\nmax_prepared_statement = 0",
+            IniCause::UnknownKey,
+            2,
+        ),
+        (
+            b"[pgbouncer]\nso_reuseport = 1\nso_reuseport = 0",
+            IniCause::KeyTwice,
+            3,
+        ),
+        (
+            b"[databases]\nx = host=a pool_mode=transaction",
+            IniCause::BadValue,
+            2,
+        ),
+        (
+            b"[databases]\nx = host=a max_db_connections=1",
+            IniCause::BadValue,
+            2,
+        ),
+    ];
+    check(&rt, rt.alloc(), rows)
+}
+
 #[test]
 fn faults_of_keys(rt: HostRuntime) -> Result<(), Fail> {
     let rows: &[(&[u8], IniCause, usize)] = &[

@@ -415,3 +415,15 @@ fn who_may_look(rt: HostRuntime) -> Result<(), Fail> {
     }
     Ok(())
 }
+
+/// Keys of PgBouncer at the values that ask for nothing: its defaults, and what tunes its own works.
+const NEUTRAL: &[u8] =
+    b"[databases]\nx = host=db pool_mode=session min_pool_size=0 reserve_pool=0 reserve_pool_size=0 max_db_connections=0\n[pgbouncer]\nmin_pool_size = 0\nreserve_pool_size = 0\nreserve_pool_timeout = 5.0\nclient_idle_timeout = 0\nserver_check_query = select 1\nmax_prepared_statements = 200\nso_reuseport = 1\nclient_tls_sslmode = disable\nclient_tls_key_file = k\nserver_tls_sslmode = prefer\nauth_query =\nuser =\nserver_reset_query = DISCARD ALL;\n";
+
+#[test]
+fn keys_that_ask_for_nothing(rt: HostRuntime) -> Result<(), Fail> {
+    let settings = read_settings(rt.alloc(), NEUTRAL)?;
+    assert!(rt; has_row(&settings, b"x", b"db", 5432, b"x"));
+    assert!(rt; numbers(&settings) == [6432, 100, 20, 1000, 120, 3600, 600, 2_147_483_647]);
+    Ok(())
+}

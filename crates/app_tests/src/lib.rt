@@ -21,6 +21,8 @@ mod replies;
 #[cfg(test)]
 mod secrets;
 #[cfg(test)]
+mod settings_report;
+#[cfg(test)]
 mod trimmed_lines;
 #[cfg(test)]
 mod user_files;
