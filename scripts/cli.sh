@@ -64,6 +64,7 @@ helped help 'Commands:' --help
 helped help 'replay  ' --help
 helped 'short help' 'Usage: pgsess <COMMAND>' -h
 helped 'help of serve' 'Example: pgsess serve --ini pgsess.ini --users users.txt' serve --help
+helped 'help of check' 'Example: pgsess check --ini pgsess.ini --users users.txt' check --help
 helped 'help of stub' 'Example: pgsess stub --port 5432 --catalogue catalogue.tsv' stub --help
 helped 'help of replay' 'Example: pgsess replay' replay --help
 helped 'help subcommand' 'Commands:' help
@@ -81,7 +82,8 @@ refused 'a word that is not UTF-8' "error: a word of the command line isn't UTF-
 ends 'a path that is not UTF-8' 2 "error: a word of the command line isn't UTF-8" serve --ini "$(printf 'a\377')" --users u --key-seed k
 refused 'a word too many' "error: unexpected argument 'x' found" replay x
 refused 'no ini' '--ini <FILE>' serve --users u --key-seed k
-refused 'no users' '--users <FILE>' serve --ini i --key-seed k
+refused 'no ini of a check' '--ini <FILE>' check --users u
+refused 'no seed of a check' "error: unexpected argument '--key-seed' found" check --ini i --key-seed k
 refused 'a seed without a value' '--key-seed <FILE>' serve --ini i --users u --key-seed
 refused 'ini twice' 'cannot be used multiple times' serve --ini a --ini b --users u --key-seed k
 refused 'ini without a value' '--ini <FILE>' serve --users u --key-seed k --ini
@@ -171,6 +173,8 @@ wait "$holder" 2>/dev/null
 
 serve 'no ini file' 1 'pgsess: file nowhere.ini' nowhere.ini nowhere.txt nowhere.bin
 serve 'no user file' 1 'pgsess: file nowhere.txt' good.ini nowhere.txt nowhere.bin
+ends 'nobody names a user file' 2 'pgsess: no user file' serve --ini good.ini --key-seed good.bin
+ends 'no settings to check' 1 'pgsess: file nowhere.ini' check --ini nowhere.ini --users good.txt
 serve 'no seed file' 1 'pgsess: file nowhere.bin' good.ini good.txt nowhere.bin
 serve 'ini text before the user file' 1 'pgsess: C2 line 2' bad.ini nowhere.txt nowhere.bin
 serve 'user text before the seed' 1 'pgsess: U1 line 1' good.ini bad.txt nowhere.bin
