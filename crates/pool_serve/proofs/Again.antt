@@ -6,7 +6,7 @@ use Rattle.link_desk.specs.declared.answers.Gone.{Gone}
 use Rattle.link_desk.specs.declared.answers.Gone.TheVariants as gone
 use Rattle.link_desk.specs.declared.calls.Holder.{Holder}
 use Rattle.link_desk.specs.Homes.{HomeOf}
-use Rattle.link_desk.specs.Passes.{PassOf, after_loss, after_leaving, one_arrived, one_granted, one_other}
+use Rattle.link_desk.specs.Passes.{PassOf, after_leaving, one_arrived, one_granted, one_other}
 use Rattle.login_core.specs.Logins.{LoginView}
 use Rattle.login_run.specs.Runs.{IsSameLogin, RunView}
 use Rattle.pool_serve.specs.Again.{HasAskedAgain, HasEndedAtLast, IsNotStarted, after_failure, lacks_place}
@@ -16,7 +16,6 @@ use Rattle.pool_serve.specs.Endings.{Frees, HasEnded, Traces}
 use Rattle.pool_serve.specs.Shares.{Ends, Evens}
 use Rattle.pool_serve.specs.Stays.{IsGuestOf, MayHaveAskedAgain, TracesAtLast}
 use Rattle.pool_serve.specs.declared.ending.Ending.{Ending}
-use Rattle.pool_serve.specs.declared.ending.Ending.TheVariants as ending
 use Rattle.pool_serve.specs.declared.logged_in.LoggedIn.{LoggedIn}
 use Rattle.pool_serve.proofs.Causing.{stay_traces}
 use Rattle.pool_serve.proofs.Leases.{granted_ended, queued_ended, same_logged_in}

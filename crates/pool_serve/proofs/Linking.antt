@@ -2,7 +2,6 @@
 use Rattle.std.proofs.Common.{◌≡◌, [], Result, Ok, Err, None, inr, true, refl, sym, ap, ◌∙◌, arith, subst}
 use Rattle.std.specs.Prelude.{IfErr, IfOk}
 use Rattle.std.proofs.lemmas.Bool.{true≢false}
-use Rattle.link_laws.specs.Standing.{ClientFacts}
 use Rattle.link_desk.specs.declared.answers.Gone.{Gone}
 use Rattle.link_desk.specs.declared.answers.Gone.TheVariants as gone
 use Rattle.link_desk.specs.declared.calls.Call.TheVariants as call
@@ -11,7 +10,7 @@ use Rattle.link_desk.specs.Homes.{HomeOf}
 use Rattle.link_desk.specs.Passes.{PassOf, after_loss, one_granted, one_other, without_lease}
 use Rattle.pool_serve.specs.Again.{IsEndedFor, IsHeldBy, IsNotStarted, lacks_place}
 use Rattle.pool_serve.specs.Causes.{AtAsking, AtLease, AtWait, HadLink, HasLost}
-use Rattle.pool_serve.specs.Endings.{HasEnded, HasLeased, IsUnopened}
+use Rattle.pool_serve.specs.Endings.{HasLeased, IsUnopened}
 use Rattle.pool_serve.specs.Serving.{LetsIn, MayEnd, owed}
 use Rattle.pool_serve.specs.Shares.{Ends, Evens}
 use Rattle.pool_serve.specs.Words.{word_of}

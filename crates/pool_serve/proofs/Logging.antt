@@ -8,13 +8,11 @@ use Rattle.message_view.specs.declared.refusal.Refusal.TheVariants.{OutOfMemory}
 use Rattle.ini_config.specs.Bounds.{AreWithinBounds}
 use Rattle.ini_config.specs.Tables.{row_for as row_of_database}
 use Rattle.ini_config.specs.declared.option_values.Settings.{Settings}
-use Rattle.user_file.specs.declared.user_table.UserRow.{UserRow}
 use Rattle.user_file.specs.Users.{UsersOf, user_named}
 use Rattle.session_values.specs.State.{Address, CatalogueOf, StartKeyOf}
 use Rattle.link_laws.specs.Standing.{ClientFacts}
 use Rattle.login_core.specs.Talk.End.{Stopped as StoppedFor}
 use Rattle.login_core.specs.Dialogue.{Refused as RefusedBy, Rows, login_among, row_in}
-use Rattle.param_track.specs.StartKeys.{Text}
 use Rattle.login_core.specs.Logins.{LoginView, RevealsUnder, rows_of}
 use Rattle.login_core.specs.Laws.{names_in, row_for}
 use Rattle.login_core.specs.Solo.{solo_in}

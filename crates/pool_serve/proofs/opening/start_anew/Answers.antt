@@ -25,17 +25,17 @@ returns-clause-told g c = λ lets.
     let dialled = subst (λ (k : StartKeyOf). IsDialled g.D.LinkDesk.home k c.new-credential.result (g.D.End.ServerEnd.standing c.watch.new.end)) c.deref.ensures (subst (λ (s : Standing). IsDialled g.D.LinkDesk.home c.deref.result.now c.new-credential.result s) (sym c.watch.ensures.stands) c.in-Some-dial.ensures) in
     let key = arc_value c.args.logged_in.now.key in
     let user = c.in-Some.user.now in
-    let same = c.new-credential.ensures ∙ ap (λ (r : Option Text). credential_of c.in-Some.user.now.secret r (start_nonce c.args.logged_in.now.word c.args.number)) c.revealed.ensures in
+    let same = c.new-credential.ensures ∙ ap (λ (r : Option Text). credential_of c.in-Some.user.now.secret r (start_nonce c.args.logged_in.now.word c.args.number)) c.revealed-revealed.ensures in
     unstarted (g.D.LinkDesk.home.catalogue (address_of key)) (g.D.End.ServerEnd.standing end) (g.D.End.ServerEnd.standing c.in-Err.fault.end) c.new-credential.result key c.args.logged_in.now.word c.in-Err.fault.cause _ refl
     (dialled.catalogue (dialled.follows lets.follow))
     (dialled.follows lets.follow)
-    (dialled.lets_in (ap (g.D.LinkDesk.home.lets_in key.user) same ∙ lets.accept key.user user _ _ (sym c.in-Some.ensures) (subst (λ (u : Option UserRow). RevealsUnder c.args.logged_in.now.login.settings.auth_type u c.args.logged_in.now.login.revealed) (sym c.in-Some.ensures) c.requires.revealed)))
+    (dialled.lets_in (ap (g.D.LinkDesk.home.lets_in key.user) same ∙ lets.accept key.user user _ _ (sym c.in-Some.ensures) (subst (λ (u : Option UserRow). RevealsUnder c.args.logged_in.now.login.settings.auth_type u c.args.logged_in.now.login.revealed) (sym c.in-Some.ensures) c.requires.logged_in.revealed)))
     (subst (λ (k : StartKeyOf). IsStartCause (g.D.End.ServerEnd.standing end) (g.D.End.ServerEnd.standing c.in-Err.fault.end) c.new-credential.result k c.in-Err.fault.cause) c.in-Ok.ensures c.in-Err.ensures.cause)
 
 pub returns-clause-why : goal.returns-clause-why
 returns-clause-why g c =
     let end = c.watch.new.end in
-    let same = c.new-credential.ensures ∙ ap (λ (r : Option Text). credential_of c.in-Some.user.now.secret r (start_nonce c.args.logged_in.now.word c.args.number)) c.revealed.ensures in
+    let same = c.new-credential.ensures ∙ ap (λ (r : Option Text). credential_of c.in-Some.user.now.secret r (start_nonce c.args.logged_in.now.word c.args.number)) c.revealed-revealed.ensures in
     record {
       user = c.in-Some.user.now;
       user_is = c.in-Some.ensures;

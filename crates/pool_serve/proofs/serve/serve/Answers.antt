@@ -1,4 +1,4 @@
-use Rattle.std.proofs.Common.{List, inl, inr, sym, ap, ◌∙◌, subst}
+use Rattle.std.proofs.Common.{inl, inr, ap, ◌∙◌, subst}
 use Rattle.link_laws.specs.Standing.{ClientFacts}
 use Rattle.login_core.specs.Logins.{LoginView}
 use Rattle.pool_serve.specs.Stays.{IsAllowed, ServesAs}

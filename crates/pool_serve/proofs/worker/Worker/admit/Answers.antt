@@ -1,4 +1,4 @@
-use Rattle.std.proofs.Common.{List, sym, ap, ◌∙◌, subst}
+use Rattle.std.proofs.Common.{ap, ◌∙◌}
 use Rattle.link_laws.specs.Standing.{ClientFacts}
 use Rattle.pool_serve.proofs.Again.{asked_once, same_asking, stay_at_last}
 use Rattle.pool_serve.proofs.Causing.{arrival_traces}

@@ -1,4 +1,4 @@
-use Rattle.std.proofs.Common.{List, inl, refl, sym, ap, ◌∙◌, subst}
+use Rattle.std.proofs.Common.{inl, refl, sym, ap, ◌∙◌, subst}
 use Rattle.ini_config.specs.Bounds.{AreWithinBounds}
 use Rattle.ini_config.specs.declared.option_values.Settings.{Settings}
 use Rattle.link_laws.specs.Standing.{ClientFacts}
