@@ -190,7 +190,7 @@ class Show:
                                  env=environment(pooler.port, "ann", "shop"))
         time.sleep(2)
         self.passes.same("PAUSE", console(pooler.port, "PAUSE")[:2], (0, "PAUSE\n"))
-        stands = until(lambda: (figures(pooler.port) or [1])[0] == 0, 5)
+        stands = until(lambda: (figures(pooler.port) or [0] * 4)[:3] == [0, 8, 0], 20)
         time.sleep(3)
         self.passes.holds("while it is paused no link is lent, and clients wait", stands and figures(pooler.port)[:3] == [0, 8, 0], f"{figures(pooler.port)}")
         self.passes.same("RESUME", console(pooler.port, "RESUME")[:2], (0, "RESUME\n"))
@@ -217,7 +217,7 @@ class Show:
         pooler.edit(r"^(shop = .*)port=\d+", rf"\g<1>port={self.other.port}")
         self.passes.same("RELOAD", console(pooler.port, "RELOAD")[:2], (0, "RELOAD\n"))
         self.passes.same("4 sessions were open at the old server", before, 4)
-        self.passes.holds("after the next tick the idle one is closed there", until(lambda: len(self.cluster.backends()) == 3, 3.5), f"{len(self.cluster.backends())}")
+        self.passes.holds("after the next tick the idle one is closed there", until(lambda: len(self.cluster.backends()) == 3, 10), f"{len(self.cluster.backends())}")
         client = Client(pooler.port, "ann", "shop", USERS["ann"][0])
         asked = client.ask("SELECT inet_server_port()")
         client.leave()
@@ -261,7 +261,7 @@ class Show:
         for one in waiting:
             one.join(10)
         self.passes.same("waiting clients are refused", [one.told for one in waiting], ["57P01 pooler is shutting down"] * 2)
-        self.passes.holds("nobody listens any more", until(lambda: not is_taken(pooler.port), 2))
+        self.passes.holds("nobody listens any more", until(lambda: not is_taken(pooler.port), 10))
         self.passes.same("a connection that was silent is closed without a byte", received(silent), b"")
         counts = [worker.asked for worker in workers]
         self.passes.holds("those that work go on", until(lambda: all(worker.asked > count for worker, count in zip(workers, counts)), 10) and pooler.runs())

@@ -21,6 +21,8 @@ from wire import Client, Cut, Refused, message, startup
 LOGIN, START = 3, 2
 MANY, FEW_FILES, SILENT, BEHIND = 1000, 1024, 510, 100
 SECONDS = 10
+# so many seconds more a busy machine may take
+SLACK = 8
 CONSOLE, LOCAL, CONSOLE_SECONDS = 64, 80, 10
 PLACES, CLIENTS, WAIT = 3, 6, 3
 UNREACHED, TOO_MANY = "08001", "53300"
@@ -198,7 +200,7 @@ class Show:
         self.begin(closed=server.port, size=1, lines=f"server_connect_timeout = {START}\n")
         for turn in ("a server that drips its welcome", "the next client"):
             outcome, took = told(self.pooler.port, database="closed")
-            self.passes.same(f"{turn}: told in server_connect_timeout", (outcome, START <= took < START + 3), (UNREACHED, True))
+            self.passes.same(f"{turn}: told in server_connect_timeout", (outcome, START <= took < START + SLACK), (UNREACHED, True))
         self.passes.holds("its connection is closed", until(lambda: server.open == 0, 5))
         self.passes.same("its place is free", self.console("SHOW SERVERS"), [])
         self.passes.same("and others are served", told(self.pooler.port)[0], "served")
@@ -232,7 +234,7 @@ class Show:
         before = len(self.log())
         outcomes = told_at_once(self.pooler.port, CLIENTS, "SELECT pg_sleep(1)")
         self.passes.same(f"{CLIENTS} clients of a second, a pool of {CLIENTS}, {PLACES} places at the server", [it for it, _ in outcomes], ["served"] * CLIENTS)
-        self.passes.holds("each waited for its turn alone", max(took for _, took in outcomes) < 8, str(outcomes))
+        self.passes.holds("each waited for its turn alone", max(took for _, took in outcomes) < 8 + SLACK, str(outcomes))
         refused = self.log()[before:].count(f"refused the start: {TOO_MANY}")
         self.passes.holds("the log names the starts that were refused", CLIENTS - PLACES <= refused <= 2 * CLIENTS, str(refused))
         outcomes = told_at_once(self.pooler.port, 4 * CLIENTS, "SELECT 1")
@@ -240,7 +242,7 @@ class Show:
         self.begin(size=CLIENTS, wait=WAIT)
         held = [Client(self.pooler.port, "ann", "shop", USERS["ann"][0]) for _ in range(PLACES)]
         outcome, took = told(self.pooler.port)
-        self.passes.same("no link comes back: what the server said is told in query_wait_timeout", (outcome, WAIT - 1 <= took < WAIT + 3), (TOO_MANY, True))
+        self.passes.same("no link comes back: what the server said is told in query_wait_timeout", (outcome, WAIT - 1 <= took < WAIT + SLACK), (TOO_MANY, True))
         for client in held:
             client.leave()
         self.begin(size=CLIENTS)

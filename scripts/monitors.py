@@ -152,8 +152,8 @@ class Show:
             failed.ask("SELECT 1/0")
         except Refused:
             pass
-        busy.send(query("SELECT pg_sleep(6)"))
-        time.sleep(0.5)
+        busy.send(query("SELECT pg_sleep(15)"))
+        until(lambda: self.cluster.tell(f"SELECT state FROM pg_stat_activity WHERE pid = {pids[3]}") == [["active"]], 10)
         own = {int(pid): state for pid, state in self.cluster.tell("SELECT pid, state FROM pg_stat_activity WHERE usename = 'ann'")}
         shown = {int(it["server_pid"]): it["state"] for it in table(self.port, "ACTIVITY") if it["database"] == "shop"}
         self.passes.same("ACTIVITY has each server's process and state", shown, {pid: own[pid] for pid in pids})

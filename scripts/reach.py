@@ -21,6 +21,8 @@ from cluster import HERE, USERS, Cluster, Passes, Place, free_port, set_up, unti
 from wire import Client, Cut, Refused, cancel_request, connected, query
 
 SECONDS = 20
+LONG_SECONDS = 30
+LONG = f"SELECT pg_sleep({LONG_SECONDS})"
 # an address of this machine at which the first server listens too, one where the second does, and one where nobody does
 TOO, SECOND, NOBODY = "127.0.0.2", "127.0.0.5", "127.0.0.3"
 UNREACHED = "08001 server could not be reached"
@@ -121,6 +123,8 @@ class Show:
         self.let_in(self.cluster)
         self.cluster.tell("CREATE TABLE own (name text); INSERT INTO own VALUES ('first'); GRANT SELECT ON own TO PUBLIC")
         self.cluster.tell("CREATE DATABASE other OWNER ann", "postgres")
+        # where servers are, at the cluster's port
+        self.servers = [HERE]
 
     @staticmethod
     def let_in(cluster):
@@ -142,23 +146,32 @@ class Show:
     def serves(self, what, pool, host=HERE, database="shop", wanted=[["1"]]):
         self.passes.same(what, outcome(lambda: Client(pool.port, "ann", database, host=host)), wanted)
 
+    def is_under_way(self, host):
+        """Whether a long statement of this user is, at the server there."""
+        client = Client(self.cluster.port, "ann", "shop", USERS["ann"][0], host=host)
+        try:
+            return client.ask(f"SELECT count(*) FROM pg_stat_activity WHERE query = '{LONG}' AND state = 'active'") == [["1"]]
+        finally:
+            client.leave()
+
     def cancels(self, what, pool, host=HERE, times=1):
         """A client's long statement is ended by a cancel that comes the same way."""
         codes = []
         for _ in range(times):
             client = Client(pool.port, "ann", host=host)
-            client.send(query("SELECT pg_sleep(30)"))
-            time.sleep(0.3)
+            client.send(query(LONG))
+            until(lambda: any(map(self.is_under_way, self.servers)), 10)
             began = time.monotonic()
             with connected(host, pool.port, SECONDS) as it:
                 it.sendall(cancel_request(client.key))
                 it.recv(64)
+            client.socket.settimeout(2 * LONG_SECONDS)
             try:
                 while client.next()[0] != b"Z":
                     pass
             except Cut:
                 pass
-            codes.append(time.monotonic() - began < 10)
+            codes.append(time.monotonic() - began < LONG_SECONDS / 2)
             client.leave()
         self.passes.same(what, codes, [True] * times)
 
@@ -221,7 +234,9 @@ class Show:
                 client.leave()
                 time.sleep(0.05)
             self.passes.same("two servers behind one host, in turn", sorted(names), ["first", "first", "second", "second"])
+            self.servers.append(SECOND)
             self.cancels("each cancel goes where its link went", pool, times=8)
+            self.servers.remove(SECOND)
             pool.stop()
             wrong = [it for it in (self.cluster, second) if "wrong key in cancel request" in it.log.read_text(errors="replace")
                      or "did not match any process" in it.log.read_text(errors="replace")]
