@@ -19,6 +19,8 @@ from wire import Client, Cut, Refused, md5_answer, message, query, startup
 TOO = "127.0.0.2"
 SECONDS = 20
 STAY = 1.5
+# so many seconds more a busy machine may take
+SLACK = 8
 # the first key word of the seed 00 01 .. 1f: ChaCha20 with a counter and a nonce of 64 bits, by another program
 COUNTED, FIRST_WORD = bytes(range(32)), bytes.fromhex("7d2bfd396a19c5d9")
 WRONG_PASSWORD, TOO_MANY, TOO_LONG = "28P01", "53300", "57P03"
@@ -186,10 +188,12 @@ class Show:
         port = self.pooler.port
         held = [Client(port, "ann", "shop", USERS["ann"][0]), Client(port, "bc", "shop", USERS["bc"][0])]
         self.passes.same("max_client_conn", outcome(port), TOO_MANY)
-        self.reload("pgsess.ini", ("^max_client_conn = .*", "max_client_conn = 20"), ("^query_wait_timeout = .*", "query_wait_timeout = 1"))
+        self.reload("pgsess.ini", ("^max_client_conn = .*", "max_client_conn = 20"), ("^query_wait_timeout = .*", "query_wait_timeout = 3"))
         begin = time.monotonic()
         self.passes.same("RELOAD of it, and of query_wait_timeout", outcome(port), TOO_LONG)
-        self.passes.holds("by the new time", 0.5 < time.monotonic() - begin < 4, f"{time.monotonic() - begin:.1f} s")
+        took = time.monotonic() - begin
+        # the clock goes by whole seconds, so one of them may be short
+        self.passes.holds("by the new time", 2 <= took < 3 + SLACK, f"{took:.1f} s")
         self.reload("pgsess.ini", ("^default_pool_size = .*", "default_pool_size = 2"))
         self.passes.same("RELOAD of default_pool_size", outcome(port), "served")
         self.reload("pgsess.ini", ("^max_client_conn = .*", "max_client_conn = 2"))
@@ -365,7 +369,7 @@ class Show:
         self.logs("where a client came from", rf"^pgsess: client \d+ ann@shop from {TOO}:{own} in$")
         found = self.logs("and how long it was there", rf"from {TOO}:{own} out after ([\d.]+) s$")
         if found:
-            self.passes.holds("by the clock", STAY <= float(found[1]) < STAY + 2, found[0])
+            self.passes.holds("by the clock", STAY <= float(found[1]) < STAY + SLACK, found[0])
 
     def run(self):
         for part in (self.seeds, self.addresses, self.users, self.settings, self.strange_servers, self.ended_sessions, self.leases, self.kept_settings,
