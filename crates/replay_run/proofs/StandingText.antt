@@ -6,11 +6,12 @@ use Rattle.bstr.specs.Utf8.{pieces_from, spans_from}
 use Rattle.memchr.specs.Find.{first_of, matches_from}
 use Rattle.text_lines.specs.Files.{said_by}
 use Rattle.text_lines.specs.Lines.{lines, raw_lines}
+use Rattle.neutral_keys.specs.ReadOver.{at_any_value, at_one_value, is_read_over}
 use Rattle.ini_config.specs.Reading as ini
 use Rattle.ini_config.specs.Lines.{said as said_in}
 use Rattle.ini_config.specs.DatabaseValues.{row_of, values_in}
 use Rattle.ini_config.specs.Hosts.{host_of, is_folder, is_host, is_ip_host}
-use Rattle.ini_config.specs.OptionValues.{auth_type, change_of, key_named}
+use Rattle.ini_config.specs.OptionValues.{auth_type, change_of, key_of}
 use Rattle.ini_config.specs.Values.{dotted, names, number_between, octet}
 use Rattle.user_file.specs.Users as users
 use Rattle.user_file.specs.Fields as user_fields
@@ -23,7 +24,7 @@ use Rattle.replay_run.specs.Replay.{standing_catalogue, standing_settings, stand
 -- ---- the settings
 
 pub settings_spelled : (said_by ini.with_line ini.fault_of ini.empty_file (lines SETTINGS.now)).settings ≡ standing_settings
-unfolding standing_settings lines_from line_len kept_start kept_end spans_from pieces_from first_of matches_from split_at said_by said_in row_of values_in host_of is_host is_folder is_ip_host dotted octet number_between ini.with_row ini.with_option key_named change_of auth_type names
+unfolding standing_settings lines_from line_len kept_start kept_end spans_from pieces_from first_of matches_from split_at said_by said_in row_of values_in host_of is_host is_folder is_ip_host dotted octet number_between ini.with_row ini.with_option key_of is_read_over at_any_value at_one_value change_of auth_type names
 settings_spelled = refl
 
 pub users_spelled : said_by users.with_line users.fault_of [] (lines USERS.now) ≡ standing_table
