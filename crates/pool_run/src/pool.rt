@@ -5,6 +5,7 @@ ghost use Rattle.desk_tallies.specs.declared.passes.TheConstants.{ALL_PARTS};
 ghost use Rattle.desk_tallies.specs.Shares.{names_of, of_each, parts_of};
 ghost use Rattle.pool_run.specs.Logins.{IsNewLogin};
 ghost use Rattle.pool_run.specs.Salts.{salts_key};
+ghost use Rattle.rand_chacha.specs.ChaCha.{of_seed};
 ghost use Rattle.server_end.specs.Moves.{IsWithin};
 ghost use Rattle.pool_run.specs.declared.pool.TheConstants.{HEARD};
 
@@ -569,6 +570,13 @@ fn salts_key(seed: &[u8; 32]) -> [u8; 32]
     hmac(seed, b"salts")
 }
 
+/// The source of the clients' key words: of this seed, and of these settings' `peer_id`.
+fn keys_of(seed: [u8; 32], settings: &Settings) -> KeySource
+    ensures { result ≡ record { words = of_seed seed; peer = settings.now.peer_id } }
+{
+    KeySource::new(seed, settings.peer_id())
+}
+
 /// Serves the connections of these listeners until the last is done, as [`serve_on`] says, over these ledgers.
 fn serve_all<
     R: PoolRuntime + 'static,
@@ -597,7 +605,7 @@ fn serve_all<
         metrics,
     } = listening.begin(&rt, alloc, &log)?;
     let mut workers = Workers::<Connection<R, F, K>>::new(alloc)?;
-    let keys = KeySource::new(seed, settings.peer_id());
+    let keys = keys_of(seed, &settings);
     let idle = IdlePoll::new(&rt, alloc)?;
     let minder = idle.minder()?;
     let salts = salts_key(&seed);

@@ -1,7 +1,9 @@
 //! What a pool's desk reaches outside: servers, the files, the log.
-ghost use Rattle.std.specs.Prelude.{◌≡◌, IfOk, Some};
-ghost use Rattle.message_view.specs.Messages.{cancel_request};
+ghost use Rattle.std.specs.Prelude.{◌≡◌, [], ◌∷◌, All, IfOk, IfSome, Some};
+ghost use Rattle.pool_run.specs.Reaching.{IsCancelOf, request_of};
 ghost use Rattle.tcp_end.specs.Connections.{new_connection};
+ghost use Rattle.tcp_reach.specs.Places.{IsPlaceOf};
+ghost use Rattle.tcp_reach.specs.Streams.{own_place};
 
 use crate::keeping::{Keeper, Source, Unread};
 use crate::log::PoolLog;
@@ -36,7 +38,7 @@ const CANCEL_SECONDS: u32 = 5;
 
 /// The CancelRequest for the session of a link's server. The only error is that an allocation failed.
 fn request_of(alloc: Global, strike: &Strike) -> Result<BytesMut, AllocError>
-    ensures { IfOk result (λ b. b.items ≡ cancel_request strike.now.server.pid strike.now.server.secret) }
+    ensures { IfOk result (λ b. b.items ≡ request_of strike.now) }
 {
     let mut request = BytesMut::new(alloc);
     put_cancel_request(&mut request, strike.server.pid, strike.server.secret)?;
@@ -49,7 +51,10 @@ fn send<R: Net>(
     alloc: Global,
     known: Option<Place>,
     strike: &Strike,
-) -> io::Result<Vec<Sent>> {
+) -> io::Result<Vec<Sent>>
+    ensures own { IfOk result (λ v. All (IsCancelOf strike.now) v.items) }
+    ensures known { IfOk result (λ v. IfSome (own_place known strike.now.host strike.now.port) (λ p. v.items ≡ record { place = p; sent = request_of strike.now } ∷ [])) }
+{
     let request = request_of(alloc, strike)?;
     send_to_hosts(
         rt,
@@ -118,7 +123,9 @@ fn reach<R: Threads + Wait + Clock + Net<Listener = net::TcpListener, Stream = n
 }
 
 impl<R: PoolRuntime, F: Source> Outside for Surroundings<R, F> {
-    ghost use Rattle.link_desk.specs.Homes.{unknown_home};
+    ghost use Rattle.link_desk.specs.Homes.{IsDialled, unknown_home};
+    ghost use Rattle.pool_run.specs.Reaching.{IsReached};
+    ghost use Rattle.tcp_end.specs.Connections.{standing_of};
 
     type End = TcpEnd;
 
@@ -130,7 +137,10 @@ impl<R: PoolRuntime, F: Source> Outside for Surroundings<R, F> {
         key: &StartKey,
         _credential: &Credential<'_>,
         seconds: u32,
-    ) -> Option<TcpEnd> {
+    ) -> Option<TcpEnd>
+        ensures dialled { IfSome result (λ e. IsDialled unknown_home key.now _credential.now (standing_of e)) }
+        ensures reached { IfSome result (λ e. IsReached key.now e) }
+    {
         let Some(host) = &key.host else {
             return None;
         };
