@@ -109,7 +109,7 @@ fn reach<R: Threads + Wait + Clock + Net<Listener = net::TcpListener, Stream = n
     keepalive: &Option<Keepalive>,
     watch: &Watch<R>,
 ) -> io::Result<(TcpEnd, Place)>
-    ensures { IfOk result (λ p. p.0 ≡ new_connection (Some p.1)) }
+    ensures { IfOk result (λ p. (p.0 ≡ new_connection (Some p.1)) × IsPlaceOf host.now port p.1) }
 {
     for _ in 0..MOST_CUT {
         match dial(rt, alloc, host, port, number, seconds, keepalive) {
