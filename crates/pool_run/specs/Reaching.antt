@@ -1,5 +1,5 @@
 -- Where a key's server is sought, and where a cancel goes.
-use Rattle.std.specs.Prelude.{◌≡◌, ℕ, List, IsSomeAnd}
+use Rattle.std.specs.Prelude.{ℕ, List, IsSomeAnd}
 use Rattle.message_view.specs.Messages.{cancel_request}
 use Rattle.session_values.specs.State.{StartKeyOf}
 use Rattle.link_desk.specs.declared.answers.Strike.{Strike}
