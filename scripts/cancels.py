@@ -357,9 +357,11 @@ class Show:
         counts, begin = [worker.asked for worker in workers], time.monotonic()
         backs = act()
         seconds = time.monotonic() - begin
+        # which of this script's threads has had its turn by now hangs on the machine; that none is kept waiting doesn't
+        until(lambda: all(worker.asked > count for worker, count in zip(workers, counts)), 20)
         asked = [worker.asked - count for worker, count in zip(workers, counts)]
         self.passes.same(f"{name}: each connection is closed with no byte", [back for back in backs if back != b""][:3], [])
-        self.passes.holds(f"{name}: each of {WORKERS} workers is served meanwhile", min(asked) > 0 and not any(worker.error for worker in workers), f"{asked} {[worker.error for worker in workers]}")
+        self.passes.holds(f"{name}: each of {WORKERS} workers goes on being served", min(asked) > 0 and not any(worker.error for worker in workers), f"{asked} {[worker.error for worker in workers]}")
         print(f"       {len(backs) / seconds:.0f} cancels and {sum(asked) / seconds:.0f} statements a second")
         return backs
 
