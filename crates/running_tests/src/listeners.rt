@@ -7,7 +7,7 @@ use tcp_end::dial::dial;
 use tcp_listen::acceptor::{Acceptor, Turn};
 use tcp_listen::binding::listen_at_name;
 use tcp_listen::listener::{Listener, Peer};
-use tcp_reach::places::Address;
+use tcp_reach::places::{Address, Place};
 
 /// Two addresses of this machine.
 const BOTH: &[u8] = b"127.0.0.1,127.0.0.2";
@@ -102,15 +102,20 @@ fn a_late_client_beside_many_is_served(rt: HostRuntime) -> Result<(), Fail> {
     Ok(())
 }
 
+/// The address of a place; none of a folder's.
+fn address_of(place: &Place) -> Option<IpAddr> {
+    match place.address() {
+        Address::Ip(address) => Some(address.ip()),
+        Address::Unix => None,
+    }
+}
+
 /// The address at which a server of both is reached at this turn.
 fn reached(rt: &HostRuntime, port: u16, turn: u64) -> Option<IpAddr> {
-    match dial(rt, rt.alloc(), BOTH, port, turn, 15, &None) {
-        Ok((_, place)) => match place.address() {
-            Address::Ip(address) => Some(address.ip()),
-            Address::Unix => None,
-        },
-        Err(_) => None,
-    }
+    let Ok((_end, place)) = dial(rt, rt.alloc(), BOTH, port, turn, 15, &None) else {
+        return None;
+    };
+    address_of(&place)
 }
 
 // Each begins at its own turn; where one is gone, the other is tried.
