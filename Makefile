@@ -112,6 +112,7 @@ gate:
 	@$(MAKE) --no-print-directory $(program) $(trials) $(refusals) $(message_parts) $(scram_parts)
 	scripts/rows.sh $(program) $(trials)
 	scripts/leases.sh $(trials)
+	scripts/book_costs.py $(trials)
 	scripts/conversations.sh $(program) $(trials)
 	scripts/fuzz.py $(program) $(trials)
 	scripts/wrong_bytes.sh $(program) $(trials)
@@ -121,6 +122,7 @@ gate:
 	scripts/scram.py $(scram_parts)
 	scripts/refuse-growth.sh $(program) $(trials) $(refusals)
 	scripts/refused_growths.sh $(program)
+	scripts/wants.py $(program)
 	scripts/faulty_servers.sh $(program)
 	PGSESS=$(program) scripts/cli.sh
 	scripts/ini_files.py $(program)
@@ -170,7 +172,7 @@ dist: build/pgsess
 
 # all run; the status says whether a bound was missed
 bench: build/pgsess $(trials) $(scram_parts)
-	@status=0; bench/replay.sh build/pgsess || status=$$?; bench/tables.sh build/pgsess || status=$$?; bench/relay.sh $(trials) || status=$$?; bench/book.sh $(trials) || status=$$?; scripts/calls.py build/pgsess || status=$$?; bench/derivations.py build/pgsess || status=$$?; bench/scram.py build/pgsess || status=$$?; bench/restart.py build/pgsess || status=$$?; bench/pool.sh build/pgsess || status=$$?; scripts/scram.py $(scram_parts) --whole || status=$$?; exit $$status
+	@status=0; bench/replay.sh build/pgsess || status=$$?; bench/tables.sh build/pgsess || status=$$?; bench/relay.sh $(trials) || status=$$?; bench/book.sh $(trials) || status=$$?; scripts/calls.py build/pgsess || status=$$?; bench/derivations.py build/pgsess || status=$$?; bench/scram.py build/pgsess || status=$$?; bench/restart.py build/pgsess || status=$$?; bench/shows.py build/pgsess || status=$$?; bench/pool.sh build/pgsess || status=$$?; scripts/scram.py $(scram_parts) --whole || status=$$?; exit $$status
 
 clean:
 	rm -rf build crates/*/out

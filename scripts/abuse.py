@@ -7,7 +7,7 @@ import signal
 import sys
 import time
 
-from cluster import HERE, USERS, Cluster, Passes, Place, Pooler, set_up, until
+from cluster import USERS, Cluster, Passes, Place, Pooler, set_up, until
 from wire import Client, Cut, Refused, message, query, startup
 
 KIND = os.environ.get("POOLER", "pgsess")

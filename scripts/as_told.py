@@ -9,11 +9,10 @@ import os
 import re
 import signal
 import socket
-import sys
 import threading
 import time
 
-from cluster import HERE, USERS, Cluster, Passes, Place, Pooler, set_up, until
+from cluster import HERE, USERS, Cluster, Passes, Place, Pooler, play, until
 from wire import Client, Cut, Refused, md5_answer, message, query, startup
 
 TOO = "127.0.0.2"
@@ -354,6 +353,18 @@ class Show:
         self.passes.same("and not to be refused", re.findall(" refused after ", self.log()[self.before:]), [])
         self.cluster.tell("ALTER ROLE ann CONNECTION LIMIT -1", "postgres")
 
+    def left_waiting(self):
+        """A client that goes while it waits for its link."""
+        self.begin(size=1, changes={"^log_disconnections = .*": "log_disconnections = 1"})
+        holder = Client(self.pooler.port, "ann", "shop", USERS["ann"][0])
+        client, salt = self.asked()
+        client.send(message(b"p", md5_answer("ann", USERS["ann"][0], salt).encode() + b"\0"))
+        until(lambda: sum(int(row[3]) for row in self.console("SHOW POOLS")) == 1)
+        client.socket.close()
+        self.logs("a client that goes while it waits is told as gone", r"^pgsess: client \d+ ann@shop from .* out after [\d.]+ s$")
+        self.passes.same("and not as refused", re.findall(" refused after ", self.log()[self.before:]), [])
+        holder.leave()
+
     def visits(self):
         self.begin(listen=f"{HERE}, {TOO}", changes={"^log_connections = .*": "log_connections = 1", "^log_disconnections = .*": "log_disconnections = 1"})
         near = socket.socket()
@@ -371,28 +382,13 @@ class Show:
         if found:
             self.passes.holds("by the clock", STAY <= float(found[1]) < STAY + SLACK, found[0])
 
-    def run(self):
+    def all(self):
         for part in (self.seeds, self.addresses, self.users, self.settings, self.strange_servers, self.ended_sessions, self.leases, self.kept_settings,
-                     self.without_files, self.asking_again, self.visits):
+                     self.without_files, self.asking_again, self.left_waiting, self.visits):
             part()
         self.pooler.stop()
         self.cluster.stop()
 
 
-def main(program):
-    set_up()
-    show = Show(program)
-    try:
-        show.run()
-    finally:
-        if show.pooler:
-            show.pooler.stop()
-        for pid in show.place.processes():
-            os.kill(pid, signal.SIGKILL)
-        until(lambda: not show.place.processes())
-        show.place.clear()
-    show.passes.end()
-
-
 if __name__ == "__main__":
-    main(os.path.abspath(sys.argv[1]))
+    play(Show)

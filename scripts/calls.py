@@ -3,7 +3,7 @@
 
 Usage: calls.py PROGRAM [MOST]
 
-The counts are bounds: no try that comes to nothing belongs to a query, one at most to a connection, and what both may cost is said below; MOST is
+It also sees that what is small isn't held back on a connection. The counts are bounds: no try that comes to nothing belongs to a query, one at most to a connection, and what both may cost is said below; MOST is
 another bound for a connection, whose waits depend on what else the machine does. Where one process may not trace another nothing is
 counted, and that is said.
 """
@@ -43,24 +43,30 @@ def may_trace():
         sleeper.wait()
 
 
+def traced(place, pid, how, work):
+    """What strace tells of the pooler while something is done, and how many seconds that took."""
+    file = place.folder / "calls"
+    tracer = subprocess.Popen(["strace", "-f", *how, "-p", str(pid), "-o", str(file)], stderr=subprocess.PIPE, text=True)
+    for line in tracer.stderr:
+        if "attached" in line:
+            break
+    time.sleep(0.5)
+    began = time.monotonic()
+    work()
+    seconds = time.monotonic() - began
+    tracer.send_signal(signal.SIGINT)
+    tracer.stderr.read()
+    tracer.wait(30)
+    return file.read_text().splitlines(), seconds
+
+
 class Counts:
     """What the pooler called while something was done."""
 
     def __init__(self, place, pid, work):
-        file = place.folder / "calls"
-        tracer = subprocess.Popen(["strace", "-f", "-c", "-U", "name,calls,errors", "-p", str(pid), "-o", str(file)], stderr=subprocess.PIPE, text=True)
-        for line in tracer.stderr:
-            if "attached" in line:
-                break
-        time.sleep(0.5)
-        began = time.monotonic()
-        work()
-        self.seconds = time.monotonic() - began
-        tracer.send_signal(signal.SIGINT)
-        tracer.stderr.read()
-        tracer.wait(30)
+        lines, self.seconds = traced(place, pid, ["-c", "-U", "name,calls,errors"], work)
         self.calls, self.errors = {}, {}
-        for line in file.read_text().splitlines():
+        for line in lines:
             row = re.fullmatch(r"(\w+)\s+(\d+)(?:\s+(\d+))?\s*", line)
             if row and row.group(1) != "total":
                 self.calls[row.group(1)] = int(row.group(2))
@@ -97,11 +103,15 @@ def main(program, most):
         passes.holds(f"a query costs at most {MOST_A_QUERY} calls", each <= MOST_A_QUERY, f"{each:.2f}")
         passes.holds("none of its reads and writes is in vain", vain <= MOST_VAIN_A_QUERY, f"{vain:.3f}")
 
-        def connect():
-            client = Client(pooler.port, "ann")
+        def connect(user="ann"):
+            client = Client(pooler.port, user)
             client.ask("SELECT 1")
             client.leave()
 
+        # of another user, so that a link is started for it
+        lines, _ = traced(place, pooler.process.pid, ["-e", "trace=setsockopt"], lambda: connect("bc"))
+        at_once = [line.split("TCP_NODELAY, ")[1].split(",")[0] for line in lines if "TCP_NODELAY" in line]
+        passes.same("a client's connection and a link's send what is small at once", at_once, ["[1]", "[1]"])
         connect()
         until(lambda: pooler.threads() <= 12, 5)
         counts = Counts(place, pooler.process.pid, lambda: [connect() for _ in range(CONNECTIONS)])

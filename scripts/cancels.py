@@ -11,11 +11,10 @@ import re
 import signal
 import socket
 import subprocess
-import sys
 import threading
 import time
 
-from cluster import HERE, USERS, Cluster, Passes, Place, Pooler, set_up, until
+from cluster import HERE, USERS, Cluster, Passes, Place, Pooler, play, until
 from console import Worker, environment, figures, table
 from wire import CANCEL_REQUEST, Client, Cut, Refused, cancel_request, message, query, startup
 
@@ -248,9 +247,12 @@ class Show:
         """A statement of 30 s is under way."""
         return until(lambda: self.cluster.tell(BUSY) == [["1"]], 10)
 
-    def same_in_the_log(self, what, got, wanted):
+    def same_in_the_log(self, what, patterns, wanted):
+        """How many lines the log has of each kind: they come a while after what they tell of."""
         if KIND == "pgsess":
-            self.passes.same(f"the log: {what}", got, wanted)
+            counts = lambda: [len(self.lines(pattern)) for pattern in patterns]
+            until(lambda: counts() == wanted, LATEST)
+            self.passes.same(f"the log: {what}", counts(), wanted)
 
     def nothing_lent(self, pooler, name):
         """Once all have left no link is lent, and no cancel's connection is open."""
@@ -342,7 +344,7 @@ class Show:
         backs = self.meanwhile(f"{FLOODS} times {FLOOD} and more at once", workers, lambda: self.flood(pooler, keys, sleeper))
         self.passes.same("no worker was struck", [worker.end() for worker in workers], [None] * WORKERS)
         sleeper.leave()
-        self.same_in_the_log("each of them, and the one with a right key", (len(self.lines(NOBODY)), len(self.lines(FOUND)), len(self.lines(CLOSED))), (WRONG + len(backs) - 1, 1, 1))
+        self.same_in_the_log("each of them, and the one with a right key", (NOBODY, FOUND, CLOSED), [WRONG + len(backs) - 1, 1, 1])
         self.nothing_lent(pooler, "after wrong keys")
         pooler.stop()
 
@@ -403,7 +405,7 @@ class Show:
         if KIND == "pgsess":
             self.passes.holds("where a cancel found its link the next client has another", 0 < found < ROUNDS)
         self.both_told(found)
-        self.same_in_the_log("all others found nobody", len(self.lines(NOBODY)), ROUNDS - found)
+        self.same_in_the_log("all others found nobody", (NOBODY,), [ROUNDS - found])
         self.nothing_lent(pooler, "after the race")
         pooler.stop()
 
@@ -491,23 +493,5 @@ class Show:
         self.passes.same("no process is left", self.place.processes(), [])
 
 
-def main():
-    if len(sys.argv) != 2:
-        sys.exit(__doc__)
-    set_up()
-    signal.signal(signal.SIGTERM, lambda *_: sys.exit(1))
-    begin = time.monotonic()
-    show = Show(os.path.abspath(sys.argv[1]))
-    try:
-        show.all()
-    finally:
-        for pid in show.place.processes():
-            os.kill(pid, signal.SIGKILL)
-        until(lambda: not show.place.processes())
-        show.place.clear()
-    print(f"cancels: {time.monotonic() - begin:.0f} s")
-    show.passes.end()
-
-
 if __name__ == "__main__":
-    main()
+    play(Show)

@@ -115,6 +115,13 @@ class Place:
     def clear(self):
         shutil.rmtree(self.folder)
 
+    def end(self):
+        """Ends what runs with this folder, and takes that away."""
+        for pid in self.processes():
+            os.kill(pid, signal.SIGKILL)
+        until(lambda: not self.processes())
+        self.clear()
+
 
 class Cluster:
     """A PostgreSQL server with the database shop, and the users above: it asks for md5 over TCP."""
@@ -352,3 +359,21 @@ class Passes:
     def end(self):
         print(f"{self.name}: {self.passed} passed, {self.failed} failed")
         sys.exit(self.failed > 0 or self.passed == 0)
+
+
+def play(show_of):
+    """Plays a script whose only word is a program: makes what shows it, plays all, tells how long that took, and ends with status 1 where something
+    failed. Nothing of it is left behind, whatever ends it."""
+    if len(sys.argv) != 2:
+        sys.exit(sys.modules["__main__"].__doc__)
+    set_up()
+    signal.signal(signal.SIGTERM, lambda *_: sys.exit(1))
+    began = time.monotonic()
+    show = show_of(os.path.abspath(sys.argv[1]))
+    try:
+        show.all()
+    finally:
+        signal.signal(signal.SIGTERM, signal.SIG_IGN)
+        show.place.end()
+    print(f"{show.passes.name}: {time.monotonic() - began:.0f} s")
+    show.passes.end()

@@ -12,9 +12,9 @@ import sys
 import threading
 import time
 
-from cluster import HERE, USERS, Cluster, Passes, Place, Pooler, free_port, set_up, until
+from cluster import HERE, USERS, Cluster, Passes, Place, Pooler, free_port, play, until
 from scram import kept
-from wire import Client, Cut, Refused, startup
+from wire import Client, Cut, Refused
 
 COLUMNS = {
     "POOLS": ["database", "user", "cl_active", "cl_waiting", "sv_active", "sv_idle"],
@@ -186,9 +186,9 @@ class Show:
 
     def paused(self):
         pooler = self.pooler(size=8)
-        bench = subprocess.Popen(["pgbench", "-n", "-S", "-C", "-c", "8", "-j", "8", "-T", "8"], stdout=subprocess.PIPE, stderr=subprocess.PIPE,
+        bench = subprocess.Popen(["pgbench", "-n", "-S", "-C", "-c", "8", "-j", "8", "-T", "12"], stdout=subprocess.PIPE, stderr=subprocess.PIPE,
                                  env=environment(pooler.port, "ann", "shop"))
-        time.sleep(2)
+        until(lambda: sum((figures(pooler.port) or [0] * 4)[2:]) > 0, 20)
         self.passes.same("PAUSE", console(pooler.port, "PAUSE")[:2], (0, "PAUSE\n"))
         stands = until(lambda: (figures(pooler.port) or [0] * 4)[:3] == [0, 8, 0], 20)
         time.sleep(3)
@@ -440,23 +440,5 @@ def received(stream):
     return got
 
 
-def main():
-    if len(sys.argv) != 2:
-        sys.exit(__doc__)
-    set_up()
-    signal.signal(signal.SIGTERM, lambda *_: sys.exit(1))
-    begin = time.monotonic()
-    show = Show(os.path.abspath(sys.argv[1]))
-    try:
-        show.all()
-    finally:
-        for pid in show.place.processes():
-            os.kill(pid, signal.SIGKILL)
-        until(lambda: not show.place.processes())
-        show.place.clear()
-    print(f"console: {time.monotonic() - begin:.0f} s")
-    show.passes.end()
-
-
 if __name__ == "__main__":
-    main()
+    play(Show)

@@ -1,21 +1,18 @@
 #!/usr/bin/env python3
 """Shows the limits of `pgsess serve` by the clock: of a login, and of the start of a server's session; that silent connections cost nobody
-else a place, also where files are few; that the console is let in beyond max_client_conn; and that clients whose server has no place for
-their links are served one after another. In front of a PostgreSQL server of Debian.
+else a place, also where files are few; that the console is let in beyond max_client_conn; that clients whose server has no place for
+their links are served one after another; and that who waits is woken at once. In front of a PostgreSQL server of Debian.
 
 Usage: limits.py PROGRAM
 """
-import os
 import re
 import resource
 import select
-import signal
 import socket
-import sys
 import threading
 import time
 
-from cluster import HERE, USERS, Cluster, Passes, Place, Pooler, free_port, set_up, until
+from cluster import HERE, USERS, Cluster, Passes, Place, Pooler, play, until
 from wire import Client, Cut, Refused, message, startup
 
 LOGIN, START = 3, 2
@@ -26,6 +23,8 @@ SLACK = 8
 CONSOLE, LOCAL, CONSOLE_SECONDS = 64, 80, 10
 PLACES, CLIENTS, WAIT = 3, 6, 3
 UNREACHED, TOO_MANY = "08001", "53300"
+# so many bells there are; who isn't woken looks again within a second. Most of the turns count, since the machine may be busy
+BELLS, TOGETHER, TURNS, AT_ONCE = 1024, 50, 3, 0.5
 
 
 def told(port, user="ann", database="shop", host=HERE, seconds=SECONDS, asks="SELECT 1"):
@@ -93,6 +92,40 @@ def close(connections):
         it.close()
 
 
+def come_and_go(port, count):
+    """So many clients that go once they are asked for their passwords."""
+    for first in range(0, count, TOGETHER):
+        group = opened(port, startup("ann", "shop"), min(TOGETHER, count - first))
+        for it in group:
+            it.recv(1)
+        close(group)
+
+
+class Full:
+    """A place where nobody takes a connection, and where no more can wait for it."""
+
+    def __init__(self):
+        self.listener, self.waiting = socket.socket(), []
+        self.listener.bind((HERE, 0))
+        self.listener.listen(0)
+        self.port = self.listener.getsockname()[1]
+        while self.has_room():
+            pass
+
+    def has_room(self):
+        it = socket.socket()
+        it.settimeout(0.5)
+        self.waiting.append(it)
+        try:
+            it.connect((HERE, self.port))
+        except TimeoutError:
+            return False
+        return True
+
+    def close(self):
+        close([*self.waiting, self.listener])
+
+
 class Dripping(threading.Thread):
     """A server that says AuthenticationOk and then reports, a byte each 50 ms."""
 
@@ -123,6 +156,8 @@ class Dripping(threading.Thread):
 
 class Show:
     def __init__(self, program):
+        most = resource.getrlimit(resource.RLIMIT_NOFILE)[1]
+        resource.setrlimit(resource.RLIMIT_NOFILE, (min(most, 16384), most))
         self.program, self.passes, self.place = program, Passes("limits"), Place()
         self.cluster = Cluster(self.place)
         self.pooler = None
@@ -195,9 +230,14 @@ class Show:
         close(silent)
 
     def starts(self):
-        """A server that drips its welcome."""
-        server = Dripping()
-        self.begin(closed=server.port, size=1, lines=f"server_connect_timeout = {START}\n")
+        """A server that takes no connection, and one that drips its welcome."""
+        server, full = Dripping(), Full()
+        row = f"full = host={HERE} port={full.port} dbname=shop"
+        self.begin(closed=server.port, size=1, lines=f"server_connect_timeout = {START}\n", more_rows=row)
+        outcome, took = told(self.pooler.port, database="full")
+        in_time = START - 0.5 < took < START + SLACK
+        self.passes.same(f"a server that takes no connection: told in server_connect_timeout ({took:.1f} s)", (outcome, in_time), (UNREACHED, True))
+        full.close()
         for turn in ("a server that drips its welcome", "the next client"):
             outcome, took = told(self.pooler.port, database="closed")
             self.passes.same(f"{turn}: told in server_connect_timeout", (outcome, START <= took < START + SLACK), (UNREACHED, True))
@@ -214,7 +254,8 @@ class Show:
         self.passes.same("a client of the console's database that isn't its user", told(self.pooler.port, "ann", "pgbouncer")[0], TOO_MANY)
         self.passes.same("SHOW beyond it", len(self.console("SHOW CLIENTS")), 4)
         silent = opened(self.pooler.port, startup("root", "pgbouncer"), CONSOLE)
-        time.sleep(1)
+        for it in silent:
+            it.recv(1)
         self.passes.same(f"{CONSOLE} that give no password have the console's places", told(self.pooler.port, "root", "pgbouncer")[0], TOO_MANY)
         self.passes.same("and not those of the Unix socket", told(self.pooler.port, "root", "pgbouncer", str(folder))[0], "served")
         self.passes.same(f"they have {CONSOLE_SECONDS} s", ends(silent, CONSOLE_SECONDS + 5)[0], CONSOLE)
@@ -253,29 +294,40 @@ class Show:
             client.leave()
         self.cluster.tell("ALTER ROLE ann CONNECTION LIMIT -1", "postgres")
 
-    def run(self):
-        for part in (self.logins, self.files, self.shutdown, self.starts, self.console_beyond, self.places):
+    def woken(self):
+        """The seconds after which a client is served whose link comes back, while one at the same bell waits for another link."""
+        port = self.pooler.port
+        console = Client(port, "root", "pgbouncer", USERS["root"][0])
+        waiting = lambda: sum(int(row[3]) for row in console.ask("SHOW POOLS"))
+        holders = {user: Client(port, user, "shop", USERS[user][0]) for user in ("ann", "bc")}
+        other, one = (threading.Thread(target=told, args=(port, user), kwargs={"seconds": 6 * SECONDS}) for user in ("ann", "bc"))
+        other.start()
+        until(lambda: waiting() == 1)
+        come_and_go(port, BELLS - 1)
+        one.start()
+        until(lambda: waiting() == 2)
+        begin = time.monotonic()
+        holders["bc"].leave()
+        one.join()
+        took = time.monotonic() - begin
+        holders["ann"].leave()
+        other.join()
+        console.leave()
+        return took
+
+    def bells(self):
+        """Clients that come so many apart wait at one bell, and none of them for the next second."""
+        self.begin(size=1, clients=2 * BELLS)
+        times = [self.woken() for _ in range(TURNS)]
+        shown = " ".join(f"{it:.2f}" for it in times)
+        self.passes.holds(f"a client is woken as its link comes back, though another waits at its bell ({shown} s)", sorted(times)[TURNS // 2] < AT_ONCE, shown)
+
+    def all(self):
+        for part in (self.logins, self.files, self.shutdown, self.starts, self.console_beyond, self.places, self.bells):
             part()
         self.pooler.stop()
         self.cluster.stop()
 
 
-def main(program):
-    set_up()
-    most = resource.getrlimit(resource.RLIMIT_NOFILE)[1]
-    resource.setrlimit(resource.RLIMIT_NOFILE, (min(most, 16384), most))
-    show = Show(program)
-    try:
-        show.run()
-    finally:
-        if show.pooler:
-            show.pooler.stop()
-        for pid in show.place.processes():
-            os.kill(pid, signal.SIGKILL)
-        until(lambda: not show.place.processes())
-        show.place.clear()
-    show.passes.end()
-
-
 if __name__ == "__main__":
-    main(os.path.abspath(sys.argv[1]))
+    play(Show)

@@ -9,16 +9,14 @@ import json
 import os
 import re
 import shutil
-import signal
 import socket
 import subprocess
-import sys
 import threading
 import time
 import urllib.error
 import urllib.request
 
-from cluster import HERE, TOP, USERS, Cluster, Passes, Place, Pooler, free_port, set_up, until
+from cluster import HERE, TOP, USERS, Cluster, Passes, Place, Pooler, free_port, play, until
 from metrics import named, names_of
 from wire import Client, Refused, message, query, startup, values
 
@@ -160,10 +158,11 @@ class Show:
         fifth = Client(self.port, "ann", "shop", USERS["ann"][0])
         waits = socket.create_connection((HERE, self.port))
         waits.sendall(startup("ann", "shop"))
-        ages = []
+        age, ages = lambda: int(row_of(table(self.port, "ACTIVITY"), state="waiting").get("state_ms", 0)), []
+        until(age, 20)
         for _ in range(2):
             time.sleep(1.1)
-            ages.append(int(row_of(table(self.port, "ACTIVITY"), state="waiting").get("state_ms", 0)))
+            ages.append(age())
         self.passes.holds("one beyond the pool waits, longer and longer", 0 < ages[0] < ages[1], str(ages))
         waits.close()
         secrets = {str(int.from_bytes(it.key[4:8], "big")) for it in (idle, block, failed, busy, fifth)}
@@ -348,7 +347,7 @@ class Show:
         blocks = [Client(self.port, "ann", "shop", USERS["ann"][0]) for _ in range(POOL)]
         waits = socket.create_connection((HERE, self.port))
         waits.sendall(startup("ann", "shop"))
-        time.sleep(2.5)
+        until(lambda: int(row_of(table(self.port, "POOLS"), database="shop").get("maxwait", 0)) >= 1, 20)
         row = row_of(table(self.port, "POOLS"), database="shop")
         self.passes.holds("console_style = pgbouncer: maxwait of who waits", int(row.get("maxwait", 0)) >= 1 and row.get("cl_waiting") == "1", str(row))
         self.passes.same("by default POOLS has the console's own columns", own, ["database", "user", "cl_active", "cl_waiting", "sv_active", "sv_idle"])
@@ -365,7 +364,7 @@ class Show:
         for it in blocks:
             it.leave()
 
-    def run(self):
+    def all(self):
         for part in (self.statistics, self.activity, self.lookers, self.rates, self.scrapes, self.styled):
             part()
         self.install()
@@ -378,20 +377,5 @@ class Show:
         self.cluster.stop()
 
 
-def main(program):
-    set_up()
-    show = Show(program)
-    try:
-        show.run()
-    finally:
-        if show.pooler:
-            show.pooler.stop()
-        for pid in show.place.processes():
-            os.kill(pid, signal.SIGKILL)
-        until(lambda: not show.place.processes())
-        show.place.clear()
-    show.passes.end()
-
-
 if __name__ == "__main__":
-    main(os.path.abspath(sys.argv[1]))
+    play(Show)

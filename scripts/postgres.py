@@ -9,10 +9,9 @@ import os
 import re
 import signal
 import subprocess
-import sys
 import time
 
-from cluster import HERE, USERS, Cluster, Passes, Place, Pooler, free_port, set_up, until
+from cluster import HERE, USERS, Cluster, Passes, Place, Pooler, free_port, play, until
 from wire import Client, Cut, Refused, message, query
 
 KIND = os.environ.get("POOLER", "pgsess")
@@ -361,23 +360,5 @@ def rate(out):
     return round(float(found[1])) if found else "no"
 
 
-def main():
-    if len(sys.argv) != 2:
-        sys.exit(__doc__)
-    set_up()
-    signal.signal(signal.SIGTERM, lambda *_: sys.exit(1))
-    begin = time.monotonic()
-    show = Show(os.path.abspath(sys.argv[1]))
-    try:
-        show.all()
-    finally:
-        for pid in show.place.processes():
-            os.kill(pid, signal.SIGKILL)
-        until(lambda: not show.place.processes())
-        show.place.clear()
-    print(f"postgres: {time.monotonic() - begin:.0f} s")
-    show.passes.end()
-
-
 if __name__ == "__main__":
-    main()
+    play(Show)

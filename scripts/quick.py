@@ -1,5 +1,5 @@
 #!/usr/bin/env python3
-"""Tries all that can be tried before a proof: the layout of the files, and every crate of tests by `rt try`.
+"""Tries all that can be tried before a proof: the layout of the files, the scripts by lint.sh, and every crate of tests by `rt try`.
 
 Usage: quick.py [CRATE..]      crates of tests; none: all of them
 
@@ -31,6 +31,12 @@ def layout(names):
     return ran.returncode == 0 and "formatted" not in ran.stdout, ran.stdout
 
 
+def linted():
+    """Whether the linters that are installed say nothing of the scripts."""
+    ran = subprocess.run([crates.ROOT / "scripts/lint.sh"], stdout=subprocess.PIPE, stderr=subprocess.STDOUT, text=True, errors="replace")
+    return ran.returncode == 0, ran.stdout
+
+
 def tested(name):
     """Whether a crate's tests pass unproved."""
     ran = subprocess.run(["rt", "try", "--test"], cwd=crates.ROOT / "crates" / name, stdin=subprocess.DEVNULL, stdout=subprocess.PIPE,
@@ -46,9 +52,9 @@ def main(names):
     tests = names or [it for it in listed if it.endswith("_tests")]
     jobs = int(subprocess.run([crates.ROOT / "scripts/jobs.sh"], stdout=subprocess.PIPE, text=True, check=True).stdout)
     failed, began = [], time.monotonic()
-    print(f"the layout of {len(listed)} crates, and {len(tests)} crates of tests UNPROVED, {jobs} at a time", flush=True)
+    print(f"the layout of {len(listed)} crates, the scripts, and {len(tests)} crates of tests UNPROVED, {jobs} at a time", flush=True)
     with concurrent.futures.ThreadPoolExecutor(jobs) as pool:
-        runs = {pool.submit(layout, listed): "the layout (rt fmt)", **{pool.submit(tested, it): it for it in tests}}
+        runs = {pool.submit(layout, listed): "the layout (rt fmt)", pool.submit(linted): "the scripts (lint.sh)", **{pool.submit(tested, it): it for it in tests}}
         for number, run in enumerate(concurrent.futures.as_completed(runs), 1):
             passed, said = run.result()
             print(f"{time.monotonic() - began:5.0f} s  {number} of {len(runs)}: {runs[run]} {'ok' if passed else 'FAILED'}", flush=True)

@@ -13,14 +13,16 @@ import signal
 import socket
 import stat
 import subprocess
-import sys
 import threading
 import time
 
-from cluster import HERE, USERS, Cluster, Passes, Place, free_port, set_up, until
+from calls import may_trace, traced
+from cluster import HERE, USERS, Cluster, Passes, Place, free_port, need, play, until
 from wire import Client, Cut, Refused, cancel_request, connected, query
 
 SECONDS = 20
+# the flags of a listening socket in /proc/net/unix
+LISTENING = "00010000"
 LONG_SECONDS = 30
 LONG = f"SELECT pg_sleep({LONG_SECONDS})"
 # an address of this machine at which the first server listens too, one where the second does, and one where nobody does
@@ -79,6 +81,13 @@ class Pool:
             return console.ask(command)
         finally:
             console.leave()
+
+    def unix_listener(self):
+        """The descriptor of its Unix socket."""
+        rows = pathlib.Path("/proc/net/unix").read_text().splitlines()[1:]
+        listening = {f"socket:[{row.split()[6]}]" for row in rows if row.split()[3] == LISTENING}
+        folder = pathlib.Path(f"/proc/{self.process.pid}/fd")
+        return next(it.name for it in folder.iterdir() if os.readlink(it) in listening)
 
     def shut(self):
         """Ends it by its console; its status."""
@@ -322,8 +331,7 @@ class Show:
         path.unlink()
         moved.unlink()
         pool = self.pool(HERE, more, 2, port=port)
-        self.passes.same("SHUTDOWN", pool.shut(), 0)
-        self.passes.holds("its own goes", not path.exists())
+        self.goes_first(pool, path)
         for what, make in {"a file": lambda: path.write_text("mine"), "PostgreSQL's lock": lambda: pathlib.Path(f"{path}.lock").write_text("1\n")}.items():
             make()
             pool = self.pool(HERE, more, 1, port=port)
@@ -339,6 +347,20 @@ class Show:
             self.serves(f"{what}: the pool goes on", pool)
             pool.stop()
         self.passes.holds("and no socket is left", not path.exists())
+
+    def goes_first(self, pool, path):
+        """At SHUTDOWN the socket's file goes, and while somebody listens there still: who finds it is never refused."""
+        need(["strace"], ["strace"])
+        if not may_trace():
+            self.passes.same("SHUTDOWN", pool.shut(), 0)
+            print("the order of its calls isn't seen: one process may not trace another here")
+        else:
+            listener = pool.unix_listener()
+            lines, _ = traced(self.place, pool.process.pid, ["-e", "trace=unlink,unlinkat,close"], pool.shut)
+            first = lambda call: next((number for number, line in enumerate(lines) if call in line), None)
+            gone, closed = first(f'"{path}"'), first(f"close({listener})")
+            self.passes.holds("its socket's file goes before nobody listens there", gone is not None and closed is not None and gone < closed, f"{gone} {closed}")
+        self.passes.holds("its own goes", not path.exists())
 
     def taken(self):
         """A port that is taken ends the program, with the line that says so."""
@@ -421,7 +443,7 @@ class Show:
             client.leave()
             pool.stop()
 
-    def run(self):
+    def all(self):
         self.hosts()
         self.lists()
         self.two_clusters()
@@ -434,18 +456,5 @@ class Show:
         self.cluster.stop()
 
 
-def main(program):
-    set_up()
-    show = Show(program)
-    try:
-        show.run()
-    finally:
-        for pid in show.place.processes():
-            os.kill(pid, signal.SIGKILL)
-        until(lambda: not show.place.processes())
-        show.place.clear()
-    show.passes.end()
-
-
 if __name__ == "__main__":
-    main(os.path.abspath(sys.argv[1]))
+    play(Show)

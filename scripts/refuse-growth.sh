@@ -112,7 +112,7 @@ for row in set_show_discard temporary_table_and_statement cursor_with_hold bind_
 done
 
 # each kind, and how many of its growths at least are asked for once more
-for kind in login:10 start:60 reset:10 end:100 relay:8 book:20 view:3 console:120 strike:2; do
+for kind in login:10 start:60 reset:10 end:100 relay:5 book:20 view:3 console:120 strike:2; do
     fewest=${kind#*:}
     kind=${kind%:*}
     "$refusals" "$kind" >"$work/answer"

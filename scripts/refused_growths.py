@@ -8,19 +8,24 @@ three more, or all from the Nth on: for N from 1 on until none is left to refuse
 takes the place of another user's; one that waits for a link; one that logs in by MD5; one of the console; and a client whose statement is to
 be cancelled. Each is given a front of what it is given otherwise, and perhaps one refusal. Then growths are had again, and two clients, as
 many as may be there, share the one link there may be: each is given exact bytes, and no file is left open but the poll of each thread that is kept.
+
+Last, each growth is refused in turn from a client's coming on up to its lease, over a link that is started for it; and what it is told is the
+cause: P9 where memory was refused, in the start too; P7 only where the log says why its server wasn't reached. One that is closed without a
+byte is counted in the log.
 """
 import ctypes
 import mmap
 import os
 import pathlib
+import re
 import signal
 import socket
 import sys
 import time
 
 from cluster import HERE, POLL, TOP, USERS, Passes, Place, Pooler, Stub, files_of, until
-from leases import borders, is_allowed
-from logins import GIVEN
+from leases import UNREACHED, borders, is_allowed
+from logins import GIVEN, fatal
 from rows import CATALOGUE, START, run
 from wire import cancel_request, fields, md5_answer, message, query, startup
 
@@ -34,6 +39,11 @@ WAYS = {"one": 1, "four": 4, "all from one on": FOR_EVER}
 # each scenario refuses so many at least, and ends before so many
 FEWEST, MOST, MOST_TOLD = 5, 2_000, 3
 TERMINATE, OK = message(b"X"), GIVEN["ok"]
+MEMORY = fatal("53200", "pooler is out of memory")
+# the log counts what is closed without a byte once a second
+LOG_SECONDS = 10
+# what a client is told of a growth that is refused, and how often at least
+FEWEST_TOLD = {"served": 1, "P9": 5, "P9 in its start": 10, "P7": 1, "nothing": 3}
 # the question for the MD5 answer, whose salt stands behind it
 ASKED = GIVEN["md5"][:9]
 TALK = [query("SHOW application_name"), query("CREATE TEMP TABLE t (a text)"), query("SET application_name TO 'x'"), query("SELECT name FROM city")]
@@ -333,6 +343,73 @@ class Sweep:
         return faults
 
 
+class Causes:
+    """A client whose link is started for it, of which each growth is refused in turn: what it is told."""
+
+    def __init__(self, growths):
+        self.growths, self.told, self.runs = growths, [], 0
+        self.whole = self.given()
+
+    def log(self):
+        return (self.growths.place.folder / "pgsess.err").read_text(errors="replace")
+
+    def given(self, refuse=lambda: None):
+        """What a client is given; that another user has the link before has it start one."""
+        self.growths.served("bc", SECONDS)
+        refuse()
+        return plain(self.growths.served("ann", SECONDS))
+
+    def unserved(self):
+        """How many connections the log says were closed for want of something."""
+        return sum(map(int, re.findall(r"^pgsess: (\d+) connections? closed for want of ", self.log(), re.M)))
+
+    def kind(self, given, before):
+        """What a client was told, by this and by the log from there on; nothing where neither says."""
+        if given in (self.whole, b""):
+            return "served" if given else "nothing"
+        if given.endswith(MEMORY):
+            return "P9"
+        not_reached = rf"^pgsess: server {HERE}:{self.growths.stub.port} not reached: "
+        says_why = lambda: re.search(not_reached, self.log()[before:], re.M)
+        return "P7" if given.endswith(UNREACHED) and until(says_why, LOG_SECONDS) else ""
+
+    def fault_of(self, first):
+        """What is wrong where this growth is refused, and whether one was."""
+        page, before = self.growths.pages["serve"], len(self.log())
+        given = self.given(lambda: page.refuse(first, 1))
+        if not page.end():
+            return "", False
+        self.runs += 1
+        self.told.append(self.kind(given, before))
+        if not self.told[-1]:
+            return f"{first}: a client is given {given[-100:]!r}", True
+        return self.growths.fault_afterwards(), True
+
+    def counts(self):
+        counts = {kind: self.told.count(kind) for kind in FEWEST_TOLD}
+        if "P7" in self.told:
+            # a growth that is refused behind the last for which the server isn't reached
+            behind = len(self.told) - self.told[::-1].index("P7")
+            counts["P9 in its start"] = self.told[behind:].count("P9")
+        return counts
+
+    def fault(self):
+        before = self.unserved()
+        for first in range(1, MOST):
+            fault, is_refused = self.fault_of(first)
+            if fault:
+                return fault
+            if not is_refused:
+                break
+        counts = self.counts()
+        if any(counts[kind] < fewest for kind, fewest in FEWEST_TOLD.items()):
+            return f"told {counts}"
+        wanted = counts["nothing"]
+        until(lambda: self.unserved() - before >= wanted, LOG_SECONDS)
+        counted = self.unserved() - before
+        return "" if counted == wanted else f"{wanted} connections were closed without a byte, and the log counts {counted}"
+
+
 def main():
     if len(sys.argv) != 2:
         sys.exit(__doc__)
@@ -365,6 +442,10 @@ def main():
             if faults:
                 break
         else:
+            causes = Causes(md5)
+            fault = causes.fault()
+            runs += causes.runs
+            passes.tell(f"serve, a growth of a client's coming and of its link's start: {causes.runs} runs, told {causes.counts()}", fault)
             passes.same("the poolers end by SHUTDOWN: who arrived left, and each link that was lent came back or was lost", [it.pooler.shut() for it in made], ["", ""])
     finally:
         for growths in made:

@@ -13,7 +13,7 @@ import sys
 import threading
 import time
 
-from cluster import USERS, Cluster, Passes, Place, Pooler, set_up, until
+from cluster import USERS, Cluster, Passes, Place, Pooler, play, until
 from wire import Client, Cut, Refused
 
 KIND = os.environ.get("POOLER", "pgsess")
@@ -136,7 +136,7 @@ class Show:
         self.passes.same("it is answered once that has gone", answered, [[]])
         self.passes.holds("and its session has ended", until(lambda: not set(before) & set(self.cluster.backends()), 5))
 
-    def run(self):
+    def all(self):
         for _ in range(ROUNDS):
             self.round("stop -m fast, and start", lambda: self.restart("fast"), "its server said 57P01 ")
             self.round("stop -m immediate, and start", lambda: self.restart("immediate"), "its server said 57P01 |server connection ended|its server said 57P02 ")
@@ -150,19 +150,5 @@ class Show:
         self.cluster.stop()
 
 
-def main(program):
-    set_up()
-    show = Show(program)
-    try:
-        show.run()
-    finally:
-        show.pooler.stop()
-        for pid in show.place.processes():
-            os.kill(pid, signal.SIGKILL)
-        until(lambda: not show.place.processes())
-        show.place.clear()
-    show.passes.end()
-
-
 if __name__ == "__main__":
-    main(os.path.abspath(sys.argv[1]))
+    play(Show)

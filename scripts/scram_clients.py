@@ -18,13 +18,10 @@ import pathlib
 import random
 import re
 import shutil
-import signal
 import subprocess
-import sys
 import tempfile
-import time
 
-from cluster import HERE, USERS, Installed, Passes, Place, Pooler, set_up, until
+from cluster import HERE, USERS, Installed, Passes, Place, Pooler, play, until
 from postgres import failures, run
 from reach import UNREACHED, outcome
 from scram import kept
@@ -371,8 +368,10 @@ class Show:
         """The server asks this user so."""
         rules = self.cluster.data / "pg_hba.conf"
         rules.write_text(f"host all {user} {HERE}/32 {method}\n" + re.sub(rf"^host all {user} .*\n", "", rules.read_text(), flags=re.M))
+        loaded = lambda: self.cluster.tell("SELECT pg_conf_load_time()")
+        before = loaded()
         self.cluster.tell("SELECT pg_reload_conf()")
-        time.sleep(0.3)
+        until(lambda: loaded() != before)
 
     def reset(self, pooler):
         """No link that is there is lent again."""
@@ -406,24 +405,5 @@ class Show:
         self.passes.same("no process is left", self.place.processes(), [])
 
 
-def main():
-    if len(sys.argv) != 2:
-        sys.exit(__doc__)
-    set_up()
-    signal.signal(signal.SIGTERM, lambda *_: sys.exit(1))
-    began = time.monotonic()
-    show = Show(os.path.abspath(sys.argv[1]))
-    try:
-        show.all()
-    finally:
-        signal.signal(signal.SIGTERM, signal.SIG_IGN)
-        for pid in show.place.processes():
-            os.kill(pid, signal.SIGKILL)
-        until(lambda: not show.place.processes())
-        show.place.clear()
-    print(f"scram clients: {time.monotonic() - began:.0f} s")
-    show.passes.end()
-
-
 if __name__ == "__main__":
-    main()
+    play(Show)

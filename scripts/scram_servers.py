@@ -15,14 +15,12 @@ import functools
 import hashlib
 import os
 import re
-import signal
 import socket
-import sys
 import threading
 import time
 from concurrent.futures import ThreadPoolExecutor
 
-from cluster import HERE, USERS, Installed, Passes, Place, Pooler, set_up, until
+from cluster import HERE, USERS, Installed, Passes, Place, Pooler, play, until
 from faulty_servers import START, TERMINATE, authentication, packet
 from logins import fatal
 from plain_reader import IDLE, OK, TAG
@@ -507,24 +505,5 @@ class Show:
         self.passes.same("no process is left", self.place.processes(), [])
 
 
-def main():
-    if len(sys.argv) != 2:
-        sys.exit(__doc__)
-    set_up()
-    signal.signal(signal.SIGTERM, lambda *_: sys.exit(1))
-    began = time.monotonic()
-    show = Show(os.path.abspath(sys.argv[1]))
-    try:
-        show.all()
-    finally:
-        signal.signal(signal.SIGTERM, signal.SIG_IGN)
-        for pid in show.place.processes():
-            os.kill(pid, signal.SIGKILL)
-        until(lambda: not show.place.processes())
-        show.place.clear()
-    print(f"scram servers: {time.monotonic() - began:.0f} s")
-    show.passes.end()
-
-
 if __name__ == "__main__":
-    main()
+    play(Show)

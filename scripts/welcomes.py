@@ -13,7 +13,7 @@ import subprocess
 import sys
 
 from cluster import HERE, Passes, Place, Stub, free_port, until
-from logins import GIVEN, fatal, logins_of, message
+from logins import fatal, logins_of, message
 
 SECONDS = 20
 TERMINATE = message(b"X", b"")

@@ -15,7 +15,7 @@ pub record Keeps (p q : Pass) : Type 0 where
 pub keeps_none : (p : Pass) → Keeps p p
 keeps_none p = record {
   share = record { arrived = refl; granted = refl; given_back = refl; lost = refl; left = refl; others = le_refl p.told.made.others; unbroken = λ e. e };
-  holder = record { client = refl; lease = refl; refused = refl };
+  holder = record { client = refl; lease = refl; refused = refl; found = refl; struck = refl };
 }
 
 pub keeps_further : (p q r : Pass) → Keeps p q → Keeps q r → Keeps p r
@@ -29,13 +29,19 @@ keeps_further p q r x y = record {
     others = omega (arith, x.share.others, y.share.others);
     unbroken = λ e. x.share.unbroken (y.share.unbroken e);
   };
-  holder = record { client = y.holder.client ∙ x.holder.client; lease = y.holder.lease ∙ x.holder.lease; refused = y.holder.refused ∙ x.holder.refused };
+  holder = record {
+    client = y.holder.client ∙ x.holder.client;
+    lease = y.holder.lease ∙ x.holder.lease;
+    refused = y.holder.refused ∙ x.holder.refused;
+    found = y.holder.found ∙ x.holder.found;
+    struck = y.holder.struck ∙ x.holder.struck;
+  };
 }
 
 keeps_action : (a : Action) (p : Pass) → Keeps p (after_action a p)
 keeps_action a p = record {
   share = record { arrived = refl; granted = refl; given_back = refl; lost = refl; left = refl; others = omega arith; unbroken = λ e. e };
-  holder = record { client = refl; lease = refl; refused = refl };
+  holder = record { client = refl; lease = refl; refused = refl; found = refl; struck = refl };
 }
 
 keeps_doing : (does : Option Action) (p : Pass) → Keeps p (after_doing does p)
@@ -49,7 +55,7 @@ keeps_exchanges (x ∷ xs) p = keeps_further p (after_doing x.does p) (after_exc
 keeps_broken : (a : Action) (p : Pass) → Keeps p (broken_by a p)
 keeps_broken a p = record {
   share = record { arrived = refl; granted = refl; given_back = refl; lost = refl; left = refl; others = le_refl p.told.made.others; unbroken = λ e. absurd (true≢false e) };
-  holder = record { client = refl; lease = refl; refused = refl };
+  holder = record { client = refl; lease = refl; refused = refl; found = refl; struck = refl };
 }
 
 pub keeps_same : (p q : Pass) → q ≡ p → Keeps p q

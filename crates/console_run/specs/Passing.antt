@@ -51,8 +51,10 @@ pub record Manages (p q : PassOf) : Type 0 where
   pub others : p.made.others ≤ q.made.others
   pub unbroken : q.is_broken ≡ false → p.is_broken ≡ false
 
--- the client, its link, and what it was refused by
+-- the client, its link, what it was refused by, and the cancels that were found and sent
 pub record IsSameHolder (h k : Holder) : Type 0 where
   pub client : k.client ≡ h.client
   pub lease : k.lease ≡ h.lease
   pub refused : k.refused ≡ h.refused
+  pub found : k.found ≡ h.found
+  pub struck : k.struck ≡ h.struck

@@ -1,4 +1,5 @@
-//! The lists of the lease book with the decisions that led to them: the last 256 are kept, and the older ones are in the base.
+//! The lists of the lease book with the decisions that led to them: the last 256 are kept, and the older ones are in the base, which only
+//! clauses read.
 ghost use Rattle.std.specs.Prelude.{find, ◌≡◌, ◌+◌, [], IfOk, cond, length, map};
 ghost use Rattle.std.specs.Arc.{arc_value};
 ghost use Rattle.book_model.specs.Book.{empty_book, is_link};
@@ -11,6 +12,7 @@ ghost use Rattle.book_model.specs.Replay.{noted, noted_of};
 ghost use Rattle.lease_book.specs.Histories.{LeadsTo};
 ghost use Rattle.lease_book.specs.Shown.{as_shown, decisions_shown};
 
+use crate::base::Base;
 use crate::shown::all_shown;
 use book_model::events::{Event, Reply};
 use book_model::limits::Limits;
@@ -45,7 +47,7 @@ impl Model for Decision {
 
 /// The last decisions, and the lists that they begin from.
 pub struct History {
-    base: Lists,
+    base: Base,
     kept: HeapCircularBuffer<Decision>,
 }
 
@@ -61,18 +63,21 @@ impl Model for History {
 
     ghost Value = { HistoryOf };
 
-    ghost view = { λ h. record { base = h.base; kept = h.kept.items } };
+    ghost view = { λ h. record { base = h.base.lists; kept = h.kept.items } };
 
     ghost invariant = { λ h. (h.kept.capacity ≡ most_kept) × (length h.kept.items ≤ most_kept) };
 }
 
 impl History {
     /// A history without decisions, of these lists.
-    fn new(alloc: Global, base: Lists) -> Result<History, AllocError>
-        ensures { IfOk result (λ h. h ≡ record { base = base; kept = [] }) }
+    fn new(alloc: Global, lists: &Lists) -> Result<History, AllocError>
+        ensures { IfOk result (λ h. h ≡ record { base = lists.now; kept = [] }) }
     {
         let kept = HeapCircularBuffer::with_capacity(alloc, MOST_KEPT)?;
-        Ok(History { base, kept })
+        Ok(History {
+            base: Base::of(lists),
+            kept,
+        })
     }
 
     /// Keeps a decision, and needs no memory: the oldest of more than 256 goes into the base.
@@ -80,7 +85,7 @@ impl History {
         ensures { self.new ≡ noted self.old decision }
     {
         if let Some(oldest) = self.kept.push_back(decision) {
-            self.base.apply(oldest.event);
+            self.base.fold(&oldest.event);
         }
     }
 }
@@ -119,9 +124,8 @@ impl Register {
         ensures lists { IfOk result (λ r. r.lists ≡ empty_book (arc_value limits)) }
         ensures history { IfOk result (λ r. r.history ≡ record { base = empty_book (arc_value limits); kept = [] }) }
     {
-        let base = Lists::new(alloc, Arc::try_clone(&limits)?)?;
-        let history = History::new(alloc, base)?;
         let lists = Lists::new(alloc, limits)?;
+        let history = History::new(alloc, &lists)?;
         Ok(Register { lists, history })
     }
 
@@ -135,9 +139,8 @@ impl Register {
         ensures lists { IfOk result (λ r. r.lists ≡ counted_book (arc_value limits) decisions) }
         ensures history { IfOk result (λ r. r.history ≡ record { base = counted_book (arc_value limits) decisions; kept = [] }) }
     {
-        let base = Lists::from_count(alloc, Arc::try_clone(&limits)?, decisions)?;
-        let history = History::new(alloc, base)?;
         let lists = Lists::from_count(alloc, limits, decisions)?;
+        let history = History::new(alloc, &lists)?;
         Ok(Register { lists, history })
     }
 
@@ -155,7 +158,8 @@ impl Register {
         ensures kept { result.1 ≡ length self.now.history.kept }
         ensures all { result.0 + result.1 ≡ self.now.lists.decisions }
     {
-        (self.history.base.decisions(), self.history.kept.len())
+        let kept = self.history.kept.len();
+        (self.lists.decisions() - kept as u64, kept)
     }
 
     /// What is shown of the kept decisions, from the oldest on.
@@ -166,9 +170,8 @@ impl Register {
         ensures leads { LeadsTo self.now.history self.now.lists }
         ensures shown { IfOk result (λ v. map as_shown v.items ≡ decisions_shown self.now.history) }
     {
-        // for the prover: as many decisions as there were have numbers
-        let _decisions = self.lists.decisions();
-        all_shown(alloc, self.history.base.decisions(), &self.history.kept)
+        let before = self.lists.decisions() - self.history.kept.len() as u64;
+        all_shown(alloc, before, &self.history.kept)
     }
 
     /// What a link that is given back makes of the lists, by what it was started as, and the reply. It needs no memory.

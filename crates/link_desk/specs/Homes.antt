@@ -10,16 +10,17 @@ use Rattle.link_desk.specs.declared.answers.Grant.{Grant}
 use Rattle.link_desk.specs.declared.answers.Grant.TheVariants as grant
 
 -- The catalogue that stands behind each address; whether the ends that are dialled follow their servers, and whether cancels reach
--- those; and whether they let a user of this name in by this credential.
+-- those; whether they let a user of this name in by this credential; and whether each dial to an address gives an end.
 pub record HomeOf : Type 0 where
   pub catalogue : Address → CatalogueOf
   pub follows : Bool
   pub strikable : Bool
   pub lets_in : Text → CredentialOf → Bool
+  pub reaches : Address → Bool
 
 -- nothing is claimed of what is dialled
 abbrev pub unknown_home : HomeOf
-unknown_home = record { catalogue = λ address. record { version = []; databases = []; tables = [] }; follows = false; strikable = true; lets_in = λ name credential. false }
+unknown_home = record { catalogue = λ address. record { version = []; databases = []; tables = [] }; follows = false; strikable = true; lets_in = λ name credential. false; reaches = λ address. false }
 
 -- An end that was dialled to the servers of this key's address, and waits for its StartupMessage: for a start with this credential, so what
 -- its server asks are questions of that.

@@ -1,6 +1,7 @@
 //! A desk that lends links.
-ghost use Rattle.std.specs.Prelude.{◌≡◌, IfOk, IfSome, IsSome, None, Some, true};
+ghost use Rattle.std.specs.Prelude.{◌≡◌, IfOk, IfSome, IsSome, MatchOption, None, Some, false, true};
 ghost use Rattle.std.specs.Arc.{arc_value};
+ghost use Rattle.session_values.specs.State.{address_of};
 ghost use Rattle.book_model.specs.Book.{Book};
 ghost use Rattle.book_model.specs.Kept.{Kept};
 ghost use Rattle.book_model.specs.Outcomes.{apply};
@@ -157,7 +158,7 @@ pub trait LinkDesk {
         credential: &Credential<'_>,
         seconds: u32,
     ) -> Option<Self::End>
-        ensures { IfSome result (λ e. IsDialled home key.now credential.now (Self.End.standing e)) };
+        ensures { MatchOption result (home.reaches (address_of key.now) ≡ false) (λ e. IsDialled home key.now credential.now (Self.End.standing e)) };
 
     /// The book as it is now, in rows of the caller's own; what was made through the pass is among its decisions.
     ///

@@ -13,6 +13,9 @@ use message_view::{
 use server_end::ServerEnd;
 use std::alloc::{AllocError, Global};
 
+/// Room for what most servers report: PostgreSQL's fourteen parameters take some 400 bytes.
+const USUAL_WELCOME: usize = 512;
+
 /// The parameters that the link's start reported, in that order and with the values of then, BackendKeyData of the client's own key
 /// word, and ReadyForQuery `I` (PostgreSQL manual, "Message Flow", "Start-up").
 ///
@@ -24,7 +27,7 @@ pub fn welcome_over<E: ServerEnd>(
 ) -> Result<BytesMut, AllocError>
     ensures { IfOk result (λ out. out.items ≡ flat_map spelling (welcome_by link.now.reports word.pid word.secret)) }
 {
-    let mut out = BytesMut::new(alloc);
+    let mut out = BytesMut::with_capacity(alloc, USUAL_WELCOME)?;
     for report in link.reports() {
         put_parameter_status(&mut out, report.name(), report.value())?;
     }

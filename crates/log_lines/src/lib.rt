@@ -5,4 +5,4 @@ pub mod events;
 pub mod laws;
 pub mod lines;
 pub mod notes;
-mod shown;
+pub mod shown;

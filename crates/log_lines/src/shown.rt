@@ -44,7 +44,7 @@ fn put_bytes(line: &mut Vec<u8>, mark: u8, text: &[u8]) -> Result<(), AllocError
 }
 
 /// So many bytes of a text, or all.
-fn start_of(text: &[u8], count: usize) -> &[u8]
+pub fn start_of(text: &[u8], count: usize) -> &[u8]
     ensures { result.now ≡ take count text.now }
 {
     if count < text.len() {
@@ -74,8 +74,11 @@ pub(crate) fn put_name(line: &mut Vec<u8>, name: &[u8]) -> Result<(), AllocError
     put_shown(line, b' ', name)
 }
 
-/// A text between quotation marks.
-pub(crate) fn put_quoted(line: &mut Vec<u8>, text: &[u8]) -> Result<(), AllocError>
+/// Puts a text between quotation marks: its first 200 bytes, and three dots where it is longer. A byte that isn't printing ASCII, `\` and `"` are
+/// shown as `\xNN`.
+///
+/// `AllocError` where memory is refused; the line then holds a part of it.
+pub fn put_quoted(line: &mut Vec<u8>, text: &[u8]) -> Result<(), AllocError>
     ensures { OnOk result (line.new.items ≡ line.old.items ++ spec.quoted text.now) }
 {
     line.push(b'"')?;
@@ -84,8 +87,11 @@ pub(crate) fn put_quoted(line: &mut Vec<u8>, text: &[u8]) -> Result<(), AllocErr
     Ok(())
 }
 
-/// A text that ends where the line does.
-pub(crate) fn put_text(line: &mut Vec<u8>, text: &[u8]) -> Result<(), AllocError>
+/// Puts a text that ends where the line does: its first 200 bytes, and three dots where it is longer. A byte that isn't printing ASCII and `\` are
+/// shown as `\xNN`.
+///
+/// `AllocError` where memory is refused; the line then holds a part of it.
+pub fn put_text(line: &mut Vec<u8>, text: &[u8]) -> Result<(), AllocError>
     ensures { OnOk result (line.new.items ≡ line.old.items ++ spec.shown_text text.now) }
 {
     put_shown(line, b'\\', text)

@@ -1,6 +1,6 @@
 -- What is dialled in memory.
 use Rattle.std.proofs.Common.{◌≡◌, ℕ, List, Option, Some, None, Result, Ok, Err, refl, sym, subst}
-use Rattle.std.specs.Prelude.{IfOk, IfSome}
+use Rattle.std.specs.Prelude.{IfOk, MatchOption}
 use Rattle.std.specs.Result.{result_ok}
 use Rattle.session_values.specs.Lawful.{IsLawfulCatalogue}
 use Rattle.session_values.specs.State.{Address, StartKeyOf, address_of}
@@ -22,6 +22,6 @@ new_dialled home key credential v cut s c f lawful can e = subst (λ (x : Server
   lets_in = λ _. refl;
 })
 
-pub some_if : {A E : Type 0} (P Q : A → Type 0) (r : Result A E) (o : Option A) → o ≡ result_ok r → IfOk r P → ((x : A) → P x → Q x) → IfSome o Q
-some_if P Q (Ok x) o e p f = subst (λ (y : Option _). IfSome y Q) (sym e) (f x p)
-some_if P Q (Err y) o e p f = subst (λ (z : Option _). IfSome z Q) (sym e) tt
+pub some_or : {A E : Type 0} (N : Type 0) (P Q : A → Type 0) (r : Result A E) (o : Option A) → o ≡ result_ok r → IfOk r P → N → ((x : A) → P x → Q x) → MatchOption o N Q
+some_or N P Q (Ok x) o e p n f = subst (λ (y : Option _). MatchOption y N Q) (sym e) (f x p)
+some_or N P Q (Err y) o e p n f = subst (λ (z : Option _). MatchOption z N Q) (sym e) n

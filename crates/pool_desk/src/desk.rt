@@ -145,16 +145,20 @@ impl<R: Wait + Clock, S: Outside, K: Ledgers> Desk<R, S, K> {
                 drop(core);
                 self.bells.of(client).notify_all();
             }
-            Helps::FirstOfEach => {
-                let chosen = core.first_of_each();
-                drop(core);
-                self.bells.ring(&chosen);
-            }
+            Helps::FirstOfEach => self.ring_first_of_each(core),
             Helps::All => {
                 drop(core);
                 self.bells.ring_all();
             }
         }
+    }
+
+    /// Lets the lock go, and wakes the first of each pool. Apart, so that other decisions clear no table of bells.
+    #[inline(never)]
+    fn ring_first_of_each(&self, core: MutexGuard<'_, Core<S, K>>) {
+        let chosen = core.first_of_each();
+        drop(core);
+        self.bells.ring(&chosen);
     }
 
     /// Wakes this client, if any.

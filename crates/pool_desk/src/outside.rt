@@ -1,6 +1,7 @@
 //! What a desk reaches outside: its servers, its files and its log.
-ghost use Rattle.std.specs.Prelude.{◌≡◌, IfSome};
+ghost use Rattle.std.specs.Prelude.{◌≡◌, IfSome, MatchOption, false};
 ghost use Rattle.std.specs.Arc.{arc_value};
+ghost use Rattle.session_values.specs.State.{address_of};
 ghost use Rattle.desk_tallies.specs.Homes.{IsDialled};
 
 use book_model::limits::Limits;
@@ -28,7 +29,7 @@ pub trait Outside {
         credential: &Credential<'_>,
         seconds: u32,
     ) -> Option<Self::End>
-        ensures { IfSome result (λ e. IsDialled home key.now credential.now (Self.End.standing e)) };
+        ensures { MatchOption result (home.reaches (address_of key.now) ≡ false) (λ e. IsDialled home key.now credential.now (Self.End.standing e)) };
 
     /// From now on the end of the link of this number is minded, which nobody uses: who runs the desk hears when its server hangs up or says
     /// something, and tells it so ([`crate::desk::Desk::hung_up`]). That it can't be minded is ignored. It is called under the desk's lock, and

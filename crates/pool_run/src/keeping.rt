@@ -281,8 +281,10 @@ impl<R: Wait, F: Source> Keeper<R, F> {
         let limits = limits_twice(self.alloc, &settings)?;
         let users = Users::new(table, self.salts);
         let earlier = self.underived()?;
-        users.take_over(self.alloc, &earlier.users);
         let kept = Kept::new(self.alloc, settings, users, earlier.reloads.wrapping_add(1))?;
+        if kept.wants_keys() {
+            kept.users.take_over(self.alloc, &earlier.users);
+        }
         *self.kept.lock(&self.rt) = kept;
         self.changed.notify_all();
         Ok(limits)

@@ -1,5 +1,5 @@
 //! What a pool's desk reaches outside: servers, the files, the log.
-ghost use Rattle.std.specs.Prelude.{◌≡◌, [], ◌∷◌, All, IfOk, IfSome, Some};
+ghost use Rattle.std.specs.Prelude.{◌≡◌, [], ◌∷◌, All, IfOk, IfSome, MatchOption, Some, false};
 ghost use Rattle.pool_run.specs.Reaching.{IsCancelOf, request_of};
 ghost use Rattle.tcp_end.specs.Connections.{new_connection};
 ghost use Rattle.tcp_reach.specs.Places.{IsPlaceOf};
@@ -125,6 +125,7 @@ fn reach<R: Threads + Wait + Clock + Net<Listener = net::TcpListener, Stream = n
 impl<R: PoolRuntime, F: Source> Outside for Surroundings<R, F> {
     ghost use Rattle.link_desk.specs.Homes.{IsDialled, unknown_home};
     ghost use Rattle.pool_run.specs.Reaching.{IsReached};
+    ghost use Rattle.session_values.specs.State.{address_of};
     ghost use Rattle.tcp_end.specs.Connections.{standing_of};
 
     type End = TcpEnd;
@@ -138,7 +139,7 @@ impl<R: PoolRuntime, F: Source> Outside for Surroundings<R, F> {
         _credential: &Credential<'_>,
         seconds: u32,
     ) -> Option<TcpEnd>
-        ensures dialled { IfSome result (λ e. IsDialled unknown_home key.now _credential.now (standing_of e)) }
+        ensures dialled { MatchOption result (unknown_home.reaches (address_of key.now) ≡ false) (λ e. IsDialled unknown_home key.now _credential.now (standing_of e)) }
         ensures reached { IfSome result (λ e. IsReached key.now e) }
     {
         let Some(host) = &key.host else {

@@ -18,16 +18,18 @@ use Rattle.link_desk.specs.declared.calls.Stage.TheVariants.{Granted, Keyed, End
 use Rattle.link_desk.specs.Passes.{PassOf, after_keying, after_release, broken, is_before_end, is_open, keyed_lease, of_lease, one_other, released, without_lease}
 use Rattle.relay_core.specs.declared.relay.Returned.{Returned}
 use Rattle.relay_core.specs.declared.relay.Returned.TheVariants.{Unused, Used, Gone}
-use Rattle.pool_serve.specs.Backs.{GoesBack, HasLease, IsBackByRelease, IsBackOrLost, IsFreed}
+use Rattle.pool_serve.specs.Backs.{GoesBack, HasLease, IsBackByRelease, IsBackOrLost, IsFreed, WaitsBehindEnd}
 use Rattle.pool_serve.specs.Cancels.{IsKeyed}
 use Rattle.pool_serve.specs.Shares.{Ends}
 
 -- ---- who holds the pass
 
--- the same client, and the same link
+-- the same client, the same link, and the same cancels
 pub record Holds (h k : Holder) : Type 0 where
   pub client : k.client ≡ h.client
   pub refused : k.refused ≡ h.refused
+  pub found : k.found ≡ h.found
+  pub struck : k.struck ≡ h.struck
   pub number : (c : ℕ → Call) → of_lease c k ≡ of_lease c h
 
 same_number : (c : ℕ → Call) (stage : Stage) (o : Option Lease) → option_map (λ (l : Lease). c l.number) (option_map (λ (l : Lease). record l { stage = stage }) o) ≡ option_map (λ (l : Lease). c l.number) o
@@ -35,29 +37,38 @@ same_number c stage None = refl
 same_number c stage (Some l) = refl
 
 keyed_holds : (client server : KeyView) (h : Holder) (r : Keying) → Holds h (keyed_lease client server h r)
-keyed_holds client server h keying.Done = record { client = refl; refused = refl; number = λ c. same_number c Keyed h.lease }
-keyed_holds client server h keying.Last = record { client = refl; refused = refl; number = λ c. refl }
-keyed_holds client server h keying.Stranger = record { client = refl; refused = refl; number = λ c. refl }
+keyed_holds client server h keying.Done = record { client = refl; refused = refl; found = refl; struck = refl; number = λ c. same_number c Keyed h.lease }
+keyed_holds client server h keying.Last = record { client = refl; refused = refl; found = refl; struck = refl; number = λ c. refl }
+keyed_holds client server h keying.Stranger = record { client = refl; refused = refl; found = refl; struck = refl; number = λ c. refl }
 
 released_holds : (h : Holder) (r : Release) → Holds h (released h r)
-released_holds h Reset = record { client = refl; refused = refl; number = λ c. same_number c Ended h.lease }
-released_holds h Dispose = record { client = refl; refused = refl; number = λ c. refl }
-released_holds h Last = record { client = refl; refused = refl; number = λ c. refl }
-released_holds h Stranger = record { client = refl; refused = refl; number = λ c. refl }
+released_holds h Reset = record { client = refl; refused = refl; found = refl; struck = refl; number = λ c. same_number c Ended h.lease }
+released_holds h Dispose = record { client = refl; refused = refl; found = refl; struck = refl; number = λ c. refl }
+released_holds h Last = record { client = refl; refused = refl; found = refl; struck = refl; number = λ c. refl }
+released_holds h Stranger = record { client = refl; refused = refl; found = refl; struck = refl; number = λ c. refl }
 
 freed_of : (c : ℕ → Call) (h m k : Holder) → Holds h m → k ≡ without_lease c m → IsFreed c h k
 freed_of c h m k s e = record {
   client = ap (λ (x : Holder). x.client) e ∙ s.client;
   lease = ap (λ (x : Holder). x.lease) e;
   refused = ap (λ (x : Holder). x.refused) e ∙ s.refused;
+  found = ap (λ (x : Holder). x.found) e ∙ s.found;
+  struck = ap (λ (x : Holder). x.struck) e ∙ s.struck;
   last = ap (λ (x : Holder). x.last) e ∙ s.number c;
 }
 
 pub freed : (c : ℕ → Call) (h k : Holder) → k ≡ without_lease c h → IsFreed c h k
-freed c h k e = freed_of c h h k (record { client = refl; refused = refl; number = λ d. refl }) e
+freed c h k e = freed_of c h h k (record { client = refl; refused = refl; found = refl; struck = refl; number = λ d. refl }) e
 
 freed_behind : (c : ℕ → Call) (h m k : Holder) → Holds h m → IsFreed c m k → IsFreed c h k
-freed_behind c h m k s x = record { client = x.client ∙ s.client; lease = x.lease; refused = x.refused ∙ s.refused; last = x.last ∙ s.number c }
+freed_behind c h m k s x = record {
+  client = x.client ∙ s.client;
+  lease = x.lease;
+  refused = x.refused ∙ s.refused;
+  found = x.found ∙ s.found;
+  struck = x.struck ∙ s.struck;
+  last = x.last ∙ s.number c;
+}
 
 -- ---- behind a lease that was keyed
 
@@ -118,6 +129,19 @@ back_or_lost (Gone lent cause) h k x = inr x
 
 pub unused_back : (h k : Holder) → IsBackByRelease k.release h k → IsBackOrLost h k
 unused_back h k x = by_release k.release h k x
+
+-- ---- how long it takes
+
+-- it is reset, or wasn't, behind its lease's end
+pub reset_behind_end : (c : ℕ → Call) (h m k : Holder) (before after : ℕ) → m ≡ released h Reset → k ≡ without_lease c m → WaitsBehindEnd k.release before after
+reset_behind_end c h m k before after is e = subst (λ (o : Option Release). WaitsBehindEnd o before after) (sym (release_told Reset c h m k is e)) tt
+
+pub waits_for_nothing : (o : Option Release) (before after : ℕ) → after ≡ before → WaitsBehindEnd o before after
+waits_for_nothing None before after e = e
+waits_for_nothing (Some Reset) before after e = tt
+waits_for_nothing (Some Dispose) before after e = e
+waits_for_nothing (Some Last) before after e = e
+waits_for_nothing (Some Stranger) before after e = e
 
 -- ---- what the pass tells
 

@@ -19,7 +19,6 @@ use Rattle.pool_serve.specs.declared.ending.Ending.TheVariants as ending
 use Rattle.pool_serve.specs.declared.logged_in.LoggedIn.{LoggedIn}
 use Rattle.pool_serve.proofs.Causing.{queued_traces}
 use Rattle.pool_serve.proofs.Freeing.{freed}
-use Rattle.pool_serve.proofs.Managing.{same_managed}
 
 -- ---- a lease that has begun
 
@@ -59,7 +58,7 @@ unopened_frees home g h k (ending.Relayed r) x b = absurd x
 unopened_frees home g h k (ending.Managed r) x b = absurd x
 
 pub unopened_came : (home : HomeOf) (g : LoggedIn) (c : ClientFacts) (e : Ending) → IsUnopened home g e → Came home g c c e
-unopened_came home g c ending.Unreached x = refl
+unopened_came home g c ending.Unreached x = (x, refl)
 unopened_came home g c (ending.Unstarted cause) x = (x, refl)
 unopened_came home g c ending.Memory x = refl
 unopened_came home g c ending.Left x = absurd x
@@ -71,9 +70,9 @@ unopened_came home g c (ending.Managed r) x = absurd x
 
 -- ---- behind a grant
 
-module _ (old h k : Holder) (client : h.client ≡ old.client) (refused : h.refused ≡ None) where
+module _ (old h k : Holder) (client : h.client ≡ old.client) (refused : h.refused ≡ None) (found : h.found ≡ old.found) (struck : h.struck ≡ old.struck) where
   by_freed : (c : ℕ → Call) (e : Ending) → refusal_in e ≡ None → IsFreed c h k → HasLeased old k e
-  by_freed c e none x = record { client = x.client ∙ client; lease = x.lease; refused = x.refused ∙ (refused ∙ sym none) }
+  by_freed c e none x = record { client = x.client ∙ client; lease = x.lease; refused = x.refused ∙ (refused ∙ sym none); found = x.found ∙ found; struck = x.struck ∙ struck }
 
   by_return : (e : Ending) → refusal_in e ≡ None → IsBackOrLost h k → HasLeased old k e
   by_return e none (inl x) = by_freed call.GiveBack e none x
@@ -120,7 +119,7 @@ came_in home v g before after (ending.Refused r) i x = tt
 came_in home v g before after ending.Memory i x = tt
 came_in home v g before after ending.Strange i x = tt
 came_in home v g before after ending.Last i x = tt
-came_in home v g before after ending.Unreached i x = tt
+came_in home v g before after ending.Unreached i x = record { logged_in = g; is_logged_in = i; unreached = x.0 }
 came_in home v g before after (ending.Managed r) i x = absurd x
 
 -- the same of a login that went on
@@ -135,8 +134,8 @@ same_came home old new after (ending.Refused r) s x = tt
 same_came home old new after ending.Memory s x = tt
 same_came home old new after ending.Strange s x = tt
 same_came home old new after ending.Last s x = tt
-same_came home old new after ending.Unreached s x = tt
-same_came home old new after (ending.Managed r) s x = λ t. same_managed old new after r s (x t)
+same_came home old new after ending.Unreached s x = record { logged_in = x.logged_in; is_logged_in = same_logged_in old new x.logged_in s x.is_logged_in; unreached = x.unreached }
+same_came home old new after (ending.Managed r) s x = tt
 
 -- the same of the login that it began with
 pub came_first : (home : HomeOf) (v : LoginView) (old new : RunView) (after : ClientFacts) (e : Ending) → old.login ≡ v → IsSameLogin old new → CameIn home new.login after e → CameIn home v after e

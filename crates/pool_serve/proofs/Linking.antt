@@ -42,7 +42,7 @@ loss_ends p q g e = subst (λ (x : PassOf). Ends p x) (sym e) (by g)
 
 -- ---- a link of another key was lent
 
-module _ (home : HomeOf) (g : LoggedIn) (p mid q : PassOf) (h m k : Holder) (granted : mid ≡ one_granted p) (client : m.client ≡ h.client) (refused : m.refused ≡ None) where
+module _ (home : HomeOf) (g : LoggedIn) (p mid q : PassOf) (h m k : Holder) (granted : mid ≡ one_granted p) (client : m.client ≡ h.client) (refused : m.refused ≡ None) (found : m.found ≡ h.found) (struck : m.struck ≡ h.struck) where
   strange_ended : HadLink AtLease mid q × HasLost mid q → k ≡ without_lease call.Lost m → IsEndedFor home g AtWait p q ending.Strange
   strange_ended lost f c = granted_ended home g p mid q m k c c ending.Strange granted (freed call.Lost m k f) (record {
     tells = refl;
@@ -53,7 +53,7 @@ module _ (home : HomeOf) (g : LoggedIn) (p mid q : PassOf) (h m k : Holder) (gra
 
   pub lent_leased : {A : Type 0} (r : Result A Ending) → IfErr r (λ e. e ≡ ending.Strange) → IfErr r (λ e. k ≡ without_lease call.Lost m) → IfErr r (λ e. HasLeased h k e)
   lent_leased (Ok l) is f = tt
-  lent_leased (Err e) is f = subst (HasLeased h k) (sym is) (leased_by h m k client refused ending.Strange (freed call.Lost m k f))
+  lent_leased (Err e) is f = subst (HasLeased h k) (sym is) (leased_by h m k client refused found struck ending.Strange (freed call.Lost m k f))
 
   pub lent_share : {A : Type 0} (r : Result A Ending) → IfErr r (λ e. Ends mid q) → IfErr r (λ e. Evens p q)
   lent_share (Ok l) x = tt
@@ -90,7 +90,7 @@ module _ (home : HomeOf) (g : LoggedIn) (p mid q : PassOf) (h m k : Holder) (gra
 
   pub new_leased : {A : Type 0} (r : Result A Ending) → IfErr r (IsUnopened home g) → IfErr r (λ e. k ≡ without_lease call.StartFailed m) → IfErr r (λ e. HasLeased h k e)
   new_leased (Ok l) why f = tt
-  new_leased (Err e) why f = leased_by h m k client refused e (unopened_frees home g m k e why f)
+  new_leased (Err e) why f = leased_by h m k client refused found struck e (unopened_frees home g m k e why f)
 
   pub new_share : {A : Type 0} (r : Result A Ending) → IfErr r (λ e. (x : Gone) × (q ≡ after_loss mid x)) → IfErr r (λ e. Evens p q)
   new_share (Ok l) x = tt
@@ -107,10 +107,10 @@ module _ (home : HomeOf) (g : LoggedIn) (p mid q : PassOf) (h m k : Holder) (gra
 
 -- ---- behind an asking that was queued
 
-module _ (home : HomeOf) (g : LoggedIn) (p mid q : PassOf) (h m k : Holder) (queued : mid ≡ one_other p) (client : m.client ≡ h.client) where
+module _ (home : HomeOf) (g : LoggedIn) (p mid q : PassOf) (h m k : Holder) (queued : mid ≡ one_other p) (client : m.client ≡ h.client) (found : m.found ≡ h.found) (struck : m.struck ≡ h.struck) where
   pub queued_leased : {A : Type 0} (r : Result A Ending) → IfErr r (λ e. HasLeased m k e) → IfErr r (λ e. HasLeased h k e)
   queued_leased (Ok l) x = tt
-  queued_leased (Err e) x = record { client = x.client ∙ client; lease = x.lease; refused = x.refused }
+  queued_leased (Err e) x = record { client = x.client ∙ client; lease = x.lease; refused = x.refused; found = x.found ∙ found; struck = x.struck ∙ struck }
 
   other_evens : Evens mid q → Evens p q
   other_evens x =
@@ -136,5 +136,5 @@ module _ (home : HomeOf) (g : LoggedIn) (p mid q : PassOf) (h m k : Holder) (que
   queued_told (Err e) x = tt
 
   pub queued_held : {A : Type 0} (r : Result A Ending) → IfOk r (λ l. IsHeldBy m k) → IfOk r (λ l. IsHeldBy h k)
-  queued_held (Ok l) x = record { client = x.client ∙ client; refused = x.refused }
+  queued_held (Ok l) x = record { client = x.client ∙ client; refused = x.refused; found = x.found ∙ found; struck = x.struck ∙ struck }
   queued_held (Err e) x = tt

@@ -29,10 +29,12 @@ after_failure since p gone = after_loss (one_granted (one_other p)) gone
 
 -- ---- of one asking
 
--- the client is still in its pass, and wasn't refused
+-- the client is still in its pass, and wasn't refused; no cancel was asked for or sent
 pub record IsHeldBy (h k : Holder) : Type 0 where
   pub client : k.client ≡ h.client
   pub refused : k.refused ≡ None
+  pub found : k.found ≡ h.found
+  pub struck : k.struck ≡ h.struck
 
 -- a link of its key is its lease, which has begun
 pub record IsLinked (home : HomeOf) (g : LoggedIn) (k : Holder) (l : LinkView) : Type 0 where

@@ -27,11 +27,13 @@ IsOwnLease h (Unused link) = HasLease h link.number link.born
 IsOwnLease h (Used link) = HasLease h link.number link.born
 IsOwnLease h (Gone lent cause) = HasLease h lent.number lent.born
 
--- its link went by this call, and nothing else of it has changed
+-- its link went by this call, and nothing else of it has changed: no cancel was asked for or sent
 pub record IsFreed (call : ℕ → Call) (h k : Holder) : Type 0 where
   pub client : k.client ≡ h.client
   pub lease : k.lease ≡ None
   pub refused : k.refused ≡ h.refused
+  pub found : k.found ≡ h.found
+  pub struck : k.struck ≡ h.struck
   pub last : k.last ≡ of_lease call h
 
 -- given back, or lost
@@ -49,3 +51,13 @@ abbrev pub GoesBack : {E : Type 0} → Returned E → Holder → Holder → Type
 GoesBack (Unused link) h k = IsBackByRelease k.release h k
 GoesBack (Used link) h k = IsBackByRelease k.release h k ⊎ IsFreed call.Lost h k
 GoesBack (Gone lent cause) h k = IsFreed call.Lost h k
+
+-- So many turns of the gate had been taken before, and so many are now: the same, unless the desk has said that no cancel is for the link.
+abbrev pub WaitsBehindEnd : Option Release → ℕ → ℕ → Type 0
+WaitsBehindEnd (Some Reset) before after = Unit {0}
+WaitsBehindEnd other before after = after ≡ before
+
+-- A reset takes turns. So a used link is reset only behind its lease's end, where no cancel finds it any more; and another one never is.
+abbrev pub IsResetBehindEnd : {E : Type 0} → Returned E → Holder → ℕ → ℕ → Type 0
+IsResetBehindEnd (Used link) k before after = WaitsBehindEnd k.release before after
+IsResetBehindEnd other k before after = after ≡ before

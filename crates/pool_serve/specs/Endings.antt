@@ -1,8 +1,9 @@
 -- How a client's time at the desk ended: what pass and holder tell of it, and what the ends do.
-use Rattle.std.specs.Prelude.{◌≡◌, ◌⊎◌, ℕ, true, Option, None, Some}
+use Rattle.std.specs.Prelude.{◌≡◌, ◌⊎◌, ℕ, true, false, Option, None, Some}
 use Rattle.std.specs.Arc.{arc_value}
 use Rattle.user_file.specs.declared.user_table.UserRow.{UserRow}
 use Rattle.message_view.specs.declared.refusal.Refusal.{Refusal}
+use Rattle.session_values.specs.State.{address_of}
 use Rattle.link_laws.specs.Standing.{ClientFacts, Standing}
 use Rattle.link_run.specs.Links.{LinkView}
 use Rattle.credentials.specs.Credentials.{credential_of, start_nonce}
@@ -56,11 +57,13 @@ abbrev pub refusal_in : Ending → Option Refusal
 refusal_in (ending.Refused r) = Some r
 refusal_in other = None
 
--- the client is still in its pass, without a link, and was refused where the desk refused it
+-- the client is still in its pass, without a link, and was refused where the desk refused it; no cancel was asked for or sent
 pub record HasLeased (h k : Holder) (e : Ending) : Type 0 where
   pub client : k.client ≡ h.client
   pub lease : k.lease ≡ None
   pub refused : k.refused ≡ refusal_in e
+  pub found : k.found ≡ h.found
+  pub struck : k.struck ≡ h.struck
 
 -- ---- what the ends tell of it
 
@@ -98,8 +101,13 @@ pub record IsUnstarted (home : HomeOf) (g : LoggedIn) (cause : StartCause) : Typ
   pub tried : cause ≡ Turns → HasTried began (credential_of user.secret g.login.revealed (start_nonce g.word number)) (arc_value g.key) now TURNS
   pub unanswered : cause ≡ Late → HasTried began (credential_of user.secret g.login.revealed (start_nonce g.word number)) (arc_value g.key) now 0
 
+-- No end was dialled: its user isn't there, or a dial to its server gave none. Of a home of which nothing else is known only a dial shows that.
+abbrev pub IsUnreached : HomeOf → LoggedIn → Type 0
+IsUnreached home g = (user_named (arc_value g.key).user g.login.users.rows ≡ None) ⊎ (home.reaches (address_of (arc_value g.key)) ≡ false)
+
+-- why there is no new link: each start that was begun is told by its cause
 abbrev pub IsUnopened : HomeOf → LoggedIn → Ending → Type 0
-IsUnopened home g ending.Unreached = Unit {0}
+IsUnopened home g ending.Unreached = IsUnreached home g
 IsUnopened home g ending.Memory = Unit {0}
 IsUnopened home g (ending.Unstarted cause) = IsUnstarted home g cause
 IsUnopened home g other = ⊥
@@ -115,6 +123,7 @@ pub record HadLease (home : HomeOf) (g : LoggedIn) (before after : ClientFacts) 
 abbrev pub Came : HomeOf → LoggedIn → ClientFacts → ClientFacts → Ending → Type 0
 Came home g before after (ending.Relayed r) = HadLease home g before after r
 Came home g before after (ending.Unstarted cause) = IsUnstarted home g cause × (after ≡ before)
+Came home g before after ending.Unreached = IsUnreached home g × (after ≡ before)
 Came home g before after (ending.Managed r) = ⊥
 Came home g before after other = after ≡ before
 

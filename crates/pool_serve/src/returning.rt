@@ -3,7 +3,7 @@ ghost use Rattle.std.specs.Prelude.{◌≡◌, ◌⊎◌, IsSome, Some, None};
 ghost use Rattle.link_desk.specs.declared.calls.Call.TheVariants.{GiveBack, Lost};
 ghost use Rattle.link_desk.specs.Homes.{IsAtHome};
 ghost use Rattle.link_desk.specs.Passes.{ended_lease, without_lease};
-ghost use Rattle.pool_serve.specs.Backs.{GoesBack, HasLease, IsBackByRelease, IsBackHome, IsFreed, IsOwnLease};
+ghost use Rattle.pool_serve.specs.Backs.{GoesBack, HasLease, IsBackByRelease, IsBackHome, IsFreed, IsOwnLease, IsResetBehindEnd, WaitsBehindEnd};
 ghost use Rattle.pool_serve.specs.Shares.{Ends};
 
 use crate::TURNS;
@@ -62,6 +62,7 @@ impl<'a, D: LinkDesk, G: Gate<D::End>> Worker<'a, D, G> {
         requires own { (D.holder self.old.pass).lease ≡ Some (ended_lease link) }
         ensures share { Ends (D.told self.old.pass) (D.told self.new.pass) }
         ensures holder { D.holder self.new.pass ≡ without_lease GiveBack (D.holder self.old.pass) }
+        ensures turns { G.turns self.new.gate ≡ G.turns self.old.gate }
     {
         let mut link = link;
         link.unwatch(&mut self.gate);
@@ -77,6 +78,7 @@ impl<'a, D: LinkDesk, G: Gate<D::End>> Worker<'a, D, G> {
         requires some { IsSome (D.holder self.old.pass).lease }
         ensures share { Ends (D.told self.old.pass) (D.told self.new.pass) }
         ensures holder { D.holder self.new.pass ≡ without_lease Lost (D.holder self.old.pass) }
+        ensures turns { G.turns self.new.gate ≡ G.turns self.old.gate }
     {
         self.note(logged_in, &Note::LinkLost(number, why));
         self.desk.lost(&mut self.pass);
@@ -88,6 +90,7 @@ impl<'a, D: LinkDesk, G: Gate<D::End>> Worker<'a, D, G> {
         requires own { HasLease (D.holder self.old.pass) link.number link.born }
         ensures share { Ends (D.told self.old.pass) (D.told self.new.pass) }
         ensures holder { IsBackByRelease (D.holder self.new.pass).release (D.holder self.old.pass) (D.holder self.new.pass) }
+        ensures turns { G.turns self.new.gate ≡ G.turns self.old.gate }
     {
         let number = link.number();
         match self.desk.end_lease(&mut self.pass) {
@@ -112,6 +115,7 @@ impl<'a, D: LinkDesk, G: Gate<D::End>> Worker<'a, D, G> {
         requires own { HasLease (D.holder self.old.pass) link.number link.born }
         ensures share { Ends (D.told self.old.pass) (D.told self.new.pass) }
         ensures holder { IsBackByRelease (D.holder self.new.pass).release (D.holder self.old.pass) (D.holder self.new.pass) ⊎ IsFreed Lost (D.holder self.old.pass) (D.holder self.new.pass) }
+        ensures turns { WaitsBehindEnd (D.holder self.new.pass).release (G.turns self.old.gate) (G.turns self.new.gate) }
     {
         match self.desk.end_lease(&mut self.pass) {
             Release::Reset => match reset_link(self.alloc, link, &mut self.gate, TURNS) {
@@ -143,6 +147,7 @@ impl<'a, D: LinkDesk, G: Gate<D::End>> Worker<'a, D, G> {
         requires own { IsOwnLease (D.holder self.old.pass) link }
         ensures share { Ends (D.told self.old.pass) (D.told self.new.pass) }
         ensures holder { GoesBack link (D.holder self.old.pass) (D.holder self.new.pass) }
+        ensures turns { IsResetBehindEnd link (D.holder self.new.pass) (G.turns self.old.gate) (G.turns self.new.gate) }
     {
         match link {
             Returned::Unused(link) => self.give_back_unused(logged_in, link),

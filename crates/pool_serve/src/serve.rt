@@ -4,15 +4,15 @@ ghost use Rattle.ini_config.specs.Bounds.{AreWithinBounds};
 ghost use Rattle.login_core.specs.Dialogue.{AtFirst};
 ghost use Rattle.login_core.specs.Logins.{AwaitsPacket};
 ghost use Rattle.login_run.specs.Runs.{Arrived, Console, IsAllGiven, IsRun, IsSameLogin};
-ghost use Rattle.console_run.specs.Passing.{IsSameHolder};
+ghost use Rattle.console_run.specs.Passing.{IsSameHolder, pass_of};
 ghost use Rattle.link_desk.specs.Passes.{after_cancel, cancelled_by};
 ghost use Rattle.pool_serve.specs.Cancels.{IsPassedOn};
 ghost use Rattle.pool_serve.specs.Again.{HasEndedAtLast};
 ghost use Rattle.pool_serve.specs.Causes.{AtArrival, AtAsking};
 ghost use Rattle.pool_serve.specs.Endings.{HasLeased, Traces, refusal_in};
-ghost use Rattle.pool_serve.specs.Serving.{HasStopped, IsLoggedIn, LetsIn};
+ghost use Rattle.pool_serve.specs.Serving.{HasStopped, IsLoggedIn, IsManaged, LetsIn};
 ghost use Rattle.pool_serve.specs.Shares.{Evens, Settles};
-ghost use Rattle.pool_serve.specs.Stays.{CameIn, IsAllowed, IsAtConsole, IsDismissed, IsOver, IsUntouched, ServesAs, TracesAtLast};
+ghost use Rattle.pool_serve.specs.Stays.{CameIn, IfManaged, IsAllowed, IsAtConsole, IsDismissed, IsOver, IsUntouched, ServesAs, StayedAtConsole, TracesAtLast};
 
 use crate::TURNS;
 use crate::ending::Ending;
@@ -129,6 +129,7 @@ impl<'a, D: LinkDesk, G: Gate<D::End>> Worker<'a, D, G> {
         ensures traces { Traces AtAsking (D.told self.old.pass) (D.told self.new.pass) result.1 }
         ensures refused { refusal_in result.1 ≡ None }
         ensures came { CameIn D.home run.login (C.facts result.0) result.1 }
+        ensures managed { IfManaged result.1 (IsManaged run.login (pass_of (D.told self.old.pass) (D.holder self.old.pass)) (pass_of (D.told self.new.pass) (D.holder self.new.pass)) (C.facts result.0)) }
         ensures serves { run.client.tells ≡ true → ServesAs D.home run.login (C.facts result.0) result.1 }
     {
         let key = own_key(&run);
@@ -163,6 +164,7 @@ impl<'a, D: LinkDesk, G: Gate<D::End>> Worker<'a, D, G> {
         ensures leased { HasLeased (D.holder self.old.pass) (D.holder self.new.pass) result.1 }
         ensures traces { TracesAtLast D.home run.login AtAsking (D.told self.old.pass) (D.told self.new.pass) result.1 }
         ensures came { CameIn D.home run.login (C.facts result.0) result.1 }
+        ensures managed { IfManaged result.1 (IsManaged run.login (pass_of (D.told self.old.pass) (D.holder self.old.pass)) (pass_of (D.told self.new.pass) (D.holder self.new.pass)) (C.facts result.0)) }
         ensures serves { run.client.tells ≡ true → LetsIn D.home run.login → ServesAs D.home run.login (C.facts result.0) result.1 }
     {
         bounded_rows_are_lawful();
@@ -224,8 +226,11 @@ impl<'a, D: LinkDesk, G: Gate<D::End>> Worker<'a, D, G> {
         ensures free { (D.holder self.new.pass).client ≡ None }
         ensures none { (D.holder self.new.pass).lease ≡ None }
         ensures refused { (D.holder self.new.pass).refused ≡ refusal_in result.1 }
+        ensures found { (D.holder self.new.pass).found ≡ (D.holder self.old.pass).found }
+        ensures struck { (D.holder self.new.pass).struck ≡ (D.holder self.old.pass).struck }
         ensures traces { TracesAtLast D.home run.login AtArrival (D.told self.old.pass) (D.told self.new.pass) result.1 }
         ensures came { CameIn D.home run.login (C.facts result.0) result.1 }
+        ensures managed { IfManaged result.1 (StayedAtConsole run.login (pass_of (D.told self.old.pass) (D.holder self.old.pass)) (pass_of (D.told self.new.pass) (D.holder self.new.pass)) (C.facts result.0)) }
         ensures serves { run.client.tells ≡ true → LetsIn D.home run.login → ServesAs D.home run.login (C.facts result.0) result.1 }
     {
         runs_stand_at_pieces();
@@ -262,7 +267,7 @@ impl<'a, D: LinkDesk, G: Gate<D::End>> Worker<'a, D, G> {
 /// granted as given back or lost, and as many clients arrived as left.
 ///
 /// A client of the console, to which no server would answer, was given its login, what the console says to its messages over the desk's
-/// book, and its last word.
+/// book, and its last word. Between its arrival and its leaving nothing was done through its pass but what the console did.
 ///
 /// Whether it tells or not, the client's last word is that of how its time at the desk ended: the desk's own refusal, the cause for
 /// which its link wasn't started, or the refusal that its relay's last answer tells. It is given whole, unless the client's end ended
@@ -295,11 +300,11 @@ pub fn serve<C: ClientEnd, D: LinkDesk, G: Gate<D::End> + Drop>(
     requires free { (D.holder pass).client ≡ None }
     requires none { (D.holder pass).lease ≡ None }
     ensures tells { (C.facts result.0).tells ≡ (C.facts client).tells }
-    ensures allowed { (C.facts client).tells ≡ true → LetsIn D.home login → IsAllowed D.home login (D.told pass) (D.told result.1) (C.facts result.0) ⊎ IsAtConsole login (C.facts result.0) }
+    ensures allowed { (C.facts client).tells ≡ true → LetsIn D.home login → IsAllowed D.home login (D.told pass) (D.told result.1) (C.facts result.0) ⊎ IsAtConsole login (pass_of (D.told pass) (D.holder pass)) (pass_of (D.told result.1) (D.holder result.1)) (C.facts result.0) }
     ensures share { Settles (D.told pass) (D.told result.1) }
     ensures free { (D.holder result.1).client ≡ None }
     ensures none { (D.holder result.1).lease ≡ None }
-    ensures over { IsUntouched (D.told pass) (D.told result.1) (D.holder pass) (D.holder result.1) ⊎ IsPassedOn login (D.told pass) (D.told result.1) (D.holder pass) (D.holder result.1) (C.facts result.0) ⊎ IsOver D.home login (D.told pass) (D.told result.1) (D.holder result.1) (C.facts result.0) }
+    ensures over { IsUntouched (D.told pass) (D.told result.1) (D.holder pass) (D.holder result.1) ⊎ IsPassedOn login (D.told pass) (D.told result.1) (D.holder pass) (D.holder result.1) (C.facts result.0) ⊎ IsOver D.home login (D.told pass) (D.told result.1) (D.holder pass) (D.holder result.1) (C.facts result.0) }
 {
     runs_are_allowed();
     cancelling_runs_have_asked();

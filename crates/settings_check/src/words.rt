@@ -5,9 +5,9 @@ ghost use Rattle.ini_config.specs.Values as values;
 ghost use Rattle.settings_check.specs.Words as spec;
 
 use crate::faults::FaultyLine;
-use crate::shown::put_text;
 use bstr::ByteSlice;
 use ini_config::{IniCause, Line, Section, read_line, takes_item};
+use log_lines::shown::put_text;
 use neutral_keys::is_read_over;
 use std::alloc::AllocError;
 

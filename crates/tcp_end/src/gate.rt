@@ -180,7 +180,7 @@ impl<'a, R: Clock> TcpGate<'a, R> {
     pub fn reckon_from(&mut self, start: Option<Instant>)
         ensures { self.new.turns ≡ self.old.turns }
     {
-        self.reckoning.begin(start);
+        self.reckoning.begin(&self.rt, start);
     }
 
     /// The moment at which so many seconds are over.
@@ -198,7 +198,7 @@ impl<'a, R: Clock> TcpGate<'a, R> {
 
     /// So long, or what is left of the worker's time where that is less and wasn't said to be over.
     fn within(&self, longest: Duration) -> Duration {
-        if self.is_late {
+        if self.is_late || self.due.is_none() {
             return longest;
         }
         match self.left() {

@@ -5,17 +5,20 @@ use crate::tally::Tally;
 use message_view::kinds::{FAILED, IN_TRANSACTION};
 use server_end::gate::Counts;
 use std::rt::Clock;
-use std::time::Instant;
+use std::time::{Duration, Instant};
 
-/// What a gate was told last, and since when a query and a transaction are under way.
+const MICROSECONDS: u64 = 1_000_000;
+
+/// What a gate was told last, and what its client is at, since when. All times are in microseconds, and stop at the greatest.
 #[derive(Clone, Copy, Drop)]
 pub struct Reckoning {
-    /// When the connection came; without it no time is reckoned.
-    start: Option<Instant>,
-    told: Counts,
-    /// In microseconds since then, as are the times.
-    query_since: Option<u64>,
-    transaction_since: Option<u64>,
+    /// When the connection came, by the clock; without it no time is reckoned.
+    start: Option<u64>,
+    asked: u64,
+    answered: u64,
+    stance: Stance,
+    /// So long after the connection came.
+    since: u64,
     query_time: u64,
     transaction_time: u64,
 }
@@ -32,75 +35,84 @@ fn stance_of(counts: Counts) -> Stance {
     }
 }
 
-/// So much more, where something was under way since then.
-fn passed(time: u64, since: Option<u64>, now: u64) -> u64 {
-    match since {
-        Some(since) => time.saturating_add(now.saturating_sub(since)),
-        None => time,
-    }
+fn in_microseconds(time: Duration) -> u64 {
+    time.as_secs()
+        .saturating_mul(MICROSECONDS)
+        .saturating_add(time.subsec_micros() as u64)
+}
+
+/// What the clock says now.
+fn clock<R: Clock>(rt: &R) -> Option<u64> {
+    Some(in_microseconds(rt.monotonic().ok()?))
+}
+
+/// What it said then.
+fn clock_at<R: Clock>(rt: &R, moment: Instant) -> Option<u64> {
+    let passed = in_microseconds(moment.elapsed(rt).ok()?);
+    Some(clock(rt)?.saturating_sub(passed))
 }
 
 impl Reckoning {
     pub fn new() -> Reckoning {
         Reckoning {
             start: None,
-            told: Counts {
-                asked: 0,
-                answered: 0,
-                ended: 0,
-                status: None,
-            },
-            query_since: None,
-            transaction_since: None,
+            asked: 0,
+            answered: 0,
+            stance: Stance::Idle,
+            since: 0,
             query_time: 0,
             transaction_time: 0,
         }
     }
 
-    pub fn begin(&mut self, start: Option<Instant>) {
-        self.start = start;
+    /// The connection came then. Without it no time is reckoned.
+    pub fn begin<R: Clock>(&mut self, rt: &R, start: Option<Instant>) {
+        self.start = match start {
+            Some(start) => clock_at(rt, start),
+            None => None,
+        };
     }
 
-    /// Microseconds since the connection came.
+    /// How long ago the connection came.
     fn now<R: Clock>(&self, rt: &R) -> Option<u64> {
-        let passed = self.start?.elapsed(rt).ok()?;
-        u64::try_from(passed.as_micros()).ok()
+        Some(clock(rt)?.saturating_sub(self.start?))
     }
 
     /// Reckons with these counts, and tells whoever asks. Answers are told though the clock can't be read; the rest is tried again then.
     pub fn tell<R: Clock>(&mut self, rt: &R, tally: &Tally, counts: Counts) {
-        if counts == self.told {
+        // how many were answered tells the rest of the counts too
+        if counts.asked == self.asked && counts.answered == self.answered {
             return;
         }
-        if counts.answered != self.told.answered || counts.ended != self.told.ended {
+        if counts.answered != self.answered {
             tally.tell_answers(counts.answered, counts.ended);
         }
         let Some(now) = self.now(rt) else {
             return;
         };
         self.stand(tally, stance_of(counts), now);
-        self.told = counts;
+        self.asked = counts.asked;
+        self.answered = counts.answered;
     }
 
-    /// At this moment the client is at this.
+    /// From this moment on the client is at this.
     fn stand(&mut self, tally: &Tally, stance: Stance, now: u64) {
-        if stance == Stance::Running {
-            self.query_since = Some(self.query_since.unwrap_or(now));
-        } else {
-            self.query_time = passed(self.query_time, self.query_since, now);
-            self.query_since = None;
+        if stance == self.stance {
+            return;
+        }
+        let passed = now.saturating_sub(self.since);
+        if self.stance != Stance::Idle {
+            self.transaction_time = self.transaction_time.saturating_add(passed);
+        }
+        if self.stance == Stance::Running {
+            self.query_time = self.query_time.saturating_add(passed);
+            tally.tell_query_time(self.query_time);
         }
         if stance == Stance::Idle {
-            self.transaction_time = passed(self.transaction_time, self.transaction_since, now);
-            self.transaction_since = None;
-        } else {
-            self.transaction_since = Some(self.transaction_since.unwrap_or(now));
+            tally.tell_transaction_time(self.transaction_time);
         }
-        if stance != Stance::Running {
-            tally.tell_times(self.query_time, self.transaction_time);
-        }
-        if stance != stance_of(self.told) {
-            tally.tell_stance(stance, now);
-        }
+        tally.tell_stance(stance, now);
+        self.stance = stance;
+        self.since = now;
     }
 }

@@ -90,10 +90,14 @@ impl Tally {
         set(&self.transactions, transactions);
     }
 
-    /// So many microseconds in all.
-    pub fn tell_times(&self, query: u64, transaction: u64) {
-        set(&self.query_time, query);
-        set(&self.transaction_time, transaction);
+    /// So many microseconds in all, in which a query was under way.
+    pub fn tell_query_time(&self, time: u64) {
+        set(&self.query_time, time);
+    }
+
+    /// So many in transactions that are over.
+    pub fn tell_transaction_time(&self, time: u64) {
+        set(&self.transaction_time, time);
     }
 
     pub fn tell_stance(&self, stance: Stance, since: u64) {

@@ -2,12 +2,12 @@ use Rattle.std.proofs.Common.{rules, ◌≡◌, refl, sym, ◌∙◌, subst}
 use Rattle.std.specs.Arc.{arc_value}
 use Rattle.session_values.specs.Lawful.{IsLawfulCatalogue}
 use Rattle.memory_dial.specs.Homes.{open_home}
-use Rattle.memory_dial.proofs.Dialling.{new_dialled, some_if}
+use Rattle.memory_dial.proofs.Dialling.{new_dialled, some_or}
 use Rattle.memory_dial.proofs.MemoryDialOutside.dial.Goals as goal
 
 pub returns : goal.returns
 returns g c =
     let same : arc_value c.in_ok-catalogue.catalogue ≡ arc_value c.self.inside.catalogue = search rules in
     let lawful : c.deref.result.now ≡ arc_value c.in_ok-catalogue.catalogue = search rules in
-    some_if _ _ c.spared.result c.ok-2.result c.ok-2.ensures.value c.spared.ensures
+    some_or _ _ _ c.spared.result c.ok-2.result c.ok-2.ensures.value c.spared.ensures refl
     (λ s e. new_dialled (open_home g.N.Naming.catalogue) c.args._key.now c.args._credential.now _ c.self.inside.cut s (λ a. same ∙ sym (c.self.invariant.1.each a)) refl (subst IsLawfulCatalogue lawful c.is_lawful.ensures) c.memory_servers_can_start.ensures e)

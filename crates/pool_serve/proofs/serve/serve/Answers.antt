@@ -8,7 +8,7 @@ use Rattle.pool_serve.proofs.Again.{traces_first}
 use Rattle.pool_serve.proofs.Cancelling.{dismissed_is_over, dismissed_keeps, dismissed_settles}
 use Rattle.pool_serve.proofs.Leases.{came_first}
 use Rattle.pool_serve.proofs.Logging.{run_ends, still_lets_in}
-use Rattle.pool_serve.proofs.Managing.{same_serves, told_as}
+use Rattle.pool_serve.proofs.Managing.{same_serves, stayed_first, told_as}
 use Rattle.pool_serve.proofs.Telling.{untold_client}
 use Rattle.pool_serve.proofs.serve.serve.Goals as goal
 
@@ -34,10 +34,11 @@ returns-clause-allowed g c = λ t l.
     let tells = c.drive_login.ensures.login.tells ∙ (ap (λ (x : ClientFacts). x.tells) c.new-run.ensures.client ∙ t) in
     let lets = still_lets_in g.D.LinkDesk.home c.args.login c.drive_login.new.run.login (c.drive_login.ensures.login.settings ∙ ap (λ (x : LoginView). x.settings) c.new-run.ensures.login) (c.drive_login.ensures.login.users ∙ ap (λ (x : LoginView). x.users) c.new-run.ensures.login) l in
     let x = traces_first g.D.LinkDesk.home c.args.login c.new-run.result c.drive_login.new.run _ _ end c.new-run.ensures.login c.drive_login.ensures.login c.admit-client.ensures.traces in
-    told_as g.D.LinkDesk.home c.args.login client (g.C.ClientEnd.facts c.tell.new.client) (g.D.LinkDesk.told c.args.pass) (g.D.LinkDesk.told c.admit-client.new.self.pass) x.last x.again end
+    told_as g.D.LinkDesk.home c.args.login client (g.C.ClientEnd.facts c.tell.new.client) (g.D.LinkDesk.told c.args.pass) (g.D.LinkDesk.told c.admit-client.new.self.pass) x.last (g.D.LinkDesk.holder c.args.pass) (g.D.LinkDesk.holder c.admit-client.new.self.pass) x.again end
     (subst (λ (w : FinalMessage). HasGiven client (g.C.ClientEnd.facts c.tell.new.client) (last_bytes w)) c.into_word.ensures c.tell.ensures.given)
     (c.admit-client.ensures.tells ∙ tells)
     (came_first _ c.args.login c.new-run.result c.drive_login.new.run _ end c.new-run.ensures.login c.drive_login.ensures.login c.admit-client.ensures.came)
+    (stayed_first c.args.login c.new-run.result c.drive_login.new.run _ _ client end c.new-run.ensures.login c.drive_login.ensures.login c.admit-client.ensures.managed)
     x.traces
     (subst (λ (v : LoginView). ServesAs g.D.LinkDesk.home v client end) c.new-run.ensures.login (same_serves g.D.LinkDesk.home c.new-run.result c.drive_login.new.run client end c.drive_login.ensures.login (c.admit-client.ensures.serves tells lets)))
 
@@ -47,6 +48,9 @@ returns-clause-over g c = inr (inr (record {
   before = g.C.ClientEnd.facts c.admit-client.result.0;
   traces = traces_first g.D.LinkDesk.home c.args.login c.new-run.result c.drive_login.new.run _ _ c.admit-client.result.1 c.new-run.ensures.login c.drive_login.ensures.login c.admit-client.ensures.traces;
   refused = c.admit-client.ensures.refused;
+  found = c.admit-client.ensures.found;
+  struck = c.admit-client.ensures.struck;
   came = came_first _ c.args.login c.new-run.result c.drive_login.new.run _ c.admit-client.result.1 c.new-run.ensures.login c.drive_login.ensures.login c.admit-client.ensures.came;
+  managed = stayed_first c.args.login c.new-run.result c.drive_login.new.run _ _ _ c.admit-client.result.1 c.new-run.ensures.login c.drive_login.ensures.login c.admit-client.ensures.managed;
   told = subst (λ (w : FinalMessage). HasGiven (g.C.ClientEnd.facts c.admit-client.result.0) (g.C.ClientEnd.facts c.tell.new.client) (last_bytes w)) c.into_word.ensures c.tell.ensures.given;
 }))

@@ -1,14 +1,27 @@
 use Rattle.std.proofs.Common.{ap, ◌∙◌}
+use Rattle.console_run.specs.Passing.{pass_of}
 use Rattle.link_laws.specs.Standing.{ClientFacts}
 use Rattle.pool_serve.proofs.Again.{asked_once, same_asking, stay_at_last}
 use Rattle.pool_serve.proofs.Causing.{arrival_traces}
 use Rattle.pool_serve.proofs.Leases.{same_came}
 use Rattle.pool_serve.proofs.Logging.{arrival_ends, still_lets_in}
-use Rattle.pool_serve.proofs.Managing.{same_serves}
+use Rattle.pool_serve.proofs.Managing.{same_if_managed, same_serves, stayed}
 use Rattle.pool_serve.proofs.worker.Worker.admit.Goals as goal
 
 pub returns-in-Client-clause-came : goal.returns-in-Client-clause-came
 returns-in-Client-clause-came g c = same_came _ c.args.run c.go_on.new.self _ c.serve_arrived-served.result.1 c.go_on.ensures.login c.serve_arrived-served.ensures.came
+
+pub returns-in-Client-clause-managed : goal.returns-in-Client-clause-managed
+returns-in-Client-clause-managed g c =
+    let old = c.args.self.now.pass in
+    let here = c.arrive.new.self.pass in
+    let served = c.serve_arrived-served.new.self.pass in
+    let gone = c.leave.new.pass in
+    stayed c.args.run.login (pass_of (g.D.LinkDesk.told old) (g.D.LinkDesk.holder old)) (pass_of (g.D.LinkDesk.told gone) (g.D.LinkDesk.holder gone)) (pass_of (g.D.LinkDesk.told here) (g.D.LinkDesk.holder here)) (pass_of (g.D.LinkDesk.told served) (g.D.LinkDesk.holder served))
+    (g.C.ClientEnd.facts c.serve_arrived-served.result.0)
+    c.serve_arrived-served.result.1
+    (record { beyond = _; number = c.in-Client.number; let_in = c.in-Client.ensures.told; arrived_as = c.in-Client.ensures.holder; gone = c.leave.result; told = c.leave.ensures.told; has_left = c.leave.ensures.holder })
+    (same_if_managed c.args.run c.go_on.new.self _ _ (g.C.ClientEnd.facts c.serve_arrived-served.result.0) c.serve_arrived-served.result.1 c.go_on.ensures.login c.serve_arrived-served.ensures.managed)
 
 pub returns-in-Client-clause-serves : goal.returns-in-Client-clause-serves
 returns-in-Client-clause-serves g c = λ t l.

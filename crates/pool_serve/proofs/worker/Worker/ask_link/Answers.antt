@@ -37,5 +37,5 @@ returns-in-Queued-clause-ended g c =
     let before = c.args.self.now.pass in
     let asked = c.ask.new.pass in
     let after = c.take_link.new.self.pass in
-    queued_ends g.D.LinkDesk.home c.args.logged_in.now (g.D.LinkDesk.told before) (g.D.LinkDesk.told asked) (g.D.LinkDesk.told after) (g.D.LinkDesk.holder before) (g.D.LinkDesk.holder asked) (g.D.LinkDesk.holder after) c.in-Queued.ensures.told (ap (λ (h : Holder). h.client) c.in-Queued.ensures.holder) c.take_link.result
+    queued_ends g.D.LinkDesk.home c.args.logged_in.now (g.D.LinkDesk.told before) (g.D.LinkDesk.told asked) (g.D.LinkDesk.told after) (g.D.LinkDesk.holder before) (g.D.LinkDesk.holder asked) (g.D.LinkDesk.holder after) c.in-Queued.ensures.told (ap (λ (h : Holder). h.client) c.in-Queued.ensures.holder) (ap (λ (h : Holder). h.found) c.in-Queued.ensures.holder) (ap (λ (h : Holder). h.struck) c.in-Queued.ensures.holder) c.take_link.result
     c.take_link.ensures.ended

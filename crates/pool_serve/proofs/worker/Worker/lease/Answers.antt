@@ -8,7 +8,7 @@ returns-in-Ok-clause-share g c =
     evens_both _ x.last _ (again_evens x.again) (linked_evens x.last _ _ x.granted c.over_link.ensures.share)
 
 pub returns-in-Ok-clause-leased : goal.returns-in-Ok-clause-leased
-returns-in-Ok-clause-leased g c = leased_by _ _ _ c.in-Ok.ensures.held.client c.in-Ok.ensures.held.refused c.over_link.result.1 c.over_link.ensures.frees
+returns-in-Ok-clause-leased g c = leased_by _ _ _ c.in-Ok.ensures.held.client c.in-Ok.ensures.held.refused c.in-Ok.ensures.held.found c.in-Ok.ensures.held.struck c.over_link.result.1 c.over_link.ensures.frees
 
 pub returns-in-Ok-clause-ended : goal.returns-in-Ok-clause-ended
 returns-in-Ok-clause-ended g c =

@@ -12,7 +12,7 @@ use Rattle.pool_serve.proofs.Telling.{nothing_more, none_ends}
 use Rattle.pool_serve.proofs.worker.Worker.link.Goals as goal
 
 pub loop-init : goal.loop-init
-loop-init g c = (never, refl, c.requires.none, c.requires.unrefused)
+loop-init g c = (never, refl, c.requires.none, c.requires.unrefused, refl, refl)
 
 pub returns-then-not-lacks_place-clause-share : goal.returns-then-not-lacks_place-clause-share
 returns-then-not-lacks_place-clause-share g c = evens_both _ _ _ (again_evens c.loop.invariant.0) c.in-Err.ensures.share
@@ -43,6 +43,8 @@ loop-preserved g c =
       ap (λ (h : Holder). h.client) c.may_ask_again.ensures.holder ∙ (leased.client ∙ c.loop.invariant.1),
       ap (λ (h : Holder). h.lease) c.may_ask_again.ensures.holder ∙ leased.lease,
       ap (λ (h : Holder). h.refused) c.may_ask_again.ensures.holder ∙ (leased.refused ∙ ap refusal_in failed.is_ending),
+      ap (λ (h : Holder). h.found) c.may_ask_again.ensures.holder ∙ (leased.found ∙ c.loop.invariant.4),
+      ap (λ (h : Holder). h.struck) c.may_ask_again.ensures.holder ∙ (leased.struck ∙ c.loop.invariant.5),
     )
 
 pub returns-clause-share : goal.returns-clause-share

@@ -6,7 +6,7 @@ use Rattle.login_core.specs.Logins.{LoginView}
 use Rattle.pool_serve.specs.declared.logged_in.LoggedIn.{LoggedIn}
 use Rattle.pool_serve.proofs.Again.{guest_traces}
 use Rattle.pool_serve.proofs.Leases.{came_in, same_came}
-use Rattle.pool_serve.proofs.Managing.{logged_in_serves, same_serves}
+use Rattle.pool_serve.proofs.Managing.{logged_in_serves, same_if_managed, same_serves, unmanaged}
 use Rattle.pool_serve.proofs.Logging.{is_logged_in, key_is, logged_in_ends, run_ends, still_lets_in}
 use Rattle.pool_serve.proofs.worker.Worker.serve_arrived.Goals as goal
 
@@ -21,6 +21,11 @@ returns-in-Some-clause-came g c =
     came_in _ c.args.run.login _ _ _ c.host.result.1
     (record { word = sym c.requires.word; settings = ap (λ (v : LoginView). v.settings) login ∙ same.settings; users = ap (λ (v : LoginView). v.users) login ∙ same.users })
     c.host.ensures.ended.ended.came
+
+pub returns-in-Some-clause-managed : goal.returns-in-Some-clause-managed
+returns-in-Some-clause-managed g c =
+    let logged_in : LoggedIn = record { key = c.in-Some.key; word = c.args.word; login = c.finish-client-2.result.1 } in
+    unmanaged g.D.LinkDesk.home logged_in (g.C.ClientEnd.facts c.finish-client-2.result.0) (g.C.ClientEnd.facts c.host.result.0) c.host.result.1 _ c.host.ensures.ended.ended.came
 
 pub returns-in-Some-clause-traces : goal.returns-in-Some-clause-traces
 returns-in-Some-clause-traces g c =
@@ -53,9 +58,10 @@ pub returns-in_default : goal.returns-in_default
 returns-in_default g c = record {
   tells = ap (λ (x : ClientFacts). x.tells) c.finish-client.ensures.client ∙ c.drive_login.ensures.login.tells;
   share = record { stay = record { arrived = refl; left = refl }; leases = λ e. (e, refl) };
-  leased = record { client = refl; lease = c.requires.none; refused = c.requires.unrefused };
+  leased = record { client = refl; lease = c.requires.none; refused = c.requires.unrefused; found = refl; struck = refl };
   traces = record { last = _; again = inl refl; traces = refl };
   came = tt;
+  managed = tt;
   serves = λ t l. run_ends c.runs_are_allowed.ensures g.D.LinkDesk.home c.args.run c.drive_login.new.run (g.C.ClientEnd.facts c.finish-client.result.0) c.drive_login.ensures.login c.finish-client.ensures.run c.finish-client.ensures.client t;
 }
 
@@ -63,8 +69,15 @@ pub returns-in-Console : goal.returns-in-Console
 returns-in-Console g c = record {
   tells = c.manage.ensures.tells ∙ c.drive_login.ensures.login.tells;
   share = c.manage.ensures.share;
-  leased = record { client = c.manage.ensures.holder.client; lease = c.manage.ensures.holder.lease ∙ c.requires.none; refused = c.manage.ensures.holder.refused ∙ (c.requires.unrefused ∙ sym c.manage.ensures.refused) };
+  leased = record {
+    client = c.manage.ensures.holder.client;
+    lease = c.manage.ensures.holder.lease ∙ c.requires.none;
+    refused = c.manage.ensures.holder.refused ∙ (c.requires.unrefused ∙ sym c.manage.ensures.refused);
+    found = c.manage.ensures.holder.found;
+    struck = c.manage.ensures.holder.struck;
+  };
   traces = record { last = _; again = inl refl; traces = c.manage.ensures.traces };
   came = same_came _ c.args.run c.drive_login.new.run (g.C.ClientEnd.facts c.manage.result.0) c.manage.result.1 c.drive_login.ensures.login c.manage.ensures.came;
+  managed = same_if_managed c.args.run c.drive_login.new.run _ _ (g.C.ClientEnd.facts c.manage.result.0) c.manage.result.1 c.drive_login.ensures.login c.manage.ensures.managed;
   serves = λ t l. same_serves g.D.LinkDesk.home c.args.run c.drive_login.new.run (g.C.ClientEnd.facts c.manage.result.0) c.manage.result.1 c.drive_login.ensures.login (c.manage.ensures.serves (c.drive_login.ensures.login.tells ∙ t));
 }

@@ -33,14 +33,14 @@ returns-in-Queued-clause-ended g c = λ f. record {
 
 pub returns-in-Lend-clause-ended : goal.returns-in-Lend-clause-ended
 returns-in-Lend-clause-ended g c =
-    lent_ended g.D.LinkDesk.home c.args.logged_in.now _ _ _ (g.D.LinkDesk.holder c.args.self.now.pass) (g.D.LinkDesk.holder c.take_in_turn.new.self.pass) _ c.in-Lend.ensures.told (ap (λ (h : Holder). h.client) c.in-Lend.ensures.holder) (ap (λ (h : Holder). h.refused) c.in-Lend.ensures.holder ∙ c.requires.unrefused) c.lent_link.result
+    lent_ended g.D.LinkDesk.home c.args.logged_in.now _ _ _ (g.D.LinkDesk.holder c.args.self.now.pass) (g.D.LinkDesk.holder c.take_in_turn.new.self.pass) _ c.in-Lend.ensures.told (ap (λ (h : Holder). h.client) c.in-Lend.ensures.holder) (ap (λ (h : Holder). h.refused) c.in-Lend.ensures.holder ∙ c.requires.unrefused) (ap (λ (h : Holder). h.found) c.in-Lend.ensures.holder) (ap (λ (h : Holder). h.struck) c.in-Lend.ensures.holder) c.lent_link.result
     c.lent_link.ensures.strange
     c.lent_link.ensures.lost
     c.lent_link.ensures.freed
 
 pub returns-after-evicted-clause-ended : goal.returns-after-evicted-clause-ended
 returns-after-evicted-clause-ended g c =
-    new_ended g.D.LinkDesk.home c.args.logged_in.now _ _ _ (g.D.LinkDesk.holder c.args.self.now.pass) (g.D.LinkDesk.holder c.take_in_turn.new.self.pass) _ c.in-Start.ensures.told (ap (λ (h : Holder). h.client) c.in-Start.ensures.holder) (ap (λ (h : Holder). h.refused) c.in-Start.ensures.holder ∙ c.requires.unrefused) c.new_link.result
+    new_ended g.D.LinkDesk.home c.args.logged_in.now _ _ _ (g.D.LinkDesk.holder c.args.self.now.pass) (g.D.LinkDesk.holder c.take_in_turn.new.self.pass) _ c.in-Start.ensures.told (ap (λ (h : Holder). h.client) c.in-Start.ensures.holder) (ap (λ (h : Holder). h.refused) c.in-Start.ensures.holder ∙ c.requires.unrefused) (ap (λ (h : Holder). h.found) c.in-Start.ensures.holder) (ap (λ (h : Holder). h.struck) c.in-Start.ensures.holder) c.new_link.result
     c.new_link.ensures.why
     c.new_link.ensures.word
     c.new_link.ensures.failed

@@ -1,0 +1,114 @@
+#!/usr/bin/env python3
+"""How long each SHOW of the console keeps others from the desk, and from the table of connections, with 1,000 clients and with many, in front
+of a stand-in server: the time inside the two functions that hold those locks, by the kernel's uprobes. It wants root, and a kernel that has them.
+
+Usage: shows.py PROGRAM [MOST]: MOST clients (9,900: two files each)
+"""
+import pathlib
+import re
+import resource
+import statistics
+import subprocess
+import sys
+
+sys.path.insert(0, str(pathlib.Path(__file__).resolve().parent.parent / "scripts"))
+from cluster import TOP, Place, Pooler, free_port, is_open, set_up, until
+from wire import Client, startup
+
+FEW, MOST, LINKS, ROUNDS = 1_000, 9_900, 40, 9
+SHOWS = ("CLIENTS", "SERVERS", "POOLS", "STATS", "LISTS", "ACTIVITY", "DATABASES")
+# what holds a lock while it copies what is shown, by its symbol: the desk's, and that of the table of connections
+HOLDERS = {"desk": r"desk::DeskLinkDesk::view", "table": r"watch::Watch::seen"}
+TRACING = pathlib.Path("/sys/kernel/tracing")
+SECONDS = 120
+
+
+def said(*words):
+    return subprocess.run(words, capture_output=True, check=True, text=True).stdout
+
+
+class Probes:
+    """Marks at the beginning and the end of these functions of a program."""
+
+    def __init__(self, program):
+        if not (TRACING / "uprobe_events").exists():
+            subprocess.run(["mount", "-t", "tracefs", "none", TRACING], check=True)
+        parts = re.findall(r"LOAD\s+(0x\w+)\s+(0x\w+)\s+0x\w+\s+(0x\w+)", said("readelf", "-lW", program))
+        self.parts = [tuple(int(it, 16) for it in part) for part in parts]
+        self.clear()
+        for name, symbol in HOLDERS.items():
+            at = next(int(line.split()[0], 16) for line in said("nm", program).splitlines() if re.search(symbol, line))
+            for kind in "pr":
+                # appended by a shell, since Python seeks in what can't be sought
+                subprocess.run(["sh", "-c", f"echo '{kind}:shows/{name}_{kind} {program}:{self.place(at):#x}' >> {TRACING}/uprobe_events"], check=True)
+        self.switch(1)
+
+    def place(self, at):
+        return next(at - memory + file for file, memory, size in self.parts if memory <= at < memory + size)
+
+    def switch(self, on):
+        (TRACING / "events/shows/enable").write_text(str(on))
+
+    def clear(self):
+        (TRACING / "uprobe_events").write_text("")
+
+    def times(self, work):
+        """The milliseconds inside each while this is done."""
+        (TRACING / "trace").write_text("")
+        work()
+        found, begun = {}, {}
+        for thread, moment, name, kind in re.findall(r"-(\d+)\s+\[\d+\]\s+\S+\s+([\d.]+): (\w+)_([pr]):", (TRACING / "trace").read_text()):
+            if kind == "p":
+                begun[thread, name] = float(moment)
+            elif (thread, name) in begun:
+                found.setdefault(name, []).append((float(moment) - begun.pop((thread, name))) * 1e3)
+        return {name: statistics.median(it) for name, it in found.items()}
+
+
+class Served:
+    """A pool before a stand-in server, with so many clients: some have its links, the others wait for them."""
+
+    def __init__(self, program, count):
+        self.place = Place()
+        self.port = free_port()
+        catalogue = self.place.write("catalogue.tsv", (TOP / "examples/catalogue.tsv").read_bytes())
+        self.server = self.place.start(program, "stub", "--port", self.port, "--catalogue", catalogue)
+        until(lambda: is_open(self.port))
+        self.pooler = Pooler(self.place, self, program, size=LINKS, clients=10_000, wait=0)
+        self.clients = [Client(self.pooler.port) for _ in range(count)]
+        for it in self.clients:
+            it.send(startup("ann", "shop"))
+        self.console = Client(self.pooler.port, "root", "pgbouncer", "r")
+        if not until(lambda: len(self.console.ask("SHOW CLIENTS")) >= count, SECONDS):
+            sys.exit(f"{count} clients aren't there in {SECONDS} s")
+
+    def end(self):
+        self.pooler.process.kill()
+        self.server.kill()
+        for it in self.clients:
+            it.socket.close()
+        self.place.clear()
+
+
+def main(program, most):
+    set_up()
+    resource.setrlimit(resource.RLIMIT_NOFILE, (resource.getrlimit(resource.RLIMIT_NOFILE)[1],) * 2)
+    probes, found = Probes(program), {}
+    try:
+        for count in (FEW, most):
+            served = Served(program, count)
+            for show in SHOWS:
+                found[show, count] = probes.times(lambda: [served.console.ask(f"SHOW {show}") for _ in range(ROUNDS)])
+            served.end()
+    finally:
+        probes.switch(0)
+        probes.clear()
+    print(f"{'SHOW':10} " + "  ".join(f"{f'{name}: ms, {FEW}; {most}; times':32}" for name in HOLDERS))
+    for show in SHOWS:
+        cells = [(found[show, FEW][name], found[show, most][name]) for name in HOLDERS]
+        print(f"{show:10} " + "  ".join(f"{f'{few:.2f}; {many:.2f}; {many / few:.1f}':32}" for few, many in cells))
+    return 0
+
+
+if __name__ == "__main__":
+    sys.exit(main(str(pathlib.Path(sys.argv[1]).resolve()), int((sys.argv[2:] + [MOST])[0])))

@@ -1,0 +1,126 @@
+#!/usr/bin/env python3
+"""Shows what `pgsess serve` does where the system has no thread for a connection, and where it can't read the clock, at its start or later: in
+front of a server of this script, with a preloaded library (scripts/refuse_calls.c) that refuses those calls while they are to be refused.
+
+Usage: wants.py PROGRAM, at the top of the repository; it needs gcc.
+"""
+import ctypes
+import mmap
+import re
+import socket
+
+from as_told import TERMINATE, Server, outcome
+from cluster import HERE, TOP, USERS, Passes, Place, Pooler, play, until
+from wire import Client
+
+UNSERVED = 3
+SECONDS = 20
+# its clock is read once a second, so in so many refusals it has come back to it
+REFUSALS = 3
+# what it may take of a processor meanwhile, in seconds: it waits for each second
+MOST_USED = 0.5
+
+
+class Page:
+    """What the preloaded library shares: what is refused, and how often it was."""
+
+    def __init__(self, place):
+        self.file = place.write("page", bytes(mmap.PAGESIZE))
+        self.file.chmod(0o666)
+        with open(self.file, "r+b") as file:
+            self.memory = mmap.mmap(file.fileno(), 32)
+        self.words = (ctypes.c_uint64 * 4).from_buffer(self.memory)
+
+    def refuse(self, threads=False, clock=False):
+        self.words[0], self.words[1] = threads, clock
+
+    def refused(self):
+        """How often a thread was, and how often the clock."""
+        return self.words[2], self.words[3]
+
+
+def closed_without_a_byte(port):
+    """Whether a connection is closed that says nothing, and what it was given."""
+    with socket.create_connection((HERE, port), SECONDS) as it:
+        it.settimeout(SECONDS)
+        try:
+            return it.recv(64) == b""
+        except ConnectionResetError:
+            return True
+
+
+class Show:
+    def __init__(self, program):
+        self.passes, self.place, self.server, self.pooler = Passes("wants"), Place("nobody"), Server(), None
+        library = self.place.folder / "refuse.so"
+        self.place.run("gcc", "-O1", "-Wall", "-Wextra", "-shared", "-fPIC", "-o", library, TOP / "scripts/refuse_calls.c")
+        self.page = Page(self.place)
+        self.program = self.place.write("serve.sh", f"#!/bin/sh\nLD_PRELOAD={library} REFUSE_PAGE={self.page.file} exec {program} \"$@\"\n")
+        self.program.chmod(0o755)
+
+    def begin(self, **more):
+        self.pooler = Pooler(self.place, self.server, self.program, auth="md5", **more)
+
+    def end(self, what):
+        self.passes.tell(f"{what}: SHUTDOWN", self.pooler.shut())
+        self.pooler.stop()
+
+    def log(self):
+        return (self.place.folder / "pgsess.err").read_text()
+
+    def counted(self):
+        """How many connections the log says were closed for want of something."""
+        return sum(map(int, re.findall(r"^pgsess: (\d+) connections? closed for want of a thread, a poll, a file or memory$", self.log(), re.M)))
+
+    def threads(self):
+        self.begin()
+        # once one is served the pooler has its own, and that one's is not to be had
+        client = Client(self.pooler.port, "ann", "shop", USERS["ann"][0], seconds=SECONDS)
+        self.page.refuse(threads=True)
+        closed = [closed_without_a_byte(self.pooler.port) for _ in range(UNSERVED)]
+        self.passes.same("connections for which there is no thread are closed without a byte", closed, [True] * UNSERVED)
+        self.page.refuse()
+        until(lambda: self.counted() >= UNSERVED, SECONDS)
+        self.passes.same("the log counts them", self.counted(), UNSERVED)
+        self.passes.same("who is there is served", client.ask("SELECT"), [])
+        self.passes.same("threads are had again: a client", outcome(self.pooler.port), "served")
+        client.leave()
+        self.end("no thread")
+
+    def clocks_later(self):
+        """Whether the clock was tried again, and again, and what that took of a processor."""
+        before, used = self.page.refused()[1], self.pooler.used()
+        tried = until(lambda: self.page.refused()[1] >= before + REFUSALS, SECONDS)
+        return tried, self.pooler.used() - used
+
+    def idle_link_goes(self):
+        """Whether an idle link is closed by the clock, as a Terminate says."""
+        return until(lambda: self.server.sent.endswith(TERMINATE) and self.server.ended, SECONDS)
+
+    def clock(self, what, begins):
+        """The clock can't be read: clients are served, without limits; and once it can be again, the limits hold."""
+        if begins:
+            self.page.refuse(clock=True)
+        self.server.sent, self.server.ended = b"", 0
+        self.begin(changes={"^server_idle_timeout = .*": "server_idle_timeout = 1"})
+        self.page.refuse(clock=True)
+        self.passes.same(f"{what}: a client", outcome(self.pooler.port), "served")
+        tried, used = self.clocks_later()
+        self.passes.holds(f"{what}: it is tried again, second for second", tried)
+        self.passes.holds(f"{what}: that takes no processor", used < MOST_USED, f"{used:.2f} s")
+        self.passes.same(f"{what}: no link is closed by it", self.server.ended, 0)
+        client = Client(self.pooler.port, "ann", "shop", USERS["ann"][0], seconds=SECONDS)
+        self.page.refuse()
+        client.ask("SELECT")
+        client.leave()
+        self.passes.holds(f"{what}, and then it can be: an idle link is closed in server_idle_timeout", self.idle_link_goes(), self.server.sent[-20:].hex())
+        self.end(what)
+
+    def all(self):
+        self.threads()
+        self.clock("no clock at the start", True)
+        self.clock("no clock later", False)
+
+
+if __name__ == "__main__":
+    play(Show)
