@@ -86,6 +86,18 @@ class Breaking(Server):
         return left
 
 
+class Ending(Server):
+    """One whose session ends with its answer: what it says, and that it says no more, come at once."""
+
+    def answer(self, connection, held):
+        if held[:1] == b"Q":
+            connection.setsockopt(socket.IPPROTO_TCP, socket.TCP_CORK, 1)
+            connection.sendall(self.answers[held == RESET])
+            connection.shutdown(socket.SHUT_WR)
+            return b""
+        return super().answer(connection, held)
+
+
 def outcome(port, user="ann", password=None, database="shop", asks="SELECT", host=HERE):
     """What a client is told that asks for something."""
     try:
@@ -271,6 +283,22 @@ class Show:
         self.passes.same("one that ends while it is reset", outcome(port, database="resetting"), "served")
         self.logs("is told as ended, and not as one that wasn't reset", r"link \d+ closed: server connection ended$")
 
+    def last_answers(self):
+        """A session that ends with its answer: that counts too."""
+        server = Ending()
+        self.begin(more_rows=f"ending = host={HERE} port={server.port} dbname=shop")
+        client = Client(self.pooler.port, "ann", "ending", USERS["ann"][0], seconds=SECONDS)
+        self.passes.same("a session that ends with its answer: that is given", client.ask("SELECT"), [])
+        try:
+            told = client.next()
+        except Cut:
+            told = None
+        self.passes.holds("and then that its server has gone", told and told[0] == b"E" and b"C08006\0" in told[1], repr(told))
+        client.socket.close()
+        counted = lambda: [row[1:3] for row in self.console("SHOW STATS_TOTALS") if row[0] == "ending"]
+        until(lambda: counted() == [["1", "1"]], 5)
+        self.passes.same("the last answer counts as a transaction and as a query", counted(), [["1", "1"]])
+
     def leases(self):
         """Which link a client was lent, and to which process."""
         keyless = Server(welcome=OK + READY)
@@ -383,7 +411,7 @@ class Show:
             self.passes.holds("by the clock", STAY <= float(found[1]) < STAY + SLACK, found[0])
 
     def all(self):
-        for part in (self.seeds, self.addresses, self.users, self.settings, self.strange_servers, self.ended_sessions, self.leases, self.kept_settings,
+        for part in (self.seeds, self.addresses, self.users, self.settings, self.strange_servers, self.ended_sessions, self.last_answers, self.leases, self.kept_settings,
                      self.without_files, self.asking_again, self.left_waiting, self.visits):
             part()
         self.pooler.stop()

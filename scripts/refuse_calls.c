@@ -1,6 +1,6 @@
 /* A preloaded library that refuses calls of the system, as long as whoever shares its page says so. REFUSE_PAGE names a file, whose first
-   32 bytes are four numbers of eight bytes: while the first isn't 0 no thread can be made, and while the second isn't the clock can't be
-   read; the third and the fourth count how often each was refused. */
+   48 bytes are six numbers of eight bytes: while the first isn't 0 no thread can be made, while the second isn't the clock can't be read, and
+   while the third isn't no socket has room for what is sent; the others count how often each was refused. */
 #define _GNU_SOURCE
 #include <dlfcn.h>
 #include <errno.h>
@@ -9,11 +9,12 @@
 #include <stdatomic.h>
 #include <stdlib.h>
 #include <sys/mman.h>
+#include <sys/socket.h>
 #include <time.h>
 #include <unistd.h>
 
 static struct page {
-    _Atomic unsigned long no_thread, no_clock, threads, clocks;
+    _Atomic unsigned long no_thread, no_clock, no_room, threads, clocks, sends;
 } *page;
 
 __attribute__((constructor)) static void share(void) {
@@ -46,4 +47,15 @@ int clock_gettime(clockid_t clock, struct timespec *now) {
     int (*read)(clockid_t, struct timespec *);
     *(void **)&read = dlsym(RTLD_NEXT, "clock_gettime");
     return read(clock, now);
+}
+
+ssize_t send(int socket, const void *bytes, size_t count, int flags) {
+    if (page && page->no_room) {
+        page->sends++;
+        errno = EAGAIN;
+        return -1;
+    }
+    ssize_t (*give)(int, const void *, size_t, int);
+    *(void **)&give = dlsym(RTLD_NEXT, "send");
+    return give(socket, bytes, count, flags);
 }

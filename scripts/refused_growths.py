@@ -375,7 +375,7 @@ class Causes:
 
     def fault_of(self, first):
         """What is wrong where this growth is refused, and whether one was."""
-        page, before = self.growths.pages["serve"], len(self.log())
+        page, before, unserved = self.growths.pages["serve"], len(self.log()), self.unserved()
         given = self.given(lambda: page.refuse(first, 1))
         if not page.end():
             return "", False
@@ -383,6 +383,11 @@ class Causes:
         self.told.append(self.kind(given, before))
         if not self.told[-1]:
             return f"{first}: a client is given {given[-100:]!r}", True
+        # the log is waited for before the next growth is refused, which may be that of its line
+        wanted = self.told[-1] == "nothing"
+        until(lambda: self.unserved() - unserved >= wanted, LOG_SECONDS)
+        if self.unserved() - unserved != wanted:
+            return f"{first}: {self.told[-1]}, and the log counts {self.unserved() - unserved} connections closed without a byte", True
         return self.growths.fault_afterwards(), True
 
     def counts(self):
@@ -394,7 +399,6 @@ class Causes:
         return counts
 
     def fault(self):
-        before = self.unserved()
         for first in range(1, MOST):
             fault, is_refused = self.fault_of(first)
             if fault:
@@ -402,12 +406,7 @@ class Causes:
             if not is_refused:
                 break
         counts = self.counts()
-        if any(counts[kind] < fewest for kind, fewest in FEWEST_TOLD.items()):
-            return f"told {counts}"
-        wanted = counts["nothing"]
-        until(lambda: self.unserved() - before >= wanted, LOG_SECONDS)
-        counted = self.unserved() - before
-        return "" if counted == wanted else f"{wanted} connections were closed without a byte, and the log counts {counted}"
+        return f"told {counts}" if any(counts[kind] < fewest for kind, fewest in FEWEST_TOLD.items()) else ""
 
 
 def main():
