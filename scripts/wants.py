@@ -1,6 +1,7 @@
 #!/usr/bin/env python3
-"""Shows what `pgsess serve` does where the system has no thread for a connection, and where it can't read the clock, at its start or later: in
-front of a server of this script, with a preloaded library (scripts/refuse_calls.c) that refuses those calls while they are to be refused.
+"""Shows what `pgsess serve` does where the system has no thread for a connection, where it can't read the clock, at its start or later, and
+where a client doesn't take its last word: in front of a server of this script, with a preloaded library (scripts/refuse_calls.c) that refuses
+those calls while they are to be refused.
 
 Usage: wants.py PROGRAM, at the top of the repository; it needs gcc.
 """
@@ -8,10 +9,11 @@ import ctypes
 import mmap
 import re
 import socket
+import time
 
 from as_told import TERMINATE, Server, outcome
 from cluster import HERE, TOP, USERS, Passes, Place, Pooler, play, until
-from wire import Client
+from wire import Client, Refused, md5_answer, message, startup
 
 UNSERVED = 3
 SECONDS = 20
@@ -19,6 +21,8 @@ SECONDS = 20
 REFUSALS = 3
 # what it may take of a processor meanwhile, in seconds: it waits for each second
 MOST_USED = 0.5
+# a last word is tried once in 100 ms; in so many seconds so often at least, and at most
+TRIED, FEWEST_TRIES, MOST_TRIES = 3, 8, 40
 
 
 class Page:
@@ -28,15 +32,15 @@ class Page:
         self.file = place.write("page", bytes(mmap.PAGESIZE))
         self.file.chmod(0o666)
         with open(self.file, "r+b") as file:
-            self.memory = mmap.mmap(file.fileno(), 32)
-        self.words = (ctypes.c_uint64 * 4).from_buffer(self.memory)
+            self.memory = mmap.mmap(file.fileno(), 48)
+        self.words = (ctypes.c_uint64 * 6).from_buffer(self.memory)
 
-    def refuse(self, threads=False, clock=False):
-        self.words[0], self.words[1] = threads, clock
+    def refuse(self, threads=False, clock=False, room=False):
+        self.words[:3] = [threads, clock, room]
 
     def refused(self):
-        """How often a thread was, and how often the clock."""
-        return self.words[2], self.words[3]
+        """How often a thread was, how often the clock, and how often what was sent."""
+        return self.words[3:]
 
 
 def closed_without_a_byte(port):
@@ -72,6 +76,10 @@ class Show:
         """How many connections the log says were closed for want of something."""
         return sum(map(int, re.findall(r"^pgsess: (\d+) connections? closed for want of a thread, a poll, a file or memory$", self.log(), re.M)))
 
+    def times_untimed(self):
+        """How often the log says that no limit of time holds."""
+        return len(re.findall("^pgsess: no limit of time holds until the clock can be read$", self.log(), re.M))
+
     def threads(self):
         self.begin()
         # once one is served the pooler has its own, and that one's is not to be had
@@ -99,6 +107,7 @@ class Show:
 
     def clock(self, what, begins):
         """The clock can't be read: clients are served, without limits; and once it can be again, the limits hold."""
+        untimed = self.times_untimed()
         if begins:
             self.page.refuse(clock=True)
         self.server.sent, self.server.ended = b"", 0
@@ -107,6 +116,7 @@ class Show:
         self.passes.same(f"{what}: a client", outcome(self.pooler.port), "served")
         tried, used = self.clocks_later()
         self.passes.holds(f"{what}: it is tried again, second for second", tried)
+        self.passes.same(f"{what}: the log says once that no limit of time holds", self.times_untimed() - untimed, 1)
         self.passes.holds(f"{what}: that takes no processor", used < MOST_USED, f"{used:.2f} s")
         self.passes.same(f"{what}: no link is closed by it", self.server.ended, 0)
         client = Client(self.pooler.port, "ann", "shop", USERS["ann"][0], seconds=SECONDS)
@@ -116,8 +126,29 @@ class Show:
         self.passes.holds(f"{what}, and then it can be: an idle link is closed in server_idle_timeout", self.idle_link_goes(), self.server.sent[-20:].hex())
         self.end(what)
 
+    def last_word(self):
+        """A client whose server isn't reached, and whose socket has no room for that word."""
+        self.begin(more_rows=f"nowhere = host={HERE} port=1 dbname=shop")
+        client = Client(self.pooler.port, seconds=SECONDS)
+        client.send(startup("ann", "nowhere"))
+        salt = client.until(b"R")[1][4:8]
+        self.page.refuse(room=True)
+        client.send(message(b"p", md5_answer("ann", USERS["ann"][0], salt).encode() + b"\0"))
+        time.sleep(TRIED)
+        tries = self.page.refused()[2]
+        self.passes.holds(f"a last word that isn't taken is tried ten times a second: {tries} times in {TRIED} s", FEWEST_TRIES <= tries <= MOST_TRIES)
+        self.page.refuse()
+        try:
+            told = client.until(b"Z")
+        except Refused as error:
+            told = error.code
+        self.passes.same("once there is room it is told", told, "08001")
+        client.socket.close()
+        self.end("no room for a last word")
+
     def all(self):
         self.threads()
+        self.last_word()
         self.clock("no clock at the start", True)
         self.clock("no clock later", False)
 
