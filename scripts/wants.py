@@ -116,6 +116,7 @@ class Show:
         self.passes.same(f"{what}: a client", outcome(self.pooler.port), "served")
         tried, used = self.clocks_later()
         self.passes.holds(f"{what}: it is tried again, second for second", tried)
+        until(lambda: self.times_untimed() > untimed, SECONDS)
         self.passes.same(f"{what}: the log says once that no limit of time holds", self.times_untimed() - untimed, 1)
         self.passes.holds(f"{what}: that takes no processor", used < MOST_USED, f"{used:.2f} s")
         self.passes.same(f"{what}: no link is closed by it", self.server.ended, 0)

@@ -323,7 +323,7 @@ fn what_the_program_tells(rt: HostRuntime) -> Result<(), Fail> {
         left: 3,
         others: 2,
     };
-    let rows: [(Event<'_>, &[u8]); 15] = [
+    let rows: [(Event<'_>, &[u8]); 16] = [
         (
             Event::Listening(b"127.0.0.1", 6432),
             b"pgsess: listening 127.0.0.1 6432",
@@ -355,6 +355,10 @@ fn what_the_program_tells(rt: HostRuntime) -> Result<(), Fail> {
         (
             Event::IdleClosed(7, Heard::Spoke),
             b"pgsess: idle link 7 closed: its server said what nobody asked for",
+        ),
+        (
+            Event::NoClock,
+            b"pgsess: no limit of time holds until the clock can be read",
         ),
         (Event::Reloaded, b"pgsess: reloaded"),
         (

@@ -239,6 +239,7 @@ told (event.ListeningForMetrics host port) = addresses host.now port
 told (event.NotListeningForMetrics host port why) = both (address host.now port) (codes ": " ++ shown_text why.now) (addresses host.now port) (texts 92 why.now)
 told (event.Unreached host port why) = both (address host.now port) (codes " not reached: " ++ shown_text why.now) (addresses host.now port) (texts 92 why.now)
 told (event.NoFile host port why) = both (address host.now port) (codes ": " ++ shown_text why.now) (addresses host.now port) (texts 92 why.now)
+told event.NoClock = refl
 told event.Reloaded = refl
 told (event.NotReloaded fault) = texts 92 fault.now
 told (event.AsAtStart what) = texts 92 what.now

@@ -62,6 +62,7 @@ event_words (event.ListeningForMetrics host port) = codes "listening for metrics
 event_words (event.NotListeningForMetrics host port why) = no_metrics host.now port why.now
 event_words (event.Unreached host port why) = unreached host.now port why.now
 event_words (event.NoFile host port why) = no_file host.now port why.now
+event_words event.NoClock = codes "no limit of time holds until the clock can be read"
 event_words event.Reloaded = codes "reloaded"
 event_words (event.NotReloaded fault) = codes "not reloaded: " ++ shown_text fault.now
 event_words (event.AsAtStart what) = codes "not changed by RELOAD: " ++ shown_text what.now

@@ -75,6 +75,8 @@ pub enum Event<'a> {
     Unreached(&'a [u8], u16, &'a [u8]),
     /// No file was left for a connection to the server of this host and port, because of this.
     NoFile(&'a [u8], u16, &'a [u8]),
+    /// The clock can't be read: no limit of time is over until it can.
+    NoClock,
     /// The settings and users were read again.
     Reloaded,
     /// They weren't, because of this fault.
@@ -265,6 +267,9 @@ fn put_words(line: &mut Vec<u8>, event: Event<'_>) -> Result<(), AllocError>
         Event::NotListeningForMetrics(host, port, why) => put_no_metrics(line, host, port, why),
         Event::Unreached(host, port, why) => put_unreached(line, host, port, why),
         Event::NoFile(host, port, why) => put_no_file(line, host, port, why),
+        Event::NoClock => line.extend_from_slice(
+            b"no limit of time holds until the clock can be read",
+        ),
         Event::Reloaded => line.extend_from_slice(b"reloaded"),
         Event::NotReloaded(fault) => put_fault(line, fault),
         Event::AsAtStart(what) => put_because(line, b"not changed by RELOAD: ", what),

@@ -1,5 +1,5 @@
 -- A login under way, and what its calls answer.
-use Rattle.std.specs.Prelude.{◌≡◌, ◌⊎◌, ℕ, ◌+◌, ◌≤◌, ◌<◌, List, [], ◌∷◌, ◌++◌, length, Option, Some, None, Result, Ok, Err, Bool, true, false, IsOk}
+use Rattle.std.specs.Prelude.{◌≡◌, ◌⊎◌, ℕ, ◌+◌, ◌≤◌, ◌<◌, List, [], ◌∷◌, ◌++◌, length, Option, Some, None, Result, Ok, Err, Bool, true, false, IsOk, Box, box_value}
 use Rattle.std.specs.Arc.{arc_value}
 use Rattle.std.specs.declared.sync.Arc.{Arc}
 use Rattle.frame_view.specs.Frames.{Start}
@@ -13,10 +13,13 @@ use Rattle.ini_config.specs.declared.option_values.Settings.{Settings}
 use Rattle.user_file.specs.declared.user_table.UserRow.{UserRow}
 use Rattle.user_file.specs.Secrets.{IsRevealedOf}
 use Rattle.user_file.specs.Users.{UsersOf}
+use Rattle.scram.specs.declared.message.Message.{Message}
 use Rattle.scram.specs.Short.{text_of}
 use Rattle.session_values.specs.State.{StartKeyOf}
 use Rattle.login_core.specs.declared.steps.Question.{Question}
 use Rattle.login_core.specs.declared.steps.Question.TheVariants as question
+use Rattle.login_core.specs.declared.steps.Authenticated.{Authenticated}
+use Rattle.login_core.specs.declared.steps.Authenticated.TheVariants as authenticated
 use Rattle.login_core.specs.declared.steps.Failure.{Failure}
 use Rattle.login_core.specs.declared.steps.Failure.TheVariants as failure
 use Rattle.login_core.specs.declared.steps.LoginStep.{LoginStep}
@@ -118,7 +121,18 @@ question_bytes question.Encryption = no_encryption
 question_bytes question.Cleartext = asks_cleartext
 question_bytes (question.Md5 frame) = frame
 question_bytes question.Scram = asks_scram
-question_bytes (question.Challenge frame) = text_of frame
+question_bytes (question.Challenge frame) = text_of (box_value frame)
+
+-- the server's proof, where there is one
+abbrev pub proof_bytes : {Z : Type 0} → Option (Box Message Z) → List ℕ
+proof_bytes None = []
+proof_bytes (Some frame) = text_of (box_value frame)
+
+-- what a client is told that is let in
+abbrev pub authenticated_bytes : Authenticated → List ℕ
+authenticated_bytes authenticated.Nothing = []
+authenticated_bytes authenticated.Ok = ok
+authenticated_bytes (authenticated.WithProof frames) = text_of (box_value frames)
 
 abbrev pub failure_bytes : Failure → List ℕ
 failure_bytes failure.WrongPassword = wrong_password
@@ -129,8 +143,8 @@ abbrev pub after : LoginStep → List ℕ → Dialogue → Dialogue
 after step.More more rest = rest
 after (step.Arrived key) more rest = rest
 after (step.Ask q) more rest = says (question_bytes q ∷ []) rest
-after (step.Passed key told) more rest = record { pieces = text_of told ∷ []; ended = Passed (ToLink (arc_value key)) more }
-after (step.Console told) more rest = record { pieces = if_any (text_of told); ended = Passed ToConsole more }
+after (step.Passed key told) more rest = record { pieces = authenticated_bytes told ∷ []; ended = Passed (ToLink (arc_value key)) more }
+after (step.Console told) more rest = record { pieces = if_any (authenticated_bytes told); ended = Passed ToConsole more }
 after (step.Refused refusal) more rest = record { pieces = []; ended = Stopped (Refused refusal) }
 after (step.Failed f) more rest = record { pieces = failure_bytes f ∷ []; ended = Stopped Failed }
 after (step.Cancel pid secret) more rest = record { pieces = []; ended = Stopped (Cancelling (record { pid = pid; secret = secret })) }
@@ -272,8 +286,8 @@ verdict_of proof verdict.Nowhere key = Stops (no_database ∷ []) Failed
 
 -- a step that says what the reaction says, and is the last
 abbrev pub Decides : LoginStep → Reacts → Type 0
-Decides (step.Passed key told) reaction = reaction ≡ Passes (text_of told ∷ []) (ToLink (arc_value key))
-Decides (step.Console told) reaction = reaction ≡ Passes (if_any (text_of told)) ToConsole
+Decides (step.Passed key told) reaction = reaction ≡ Passes (authenticated_bytes told ∷ []) (ToLink (arc_value key))
+Decides (step.Console told) reaction = reaction ≡ Passes (if_any (authenticated_bytes told)) ToConsole
 Decides (step.Failed f) reaction = reaction ≡ Stops (failure_bytes f ∷ []) Failed
 Decides _ reaction = ⊥
 

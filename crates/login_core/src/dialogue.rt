@@ -1,6 +1,5 @@
 //! One step of the dialogue, from the bytes that are held.
 ghost use Rattle.std.specs.Prelude.{◌≡◌, ◌≤◌, ◌+◌, ◌++◌, ℕ, IfErr, IfOk, List, None, [], length, true};
-ghost use Rattle.scram.specs.Short.{text_of};
 ghost use Rattle.std.specs.Arc.{arc_value};
 ghost use Rattle.message_view.specs.Reading.{startup_of};
 ghost use Rattle.user_file.specs.Secrets.{IsRevealedOf, accepts_plain, is_verifier};
@@ -9,10 +8,10 @@ ghost use Rattle.login_core.specs.Dialogue.{AtFirst, Asked, ForFirst, ForPasswor
 ghost use Rattle.ini_config.specs.declared.option_values.AuthType.TheVariants.{Trust};
 ghost use Rattle.login_core.specs.declared.steps.LoginStep.TheVariants.{Ask, Left, Refused};
 ghost use Rattle.login_core.specs.declared.steps.Question.TheVariants.{Scram};
-ghost use Rattle.login_core.specs.Logins.{Answers, ArrivesOnce, Begun, Decides, Fits, AwaitsPacket, Arriving, IfToLink, IsBeforeArrival, IsRevealed, Over, Reveals, StartMeans, StepIs, TakesMemory, asking_of, awaiting_of, left_after, missing, revealed_of, rows_under, verdict_of};
+ghost use Rattle.login_core.specs.Logins.{Answers, ArrivesOnce, Begun, Decides, Fits, AwaitsPacket, Arriving, IfToLink, IsBeforeArrival, IsRevealed, Over, Reveals, StartMeans, StepIs, TakesMemory, asking_of, authenticated_bytes, awaiting_of, left_after, missing, proof_bytes, revealed_of, rows_under, verdict_of};
 
 use crate::laws::packets_grow;
-use crate::steps::{Failure, LoginStep, Question};
+use crate::steps::{Authenticated, Failure, LoginStep, Question};
 use frame_view::client::{PASSWORD_MESSAGE, TERMINATE};
 use frame_view::{
     FirstStep, FrameFault, LONGEST_FIRST_PACKET, Side, Step, first_packet, next_frame,
@@ -182,23 +181,41 @@ fn md5_question(salt: [u8; 4]) -> [u8; 13]
 }
 
 /// AuthenticationOk, behind the server's proof where there is one.
-fn let_in(proof: &Message) -> Message
-    requires { length (text_of proof.now) ≤ 337 }
-    ensures { text_of result ≡ text_of proof.now ++ login.ok }
+fn let_in(proof: Option<Box<Message>>) -> Authenticated
+    requires { length (proof_bytes proof) ≤ 337 }
+    ensures { authenticated_bytes result ≡ proof_bytes proof ++ login.ok }
 {
-    let mut told = *proof;
-    told.push(b"R\0\0\0\x08\0\0\0\0");
-    told
+    match proof {
+        Some(mut frames) => {
+            frames.push(b"R\0\0\0\x08\0\0\0\0");
+            Authenticated::WithProof(frames)
+        }
+        None => Authenticated::Ok,
+    }
 }
 
-/// The last step of a client about which this was decided, behind this proof of the server.
-pub(crate) fn last_step(verdict: Verdict, key: Arc<StartKey>, proof: &Message) -> LoginStep
-    requires { length (text_of proof.now) ≤ 337 }
-    ensures { Decides result (verdict_of (text_of proof.now) verdict (arc_value key)) }
+/// The server's proof, where there is one.
+fn proved(proof: Option<Box<Message>>) -> Authenticated
+    ensures { authenticated_bytes result ≡ proof_bytes proof }
+{
+    match proof {
+        Some(frame) => Authenticated::WithProof(frame),
+        None => Authenticated::Nothing,
+    }
+}
+
+/// The last step of a client about which this was decided, behind the server's proof where there is one.
+pub(crate) fn last_step(
+    verdict: Verdict,
+    key: Arc<StartKey>,
+    proof: Option<Box<Message>>,
+) -> LoginStep
+    requires { length (proof_bytes proof) ≤ 337 }
+    ensures { Decides result (verdict_of (proof_bytes proof) verdict (arc_value key)) }
 {
     match verdict {
         Verdict::ToLink => LoginStep::Passed(key, let_in(proof)),
-        Verdict::ToConsole => LoginStep::Console(*proof),
+        Verdict::ToConsole => LoginStep::Console(proved(proof)),
         Verdict::Wrong => LoginStep::Failed(Failure::WrongPassword),
         Verdict::Nowhere => LoginStep::Failed(Failure::NoDatabase),
     }
@@ -349,10 +366,7 @@ impl Rules {
         ensures memory { IfErr result (λ e. TakesMemory (rows_under self.now (arc_value key).row (arc_value key).user) ForPassword) }
     {
         let (verdict, revealed) = self.judge(alloc, &key, given)?;
-        Ok((
-            last_step(verdict, key, &Message::new()),
-            Place::Over(revealed),
-        ))
+        Ok((last_step(verdict, key, None), Place::Over(revealed)))
     }
 
     /// Where a client goes that isn't asked: an unknown user nowhere.
@@ -448,11 +462,7 @@ impl Rules {
         match self.auth_type(&key) {
             AuthType::Trust => {
                 let verdict = self.trusted(&key);
-                (
-                    last_step(verdict, key, &Message::new()),
-                    Place::Over(None),
-                    0,
-                )
+                (last_step(verdict, key, None), Place::Over(None), 0)
             }
             AuthType::Plain => (
                 LoginStep::Ask(Question::Cleartext),

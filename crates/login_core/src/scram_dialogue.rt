@@ -150,9 +150,11 @@ impl Rules {
             return refused(Refusal::OutOfMemory);
         };
         let challenge = self.challenge(&key, &first);
-        let question = Question::Challenge(sasl_message(11, challenge.as_bytes()));
+        let Ok(frame) = Box::new(alloc, sasl_message(11, challenge.as_bytes())) else {
+            return refused(Refusal::OutOfMemory);
+        };
         (
-            LoginStep::Ask(question),
+            LoginStep::Ask(Question::Challenge(frame)),
             Place::Asked(Asking::Last(copy), key),
         )
     }
@@ -184,9 +186,12 @@ impl Rules {
         let challenge = self.challenge(&key, &first);
         match judge_proof(&judging, &first, challenge.as_bytes(), &message) {
             Some(proved) => {
+                let Ok(told) = Box::new(alloc, proved.told) else {
+                    return refused(Refusal::OutOfMemory);
+                };
                 let verdict = self.admit(&key);
                 let revealed = self.revealed(&key, proved.client);
-                (last_step(verdict, key, &proved.told), Place::Over(revealed))
+                (last_step(verdict, key, Some(told)), Place::Over(revealed))
             }
             None => (LoginStep::Failed(Failure::WrongPassword), Place::Over(None)),
         }

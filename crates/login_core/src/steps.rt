@@ -8,7 +8,7 @@ use start_keys::StartKey;
 use std::sync::Arc;
 
 /// What a client is asked, or told of its request for encryption.
-#[derive(Clone, Copy, Drop)]
+#[derive(Drop)]
 pub enum Question {
     /// The byte `N`: there is no encryption, so the client goes on without it or leaves.
     Encryption,
@@ -19,7 +19,7 @@ pub enum Question {
     /// AuthenticationSASL, which offers SCRAM-SHA-256.
     Scram,
     /// This AuthenticationSASLContinue, with SCRAM's challenge.
-    Challenge(Message),
+    Challenge(Box<Message>),
 }
 
 impl Question {
@@ -33,6 +33,30 @@ impl Question {
             Question::Md5(frame) => frame.as_slice(),
             Question::Scram => b"R\0\0\0\x17\0\0\0\x0aSCRAM-SHA-256\0\0",
             Question::Challenge(frame) => frame.as_bytes(),
+        }
+    }
+}
+
+/// The Authentication messages that a client is told once it is let in (PostgreSQL manual, "Start-up").
+#[derive(Drop)]
+pub enum Authenticated {
+    /// None.
+    Nothing,
+    /// AuthenticationOk.
+    Ok,
+    /// These, of which AuthenticationSASLFinal is the first.
+    WithProof(Box<Message>),
+}
+
+impl Authenticated {
+    /// The bytes for the client.
+    pub fn as_bytes(&self) -> &[u8]
+        ensures { result.now ≡ spec.authenticated_bytes self.now }
+    {
+        match self {
+            Authenticated::Nothing => b"",
+            Authenticated::Ok => b"R\0\0\0\x08\0\0\0\0",
+            Authenticated::WithProof(frames) => frames.as_bytes(),
         }
     }
 }
@@ -71,10 +95,10 @@ pub enum LoginStep {
     Arrived(Arc<StartKey>),
     /// The client is let in with this start key. The caller gives it this: AuthenticationOk, behind AuthenticationSASLFinal where the
     /// client was asked for SCRAM.
-    Passed(Arc<StartKey>, Message),
+    Passed(Arc<StartKey>, Authenticated),
     /// The client is let in to the console. The caller gives it this, which is AuthenticationSASLFinal where the client was asked for SCRAM
     /// and else nothing, and then AuthenticationOk.
-    Console(Message),
+    Console(Authenticated),
     /// The client is given this refusal and closed.
     Refused(Refusal),
     /// The client is given this error and closed.

@@ -8,7 +8,6 @@ use Rattle.message_view.specs.declared.KeyWord.{KeyWord}
 use Rattle.message_view.specs.declared.refusal.Refusal.{Refusal}
 use Rattle.message_view.specs.declared.refusal.Refusal.TheVariants.{OutOfMemory}
 use Rattle.message_view.specs.Refusals.{joined_pieces}
-use Rattle.scram.specs.Short.{text_of}
 use Rattle.link_laws.specs.Standing.{ClientFacts}
 use Rattle.server_end.specs.declared.Moved.{Moved}
 use Rattle.server_end.specs.declared.Moved.TheVariants.{Ended, Fault}
@@ -18,7 +17,7 @@ use Rattle.login_core.specs.declared.steps.LoginStep.TheVariants as step
 use Rattle.login_core.specs.Talk.{End}
 use Rattle.login_core.specs.Talk.End.{Stopped as StoppedFor}
 use Rattle.login_core.specs.Dialogue.{Rows, Dialogue, Way, Reason, Refused as RefusedBy, AtFirst, row_in, login_among}
-use Rattle.login_core.specs.Logins.{Awaiting, AwaitsPacket, Arriving, LoginView, login_view, rows_of, goes_on, IsRevealed, Reveals, Tells, StepMeans, missing}
+use Rattle.login_core.specs.Logins.{Awaiting, AwaitsPacket, Arriving, LoginView, login_view, rows_of, goes_on, IsRevealed, Reveals, Tells, StepMeans, authenticated_bytes, missing}
 use Rattle.login_core.proofs.Pieces.{joined_if_any}
 use Rattle.login_core.specs.Laws.{waits, arrived, asks, NewTells, StepsTell, StepsSay}
 use Rattle.login_run.specs.declared.login_reply.LoginReply.{LoginReply}
@@ -149,7 +148,7 @@ pub joined_said : (s : LoginReply) → IsPiece s → joined_pieces (said_pieces 
 joined_said said.Nothing p = refl
 joined_said (said.Question q) p = append-nil _
 joined_said (said.LetIn told) p = append-nil _
-joined_said (said.Proof told) p = joined_if_any (text_of told)
+joined_said (said.Proof told) p = joined_if_any (authenticated_bytes told)
 joined_said (said.Failure f) p = append-nil _
 joined_said (said.Refusal r) p = absurd p
 

@@ -6,7 +6,6 @@ use Rattle.message_view.specs.declared.KeyWord.{KeyWord}
 use Rattle.message_view.specs.declared.refusal.Refusal.TheVariants.{OutOfMemory}
 use Rattle.message_view.specs.declared.views.KeyView.{KeyView}
 use Rattle.message_view.specs.Refusals.{joined_pieces, refusal}
-use Rattle.scram.specs.Short.{text_of}
 use Rattle.session_values.specs.State.{StartKeyOf}
 use Rattle.link_laws.specs.Standing.{ClientFacts}
 use Rattle.login_core.specs.declared.steps.LoginStep.{LoginStep}
@@ -14,7 +13,7 @@ use Rattle.login_core.specs.declared.steps.LoginStep.TheVariants as step
 use Rattle.login_core.specs.Talk.{End}
 use Rattle.login_core.specs.Talk.End.{Passed as PassedWith, Stopped as StoppedFor}
 use Rattle.login_core.specs.Dialogue.{Rows, Way, ToLink, ToConsole, Reason, Refused as RefusedBy, Failed, Left, Cancelling as CancellingOf, if_any, login_among}
-use Rattle.login_core.specs.Logins.{Awaiting, Arriving, LoginView, rows_of, IsRevealed, Tells, missing, question_bytes, failure_bytes}
+use Rattle.login_core.specs.Logins.{Awaiting, Arriving, LoginView, rows_of, IsRevealed, Tells, missing, question_bytes, authenticated_bytes, failure_bytes}
 use Rattle.login_run.specs.declared.login_reply.LoginReply.{LoginReply}
 use Rattle.login_run.specs.declared.login_reply.LoginReply.TheVariants as said
 use Rattle.login_run.specs.declared.run.Phase.{Phase}
@@ -61,8 +60,8 @@ has_gone _ = false
 abbrev pub said_bytes : LoginReply → List ℕ
 said_bytes said.Nothing = []
 said_bytes (said.Question q) = question_bytes q
-said_bytes (said.LetIn told) = text_of told
-said_bytes (said.Proof told) = text_of told
+said_bytes (said.LetIn told) = authenticated_bytes told
+said_bytes (said.Proof told) = authenticated_bytes told
 said_bytes (said.Failure f) = failure_bytes f
 said_bytes (said.Refusal r) = refusal r
 
@@ -70,8 +69,8 @@ said_bytes (said.Refusal r) = refusal r
 abbrev pub said_pieces : LoginReply → List (List ℕ)
 said_pieces said.Nothing = []
 said_pieces (said.Question q) = question_bytes q ∷ []
-said_pieces (said.LetIn told) = text_of told ∷ []
-said_pieces (said.Proof told) = if_any (text_of told)
+said_pieces (said.LetIn told) = authenticated_bytes told ∷ []
+said_pieces (said.Proof told) = if_any (authenticated_bytes told)
 said_pieces (said.Failure f) = failure_bytes f ∷ []
 said_pieces (said.Refusal r) = []
 

@@ -2,19 +2,18 @@
 ghost use Rattle.std.specs.Prelude.{◌≡◌};
 ghost use Rattle.login_run.specs.Runs as spec;
 
-use login_core::{Failure, Question};
+use login_core::{Authenticated, Failure, Question};
 use message_view::{Refusal, refusal_bytes};
-use scram::Message;
 
 /// What a client is given at a step of its login.
-#[derive(Clone, Copy, Drop)]
+#[derive(Drop)]
 pub enum LoginReply {
     Nothing,
     Question(Question),
     /// AuthenticationOk, behind the server's proof where the client was asked for SCRAM.
-    LetIn(Message),
+    LetIn(Authenticated),
     /// The server's proof, before the console's AuthenticationOk; nothing where the client wasn't asked for SCRAM.
-    Proof(Message),
+    Proof(Authenticated),
     Failure(Failure),
     Refusal(Refusal),
 }

@@ -253,10 +253,10 @@ impl<C: ClientEnd> LoginRun<C> {
     }
 
     /// What the client was given last, or is to be given.
-    pub fn said(&self) -> LoginReply
-        ensures { result ≡ self.now.said }
+    pub fn said(&self) -> &LoginReply
+        ensures { result.now ≡ self.now.said }
     {
-        self.said
+        &self.said
     }
 
     /// The start key with which the client arrived, once it has.

@@ -57,30 +57,30 @@ pub struct Seen {
 }
 
 /// What a client is given at a step, and that it has arrived. The console's AuthenticationOk is the caller's.
-fn see(seen: &mut Seen, step: LoginStep) -> Result<(), Fail> {
+fn said(step: &LoginStep) -> &[u8] {
     match step {
-        LoginStep::More => {}
-        LoginStep::Arrived(_) => seen.out.extend_from_slice(ARRIVES)?,
-        LoginStep::Ask(question) => seen.out.extend_from_slice(question.as_bytes())?,
-        LoginStep::Passed(key, told) => {
-            seen.out.extend_from_slice(told.as_bytes())?;
+        LoginStep::Arrived(_) => ARRIVES,
+        LoginStep::Ask(question) => question.as_bytes(),
+        LoginStep::Passed(_, told) => told.as_bytes(),
+        LoginStep::Console(told) => told.as_bytes(),
+        LoginStep::Refused(refusal) => refusal_bytes(*refusal),
+        LoginStep::Failed(failure) => failure.as_bytes(),
+        LoginStep::More | LoginStep::Cancel { .. } | LoginStep::Left => b"",
+    }
+}
+
+/// What a client is given at a step, and where it arrived.
+fn see(seen: &mut Seen, step: LoginStep) -> Result<(), Fail> {
+    seen.out.extend_from_slice(said(&step))?;
+    match step {
+        LoginStep::More | LoginStep::Arrived(_) | LoginStep::Ask(_) => {}
+        LoginStep::Passed(key, _) => {
             seen.key = Some(key);
             seen.end = End::Passed;
         }
-        LoginStep::Console(told) => {
-            seen.out.extend_from_slice(told.as_bytes())?;
-            seen.end = End::Console;
-        }
-        LoginStep::Refused(refusal) => {
-            seen.out.extend_from_slice(refusal_bytes(refusal))?;
-            seen.end = End::Closed;
-        }
-        LoginStep::Failed(failure) => {
-            seen.out.extend_from_slice(failure.as_bytes())?;
-            seen.end = End::Closed;
-        }
+        LoginStep::Console(_) => seen.end = End::Console,
+        LoginStep::Refused(_) | LoginStep::Failed(_) | LoginStep::Left => seen.end = End::Closed,
         LoginStep::Cancel { pid, secret } => seen.end = End::Cancel { pid, secret },
-        LoginStep::Left => seen.end = End::Closed,
     }
     Ok(())
 }

@@ -4,8 +4,7 @@ use Rattle.std.proofs.lemmas.Grind.{flat_map-append}
 use Rattle.std.specs.Arc.{arc_value}
 use Rattle.message_view.specs.declared.KeyWord.{KeyWord}
 use Rattle.message_view.specs.Refusals.{joined_pieces}
-use Rattle.scram.specs.Short.{text_of}
-use Rattle.scram.specs.declared.message.Message.{Message}
+use Rattle.login_core.specs.declared.steps.Authenticated.{Authenticated}
 use Rattle.session_values.specs.State.{StartKeyOf}
 use Rattle.login_core.specs.declared.steps.LoginStep.{LoginStep}
 use Rattle.login_core.specs.declared.steps.LoginStep.TheVariants as step
@@ -16,7 +15,7 @@ use Rattle.login_core.specs.Talk.End.{Passed}
 use Rattle.login_core.specs.Dialogue.{Dialogue, Rows, AtFirst, ToLink, if_any, login_among, row_in}
 use Rattle.login_core.specs.Laws.{GoesOn, given_by}
 use Rattle.login_core.specs.Laws.GoesOn.{waits, arrived, asks}
-use Rattle.login_core.specs.Logins.{StepMeans, AwaitsPacket, LoginView, Tells, after, failure_bytes, goes_on, login_view, missing, question_bytes, rows_of as login_rows}
+use Rattle.login_core.specs.Logins.{StepMeans, AwaitsPacket, LoginView, Tells, after, authenticated_bytes, failure_bytes, goes_on, login_view, missing, question_bytes, rows_of as login_rows}
 use Rattle.login_core.proofs.Pieces.{joined_if_any}
 use Rattle.login_core.proofs.Telling.{new_tells, steps_say, steps_tell}
 use Rattle.ini_config.specs.Bounds.{AreWithinBounds}
@@ -118,7 +117,7 @@ said h word c s l x f more =
     sym (ap₂ (λ (r : Rows) (k : KeyWord). login_among r k (taken c ++ more)) (same_rows h x.old x.settings x.users) x.word_is)
     ∙ (ap (λ (b : List ℕ). login_among (login_rows x.old) x.old.word (b ++ more)) x.taken_is ∙ f more)
 
-pub passes : (h : MemoryPoolOf) (word : KeyWord) (c : ActClientOf) (key : _) (told : Message) (l : LoginView) → Steps h word c (step.Passed key told) l → IsLetIn h word c (arc_value key) (text_of told)
+pub passes : (h : MemoryPoolOf) (word : KeyWord) (c : ActClientOf) (key : _) (told : Authenticated) (l : LoginView) → Steps h word c (step.Passed key told) l → IsLetIn h word c (arc_value key) (authenticated_bytes told)
 passes h word c key told l x = record {
   pieces = x.pieces;
   passed = said h word c (step.Passed key told) l x (steps_say x.old l x.before x.bytes x.pieces (step.Passed key told) x.tells x.heard);
@@ -131,12 +130,12 @@ fails h word c f l x =
     (ap (login_among (rows_of h) word) (sym (input_is c)) ∙ said h word c (step.Failed f) l x (steps_say x.old l x.before x.bytes x.pieces (step.Failed f) x.tells x.heard) (drop c.at c.input))
     (append-nil (x.pieces ++ failure_bytes f ∷ [])) (ap (λ (b : List ℕ). b ++ failure_bytes f) x.given ∙ joined_one x.pieces (failure_bytes f))
 
-pub to_console : (h : MemoryPoolOf) (word : KeyWord) (c : ActClientOf) (told : Message) (l : LoginView) → Steps h word c (step.Console told) l → IsAtPiece h word (given_more c (text_of told))
+pub to_console : (h : MemoryPoolOf) (word : KeyWord) (c : ActClientOf) (told : Authenticated) (l : LoginView) → Steps h word c (step.Console told) l → IsAtPiece h word (given_more c (authenticated_bytes told))
 to_console h word c told l x =
-    login_piece h word (given_more c (text_of told)) _ (x.pieces ++ if_any (text_of told)) []
+    login_piece h word (given_more c (authenticated_bytes told)) _ (x.pieces ++ if_any (authenticated_bytes told)) []
     (ap (login_among (rows_of h) word) (sym (input_is c)) ∙ said h word c (step.Console told) l x (steps_say x.old l x.before x.bytes x.pieces (step.Console told) x.tells x.heard) (drop c.at c.input))
-    (append-nil (x.pieces ++ if_any (text_of told)))
-    (ap₂ (λ (a b : List ℕ). a ++ b) x.given (sym (joined_if_any (text_of told))) ∙ sym (flat_map-append (λ (p : List ℕ). p) x.pieces (if_any (text_of told))))
+    (append-nil (x.pieces ++ if_any (authenticated_bytes told)))
+    (ap₂ (λ (a b : List ℕ). a ++ b) x.given (sym (joined_if_any (authenticated_bytes told))) ∙ sym (flat_map-append (λ (p : List ℕ). p) x.pieces (if_any (authenticated_bytes told))))
 
 -- the client was told that it is let in
 pub let_in_waits : (h : MemoryPoolOf) (word : KeyWord) (c : ActClientOf) (key : StartKeyOf) (told : List ℕ) → IsLetIn h word c key told → Waits h word (given_more c told) key

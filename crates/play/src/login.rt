@@ -1,18 +1,16 @@
 //! A client's login.
 ghost use Rattle.std.specs.Prelude.{◌≡◌, ◌<◌, [], IfOk};
 ghost use Rattle.std.specs.Arc.{arc_value};
-ghost use Rattle.login_core.specs.Logins.{missing};
-ghost use Rattle.scram.specs.Short.{text_of};
+ghost use Rattle.login_core.specs.Logins.{authenticated_bytes, missing};
 ghost use Rattle.play.specs.Players.{IsAt, IsLetIn, LogsIn, Steps};
 
 use crate::stage::{Stage, leave, refuse};
 use act_client::ActClient;
 use login_core::laws::{login_is_of_its_row, steps_say, steps_tell};
-use login_core::{Login, LoginStep};
+use login_core::{Authenticated, Login, LoginStep};
 use memory_pool::MemoryPool;
 use memory_pool::answers::Answer;
 use message_view::{KeyWord, Refusal};
-use scram::Message;
 use server_end::Moved;
 use start_keys::StartKey;
 use std::alloc::{AllocError, Global};
@@ -130,10 +128,10 @@ fn ask<'a>(
     word: KeyWord,
     mut client: ActClient<'a>,
     key: Arc<StartKey>,
-    told: Message,
+    told: Authenticated,
     number: Option<u64>,
 ) -> Result<Stage<'a>, AllocError>
-    requires { IsLetIn pool.old word client (arc_value key) (text_of told) }
+    requires { IsLetIn pool.old word client (arc_value key) (authenticated_bytes told) }
     ensures same { pool.new ≡ pool.old }
     ensures at { IfOk result (IsAt pool.old word client.entry.input) }
 {

@@ -11,6 +11,7 @@ use pool_serve::secrets::uselessness;
 use std::alloc::Global;
 use std::io;
 use std::rt::Clock;
+use std::sync::atomic::{AtomicBool, Ordering};
 use std::sync::{Arc, Mutex, Wait};
 use std::time::Instant;
 use user_file::Users;
@@ -22,6 +23,8 @@ pub(crate) struct PoolLog<R> {
     log: Arc<Log>,
     unserved: Mutex<Limiter>,
     late: Mutex<Limiter>,
+    /// The clock could be read when it was tried last.
+    has_clock: AtomicBool,
 }
 
 impl<R: Drop> Drop for PoolLog<R> {
@@ -32,6 +35,7 @@ impl<R: Drop> Drop for PoolLog<R> {
             log: _,
             unserved: _,
             late: _,
+            has_clock: _,
         } = self;
     }
 }
@@ -44,6 +48,7 @@ impl<R> PoolLog<R> {
             log,
             unserved: Mutex::new(Limiter::new()),
             late: Mutex::new(Limiter::new()),
+            has_clock: AtomicBool::new(true),
         }
     }
 }
@@ -160,6 +165,13 @@ impl<R: Wait + Clock> PoolLog<R> {
     /// A connection was closed whose client hadn't said in time who it is. It is told with the next second.
     pub(crate) fn late(&self) {
         self.late.lock(&self.rt).add();
+    }
+
+    /// Whether the clock can be read now; where it can't be any more, that is told.
+    pub(crate) fn clock(&self, is_read: bool) {
+        if self.has_clock.swap(is_read, Ordering::SeqCst) && !is_read {
+            self.event(Event::NoClock);
+        }
     }
 
     /// The clock has reached this second: tells of connections that weren't served, and of those that were late.

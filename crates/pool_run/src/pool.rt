@@ -319,11 +319,9 @@ impl<R: PoolRuntime, F: Source, K: Ledgers> Pool<R, F, K> {
     }
 
     /// The clock: each second the whole seconds since its first reading, until the last connection is done. In a second in which it
-    /// can't be read it tells nothing, and goes on with the next. While it waits for the next second, it minds the idle links.
-    fn run_clock(&self, rt: &R, idle: IdlePoll) {
-        let Some(mut pass) = self.pass(rt) else {
-            return;
-        };
+    /// can't be read it tells nothing but that, and goes on with the next. While it waits for the next second, it minds the idle links.
+    fn run_clock(&self, rt: &R, idle: IdlePoll, pass: FreePass<K>) {
+        let mut pass = pass;
         let mut idle = idle;
         let mut start = Instant::now(rt).ok();
         let mut last = None;
@@ -335,7 +333,9 @@ impl<R: PoolRuntime, F: Source, K: Ledgers> Pool<R, F, K> {
                 break;
             }
             self.close_hung_up(rt, &mut pass, &idle);
-            let Some(now) = second(rt, &mut start) else {
+            let now = second(rt, &mut start);
+            self.log.clock(now.is_some());
+            let Some(now) = now else {
                 continue;
             };
             if last == Some(now) {
@@ -616,8 +616,9 @@ fn serve_all<
     pool.keeper.tell_users(&log);
     let keeper = Arc::try_clone(&pool.keeper)?;
     let deriving = thread::spawn(&rt, move || keeper.derive_keys())?;
+    let pass = pool.pass(&rt).ok_or(AllocError)?;
     let shared = Arc::try_clone(&pool)?;
-    let clock = thread::spawn(&rt, move || shared.run_clock(&rt, idle))?;
+    let clock = thread::spawn(&rt, move || shared.run_clock(&rt, idle, pass))?;
     let scraped = Arc::try_clone(&pool)?;
     let figures = thread::spawn(&rt, move || scraped.serve_metrics(&rt, alloc, metrics))?;
     accept_all(rt, &mut acceptor, &mut workers, &pool, keys, count);

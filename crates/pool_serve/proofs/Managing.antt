@@ -10,8 +10,7 @@ use Rattle.link_laws.specs.Standing.{ClientFacts}
 use Rattle.login_core.specs.Talk.End.{Passed as PassedWith}
 use Rattle.login_core.proofs.Pieces.{joined_if_any}
 use Rattle.login_core.specs.Dialogue.{Rows, ToConsole, login_among}
-use Rattle.scram.specs.Short.{text_of}
-use Rattle.login_core.specs.Logins.{LoginView, rows_of}
+use Rattle.login_core.specs.Logins.{LoginView, authenticated_bytes, rows_of}
 use Rattle.login_run.specs.declared.login_reply.LoginReply.{LoginReply}
 use Rattle.login_run.specs.declared.login_reply.LoginReply.TheVariants as said
 use Rattle.login_run.specs.Runs.{Awaits, Console, IsAllGiven, IsPiece, IsRun, IsSameLogin, PhaseOf, RunView, StandsAt, said_bytes, said_pieces}
@@ -112,7 +111,7 @@ said_joined : (s : LoginReply) → IsPiece s → joined_pieces (said_pieces s) �
 said_joined said.Nothing p = refl
 said_joined (said.Question q) p = append-nil _
 said_joined (said.LetIn told) p = append-nil _
-said_joined (said.Proof told) p = joined_if_any (text_of told)
+said_joined (said.Proof told) p = joined_if_any (authenticated_bytes told)
 said_joined (said.Failure f) p = append-nil _
 said_joined (said.Refusal r) p = absurd p
 

@@ -70,7 +70,7 @@ fn login_note<C: ClientEnd>(run: &LoginRun<C>) -> Option<Note<'_>> {
         (LoginReply::Refusal(Refusal::UnsupportedParameter), Some(name)) => Some(
             Note::UnsupportedParameter(name),
         ),
-        (LoginReply::Refusal(refusal), _) => Some(Note::Refused(refusal)),
+        (LoginReply::Refusal(refusal), _) => Some(Note::Refused(*refusal)),
         (LoginReply::Failure(Failure::WrongPassword), _) => Some(Note::LoginFailed(login_failure(
             run,
         ))),

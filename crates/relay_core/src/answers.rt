@@ -52,7 +52,7 @@ impl<C: ClientEnd, E: ServerEnd> Relay<C, E> {
     pub(crate) fn welcome_is_empty(&self) -> bool
         ensures { result ≡ is_empty self.now.greeting }
     {
-        self.welcome.as_slice()[self.greeted..].is_empty()
+        self.greeted == self.welcome.len()
     }
 
     /// Whether the client was given all that may go on to it.

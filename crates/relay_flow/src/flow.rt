@@ -207,14 +207,14 @@ impl Flow {
     pub fn held_is_empty(&self) -> bool
         ensures { result ≡ is_empty self.now.held }
     {
-        self.held().is_empty()
+        self.start == self.pass
     }
 
     /// Whether there are none that may not go on yet.
     pub fn part_is_empty(&self) -> bool
         ensures { result ≡ is_empty self.now.part }
     {
-        self.bytes[self.pass..self.fill].is_empty()
+        self.pass == self.fill
     }
 
     /// The first `count` of the bytes that may go on were written.
@@ -241,7 +241,7 @@ impl Flow {
     }
 
     /// Whether there is room for a byte more: there is, where fewer than [`ROOM`] bytes are there. They are moved to the
-    /// front only where no room is left behind them, or none is there.
+    /// front only where no room is left behind them, or all are gone.
     pub fn make_room(&mut self) -> bool
         ensures held { self.new.held ≡ self.old.held }
         ensures part { self.new.part ≡ self.old.part }
@@ -249,7 +249,7 @@ impl Flow {
         ensures room { result ≡ true → 0 < self.new.room }
         ensures full { result ≡ false → ROOM ≤ length self.old.held + length self.old.part }
     {
-        if self.fill < ROOM && self.start < self.fill {
+        if self.fill < ROOM && (self.start < self.fill || self.start == 0) {
             return true;
         }
         self.compact();
@@ -324,6 +324,10 @@ impl Flow {
         ensures bytes { AreBytes self.now.part }
     {
         are_bytes(&self.bytes[self.pass..self.fill]);
+        // a shortcut: nothing goes of nothing, which is what most tries find
+        if self.part_is_empty() {
+            return Ahead::Waits;
+        }
         if self.rest == 0 {
             return self.next_head();
         }

@@ -7,27 +7,25 @@ ghost use Rattle.message_view.specs.Refusals.{refusal};
 ghost use Rattle.message_view.specs.declared.refusal.Refusal.TheVariants as refused;
 ghost use Rattle.link_start.specs.Starts.{IsLinkKey};
 ghost use Rattle.login_core.specs.Dialogue.{AtFirst, ToLink};
-ghost use Rattle.login_core.specs.Logins.{AwaitsPacket, after, goes_on, login_view, missing};
+ghost use Rattle.login_core.specs.Logins.{AwaitsPacket, after, authenticated_bytes, goes_on, login_view, missing};
 ghost use Rattle.login_core.specs.Solo.{service_pieces};
 ghost use Rattle.login_core.specs.Talk.End.{Passed};
 ghost use Rattle.memory_lease.specs.Answers.{IsAnswer};
 ghost use Rattle.pool_app.specs.declared.fault.AppFault.TheVariants as told;
 ghost use Rattle.replay_run.specs.Replay.{IsLeft, IsReply, WritesReply, standing_catalogue, standing_settings, standing_users, standing_word};
-ghost use Rattle.scram.specs.Short.{text_of};
 ghost use Rattle.replay_run.specs.Told.{Adds, IsKeyed, IsPastArrival, Says, WantsMemory, HasLinkKey, is_end, silence};
 
 use crate::standing::{KEY_WORD, catalogue, settings, users};
 use bytes::BytesMut;
 use credentials::Credential;
 use login_core::laws::login_is_of_its_row;
-use login_core::{Login, LoginStep};
+use login_core::{Authenticated, Login, LoginStep};
 use login_laws::laws::{passed_keys_are_link_keys, settings_rows_are_lawful};
 use memory_ends::memory_server::{MemoryServer, ServerAuth};
 use memory_lease::alone::{ServeError, serve_alone};
 use message_view::{KeyWord, Refusal, refusal_bytes};
 use pool_app::fault::AppFault;
 use pool_app::files::{MOST_BYTES, ReadFault, read_all};
-use scram::Message;
 use session_catalogue::Catalogue;
 use session_machine::solo_bytes;
 use start_keys::StartKey;
@@ -141,12 +139,12 @@ fn put_passed(
     alloc: Global,
     service: &Service,
     key: &Arc<StartKey>,
-    told: &Message,
+    told: &Authenticated,
     rest: &[u8],
     out: &mut BytesMut,
 ) -> Result<(), AllocError>
     requires key { IsLinkKey (arc_value key.now) }
-    ensures { OnOk result (Adds service.now.dies_after (arc_value service.now.catalogue) (record { pieces = text_of told.now ∷ []; ended = Passed (ToLink (arc_value key.now)) rest.now }) out.old.items out.new.items) }
+    ensures { OnOk result (Adds service.now.dies_after (arc_value service.now.catalogue) (record { pieces = authenticated_bytes told.now ∷ []; ended = Passed (ToLink (arc_value key.now)) rest.now }) out.old.items out.new.items) }
 {
     out.extend_from_slice(told.as_bytes())?;
     let answer = served(alloc, service, key, rest)?;

@@ -78,30 +78,27 @@ fn write_outcome(answer: io::Result<usize>) -> Moved
     }
 }
 
-/// Reads once of a stream, where it may come to something.
+/// Reads once of a stream.
+// written into no caller, as the next: most reads come to nothing, and need no room for an answer
+#[inline(never)]
 fn read_once<R: Read>(stream: &mut R, notes: &Notes, into: &mut [u8]) -> Moved
     requires { 0 < length into.old }
     ensures within { IsWithin result (length into.old) }
     ensures bytes { Consumes (R.remaining stream.old) (R.remaining stream.new) (moved result into.new) }
 {
-    if notes.is_empty() {
-        return Moved::NotNow;
-    }
     let room = into.len();
     let answer = stream.read(into);
     notes.read(&answer, room);
     read_outcome(answer)
 }
 
-/// Reads once of a stream ahead, where it may come to something.
+/// Reads once of a stream ahead.
+#[inline(never)]
 fn fill_once<R: Read>(stream: &mut R, notes: &Notes, ahead: &mut Ahead) -> Moved
     requires { ahead.old ≡ [] }
     ensures filled { IsFilled result ahead.new }
     ensures bytes { Consumes (R.remaining stream.old) (R.remaining stream.new) ahead.new }
 {
-    if notes.is_empty() {
-        return Moved::NotNow;
-    }
     let answer = ahead.fill(stream);
     notes.read(&answer, AHEAD);
     read_outcome(answer)
@@ -134,6 +131,9 @@ fn read_by<R: Read>(
 {
     if !ahead.is_empty() {
         return give(notes, ahead, into);
+    }
+    if notes.is_empty() {
+        return Moved::NotNow;
     }
     if least <= into.len() {
         return read_once(stream, notes, into);

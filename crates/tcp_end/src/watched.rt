@@ -36,6 +36,8 @@ impl Watched {
     }
 
     /// Has the poll tell of room from now on, where a write found too little. Where there is some by now, it tells so at once.
+    // written into its caller, as `saw`: each turn looks, and seldom finds anything to ask for
+    #[inline(always)]
     pub(crate) fn ask_for_room(&self, poll: &Poll) {
         if !self.notes.wants_room() {
             return;
@@ -48,6 +50,7 @@ impl Watched {
     }
 
     /// Whether the event is of this connection; then it is noted.
+    #[inline(always)]
     pub(crate) fn saw(&self, event: &Event) -> bool {
         let is_own = event.token() == self.token;
         if is_own {

@@ -61,8 +61,11 @@ fn get(flag: &AtomicBool) -> bool {
     flag.load(Ordering::SeqCst)
 }
 
+/// A store takes a processor far longer than a look, and most find what they would put.
 fn set(flag: &AtomicBool, value: bool) {
-    flag.store(value, Ordering::SeqCst);
+    if get(flag) != value {
+        flag.store(value, Ordering::SeqCst);
+    }
 }
 
 impl Notes {

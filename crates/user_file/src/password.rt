@@ -100,16 +100,23 @@ impl Derived {
     }
 }
 
-/// A password. What SCRAM makes of it with a salt takes thousands of rounds, so it is kept, for each of eight salts. Contracts see its
-/// text alone.
+/// A password. What SCRAM makes of it with a salt takes thousands of rounds, so it is kept: with the salt that its name has here, and with
+/// each of eight salts of servers. Contracts see its text alone.
 pub struct Password {
     text: Text,
-    cells: [OnceBox<Derived>; 8],
+    /// With the salt that its name has here.
+    own: OnceBox<Derived>,
+    /// With the salts of servers.
+    theirs: [OnceBox<Derived>; 8],
 }
 
 impl Drop for Password {
     fn drop(self) {
-        let Password { text: _, cells: _ } = self;
+        let Password {
+            text: _,
+            own: _,
+            theirs: _,
+        } = self;
     }
 }
 
@@ -127,7 +134,8 @@ impl Password {
     {
         Password {
             text,
-            cells: [
+            own: OnceBox::new(alloc),
+            theirs: [
                 OnceBox::new(alloc),
                 OnceBox::new(alloc),
                 OnceBox::new(alloc),
@@ -147,26 +155,31 @@ impl Password {
         self.text.as_bytes()
     }
 
-    /// What is kept, if it was derived so.
+    /// What a cell keeps, if it was derived so.
+    fn kept_in(&self, cell: &OnceBox<Derived>, salt: &Salt, rounds: u32) -> Option<Salted>
+        ensures { IfSome result (λ s. IsSalted self.now salt.now rounds s) }
+    {
+        cell.get()?.salted_so(self.text.as_bytes(), salt, rounds)
+    }
+
+    /// What is kept for servers, if it was derived so.
     fn kept(&self, salt: &Salt, rounds: u32) -> Option<Salted>
         ensures { IfSome result (λ s. IsSalted self.now salt.now rounds s) }
     {
-        for cell in &self.cells {
-            if let Some(derived) = cell.get() {
-                if let Some(salted) = derived.salted_so(self.text.as_bytes(), salt, rounds) {
-                    return Some(salted);
-                }
+        for cell in &self.theirs {
+            if let Some(salted) = self.kept_in(cell, salt, rounds) {
+                return Some(salted);
             }
         }
         None
     }
 
-    /// Keeps what was derived, if there is memory, and a salt's place is free.
+    /// Keeps what was derived for a server, if there is memory, and a salt's place is free.
     fn keep(&self, alloc: Global, derived: Derived) {
         let Ok(mut derived) = Box::new(alloc, derived) else {
             return;
         };
-        for cell in &self.cells {
+        for cell in &self.theirs {
             match cell.set(derived) {
                 Ok(()) => return,
                 Err(refused) => derived = refused,
@@ -174,17 +187,11 @@ impl Password {
         }
     }
 
-    /// What it gives, salted so: as it is kept, or derived and kept now. The only error is out of memory.
-    fn derived(&self, alloc: Global, salt: &Salt, rounds: u32) -> Result<Salted, AllocError>
-        ensures { IfOk result (λ s. IsSalted self.now salt.now rounds s) }
-    {
-        if let Some(salted) = self.kept(salt, rounds) {
-            return Ok(salted);
+    /// Keeps what was derived with the salt that its name has here, if there is memory, and none is kept yet.
+    fn keep_own(&self, alloc: Global, derived: Derived) {
+        if let Ok(derived) = Box::new(alloc, derived) {
+            let _ = self.own.set(derived);
         }
-        let derived = Derived::new(alloc, self.text.as_bytes(), salt, rounds)?;
-        let salted = derived.salted;
-        self.keep(alloc, derived);
-        Ok(salted)
     }
 
     /// The password, prepared by SASLprep and salted in so many rounds: SCRAM's SaltedPassword (RFC 5802, section 3). It is derived at the
@@ -192,10 +199,17 @@ impl Password {
     pub fn salted(&self, alloc: Global, salt: &Salt, rounds: u32) -> Result<[u8; 32], AllocError>
         ensures { IfOk result (λ k. k ≡ hi (prepared self.now) salt.now rounds) }
     {
-        Ok(self.derived(alloc, salt, rounds)?.password)
+        if let Some(salted) = self.kept(salt, rounds) {
+            return Ok(salted.password);
+        }
+        let derived = Derived::new(alloc, self.text.as_bytes(), salt, rounds)?;
+        let password = derived.salted.password;
+        self.keep(alloc, derived);
+        Ok(password)
     }
 
-    /// The keys that a server keeps of the password that is salted so. They are derived and kept as [`Password::salted`] is.
+    /// The keys that a server keeps of the password that is salted so, as its name's is here. They are derived at the first call, and kept.
+    /// The only error is out of memory.
     pub(crate) fn server_keys(
         &self,
         alloc: Global,
@@ -204,28 +218,29 @@ impl Password {
     ) -> Result<ServerKeys, AllocError>
         ensures { IfOk result (λ k. k ≡ server_keys (hi (prepared self.now) salt.now rounds)) }
     {
-        Ok(self.derived(alloc, salt, rounds)?.keys)
+        if let Some(salted) = self.kept_in(&self.own, salt, rounds) {
+            return Ok(salted.keys);
+        }
+        let derived = Derived::new(alloc, self.text.as_bytes(), salt, rounds)?;
+        let keys = derived.salted.keys;
+        self.keep_own(alloc, derived);
+        Ok(keys)
     }
 
-    /// Whether what it gives, salted so, is kept.
-    pub(crate) fn is_derived(&self, salt: &Salt, rounds: u32) -> bool {
-        self.kept(salt, rounds).is_some()
+    /// Whether the keys that a server keeps of it are kept.
+    pub(crate) fn is_derived(&self) -> bool {
+        self.own.get().is_some()
     }
 
-    /// Takes over what was derived of an equal password with this salt and rounds, if there is memory. Salts of servers aren't taken
-    /// over: those that no server has any more would hold the places of others for ever.
-    pub(crate) fn take_over(&self, alloc: Global, earlier: &Password, salt: &Salt, rounds: u32) {
-        for cell in &earlier.cells {
-            if let Some(derived) = cell.get() {
-                if derived
-                    .salted_so(self.text.as_bytes(), salt, rounds)
-                    .is_some()
-                {
-                    if let Ok(copy) = derived.copied(alloc) {
-                        self.keep(alloc, copy);
-                    }
-                    return;
-                }
+    /// Takes over what was derived of an equal password whose name has the same salt here, if there is memory. What was derived with salts of
+    /// servers isn't taken over: those that no server has any more would hold the places of others for ever.
+    pub(crate) fn take_over(&self, alloc: Global, earlier: &Password) {
+        if self.text.as_bytes() != earlier.text.as_bytes() {
+            return;
+        }
+        if let Some(derived) = earlier.own.get() {
+            if let Ok(copy) = derived.copied(alloc) {
+                self.keep_own(alloc, copy);
             }
         }
     }

@@ -282,18 +282,18 @@ impl Secret {
         }
     }
 
-    /// Whether there is nothing to derive of it with this salt that isn't kept.
-    pub(crate) fn is_derived(&self, salt: &Salt) -> bool {
+    /// Whether there is nothing to derive of it that isn't kept.
+    pub(crate) fn is_derived(&self) -> bool {
         match self {
-            Secret::Plain(password) => password.is_derived(salt, ROUNDS),
+            Secret::Plain(password) => password.is_derived(),
             Secret::Md5(_) | Secret::Scram(_) | Secret::Unusable => true,
         }
     }
 
-    /// Takes over the keys that were derived of an equal plain secret with this salt.
-    pub(crate) fn take_over(&self, alloc: Global, earlier: &Secret, salt: &Salt) {
+    /// Takes over the keys that were derived of an equal plain secret whose name has the same salt.
+    pub(crate) fn take_over(&self, alloc: Global, earlier: &Secret) {
         if let (Secret::Plain(own), Secret::Plain(before)) = (self, earlier) {
-            own.take_over(alloc, before, salt, ROUNDS);
+            own.take_over(alloc, before);
         }
     }
 }

@@ -151,8 +151,7 @@ impl Users {
     pub fn look_derived(&self) {
         for place in 0..self.len() {
             if let Some(user) = self.at(place) {
-                let salt = salt_for(&self.salts, user.name.as_bytes());
-                if !user.secret.is_derived(&salt) {
+                if !user.secret.is_derived() {
                     return;
                 }
             }
@@ -163,20 +162,15 @@ impl Users {
     /// Takes over the keys that were derived of equal secrets under an equal key of the salts, if there is memory. Where these are the keys
     /// of all users, nobody's cost nothing either from here on.
     pub fn take_over(&self, alloc: Global, earlier: &Users) {
-        let mut all = true;
-        for place in 0..self.len() {
-            let Some(user) = self.at(place) else {
-                return;
-            };
-            let name = user.name.as_bytes();
-            let salt = salt_for(&self.salts, name);
-            if let Some(before) = earlier.row(name) {
-                user.secret.take_over(alloc, &before.secret, &salt);
+        if self.salts == earlier.salts {
+            for place in 0..self.len() {
+                if let Some(user) = self.at(place) {
+                    if let Some(before) = earlier.row(user.name.as_bytes()) {
+                        user.secret.take_over(alloc, &before.secret);
+                    }
+                }
             }
-            all = all && user.secret.is_derived(&salt);
         }
-        if all {
-            let _ = self.derived.set(true);
-        }
+        self.look_derived();
     }
 }

@@ -3,7 +3,7 @@ use Rattle.act_client.specs.Clients.{given_more}
 use Rattle.play.specs.Players.{IsDone, Steps}
 use Rattle.play.proofs.Pieces.{piece_done}
 use Rattle.play.proofs.Logins.{asked_at, fails, more_at, passes, steps_piece, to_console}
-use Rattle.play.proofs.login.follow.Goals.{in-More, in-Ask+in_ok-give-in-Ask}
+use Rattle.play.proofs.login.follow.Goals.{in-More, in-Ask+in_ok-give-in-Ask+in-Challenge-1, in-Ask+in_ok-give-in-Ask+in-Encryption-1}
 use Rattle.play.proofs.login.follow.Goals as goal
 
 pub ask-requires : goal.ask-requires
@@ -28,6 +28,8 @@ leave-requires-in-Arrived c = piece_done c.args.pool.now c.args.word c.args.clie
 pub returns-clause-at : goal.returns-clause-at
 returns-clause-at c = elim c.match-step.branch [
   | in-More w ↦ more_at c.args.pool.now c.args.word c.args.client c.match-step.client c.args.login (subst (λ s. Steps c.args.pool.now c.args.word c.args.client s c.args.login) w.in-More.is c.requires) w.client-is
-  | in-Ask+in_ok-give-in-Ask w ↦ asked_at c.args.pool.now c.args.word c.args.client c.match-step.client w.in-Ask.question c.args.login (subst (λ s. Steps c.args.pool.now c.args.word c.args.client s c.args.login) w.in-Ask.is c.requires)
+  | in-Ask+in_ok-give-in-Ask+in-Challenge-1 w ↦ asked_at c.args.pool.now c.args.word c.args.client c.match-step.client w.in-Ask.question c.args.login (subst (λ s. Steps c.args.pool.now c.args.word c.args.client s c.args.login) w.in-Ask.is c.requires)
+      (w.client-is ∙ (w.in_ok-give-in-Ask.ensures.ok ∙ ap (given_more c.args.client) w.as_bytes.ensures))
+  | in-Ask+in_ok-give-in-Ask+in-Encryption-1 w ↦ asked_at c.args.pool.now c.args.word c.args.client c.match-step.client w.in-Ask.question c.args.login (subst (λ s. Steps c.args.pool.now c.args.word c.args.client s c.args.login) w.in-Ask.is c.requires)
       (w.client-is ∙ (w.in_ok-give-in-Ask.ensures.ok ∙ ap (given_more c.args.client) w.as_bytes.ensures))
 ]
