@@ -69,18 +69,23 @@ fn said(step: &LoginStep) -> &[u8] {
     }
 }
 
+/// Where a client arrived by its last step, with its key if it goes to a link; nothing by any other step.
+fn arrived(step: LoginStep) -> Option<(Option<Arc<StartKey>>, End)> {
+    match step {
+        LoginStep::More | LoginStep::Arrived(_) | LoginStep::Ask(_) => None,
+        LoginStep::Passed(key, _) => Some((Some(key), End::Passed)),
+        LoginStep::Console(_) => Some((None, End::Console)),
+        LoginStep::Refused(_) | LoginStep::Failed(_) | LoginStep::Left => Some((None, End::Closed)),
+        LoginStep::Cancel { pid, secret } => Some((None, End::Cancel { pid, secret })),
+    }
+}
+
 /// What a client is given at a step, and where it arrived.
 fn see(seen: &mut Seen, step: LoginStep) -> Result<(), Fail> {
     seen.out.extend_from_slice(said(&step))?;
-    match step {
-        LoginStep::More | LoginStep::Arrived(_) | LoginStep::Ask(_) => {}
-        LoginStep::Passed(key, _) => {
-            seen.key = Some(key);
-            seen.end = End::Passed;
-        }
-        LoginStep::Console(_) => seen.end = End::Console,
-        LoginStep::Refused(_) | LoginStep::Failed(_) | LoginStep::Left => seen.end = End::Closed,
-        LoginStep::Cancel { pid, secret } => seen.end = End::Cancel { pid, secret },
+    if let Some((key, end)) = arrived(step) {
+        seen.key = key;
+        seen.end = end;
     }
     Ok(())
 }
