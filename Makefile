@@ -19,17 +19,17 @@ scram_parts := crates/scram_parts/out/scram_parts
 sources := crates.txt $(shell find crates -name out -prune -o -name must-fail -prune -o \( -name '*.rt' -o -name '*.antt' \) -print)
 
 define help_text
-pgsess: what make does, and what it costs on four processors. What proves crates keeps them: the next time takes seconds for all that is
-unchanged, in `make test` too. RT_JOBS=N says how many are proved side by side, KIT=any takes another Rattle kit than RATTLE_KIT names.
+pgsess: what make does, and what it costs on four processors. Where the kit keeps what it proved, what is unchanged takes seconds the next
+time; else all is proved anew. RT_JOBS=N says how many are proved side by side, KIT=any takes another Rattle kit than RATTLE_KIT names.
 
   make demo       shows the pool before a PostgreSQL, by a program that is built and NOT proved      2 to 5 minutes
   make quick      the layout, and every test before any proof; CRATES="base_tests .." some           5 to 15 minutes
   make run        shows it before a stand-in server, by the proved program; KEEP=1 leaves it up      proves first
-  make build      proves and builds build/pgsess                                                     more than an hour of processor time, once
+  make build      proves and builds build/pgsess                                                     some three hours of processor time, once
   make install    that, and puts it in PREFIX, /usr/local, with its pages; DESTDIR as usual          proves first
   make deb        that, and makes a Debian package in build/                                         proves first
   make dist       a release in build/dist: the package, a tar, their checksums                       proves first
-  make test       the gate: every proof, edits that must be refused, every script                    two to three hours of processor time
+  make test       the gate: every proof, edits that must be refused, every test                      some seven hours of processor time
   make wrong      the wrong versions that the gate leaves out; CRATES="mini_sql .." some             hours for all, minutes for a crate
   make recipes    the recipes that install HAProxy and stunnel; PROGRAM=build/pgsess                 some 2 minutes; proves first
   make bench      measurements beside PgBouncer, which it installs                                   proves first
@@ -41,36 +41,36 @@ help:
 
 # the program, as `rt ci` or an earlier build left it; else proved and built now
 $(program): $(sources)
-	@scripts/kit.sh $(KIT)
-	@scripts/prove.py pgsess
+	@tools/kit.sh $(KIT)
+	@tools/prove.py pgsess
 	@touch $(program)
 	@echo "built $(program) ($$(date +%T))"
 
 # the tool of the tests and measurements, likewise; it isn't installed
 $(trials): $(sources)
-	@scripts/kit.sh $(KIT)
-	@scripts/prove.py trials
+	@tools/kit.sh $(KIT)
+	@tools/prove.py trials
 	@touch $(trials)
 	@echo "built $(trials) ($$(date +%T))"
 
 # the tool that asks once more for what is refused, likewise
 $(refusals): $(sources)
-	@scripts/kit.sh $(KIT)
-	@scripts/prove.py refusals
+	@tools/kit.sh $(KIT)
+	@tools/prove.py refusals
 	@touch $(refusals)
 	@echo "built $(refusals) ($$(date +%T))"
 
 # and the one that tells the parts of messages
 $(message_parts): $(sources)
-	@scripts/kit.sh $(KIT)
-	@scripts/prove.py message_parts
+	@tools/kit.sh $(KIT)
+	@tools/prove.py message_parts
 	@touch $(message_parts)
 	@echo "built $(message_parts) ($$(date +%T))"
 
 # and the one that tells what SCRAM's crates answer
 $(scram_parts): $(sources)
-	@scripts/kit.sh $(KIT)
-	@scripts/prove.py scram_parts
+	@tools/kit.sh $(KIT)
+	@tools/prove.py scram_parts
 	@touch $(scram_parts)
 	@echo "built $(scram_parts) ($$(date +%T))"
 
@@ -84,21 +84,21 @@ build: build/pgsess
 
 # the product: a pool before a stand-in server, and two clients one after the other over one link. KEEP=1 leaves it running
 run: build/pgsess
-	@scripts/show.py build/pgsess $(if $(KEEP),--keep)
+	@shows/show.py build/pgsess $(if $(KEEP),--keep)
 
 # the same over a real PostgreSQL, by a program that is built and not proved
 demo:
-	@scripts/kit.sh any
-	@scripts/demo.py
+	@tools/kit.sh any
+	@shows/demo.py
 
 # all that can be tried before a proof
 quick:
-	@scripts/kit.sh any
-	@scripts/quick.py $(CRATES)
+	@tools/kit.sh any
+	@tools/quick.py $(CRATES)
 
 # the recipes that need HAProxy and stunnel, which they install; the others are in the gate
 recipes: $(or $(PROGRAM),build/pgsess)
-	@scripts/recipes.py $< --installed
+	@tests/run recipes --pgsess $< -- --installed
 
 # the whole gate, and what it took: by the clock, and of processor time in user and system
 test:
@@ -107,52 +107,16 @@ test:
 # its steps; rt ci leaves the programs that it proved and built. Its own guess of a check's memory is four times what the largest
 # crate's takes, and would let that crate wait until nothing else runs; so it is told how many checks run side by side
 gate:
-	@scripts/kit.sh any
-	RT_JOBS=$$(scripts/jobs.sh) rt ci
+	@tools/kit.sh any
+	RT_JOBS=$$(tools/jobs.sh) rt ci
 	@$(MAKE) --no-print-directory $(program) $(trials) $(refusals) $(message_parts) $(scram_parts)
-	scripts/rows.sh $(program) $(trials)
-	scripts/leases.sh $(trials)
-	scripts/book_costs.py $(trials)
-	scripts/conversations.sh $(program) $(trials)
-	scripts/fuzz.py $(program) $(trials)
-	scripts/wrong_bytes.sh $(program) $(trials)
-	scripts/logins.sh $(trials)
-	scripts/clients.sh $(trials)
-	scripts/views.sh $(message_parts)
-	scripts/scram.py $(scram_parts)
-	scripts/refuse-growth.sh $(program) $(trials) $(refusals)
-	scripts/refused_growths.sh $(program)
-	scripts/wants.py $(program)
-	scripts/faulty_servers.sh $(program)
-	PGSESS=$(program) scripts/cli.sh
-	scripts/ini_files.py $(program)
-	scripts/welcomes.sh $(program)
-	scripts/cursors.sh $(program)
-	scripts/postgres.sh $(program)
-	scripts/calls.py $(program) 40
-	scripts/scram_servers.py $(program)
-	scripts/scram_clients.py $(program)
-	scripts/reach.sh $(program)
-	scripts/restarts.sh $(program)
-	scripts/limits.sh $(program)
-	scripts/as_told.sh $(program)
-	scripts/monitors.sh $(program)
-	scripts/cancels.sh $(program)
-	scripts/console.sh $(program)
-	scripts/abuse.sh $(program)
-	scripts/show.py $(program)
-	scripts/readme.py $(program)
-	scripts/first_day.sh
-	scripts/recipes.py $(program)
-	scripts/packaging.sh $(program)
-	scripts/unit.py $(program)
-	scripts/pgsess_run.py $(program)
+	tests/run
 
 # the wrong versions of functions that aren't tried by the gate; CRATES names some crates. It is no part of `test`: on top of the
 # gate it would need each library built once more, which takes longer than all edits. Run it before a crate lands
 wrong:
-	@scripts/kit.sh $(KIT)
-	@scripts/wrong.py $(CRATES)
+	@tools/kit.sh $(KIT)
+	@tools/wrong.py $(CRATES)
 
 install: build/pgsess
 	install -d "$(DESTDIR)$(PREFIX)/bin"
@@ -164,15 +128,27 @@ install: build/pgsess
 
 # a Debian package of the built program, in build/
 deb: build/pgsess
-	scripts/deb.sh build/pgsess build
+	tools/deb.sh build/pgsess build
 
 # what a release is: the package, a tar, and their checksums, in build/dist
 dist: build/pgsess
-	scripts/dist.sh build/pgsess build/dist
+	tools/dist.sh build/pgsess build/dist
 
 # all run; the status says whether a bound was missed
 bench: build/pgsess $(trials) $(scram_parts)
-	@status=0; bench/replay.sh build/pgsess || status=$$?; bench/tables.sh build/pgsess || status=$$?; bench/relay.sh $(trials) || status=$$?; bench/book.sh $(trials) || status=$$?; scripts/calls.py build/pgsess || status=$$?; bench/derivations.py build/pgsess || status=$$?; bench/scram.py build/pgsess || status=$$?; bench/restart.py build/pgsess || status=$$?; bench/shows.py build/pgsess || status=$$?; bench/pool.sh build/pgsess || status=$$?; scripts/scram.py $(scram_parts) --whole || status=$$?; exit $$status
+	@status=0; \
+	bench/replay.sh build/pgsess || status=$$?; \
+	bench/tables.sh build/pgsess || status=$$?; \
+	bench/relay.sh $(trials) || status=$$?; \
+	bench/book.sh $(trials) || status=$$?; \
+	tests/program/calls.py build/pgsess || status=$$?; \
+	bench/derivations.py build/pgsess || status=$$?; \
+	bench/scram.py build/pgsess || status=$$?; \
+	bench/restart.py build/pgsess || status=$$?; \
+	bench/shows.py build/pgsess || status=$$?; \
+	bench/pool.sh build/pgsess || status=$$?; \
+	tests/program/scram.py $(scram_parts) --whole || status=$$?; \
+	exit $$status
 
 clean:
 	rm -rf build crates/*/out

@@ -8,15 +8,14 @@ Usage: derivations.py PROGRAM
 import os
 import pathlib
 import re
-import signal
 import sys
 
-sys.path.insert(0, str(pathlib.Path(__file__).resolve().parent.parent / "scripts"))
-from cluster import USERS, Installed, Passes, Place, Pooler, need, set_up, until
-from postgres import run
-from reach import outcome
-from scram import prepared
-from scram_servers import BEFORE, HONEST, PEOPLE, Case, Server
+sys.path.insert(0, str(pathlib.Path(__file__).resolve().parent.parent / "tests/lib"))
+from asking import outcome, run
+from cluster import USERS, Installed, Pooler, need, until
+from passes import play
+from scram_reader import prepared
+from scram_talk import BEFORE, HONEST, PEOPLE, Server, Told
 from wire import Client
 
 # what each round of a derivation calls once, in the program's symbols; all else together calls it some ten times a login
@@ -26,17 +25,17 @@ CLIENTS, EACH = 8, 5
 SALTS = [bytes([it]) * 16 for it in range(4)]
 
 
-class Count:
+class Count(Told):
     def __init__(self, program):
-        self.passes, self.place = Passes("derivations"), Place()
-        USERS.clear()
-        USERS.update(PEOPLE)
+        need(["valgrind"], ["valgrind"])
+        super().__init__(program, "derivations", PEOPLE)
         self.program = self.counted(program)
         self.cluster = Installed(self.place)
 
     def counted(self, program):
         """A program that is that one under callgrind."""
-        path = self.place.write("pgsess", f'#!/bin/sh\nexec valgrind --quiet --tool=callgrind --callgrind-out-file={self.place.folder}/calls.%p "{program}" "$@"\n')
+        path = self.place.write("pgsess", f'#!/bin/sh\nexec valgrind --quiet --tool=callgrind '
+                                          f'--callgrind-out-file={self.place.folder}/calls.%p "{program}" "$@"\n')
         os.chmod(path, 0o755)
         return path
 
@@ -76,7 +75,8 @@ class Count:
 
     def by_scram(self):
         """Clients that are asked for SCRAM, in front of such a server."""
-        pooler, plain = self.poolers(auth="scram-sha-256"), [name for name, (_, secret) in PEOPLE.items() if not secret.startswith(("md5", "SCRAM"))]
+        pooler = self.poolers(auth="scram-sha-256")
+        plain = [name for name, (_, secret) in PEOPLE.items() if not secret.startswith(("md5", "SCRAM"))]
         made = []
         until(lambda: made.append(self.hmacs(pooler)) or sum(made) >= len(plain) * ROUNDS, 120)
         self.passes.same(f"behind the start, {len(plain)} passwords", sum(made) // ROUNDS, len(plain))
@@ -99,7 +99,7 @@ class Count:
 
     def salted(self):
         """Servers of four salts behind one user, each dialled three times."""
-        servers = {f"salt{it}": Server(Case(HONEST["honest"].parts, HONEST["honest"].told, rounds=ROUNDS, salt=salt)) for it, salt in enumerate(SALTS)}
+        servers = {f"salt{it}": Server(HONEST["honest"]._replace(rounds=ROUNDS, salt=salt)) for it, salt in enumerate(SALTS)}
         pooler = self.poolers(auth="trust", more={name: server.port for name, server in servers.items()})
         for round in range(3):
             for name in servers:
@@ -119,6 +119,13 @@ class Count:
         self.passes.same("verifiers alone: three users, and pgbench -C, by SCRAM on both sides", (status, self.derived(pooler)), (0, 0))
         pooler.stop()
 
+    def all(self):
+        self.installed()
+        self.by_scram()
+        self.salted()
+        self.verified()
+        self.cluster.stop()
+
 
 def calls_in(text):
     """The rounds, in a file of callgrind: each name stands once, and its number behind that."""
@@ -133,26 +140,5 @@ def calls_in(text):
     return count
 
 
-def main():
-    if len(sys.argv) != 2:
-        sys.exit(__doc__)
-    set_up()
-    need(["valgrind"], ["valgrind"])
-    signal.signal(signal.SIGTERM, lambda *_: sys.exit(1))
-    count = Count(os.path.abspath(sys.argv[1]))
-    try:
-        count.installed()
-        count.by_scram()
-        count.salted()
-        count.verified()
-        count.cluster.stop()
-    finally:
-        for pid in count.place.processes():
-            os.kill(pid, signal.SIGKILL)
-        until(lambda: not count.place.processes())
-        count.place.clear()
-    count.passes.end()
-
-
 if __name__ == "__main__":
-    main()
+    play(Count)

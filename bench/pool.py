@@ -12,13 +12,12 @@ import random
 import re
 import resource
 import shutil
-import signal
 import statistics
 import subprocess
 import sys
 import time
 
-sys.path.insert(0, str(pathlib.Path(__file__).resolve().parent.parent / "scripts"))
+sys.path.insert(0, str(pathlib.Path(__file__).resolve().parent.parent / "tests/lib"))
 from cluster import HERE, USERS, Cluster, Place, Pooler, need, set_up, until
 from wire import Client, startup
 
@@ -26,7 +25,8 @@ CONNECTS = (1, 8, 32, 100, 400)
 QUERIES = (1, 8, 32)
 # bytes of a row, rows, COPY's format, and clients at once. In text PostgreSQL looks at each byte of a row; and one client's short rows
 # are the work of one server, beside which no pooler's is seen: where each processor has a client, that of all counts.
-BULK = ((1_048_576, 500, "binary", 1), (1_048_576, 500, "text", 1), (90, 3_000_000, "text", 1), (1, 10_000_000, "text", 1), (1, 3_000_000, "text", 4))
+BULK = ((1_048_576, 500, "binary", 1), (1_048_576, 500, "text", 1), (90, 3_000_000, "text", 1), (1, 10_000_000, "text", 1),
+        (1, 3_000_000, "text", 4))
 IDLE = (0, 1_000, 4_000)
 # clients that each have an application name of their own
 NAMES = 64
@@ -50,7 +50,8 @@ class Bench:
         for kind in kinds:
             self.poolers[kind] = Pooler(self.place, self.cluster, program, kind, auth="md5", size=LINKS, clients=MOST_CLIENTS, wait=0)
         self.ports = {**{kind: it.port for kind, it in self.poolers.items()}, "directly": self.cluster.port}
-        self.untracked = Pooler(self.place, self.cluster, program, auth="md5", size=LINKS, clients=MOST_CLIENTS, wait=0, untracked="application_name")
+        self.untracked = Pooler(self.place, self.cluster, program, auth="md5", size=LINKS, clients=MOST_CLIENTS, wait=0,
+                                untracked="application_name")
         self.pgbench(self.cluster.port, "-i", "-q", "-s", "10", timed=False)
         self.found = {}
 
@@ -124,7 +125,8 @@ class Bench:
         for manner in ("simple", "prepared"):
             for clients in QUERIES:
                 for kind, port in self.in_turn(self.ports):
-                    self.note(f"{manner} queries a second, {clients} clients", kind, self.pgbench(port, "-M", manner, "-c", str(clients), "-j", str(min(clients, 4))))
+                    self.note(f"{manner} queries a second, {clients} clients", kind,
+                              self.pgbench(port, "-M", manner, "-c", str(clients), "-j", str(min(clients, 4))))
         for kind, port in self.in_turn(self.ports):
             self.note("us of a simple query, 99 of 100, 1 client", kind, self.slowest(port))
         for size, rows, form, clients in BULK:
@@ -167,17 +169,22 @@ class Bench:
             time.sleep(self.seconds)
             idle = (pooler.used() - before) / self.seconds
             beside = self.pgbench(pooler.port, *words)
-            print(f"{count} silent connections at {kind}: {100 * idle:.1f} per cent of a processor; {SERVED} others connect {beside:.0f} times a second, {beside / alone:.2f} times as often as without them")
+            print(f"{count} silent connections at {kind}: {100 * idle:.1f} per cent of a processor; {SERVED} others connect {beside:.0f} "
+                  f"times a second, {beside / alone:.2f} times as often as without them")
             for client in clients:
                 client.socket.close()
             until(lambda: pooler.files() < 200, 20)
 
     def tell(self):
         for name, kinds in self.found.items():
-            shown = [f"{kind} {number(statistics.median(values))} ({number(min(values))} to {number(max(values))})" for kind, values in sorted(kinds.items(), reverse=True)]
+            shown = [f"{kind} {number(statistics.median(values))} ({number(min(values))} to {number(max(values))})"
+                     for kind, values in sorted(kinds.items(), reverse=True)]
             ours, theirs = kinds.get("pgsess"), kinds.get("pgbouncer")
             best = max if "a second" in name else min
-            ratio = f"; pgsess to pgbouncer {statistics.median(ours) / statistics.median(theirs):.2f}, of the best rounds {best(ours) / best(theirs):.2f}" if ours and theirs else ""
+            ratio = ""
+            if ours and theirs:
+                median = statistics.median(ours) / statistics.median(theirs)
+                ratio = f"; pgsess to pgbouncer {median:.2f}, of the best rounds {best(ours) / best(theirs):.2f}"
             print(f"{name}: {', '.join(shown)}{ratio}")
 
     def all(self):
@@ -201,18 +208,12 @@ def main():
         sys.exit(__doc__)
     set_up()
     need(["pgbouncer"], ["pgbouncer"])
-    signal.signal(signal.SIGTERM, lambda *_: sys.exit(1))
     hard = resource.getrlimit(resource.RLIMIT_NOFILE)[1]
     resource.setrlimit(resource.RLIMIT_NOFILE, (hard, hard))
     rounds, seconds = [int(word) for word in (sys.argv[2:] + ["5", "2"][len(sys.argv) - 2:])]
     bench = Bench(os.path.abspath(sys.argv[1]), rounds, seconds)
-    try:
+    with bench.place:
         bench.all()
-    finally:
-        for pid in bench.place.processes():
-            os.kill(pid, signal.SIGKILL)
-        until(lambda: not bench.place.processes())
-        bench.place.clear()
 
 
 if __name__ == "__main__":

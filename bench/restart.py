@@ -1,23 +1,22 @@
 #!/usr/bin/env python3
-"""What clients meet whose server is restarted under them without a word, behind `pgsess serve` and behind PgBouncer: how many fail while it is
-away and once it is back, how long those wait that fail, and the slowest that is served. And whether what a client asks for in vain is its own
-affair.
+"""What clients meet whose server is restarted under them without a word, behind `pgsess serve` and behind PgBouncer: how many fail while it
+is away and once it is back, how long those wait that fail, and the slowest that is served. And whether what a client asks for in vain is
+its own affair.
 
 Usage: restart.py PROGRAM [ROUNDS]
 
-The server is stopped by `pg_ctl stop -m fast` while four clients connect one after another, each for one query, and is started three seconds
-later. The poolers are tried in turn, over a server of their own.
+The server is stopped by `pg_ctl stop -m fast` while four clients connect one after another, each for one query, and is started three
+seconds later. The poolers are tried in turn, over a server of their own.
 """
 import collections
 import os
 import pathlib
-import signal
 import statistics
 import sys
 import threading
 import time
 
-sys.path.insert(0, str(pathlib.Path(__file__).resolve().parent.parent / "scripts"))
+sys.path.insert(0, str(pathlib.Path(__file__).resolve().parent.parent / "tests/lib"))
 from cluster import Cluster, Place, Pooler, need, set_up, until
 from wire import Client, Cut, Refused
 
@@ -71,8 +70,7 @@ def behind_another(port):
 
 
 def measured(program, kind):
-    place = Place()
-    try:
+    with Place() as place:
         cluster = Cluster(place)
         pooler = Pooler(place, cluster, program, kind=kind)
         until(lambda: told(pooler.port) == "served", 10)
@@ -81,16 +79,12 @@ def measured(program, kind):
         failed = [it for it in found if it.told != "served"]
         late = [it for it in failed if it.ended > back]
         wait = statistics.median(it.ended - it.began for it in failed) if failed else 0
-        print(f"{kind}: {len(found) - len(failed)} served, the slowest in {max(it.ended - it.began for it in found if it.told == 'served'):.1f} s; "
+        print(f"{kind}: {len(found) - len(failed)} served, the slowest in "
+              f"{max(it.ended - it.began for it in found if it.told == 'served'):.1f} s; "
               f"{len(failed)} failed, half of them within {wait:.3f} s; {len(late)} once the server was back"
               + (f", the last {max(it.ended for it in late) - back:.1f} s after that" if late else ""), flush=True)
         pooler.stop()
         cluster.stop()
-    finally:
-        for pid in place.processes():
-            os.kill(pid, signal.SIGKILL)
-        until(lambda: not place.processes())
-        place.clear()
 
 
 def main():

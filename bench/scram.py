@@ -13,8 +13,8 @@ import statistics
 import subprocess
 import sys
 
-sys.path.insert(0, str(pathlib.Path(__file__).resolve().parent.parent / "scripts"))
-from cluster import HERE, USERS, Cluster, Installed, Place, Pooler, need, set_up, until
+sys.path.insert(0, str(pathlib.Path(__file__).resolve().parent.parent / "tests/lib"))
+from cluster import HERE, USERS, Cluster, Installed, Place, Pooler, need, set_up
 from wire import Client
 
 CLIENTS = (1, 8, 32)
@@ -38,7 +38,8 @@ class Bench:
         """Connects a second, and the pooler's microseconds for each."""
         pooler = self.poolers[auth, kind]
         words = ["pgbench", "-n", "-C", "-f", "/dev/stdin", "-c", str(clients), "-j", str(clients), "-T", str(self.seconds)]
-        environment = {**os.environ, "PGHOST": HERE, "PGPORT": str(pooler.port), "PGUSER": "ann", "PGDATABASE": "shop", "PGPASSWORD": USERS["ann"][0]}
+        environment = {**os.environ, "PGHOST": HERE, "PGPORT": str(pooler.port), "PGUSER": "ann", "PGDATABASE": "shop",
+                       "PGPASSWORD": USERS["ann"][0]}
         before = pooler.used()
         done = subprocess.run(words, input="SELECT 1;\n", env=environment, capture_output=True, text=True, check=True, timeout=120)
         count = int(re.search(r"actually processed: (\d+)", done.stdout)[1])
@@ -52,12 +53,14 @@ class Bench:
             print(f"round {number + 1} of {self.rounds}", file=sys.stderr, flush=True)
 
     def tell(self):
-        print("auth_type      clients  connects a second: pgsess, PgBouncer, ratio   microseconds of the pooler a connect: pgsess, PgBouncer, ratio")
+        print("auth_type      clients  connects a second: pgsess, PgBouncer, ratio   microseconds of the pooler a connect: pgsess, "
+              "PgBouncer, ratio")
         for auth in self.places:
             for clients in CLIENTS:
                 rates, costs = zip(*((statistics.median(it[0] for it in found), statistics.median(it[1] for it in found))
                                      for found in (self.found[auth, clients, kind] for kind in KINDS)))
-                print(f"{auth:14} {clients:7}  {rates[0]:24.0f}, {rates[1]:9.0f}, {rates[0] / rates[1]:5.2f}   {costs[0]:44.0f}, {costs[1]:9.0f}, {costs[0] / costs[1]:5.2f}")
+                print(f"{auth:14} {clients:7}  {rates[0]:24.0f}, {rates[1]:9.0f}, {rates[0] / rates[1]:5.2f}   {costs[0]:44.0f}, "
+                      f"{costs[1]:9.0f}, {costs[0] / costs[1]:5.2f}")
 
 
 def main():
@@ -72,10 +75,7 @@ def main():
         bench.tell()
     finally:
         for place in bench.places.values():
-            for pid in place.processes():
-                os.kill(pid, signal.SIGKILL)
-            until(lambda: not place.processes())
-            place.clear()
+            place.end()
 
 
 if __name__ == "__main__":

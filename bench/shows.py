@@ -1,6 +1,7 @@
 #!/usr/bin/env python3
-"""How long each SHOW of the console keeps others from the desk, and from the table of connections, with 1,000 clients and with many, in front
-of a stand-in server: the time inside the two functions that hold those locks, by the kernel's uprobes. It wants root, and a kernel that has them.
+"""How long each SHOW of the console keeps others from the desk, and from the table of connections, with 1,000 clients and with many, in
+front of a stand-in server: the time inside the functions that hold those locks, by the kernel's uprobes, and of several that hold one the
+longest. It wants root, and a kernel that has them.
 
 Usage: shows.py PROGRAM [MOST]: MOST clients (9,900: two files each)
 """
@@ -11,14 +12,15 @@ import statistics
 import subprocess
 import sys
 
-sys.path.insert(0, str(pathlib.Path(__file__).resolve().parent.parent / "scripts"))
+sys.path.insert(0, str(pathlib.Path(__file__).resolve().parent.parent / "tests/lib"))
 from cluster import TOP, Place, Pooler, free_port, is_open, set_up, until
 from wire import Client, startup
 
 FEW, MOST, LINKS, ROUNDS = 1_000, 9_900, 40, 9
 SHOWS = ("CLIENTS", "SERVERS", "POOLS", "STATS", "LISTS", "ACTIVITY", "DATABASES")
-# what holds a lock while it copies what is shown, by its symbol: the desk's, and that of the table of connections
-HOLDERS = {"desk": r"desk::DeskLinkDesk::view", "table": r"watch::Watch::seen"}
+# what holds a lock while it copies what is shown, by symbols: the desk's, and that of the table of connections
+COPYING = ("begin_copy", "copy_some", "end_copy", "databases")
+HOLDERS = {"desk": ("desk::DeskLinkDesk::view",), "table": tuple(f"watch::Watch::{name}" for name in COPYING)}
 TRACING = pathlib.Path("/sys/kernel/tracing")
 SECONDS = 120
 
@@ -36,11 +38,12 @@ class Probes:
         parts = re.findall(r"LOAD\s+(0x\w+)\s+(0x\w+)\s+0x\w+\s+(0x\w+)", said("readelf", "-lW", program))
         self.parts = [tuple(int(it, 16) for it in part) for part in parts]
         self.clear()
-        for name, symbol in HOLDERS.items():
+        for name, symbol in ((f"{name}{count}", it) for name, symbols in HOLDERS.items() for count, it in enumerate(symbols)):
             at = next(int(line.split()[0], 16) for line in said("nm", program).splitlines() if re.search(symbol, line))
             for kind in "pr":
                 # appended by a shell, since Python seeks in what can't be sought
-                subprocess.run(["sh", "-c", f"echo '{kind}:shows/{name}_{kind} {program}:{self.place(at):#x}' >> {TRACING}/uprobe_events"], check=True)
+                subprocess.run(["sh", "-c", f"echo '{kind}:shows/{name}_{kind} {program}:{self.place(at):#x}' >> {TRACING}/uprobe_events"],
+                               check=True)
         self.switch(1)
 
     def place(self, at):
@@ -53,7 +56,7 @@ class Probes:
         (TRACING / "uprobe_events").write_text("")
 
     def times(self, work):
-        """The milliseconds inside each while this is done."""
+        """The milliseconds of the longest hold of each lock while this is done, by the medians of what holds it."""
         (TRACING / "trace").write_text("")
         work()
         found, begun = {}, {}
@@ -62,7 +65,8 @@ class Probes:
                 begun[thread, name] = float(moment)
             elif (thread, name) in begun:
                 found.setdefault(name, []).append((float(moment) - begun.pop((thread, name))) * 1e3)
-        return {name: statistics.median(it) for name, it in found.items()}
+        medians = {name: statistics.median(it) for name, it in found.items()}
+        return {lock: max(it for name, it in medians.items() if name.rstrip("0123456789") == lock) for lock in HOLDERS}
 
 
 class Served:
@@ -87,7 +91,7 @@ class Served:
         self.server.kill()
         for it in self.clients:
             it.socket.close()
-        self.place.clear()
+        self.place.end()
 
 
 def main(program, most):

@@ -1,4 +1,4 @@
-//! The board's lists between events. What this adds: its type keeps that they are in order, so that each event may rely on it.
+//! The lists between events. What this adds: its type keeps that they are in order, so that each event may rely on it.
 ghost use Rattle.std.specs.Prelude.{◌≡◌, IfOk, find, option_copied, option_map};
 ghost use Rattle.std.specs.Arc.{arc_value};
 ghost use Rattle.book_model.specs.Book.{empty_book, is_link, no_counts};
@@ -28,12 +28,12 @@ use std::sync::Arc;
 
 /// The lists of the lease book, with room for all that they may hold.
 pub struct Lists {
-    board: BookState,
+    state: BookState,
 }
 
 impl Drop for Lists {
     fn drop(self) {
-        let Lists { board: _ } = self;
+        let Lists { state: _ } = self;
     }
 }
 
@@ -43,9 +43,9 @@ impl Model for Lists {
 
     ghost Value = { Book };
 
-    ghost view = { λ l. l.board };
+    ghost view = { λ l. l.state };
 
-    ghost invariant = { λ l. Kept l.board };
+    ghost invariant = { λ l. Kept l.state };
 }
 
 /// All settings fit.
@@ -95,7 +95,7 @@ fn all_ticks(decisions: u64) -> Counts
 }
 
 /// Empty lists, with all the room.
-fn empty_board(alloc: Global, limits: Arc<Limits>, decisions: u64) -> Result<BookState, AllocError>
+fn empty_state(alloc: Global, limits: Arc<Limits>, decisions: u64) -> Result<BookState, AllocError>
     ensures { IfOk result (λ b. b ≡ counted_book (arc_value limits) decisions) }
 {
     Ok(BookState {
@@ -146,15 +146,15 @@ impl Lists {
         ensures book { IfOk result (λ l. l ≡ counted_book (arc_value limits) decisions) }
     {
         fits(&limits);
-        let board = empty_board(alloc, limits, decisions)?;
-        Ok(Lists { board })
+        let state = empty_state(alloc, limits, decisions)?;
+        Ok(Lists { state })
     }
 
     /// How many decisions there were.
     pub fn decisions(&self) -> u64
         ensures { result ≡ self.now.decisions }
     {
-        self.board.decisions
+        self.state.decisions
     }
 
     /// What an event makes of the lists, and its reply. It needs no memory.
@@ -164,35 +164,35 @@ impl Lists {
         ensures reply { result ≡ (apply self.old (event_of event)).reply }
     {
         event_fits(&event);
-        self.board.apply(event)
+        self.state.apply(event)
     }
 
     /// Whether a link of this number is lent, and was started for an equal key at this second.
     pub fn is_lent_as(&self, number: u64, key: &StartKey, born: u64) -> bool
         ensures { result ≡ is_started_as key.now born (find (is_link number) self.now.lent) }
     {
-        self.board.is_lent_as(number, key, born)
+        self.state.is_lent_as(number, key, born)
     }
 
     /// The start key of the lent link of this number; none where it isn't lent.
     pub fn lent_key(&self, number: u64) -> Option<&StartKey>
         ensures { option_copied result ≡ option_map (λ link. link.key) (find (is_link number) self.now.lent) }
     {
-        self.board.lent_key(number)
+        self.state.lent_key(number)
     }
 
     /// Whether no client is let in any more.
     pub fn is_shut(&self) -> bool
         ensures { result ≡ self.now.is_shut }
     {
-        self.board.is_shut
+        self.state.is_shut
     }
 
     /// How many decisions there were of each kind.
     pub fn counts(&self) -> Counts
         ensures { result ≡ self.now.counts }
     {
-        self.board.counts
+        self.state.counts
     }
 
     /// The lists as they are now.
@@ -201,7 +201,7 @@ impl Lists {
     pub fn view(&self, alloc: Global) -> Result<BookView, AllocError>
         ensures { IfOk result (λ v. v ≡ view_of self.now) }
     {
-        self.board.view(alloc)
+        self.state.view(alloc)
     }
 
     /// Who may be woken where any pool may have a link: those who have waited longest in their pools, in no order, or all who wait, where
@@ -210,34 +210,34 @@ impl Lists {
         ensures all { TellsFirsts result self.now.tickets }
         ensures only { TellsWaiting result self.now.tickets }
     {
-        self.board.firsts()
+        self.state.firsts()
     }
 
     /// Who has waited longest in the pool for which this client waits, but for itself; nobody where it doesn't wait.
     pub fn waiting_behind(&self, client: u64) -> Option<u64>
         ensures { result ≡ waiting_behind self.now client }
     {
-        self.board.waiting_behind(client)
+        self.state.waiting_behind(client)
     }
 
     /// Who has waited longest in the pool of this lent link; nobody where it isn't lent.
     pub fn waiting_for(&self, link: u64) -> Option<u64>
         ensures { result ≡ waiting_for self.now link }
     {
-        self.board.waiting_for(link)
+        self.state.waiting_for(link)
     }
 
     /// How many links of this pool are lent.
     pub fn lent_in_pool(&self, pool: &PoolKey) -> usize
         ensures { result ≡ lent_in_pool self.now pool.now }
     {
-        self.board.lent_in_pool(pool)
+        self.state.lent_in_pool(pool)
     }
 
     /// Whether no link more may be started.
     pub fn is_full(&self) -> bool
         ensures { result ≡ is_full self.now }
     {
-        !self.board.has_room()
+        !self.state.has_room()
     }
 }

@@ -1,4 +1,5 @@
--- What the console shows of the settings, as rows of texts: each key of the section [pgbouncer] that is served, with its value as a settings file could say it.
+-- What the console shows of the settings, as rows of texts: each key of the section [pgbouncer] that is served, but for log_connections and
+-- log_disconnections, with its value as a settings file could say it.
 use Rattle.std.specs.Prelude.{Bool, ℕ, ◌+◌, ◌/◌, ◌%◌, List, [], ◌∷◌, ◌++◌, codes, decimal, if◌then◌else◌}
 use Rattle.std.specs.List.{flat_map}
 use Rattle.ini_config.specs.declared.option_values.AuthType.{AuthType}

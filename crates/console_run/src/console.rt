@@ -15,16 +15,6 @@ use server_end::gate::Gate;
 use server_end::{ClientEnd, ServerEnd};
 use std::alloc::Global;
 
-/// The client's turns between two looks at the book, while an answer is for later.
-const TURNS_OF_REST: u32 = 5;
-
-/// Waits for half a second, or less where the client sends something.
-fn rest<E: ServerEnd, G: Gate<E>>(gate: &mut G) {
-    for _ in 0..TURNS_OF_REST {
-        gate.turn_of_client();
-    }
-}
-
 /// Greets the client and answers its messages; by what it is refused, if it is.
 fn drive_console<C: ClientEnd, D: LinkDesk, G: Gate<D::End>>(
     console: &Console<'_, D>,
@@ -40,7 +30,8 @@ fn drive_console<C: ClientEnd, D: LinkDesk, G: Gate<D::End>>(
             Turn::Wait => {
                 gate.turn();
             }
-            Turn::Rest => rest(gate),
+            // between two looks at the book, while an answer is for later
+            Turn::Rest => gate.turn_of_client(),
             Turn::Over(last) => return last,
         }
     }
@@ -56,7 +47,7 @@ fn drive_console<C: ClientEnd, D: LinkDesk, G: Gate<D::End>>(
 /// couldn't be answered for want of memory isn't done. `who` is told to the log beside them.
 ///
 /// WAIT_CLOSE is answered once no link is stale any more that was there at the last RECONNECT, of its database, where it names one; by an
-/// error, where the book is shut down before that. Until then the book is looked at each half second, and nothing else of the client's is
+/// error, where the book is shut down before that. Until then the book is looked at each second, and nothing else of the client's is
 /// answered.
 ///
 /// Where `who` isn't one of the settings' admin users it may but look: those commands are answered by an error, and nothing is done.

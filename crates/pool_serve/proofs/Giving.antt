@@ -5,7 +5,7 @@ use Rattle.link_laws.specs.Standing.{ClientFacts}
 use Rattle.server_end.specs.declared.Moved.{Moved}
 use Rattle.server_end.specs.declared.Moved.TheVariants.{Count, NotNow, Ended, Fault}
 use Rattle.server_end.specs.Moves.{ClientWrites, moved}
-use Rattle.pool_serve.specs.declared.TheConstants.{TURNS}
+use Rattle.pool_serve.specs.declared.TheConstants.{CLIENT_TURNS}
 use Rattle.pool_serve.specs.Words.{HasGiven}
 
 -- so many bytes were given, in so many turns
@@ -49,7 +49,7 @@ gives_late old mid new bytes rest sent turns x k = record {
 pub gave_all : (old new : ClientFacts) (bytes : List ℕ) (sent turns : ℕ) → Gives old new bytes sent turns → sent ≡ length bytes → HasGiven old new bytes
 gave_all old new bytes sent turns x e = record { tells = x.tells; taken = x.taken; count = sent; given = x.given; why = inl e }
 
-pub gave_late : (old new : ClientFacts) (bytes : List ℕ) (sent turns : ℕ) → Gives old new bytes sent turns → TURNS ≤ turns → HasGiven old new bytes
+pub gave_late : (old new : ClientFacts) (bytes : List ℕ) (sent turns : ℕ) → Gives old new bytes sent turns → CLIENT_TURNS ≤ turns → HasGiven old new bytes
 gave_late old new bytes sent turns x e = record { tells = x.tells; taken = x.taken; count = sent; given = x.given; why = inr (inr (omega (arith, x.tries, e))) }
 
 none_moved : (m : Moved) (bytes : List ℕ) → (m ≡ Ended) ⊎ (m ≡ Fault) → moved m bytes ≡ []

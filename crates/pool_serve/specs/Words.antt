@@ -9,7 +9,7 @@ use Rattle.link_start.specs.declared.start.StartRefusal.{StartRefusal}
 use Rattle.link_start.specs.declared.start.StartRefusal.TheVariants as told
 use Rattle.link_start.specs.Refusing.{refusal_of}
 use Rattle.login_run.specs.Runs.{IsClientOver}
-use Rattle.pool_serve.specs.declared.TheConstants.{TURNS}
+use Rattle.pool_serve.specs.declared.TheConstants.{CLIENT_TURNS}
 use Rattle.pool_serve.specs.declared.ending.Ending.{Ending}
 use Rattle.pool_serve.specs.declared.ending.Ending.TheVariants as ending
 use Rattle.pool_serve.specs.declared.word.FinalMessage.{FinalMessage}
@@ -44,10 +44,10 @@ word_of (ending.Unstarted cause) = last_of cause
 word_of (ending.Relayed r) = or_nothing r
 word_of (ending.Managed r) = or_nothing r
 
--- So many of these bytes were given: all, unless the client's end ended or faulted, or so many times as `TURNS` bytes went or none did.
+-- So many of these bytes were given: all, unless the client's end ended or faulted, or so many times as `CLIENT_TURNS` bytes went or none did.
 pub record HasGiven (old new : ClientFacts) (bytes : List ℕ) : Type 0 where
   pub tells : new.tells ≡ old.tells
   pub taken : old.tells ≡ true → new.taken ≡ old.taken
   pub count : ℕ
   pub given : old.tells ≡ true → new.given ≡ old.given ++ take count bytes
-  pub why : (count ≡ length bytes) ⊎ (IsClientOver old new ⊎ (old.write_waits + TURNS ≤ new.write_waits + count))
+  pub why : (count ≡ length bytes) ⊎ (IsClientOver old new ⊎ (old.write_waits + CLIENT_TURNS ≤ new.write_waits + count))

@@ -14,6 +14,9 @@ pub mod serve;
 mod word;
 mod worker;
 
-/// The turns that a start, a reset, a last word and a pause in a client's dialogue may each take: a minute of waits, where a gate's turn
-/// waits for 100 ms.
+/// The turns that a start and a reset may each take: a minute of waits, where a gate's turn of the link waits for 100 ms.
 const TURNS: u32 = 600;
+
+/// The turns that a last word and a pause in a client's dialogue may each take: a minute of waits, where a gate's turn of the client waits
+/// for a second.
+const CLIENT_TURNS: u32 = 60;

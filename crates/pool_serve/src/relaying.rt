@@ -26,6 +26,12 @@ use relay_laws::{Next, leases_are_allowed};
 use server_end::gate::{Gate, Ready};
 use server_end::{ClientEnd, ServerEnd};
 
+/// Both ends may be tried.
+const BOTH: Ready = Ready {
+    client: true,
+    server: true,
+};
+
 /// What the relay's last answer refuses the client by, if it does.
 fn refusal_told(next: Next) -> Option<Refusal>
     ensures { result ≡ refusal_told next }
@@ -47,8 +53,21 @@ fn wait<C: ClientEnd, E: ServerEnd, G: Gate<E>>(relay: &Relay<C, E>, gate: &mut 
     gate.turn()
 }
 
-/// Pumps until the lease ends. A turn of the gate is taken only where nothing moved. What the client is refused by, if it is, and
-/// whether the server's connection has ended.
+/// What may be tried behind bytes that moved: both ends at once; or, where nothing was on its way before and nothing is now, what the gate
+/// tells: each end was then read with room to spare, and the gate knows whether that may have left more.
+fn more<C: ClientEnd, E: ServerEnd, G: Gate<E>>(
+    relay: &Relay<C, E>,
+    gate: &mut G,
+    is_drained: bool,
+) -> Ready {
+    if is_drained {
+        return wait(relay, gate);
+    }
+    BOTH
+}
+
+/// Pumps until the lease ends. A turn of the gate is taken only where nothing moved, or nothing is left of what did. What the client is
+/// refused by, if it is, and whether the server's connection has ended.
 fn pumped<C: ClientEnd, E: ServerEnd, G: Gate<E>>(
     relay: &mut Relay<C, E>,
     gate: &mut G,
@@ -58,20 +77,17 @@ fn pumped<C: ClientEnd, E: ServerEnd, G: Gate<E>>(
     ensures told { result.0 ≡ refusal_at relay.new }
     ensures refused { IfSome result.0 (λ r. (p : Place) → IsLease p relay.old → AtBorder p relay.new × RefusedBy p relay.new r) }
 {
-    let both = Ready {
-        client: true,
-        server: true,
-    };
-    let mut next = relay.pump(both);
+    let mut next = relay.pump(BOTH);
+    let mut was_clear = false;
     for _ in 0..u64::MAX {
-        next = match next {
-            Next::Again => relay.pump(both),
-            Next::Wait => {
-                let ready = wait(relay, gate);
-                relay.pump(ready)
-            }
+        let is_clear = relay.is_clear();
+        let ready = match next {
+            Next::Again => more(relay, gate, was_clear & is_clear),
+            Next::Wait => wait(relay, gate),
             Next::ClientDone | Next::Refuse(_) | Next::Closed => break,
         };
+        was_clear = is_clear;
+        next = relay.pump(ready);
     }
     (refusal_told(next), has_ended(next))
 }

@@ -14,7 +14,7 @@ ghost use Rattle.pool_serve.specs.Serving.{HasStopped, IsLoggedIn, IsManaged, Le
 ghost use Rattle.pool_serve.specs.Shares.{Evens, Settles};
 ghost use Rattle.pool_serve.specs.Stays.{CameIn, IfManaged, IsAllowed, IsAtConsole, IsDismissed, IsOver, IsUntouched, ServesAs, StayedAtConsole, TracesAtLast};
 
-use crate::TURNS;
+use crate::CLIENT_TURNS;
 use crate::ending::Ending;
 use crate::logged_in::LoggedIn;
 use crate::noting::{ending_note, named, note_cancel, note_end, note_login, own_key};
@@ -152,7 +152,7 @@ impl<'a, D: LinkDesk, G: Gate<D::End>> Worker<'a, D, G> {
     }
 
     /// Serves the client that has arrived. One whose time is over before it is through its login, or whose dialogue doesn't go on for
-    /// [`TURNS`] turns, is closed.
+    /// [`CLIENT_TURNS`] turns, is closed.
     fn serve_arrived<C: ClientEnd>(&mut self, run: LoginRun<C>, word: KeyWord) -> (C, Ending)
         requires settings { AreWithinBounds run.login.settings }
         requires word { run.login.word ≡ word }
@@ -174,7 +174,7 @@ impl<'a, D: LinkDesk, G: Gate<D::End>> Worker<'a, D, G> {
         passed_runs_are_let_in();
         passed_runs_have_passed();
         let mut run = run;
-        match drive_login(self.alloc, &mut run, &mut self.gate, Some(TURNS)) {
+        match drive_login(self.alloc, &mut run, &mut self.gate, Some(CLIENT_TURNS)) {
             LoginTurn::Passed => {}
             LoginTurn::Console => return self.manage(run, word),
             _ => {
@@ -271,7 +271,7 @@ impl<'a, D: LinkDesk, G: Gate<D::End>> Worker<'a, D, G> {
 ///
 /// Whether it tells or not, the client's last word is that of how its time at the desk ended: the desk's own refusal, the cause for
 /// which its link wasn't started, or the refusal that its relay's last answer tells. It is given whole, unless the client's end ended
-/// or faulted or took nothing for [`TURNS`] turns. No client is in the pass before, and none afterwards.
+/// or faulted or took nothing for [`CLIENT_TURNS`] turns. No client is in the pass before, and none afterwards.
 ///
 /// A client whose first packet is a CancelRequest is given no byte: the desk is asked for the lease of the key word in it, and the cancel
 /// that it answers is sent. Who asks takes no place in the book.

@@ -1,9 +1,9 @@
 //! The last word to a client.
 ghost use Rattle.std.specs.Prelude.{◌≡◌, ◌+◌, ◌≤◌};
 ghost use Rattle.pool_serve.specs.Words.{HasGiven, last_bytes, last_of, or_nothing};
-ghost use Rattle.pool_serve.specs.declared.TheConstants.{TURNS};
+ghost use Rattle.pool_serve.specs.declared.TheConstants.{CLIENT_TURNS};
 
-use crate::TURNS;
+use crate::CLIENT_TURNS;
 use link_start::start::{StartCause, StartError, StartRefusal};
 use message_view::{Refusal, refusal_bytes};
 use server_end::gate::Gate;
@@ -21,11 +21,11 @@ pub(crate) enum FinalMessage {
 /// Gives a client these bytes, in at most so many tries; one turn of the gate is taken for each that came to nothing.
 fn give<C: ClientEnd, E: ServerEnd, G: Gate<E>>(client: &mut C, bytes: &[u8], gate: &mut G)
     ensures given { HasGiven (C.facts client.old) (C.facts client.new) bytes.now }
-    ensures taken { G.turns gate.new ≤ G.turns gate.old + TURNS }
+    ensures taken { G.turns gate.new ≤ G.turns gate.old + CLIENT_TURNS }
     ensures paced { (C.facts client.new).write_waits + G.turns gate.old ≡ (C.facts client.old).write_waits + G.turns gate.new }
 {
     let mut sent = 0;
-    for _ in 0..TURNS {
+    for _ in 0..CLIENT_TURNS {
         if sent == bytes.len() {
             return;
         }
@@ -73,7 +73,7 @@ impl FinalMessage {
     /// Tells the client.
     pub(crate) fn tell<C: ClientEnd, E: ServerEnd, G: Gate<E>>(&self, client: &mut C, gate: &mut G)
         ensures given { HasGiven (C.facts client.old) (C.facts client.new) (last_bytes self.now) }
-        ensures taken { G.turns gate.new ≤ G.turns gate.old + TURNS }
+        ensures taken { G.turns gate.new ≤ G.turns gate.old + CLIENT_TURNS }
         ensures paced { (C.facts client.new).write_waits + G.turns gate.old ≡ (C.facts client.old).write_waits + G.turns gate.new }
     {
         give(client, self.as_bytes(), gate);

@@ -23,6 +23,46 @@ struct Passed {
     recent: Figures,
 }
 
+/// What went through connections that name a database.
+#[derive(Drop)]
+struct Sum {
+    /// A row of the settings bears the name.
+    is_listed: bool,
+    figures: Figures,
+}
+
+/// What went through connections that are there, by the names of their databases.
+#[derive(Drop)]
+pub(crate) struct Sums {
+    by_name: IndexMap<Vec<u8>, Sum>,
+}
+
+impl Sums {
+    pub(crate) fn new(alloc: Global) -> Sums {
+        Sums {
+            by_name: IndexMap::new(alloc),
+        }
+    }
+
+    /// And through one more.
+    pub(crate) fn add(
+        &mut self,
+        alloc: Global,
+        name: &[u8],
+        is_listed: bool,
+        figures: Figures,
+    ) -> Result<(), AllocError> {
+        if let Some(sum) = self.by_name.get_mut(name) {
+            sum.is_listed = sum.is_listed || is_listed;
+            sum.figures = sum.figures.plus(figures);
+            return Ok(());
+        }
+        let sum = Sum { is_listed, figures };
+        self.by_name.insert(Vec::from_slice(alloc, name)?, sum)?;
+        Ok(())
+    }
+}
+
 /// What went through each database, by its name.
 #[derive(Drop)]
 pub(crate) struct Databases {
@@ -92,22 +132,25 @@ impl Databases {
         Ok(totals)
     }
 
-    /// Adds to these totals what went through a connection that is there.
-    pub(crate) fn add_to(
+    /// What went through each in all, by place: this through connections that were gone, and these sums through those that weren't. What
+    /// isn't among them was named since, and nothing went through it by then.
+    pub(crate) fn totals(
         &mut self,
         alloc: Global,
-        totals: &mut Vec<Figures>,
-        name: &[u8],
-        is_listed: bool,
-        figures: Figures,
-    ) -> Result<(), AllocError> {
-        let place = self.place(alloc, name, is_listed)?;
-        if place < totals.len() {
-            totals[place] = totals[place].plus(figures);
-        } else {
-            totals.push(figures)?;
+        gone: Vec<Figures>,
+        sums: &Sums,
+    ) -> Result<Vec<Figures>, AllocError> {
+        let mut totals = gone;
+        for (name, sum) in sums.by_name.iter() {
+            let place = self.place(alloc, name, sum.is_listed)?;
+            for _ in totals.len()..self.by_name.len() {
+                totals.push(Figures::none())?;
+            }
+            if let Some(total) = totals.get_mut(place) {
+                *total = total.plus(sum.figures);
+            }
         }
-        Ok(())
+        Ok(totals)
     }
 
     /// A period is over, with these totals at its end: what went through all within it.

@@ -1,12 +1,12 @@
 //! Who is there, and what went through each database.
 
-use crate::databases::Databases;
+use crate::databases::{Databases, Sums};
 use crate::seats::Seat;
 use indexmap::IndexMap;
 use log_lines::notes::Visit;
 use pool_figures::decisions::DecisionSeen;
 use pool_figures::figures::Figures;
-use pool_figures::seen::{ClientSeen, Seen};
+use pool_figures::seen::{ClientSeen, DatabaseSeen, Seen};
 use std::alloc::{AllocError, Global};
 use std::rt::Clock;
 use std::sync::{Arc, Mutex, Wait};
@@ -14,12 +14,18 @@ use std::time::SystemTime;
 use tcp_notes::sight::Sight;
 use user_file::Users;
 
+/// So many seats are copied in one hold of the table's lock: who comes or goes waits for no more of them.
+const MOST_AT_ONCE: usize = 256;
+
 #[derive(Drop)]
 struct Table {
     /// In the order in which they came, but for gaps.
     seats: IndexMap<u64, Arc<Seat>>,
     next: u64,
     databases: Databases,
+    /// The seats before this place are being copied: those of them whose clients have left meanwhile keep their places until that is done.
+    copied_before: usize,
+    left: Vec<u64>,
     /// So many periods are over, of as many seconds as the last one had.
     periods: u64,
     period: u32,
@@ -27,11 +33,30 @@ struct Table {
     is_closing: bool,
 }
 
+impl Table {
+    /// Whether this seat is among those that are being copied.
+    fn is_copied(&self, id: u64) -> bool {
+        match self.seats.get_index_of(&id) {
+            Some(place) => place < self.copied_before,
+            None => false,
+        }
+    }
+}
+
+/// Who was there at one moment, and what had gone through each database by then through connections that were gone.
+#[derive(Drop)]
+struct Present {
+    seats: Vec<Arc<Seat>>,
+    gone: Vec<Figures>,
+}
+
 /// Who is there, and what went through each database.
 pub struct Watch<R> {
     rt: R,
     alloc: Global,
     table: Mutex<Table>,
+    /// Seats are copied for one at a time.
+    copying: Mutex<()>,
 }
 
 impl<R: Drop> Drop for Watch<R> {
@@ -40,6 +65,7 @@ impl<R: Drop> Drop for Watch<R> {
             rt: _,
             alloc: _,
             table: _,
+            copying: _,
         } = self;
     }
 }
@@ -54,10 +80,13 @@ impl<R> Watch<R> {
                 seats: IndexMap::new(alloc),
                 next: 0,
                 databases: Databases::new(alloc),
+                copied_before: 0,
+                left: Vec::new(alloc),
                 periods: 0,
                 period: 0,
                 is_closing: false,
             }),
+            copying: Mutex::new(()),
         }
     }
 }
@@ -80,6 +109,15 @@ impl<R: Wait + Clock> Watch<R> {
     /// It is closed: what went through it is kept.
     pub fn leave(&self, id: u64) {
         let mut table = self.table.lock(&self.rt);
+        // there is room for as many as are copied
+        if table.is_copied(id) && table.left.push(id).is_ok() {
+            return;
+        }
+        self.remove(&mut *table, id);
+    }
+
+    /// Its seat is no longer there; what went through it is kept.
+    fn remove(&self, table: &mut Table, id: u64) {
         let Some(seat) = table.seats.swap_remove(&id) else {
             return;
         };
@@ -116,49 +154,125 @@ impl<R: Wait + Clock> Watch<R> {
         }
     }
 
-    /// What went through each database in all, up to now.
-    fn totals(&self, table: &mut Table) -> Result<Vec<Figures>, AllocError> {
-        let mut totals = table.databases.gone(self.alloc)?;
-        let databases = &mut table.databases;
-        for seat in table.seats.values() {
-            let held = seat.hold(&self.rt);
-            if held.database().is_empty() {
-                continue;
+    /// Begins to copy who is there at this moment.
+    #[inline(never)]
+    fn begin_copy(&self) -> Result<Present, AllocError> {
+        let mut table = self.table.lock(&self.rt);
+        let count = table.seats.len();
+        let present = Present {
+            seats: Vec::with_capacity(self.alloc, count)?,
+            gone: table.databases.gone(self.alloc)?,
+        };
+        table.left.reserve(count)?;
+        table.copied_before = count;
+        Ok(present)
+    }
+
+    /// Copies some more; whether there are any left.
+    #[inline(never)]
+    fn copy_some(&self, present: &mut Present) -> Result<bool, AllocError> {
+        let table = self.table.lock(&self.rt);
+        let copied = present.seats.len();
+        let left = table.copied_before.saturating_sub(copied);
+        for further in 0..left.min(MOST_AT_ONCE) {
+            if let Some((_, seat)) = table.seats.get_index(copied.saturating_add(further)) {
+                present.seats.push(Arc::try_clone(seat)?)?;
             }
-            let figures = seat.figures(&held);
-            databases.add_to(
-                self.alloc,
-                &mut totals,
-                held.database(),
-                held.is_listed(),
-                figures,
-            )?;
         }
-        Ok(totals)
+        Ok(left > MOST_AT_ONCE)
+    }
+
+    /// Nobody's seat is kept for its place any more; whether there are some left whose clients have left meanwhile.
+    #[inline(never)]
+    fn end_copy(&self) -> bool {
+        let mut table = self.table.lock(&self.rt);
+        table.copied_before = 0;
+        for _ in 0..MOST_AT_ONCE {
+            let Some(id) = table.left.pop() else {
+                return false;
+            };
+            self.remove(&mut *table, id);
+        }
+        true
+    }
+
+    /// Who is there at this moment.
+    fn present(&self) -> Result<Present, AllocError> {
+        let _copying = self.copying.lock(&self.rt);
+        let mut present = self.begin_copy()?;
+        let mut copied = Ok(true);
+        for _ in 0..u64::MAX {
+            copied = self.copy_some(&mut present);
+            if !matches!(copied, Ok(true)) {
+                break;
+            }
+        }
+        for _ in 0..u64::MAX {
+            if !self.end_copy() {
+                break;
+            }
+        }
+        copied?;
+        Ok(present)
+    }
+
+    /// What went through these connections, by the databases that they have named.
+    fn sums(&self, seats: &[Arc<Seat>]) -> Result<Sums, AllocError> {
+        let mut sums = Sums::new(self.alloc);
+        for seat in seats {
+            let held = seat.hold(&self.rt);
+            if !held.database().is_empty() {
+                let figures = seat.figures(&held);
+                sums.add(self.alloc, held.database(), held.is_listed(), figures)?;
+            }
+        }
+        Ok(sums)
+    }
+
+    /// What went through all databases in the period that is over, up to now.
+    fn end_period(&self) -> Result<Figures, AllocError> {
+        let Present { seats, gone } = self.present()?;
+        let sums = self.sums(&seats)?;
+        let mut table = self.table.lock(&self.rt);
+        let totals = table.databases.totals(self.alloc, gone, &sums)?;
+        Ok(table.databases.end_period(&totals))
+    }
+
+    /// What went through each database, by these sums.
+    #[inline(never)]
+    fn databases(&self, gone: Vec<Figures>, sums: &Sums) -> Result<Vec<DatabaseSeen>, AllocError> {
+        let mut table = self.table.lock(&self.rt);
+        let totals = table.databases.totals(self.alloc, gone, sums)?;
+        table.databases.shown(self.alloc, &totals)
+    }
+
+    /// So many seconds a period has.
+    fn period(&self) -> u64 {
+        self.table.lock(&self.rt).period as u64
+    }
+
+    /// Whether a period is over at this second, where a period has so many.
+    fn is_period_over(&self, second: u64, period: u32) -> bool {
+        let mut table = self.table.lock(&self.rt);
+        let periods = second / (period.max(1) as u64);
+        let is_over = table.period == period && table.periods != periods;
+        table.period = period;
+        table.periods = periods;
+        is_over
     }
 
     /// The clock has reached this second, where a period has so many: what went through all databases in the period that is over, if one
     /// is. Seconds may be left out.
     pub fn tick(&self, second: u64, period: u32) -> Option<Figures> {
-        let mut table = self.table.lock(&self.rt);
-        let table = &mut *table;
-        let periods = second / (period.max(1) as u64);
-        if table.period != period {
-            table.period = period;
-            table.periods = periods;
+        if !self.is_period_over(second, period) {
             return None;
         }
-        if periods == table.periods {
-            return None;
-        }
-        table.periods = periods;
-        let totals = self.totals(table).ok()?;
-        Some(table.databases.end_period(&totals))
+        self.end_period().ok()
     }
 
-    fn clients(&self, table: &Table) -> Result<Vec<ClientSeen>, AllocError> {
-        let mut clients = Vec::with_capacity(self.alloc, table.seats.len())?;
-        for seat in table.seats.values() {
+    fn clients(&self, seats: &[Arc<Seat>]) -> Result<Vec<ClientSeen>, AllocError> {
+        let mut clients = Vec::with_capacity(self.alloc, seats.len())?;
+        for seat in seats {
             if let Some(client) = seat.shown(&self.rt, self.alloc)? {
                 clients.push(client)?;
             }
@@ -183,15 +297,14 @@ impl<R: Wait + Clock> Watch<R> {
         users: Option<Arc<Users>>,
         decisions: Vec<DecisionSeen>,
     ) -> Result<Seen, AllocError> {
-        let mut table = self.table.lock(&self.rt);
-        let table = &mut *table;
-        let totals = self.totals(table)?;
+        let Present { seats, gone } = self.present()?;
+        let sums = self.sums(&seats)?;
         Ok(Seen {
-            databases: table.databases.shown(self.alloc, &totals)?,
-            clients: self.clients(table)?,
+            databases: self.databases(gone, &sums)?,
+            clients: self.clients(&seats)?,
             users,
             decisions,
-            period: table.period as u64,
+            period: self.period(),
             second: self.seconds(),
         })
     }

@@ -28,11 +28,11 @@ fn idle_turns(rt: &HostRuntime, client: &mut TcpEnd, link: &mut TcpEnd) -> Resul
 
 // The first is taken at once, by what a new end notes.
 #[test]
-fn an_idle_client_has_ten_turns_a_second(rt: HostRuntime) -> Result<(), Fail> {
+fn an_idle_client_has_a_turn_a_second(rt: HostRuntime) -> Result<(), Fail> {
     let (mut client, _near) = pair(&rt)?;
     let (mut link, _far) = pair(&rt)?;
     let turns = idle_turns(&rt, &mut client, &mut link)?;
-    assert!(rt; turns <= 13);
+    assert!(rt; turns <= 3);
     Ok(())
 }
 
@@ -42,7 +42,7 @@ fn speaks_late<R: Clock>(rt: &R, far: &mut TcpEnd) -> Moved {
     ServerEnd::write_some(far, b"Z")
 }
 
-// Turns that aren't counted wait until something comes: of 100 ms each they would be ten.
+// Turns that aren't counted wait until something comes.
 #[test]
 fn an_idle_lease_sleeps(rt: HostRuntime) -> Result<(), Fail> {
     let (mut client, _near) = pair(&rt)?;
@@ -83,7 +83,7 @@ fn an_end_behind_bytes_is_seen(rt: HostRuntime) -> Result<(), Fail> {
     Ok(())
 }
 
-// As long as bytes that were read ahead are left, no turn waits for more; waiting, the hundred would take ten seconds.
+// As long as bytes that were read ahead are left, no turn waits for more; waiting, the hundred would take a hundred seconds.
 #[test]
 fn bytes_read_ahead_need_no_wait(rt: HostRuntime) -> Result<(), Fail> {
     let (mut client, mut near) = pair(&rt)?;

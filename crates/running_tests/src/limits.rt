@@ -74,7 +74,7 @@ fn turns_are_long_again_once_the_gate_was_late(rt: HostRuntime) -> Result<(), Fa
     Gate::<TcpEnd>::limit(&mut gate, Some(0));
     assert!(rt; is_late(&mut gate));
     let turns = turns_in_a_second(&rt, &mut gate, &mut client)?;
-    assert!(rt; turns <= 13, "{turns}");
+    assert!(rt; turns <= 3, "{turns}");
     Ok(())
 }
 

@@ -20,8 +20,13 @@ const LINK: Token = Token(1);
 /// As many events as one wait tells: the two connections have one each.
 const MOST_EVENTS: usize = 2;
 
-/// As long as a turn that is counted waits at most: those of the client alone, and of the link alone.
-fn longest_turn() -> Duration {
+/// As long as a turn of the client alone waits at most. Whoever waits for an answer costs a look a second.
+fn longest_turn_of_client() -> Duration {
+    Duration::from_secs(1)
+}
+
+/// As long as a turn of the link alone does.
+fn longest_turn_of_link() -> Duration {
     Duration::from_millis(100)
 }
 
@@ -107,8 +112,8 @@ struct Seen {
     is_for_link: bool,
 }
 
-/// Where a worker waits for the bytes of its client, and of its link while that is watched. A turn of the client or of the link alone
-/// waits for at most 100 ms, since so many turns are a time; any other for at most ten seconds, so that a client that says nothing
+/// Where a worker waits for the bytes of its client, and of its link while that is watched. A turn of the client alone waits for at most
+/// a second, and one of the link alone for at most 100 ms, since so many turns are a time; any other for at most ten seconds, so that a client that says nothing
 /// costs next to nothing. It doesn't wait where the last read of an end that it minds, since the turn before, may have left more; it
 /// names both sides. Nor does a turn of the link alone where something may be due to be said: in the first such turn, and after the first
 /// read behind a write that came to something.
@@ -235,7 +240,7 @@ impl<'a, R: Clock> TcpGate<'a, R> {
     /// What is left of a turn that began then.
     fn left_of_turn(&self, start: &Instant) -> Option<Duration> {
         let waited = start.elapsed(&self.rt).ok()?;
-        longest_turn().checked_sub(waited)
+        longest_turn_of_link().checked_sub(waited)
     }
 
     /// No event came: both ends are tried again, as if one had.
@@ -288,7 +293,7 @@ impl<'a, R: Clock> Gate<TcpEnd> for TcpGate<'a, R> {
         self.turns.count();
         self.is_at_link = false;
         if !self.client_may_have_more() {
-            self.wait(longest_turn());
+            self.wait(longest_turn_of_client());
         }
     }
 
@@ -299,7 +304,7 @@ impl<'a, R: Clock> Gate<TcpEnd> for TcpGate<'a, R> {
             return;
         }
         let Ok(start) = Instant::now(&self.rt) else {
-            self.wait(longest_turn());
+            self.wait(longest_turn_of_link());
             return;
         };
         for _ in 0..u64::MAX {

@@ -2,9 +2,8 @@ use Rattle.std.proofs.Common.{inl, refl, sym, ap, ◌∙◌, subst, Option}
 use Rattle.std.specs.Prelude.{IfSome}
 use Rattle.message_view.specs.declared.refusal.Refusal.{Refusal}
 use Rattle.relay_laws.specs.Answers.{AtBorder, RefusedBy, phase_after}
-use Rattle.relay_laws.specs.Leases.{IsLease, Place, RelayView}
-use Rattle.relay_laws.specs.declared.Next.{Next}
-use Rattle.pool_serve.proofs.Pumping.{Goes, Pumped, gone, goes_on, pumped_on}
+use Rattle.relay_laws.specs.Leases.{IsLease, Place}
+use Rattle.pool_serve.proofs.Pumping.{Pumped, gone, goes_on, pumped_on}
 use Rattle.pool_serve.proofs.relaying.pumped.Goals as goal
 use Rattle.pool_serve.proofs.relaying.pumped.Goals.{in-Again, in-Wait}
 
@@ -16,13 +15,10 @@ loop-preserved g c =
     let first = c.pump-next.new.self in
     let begun = c.pump-next.result in
     let phase = c.pump-next.ensures.phase c.requires.runs in
+    let p = c.pump-next-in-loop in
     elim c.match-next.branch [
-      | in-Again w ↦
-          let p = w.pump-next-in-Again in
-          subst (λ (v : RelayView). Goes first v begun c.match-next.next) (sym w.relay-is) (subst (λ (m : Next). Goes first p.new.self begun m) (sym w.next-is) (goes_on first c.loop.relay p.new.self begun c.loop.next p.result phase c.loop.invariant (ap phase_after w.in-Again.is) p.ensures.lease p.ensures.judged p.ensures.refused p.ensures.phase))
-      | in-Wait w ↦
-          let p = w.pump-next-in-Wait in
-          subst (λ (v : RelayView). Goes first v begun c.match-next.next) (sym w.relay-is) (subst (λ (m : Next). Goes first p.new.self begun m) (sym w.next-is) (goes_on first c.loop.relay p.new.self begun c.loop.next p.result phase c.loop.invariant (ap phase_after w.in-Wait.is) p.ensures.lease p.ensures.judged p.ensures.refused p.ensures.phase))
+      | in-Again w ↦ goes_on first c.loop.relay p.new.self begun c.loop.next p.result phase c.loop.invariant (ap phase_after w.in-Again.is) p.ensures.lease p.ensures.judged p.ensures.refused p.ensures.phase
+      | in-Wait w ↦ goes_on first c.loop.relay p.new.self begun c.loop.next p.result phase c.loop.invariant (ap phase_after w.in-Wait.is) p.ensures.lease p.ensures.judged p.ensures.refused p.ensures.phase
     ]
 
 pub returns : goal.returns

@@ -1,0 +1,82 @@
+#!/usr/bin/env bash
+# first_day.sh: what somebody meets who has just taken the repository: make's help, the kit's version, and how a proof is told of. A
+# stand-in for `rt` proves nothing and says what the real one would.
+set -eu
+cd "$(dirname "$0")/../.."
+work=$(mktemp -d)
+trap 'rm -rf "$work"' EXIT
+passed=0 failed=0
+check() { # check WORDS COMMAND..
+    local words=$1
+    shift
+    if "$@" > "$work/out" 2>&1; then
+        passed=$((passed + 1))
+    else
+        failed=$((failed + 1))
+        echo "first_day: $words"
+        head -5 "$work/out"
+    fi
+}
+said() { # said WORDS: the last command that was checked said them
+    mv "$work/out" "$work/said"
+    check "it says '$1'" grep -qF "$1" "$work/said"
+}
+# a stand-in for rt: KIT_SAYS is its version; `ci` and `try` say SAYS of each crate
+mkdir "$work/bin"
+cat > "$work/bin/rt" << 'RT'
+#!/usr/bin/env bash
+case $1 in
+    version) echo "$KIT_SAYS" ;;
+    fmt) echo "${LAYOUT:-}" ;;
+    try) [ "${SAYS:-proved}" = proved ] ;;
+    ci)
+        [ ! -e must-fail ] && [ -d .git ] && [ -s HANDLES ] || exit 2
+        for it in $(sed 's/[: ].*//' crates.txt); do
+            [ ! -e "crates/$it/must-fail" ] && [ ! -e "crates/$it/wrong" ] || exit 2
+            mkdir -p "crates/$it/out"
+            echo "rt: $it ${SAYS:-proved}"
+            echo "$it, jobs $RT_JOBS" > "crates/$it/out/$it"
+        done
+        [ "${SAYS:-proved}" = proved ] ;;
+esac
+RT
+chmod +x "$work/bin/rt"
+stood_in() { KIT_SAYS=$(cat RATTLE_KIT) PATH="$work/bin:$PATH" "$@"; }
+other_kit() { KIT_SAYS="another kit" PATH="$work/bin:$PATH" "$@"; }
+refused() { ! "$@"; }
+
+make --no-print-directory > "$work/help"
+check "make alone prints its help" grep -q "what make does" "$work/help"
+for target in $(sed -n 's/^\.PHONY: //p' Makefile); do
+    case $target in help | gate) continue ;; esac
+    check "the help names make $target" grep -q "^  make $target  " "$work/help"
+done
+check "this kit is taken without a word" stood_in bash -c '[ -z "$(tools/kit.sh 2>&1)" ]'
+check "another is refused" refused other_kit tools/kit.sh
+check "in words that name both" other_kit \
+    bash -c 'tools/kit.sh 2>&1 | grep -qF "$(cat RATTLE_KIT)" && tools/kit.sh 2>&1 | grep -q "another kit"'
+check "with any it is told of and taken" other_kit bash -c 'tools/kit.sh any 2>&1 | grep -q "another kit" && tools/kit.sh any'
+no_kit() { # with no rt in the path: the shell's own programs alone
+    mkdir -p "$work/none"
+    ln -sf "$(command -v cat)" "$(command -v dirname)" "$work/none/"
+    PATH="$work/none" /bin/sh tools/kit.sh any
+}
+check "no kit is refused" refused no_kit
+
+# a copy, whose programs are not those of this tree
+mkdir "$work/copy"
+find crates.txt HANDLES RATTLE_KIT tools crates/frame_view crates/message_view crates/message_parts \
+    -name out -prune -o -name __pycache__ -prune -o -type f -print | tar -c -T - | tar -x -C "$work/copy"
+check "a proof takes the crates below alone, without their edits" stood_in env RT_JOBS=3 "$work/copy/tools/prove.py" message_parts
+said "2 of 3: message_view proved"
+check "the program is there, proved by as many jobs as were asked for" \
+    grep -qx "message_parts, jobs 3" "$work/copy/crates/message_parts/out/message_parts"
+check "what the prover said is kept" grep -q "rt: frame_view proved" "$work/copy/build/proof_message_parts.log"
+check "what isn't proved fails" refused stood_in env SAYS="NOT PROVED" "$work/copy/tools/prove.py" frame_view
+said "prove: NOT PROVED"
+check "make quick passes, a line for each crate" stood_in "$work/copy/tools/quick.py" message_view frame_view
+said "quick: 4 passed, 0 failed; nothing is proved"
+check "a test that fails is told" refused stood_in env SAYS=no "$work/copy/tools/quick.py" frame_view
+check "so is a file out of its layout" refused stood_in env LAYOUT="rt: formatted src/lib.rt" "$work/copy/tools/quick.py" frame_view
+echo "$passed passed, $failed failed"
+[ "$failed" -eq 0 ]
