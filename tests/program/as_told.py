@@ -198,9 +198,10 @@ class AsTold(Show):
         self.logs("and one that idles in a transaction for too long",
                   said + "25P03 terminating connection due to idle-in-transaction timeout$")
         client.socket.close()
-        clients = [Client(port, "ann", "shop", USERS["ann"][0]) for _ in range(2)]
-        # a session that is just starting isn't always told
-        killed, _ = (client.ask("SELECT pg_backend_pid()")[0][0] for client in clients)
+        clients = [Client(port, "ann", "shop", USERS["ann"][0]) for _ in range(4)]
+        killed, *_ = [client.ask("SELECT pg_backend_pid()")[0][0] for client in clients]
+        # PostgreSQL's handler of a crash may hang where it interrupts a session at work: these are to be idle
+        time.sleep(0.5)
         os.kill(int(killed), signal.SIGKILL)
         self.logs("sessions that end since another one was killed are told",
                   said + "57P02 terminating connection because of crash of another server process$")

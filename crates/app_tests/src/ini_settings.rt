@@ -257,6 +257,38 @@ fn hosts_of_rows(rt: HostRuntime) -> Result<(), Fail> {
     Ok(())
 }
 
+/// The user and the password of the row `x`.
+fn user_and_password<'a>(settings: &'a Settings) -> Option<(Option<&'a [u8]>, Option<&'a [u8]>)> {
+    let row = settings.row(b"x")?;
+    Some((row.user, row.password))
+}
+
+#[test]
+fn users_of_rows(rt: HostRuntime) -> Result<(), Fail> {
+    let rows: [(&str, Option<&[u8]>, Option<&[u8]>); 4] = [
+        ("", None, None),
+        ("user=", None, None),
+        ("user=app", Some(b"app"), None),
+        ("password=a=b user=app", Some(b"app"), Some(b"a=b")),
+    ];
+    for (said, user, password) in rows {
+        let text = format!(in rt.alloc(); "[databases]\nx = host=db {said}")?;
+        let settings = read_settings(rt.alloc(), text.as_bytes())?;
+        assert!(rt; user_and_password(&settings) == Some((user, password)));
+    }
+    let refused = [
+        "password=a",
+        "user=app password=",
+        "user=app user=bc",
+        "user=a\0b",
+    ];
+    for said in refused {
+        let text = format!(in rt.alloc(); "[databases]\nx = host=db {said}")?;
+        assert!(rt; read_settings(rt.alloc(), text.as_bytes()).is_err());
+    }
+    Ok(())
+}
+
 // A row of the name comes first, wherever it stands; 63 bytes are the longest name that PostgreSQL has.
 #[test]
 fn the_row_of_a_star(rt: HostRuntime) -> Result<(), Fail> {

@@ -15,11 +15,11 @@ fn are(lines: &[Text], expected: &[&[u8]]) -> bool {
 }
 
 const SETTINGS: &[u8] =
-    b"\"ann\" \"x=y\"\n[databases]\na = host=x user=app\nb = port=1\nc = host=x PassWord=y\n[pgbouncer]\nuser = root\nlisten_port = 0\x07\nlogfile = l\nlogfile = m\nauth_file = f\nserver_tls_sslmode = prefer\n%include y\nlisten_addr = *\nunix_socket_dir =\nlog_connections = 1\nlog_disconnections = 1\n";
+    b"\"ann\" \"x=y\"\n[databases]\na = host=x auth_user=app\nb = port=1\nc = host=x PassWord=y\n[pgbouncer]\nuser = root\nlisten_port = 0\x07\nlogfile = l\nlogfile = m\nauth_file = f\nserver_tls_sslmode = prefer\n%include y\nlisten_addr = *\nunix_socket_dir =\nlog_connections = 1\nlog_disconnections = 1\n";
 
 const LINES: [&[u8]; 10] = [
     b"i line 1: C7: neither a header nor a key and its value below one",
-    b"i line 3: a = host=x user=app: C3: user is not served in a row, or not at this value",
+    b"i line 3: a = host=x auth_user=app: C3: auth_user is not served in a row, or not at this value",
     b"i line 4: b = port=1: C3: no host; with PgBouncer it is the folder of its Unix sockets: write it, as host=/var/run/postgresql",
     b"i line 5: c = host=x PassWord..: C3: PassWord is not served in a row, or not at this value",
     b"i line 7: user = root: C2: asks for what is not done; no value is read over",

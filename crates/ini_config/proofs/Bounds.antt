@@ -1,15 +1,15 @@
 -- Each line of a settings file keeps what was read within its bounds.
 use Rattle.std.proofs.Common.{◌≡◌, ℕ, Bool, true, false, cond, List, [], ◌∷◌, ◌++◌, Option, Some, None, refl, sym, subst, fold}
-use Rattle.std.specs.Prelude.{not, ◌&&◌, ◌||◌, ◌==◌, nat_le, length, option_map, option_and_then, unwrap_or, is_none, bytes_eq, codes}
+use Rattle.std.specs.Prelude.{not, ◌&&◌, ◌||◌, ◌==◌, nat_le, length, option_map, option_and_then, unwrap_or, is_none, is_some, bytes_eq, codes}
 use Rattle.std.specs.List.{AllByRecursion, list_any, list_all}
 use Rattle.std.specs.Char.{is_ascii_digit}
 use Rattle.std.proofs.lemmas.Bool.{false≢true, leb-true}
 use Rattle.std.proofs.lemmas.Option.{none-some, same_Some}
 use Rattle.neutral_keys.specs.ReadOver.{is_read_over_in_row}
-use Rattle.ini_config.specs.Bounds.{IsWithin, IsCount, IsTime, IsSize, IsServedRow, AreWithinBounds, ReadSettingsAreWithinBounds}
+use Rattle.ini_config.specs.Bounds.{IsWithin, IsCount, IsTime, IsSize, IsUser, IsServedRow, AreWithinBounds, ReadSettingsAreWithinBounds}
 use Rattle.ini_config.specs.Hosts.{host_of}
 use Rattle.ini_config.specs.Values.{within, number_between, digits_value, split_at_first, parts}
-use Rattle.ini_config.specs.DatabaseValues.{RowValues, with_item, with_text, with_texts, nothing_said, values_in, is_console, is_database, row_with, row_of}
+use Rattle.ini_config.specs.DatabaseValues.{RowValues, with_item, with_text, with_texts, nothing_said, values_in, is_console, is_database, is_user, row_with, row_of}
 use Rattle.ini_config.specs.Lines.{Said, Nothing, Opens, OpensUnknown, Gives, Unreadable, said}
 use Rattle.ini_config.specs.OptionValues.{Text, change_of, defaults, key_of}
 use Rattle.ini_config.specs.Reading.{add_row, with_row, change, change_key, with_option, with_pair_in, with_said, with_line, empty_file}
@@ -48,21 +48,24 @@ number-within low high text m e = go (not (length text == 0) && list_all is_asci
 record AreValues (r : RowValues) : Type 0 where
   port : (n : ℕ) → r.port ≡ Some n → IsWithin 1 65535 n
   size : (n : ℕ) → r.pool_size ≡ Some n → IsCount n
+  user : IsUser r.user
 
 abbrev OrNone : Option RowValues → Type 0
 OrNone None = Unit {0}
 OrNone (Some r) = AreValues r
 
 none-said : AreValues nothing_said
-none-said = record { port = λ n e. absurd (none-some _ e); size = λ n e. absurd (none-some _ e) }
+none-said = record { port = λ n e. absurd (none-some _ e); size = λ n e. absurd (none-some _ e); user = tt }
 
 item-values : (r : RowValues) (name value : List ℕ) → AreValues r → OrNone (with_item r name value)
 item-values r name value h =
     either (bytes_eq name (codes "host") && is_none r.host) _ _ (host (host_of value))
     (either (bytes_eq name (codes "port") && is_none r.port) _ _ (port (number_between 1 65535 value) (number-within 1 65535 value))
-    (either (bytes_eq name (codes "dbname") && is_none r.dbname) _ _ (record { port = h.port; size = h.size })
+    (either (bytes_eq name (codes "dbname") && is_none r.dbname) _ _ (record { port = h.port; size = h.size; user = h.user })
     (either (bytes_eq name (codes "pool_size") && is_none r.pool_size) _ _ (size (number_between 1 10000 value) (number-within 1 10000 value))
-    (either (is_read_over_in_row name value) (Some r) None h tt))))
+    (user (bytes_eq name (codes "user") && is_none r.user) (is_user value) _ refl
+    (either ((bytes_eq name (codes "password") && is_none r.password) && not (length value == 0)) _ _ (record { port = h.port; size = h.size; user = h.user })
+    (either (is_read_over_in_row name value) (Some r) None h tt))))))
   where
     either : (b : Bool) (x y : Option RowValues) → OrNone x → OrNone y → OrNone (cond b x y)
     either true x y p q = p
@@ -70,15 +73,20 @@ item-values r name value h =
 
     host : (o : Option (List ℕ)) → OrNone (option_map (λ a. record r { host = Some a }) o)
     host None = tt
-    host (Some a) = record { port = h.port; size = h.size }
+    host (Some a) = record { port = h.port; size = h.size; user = h.user }
 
     port : (o : Option ℕ) → ((m : ℕ) → o ≡ Some m → IsWithin 1 65535 m) → OrNone (option_map (λ n. record r { port = Some n }) o)
     port None k = tt
-    port (Some p) k = record { port = λ n e. subst (IsWithin 1 65535) (same_Some _ _ e) (k p refl); size = h.size }
+    port (Some p) k = record { port = λ n e. subst (IsWithin 1 65535) (same_Some _ _ e) (k p refl); size = h.size; user = h.user }
 
     size : (o : Option ℕ) → ((m : ℕ) → o ≡ Some m → IsCount m) → OrNone (option_map (λ n. record r { pool_size = Some n }) o)
     size None k = tt
-    size (Some p) k = record { port = h.port; size = λ n e. subst IsCount (same_Some _ _ e) (k p refl) }
+    size (Some p) k = record { port = h.port; size = λ n e. subst IsCount (same_Some _ _ e) (k p refl); user = h.user }
+
+    user : (b c : Bool) (x : Option RowValues) → is_user value ≡ c → OrNone x → OrNone (cond (b && c) (Some (record r { user = Some value })) x)
+    user true true x e q = record { port = h.port; size = h.size; user = e }
+    user true false x e q = q
+    user false c x e q = q
 
 text-values : (r : RowValues) (item : List ℕ) → AreValues r → OrNone (with_text r item)
 text-values r item h = go (length item == 0) (split_at_first 61 item)
@@ -110,10 +118,10 @@ RowOrNone None = Unit {0}
 RowOrNone (Some row) = IsServedRow row
 
 row-with : (name : List ℕ) (r : RowValues) (host : List ℕ) → AreValues r → RowOrNone (row_with name r host)
-row-with name r host h = go (is_database (unwrap_or r.dbname name)) refl
+row-with name r host h = go (is_database (unwrap_or r.dbname name) && (is_none r.password || is_some r.user)) refl
   where
-    go : (b : Bool) → is_database (unwrap_or r.dbname name) ≡ b → RowOrNone (cond b (Some (record { name = name; host = host; port = unwrap_or r.port 5432; dbname = unwrap_or r.dbname name; pool_size = r.pool_size })) None)
-    go true e = record { database = e; port = port-is r.port h.port; size = size-is r.pool_size h.size }
+    go : (b : Bool) → (is_database (unwrap_or r.dbname name) && (is_none r.password || is_some r.user)) ≡ b → RowOrNone (cond b (Some (record { name = name; host = host; port = unwrap_or r.port 5432; dbname = unwrap_or r.dbname name; pool_size = r.pool_size; user = r.user; password = r.password })) None)
+    go true e = record { database = (both (is_database (unwrap_or r.dbname name)) (is_none r.password || is_some r.user) e).0; port = port-is r.port h.port; size = size-is r.pool_size h.size; user = h.user }
     go false e = tt
 
 row-served : (name value : List ℕ) → RowOrNone (row_of name value)

@@ -1,7 +1,7 @@
 -- What every settings file that is read keeps to, whatever it says.
 use Rattle.std.specs.Prelude.{ℕ, ◌≡◌, ◌≤◌, true, List, Option, Some, None, Ok}
 use Rattle.std.specs.List.{AllByRecursion}
-use Rattle.ini_config.specs.DatabaseValues.{is_database}
+use Rattle.ini_config.specs.DatabaseValues.{is_database, is_user}
 use Rattle.ini_config.specs.OptionValues.{Text}
 use Rattle.ini_config.specs.Reading.{IsReadOf}
 use Rattle.ini_config.specs.declared.database_rows.DbRow.{DbRow}
@@ -22,11 +22,17 @@ abbrev pub IsSize : Option ℕ → Type 0
 IsSize None = Unit {0}
 IsSize (Some n) = IsCount n
 
--- a row names a database that a server can have, on a port of TCP
+-- where a user is said, a server can have one of that name
+abbrev pub IsUser : Option (List ℕ) → Type 0
+IsUser None = Unit {0}
+IsUser (Some user) = is_user user ≡ true
+
+-- a row names a database and perhaps a user that a server can have, on a port of TCP
 pub record IsServedRow (row : DbRow) : Type 0 where
   pub database : is_database row.dbname ≡ true
   pub port : IsWithin 1 65535 row.port
   pub size : IsSize row.pool_size
+  pub user : IsUser row.user
 
 pub record AreWithinBounds (s : Settings) : Type 0 where
   pub rows : AllByRecursion IsServedRow s.rows

@@ -1,5 +1,5 @@
 -- The table of database rows, and which row serves a database (PgBouncer manual, "Section [databases]").
-use Rattle.std.specs.Prelude.{ℕ, Bool, List, Option, None, ◌&&◌, if◌then◌else◌, length, nat_le, option_map, bytes_eq, codes}
+use Rattle.std.specs.Prelude.{ℕ, Bool, List, Option, None, ◌&&◌, if◌then◌else◌, length, nat_le, option_copied, option_map, bytes_eq, codes}
 use Rattle.std.specs.List.{find}
 use Rattle.std.specs.Option.{option_or}
 use Rattle.ini_config.specs.DatabaseValues.{is_database}
@@ -35,4 +35,4 @@ row_for name rows = option_or (row_named name rows) (wildcard_row name rows)
 
 -- the same of what is lent
 abbrev pub row_of_served : ServedRow → DbRow
-row_of_served r = record { name = r.name.now; host = r.host.now; port = r.port; dbname = r.dbname.now; pool_size = r.pool_size }
+row_of_served r = record { name = r.name.now; host = r.host.now; port = r.port; dbname = r.dbname.now; pool_size = r.pool_size; user = option_copied r.user; password = option_copied r.password }

@@ -1,5 +1,5 @@
 //! Database rows.
-ghost use Rattle.std.specs.Prelude.{◌≡◌, ◌≤◌, length, IfOk};
+ghost use Rattle.std.specs.Prelude.{◌≡◌, ◌≤◌, length, IfOk, option_copied};
 ghost use Rattle.ini_config.specs.DatabaseValues.{row_in};
 ghost use Rattle.ini_config.specs.Tables.{row_as, row_of_served};
 ghost use Rattle.server_host.specs.declared.TheConstants.{MAX_HOST};
@@ -24,6 +24,10 @@ pub struct DbRow {
     pub dbname: Text,
     /// How many links a pool of this row may have, from 1 to 10,000; none: as many as `default_pool_size` says.
     pub pool_size: Option<u32>,
+    /// The user as whom its links are started, whoever logs in: not empty, without a zero byte; none: each client's own.
+    pub user: Option<Text>,
+    /// That user's password, as the user file writes secrets; none: that of the user file.
+    pub password: Option<Text>,
 }
 
 impl Drop for DbRow {
@@ -34,6 +38,8 @@ impl Drop for DbRow {
             port: _,
             dbname: _,
             pool_size: _,
+            user: _,
+            password: _,
         } = self;
     }
 }
@@ -51,6 +57,28 @@ pub struct ServedRow<'a> {
     pub dbname: &'a [u8],
     /// How many links a pool of this row may have, as in a [`DbRow`].
     pub pool_size: Option<u32>,
+    /// The user as whom its links are started, as in a [`DbRow`].
+    pub user: Option<&'a [u8]>,
+    /// That user's password, as in a [`DbRow`].
+    pub password: Option<&'a [u8]>,
+}
+
+fn text_of(text: &Option<Text>) -> Option<&[u8]>
+    ensures { option_copied result ≡ text.now }
+{
+    match text {
+        Some(text) => Some(text.as_bytes()),
+        None => None,
+    }
+}
+
+fn copy_of(alloc: Global, text: Option<&[u8]>) -> Result<Option<Text>, AllocError>
+    ensures { IfOk result (λ copy. copy ≡ option_copied text.entry) }
+{
+    match text {
+        Some(text) => Ok(Some(Text::copy(alloc, text)?)),
+        None => Ok(None),
+    }
 }
 
 impl DbRow {
@@ -64,6 +92,8 @@ impl DbRow {
             port: self.port,
             dbname: self.dbname.as_bytes(),
             pool_size: self.pool_size,
+            user: text_of(&self.user),
+            password: text_of(&self.password),
         }
     }
 
@@ -100,6 +130,8 @@ impl RowText<'_> {
             port: self.port,
             dbname: Text::copy(alloc, self.dbname)?,
             pool_size: self.pool_size,
+            user: copy_of(alloc, self.user)?,
+            password: copy_of(alloc, self.password)?,
         })
     }
 }

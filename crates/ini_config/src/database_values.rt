@@ -16,6 +16,8 @@ pub(crate) struct Items<'a> {
     port: Option<u16>,
     dbname: Option<&'a [u8]>,
     pool_size: Option<u32>,
+    user: Option<&'a [u8]>,
+    password: Option<&'a [u8]>,
 }
 
 /// A row whose texts are still those of the file.
@@ -26,6 +28,8 @@ pub(crate) struct RowText<'a> {
     pub(crate) port: u16,
     pub(crate) dbname: &'a [u8],
     pub(crate) pool_size: Option<u32>,
+    pub(crate) user: Option<&'a [u8]>,
+    pub(crate) password: Option<&'a [u8]>,
 }
 
 const DEFAULT_PORT: u16 = 5432;
@@ -53,6 +57,14 @@ fn with_item<'a>(items: Items<'a>, key: &[u8], value: &'a [u8]) -> Option<Items<
         let pool_size = Some(number(value, 1, 10_000)?);
         return Some(Items { pool_size, ..items });
     }
+    if key == b"user".as_slice() && items.user.is_none() && is_user(value) {
+        let user = Some(value);
+        return Some(Items { user, ..items });
+    }
+    if key == b"password".as_slice() && items.password.is_none() && !value.is_empty() {
+        let password = Some(value);
+        return Some(Items { password, ..items });
+    }
     if is_read_over_in_row(key, value) {
         return Some(items);
     }
@@ -68,6 +80,8 @@ pub fn takes_item(key: &[u8], value: &[u8]) -> bool
         port: None,
         dbname: None,
         pool_size: None,
+        user: None,
+        password: None,
     };
     with_item(none, key, value).is_some()
 }
@@ -83,6 +97,8 @@ fn items_of(value: &[u8]) -> Option<Items<'_>>
         port: None,
         dbname: None,
         pool_size: None,
+        user: None,
+        password: None,
     };
     for item in value.split_str(b" ") {
         if !item.is_empty() {
@@ -107,6 +123,13 @@ pub(crate) fn is_database(name: &[u8]) -> bool
     !name.is_empty() && !name.contains(&0)
 }
 
+/// Whether a server can have a user of this name.
+fn is_user(name: &[u8]) -> bool
+    ensures { result ≡ spec.is_user name.now }
+{
+    is_database(name)
+}
+
 /// The row of a name and a value. None where the row isn't served or the value can't be read.
 #[tactic(auto, unfolding(crate::specs::DatabaseValues::row_of))]
 pub(crate) fn read_row<'a>(name: &'a [u8], value: &'a [u8]) -> Option<RowText<'a>>
@@ -120,7 +143,8 @@ pub(crate) fn read_row<'a>(name: &'a [u8], value: &'a [u8]) -> Option<RowText<'a
     let items = items_of(value)?;
     let host = items.host?;
     let dbname = items.dbname.unwrap_or(name);
-    if !is_database(dbname) {
+    let is_nobodys = items.password.is_some() && items.user.is_none();
+    if !is_database(dbname) || is_nobodys {
         return None;
     }
     Some(RowText {
@@ -129,5 +153,7 @@ pub(crate) fn read_row<'a>(name: &'a [u8], value: &'a [u8]) -> Option<RowText<'a
         port: items.port.unwrap_or(DEFAULT_PORT),
         dbname,
         pool_size: items.pool_size,
+        user: items.user,
+        password: items.password,
     })
 }

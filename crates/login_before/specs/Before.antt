@@ -16,7 +16,7 @@ use Rattle.session_values.specs.State.{StartKeyOf}
 use Rattle.param_track.specs.StartKeys.{Text}
 use Rattle.login_core.specs.Talk.{Cut, Reaction, talk}
 use Rattle.login_core.specs.Talk.Reaction.{Goes, Passes, Stops}
-use Rattle.login_core.specs.Dialogue.{LoginRow, Rows, Reason, Refused, Failed, Left, Cancelling, Way, ToLink, ToConsole, Packet, First, Message, Dialogue, of_first, of_front, longest_message, no_encryption, ok, asks_cleartext, asks_md5, wrong_password, no_database, is_right, enters_console, key_of, has_verifier, login_among}
+use Rattle.login_core.specs.Dialogue.{LoginRow, Rows, Reason, Refused, Failed, Left, Cancelling, Way, ToLink, link_key, ToConsole, Packet, First, Message, Dialogue, of_first, of_front, longest_message, no_encryption, ok, asks_cleartext, asks_md5, wrong_password, no_database, is_right, enters_console, key_of, has_verifier, login_among}
 
 -- ---- the dialogue
 
@@ -42,7 +42,7 @@ wrong = Stops (wrong_password ∷ []) Failed
 
 abbrev pub to_database : Option DbRow → StartKeyOf → Reacts
 to_database None key = Stops (no_database ∷ []) Failed
-to_database (Some row) key = Passes (ok ∷ []) (ToLink key)
+to_database (Some row) key = Passes (ok ∷ []) (ToLink (link_key (Some row) key))
 
 abbrev pub to_console : Bool → Reacts
 to_console true = Passes [] ToConsole

@@ -1,7 +1,6 @@
 -- What a client reveals of its user's secret.
-use Rattle.std.proofs.Common.{◌≡◌, inr, ℕ, List, Option, Some, None, refl, sym, subst, Bool, true, false}
-use Rattle.std.specs.Prelude.{IfSome, if◌then◌else◌, is_some}
-use Rattle.std.specs.Arc.{arc_value}
+use Rattle.std.proofs.Common.{◌≡◌, ◌∙◌, ap, inl, inr, Option, Some, None, refl, sym, subst, Bool, true, false}
+use Rattle.std.specs.Prelude.{IfSome, if◌then◌else◌, is_some, option_map}
 use Rattle.scram.specs.Keys.{is_client_key, revealed}
 use Rattle.scram.specs.declared.keys.ServerKeys.{ServerKeys}
 use Rattle.ini_config.specs.declared.option_values.AuthType.{AuthType}
@@ -11,14 +10,16 @@ use Rattle.user_file.specs.declared.secrets.Secret.TheVariants as secret
 use Rattle.user_file.specs.declared.user_table.UserRow.{UserRow}
 use Rattle.user_file.specs.Salts.{keys_for, keys_of}
 use Rattle.user_file.specs.Secrets.{IsRevealedOf, accepts_md5, client_key_by, is_verified, is_verifier, revealed_by}
-use Rattle.session_values.specs.State.{StartKeyOf}
 use Rattle.param_track.specs.StartKeys.{Text}
-use Rattle.login_core.specs.declared.steps.LoginStep.{LoginStep}
-use Rattle.login_core.specs.declared.steps.LoginStep.TheVariants as step
 use Rattle.login_core.specs.declared.dialogue.Verdict.{Verdict}
 use Rattle.login_core.specs.declared.dialogue.Verdict.TheVariants as verdict
-use Rattle.login_core.specs.Dialogue.{Rows, has_verifier}
-use Rattle.login_core.specs.Logins.{Decides, IfToLink, IsRevealed, Reveals, RevealsOf, RevealsUnder, verdict_of}
+use Rattle.ini_config.specs.declared.database_rows.DbRow.{DbRow}
+use Rattle.ini_config.specs.declared.option_values.Settings.{Settings}
+use Rattle.ini_config.specs.Tables.{row_for}
+use Rattle.user_file.specs.Users.{UsersOf, user_named}
+use Rattle.session_values.specs.State.{StartKeyOf}
+use Rattle.login_core.specs.Dialogue.{has_verifier, row_in}
+use Rattle.login_core.specs.Logins.{IfToLink, IsRevealedTo, RevealsOf, RevealsTo, RevealsUnder, named_key, names_user}
 
 pub unverified : (s : Secret) → is_verifier s ≡ false → IsRevealedOf s None
 unverified (secret.Plain own) e = refl
@@ -79,17 +80,32 @@ pub proved : (auth : AuthType) (user : Option UserRow) (salt client : Text) (jud
 proved auth user salt client judged r j h e =
     under auth user r (subst (RevealsOf user) (sym e) (proved_for user salt client (subst (λ (k : Option ServerKeys). IfSome k (λ (x : ServerKeys). is_client_key x.stored client ≡ true)) j h)))
 
--- the last step of a client of which this was decided
-pub last_reveals : (rows : Rows) (proof : List ℕ) (v : Verdict) (key : StartKeyOf) (s : LoginStep) (r : Option Text) → Decides s (verdict_of proof v key) → IfToLink v (IsRevealed (rows key.row key.user) r) → Reveals rows s r
-last_reveals rows proof verdict.ToLink key (step.Passed k told) r d h = let same : key ≡ arc_value k = cc in subst (λ (x : StartKeyOf). IsRevealed (rows x.row x.user) r) same h
-last_reveals rows proof verdict.ToConsole key (step.Passed k told) r d h = absurd cc
-last_reveals rows proof verdict.Wrong key (step.Passed k told) r d h = absurd cc
-last_reveals rows proof verdict.Nowhere key (step.Passed k told) r d h = absurd cc
-last_reveals rows proof v key step.More r d h = tt
-last_reveals rows proof v key (step.Ask q) r d h = tt
-last_reveals rows proof v key (step.Arrived k) r d h = tt
-last_reveals rows proof v key (step.Console told) r d h = tt
-last_reveals rows proof v key (step.Refused x) r d h = tt
-last_reveals rows proof v key (step.Failed x) r d h = tt
-last_reveals rows proof v key (step.Cancel pid x) r d h = tt
-last_reveals rows proof v key step.Left r d h = tt
+-- of who isn't asked nothing may be known
+pub unasked : (auth : AuthType) (user : Option UserRow) (v : Verdict) → auth ≡ Trust → IfToLink v (RevealsUnder auth user None)
+unasked auth user verdict.ToLink e = subst (λ (a : AuthType). RevealsUnder a user None) (sym e) (inl refl)
+unasked auth user verdict.ToConsole e = tt
+unasked auth user verdict.Wrong e = tt
+unasked auth user verdict.Nowhere e = tt
+
+pub if_to_link : {P : Type 0} (v : Verdict) → P → IfToLink v P
+if_to_link verdict.ToLink p = p
+if_to_link verdict.ToConsole p = tt
+if_to_link verdict.Wrong p = tt
+if_to_link verdict.Nowhere p = tt
+
+-- whom the row names is told nothing of what a client reveals
+pub named_reveals : (s : Settings) (users : UsersOf) (key link : StartKeyOf) → Some link ≡ named_key (row_in s users key.row key.user).database key → IsRevealedTo (row_in s users link.row link.user) None
+unfolding row_in
+named_reveals s users key link e = go (row_for key.row s.rows) refl e
+  where
+    named : (row : DbRow) → row_for key.row s.rows ≡ Some row → (u : Option Text) → row.user ≡ u → Some link ≡ option_map (λ (user : Text). record key { user = user }) u → IsRevealedTo (row_in s users link.row link.user) None
+    named row o None u h = absurd cc
+    named row o (Some user) u h =
+        let same : record key { user = user } ≡ link = cc in
+        let is_named : names_user (row_for key.row s.rows) ≡ true = ap names_user o ∙ ap is_some u in
+        subst (λ (k : StartKeyOf). IsRevealedTo (row_in s users k.row k.user) None) same
+        (subst (λ (b : Bool). RevealsTo b s.auth_type (user_named user users.rows) None) (sym is_named) refl)
+
+    go : (o : Option DbRow) → row_for key.row s.rows ≡ o → Some link ≡ named_key o key → IsRevealedTo (row_in s users link.row link.user) None
+    go None o h = absurd cc
+    go (Some row) o h = named row o row.user refl h

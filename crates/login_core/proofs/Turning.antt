@@ -224,6 +224,19 @@ module _ (grow : PacketsGrow) (rows : Rows) (word : KeyWord) where
       StepIs rows word (Arriving key) [] s Over (left_after s [])
   decided_at_once key s t d = decided (Arriving key) [] 2 s (judged (rows key.row key.user) word key []) d (λ more. ap (λ (a : AuthType). after_packet 2 more (asks a (rows key.row key.user) word key)) t)
 
+  -- where it then stands
+  pub decided_and_over : (key : StartKeyOf) (s : LoginStep) (to : Awaiting) → (rows key.row key.user).auth ≡ Trust → Decides s (judged (rows key.row key.user) word key []) → to ≡ Over →
+      StepIs rows word (Arriving key) [] s to []
+  decided_and_over key (step.Passed j told) to t d e = subst (λ (a : Awaiting). StepIs rows word (Arriving key) [] (step.Passed j told) a []) (sym e) (decided_at_once key (step.Passed j told) t d)
+  decided_and_over key (step.Console told) to t d e = subst (λ (a : Awaiting). StepIs rows word (Arriving key) [] (step.Console told) a []) (sym e) (decided_at_once key (step.Console told) t d)
+  decided_and_over key (step.Failed f) to t d e = subst (λ (a : Awaiting). StepIs rows word (Arriving key) [] (step.Failed f) a []) (sym e) (decided_at_once key (step.Failed f) t d)
+  decided_and_over key step.More to t d e = absurd d
+  decided_and_over key (step.Arrived j) to t d e = absurd d
+  decided_and_over key (step.Ask q) to t d e = absurd d
+  decided_and_over key (step.Refused c) to t d e = absurd d
+  decided_and_over key (step.Cancel pid secret) to t d e = absurd d
+  decided_and_over key step.Left to t d e = absurd d
+
   pub cleartext_at_once : (key : StartKeyOf) → (rows key.row key.user).auth ≡ Plain → StepIs rows word (Arriving key) [] (step.Ask question.Cleartext) (AwaitsPacket (Asked ForPassword key)) []
   cleartext_at_once key t = record {
     said = λ more. ap (λ (a : AuthType). after_packet 2 more (asks a (rows key.row key.user) word key)) t ∙ ap (says (asks_cleartext ∷ [])) (last_any 1 0 ForPassword key more tt);

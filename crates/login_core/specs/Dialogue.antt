@@ -1,6 +1,6 @@
 -- The login: what is said to a client's first bytes, and what it leads to (PostgreSQL manual,
 -- "Message Flow", "Start-up", "SASL Authentication" and "SSL Session Encryption"; RFC 1321 for the MD5 answer, RFC 5802 for SCRAM).
-use Rattle.std.specs.Prelude.{ℕ, List, [], ◌∷◌, ◌++◌, Option, Some, None, Result, Ok, Err, Bool, true, false, ◌==◌, ◌&&◌, ◌||◌, if◌then◌else◌, bytes_eq, codes, is_some}
+use Rattle.std.specs.Prelude.{ℕ, List, [], ◌∷◌, ◌++◌, Option, Some, None, Result, Ok, Err, Bool, true, false, ◌==◌, ◌&&◌, ◌||◌, if◌then◌else◌, bytes_eq, codes, is_some, unwrap_or}
 use Rattle.std.specs.List.{list_any}
 use Rattle.frame_view.specs.declared.FrameFault.{FrameFault}
 use Rattle.frame_view.specs.declared.FrameFault.TheVariants.{UnknownType, TooShort, TooLong, UnknownCode}
@@ -185,10 +185,15 @@ enters_console row user = list_any (λ n. bytes_eq n user) row.admins || list_an
 abbrev pub is_for_console : LoginRow → StartKeyOf → Bool
 is_for_console row key = bytes_eq key.row (codes "pgbouncer") && enters_console row key.user
 
+-- the key of the client's link: where its database's row names a user, that one's
+abbrev pub link_key : Option DbRow → StartKeyOf → StartKeyOf
+link_key None key = key
+link_key (Some row) key = record key { user = unwrap_or row.user key.user }
+
 -- what it is told that it is let in: behind the server's own proof, where there is one
 abbrev pub to_database : (proof : List ℕ) → Option DbRow → StartKeyOf → Reacts
 to_database proof None key = Stops (no_database ∷ []) Failed
-to_database proof (Some row) key = Passes ((proof ++ ok) ∷ []) (ToLink key)
+to_database proof (Some row) key = Passes ((proof ++ ok) ∷ []) (ToLink (link_key (Some row) key))
 
 abbrev pub if_any : List ℕ → List (List ℕ)
 if_any [] = []

@@ -1,5 +1,5 @@
 -- A login under way, and what its calls answer.
-use Rattle.std.specs.Prelude.{◌≡◌, ◌⊎◌, ℕ, ◌+◌, ◌≤◌, ◌<◌, List, [], ◌∷◌, ◌++◌, length, Option, Some, None, Result, Ok, Err, Bool, true, false, IsOk, Box, box_value}
+use Rattle.std.specs.Prelude.{◌≡◌, ◌⊎◌, ℕ, ◌+◌, ◌≤◌, ◌<◌, List, [], ◌∷◌, ◌++◌, length, Option, Some, None, Result, Ok, Err, Bool, true, false, ◌||◌, IsOk, is_some, option_map, Box, box_value}
 use Rattle.std.specs.Arc.{arc_value}
 use Rattle.std.specs.declared.sync.Arc.{Arc}
 use Rattle.frame_view.specs.Frames.{Start}
@@ -10,6 +10,7 @@ use Rattle.message_view.specs.Reading.{startup_of}
 use Rattle.ini_config.specs.declared.option_values.AuthType.{AuthType}
 use Rattle.ini_config.specs.declared.option_values.AuthType.TheVariants.{Trust, Plain, Md5, ScramSha256}
 use Rattle.ini_config.specs.declared.option_values.Settings.{Settings}
+use Rattle.ini_config.specs.declared.database_rows.DbRow.{DbRow}
 use Rattle.user_file.specs.declared.user_table.UserRow.{UserRow}
 use Rattle.user_file.specs.Secrets.{IsRevealedOf}
 use Rattle.user_file.specs.Users.{UsersOf}
@@ -162,8 +163,18 @@ wants_memory Trust user = false
 wants_memory Md5 user = false
 wants_memory ScramSha256 user = false
 
+-- whoever logs in, its links are this row's user's
+abbrev pub names_user : Option DbRow → Bool
+names_user None = false
+names_user (Some row) = is_some row.user
+
+abbrev pub named_key : Option DbRow → StartKeyOf → Option StartKeyOf
+named_key None key = None
+named_key (Some row) key = option_map (λ user. record key { user = user }) row.user
+
+-- and a link's key of a user whom the client's isn't
 abbrev pub TakesMemory : LoginRow → Asking → Type 0
-TakesMemory row ForPassword = wants_memory row.auth row.user ≡ true
+TakesMemory row ForPassword = (wants_memory row.auth row.user || names_user row.database) ≡ true
 TakesMemory row ForFirst = Unit {0}
 TakesMemory row (ForLast first) = Unit {0}
 
@@ -172,11 +183,11 @@ IsWhole (Whole p rest) = Unit {0}
 IsWhole (Need missing) = ⊥
 IsWhole (Bad reason) = ⊥
 
--- where a growth may be refused: a key is made, or such an answer is judged
+-- where a growth may be refused: a key is made, or such an answer is judged, or the link's key is made
 abbrev pub NeedsMemory : Rows → Awaiting → List ℕ → Type 0
 NeedsMemory rows (AwaitsPacket (AtFirst tls gss)) held = IsKeyed rows (packet (AtFirst tls gss) held)
 NeedsMemory rows (AwaitsPacket (Asked asking key)) held = TakesMemory (rows key.row key.user) asking × IsWhole (packet (Asked asking key) held)
-NeedsMemory rows (Arriving key) held = ⊥
+NeedsMemory rows (Arriving key) held = names_user (rows key.row key.user).database ≡ true
 NeedsMemory rows Over held = ⊥
 
 -- what it says is said; or a growth was refused where memory was needed
@@ -242,9 +253,17 @@ RevealsUnder ScramSha256 user revealed = RevealsOf user revealed
 abbrev pub IsRevealed : LoginRow → Option Text → Type 0
 IsRevealed row revealed = RevealsUnder row.auth row.user revealed
 
+-- to its link, which may be another user's: to that one nothing
+abbrev pub RevealsTo : (others : Bool) → AuthType → Option UserRow → Option Text → Type 0
+RevealsTo true auth user revealed = revealed ≡ None
+RevealsTo false auth user revealed = RevealsUnder auth user revealed
+
+abbrev pub IsRevealedTo : LoginRow → Option Text → Type 0
+IsRevealedTo row revealed = RevealsTo (names_user row.database) row.auth row.user revealed
+
 -- at a step by which it is let in
 abbrev pub Reveals : Rows → LoginStep → Option Text → Type 0
-Reveals rows (step.Passed key told) revealed = IsRevealed (rows (arc_value key).row (arc_value key).user) revealed
+Reveals rows (step.Passed key told) revealed = IsRevealedTo (rows (arc_value key).row (arc_value key).user) revealed
 Reveals rows _ revealed = Unit {0}
 
 -- ---- the parts of a call

@@ -1,14 +1,14 @@
 //! One step of the dialogue, from the bytes that are held.
-ghost use Rattle.std.specs.Prelude.{◌≡◌, ◌≤◌, ◌+◌, ◌++◌, ℕ, IfErr, IfOk, List, None, [], length, true};
+ghost use Rattle.std.specs.Prelude.{◌≡◌, ◌≤◌, ◌+◌, ◌++◌, ℕ, IfErr, IfOk, List, None, [], length, option_map, true};
 ghost use Rattle.std.specs.Arc.{arc_value};
 ghost use Rattle.message_view.specs.Reading.{startup_of};
 ghost use Rattle.user_file.specs.Secrets.{IsRevealedOf, accepts_plain, is_verifier};
 ghost use Rattle.login_core.specs.Dialogue as login;
 ghost use Rattle.login_core.specs.Dialogue.{AtFirst, Asked, ForFirst, ForPassword};
 ghost use Rattle.ini_config.specs.declared.option_values.AuthType.TheVariants.{Trust};
-ghost use Rattle.login_core.specs.declared.steps.LoginStep.TheVariants.{Ask, Left, Refused};
+ghost use Rattle.login_core.specs.declared.steps.LoginStep.TheVariants.{Ask, Failed, Left, Refused};
 ghost use Rattle.login_core.specs.declared.steps.Question.TheVariants.{Scram};
-ghost use Rattle.login_core.specs.Logins.{Answers, ArrivesOnce, Begun, Decides, Fits, AwaitsPacket, Arriving, IfToLink, IsBeforeArrival, IsRevealed, Over, Reveals, StartMeans, StepIs, TakesMemory, asking_of, authenticated_bytes, awaiting_of, left_after, missing, proof_bytes, revealed_of, rows_under, verdict_of};
+ghost use Rattle.login_core.specs.Logins.{Answers, ArrivesOnce, Begun, Decides, Fits, AwaitsPacket, Arriving, IfToLink, IsBeforeArrival, IsRevealed, IsRevealedTo, Over, Reveals, StartMeans, StepIs, TakesMemory, asking_of, authenticated_bytes, awaiting_of, left_after, missing, named_key, names_user, proof_bytes, revealed_of, rows_under, verdict_of};
 
 use crate::laws::packets_grow;
 use crate::steps::{Authenticated, Failure, LoginStep, Question};
@@ -204,23 +204,6 @@ fn proved(proof: Option<Box<Message>>) -> Authenticated
     }
 }
 
-/// The last step of a client about which this was decided, behind the server's proof where there is one.
-pub(crate) fn last_step(
-    verdict: Verdict,
-    key: Arc<StartKey>,
-    proof: Option<Box<Message>>,
-) -> LoginStep
-    requires { length (proof_bytes proof) ≤ 337 }
-    ensures { Decides result (verdict_of (proof_bytes proof) verdict (arc_value key)) }
-{
-    match verdict {
-        Verdict::ToLink => LoginStep::Passed(key, let_in(proof)),
-        Verdict::ToConsole => LoginStep::Console(proved(proof)),
-        Verdict::Wrong => LoginStep::Failed(Failure::WrongPassword),
-        Verdict::Nowhere => LoginStep::Failed(Failure::NoDatabase),
-    }
-}
-
 /// What a call answers, where the login then stands, and how many bytes are then known to be missing.
 type Turned = (LoginStep, Place, usize);
 
@@ -230,8 +213,16 @@ pub(crate) type Answered = (LoginStep, Place);
 pub(crate) fn refused(refusal: Refusal) -> Answered
     ensures step { result.0 ≡ Refused refusal }
     ensures over { awaiting_of result.1 ≡ Over }
+    ensures revealed { revealed_of result.1 ≡ None }
 {
     (LoginStep::Refused(refusal), Place::Over(None))
+}
+
+fn failed(failure: Failure) -> Answered
+    ensures step { result.0 ≡ Failed failure }
+    ensures over { awaiting_of result.1 ≡ Over }
+{
+    (LoginStep::Failed(failure), Place::Over(None))
 }
 
 /// The client of this key is asked for SCRAM.
@@ -321,7 +312,7 @@ impl Rules {
     /// Where a client goes that proved who it is.
     #[tactic(auto, unfolding(crate::specs::Dialogue::row_in))]
     pub(crate) fn admit(&self, key: &StartKey) -> Verdict
-        ensures { (proof : List ℕ) → login.admitted proof (rows_under self.now key.now.row key.now.user) key.now ≡ verdict_of proof result key.now }
+        ensures { (proof : List ℕ) → login.admitted proof (rows_under self.now key.now.row key.now.user) key.now ≡ verdict_of proof result (login.link_key (rows_under self.now key.now.row key.now.user).database key.now) }
     {
         if key.row.is(b"pgbouncer") {
             if self.enters_console(key) {
@@ -335,6 +326,69 @@ impl Rules {
         }
     }
 
+    /// The key of a link to the user whom the database's row names, where it names one. The only error is out of memory.
+    #[tactic(auto, unfolding(crate::specs::Dialogue::row_in))]
+    fn named_key(&self, alloc: Global, key: &StartKey) -> Result<Option<Arc<StartKey>>, AllocError>
+        ensures key { IfOk result (λ k. option_map arc_value k ≡ named_key (rows_under self.now key.now.row key.now.user).database key.now) }
+        ensures memory { IfErr result (λ e. names_user (rows_under self.now key.now.row key.now.user).database ≡ true) }
+    {
+        let Some(row) = self.settings.row(key.row.as_slice()) else {
+            return Ok(None);
+        };
+        match row.user {
+            Some(user) => Ok(Some(Arc::new(alloc, key.of_user(alloc, user)?)?)),
+            None => Ok(None),
+        }
+    }
+
+    /// The key of this client's link, and what it reveals to that: to a user whom the database's row names nothing. The only error is out
+    /// of memory.
+    #[tactic(auto, unfolding(crate::specs::Dialogue::row_in))]
+    fn link(
+        &self,
+        alloc: Global,
+        key: Arc<StartKey>,
+        revealed: Option<[u8; 32]>,
+    ) -> Result<(Arc<StartKey>, Option<[u8; 32]>), AllocError>
+        requires revealed { IsRevealed (rows_under self.now (arc_value key).row (arc_value key).user) revealed }
+        ensures key { IfOk result (λ l. arc_value l.0 ≡ login.link_key (rows_under self.now (arc_value key).row (arc_value key).user).database (arc_value key)) }
+        ensures revealed { IfOk result (λ l. IsRevealedTo (rows_under self.now (arc_value l.0).row (arc_value l.0).user) l.1) }
+        ensures memory { IfErr result (λ e. names_user (rows_under self.now (arc_value key).row (arc_value key).user).database ≡ true) }
+    {
+        match self.named_key(alloc, &key)? {
+            Some(link) => Ok((link, None)),
+            None => Ok((key, revealed)),
+        }
+    }
+
+    /// The last step of a client about which this was decided, and what it revealed of its secret; behind the server's proof, where there is
+    /// one. The only error is out of memory.
+    pub(crate) fn last_step(
+        &self,
+        alloc: Global,
+        verdict: Verdict,
+        key: Arc<StartKey>,
+        proof: Option<Box<Message>>,
+        revealed: Option<[u8; 32]>,
+    ) -> Result<Answered, AllocError>
+        requires proof { length (proof_bytes proof) ≤ 337 }
+        requires revealed { IfToLink verdict (IsRevealed (rows_under self.now (arc_value key).row (arc_value key).user) revealed) }
+        ensures step { IfOk result (λ a. Decides a.0 (verdict_of (proof_bytes proof) verdict (login.link_key (rows_under self.now (arc_value key).row (arc_value key).user).database (arc_value key)))) }
+        ensures over { IfOk result (λ a. awaiting_of a.1 ≡ Over) }
+        ensures reveals { IfOk result (λ a. Reveals (rows_under self.now) a.0 (revealed_of a.1)) }
+        ensures memory { IfErr result (λ e. names_user (rows_under self.now (arc_value key).row (arc_value key).user).database ≡ true) }
+    {
+        match verdict {
+            Verdict::ToLink => {
+                let (key, revealed) = self.link(alloc, key, revealed)?;
+                Ok((LoginStep::Passed(key, let_in(proof)), Place::Over(revealed)))
+            }
+            Verdict::ToConsole => Ok((LoginStep::Console(proved(proof)), Place::Over(None))),
+            Verdict::Wrong => Ok(failed(Failure::WrongPassword)),
+            Verdict::Nowhere => Ok(failed(Failure::NoDatabase)),
+        }
+    }
+
     /// Where a client goes that gave this password, and what it revealed.
     fn judge(
         &self,
@@ -342,7 +396,7 @@ impl Rules {
         key: &StartKey,
         given: &[u8],
     ) -> Result<(Verdict, Option<[u8; 32]>), AllocError>
-        ensures value { IfOk result (λ v. login.judged (rows_under self.now key.now.row key.now.user) self.now.word key.now given.now ≡ verdict_of [] v.0 key.now) }
+        ensures value { IfOk result (λ v. login.judged (rows_under self.now key.now.row key.now.user) self.now.word key.now given.now ≡ verdict_of [] v.0 (login.link_key (rows_under self.now key.now.row key.now.user).database key.now)) }
         ensures reveals { IfOk result (λ v. IfToLink v.0 (IsRevealed (rows_under self.now key.now.row key.now.user) v.1)) }
         ensures memory { IfErr result (λ e. TakesMemory (rows_under self.now key.now.row key.now.user) ForPassword) }
     {
@@ -366,13 +420,13 @@ impl Rules {
         ensures memory { IfErr result (λ e. TakesMemory (rows_under self.now (arc_value key).row (arc_value key).user) ForPassword) }
     {
         let (verdict, revealed) = self.judge(alloc, &key, given)?;
-        Ok((last_step(verdict, key, None), Place::Over(revealed)))
+        self.last_step(alloc, verdict, key, None, revealed)
     }
 
     /// Where a client goes that isn't asked: an unknown user nowhere.
     #[tactic(auto, unfolding(crate::specs::Dialogue::row_in))]
     fn trusted(&self, key: &StartKey) -> Verdict
-        ensures { (rows_under self.now key.now.row key.now.user).auth ≡ Trust → login.judged (rows_under self.now key.now.row key.now.user) self.now.word key.now [] ≡ verdict_of [] result key.now }
+        ensures { (rows_under self.now key.now.row key.now.user).auth ≡ Trust → login.judged (rows_under self.now key.now.row key.now.user) self.now.word key.now [] ≡ verdict_of [] result (login.link_key (rows_under self.now key.now.row key.now.user).database key.now) }
     {
         if self.users.row(key.user.as_slice()).is_none() {
             return Verdict::Wrong;
@@ -452,7 +506,7 @@ impl Rules {
     }
 
     /// The client has arrived, and is asked, or judged at once.
-    fn go_on(&self, key: Arc<StartKey>) -> Turned
+    fn go_on(&self, alloc: Global, key: Arc<StartKey>) -> Turned
         ensures once { ArrivesOnce (Arriving (arc_value key)) result.0 }
         ensures step { StepIs (rows_under self.now) self.now.word (Arriving (arc_value key)) [] result.0 (awaiting_of result.1) [] }
         ensures lacks { result.2 ≡ missing (awaiting_of result.1) [] }
@@ -462,7 +516,11 @@ impl Rules {
         match self.auth_type(&key) {
             AuthType::Trust => {
                 let verdict = self.trusted(&key);
-                (last_step(verdict, key, None), Place::Over(None), 0)
+                let (step, place) = match self.last_step(alloc, verdict, key, None, None) {
+                    Ok(ended) => ended,
+                    Err(_) => refused(Refusal::OutOfMemory),
+                };
+                (step, place, 0)
             }
             AuthType::Plain => (
                 LoginStep::Ask(Question::Cleartext),
@@ -543,7 +601,7 @@ impl Rules {
     {
         match place {
             Place::First { tls, gss } => self.on_first_packet(alloc, held, tls, gss),
-            Place::Arriving(key) => self.go_on(key),
+            Place::Arriving(key) => self.go_on(alloc, key),
             Place::Asked(asking, key) => self.on_message(alloc, held, asking, key),
             Place::Over(_) => (LoginStep::Left, Place::Over(None), 0),
         }

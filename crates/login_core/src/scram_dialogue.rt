@@ -12,7 +12,7 @@ ghost use Rattle.login_core.specs.Dialogue as login;
 ghost use Rattle.login_core.specs.Dialogue.{ForFirst, ForLast, proof_by};
 ghost use Rattle.login_core.specs.Logins.{Answers, Reveals, revealed_of, rows_under, told_of};
 
-use crate::dialogue::{Answered, Asking, MALFORMED, Place, Rules, last_step, refused};
+use crate::dialogue::{Answered, Asking, MALFORMED, Place, Rules, refused};
 use crate::steps::{Failure, LoginStep, Question};
 use message_view::Refusal;
 use scram::client_messages::{First, Last};
@@ -191,7 +191,10 @@ impl Rules {
                 };
                 let verdict = self.admit(&key);
                 let revealed = self.revealed(&key, proved.client);
-                (last_step(verdict, key, Some(told)), Place::Over(revealed))
+                match self.last_step(alloc, verdict, key, Some(told), revealed) {
+                    Ok(answered) => answered,
+                    Err(_) => refused(Refusal::OutOfMemory),
+                }
             }
             None => (LoginStep::Failed(Failure::WrongPassword), Place::Over(None)),
         }

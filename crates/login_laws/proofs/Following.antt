@@ -61,7 +61,7 @@ key_at-client None database user parameters r d n u k = record {
   names = k.1;
 }
 key_at-client (Some row) database user parameters r d n u k = record {
-  lawful = record { row = d; dbname = r.1; user = u; has_user = n; has_dbname = r.0; parameters = k.0.0; ordered = k.0.1 };
+  lawful = record { row = d; dbname = r.dbname.1; user = u; has_user = n; has_dbname = r.dbname.0; parameters = k.0.0; ordered = k.0.1 };
   names = k.1;
 }
 

@@ -1,6 +1,6 @@
 -- The key with which a login passes: it is made of the pairs of a short first packet, and its database has a row.
 use Rattle.std.proofs.Common.{◌≡◌, ℕ, zero, suc, ◌-◌, ◌<◌, ◌≤◌, List, [], ◌∷◌, length, length-take, Option, Some, None, Result, Ok, Err, refl, subst, Bool, true, false, arith, ltb-false}
-use Rattle.std.specs.Prelude.{if◌then◌else◌, ◌==◌, nat_lt, bytes_eq, codes}
+use Rattle.std.specs.Prelude.{if◌then◌else◌, ◌==◌, nat_lt, bytes_eq, codes, unwrap_or}
 use Rattle.frame_view.specs.Frames.{FirstOf, Start, Cancels, AsksTls, AsksGss, FirstFront, AFirst, LacksFirst, FaultyFirst, Front, AFrame, Lacks, Faulty, first_front, of_length, at_code, of_code, number, front}
 use Rattle.frame_view.specs.declared.Side.TheVariants.{Client}
 use Rattle.frame_view.specs.declared.client.TheConstants.{PASSWORD_MESSAGE, TERMINATE}
@@ -22,14 +22,14 @@ use Rattle.param_track.specs.StartKeys.{Text, Pair, Names, parameters_in, key_at
 use Rattle.key_laws.specs.Keys.{ArePairs}
 use Rattle.key_laws.proofs.ByName.{pairs_are_lawful}
 use Rattle.key_laws.proofs.Choices.{choose}
-use Rattle.login_laws.specs.StartKeys.{IsLawfulRow}
+use Rattle.login_laws.specs.StartKeys.{IsLawfulRow, IsLawfulUser}
 use Rattle.login_laws.proofs.Following.{start-client}
 use Rattle.login_core.specs.Talk.{Cut, End, Said, follow, on_cut, talk}
 use Rattle.login_core.specs.Talk.Cut.{Whole, Need, Bad}
 use Rattle.login_core.specs.Talk.Reaction.{Goes, Passes, Stops}
 use Rattle.login_core.specs.Talk.End.{Unfinished, Passed, Stopped}
-use Rattle.login_core.specs.Dialogue.{login_among, LoginRow, Rows, Reason, Left, Way, ToLink, ToConsole, to_answer, to_first_message, to_initial, to_last, by_proof, if_proved, proof_by, keys, challenge_to, joint_nonce, has_verifier, offers_scram, asks_md5, Asking, ForPassword, ForFirst, ForLast, Stage, AtFirst, Asked, Packet, First, Message, Reacts, packet, of_first, of_front, longest_message, react, to_first, to_password, to_console, to_database, begins, asks, judged, admitted, is_right, enters_console, wrong, malformed, not_twice, key_of, or_refusal}
-use Rattle.login_laws.specs.Laws.{AreLawfulRows, IsLinkKey, IsOfRow, PassedKeysAreLinkKeys, PassedKeysAreOfTheirRows}
+use Rattle.login_core.specs.Dialogue.{login_among, LoginRow, Rows, Reason, Left, Way, ToLink, ToConsole, link_key, to_answer, to_first_message, to_initial, to_last, by_proof, if_proved, proof_by, keys, challenge_to, joint_nonce, has_verifier, offers_scram, asks_md5, Asking, ForPassword, ForFirst, ForLast, Stage, AtFirst, Asked, Packet, First, Message, Reacts, packet, of_first, of_front, longest_message, react, to_first, to_password, to_console, to_database, begins, asks, judged, admitted, is_right, enters_console, wrong, malformed, not_twice, key_of, or_refusal}
+use Rattle.login_laws.specs.Laws.{AreLawfulRows, IsLinkKey, IsNamed, IsOfRow, PassedKeysAreLinkKeys, PassedKeysAreOfTheirRows}
 
 -- ---- the key of these pairs
 
@@ -49,10 +49,29 @@ client-of row names pairs h k = by_result (start_key row names pairs) refl
     by_result (Ok key) e = start-client row names pairs key h k e
     by_result (Err fault) e = tt
 
--- where the database has a row, it has a name, and the key is of that row
+-- where the database has a row, it has a name, and the key is of that row, whose user has a name
+record IsServedBy (row : DbRow) (key : StartKeyOf) : Type 0 where
+  named : 0 < length key.dbname
+  host : key.host ≡ Some row.host
+  port : key.port ≡ row.port
+  dbname : key.dbname ≡ row.dbname
+  user : IsLawfulUser row.user
+
 abbrev IsServed : Option DbRow → StartKeyOf → Type 0
 IsServed None key = Unit {0}
-IsServed (Some row) key = (0 < length key.dbname) × IsOfRow (Some row) key
+IsServed (Some row) key = IsServedBy row key
+
+named : (name : Option Text) (user : Text) → IsNamed name (unwrap_or name user)
+named None user = tt
+named (Some name) user = refl
+
+-- the key of a link to a user of its row's
+linked : (key : StartKeyOf) (user : Option Text) → IsLawfulUser user → IsClientKey key → IsClientKey (record key { user = unwrap_or user key.user })
+linked key None n h = h
+linked key (Some user) n h = record {
+  lawful = record { row = h.lawful.row; dbname = h.lawful.dbname; user = n.1; has_user = n.0; has_dbname = h.lawful.has_dbname; parameters = h.lawful.parameters; ordered = h.lawful.ordered };
+  names = h.names;
+}
 
 module _ (rows : Rows) where
   abbrev IsAmong : StartKeyOf → Type 0
@@ -60,7 +79,7 @@ module _ (rows : Rows) where
 
   key_at-among : (row : Option DbRow) (database user : Text) (parameters : List Pair) → IsLawfulRow row → row ≡ (rows database user).database → IsAmong (key_at row database user parameters)
   key_at-among None database user parameters h e = subst (λ (o : Option DbRow). IsServed o (key_at None database user parameters)) e tt
-  key_at-among (Some row) database user parameters h e = subst (λ (o : Option DbRow). IsServed o (key_at (Some row) database user parameters)) e (h.0, record { host = refl; port = refl; dbname = refl })
+  key_at-among (Some row) database user parameters h e = subst (λ (o : Option DbRow). IsServed o (key_at (Some row) database user parameters)) e (record { named = h.dbname.0; host = refl; port = refl; dbname = refl; user = h.user })
 
   unless-among : (o : Option StartFault) (key : StartKeyOf) → IsAmong key → OfKey IsAmong (unless o key)
   unless-among None key h = h
@@ -139,7 +158,7 @@ module _ (rows : Rows) where
   IsLawfulStage (Asked asking key) = IsKey rows key
 
   abbrev IsLawfulWay : Way → Type 0
-  IsLawfulWay (ToLink key) = IsLinkKey key × IsOfRow (rows key.row key.user).database key
+  IsLawfulWay (ToLink key) = IsLinkKey key × ((user : Text) × IsOfRow (rows key.row user).database key)
   IsLawfulWay ToConsole = Unit {0}
 
   abbrev IsLawfulReaction : Reacts → Type 0
@@ -187,7 +206,10 @@ module _ (rows : Rows) where
 
   to_database-lawful : (proof : List ℕ) (row : Option DbRow) (key : StartKeyOf) → IsClientKey key → IsServed row key → row ≡ (rows key.row key.user).database → IsLawfulReaction (to_database proof row key)
   to_database-lawful proof None key h k e = tt
-  to_database-lawful proof (Some row) key h k e = (record { client = h; dbname = k.0 }, subst (λ (o : Option DbRow). IsOfRow o key) e k.1)
+  to_database-lawful proof (Some row) key h k e =
+      let link : StartKeyOf = link_key (Some row) key in
+      let at : IsOfRow (Some row) link = record { host = k.host; port = k.port; dbname = k.dbname; user = named row.user key.user } in
+      (record { client = linked key row.user k.user h; dbname = k.named }, (key.user, subst (λ (o : Option DbRow). IsOfRow o link) e at))
 
   admitted-lawful : (proof : List ℕ) (row : LoginRow) (key : StartKeyOf) → IsClientKey key → IsServed row.database key → row.database ≡ (rows key.row key.user).database → IsLawfulReaction (admitted proof row key)
   admitted-lawful proof row key h k of =

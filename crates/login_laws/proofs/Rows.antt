@@ -5,13 +5,13 @@ use Rattle.std.specs.Option.{option_or}
 use Rattle.std.specs.List.{AllByRecursion, list_any}
 use Rattle.std.proofs.lemmas.Bool.{false≢true, true≢false}
 use Rattle.message_view.specs.Bodies.{HasNoZero}
-use Rattle.ini_config.specs.Bounds.{IsServedRow}
+use Rattle.ini_config.specs.Bounds.{IsServedRow, IsUser}
 use Rattle.ini_config.specs.DatabaseValues.{is_database}
 use Rattle.ini_config.proofs.Bounds.{read_settings_are_within_bounds}
 use Rattle.ini_config.specs.declared.database_rows.DbRow.{DbRow}
 use Rattle.ini_config.specs.Tables.{longest_name, row_as, row_named, wildcard, wildcard_row}
 use Rattle.session_values.proofs.Alls.{OfSome, all-find}
-use Rattle.login_laws.specs.StartKeys.{IsLawfulRow}
+use Rattle.login_laws.specs.StartKeys.{IsLawfulName, IsLawfulRow, IsLawfulUser}
 use Rattle.login_core.specs.Dialogue.{row_in}
 use Rattle.login_laws.specs.Laws.{BoundedRowsAreLawful, SettingsRowsAreLawful, ReadRowsAreLawful}
 
@@ -43,11 +43,15 @@ no_zero (c ∷ cs) e = go (c == 0) refl (list_any (λ b. b == 0) cs) refl e (no_
     go false h true k e ih = absurd (false≢true e)
     go false h false k e ih = (positive c h, ih (ap not k))
 
-text-lawful : (name : List ℕ) → is_database name ≡ true → (0 < length name) × HasNoZero name
+text-lawful : (name : List ℕ) → is_database name ≡ true → IsLawfulName name
 text-lawful name e = let p = both (not (length name == 0)) (not (list_any (λ b. b == 0) name)) e in (has_bytes name p.0, no_zero name p.1)
 
-lawful-row : (row : DbRow) → is_database row.dbname ≡ true → IsRow row
-lawful-row row e = text-lawful row.dbname e
+user-lawful : (user : Option (List ℕ)) → IsUser user → IsLawfulUser user
+user-lawful None h = tt
+user-lawful (Some user) e = text-lawful user e
+
+lawful-row : (row : DbRow) → IsServedRow row → IsRow row
+lawful-row row h = record { dbname = text-lawful row.dbname h.database; user = user-lawful row.user h.user }
 
 -- ---- the row that serves a database
 
@@ -58,9 +62,9 @@ named-lawful name rows h = some-row (row_named name rows) (all-find IsRow (λ ro
 as-lawful : (name : List ℕ) (row : DbRow) → is_database name ≡ true → IsRow row → IsRow (row_as name row)
 as-lawful name row e h = go (bytes_eq row.dbname wildcard) (text-lawful name e)
   where
-    go : (b : Bool) → (0 < length name) × HasNoZero name → (0 < length (cond b name row.dbname)) × HasNoZero (cond b name row.dbname)
-    go true k = k
-    go false k = h
+    go : (b : Bool) → IsLawfulName name → IsRow (record row { name = name; dbname = cond b name row.dbname })
+    go true k = record { dbname = k; user = h.user }
+    go false k = record { dbname = h.dbname; user = h.user }
 
 wildcard-lawful : (name : List ℕ) (rows : List DbRow) → AllByRecursion IsRow rows → IsLawfulRow (wildcard_row name rows)
 wildcard-lawful name rows h = go (is_database name && nat_le (length name) longest_name) refl (row_named wildcard rows) (named-lawful wildcard rows h)
@@ -82,7 +86,7 @@ rows-lawful s users h database user = go (row_named database s.rows) (named-lawf
 
 all-lawful : (rows : List DbRow) → AllByRecursion IsServedRow rows → AllByRecursion IsRow rows
 all-lawful [] h = tt
-all-lawful (row ∷ rows) h = (lawful-row row h.0.database, all-lawful rows h.1)
+all-lawful (row ∷ rows) h = (lawful-row row h.0, all-lawful rows h.1)
 
 pub bounded-rows-lawful : BoundedRowsAreLawful
 bounded-rows-lawful s users b = rows-lawful s users (all-lawful s.rows b.rows)

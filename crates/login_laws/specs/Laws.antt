@@ -27,19 +27,25 @@ pub record IsLinkKey (key : StartKeyOf) : Type 0 where
 abbrev pub PassedKeysAreLinkKeys : Type 0
 PassedKeysAreLinkKeys = (rows : Rows) (word : KeyWord) (bytes left : List ℕ) (key : StartKeyOf) → AreLawfulRows rows → (login_among rows word bytes).ended ≡ Passed (ToLink key) left → IsLinkKey key
 
--- the key is of the server that this row names
+-- where a row names a user, it's this one
+abbrev pub IsNamed : Option Text → Text → Type 0
+IsNamed None user = Unit {0}
+IsNamed (Some name) user = user ≡ name
+
+-- the key is of the server that this row names, and of its user
 pub record IsAtRow (row : DbRow) (key : StartKeyOf) : Type 0 where
   pub host : key.host ≡ Some row.host
   pub port : key.port ≡ row.port
   pub dbname : key.dbname ≡ row.dbname
+  pub user : IsNamed row.user key.user
 
 abbrev pub IsOfRow : Option DbRow → StartKeyOf → Type 0
 IsOfRow None key = ⊥
 IsOfRow (Some row) key = IsAtRow row key
 
--- The key with which a login passed is of the row of its database.
+-- The key with which a login passed is of the row of its database, as that is for some user: who logged in.
 abbrev pub PassedKeysAreOfTheirRows : Type 0
-PassedKeysAreOfTheirRows = (rows : Rows) (word : KeyWord) (bytes left : List ℕ) (key : StartKeyOf) → AreLawfulRows rows → (login_among rows word bytes).ended ≡ Passed (ToLink key) left → IsOfRow (rows key.row key.user).database key
+PassedKeysAreOfTheirRows = (rows : Rows) (word : KeyWord) (bytes left : List ℕ) (key : StartKeyOf) → AreLawfulRows rows → (login_among rows word bytes).ended ≡ Passed (ToLink key) left → (user : Text) × IsOfRow (rows key.row user).database key
 
 -- Rows of settings are such where each database row is.
 abbrev pub SettingsRowsAreLawful : Type 0

@@ -17,7 +17,7 @@ use Rattle.login_core.specs.declared.steps.LoginStep.TheVariants as step
 use Rattle.login_core.specs.Talk.{End}
 use Rattle.login_core.specs.Talk.End.{Stopped as StoppedFor}
 use Rattle.login_core.specs.Dialogue.{Rows, Dialogue, Way, Reason, Refused as RefusedBy, AtFirst, row_in, login_among}
-use Rattle.login_core.specs.Logins.{Awaiting, AwaitsPacket, Arriving, LoginView, login_view, rows_of, goes_on, IsRevealed, Reveals, Tells, StepMeans, authenticated_bytes, missing}
+use Rattle.login_core.specs.Logins.{Awaiting, AwaitsPacket, Arriving, LoginView, login_view, rows_of, goes_on, IsRevealedTo, Reveals, Tells, StepMeans, authenticated_bytes, missing}
 use Rattle.login_core.proofs.Pieces.{joined_if_any}
 use Rattle.login_core.specs.Laws.{waits, arrived, asks, NewTells, StepsTell, StepsSay}
 use Rattle.login_run.specs.declared.login_reply.LoginReply.{LoginReply}
@@ -135,7 +135,7 @@ pub heard_awaits : (old new : LoginView) (bytes : List ℕ) (s : LoginStep) → 
 heard_awaits old new bytes step.More h x = (tt, h.leads)
 heard_awaits old new bytes (step.Ask q) h x = (tt, h.leads)
 heard_awaits old new bytes (step.Arrived key) h x = (tt, arriving new.awaiting _ h.leads)
-heard_awaits old new bytes (step.Passed key told) h x = (tt, subst (λ (rows : Rows). IsRevealed (rows (arc_value key).row (arc_value key).user) new.revealed) (rows_same old new bytes (step.Passed key told) h) x)
+heard_awaits old new bytes (step.Passed key told) h x = (tt, subst (λ (rows : Rows). IsRevealedTo (rows (arc_value key).row (arc_value key).user) new.revealed) (rows_same old new bytes (step.Passed key told) h) x)
 heard_awaits old new bytes (step.Console told) h x = tt
 heard_awaits old new bytes (step.Refused r) h x = tt
 heard_awaits old new bytes (step.Failed f) h x = tt

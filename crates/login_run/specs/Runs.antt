@@ -13,7 +13,7 @@ use Rattle.login_core.specs.declared.steps.LoginStep.TheVariants as step
 use Rattle.login_core.specs.Talk.{End}
 use Rattle.login_core.specs.Talk.End.{Passed as PassedWith, Stopped as StoppedFor}
 use Rattle.login_core.specs.Dialogue.{Rows, Way, ToLink, ToConsole, Reason, Refused as RefusedBy, Failed, Left, Cancelling as CancellingOf, if_any, login_among}
-use Rattle.login_core.specs.Logins.{Awaiting, Arriving, LoginView, rows_of, IsRevealed, Tells, missing, question_bytes, authenticated_bytes, failure_bytes}
+use Rattle.login_core.specs.Logins.{Awaiting, Arriving, LoginView, rows_of, IsRevealedTo, Tells, missing, question_bytes, authenticated_bytes, failure_bytes}
 use Rattle.login_run.specs.declared.login_reply.LoginReply.{LoginReply}
 use Rattle.login_run.specs.declared.login_reply.LoginReply.TheVariants as said
 use Rattle.login_run.specs.declared.run.Phase.{Phase}
@@ -149,9 +149,9 @@ abbrev pub IsArriving : Awaiting → Type 0
 IsArriving (Arriving key) = Unit {0}
 IsArriving _ = ⊥
 
--- of its secret the client of this key revealed what its login tells
+-- of its secret the client of this link's key revealed what its login tells
 abbrev pub HasRevealed : LoginView → StartKeyOf → Type 0
-HasRevealed v key = IsRevealed (rows_of v key.row key.user) v.revealed
+HasRevealed v key = IsRevealedTo (rows_of v key.row key.user) v.revealed
 
 -- what a phase says of the login
 abbrev pub Awaits : PhaseOf → LoginReply → LoginView → Type 0

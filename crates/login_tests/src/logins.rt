@@ -19,6 +19,9 @@ const SHOP_MD5: &[u8] =
 const LOOKED_AT: &[u8] =
     b"[databases]\nshop = host=127.0.0.1\n[pgbouncer]\nauth_type = plain\nadmin_users = root\nstats_users = bc\n";
 
+const OF_APP: &[u8] =
+    b"[databases]\nshop = host=127.0.0.1 user=app\n[pgbouncer]\nauth_type = plain\nadmin_users = root\n";
+
 const CLEARTEXT: &[u8] = b"R\0\0\0\x08\0\0\0\x03";
 
 const SALTED: &[u8] = b"R\0\0\0\x0c\0\0\0\x05\x01\x02\x03\x04";
@@ -52,6 +55,43 @@ fn has_key(
         && key.user.as_slice() == b"ann".as_slice()
         && key.port == 5432;
     Ok(is_named && is_anns)
+}
+
+/// Whether the login of these packets passes with a key of this user.
+fn passes_as(alloc: Global, ini: &[u8], packets: &[&[u8]], user: &[u8]) -> Result<bool, Fail> {
+    let seen = cut_at(alloc, ini, joined(alloc, packets)?.as_slice(), 0)?;
+    let key = seen.key.ok_or("no key")?;
+    Ok(seen.end == End::Passed && key.user.as_slice() == user)
+}
+
+#[test]
+fn a_rows_user_is_that_of_the_link(rt: HostRuntime) -> Result<(), Fail> {
+    let alloc = rt.alloc();
+    let anns: &[&[u8]] = &[ANN, b"p\0\0\0\x0bsecret\0"];
+    assert!(rt;
+        is_login(
+            alloc,
+            OF_APP,
+            anns,
+            &[ARRIVES, CLEARTEXT, OK],
+            End::Passed,
+            0
+        )?
+    );
+    assert!(rt; passes_as(alloc, OF_APP, anns, b"app")?);
+    assert!(rt; passes_as(alloc, SHOP_PLAIN, anns, b"ann")?);
+    let others: &[&[u8]] = &[ANN, b"p\0\0\0\x08app\0"];
+    assert!(rt;
+        is_login(
+            alloc,
+            OF_APP,
+            others,
+            &[ARRIVES, CLEARTEXT, WRONG],
+            End::Closed,
+            0
+        )?
+    );
+    Ok(())
 }
 
 #[test]

@@ -1,5 +1,5 @@
 -- A client's login, and what it leads to.
-use Rattle.std.proofs.Common.{◌≡◌, ◌⊎◌, ℕ, Bool, true, List, [], refl, sym, ap, ap₂, ◌∙◌, subst, Option, Some}
+use Rattle.std.proofs.Common.{◌≡◌, ◌⊎◌, ℕ, Bool, true, List, [], refl, sym, ap, ap₂, ◌∙◌, subst, Option, None, Some}
 use Rattle.std.specs.declared.sync.Arc.{Arc}
 use Rattle.std.specs.Arc.{arc_value}
 use Rattle.message_view.specs.declared.KeyWord.{KeyWord}
@@ -7,13 +7,14 @@ use Rattle.message_view.specs.declared.refusal.Refusal.{Refusal}
 use Rattle.message_view.specs.declared.refusal.Refusal.TheVariants.{OutOfMemory}
 use Rattle.ini_config.specs.Bounds.{AreWithinBounds}
 use Rattle.ini_config.specs.Tables.{row_for as row_of_database}
+use Rattle.ini_config.specs.declared.database_rows.DbRow.{DbRow}
 use Rattle.ini_config.specs.declared.option_values.Settings.{Settings}
 use Rattle.user_file.specs.Users.{UsersOf, user_named}
 use Rattle.session_values.specs.State.{Address, CatalogueOf, StartKeyOf}
 use Rattle.link_laws.specs.Standing.{ClientFacts}
 use Rattle.login_core.specs.Talk.End.{Stopped as StoppedFor}
 use Rattle.login_core.specs.Dialogue.{Refused as RefusedBy, Rows, login_among, row_in}
-use Rattle.login_core.specs.Logins.{LoginView, RevealsUnder, rows_of}
+use Rattle.login_core.specs.Logins.{LoginView, RevealsTo, names_user, rows_of}
 use Rattle.login_core.specs.Laws.{names_in, row_for}
 use Rattle.login_core.specs.Solo.{solo_in}
 use Rattle.login_laws.specs.Laws.{BoundedRowsAreLawful, IsOfRow, PassedKeysAreLinkKeys, PassedKeysAreOfTheirRows}
@@ -25,6 +26,7 @@ use Rattle.pool_serve.specs.declared.logged_in.LoggedIn.{LoggedIn}
 use Rattle.pool_serve.specs.declared.word.FinalMessage.{FinalMessage}
 use Rattle.pool_serve.specs.declared.word.FinalMessage.TheVariants as last
 use Rattle.pool_serve.specs.Causes.{HasFault}
+use Rattle.pool_serve.specs.LinkSecrets.{IsItsUser, RevealsToLink, secret_by}
 use Rattle.pool_serve.specs.Serving.{IsLoggedIn, IsServed, IsServedUnder, LetsIn, MayEnd, Serves, limit_of, owed}
 use Rattle.pool_serve.proofs.Causing.{arrival_fault}
 use Rattle.pool_serve.proofs.Owing.{behind_login}
@@ -101,16 +103,25 @@ is_logged_in bounded keys rows passed v g x e l b =
     let k = keys (rows_of v.login) v.login.word p.0 [] (arc_value g.key) lawful p.1 in
     record {
       key = (k.client, k.dbname);
-      row = subst (λ (w : LoginView). IsOfRow (row_of_database (arc_value g.key).row w.settings.rows) (arc_value g.key)) (sym l) (rows (rows_of v.login) v.login.word p.0 [] (arc_value g.key) lawful p.1);
+      row = subst (λ (w : LoginView). IsOfRow (row_of_database (arc_value g.key).row w.settings.rows) (arc_value g.key)) (sym l) (rows (rows_of v.login) v.login.word p.0 [] (arc_value g.key) lawful p.1).1;
       settings = subst (λ (w : LoginView). AreWithinBounds w.settings) (sym l) b;
-      revealed = subst (λ (w : LoginView). RevealsUnder w.settings.auth_type (user_named (arc_value g.key).user w.users.rows) w.revealed) (sym l) (subst (λ (q : PhaseOf). Awaits q v.said v.login) e x.1).1;
+      revealed = subst (λ (w : LoginView). RevealsToLink w (arc_value g.key) w.revealed) (sym l) (subst (λ (q : PhaseOf). Awaits q v.said v.login) e x.1).1;
     }
+
+pub its_user : (row : Option DbRow) (key : StartKeyOf) → IsOfRow row key → IsItsUser row key.user
+its_user None key h = tt
+its_user (Some row) key h = h.user
 
 -- the premise hangs on the login's settings and users alone
 pub still_lets_in : (home : HomeOf) (v w : LoginView) → w.settings ≡ v.settings → w.users ≡ v.users → LetsIn home v → LetsIn home w
 still_lets_in home v w s u l = record {
   follow = l.follow;
-  accept = λ name user revealed nonce named r. l.accept name user revealed nonce (subst (λ (x : UsersOf). user_named name x.rows ≡ Some user) u named) (subst (λ (x : Settings). RevealsUnder x.auth_type (Some user) revealed) s r);
+  accept = λ key secret revealed nonce own named r.
+      l.accept key secret revealed nonce
+      (subst (λ (x : Settings). IsItsUser (row_of_database key.row x.rows) key.user) s own)
+      (subst (λ (x : Settings). secret_by (row_of_database key.row x.rows) (user_named key.user v.users.rows) ≡ Some secret) s (subst (λ (x : UsersOf). secret_by (row_of_database key.row w.settings.rows) (user_named key.user x.rows) ≡ Some secret) u named))
+      (subst (λ (x : Settings). RevealsTo (names_user (row_of_database key.row x.rows)) x.auth_type (user_named key.user v.users.rows) revealed) s
+      (subst (λ (x : UsersOf). RevealsTo (names_user (row_of_database key.row w.settings.rows)) w.settings.auth_type (user_named key.user x.rows) revealed) u r));
 }
 
 pub logged_in_ends : PassedRunsAreLetIn → (home : HomeOf) (old new : RunView) (g : LoggedIn) (before after : ClientFacts) (word : FinalMessage) → IsSameLogin old new → IsRun new → new.phase ≡ Passed (arc_value g.key) → IsAllGiven new → before ≡ new.client → g.word ≡ new.login.word → g.login ≡ new.login → old.client.tells ≡ true

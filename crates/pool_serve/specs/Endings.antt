@@ -1,7 +1,7 @@
 -- How a client's time at the desk ended: what pass and holder tell of it, and what the ends do.
 use Rattle.std.specs.Prelude.{◌≡◌, ◌⊎◌, ℕ, true, false, Option, None, Some}
 use Rattle.std.specs.Arc.{arc_value}
-use Rattle.user_file.specs.declared.user_table.UserRow.{UserRow}
+use Rattle.user_file.specs.declared.secrets.Secret.{Secret}
 use Rattle.message_view.specs.declared.refusal.Refusal.{Refusal}
 use Rattle.session_values.specs.State.{address_of}
 use Rattle.link_laws.specs.Standing.{ClientFacts, Standing}
@@ -15,13 +15,13 @@ use Rattle.link_desk.specs.declared.calls.Call.TheVariants as call
 use Rattle.link_desk.specs.declared.calls.Holder.{Holder}
 use Rattle.link_desk.specs.Homes.{HomeOf, IsAtHome, IsDialled}
 use Rattle.link_desk.specs.Passes.{PassOf}
-use Rattle.user_file.specs.Users.{user_named}
 use Rattle.relay_laws.specs.declared.Next.{Next}
 use Rattle.relay_laws.specs.declared.Next.TheVariants.{Refuse}
 use Rattle.relay_laws.specs.Answers.{judged}
 use Rattle.relay_laws.specs.Leases.{IsLease, RelayView, place}
 use Rattle.pool_serve.specs.Backs.{IsBackOrLost, IsFreed}
 use Rattle.pool_serve.specs.Causes.{HadLink, HadNone, HasLost, HasTrace, Since}
+use Rattle.pool_serve.specs.LinkSecrets.{link_secret}
 use Rattle.pool_serve.specs.Serving.{LetsIn, Serves, limit_of, owed}
 use Rattle.pool_serve.specs.Words.{word_of}
 use Rattle.pool_serve.specs.declared.ending.Ending.{Ending}
@@ -90,20 +90,20 @@ HasRelayed link g before after other = ⊥
 -- A start over an end of its key's server failed so: it is told that its turns were used up only after all of them, and that it was late
 -- only where no answer had come that says more.
 pub record IsUnstarted (home : HomeOf) (g : LoggedIn) (cause : StartCause) : Type 0 where
-  pub user : UserRow
-  pub user_is : Some user ≡ user_named (arc_value g.key).user g.login.users.rows
+  pub secret : Secret
+  pub secret_is : Some secret ≡ link_secret g.login (arc_value g.key)
   pub began : Standing
   pub now : Standing
   -- of the link that was to be started
   pub number : ℕ
-  pub dialled : IsDialled home (arc_value g.key) (credential_of user.secret g.login.revealed (start_nonce g.word number)) began
-  pub is_cause : IsStartCause began now (credential_of user.secret g.login.revealed (start_nonce g.word number)) (arc_value g.key) cause
-  pub tried : cause ≡ Turns → HasTried began (credential_of user.secret g.login.revealed (start_nonce g.word number)) (arc_value g.key) now TURNS
-  pub unanswered : cause ≡ Late → HasTried began (credential_of user.secret g.login.revealed (start_nonce g.word number)) (arc_value g.key) now 0
+  pub dialled : IsDialled home (arc_value g.key) (credential_of secret g.login.revealed (start_nonce g.word number)) began
+  pub is_cause : IsStartCause began now (credential_of secret g.login.revealed (start_nonce g.word number)) (arc_value g.key) cause
+  pub tried : cause ≡ Turns → HasTried began (credential_of secret g.login.revealed (start_nonce g.word number)) (arc_value g.key) now TURNS
+  pub unanswered : cause ≡ Late → HasTried began (credential_of secret g.login.revealed (start_nonce g.word number)) (arc_value g.key) now 0
 
--- No end was dialled: its user isn't there, or a dial to its server gave none. Of a home of which nothing else is known only a dial shows that.
+-- No end was dialled: its user has no secret, or a dial to its server gave none. Of a home of which nothing else is known only a dial shows that.
 abbrev pub IsUnreached : HomeOf → LoggedIn → Type 0
-IsUnreached home g = (user_named (arc_value g.key).user g.login.users.rows ≡ None) ⊎ (home.reaches (address_of (arc_value g.key)) ≡ false)
+IsUnreached home g = (link_secret g.login (arc_value g.key) ≡ None) ⊎ (home.reaches (address_of (arc_value g.key)) ≡ false)
 
 -- why there is no new link: each start that was begun is told by its cause
 abbrev pub IsUnopened : HomeOf → LoggedIn → Ending → Type 0

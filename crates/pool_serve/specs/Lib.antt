@@ -9,3 +9,4 @@ pub mod Again
 pub mod Stays
 pub mod Cancels
 pub mod Secrets
+pub mod LinkSecrets

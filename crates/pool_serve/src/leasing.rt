@@ -256,7 +256,7 @@ impl<'a, D: LinkDesk, G: Gate<D::End>> Worker<'a, D, G> {
             {
                 Place::Free => {
                     if let Some(note) = asking_note(logged_in, ending) {
-                        self.note(logged_in, &note);
+                        self.note(&note);
                     }
                     return true;
                 }

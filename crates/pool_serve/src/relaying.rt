@@ -111,7 +111,7 @@ impl<'a, D: LinkDesk, G: Gate<D::End>> Worker<'a, D, G> {
     {
         leases_are_allowed();
         service_is_its_pieces();
-        self.note(logged_in, &lent_note(logged_in, &link));
+        self.note(&lent_note(logged_in, &link));
         let number = link.number();
         let limit = logged_in.login.settings().max_packet_size();
         let mut relay = match Relay::begin_over(

@@ -74,13 +74,13 @@ impl<'a, D: LinkDesk, G: Gate<D::End>> Worker<'a, D, G> {
     }
 
     /// Reports the client's link, of this number, lost.
-    fn lose(&mut self, logged_in: &LoggedIn, number: u64, why: Loss<'_>)
+    fn lose(&mut self, number: u64, why: Loss<'_>)
         requires some { IsSome (D.holder self.old.pass).lease }
         ensures share { Ends (D.told self.old.pass) (D.told self.new.pass) }
         ensures holder { D.holder self.new.pass ≡ without_lease Lost (D.holder self.old.pass) }
         ensures turns { G.turns self.new.gate ≡ G.turns self.old.gate }
     {
-        self.note(logged_in, &Note::LinkLost(number, why));
+        self.note(&Note::LinkLost(number, why));
         self.desk.lost(&mut self.pass);
     }
 
@@ -97,7 +97,7 @@ impl<'a, D: LinkDesk, G: Gate<D::End>> Worker<'a, D, G> {
             Release::Reset => self.give_back(link),
             Release::Dispose | Release::Last | Release::Stranger => {
                 close_link(link);
-                self.lose(logged_in, number, Loss::Cancelled);
+                self.lose(number, Loss::Cancelled);
             }
         }
     }
@@ -122,13 +122,13 @@ impl<'a, D: LinkDesk, G: Gate<D::End>> Worker<'a, D, G> {
                 Ok(link) => self.give_back(link),
                 Err(disposed) => {
                     let why = loss_in_reset(has_ended(disposed, &mut self.gate), last);
-                    self.lose(logged_in, number, why);
+                    self.lose(number, why);
                 }
             },
             Release::Dispose | Release::Last | Release::Stranger => {
                 let mut parts = link.lend();
                 offer_terminate(&mut parts.end);
-                self.lose(logged_in, number, Loss::Cancelled);
+                self.lose(number, Loss::Cancelled);
             }
         }
     }
@@ -157,7 +157,7 @@ impl<'a, D: LinkDesk, G: Gate<D::End>> Worker<'a, D, G> {
                 if is_at_border(cause) {
                     offer_terminate(&mut link.end);
                 }
-                self.lose(logged_in, number, loss_of(cause, has_ended, last));
+                self.lose(number, loss_of(cause, has_ended, last));
             }
         }
     }

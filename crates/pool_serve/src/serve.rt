@@ -204,12 +204,12 @@ impl<'a, D: LinkDesk, G: Gate<D::End>> Worker<'a, D, G> {
         ensures ended { HasEndedAtLast D.home logged_in.now (D.told self.old.pass) (D.told self.new.pass) (C.facts client) (C.facts result.0) result.1 }
     {
         self.gate.limit(None);
-        self.note(logged_in, &Note::LoggedIn);
+        self.note(&Note::LoggedIn);
         let (client, ending) = self.lease(client, logged_in);
         if let Some(note) = ending_note(logged_in, &ending) {
-            self.note(logged_in, &note);
+            self.note(&note);
         }
-        self.note(logged_in, &Note::Closed);
+        self.note(&Note::Closed);
         (client, ending)
     }
 
@@ -237,6 +237,7 @@ impl<'a, D: LinkDesk, G: Gate<D::End>> Worker<'a, D, G> {
         match self.arrive(&run) {
             Arrival::Client(number) => {
                 self.number = Some(number);
+                self.own = own_key(&run);
                 let mut run = run;
                 run.go_on(self.alloc);
                 let served = self.serve_arrived(run, word);
@@ -323,6 +324,7 @@ pub fn serve<C: ClientEnd, D: LinkDesk, G: Gate<D::End> + Drop>(
         kept,
         visit,
         number: None,
+        own: None,
     };
     let (mut client, ending) = worker.admit(run, word);
     ending.into_word().tell(&mut client, &mut worker.gate);
@@ -334,6 +336,7 @@ pub fn serve<C: ClientEnd, D: LinkDesk, G: Gate<D::End> + Drop>(
         kept: _,
         visit: _,
         number: _,
+        own: _,
     } = worker;
     (client, pass)
 }

@@ -1,11 +1,12 @@
 //! A worker.
 
-use crate::logged_in::LoggedIn;
 use crate::noting::named;
 use link_desk::desk::LinkDesk;
 use log_lines::notes::{Note, Visit};
 use relay_flow::buffers::Buffers;
+use start_keys::StartKey;
 use std::alloc::Global;
+use std::sync::Arc;
 
 /// What serves a client at a desk: the client's pass, the gate where it waits for bytes, the buffers that its thread keeps, and what the
 /// log knows it by.
@@ -18,12 +19,14 @@ pub(crate) struct Worker<'a, D: LinkDesk, G> {
     pub visit: Visit,
     /// In the lease book, once it has arrived.
     pub number: Option<u64>,
+    /// Its own start key, once it has arrived: that of its link may be another user's.
+    pub own: Option<Arc<StartKey>>,
 }
 
 impl<'a, D: LinkDesk, G> Worker<'a, D, G> {
     /// Tells the log of its client.
-    pub(crate) fn note(&self, logged_in: &LoggedIn, note: &Note<'_>) {
-        let client = named(self.visit, self.number, Some(&logged_in.key));
+    pub(crate) fn note(&self, note: &Note<'_>) {
+        let client = named(self.visit, self.number, self.own.as_ref());
         self.desk.note(&client, note);
     }
 }

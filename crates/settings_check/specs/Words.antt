@@ -73,7 +73,7 @@ has_host value = list_any (λ item. starts_with nat_eq item (codes "host=")) (pa
 abbrev pub bad_items : Text → Option Text → Text
 bad_items value (Some item) = bad_pair (split_at_first 61 item)
 bad_items value None =
-    if has_host value then codes "a key for the second time, or no name of a database"
+    if has_host value then codes "a key for the second time, no name of a database, or a password without a user"
     else codes "no host; with PgBouncer it is the folder of its Unix sockets: write it, as host=/var/run/postgresql"
 
 abbrev pub bad_row : Text → Text → Text

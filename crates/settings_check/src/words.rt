@@ -154,7 +154,7 @@ fn row_without(value: &[u8]) -> &'static [u8]
     ensures { result.now ≡ spec.bad_items value.now None }
 {
     if has_host(value) {
-        return b"a key for the second time, or no name of a database";
+        return b"a key for the second time, no name of a database, or a password without a user";
     }
     b"no host; with PgBouncer it is the folder of its Unix sockets: write it, as host=/var/run/postgresql"
 }

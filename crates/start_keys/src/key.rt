@@ -1,5 +1,5 @@
 //! A session's start key.
-ghost use Rattle.std.specs.Prelude.{◌≡◌};
+ghost use Rattle.std.specs.Prelude.{◌≡◌, IfOk};
 ghost use Rattle.std.specs.Cmp.{decided, partial_equiv_from_equiv};
 ghost use Rattle.std.proofs.Common.{ap};
 ghost use Rattle.start_keys.specs.Keys.{key_hashed, same_host, same_key, same_pairs};
@@ -7,6 +7,7 @@ ghost use Rattle.start_keys.specs.SameKeys.{same_keys-one};
 
 use server_host::Host;
 use session_values::text::Text;
+use std::alloc::{AllocError, Global};
 use std::hash::{Hash, Hasher};
 use std::marker::Model;
 
@@ -52,6 +53,22 @@ impl Model for StartKey {
       user = k.user;
       parameters = k.parameters.items;
     } };
+}
+
+impl StartKey {
+    /// The key of another user's session, of the same database and parameters. The only error is out of memory.
+    pub fn of_user(&self, alloc: Global, user: &[u8]) -> Result<StartKey, AllocError>
+        ensures { IfOk result (λ key. key ≡ record self.now { user = user.now }) }
+    {
+        Ok(StartKey {
+            row: self.row.copied()?,
+            host: self.host,
+            port: self.port,
+            dbname: self.dbname.copied()?,
+            user: Text::from_slice(alloc, user)?,
+            parameters: self.parameters.clone()?,
+        })
+    }
 }
 
 /// Whether both are none, or the same text.

@@ -66,7 +66,7 @@ pub lawful : IsLawfulCatalogue the_catalogue
 lawful = record { version = ((omega arith, (omega arith, (omega arith, (omega arith, tt)))), omega arith); tables = tt }
 
 abbrev db : DbRow
-db = record { name = codes "shop"; host = codes "127.0.0.1"; port = 5432; dbname = codes "shop"; pool_size = None }
+db = record { name = codes "shop"; host = codes "127.0.0.1"; port = 5432; dbname = codes "shop"; pool_size = None; user = None; password = None }
 
 abbrev user : UserRow
 user = record { name = codes "ann"; secret = Plain (codes "p") }
@@ -75,7 +75,7 @@ abbrev pub row : LoginRow
 row = record { auth = Trust; names = record { followed = always_followed; ignored = [] }; admins = []; lookers = []; database = Some db; user = Some user; salts = [] }
 
 pub lawful_row : IsLawfulRow row.database
-lawful_row = (omega arith, (omega arith, (omega arith, (omega arith, (omega arith, tt)))))
+lawful_row = record { dbname = (omega arith, (omega arith, (omega arith, (omega arith, (omega arith, tt))))); user = tt }
 
 abbrev pub key : StartKeyOf
 key = record { row = codes "shop"; host = Some (codes "127.0.0.1"); port = 5432; dbname = codes "shop"; user = codes "ann"; parameters = [] }

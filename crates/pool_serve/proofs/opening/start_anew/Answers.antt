@@ -1,14 +1,16 @@
-use Rattle.std.proofs.Common.{Option, refl, sym, ap, ◌∙◌, subst}
+use Rattle.std.proofs.Common.{Option, refl, sym, ap, ap₂, ◌∙◌, subst}
 use Rattle.std.specs.Arc.{arc_value}
 use Rattle.session_values.specs.State.{StartKeyOf, address_of}
 use Rattle.link_laws.specs.Standing.{Standing}
-use Rattle.user_file.specs.declared.user_table.UserRow.{UserRow}
-use Rattle.login_core.specs.Logins.{RevealsUnder}
+use Rattle.user_file.specs.declared.secrets.Secret.{Secret}
+use Rattle.ini_config.specs.Tables.{row_for}
 use Rattle.credentials.specs.Credentials.{CredentialOf, Text, credential_of, start_nonce}
 use Rattle.link_desk.specs.Homes.{IsDialled}
 use Rattle.link_start.specs.Starts.{HasTried, IsStartCause}
 use Rattle.pool_serve.specs.declared.TheConstants.{TURNS}
+use Rattle.pool_serve.specs.LinkSecrets.{secret_in}
 use Rattle.pool_serve.proofs.Homing.{started_home}
+use Rattle.pool_serve.proofs.Logging.{its_user}
 use Rattle.pool_serve.proofs.Owing.{unstarted}
 use Rattle.pool_serve.proofs.opening.start_anew.Goals as goal
 
@@ -24,21 +26,21 @@ returns-clause-told g c = λ lets.
     let end = c.watch.new.end in
     let dialled = subst (λ (k : StartKeyOf). IsDialled g.D.LinkDesk.home k c.new-credential.result (g.D.End.ServerEnd.standing c.watch.new.end)) c.deref.ensures (subst (λ (s : Standing). IsDialled g.D.LinkDesk.home c.deref.result.now c.new-credential.result s) (sym c.watch.ensures.stands) c.in-Some-dial.ensures) in
     let key = arc_value c.args.logged_in.now.key in
-    let user = c.in-Some.user.now in
-    let same = c.new-credential.ensures ∙ ap (λ (r : Option Text). credential_of c.in-Some.user.now.secret r (start_nonce c.args.logged_in.now.word c.args.number)) c.revealed-revealed.ensures in
+    let told = c.args.logged_in.now.login in
+    let same = c.new-credential.ensures ∙ ap₂ (λ (s : Secret) (r : Option Text). credential_of s r (start_nonce c.args.logged_in.now.word c.args.number)) c.get.ensures c.revealed-revealed.ensures in
     unstarted (g.D.LinkDesk.home.catalogue (address_of key)) (g.D.End.ServerEnd.standing end) (g.D.End.ServerEnd.standing c.in-Err.fault.end) c.new-credential.result key c.args.logged_in.now.word c.in-Err.fault.cause _ refl
     (dialled.catalogue (dialled.follows lets.follow))
     (dialled.follows lets.follow)
-    (dialled.lets_in (ap (g.D.LinkDesk.home.lets_in key.user) same ∙ lets.accept key.user user _ _ (sym c.in-Some.ensures) (subst (λ (u : Option UserRow). RevealsUnder c.args.logged_in.now.login.settings.auth_type u c.args.logged_in.now.login.revealed) (sym c.in-Some.ensures) c.requires.logged_in.revealed)))
+    (dialled.lets_in (ap (g.D.LinkDesk.home.lets_in key.user) same ∙ lets.accept key (secret_in c.in-Some.secret) _ _ (its_user (row_for key.row told.settings.rows) key c.requires.logged_in.row) (sym c.in-Ok.ensures) c.requires.logged_in.revealed))
     (subst (λ (k : StartKeyOf). IsStartCause (g.D.End.ServerEnd.standing end) (g.D.End.ServerEnd.standing c.in-Err.fault.end) c.new-credential.result k c.in-Err.fault.cause) c.in-Ok.ensures c.in-Err.ensures.cause)
 
 pub returns-clause-why : goal.returns-clause-why
 returns-clause-why g c =
     let end = c.watch.new.end in
-    let same = c.new-credential.ensures ∙ ap (λ (r : Option Text). credential_of c.in-Some.user.now.secret r (start_nonce c.args.logged_in.now.word c.args.number)) c.revealed-revealed.ensures in
+    let same = c.new-credential.ensures ∙ ap₂ (λ (s : Secret) (r : Option Text). credential_of s r (start_nonce c.args.logged_in.now.word c.args.number)) c.get.ensures c.revealed-revealed.ensures in
     record {
-      user = c.in-Some.user.now;
-      user_is = c.in-Some.ensures;
+      secret = secret_in c.in-Some.secret;
+      secret_is = c.in-Ok.ensures;
       began = g.D.End.ServerEnd.standing end;
       now = g.D.End.ServerEnd.standing c.in-Err.fault.end;
       dialled = subst (λ (cred : CredentialOf). IsDialled g.D.LinkDesk.home (arc_value c.args.logged_in.now.key) cred (g.D.End.ServerEnd.standing end)) same
