@@ -1,10 +1,13 @@
 #!/usr/bin/env python3
 """How long each SHOW of the console keeps others from the desk, and from the table of connections, with 1,000 clients and with many, in
-front of a stand-in server: the time inside the functions that hold those locks, by the kernel's uprobes, and of several that hold one the
-longest. It wants root, and a kernel that has them.
+front of a stand-in server: the processor's time inside the functions that hold those locks, by the kernel's uprobes, and of several that
+hold one the longest. Time in which the console's thread doesn't run isn't counted: it waits for the lock then, which is no hold, or other
+processes have its processor. The SHOWs are asked for in turn, so that what else the machine does falls on all alike. It wants root, and a
+kernel that has uprobes.
 
 Usage: shows.py PROGRAM [MOST]: MOST clients (9,900: two files each)
 """
+import functools
 import pathlib
 import re
 import resource
@@ -16,7 +19,7 @@ sys.path.insert(0, str(pathlib.Path(__file__).resolve().parent.parent / "tests/l
 from cluster import TOP, Place, Pooler, free_port, is_open, set_up, until
 from wire import Client, startup
 
-FEW, MOST, LINKS, ROUNDS = 1_000, 9_900, 40, 9
+FEW, MOST, LINKS, ROUNDS = 1_000, 9_900, 40, 51
 SHOWS = ("CLIENTS", "SERVERS", "POOLS", "STATS", "LISTS", "ACTIVITY", "DATABASES")
 # what holds a lock while it copies what is shown, by symbols: the desk's, and that of the table of connections
 COPYING = ("begin_copy", "copy_some", "end_copy", "databases")
@@ -50,23 +53,55 @@ class Probes:
         return next(at - memory + file for file, memory, size in self.parts if memory <= at < memory + size)
 
     def switch(self, on):
-        (TRACING / "events/shows/enable").write_text(str(on))
+        for events in ("shows", "sched/sched_switch"):
+            (TRACING / f"events/{events}/enable").write_text(str(on))
 
     def clear(self):
+        self.keep("")
         (TRACING / "uprobe_events").write_text("")
 
-    def times(self, work):
-        """The milliseconds of the longest hold of each lock while this is done, by the medians of what holds it."""
+    def keep(self, thread):
+        """Of this thread alone is anything traced; of all, where none is named."""
+        (TRACING / "set_event_pid").write_text(thread)
+
+    def traced(self, work):
+        """What is traced while this is done: the thread, the moment in milliseconds, the event, and what is said of it."""
         (TRACING / "trace").write_text("")
         work()
-        found, begun = {}, {}
-        for thread, moment, name, kind in re.findall(r"-(\d+)\s+\[\d+\]\s+\S+\s+([\d.]+): (\w+)_([pr]):", (TRACING / "trace").read_text()):
-            if kind == "p":
-                begun[thread, name] = float(moment)
-            elif (thread, name) in begun:
-                found.setdefault(name, []).append((float(moment) - begun.pop((thread, name))) * 1e3)
-        medians = {name: statistics.median(it) for name, it in found.items()}
-        return {lock: max(it for name, it in medians.items() if name.rstrip("0123456789") == lock) for lock in HOLDERS}
+        lines = re.findall(r"-(\d+)\s+\[\d+\]\s+\S+\s+([\d.]+): (\w+): (.*)", (TRACING / "trace").read_text())
+        return [(thread, float(moment) * 1e3, event, rest) for thread, moment, event, rest in lines]
+
+    def thread(self, work):
+        """The thread that is in the probed functions while this is done."""
+        self.keep("")
+        return statistics.mode(thread for thread, _, event, _ in self.traced(work) if event != "sched_switch")
+
+    def holds(self, thread, work):
+        """How many milliseconds this thread runs inside each probed function while this is done, for each call of it."""
+        found, begun, left, away = {}, {}, None, 0.0
+        for _, moment, event, rest in self.traced(work):
+            if event == "sched_switch":
+                if f"prev_pid={thread} " in rest:
+                    left = moment
+                elif left is not None:
+                    away, left = away + moment - left, None
+            elif event.endswith("_p"):
+                begun[event[:-2]] = moment - away
+            elif event[:-2] in begun:
+                found.setdefault(event[:-2], []).append(moment - away - begun.pop(event[:-2]))
+        return found
+
+    def times(self, thread, shows):
+        """For each of these, the longest hold of each lock, by the medians of what holds it."""
+        found = {show: {} for show in shows}
+        self.keep(thread)
+        for _ in range(ROUNDS):
+            for show, work in shows.items():
+                for name, it in self.holds(thread, work).items():
+                    found[show].setdefault(name, []).extend(it)
+        medians = {show: {name: statistics.median(it) for name, it in names.items()} for show, names in found.items()}
+        return {show: {lock: max(it for name, it in names.items() if name.rstrip("0123456789") == lock) for lock in HOLDERS}
+                for show, names in medians.items()}
 
 
 class Served:
@@ -101,15 +136,15 @@ def main(program, most):
     try:
         for count in (FEW, most):
             served = Served(program, count)
-            for show in SHOWS:
-                found[show, count] = probes.times(lambda: [served.console.ask(f"SHOW {show}") for _ in range(ROUNDS)])
+            asked = {show: functools.partial(served.console.ask, f"SHOW {show}") for show in SHOWS}
+            found[count] = probes.times(probes.thread(asked["CLIENTS"]), asked)
             served.end()
     finally:
         probes.switch(0)
         probes.clear()
     print(f"{'SHOW':10} " + "  ".join(f"{f'{name}: ms, {FEW}; {most}; times':32}" for name in HOLDERS))
     for show in SHOWS:
-        cells = [(found[show, FEW][name], found[show, most][name]) for name in HOLDERS]
+        cells = [(found[FEW][show][name], found[most][show][name]) for name in HOLDERS]
         print(f"{show:10} " + "  ".join(f"{f'{few:.2f}; {many:.2f}; {many / few:.1f}':32}" for few, many in cells))
     return 0
 

@@ -1,10 +1,12 @@
 //! What is told of a lease's frames, and the verdict on it.
-ghost use Rattle.std.specs.Prelude.{◌≡◌, ◌≢◌, None, false, true};
+ghost use Rattle.std.specs.Prelude.{◌≡◌, ◌≢◌, ◌≤◌, None, false, true};
 ghost use Rattle.disposal.specs.Tallies.{may_end};
+ghost use Rattle.disposal.specs.declared.TheConstants.{FULL};
 ghost use Rattle.disposal.specs.declared.Verdict.TheVariants.{Settled};
 ghost use Rattle.relay_laws.specs.Verdicts.{begun_arrived, told_arrived, told_sent, verdict_by};
 
 use disposal::{Traffic, Verdict};
+use frame_view::server::READY_FOR_QUERY;
 use relay_flow::flow::Passed;
 
 /// A whole frame of the client went on.
@@ -16,6 +18,15 @@ pub fn tell_sent(traffic: &mut Traffic, kind: u8)
     traffic.send_end();
 }
 
+/// A law of counts: none is above the greatest.
+fn counts_fit(traffic: &Traffic)
+    ensures answered { traffic.now.answered ≤ FULL }
+    ensures ended { traffic.now.ended ≤ FULL }
+{
+    let _ = traffic.answered();
+    let _ = traffic.ended();
+}
+
 /// A whole frame of the server came, and goes on. Where no session of the link sends it (not `own`), that is told before its
 /// end.
 pub fn tell_arrived(traffic: &mut Traffic, passed: Passed, own: bool)
@@ -23,6 +34,11 @@ pub fn tell_arrived(traffic: &mut Traffic, passed: Passed, own: bool)
     requires status { may_end passed.status (begun_arrived passed own traffic.old) ≡ true }
     ensures { traffic.new ≡ told_arrived passed own traffic.old }
 {
+    // a row's way: where no answer ends and nothing broke, all stays as it is
+    if own && passed.kind != READY_FOR_QUERY {
+        counts_fit(traffic);
+        return;
+    }
     traffic.got_begin(passed.kind);
     if !own {
         traffic.broken();
