@@ -185,7 +185,7 @@ keyed_on old new bytes rest s h n e k = keyed_rest s rest (goes_on new rest) e (
 -- the rows of the standing settings are lawful
 standing_lawful : SettingsRowsAreLawful → AreLawfulRows standing_rows
 unfolding standing_settings
-standing_lawful law = law standing_settings standing_users ((omega arith, (omega arith, (omega arith, (omega arith, (omega arith, tt))))), tt)
+standing_lawful law = law standing_settings standing_users (record { dbname = (omega arith, (omega arith, (omega arith, (omega arith, (omega arith, tt))))); user = tt }, tt)
 
 keyed_by : (rows : Rows) (word : KeyWord) (bytes : List ℕ) (e : End Way Reason) → PassedKeysAreLinkKeys → AreLawfulRows rows → (login_among rows word bytes).ended ≡ e → IsKeyed e
 keyed_by rows word bytes Unfinished law l h = tt
