@@ -124,6 +124,34 @@ fn read_by_turns<R: Clock>(gate: &mut TcpGate<'_, R>, link: &mut TcpEnd) -> u32 
     1000
 }
 
+/// Reads into four bytes' room, each time behind a turn, until the end is found.
+fn ends_by_turns<R: Clock>(gate: &mut TcpGate<'_, R>, link: &mut TcpEnd) -> bool {
+    for _ in 0..1000u32 {
+        gate.turn();
+        if ServerEnd::read_some(link, &mut [0; 4]) == Moved::Ended {
+            return true;
+        }
+    }
+    false
+}
+
+// The bytes and the end come by one event. A turn that waited for another would take ten seconds.
+#[test]
+fn no_turn_waits_for_an_end_behind_bytes(rt: HostRuntime) -> Result<(), Fail> {
+    let (mut client, _near) = pair(&rt)?;
+    let (mut link, mut far) = pair(&rt)?;
+    let mut poll = GatePoll::new(&rt, rt.alloc())?;
+    let mut gate = TcpGate::new(rt, &mut poll, &mut client)?;
+    gate.watch(&mut link);
+    assert!(rt; ServerEnd::write_some(&mut far, b"Z") == Moved::Count(1));
+    drop(far);
+    sleep(&rt, Duration::from_millis(100));
+    let start = Instant::now(&rt)?;
+    assert!(rt; ends_by_turns(&mut gate, &mut link));
+    assert!(rt; start.elapsed(&rt)?.as_secs() < 5);
+    Ok(())
+}
+
 // A turn that waited in vain would take 100 ms, and two hundred of them twenty seconds.
 #[test]
 fn bytes_end_a_wait(rt: HostRuntime) -> Result<(), Fail> {

@@ -113,8 +113,10 @@ impl Notes {
     /// A read into a slice of this length was answered so.
     pub fn read(&self, answer: &io::Result<usize>, room: usize) {
         let is_empty = is_exhausted(answer, room);
+        // behind the peer's last byte stands its end, of which no further event tells
+        let ends = answer.is_ok() && get(&self.is_closing);
         set(&self.is_empty, is_empty);
-        set(&self.may_have_more, !is_empty);
+        set(&self.may_have_more, !is_empty || ends);
         set(&self.has_spoken, answer.is_ok());
     }
 
