@@ -8,6 +8,7 @@ use std::thread::{join, sleep};
 use std::time::{Duration, Instant};
 use tcp_end::connection::TcpEnd;
 use tcp_end::gate::{GatePoll, TcpGate};
+use tcp_notes::notes::Notes;
 
 /// How many turns of an idle client take a second: each is followed by a read of both ends.
 fn idle_turns(rt: &HostRuntime, client: &mut TcpEnd, link: &mut TcpEnd) -> Result<u32, Fail> {
@@ -122,6 +123,21 @@ fn read_by_turns<R: Clock>(gate: &mut TcpGate<'_, R>, link: &mut TcpEnd) -> u32 
         }
     }
     1000
+}
+
+/// Whether a write of five bytes that took so many leaves no room.
+fn is_full_behind(count: usize) -> bool {
+    let notes = Notes::new();
+    notes.mind(true);
+    notes.wrote(&Ok(count), 5);
+    notes.is_full()
+}
+
+#[test]
+fn a_write_of_a_part_fills_a_socket(rt: HostRuntime) -> Result<(), Fail> {
+    assert!(rt; is_full_behind(3));
+    assert!(rt; !is_full_behind(5));
+    Ok(())
 }
 
 /// Reads into four bytes' room, each time behind a turn, until the end is found.
