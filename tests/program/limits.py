@@ -20,6 +20,8 @@ from passes import Show, play
 from wire import Client, Cut, Refused, message, startup
 
 LOGIN, START = 3, 2
+# as long as a connection may take where server_connect_timeout sets no time
+CONNECT = 15
 MANY, FEW_FILES, SILENT, BEHIND = 1000, 1024, 510, 100
 SECONDS = 10
 # so many seconds more a busy machine may take
@@ -242,6 +244,16 @@ class Limits(Show):
         self.passes.same("its place is free", self.console("SHOW SERVERS"), [])
         self.passes.same("and others are served", told(self.pooler.port)[0], "served")
 
+    def unlimited_starts(self):
+        """A server that takes no connection, where no time is set for it."""
+        full = Full()
+        row = f"full = host={HERE} port={full.port} dbname=shop"
+        self.begin(lines="server_connect_timeout = 0\n", more_rows=row)
+        outcome, took = told(self.pooler.port, database="full", seconds=CONNECT + SECONDS)
+        in_time = CONNECT - 0.5 < took < CONNECT + SLACK
+        self.passes.same(f"server_connect_timeout = 0: told in {CONNECT} s all the same ({took:.1f} s)", (outcome, in_time), (UNREACHED, True))
+        full.close()
+
     def console_beyond(self):
         """The console where no client has a place."""
         folder = self.place.folder
@@ -324,7 +336,7 @@ class Limits(Show):
                           sorted(times)[TURNS // 2] < AT_ONCE, shown)
 
     def all(self):
-        for part in (self.logins, self.files, self.shutdown, self.starts, self.console_beyond, self.places, self.bells):
+        for part in (self.logins, self.files, self.shutdown, self.starts, self.unlimited_starts, self.console_beyond, self.places, self.bells):
             part()
         self.pooler.stop()
         self.cluster.stop()
