@@ -118,8 +118,12 @@ class Served:
         for it in self.clients:
             it.send(startup("ann", "shop"))
         self.console = Client(self.pooler.port, "root", "pgbouncer", "r")
-        if not until(lambda: len(self.console.ask("SHOW CLIENTS")) >= count, SECONDS):
+        self.count = count
+        if not until(self.has_all, SECONDS):
             sys.exit(f"{count} clients aren't there in {SECONDS} s")
+
+    def has_all(self):
+        return len(self.console.ask("SHOW CLIENTS")) >= self.count
 
     def end(self):
         self.pooler.process.kill()
@@ -138,6 +142,8 @@ def main(program, most):
             served = Served(program, count)
             asked = {show: functools.partial(served.console.ask, f"SHOW {show}") for show in SHOWS}
             found[count] = probes.times(probes.thread(asked["CLIENTS"]), asked)
+            if not served.has_all():
+                sys.exit(f"not all of the {count} clients have stayed")
             served.end()
     finally:
         probes.switch(0)
