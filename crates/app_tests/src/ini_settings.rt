@@ -265,9 +265,8 @@ fn user_and_password<'a>(settings: &'a Settings) -> Option<(Option<&'a [u8]>, Op
 
 #[test]
 fn users_of_rows(rt: HostRuntime) -> Result<(), Fail> {
-    let rows: [(&str, Option<&[u8]>, Option<&[u8]>); 4] = [
+    let rows: [(&str, Option<&[u8]>, Option<&[u8]>); 3] = [
         ("", None, None),
-        ("user=", None, None),
         ("user=app", Some(b"app"), None),
         ("password=a=b user=app", Some(b"app"), Some(b"a=b")),
     ];
@@ -277,6 +276,7 @@ fn users_of_rows(rt: HostRuntime) -> Result<(), Fail> {
         assert!(rt; user_and_password(&settings) == Some((user, password)));
     }
     let refused = [
+        "user=",
         "password=a",
         "user=app password=",
         "user=app user=bc",
