@@ -177,6 +177,13 @@ class Cluster:
             return False
         return True
 
+    def crash(self, pid):
+        """Kills a session's process, for which the server ends all others and starts anew. It returns what tells whether that is over."""
+        starts = lambda: self.log.read_text(errors="replace").count("database system is ready to accept connections")
+        before = starts()
+        os.kill(pid, signal.SIGKILL)
+        return lambda: starts() > before and self.is_ready()
+
     def backends(self, user="ann"):
         """The processes of this user's sessions."""
         return [int(pid) for pid, in self.tell(f"SELECT pid FROM pg_stat_activity WHERE usename = '{user}'")]

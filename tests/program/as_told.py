@@ -8,7 +8,6 @@ Usage: as_told.py PROGRAM
 import os
 import pathlib
 import re
-import signal
 import socket
 import sys
 import threading
@@ -168,9 +167,9 @@ class AsTold(Show):
         client.leave()
         self.logs("a client that left before all was answered is told", link + "left before all was answered")
         client = Client(port, "ann", "shop", USERS["ann"][0])
-        os.kill(int(client.ask("SELECT pg_backend_pid()")[0][0]), signal.SIGKILL)
+        has_recovered = self.cluster.crash(int(client.ask("SELECT pg_backend_pid()")[0][0]))
         self.logs("a server's process that is killed is told", link + "server connection ended")
-        until(self.cluster.is_ready)
+        until(has_recovered)
         client.socket.close()
 
     def ended_sessions(self):
@@ -201,11 +200,11 @@ class AsTold(Show):
         clients = [Client(port, "ann", "shop", USERS["ann"][0]) for _ in range(2)]
         # a session that is just starting isn't always told
         killed, _ = (client.ask("SELECT pg_backend_pid()")[0][0] for client in clients)
-        os.kill(int(killed), signal.SIGKILL)
+        has_recovered = self.cluster.crash(int(killed))
         self.logs("sessions that end since another one was killed are told",
                   said + "57P02 terminating connection because of crash of another server process$")
         self.logs("and the one that was", r"link \d+ closed: server connection ended$")
-        until(self.cluster.is_ready)
+        until(has_recovered)
         for client in clients:
             client.socket.close()
         self.broken_sessions(port, said)

@@ -10,7 +10,6 @@ import hashlib
 import os
 import pathlib
 import re
-import signal
 import subprocess
 import sys
 import time
@@ -242,16 +241,15 @@ class Postgres(Show):
         pooler = self.pooler(auth="md5", size=1)
         self.client(pooler).leave()
         until(lambda: len(self.cluster.backends()) == 1)
-        os.kill(self.cluster.backends()[0], signal.SIGKILL)
-        until(self.cluster.is_ready)
+        until(self.cluster.crash(self.cluster.backends()[0]))
         self.serves_again(pooler, "an idle backend is killed")
         busy = self.client(pooler)
         busy.send(query("SELECT pg_sleep(30)"))
         until(lambda: self.cluster.tell("SELECT count(*) FROM pg_stat_activity WHERE query LIKE 'SELECT pg_sleep%' AND state = "
                                         "'active'") == [["1"]])
-        os.kill(self.cluster.backends()[0], signal.SIGKILL)
+        has_recovered = self.cluster.crash(self.cluster.backends()[0])
         self.loses(busy, "a busy backend is killed")
-        until(self.cluster.is_ready)
+        until(has_recovered)
         self.serves_again(pooler, "a busy backend is killed")
         waiting = self.client(pooler)
         self.cluster.stop()

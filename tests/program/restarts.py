@@ -8,7 +8,6 @@ import collections
 import os
 import pathlib
 import re
-import signal
 import subprocess
 import sys
 import threading
@@ -81,9 +80,7 @@ class Restarts(Show):
 
     def kill_one(self):
         """A server whose one process is killed ends all, and recovers."""
-        os.kill(self.cluster.backends()[0], signal.SIGKILL)
-        time.sleep(0.2)
-        until(self.cluster.is_ready)
+        until(self.cluster.crash(self.cluster.backends()[0]))
 
     def timeouts(self):
         """A server that ends idle sessions of its own accord, and clients farther apart than that."""
