@@ -198,8 +198,9 @@ class AsTold(Show):
                   said + "25P03 terminating connection due to idle-in-transaction timeout$")
         client.socket.close()
         clients = [Client(port, "ann", "shop", USERS["ann"][0]) for _ in range(2)]
-        # a session that is just starting isn't always told
         killed, _ = (client.ask("SELECT pg_backend_pid()")[0][0] for client in clients)
+        # a session that is at work, be it with the end of its answer, isn't always told
+        time.sleep(0.5)
         has_recovered = self.cluster.crash(int(killed))
         self.logs("sessions that end since another one was killed are told",
                   said + "57P02 terminating connection because of crash of another server process$")
@@ -258,7 +259,10 @@ class AsTold(Show):
         self.passes.same("both have the same link", len(links), 1)
         self.passes.same("a client of a server that tells no key", outcome(port, database="keyless"), "served")
         self.logs("has a link, and no process", rf"ann@keyless from .* has link \d+ to server 127\.0\.0\.1:{keyless.port}$")
+        self.before = len(self.log())
         self.reload("pgsess.ini", ("^log_connections = .*", "log_connections = 0"))
+        # what was told before that is in the log then
+        until(lambda: re.search("^pgsess: reloaded$", self.log()[self.before:], re.M), 5)
         self.before = len(self.log())
         self.passes.same("log_connections = 0: a client", outcome(port), "served")
         self.passes.same("is told neither as in nor with its link", re.findall(" in$| has link ", self.log()[self.before:], re.M), [])
