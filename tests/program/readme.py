@@ -62,15 +62,26 @@ def anchors(text):
     return {re.sub(r"[^\w\- ]", "", it.lower()).replace(" ", "-") for it in headings}
 
 
+def pages():
+    return [*TOP.glob("*.md"), *TOP.glob("docs/**/*.md")]
+
+
 def dead_links():
     """Links of the pages, between each other, that lead nowhere."""
     dead = []
-    for page in [*TOP.glob("*.md"), *TOP.glob("docs/*.md")]:
+    for page in pages():
         for name, anchor in re.findall(r"\]\(([^)#:]*)(?:#([^)]*))?\)", page.read_text()):
             to = page.parent / name if name else page
             if not to.exists() or anchor and anchor not in anchors(to.read_text()):
                 dead.append(f"{page.name}: {name}#{anchor}")
     return dead
+
+
+def wrong_ids():
+    """Ids of decisions that stand there twice, and those that a page cites and that aren't there."""
+    made = re.findall(r"^- \*\*(D-[A-Z]+-\d+)\.", "".join(it.read_text() for it in TOP.glob("docs/decisions/*.md")), re.M)
+    cited = {it for page in pages() for it in re.findall(r"\bD-[A-Z]+-\d+\b", page.read_text())}
+    return sorted({it for it in made if made.count(it) > 1} | cited - set(made))
 
 
 class Walk:
@@ -155,6 +166,7 @@ def names(passes, page, program):
     missing = [it for it in page.files() if not (TOP / it).exists()]
     passes.same("every file that the page leads to is there", missing, [])
     passes.same("no page leads nowhere", dead_links(), [])
+    passes.same("each decision that is cited is there, once", wrong_ids(), [])
     size = (page.text.count("\n") <= MOST_LINES, len(page.text.encode()) <= MOST_BYTES)
     passes.same(f"the page has at most {MOST_LINES} lines and {MOST_BYTES} bytes", size, (True, True))
 
