@@ -23,8 +23,11 @@ install -D -m 644 -t "$tree/share/man/man5" "$here/man/pgsess.ini.5"
 install -D -m 644 -t "$tree/share/bash-completion/completions" "$here/packaging/pgsess.bash"
 mv "$tree/share/bash-completion/completions/pgsess.bash" "$tree/share/bash-completion/completions/pgsess"
 install -D -m 644 -t "$tree/lib/systemd/system" "$here/packaging/pgsess.service"
-install -D -m 644 -t "$tree/share/doc/pgsess" "$here/LICENSE" "$here/SECURITY.md" "$here/CHANGELOG.md" "$here/docs/OPERATING.md" "$here/docs/MIGRATING.md" "$here/docs/RECIPES.md" \
+install -D -m 644 -t "$tree/share/doc/pgsess" "$here/LICENSE" "$here/CHANGELOG.md" "$here/docs/OPERATING.md" "$here/docs/MIGRATING.md" "$here/docs/RECIPES.md" "$here/docs/SPEED.md" \
     "$here/packaging/debian/copyright"
+# these pages stand beside it there; others aren't packed, so of a link to one its words are left
+sed 's#](docs/\(OPERATING\|MIGRATING\)\.md)#](\1.md)#g; s#\[\([^]]*\)\](docs/[^)]*)#\1#g' "$here/SECURITY.md" > "$work/SECURITY.md"
+install -m 644 "$work/SECURITY.md" "$tree/share/doc/pgsess/"
 install -D -t "$tree/share/doc/pgsess/examples" "$here"/packaging/recipes/*
 install -m 644 "$here/packaging/grafana/pgsess.json" "$tree/share/doc/pgsess/examples/grafana.json"
 install -m 644 "$here/examples/pgsess.ini" "$here/packaging/users.txt" "$tree/share/doc/pgsess/"

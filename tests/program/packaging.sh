@@ -31,10 +31,10 @@ check "its licence is packed" cmp packaging/debian/copyright "$work/root/usr/sha
 check "PROVED.md names the kit of RATTLE_KIT" grep -qF "\`$(cat RATTLE_KIT)\`" docs/PROVED.md
 check "settings and users are the service's alone" test "$(stat -c %a "$work/root/etc/pgsess" "$work/root/etc/pgsess/users.txt" | tr '\n' ' ')" = "750 640 "
 check "the packed settings are read" bash -c "'$program' serve --ini '$work/root/etc/pgsess/pgsess.ini' --users '$work/root/etc/pgsess/users.txt' --key-seed /dev/null 2>&1 | grep -qx 'pgsess: file /dev/null'"
-leads_nowhere() { # the files that the packed documents lead to and that aren't packed beside them
-    (cd "$work/root/usr/share/doc/pgsess" && grep -oh ']([^)#]*' *.md | sed 's/](//' | sort -u | while read -r file; do [ -z "$file" ] || [ -e "$file" ] || echo "$file"; done)
+leads_nowhere() { # leads_nowhere FOLDER: the files that the documents packed there lead to and that aren't packed beside them
+    (cd "$1" && grep -oh ']([^)#]*' *.md | sed 's/](//' | sort -u | while read -r file; do [ -z "$file" ] || [ -e "$file" ] || echo "$file"; done)
 }
-check "the packed documents lead to packed ones" silent leads_nowhere
+check "the packed documents lead to packed ones" silent leads_nowhere "$work/root/usr/share/doc/pgsess"
 check "no file of the package has a known password" bash -c "! grep -rqE '^[[:blank:]]*\"' '$work/root/etc/pgsess/users.txt' && ! grep -rqF -e '\"ann\" \"' -e '\"root\" \"' '$work/root/etc' '$work/root/usr/share'"
 check "it depends on psql, which the unit calls" bash -c "dpkg-deb -f '$work'/pgsess_*_amd64.deb Depends | grep -q postgresql-client"
 check "pgsess-run is packed, and is bash" bash -c "[ -x '$work/root/usr/bin/pgsess-run' ] && bash -n '$work/root/usr/bin/pgsess-run'"
@@ -42,6 +42,8 @@ check "a release is made" tools/dist.sh "$program" "$work/dist"
 check "its checksums are right" bash -c "cd '$work/dist' && sha256sum -c SHA256SUMS"
 cp "$work/dist/SHA256SUMS" "$work/sums" || true
 check "and the same again" bash -c "tools/dist.sh '$program' '$work/dist' > /dev/null && cmp '$work/sums' '$work/dist/SHA256SUMS'"
+tar -C "$work" -xzf "$work"/dist/pgsess-*.tar.gz || true
+check "the documents of its tar lead to packed ones" silent leads_nowhere "$work/pgsess-$(cat VERSION)/share/doc/pgsess"
 check "it names its version and its kit" bash -c "tar -xzOf '$work'/dist/pgsess-*.tar.gz --wildcards '*/BUILD' | grep -qx 'version $(cat VERSION)'"
 check "the image has what its file copies" bash -c "sed -n 's/^COPY\( --chmod=755\)\? \(.*\) [^ ]*\$/\2/p' packaging/Dockerfile | tr ' ' '\n' | grep -v ^build/ | while read -r it; do [ -e \"\$it\" ] || exit 1; done"
 check "each metric of the dashboard is one that is told" tests/lib/metrics.py packaging/grafana/pgsess.json
