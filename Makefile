@@ -14,7 +14,7 @@ KIT ?=
 program := crates/pgsess/out/pgsess
 trials := crates/trials/out/trials
 refusals := crates/refusals/out/refusals
-message_parts := crates/message_parts/out/message_parts
+view_dump := crates/view_dump/out/view_dump
 scram_parts := crates/scram_parts/out/scram_parts
 sources := crates.txt $(shell find crates -name out -prune -o -name must-fail -prune -o \( -name '*.rt' -o -name '*.antt' \) -print)
 
@@ -61,11 +61,11 @@ $(refusals): $(sources)
 	@echo "built $(refusals) ($$(date +%T))"
 
 # and the one that tells the parts of messages
-$(message_parts): $(sources)
+$(view_dump): $(sources)
 	@tools/kit.sh $(KIT)
-	@tools/prove.py message_parts
-	@touch $(message_parts)
-	@echo "built $(message_parts) ($$(date +%T))"
+	@tools/prove.py view_dump
+	@touch $(view_dump)
+	@echo "built $(view_dump) ($$(date +%T))"
 
 # and the one that tells what SCRAM's crates answer
 $(scram_parts): $(sources)
@@ -109,7 +109,7 @@ test:
 gate:
 	@tools/kit.sh any
 	RT_JOBS=$$(tools/jobs.sh) rt ci
-	@$(MAKE) --no-print-directory $(program) $(trials) $(refusals) $(message_parts) $(scram_parts)
+	@$(MAKE) --no-print-directory $(program) $(trials) $(refusals) $(view_dump) $(scram_parts)
 	tests/run
 
 # the wrong versions of functions that aren't tried by the gate; CRATES names some crates. It is no part of `test`: on top of the

@@ -65,13 +65,13 @@ check "no kit is refused" refused no_kit
 
 # a copy, whose programs are not those of this tree
 mkdir "$work/copy"
-find crates.txt HANDLES RATTLE_KIT tools crates/frame_view crates/message_view crates/message_parts \
+find crates.txt HANDLES RATTLE_KIT tools crates/frame_view crates/message_view crates/view_dump \
     -name out -prune -o -name __pycache__ -prune -o -type f -print | tar -c -T - | tar -x -C "$work/copy"
-check "a proof takes the crates below alone, without their edits" stood_in env RT_JOBS=3 "$work/copy/tools/prove.py" message_parts
+check "a proof takes the crates below alone, without their edits" stood_in env RT_JOBS=3 "$work/copy/tools/prove.py" view_dump
 said "2 of 3: message_view proved"
 check "the program is there, proved by as many jobs as were asked for" \
-    grep -qx "message_parts, jobs 3" "$work/copy/crates/message_parts/out/message_parts"
-check "what the prover said is kept" grep -q "rt: frame_view proved" "$work/copy/build/proof_message_parts.log"
+    grep -qx "view_dump, jobs 3" "$work/copy/crates/view_dump/out/view_dump"
+check "what the prover said is kept" grep -q "rt: frame_view proved" "$work/copy/build/proof_view_dump.log"
 check "what isn't proved fails" refused stood_in env SAYS="NOT PROVED" "$work/copy/tools/prove.py" frame_view
 said "prove: NOT PROVED"
 check "make quick passes, a line for each crate" stood_in "$work/copy/tools/quick.py" message_view frame_view

@@ -1,6 +1,6 @@
 use Rattle.std.proofs.Common.{length}
 use Rattle.message_view.specs.Left.{values_left}
-use Rattle.message_parts.proofs.lines.Line.values.Given as goal
+use Rattle.view_dump.proofs.lines.Line.values.Given as goal
 
 abbrev pub invariant-loop-value : goal.invariant-loop-value
 invariant-loop-value l = Unit {0}

@@ -1,6 +1,6 @@
 use Rattle.std.proofs.Common.{length}
 use Rattle.message_view.specs.Left.{fields_left}
-use Rattle.message_parts.proofs.lines.Line.note.Given as goal
+use Rattle.view_dump.proofs.lines.Line.note.Given as goal
 
 abbrev pub invariant-loop-code : goal.invariant-loop-code
 invariant-loop-code l = Unit {0}

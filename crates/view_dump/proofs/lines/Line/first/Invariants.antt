@@ -1,6 +1,6 @@
 use Rattle.std.proofs.Common.{length}
 use Rattle.message_view.specs.Left.{pairs_left}
-use Rattle.message_parts.proofs.lines.Line.first.Given as goal
+use Rattle.view_dump.proofs.lines.Line.first.Given as goal
 
 abbrev pub invariant-loop-name : goal.invariant-loop-name
 invariant-loop-name l = Unit {0}

@@ -1,6 +1,6 @@
 use Rattle.std.proofs.Common.{length}
 use Rattle.message_view.specs.Left.{columns_left}
-use Rattle.message_parts.proofs.lines.Line.columns.Given as goal
+use Rattle.view_dump.proofs.lines.Line.columns.Given as goal
 
 abbrev pub invariant-loop-number : goal.invariant-loop-number
 invariant-loop-number l = Unit {0}

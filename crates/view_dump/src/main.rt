@@ -12,8 +12,7 @@ use std::process::ExitCode;
 use std::{env, io};
 
 /// The line that a wrong command line is answered by.
-const USAGE: &str =
-    "usage: message_parts first | client | server (such messages on standard input)";
+const USAGE: &str = "usage: view_dump first | client | server (such messages on standard input)";
 
 /// Why nothing is told.
 enum Fault {
@@ -72,8 +71,8 @@ fn main(rt: HostRuntime) -> ExitCode {
     let (told, status) = match job(&rt) {
         Ok(()) => return ExitCode::SUCCESS,
         Err(Fault::Usage) => (USAGE, 2),
-        Err(Fault::Memory) => ("message_parts: memory", 1),
-        Err(Fault::Io) => ("message_parts: standard streams", 1),
+        Err(Fault::Memory) => ("view_dump: memory", 1),
+        Err(Fault::Io) => ("view_dump: standard streams", 1),
     };
     let _ = eprintln!(rt; "{}", told);
     ExitCode::from(status)
