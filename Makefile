@@ -13,7 +13,7 @@ KIT ?=
 
 program := crates/pgsess/out/pgsess
 trials := crates/trials/out/trials
-refusals := crates/refusals/out/refusals
+oom_probe := crates/oom_probe/out/oom_probe
 view_dump := crates/view_dump/out/view_dump
 scram_parts := crates/scram_parts/out/scram_parts
 sources := crates.txt $(shell find crates -name out -prune -o -name must-fail -prune -o \( -name '*.rt' -o -name '*.antt' \) -print)
@@ -54,11 +54,11 @@ $(trials): $(sources)
 	@echo "built $(trials) ($$(date +%T))"
 
 # the tool that asks once more for what is refused, likewise
-$(refusals): $(sources)
+$(oom_probe): $(sources)
 	@tools/kit.sh $(KIT)
-	@tools/prove.py refusals
-	@touch $(refusals)
-	@echo "built $(refusals) ($$(date +%T))"
+	@tools/prove.py oom_probe
+	@touch $(oom_probe)
+	@echo "built $(oom_probe) ($$(date +%T))"
 
 # and the one that tells the parts of messages
 $(view_dump): $(sources)
@@ -109,7 +109,7 @@ test:
 gate:
 	@tools/kit.sh any
 	RT_JOBS=$$(tools/jobs.sh) rt ci
-	@$(MAKE) --no-print-directory $(program) $(trials) $(refusals) $(view_dump) $(scram_parts)
+	@$(MAKE) --no-print-directory $(program) $(trials) $(oom_probe) $(view_dump) $(scram_parts)
 	tests/run
 
 # the wrong versions of functions that aren't tried by the gate; CRATES names some crates. It is no part of `test`: on top of the

@@ -1,17 +1,17 @@
 #!/usr/bin/env bash
-# refuse-growth.sh [PROGRAM [TRIALS [REFUSALS]]]: runs the program with its first allocation refused, then with its second, and so on
+# refuse-growth.sh [PROGRAM [TRIALS [PROBE]]]: runs the program with its first allocation refused, then with its second, and so on
 # until none is left to refuse. Each run must end with status 1 and the line `pgsess: memory` alone, or with status 0 and
 # the whole answer. Where a file's line can't be kept, `serve` and `stub` may name it, as in `pgsess: C8 line 7`; they are run at a
 # port that another has, so that what they end with is `pgsess: port N` and status 3.
 # Logins with a password are tried likewise through `trials login`; and steps of a session through `trials solo`, which asks once more
-# for what is refused: so a growth that is refused there leaves no trace, and the answer is the whole one. `refusals KIND` does so with
+# for what is refused: so a growth that is refused there leaves no trace, and the answer is the whole one. `oom_probe KIND` does so with
 # logins, starts and resets of links, ends in memory, leases, the book and its views, a desk's views, the console's answers and the request
 # of a cancel: it looks at what each refusal left, asks once more, and gives the answer of a run in which nothing is refused.
 set -euo pipefail
 cd "$(dirname "$0")/../.."
 program=$(realpath "${1:-crates/pgsess/out/pgsess}")
 trials=$(realpath "${2:-crates/trials/out/trials}")
-refusals=$(realpath "${3:-crates/refusals/out/refusals}")
+probe=$(realpath "${3:-crates/oom_probe/out/oom_probe}")
 work=$(mktemp -d)
 trap 'rm -rf "$work"' EXIT
 gcc -O1 -Wall -Wextra -shared -fPIC -o "$work/refuse.so" tests/program/refuse_growth.c
@@ -115,8 +115,8 @@ done
 for kind in login:10 start:60 reset:10 end:100 relay:5 book:20 view:3 console:120 strike:2; do
     fewest=${kind#*:}
     kind=${kind%:*}
-    "$refusals" "$kind" >"$work/answer"
-    sweep "refusals of $kind" "$work/answer" 'refusals: memory' /dev/null "$refusals" "$kind"
+    "$probe" "$kind" >"$work/answer"
+    sweep "oom_probe of $kind" "$work/answer" 'oom_probe: memory' /dev/null "$probe" "$kind"
 done
 fewest=0
 

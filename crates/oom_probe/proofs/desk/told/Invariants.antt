@@ -1,6 +1,6 @@
 use Rattle.std.specs.Arc.{arc_value}
 use Rattle.desk_tallies.specs.Shares.{names_of, parts_of}
-use Rattle.refusals.proofs.desk.told.Given as goal
+use Rattle.oom_probe.proofs.desk.told.Given as goal
 
 abbrev pub ghosts-put_desk-N-Naming : goal.ghosts-put_desk-N-Naming
 ghosts-put_desk-N-Naming g a = record { catalogue = λ address. arc_value a.catalogue }

@@ -3,7 +3,7 @@ ghost use Rattle.std.specs.Prelude.{◌≡◌, true, IfOk};
 ghost use Rattle.std.specs.Arc.{arc_value};
 ghost use Rattle.link_start.specs.Starts.{CanStartAll, IsLinkKey};
 ghost use Rattle.memory_start_laws.specs.Starts.{HasSalt};
-ghost use Rattle.refusals.specs.Keys.{anns_key};
+ghost use Rattle.oom_probe.specs.Keys.{anns_key};
 
 use crate::KEY_WORD;
 use crate::files::catalogue;

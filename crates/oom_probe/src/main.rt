@@ -67,7 +67,7 @@ fn main(rt: HostRuntime) -> ExitCode {
     let words = match words_of(&rt) {
         Ok(words) => words,
         Err(_) => {
-            let _ = eprintln!(rt; "refusals: memory");
+            let _ = eprintln!(rt; "oom_probe: memory");
             return ExitCode::from(1);
         }
     };
@@ -76,13 +76,13 @@ fn main(rt: HostRuntime) -> ExitCode {
         return ExitCode::from(2);
     };
     let Ok(lines) = lines_of(rt, rt.alloc(), kind) else {
-        let _ = eprintln!(rt; "refusals: memory");
+        let _ = eprintln!(rt; "oom_probe: memory");
         return ExitCode::from(1);
     };
     match write(&rt, lines.as_slice()) {
         Ok(()) => ExitCode::SUCCESS,
         Err(_) => {
-            let _ = eprintln!(rt; "refusals: stdout");
+            let _ = eprintln!(rt; "oom_probe: stdout");
             ExitCode::from(1)
         }
     }

@@ -2,7 +2,7 @@
 
 /// The line that a wrong command line is answered by.
 pub const USAGE: &str =
-    "usage: refusals login | start | reset | end | relay | book | view | console | strike";
+    "usage: oom_probe login | start | reset | end | relay | book | view | console | strike";
 
 /// What is asked again where memory is refused.
 #[derive(Clone, Copy, Drop)]
