@@ -11,11 +11,11 @@ DESTDIR ?=
 # any: another kit than RATTLE_KIT's is told of, and taken
 KIT ?=
 
+# the program, and the tools of the tests and measurements, which aren't installed
 program := crates/pgsess/out/pgsess
 trials := crates/trials/out/trials
-oom_probe := crates/oom_probe/out/oom_probe
-view_dump := crates/view_dump/out/view_dump
 scram_parts := crates/scram_parts/out/scram_parts
+tools := $(trials) crates/oom_probe/out/oom_probe crates/view_dump/out/view_dump $(scram_parts)
 sources := crates.txt $(shell find crates -name out -prune -o -name must-fail -prune -o \( -name '*.rt' -o -name '*.antt' \) -print)
 
 define help_text
@@ -39,40 +39,12 @@ endef
 help:
 	@: $(info $(help_text))
 
-# the program, as `rt ci` or an earlier build left it; else proved and built now
-$(program): $(sources)
+# each as `rt ci` or an earlier build left it; else proved and built now
+$(program) $(tools): $(sources)
 	@tools/kit.sh $(KIT)
-	@tools/prove.py pgsess
-	@touch $(program)
-	@echo "built $(program) ($$(date +%T))"
-
-# the tool of the tests and measurements, likewise; it isn't installed
-$(trials): $(sources)
-	@tools/kit.sh $(KIT)
-	@tools/prove.py trials
-	@touch $(trials)
-	@echo "built $(trials) ($$(date +%T))"
-
-# the tool that asks once more for what is refused, likewise
-$(oom_probe): $(sources)
-	@tools/kit.sh $(KIT)
-	@tools/prove.py oom_probe
-	@touch $(oom_probe)
-	@echo "built $(oom_probe) ($$(date +%T))"
-
-# and the one that tells the parts of messages
-$(view_dump): $(sources)
-	@tools/kit.sh $(KIT)
-	@tools/prove.py view_dump
-	@touch $(view_dump)
-	@echo "built $(view_dump) ($$(date +%T))"
-
-# and the one that tells what SCRAM's crates answer
-$(scram_parts): $(sources)
-	@tools/kit.sh $(KIT)
-	@tools/prove.py scram_parts
-	@touch $(scram_parts)
-	@echo "built $(scram_parts) ($$(date +%T))"
+	@tools/prove.py $(notdir $@)
+	@touch $@
+	@echo "built $@ ($$(date +%T))"
 
 build/pgsess: $(program)
 	@mkdir -p build
@@ -109,7 +81,7 @@ test:
 gate:
 	@tools/kit.sh any
 	RT_JOBS=$$(tools/jobs.sh) rt ci
-	@$(MAKE) --no-print-directory $(program) $(trials) $(oom_probe) $(view_dump) $(scram_parts)
+	@$(MAKE) --no-print-directory $(program) $(tools)
 	tests/run
 
 # the wrong versions of functions that aren't tried by the gate; CRATES names some crates. It is no part of `test`: on top of the
