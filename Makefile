@@ -72,7 +72,7 @@ quick:
 recipes: $(or $(PROGRAM),build/pgsess)
 	@tests/run recipes --pgsess $< -- --installed
 
-# the whole gate, and what it took: by the clock, and of processor time in user and system
+# the whole gate, what each crate took, and what all of it took: by the clock, and of processor time in user and system
 test:
 	@TIMEFORMAT='make test took %lR by the clock, and %lU + %lS of processor time'; time $(MAKE) --no-print-directory gate
 
@@ -80,7 +80,7 @@ test:
 # crate's takes, and would let that crate wait until nothing else runs; so it is told how many checks run side by side
 gate:
 	@tools/kit.sh any
-	RT_JOBS=$$(tools/jobs.sh) rt ci
+	RT_JOBS=$$(tools/jobs.sh) tools/times.py rt ci
 	@$(MAKE) --no-print-directory $(program) $(tools)
 	tests/run
 

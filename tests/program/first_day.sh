@@ -78,5 +78,19 @@ check "make quick passes, a line for each crate" stood_in "$work/copy/tools/quic
 said "quick: 4 passed, 0 failed; nothing is proved"
 check "a test that fails is told" refused stood_in env SAYS=no "$work/copy/tools/quick.py" frame_view
 check "so is a file out of its layout" refused stood_in env LAYOUT="rt: formatted src/lib.rt" "$work/copy/tools/quick.py" frame_view
+# a prover that takes a second of processor time for a crate, and refuses it
+cat > "$work/bin/prover" << 'PROVER'
+#!/usr/bin/env bash
+python3 -c 'import time
+while time.process_time() < 1.6: pass' --crate-name "$1"
+echo "0 passed, 1 failed"
+exit 3
+PROVER
+chmod +x "$work/bin/prover"
+status_of() { local status=0; "$@" || status=$?; echo "status $status"; }
+check "the gate's lines come first" bash -c "tools/times.py '$work/bin/prover' slow_crate | head -1 | grep -qx '0 passed, 1 failed'"
+check "what a crate took is told" status_of tools/times.py "$work/bin/prover" slow_crate
+said "s  slow_crate"
+check "the status is the command's" grep -qx "status 3" "$work/said"
 echo "$passed passed, $failed failed"
 [ "$failed" -eq 0 ]
