@@ -109,16 +109,16 @@ dist: build/pgsess
 # all run; the status says whether a bound was missed
 bench: build/pgsess $(trials) $(scram_parts)
 	@status=0; \
-	bench/replay.sh build/pgsess || status=$$?; \
-	bench/tables.sh build/pgsess || status=$$?; \
-	bench/relay.sh $(trials) || status=$$?; \
-	bench/book.sh $(trials) || status=$$?; \
+	bench/replay.py build/pgsess || status=$$?; \
+	bench/tables.py build/pgsess || status=$$?; \
+	bench/relay.py $(trials) || status=$$?; \
+	bench/book.py $(trials) || status=$$?; \
 	tests/program/calls.py build/pgsess || status=$$?; \
 	bench/derivations.py build/pgsess || status=$$?; \
 	bench/scram.py build/pgsess || status=$$?; \
 	bench/restart.py build/pgsess || status=$$?; \
 	bench/shows.py build/pgsess || status=$$?; \
-	bench/pool.sh build/pgsess || status=$$?; \
+	bench/pool.py build/pgsess || status=$$?; \
 	tests/program/scram.py $(scram_parts) --whole || status=$$?; \
 	exit $$status
 

@@ -9,7 +9,6 @@ The server is stopped by `pg_ctl stop -m fast` while four clients connect one af
 seconds later. The poolers are tried in turn, over a server of their own.
 """
 import collections
-import os
 import pathlib
 import statistics
 import sys
@@ -18,6 +17,7 @@ import time
 
 sys.path.insert(0, str(pathlib.Path(__file__).resolve().parent.parent / "tests/lib"))
 from cluster import Cluster, Place, Pooler, need, set_up, until
+from passes import words
 from wire import Client, Cut, Refused
 
 LOOPS, APART = 4, 0.05
@@ -87,15 +87,13 @@ def measured(program, kind):
         cluster.stop()
 
 
-def main():
-    if len(sys.argv) not in (2, 3):
-        sys.exit(__doc__)
+def main(program, rounds=1):
     set_up()
     need(["pgbouncer"], ["pgbouncer"])
-    for _ in range(int(sys.argv[2]) if len(sys.argv) > 2 else 1):
+    for _ in range(int(rounds)):
         for kind in ("pgsess", "pgbouncer"):
-            measured(os.path.abspath(sys.argv[1]), kind)
+            measured(program, kind)
 
 
 if __name__ == "__main__":
-    main()
+    main(*words(1, further=1))
