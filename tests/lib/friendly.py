@@ -1,8 +1,6 @@
 """A server that lets in whoever comes and does what it is asked, and what a client is told behind a pooler."""
-import socket
-import threading
-
 from cluster import HERE, USERS
+from listening import Listener
 from wire import RESET, Client, Cut, Refused, message
 
 SECONDS = 20
@@ -12,20 +10,13 @@ DONE = message(b"C", b"SELECT 0\0") + READY
 FRIENDLY = (DONE, message(b"C", b"DISCARD ALL\0") + READY)
 
 
-class Server(threading.Thread):
+class Server(Listener):
     """A server that lets in whoever comes, by this welcome, and answers each query and each reset so; what it was sent stays."""
 
     def __init__(self, welcome=OK + KEY + READY, answers=FRIENDLY, host=HERE):
-        super().__init__(daemon=True)
-        self.listener = socket.create_server((host, 0))
-        self.port, self.welcome, self.answers = self.listener.getsockname()[1], welcome, answers
+        self.welcome, self.answers = welcome, answers
         self.sent, self.cancels, self.ended = b"", [], 0
-        self.start()
-
-    def run(self):
-        while True:
-            connection, _ = self.listener.accept()
-            threading.Thread(target=self.serve, args=(connection,), daemon=True).start()
+        super().__init__(host)
 
     def serve(self, connection):
         held = b""

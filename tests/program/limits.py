@@ -16,6 +16,7 @@ import time
 
 sys.path.insert(0, str(pathlib.Path(__file__).resolve().parents[1] / "lib"))
 from cluster import HERE, USERS, Cluster, until
+from listening import Listener
 from passes import Show, play
 from wire import Client, Cut, Refused, message, startup
 
@@ -132,21 +133,14 @@ class Full:
         close([*self.waiting, self.listener])
 
 
-class Dripping(threading.Thread):
+class Dripping(Listener):
     """A server that says AuthenticationOk and then reports, a byte each 50 ms."""
 
     def __init__(self):
-        super().__init__(daemon=True)
-        self.listener = socket.create_server((HERE, 0))
-        self.port, self.open = self.listener.getsockname()[1], 0
-        self.start()
+        self.open = 0
+        super().__init__()
 
-    def run(self):
-        while True:
-            connection, _ = self.listener.accept()
-            threading.Thread(target=self.drip, args=(connection,), daemon=True).start()
-
-    def drip(self, connection):
+    def serve(self, connection):
         self.open += 1
         text = message(b"R", (0).to_bytes(4, "big")) + message(b"S", b"server_version\0" + b"15" * 4000 + b"\0")
         try:
