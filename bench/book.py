@@ -1,7 +1,7 @@
 #!/usr/bin/env python3
-"""What an event of the lease book costs with 100 clients of one pool, and with 10,000 clients of 500 pools, of whom 9,000 wait: in processor
-time, and in instructions where valgrind is there. The bounds: with 10,000 clients at most 1.5 times as much by each, and at most 3 us. And
-what a second costs with 10,000 idle links under 10,000 database rows: at most 5 ms.
+"""What an event of the lease book costs with 100 clients of one pool, and with 10,000 clients of 500 pools, of whom 9,000 wait: in
+processor time, and in instructions where valgrind is there. The bounds: with 10,000 clients at most 1.5 times as much by each, and at most
+3 us. And what a second costs with 10,000 idle links under 10,000 database rows: at most 5 ms.
 
 Usage: book.py TRIALS [EVENTS]
 """

@@ -3,8 +3,8 @@
 
 Usage: times.py COMMAND [WORD..]
 
-The command writes where this program would, so its lines come as it writes them; its status is this one's. Once a second the processes below
-it are looked at: the prover's name their crate. What one takes behind the last look isn't seen; what the system counted of all stands beside.
+The command writes where this program would, so its lines come as it writes them; its status is this one's. Once a second the processes
+below it are looked at: the prover's name their crate. What one takes behind the last look is told in the system's count alone.
 """
 import collections
 import contextlib

@@ -1,4 +1,4 @@
-"""What programs cost in instructions of the processor, as valgrind counts them; and what an event of the lease book costs by any measure."""
+"""What programs cost in instructions of the processor, as valgrind counts them; and what an event of the lease book costs."""
 import re
 import subprocess
 

@@ -3,20 +3,8 @@
 # stand-in for `rt` proves nothing and says what the real one would.
 set -eu
 cd "$(dirname "$0")/../.."
-work=$(mktemp -d)
-trap 'rm -rf "$work"' EXIT
-passed=0 failed=0
-check() { # check WORDS COMMAND..
-    local words=$1
-    shift
-    if "$@" > "$work/out" 2>&1; then
-        passed=$((passed + 1))
-    else
-        failed=$((failed + 1))
-        echo "first_day: $words"
-        head -5 "$work/out"
-    fi
-}
+# shellcheck source=tests/lib/checks.sh
+. tests/lib/checks.sh
 said() { # said WORDS: the last command that was checked said them
     mv "$work/out" "$work/said"
     check "it says '$1'" grep -qF "$1" "$work/said"
@@ -92,5 +80,4 @@ check "the gate's lines come first" bash -c "tools/times.py '$work/bin/prover' s
 check "what a crate took is told" status_of tools/times.py "$work/bin/prover" slow_crate
 said "s  slow_crate"
 check "the status is the command's" grep -qx "status 3" "$work/said"
-echo "$passed passed, $failed failed"
-[ "$failed" -eq 0 ]
+counted first_day

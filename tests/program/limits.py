@@ -245,7 +245,8 @@ class Limits(Show):
         self.begin(lines="server_connect_timeout = 0\n", more_rows=row)
         outcome, took = told(self.pooler.port, database="full", seconds=CONNECT + SECONDS)
         in_time = CONNECT - 0.5 < took < CONNECT + SLACK
-        self.passes.same(f"server_connect_timeout = 0: told in {CONNECT} s all the same ({took:.1f} s)", (outcome, in_time), (UNREACHED, True))
+        self.passes.same(f"server_connect_timeout = 0: told in {CONNECT} s all the same ({took:.1f} s)", (outcome, in_time),
+                         (UNREACHED, True))
         full.close()
 
     def console_beyond(self):
@@ -330,7 +331,8 @@ class Limits(Show):
                           sorted(times)[TURNS // 2] < AT_ONCE, shown)
 
     def all(self):
-        for part in (self.logins, self.files, self.shutdown, self.starts, self.unlimited_starts, self.console_beyond, self.places, self.bells):
+        for part in (self.logins, self.files, self.shutdown, self.starts, self.unlimited_starts, self.console_beyond, self.places,
+                     self.bells):
             part()
         self.pooler.stop()
         self.cluster.stop()

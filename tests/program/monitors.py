@@ -157,8 +157,8 @@ class Monitors(Show):
         return int(row_of(table(self.port, "STATS"), database="shop").get("total_query_count", 0))
 
     def coming_and_going(self):
-        """While clients come and go, figures never go back, and none is counted twice: STATS is asked for all the while. The silent ones are
-        more than are copied at once, so clients go while others are being copied."""
+        """While clients come and go, figures never go back, and none is counted twice: STATS is asked for all the while. The silent ones
+        are more than are copied at once, so clients go while others are being copied."""
         self.begin()
         silent = [socket.create_connection((HERE, self.port)) for _ in range(SILENT)]
         found, over = [], threading.Event()

@@ -12,13 +12,11 @@ cd "$(dirname "$0")/../.."
 program=$(realpath "${1:-crates/pgsess/out/pgsess}")
 trials=$(realpath "${2:-crates/trials/out/trials}")
 probe=$(realpath "${3:-crates/oom_probe/out/oom_probe}")
-work=$(mktemp -d)
-trap 'rm -rf "$work"' EXIT
+# shellcheck source=tests/lib/checks.sh
+. tests/lib/checks.sh
 gcc -O1 -Wall -Wextra -shared -fPIC -o "$work/refuse.so" tests/program/refuse_growth.c
 head -c 32 /dev/zero >"$work/seed.bin"
 
-passed=0
-failed=0
 # the status of a run in which nothing is refused
 whole=0
 
@@ -80,14 +78,8 @@ for row in bind_values temporary_table_and_statement suspended_portal set_show_d
     sweep "replay of $row" "tests/rows/$row.out" 'pgsess: memory' "tests/rows/$row.in" "$program" replay
 done
 # a port that is taken
-python3 -c 'import socket, time; s = socket.socket(); s.bind(("127.0.0.1", 0)); s.listen(); print(s.getsockname()[1], flush=True); time.sleep(3600)' >"$work/port" &
-holder=$!
-trap 'kill "$holder"; rm -rf "$work"' EXIT
-for _ in {1..100}; do
-    [ -s "$work/port" ] && break
-    sleep 0.05
-done
-port=$(cat "$work/port")
+hold 0
+port=$(cat "$work/held")
 sed "s/^listen_port = .*/listen_port = $port/" examples/pgsess.ini >"$work/taken.ini"
 : >"$work/taken"
 echo "pgsess: port $port" >"$work/taken.err"
@@ -120,5 +112,4 @@ for kind in login:10 start:60 reset:10 end:100 relay:5 book:20 view:3 console:12
 done
 fewest=0
 
-echo "refuse-growth: $passed passed, $failed failed"
-[ "$failed" -eq 0 ]
+counted refuse-growth

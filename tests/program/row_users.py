@@ -1,7 +1,7 @@
 #!/usr/bin/env python3
-"""Shows what a database's row says of users (`user=`, `password=`): whoever proves to be itself is served as the row's user, over one pool of
-that user's links; and neither the log nor a command of the console shows the password. In front of a PostgreSQL server of Debian, once where
-it asks for MD5 digests and once as it is installed.
+"""Shows what a database's row says of users (`user=`, `password=`): whoever proves to be itself is served as the row's user, over one pool
+of that user's links; and neither the log nor a command of the console shows the password. In front of a PostgreSQL server of Debian, once
+where it asks for MD5 digests and once as it is installed.
 
 Usage: row_users.py PROGRAM
 """
@@ -54,7 +54,8 @@ class RowUsers(Show):
         self.passes.same("two at a time have two", len(pids), 2)
         self.passes.same("of one pool", [row[:2] for row in self.console("SHOW POOLS") if row[0] == "app"], [["app", "app"]])
         for name in ("ann", "bc"):
-            self.passes.holds(f"the log names {name}", until(lambda: f" {name}@app from " in self.log()[self.before:], 5), self.log()[-400:])
+            is_named = until(lambda: f" {name}@app from " in self.log()[self.before:], 5)
+            self.passes.holds(f"the log names {name}", is_named, self.log()[-400:])
         self.passes.holds("and nobody as the row's user", " app@app from " not in self.log()[self.before:], self.log()[-400:])
         for client in clients:
             client.leave()
