@@ -66,6 +66,19 @@ def outcome(make):
         client.leave()
 
 
+def outcome_at(port, user="ann", password=None, database="shop", asks="SELECT 1", **more):
+    """What a client is told that asks for something and goes: that it is served, its error's code, or how it was cut off."""
+    try:
+        client = Client(port, user, database, USERS[user][0] if password is None else password, **more)
+        client.ask(asks)
+        client.leave()
+        return "served"
+    except Refused as error:
+        return error.code
+    except (Cut, OSError) as error:
+        return type(error).__name__
+
+
 class Worker(threading.Thread):
     """A client that asks again and again over one connection, until it is told to stop. What it is told by an error is kept."""
 

@@ -1,9 +1,8 @@
-"""A server that lets in whoever comes and does what it is asked, and what a client is told behind a pooler."""
-from cluster import HERE, USERS
+"""A server that lets in whoever comes and does what it is asked."""
+from cluster import HERE
 from listening import Listener
-from wire import RESET, Client, Cut, Refused, message
+from wire import RESET, message
 
-SECONDS = 20
 OK, KEY, READY = message(b"R", bytes(4)), message(b"K", (7).to_bytes(4, "big") + (9).to_bytes(4, "big")), message(b"Z", b"I")
 DONE = message(b"C", b"SELECT 0\0") + READY
 # what it says to a query, and to the reset
@@ -46,16 +45,3 @@ class Server(Listener):
                 raise OSError("a cancel")
             connection.sendall(self.welcome if first else self.answers[packet == RESET] if packet[:1] == b"Q" else b"")
         return held
-
-
-def outcome(port, user="ann", password=None, database="shop", asks="SELECT", host=HERE):
-    """What a client is told that asks for something."""
-    try:
-        client = Client(port, user, database, USERS[user][0] if password is None else password, host=host, seconds=SECONDS)
-        client.ask(asks)
-        client.leave()
-        return "served"
-    except Refused as error:
-        return error.code
-    except (Cut, OSError) as error:
-        return type(error).__name__

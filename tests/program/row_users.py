@@ -10,8 +10,8 @@ import shutil
 import sys
 
 sys.path.insert(0, str(pathlib.Path(__file__).resolve().parents[1] / "lib"))
+from asking import outcome_at
 from cluster import HERE, USERS, Cluster, Installed, until
-from friendly import outcome
 from passes import Show, play
 from wire import Client
 
@@ -65,11 +65,11 @@ class RowUsers(Show):
         """By whose secret a client logs in, and by whose its link is started."""
         refused = (("who gives the row's password for its own", "ann", HIDDEN), ("who gives it as the row's user", "app", HIDDEN))
         for what, user, password in refused:
-            self.passes.same(f"{what} isn't let in", outcome(self.pooler.port, user, password, "app"), WRONG_PASSWORD)
+            self.passes.same(f"{what} isn't let in", outcome_at(self.pooler.port, user, password, "app"), WRONG_PASSWORD)
         for database, what, code in (("wrong", "a password that is another", WRONG_PASSWORD), ("unknown", "none at all", NO_SERVER),
                                      ("proved", "a verifier", NO_SERVER)):
             before = len(self.log())
-            self.passes.same(f"{what}: its clients", outcome(self.pooler.port, "ann", None, database), code)
+            self.passes.same(f"{what}: its clients", outcome_at(self.pooler.port, "ann", None, database), code)
             self.passes.holds("are told as refused", until(lambda: f"ann@{database}" in self.log()[before:], 5), self.log()[before:])
 
     def shown(self):
