@@ -98,6 +98,14 @@ def fetched(port, path):
         return ""
 
 
+def installed(name):
+    """Where a program is; of one that isn't there that is said."""
+    found = shutil.which(name)
+    if not found:
+        print(f"not tried: {name} isn't installed", flush=True)
+    return found
+
+
 def side_by_side(work, count):
     """Does this so often at once, and waits for all."""
     threads = [threading.Thread(target=work) for _ in range(count)]
@@ -328,9 +336,8 @@ class Monitors(Show):
 
     def exporter(self):
         """Debian's exporter, which can't run with Debian's own PgBouncer."""
-        program = shutil.which("prometheus-pgbouncer-exporter")
+        program = installed("prometheus-pgbouncer-exporter")
         if not program:
-            print("not tried: prometheus-pgbouncer-exporter isn't installed", flush=True)
             return
         port = free_port()
         text = (f"exporter_host: {HERE}\nexporter_port: {port}\npgbouncers:\n  -\n    dsn: postgresql://root@{HERE}:{self.port}/pgbouncer\n"
@@ -344,9 +351,8 @@ class Monitors(Show):
 
     def prometheus(self):
         """Debian's Prometheus scrapes the figures, and then has each series that the dashboard names."""
-        program = shutil.which("prometheus")
+        program = installed("prometheus")
         if not program:
-            print("not tried: prometheus isn't installed", flush=True)
             return
         port, wanted = free_port(), named(TOP / "packaging/grafana/pgsess.json")
         text = ("global:\n  scrape_interval: 1s\nscrape_configs:\n  - job_name: pgsess\n    static_configs:\n"
@@ -364,9 +370,8 @@ class Monitors(Show):
         process.wait(20)
 
     def check_postgres(self):
-        program = shutil.which("check_postgres")
+        program = installed("check_postgres")
         if not program:
-            print("not tried: check_postgres isn't installed", flush=True)
             return
         self.begin("console_style = pgbouncer\n")
         told = {}
