@@ -11,11 +11,11 @@ DESTDIR ?=
 # any: another kit than RATTLE_KIT's is told of, and taken
 KIT ?=
 
+# the program, and the tools of the tests and measurements, which aren't installed
 program := crates/pgsess/out/pgsess
 trials := crates/trials/out/trials
-refusals := crates/refusals/out/refusals
-message_parts := crates/message_parts/out/message_parts
 scram_parts := crates/scram_parts/out/scram_parts
+tools := $(trials) crates/oom_probe/out/oom_probe crates/view_dump/out/view_dump $(scram_parts)
 sources := crates.txt $(shell find crates -name out -prune -o -name must-fail -prune -o \( -name '*.rt' -o -name '*.antt' \) -print)
 
 define help_text
@@ -25,11 +25,11 @@ time; else all is proved anew. RT_JOBS=N says how many are proved side by side, 
   make demo       shows the pool before a PostgreSQL, by a program that is built and NOT proved      2 to 5 minutes
   make quick      the layout, and every test before any proof; CRATES="base_tests .." some           5 to 15 minutes
   make run        shows it before a stand-in server, by the proved program; KEEP=1 leaves it up      proves first
-  make build      proves and builds build/pgsess                                                     some three hours of processor time, once
+  make build      proves and builds build/pgsess                                                     three hours of processor time, once
   make install    that, and puts it in PREFIX, /usr/local, with its pages; DESTDIR as usual          proves first
   make deb        that, and makes a Debian package in build/                                         proves first
   make dist       a release in build/dist: the package, a tar, their checksums                       proves first
-  make test       the gate: every proof, edits that must be refused, every test                      some seven hours of processor time
+  make test       the gate: every proof, edits that must be refused, every test                      seven hours of processor time
   make wrong      the wrong versions that the gate leaves out; CRATES="mini_sql .." some             hours for all, minutes for a crate
   make recipes    the recipes that install HAProxy and stunnel; PROGRAM=build/pgsess                 some 2 minutes; proves first
   make bench      measurements beside PgBouncer, which it installs                                   proves first
@@ -39,40 +39,12 @@ endef
 help:
 	@: $(info $(help_text))
 
-# the program, as `rt ci` or an earlier build left it; else proved and built now
-$(program): $(sources)
+# each as `rt ci` or an earlier build left it; else proved and built now
+$(program) $(tools): $(sources)
 	@tools/kit.sh $(KIT)
-	@tools/prove.py pgsess
-	@touch $(program)
-	@echo "built $(program) ($$(date +%T))"
-
-# the tool of the tests and measurements, likewise; it isn't installed
-$(trials): $(sources)
-	@tools/kit.sh $(KIT)
-	@tools/prove.py trials
-	@touch $(trials)
-	@echo "built $(trials) ($$(date +%T))"
-
-# the tool that asks once more for what is refused, likewise
-$(refusals): $(sources)
-	@tools/kit.sh $(KIT)
-	@tools/prove.py refusals
-	@touch $(refusals)
-	@echo "built $(refusals) ($$(date +%T))"
-
-# and the one that tells the parts of messages
-$(message_parts): $(sources)
-	@tools/kit.sh $(KIT)
-	@tools/prove.py message_parts
-	@touch $(message_parts)
-	@echo "built $(message_parts) ($$(date +%T))"
-
-# and the one that tells what SCRAM's crates answer
-$(scram_parts): $(sources)
-	@tools/kit.sh $(KIT)
-	@tools/prove.py scram_parts
-	@touch $(scram_parts)
-	@echo "built $(scram_parts) ($$(date +%T))"
+	@tools/prove.py $(notdir $@)
+	@touch $@
+	@echo "built $@ ($$(date +%T))"
 
 build/pgsess: $(program)
 	@mkdir -p build
@@ -100,7 +72,7 @@ quick:
 recipes: $(or $(PROGRAM),build/pgsess)
 	@tests/run recipes --pgsess $< -- --installed
 
-# the whole gate, and what it took: by the clock, and of processor time in user and system
+# the whole gate, what each crate took, and what all of it took: by the clock, and of processor time in user and system
 test:
 	@TIMEFORMAT='make test took %lR by the clock, and %lU + %lS of processor time'; time $(MAKE) --no-print-directory gate
 
@@ -108,8 +80,8 @@ test:
 # crate's takes, and would let that crate wait until nothing else runs; so it is told how many checks run side by side
 gate:
 	@tools/kit.sh any
-	RT_JOBS=$$(tools/jobs.sh) rt ci
-	@$(MAKE) --no-print-directory $(program) $(trials) $(refusals) $(message_parts) $(scram_parts)
+	RT_JOBS=$$(tools/jobs.sh) tools/times.py rt ci
+	@$(MAKE) --no-print-directory $(program) $(tools)
 	tests/run
 
 # the wrong versions of functions that aren't tried by the gate; CRATES names some crates. It is no part of `test`: on top of the
@@ -137,16 +109,16 @@ dist: build/pgsess
 # all run; the status says whether a bound was missed
 bench: build/pgsess $(trials) $(scram_parts)
 	@status=0; \
-	bench/replay.sh build/pgsess || status=$$?; \
-	bench/tables.sh build/pgsess || status=$$?; \
-	bench/relay.sh $(trials) || status=$$?; \
-	bench/book.sh $(trials) || status=$$?; \
+	bench/replay.py build/pgsess || status=$$?; \
+	bench/tables.py build/pgsess || status=$$?; \
+	bench/relay.py $(trials) || status=$$?; \
+	bench/book.py $(trials) || status=$$?; \
 	tests/program/calls.py build/pgsess || status=$$?; \
 	bench/derivations.py build/pgsess || status=$$?; \
 	bench/scram.py build/pgsess || status=$$?; \
 	bench/restart.py build/pgsess || status=$$?; \
 	bench/shows.py build/pgsess || status=$$?; \
-	bench/pool.sh build/pgsess || status=$$?; \
+	bench/pool.py build/pgsess || status=$$?; \
 	tests/program/scram.py $(scram_parts) --whole || status=$$?; \
 	exit $$status
 

@@ -1,4 +1,4 @@
-/* The yardstick of bench/replay.sh: reads standard input whole, cuts the first packet and each message after it, and
+/* The yardstick of bench/replay.py: reads standard input whole, cuts the first packet and each message after it, and
    writes the bytes of the file WELCOME once and those of REPLY for each Query. It understands nothing else.
    Usage: cut_frames WELCOME REPLY */
 #include <stdint.h>

@@ -6,7 +6,6 @@ Usage: pool.py PROGRAM [ROUNDS [SECONDS]]: so many rounds (5), each measurement 
 of the rounds, and the least and the greatest; and of pgsess to PgBouncer the ratio of the medians, and of the best rounds, which other
 work on the machine touches least.
 """
-import os
 import pathlib
 import random
 import re
@@ -18,7 +17,9 @@ import sys
 import time
 
 sys.path.insert(0, str(pathlib.Path(__file__).resolve().parent.parent / "tests/lib"))
-from cluster import HERE, USERS, Cluster, Place, Pooler, need, set_up, until
+from asking import environment
+from cluster import Cluster, Place, Pooler, need, set_up, until
+from passes import words
 from wire import Client, startup
 
 CONNECTS = (1, 8, 32, 100, 400)
@@ -55,12 +56,9 @@ class Bench:
         self.pgbench(self.cluster.port, "-i", "-q", "-s", "10", timed=False)
         self.found = {}
 
-    def environment(self, port):
-        return {**os.environ, "PGHOST": HERE, "PGPORT": str(port), "PGUSER": "ann", "PGDATABASE": "shop", "PGPASSWORD": USERS["ann"][0]}
-
     def pgbench(self, port, *words, timed=True):
         words = ["pgbench", *(["-n", "-S", "-T", str(self.seconds)] if timed else []), *words]
-        done = subprocess.run(words, env=self.environment(port), capture_output=True, text=True)
+        done = subprocess.run(words, env=environment(port), capture_output=True, text=True)
         found = re.search(r"^tps = ([\d.]+)", done.stdout, re.MULTILINE)
         if done.returncode != 0 or (timed and not found):
             print(f"  {' '.join(words)}: {done.stderr.strip()[-200:]}")
@@ -82,7 +80,7 @@ class Bench:
         words = ["pgbench", "-n", "-S", "-C", "-c", "1", "-T", str(self.seconds)]
         running = []
         for name in range(NAMES):
-            own = {**self.environment(port), "PGAPPNAME": f"service {name}"}
+            own = {**environment(port), "PGAPPNAME": f"service {name}"}
             running.append(subprocess.Popen(words, env=own, stdout=subprocess.PIPE, stderr=subprocess.DEVNULL, text=True))
         rates = [re.search(r"^tps = ([\d.]+)", it.communicate()[0], re.MULTILINE) for it in running]
         return sum(float(it[1]) for it in rates) if all(rates) else None
@@ -92,7 +90,7 @@ class Bench:
         begin = time.monotonic()
         text = f"COPY (SELECT repeat('x', {size}) FROM generate_series(1, {rows})) TO STDOUT (FORMAT {form})"
         words = ["psql", "-X", "-q", "-c", text]
-        running = [subprocess.Popen(words, env=self.environment(port), stdout=subprocess.DEVNULL) for _ in range(clients)]
+        running = [subprocess.Popen(words, env=environment(port), stdout=subprocess.DEVNULL) for _ in range(clients)]
         if any([it.wait() for it in running]):
             sys.exit(f"{' '.join(words)}: refused at port {port}")
         return time.monotonic() - begin
@@ -203,18 +201,15 @@ def number(value):
     return f"{value:.0f}" if value >= 100 else f"{value:.2f}"
 
 
-def main():
-    if not 2 <= len(sys.argv) <= 4:
-        sys.exit(__doc__)
+def main(program, rounds=5, seconds=2):
     set_up()
     need(["pgbouncer"], ["pgbouncer"])
     hard = resource.getrlimit(resource.RLIMIT_NOFILE)[1]
     resource.setrlimit(resource.RLIMIT_NOFILE, (hard, hard))
-    rounds, seconds = [int(word) for word in (sys.argv[2:] + ["5", "2"][len(sys.argv) - 2:])]
-    bench = Bench(os.path.abspath(sys.argv[1]), rounds, seconds)
+    bench = Bench(program, int(rounds), int(seconds))
     with bench.place:
         bench.all()
 
 
 if __name__ == "__main__":
-    main()
+    main(*words(1, further=2))

@@ -1,12 +1,23 @@
 #!/usr/bin/env python3
-"""Time per byte of `pgsess replay` over short Queries, and its speed beside a plain C program's.
-Usage: replay.py PROGRAM CUT_FRAMES"""
+"""Inputs of 1, 2, 4, 8 and 16 MB of short Queries through `pgsess replay`: time per byte, and the speed beside a plain C program that cuts
+the same frames and writes the same bytes.
+
+Usage: replay.py PROGRAM
+"""
 import pathlib
 import sys
 import tempfile
 
-from timing import LIMIT, START, WELCOME, answer, judged, query, seconds
+from timing import answer, compiled, judged, seconds
 
+sys.path.insert(0, str(pathlib.Path(__file__).resolve().parent.parent / "tests/lib"))
+from passes import words
+from wire import query
+from worked import ROWS, START
+
+# what standard input of `replay` may have
+LIMIT = 16_777_216
+WELCOME = ROWS / "start.out"
 MEGABYTE = 1 << 20
 TIMES = 3
 MOST_GROWTH = 1.3
@@ -40,15 +51,13 @@ def measured(name, message, program, cut_frames, reply_file):
     return flat and fast
 
 
-def main():
-    if len(sys.argv) != 3:
-        sys.exit(__doc__)
+def main(program):
     with tempfile.TemporaryDirectory() as work:
-        reply_file = pathlib.Path(work) / "reply"
-        met = [measured(name, query(text), sys.argv[1], sys.argv[2], reply_file)
+        cut_frames, reply_file = compiled(work, "cut_frames"), pathlib.Path(work) / "reply"
+        met = [measured(name, query(text), program, cut_frames, reply_file)
                for name, text in (("SHOW application_name", "SHOW application_name"), ("empty Queries", ""))]
-    sys.exit(not all(met))
+    return 0 if all(met) else 1
 
 
 if __name__ == "__main__":
-    main()
+    sys.exit(main(*words(1)))

@@ -9,7 +9,6 @@ The server is stopped by `pg_ctl stop -m fast` while four clients connect one af
 seconds later. The poolers are tried in turn, over a server of their own.
 """
 import collections
-import os
 import pathlib
 import statistics
 import sys
@@ -17,8 +16,9 @@ import threading
 import time
 
 sys.path.insert(0, str(pathlib.Path(__file__).resolve().parent.parent / "tests/lib"))
+from asking import outcome_at
 from cluster import Cluster, Place, Pooler, need, set_up, until
-from wire import Client, Cut, Refused
+from passes import words
 
 LOOPS, APART = 4, 0.05
 BEFORE, AWAY, BEHIND = 3, 3, 16
@@ -26,23 +26,10 @@ BEFORE, AWAY, BEHIND = 3, 3, 16
 Visit = collections.namedtuple("Visit", "began ended told")
 
 
-def told(port, user="ann", **parameters):
-    """What a client is told that asks for one row."""
-    try:
-        client = Client(port, user, **parameters)
-        client.ask("SELECT 1")
-        client.leave()
-        return "served"
-    except Refused as error:
-        return f"{error.code} {error.text}"
-    except (Cut, OSError) as error:
-        return type(error).__name__
-
-
 def visits(port, until_when, found):
     while time.monotonic() < until_when:
         began = time.monotonic()
-        what = told(port)
+        what = outcome_at(port)
         found.append(Visit(began, time.monotonic(), what))
         time.sleep(APART)
 
@@ -65,15 +52,15 @@ def restarted(cluster, port):
 
 def behind_another(port):
     """How many of four clients fail that come behind one who asks for replication."""
-    told(port, replication="database")
-    return sum(told(port) != "served" for _ in range(4))
+    outcome_at(port, replication="database")
+    return sum(outcome_at(port) != "served" for _ in range(4))
 
 
 def measured(program, kind):
     with Place() as place:
         cluster = Cluster(place)
         pooler = Pooler(place, cluster, program, kind=kind)
-        until(lambda: told(pooler.port) == "served", 10)
+        until(lambda: outcome_at(pooler.port) == "served", 10)
         print(f"{kind}: {behind_another(pooler.port)} of 4 clients fail behind one who asks for replication", flush=True)
         found, back = restarted(cluster, pooler.port)
         failed = [it for it in found if it.told != "served"]
@@ -87,15 +74,13 @@ def measured(program, kind):
         cluster.stop()
 
 
-def main():
-    if len(sys.argv) not in (2, 3):
-        sys.exit(__doc__)
+def main(program, rounds=1):
     set_up()
     need(["pgbouncer"], ["pgbouncer"])
-    for _ in range(int(sys.argv[2]) if len(sys.argv) > 2 else 1):
+    for _ in range(int(rounds)):
         for kind in ("pgsess", "pgbouncer"):
-            measured(os.path.abspath(sys.argv[1]), kind)
+            measured(program, kind)
 
 
 if __name__ == "__main__":
-    main()
+    main(*words(1, further=1))

@@ -4,17 +4,17 @@
 Usage: scram.py PROGRAM [ROUNDS [SECONDS]]: so many rounds (5), each measurement of so many seconds (2). What is printed is the median
 of the rounds: connects a second, the pooler's processor time a connect, and of both the ratio of pgsess to PgBouncer.
 """
-import os
 import pathlib
 import random
 import re
-import signal
 import statistics
 import subprocess
 import sys
 
 sys.path.insert(0, str(pathlib.Path(__file__).resolve().parent.parent / "tests/lib"))
-from cluster import HERE, USERS, Cluster, Installed, Place, Pooler, need, set_up
+from asking import environment
+from cluster import USERS, Cluster, Installed, Place, Pooler, need, set_up
+from passes import words
 from wire import Client
 
 CLIENTS = (1, 8, 32)
@@ -23,14 +23,10 @@ KINDS = ("pgsess", "pgbouncer")
 
 
 class Bench:
-    def __init__(self, program, rounds, seconds):
-        self.program, self.rounds, self.seconds, self.found = program, rounds, seconds, {}
-        self.places, self.poolers = {}, {}
-        for auth, kind_of_cluster in (("md5", Cluster), ("scram-sha-256", Installed)):
-            self.places[auth] = Place()
-            cluster = kind_of_cluster(self.places[auth])
-            for kind in KINDS:
-                self.poolers[auth, kind] = Pooler(self.places[auth], cluster, program, kind, auth=auth, size=LINKS, clients=1000, wait=0)
+    def __init__(self, program, clusters, rounds, seconds):
+        self.clusters, self.rounds, self.seconds, self.found = clusters, rounds, seconds, {}
+        self.poolers = {(auth, kind): Pooler(cluster.place, cluster, program, kind, auth=auth, size=LINKS, clients=1000, wait=0)
+                        for auth, cluster in clusters.items() for kind in KINDS}
         for pooler in self.poolers.values():
             Client(pooler.port, "ann", "shop", USERS["ann"][0]).leave()
 
@@ -38,10 +34,9 @@ class Bench:
         """Connects a second, and the pooler's microseconds for each."""
         pooler = self.poolers[auth, kind]
         words = ["pgbench", "-n", "-C", "-f", "/dev/stdin", "-c", str(clients), "-j", str(clients), "-T", str(self.seconds)]
-        environment = {**os.environ, "PGHOST": HERE, "PGPORT": str(pooler.port), "PGUSER": "ann", "PGDATABASE": "shop",
-                       "PGPASSWORD": USERS["ann"][0]}
         before = pooler.used()
-        done = subprocess.run(words, input="SELECT 1;\n", env=environment, capture_output=True, text=True, check=True, timeout=120)
+        done = subprocess.run(words, input="SELECT 1;\n", env=environment(pooler.port), capture_output=True, text=True, check=True,
+                              timeout=120)
         count = int(re.search(r"actually processed: (\d+)", done.stdout)[1])
         self.found.setdefault((auth, clients, kind), []).append((count / self.seconds, (pooler.used() - before) / count * 1e6))
 
@@ -55,7 +50,7 @@ class Bench:
     def tell(self):
         print("auth_type      clients  connects a second: pgsess, PgBouncer, ratio   microseconds of the pooler a connect: pgsess, "
               "PgBouncer, ratio")
-        for auth in self.places:
+        for auth in self.clusters:
             for clients in CLIENTS:
                 rates, costs = zip(*((statistics.median(it[0] for it in found), statistics.median(it[1] for it in found))
                                      for found in (self.found[auth, clients, kind] for kind in KINDS)))
@@ -63,20 +58,14 @@ class Bench:
                       f"{costs[1]:9.0f}, {costs[0] / costs[1]:5.2f}")
 
 
-def main():
-    if not 2 <= len(sys.argv) <= 4:
-        sys.exit(__doc__)
+def main(program, rounds=5, seconds=2):
     set_up()
     need(["pgbouncer"], ["pgbouncer"])
-    signal.signal(signal.SIGTERM, lambda *_: sys.exit(1))
-    bench = Bench(os.path.abspath(sys.argv[1]), *map(int, sys.argv[2:] or []), *[5, 2][len(sys.argv) - 2:])
-    try:
+    with Place() as plain, Place() as installed:
+        bench = Bench(program, {"md5": Cluster(plain), "scram-sha-256": Installed(installed)}, int(rounds), int(seconds))
         bench.run()
         bench.tell()
-    finally:
-        for place in bench.places.values():
-            place.end()
 
 
 if __name__ == "__main__":
-    main()
+    main(*words(1, further=2))

@@ -17,6 +17,7 @@ import sys
 
 sys.path.insert(0, str(pathlib.Path(__file__).resolve().parent.parent / "tests/lib"))
 from cluster import TOP, Place, Pooler, free_port, is_open, set_up, until
+from passes import words
 from wire import Client, startup
 
 FEW, MOST, LINKS, ROUNDS = 1_000, 9_900, 40, 51
@@ -133,7 +134,8 @@ class Served:
         self.place.end()
 
 
-def main(program, most):
+def main(program, most=MOST):
+    most = int(most)
     set_up()
     resource.setrlimit(resource.RLIMIT_NOFILE, (resource.getrlimit(resource.RLIMIT_NOFILE)[1],) * 2)
     probes, found = Probes(program), {}
@@ -156,4 +158,4 @@ def main(program, most):
 
 
 if __name__ == "__main__":
-    sys.exit(main(str(pathlib.Path(sys.argv[1]).resolve()), int((sys.argv[2:] + [MOST])[0])))
+    sys.exit(main(*words(1, further=1)))

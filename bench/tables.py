@@ -1,8 +1,18 @@
 #!/usr/bin/env python3
-"""What a statement costs as a temporary table grows, beside one, and beside prepared statements. Usage: tables.py PROGRAM"""
+"""What a statement costs: 20,000 INSERTs into one temporary table, and 200,000 SHOWs without that table, beside it, and beside 1,000
+prepared statements.
+
+Usage: tables.py PROGRAM
+"""
+import pathlib
 import sys
 
-from timing import START, SYNC, judged, parse, query, seconds
+from timing import judged, seconds
+
+sys.path.insert(0, str(pathlib.Path(__file__).resolve().parent.parent / "tests/lib"))
+from passes import words
+from wire import message, query
+from worked import START
 
 STATEMENTS = 20_000
 SHOWS = 200_000
@@ -14,14 +24,17 @@ MOST_BESIDE = 1.2
 CREATE = query("CREATE TEMP TABLE t (a text)")
 INSERT = query("INSERT INTO t VALUES ('x')")
 SHOW = query("SHOW application_name")
+SYNC = message(b"S")
 
 
-def main():
-    if len(sys.argv) != 2:
-        sys.exit(__doc__)
+def parse(name, text):
+    """A Parse that names no types."""
+    return message(b"P", name.encode() + b"\0" + text.encode() + b"\0\0\0")
 
+
+def main(program):
     def taken(data):
-        return seconds([sys.argv[1], "replay"], START + data, TIMES)
+        return seconds([program, "replay"], START + data, TIMES)
 
     quarter = STATEMENTS // 4
     bare, empty = taken(b""), taken(CREATE)
@@ -37,8 +50,8 @@ def main():
     among = taken(prepared + SHOW * SHOWS) - taken(prepared)
     print(f"  {1e6 * among / SHOWS:.2f} us each beside {PREPARED} prepared statements")
     apart = judged("  beside the prepared statements to without", among / alone, MOST_BESIDE)
-    sys.exit(not (grown and free and apart))
+    return 0 if grown and free and apart else 1
 
 
 if __name__ == "__main__":
-    main()
+    sys.exit(main(*words(1)))

@@ -1,30 +1,17 @@
-"""Inputs for the benchmarks, and the processor time that a program takes for one."""
+"""The processor time that a program takes for an input, and what it is judged by."""
 import os
 import pathlib
 import subprocess
 import tempfile
 
-TOP = pathlib.Path(__file__).resolve().parent.parent
-START = (TOP / "tests/rows/start.in").read_bytes()
-WELCOME = TOP / "tests/rows/start.out"
-# what standard input of `replay` may have
-LIMIT = 16_777_216
+HERE = pathlib.Path(__file__).resolve().parent
 
 
-def message(kind, body):
-    return kind + (4 + len(body)).to_bytes(4, "big") + body
-
-
-def query(text):
-    return message(b"Q", text.encode() + b"\0")
-
-
-def parse(name, text):
-    """A Parse that names no types."""
-    return message(b"P", name.encode() + b"\0" + text.encode() + b"\0\0\0")
-
-
-SYNC = message(b"S", b"")
+def compiled(work, name):
+    """The program that gcc makes of a file of C beside this one, in a folder."""
+    made = pathlib.Path(work) / name
+    subprocess.run(["gcc", "-O2", "-Wall", "-Wextra", "-o", made, HERE / f"{name}.c"], check=True)
+    return str(made)
 
 
 def seconds(words, data, times):

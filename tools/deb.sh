@@ -23,7 +23,9 @@ install -m 755 "$here/packaging/recipes/pgsess-users" "$tree/usr/share/doc/pgses
 install -m 644 "$here/packaging/kubernetes.yaml" "$tree/usr/share/doc/pgsess/examples/kubernetes.yaml"
 install -m 644 "$here/packaging/grafana/pgsess.json" "$tree/usr/share/doc/pgsess/examples/grafana.json"
 install -m 644 "$here/packaging/debian/copyright" "$tree/usr/share/doc/pgsess/copyright"
-install -m 644 "$here/docs/OPERATING.md" "$here/docs/MIGRATING.md" "$here/docs/RECIPES.md" "$here/docs/SPEED.md" "$here/CHANGELOG.md" "$tree/usr/share/doc/pgsess/"
+for page in docs/OPERATING.md docs/MIGRATING.md docs/RECIPES.md docs/SPEED.md CHANGELOG.md; do
+    install -m 644 "$here/$page" "$tree/usr/share/doc/pgsess/"
+done
 # secrets are the service's alone
 install -d -m 750 "$tree/etc/pgsess"
 install -m 640 "$here/examples/pgsess.ini" "$tree/etc/pgsess/pgsess.ini"

@@ -11,5 +11,6 @@ found=$(rt version)
 [ "$found" != "$wanted" ] || exit 0
 echo "this version of pgsess was proved with '$wanted', and the kit in the path is '$found'" >&2
 [ "${1:-}" != any ] || exit 0
-echo "Another kit may refuse proofs that hold, and what it accepts wasn't looked at. Put that kit first in PATH, or try this one: make KIT=any .." >&2
+echo "Another kit may refuse proofs that hold, and what it accepts wasn't looked at." \
+    "Put that kit first in PATH, or try this one: make KIT=any .." >&2
 exit 1

@@ -10,9 +10,10 @@ from wire import Client, Cut, Refused
 UNREACHED = "08001 server could not be reached"
 
 
-def environment(port, user, database):
-    return {**os.environ, "PGHOST": HERE, "PGPORT": str(port), "PGUSER": user, "PGDATABASE": database, "PGPASSWORD": USERS[user][0],
-            "PGCONNECT_TIMEOUT": "20", "LC_ALL": "C"}
+def environment(port, user="ann", database="shop", password=None, **more):
+    """What tells a program of PostgreSQL whom to ask, and as whom."""
+    return {**os.environ, "PGHOST": HERE, "PGPORT": str(port), "PGUSER": user, "PGDATABASE": database, "PGCONNECT_TIMEOUT": "20",
+            "PGPASSWORD": USERS[user][0] if password is None else password, "LC_ALL": "C", **more}
 
 
 def console(port, command, *more, user="root"):
@@ -32,9 +33,8 @@ def table(port, name):
 
 def run(words, port, user, password=None, given=None, database="shop", seconds=60, **more):
     """A program of PostgreSQL over a port: its status, its output and what it says on standard error."""
-    environment = {**os.environ, "PGHOST": HERE, "PGPORT": str(port), "PGUSER": user, "PGDATABASE": database, "PGCONNECT_TIMEOUT": "20",
-                   "PGPASSWORD": USERS[user][0] if password is None else password, "LC_ALL": "C", "PGAPPNAME": "shown"}
-    done = subprocess.run(words, input=given, capture_output=True, env=environment, timeout=seconds, **more)
+    done = subprocess.run(words, input=given, capture_output=True, env=environment(port, user, database, password, PGAPPNAME="shown"),
+                          timeout=seconds, **more)
     return done.returncode, done.stdout, done.stderr.decode(errors="replace")
 
 
@@ -64,6 +64,19 @@ def outcome(make):
         return client.ask("SELECT 1")
     finally:
         client.leave()
+
+
+def outcome_at(port, user="ann", password=None, database="shop", asks="SELECT 1", **more):
+    """What a client is told that asks for something and goes: that it is served, its error's code, or how it was cut off."""
+    try:
+        client = Client(port, user, database, USERS[user][0] if password is None else password, **more)
+        client.ask(asks)
+        client.leave()
+        return "served"
+    except Refused as error:
+        return error.code
+    except (Cut, OSError) as error:
+        return type(error).__name__
 
 
 class Worker(threading.Thread):

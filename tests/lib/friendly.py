@@ -1,31 +1,21 @@
-"""A server that lets in whoever comes and does what it is asked, and what a client is told behind a pooler."""
-import socket
-import threading
+"""A server that lets in whoever comes and does what it is asked."""
+from cluster import HERE
+from listening import Listener
+from wire import RESET, message
 
-from cluster import HERE, USERS
-from wire import RESET, Client, Cut, Refused, message
-
-SECONDS = 20
 OK, KEY, READY = message(b"R", bytes(4)), message(b"K", (7).to_bytes(4, "big") + (9).to_bytes(4, "big")), message(b"Z", b"I")
 DONE = message(b"C", b"SELECT 0\0") + READY
 # what it says to a query, and to the reset
 FRIENDLY = (DONE, message(b"C", b"DISCARD ALL\0") + READY)
 
 
-class Server(threading.Thread):
+class Server(Listener):
     """A server that lets in whoever comes, by this welcome, and answers each query and each reset so; what it was sent stays."""
 
     def __init__(self, welcome=OK + KEY + READY, answers=FRIENDLY, host=HERE):
-        super().__init__(daemon=True)
-        self.listener = socket.create_server((host, 0))
-        self.port, self.welcome, self.answers = self.listener.getsockname()[1], welcome, answers
+        self.welcome, self.answers = welcome, answers
         self.sent, self.cancels, self.ended = b"", [], 0
-        self.start()
-
-    def run(self):
-        while True:
-            connection, _ = self.listener.accept()
-            threading.Thread(target=self.serve, args=(connection,), daemon=True).start()
+        super().__init__(host)
 
     def serve(self, connection):
         held = b""
@@ -55,16 +45,3 @@ class Server(threading.Thread):
                 raise OSError("a cancel")
             connection.sendall(self.welcome if first else self.answers[packet == RESET] if packet[:1] == b"Q" else b"")
         return held
-
-
-def outcome(port, user="ann", password=None, database="shop", asks="SELECT", host=HERE):
-    """What a client is told that asks for something."""
-    try:
-        client = Client(port, user, database, USERS[user][0] if password is None else password, host=host, seconds=SECONDS)
-        client.ask(asks)
-        client.leave()
-        return "served"
-    except Refused as error:
-        return error.code
-    except (Cut, OSError) as error:
-        return type(error).__name__

@@ -6,13 +6,13 @@ import functools
 import hashlib
 import os
 import re
-import socket
 import threading
 import time
 
 from asking import UNREACHED
-from cluster import HERE, USERS
+from cluster import USERS
 from given import authentication
+from listening import Listener
 from passes import Show
 from plain_reader import IDLE, OK, TAG
 from scram_reader import exchange, first, initial, kept, prepared
@@ -158,20 +158,12 @@ HONEST = {
 
 # ---- the servers
 
-class Server:
+class Server(Listener):
     """Plays its case on each connection."""
 
     def __init__(self, case):
         self.case, self.talks = case, []
-        self.listener = socket.create_server((HERE, 0), backlog=16)
-        self.port = self.listener.getsockname()[1]
-        threading.Thread(target=self.run, daemon=True).start()
-
-    def run(self):
-        while True:
-            it, _ = self.listener.accept()
-            it.setsockopt(socket.IPPROTO_TCP, socket.TCP_NODELAY, 1)
-            threading.Thread(target=self.serve, args=(it,), daemon=True).start()
+        super().__init__(backlog=16)
 
     def serve(self, it):
         start = packet(it, 0)

@@ -14,8 +14,9 @@ import threading
 import time
 
 sys.path.insert(0, str(pathlib.Path(__file__).resolve().parents[1] / "lib"))
+from asking import outcome_at
 from cluster import HERE, USERS, Cluster, until
-from friendly import DONE, KEY, OK, READY, Server, outcome
+from friendly import DONE, KEY, OK, READY, Server
 from passes import Show, play
 from wire import RESET, TERMINATE, Client, Cut, Refused, md5_answer, message, query, startup
 
@@ -111,32 +112,32 @@ class AsTold(Show):
 
     def users(self):
         self.begin()
-        self.passes.same("a user", outcome(self.pooler.port, "bc"), "served")
+        self.passes.same("a user", outcome_at(self.pooler.port, "bc"), "served")
         self.reload("users.txt", (r'^"bc".*\n', ""))
-        self.passes.same("taken out, RELOAD: is refused", outcome(self.pooler.port, "bc"), WRONG_PASSWORD)
-        self.passes.same("others aren't", outcome(self.pooler.port), "served")
+        self.passes.same("taken out, RELOAD: is refused", outcome_at(self.pooler.port, "bc"), WRONG_PASSWORD)
+        self.passes.same("others aren't", outcome_at(self.pooler.port), "served")
         self.reload("users.txt", (r'^"ann".*', '"ann" "other"'), (r"\Z", f'"bc" "{USERS["bc"][1]}"\n'))
-        self.passes.same("put back: is served", outcome(self.pooler.port, "bc"), "served")
-        self.passes.same("a password of before the RELOAD", outcome(self.pooler.port), WRONG_PASSWORD)
+        self.passes.same("put back: is served", outcome_at(self.pooler.port, "bc"), "served")
+        self.passes.same("a password of before the RELOAD", outcome_at(self.pooler.port), WRONG_PASSWORD)
         self.cluster.tell("ALTER ROLE ann PASSWORD 'other'", "postgres")
-        self.passes.same("the new one", outcome(self.pooler.port, password="other"), "served")
+        self.passes.same("the new one", outcome_at(self.pooler.port, password="other"), "served")
         self.cluster.tell("ALTER ROLE ann PASSWORD 'secret'", "postgres")
 
     def settings(self):
         self.begin(clients=2, size=1)
         port = self.pooler.port
         held = [Client(port, "ann", "shop", USERS["ann"][0]), Client(port, "bc", "shop", USERS["bc"][0])]
-        self.passes.same("max_client_conn", outcome(port), TOO_MANY)
+        self.passes.same("max_client_conn", outcome_at(port), TOO_MANY)
         self.reload("pgsess.ini", ("^max_client_conn = .*", "max_client_conn = 20"), ("^query_wait_timeout = .*", "query_wait_timeout = 3"))
         begin = time.monotonic()
-        self.passes.same("RELOAD of it, and of query_wait_timeout", outcome(port), TOO_LONG)
+        self.passes.same("RELOAD of it, and of query_wait_timeout", outcome_at(port), TOO_LONG)
         took = time.monotonic() - begin
         # the clock goes by whole seconds, so one of them may be short
         self.passes.holds("by the new time", 2 <= took < 3 + SLACK, f"{took:.1f} s")
         self.reload("pgsess.ini", ("^default_pool_size = .*", "default_pool_size = 2"))
-        self.passes.same("RELOAD of default_pool_size", outcome(port), "served")
+        self.passes.same("RELOAD of default_pool_size", outcome_at(port), "served")
         self.reload("pgsess.ini", ("^max_client_conn = .*", "max_client_conn = 2"))
-        self.passes.same("RELOAD with a lower max_client_conn", outcome(port), TOO_MANY)
+        self.passes.same("RELOAD with a lower max_client_conn", outcome_at(port), TOO_MANY)
         self.passes.same("keeps those who are there", [it.ask("SELECT") for it in held], [[[]]] * 2)
         for it in held:
             it.leave()
@@ -152,14 +153,14 @@ class AsTold(Show):
         self.begin(changes={"^server_idle_timeout = .*": "server_idle_timeout = 1"}, more_rows=rows)
         port = self.pooler.port
         for turn in ("a server that tells no key: its client is served", "over the same link, the next one"):
-            self.passes.same(turn, outcome(port, database="keyless"), "served")
-        self.passes.same("a client of a server that is given up by the clock", outcome(port, database="timed"), "served")
+            self.passes.same(turn, outcome_at(port, database="keyless"), "served")
+        self.passes.same("a client of a server that is given up by the clock", outcome_at(port, database="timed"), "served")
         self.passes.holds("its link is offered a Terminate", until(lambda: timed.sent.endswith(TERMINATE) and timed.ended, 10),
                           timed.sent[-20:].hex())
         link = r"link \d+ closed: "
-        self.passes.same("a message of a length that none has", outcome(port, database="foreign"), "08P01")
+        self.passes.same("a message of a length that none has", outcome_at(port, database="foreign"), "08P01")
         self.logs("is told", link + "malformed server message")
-        self.passes.same("a reset that isn't answered as it has to be", outcome(port, database="unreset"), "served")
+        self.passes.same("a reset that isn't answered as it has to be", outcome_at(port, database="unreset"), "served")
         self.logs("is told", link + "not reset by DISCARD ALL")
         client = Client(port, "ann", "silent", USERS["ann"][0])
         client.send(query("SELECT"))
@@ -213,12 +214,12 @@ class AsTold(Show):
     def broken_sessions(self, port, said):
         """The same of servers of its own."""
         self.before = len(self.log())
-        self.passes.same("a session that breaks off behind an error", outcome(port, database="broken"), "08006")
+        self.passes.same("a session that breaks off behind an error", outcome_at(port, database="broken"), "08006")
         self.logs("is told as ended, without the error, by which no session ends", r"link \d+ closed: server connection ended$")
-        self.passes.same("one of a server of before 9.6", outcome(port, database="aged"), "57P01")
+        self.passes.same("one of a server of before 9.6", outcome_at(port, database="aged"), "57P01")
         self.logs("is told with what that said", said + "57P01 old age$")
         self.before = len(self.log())
-        self.passes.same("one that ends while it is reset", outcome(port, database="resetting"), "served")
+        self.passes.same("one that ends while it is reset", outcome_at(port, database="resetting"), "served")
         self.logs("is told as ended, and not as one that wasn't reset", r"link \d+ closed: server connection ended$")
 
     def last_answers(self):
@@ -257,14 +258,14 @@ class AsTold(Show):
             links.add(found and found[2])
             client.leave()
         self.passes.same("both have the same link", len(links), 1)
-        self.passes.same("a client of a server that tells no key", outcome(port, database="keyless"), "served")
+        self.passes.same("a client of a server that tells no key", outcome_at(port, database="keyless"), "served")
         self.logs("has a link, and no process", rf"ann@keyless from .* has link \d+ to server 127\.0\.0\.1:{keyless.port}$")
         self.before = len(self.log())
         self.reload("pgsess.ini", ("^log_connections = .*", "log_connections = 0"))
         # what was told before that is in the log then
         until(lambda: re.search("^pgsess: reloaded$", self.log()[self.before:], re.M), 5)
         self.before = len(self.log())
-        self.passes.same("log_connections = 0: a client", outcome(port), "served")
+        self.passes.same("log_connections = 0: a client", outcome_at(port), "served")
         self.passes.same("is told neither as in nor with its link", re.findall(" in$| has link ", self.log()[self.before:], re.M), [])
 
     def kept_settings(self):
@@ -321,7 +322,7 @@ class AsTold(Show):
         self.cluster.tell("ALTER ROLE ann CONNECTION LIMIT 1", "postgres")
         self.begin(size=2)
         first, told = Client(self.pooler.port, "ann", "shop", USERS["ann"][0]), []
-        second = threading.Thread(target=lambda: told.append(outcome(self.pooler.port)))
+        second = threading.Thread(target=lambda: told.append(outcome_at(self.pooler.port)))
         second.start()
         refused = "too many connections for role"
         until(lambda: refused in self.cluster.log.read_text(errors="replace"), 5)

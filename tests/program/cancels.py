@@ -19,6 +19,7 @@ import time
 sys.path.insert(0, str(pathlib.Path(__file__).resolve().parents[1] / "lib"))
 from asking import Worker, environment, figures, table
 from cluster import HERE, USERS, Cluster, Pooler, until
+from listening import Listener
 from passes import Show, play
 from wire import CANCEL_REQUEST, Client, Cut, Refused, cancel_request, message, query, startup
 
@@ -95,24 +96,14 @@ EXTENDED = (message(b"P", b"\0" + LONG.encode() + b"\0\0\0") + message(b"B", b"\
             + message(b"S"))
 
 
-class Slow:
+class Slow(Listener):
     """Stands before a server, and holds each connection that begins by a CancelRequest for some seconds, or until it is told to let it
     go."""
 
     def __init__(self, server):
         self.server, self.seconds, self.held, self.passed = server, 60, 0, 0
         self.goes = threading.Event()
-        self.listener = socket.create_server((HERE, 0))
-        self.port = self.listener.getsockname()[1]
-        threading.Thread(target=self.run, daemon=True).start()
-
-    def run(self):
-        while True:
-            try:
-                near, _ = self.listener.accept()
-            except OSError:
-                return
-            threading.Thread(target=self.serve, args=(near,), daemon=True).start()
+        super().__init__()
 
     def serve(self, near):
         first = near.recv(8, socket.MSG_WAITALL)

@@ -5,22 +5,9 @@ set -u
 cd "$(dirname "$0")/../.." || exit 1
 program=$(realpath "${1:-crates/pgsess/out/pgsess}") || exit 1
 here=$PWD
-work=$(mktemp -d) || exit 1
-trap 'rm -rf "$work"' EXIT
+# shellcheck source=tests/lib/checks.sh
+. tests/lib/checks.sh
 cd "$work" || exit 1
-
-passed=0
-failed=0
-
-# result NAME WANT GOT
-result() {
-    if [ "$2" = "$3" ]; then
-        passed=$((passed + 1))
-    else
-        failed=$((failed + 1))
-        printf 'FAILED %s\n  want: %s\n  got:  %s\n' "$1" "$2" "$3"
-    fi
-}
 
 # ends NAME STATUS LINE WORD.. : the program ends so, with this line on standard error and nothing on standard output
 ends() {
@@ -34,29 +21,23 @@ ends() {
     result "$name: standard output" 0 "$(wc -c <out.txt)"
 }
 
-# refused NAME TEXT WORD.. : a fault of the command line, whose text on standard error has TEXT
-refused() {
-    local name=$1 text=$2 got
-    shift 2
+# says NAME STATUS STREAM OTHER TEXT WORD.. : the program ends so, with TEXT on one standard stream, out or err, and nothing on the other
+says() {
+    local name=$1 status=$2 stream=$3 other=$4 text=$5 got
+    shift 5
     "$program" "$@" >out.txt 2>err.txt </dev/null
     got=$?
-    result "$name: status" 2 "$got"
-    result "$name: standard output" 0 "$(wc -c <out.txt)"
-    grep -qF -- "$text" err.txt
+    result "$name: status" "$status" "$got"
+    result "$name: bytes in $other.txt" 0 "$(wc -c <"$other.txt")"
+    grep -qF -- "$text" "$stream.txt"
     result "$name: has '$text'" 0 $?
 }
 
-# helped NAME TEXT WORD.. : help, or the version, on standard output
-helped() {
-    local name=$1 text=$2 got
-    shift 2
-    "$program" "$@" >out.txt 2>err.txt </dev/null
-    got=$?
-    result "$name: status" 0 "$got"
-    result "$name: standard error" 0 "$(wc -c <err.txt)"
-    grep -qF -- "$text" out.txt
-    result "$name: has '$text'" 0 $?
-}
+# refused NAME TEXT WORD.. : a fault of the command line, whose text has TEXT
+refused() { says "$1" 2 err out "${@:2}"; }
+
+# helped NAME TEXT WORD.. : help, or the version
+helped() { says "$1" 0 out err "${@:2}"; }
 
 # ---- the command line
 
@@ -159,17 +140,11 @@ listens 'the largest file' "listening 127.0.0.1 $port" "$port" serve --ini large
 listens 'stub' '' "$port" stub --port "$port" --catalogue "$here/examples/catalogue.tsv"
 
 # while another listens there
-python3 -c 'import socket, sys, time; s = socket.socket(); s.bind(("127.0.0.1", int(sys.argv[1]))); s.listen(); print("held", flush=True); time.sleep(60)' "$port" >held.txt &
-holder=$!
-for _ in {1..100}; do
-    [ -s held.txt ] && break
-    sleep 0.05
-done
+hold "$port"
 serve 'a port that is taken' 3 "pgsess: port $port" listens.ini good.txt good.bin
 ends 'a port of the stub that is taken' 3 "pgsess: port $port" stub --port "$port" --catalogue "$here/examples/catalogue.tsv"
 serve 'a fault of a file before the port' 1 'pgsess: file nowhere.bin' listens.ini good.txt nowhere.bin
-kill "$holder"
-wait "$holder" 2>/dev/null
+release
 
 serve 'no ini file' 1 'pgsess: file nowhere.ini' nowhere.ini nowhere.txt nowhere.bin
 serve 'no user file' 1 'pgsess: file nowhere.txt' good.ini nowhere.txt nowhere.bin
@@ -245,5 +220,4 @@ result 'closed output' 'pgsess: stdout' "$(cat err.txt)"
 "$program" --help >/dev/full 2>err.txt
 result 'help on a full output: status' 0 $?
 
-echo "cli.sh: $passed passed, $failed failed"
-[ "$failed" -eq 0 ]
+counted cli

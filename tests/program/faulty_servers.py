@@ -24,6 +24,7 @@ from concurrent.futures import ThreadPoolExecutor
 sys.path.insert(0, str(pathlib.Path(__file__).resolve().parents[1] / "lib"))
 from cluster import HERE, USERS, Stub, until
 from given import UNREACHED, authentication, borders, fatal
+from listening import Listener
 from passes import Show, play
 from plain_reader import IDLE, IN_RESET, IN_START, LONGEST_STATUS, MORE, OK, TAG, Wanted, is_clean, started, status
 from wire import RESET, TERMINATE, Client, Cut, Refused, md5_answer, message, packet, query, startup
@@ -101,20 +102,12 @@ STRANGE = {
 Case = collections.namedtuple("Case", "group name part pieces ends")
 
 
-class Server:
+class Server(Listener):
     """Plays the recorded conversation on each connection; on the first one of a start key that has a case, with its fault."""
 
     def __init__(self):
-        self.listener = socket.create_server((HERE, 0), backlog=512)
-        self.port = self.listener.getsockname()[1]
         self.lock, self.open, self.cases, self.counts, self.faults = threading.Lock(), 0, {}, collections.Counter(), []
-        threading.Thread(target=self.run, daemon=True).start()
-
-    def run(self):
-        while True:
-            it, _ = self.listener.accept()
-            it.setsockopt(socket.IPPROTO_TCP, socket.TCP_NODELAY, 1)
-            threading.Thread(target=self.serve, args=(it,), daemon=True).start()
+        super().__init__(backlog=512)
 
     def serve(self, it):
         with self.lock:

@@ -3,20 +3,8 @@
 # stand-in for `rt` proves nothing and says what the real one would.
 set -eu
 cd "$(dirname "$0")/../.."
-work=$(mktemp -d)
-trap 'rm -rf "$work"' EXIT
-passed=0 failed=0
-check() { # check WORDS COMMAND..
-    local words=$1
-    shift
-    if "$@" > "$work/out" 2>&1; then
-        passed=$((passed + 1))
-    else
-        failed=$((failed + 1))
-        echo "first_day: $words"
-        head -5 "$work/out"
-    fi
-}
+# shellcheck source=tests/lib/checks.sh
+. tests/lib/checks.sh
 said() { # said WORDS: the last command that was checked said them
     mv "$work/out" "$work/said"
     check "it says '$1'" grep -qF "$1" "$work/said"
@@ -65,18 +53,31 @@ check "no kit is refused" refused no_kit
 
 # a copy, whose programs are not those of this tree
 mkdir "$work/copy"
-find crates.txt HANDLES RATTLE_KIT tools crates/frame_view crates/message_view crates/message_parts \
+find crates.txt HANDLES RATTLE_KIT tools crates/frame_view crates/message_view crates/view_dump \
     -name out -prune -o -name __pycache__ -prune -o -type f -print | tar -c -T - | tar -x -C "$work/copy"
-check "a proof takes the crates below alone, without their edits" stood_in env RT_JOBS=3 "$work/copy/tools/prove.py" message_parts
+check "a proof takes the crates below alone, without their edits" stood_in env RT_JOBS=3 "$work/copy/tools/prove.py" view_dump
 said "2 of 3: message_view proved"
 check "the program is there, proved by as many jobs as were asked for" \
-    grep -qx "message_parts, jobs 3" "$work/copy/crates/message_parts/out/message_parts"
-check "what the prover said is kept" grep -q "rt: frame_view proved" "$work/copy/build/proof_message_parts.log"
+    grep -qx "view_dump, jobs 3" "$work/copy/crates/view_dump/out/view_dump"
+check "what the prover said is kept" grep -q "rt: frame_view proved" "$work/copy/build/proof_view_dump.log"
 check "what isn't proved fails" refused stood_in env SAYS="NOT PROVED" "$work/copy/tools/prove.py" frame_view
 said "prove: NOT PROVED"
 check "make quick passes, a line for each crate" stood_in "$work/copy/tools/quick.py" message_view frame_view
 said "quick: 4 passed, 0 failed; nothing is proved"
 check "a test that fails is told" refused stood_in env SAYS=no "$work/copy/tools/quick.py" frame_view
 check "so is a file out of its layout" refused stood_in env LAYOUT="rt: formatted src/lib.rt" "$work/copy/tools/quick.py" frame_view
-echo "$passed passed, $failed failed"
-[ "$failed" -eq 0 ]
+# a prover that takes a second of processor time for a crate, and refuses it
+cat > "$work/bin/prover" << 'PROVER'
+#!/usr/bin/env bash
+python3 -c 'import time
+while time.process_time() < 1.6: pass' --crate-name "$1"
+echo "0 passed, 1 failed"
+exit 3
+PROVER
+chmod +x "$work/bin/prover"
+status_of() { local status=0; "$@" || status=$?; echo "status $status"; }
+check "the gate's lines come first" bash -c "tools/times.py '$work/bin/prover' slow_crate | head -1 | grep -qx '0 passed, 1 failed'"
+check "what a crate took is told" status_of tools/times.py "$work/bin/prover" slow_crate
+said "s  slow_crate"
+check "the status is the command's" grep -qx "status 3" "$work/said"
+counted first_day

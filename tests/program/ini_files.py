@@ -15,9 +15,10 @@ import tempfile
 
 sys.path.insert(0, str(pathlib.Path(__file__).resolve().parents[1] / "lib"))
 from cluster import HERE, TOP, free_port
-from passes import words
+from passes import Passes, words
 
 PROGRAM, = words(1)
+PASSES = Passes("ini_files")
 
 # by the file: its faulty lines with their codes, and the keys that are read over beside auth_file, in its order
 FIELD = {
@@ -48,17 +49,6 @@ client_tls_dheparams server_tls_sslmode server_tls_ca_file server_tls_key_file s
 server_tls_ciphers query_timeout query_wait_timeout cancel_wait_timeout client_idle_timeout idle_transaction_timeout
 suspend_timeout pkt_buf max_packet_size listen_backlog sbuf_loopcnt so_reuseport tcp_defer_accept tcp_socket_buffer tcp_keepalive
 tcp_keepcnt tcp_keepidle tcp_keepintvl tcp_user_timeout""".split()
-
-passed = failed = 0
-
-
-def holds(name, got, want):
-    global passed, failed
-    if got == want:
-        passed += 1
-        return
-    failed += 1
-    print(f"FAILED {name}\n  want: {want}\n  got:  {got}")
 
 
 def check(*words):
@@ -101,27 +91,27 @@ def moved(lines, port):
 def field(work, name, faults, over):
     path, users = TOP / "tests/ini" / f"{name}.ini", work / "users.txt"
     status, lines, stderr = check("--ini", path, "--users", users)
-    holds(f"{name}: faults in one run", faults_of(lines, path), faults)
-    holds(f"{name}: status and standard error", (status, stderr), (1 if faults else 0, ""))
+    PASSES.same(f"{name}: faults in one run", faults_of(lines, path), faults)
+    PASSES.same(f"{name}: status and standard error", (status, stderr), (1 if faults else 0, ""))
     names = f"read over: {over.replace(' ', ', ')}"
-    holds(f"{name}: what is read over", f"{path}: {names}" in lines, True)
+    PASSES.same(f"{name}: what is read over", f"{path}: {names}" in lines, True)
 
     port = free_port()
     good = [it for number, it in enumerate(path.read_text().splitlines(), 1) if number not in faults]
     served = work / f"{name}.ini"
     served.write_text("\n".join(moved(good, port)) + "\n")
     listening, status, said = start(work, served, "--users", str(users))
-    holds(f"{name}: serves without these lines", (listening, status), (f"listening 127.0.0.1 {port}", None))
+    PASSES.same(f"{name}: serves without these lines", (listening, status), (f"listening 127.0.0.1 {port}", None))
     tls = ["pgsess: no TLS to servers (server_tls_sslmode = prefer)"] if name == "helm" else []
-    holds(f"{name}: what the start says", [it for it in said if "over" in it or "TLS" in it], [f"pgsess: {names}", *tls])
+    PASSES.same(f"{name}: what the start says", [it for it in said if "over" in it or "TLS" in it], [f"pgsess: {names}", *tls])
     status, lines, _ = check("--ini", served, "--users", users)
-    holds(f"{name}: no fault is left", (status, faults_of(lines, served)), (0, {}))
+    PASSES.same(f"{name}: no fault is left", (status, faults_of(lines, served)), (0, {}))
 
     if not faults:
         return
     served.write_text("\n".join(moved(path.read_text().splitlines(), port)) + "\n")
     _, status, said = start(work, served, "--users", str(users))
-    holds(f"{name}: serve tells one fault in one line", (status, len(said), said[0][:9]), (1, 1, "pgsess: C"))
+    PASSES.same(f"{name}: serve tells one fault in one line", (status, len(said), said[0][:9]), (1, 1, "pgsess: C"))
 
 
 def passwords(work):
@@ -132,12 +122,12 @@ def passwords(work):
                    "a\x07b\n[users]\nann = hidden6\n")
     users.write_text('"ann" "hidden7"\n"ann" "hidden8"\n"bob hidden9"\n"" "hidden10"\n')
     status, lines, _ = check("--ini", ini, "--users", users)
-    holds("passwords: status", status, 1)
-    holds("passwords: settings", faults_of(lines, ini), {1: "C7", 4: "C3", 5: "C3", 6: "C3", 8: "C2", 9: "C3", 11: "C1"})
-    holds("passwords: users", faults_of(lines, users), {2: "U2", 3: "U1", 4: "U1"})
-    holds("passwords: what is shown", [it for it in lines if "hid" in it or "den" in it], [])
-    holds("passwords: a byte of control", any("listen_port = a\\x07b: C3" in it for it in lines), True)
-    holds("passwords: the name", f'{users} line 2: "ann": U2: given above already' in lines, True)
+    PASSES.same("passwords: status", status, 1)
+    PASSES.same("passwords: settings", faults_of(lines, ini), {1: "C7", 4: "C3", 5: "C3", 6: "C3", 8: "C2", 9: "C3", 11: "C1"})
+    PASSES.same("passwords: users", faults_of(lines, users), {2: "U2", 3: "U1", 4: "U1"})
+    PASSES.same("passwords: what is shown", [it for it in lines if "hid" in it or "den" in it], [])
+    PASSES.same("passwords: a byte of control", any("listen_port = a\\x07b: C3" in it for it in lines), True)
+    PASSES.same("passwords: the name", f'{users} line 2: "ann": U2: given above already' in lines, True)
 
 
 def auth_file(work):
@@ -146,8 +136,8 @@ def auth_file(work):
     head = f"[pgbouncer]\nlisten_port = {port}\n"
     ini.write_text(f"{head}auth_file = users.txt\nlogfile = x\n")
     listening, status, said = start(work, ini)
-    holds("auth_file: serves", (listening, status), (f"listening 127.0.0.1 {port}", None))
-    holds("auth_file: isn't read over", [it for it in said if "over" in it], ["pgsess: read over: logfile"])
+    PASSES.same("auth_file: serves", (listening, status), (f"listening 127.0.0.1 {port}", None))
+    PASSES.same("auth_file: isn't read over", [it for it in said if "over" in it], ["pgsess: read over: logfile"])
     for name, line, want in [
         ("none", "", (2, ["pgsess: no user file"])),
         ("an empty name", "auth_file =\n", (2, ["pgsess: no user file"])),
@@ -156,21 +146,21 @@ def auth_file(work):
     ]:
         ini.write_text(head + line)
         _, status, said = start(work, ini)
-        holds(f"auth_file: {name}", (status, said), want)
+        PASSES.same(f"auth_file: {name}", (status, said), want)
     ini.write_text(f"{head}auth_file = bad.txt\n")
     listening, status, said = start(work, ini, "--users", "users.txt")
-    holds("auth_file: --users comes first", (listening, status), (f"listening 127.0.0.1 {port}", None))
-    holds("auth_file: and it is read over", [it for it in said if "over" in it], ["pgsess: read over: auth_file"])
+    PASSES.same("auth_file: --users comes first", (listening, status), (f"listening 127.0.0.1 {port}", None))
+    PASSES.same("auth_file: and it is read over", [it for it in said if "over" in it], ["pgsess: read over: auth_file"])
     ini.write_text(head)
-    holds("check: nobody names a user file", check("--ini", ini)[:1], (1,))
-    holds("check: no settings", check("--ini", work / "nowhere.ini"), (1, [], f"pgsess: file {work / 'nowhere.ini'}\n"))
+    PASSES.same("check: nobody names a user file", check("--ini", ini)[:1], (1,))
+    PASSES.same("check: no settings", check("--ini", work / "nowhere.ini"), (1, [], f"pgsess: file {work / 'nowhere.ini'}\n"))
 
 
 def keys():
     text = (TOP / "docs/MIGRATING.md").read_text()
     named = set(re.findall(r"`([a-z_]+)(?: = [^`]*)?`", text))
-    holds("keys of PgBouncer 1.24", len(set(KEYS)), 93)
-    holds("keys that MIGRATING.md lacks", [it for it in KEYS if it not in named], [])
+    PASSES.same("keys of PgBouncer 1.24", len(set(KEYS)), 93)
+    PASSES.same("keys that MIGRATING.md lacks", [it for it in KEYS if it not in named], [])
 
 
 def main():
@@ -183,8 +173,7 @@ def main():
         passwords(work)
         auth_file(work)
     keys()
-    print(f"ini_files.py: {passed} passed, {failed} failed")
-    sys.exit(failed > 0)
+    PASSES.end()
 
 
 if __name__ == "__main__":

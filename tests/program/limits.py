@@ -15,9 +15,11 @@ import threading
 import time
 
 sys.path.insert(0, str(pathlib.Path(__file__).resolve().parents[1] / "lib"))
+from asking import outcome_at
 from cluster import HERE, USERS, Cluster, until
+from listening import Listener
 from passes import Show, play
-from wire import Client, Cut, Refused, message, startup
+from wire import Client, message, startup
 
 LOGIN, START = 3, 2
 # as long as a connection may take where server_connect_timeout sets no time
@@ -33,27 +35,18 @@ UNREACHED, TOO_MANY = "08001", "53300"
 BELLS, TOGETHER, TURNS, AT_ONCE = 1024, 50, 3, 0.5
 
 
-def told(port, user="ann", database="shop", host=HERE, seconds=SECONDS, asks="SELECT 1"):
-    """What a client is told that asks for one row, and the seconds that it took."""
+def visit(port, user="ann", seconds=SECONDS, **more):
+    """What a client is told, and the seconds that it took."""
     begin = time.monotonic()
-    try:
-        client = Client(port, user, database, USERS[user][0], host=host, seconds=seconds)
-        client.ask(asks if database != "pgbouncer" else "SHOW VERSION")
-        client.leave()
-        outcome = "served"
-    except Refused as error:
-        outcome = error.code
-    except (Cut, OSError) as error:
-        outcome = type(error).__name__
-    return outcome, time.monotonic() - begin
+    return outcome_at(port, user, seconds=seconds, **more), time.monotonic() - begin
 
 
-def told_at_once(port, count, asks):
+def visits(port, count, asks):
     """The same of so many clients that come at once."""
     outcomes = [None] * count
 
     def serve(place):
-        outcomes[place] = told(port, asks=asks, seconds=4 * SECONDS)
+        outcomes[place] = visit(port, asks=asks, seconds=4 * SECONDS)
 
     threads = [threading.Thread(target=serve, args=(place,)) for place in range(count)]
     for it in threads:
@@ -132,21 +125,14 @@ class Full:
         close([*self.waiting, self.listener])
 
 
-class Dripping(threading.Thread):
+class Dripping(Listener):
     """A server that says AuthenticationOk and then reports, a byte each 50 ms."""
 
     def __init__(self):
-        super().__init__(daemon=True)
-        self.listener = socket.create_server((HERE, 0))
-        self.port, self.open = self.listener.getsockname()[1], 0
-        self.start()
+        self.open = 0
+        super().__init__()
 
-    def run(self):
-        while True:
-            connection, _ = self.listener.accept()
-            threading.Thread(target=self.drip, args=(connection,), daemon=True).start()
-
-    def drip(self, connection):
+    def serve(self, connection):
         self.open += 1
         text = message(b"R", (0).to_bytes(4, "big")) + message(b"S", b"server_version\0" + b"15" * 4000 + b"\0")
         try:
@@ -180,7 +166,7 @@ class Limits(Show):
         half = startup("ann", "shop")[:20]
         silent, halves = opened(self.pooler.port, count=MANY), opened(self.pooler.port, half, MANY)
         begin = time.monotonic()
-        outcomes = [told(self.pooler.port)[0] for _ in range(10)]
+        outcomes = [visit(self.pooler.port)[0] for _ in range(10)]
         self.passes.same(f"{MANY} silent connections and {MANY} with half a StartupMessage: clients are served", outcomes, ["served"] * 10)
         count, given = ends(silent + halves, LOGIN + SECONDS)
         self.passes.same("all are closed without a byte", (count, given), (2 * MANY, b""))
@@ -211,8 +197,9 @@ class Limits(Show):
         self.begin(lines="client_login_timeout = 0\n", files=FEW_FILES)
         silent = opened(self.pooler.port, count=SILENT)
         time.sleep(1)
-        for what, user, database in (("a client", "ann", "shop"), ("the console", "root", "pgbouncer"), ("another client", "ann", "shop")):
-            outcome, took = told(self.pooler.port, user, database, seconds=2 * SECONDS)
+        client, console = ("ann", "shop", "SELECT 1"), ("root", "pgbouncer", "SHOW VERSION")
+        for what, (user, database, asks) in (("a client", client), ("the console", console), ("another client", client)):
+            outcome, took = visit(self.pooler.port, user, database=database, asks=asks, seconds=2 * SECONDS)
             self.passes.same(f"{SILENT} silent connections under {FEW_FILES} files: {what} is served", (outcome, took < SECONDS),
                              ("served", True))
         close(silent)
@@ -232,26 +219,27 @@ class Limits(Show):
         server, full = Dripping(), Full()
         row = f"full = host={HERE} port={full.port} dbname=shop"
         self.begin(closed=server.port, size=1, lines=f"server_connect_timeout = {START}\n", more_rows=row)
-        outcome, took = told(self.pooler.port, database="full")
+        outcome, took = visit(self.pooler.port, database="full")
         in_time = START - 0.5 < took < START + SLACK
         self.passes.same(f"a server that takes no connection: told in server_connect_timeout ({took:.1f} s)", (outcome, in_time),
                          (UNREACHED, True))
         full.close()
         for turn in ("a server that drips its welcome", "the next client"):
-            outcome, took = told(self.pooler.port, database="closed")
+            outcome, took = visit(self.pooler.port, database="closed")
             self.passes.same(f"{turn}: told in server_connect_timeout", (outcome, START <= took < START + SLACK), (UNREACHED, True))
         self.passes.holds("its connection is closed", until(lambda: server.open == 0, 5))
         self.passes.same("its place is free", self.console("SHOW SERVERS"), [])
-        self.passes.same("and others are served", told(self.pooler.port)[0], "served")
+        self.passes.same("and others are served", visit(self.pooler.port)[0], "served")
 
     def unlimited_starts(self):
         """A server that takes no connection, where no time is set for it."""
         full = Full()
         row = f"full = host={HERE} port={full.port} dbname=shop"
         self.begin(lines="server_connect_timeout = 0\n", more_rows=row)
-        outcome, took = told(self.pooler.port, database="full", seconds=CONNECT + SECONDS)
+        outcome, took = visit(self.pooler.port, database="full", seconds=CONNECT + SECONDS)
         in_time = CONNECT - 0.5 < took < CONNECT + SLACK
-        self.passes.same(f"server_connect_timeout = 0: told in {CONNECT} s all the same ({took:.1f} s)", (outcome, in_time), (UNREACHED, True))
+        self.passes.same(f"server_connect_timeout = 0: told in {CONNECT} s all the same ({took:.1f} s)", (outcome, in_time),
+                         (UNREACHED, True))
         full.close()
 
     def console_beyond(self):
@@ -259,21 +247,22 @@ class Limits(Show):
         folder = self.place.folder
         self.begin(clients=3, lines=f"unix_socket_dir = {folder}\n")
         clients = [Client(self.pooler.port, "ann", "shop", USERS["ann"][0]) for _ in range(3)]
-        self.passes.same("a client beyond max_client_conn", told(self.pooler.port)[0], TOO_MANY)
-        self.passes.same("a client of the console's database that isn't its user", told(self.pooler.port, "ann", "pgbouncer")[0], TOO_MANY)
+        self.passes.same("a client beyond max_client_conn", visit(self.pooler.port)[0], TOO_MANY)
+        self.passes.same("a client of the console's database that isn't its user", visit(self.pooler.port, database="pgbouncer")[0],
+                         TOO_MANY)
         self.passes.same("SHOW beyond it", len(self.console("SHOW CLIENTS")), 4)
         silent = opened(self.pooler.port, startup("root", "pgbouncer"), CONSOLE)
         for it in silent:
             it.recv(1)
-        self.passes.same(f"{CONSOLE} that give no password have the console's places", told(self.pooler.port, "root", "pgbouncer")[0],
-                         TOO_MANY)
-        self.passes.same("and not those of the Unix socket", told(self.pooler.port, "root", "pgbouncer", str(folder))[0], "served")
+        asking = {"user": "root", "database": "pgbouncer", "asks": "SHOW VERSION"}
+        self.passes.same(f"{CONSOLE} that give no password have the console's places", visit(self.pooler.port, **asking)[0], TOO_MANY)
+        self.passes.same("and not those of the Unix socket", visit(self.pooler.port, host=str(folder), **asking)[0], "served")
         self.passes.same(f"they have {CONSOLE_SECONDS} s", ends(silent, CONSOLE_SECONDS + 5)[0], CONSOLE)
         close(silent)
         ini = (folder / "pgsess.ini").read_text()
         self.place.write("pgsess.ini", ini.replace("max_client_conn = 3", "max_client_conn = 10"))
         self.console("RELOAD")
-        self.passes.same("RELOAD with a higher limit", told(self.pooler.port)[0], "served")
+        self.passes.same("RELOAD with a higher limit", visit(self.pooler.port)[0], "served")
         for client in clients:
             client.leave()
         self.passes.tell("SHUTDOWN", self.pooler.shut())
@@ -283,24 +272,24 @@ class Limits(Show):
         self.cluster.tell(f"ALTER ROLE ann CONNECTION LIMIT {PLACES}", "postgres")
         self.begin(size=CLIENTS)
         before = len(self.log())
-        outcomes = told_at_once(self.pooler.port, CLIENTS, "SELECT pg_sleep(1)")
+        outcomes = visits(self.pooler.port, CLIENTS, "SELECT pg_sleep(1)")
         self.passes.same(f"{CLIENTS} clients of a second, a pool of {CLIENTS}, {PLACES} places at the server", [it for it, _ in outcomes],
                          ["served"] * CLIENTS)
         self.passes.holds("each waited for its turn alone", max(took for _, took in outcomes) < 8 + SLACK, str(outcomes))
         refused = self.log()[before:].count(f"refused the start: {TOO_MANY}")
         self.passes.holds("the log names the starts that were refused", CLIENTS - PLACES <= refused <= 2 * CLIENTS, str(refused))
-        outcomes = told_at_once(self.pooler.port, 4 * CLIENTS, "SELECT 1")
+        outcomes = visits(self.pooler.port, 4 * CLIENTS, "SELECT 1")
         self.passes.same("many more clients, each for a moment", [it for it, _ in outcomes], ["served"] * (4 * CLIENTS))
         self.begin(size=CLIENTS, wait=WAIT)
         held = [Client(self.pooler.port, "ann", "shop", USERS["ann"][0]) for _ in range(PLACES)]
-        outcome, took = told(self.pooler.port)
+        outcome, took = visit(self.pooler.port)
         self.passes.same("no link comes back: what the server said is told in query_wait_timeout",
                          (outcome, WAIT - 1 <= took < WAIT + SLACK), (TOO_MANY, True))
         for client in held:
             client.leave()
         self.begin(size=CLIENTS)
         other = [Client(self.cluster.port, "ann", "shop", USERS["ann"][0]) for _ in range(PLACES)]
-        outcome, took = told(self.pooler.port)
+        outcome, took = visit(self.pooler.port)
         self.passes.same("no link of the pool is lent: it is told at once", (outcome, took < 5), (TOO_MANY, True))
         for client in other:
             client.leave()
@@ -312,7 +301,7 @@ class Limits(Show):
         console = Client(port, "root", "pgbouncer", USERS["root"][0])
         waiting = lambda: sum(int(row[3]) for row in console.ask("SHOW POOLS"))
         holders = {user: Client(port, user, "shop", USERS[user][0]) for user in ("ann", "bc")}
-        other, one = (threading.Thread(target=told, args=(port, user), kwargs={"seconds": 6 * SECONDS}) for user in ("ann", "bc"))
+        other, one = (threading.Thread(target=outcome_at, args=(port, user), kwargs={"seconds": 6 * SECONDS}) for user in ("ann", "bc"))
         other.start()
         until(lambda: waiting() == 1)
         come_and_go(port, BELLS - 1)
@@ -336,7 +325,8 @@ class Limits(Show):
                           sorted(times)[TURNS // 2] < AT_ONCE, shown)
 
     def all(self):
-        for part in (self.logins, self.files, self.shutdown, self.starts, self.unlimited_starts, self.console_beyond, self.places, self.bells):
+        for part in (self.logins, self.files, self.shutdown, self.starts, self.unlimited_starts, self.console_beyond, self.places,
+                     self.bells):
             part()
         self.pooler.stop()
         self.cluster.stop()

@@ -89,6 +89,23 @@ class Counted(Client):
         return part
 
 
+def fetched(port, path):
+    """A page of this machine, or nothing while nobody gives it."""
+    try:
+        with urllib.request.urlopen(f"http://{HERE}:{port}/{path}", timeout=5) as answer:
+            return answer.read().decode()
+    except OSError:
+        return ""
+
+
+def installed(name):
+    """Where a program is; of one that isn't there that is said."""
+    found = shutil.which(name)
+    if not found:
+        print(f"not tried: {name} isn't installed", flush=True)
+    return found
+
+
 def side_by_side(work, count):
     """Does this so often at once, and waits for all."""
     threads = [threading.Thread(target=work) for _ in range(count)]
@@ -157,8 +174,8 @@ class Monitors(Show):
         return int(row_of(table(self.port, "STATS"), database="shop").get("total_query_count", 0))
 
     def coming_and_going(self):
-        """While clients come and go, figures never go back, and none is counted twice: STATS is asked for all the while. The silent ones are
-        more than are copied at once, so clients go while others are being copied."""
+        """While clients come and go, figures never go back, and none is counted twice: STATS is asked for all the while. The silent ones
+        are more than are copied at once, so clients go while others are being copied."""
         self.begin()
         silent = [socket.create_connection((HERE, self.port)) for _ in range(SILENT)]
         found, over = [], threading.Event()
@@ -319,58 +336,42 @@ class Monitors(Show):
 
     def exporter(self):
         """Debian's exporter, which can't run with Debian's own PgBouncer."""
-        program = shutil.which("prometheus-pgbouncer-exporter")
+        program = installed("prometheus-pgbouncer-exporter")
         if not program:
-            print("not tried: prometheus-pgbouncer-exporter isn't installed", flush=True)
             return
         port = free_port()
         text = (f"exporter_host: {HERE}\nexporter_port: {port}\npgbouncers:\n  -\n    dsn: postgresql://root@{HERE}:{self.port}/pgbouncer\n"
                 "    connect_timeout: 5\n    extra_labels:\n      pool_id: 1\n")
         config = self.place.write("exporter.yml", text)
         process = subprocess.Popen([program, "--config", str(config)], stdout=subprocess.DEVNULL, stderr=subprocess.DEVNULL)
-        text = ""
-
-        def scraped():
-            nonlocal text
-            try:
-                with urllib.request.urlopen(f"http://{HERE}:{port}/metrics", timeout=5) as answer:
-                    text = answer.read().decode()
-            except OSError:
-                return False
-            return "pgbouncer_stats" in text
-        self.passes.holds("Debian's exporter", until(scraped, 20), text[-300:])
+        scraped = until(lambda: "pgbouncer_stats" in fetched(port, "metrics"), 20)
+        self.passes.holds("Debian's exporter", scraped, fetched(port, "metrics")[-300:])
         process.terminate()
         process.wait(10)
 
     def prometheus(self):
         """Debian's Prometheus scrapes the figures, and then has each series that the dashboard names."""
-        program = shutil.which("prometheus")
+        program = installed("prometheus")
         if not program:
-            print("not tried: prometheus isn't installed", flush=True)
             return
-        port, wanted, had = free_port(), named(TOP / "packaging/grafana/pgsess.json"), set()
+        port, wanted = free_port(), named(TOP / "packaging/grafana/pgsess.json")
         text = ("global:\n  scrape_interval: 1s\nscrape_configs:\n  - job_name: pgsess\n    static_configs:\n"
                 f"      - targets: ['{HERE}:{self.metrics}']\n")
         config = self.place.write("prometheus.yml", text)
         process = self.place.start(program, f"--config.file={config}", f"--storage.tsdb.path={self.place.folder / 'prometheus'}",
                                    f"--web.listen-address={HERE}:{port}", stdout=subprocess.DEVNULL, stderr=subprocess.DEVNULL)
 
-        def has_all():
-            nonlocal had
-            try:
-                with urllib.request.urlopen(f"http://{HERE}:{port}/api/v1/label/__name__/values", timeout=5) as answer:
-                    had = set(json.load(answer)["data"])
-            except OSError:
-                return False
-            return wanted <= had
-        self.passes.holds("Debian's Prometheus has each series that the dashboard names", until(has_all, 40), str(wanted - had))
+        def lacking():
+            told = fetched(port, "api/v1/label/__name__/values")
+            return wanted - set(json.loads(told)["data"] if told else [])
+        has_all = until(lambda: not lacking(), 40)
+        self.passes.holds("Debian's Prometheus has each series that the dashboard names", has_all, str(lacking()))
         process.terminate()
         process.wait(20)
 
     def check_postgres(self):
-        program = shutil.which("check_postgres")
+        program = installed("check_postgres")
         if not program:
-            print("not tried: check_postgres isn't installed", flush=True)
             return
         self.begin("console_style = pgbouncer\n")
         told = {}

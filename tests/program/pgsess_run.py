@@ -21,8 +21,8 @@ import threading
 import time
 
 sys.path.insert(0, str(pathlib.Path(__file__).resolve().parents[1] / "lib"))
-from cluster import HERE, TOP, Place, Stub, free_port, is_open, until
-from passes import Passes, words
+from cluster import HERE, TOP, Stub, free_port, is_open, until
+from passes import Show, play
 from wire import Client
 
 RUN = TOP / "packaging/pgsess-run"
@@ -304,21 +304,21 @@ def in_a_root(passes, place, stub, program):
                  "shut down: " in said() and all(TIMED.fullmatch(it) for it in said().splitlines()), said())
 
 
-def main(program):
-    began, passes = time.monotonic(), Passes("pgsess_run")
-    with Place("nobody") as place:
-        place.folder.chmod(place.folder.stat().st_mode | stat.S_IXOTH | stat.S_IROTH)
-        stub = Stub(place, program, (TOP / "examples/catalogue.tsv").read_bytes())
-        for case in [signals, ends_at_once, twice, ways_in, by_psql, faults]:
-            case(passes, place, stub, program)
+class PgsessRun(Show):
+    def __init__(self, program):
+        super().__init__(program, "pgsess_run", "nobody")
+
+    def all(self):
+        folder, cases = self.place.folder, [signals, ends_at_once, twice, ways_in, by_psql, faults]
+        folder.chmod(folder.stat().st_mode | stat.S_IXOTH | stat.S_IROTH)
+        stub = Stub(self.place, self.program, (TOP / "examples/catalogue.tsv").read_bytes())
         if may_make_namespaces():
-            as_first(passes, place, stub, program)
-            in_a_root(passes, place, stub, program)
+            cases += [as_first, in_a_root]
         else:
             print("left out: as process 1, and in a root of its own: no namespaces here")
-        print(f"{time.monotonic() - began:.0f} s")
-    passes.end()
+        for case in cases:
+            case(self.passes, self.place, stub, self.program)
 
 
 if __name__ == "__main__":
-    main(*words(1))
+    play(PgsessRun, has_server=False)

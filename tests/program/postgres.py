@@ -15,8 +15,8 @@ import sys
 import time
 
 sys.path.insert(0, str(pathlib.Path(__file__).resolve().parents[1] / "lib"))
-from asking import failures, run
-from cluster import HERE, USERS, Cluster, Pooler, free_port, until
+from asking import environment, failures, run
+from cluster import USERS, Cluster, Pooler, free_port, until
 from passes import Show, play
 from wire import Client, Cut, Refused, message, query
 
@@ -309,8 +309,7 @@ class Postgres(Show):
     def third(self, pooler, ask):
         """psql, while two clients have arrived: one has the link, and the other waits for it."""
         other = subprocess.Popen(["psql", "-X", "-q", "-c", ask], stdout=subprocess.DEVNULL, stderr=subprocess.DEVNULL,
-                                 env={**os.environ, "PGHOST": HERE, "PGPORT": str(pooler.port), "PGUSER": "ann", "PGDATABASE": "shop",
-                                      "PGPASSWORD": USERS["ann"][0]})
+                                 env=environment(pooler.port))
         time.sleep(0.3)
         told = psql(pooler.port, "ann", ask)
         other.wait()
@@ -321,8 +320,7 @@ class Postgres(Show):
         one = self.client(pooler)
         one.ask("SELECT 1")
         other = subprocess.Popen(["psql", "-X", "-q", "-A", "-t", "-c", "SELECT 7"], stdout=subprocess.PIPE,
-                                 env={**os.environ, "PGHOST": HERE, "PGPORT": str(pooler.port), "PGUSER": "ann", "PGDATABASE": "shop",
-                                      "PGPASSWORD": USERS["ann"][0]})
+                                 env=environment(pooler.port))
         time.sleep(0.3)
         waited = other.poll() is None
         one.leave()

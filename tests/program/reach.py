@@ -192,15 +192,21 @@ class Reach(Show):
         self.says("the log says why", pool, rf"^pgsess: server nowhere\.invalid:{port} not reached: \S")
         pool.stop()
 
+    @staticmethod
+    def in_turn(pool, text, times):
+        """What so many clients are told by a new link each."""
+        found = []
+        for _ in range(times):
+            client = Client(pool.port, "ann")
+            found.append(client.ask(text)[0][0])
+            client.leave()
+            time.sleep(0.05)
+        return found
+
     def lists(self):
         """Each new link begins at the next place, and goes on where one is down."""
         pool = self.pool(f"{HERE},{TOO},{self.folder}", "server_lifetime = 0")
-        places = []
-        for _ in range(6):
-            client = Client(pool.port, "ann")
-            places.append(client.ask("SELECT coalesce(host(inet_server_addr()), 'unix')")[0][0])
-            client.leave()
-            time.sleep(0.05)
+        places = self.in_turn(pool, "SELECT coalesce(host(inet_server_addr()), 'unix')", 6)
         self.passes.same("a list is gone through in turn", (sorted(places[:3]), places[3:]), (sorted([HERE, TOO, "unix"]), places[:3]))
         pool.stop()
         pool = self.pool(f"{NOBODY},{HERE}", "server_lifetime = 0")
@@ -225,12 +231,7 @@ class Reach(Show):
                 file.write("host all all 127.0.0.0/8 md5\n")
             second.start()
             pool = self.pool(f"{HERE},{SECOND}", "server_lifetime = 0")
-            names = []
-            for _ in range(4):
-                client = Client(pool.port, "ann")
-                names.append(client.ask("SELECT name FROM own")[0][0])
-                client.leave()
-                time.sleep(0.05)
+            names = self.in_turn(pool, "SELECT name FROM own", 4)
             self.passes.same("two servers behind one host, in turn", sorted(names), ["first", "first", "second", "second"])
             self.servers.append(SECOND)
             self.cancels("each cancel goes where its link went", pool, times=8)

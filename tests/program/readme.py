@@ -14,8 +14,8 @@ import subprocess
 import sys
 
 sys.path.insert(0, str(pathlib.Path(__file__).resolve().parents[1] / "lib"))
-from cluster import HERE, TOP, Cluster, Place, free_port, is_open, set_up, until
-from passes import Passes, words
+from cluster import HERE, TOP, Cluster, free_port, is_open, until
+from passes import Show, play
 
 MOST_LINES = 120
 MOST_BYTES = 9 * 1024
@@ -171,21 +171,21 @@ def names(passes, page, program):
     passes.same(f"the page has at most {MOST_LINES} lines and {MOST_BYTES} bytes", size, (True, True))
 
 
-def main(program):
-    set_up()
-    passes, page, walk = Passes("readme"), Page(), None
-    with Place() as place:
+class Readme(Show):
+    def __init__(self, program):
+        super().__init__(program, "readme")
+
+    def all(self):
+        page = Page()
+        names(self.passes, page, self.program)
+        walk = Walk(self.place, DefaultServer(self.place), self.program)
         try:
-            names(passes, page, program)
-            walk = Walk(place, DefaultServer(place), program)
-            pools(passes, page, walk)
+            pools(self.passes, page, walk)
         finally:
-            if walk:
-                walk.stop()
-    demo = subprocess.run([TOP / "shows/demo.py", program], stdout=subprocess.PIPE, stderr=subprocess.STDOUT, text=True)
-    passes.same("make demo shows that the next client finds nothing", demo.returncode, 0)
-    passes.end()
+            walk.stop()
+        demo = subprocess.run([TOP / "shows/demo.py", self.program], stdout=subprocess.PIPE, stderr=subprocess.STDOUT, text=True)
+        self.passes.same("make demo shows that the next client finds nothing", demo.returncode, 0)
 
 
 if __name__ == "__main__":
-    main(*words(1))
+    play(Readme)

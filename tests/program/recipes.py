@@ -18,8 +18,8 @@ import threading
 import time
 
 sys.path.insert(0, str(pathlib.Path(__file__).resolve().parents[1] / "lib"))
-from cluster import HERE, TOP, Cluster, Place, free_port, is_open, need, set_up, until
-from passes import Passes, words
+from cluster import HERE, TOP, Cluster, free_port, is_open, need, until
+from passes import Show, play
 from wire import Client, Refused, cancel_request
 
 RECIPES = TOP / "packaging/recipes"
@@ -367,22 +367,21 @@ def tls(passes, place, program, cluster):
         it.terminate()
 
 
-def main(program, installed):
-    set_up()
-    if installed:
-        os.environ["PATH"] += ":/usr/sbin"
-        need(["haproxy", "stunnel4", "openssl"], ["haproxy", "stunnel4", "openssl"])
-    began, passes = time.monotonic(), Passes("recipes")
-    with Place() as place:
-        cluster = Cluster(place)
-        for case in [two, tls] if installed else [rolling, switch_over, users, options, idle]:
-            case(passes, place, program, cluster)
-        print(f"{time.monotonic() - began:.0f} s")
-    passes.end()
+class Recipes(Show):
+    def __init__(self, program, more=""):
+        if more not in ("", "--installed"):
+            sys.exit(__doc__)
+        if more:
+            os.environ["PATH"] += ":/usr/sbin"
+            need(["haproxy", "stunnel4", "openssl"], ["haproxy", "stunnel4", "openssl"])
+        super().__init__(program, "recipes")
+        self.cases = [two, tls] if more else [rolling, switch_over, users, options, idle]
+
+    def all(self):
+        cluster = Cluster(self.place)
+        for case in self.cases:
+            case(self.passes, self.place, self.program, cluster)
 
 
 if __name__ == "__main__":
-    program, *more = words(1, further=1)
-    if more not in ([], ["--installed"]):
-        sys.exit(__doc__)
-    main(program, bool(more))
+    play(Recipes, further=1)

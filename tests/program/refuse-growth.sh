@@ -1,24 +1,22 @@
 #!/usr/bin/env bash
-# refuse-growth.sh [PROGRAM [TRIALS [REFUSALS]]]: runs the program with its first allocation refused, then with its second, and so on
+# refuse-growth.sh [PROGRAM [TRIALS [PROBE]]]: runs the program with its first allocation refused, then with its second, and so on
 # until none is left to refuse. Each run must end with status 1 and the line `pgsess: memory` alone, or with status 0 and
 # the whole answer. Where a file's line can't be kept, `serve` and `stub` may name it, as in `pgsess: C8 line 7`; they are run at a
 # port that another has, so that what they end with is `pgsess: port N` and status 3.
 # Logins with a password are tried likewise through `trials login`; and steps of a session through `trials solo`, which asks once more
-# for what is refused: so a growth that is refused there leaves no trace, and the answer is the whole one. `refusals KIND` does so with
+# for what is refused: so a growth that is refused there leaves no trace, and the answer is the whole one. `oom_probe KIND` does so with
 # logins, starts and resets of links, ends in memory, leases, the book and its views, a desk's views, the console's answers and the request
 # of a cancel: it looks at what each refusal left, asks once more, and gives the answer of a run in which nothing is refused.
 set -euo pipefail
 cd "$(dirname "$0")/../.."
 program=$(realpath "${1:-crates/pgsess/out/pgsess}")
 trials=$(realpath "${2:-crates/trials/out/trials}")
-refusals=$(realpath "${3:-crates/refusals/out/refusals}")
-work=$(mktemp -d)
-trap 'rm -rf "$work"' EXIT
+probe=$(realpath "${3:-crates/oom_probe/out/oom_probe}")
+# shellcheck source=tests/lib/checks.sh
+. tests/lib/checks.sh
 gcc -O1 -Wall -Wextra -shared -fPIC -o "$work/refuse.so" tests/program/refuse_growth.c
 head -c 32 /dev/zero >"$work/seed.bin"
 
-passed=0
-failed=0
 # the status of a run in which nothing is refused
 whole=0
 
@@ -80,14 +78,8 @@ for row in bind_values temporary_table_and_statement suspended_portal set_show_d
     sweep "replay of $row" "tests/rows/$row.out" 'pgsess: memory' "tests/rows/$row.in" "$program" replay
 done
 # a port that is taken
-python3 -c 'import socket, time; s = socket.socket(); s.bind(("127.0.0.1", 0)); s.listen(); print(s.getsockname()[1], flush=True); time.sleep(3600)' >"$work/port" &
-holder=$!
-trap 'kill "$holder"; rm -rf "$work"' EXIT
-for _ in {1..100}; do
-    [ -s "$work/port" ] && break
-    sleep 0.05
-done
-port=$(cat "$work/port")
+hold 0
+port=$(cat "$work/held")
 sed "s/^listen_port = .*/listen_port = $port/" examples/pgsess.ini >"$work/taken.ini"
 : >"$work/taken"
 echo "pgsess: port $port" >"$work/taken.err"
@@ -115,10 +107,9 @@ done
 for kind in login:10 start:60 reset:10 end:100 relay:5 book:20 view:3 console:120 strike:2; do
     fewest=${kind#*:}
     kind=${kind%:*}
-    "$refusals" "$kind" >"$work/answer"
-    sweep "refusals of $kind" "$work/answer" 'refusals: memory' /dev/null "$refusals" "$kind"
+    "$probe" "$kind" >"$work/answer"
+    sweep "oom_probe of $kind" "$work/answer" 'oom_probe: memory' /dev/null "$probe" "$kind"
 done
 fewest=0
 
-echo "refuse-growth: $passed passed, $failed failed"
-[ "$failed" -eq 0 ]
+counted refuse-growth

@@ -1,17 +1,13 @@
 /* A preloaded library that refuses allocations: from the program's main on, the call of malloc, calloc or realloc
    whose number REFUSE_CALL names answers null. Where REFUSE_STRUCK names a file, it is made when that happens.
 
-   Where REFUSE_PAGE names a file, its first 32 bytes are shared with whoever writes them while the program runs: four numbers of
-   eight bytes. While the first isn't 0, calls are counted in the third; of these the first-th and so many as the second says are
-   refused, which the fourth counts. */
+   Where a page is shared with whoever writes it while the program runs, it has four numbers of eight bytes. While the first isn't 0, calls
+   are counted in the third; of these the first-th and so many as the second says are refused, which the fourth counts. */
 #define _GNU_SOURCE
+#include "refuse_page.h"
 #include <dlfcn.h>
-#include <fcntl.h>
 #include <stdatomic.h>
 #include <stddef.h>
-#include <stdlib.h>
-#include <sys/mman.h>
-#include <unistd.h>
 
 extern void *__libc_malloc(size_t);
 extern void *__libc_calloc(size_t, size_t);
@@ -55,21 +51,11 @@ void *malloc(size_t size) { return is_refused() ? NULL : __libc_malloc(size); }
 void *calloc(size_t count, size_t size) { return is_refused() ? NULL : __libc_calloc(count, size); }
 void *realloc(void *old, size_t size) { return is_refused() ? NULL : __libc_realloc(old, size); }
 
-static void share(const char *name) {
-    int file = name ? open(name, O_RDWR) : -1;
-    if (file < 0)
-        return;
-    void *shared = mmap(NULL, sizeof(struct page), PROT_READ | PROT_WRITE, MAP_SHARED, file, 0);
-    close(file);
-    if (shared != MAP_FAILED)
-        page = shared;
-}
-
 static int counted_main(int argc, char **argv, char **envp) {
     const char *number = getenv("REFUSE_CALL");
     refused = number ? strtoul(number, NULL, 10) : 0;
     struck = getenv("REFUSE_STRUCK");
-    share(getenv("REFUSE_PAGE"));
+    page = shared_page(sizeof *page);
     unsetenv("REFUSE_CALL");
     counting = 1;
     int status = real_main(argc, argv, envp);

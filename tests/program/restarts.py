@@ -14,9 +14,10 @@ import threading
 import time
 
 sys.path.insert(0, str(pathlib.Path(__file__).resolve().parents[1] / "lib"))
+from asking import outcome_at
 from cluster import Cluster, until
 from passes import Show, play
-from wire import Client, Cut, Refused
+from wire import Client
 
 KIND = os.environ.get("POOLER", "pgsess")
 LINKS, ROUNDS = 8, 2
@@ -24,19 +25,6 @@ BENCH_CLIENTS, BENCH_SECONDS = 8, 12
 # seconds: how long an idle session may last at the server, and how far apart clients come
 IDLE, APART, CLIENTS = 2, 3, 20
 CLOSED = r"^pgsess: idle link (\d+) closed: (.*)$"
-
-
-def told(port):
-    """What a client is told that asks for one row."""
-    try:
-        client = Client(port, "ann")
-        client.ask("SELECT 1")
-        client.leave()
-        return "served"
-    except Refused as error:
-        return error.code
-    except (Cut, OSError):
-        return "cut"
 
 
 class Restarts(Show):
@@ -66,7 +54,7 @@ class Restarts(Show):
         self.idle_links()
         before = len(self.log())
         end()
-        outcomes = collections.Counter(told(self.pooler.port) for _ in range(2 * LINKS))
+        outcomes = collections.Counter(outcome_at(self.pooler.port) for _ in range(2 * LINKS))
         self.passes.same(f"{what}: {2 * LINKS} clients", dict(outcomes), {"served": 2 * LINKS})
         if KIND == "pgsess":
             until(lambda: sum(self.causes(before).values()) >= count, 5)
@@ -87,7 +75,7 @@ class Restarts(Show):
         self.cluster.tell(f"ALTER ROLE ann SET idle_session_timeout = '{IDLE}s'", "postgres")
         outcomes = collections.Counter()
         for _ in range(CLIENTS):
-            outcomes[told(self.pooler.port)] += 1
+            outcomes[outcome_at(self.pooler.port)] += 1
             time.sleep(APART)
         self.passes.same("idle_session_timeout at the server, and clients farther apart", dict(outcomes), {"served": CLIENTS})
         self.cluster.tell("ALTER ROLE ann RESET idle_session_timeout", "postgres")
@@ -125,7 +113,7 @@ class Restarts(Show):
         self.console("WAIT_CLOSE closed")
         time.sleep(1.5)
         self.passes.same("WAIT_CLOSE waits while such a link is lent", answered, [])
-        another = told(self.pooler.port), any(it not in before for it in self.cluster.backends())
+        another = outcome_at(self.pooler.port), any(it not in before for it in self.cluster.backends())
         self.passes.same("and another client has a new one", another, ("served", True))
         busy.leave()
         waiter.join(10)

@@ -1,7 +1,7 @@
 #!/usr/bin/env python3
-"""Shows what a database's row says of users (`user=`, `password=`): whoever proves to be itself is served as the row's user, over one pool of
-that user's links; and neither the log nor a command of the console shows the password. In front of a PostgreSQL server of Debian, once where
-it asks for MD5 digests and once as it is installed.
+"""Shows what a database's row says of users (`user=`, `password=`): whoever proves to be itself is served as the row's user, over one pool
+of that user's links; and neither the log nor a command of the console shows the password. In front of a PostgreSQL server of Debian, once
+where it asks for MD5 digests and once as it is installed.
 
 Usage: row_users.py PROGRAM
 """
@@ -10,8 +10,8 @@ import shutil
 import sys
 
 sys.path.insert(0, str(pathlib.Path(__file__).resolve().parents[1] / "lib"))
+from asking import outcome_at
 from cluster import HERE, USERS, Cluster, Installed, until
-from friendly import outcome
 from passes import Show, play
 from wire import Client
 
@@ -54,7 +54,8 @@ class RowUsers(Show):
         self.passes.same("two at a time have two", len(pids), 2)
         self.passes.same("of one pool", [row[:2] for row in self.console("SHOW POOLS") if row[0] == "app"], [["app", "app"]])
         for name in ("ann", "bc"):
-            self.passes.holds(f"the log names {name}", until(lambda: f" {name}@app from " in self.log()[self.before:], 5), self.log()[-400:])
+            is_named = until(lambda: f" {name}@app from " in self.log()[self.before:], 5)
+            self.passes.holds(f"the log names {name}", is_named, self.log()[-400:])
         self.passes.holds("and nobody as the row's user", " app@app from " not in self.log()[self.before:], self.log()[-400:])
         for client in clients:
             client.leave()
@@ -64,11 +65,11 @@ class RowUsers(Show):
         """By whose secret a client logs in, and by whose its link is started."""
         refused = (("who gives the row's password for its own", "ann", HIDDEN), ("who gives it as the row's user", "app", HIDDEN))
         for what, user, password in refused:
-            self.passes.same(f"{what} isn't let in", outcome(self.pooler.port, user, password, "app"), WRONG_PASSWORD)
+            self.passes.same(f"{what} isn't let in", outcome_at(self.pooler.port, user, password, "app"), WRONG_PASSWORD)
         for database, what, code in (("wrong", "a password that is another", WRONG_PASSWORD), ("unknown", "none at all", NO_SERVER),
                                      ("proved", "a verifier", NO_SERVER)):
             before = len(self.log())
-            self.passes.same(f"{what}: its clients", outcome(self.pooler.port, "ann", None, database), code)
+            self.passes.same(f"{what}: its clients", outcome_at(self.pooler.port, "ann", None, database), code)
             self.passes.holds("are told as refused", until(lambda: f"ann@{database}" in self.log()[before:], 5), self.log()[before:])
 
     def shown(self):

@@ -17,8 +17,8 @@ import subprocess
 import sys
 
 sys.path.insert(0, str(pathlib.Path(__file__).resolve().parents[1] / "lib"))
-from cluster import TOP, Place, free_port, is_open, need, until
-from passes import Passes, words
+from cluster import TOP, free_port, is_open, need, until
+from passes import Show, play
 from wire import Client
 
 UNIT = TOP / "packaging/pgsess.service"
@@ -92,13 +92,14 @@ def all_of(passes, service):
                  service.status("ExecReload") != 0 and service.status("ExecStop") != 0 and service.process.poll() is None)
 
 
-def main(program):
-    need(["psql"], ["postgresql-client"])
-    passes = Passes("unit")
-    with Place("nobody") as place:
-        all_of(passes, Service(place, program))
-    passes.end()
+class Unit(Show):
+    def __init__(self, program):
+        super().__init__(program, "unit", "nobody")
+
+    def all(self):
+        need(["psql"], ["postgresql-client"])
+        all_of(self.passes, Service(self.place, self.program))
 
 
 if __name__ == "__main__":
-    main(*words(1))
+    play(Unit, has_server=False)

@@ -12,8 +12,9 @@ import sys
 import time
 
 sys.path.insert(0, str(pathlib.Path(__file__).resolve().parents[1] / "lib"))
+from asking import outcome_at
 from cluster import HERE, USERS, until
-from friendly import Server, outcome
+from friendly import Server
 from passes import Show, play
 from refusing import Page, library_of, preloaded
 from wire import TERMINATE, Client, Refused, md5_answer, message, startup
@@ -83,7 +84,7 @@ class Wants(Show):
         until(lambda: self.counted() >= UNSERVED, SECONDS)
         self.passes.same("the log counts them", self.counted(), UNSERVED)
         self.passes.same("who is there is served", client.ask("SELECT"), [])
-        self.passes.same("threads are had again: a client", outcome(self.pooler.port), "served")
+        self.passes.same("threads are had again: a client", outcome_at(self.pooler.port), "served")
         client.leave()
         self.end("no thread")
 
@@ -105,7 +106,7 @@ class Wants(Show):
         self.server.sent, self.server.ended = b"", 0
         self.begin(changes={"^server_idle_timeout = .*": "server_idle_timeout = 1"})
         self.page.refuse(clock=True)
-        self.passes.same(f"{what}: a client", outcome(self.pooler.port), "served")
+        self.passes.same(f"{what}: a client", outcome_at(self.pooler.port), "served")
         tried, used = self.clocks_later()
         self.passes.holds(f"{what}: it is tried again, second for second", tried)
         until(lambda: self.times_untimed() > untimed, SECONDS)
