@@ -14,14 +14,17 @@ still : (a b c : Standing) (put got : List ℕ) → Moves a put b got → Moves 
 still a b c put got x y = subst (λ (g : List ℕ). Moves a put c g) (append-nil got) (moves_got a b c put got [] x y)
 
 pub untouched_is_clean : UntouchedIsClean
-untouched_is_clean key _ at (by_start {at = clean} x) m = by_start (record {
+untouched_is_clean key _ _ at _ (by_start {at = clean} x) m = by_start (record {
   began = x.began;
+  is_new = x.is_new;
   given = x.given;
   replies = x.replies;
   moves = still x.began clean at (packets_bytes (start_packets key x.given)) (flat_map spelling x.replies) x.moves m;
   answers = x.answers;
+  keyed = x.keyed;
+  reported = x.reported;
 })
-untouched_is_clean key _ at (by_reset {used = used} {at = clean} came lease d) m = by_reset came lease (record {
+untouched_is_clean key _ _ at _ (by_reset {used = used} {at = clean} came lease d) m = by_reset came lease (record {
   answer = d.answer;
   moves = still used clean at (spelling discard_all) (flat_map spelling d.answer) d.moves m;
   each = d.each;

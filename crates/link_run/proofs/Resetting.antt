@@ -42,7 +42,7 @@ use Rattle.link_run.proofs.Reporting.{told-frames}
 
 -- ---- moves
 
-pub reset_begun : (l : Standing) (k : StartKeyOf) (n b : ℕ) (sk : Option KeyView) (ks : List Kept) (r : List ℕ) → r ≡ [] → IsUsed l k ks → IsResetFrom l (reset_view l k n b sk ks (spelling discard_all) r)
+pub reset_begun : (l : Standing) (k : StartKeyOf) (n b : ℕ) (sk : Option KeyView) (ks : List Kept) (r : List ℕ) → r ≡ [] → IsUsed l k sk ks → IsResetFrom l (reset_view l k n b sk ks (spelling discard_all) r)
 reset_begun l k n b sk ks r e u = record { sent = []; used = u; moves = rw e (moves_none l); all = refl; faults = omega arith }
 
 pub reset_sent : (start l m : Standing) (k : StartKeyOf) (n b : ℕ) (sk : Option KeyView) (ks : List Kept) (put u w r : List ℕ) → Moves l put m [] → l.faults ≤ m.faults → u ≡ put ++ w
@@ -319,7 +319,7 @@ reset_dialogue start v now reports same told known back d x = record {
 }
 
 -- it makes a used link clean
-pub reset_clean : (v : ResetView) (reports : List Kept) → IsReset v → IsAnsweredReset v → reports ≡ after_frames v.reports (answer_in v.received).frames → are_known v.reports (answer_in v.received).frames ≡ true → is_at_start reports ≡ true → IsClean v.link v.key reports
+pub reset_clean : (v : ResetView) (reports : List Kept) → IsReset v → IsAnsweredReset v → reports ≡ after_frames v.reports (answer_in v.received).frames → are_known v.reports (answer_in v.received).frames ≡ true → is_at_start reports ≡ true → IsClean v.link v.key v.server_key reports
 unfolding got
 reset_clean v reports (start, x) d told known back = record {
   came = by_reset x.used.came.came x.used.came.lease (reset_dialogue start v v.link reports refl told known back d x);

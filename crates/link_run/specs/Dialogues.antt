@@ -1,6 +1,6 @@
 -- The dialogues that make a link clean: the answer to a start, and a reset by DISCARD ALL
 -- (PostgreSQL manual, "Message Flow", "Start-up"; "DISCARD").
-use Rattle.std.specs.Prelude.{◌≡◌, ◌⊎◌, ℕ, Bool, true, false, Result, Ok, Err, ◌||◌, ◌&&◌, ◌==◌, if◌then◌else◌, bytes_eq, codes, List, [], ◌∷◌, ◌++◌, length}
+use Rattle.std.specs.Prelude.{◌≡◌, ◌⊎◌, ℕ, Bool, true, false, Result, Ok, Err, Option, Some, None, ◌||◌, ◌&&◌, ◌==◌, if◌then◌else◌, bytes_eq, codes, List, [], ◌∷◌, ◌++◌, length}
 use Rattle.std.specs.List.{flat_map, list_any, AllByRecursion}
 use Rattle.bstr.specs.Text.{split_at}
 use Rattle.memchr.specs.Find.{matches}
@@ -11,9 +11,11 @@ use Rattle.message_view.specs.declared.kinds.TheConstants.{ASKS_NOTHING, ASKS_CL
 use Rattle.message_view.specs.Bodies.{text}
 use Rattle.message_view.specs.Messages.{ready_for_query}
 use Rattle.message_view.specs.declared.ViewFault.{ViewFault}
-use Rattle.message_view.specs.Reading.{authentication_of, status_of}
+use Rattle.message_view.specs.declared.views.KeyView.{KeyView}
+use Rattle.message_view.specs.Reading.{authentication_of, key_of, status_of}
 use Rattle.start_keys.specs.StartPairs.{Text}
-use Rattle.param_track.specs.Kept.{Kept, has_name, is_at_start}
+use Rattle.param_track.specs.Kept.{Kept, fits, has_name, is_at_start, with_first}
+use Rattle.param_track.specs.Reports.{Report}
 use Rattle.session_run_laws.specs.Laws.{discard_all}
 use Rattle.server_end.specs.Standing.{Standing, Moves}
 use Rattle.link_run.specs.Links.{after_frame, after_frames}
@@ -94,6 +96,44 @@ pub record IsStartAnswer (replies : List FrameOf) : Type 0 where
   pub is_asking : IsAsking asking
   pub is_let_in : LetsIn lets_in
   pub is_welcome : AllByRecursion IsOfWelcome welcome
+
+-- what is kept of the reports of an answer to a start, where each can be read and they are of at most 64 names
+abbrev pub added : List Kept → Result Report ViewFault → Option (List Kept)
+added kept (Ok r) = if fits kept r.0 then Some (with_first kept r) else None
+added kept (Err fault) = None
+
+abbrev pub reported_by : List Kept → FrameOf → Option (List Kept)
+reported_by kept f = if f.kind == PARAMETER_STATUS then added kept (status_of f.body) else Some kept
+
+abbrev pub reported_next : Option (List Kept) → (List Kept → Option (List Kept)) → Option (List Kept)
+reported_next (Some kept) go = go kept
+reported_next None go = None
+
+abbrev pub reported_all : List Kept → List FrameOf → Option (List Kept)
+reported_all kept [] = Some kept
+reported_all kept (f ∷ fs) = reported_next (reported_by kept f) (λ k. reported_all k fs)
+
+-- ---- the key of the server that an answer to a start tells
+
+abbrev pub key_read : Result (ℕ × ℕ) ViewFault → Result (Option KeyView) ViewFault
+key_read (Ok k) = Ok (Some (record { pid = k.0; secret = k.1 }))
+key_read (Err fault) = Err fault
+
+-- the key that was told, once one more frame has come: a BackendKeyData tells it, where it can be read
+abbrev pub keyed_by : Option KeyView → FrameOf → Result (Option KeyView) ViewFault
+keyed_by key f = if f.kind == BACKEND_KEY_DATA then key_read (key_of f.body) else Ok key
+
+abbrev pub keyed_next : Result (Option KeyView) ViewFault → (Option KeyView → Result (Option KeyView) ViewFault) → Result (Option KeyView) ViewFault
+keyed_next (Ok key) go = go key
+keyed_next (Err fault) go = Err fault
+
+abbrev pub keyed_all : Option KeyView → List FrameOf → Result (Option KeyView) ViewFault
+keyed_all key [] = Ok key
+keyed_all key (f ∷ fs) = keyed_next (keyed_by key f) (λ k. keyed_all k fs)
+
+-- The dialogue of a start tells this key: the last that a BackendKeyData of it told, or none where it has none.
+abbrev pub TellsKey : List FrameOf → Option KeyView → Type 0
+TellsKey fs key = keyed_all None fs ≡ Ok key
 
 -- ---- the answer to a reset
 

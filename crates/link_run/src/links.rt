@@ -48,7 +48,7 @@ impl<E: ServerEnd> Model for CleanLink<E> {
 
     ghost view = { λ l. record { stands = E.standing l.link.end; key = arc_value l.link.key; number = l.link.number; born = l.link.born; server_key = l.link.server_key; reports = l.link.reported } };
 
-    ghost invariant = { λ l. IsClean (E.standing l.link.end) (arc_value l.link.key) l.link.reported };
+    ghost invariant = { λ l. IsClean (E.standing l.link.end) (arc_value l.link.key) l.link.server_key l.link.reported };
 }
 
 /// A link that was used and is settled. Over an end of any kind: a lease went over a clean link, whose every message is answered. Where
@@ -72,7 +72,7 @@ impl<E: ServerEnd> Model for UsedLink<E> {
 
     ghost view = { λ l. record { stands = E.standing l.link.end; key = arc_value l.link.key; number = l.link.number; born = l.link.born; server_key = l.link.server_key; reports = l.link.reported } };
 
-    ghost invariant = { λ l. IsUsed (E.standing l.link.end) (arc_value l.link.key) l.link.reported };
+    ghost invariant = { λ l. IsUsed (E.standing l.link.end) (arc_value l.link.key) l.link.server_key l.link.reported };
 }
 
 impl<E: ServerEnd> CleanLink<E> {
@@ -136,7 +136,7 @@ impl<E: ServerEnd> CleanLink<E> {
         ensures born { result.born ≡ self.born }
         ensures server_key { result.server_key ≡ self.server_key }
         ensures reports { result.reported ≡ self.reports }
-        ensures clean { IsClean (E.standing result.end) (arc_value result.key) result.reported }
+        ensures clean { IsClean (E.standing result.end) (arc_value result.key) result.server_key result.reported }
     {
         let CleanLink { link } = self;
         link
@@ -152,7 +152,7 @@ impl<E: ServerEnd> UsedLink<E> {
         ensures born { result.born ≡ self.born }
         ensures server_key { result.server_key ≡ self.server_key }
         ensures reports { result.reported ≡ self.reports }
-        ensures used { IsUsed (E.standing result.end) (arc_value result.key) result.reported }
+        ensures used { IsUsed (E.standing result.end) (arc_value result.key) result.server_key result.reported }
     {
         let UsedLink { link } = self;
         link
@@ -162,7 +162,7 @@ impl<E: ServerEnd> UsedLink<E> {
 impl<E: ServerEnd> LinkParts<E> {
     /// The same as a link that nobody has used.
     pub fn clean(self) -> CleanLink<E>
-        requires { IsClean (E.standing self.end) (arc_value self.key) self.reported }
+        requires { IsClean (E.standing self.end) (arc_value self.key) self.server_key self.reported }
         ensures stands { result.stands ≡ E.standing self.end }
         ensures key { result.key ≡ arc_value self.key }
         ensures number { result.number ≡ self.number }
@@ -175,7 +175,7 @@ impl<E: ServerEnd> LinkParts<E> {
 
     /// The same as a link that was used and is settled.
     pub fn used(self) -> UsedLink<E>
-        requires { IsUsed (E.standing self.end) (arc_value self.key) self.reported }
+        requires { IsUsed (E.standing self.end) (arc_value self.key) self.server_key self.reported }
         ensures stands { result.stands ≡ E.standing self.end }
         ensures key { result.key ≡ arc_value self.key }
         ensures number { result.number ≡ self.number }

@@ -23,7 +23,7 @@ use Rattle.param_track.specs.Kept.{Kept, first_told, has_name, kept_of, place_of
 use Rattle.param_track.specs.Reports.{Report}
 use Rattle.param_track.proofs.Reporting.{first_new, has_at}
 use Rattle.link_run.specs.Links.{reports_with, kept_by}
-use Rattle.link_start.specs.StartReply.{added, reported_by, reported_next, reported_all}
+use Rattle.link_run.specs.Dialogues.{added, reported_by, reported_next, reported_all}
 
 -- ---- a report is read as what it says
 

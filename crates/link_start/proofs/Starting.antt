@@ -26,6 +26,7 @@ use Rattle.link_laws.specs.Dialogues.{IsStarting, AreToQuestions, FitsPacket, Is
 use Rattle.link_laws.proofs.Both.{moves_none, moves_got, moves_put}
 use Rattle.link_laws.proofs.ByName.{start_replies_are_frames, starts_are_told, started_is_fresh}
 use Rattle.link_run.specs.Links.{kept_by}
+use Rattle.link_run.specs.Dialogues.{TellsKey, keyed_all, reported_all}
 use Rattle.link_run.specs.Receipts.{HasStarted, IsClean, by_start}
 use Rattle.link_start.specs.declared.start_reply.StartProgress.{StartProgress}
 use Rattle.link_start.specs.declared.start_reply.StartProgress.TheVariants.{Nothing, Asked, Proved, LetIn, Ready, Refused, Other}
@@ -36,7 +37,7 @@ use Rattle.link_start.specs.declared.start.StartCause.TheVariants.{Lost, Unanswe
 use Rattle.link_start.specs.declared.start.StartCause.TheVariants as causes
 use Rattle.bytes.specs.Filled.{Filled}
 use Rattle.link_start.specs.Questions.{PutsIf, answer_to, answers_wanted, can_answer}
-use Rattle.link_start.specs.StartReply.{bare, before, if_lawful, heard, heard_by, heard_all, heard_cut, error_in, reported_all, TellsKey, keyed_all}
+use Rattle.link_start.specs.StartReply.{bare, before, if_lawful, heard, heard_by, heard_all, heard_cut, error_in}
 use Rattle.link_start.specs.Starts.{IsStartable, CanStart, IsLinkKey, StartView, start_view, waits_of, AreOwn, IsStartUnderWay, IsWelcomed, IsDone, IsDoneFrom, IsOwnKey, IsError, IsRefusalOf, IsUnanswerable, IsEndCause, CameAs, IsErrorHeard, IsUnanswerableHeard, IsUnexpectedHeard, IsStartCause, IsWaiting, IsAnsweredBy, IsWaitingStart, HasTried, bytes_left, ReadsOnce, shown}
 use Rattle.link_start.proofs.Grammar.{start_answer}
 use Rattle.link_start.proofs.Hearing.{no_other, still_refused, ready_is_last, ready_came, first_error, is_error}
@@ -174,16 +175,19 @@ whole_frames cred v bytes w =
 all_sent : (began now : Standing) (key : StartKeyOf) (given : List (List ℕ)) (unsent received : List ℕ) (s : IsStarting began key given unsent now received) → unsent ≡ [] → s.sent ≡ packets_bytes (start_packets key given)
 all_sent began now key given unsent received s none = sym (append-nil s.sent) ∙ ap (λ (bs : List ℕ). s.sent ++ bs) (sym none) ∙ s.all
 
-pub has_started : (began : Standing) (cred : CredentialOf) (v : StartView) → AreBytes v.received → IsStartUnderWay began cred v → IsWelcomed cred v → HasStarted v.key v.end
-has_started began cred v bytes x w =
+pub has_started : (began : Standing) (cred : CredentialOf) (v : StartView) → CanStart cred v.key.user began → AreBytes v.received → IsStartUnderWay began cred v → IsWelcomed cred v → (key : Option KeyView) (kept : List Kept) → TellsKey (frames FromServer 65536 v.received).frames key → reported_all [] (frames FromServer 65536 v.received).frames ≡ Some kept → HasStarted v.key v.end key kept
+has_started began cred v can bytes x w key kept keyed reports =
     let s = x.starting in
     record {
       began = began;
+      is_new = λ f. (can f).is_new;
       given = x.given;
       replies = (frames FromServer 65536 v.received).frames;
       moves = subst (λ (put : List ℕ). Moves began put v.end (flat_map spelling (frames FromServer 65536 v.received).frames)) (all_sent began v.end v.key x.given v.unsent v.received s w.sent)
           (subst (λ (bs : List ℕ). Moves began s.sent v.end bs) (whole_frames cred v bytes w) s.moves);
       answers = start_answer cred (frames FromServer 65536 v.received).frames (all_heard cred v w);
+      keyed = keyed;
+      reported = reports;
     }
 
 -- ---- what a server that follows has said
@@ -327,9 +331,9 @@ module _ (began : Standing) (cred : CredentialOf) (v : StartView) (c : CanStart 
     unfolding got
     key_is = subst (TellsOwnKey began.server) all_came opens_reported.keyed
 
-pub started_clean : (v : StartView) → IsDone v → (kept : List Kept) → AreBytes v.received → reported_all [] (frames FromServer 65536 v.received).frames ≡ Some kept → IsClean v.end v.key kept
-started_clean v (began, (cred, d)) kept bytes e = record {
-  came = by_start (has_started began cred v bytes d.under_way d.welcomed);
+pub started_clean : (v : StartView) → IsDone v → (key : Option KeyView) (kept : List Kept) → AreBytes v.received → TellsKey (frames FromServer 65536 v.received).frames key → reported_all [] (frames FromServer 65536 v.received).frames ≡ Some kept → IsClean v.end v.key key kept
+started_clean v (began, (cred, d)) key kept bytes k e = record {
+  came = by_start (has_started began cred v d.can_start bytes d.under_way d.welcomed key kept k e);
   fresh = λ f.
       let follows : began.follows ≡ true = sym d.under_way.starting.moves.follows ∙ f in
       record {

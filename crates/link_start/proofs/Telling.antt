@@ -30,7 +30,8 @@ use Rattle.link_start.specs.declared.start_reply.StartProgress.{StartProgress}
 use Rattle.link_start.specs.declared.start_reply.StartProgress.TheVariants.{Nothing, Asked, Proved, LetIn, Ready, Refused, Other}
 use Rattle.link_start.specs.declared.start_reply.ServerQuestion.{ServerQuestion}
 use Rattle.link_start.specs.Questions.{answer_to, can_answer}
-use Rattle.link_start.specs.StartReply.{heard_by, heard_all, error_in, reported_all}
+use Rattle.link_run.specs.Dialogues.{reported_all}
+use Rattle.link_start.specs.StartReply.{heard_by, heard_all, error_in}
 use Rattle.link_start.specs.Starts.{TellsOn, AsksOn, AsksQuestions, AreOwnFrom, AreOwn, IsLinkKey}
 use Rattle.link_start.proofs.Hearing.{same_question}
 use Rattle.link_start.proofs.Asking.{GoesOn, answerable_next, answered_can, heard_turn, all_said, closed_says, right_is}

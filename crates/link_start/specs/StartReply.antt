@@ -6,12 +6,11 @@ use Rattle.frame_view.specs.Frames.{FrameOf, Cut, Front, AFrame, Lacks, Faulty, 
 use Rattle.message_view.specs.declared.kinds.TheConstants.{ASKS_NOTHING, ASKS_CLEARTEXT, ASKS_MD5, IDLE}
 use Rattle.message_view.specs.declared.ViewFault.{ViewFault}
 use Rattle.message_view.specs.declared.views.KeyView.{KeyView}
-use Rattle.message_view.specs.Reading.{authentication_of, key_of, status_of}
-use Rattle.param_track.specs.Kept.{Kept, fits, with_first}
-use Rattle.param_track.specs.Reports.{Report}
+use Rattle.message_view.specs.Reading.{authentication_of}
+use Rattle.param_track.specs.Kept.{Kept}
 use Rattle.credentials.specs.Credentials.{CredentialOf}
 use Rattle.credentials.specs.Exchanges.{ExchangeOf, exchange_of}
-use Rattle.link_run.specs.Dialogues.{IsStartAnswer, offers_scram}
+use Rattle.link_run.specs.Dialogues.{IsStartAnswer, offers_scram, reported_all, reported_by}
 use Rattle.link_run.specs.declared.reply.TheConstants.{LONGEST_REPLY}
 use Rattle.link_run.specs.declared.sasl.TheConstants.{ASKS_SASL, SASL_CONTINUES, SASL_ENDS}
 use Rattle.link_start.specs.declared.start_reply.StartProgress.{StartProgress}
@@ -175,22 +174,6 @@ abbrev pub error_in : List FrameOf → List ℕ
 error_in [] = []
 error_in (f ∷ fs) = if f.kind == ERROR_RESPONSE then spelling f else error_in fs
 
-abbrev pub added : List Kept → Result Report ViewFault → Option (List Kept)
-added kept (Ok r) = if fits kept r.0 then Some (with_first kept r) else None
-added kept (Err fault) = None
-
--- the reports with those of one more frame, where they can be read and are of at most 64 names
-abbrev pub reported_by : List Kept → FrameOf → Option (List Kept)
-reported_by kept f = if f.kind == PARAMETER_STATUS then added kept (status_of f.body) else Some kept
-
-abbrev pub reported_next : Option (List Kept) → (List Kept → Option (List Kept)) → Option (List Kept)
-reported_next (Some kept) go = go kept
-reported_next None go = None
-
-abbrev pub reported_all : List Kept → List FrameOf → Option (List Kept)
-reported_all kept [] = Some kept
-reported_all kept (f ∷ fs) = reported_next (reported_by kept f) (λ k. reported_all k fs)
-
 abbrev pub Takes : Option (List Kept) → List Kept → Result (Unit {0}) ReportError → Type 0
 Takes whole new (Ok u) = whole ≡ Some new
 Takes whole new (Err Unexpected) = whole ≡ None
@@ -201,25 +184,3 @@ TakesReport old f new r = Takes (reported_by old f) new r
 
 abbrev pub TakesReports : List Kept → List FrameOf → List Kept → Result (Unit {0}) ReportError → Type 0
 TakesReports old fs new r = Takes (reported_all old fs) new r
-
--- ---- the server's key
-
-abbrev pub key_read : Result (ℕ × ℕ) ViewFault → Result (Option KeyView) ViewFault
-key_read (Ok k) = Ok (Some (record { pid = k.0; secret = k.1 }))
-key_read (Err fault) = Err fault
-
--- the key that was told, once one more frame has come: a BackendKeyData tells it, where it can be read
-abbrev pub keyed_by : Option KeyView → FrameOf → Result (Option KeyView) ViewFault
-keyed_by key f = if f.kind == BACKEND_KEY_DATA then key_read (key_of f.body) else Ok key
-
-abbrev pub keyed_next : Result (Option KeyView) ViewFault → (Option KeyView → Result (Option KeyView) ViewFault) → Result (Option KeyView) ViewFault
-keyed_next (Ok key) go = go key
-keyed_next (Err fault) go = Err fault
-
-abbrev pub keyed_all : Option KeyView → List FrameOf → Result (Option KeyView) ViewFault
-keyed_all key [] = Ok key
-keyed_all key (f ∷ fs) = keyed_next (keyed_by key f) (λ k. keyed_all k fs)
-
--- The dialogue of a start tells this key: the last that a BackendKeyData of it told, or none where it has none.
-abbrev pub TellsKey : List FrameOf → Option KeyView → Type 0
-TellsKey fs key = keyed_all None fs ≡ Ok key

@@ -13,6 +13,7 @@ use Rattle.credentials.specs.Credentials.{CredentialOf}
 use Rattle.link_laws.specs.Stages.{Server as TheServer, Auth, Question, Round, asks, let_in}
 use Rattle.link_laws.specs.Standing.{Standing, Moves}
 use Rattle.link_laws.specs.Dialogues.{IsNew, AsksInFrame, IsStarting, auth_of, start_error, start_refusal}
+use Rattle.link_run.specs.Dialogues.{TellsKey, keyed_all, reported_all}
 use Rattle.link_run.specs.Links.{LinkView}
 use Rattle.link_run.specs.declared.reply.TheConstants.{LONGEST_REPLY}
 use Rattle.link_start.specs.declared.start_reply.StartProgress.{StartProgress}
@@ -155,8 +156,8 @@ pub record IsStarted (began : Standing) (c : CredentialOf) (l : LinkView) : Type
   pub answered : ℕ
   pub under_way : IsStartUnderWay began c (start_view l.stands l.key l.number l.born answered [] received)
   pub ready : spec.heard c received ≡ heard.Ready
-  pub reports : spec.reported_all [] (frames Server LONGEST_REPLY received).frames ≡ Some l.reports
-  pub tells_key : spec.TellsKey (frames Server LONGEST_REPLY received).frames l.server_key
+  pub reports : reported_all [] (frames Server LONGEST_REPLY received).frames ≡ Some l.reports
+  pub tells_key : TellsKey (frames Server LONGEST_REPLY received).frames l.server_key
 
 -- the words of this server's BackendKeyData, where they fit its fields
 abbrev pub IsOwnKey : TheServer → Option KeyView → Type 0
@@ -239,7 +240,7 @@ IsAnsweredBy count question = answers_wanted question ≤ count
 
 -- a report can't be read, more than 64 names are reported, or the key can't be read
 abbrev pub IsUnreadable : List ℕ → Type 0
-IsUnreadable received = (spec.reported_all [] (answer_in received) ≡ None) ⊎ ((fault : ViewFault) × (spec.keyed_all None (answer_in received) ≡ Err fault))
+IsUnreadable received = (reported_all [] (answer_in received) ≡ None) ⊎ ((fault : ViewFault) × (keyed_all None (answer_in received) ≡ Err fault))
 
 -- more bytes than a welcome has, and more of the answer is to come
 abbrev pub IsTooLong : CredentialOf → List ℕ → Type 0

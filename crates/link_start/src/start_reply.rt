@@ -4,10 +4,10 @@ ghost use Rattle.frame_view.specs.Frames.{AreBytes, front, frames};
 ghost use Rattle.frame_view.specs.declared.Side.TheVariants.{Server};
 ghost use Rattle.link_run.specs.declared.reply.TheConstants.{LONGEST_REPLY};
 ghost use Rattle.session_values.specs.Answers.{frame_of};
-ghost use Rattle.link_run.specs.Dialogues.{offers_scram};
+ghost use Rattle.link_run.specs.Dialogues.{keyed_all, keyed_by, offers_scram};
 ghost use Rattle.link_start.specs.Questions.{answers_wanted, can_answer, number_of};
 ghost use Rattle.link_start.specs.StartReply as spec;
-ghost use Rattle.link_start.specs.StartReply.{TakesReport, TakesReports, error_in, heard, heard_all, heard_by, keyed_all, keyed_by};
+ghost use Rattle.link_start.specs.StartReply.{TakesReport, TakesReports, error_in, heard, heard_all, heard_by};
 
 use crate::messages::password_of;
 use bstr::ByteSlice;

@@ -1,5 +1,5 @@
 -- An end that follows nothing, and tells that a link was started over it.
-use Rattle.std.proofs.Common.{◌≡◌, ℕ, true, false, Bool, Ok, Some, List, [], ◌++◌, refl, sym, ap, ◌∙◌, append-nil}
+use Rattle.std.proofs.Common.{◌≡◌, ℕ, true, false, Bool, Ok, None, Some, List, [], ◌++◌, refl, sym, ap, ◌∙◌, append-nil}
 use Rattle.std.proofs.lemmas.Bool.{true≢false}
 use Rattle.message_view.specs.declared.kinds.TheConstants.{ASKS_NOTHING}
 use Rattle.message_view.specs.Reading.{authentication_of, int32_at}
@@ -45,8 +45,8 @@ is_answer = record {
   is_welcome = tt;
 }
 
-has_started : (key : StartKeyOf) (at : Standing) → at.follows ≡ false → at.accepted ≡ start_of (Some key) → at.given ≡ welcome_of (Some key) → HasStarted key at
-has_started key at f a g = record { began = before at; given = []; replies = shortest_welcome; moves = moves_since at _ _ f a g; answers = is_answer }
+has_started : (key : StartKeyOf) (at : Standing) → at.follows ≡ false → at.accepted ≡ start_of (Some key) → at.given ≡ welcome_of (Some key) → HasStarted key at None []
+has_started key at f a g = record { began = before at; is_new = λ w. absurd (true≢false (sym w ∙ f)); given = []; replies = shortest_welcome; moves = moves_since at _ _ f a g; answers = is_answer; keyed = refl; reported = refl }
 
 pub is_clean : UnfollowedStartsAreClean
-is_clean key at reports f a g = record { came = by_start (has_started key at f a g); fresh = λ w. absurd (true≢false (sym w ∙ f)) }
+is_clean key at f a g = record { came = by_start (has_started key at f a g); fresh = λ w. absurd (true≢false (sym w ∙ f)) }

@@ -1,5 +1,5 @@
 -- Stand-in servers in memory, and the start of a link.
-use Rattle.std.specs.Prelude.{◌≡◌, ℕ, false, length, List, Option, Some}
+use Rattle.std.specs.Prelude.{◌≡◌, ℕ, false, length, [], Option, None, Some}
 use Rattle.session_values.specs.Lawful.{IsLawfulCatalogue}
 use Rattle.session_values.specs.State.{StartKeyOf}
 use Rattle.link_laws.specs.Stages.{Server as TheServer}
@@ -22,6 +22,6 @@ abbrev pub MemoryServersCanStart : Type 0
 MemoryServersCanStart = (v : TheServer) (auth : ServerAuth) (cut : ℕ) (left : Option ℕ) → IsLawfulCatalogue v.catalogue → HasSalt auth → CanStartAll (new_server v (auth_asked auth) cut left).standing
 
 -- An end that follows nothing, and tells that it was sent the StartupMessage of the key and gave the shortest answer, makes a clean
--- link: so tests have links that were never started.
+-- link without a server's key and reports: so tests have links that were never started.
 abbrev pub UnfollowedStartsAreClean : Type 0
-UnfollowedStartsAreClean = (key : StartKeyOf) (at : Standing) (reports : List _) → at.follows ≡ false → at.accepted ≡ start_of (Some key) → at.given ≡ welcome_of (Some key) → IsClean at key reports
+UnfollowedStartsAreClean = (key : StartKeyOf) (at : Standing) → at.follows ≡ false → at.accepted ≡ start_of (Some key) → at.given ≡ welcome_of (Some key) → IsClean at key None []

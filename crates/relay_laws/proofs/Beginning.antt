@@ -37,15 +37,15 @@ same_session : (r : Result State Cause) (s t : State) → r ≡ Ok s → r ≡ O
 same_session r s t e d = cc
 
 -- what a clean link's reports tell a client is the welcome of its fresh session
-clean_greets : (l : Standing) (k : StartKeyOf) (ks : List Kept) (w : KeyWord) → IsClean l k ks → IsGreeting l k w (greeting_of ks w)
-clean_greets l k ks w c f s e =
+clean_greets : (l : Standing) (k : StartKeyOf) (sk : Option KeyView) (ks : List Kept) (w : KeyWord) → IsClean l k sk ks → IsGreeting l k w (greeting_of ks w)
+clean_greets l k sk ks w c f s e =
     let x = c.fresh f in
     let z : State = x.stands.session in
     ap (λ (kept : List Kept). greeting_of kept w) x.kept ∙ ap (flat_map spelling) (welcome_is z w.pid w.secret)
     ∙ ap (λ (t : State). flat_map spelling (welcome t w.pid w.secret)) (same_session (fresh l.server.catalogue k) z s x.stands.is_fresh e)
 
 lease_begun : (cf : ClientFacts) (l : Standing) (k : StartKeyOf) (n b : ℕ) (sk : Option KeyView) (w : KeyWord) (tl tc : FlowView) (t : Told) (ph : Phase) (lm : ℕ)
-    → IsClean l k t.reports → 4 ≤ lm → lm ≤ LONGEST_FRAME → IsEmptyFlow Client lm tl → IsEmptyFlow Server lm tc → Tells t.tally [] []
+    → IsClean l k sk t.reports → 4 ≤ lm → lm ≤ LONGEST_FRAME → IsEmptyFlow Client lm tl → IsEmptyFlow Server lm tc → Tells t.tally [] []
     → IsLease (place cf (link_of l k n b sk t.reports) w lm) (relay_view cf l k n b sk w (greeting_of t.reports w) tl tc t (flags_of false false false false) ph)
 lease_begun cf l k n b sk w tl tc t ph lm c low high x y z = record {
   sent = [];
@@ -56,7 +56,7 @@ lease_begun cf l k n b sk w tl tc t ph lm c low high x y z = record {
   tail = [];
   front = [];
   clean = c;
-  greets = clean_greets l k t.reports w c;
+  greets = clean_greets l k sk t.reports w c;
   same = (refl, refl, refl, refl, x.limit_is, y.limit_is, refl);
   told = refl;
   moves = moves_none l;
@@ -95,7 +95,7 @@ link_is lk l k n b sk ks e d f g s r = rw (e, d, f, g, s, r) refl
 -- A lease of this link begins, whose client is to be given what its reports tell.
 pub lease_begun_at : (lk : LinkView) (cf : ClientFacts) (l : Standing) (k : StartKeyOf) (n b : ℕ) (sk : Option KeyView) (w : KeyWord) (gr : List ℕ) (tl tc : FlowView) (t : Told) (ph : Phase) (lm : ℕ)
     → l ≡ lk.stands → k ≡ lk.key → n ≡ lk.number → b ≡ lk.born → sk ≡ lk.server_key → t.reports ≡ lk.reports → gr ≡ greeting_of lk.reports w
-    → IsClean l k t.reports → 4 ≤ lm → lm ≤ LONGEST_FRAME → IsEmptyFlow Client lm tl → IsEmptyFlow Server lm tc → Tells t.tally [] []
+    → IsClean l k sk t.reports → 4 ≤ lm → lm ≤ LONGEST_FRAME → IsEmptyFlow Client lm tl → IsEmptyFlow Server lm tc → Tells t.tally [] []
     → IsLease (place cf lk w lm) (relay_view cf l k n b sk w gr tl tc t (flags_of false false false false) ph)
 lease_begun_at lk cf l k n b sk w gr tl tc t ph lm e d f h s r g c low high x y z =
     subst (λ (a : List ℕ). IsLease (place cf lk w lm) (relay_view cf l k n b sk w a tl tc t (flags_of false false false false) ph)) (ap (λ (ks : List Kept). greeting_of ks w) r ∙ sym g)

@@ -19,7 +19,7 @@ use Rattle.link_laws.proofs.Both.{lives_before}
 use Rattle.link_laws.proofs.InSession.{InSession, in_session}
 use Rattle.link_laws.specs.Links.{IsFresh, IsIdle, IsResting}
 use Rattle.link_run.specs.Links.{IsFreshLink, IsRestingLink, after_frames, kept_by}
-use Rattle.link_run.specs.Receipts.{HasSettled, IsClean, IsUsed}
+use Rattle.link_run.specs.Receipts.{CameClean, HasSettled, IsClean, IsUsed}
 use Rattle.link_run.proofs.Receipts.{untouched_is_clean}
 use Rattle.link_run.proofs.Reporting.{told-frames}
 use Rattle.link_laws.proofs.Splits.{SplitsOff, split_whole}
@@ -96,9 +96,9 @@ untouched_fresh : (p : Place) (v : RelayView) (x : IsLease p v) → p.stands.fol
 unfolding fresh_still
 untouched_fresh p v x f e = record { stands = fresh_still p v x f e.0; kept = none_kept p v x e.1 ∙ (x.clean.fresh f).kept }
 
-pub lease_clean : (p : Place) (v : RelayView) → IsLease p v → v.flags.touched ≡ false → IsClean v.link v.key v.told.reports
+pub lease_clean : (p : Place) (v : RelayView) → IsLease p v → v.flags.touched ≡ false → IsClean v.link v.key v.server_key v.told.reports
 lease_clean p v x e = record {
-  came = untouched_is_clean v.key p.stands v.link x.clean.came (untouched p v x (x.says.untouched e));
+  came = subst (CameClean v.key v.server_key v.link) (sym (none_kept p v x (x.says.untouched e).1)) (untouched_is_clean v.key v.server_key p.stands v.link p.reports x.clean.came (untouched p v x (x.says.untouched e)));
   fresh = λ f. untouched_fresh p v x (sym x.moves.follows ∙ f) (x.says.untouched e);
 }
 
@@ -200,12 +200,13 @@ whole_at p v x e =
       received = x.comes.whole ∙ ap₂ (λ (a c : List ℕ). flat_map spelling x.arrived ++ (a ++ c)) f (empty_is v.to_client.part bc.0) ∙ append-nil (flat_map spelling x.arrived);
     }
 
-has_settled : (p : Place) (v : RelayView) (x : IsLease p v) → IsWhole p v x → Answered p.reports v.told x.forwarded x.arrived → HasSettled p.stands v.link
+has_settled : (p : Place) (v : RelayView) (x : IsLease p v) → IsWhole p v x → Answered p.reports v.told x.forwarded x.arrived → HasSettled p.stands p.reports v.link v.told.reports
 has_settled p v x w a = record {
   sent = x.forwarded;
   received = x.arrived;
   moves = subst (λ (put : List ℕ). Moves p.stands put v.link (flat_map spelling x.arrived)) w.sent (subst (λ (got : List ℕ). Moves p.stands x.sent v.link got) w.received x.moves);
   answered = a.answers;
+  told = a.keeps;
 }
 
 rests : (p : Place) (v : RelayView) (x : IsLease p v) → IsWhole p v x → Answered p.reports v.told x.forwarded x.arrived → p.stands.follows ≡ true → v.link.lives ≡ true → IsRestingLink v.link v.key v.told.reports
@@ -214,12 +215,12 @@ rests p v x w a f n = kept_now p v x f n w.received a.keeps (⊎_elim
     (λ all. rests_answered p v x f n w.held w.tail w.received all)
     a.answers)
 
-pub lease_used : (p : Place) (v : RelayView) → SettledExactly → IsLease p v → relay_verdict v ≡ Settled → IsUsed v.link v.key v.told.reports
+pub lease_used : (p : Place) (v : RelayView) → SettledExactly → IsLease p v → relay_verdict v ≡ Settled → IsUsed v.link v.key v.server_key v.told.reports
 lease_used p v law x e =
     let q = settled_by (verdict_of v.told.tally) (is_faulty v.to_client.ends) (at_border v) e in
     let w : IsWhole p v x = whole_at p v x q.1 in
     let a : Answered p.reports v.told x.forwarded x.arrived = answered_by p.reports v.told x.forwarded x.arrived law x.tally q.0 in
     record {
-      came = record { clean = p.stands; came = x.clean.came; lease = has_settled p v x w a };
+      came = record { clean = p.stands; kept = p.reports; came = x.clean.came; lease = has_settled p v x w a };
       rests = λ f n. rests p v x w a (sym x.moves.follows ∙ f) n;
     }

@@ -11,7 +11,7 @@ abbrev pub LeasesAreAllowed : Type 0
 LeasesAreAllowed = (p : Place) (v : RelayView) → IsLease p v → v.client.tells ≡ true → v.link.follows ≡ true → IsAllowed p v
 
 abbrev pub UntouchedLinksAreClean : Type 0
-UntouchedLinksAreClean = (p : Place) (v : RelayView) → IsLease p v → v.flags.touched ≡ false → IsClean v.link v.key v.told.reports
+UntouchedLinksAreClean = (p : Place) (v : RelayView) → IsLease p v → v.flags.touched ≡ false → IsClean v.link v.key v.server_key v.told.reports
 
 abbrev pub SettledLinksAreUsed : Type 0
-SettledLinksAreUsed = (p : Place) (v : RelayView) → IsLease p v → relay_verdict v ≡ Settled → IsUsed v.link v.key v.told.reports
+SettledLinksAreUsed = (p : Place) (v : RelayView) → IsLease p v → relay_verdict v ≡ Settled → IsUsed v.link v.key v.server_key v.told.reports

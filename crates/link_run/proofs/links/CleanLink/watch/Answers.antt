@@ -5,4 +5,4 @@ use Rattle.link_run.specs.Receipts.{IsClean}
 use Rattle.link_run.proofs.links.CleanLink.watch.Goals as goal
 
 pub invariant_of-self : goal.invariant_of-self
-invariant_of-self g c = subst (λ (s : Standing). IsClean s (arc_value c.self.inside.link.key) c.self.inside.link.reported) (sym c.watch.ensures.stands) c.self.invariant
+invariant_of-self g c = subst (λ (s : Standing). IsClean s (arc_value c.self.inside.link.key) c.self.inside.link.server_key c.self.inside.link.reported) (sym c.watch.ensures.stands) c.self.invariant

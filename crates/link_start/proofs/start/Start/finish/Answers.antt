@@ -5,7 +5,8 @@ use Rattle.message_view.specs.declared.ViewFault.{ViewFault}
 use Rattle.message_view.specs.declared.views.KeyView.{KeyView}
 use Rattle.param_track.specs.Kept.{Kept}
 use Rattle.link_start.specs.declared.start_reply.ReportError.{ReportError}
-use Rattle.link_start.specs.StartReply.{Takes, reported_all, keyed_all}
+use Rattle.link_run.specs.Dialogues.{keyed_all, reported_all}
+use Rattle.link_start.specs.StartReply.{Takes}
 use Rattle.link_start.specs.Starts.{StartView, IsDone, IsDoneFrom, IsOwnKey}
 use Rattle.link_start.proofs.Starting.{started_clean, unreported_cause, unkeyed_cause, own_key}
 use Rattle.link_start.proofs.start.Start.finish.Goals as goal
@@ -18,7 +19,8 @@ keyed bytes = keyed_all None (frames Server 65536 bytes).frames
 
 pub clean-requires : goal.clean-requires
 clean-requires g c =
-    started_clean _ (subst (λ (v : StartView). IsDone v) (sym c.self.view_is) c.requires) c.take_reports.new.reported (subst AreBytes c.as_slice.ensures c.in-Ok.ensures.bytes)
+    started_clean _ (subst (λ (v : StartView). IsDone v) (sym c.self.view_is) c.requires) c.in-Ok.server_key c.take_reports.new.reported (subst AreBytes c.as_slice.ensures c.in-Ok.ensures.bytes)
+    (ap keyed (sym c.as_slice.ensures) ∙ sym c.in-Ok.ensures.key)
     (ap₂ reported (sym c.new-reported.ensures) (sym c.as_slice-2.ensures) ∙ c.in-Ok-take_reports.ensures.taken)
 
 pub returns-in_default-clause-cause : goal.returns-in_default-clause-cause
