@@ -5,7 +5,7 @@ use Rattle.link_laws.specs.Standing.{ClientFacts}
 use Rattle.server_end.specs.declared.Moved.{Moved}
 use Rattle.server_end.specs.declared.Moved.TheVariants.{Count, NotNow, Ended, Fault}
 use Rattle.server_end.specs.Moves.{ClientWrites, moved}
-use Rattle.pool_serve.specs.declared.TheConstants.{CLIENT_TURNS}
+use Rattle.time_limits.specs.declared.TheConstants.{CLIENT_TURNS}
 use Rattle.pool_serve.specs.Words.{HasGiven}
 
 -- so many bytes were given, in so many turns

@@ -9,7 +9,7 @@ use Rattle.link_run.specs.Links.{LinkView}
 use Rattle.credentials.specs.Credentials.{credential_of, start_nonce}
 use Rattle.link_start.specs.Starts.{HasTried, IsStartCause}
 use Rattle.link_start.specs.declared.start.StartCause.TheVariants.{Late, Turns}
-use Rattle.pool_serve.specs.declared.TheConstants.{TURNS}
+use Rattle.time_limits.specs.declared.TheConstants.{LINK_TURNS}
 use Rattle.link_start.specs.declared.start.StartCause.{StartCause}
 use Rattle.link_desk.specs.declared.calls.Call.TheVariants as call
 use Rattle.link_desk.specs.declared.calls.Holder.{Holder}
@@ -98,7 +98,7 @@ pub record IsUnstarted (home : HomeOf) (g : LoggedIn) (cause : StartCause) : Typ
   pub number : ℕ
   pub dialled : IsDialled home (arc_value g.key) (credential_of secret g.login.revealed (start_nonce g.word number)) began
   pub is_cause : IsStartCause began now (credential_of secret g.login.revealed (start_nonce g.word number)) (arc_value g.key) cause
-  pub tried : cause ≡ Turns → HasTried began (credential_of secret g.login.revealed (start_nonce g.word number)) (arc_value g.key) now TURNS
+  pub tried : cause ≡ Turns → HasTried began (credential_of secret g.login.revealed (start_nonce g.word number)) (arc_value g.key) now LINK_TURNS
   pub unanswered : cause ≡ Late → HasTried began (credential_of secret g.login.revealed (start_nonce g.word number)) (arc_value g.key) now 0
 
 -- No end was dialled: its user has no secret, or a dial to its server gave none. Of a home of which nothing else is known only a dial shows that.

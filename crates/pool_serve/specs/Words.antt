@@ -9,7 +9,7 @@ use Rattle.link_start.specs.declared.start.StartRefusal.{StartRefusal}
 use Rattle.link_start.specs.declared.start.StartRefusal.TheVariants as told
 use Rattle.link_start.specs.Refusing.{refusal_of}
 use Rattle.login_run.specs.Runs.{IsClientOver}
-use Rattle.pool_serve.specs.declared.TheConstants.{CLIENT_TURNS}
+use Rattle.time_limits.specs.declared.TheConstants.{CLIENT_TURNS}
 use Rattle.pool_serve.specs.declared.ending.Ending.{Ending}
 use Rattle.pool_serve.specs.declared.ending.Ending.TheVariants as ending
 use Rattle.pool_serve.specs.declared.word.FinalMessage.{FinalMessage}

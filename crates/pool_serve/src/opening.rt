@@ -8,7 +8,6 @@ ghost use Rattle.pool_serve.specs.LinkSecrets.{link_secret, secret_in};
 ghost use Rattle.pool_serve.specs.Serving.{IsLoggedIn, LetsIn, MayEnd, owed};
 ghost use Rattle.pool_serve.specs.Words.{word_of};
 
-use crate::TURNS;
 use crate::ending::Ending;
 use crate::logged_in::LoggedIn;
 use credentials::Credential;
@@ -18,6 +17,7 @@ use link_start::start::start_link;
 use server_end::gate::Gate;
 use std::alloc::{AllocError, Global};
 use std::sync::Arc;
+use time_limits::LINK_TURNS;
 use user_file::Secret;
 
 /// The secret that a link's server is told of.
@@ -112,7 +112,7 @@ fn start_anew<D: LinkDesk, G: Gate<D::End>>(
         return Err(Ending::Unreached);
     };
     gate.watch(&mut end);
-    match start_link(alloc, end, key, &credential, number, born, gate, TURNS) {
+    match start_link(alloc, end, key, &credential, number, born, gate, LINK_TURNS) {
         Ok(link) => Ok(link),
         Err(fault) => Err(Ending::Unstarted(fault.cause)),
     }

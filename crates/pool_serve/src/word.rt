@@ -1,13 +1,13 @@
 //! The last word to a client.
 ghost use Rattle.std.specs.Prelude.{◌≡◌, ◌+◌, ◌≤◌};
 ghost use Rattle.pool_serve.specs.Words.{HasGiven, last_bytes, last_of, or_nothing};
-ghost use Rattle.pool_serve.specs.declared.TheConstants.{CLIENT_TURNS};
+ghost use Rattle.time_limits.specs.declared.TheConstants.{CLIENT_TURNS};
 
-use crate::CLIENT_TURNS;
 use link_start::start::{StartCause, StartError, StartRefusal};
 use message_view::{Refusal, refusal_bytes};
 use server_end::gate::Gate;
 use server_end::{ClientEnd, Moved, ServerEnd, rest_of};
+use time_limits::CLIENT_TURNS;
 
 /// What a client is told last.
 #[derive(Drop)]
