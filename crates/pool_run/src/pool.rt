@@ -298,7 +298,7 @@ impl<R: PoolRuntime, F: Source, K: Ledgers> Pool<R, F, K> {
     /// isn't idle any more is left to who has it, which sees so too.
     fn close_hung_up(&self, rt: &R, pass: &mut FreePass<K>, idle: &IdlePoll) {
         let mut told = idle.told();
-        for _ in 0..u64::MAX {
+        for _ in rt.forever() {
             let Some(number) = told.next() else {
                 return;
             };

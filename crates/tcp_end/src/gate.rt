@@ -11,7 +11,7 @@ use std::net::Net;
 use std::rt::Clock;
 use std::time::{Duration, Instant};
 use tcp_notes::reckoning::Reckoning;
-use time_limits::{CLIENT_TURN, LINK_TURN, REST};
+use time_limits::{CLIENT_TURN, LINK_TURN, MOST_TURNS, REST};
 
 /// The client's connection among those of a poll, and the link's.
 const CLIENT: Token = Token(0);
@@ -293,7 +293,7 @@ impl<'a, R: Clock> Gate<TcpEnd> for TcpGate<'a, R> {
             self.wait(LINK_TURN.duration());
             return;
         };
-        for _ in 0..u64::MAX {
+        for _ in 0..MOST_TURNS {
             match self.left_of_turn(&start) {
                 Some(left) if !self.wait(left) => {}
                 _ => return,
