@@ -23,7 +23,7 @@ use Rattle.pool_serve.specs.Backs.{IsBackOrLost, IsFreed}
 use Rattle.pool_serve.specs.Causes.{HadLink, HadNone, HasLost, HasTrace, Since}
 use Rattle.pool_serve.specs.LinkSecrets.{link_secret}
 use Rattle.pool_serve.specs.Serving.{LetsIn, Serves, limit_of, owed}
-use Rattle.pool_serve.specs.Words.{word_of}
+use Rattle.pool_serve.specs.FinalMessages.{final_message_of}
 use Rattle.pool_serve.specs.declared.ending.Ending.{Ending}
 use Rattle.pool_serve.specs.declared.ending.Ending.TheVariants as ending
 use Rattle.pool_serve.specs.declared.logged_in.LoggedIn.{LoggedIn}
@@ -133,4 +133,4 @@ pub record HasEnded (home : HomeOf) (g : LoggedIn) (since : Since) (p q : PassOf
   pub tells : after.tells ≡ before.tells
   pub traces : Traces since p q e
   pub came : Came home g before after e
-  pub serves : before.tells ≡ true → LetsIn home g.login → Serves (limit_of g) home.strikable before after (owed home.catalogue g) (word_of e)
+  pub serves : before.tells ≡ true → LetsIn home g.login → Serves (limit_of g) home.strikable before after (owed home.catalogue g) (final_message_of e)

@@ -14,7 +14,7 @@ ghost use Rattle.pool_serve.specs.Cancels.{key_of};
 ghost use Rattle.pool_serve.specs.Endings.{Frees, HasEnded, HasLeased, IsUnopened};
 ghost use Rattle.pool_serve.specs.Serving.{IsLoggedIn, LetsIn, MayEnd, owed};
 ghost use Rattle.pool_serve.specs.Shares.{Ends, Evens};
-ghost use Rattle.pool_serve.specs.Words.{word_of};
+ghost use Rattle.pool_serve.specs.FinalMessages.{final_message_of};
 ghost use Rattle.pool_serve.specs.declared.ending.Ending.TheVariants as ending;
 
 use crate::ending::Ending;
@@ -148,7 +148,7 @@ impl<'a, D: LinkDesk, G: Gate<D::End>> Worker<'a, D, G> {
         ensures told { IfOk result (λ l. D.told self.new.pass ≡ D.told self.old.pass) }
         ensures holder { IfOk result (λ l. D.holder self.new.pass ≡ D.holder self.old.pass) }
         ensures why { IfErr result (λ e. IsUnopened D.home logged_in.now e) }
-        ensures word { LetsIn D.home logged_in.now.login → IfErr result (λ e. MayEnd [] (owed D.home.catalogue logged_in.now [] []) (word_of e)) }
+        ensures word { LetsIn D.home logged_in.now.login → IfErr result (λ e. MayEnd [] (owed D.home.catalogue logged_in.now [] []) (final_message_of e)) }
         ensures failed { IfErr result (λ e. (gone : Gone) × (D.told self.new.pass ≡ after_loss (D.told self.old.pass) gone)) }
         ensures freed { IfErr result (λ e. D.holder self.new.pass ≡ without_lease StartFailed (D.holder self.old.pass)) }
     {

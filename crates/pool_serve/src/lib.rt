@@ -3,6 +3,7 @@
 
 mod arriving;
 mod ending;
+mod final_message;
 mod leasing;
 mod logged_in;
 mod noting;
@@ -11,5 +12,4 @@ mod relaying;
 mod returning;
 pub mod secrets;
 pub mod serve;
-mod word;
 mod worker;

@@ -6,7 +6,7 @@ ghost use Rattle.link_desk.specs.Homes.{IsAtHome};
 ghost use Rattle.pool_serve.specs.Endings.{IsUnopened};
 ghost use Rattle.pool_serve.specs.LinkSecrets.{link_secret, secret_in};
 ghost use Rattle.pool_serve.specs.Serving.{IsLoggedIn, LetsIn, MayEnd, owed};
-ghost use Rattle.pool_serve.specs.Words.{word_of};
+ghost use Rattle.pool_serve.specs.FinalMessages.{final_message_of};
 
 use crate::ending::Ending;
 use crate::logged_in::LoggedIn;
@@ -96,7 +96,7 @@ fn start_anew<D: LinkDesk, G: Gate<D::End>>(
     ensures born { IfOk result (λ l. l.born ≡ born) }
     ensures home { IfOk result (λ l. IsAtHome D.home l) }
     ensures why { IfErr result (λ e. IsUnopened D.home logged_in.now e) }
-    ensures told { LetsIn D.home logged_in.now.login → IfErr result (λ e. MayEnd [] (owed D.home.catalogue logged_in.now [] []) (word_of e)) }
+    ensures told { LetsIn D.home logged_in.now.login → IfErr result (λ e. MayEnd [] (owed D.home.catalogue logged_in.now [] []) (final_message_of e)) }
 {
     let secret = match secret_of(alloc, logged_in) {
         Ok(Some(secret)) => secret,
@@ -133,7 +133,7 @@ pub(crate) fn open_link<D: LinkDesk, G: Gate<D::End>>(
     ensures born { IfOk result (λ l. l.born ≡ born) }
     ensures home { IfOk result (λ l. IsAtHome D.home l) }
     ensures why { IfErr result (λ e. IsUnopened D.home logged_in.now e) }
-    ensures told { LetsIn D.home logged_in.now.login → IfErr result (λ e. MayEnd [] (owed D.home.catalogue logged_in.now [] []) (word_of e)) }
+    ensures told { LetsIn D.home logged_in.now.login → IfErr result (λ e. MayEnd [] (owed D.home.catalogue logged_in.now [] []) (final_message_of e)) }
 {
     let seconds = logged_in.login.settings().server_connect_timeout();
     gate.limit(time_of(seconds));

@@ -327,7 +327,9 @@ pub fn serve<C: ClientEnd, D: LinkDesk, G: Gate<D::End> + Drop>(
         own: None,
     };
     let (mut client, ending) = worker.admit(run, word);
-    ending.into_word().tell(&mut client, &mut worker.gate);
+    ending
+        .into_final_message()
+        .tell(&mut client, &mut worker.gate);
     let Worker {
         alloc: _,
         desk: _,
