@@ -14,6 +14,7 @@ use Rattle.book_model.specs.Kept.{Kept}
 use Rattle.book_register.specs.Views.{View, view_of}
 use Rattle.pool_figures.specs.Seen.{SeenOf}
 use Rattle.link_desk.specs.Counts.{AtMost, class_counts}
+use Rattle.time_limits.specs.declared.TheConstants.{MOST_TURNS}
 use Rattle.link_laws.specs.Standing.{ClientFacts}
 use Rattle.link_desk.specs.declared.answers.Changed.{Changed}
 use Rattle.link_desk.specs.declared.answers.Changed.TheVariants as changed
@@ -32,7 +33,7 @@ use Rattle.console_run.specs.declared.talk.Turn.{Turn}
 use Rattle.console_run.specs.declared.talk.Turn.TheVariants as turn
 use Rattle.console_run.specs.Passing.{Pass, after_action, after_doing, broken_by}
 use Rattle.console_run.specs.Exchanges.{AreAnswered, Asker, Exchange, IsResponse, after_exchanges, asked_bytes, closing, drops_after, drops_behind, greeting, may_act, told_bytes}
-use Rattle.console_run.specs.Talks.{IsClientOver, IsRefused, IsRefusedBy, Leaves, MOST_TURNS, waits}
+use Rattle.console_run.specs.Talks.{IsClientOver, IsRefused, IsRefusedBy, Leaves, waits}
 
 -- ---- what an action came to
 
