@@ -1,11 +1,11 @@
 //! What the console answers to a command.
-ghost use Rattle.std.specs.Prelude.{◌≡◌, ◌∷◌, [], IfOk};
+ghost use Rattle.std.specs.Prelude.{◌≡◌, ◌∷◌, [], IfOk, option_map};
 ghost use Rattle.console_core.specs.Replies as spec;
 ghost use Rattle.console_core.specs.Tables as tables;
-ghost use Rattle.console_core.specs.Views.{reply_view};
+ghost use Rattle.console_core.specs.Views.{command_view, reply_view};
 
 use crate::cells::Cells;
-use crate::commands::{Action, Command, Table, read_command};
+use crate::commands::{Action, Command, Table};
 use crate::config::config;
 use crate::lists::{clients, servers};
 use crate::pools::pools;
@@ -80,16 +80,17 @@ fn rows_of(
     }
 }
 
-/// What the console answers to a command, over this view of the book and these settings. The only error is that memory was refused.
+/// What the console answers to a command, or to a text that is none, over this view of the book and these settings. The only error is
+/// that memory was refused.
 pub fn answer(
     alloc: Global,
     view: &BookView,
     settings: &Settings,
-    command: &[u8],
+    command: Option<Command<'_>>,
 ) -> Result<ConsoleReply, AllocError>
-    ensures { IfOk result (λ r. reply_view r ≡ spec.answer view.now settings.now command.now) }
+    ensures { IfOk result (λ r. reply_view r ≡ spec.reply_to view.now settings.now (option_map command_view command.entry)) }
 {
-    match read_command(command) {
+    match command {
         None => Ok(ConsoleReply::Unknown),
         Some(Command::Act(action)) => Ok(ConsoleReply::Act(action)),
         Some(Command::Await(_)) => Ok(ConsoleReply::Await),

@@ -1,4 +1,5 @@
 pub mod Passing
 pub mod Replying
+pub mod Reading
 pub mod Going
 pub mod Talking

@@ -5,7 +5,6 @@ use Rattle.std.specs.Borrow.{Bor}
 use Rattle.std.specs.List.{flat_map}
 use Rattle.bytes.specs.Filled.{Filled}
 use Rattle.frame_view.specs.Frames.{FrameOf, spelling}
-use Rattle.message_view.specs.Bodies.{Text}
 use Rattle.message_view.specs.declared.refusal.Refusal.{Refusal}
 use Rattle.message_view.specs.declared.refusal.Refusal.TheVariants as refusal
 use Rattle.session_values.specs.declared.cause.Cause.TheVariants.{InvalidValue, MalformedMessage, NotSupported}
@@ -19,13 +18,14 @@ use Rattle.console_core.specs.Commands.{tag}
 use Rattle.console_core.specs.Messages.{Response}
 use Rattle.console_core.specs.Replies.{done, not_allowed, ready, refused}
 use Rattle.console_core.specs.Views.{response_view}
+use Rattle.monitor_core.specs.Requests.{RequestOf}
 use Rattle.console_run.specs.declared.acting.Acted.TheVariants as acted
 use Rattle.console_run.specs.declared.answering.Answered.{Answered}
 use Rattle.console_run.specs.declared.answering.Answered.TheVariants as answered
 use Rattle.console_run.specs.Passing.{Pass}
-use Rattle.console_run.specs.Exchanges.{Asker, ForAdmins, IsActed, IsSeen, drops_after}
+use Rattle.console_run.specs.Exchanges.{Asker, ForAdmins, IsActed, drops_after}
 use Rattle.console_run.specs.Talks.{IsRefused, IsRefusedBy}
-use Rattle.console_run.specs.Turns.{HasActed, HasAnswered, HasResponded, IsNotAllowed, IsSaid, IsShownAs, IsTold, told_of}
+use Rattle.console_run.specs.Turns.{HasActed, HasAnswered, HasResponded, IsNotAllowed, IsSaid, IsSeenBy, IsShownAs, IsTold, told_of}
 
 -- ---- an action
 
@@ -66,10 +66,10 @@ not_allowed_by (Err z) x i o = subst IsNotAllowed (sym i) refl
 
 -- ---- what has nothing done
 
-pub looked : {Z : Type 0} (s : Settings) (text : Text) (bytes : Result Filled Z) (x : Answered) (p q : Pass) → IfOk bytes (λ (out : Filled). IsShownAs s p text out.items) → x ≡ told_of bytes false → q ≡ p → HasAnswered (IsSeen s p text) ⊥ false x p q
-looked s text bytes x p q o i e = subst (λ (y : Answered). HasAnswered (IsSeen s p text) ⊥ false y p q) (sym i) (go bytes o)
+pub looked : {Z : Type 0} (s : Settings) (request : RequestOf) (bytes : Result Filled Z) (x : Answered) (p q : Pass) → IfOk bytes (λ (out : Filled). IsShownAs s p request out.items) → x ≡ told_of bytes false → q ≡ p → HasAnswered (IsSeenBy s p request) ⊥ false x p q
+looked s request bytes x p q o i e = subst (λ (y : Answered). HasAnswered (IsSeenBy s p request) ⊥ false y p q) (sym i) (go bytes o)
   where
-    go : {Z : Type 0} (bytes : Result Filled Z) → IfOk bytes (λ (out : Filled). IsShownAs s p text out.items) → HasAnswered (IsSeen s p text) ⊥ false (told_of bytes false) p q
+    go : {Z : Type 0} (bytes : Result Filled Z) → IfOk bytes (λ (out : Filled). IsShownAs s p request out.items) → HasAnswered (IsSeenBy s p request) ⊥ false (told_of bytes false) p q
     go (Ok out) o = (record { told = o.told; does = None; answers_it = (o.shown, refl); bytes_are = o.bytes_are; pass = e }, refl)
     go (Err z) o = e
 

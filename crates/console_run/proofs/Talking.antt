@@ -27,7 +27,8 @@ use Rattle.console_run.specs.declared.talk.Turn.TheVariants as turn
 use Rattle.console_run.specs.Passing.{Pass}
 use Rattle.ini_config.specs.declared.option_values.ConsoleStyle.{ConsoleStyle}
 use Rattle.console_run.specs.Exchanges.{Asker, after_exchanges}
-use Rattle.console_run.specs.Talks.{EndsBy, IsClientOver, IsFaulty, IsOver, IsRefused, IsRefusedBy, IsServed, Leaves, MOST_TURNS, Said, Talks, refused_by}
+use Rattle.time_limits.specs.declared.TheConstants.{MOST_TURNS}
+use Rattle.console_run.specs.Talks.{EndsBy, IsClientOver, IsFaulty, IsOver, IsRefused, IsRefusedBy, IsServed, Leaves, Said, Talks, refused_by}
 use Rattle.console_run.specs.Turns.{Goes, HasEnded, HasGone, HasMoved, HasRead, HasResponded, HasTurned, HasWritten, IsRefusedAt, TalkView, greeted, talk_view}
 use Rattle.console_run.proofs.Replying.{refused_here}
 use Rattle.console_run.proofs.Going.{goes_fewer, goes_further, goes_moved, goes_none}

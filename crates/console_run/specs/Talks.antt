@@ -8,6 +8,7 @@ use Rattle.frame_view.specs.Frames.{Faulty, FrameOf, IsFrame, front, spelling}
 use Rattle.message_view.specs.declared.KeyWord.{KeyWord}
 use Rattle.message_view.specs.declared.refusal.Refusal.{Refusal}
 use Rattle.message_view.specs.declared.refusal.Refusal.TheVariants.{MalformedClientMessage, OutOfMemory, ClientMessageTooLong, LastDecision}
+use Rattle.time_limits.specs.declared.TheConstants.{MOST_TURNS}
 use Rattle.link_laws.specs.Standing.{ClientFacts}
 use Rattle.console_core.specs.declared.commands.Action.{Action}
 use Rattle.console_core.specs.Messages.{Leave, response_to}
@@ -55,10 +56,6 @@ IsClientOver old new = (new.ended ≡ true) ⊎ (old.faults < new.faults)
 abbrev pub waits : ClientFacts → ℕ
 waits c = c.read_waits + c.write_waits
 
--- it was turned 2^64 - 1 times: at each turn a byte moved, a message was answered, or the client's end had nothing at that time
-abbrev pub MOST_TURNS : ℕ
-MOST_TURNS = 18446744073709551615
-
 -- ---- the whole talk
 
 -- what stands at its end: the exchanges, the bytes behind them, what was given, and what is told and not given
@@ -71,6 +68,7 @@ pub record Said : Type 0 where
 abbrev pub turns_of : Said → ℕ
 turns_of x = length (asked_bytes x.exchanges ++ x.held) + length x.put + length x.exchanges
 
+-- else it was turned `MOST_TURNS` times, which is 2^64 - 1: at each turn a byte moved, a message was answered, or the client's end had nothing at that time
 abbrev pub IsOver : ℕ → ClientFacts → ClientFacts → Said → Type 0
 IsOver limit before after x =
     (Leaves limit (drops_behind false x.exchanges) x.held × (x.unwritten ≡ []))

@@ -11,16 +11,20 @@ use Rattle.ini_config.specs.declared.option_values.ConsoleStyle.{ConsoleStyle}
 use Rattle.ini_config.specs.declared.option_values.Settings.{Settings}
 use Rattle.book_model.specs.Book.{Book}
 use Rattle.book_model.specs.Kept.{Kept}
-use Rattle.book_register.specs.Views.{view_of}
+use Rattle.book_register.specs.Views.{View, view_of}
+use Rattle.pool_figures.specs.Seen.{SeenOf}
 use Rattle.link_desk.specs.Counts.{AtMost, class_counts}
+use Rattle.time_limits.specs.declared.TheConstants.{MOST_TURNS}
 use Rattle.link_laws.specs.Standing.{ClientFacts}
 use Rattle.link_desk.specs.declared.answers.Changed.{Changed}
 use Rattle.link_desk.specs.declared.answers.Changed.TheVariants as changed
 use Rattle.console_core.specs.declared.commands.Action.{Action}
 use Rattle.console_core.specs.declared.commands.Action.TheVariants.{Reload}
 use Rattle.console_core.specs.Commands.{CommandOf, Await, command_of}
-use Rattle.console_core.specs.Replies.{not_allowed}
+use Rattle.console_core.specs.Replies.{frames_of, not_allowed, reply_to}
 use Rattle.console_core.specs.Messages.{Response, Frames, Answer, Leave}
+use Rattle.monitor_core.specs.Replies as monitor
+use Rattle.monitor_core.specs.Requests.{RequestOf, Own, Asks}
 use Rattle.console_run.specs.declared.acting.Acted.{Acted}
 use Rattle.console_run.specs.declared.acting.Acted.TheVariants as acted
 use Rattle.console_run.specs.declared.answering.Answered.{Answered}
@@ -28,8 +32,8 @@ use Rattle.console_run.specs.declared.answering.Answered.TheVariants as answered
 use Rattle.console_run.specs.declared.talk.Turn.{Turn}
 use Rattle.console_run.specs.declared.talk.Turn.TheVariants as turn
 use Rattle.console_run.specs.Passing.{Pass, after_action, after_doing, broken_by}
-use Rattle.console_run.specs.Exchanges.{AreAnswered, Asker, Exchange, IsResponse, IsShown, after_exchanges, asked_bytes, closing, drops_after, drops_behind, greeting, may_act, told_bytes}
-use Rattle.console_run.specs.Talks.{IsClientOver, IsRefused, IsRefusedBy, Leaves, MOST_TURNS, waits}
+use Rattle.console_run.specs.Exchanges.{AreAnswered, Asker, Exchange, IsResponse, after_exchanges, asked_bytes, closing, drops_after, drops_behind, greeting, may_act, told_bytes}
+use Rattle.console_run.specs.Talks.{IsClientOver, IsRefused, IsRefusedBy, Leaves, waits}
 
 -- ---- what an action came to
 
@@ -97,10 +101,26 @@ abbrev pub IsSaid : Response → List ℕ → Type 0
 IsSaid (Frames frames drops) bytes = bytes ≡ flat_map spelling frames
 IsSaid _ bytes = Unit {0}
 
+-- what a request is told that has nothing done
+abbrev pub shown_by : View → SeenOf → Settings → RequestOf → List FrameOf
+shown_by v known s (Own command) = frames_of (reply_to v s command)
+shown_by v known s (Asks what) = monitor.frames_of (monitor.reply_to v known s what)
+
+-- as `IsShown`, of what was read
+pub record IsShownBy (s : Settings) (p : Pass) (request : RequestOf) (told : List FrameOf) : Type 0 where
+  pub book : Book
+  pub kept : Kept book
+  pub counted : AtMost p.told.made (class_counts book.counts)
+  pub known : SeenOf
+  pub told_is : told ≡ shown_by (view_of book) known s request
+
+abbrev pub IsSeenBy : Settings → Pass → RequestOf → List FrameOf → Option Action → Type 0
+IsSeenBy s p request told does = IsShownBy s p request told × (does ≡ None)
+
 -- what has nothing done was answered so
-pub record IsShownAs (s : Settings) (p : Pass) (text : Text) (bytes : List ℕ) : Type 0 where
+pub record IsShownAs (s : Settings) (p : Pass) (request : RequestOf) (bytes : List ℕ) : Type 0 where
   pub told : List FrameOf
-  pub shown : IsShown s p text told
+  pub shown : IsShownBy s p request told
   pub bytes_are : bytes ≡ flat_map spelling told
 
 -- ---- a talk

@@ -7,18 +7,18 @@ ghost use Rattle.session_values.specs.Answers.{frame_of};
 ghost use Rattle.console_core.specs.Commands.{command_of};
 ghost use Rattle.console_core.specs.Messages as messages;
 ghost use Rattle.console_core.specs.Replies as replies;
-ghost use Rattle.console_core.specs.Views.{reply_view, response_view};
-ghost use Rattle.monitor_core.specs.Asking.{asked};
+ghost use Rattle.console_core.specs.Views.{command_view, reply_view, response_view};
 ghost use Rattle.monitor_core.specs.Replies as monitor;
+ghost use Rattle.monitor_core.specs.Requests.{request_view};
 ghost use Rattle.console_run.specs.Exchanges as exchange;
-ghost use Rattle.console_run.specs.Exchanges.{ForAdmins, IsActed, IsAnswer, IsClosed, IsSeen, asker};
+ghost use Rattle.console_run.specs.Exchanges.{ForAdmins, IsActed, IsAnswer, IsClosed, asker};
 ghost use Rattle.console_run.specs.Passing.{pass_of};
-ghost use Rattle.console_run.specs.Turns.{HasAnswered, HasResponded, IsEarly, IsNotAllowed, IsSaid, IsShownAs, Waits, told_of};
+ghost use Rattle.console_run.specs.Turns.{HasAnswered, HasResponded, IsEarly, IsNotAllowed, IsSaid, IsSeenBy, IsShownAs, Waits, shown_by, told_of};
 
 use crate::acting::{Acted, act};
 use book_register::view::BookView;
 use bytes::BytesMut;
-use console_core::commands::{Action, Command, read_command};
+use console_core::commands::{Action, Command};
 use console_core::messages::{Response, response_to};
 use console_core::reply::{ConsoleReply, answer};
 use console_core::writing::{put_refusal, put_reply};
@@ -27,7 +27,7 @@ use ini_config::Settings;
 use link_desk::desk::LinkDesk;
 use log_lines::notes::{Client, Note};
 use message_view::{Refusal, Status, put_ready_for_query};
-use monitor_core::asking::{Asked, read_asked};
+use monitor_core::asking::{Asked, Request, read_request};
 use monitor_core::reply::monitor_answer;
 use monitor_core::writing::put_monitor_reply;
 use pool_figures::seen::Seen;
@@ -160,27 +160,28 @@ fn own_bytes(
     alloc: Global,
     view: &BookView,
     settings: &Settings,
-    text: &[u8],
+    command: Option<Command<'_>>,
 ) -> Result<BytesMut, AllocError>
-    ensures { IfOk result (λ out. out.items ≡ flat_map spelling (replies.frames_of (replies.answer view.now settings.now text.now))) }
+    ensures { IfOk result (λ out. out.items ≡ flat_map spelling (replies.frames_of (replies.reply_to view.now settings.now (option_map command_view command.entry)))) }
 {
-    let reply = answer(alloc, view, settings, text)?;
+    let reply = answer(alloc, view, settings, command)?;
     reply_bytes(alloc, &reply)
 }
 
-/// What a text is told that has nothing done.
+/// What a request is told that has nothing done.
 fn shown_bytes(
     alloc: Global,
     view: &BookView,
     known: &Seen,
     settings: &Settings,
-    text: &[u8],
+    request: Request<'_>,
 ) -> Result<BytesMut, AllocError>
-    ensures { IfOk result (λ out. out.items ≡ flat_map spelling (exchange.shown view.now known.now settings.now text.now (asked settings.now.console_style text.now))) }
+    ensures { IfOk result (λ out. out.items ≡ flat_map spelling (shown_by view.now known.now settings.now (request_view request.entry))) }
 {
-    match read_asked(settings.console_style(), text) {
-        Some(asked) => monitor_bytes(alloc, view, known, settings, asked),
-        None => own_bytes(alloc, view, settings, text),
+    match request {
+        Request::Own(command) => own_bytes(alloc, view, settings, Some(command)),
+        Request::Asked(asked) => monitor_bytes(alloc, view, known, settings, asked),
+        Request::Unknown => own_bytes(alloc, view, settings, None),
     }
 }
 
@@ -276,32 +277,32 @@ impl<'a, D: LinkDesk> Console<'a, D> {
         Ok(known)
     }
 
-    /// What a text is told that has nothing done, over the book as it is now.
-    fn show(&self, pass: &mut D::Pass, text: &[u8]) -> Result<BytesMut, AllocError>
-        ensures shown { IfOk result (λ out. IsShownAs self.now.settings.now (pass_of (D.told pass.old) (D.holder pass.old)) text.now out.items) }
+    /// What a request is told that has nothing done, over the book as it is now.
+    fn show(&self, pass: &mut D::Pass, request: Request<'_>) -> Result<BytesMut, AllocError>
+        ensures shown { IfOk result (λ out. IsShownAs self.now.settings.now (pass_of (D.told pass.old) (D.holder pass.old)) (request_view request.entry) out.items) }
         ensures told { D.told pass.new ≡ D.told pass.old }
         ensures holder { D.holder pass.new ≡ D.holder pass.old }
     {
         let view = self.desk.view(self.alloc, pass)?;
         let known = self.known()?;
-        shown_bytes(self.alloc, &view, &known, self.settings, text)
+        shown_bytes(self.alloc, &view, &known, self.settings, request)
     }
 
-    /// The answer to a text that has nothing done.
-    fn look(&self, pass: &mut D::Pass, text: &[u8]) -> Answered
-        ensures { HasAnswered (IsSeen self.now.settings.now (pass_of (D.told pass.old) (D.holder pass.old)) text.now) ⊥ false result (pass_of (D.told pass.old) (D.holder pass.old)) (pass_of (D.told pass.new) (D.holder pass.new)) }
+    /// The answer to a request that has nothing done.
+    fn look(&self, pass: &mut D::Pass, request: Request<'_>) -> Answered
+        ensures { HasAnswered (IsSeenBy self.now.settings.now (pass_of (D.told pass.old) (D.holder pass.old)) (request_view request.entry)) ⊥ false result (pass_of (D.told pass.old) (D.holder pass.old)) (pass_of (D.told pass.new) (D.holder pass.new)) }
     {
-        told(self.show(pass, text), false)
+        told(self.show(pass, request), false)
     }
 
     /// The answer to the text of a Query.
     fn command(&self, pass: &mut D::Pass, text: &[u8]) -> Answered
         ensures { HasAnswered (IsAnswer (asker self.now.settings.now self.now.who.now.user.now) (pass_of (D.told pass.old) (D.holder pass.old)) text.now (command_of text.now)) (Waits (asker self.now.settings.now self.now.who.now.user.now) (pass_of (D.told pass.old) (D.holder pass.old)) (command_of text.now)) false result (pass_of (D.told pass.old) (D.holder pass.old)) (pass_of (D.told pass.new) (D.holder pass.new)) }
     {
-        match read_command(text) {
-            Some(Command::Act(action)) => self.act_if_allowed(pass, action),
-            Some(Command::Await(database)) => self.await_if_allowed(pass, database),
-            Some(Command::Show(_)) | None => self.look(pass, text),
+        match read_request(self.settings.console_style(), text) {
+            Request::Own(Command::Act(action)) => self.act_if_allowed(pass, action),
+            Request::Own(Command::Await(database)) => self.await_if_allowed(pass, database),
+            request => self.look(pass, request),
         }
     }
 

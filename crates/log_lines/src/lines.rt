@@ -12,7 +12,7 @@ ghost use Rattle.log_lines.specs.Lines as spec;
 use crate::notes::{Client, LoginFailure, Loss, Note, Server, Unstarted};
 use crate::shown::{put_address, put_after, put_name, put_number, put_quoted, put_text};
 use message_view::kinds::{ASKS_CLEARTEXT, ASKS_MD5};
-use message_view::{Fields, NoteView, Refusal};
+use message_view::{Fields, NoteView, Refusal, refusal_bytes};
 use std::alloc::AllocError;
 
 /// What precedes the body in a message: its type and length.
@@ -231,23 +231,12 @@ fn failure_words(why: LoginFailure) -> &'static [u8]
     }
 }
 
+/// A refusal's text, which stands in the bytes that its client is given.
+#[tactic(auto, using(crate::proofs::Refusing::texts))]
 fn refusal_text(refusal: Refusal) -> &'static [u8]
     ensures { result.now ≡ (telling refusal).message }
 {
-    match refusal {
-        Refusal::TooManyClients => b"too many client connections",
-        Refusal::UnsupportedProtocol => b"unsupported protocol version",
-        Refusal::MalformedClientMessage => b"malformed client message",
-        Refusal::UnsupportedParameter => b"unsupported startup parameter",
-        Refusal::WaitedTooLong => b"query_wait_timeout",
-        Refusal::ServerFailed => b"server connection failed",
-        Refusal::ServerNotReached => b"server could not be reached",
-        Refusal::ShuttingDown => b"pooler is shutting down",
-        Refusal::OutOfMemory => b"pooler is out of memory",
-        Refusal::ClientMessageTooLong => b"client message is too long",
-        Refusal::MalformedServerMessage => b"malformed server message",
-        Refusal::LastDecision => b"pooler has reached its last decision",
-    }
+    field_of(refusal_bytes(refusal), b'M')
 }
 
 /// A refusal's text and number.

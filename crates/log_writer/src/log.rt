@@ -9,10 +9,7 @@ use std::io::Write;
 use std::rt::Clock;
 use std::sync::{Arc, Condvar, Mutex, Wait};
 use std::thread::{self, JoinHandle, Threads};
-use std::time::Duration;
-
-/// How long a log's end waits for its thread, in milliseconds.
-const LAST_WAIT: u64 = 1000;
+use time_limits::LOG_END;
 
 /// What the thread shares with those that tell the log.
 #[derive(Drop)]
@@ -155,7 +152,7 @@ pub fn begin<R: Threads + Wait + Copy + Send + 'static, W: Write + Drop + Send +
 }
 
 impl LogThread {
-    /// Closes the log, and waits until all that waits is written, but no longer than a second: a thread that writes to a pipe
+    /// Closes the log, and waits until all that waits is written, but no longer than [`LOG_END`]: a thread that writes to a pipe
     /// whose reader has stopped never ends, and can't be joined. It is then cut off when the program ends.
     pub fn close<R: Threads + Wait + Clock>(self, rt: &R) {
         let LogThread { log, thread } = self;
@@ -164,7 +161,7 @@ impl LogThread {
         let (state, waited) = log.changed.wait_timeout_while(
             rt,
             log.state.lock(rt),
-            Duration::from_millis(LAST_WAIT),
+            LOG_END.duration(),
             |state| !state.is_done,
         );
         drop(state);

@@ -9,18 +9,14 @@ use std::io;
 use std::io::{ErrorKind, Read, Write};
 use std::net::Shutdown;
 use std::rt::Clock;
-use std::time::{Duration, Instant};
+use std::time::Instant;
+use time_limits::METRICS_EXCHANGE;
 
 /// As many bytes as one read takes at most.
 const ROOM: usize = 1024;
 
 /// So many moves are made in one turn at most, so that one connection doesn't keep the others waiting.
 const MOST_MOVES: u32 = 64;
-
-/// As long as a connection is kept.
-fn longest_exchange() -> Duration {
-    Duration::from_secs(5)
-}
 
 /// What is done next over a connection.
 #[derive(Clone, Copy, PartialEq, Eq, Drop)]
@@ -103,7 +99,7 @@ impl Exchange {
     /// Whether its time is over. Where the clock can't be read it is.
     fn is_late<R: Clock>(&self, rt: &R) -> bool {
         match self.since.elapsed(rt) {
-            Ok(age) => age >= longest_exchange(),
+            Ok(age) => age >= METRICS_EXCHANGE.duration(),
             Err(_) => true,
         }
     }

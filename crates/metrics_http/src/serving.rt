@@ -8,18 +8,13 @@ use std::io;
 use std::net::Net;
 use std::rt::Clock;
 use std::sync::Wait;
-use std::time::Duration;
+use time_limits::METRICS_TURN;
 
-/// So many connections are served at once. Others wait until one of them is done, which takes five seconds at most.
+/// So many connections are served at once. Others wait until one of them is done, which takes at most [`METRICS_EXCHANGE`].
 const MOST_AT_ONCE: usize = 4;
 
-/// As long as a turn waits at most.
-fn longest_wait() -> Duration {
-    Duration::from_millis(100)
-}
-
-/// Who asks some listeners for metrics. Four connections are served at a time, and each for five seconds at most, whatever the other side
-/// does; one for which there is no memory is closed.
+/// Who asks some listeners for metrics. Four connections are served at a time, and each for at most [`METRICS_EXCHANGE`], whatever the
+/// other side does; one for which there is no memory is closed.
 #[derive(Drop)]
 pub struct MetricsServer {
     alloc: Global,
@@ -126,11 +121,13 @@ impl MetricsServer {
 
     /// Waits for an event. That the poll can't is as if none came: all is tried again at each turn.
     fn wait(&mut self) {
-        let _ = self.poll.poll(&mut self.events, Some(longest_wait()));
+        let _ = self
+            .poll
+            .poll(&mut self.events, Some(METRICS_TURN.duration()));
     }
 
-    /// Takes who has come, and goes on with each as far as it can at this time; where nothing was done, it then waits for a tenth of a
-    /// second at most. Whether one asks for the metrics, who is answered by [`MetricsServer::answer`].
+    /// Takes who has come, and goes on with each as far as it can at this time; where nothing was done, it then waits for at most
+    /// [`METRICS_TURN`]. Whether one asks for the metrics, who is answered by [`MetricsServer::answer`].
     pub fn is_asked<R: Wait + Clock>(&mut self, rt: &R) -> bool {
         self.fill(rt);
         let has_place = self.go_on(rt);

@@ -62,5 +62,9 @@ abbrev pub or_unknown : Style → Option Asked → Option Asked
 or_unknown PgBouncer None = Some its.Unknown
 or_unknown style asked = asked
 
+-- what a text asks for that was read as this command or as none
+abbrev pub asked_beside : Style → Option CommandOf → Text → Option Asked
+asked_beside style command text = if is_left style command then None else or_unknown style (asked_by style (statement text))
+
 abbrev pub asked : Style → Text → Option Asked
-asked style text = if is_left style (command_of text) then None else or_unknown style (asked_by style (statement text))
+asked style text = asked_beside style (command_of text) text

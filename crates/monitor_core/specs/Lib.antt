@@ -2,6 +2,7 @@ pub mod Asking
 pub mod Columns
 pub mod Known
 pub mod Replies
+pub mod Requests
 pub mod Servers
 pub mod Tables
 pub mod Times

@@ -1,9 +1,11 @@
-//! What a text asks of the console beside its own commands.
-ghost use Rattle.std.specs.Prelude.{◌≡◌, is_some};
+//! What a text asks of the console: one of its own commands, or what monitors ask for beside them.
+ghost use Rattle.std.specs.Prelude.{◌≡◌, option_map};
 ghost use Rattle.mini_sql.specs.Statements.{statement};
 ghost use Rattle.session_values.specs.Parameters.{parameter_named};
 ghost use Rattle.console_core.specs.Commands.{command_of};
+ghost use Rattle.console_core.specs.Views.{command_view};
 ghost use Rattle.monitor_core.specs.Asking as spec;
+ghost use Rattle.monitor_core.specs.Requests.{request_of, request_view};
 
 use console_core::commands::{Command, read_command};
 use ini_config::ConsoleStyle as Style;
@@ -39,6 +41,17 @@ pub enum Asked {
     /// What may be asked for.
     Help,
     /// What nobody answers, where the style is PgBouncer's.
+    Unknown,
+}
+
+/// What a text comes to at the console.
+#[derive(Clone, Copy, Drop)]
+pub enum Request<'a> {
+    /// A command of the console's own.
+    Own(Command<'a>),
+    /// What monitors ask for, which may stand in the place of one.
+    Asked(Asked),
+    /// It is none of these.
     Unknown,
 }
 
@@ -141,25 +154,37 @@ fn asked_by(style: Style, text: &[u8]) -> Option<Asked>
 }
 
 /// Whether a text is left to the console itself: where it is one of its commands, but for those whose tables are PgBouncer's.
-fn is_left(style: Style, text: &[u8]) -> bool
-    ensures { result ≡ spec.is_left style (command_of text.now) }
+fn is_left(style: Style, command: Option<Command<'_>>) -> bool
+    ensures { result ≡ spec.is_left style (option_map command_view command.entry) }
 {
-    match (style, read_command(text)) {
+    match (style, command) {
         (_, Some(Command::Act(_) | Command::Await(_))) | (Style::Own, Some(Command::Show(_))) =>
             true,
         (Style::PgBouncer, Some(Command::Show(_))) | (_, None) => false,
     }
 }
 
-/// What a text asks for; nothing where it is the console's to answer. It takes no memory.
-pub fn read_asked(style: Style, text: &[u8]) -> Option<Asked>
-    ensures { result ≡ spec.asked style text.now }
+/// What a text asks for that was read as this command or as none; nothing where it is the console's to answer.
+fn read_asked(style: Style, command: Option<Command<'_>>, text: &[u8]) -> Option<Asked>
+    ensures { result ≡ spec.asked_beside style (option_map command_view command.entry) text.now }
 {
-    if is_left(style, text) {
+    if is_left(style, command) {
         return None;
     }
     match (style, asked_by(style, text)) {
         (Style::PgBouncer, None) => Some(Asked::Unknown),
         (_, asked) => asked,
+    }
+}
+
+/// What a text comes to, whose command is read here and nowhere else. It takes no memory.
+pub fn read_request(style: Style, text: &[u8]) -> Request<'_>
+    ensures { request_view result ≡ request_of style text.now }
+{
+    let command = read_command(text);
+    match (read_asked(style, command, text), command) {
+        (Some(asked), _) => Request::Asked(asked),
+        (None, Some(command)) => Request::Own(command),
+        (None, None) => Request::Unknown,
     }
 }

@@ -49,11 +49,7 @@ use std::alloc::{AllocError, Global};
 use std::rt::Clock;
 use std::sync::{Arc, Mutex, MutexGuard, Wait};
 use std::time::{Duration, Instant};
-
-/// As long as a client waits on without a look at it.
-fn longest_wait() -> Duration {
-    Duration::from_millis(1000)
-}
+use time_limits::WAITING_LOOK;
 
 /// The lease book behind one lock, the bells of the clients that wait, and what is reached outside. Each event is one hold of the lock,
 /// in which no byte moves.
@@ -168,12 +164,12 @@ impl<R: Wait + Clock, S: Outside, K: Ledgers> Desk<R, S, K> {
         }
     }
 
-    /// Lets the lock go until this client is woken, or for about a second.
+    /// Lets the lock go until this client is woken, or for as long as [`WAITING_LOOK`] says.
     fn wait(&self, client: u64, core: MutexGuard<'_, Core<S, K>>) {
         let _ = self
             .bells
             .of(client)
-            .wait_timeout(&self.rt, core, longest_wait());
+            .wait_timeout(&self.rt, core, WAITING_LOOK.duration());
     }
 
     /// Whether so many seconds have gone since then; 0 are without a limit.

@@ -45,13 +45,14 @@ use std::marker::Brand;
 use std::rt::Clock;
 use std::sync::atomic::{AtomicBool, Ordering};
 use std::sync::{Arc, Mutex, Wait};
-use std::time::{Duration, Instant};
+use std::time::Instant;
 use std::{io, thread};
 use tcp_end::connection::TcpEnd;
 use tcp_end::gate::{GatePoll, TcpGate};
 use tcp_end::idle::{IdlePoll, Minder};
 use tcp_listen::acceptor::{Acceptor, Turn};
 use tcp_listen::listener::Peer;
+use time_limits::{CLOCK_TURN, GIVING_WAY};
 use user_file::UserTable;
 use worker_threads::Workers;
 
@@ -182,7 +183,7 @@ impl<R: PoolRuntime, F: Source, K: Ledgers> Pool<R, F, K> {
         for _ in 0..MOST_CUT {
             match GatePoll::new(&self.rt, self.alloc) {
                 Ok(poll) => return Some(poll),
-                Err(_) if self.watch.cut_oldest() => thread::sleep(&self.rt, a_moment()),
+                Err(_) if self.watch.cut_oldest() => thread::sleep(&self.rt, GIVING_WAY.duration()),
                 Err(_) => return None,
             }
         }
@@ -297,7 +298,7 @@ impl<R: PoolRuntime, F: Source, K: Ledgers> Pool<R, F, K> {
     /// isn't idle any more is left to who has it, which sees so too.
     fn close_hung_up(&self, rt: &R, pass: &mut FreePass<K>, idle: &IdlePoll) {
         let mut told = idle.told();
-        for _ in 0..u64::MAX {
+        for _ in rt.forever() {
             let Some(number) = told.next() else {
                 return;
             };
@@ -326,8 +327,8 @@ impl<R: PoolRuntime, F: Source, K: Ledgers> Pool<R, F, K> {
         let mut start = Instant::now(rt).ok();
         let mut last = None;
         for _ in rt.forever() {
-            if idle.wait(one_second()).is_err() {
-                thread::sleep(rt, one_second());
+            if idle.wait(CLOCK_TURN.duration()).is_err() {
+                thread::sleep(rt, CLOCK_TURN.duration());
             }
             if self.has_ended.load(Ordering::SeqCst) {
                 break;
@@ -398,19 +399,9 @@ const HEARD: usize = 512;
 /// So many connections give way to one at most.
 pub(crate) const MOST_CUT: u32 = 8;
 
-/// As long as a connection that gives way has for it.
-pub(crate) fn a_moment() -> Duration {
-    Duration::from_millis(50)
-}
-
 /// So many seconds, where 0 is no limit.
 fn some_time(seconds: u32) -> Option<u32> {
     if seconds == 0 { None } else { Some(seconds) }
-}
-
-/// The time from one second to the next.
-fn one_second() -> Duration {
-    Duration::from_millis(1000)
 }
 
 /// What a read of an idle link's end came to.

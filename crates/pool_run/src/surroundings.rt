@@ -8,7 +8,7 @@ ghost use Rattle.tcp_reach.specs.Streams.{own_place};
 use crate::keeping::{Keeper, Source, Unread};
 use crate::log::PoolLog;
 use crate::places::Places;
-use crate::pool::{MOST_CUT, a_moment};
+use crate::pool::MOST_CUT;
 use crate::runtime::PoolRuntime;
 use book_model::limits::Limits;
 use bytes::BytesMut;
@@ -32,9 +32,7 @@ use tcp_end::idle::Minder;
 use tcp_reach::message::send_to_hosts;
 use tcp_reach::places::Place;
 use tcp_reach::stream::Sent;
-
-/// As long as a cancel's connection may take, and as long as its server may then take for it.
-const CANCEL_SECONDS: u32 = 5;
+use time_limits::{CANCEL_SECONDS, GIVING_WAY};
 
 /// The CancelRequest for the session of a link's server. The only error is that an allocation failed.
 fn request_of(alloc: Global, strike: &Strike) -> Result<BytesMut, AllocError>
@@ -114,7 +112,7 @@ fn reach<R: Threads + Wait + Clock + Net<Listener = net::TcpListener, Stream = n
     for _ in 0..MOST_CUT {
         match dial(rt, alloc, host, port, number, seconds, keepalive) {
             Err(error) if is_short_of_files(&error) && watch.cut_oldest() => {
-                thread::sleep(rt, a_moment())
+                thread::sleep(rt, GIVING_WAY.duration())
             }
             reached => return reached,
         }

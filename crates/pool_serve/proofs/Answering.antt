@@ -31,10 +31,10 @@ use Rattle.relay_laws.specs.Laws.{LeasesAreAllowed}
 use Rattle.relay_laws.specs.Leases.{IsAllowed, IsLease, Keeps, Place, RelayView, place}
 use Rattle.relay_laws.proofs.Exact.{all-sent}
 use Rattle.relay_laws.specs.Answers.{AtBorder, RefusedBy}
-use Rattle.pool_serve.specs.Words.{or_nothing}
+use Rattle.pool_serve.specs.FinalMessages.{or_nothing}
 use Rattle.pool_serve.specs.Serving.{AreMarksOf, Serves}
 use Rattle.pool_serve.proofs.Causing.{relay_fault}
-use Rattle.pool_serve.specs.declared.word.FinalMessage.TheVariants as last
+use Rattle.pool_serve.specs.declared.final_message.FinalMessage.TheVariants as last
 
 -- ---- the service of more bytes
 

@@ -22,8 +22,8 @@ use Rattle.relay_laws.specs.Faults.{IsAtFault}
 use Rattle.relay_laws.proofs.Faults.{client_fault}
 use Rattle.pool_serve.specs.declared.ending.Ending.{Ending}
 use Rattle.pool_serve.specs.declared.ending.Ending.TheVariants as ending
-use Rattle.pool_serve.specs.declared.word.FinalMessage.TheVariants as last
-use Rattle.pool_serve.specs.Words.{last_of, or_nothing, word_of}
+use Rattle.pool_serve.specs.declared.final_message.FinalMessage.TheVariants as last
+use Rattle.pool_serve.specs.FinalMessages.{final_message_of, final_message_of_start, or_nothing}
 use Rattle.pool_serve.specs.Shares as shares
 use Rattle.pool_serve.specs.Causes.{HadLink, HadNone, HasFault, HasLost, IsFaulty, IsFaultyWord, IsTurnedAway, Since, AtArrival, AtAsking, AtLease, AtWait, of_wait, HasTrace, WordHasTrace}
 use Rattle.pool_serve.specs.Endings.{HasRelayed, IsUnopened, Traces, refusal_at, refusal_told}
@@ -253,7 +253,7 @@ unopened_traces home g p q ending.Last x h = absurd x
 unopened_traces home g p q (ending.Relayed r) x h = absurd x
 unopened_traces home g p q (ending.Managed r) x h = absurd x
 
-cause_fault : (limit : ℕ) (bytes : List ℕ) (c : StartCause) → IsFaultyWord limit bytes (last_of c)
+cause_fault : (limit : ℕ) (bytes : List ℕ) (c : StartCause) → IsFaultyWord limit bytes (final_message_of_start c)
 cause_fault limit bytes (cause.Refused error) = tt
 cause_fault limit bytes cause.Memory = tt
 cause_fault limit bytes cause.Lost = tt
@@ -262,7 +262,7 @@ cause_fault limit bytes cause.Unexpected = tt
 cause_fault limit bytes cause.Turns = tt
 cause_fault limit bytes cause.Late = tt
 
-pub unopened_fault : (home : HomeOf) (g : LoggedIn) (limit : ℕ) (bytes : List ℕ) (e : Ending) → IsUnopened home g e → IsFaultyWord limit bytes (word_of e)
+pub unopened_fault : (home : HomeOf) (g : LoggedIn) (limit : ℕ) (bytes : List ℕ) (e : Ending) → IsUnopened home g e → IsFaultyWord limit bytes (final_message_of e)
 unopened_fault home g limit bytes ending.Unreached x = tt
 unopened_fault home g limit bytes (ending.Unstarted c) x = cause_fault limit bytes c
 unopened_fault home g limit bytes ending.Memory x = tt
@@ -342,7 +342,7 @@ IsFromServer (ending.Managed r) = ⊥
 IsFromServer _ = Unit {0}
 
 module _ (p q : PassOf) where
-  cause_traces : (c : StartCause) → HadLink AtArrival p q × HasLost p q → WordHasTrace AtArrival p q (last_of c)
+  cause_traces : (c : StartCause) → HadLink AtArrival p q × HasLost p q → WordHasTrace AtArrival p q (final_message_of_start c)
   cause_traces (cause.Refused error) h = h
   cause_traces cause.Memory h = tt
   cause_traces cause.Lost h = h
@@ -369,7 +369,7 @@ module _ (p q : PassOf) where
   relayed_word None x h = tt
   relayed_word (Some r) x h = relay_trace r x h
 
-  pub word_traces : (home : HomeOf) (v : LoginView) (after : ClientFacts) (e : Ending) → IsFromServer e → CameIn home v after e → Traces AtArrival p q e → WordHasTrace AtArrival p q (word_of e)
+  pub word_traces : (home : HomeOf) (v : LoginView) (after : ClientFacts) (e : Ending) → IsFromServer e → CameIn home v after e → Traces AtArrival p q e → WordHasTrace AtArrival p q (final_message_of e)
   word_traces home v after ending.Left o c h = tt
   word_traces home v after (ending.Refused r) o c h = h.1
   word_traces home v after ending.Memory o c h = tt

@@ -5,8 +5,8 @@ use Rattle.link_laws.specs.Standing.{ClientFacts}
 use Rattle.server_end.specs.declared.Moved.{Moved}
 use Rattle.server_end.specs.declared.Moved.TheVariants.{Count, NotNow, Ended, Fault}
 use Rattle.server_end.specs.Moves.{ClientWrites, moved}
-use Rattle.pool_serve.specs.declared.TheConstants.{CLIENT_TURNS}
-use Rattle.pool_serve.specs.Words.{HasGiven}
+use Rattle.time_limits.specs.declared.TheConstants.{CLIENT_TURNS}
+use Rattle.pool_serve.specs.FinalMessages.{HasGiven}
 
 -- so many bytes were given, in so many turns
 pub record Gives (old new : ClientFacts) (bytes : List ℕ) (sent turns : ℕ) : Type 0 where

@@ -13,7 +13,7 @@ use Rattle.pool_serve.specs.Causes.{AtAsking, AtLease, AtWait, HadLink, HasLost}
 use Rattle.pool_serve.specs.Endings.{HasLeased, IsUnopened}
 use Rattle.pool_serve.specs.Serving.{LetsIn, MayEnd, owed}
 use Rattle.pool_serve.specs.Shares.{Ends, Evens}
-use Rattle.pool_serve.specs.Words.{word_of}
+use Rattle.pool_serve.specs.FinalMessages.{final_message_of}
 use Rattle.pool_serve.specs.declared.ending.Ending.{Ending}
 use Rattle.pool_serve.specs.declared.ending.Ending.TheVariants as ending
 use Rattle.pool_serve.specs.declared.logged_in.LoggedIn.{LoggedIn}
@@ -69,7 +69,7 @@ module _ (home : HomeOf) (g : LoggedIn) (p mid q : PassOf) (h m k : Holder) (gra
 
   -- ---- a new link wasn't started
 
-  unopened_ended : (e : Ending) (x : Gone) → IsUnopened home g e → (LetsIn home g.login → MayEnd [] (owed home.catalogue g [] []) (word_of e)) → q ≡ after_loss mid x → k ≡ without_lease call.StartFailed m → IsEndedFor home g AtWait p q e
+  unopened_ended : (e : Ending) (x : Gone) → IsUnopened home g e → (LetsIn home g.login → MayEnd [] (owed home.catalogue g [] []) (final_message_of e)) → q ≡ after_loss mid x → k ≡ without_lease call.StartFailed m → IsEndedFor home g AtWait p q e
   unopened_ended e x why word lost f c = granted_ended home g p mid q m k c c e granted (unopened_frees home g m k e why f) (record {
     tells = refl;
     traces = unopened_traces home g mid q e why (lost_by mid q x lost);
@@ -96,7 +96,7 @@ module _ (home : HomeOf) (g : LoggedIn) (p mid q : PassOf) (h m k : Holder) (gra
   new_share (Ok l) x = tt
   new_share (Err e) x = granted_evens p mid q granted (loss_ends mid q x.0 x.1)
 
-  pub new_ended : {A : Type 0} (r : Result A Ending) → IfErr r (IsUnopened home g) → (LetsIn home g.login → IfErr r (λ e. MayEnd [] (owed home.catalogue g [] []) (word_of e))) → IfErr r (λ e. (x : Gone) × (q ≡ after_loss mid x)) → IfErr r (λ e. k ≡ without_lease call.StartFailed m) →
+  pub new_ended : {A : Type 0} (r : Result A Ending) → IfErr r (IsUnopened home g) → (LetsIn home g.login → IfErr r (λ e. MayEnd [] (owed home.catalogue g [] []) (final_message_of e))) → IfErr r (λ e. (x : Gone) × (q ≡ after_loss mid x)) → IfErr r (λ e. k ≡ without_lease call.StartFailed m) →
       IfErr r (λ e. IsEndedFor home g AtWait p q e)
   new_ended (Ok l) why word lost f = tt
   new_ended (Err e) why word lost f = unopened_ended e lost.0 why word lost.1 f

@@ -23,8 +23,8 @@ use Rattle.login_run.specs.Laws.{AllowedBy, IsAtPiece, PassedRunsAreLetIn, Passe
 use Rattle.link_desk.specs.Homes.{HomeOf}
 use Rattle.link_desk.specs.Refusing.{RefusesArrival}
 use Rattle.pool_serve.specs.declared.logged_in.LoggedIn.{LoggedIn}
-use Rattle.pool_serve.specs.declared.word.FinalMessage.{FinalMessage}
-use Rattle.pool_serve.specs.declared.word.FinalMessage.TheVariants as last
+use Rattle.pool_serve.specs.declared.final_message.FinalMessage.{FinalMessage}
+use Rattle.pool_serve.specs.declared.final_message.FinalMessage.TheVariants as last
 use Rattle.pool_serve.specs.Causes.{HasFault}
 use Rattle.pool_serve.specs.LinkSecrets.{IsItsUser, RevealsToLink, secret_by}
 use Rattle.pool_serve.specs.Serving.{IsLoggedIn, IsServed, IsServedUnder, LetsIn, MayEnd, Serves, limit_of, owed}

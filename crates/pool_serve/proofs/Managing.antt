@@ -28,7 +28,7 @@ use Rattle.pool_serve.specs.Endings.{Came, Traces}
 use Rattle.pool_serve.specs.Serving.{IsManaged, IsServed}
 use Rattle.pool_serve.specs.Shares.{Evens}
 use Rattle.pool_serve.specs.Stays.{CameIn, IfManaged, IsAllowed, IsAtConsole, IsStay, MayHaveAskedAgain, ServesAs, StayedAtConsole}
-use Rattle.pool_serve.specs.Words.{HasGiven, last_bytes, word_of}
+use Rattle.pool_serve.specs.FinalMessages.{HasGiven, final_message_of, last_bytes}
 use Rattle.pool_serve.proofs.Causing.{word_traces}
 use Rattle.pool_serve.proofs.Logging.{same_rows, same_served}
 use Rattle.pool_serve.proofs.Telling.{told_client}
@@ -140,18 +140,18 @@ managed v before after s user word p q last x e n b t f w h =
 -- ---- by how its time ended
 
 pub same_serves : (home : HomeOf) (old new : RunView) (c : ClientFacts) (e : Ending) → IsSameLogin old new → ServesAs home new.login c e → ServesAs home old.login c e
-same_serves home old new c ending.Left s h = same_served home old new c (word_of ending.Left) s h
-same_serves home old new c (ending.Refused r) s h = same_served home old new c (word_of (ending.Refused r)) s h
-same_serves home old new c ending.Memory s h = same_served home old new c (word_of ending.Memory) s h
-same_serves home old new c ending.Strange s h = same_served home old new c (word_of ending.Strange) s h
-same_serves home old new c ending.Last s h = same_served home old new c (word_of ending.Last) s h
-same_serves home old new c ending.Unreached s h = same_served home old new c (word_of ending.Unreached) s h
-same_serves home old new c (ending.Unstarted cause) s h = same_served home old new c (word_of (ending.Unstarted cause)) s h
-same_serves home old new c (ending.Relayed r) s h = same_served home old new c (word_of (ending.Relayed r)) s h
+same_serves home old new c ending.Left s h = same_served home old new c (final_message_of ending.Left) s h
+same_serves home old new c (ending.Refused r) s h = same_served home old new c (final_message_of (ending.Refused r)) s h
+same_serves home old new c ending.Memory s h = same_served home old new c (final_message_of ending.Memory) s h
+same_serves home old new c ending.Strange s h = same_served home old new c (final_message_of ending.Strange) s h
+same_serves home old new c ending.Last s h = same_served home old new c (final_message_of ending.Last) s h
+same_serves home old new c ending.Unreached s h = same_served home old new c (final_message_of ending.Unreached) s h
+same_serves home old new c (ending.Unstarted cause) s h = same_served home old new c (final_message_of (ending.Unstarted cause)) s h
+same_serves home old new c (ending.Relayed r) s h = same_served home old new c (final_message_of (ending.Relayed r)) s h
 same_serves home old new c (ending.Managed r) s h = h
 
 -- a client that asked for a link
-pub logged_in_serves : (home : HomeOf) (v : LoginView) (g : LoggedIn) (before c : ClientFacts) (e : Ending) → Came home g before c e → IsServed home v c (word_of e) → ServesAs home v c e
+pub logged_in_serves : (home : HomeOf) (v : LoginView) (g : LoggedIn) (before c : ClientFacts) (e : Ending) → Came home g before c e → IsServed home v c (final_message_of e) → ServesAs home v c e
 logged_in_serves home v g before c ending.Left x h = h
 logged_in_serves home v g before c (ending.Refused r) x h = h
 logged_in_serves home v g before c ending.Memory x h = h
@@ -164,14 +164,14 @@ logged_in_serves home v g before c (ending.Managed r) x h = absurd x
 
 -- a client that was told its last word
 module _ (home : HomeOf) (v : LoginView) (before after : ClientFacts) (p q since : PassOf) (h k : Holder) (again : MayHaveAskedAgain home v p since) where
-  pub told_as : (e : Ending) → HasGiven before after (last_bytes (word_of e)) → before.tells ≡ true → CameIn home v before e → IfManaged e (StayedAtConsole v (pass_of p h) (pass_of q k) before) → Traces AtArrival since q e → ServesAs home v before e →
+  pub told_as : (e : Ending) → HasGiven before after (last_bytes (final_message_of e)) → before.tells ≡ true → CameIn home v before e → IfManaged e (StayedAtConsole v (pass_of p h) (pass_of q k) before) → Traces AtArrival since q e → ServesAs home v before e →
       IsAllowed home v p q after ⊎ IsAtConsole v (pass_of p h) (pass_of q k) after
-  told_as ending.Left g t c m x s = inl (told_client home v before after p q since (word_of ending.Left) again g t (word_traces since q home v before ending.Left tt c x) s)
-  told_as (ending.Refused r) g t c m x s = inl (told_client home v before after p q since (word_of (ending.Refused r)) again g t (word_traces since q home v before (ending.Refused r) tt c x) s)
-  told_as ending.Memory g t c m x s = inl (told_client home v before after p q since (word_of ending.Memory) again g t (word_traces since q home v before ending.Memory tt c x) s)
-  told_as ending.Strange g t c m x s = inl (told_client home v before after p q since (word_of ending.Strange) again g t (word_traces since q home v before ending.Strange tt c x) s)
-  told_as ending.Last g t c m x s = inl (told_client home v before after p q since (word_of ending.Last) again g t (word_traces since q home v before ending.Last tt c x) s)
-  told_as ending.Unreached g t c m x s = inl (told_client home v before after p q since (word_of ending.Unreached) again g t (word_traces since q home v before ending.Unreached tt c x) s)
-  told_as (ending.Unstarted cause) g t c m x s = inl (told_client home v before after p q since (word_of (ending.Unstarted cause)) again g t (word_traces since q home v before (ending.Unstarted cause) tt c x) s)
-  told_as (ending.Relayed r) g t c m x s = inl (told_client home v before after p q since (word_of (ending.Relayed r)) again g t (word_traces since q home v before (ending.Relayed r) tt c x) s)
+  told_as ending.Left g t c m x s = inl (told_client home v before after p q since (final_message_of ending.Left) again g t (word_traces since q home v before ending.Left tt c x) s)
+  told_as (ending.Refused r) g t c m x s = inl (told_client home v before after p q since (final_message_of (ending.Refused r)) again g t (word_traces since q home v before (ending.Refused r) tt c x) s)
+  told_as ending.Memory g t c m x s = inl (told_client home v before after p q since (final_message_of ending.Memory) again g t (word_traces since q home v before ending.Memory tt c x) s)
+  told_as ending.Strange g t c m x s = inl (told_client home v before after p q since (final_message_of ending.Strange) again g t (word_traces since q home v before ending.Strange tt c x) s)
+  told_as ending.Last g t c m x s = inl (told_client home v before after p q since (final_message_of ending.Last) again g t (word_traces since q home v before ending.Last tt c x) s)
+  told_as ending.Unreached g t c m x s = inl (told_client home v before after p q since (final_message_of ending.Unreached) again g t (word_traces since q home v before ending.Unreached tt c x) s)
+  told_as (ending.Unstarted cause) g t c m x s = inl (told_client home v before after p q since (final_message_of (ending.Unstarted cause)) again g t (word_traces since q home v before (ending.Unstarted cause) tt c x) s)
+  told_as (ending.Relayed r) g t c m x s = inl (told_client home v before after p q since (final_message_of (ending.Relayed r)) again g t (word_traces since q home v before (ending.Relayed r) tt c x) s)
   told_as (ending.Managed r) g t c m x s = inr (record { last = r; before = before; managed = m; told = g })

@@ -25,9 +25,9 @@ use Rattle.login_core.specs.Solo.{service_pieces}
 use Rattle.login_run.specs.Runs.{RunView}
 use Rattle.login_run.specs.Laws as runs
 use Rattle.pool_serve.specs.declared.logged_in.LoggedIn.{LoggedIn}
-use Rattle.pool_serve.specs.declared.word.FinalMessage.{FinalMessage}
-use Rattle.pool_serve.specs.declared.word.FinalMessage.TheVariants as last
-use Rattle.pool_serve.specs.Words.{last_of}
+use Rattle.pool_serve.specs.declared.final_message.FinalMessage.{FinalMessage}
+use Rattle.pool_serve.specs.declared.final_message.FinalMessage.TheVariants as last
+use Rattle.pool_serve.specs.FinalMessages.{final_message_of_start}
 use Rattle.pool_serve.specs.Causes.{HasFault, IsFaulty, IsFaultyWord}
 use Rattle.pool_serve.specs.Serving.{IsServed, IsServedUnder, MayEnd, Serves, limit_of, owed}
 use Rattle.pool_serve.proofs.Telling.{behind, refusal_ends}
@@ -53,7 +53,7 @@ refused_start began cred key word error l x =
     let one : service_pieces began.server.catalogue key word [] [] ≡ spelling x.frame ∷ [] = fresh_error (fresh began.server.catalogue key) x.frame began.server.catalogue word (client_frames []) (sym l ∙ x.refusal) in
     record { more = []; both = append-nil error ∙ (x.whole ∙ (sym (append-nil (spelling x.frame)) ∙ ap joined_pieces (sym one))) }
 
-unstarted_at : (began now : Standing) (cred : CredentialOf) (key : StartKeyOf) (word : KeyWord) (c : StartCause) → began.follows ≡ true → IsLetIn began key cred → IsStartCause began now cred key c → MayEnd [] (service_pieces began.server.catalogue key word [] []) (last_of c)
+unstarted_at : (began now : Standing) (cred : CredentialOf) (key : StartKeyOf) (word : KeyWord) (c : StartCause) → began.follows ≡ true → IsLetIn began key cred → IsStartCause began now cred key c → MayEnd [] (service_pieces began.server.catalogue key word [] []) (final_message_of_start c)
 unstarted_at began now cred key word (cause.Refused error) f l x = refused_start began cred key word error l (x.1 f)
 unstarted_at began now cred key word cause.Memory f l x = refusal_ends (service_pieces began.server.catalogue key word [] []) OutOfMemory
 unstarted_at began now cred key word cause.Lost f l x = refusal_ends (service_pieces began.server.catalogue key word [] []) ServerNotReached
@@ -62,9 +62,9 @@ unstarted_at began now cred key word cause.Unexpected f l x = refusal_ends (serv
 unstarted_at began now cred key word cause.Turns f l x = refusal_ends (service_pieces began.server.catalogue key word [] []) ServerNotReached
 unstarted_at began now cred key word cause.Late f l x = refusal_ends (service_pieces began.server.catalogue key word [] []) ServerNotReached
 
-pub unstarted : (cat : CatalogueOf) (began now : Standing) (cred : CredentialOf) (key : StartKeyOf) (word : KeyWord) (c : StartCause) (last : FinalMessage) → last ≡ last_of c → began.server.catalogue ≡ cat → began.follows ≡ true → IsLetIn began key cred → IsStartCause began now cred key c → MayEnd [] (service_pieces cat key word [] []) last
+pub unstarted : (cat : CatalogueOf) (began now : Standing) (cred : CredentialOf) (key : StartKeyOf) (word : KeyWord) (c : StartCause) (last : FinalMessage) → last ≡ final_message_of_start c → began.server.catalogue ≡ cat → began.follows ≡ true → IsLetIn began key cred → IsStartCause began now cred key c → MayEnd [] (service_pieces cat key word [] []) last
 unstarted cat began now cred key word c last e h f l x =
-    subst (λ (w : FinalMessage). MayEnd [] (service_pieces cat key word [] []) w) (sym e) (subst (λ (d : CatalogueOf). MayEnd [] (service_pieces d key word [] []) (last_of c)) h (unstarted_at began now cred key word c f l x))
+    subst (λ (w : FinalMessage). MayEnd [] (service_pieces cat key word [] []) w) (sym e) (subst (λ (d : CatalogueOf). MayEnd [] (service_pieces d key word [] []) (final_message_of_start c)) h (unstarted_at began now cred key word c f l x))
 
 -- ---- behind a login that let it in
 

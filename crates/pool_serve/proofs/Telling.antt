@@ -7,13 +7,13 @@ use Rattle.link_laws.specs.Standing.{ClientFacts}
 use Rattle.link_desk.specs.Passes.{PassOf}
 use Rattle.login_core.specs.Logins.{LoginView}
 use Rattle.login_run.specs.Laws.{AllowedBy, IsRefusedByLogin, own}
-use Rattle.pool_serve.specs.Words.{HasGiven, last_bytes}
+use Rattle.pool_serve.specs.FinalMessages.{HasGiven, last_bytes}
 use Rattle.pool_serve.specs.Causes.{AtArrival, HasCause, IsFaultyWord, WordHasTrace}
 use Rattle.link_desk.specs.Homes.{HomeOf}
 use Rattle.pool_serve.specs.Serving.{IsServed, IsServedUnder, MayEnd, Serves}
 use Rattle.pool_serve.specs.Stays.{IsAllowed, MayHaveAskedAgain}
-use Rattle.pool_serve.specs.declared.word.FinalMessage.{FinalMessage}
-use Rattle.pool_serve.specs.declared.word.FinalMessage.TheVariants as last
+use Rattle.pool_serve.specs.declared.final_message.FinalMessage.{FinalMessage}
+use Rattle.pool_serve.specs.declared.final_message.FinalMessage.TheVariants as last
 
 by_login : (v : LoginView) (p q : PassOf) (taken out : List ℕ) (pieces : List (List ℕ)) → AllowedBy (IsRefusedByLogin v taken) out pieces → AllowedBy (HasCause v taken p q) out pieces
 by_login v p q taken out pieces (inl b) = inl b

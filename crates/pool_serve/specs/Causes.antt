@@ -10,8 +10,8 @@ use Rattle.login_core.specs.Talk.End.{Passed}
 use Rattle.login_core.specs.Dialogue.{Rows, ToLink, login_among}
 use Rattle.login_core.specs.Logins.{LoginView, rows_of}
 use Rattle.login_run.specs.Laws.{IsRefusedByLogin}
-use Rattle.pool_serve.specs.declared.word.FinalMessage.{FinalMessage}
-use Rattle.pool_serve.specs.declared.word.FinalMessage.TheVariants as last
+use Rattle.pool_serve.specs.declared.final_message.FinalMessage.{FinalMessage}
+use Rattle.pool_serve.specs.declared.final_message.FinalMessage.TheVariants as last
 
 -- ---- what the desk decided, as the pass tells it; where a call was answered by the last decision or as strange, not all was counted
 

@@ -9,7 +9,7 @@ use Rattle.link_run.specs.Links.{LinkView}
 use Rattle.credentials.specs.Credentials.{credential_of, start_nonce}
 use Rattle.link_start.specs.Starts.{HasTried, IsStartCause}
 use Rattle.link_start.specs.declared.start.StartCause.TheVariants.{Late, Turns}
-use Rattle.pool_serve.specs.declared.TheConstants.{TURNS}
+use Rattle.time_limits.specs.declared.TheConstants.{LINK_TURNS}
 use Rattle.link_start.specs.declared.start.StartCause.{StartCause}
 use Rattle.link_desk.specs.declared.calls.Call.TheVariants as call
 use Rattle.link_desk.specs.declared.calls.Holder.{Holder}
@@ -23,7 +23,7 @@ use Rattle.pool_serve.specs.Backs.{IsBackOrLost, IsFreed}
 use Rattle.pool_serve.specs.Causes.{HadLink, HadNone, HasLost, HasTrace, Since}
 use Rattle.pool_serve.specs.LinkSecrets.{link_secret}
 use Rattle.pool_serve.specs.Serving.{LetsIn, Serves, limit_of, owed}
-use Rattle.pool_serve.specs.Words.{word_of}
+use Rattle.pool_serve.specs.FinalMessages.{final_message_of}
 use Rattle.pool_serve.specs.declared.ending.Ending.{Ending}
 use Rattle.pool_serve.specs.declared.ending.Ending.TheVariants as ending
 use Rattle.pool_serve.specs.declared.logged_in.LoggedIn.{LoggedIn}
@@ -98,7 +98,7 @@ pub record IsUnstarted (home : HomeOf) (g : LoggedIn) (cause : StartCause) : Typ
   pub number : ℕ
   pub dialled : IsDialled home (arc_value g.key) (credential_of secret g.login.revealed (start_nonce g.word number)) began
   pub is_cause : IsStartCause began now (credential_of secret g.login.revealed (start_nonce g.word number)) (arc_value g.key) cause
-  pub tried : cause ≡ Turns → HasTried began (credential_of secret g.login.revealed (start_nonce g.word number)) (arc_value g.key) now TURNS
+  pub tried : cause ≡ Turns → HasTried began (credential_of secret g.login.revealed (start_nonce g.word number)) (arc_value g.key) now LINK_TURNS
   pub unanswered : cause ≡ Late → HasTried began (credential_of secret g.login.revealed (start_nonce g.word number)) (arc_value g.key) now 0
 
 -- No end was dialled: its user has no secret, or a dial to its server gave none. Of a home of which nothing else is known only a dial shows that.
@@ -133,4 +133,4 @@ pub record HasEnded (home : HomeOf) (g : LoggedIn) (since : Since) (p q : PassOf
   pub tells : after.tells ≡ before.tells
   pub traces : Traces since p q e
   pub came : Came home g before after e
-  pub serves : before.tells ≡ true → LetsIn home g.login → Serves (limit_of g) home.strikable before after (owed home.catalogue g) (word_of e)
+  pub serves : before.tells ≡ true → LetsIn home g.login → Serves (limit_of g) home.strikable before after (owed home.catalogue g) (final_message_of e)

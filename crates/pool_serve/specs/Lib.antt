@@ -1,4 +1,4 @@
-pub mod Words
+pub mod FinalMessages
 pub mod Shares
 pub mod Backs
 pub mod Causes

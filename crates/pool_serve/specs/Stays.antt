@@ -19,7 +19,7 @@ use Rattle.pool_serve.specs.Again.{HasAskedAgain}
 use Rattle.pool_serve.specs.Causes.{AtArrival, HasCause, Since}
 use Rattle.pool_serve.specs.Endings.{HadLease, IsUnreached, IsUnstarted, Traces, refusal_in}
 use Rattle.pool_serve.specs.Serving.{AreMarksOf, IsManaged, IsServed}
-use Rattle.pool_serve.specs.Words.{HasGiven, last_bytes, or_nothing, word_of}
+use Rattle.pool_serve.specs.FinalMessages.{HasGiven, final_message_of, last_bytes, or_nothing}
 use Rattle.pool_serve.specs.declared.ending.Ending.{Ending}
 use Rattle.pool_serve.specs.declared.ending.Ending.TheVariants as ending
 use Rattle.pool_serve.specs.declared.logged_in.LoggedIn.{LoggedIn}
@@ -105,7 +105,7 @@ pub record IsAtConsole (v : LoginView) (p q : Pass) (after : ClientFacts) : Type
 -- what it was given until then, but for its last word; what a client of the console was given stands where it came in
 abbrev pub ServesAs : HomeOf → LoginView → ClientFacts → Ending → Type 0
 ServesAs home v c (ending.Managed last) = Unit {0}
-ServesAs home v c e = IsServed home v c (word_of e)
+ServesAs home v c e = IsServed home v c (final_message_of e)
 
 -- the client never arrived at the desk
 pub record IsUntouched (p q : PassOf) (h k : Holder) : Type 0 where
@@ -127,4 +127,4 @@ pub record IsOver (home : HomeOf) (v : LoginView) (p q : PassOf) (h k : Holder) 
   pub struck : k.struck ≡ h.struck
   pub came : CameIn home v before ending
   pub managed : IfManaged ending (StayedAtConsole v (pass_of p h) (pass_of q k) before)
-  pub told : HasGiven before after (last_bytes (word_of ending))
+  pub told : HasGiven before after (last_bytes (final_message_of ending))

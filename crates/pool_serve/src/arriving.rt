@@ -12,9 +12,7 @@ use log_lines::notes::Visit;
 use login_run::LoginRun;
 use server_end::gate::Gate;
 use server_end::{ClientEnd, ServerEnd};
-
-/// The seconds that a client has for its login, from its arrival on, where it may use places beyond the limit of clients.
-const LOGIN_BEYOND: u32 = 10;
+use time_limits::LOGIN_BEYOND_SECONDS;
 
 /// Whether a client came over a Unix socket.
 fn is_local(visit: &Visit) -> bool
@@ -37,7 +35,7 @@ fn beyond_for<C: ClientEnd>(run: &LoginRun<C>, visit: &Visit) -> Beyond
 /// Who may use places beyond the limit keeps none of them for long without its login.
 fn hurry<E: ServerEnd, G: Gate<E>>(gate: &mut G, beyond: Beyond) {
     if beyond != Beyond::Nothing {
-        gate.limit(Some(LOGIN_BEYOND));
+        gate.limit(Some(LOGIN_BEYOND_SECONDS));
     }
 }
 

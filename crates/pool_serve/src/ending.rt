@@ -1,8 +1,8 @@
 //! How a client's time at the desk ends.
 ghost use Rattle.std.specs.Prelude.{◌≡◌};
-ghost use Rattle.pool_serve.specs.Words.{word_of};
+ghost use Rattle.pool_serve.specs.FinalMessages.{final_message_of};
 
-use crate::word::FinalMessage;
+use crate::final_message::FinalMessage;
 use link_start::start::StartCause;
 use message_view::Refusal;
 
@@ -31,8 +31,8 @@ pub(crate) enum Ending {
 
 impl Ending {
     /// What the client is told last.
-    pub(crate) fn into_word(self) -> FinalMessage
-        ensures { result ≡ word_of self }
+    pub(crate) fn into_final_message(self) -> FinalMessage
+        ensures { result ≡ final_message_of self }
     {
         match self {
             Ending::Left | Ending::Strange => FinalMessage::Nothing,

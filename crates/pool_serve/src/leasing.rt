@@ -14,7 +14,7 @@ ghost use Rattle.pool_serve.specs.Cancels.{key_of};
 ghost use Rattle.pool_serve.specs.Endings.{Frees, HasEnded, HasLeased, IsUnopened};
 ghost use Rattle.pool_serve.specs.Serving.{IsLoggedIn, LetsIn, MayEnd, owed};
 ghost use Rattle.pool_serve.specs.Shares.{Ends, Evens};
-ghost use Rattle.pool_serve.specs.Words.{word_of};
+ghost use Rattle.pool_serve.specs.FinalMessages.{final_message_of};
 ghost use Rattle.pool_serve.specs.declared.ending.Ending.TheVariants as ending;
 
 use crate::ending::Ending;
@@ -31,6 +31,7 @@ use log_lines::lines::sqlstate;
 use message_view::{KeyView, KeyWord};
 use server_end::gate::Gate;
 use server_end::{ClientEnd, ServerEnd};
+use time_limits::MOST_TURNS;
 
 /// The words by which a cancel names a client: those of the BackendKeyData that it is given.
 fn key_of(word: KeyWord) -> KeyView
@@ -147,7 +148,7 @@ impl<'a, D: LinkDesk, G: Gate<D::End>> Worker<'a, D, G> {
         ensures told { IfOk result (λ l. D.told self.new.pass ≡ D.told self.old.pass) }
         ensures holder { IfOk result (λ l. D.holder self.new.pass ≡ D.holder self.old.pass) }
         ensures why { IfErr result (λ e. IsUnopened D.home logged_in.now e) }
-        ensures word { LetsIn D.home logged_in.now.login → IfErr result (λ e. MayEnd [] (owed D.home.catalogue logged_in.now [] []) (word_of e)) }
+        ensures word { LetsIn D.home logged_in.now.login → IfErr result (λ e. MayEnd [] (owed D.home.catalogue logged_in.now [] []) (final_message_of e)) }
         ensures failed { IfErr result (λ e. (gone : Gone) × (D.told self.new.pass ≡ after_loss (D.told self.old.pass) gone)) }
         ensures freed { IfErr result (λ e. D.holder self.new.pass ≡ without_lease StartFailed (D.holder self.old.pass)) }
     {
@@ -174,7 +175,7 @@ impl<'a, D: LinkDesk, G: Gate<D::End>> Worker<'a, D, G> {
         ensures refused { MayTake result }
         ensures home { IsGrantAtHome D.home result }
     {
-        for _ in 0..u64::MAX {
+        for _ in 0..MOST_TURNS {
             match self.desk.take(&mut self.pass) {
                 Grant::Queued => {
                     if self.gate.client_has_left() {
@@ -249,7 +250,7 @@ impl<'a, D: LinkDesk, G: Gate<D::End>> Worker<'a, D, G> {
         ensures holder { D.holder self.new.pass ≡ D.holder self.old.pass }
     {
         let seconds = logged_in.login.settings().query_wait_timeout();
-        for _ in 0..u64::MAX {
+        for _ in 0..MOST_TURNS {
             match self
                 .desk
                 .await_place(&mut self.pass, &logged_in.key, self.visit.since, seconds)
@@ -284,7 +285,7 @@ impl<'a, D: LinkDesk, G: Gate<D::End>> Worker<'a, D, G> {
         ensures share { IfErr result (λ e. Evens (D.told self.old.pass) (D.told self.new.pass)) }
         ensures ended { IfErr result (λ e. IsUnlinkedAtLast D.home logged_in.now (D.told self.old.pass) (D.told self.new.pass) e) }
     {
-        for _ in 0..u64::MAX {
+        for _ in 0..MOST_TURNS {
             match self.ask_link(logged_in) {
                 Ok(link) => return Ok(link),
                 Err(ending) => {

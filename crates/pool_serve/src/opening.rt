@@ -6,9 +6,8 @@ ghost use Rattle.link_desk.specs.Homes.{IsAtHome};
 ghost use Rattle.pool_serve.specs.Endings.{IsUnopened};
 ghost use Rattle.pool_serve.specs.LinkSecrets.{link_secret, secret_in};
 ghost use Rattle.pool_serve.specs.Serving.{IsLoggedIn, LetsIn, MayEnd, owed};
-ghost use Rattle.pool_serve.specs.Words.{word_of};
+ghost use Rattle.pool_serve.specs.FinalMessages.{final_message_of};
 
-use crate::TURNS;
 use crate::ending::Ending;
 use crate::logged_in::LoggedIn;
 use credentials::Credential;
@@ -18,6 +17,7 @@ use link_start::start::start_link;
 use server_end::gate::Gate;
 use std::alloc::{AllocError, Global};
 use std::sync::Arc;
+use time_limits::LINK_TURNS;
 use user_file::Secret;
 
 /// The secret that a link's server is told of.
@@ -96,7 +96,7 @@ fn start_anew<D: LinkDesk, G: Gate<D::End>>(
     ensures born { IfOk result (λ l. l.born ≡ born) }
     ensures home { IfOk result (λ l. IsAtHome D.home l) }
     ensures why { IfErr result (λ e. IsUnopened D.home logged_in.now e) }
-    ensures told { LetsIn D.home logged_in.now.login → IfErr result (λ e. MayEnd [] (owed D.home.catalogue logged_in.now [] []) (word_of e)) }
+    ensures told { LetsIn D.home logged_in.now.login → IfErr result (λ e. MayEnd [] (owed D.home.catalogue logged_in.now [] []) (final_message_of e)) }
 {
     let secret = match secret_of(alloc, logged_in) {
         Ok(Some(secret)) => secret,
@@ -112,7 +112,7 @@ fn start_anew<D: LinkDesk, G: Gate<D::End>>(
         return Err(Ending::Unreached);
     };
     gate.watch(&mut end);
-    match start_link(alloc, end, key, &credential, number, born, gate, TURNS) {
+    match start_link(alloc, end, key, &credential, number, born, gate, LINK_TURNS) {
         Ok(link) => Ok(link),
         Err(fault) => Err(Ending::Unstarted(fault.cause)),
     }
@@ -133,7 +133,7 @@ pub(crate) fn open_link<D: LinkDesk, G: Gate<D::End>>(
     ensures born { IfOk result (λ l. l.born ≡ born) }
     ensures home { IfOk result (λ l. IsAtHome D.home l) }
     ensures why { IfErr result (λ e. IsUnopened D.home logged_in.now e) }
-    ensures told { LetsIn D.home logged_in.now.login → IfErr result (λ e. MayEnd [] (owed D.home.catalogue logged_in.now [] []) (word_of e)) }
+    ensures told { LetsIn D.home logged_in.now.login → IfErr result (λ e. MayEnd [] (owed D.home.catalogue logged_in.now [] []) (final_message_of e)) }
 {
     let seconds = logged_in.login.settings().server_connect_timeout();
     gate.limit(time_of(seconds));

@@ -11,7 +11,7 @@ ghost use Rattle.pool_serve.specs.Cancels.{IsKeyed};
 ghost use Rattle.pool_serve.specs.Endings.{HasRelayed, refusal_at, refusal_told};
 ghost use Rattle.pool_serve.specs.Serving.{Serves, limit_of};
 ghost use Rattle.pool_serve.specs.Shares.{Ends};
-ghost use Rattle.pool_serve.specs.Words.{word_of};
+ghost use Rattle.pool_serve.specs.FinalMessages.{final_message_of};
 
 use crate::ending::Ending;
 use crate::logged_in::LoggedIn;
@@ -25,6 +25,7 @@ use relay_core::relay::Relay;
 use relay_laws::{Next, leases_are_allowed};
 use server_end::gate::{Gate, Ready};
 use server_end::{ClientEnd, ServerEnd};
+use time_limits::MOST_TURNS;
 
 /// Both ends may be tried.
 const BOTH: Ready = Ready {
@@ -79,7 +80,7 @@ fn pumped<C: ClientEnd, E: ServerEnd, G: Gate<E>>(
 {
     let mut next = relay.pump(BOTH);
     let mut was_clear = false;
-    for _ in 0..u64::MAX {
+    for _ in 0..MOST_TURNS {
         let is_clear = relay.is_clear();
         let ready = match next {
             Next::Again => more(relay, gate, was_clear & is_clear),
@@ -107,7 +108,7 @@ impl<'a, D: LinkDesk, G: Gate<D::End>> Worker<'a, D, G> {
         ensures share { Ends (D.told self.old.pass) (D.told self.new.pass) }
         ensures holder { IsBackOrLost (D.holder self.old.pass) (D.holder self.new.pass) }
         ensures ended { HasRelayed link logged_in.now (C.facts client) (C.facts result.0) result.1 }
-        ensures serves { (C.facts client).tells ≡ true → link.stands.follows ≡ true → Serves (limit_of logged_in.now) link.stands.server.strikable (C.facts client) (C.facts result.0) (service_pieces link.stands.server.catalogue link.key logged_in.now.word) (word_of result.1) }
+        ensures serves { (C.facts client).tells ≡ true → link.stands.follows ≡ true → Serves (limit_of logged_in.now) link.stands.server.strikable (C.facts client) (C.facts result.0) (service_pieces link.stands.server.catalogue link.key logged_in.now.word) (final_message_of result.1) }
     {
         leases_are_allowed();
         service_is_its_pieces();

@@ -6,7 +6,6 @@ ghost use Rattle.link_desk.specs.Passes.{ended_lease, without_lease};
 ghost use Rattle.pool_serve.specs.Backs.{GoesBack, HasLease, IsBackByRelease, IsBackHome, IsFreed, IsOwnLease, IsResetBehindEnd, WaitsBehindEnd};
 ghost use Rattle.pool_serve.specs.Shares.{Ends};
 
-use crate::TURNS;
 use crate::logged_in::LoggedIn;
 use crate::noting::{loss_in_reset, loss_of};
 use crate::worker::Worker;
@@ -21,12 +20,10 @@ use relay_core::last_note::LastNote;
 use relay_core::relay::{GoneCause, Returned};
 use server_end::gate::Gate;
 use server_end::{Moved, ServerEnd};
+use time_limits::{ENDING_TURNS, LINK_TURNS};
 
 /// As much as is read at once behind a server's answer to a reset.
 const REST: usize = 512;
-
-/// The turns in which the end of a connection is waited for: the first waits for nothing, since the server has just spoken.
-const ENDING_TURNS: u32 = 3;
 
 /// Whether whole messages went over the link, so that its server reads a Terminate as one.
 fn is_at_border(cause: GoneCause) -> bool {
@@ -118,7 +115,7 @@ impl<'a, D: LinkDesk, G: Gate<D::End>> Worker<'a, D, G> {
         ensures turns { WaitsBehindEnd (D.holder self.new.pass).release (G.turns self.old.gate) (G.turns self.new.gate) }
     {
         match self.desk.end_lease(&mut self.pass) {
-            Release::Reset => match reset_link(self.alloc, link, &mut self.gate, TURNS) {
+            Release::Reset => match reset_link(self.alloc, link, &mut self.gate, LINK_TURNS) {
                 Ok(link) => self.give_back(link),
                 Err(disposed) => {
                     let why = loss_in_reset(has_ended(disposed, &mut self.gate), last);

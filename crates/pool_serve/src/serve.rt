@@ -14,7 +14,6 @@ ghost use Rattle.pool_serve.specs.Serving.{HasStopped, IsLoggedIn, IsManaged, Le
 ghost use Rattle.pool_serve.specs.Shares.{Evens, Settles};
 ghost use Rattle.pool_serve.specs.Stays.{CameIn, IfManaged, IsAllowed, IsAtConsole, IsDismissed, IsOver, IsUntouched, ServesAs, StayedAtConsole, TracesAtLast};
 
-use crate::CLIENT_TURNS;
 use crate::ending::Ending;
 use crate::logged_in::LoggedIn;
 use crate::noting::{ending_note, named, note_cancel, note_end, note_login, own_key};
@@ -37,6 +36,7 @@ use relay_flow::buffers::Buffers;
 use server_end::gate::Gate;
 use server_end::{ClientEnd, ServerEnd};
 use std::alloc::Global;
+use time_limits::{CLIENT_TURNS, MOST_TURNS};
 
 /// Goes on with a login until it has arrived, is let in or is over; or until its time is over, whatever came meanwhile, or nothing has
 /// moved for so many turns of the client, if `most` says how many. A turn is taken only where nothing moved.
@@ -52,7 +52,7 @@ fn drive_login<C: ClientEnd, E: ServerEnd, G: Gate<E>>(
     ensures stopped { HasStopped run.new result }
 {
     let mut waited: u32 = 0;
-    for _ in 0..u64::MAX {
+    for _ in 0..MOST_TURNS {
         if gate.is_late() {
             return LoginTurn::Over;
         }
@@ -278,7 +278,7 @@ impl<'a, D: LinkDesk, G: Gate<D::End>> Worker<'a, D, G> {
 /// that it answers is sent. Who asks takes no place in the book.
 ///
 /// The time that the gate has at first is that of the login, up to where the client is let in: one that is late is closed without a byte,
-/// wherever its login stands, and leaves the desk. A client that may use places beyond the limit has 10 seconds for it, from its arrival on.
+/// wherever its login stands, and leaves the desk. A client that may use places beyond the limit has [`LOGIN_BEYOND_SECONDS`] for it, from its arrival on.
 ///
 /// The log is told of its refusal, of a start that failed and of a link that is lost; `visit` is what it knows the client by.
 pub fn serve<C: ClientEnd, D: LinkDesk, G: Gate<D::End> + Drop>(
@@ -327,7 +327,9 @@ pub fn serve<C: ClientEnd, D: LinkDesk, G: Gate<D::End> + Drop>(
         own: None,
     };
     let (mut client, ending) = worker.admit(run, word);
-    ending.into_word().tell(&mut client, &mut worker.gate);
+    ending
+        .into_final_message()
+        .tell(&mut client, &mut worker.gate);
     let Worker {
         alloc: _,
         desk: _,

@@ -201,13 +201,13 @@ impl<R: Wait + Clock> Watch<R> {
         let _copying = self.copying.lock(&self.rt);
         let mut present = self.begin_copy()?;
         let mut copied = Ok(true);
-        for _ in 0..u64::MAX {
+        for _ in self.rt.forever() {
             copied = self.copy_some(&mut present);
             if !matches!(copied, Ok(true)) {
                 break;
             }
         }
-        for _ in 0..u64::MAX {
+        for _ in self.rt.forever() {
             if !self.end_copy() {
                 break;
             }

@@ -8,7 +8,7 @@ use tcp_end::connection::TcpEnd;
 use tcp_end::dial::dial;
 use tcp_listen::binding::listen_at_name;
 use tcp_listen::listener::Listener;
-use tcp_reach::connect::CONNECT_SECONDS;
+use time_limits::CONNECT_SECONDS;
 
 /// This machine, as an address.
 pub const HERE: &[u8] = b"127.0.0.1";

@@ -11,6 +11,7 @@ use std::net::Net;
 use std::rt::Clock;
 use std::time::{Duration, Instant};
 use tcp_notes::reckoning::Reckoning;
+use time_limits::{CLIENT_TURN, LINK_TURN, MOST_TURNS, REST};
 
 /// The client's connection among those of a poll, and the link's.
 const CLIENT: Token = Token(0);
@@ -19,21 +20,6 @@ const LINK: Token = Token(1);
 
 /// As many events as one wait tells: the two connections have one each.
 const MOST_EVENTS: usize = 2;
-
-/// As long as a turn of the client alone waits at most. Whoever waits for an answer costs a look a second.
-fn longest_turn_of_client() -> Duration {
-    Duration::from_secs(1)
-}
-
-/// As long as a turn of the link alone does.
-fn longest_turn_of_link() -> Duration {
-    Duration::from_millis(100)
-}
-
-/// As long as any other waits. An event ends it; this is for one that the system might not tell.
-fn longest_rest() -> Duration {
-    Duration::from_secs(10)
-}
 
 /// A poll, and the room for what it tells. A thread keeps it from one gate to the next. The ends of the gate before are closed by then, or
 /// watched no more: what comes of another would be taken for what comes of the next gate's own.
@@ -113,10 +99,10 @@ struct Seen {
 }
 
 /// Where a worker waits for the bytes of its client, and of its link while that is watched. A turn of the client alone waits for at most
-/// a second, and one of the link alone for at most 100 ms, since so many turns are a time; any other for at most ten seconds, so that a client that says nothing
-/// costs next to nothing. It doesn't wait where the last read of an end that it minds, since the turn before, may have left more; it
-/// names both sides. Nor does a turn of the link alone where something may be due to be said: in the first such turn, and after the first
-/// read behind a write that came to something.
+/// [`CLIENT_TURN`], and one of the link alone for at most [`LINK_TURN`], since so many turns are a time; any other for at most [`REST`], so
+/// that a client that says nothing costs next to nothing. It doesn't wait where the last read of an end that it minds, since the turn
+/// before, may have left more; it names both sides. Nor does a turn of the link alone where something may be due to be said: in the first
+/// such turn, and after the first read behind a write that came to something.
 ///
 /// While the worker has a limit, no turn waits for longer than what is left of it, whatever else it would wait for; once the gate has said
 /// that it is over, turns are as long as without one. A clock that can't be read sets no limit, and ends none.
@@ -240,7 +226,7 @@ impl<'a, R: Clock> TcpGate<'a, R> {
     /// What is left of a turn that began then.
     fn left_of_turn(&self, start: &Instant) -> Option<Duration> {
         let waited = start.elapsed(&self.rt).ok()?;
-        longest_turn_of_link().checked_sub(waited)
+        LINK_TURN.duration().checked_sub(waited)
     }
 
     /// No event came: both ends are tried again, as if one had.
@@ -281,7 +267,7 @@ impl<'a, R: Clock> Gate<TcpEnd> for TcpGate<'a, R> {
         let client = self.client_may_have_more();
         let link = self.link_may_have_more();
         if !client && !link {
-            self.wait(longest_rest());
+            self.wait(REST.duration());
         }
         Ready {
             client: true,
@@ -293,7 +279,7 @@ impl<'a, R: Clock> Gate<TcpEnd> for TcpGate<'a, R> {
         self.turns.count();
         self.is_at_link = false;
         if !self.client_may_have_more() {
-            self.wait(longest_turn_of_client());
+            self.wait(CLIENT_TURN.duration());
         }
     }
 
@@ -304,10 +290,10 @@ impl<'a, R: Clock> Gate<TcpEnd> for TcpGate<'a, R> {
             return;
         }
         let Ok(start) = Instant::now(&self.rt) else {
-            self.wait(longest_turn_of_link());
+            self.wait(LINK_TURN.duration());
             return;
         };
-        for _ in 0..u64::MAX {
+        for _ in 0..MOST_TURNS {
             match self.left_of_turn(&start) {
                 Some(left) if !self.wait(left) => {}
                 _ => return,

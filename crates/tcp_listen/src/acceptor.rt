@@ -9,11 +9,8 @@ use std::alloc::Global;
 use std::io;
 use std::io::ErrorKind;
 use std::net::Net;
-use std::time::Duration;
 use tcp_end::connection::TcpEnd;
-
-/// As long as a turn waits at most, in milliseconds.
-const LONGEST_WAIT: u64 = 100;
+use time_limits::LISTENING_TURN;
 
 /// After so many connections all listeners are looked at again, though no event was waited for: one at which there always is another
 /// connection would else be the only one.
@@ -24,7 +21,7 @@ const MOST_IN_A_ROW: u32 = 8;
 pub enum Turn {
     /// The end of the next connection, and where it comes from.
     Client(TcpEnd, Peer),
-    /// None came within 100 ms, or it went again.
+    /// None came within [`LISTENING_TURN`], or it went again.
     Nobody,
     /// One couldn't be had: an allocation failed, or the system has no more files. The turns after this may have it.
     Failed,
@@ -120,10 +117,11 @@ impl Acceptor {
         }
     }
 
-    /// Waits for a connection, for at most 100 ms. Without an event all are looked at again.
+    /// Waits for a connection, for at most [`LISTENING_TURN`]. Without an event all are looked at again.
     fn wait(&mut self) {
-        let wait = Duration::from_millis(LONGEST_WAIT);
-        let _ = self.poll.poll(&mut self.events, Some(wait));
+        let _ = self
+            .poll
+            .poll(&mut self.events, Some(LISTENING_TURN.duration()));
         let is_idle = self.events.is_empty();
         for watched in &mut self.listeners {
             watched.may_have = watched.may_have || is_idle;

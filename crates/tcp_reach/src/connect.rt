@@ -2,7 +2,7 @@
 ghost use Rattle.std.specs.Prelude.{◌≡◌, ◌==◌, Contains, IfOk, if◌then◌else◌};
 ghost use Rattle.tcp_reach.specs.Places.{IsPlaceOf};
 ghost use Rattle.tcp_reach.specs.Streams.{new_stream};
-ghost use Rattle.tcp_reach.specs.declared.connect.TheConstants.{CONNECT_SECONDS};
+ghost use Rattle.time_limits.specs.declared.TheConstants.{CONNECT_SECONDS};
 
 use crate::places::{Address, Place, places_of};
 use crate::stream::{Connecting, Stream};
@@ -12,19 +12,9 @@ use std::alloc::Global;
 use std::io;
 use std::io::ErrorKind;
 use std::net::Net;
-use std::time::Duration;
+use time_limits::{CONNECT_SECONDS, LOOK, LOOKS_A_SECOND, UNIX_SECONDS};
 
-/// How long a connection may take, in seconds, where nothing else is asked for: PgBouncer's default of `server_connect_timeout`.
-pub const CONNECT_SECONDS: u32 = 15;
-
-/// As many seconds as it is waited for room at a Unix socket's listener, where there are no other places. One that is there makes room
-/// at once.
-const UNIX_SECONDS: u32 = 1;
-
-/// So often a second it is looked whether the connection is there, though no event says so.
-const LOOKS_A_SECOND: u64 = 10;
-
-/// The time that is left for a connection: so many looks, each of at most the tenth of a second.
+/// The time that is left for a connection: so many looks, each of at most [`LOOK`].
 #[derive(Drop)]
 struct Left {
     poll: Poll,
@@ -44,8 +34,7 @@ impl Left {
     /// Waits for an event, for one look.
     fn look(&mut self) -> io::Result<()> {
         self.looks = self.looks.saturating_sub(1);
-        let wait = Duration::from_millis(1000 / LOOKS_A_SECOND);
-        self.poll.poll(&mut self.events, Some(wait))
+        self.poll.poll(&mut self.events, Some(LOOK.duration()))
     }
 
     /// Waits until the stream is connected, for at most so many looks.

@@ -12,10 +12,7 @@ use std::alloc::Global;
 use std::io;
 use std::io::ErrorKind;
 use std::net::Net;
-use std::time::Duration;
-
-/// So often a second it is looked whether the other side has closed, though no event says so.
-const LOOKS_A_SECOND: u64 = 10;
+use time_limits::{LOOK, LOOKS_A_SECOND};
 
 /// Waits until the other side has closed the stream, for at most so many seconds.
 fn wait_for_close<R: Net>(
@@ -33,8 +30,7 @@ fn wait_for_close<R: Net>(
         if stream.is_closed() {
             return Ok(());
         }
-        let wait = Duration::from_millis(1000 / LOOKS_A_SECOND);
-        poll.poll(&mut events, Some(wait))?;
+        poll.poll(&mut events, Some(LOOK.duration()))?;
     }
     Err(io::Error::from(ErrorKind::TimedOut))
 }

@@ -9,12 +9,7 @@ use std::rt::Clock;
 use std::sync::{Arc, Condvar, CondvarTimeouts, Mutex, Wait};
 use std::thread;
 use std::thread::{JoinHandle, Threads};
-use std::time::Duration;
-
-/// As long as a thread waits for a job before it may end.
-fn longest_wait() -> Duration {
-    Duration::from_secs(10)
-}
+use time_limits::IDLE_THREAD;
 
 /// What the threads share with their owner.
 #[derive(Drop)]
@@ -46,7 +41,7 @@ impl<J: Drop> Shared<J> {
             if board.lets_go(has_waited, place) {
                 return None;
             }
-            let (again, waited) = self.bell.wait_timeout(rt, board, longest_wait());
+            let (again, waited) = self.bell.wait_timeout(rt, board, IDLE_THREAD.duration());
             board = again;
             has_waited = waited.timed_out();
         }
@@ -62,7 +57,7 @@ impl<J: Drop> Shared<J> {
 
 /// Threads that do jobs. One that is done waits for the next job, and another is started only where none waits, so that there are
 /// never more than jobs were to be done at once. What a thread has of its own it keeps from one job to the next. Of those that have waited
-/// for ten seconds all but eight end; they are joined when the next job comes. Where the workers are let go without
+/// for [`IDLE_THREAD`] all but eight end; they are joined when the next job comes. Where the workers are let go without
 /// [`Workers::join_all`], their threads wait until the program ends.
 #[derive(Drop)]
 pub struct Workers<J> {

@@ -8,7 +8,7 @@ use Rattle.ini_config.specs.Tables.{row_for}
 use Rattle.credentials.specs.Credentials.{CredentialOf, Text, credential_of, start_nonce}
 use Rattle.link_desk.specs.Homes.{IsDialled}
 use Rattle.link_start.specs.Starts.{HasTried, IsStartCause}
-use Rattle.pool_serve.specs.declared.TheConstants.{TURNS}
+use Rattle.time_limits.specs.declared.TheConstants.{LINK_TURNS}
 use Rattle.pool_serve.specs.LinkSecrets.{secret_in}
 use Rattle.pool_serve.proofs.Homing.{started_home}
 use Rattle.pool_serve.proofs.Logging.{its_user}
@@ -49,8 +49,8 @@ returns-clause-why g c =
       number = c.args.number;
       is_cause = subst (λ (cred : CredentialOf). IsStartCause (g.D.End.ServerEnd.standing end) (g.D.End.ServerEnd.standing c.in-Err-start_link.fault.end) cred (arc_value c.args.logged_in.now.key) c.in-Err-start_link.fault.cause) same
           (subst (λ (k : StartKeyOf). IsStartCause (g.D.End.ServerEnd.standing end) (g.D.End.ServerEnd.standing c.in-Err-start_link.fault.end) c.new-credential.result k c.in-Err-start_link.fault.cause) c.in-Ok.ensures c.in-Err-start_link.ensures.cause);
-      tried = λ e. subst (λ (cred : CredentialOf). HasTried (g.D.End.ServerEnd.standing end) cred (arc_value c.args.logged_in.now.key) (g.D.End.ServerEnd.standing c.in-Err-start_link.fault.end) TURNS) same
-          (subst (λ (k : StartKeyOf). HasTried (g.D.End.ServerEnd.standing end) c.new-credential.result k (g.D.End.ServerEnd.standing c.in-Err-start_link.fault.end) TURNS) c.in-Ok.ensures (c.in-Err-start_link.ensures.turns e));
+      tried = λ e. subst (λ (cred : CredentialOf). HasTried (g.D.End.ServerEnd.standing end) cred (arc_value c.args.logged_in.now.key) (g.D.End.ServerEnd.standing c.in-Err-start_link.fault.end) LINK_TURNS) same
+          (subst (λ (k : StartKeyOf). HasTried (g.D.End.ServerEnd.standing end) c.new-credential.result k (g.D.End.ServerEnd.standing c.in-Err-start_link.fault.end) LINK_TURNS) c.in-Ok.ensures (c.in-Err-start_link.ensures.turns e));
       unanswered = λ e. subst (λ (cred : CredentialOf). HasTried (g.D.End.ServerEnd.standing end) cred (arc_value c.args.logged_in.now.key) (g.D.End.ServerEnd.standing c.in-Err-start_link.fault.end) 0) same
           (subst (λ (k : StartKeyOf). HasTried (g.D.End.ServerEnd.standing end) c.new-credential.result k (g.D.End.ServerEnd.standing c.in-Err-start_link.fault.end) 0) c.in-Ok.ensures (c.in-Err-start_link.ensures.unanswered e));
     }

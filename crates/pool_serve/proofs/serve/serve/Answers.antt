@@ -2,8 +2,8 @@ use Rattle.std.proofs.Common.{inl, inr, ap, ◌∙◌, subst}
 use Rattle.link_laws.specs.Standing.{ClientFacts}
 use Rattle.login_core.specs.Logins.{LoginView}
 use Rattle.pool_serve.specs.Stays.{IsAllowed, ServesAs}
-use Rattle.pool_serve.specs.Words.{HasGiven, last_bytes}
-use Rattle.pool_serve.specs.declared.word.FinalMessage.{FinalMessage}
+use Rattle.pool_serve.specs.FinalMessages.{HasGiven, last_bytes}
+use Rattle.pool_serve.specs.declared.final_message.FinalMessage.{FinalMessage}
 use Rattle.pool_serve.proofs.Again.{traces_first}
 use Rattle.pool_serve.proofs.Cancelling.{dismissed_is_over, dismissed_keeps, dismissed_settles}
 use Rattle.pool_serve.proofs.Leases.{came_first}
@@ -35,7 +35,7 @@ returns-clause-allowed g c = λ t l.
     let lets = still_lets_in g.D.LinkDesk.home c.args.login c.drive_login.new.run.login (c.drive_login.ensures.login.settings ∙ ap (λ (x : LoginView). x.settings) c.new-run.ensures.login) (c.drive_login.ensures.login.users ∙ ap (λ (x : LoginView). x.users) c.new-run.ensures.login) l in
     let x = traces_first g.D.LinkDesk.home c.args.login c.new-run.result c.drive_login.new.run _ _ end c.new-run.ensures.login c.drive_login.ensures.login c.admit-client.ensures.traces in
     told_as g.D.LinkDesk.home c.args.login client (g.C.ClientEnd.facts c.tell.new.client) (g.D.LinkDesk.told c.args.pass) (g.D.LinkDesk.told c.admit-client.new.self.pass) x.last (g.D.LinkDesk.holder c.args.pass) (g.D.LinkDesk.holder c.admit-client.new.self.pass) x.again end
-    (subst (λ (w : FinalMessage). HasGiven client (g.C.ClientEnd.facts c.tell.new.client) (last_bytes w)) c.into_word.ensures c.tell.ensures.given)
+    (subst (λ (w : FinalMessage). HasGiven client (g.C.ClientEnd.facts c.tell.new.client) (last_bytes w)) c.into_final_message.ensures c.tell.ensures.given)
     (c.admit-client.ensures.tells ∙ tells)
     (came_first _ c.args.login c.new-run.result c.drive_login.new.run _ end c.new-run.ensures.login c.drive_login.ensures.login c.admit-client.ensures.came)
     (stayed_first c.args.login c.new-run.result c.drive_login.new.run _ _ client end c.new-run.ensures.login c.drive_login.ensures.login c.admit-client.ensures.managed)
@@ -52,5 +52,5 @@ returns-clause-over g c = inr (inr (record {
   struck = c.admit-client.ensures.struck;
   came = came_first _ c.args.login c.new-run.result c.drive_login.new.run _ c.admit-client.result.1 c.new-run.ensures.login c.drive_login.ensures.login c.admit-client.ensures.came;
   managed = stayed_first c.args.login c.new-run.result c.drive_login.new.run _ _ _ c.admit-client.result.1 c.new-run.ensures.login c.drive_login.ensures.login c.admit-client.ensures.managed;
-  told = subst (λ (w : FinalMessage). HasGiven (g.C.ClientEnd.facts c.admit-client.result.0) (g.C.ClientEnd.facts c.tell.new.client) (last_bytes w)) c.into_word.ensures c.tell.ensures.given;
+  told = subst (λ (w : FinalMessage). HasGiven (g.C.ClientEnd.facts c.admit-client.result.0) (g.C.ClientEnd.facts c.tell.new.client) (last_bytes w)) c.into_final_message.ensures c.tell.ensures.given;
 }))

@@ -4,9 +4,9 @@ use Rattle.link_laws.specs.Standing.{ClientFacts}
 use Rattle.login_core.specs.Solo.{service_pieces}
 use Rattle.message_view.specs.declared.refusal.Refusal.TheVariants.{OutOfMemory}
 use Rattle.relay_laws.specs.Leases.{IsLease, place}
-use Rattle.pool_serve.specs.Words.{or_nothing}
+use Rattle.pool_serve.specs.FinalMessages.{or_nothing}
 use Rattle.pool_serve.specs.Serving.{Serves, limit_of}
-use Rattle.pool_serve.specs.declared.word.FinalMessage.TheVariants as last
+use Rattle.pool_serve.specs.declared.final_message.FinalMessage.TheVariants as last
 use Rattle.pool_serve.proofs.Answering.{relay_serves}
 use Rattle.pool_serve.proofs.Freeing.{keyed_has}
 use Rattle.pool_serve.proofs.Homing.{back_own}

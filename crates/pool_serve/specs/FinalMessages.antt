@@ -1,4 +1,4 @@
--- The last word to a client.
+-- What a client is told last.
 use Rattle.std.specs.Prelude.{◌≡◌, ◌⊎◌, ℕ, ◌+◌, ◌≤◌, true, List, [], ◌++◌, length, take, Option, Some, None}
 use Rattle.message_view.specs.declared.refusal.Refusal.{Refusal}
 use Rattle.message_view.specs.declared.refusal.Refusal.TheVariants.{LastDecision, OutOfMemory, ServerNotReached}
@@ -9,11 +9,11 @@ use Rattle.link_start.specs.declared.start.StartRefusal.{StartRefusal}
 use Rattle.link_start.specs.declared.start.StartRefusal.TheVariants as told
 use Rattle.link_start.specs.Refusing.{refusal_of}
 use Rattle.login_run.specs.Runs.{IsClientOver}
-use Rattle.pool_serve.specs.declared.TheConstants.{CLIENT_TURNS}
+use Rattle.time_limits.specs.declared.TheConstants.{CLIENT_TURNS}
 use Rattle.pool_serve.specs.declared.ending.Ending.{Ending}
 use Rattle.pool_serve.specs.declared.ending.Ending.TheVariants as ending
-use Rattle.pool_serve.specs.declared.word.FinalMessage.{FinalMessage}
-use Rattle.pool_serve.specs.declared.word.FinalMessage.TheVariants as last
+use Rattle.pool_serve.specs.declared.final_message.FinalMessage.{FinalMessage}
+use Rattle.pool_serve.specs.declared.final_message.FinalMessage.TheVariants as last
 
 abbrev pub last_bytes : FinalMessage → List ℕ
 last_bytes last.Nothing = []
@@ -24,25 +24,25 @@ abbrev pub or_nothing : Option Refusal → FinalMessage
 or_nothing None = last.Nothing
 or_nothing (Some r) = last.Refusal r
 
-abbrev pub word_told : StartRefusal → FinalMessage
-word_told (told.Error error) = last.Error error
-word_told (told.Refusal r) = last.Refusal r
+abbrev pub message_told : StartRefusal → FinalMessage
+message_told (told.Error error) = last.Error error
+message_told (told.Refusal r) = last.Refusal r
 
 -- what a client is told whose link wasn't started
-abbrev pub last_of : StartCause → FinalMessage
-last_of cause = word_told (refusal_of cause)
+abbrev pub final_message_of_start : StartCause → FinalMessage
+final_message_of_start cause = message_told (refusal_of cause)
 
 -- what a client is told last whose time at the desk ended so
-abbrev pub word_of : Ending → FinalMessage
-word_of ending.Left = last.Nothing
-word_of (ending.Refused r) = last.Refusal r
-word_of ending.Memory = last.Refusal OutOfMemory
-word_of ending.Strange = last.Nothing
-word_of ending.Last = last.Refusal LastDecision
-word_of ending.Unreached = last.Refusal ServerNotReached
-word_of (ending.Unstarted cause) = last_of cause
-word_of (ending.Relayed r) = or_nothing r
-word_of (ending.Managed r) = or_nothing r
+abbrev pub final_message_of : Ending → FinalMessage
+final_message_of ending.Left = last.Nothing
+final_message_of (ending.Refused r) = last.Refusal r
+final_message_of ending.Memory = last.Refusal OutOfMemory
+final_message_of ending.Strange = last.Nothing
+final_message_of ending.Last = last.Refusal LastDecision
+final_message_of ending.Unreached = last.Refusal ServerNotReached
+final_message_of (ending.Unstarted cause) = final_message_of_start cause
+final_message_of (ending.Relayed r) = or_nothing r
+final_message_of (ending.Managed r) = or_nothing r
 
 -- So many of these bytes were given: all, unless the client's end ended or faulted, or so many times as `CLIENT_TURNS` bytes went or none did.
 pub record HasGiven (old new : ClientFacts) (bytes : List ℕ) : Type 0 where

@@ -1,7 +1,7 @@
 use Rattle.std.proofs.Common.{ℕ, ◌+◌, ap, arith, sym, subst}
 use Rattle.pool_serve.proofs.Giving.{Gives, gave_all, gave_part, gives_late, gives_more}
-use Rattle.pool_serve.proofs.word.give.Goals as goal
-use Rattle.pool_serve.proofs.word.give.Goals.{in-Count, in-NotNow}
+use Rattle.pool_serve.proofs.final_message.give.Goals as goal
+use Rattle.pool_serve.proofs.final_message.give.Goals.{in-Count, in-NotNow}
 
 pub loop-preserved : goal.loop-preserved
 loop-preserved g c = record {

@@ -1,6 +1,6 @@
 use Rattle.std.proofs.Common.{◌≡◌, ◌+◌, ◌≤◌}
 use Rattle.pool_serve.proofs.Giving.{Gives}
-use Rattle.pool_serve.proofs.word.give.Given as goal
+use Rattle.pool_serve.proofs.final_message.give.Given as goal
 
 abbrev pub invariant-loop : goal.invariant-loop
 invariant-loop g l = record {

@@ -1,13 +1,13 @@
-//! The last word to a client.
+//! What a client is told last.
 ghost use Rattle.std.specs.Prelude.{◌≡◌, ◌+◌, ◌≤◌};
-ghost use Rattle.pool_serve.specs.Words.{HasGiven, last_bytes, last_of, or_nothing};
-ghost use Rattle.pool_serve.specs.declared.TheConstants.{CLIENT_TURNS};
+ghost use Rattle.pool_serve.specs.FinalMessages.{HasGiven, final_message_of_start, last_bytes, or_nothing};
+ghost use Rattle.time_limits.specs.declared.TheConstants.{CLIENT_TURNS};
 
-use crate::CLIENT_TURNS;
 use link_start::start::{StartCause, StartError, StartRefusal};
 use message_view::{Refusal, refusal_bytes};
 use server_end::gate::Gate;
 use server_end::{ClientEnd, Moved, ServerEnd, rest_of};
+use time_limits::CLIENT_TURNS;
 
 /// What a client is told last.
 #[derive(Drop)]
@@ -52,7 +52,7 @@ impl FinalMessage {
 
     /// What a client is told whose link wasn't started.
     pub(crate) fn of_start(cause: StartCause) -> FinalMessage
-        ensures { result ≡ last_of cause }
+        ensures { result ≡ final_message_of_start cause }
     {
         match cause.into_refusal() {
             StartRefusal::Error(error) => FinalMessage::Error(error),
