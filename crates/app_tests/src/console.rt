@@ -24,7 +24,7 @@ const NOTHING: Rows = Rows {
 /// The bytes by which a command is answered over this book, under the settings of this file.
 fn answered(alloc: Global, view: &BookView, file: &[u8], command: &[u8]) -> Result<BytesMut, Fail> {
     let settings = read_settings(alloc, file)?;
-    let reply = answer(alloc, view, &settings, read_command(command))?;
+    let reply = answer(alloc, view, &settings, command)?;
     let mut out = BytesMut::new(alloc);
     put_reply(alloc, &reply, &mut out)?;
     Ok(out)

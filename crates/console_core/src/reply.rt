@@ -5,7 +5,7 @@ ghost use Rattle.console_core.specs.Tables as tables;
 ghost use Rattle.console_core.specs.Views.{command_view, reply_view};
 
 use crate::cells::Cells;
-use crate::commands::{Action, Command, Table};
+use crate::commands::{Action, Command, Table, read_command};
 use crate::config::config;
 use crate::lists::{clients, servers};
 use crate::pools::pools;
@@ -80,9 +80,21 @@ fn rows_of(
     }
 }
 
-/// What the console answers to a command, or to a text that is none, over this view of the book and these settings. The only error is
-/// that memory was refused.
+/// What the console answers to the text of a command, over this view of the book and these settings. The only error is that memory was
+/// refused.
 pub fn answer(
+    alloc: Global,
+    view: &BookView,
+    settings: &Settings,
+    command: &[u8],
+) -> Result<ConsoleReply, AllocError>
+    ensures { IfOk result (λ r. reply_view r ≡ spec.answer view.now settings.now command.now) }
+{
+    reply_to(alloc, view, settings, read_command(command))
+}
+
+/// The same, of a command that was read already, or of a text that is none.
+pub fn reply_to(
     alloc: Global,
     view: &BookView,
     settings: &Settings,

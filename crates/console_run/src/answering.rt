@@ -20,7 +20,7 @@ use book_register::view::BookView;
 use bytes::BytesMut;
 use console_core::commands::{Action, Command};
 use console_core::messages::{Response, response_to};
-use console_core::reply::{ConsoleReply, answer};
+use console_core::reply::{ConsoleReply, reply_to};
 use console_core::writing::{put_refusal, put_reply};
 use frame_view::Frame;
 use ini_config::Settings;
@@ -164,7 +164,7 @@ fn own_bytes(
 ) -> Result<BytesMut, AllocError>
     ensures { IfOk result (λ out. out.items ≡ flat_map spelling (replies.frames_of (replies.reply_to view.now settings.now (option_map command_view command.entry)))) }
 {
-    let reply = answer(alloc, view, settings, command)?;
+    let reply = reply_to(alloc, view, settings, command)?;
     reply_bytes(alloc, &reply)
 }
 

@@ -6,7 +6,6 @@ use crate::files::settings;
 use crate::told::{put_bytes, put_unless};
 use book_register::view::BookView;
 use bytes::BytesMut;
-use console_core::commands::read_command;
 use console_core::reply::{ConsoleReply, answer};
 use console_core::writing::{put_refusal, put_reply, put_welcome};
 use ini_config::Settings;
@@ -28,9 +27,9 @@ fn answered(
     settings: &Settings,
     command: &[u8],
 ) -> Result<ConsoleReply, AllocError> {
-    match answer(alloc, view, settings, read_command(command)) {
+    match answer(alloc, view, settings, command) {
         Ok(reply) => Ok(reply),
-        Err(_) => answer(alloc, view, settings, read_command(command)),
+        Err(_) => answer(alloc, view, settings, command),
     }
 }
 
