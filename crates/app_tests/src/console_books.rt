@@ -3,7 +3,7 @@ use book_model::counts::Counts;
 use book_model::events::{Beyond, ClientState, Event};
 use book_model::limits::Limits;
 use book_model::rows::Rows as DatabaseRows;
-use book_register::lists::Lists;
+use book_register::book_state::BookState;
 use book_register::view::BookView;
 use book_rows::clients::Client;
 use book_rows::links::Link;
@@ -132,7 +132,7 @@ pub(crate) fn view(alloc: Global, rows: &Rows) -> Result<BookView, AllocError> {
 
 /// The book in which ann has the one lease, on shop; and after it, where it was given back.
 pub(crate) fn one_lease(alloc: Global, is_given_back: bool) -> Result<BookView, AllocError> {
-    let mut lists = Lists::new(alloc, limits(alloc)?)?;
+    let mut lists = BookState::new(alloc, limits(alloc)?)?;
     lists.apply(Event::Arrive {
         beyond: Beyond::Nothing,
     });

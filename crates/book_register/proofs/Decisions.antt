@@ -161,10 +161,10 @@ by_cases b after e r last strange h s given =
     ap (λ (v : Bool). cond {A = Answer} v (record { book = b; reply = Refuse LastDecision }) (rest (is_strange b e))) h ∙ ap (λ (v : Bool). cond {A = Answer} last (record { book = b; reply = Refuse LastDecision }) (rest v)) s in
     (given.0 ∙ ap (λ (a : Answer). a.book) (sym whole), given.1 ∙ ap (λ (a : Answer). a.reply) (sym whole))
 
-at_last : (before b : Book) → before ≡ b → before.decisions ≡ last_decision → (b.decisions == last_decision) ≡ true
+pub at_last : (before b : Book) → before ≡ b → before.decisions ≡ last_decision → (b.decisions == last_decision) ≡ true
 at_last before b same h = eq-eqb b.decisions last_decision (ap (λ (v : Book). v.decisions) (sym same) ∙ h)
 
-before_last : (before b : Book) → before ≡ b → (before.decisions ≡ last_decision → ⊥) → (b.decisions == last_decision) ≡ false
+pub before_last : (before b : Book) → before ≡ b → (before.decisions ≡ last_decision → ⊥) → (b.decisions == last_decision) ≡ false
 before_last before b same h = go (b.decisions == last_decision) refl
   where
     go : (v : Bool) → (b.decisions == last_decision) ≡ v → v ≡ false

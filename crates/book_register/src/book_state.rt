@@ -1,5 +1,5 @@
 //! The lists of the lease book, and what an event makes of them, in the definition's order and words. Between the steps of an event they
-//! needn't be in order: a list is changed before the counts rise.
+//! needn't be in order: a list is changed before the counts rise. So no invariant of their type says that they are: each call of theirs does.
 ghost use Rattle.std.specs.Prelude.{◌≡◌, ◌<◌, ◌≤◌, suc, ◌+◌, ◌++◌, ◌==◌, ◌&&◌, ◌||◌, [], ◌∷◌, Some, None, true, false, nat_lt, not, cond, count_by, ℕ, find, length, option_copied};
 ghost use Rattle.std.specs.Arc.{arc_value};
 ghost use Rattle.std.specs.List.{list_any};
@@ -29,28 +29,28 @@ use std::collections::VecDeque;
 use std::marker::Model;
 use std::sync::Arc;
 
-/// The lists of the book.
+/// The lists of the book, with room for all that they may hold.
 pub struct BookState {
-    pub clients: Clients,
-    pub tickets: Tickets,
-    pub lent: Links,
-    pub idle: Links,
-    pub keyed: Leases,
-    pub marked: Numbers,
-    pub ended: Numbers,
-    pub last_client: u64,
-    pub last_link: u64,
-    pub clock: u64,
-    pub limits: Arc<Limits>,
-    pub is_paused: bool,
-    pub is_shut: bool,
-    pub fresh_from: u64,
-    pub decisions: u64,
-    pub counts: Counts,
-    pub starts: u64,
-    pub reuses: u64,
-    pub evictions: u64,
-    pub losses: u64,
+    pub(crate) clients: Clients,
+    pub(crate) tickets: Tickets,
+    pub(crate) lent: Links,
+    pub(crate) idle: Links,
+    pub(crate) keyed: Leases,
+    pub(crate) marked: Numbers,
+    pub(crate) ended: Numbers,
+    pub(crate) last_client: u64,
+    pub(crate) last_link: u64,
+    pub(crate) clock: u64,
+    pub(crate) limits: Arc<Limits>,
+    pub(crate) is_paused: bool,
+    pub(crate) is_shut: bool,
+    pub(crate) fresh_from: u64,
+    pub(crate) decisions: u64,
+    pub(crate) counts: Counts,
+    pub(crate) starts: u64,
+    pub(crate) reuses: u64,
+    pub(crate) evictions: u64,
+    pub(crate) losses: u64,
 }
 
 impl Drop for BookState {
@@ -122,7 +122,7 @@ impl BookState {
 
     /// A client comes.
     #[tactic(auto, using(crate::proofs::Beginnings::may_come))]
-    pub fn arrives(&mut self, beyond: Beyond) -> Reply
+    pub(crate) fn arrives(&mut self, beyond: Beyond) -> Reply
         requires kept { Kept self.old }
         requires more { self.old.decisions < outcome.last_decision }
         ensures book { self.new ≡ (outcome.arrives self.old beyond).book }
@@ -143,7 +143,7 @@ impl BookState {
     }
 
     /// A client that is there asks for a link.
-    pub fn asks(&mut self, client: u64, key: Arc<StartKey>) -> Reply
+    pub(crate) fn asks(&mut self, client: u64, key: Arc<StartKey>) -> Reply
         requires room { length self.old.tickets < length self.old.clients }
         requires kept { Kept self.old }
         ensures book { self.new ≡ (outcome.asks self.old client (arc_value key)).book }
@@ -164,7 +164,7 @@ impl BookState {
     }
 
     /// A client leaves.
-    pub fn leaves(&mut self, client: u64) -> Reply
+    pub(crate) fn leaves(&mut self, client: u64) -> Reply
         requires kept { Kept self.old }
         ensures book { self.new ≡ (outcome.leaves self.old client).book }
         ensures reply { result ≡ (outcome.leaves self.old client).reply }
@@ -175,7 +175,7 @@ impl BookState {
     }
 
     /// A lent link has gone.
-    pub fn loses(&mut self, link: u64) -> Reply
+    pub(crate) fn loses(&mut self, link: u64) -> Reply
         requires kept { Kept self.old }
         requires more { self.old.decisions < outcome.last_decision }
         ensures book { self.new ≡ record (outcome.loses self.old link) { losses = suc self.old.losses } }
@@ -267,7 +267,7 @@ impl BookState {
     }
 
     /// Whether the book has room for a link more.
-    pub fn has_room(&self) -> bool
+    pub(crate) fn has_room(&self) -> bool
         ensures { result ≡ nat_lt (book.link_count self.now) self.now.limits.max_links }
     {
         let limits: &Limits = &self.limits;
@@ -361,7 +361,7 @@ impl BookState {
     }
 
     /// A client takes its link, if it may have one now.
-    pub fn takes(&mut self, client: u64) -> Reply
+    pub(crate) fn takes(&mut self, client: u64) -> Reply
         requires kept { Kept self.old }
         requires more { self.old.decisions < outcome.last_decision }
         ensures { Gives self.new result (outcome.takes self.old (find (book.is_of client) self.old.tickets)) }
@@ -425,7 +425,7 @@ impl BookState {
     }
 
     /// A lent link comes back: it is kept, or to be closed.
-    pub fn gives_back(&mut self, number: u64) -> Reply
+    pub(crate) fn gives_back(&mut self, number: u64) -> Reply
         requires kept { Kept self.old }
         ensures { Gives self.new result (outcome.gives_back self.old (find (book.is_link number) self.old.lent)) }
     {
@@ -463,7 +463,7 @@ impl BookState {
     }
 
     /// The clock has reached this second: the first idle link that is to be closed goes.
-    pub fn ticks(&mut self, now: u64) -> Reply
+    pub(crate) fn ticks(&mut self, now: u64) -> Reply
         requires kept { Kept self.old }
         ensures { Gives self.new result (outcome.closes (outcome.at_clock self.old now) (find (outcome.is_stale (outcome.at_clock self.old now)) self.old.idle)) }
     {
@@ -486,7 +486,7 @@ impl BookState {
     }
 
     /// The server of a link has hung up: the link goes, where it is idle.
-    pub fn hangs_up(&mut self, number: u64) -> Reply
+    pub(crate) fn hangs_up(&mut self, number: u64) -> Reply
         requires kept { Kept self.old }
         ensures { Gives self.new result (outcome.hangs_up self.old (find (book.is_link number) self.old.idle)) }
     {
@@ -498,7 +498,7 @@ impl BookState {
     }
 
     /// The link's lease is found by its client's key word from now on.
-    pub fn keys(&mut self, link: u64, client: KeyView, server: KeyView) -> Reply
+    pub(crate) fn keys(&mut self, link: u64, client: KeyView, server: KeyView) -> Reply
         requires room { length self.old.keyed < MOST_LINKS }
         ensures book { self.new ≡ (outcome.keys self.old link client server).book }
         ensures reply { result ≡ Done }
@@ -512,7 +512,7 @@ impl BookState {
     }
 
     /// What the client of this key word is at is to be cancelled: the link of its first lease is marked.
-    pub fn cancels(&mut self, client: KeyView) -> Reply
+    pub(crate) fn cancels(&mut self, client: KeyView) -> Reply
         requires kept { Kept self.old }
         ensures { Gives self.new result (outcome.cancels self.old (find (book.is_of_client client) self.old.keyed)) }
     {
@@ -546,7 +546,7 @@ impl BookState {
     }
 
     /// The lease of a lent link ends: no Cancel finds it any more.
-    pub fn ends_lease(&mut self, link: u64) -> Reply
+    pub(crate) fn ends_lease(&mut self, link: u64) -> Reply
         requires kept { Kept self.old }
         requires lent { list_any (book.is_link link) self.old.lent ≡ true }
         ensures book { self.new ≡ (outcome.ends_lease self.old link).book }
@@ -569,7 +569,7 @@ impl BookState {
     }
 
     /// These settings hold from now on.
-    pub fn keeps_to(&mut self, limits: Arc<Limits>) -> Reply
+    pub(crate) fn keeps_to(&mut self, limits: Arc<Limits>) -> Reply
         ensures book { self.new ≡ record self.old { limits = arc_value limits } }
         ensures reply { result ≡ Done }
     {
@@ -578,7 +578,7 @@ impl BookState {
     }
 
     /// No link is lent until `resumes`.
-    pub fn pauses(&mut self) -> Reply
+    pub(crate) fn pauses(&mut self) -> Reply
         ensures book { self.new ≡ record self.old { is_paused = true } }
         ensures reply { result ≡ Done }
     {
@@ -587,7 +587,7 @@ impl BookState {
     }
 
     /// Links are lent again.
-    pub fn resumes(&mut self) -> Reply
+    pub(crate) fn resumes(&mut self) -> Reply
         ensures book { self.new ≡ record self.old { is_paused = false } }
         ensures reply { result ≡ Done }
     {
@@ -596,7 +596,7 @@ impl BookState {
     }
 
     /// No client is let in and no link lent any more.
-    pub fn shuts_down(&mut self) -> Reply
+    pub(crate) fn shuts_down(&mut self) -> Reply
         ensures book { self.new ≡ record self.old { is_shut = true } }
         ensures reply { result ≡ Done }
     {
@@ -605,7 +605,7 @@ impl BookState {
     }
 
     /// No link that is there now is lent again.
-    pub fn reconnects(&mut self) -> Reply
+    pub(crate) fn reconnects(&mut self) -> Reply
         requires next { self.old.next_link ≤ outcome.last_decision }
         ensures book { self.new ≡ record self.old { fresh_from = self.old.next_link } }
         ensures reply { result ≡ Done }

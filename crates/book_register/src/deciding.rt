@@ -7,12 +7,14 @@ ghost use Rattle.book_model.specs.Outcomes as outcome;
 ghost use Rattle.book_register.specs.Choices.{Gives};
 ghost use Rattle.book_model.specs.declared.counts.Kind.TheVariants.{Ticking};
 ghost use Rattle.book_register.specs.Kinds.{kind_in, kinds_of};
-ghost use Rattle.book_model.specs.Kept.{Kept, total};
+ghost use Rattle.book_model.specs.Kept.{FitsLimits, Kept, total};
 
+use crate::beginning::fits;
 use crate::book_state::BookState;
 use book_model::counts::{Counts, Kind};
 use book_model::events::{Event, Reply};
 use message_view::Refusal;
+use start_keys::StartKey;
 
 /// The kinds that an event may be of, by its replies; none, where it changed nothing.
 #[derive(Clone, Copy, Drop)]
@@ -98,19 +100,53 @@ fn ticking(is_later: bool) -> Option<Kind>
     if is_later { Some(Kind::Ticking) } else { None }
 }
 
+/// The settings of an event fit.
+fn event_fits(event: &Event)
+    ensures { FitsLimits (event_of event.now) }
+{
+    match event {
+        Event::Limits(limits) => fits(limits),
+        _ => {}
+    }
+}
+
 impl BookState {
     /// What an event makes of the lists, and its reply. It needs no memory.
     pub fn apply(&mut self, event: Event) -> Reply
         requires kept { Kept self.old }
-        ensures { Gives self.new result (outcome.apply self.old (event_of event)) }
+        ensures kept { Kept self.new }
+        ensures book { self.new ≡ (outcome.apply self.old (event_of event)).book }
+        ensures reply { result ≡ (outcome.apply self.old (event_of event)).reply }
     {
+        event_fits(&event);
         if self.decisions == u64::MAX {
             return Reply::Refuse(Refusal::LastDecision);
         }
         if self.is_strange(&event) {
             return Reply::Stranger;
         }
-        self.decides(event)
+        let kinds = self.kinds(&event);
+        let reply = self.happens(event);
+        if let Some(kind) = kinds.of(reply) {
+            self.count(kind);
+        }
+        reply
+    }
+
+    /// What a link that is given back makes of the lists, by what it was started as, and the reply. It needs no memory.
+    pub fn apply_return(&mut self, number: u64, key: &StartKey, born: u64) -> Reply
+        requires kept { Kept self.old }
+        ensures kept { Kept self.new }
+        ensures book { self.new ≡ (outcome.apply_return self.old number key.now born).book }
+        ensures reply { result ≡ (outcome.apply_return self.old number key.now born).reply }
+    {
+        if self.decisions == u64::MAX {
+            return Reply::Refuse(Refusal::LastDecision);
+        }
+        if !self.is_lent_as(number, key, born) {
+            return Reply::Stranger;
+        }
+        self.apply(Event::GiveBack { link: number })
     }
 
     /// Whether the event's client or link isn't there, it has a ticket already, or the lease was keyed or has ended.
@@ -174,21 +210,6 @@ impl BookState {
             Event::EndLease { .. } => Kinds::all(Kind::LeaseEnding),
             Event::HungUp { .. } => Kinds::of_found(Kind::HangUp),
         }
-    }
-
-    /// An event of which client, ticket and link are there, and its count.
-    fn decides(&mut self, event: Event) -> Reply
-        requires kept { Kept self.old }
-        requires more { self.old.decisions < outcome.last_decision }
-        requires known { outcome.is_strange self.old (event_of event) ≡ false }
-        ensures { Gives self.new result (outcome.decided self.old (event_of event) (outcome.outcome self.old (event_of event))) }
-    {
-        let kinds = self.kinds(&event);
-        let reply = self.happens(event);
-        if let Some(kind) = kinds.of(reply) {
-            self.count(kind);
-        }
-        reply
     }
 
     /// What the event makes of the lists, uncounted.

@@ -2,7 +2,7 @@
 //! memory: only its indexes by pool may take some, and are given up where they can't.
 #![tactic(auto)]
 
-mod book_state;
+mod beginning;
+pub mod book_state;
 mod deciding;
-pub mod lists;
 pub mod view;

@@ -1,11 +1,12 @@
 //! What a book shows of itself.
-ghost use Rattle.std.specs.Prelude.{◌≡◌, ◌≤◌, ℕ, IfOk, count_by, find, option_copied, option_map};
+ghost use Rattle.std.specs.Prelude.{◌≡◌, IfOk, find, option_copied, option_map};
 ghost use Rattle.std.specs.List.{list_any};
 ghost use Rattle.message_view.specs.Parts.{shown_value};
 ghost use Rattle.book_model.specs.Outcomes.{is_started_as};
 ghost use Rattle.book_model.specs.Book as book;
+ghost use Rattle.book_model.specs.Kept.{Kept};
 ghost use Rattle.book_register.specs.Views.{has_stale, is_left_over, is_of_database, view_of};
-ghost use Rattle.book_register.specs.Waking.{lent_in_pool, waiting_behind, waiting_for};
+ghost use Rattle.book_register.specs.Waking.{is_full, lent_in_pool, waiting_behind, waiting_for};
 ghost use Rattle.book_rows.specs.Waiting.{TellsFirsts, TellsWaiting};
 
 use crate::book_state::BookState;
@@ -142,7 +143,37 @@ impl BookView {
 }
 
 impl BookState {
+    /// How many decisions there were.
+    pub fn decisions(&self) -> u64
+        ensures { result ≡ self.now.decisions }
+    {
+        self.decisions
+    }
+
+    /// How many decisions there were of each kind.
+    pub fn counts(&self) -> Counts
+        ensures { result ≡ self.now.counts }
+    {
+        self.counts
+    }
+
+    /// Whether no client is let in any more.
+    pub fn is_shut(&self) -> bool
+        ensures { result ≡ self.now.is_shut }
+    {
+        self.is_shut
+    }
+
+    /// Whether no link more may be started.
+    pub fn is_full(&self) -> bool
+        ensures { result ≡ is_full self.now }
+    {
+        !self.has_room()
+    }
+
     /// The lists as they are now.
+    ///
+    /// `AllocError` where memory is refused.
     pub fn view(&self, alloc: Global) -> Result<BookView, AllocError>
         ensures { IfOk result (λ v. v ≡ view_of self.now) }
     {
@@ -167,15 +198,15 @@ impl BookState {
 
     /// Whether a link of this number is lent, and was started for an equal key at this second.
     pub fn is_lent_as(&self, number: u64, key: &StartKey, born: u64) -> bool
-        requires once { (n : ℕ) → count_by (book.is_link n) self.now.lent ≤ 1 }
+        requires kept { Kept self.now }
         ensures { result ≡ is_started_as key.now born (find (book.is_link number) self.now.lent) }
     {
         self.lent.has_as(number, key, born)
     }
 
-    /// The start key of the lent link of this number.
+    /// The start key of the lent link of this number; none where it isn't lent.
     pub fn lent_key(&self, number: u64) -> Option<&StartKey>
-        requires once { (n : ℕ) → count_by (book.is_link n) self.now.lent ≤ 1 }
+        requires kept { Kept self.now }
         ensures { option_copied result ≡ option_map (λ link. link.key) (find (book.is_link number) self.now.lent) }
     {
         let link = self.lent.get(number)?;
@@ -193,7 +224,7 @@ impl BookState {
 
     /// Who has waited longest in the pool for which this client waits, but for itself; nobody where it doesn't wait.
     pub fn waiting_behind(&self, client: u64) -> Option<u64>
-        requires once { (n : ℕ) → count_by (book.is_of n) self.now.tickets ≤ 1 }
+        requires kept { Kept self.now }
         ensures { result ≡ waiting_behind self.now client }
     {
         match self.tickets.get(client) {
@@ -204,7 +235,7 @@ impl BookState {
 
     /// Who has waited longest in the pool of this lent link; nobody where it isn't lent.
     pub fn waiting_for(&self, link: u64) -> Option<u64>
-        requires once { (n : ℕ) → count_by (book.is_link n) self.now.lent ≤ 1 }
+        requires kept { Kept self.now }
         ensures { result ≡ waiting_for self.now link }
     {
         match self.lent.get(link) {
@@ -212,6 +243,7 @@ impl BookState {
             None => None,
         }
     }
+
     /// How many links of this pool are lent.
     pub fn lent_in_pool(&self, pool: &PoolKey) -> usize
         ensures { result ≡ lent_in_pool self.now pool.now }

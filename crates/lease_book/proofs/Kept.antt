@@ -1,11 +1,14 @@
 -- The decisions that are kept, after one more.
-use Rattle.std.proofs.Common.{◌≡◌, ℕ, suc, ◌+◌, ◌≤◌, ◌<◌, List, [], ◌∷◌, ◌++◌, Bool, true, false, cond, length, map, refl, sym, ap, ◌∙◌, subst, arith, length-append}
-use Rattle.std.proofs.lemmas.Bool.{le-ltb, lt-ltb, ltb-true}
+use Rattle.std.proofs.Common.{◌≡◌, ℕ, suc, ◌+◌, ◌≤◌, ◌<◌, find, List, [], ◌∷◌, ◌++◌, Bool, true, false, cond, length, map, refl, sym, ap, ◌∙◌, subst, arith, length-append}
+use Rattle.std.proofs.lemmas.Bool.{le-ltb, ltb-true}
 use Rattle.std.specs.Prelude.{◌&&◌, nat_lt, drop}
-use Rattle.book_model.specs.Book.{Book}
-use Rattle.book_model.specs.Outcomes.{Event, apply}
+use Rattle.session_values.specs.State.{StartKeyOf}
+use Rattle.book_model.specs.Book.{Book, is_link}
+use Rattle.book_model.specs.Outcomes.{Answer, Event, apply, apply_return, is_started_as}
+use Rattle.book_model.specs.Outcomes.Event.{GiveBack}
 use Rattle.book_model.specs.declared.events.Reply.{Reply}
 use Rattle.book_model.specs.Replay.{Decision, History, Replays, folded, is_decision, most_kept, noted, noted_of, replayed, replies}
+use Rattle.book_register.proofs.Returning.{own_return, stray_return}
 use Rattle.lease_book.specs.Histories.{LeadsTo, are_decisions}
 use Rattle.lease_book.proofs.Decisions.{apply_raises, apply_stays, rises}
 
@@ -81,33 +84,55 @@ leads_noted_as h lists d false e few l =
 leads_noted : (h : History) (lists : Book) (d : Decision) → LeadsTo h lists → is_decision lists d.event ≡ true → d.reply ≡ (apply lists d.event).reply → LeadsTo (noted h d) (apply lists d.event).book
 leads_noted h lists d l is told = leads_noted_as h (apply lists d.event).book d (nat_lt (length h.kept) most_kept) refl l.few (leads_pushed h lists d l is told)
 
--- ---- as the register goes on
+-- ---- as the book goes on
 
-is_one : (lists next : Book) (e : Event) → next ≡ (apply lists e).book → lists.decisions < next.decisions → is_decision lists e ≡ true
-is_one lists next e is more = sym (rises lists e) ∙ lt-ltb lists.decisions (apply lists e).book.decisions (subst (λ (x : Book). lists.decisions < x.decisions) is more)
+leads_noted_of : (h : History) (lists : Book) (pass : ℕ) (e : Event) → LeadsTo h lists → LeadsTo (noted_of lists pass e h) (apply lists e).book
+leads_noted_of h lists pass e l = by_case (is_decision lists e) refl
+  where
+    d : Decision
+    d = record { pass = pass; event = e; reply = (apply lists e).reply }
 
-is_none : (lists next : Book) (e : Event) → next ≡ (apply lists e).book → next.decisions ≤ lists.decisions → is_decision lists e ≡ false
-is_none lists next e is less = sym (rises lists e) ∙ le-ltb lists.decisions (apply lists e).book.decisions (subst (λ (x : Book). x.decisions ≤ lists.decisions) is less)
+    by_case : (is : Bool) → is_decision lists e ≡ is → LeadsTo (cond is (noted h d) h) (apply lists e).book
+    by_case true is = leads_noted h lists d l is refl
+    by_case false is = subst (LeadsTo h) (sym (apply_stays lists e is)) l
 
-pub leads_on : (h n : History) (lists next : Book) (pass : ℕ) (e again : Event) (r : Reply) → LeadsTo h lists → next ≡ (apply lists e).book → r ≡ (apply lists e).reply → again ≡ e → lists.decisions < next.decisions → n ≡ noted h (record { pass = pass; event = again; reply = r }) → LeadsTo n next
-leads_on h n lists next pass e again r l is told same more noted_is =
-    let d : Decision = record { pass = pass; event = e; reply = r } in
-    let all : LeadsTo (noted h d) (apply lists e).book = leads_noted h lists d l (is_one lists next e is more) told in
-    let one : n ≡ noted h d = noted_is ∙ ap (λ (x : Event). noted h (record { pass = pass; event = x; reply = r })) same in
-    subst (λ (x : History). LeadsTo x next) (sym one) (subst (λ (x : Book). LeadsTo (noted h d) x) (sym is) all)
+pub leads_on : (h n : History) (lists next : Book) (pass : ℕ) (e : Event) → LeadsTo h lists → next ≡ (apply lists e).book → n ≡ noted_of lists pass e h → LeadsTo n next
+leads_on h n lists next pass e l is noted_is = subst (λ (x : History). LeadsTo x next) (sym noted_is) (subst (LeadsTo (noted_of lists pass e h)) (sym is) (leads_noted_of h lists pass e l))
 
-pub leads_still : (h : History) (lists next : Book) (e : Event) → LeadsTo h lists → next ≡ (apply lists e).book → next.decisions ≤ lists.decisions → LeadsTo h next
-leads_still h lists next e l is less = subst (λ (x : Book). LeadsTo h x) (sym (is ∙ apply_stays lists e (is_none lists next e is less))) l
-
-pub noted_on : (h n : History) (lists next : Book) (pass : ℕ) (e again : Event) (r : Reply) → next ≡ (apply lists e).book → r ≡ (apply lists e).reply → again ≡ e → lists.decisions < next.decisions → n ≡ noted h (record { pass = pass; event = again; reply = r }) → n ≡ noted_of lists pass e h
-noted_on h n lists next pass e again r is told same more noted_is =
+-- an event is noted where the number of decisions rose
+pub noted_on : (h n : History) (lists next : Book) (pass : ℕ) (e again : Event) (r : Reply) (rose : Bool) → next ≡ (apply lists e).book → r ≡ (apply lists e).reply → again ≡ e → rose ≡ nat_lt lists.decisions next.decisions → n ≡ cond rose (noted h (record { pass = pass; event = again; reply = r })) h → n ≡ noted_of lists pass e h
+noted_on h n lists next pass e again r rose is told same more noted_is =
+    let one : rose ≡ is_decision lists e = more ∙ ap (λ (x : Book). nat_lt lists.decisions x.decisions) is ∙ rises lists e in
     noted_is
-    ∙ ap (λ (x : Event). noted h (record { pass = pass; event = x; reply = r })) same
-    ∙ ap (λ (x : Reply). noted h (record { pass = pass; event = e; reply = x })) told
-    ∙ sym (ap (λ (x : Bool). cond x (noted h (record { pass = pass; event = e; reply = (apply lists e).reply })) h) (is_one lists next e is more))
+    ∙ ap (λ (x : Event). cond rose (noted h (record { pass = pass; event = x; reply = r })) h) same
+    ∙ ap (λ (x : Reply). cond rose (noted h (record { pass = pass; event = e; reply = x })) h) told
+    ∙ ap (λ (x : Bool). cond x (noted h (record { pass = pass; event = e; reply = (apply lists e).reply })) h) one
 
-pub noted_still : (h : History) (lists next : Book) (pass : ℕ) (e : Event) → next ≡ (apply lists e).book → next.decisions ≤ lists.decisions → h ≡ noted_of lists pass e h
-noted_still h lists next pass e is less = sym (ap (λ (x : Bool). cond x (noted h (record { pass = pass; event = e; reply = (apply lists e).reply })) h) (is_none lists next e is less))
+-- ---- as a link comes back
+
+none_rose : (b next : Book) (rose : Bool) → rose ≡ nat_lt b.decisions next.decisions → next ≡ b → rose ≡ false
+none_rose b next rose more is = more ∙ ap (λ (x : Book). nat_lt b.decisions x.decisions) is ∙ le-ltb b.decisions b.decisions (omega arith)
+
+pub noted_back : (h m : History) (b next : Book) (pass n : ℕ) (key : StartKeyOf) (born : ℕ) (r : Reply) (rose : Bool) → next ≡ (apply_return b n key born).book → r ≡ (apply_return b n key born).reply → rose ≡ nat_lt b.decisions next.decisions → m ≡ cond rose (noted h (record { pass = pass; event = GiveBack n; reply = r })) h
+    → m ≡ cond (is_started_as key born (find (is_link n) b.lent)) (noted_of b pass (GiveBack n) h) h
+noted_back h m b next pass n key born r rose is told more noted_is = by_own (is_started_as key born (find (is_link n) b.lent)) refl
+  where
+    by_own : (own : Bool) → is_started_as key born (find (is_link n) b.lent) ≡ own → m ≡ cond own (noted_of b pass (GiveBack n) h) h
+    by_own true own =
+        let same = own_return b n key born own in
+        noted_on h m b next pass (GiveBack n) (GiveBack n) r rose (is ∙ ap (λ (a : Answer). a.book) same) (told ∙ ap (λ (a : Answer). a.reply) same) refl more noted_is
+    by_own false stray = noted_is ∙ ap (λ (x : Bool). cond x (noted h (record { pass = pass; event = GiveBack n; reply = r })) h) (none_rose b next rose more (is ∙ stray_return b n key born stray))
+
+pub leads_back : (h m : History) (b next : Book) (pass n : ℕ) (key : StartKeyOf) (born : ℕ) → LeadsTo h b → next ≡ (apply_return b n key born).book → m ≡ cond (is_started_as key born (find (is_link n) b.lent)) (noted_of b pass (GiveBack n) h) h → LeadsTo m next
+leads_back h m b next pass n key born l is noted_is = by_own (is_started_as key born (find (is_link n) b.lent)) refl
+  where
+    by_own : (own : Bool) → is_started_as key born (find (is_link n) b.lent) ≡ own → LeadsTo m next
+    by_own true own =
+        let noted_so : m ≡ noted_of b pass (GiveBack n) h = noted_is ∙ ap (λ (x : Bool). cond x (noted_of b pass (GiveBack n) h) h) own in
+        leads_on h m b next pass (GiveBack n) l (is ∙ ap (λ (a : Answer). a.book) (own_return b n key born own)) noted_so
+    by_own false stray =
+        let still : m ≡ h = noted_is ∙ ap (λ (x : Bool). cond x (noted_of b pass (GiveBack n) h) h) stray in
+        subst (λ (x : History). LeadsTo x next) (sym still) (subst (LeadsTo h) (sym (is ∙ stray_return b n key born stray)) l)
 
 -- ---- all decisions, those of the base and the kept ones
 

@@ -1,6 +1,6 @@
 -- A link that is given back.
 use Rattle.std.proofs.Common.{◌≡◌, ℕ, suc, ◌<◌, List, [], ◌∷◌, ◌++◌, Bool, true, false, cond, Option, None, Some, length, map, refl, sym, ap, ◌∙◌, subst, arith, length-append}
-use Rattle.std.specs.Prelude.{find, not, ◌==◌, ◌&&◌, ◌||◌}
+use Rattle.std.specs.Prelude.{find, ◌==◌, ◌&&◌, ◌||◌}
 use Rattle.std.proofs.lemmas.Bool.{eqb-true}
 use Rattle.std.proofs.lemmas.List.{map-append}
 use Rattle.message_view.specs.declared.refusal.Refusal.TheVariants.{LastDecision}
@@ -12,37 +12,11 @@ use Rattle.book_model.specs.Book.{Book, Link, is_link}
 use Rattle.book_model.specs.declared.limits.TheConstants.{MOST_LINKS}
 use Rattle.book_model.specs.Outcomes.{Answer, Event, apply, apply_return, outcome, decided, counted, gives_back, is_crowded, is_old, is_started_as, is_strange, kind_of, last_decision, loses}
 use Rattle.book_model.specs.Outcomes.Event.{GiveBack}
-use Rattle.book_model.specs.Replay.{History, is_a_kind, is_decision, noted, noted_of}
 use Rattle.book_model.specs.declared.counts.Kind.{Kind}
 use Rattle.book_model.specs.declared.events.Reply.{Reply}
 use Rattle.book_model.specs.declared.events.Reply.TheVariants.{Close, Done, Refuse, Stranger}
 use Rattle.book_model.specs.Kept.{Kept}
 use Rattle.lease_book.specs.Links.{HoldsLinks, Started, idle_with, handed_back, is_done, listed, may_hand_back, started}
-
--- ---- the three ways
-
-pub return_last : (b : Book) (n : ℕ) (key : StartKeyOf) (born : ℕ) → (b.decisions == last_decision) ≡ true → apply_return b n key born ≡ record { book = b; reply = Refuse LastDecision }
-unfolding apply_return
-return_last b n key born e = ap (λ (x : Bool). cond {A = Answer} x (record { book = b; reply = Refuse LastDecision }) (cond (is_started_as key born (find (is_link n) b.lent)) (apply b (GiveBack n)) (record { book = b; reply = Stranger }))) e
-
-pub return_strange : (b : Book) (n : ℕ) (key : StartKeyOf) (born : ℕ) → (b.decisions == last_decision) ≡ false → is_started_as key born (find (is_link n) b.lent) ≡ false → apply_return b n key born ≡ record { book = b; reply = Stranger }
-unfolding apply_return
-return_strange b n key born e s =
-    ap (λ (x : Bool). cond {A = Answer} x (record { book = b; reply = Refuse LastDecision }) (cond (is_started_as key born (find (is_link n) b.lent)) (apply b (GiveBack n)) (record { book = b; reply = Stranger }))) e
-    ∙ ap (λ (x : Bool). cond {A = Answer} x (apply b (GiveBack n)) (record { book = b; reply = Stranger })) s
-
-pub return_own : (b : Book) (n : ℕ) (key : StartKeyOf) (born : ℕ) → (b.decisions == last_decision) ≡ false → is_started_as key born (find (is_link n) b.lent) ≡ true → apply_return b n key born ≡ apply b (GiveBack n)
-unfolding apply_return
-return_own b n key born e s =
-    ap (λ (x : Bool). cond {A = Answer} x (record { book = b; reply = Refuse LastDecision }) (cond (is_started_as key born (find (is_link n) b.lent)) (apply b (GiveBack n)) (record { book = b; reply = Stranger }))) e
-    ∙ ap (λ (x : Bool). cond {A = Answer} x (apply b (GiveBack n)) (record { book = b; reply = Stranger })) s
-
--- nothing is kept of an event after the last decision
-pub noted_none : (b : Book) (pass : ℕ) (e : Event) (h : History) (own : Bool) → (b.decisions == last_decision) ≡ true → h ≡ cond own (noted_of b pass e h) h
-noted_none b pass e h false l = refl
-noted_none b pass e h true l =
-    let none : is_decision b e ≡ false = ap (λ (x : Bool). not x && (not (is_strange b e) && is_a_kind (kind_of b e (outcome b e).reply))) l in
-    sym (ap (λ (x : Bool). cond x (noted h (record { pass = pass; event = e; reply = (apply b e).reply })) h) none)
 
 pub same_number : (m n : ℕ) → (m == n) ≡ true → n ≡ m
 same_number m n e = sym (eqb-true m n e)

@@ -4,11 +4,6 @@ use Rattle.book_model.specs.Book.{Book}
 use Rattle.book_model.specs.Outcomes.{apply}
 use Rattle.book_model.specs.Replay.{Decision, History, Replays, is_decision, most_kept}
 
--- the lists, and what is kept of their history
-pub record RegisterView : Type 0 where
-  pub lists : Book
-  pub history : History
-
 -- each of these events is a decision where it stands
 abbrev pub are_decisions : Book → List Decision → Bool
 are_decisions b [] = true

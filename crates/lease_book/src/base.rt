@@ -7,7 +7,7 @@ ghost use Rattle.book_model.specs.Events.{event_of};
 ghost use Rattle.book_model.specs.Outcomes.{apply};
 
 use book_model::events::Event;
-use book_register::lists::Lists;
+use book_register::book_state::BookState;
 use std::marker::{Model, PhantomData};
 
 /// The lists behind the kept decisions. A clause reads them as `lists`.
@@ -26,7 +26,7 @@ unsafe impl Send for Base {}
 
 impl Base {
     /// These lists.
-    pub fn of(_lists: &Lists) -> Base
+    pub fn of(_lists: &BookState) -> Base
         ensures { result.lists ≡ _lists.now }
     {
         Base {

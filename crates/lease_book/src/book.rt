@@ -1,4 +1,4 @@
-//! The lease book. What it adds to the lists and their history: the idle links themselves, each the one of its number.
+//! The lease book. What it adds to the lists: the decisions that led to them, and the idle links themselves, each the one of its number.
 ghost use Rattle.std.specs.Prelude.{find, ◌≡◌, ◌+◌, [], ◌∷◌, ◌++◌, IfOk, None, Some, cond, false, true, length, map, option_copied, option_map};
 ghost use Rattle.std.specs.Arc.{arc_value};
 ghost use Rattle.std.specs.List.{list_any};
@@ -8,26 +8,19 @@ ghost use Rattle.book_model.specs.Events.{event_of};
 ghost use Rattle.book_model.specs.Outcomes.{apply, apply_return, is_started_as};
 ghost use Rattle.book_model.specs.declared.events.Reply.TheVariants.{Strike};
 ghost use Rattle.book_model.specs.Outcomes.Event.{GiveBack};
-ghost use Rattle.book_model.specs.Kept.{Kept, total};
+ghost use Rattle.book_model.specs.Kept.{Kept};
 ghost use Rattle.book_register.specs.Counted.{counted_book};
-ghost use Rattle.book_register.specs.Views.{view_of};
-ghost use Rattle.book_register.specs.Waking.{is_full, lent_in_pool, waiting_behind, waiting_for};
-ghost use Rattle.book_rows.specs.Waiting.{TellsFirsts, TellsWaiting};
 ghost use Rattle.book_model.specs.Replay.{noted_of};
 ghost use Rattle.lease_book.specs.Histories.{LeadsTo};
 ghost use Rattle.lease_book.specs.Shown.{as_shown, decisions_shown};
 ghost use Rattle.lease_book.specs.Links.{answered, brings_nothing, can_strike, found, goes_out, handed, handed_after, handed_back, has_place, history_after, idle_after, idle_with, is_done, is_return, IsTwice, StrikesInPlace, left, may_hand_back, number_of, plain, reply_of};
 
 use crate::events::{Event, Reply};
-use crate::history::Register;
+use crate::history::{Decision, History};
 use crate::idle::IdleLinks;
-use book_model::counts::Counts;
 use book_model::events as lists;
 use book_model::limits::Limits;
-use book_register::lists::Lists;
-use book_register::view::BookView;
-use book_rows::firsts::Firsts;
-use book_rows::pools::PoolKey;
+use book_register::book_state::BookState;
 use link_run::links::CleanLink;
 use message_view::KeyView;
 use pool_figures::decisions::DecisionSeen;
@@ -51,8 +44,9 @@ fn goes_out(told: lists::Reply) -> Option<u64>
 
 /// The strike at the place of its link, which is lent.
 #[tactic(auto, using(crate::proofs::Striking::in_place))]
-fn strike<E: ServerEnd>(lists: &Lists, number: u64, server: KeyView) -> Reply<E>
-    requires { has_place (find (is_link number) lists.now.lent) ≡ true }
+fn strike<E: ServerEnd>(lists: &BookState, number: u64, server: KeyView) -> Reply<E>
+    requires kept { Kept lists.now }
+    requires place { has_place (find (is_link number) lists.now.lent) ≡ true }
     ensures reply { reply_of result ≡ Strike number server }
     ensures place { StrikesInPlace lists.now result }
     ensures link { handed result ≡ None }
@@ -71,11 +65,12 @@ fn strike<E: ServerEnd>(lists: &Lists, number: u64, server: KeyView) -> Reply<E>
 
 /// The reply, with the link that goes out with it. A strike's place is that of its link in the lists.
 fn reply_with<E: ServerEnd>(
-    lists: &Lists,
+    lists: &BookState,
     told: lists::Reply,
     link: Option<CleanLink<E>>,
 ) -> Reply<E>
     requires number { number_of link ≡ goes_out told }
+    requires kept { Kept lists.now }
     requires place { can_strike lists.now told ≡ true }
     ensures reply { reply_of result ≡ told }
     ensures place { StrikesInPlace lists.now result }
@@ -159,29 +154,49 @@ fn by_number<E: ServerEnd>(event: &Event<E>) -> lists::Event
     }
 }
 
-/// The lease book: the lists with their history, and the idle links.
+/// What the lists are told of an event with no link, and what their history is.
+fn twice<E: ServerEnd>(event: Event<E>) -> (lists::Event, lists::Event)
+    requires same { IsTwice event }
+    requires brings_none { is_return (plain event) ≡ false }
+    ensures event { event_of result.0 ≡ plain event }
+    ensures again { event_of result.1 ≡ plain event }
+{
+    match event {
+        Event::Ask { client, key, again } => (
+            lists::Event::Ask { client, key },
+            lists::Event::Ask { client, key: again },
+        ),
+        Event::Limits(limits, again) => (lists::Event::Limits(limits), lists::Event::Limits(again)),
+        event => (by_number(&event), by_number(&event)),
+    }
+}
+
+/// The lease book: the lists, the decisions that led to them, and the idle links.
 pub struct Book<E: ServerEnd> {
-    register: Register,
+    lists: BookState,
+    history: History,
     idle: IdleLinks<E>,
 }
 
 impl<E: ServerEnd> Drop for Book<E> {
     fn drop(self) {
         let Book {
-            register: _,
+            lists: _,
+            history: _,
             idle: _,
         } = self;
     }
 }
 
 impl<E: ServerEnd> Model for Book<E> {
+    ghost use Rattle.lease_book.specs.Histories.{LeadsTo};
     ghost use Rattle.lease_book.specs.Links.{BookOf, HoldsLinks};
 
     ghost Value = { BookOf };
 
-    ghost view = { λ b. record { lists = b.register.lists; history = b.register.history; idle = b.idle } };
+    ghost view = { λ b. record { lists = b.lists; history = b.history; idle = b.idle } };
 
-    ghost invariant = { λ b. HoldsLinks b.idle b.register.lists };
+    ghost invariant = { λ b. HoldsLinks b.idle b.lists × LeadsTo b.history b.lists };
 }
 
 impl<E: ServerEnd> Book<E> {
@@ -189,13 +204,19 @@ impl<E: ServerEnd> Book<E> {
     ///
     /// `AllocError` where memory is refused.
     pub fn new(alloc: Global, limits: Arc<Limits>) -> Result<Book<E>, AllocError>
+        ensures kept { IfOk result (λ b. Kept b.lists) }
         ensures lists { IfOk result (λ b. b.lists ≡ empty_book (arc_value limits)) }
         ensures history { IfOk result (λ b. b.history ≡ record { base = empty_book (arc_value limits); kept = [] }) }
         ensures idle { IfOk result (λ b. b.idle ≡ []) }
     {
-        let register = Register::new(alloc, limits)?;
+        let lists = BookState::new(alloc, limits)?;
+        let history = History::new(alloc, &lists)?;
         let idle = IdleLinks::new(alloc)?;
-        Ok(Book { register, idle })
+        Ok(Book {
+            lists,
+            history,
+            idle,
+        })
     }
 
     /// The same, after so many decisions.
@@ -208,90 +229,46 @@ impl<E: ServerEnd> Book<E> {
         ensures history { IfOk result (λ b. b.history ≡ record { base = counted_book (arc_value limits) decisions; kept = [] }) }
         ensures idle { IfOk result (λ b. b.idle ≡ []) }
     {
-        let register = Register::from_count(alloc, limits, decisions)?;
+        let lists = BookState::from_count(alloc, limits, decisions)?;
+        let history = History::new(alloc, &lists)?;
         let idle = IdleLinks::new(alloc)?;
-        Ok(Book { register, idle })
+        Ok(Book {
+            lists,
+            history,
+            idle,
+        })
+    }
+
+    /// The lists.
+    pub fn lists(&self) -> &BookState
+        ensures lists { result.now ≡ self.now.lists }
+        ensures kept { Kept result.now }
+    {
+        &self.lists
     }
 
     /// How many decisions stand in the base, and how many are kept.
+    #[tactic(auto, using(crate::proofs::Kept::all_counted))]
     pub fn kept(&self) -> (u64, usize)
         ensures base { result.0 ≡ self.now.history.base.decisions }
         ensures kept { result.1 ≡ length self.now.history.kept }
         ensures all { result.0 + result.1 ≡ self.now.lists.decisions }
     {
-        self.register.kept()
+        let kept = self.history.len();
+        (self.lists.decisions() - kept as u64, kept)
     }
 
     /// What is shown of the kept decisions, from the oldest on: of a key its process id alone.
     ///
     /// `AllocError` where memory is refused.
+    #[tactic(auto, using(crate::proofs::Kept::all_counted))]
     pub fn shown(&self, alloc: Global) -> Result<Vec<DecisionSeen>, AllocError>
         ensures lists { Kept self.now.lists }
         ensures leads { LeadsTo self.now.history self.now.lists }
         ensures shown { IfOk result (λ v. map as_shown v.items ≡ decisions_shown self.now.history) }
     {
-        self.register.shown(alloc)
-    }
-
-    /// How many decisions there were.
-    pub fn decisions(&self) -> u64
-        ensures { result ≡ self.now.lists.decisions }
-    {
-        self.register.lists().decisions()
-    }
-
-    /// Whether no client is let in any more.
-    pub fn is_shut(&self) -> bool
-        ensures { result ≡ self.now.lists.is_shut }
-    {
-        self.register.lists().is_shut()
-    }
-
-    /// How many decisions there were of each kind.
-    pub fn counts(&self) -> Counts
-        ensures counts { result ≡ self.now.lists.counts }
-        ensures all { total result ≡ self.now.lists.decisions }
-    {
-        self.register.lists().counts()
-    }
-
-    /// The book as it is now, in rows of the caller's own.
-    ///
-    /// `AllocError` where memory is refused.
-    pub fn view(&self, alloc: Global) -> Result<BookView, AllocError>
-        ensures { IfOk result (λ v. v ≡ view_of self.now.lists) }
-    {
-        self.register.lists().view(alloc)
-    }
-
-    /// Who may be woken where any pool may have a link: those who have waited longest in their pools, in no order, or all who wait, where
-    /// no index tells them.
-    pub fn firsts(&self) -> Firsts<'_>
-        ensures all { TellsFirsts result self.now.lists.tickets }
-        ensures only { TellsWaiting result self.now.lists.tickets }
-    {
-        self.register.lists().firsts()
-    }
-
-    /// Who has waited longest in the pool for which this client waits, but for itself; nobody where it doesn't wait.
-    pub fn waiting_behind(&self, client: u64) -> Option<u64>
-        ensures { result ≡ waiting_behind self.now.lists client }
-    {
-        self.register.lists().waiting_behind(client)
-    }
-
-    /// Who has waited longest in the pool of this lent link; nobody where it isn't lent.
-    pub fn waiting_for(&self, link: u64) -> Option<u64>
-        ensures { result ≡ waiting_for self.now.lists link }
-    {
-        self.register.lists().waiting_for(link)
-    }
-
-    /// How many links of this pool are lent.
-    pub fn lent_in_pool(&self, pool: &PoolKey) -> usize
-        ensures { result ≡ lent_in_pool self.now.lists pool.now }
-    {
-        self.register.lists().lent_in_pool(pool)
+        let before = self.lists.decisions() - self.history.len() as u64;
+        self.history.shown(alloc, before)
     }
 
     /// Whether a link of this key is idle.
@@ -301,39 +278,10 @@ impl<E: ServerEnd> Book<E> {
         self.idle.has_key(key)
     }
 
-    /// The start key of the lent link of this number; none where it isn't lent.
-    pub fn lent_key(&self, number: u64) -> Option<&StartKey>
-        ensures { option_copied result ≡ option_map (λ link. link.key) (find (is_link number) self.now.lists.lent) }
-    {
-        self.register.lists().lent_key(number)
-    }
-
-    /// Whether no link more may be started.
-    pub fn is_full(&self) -> bool
-        ensures { result ≡ is_full self.now.lists }
-    {
-        self.register.lists().is_full()
-    }
-
-    /// An event with no link.
-    fn play(&mut self, pass: u64, event: lists::Event, again: lists::Event) -> Reply<E>
-        requires same { event_of again ≡ event_of event }
-        requires brings_none { is_return (event_of event) ≡ false }
-        ensures lists { self.new.lists ≡ (apply self.old.lists (event_of event)).book }
-        ensures history { self.new.history ≡ noted_of self.old.lists pass (event_of event) self.old.history }
-        ensures reply { reply_of result ≡ (apply self.old.lists (event_of event)).reply }
-        ensures idle { self.new.idle ≡ left (goes_out (apply self.old.lists (event_of event)).reply) self.old.idle }
-        ensures place { StrikesInPlace self.old.lists result }
-        ensures handed { handed result ≡ found (goes_out (apply self.old.lists (event_of event)).reply) self.old.idle }
-    {
-        let told = self.register.apply(pass, event, again);
-        let link = self.idle.take(goes_out(told));
-        reply_with(self.register.lists(), told, link)
-    }
-
     /// A link comes back.
     #[tactic(auto, using(crate::proofs::Returns::done_kept, crate::proofs::Striking::back_in_place))]
     fn give_back(&mut self, pass: u64, link: CleanLink<E>) -> Reply<E>
+        ensures kept { Kept self.new.lists }
         ensures lists { self.new.lists ≡ (apply_return self.old.lists link.number link.key link.born).book }
         ensures history { self.new.history ≡ cond (is_started_as link.key link.born (find (is_link link.number) self.old.lists.lent)) (noted_of self.old.lists pass (GiveBack link.number) self.old.history) self.old.history }
         ensures reply { reply_of result ≡ (apply_return self.old.lists link.number link.key link.born).reply }
@@ -341,19 +289,24 @@ impl<E: ServerEnd> Book<E> {
         ensures idle { self.new.idle ≡ idle_with link (apply_return self.old.lists link.number link.key link.born).reply self.old.idle }
         ensures handed { handed result ≡ handed_back link (apply_return self.old.lists link.number link.key link.born).reply }
     {
-        let told = self
-            .register
-            .give_back(pass, link.number(), link.key(), link.born());
-        if is_done(told) {
+        let number = link.number();
+        let before = self.lists.decisions();
+        let reply = self.lists.apply_return(number, link.key(), link.born());
+        let is_decision = self.lists.decisions() > before;
+        let event = lists::Event::GiveBack { link: number };
+        self.history
+            .note(is_decision, Decision { pass, event, reply });
+        if is_done(reply) {
             self.idle.push(link);
             return Reply::Done;
         }
-        back_with(told, link)
+        back_with(reply, link)
     }
 
-    /// What an event makes of the book, and its reply. It needs no memory.
+    /// What an event makes of the book, and its reply. A decision is kept. It needs no memory.
     pub fn apply(&mut self, pass: u64, event: Event<E>) -> Reply<E>
         requires { IsTwice event }
+        ensures kept { Kept self.new.lists }
         ensures lists { self.new.lists ≡ (answered self.old.lists event).book }
         ensures history { self.new.history ≡ history_after self.old.lists pass event self.old.history }
         ensures reply { reply_of result ≡ (answered self.old.lists event).reply }
@@ -363,17 +316,20 @@ impl<E: ServerEnd> Book<E> {
     {
         match event {
             Event::GiveBack(link) => self.give_back(pass, link),
-            Event::Ask { client, key, again } => self.play(
-                pass,
-                lists::Event::Ask { client, key },
-                lists::Event::Ask { client, key: again },
-            ),
-            Event::Limits(limits, again) => self.play(
-                pass,
-                lists::Event::Limits(limits),
-                lists::Event::Limits(again),
-            ),
-            event => self.play(pass, by_number(&event), by_number(&event)),
+            event => {
+                let (event, again) = twice(event);
+                let before = self.lists.decisions();
+                let reply = self.lists.apply(event);
+                let is_decision = self.lists.decisions() > before;
+                let decision = Decision {
+                    pass,
+                    event: again,
+                    reply,
+                };
+                self.history.note(is_decision, decision);
+                let link = self.idle.take(goes_out(reply));
+                reply_with(&self.lists, reply, link)
+            }
         }
     }
 }

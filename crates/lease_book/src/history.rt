@@ -1,29 +1,18 @@
-//! The lists of the lease book with the decisions that led to them: the last 256 are kept, and the older ones are in the base, which only
-//! clauses read.
-ghost use Rattle.std.specs.Prelude.{find, ◌≡◌, ◌+◌, [], IfOk, cond, length, map};
-ghost use Rattle.std.specs.Arc.{arc_value};
-ghost use Rattle.book_model.specs.Book.{empty_book, is_link};
-ghost use Rattle.book_model.specs.Events.{event_of};
-ghost use Rattle.book_model.specs.Outcomes.{apply, apply_return, is_started_as};
-ghost use Rattle.book_model.specs.Outcomes.Event.{GiveBack};
-ghost use Rattle.book_model.specs.Kept.{Kept};
-ghost use Rattle.book_register.specs.Counted.{counted_book};
-ghost use Rattle.book_model.specs.Replay.{noted, noted_of};
-ghost use Rattle.lease_book.specs.Histories.{LeadsTo};
-ghost use Rattle.lease_book.specs.Shown.{as_shown, decisions_shown};
+//! The decisions that led to the lists of the lease book: the last 256 are kept, and the older ones are in the base, which only clauses
+//! read.
+ghost use Rattle.std.specs.Prelude.{◌≡◌, ◌+◌, ◌≤◌, [], IfOk, cond, length, map, suc};
+ghost use Rattle.book_model.specs.Outcomes.{last_decision};
+ghost use Rattle.book_model.specs.Replay.{noted};
+ghost use Rattle.lease_book.specs.Shown.{as_shown, shown_from};
 
 use crate::base::Base;
 use crate::shown::all_shown;
 use book_model::events::{Event, Reply};
-use book_model::limits::Limits;
-use book_register::lists::Lists;
+use book_register::book_state::BookState;
 use circular_buffer::HeapCircularBuffer;
-use message_view::Refusal;
 use pool_figures::decisions::DecisionSeen;
-use start_keys::StartKey;
 use std::alloc::{AllocError, Global};
 use std::marker::Model;
-use std::sync::Arc;
 
 /// So many decisions are kept.
 pub const MOST_KEPT: usize = 256;
@@ -70,7 +59,9 @@ impl Model for History {
 
 impl History {
     /// A history without decisions, of these lists.
-    fn new(alloc: Global, lists: &Lists) -> Result<History, AllocError>
+    ///
+    /// `AllocError` where memory is refused.
+    pub(crate) fn new(alloc: Global, lists: &BookState) -> Result<History, AllocError>
         ensures { IfOk result (λ h. h ≡ record { base = lists.now; kept = [] }) }
     {
         let kept = HeapCircularBuffer::with_capacity(alloc, MOST_KEPT)?;
@@ -80,139 +71,32 @@ impl History {
         })
     }
 
-    /// Keeps a decision, and needs no memory: the oldest of more than 256 goes into the base.
-    fn note(&mut self, decision: Decision)
-        ensures { self.new ≡ noted self.old decision }
+    /// How many decisions are kept.
+    pub(crate) fn len(&self) -> usize
+        ensures { result ≡ length self.now.kept }
     {
+        self.kept.len()
+    }
+
+    /// What is shown of them, from the oldest on, behind so many others.
+    ///
+    /// `AllocError` where memory is refused.
+    pub(crate) fn shown(&self, alloc: Global, before: u64) -> Result<Vec<DecisionSeen>, AllocError>
+        requires numbered { before + length self.now.kept ≤ last_decision }
+        ensures { IfOk result (λ v. map as_shown v.items ≡ shown_from (suc before) self.now.kept) }
+    {
+        all_shown(alloc, before, &self.kept)
+    }
+
+    /// Keeps an event that was a decision, and needs no memory: the oldest of more than 256 goes into the base.
+    pub(crate) fn note(&mut self, is_decision: bool, decision: Decision)
+        ensures { self.new ≡ cond is_decision (noted self.old decision) self.old }
+    {
+        if !is_decision {
+            return;
+        }
         if let Some(oldest) = self.kept.push_back(decision) {
             self.base.fold(&oldest.event);
         }
-    }
-}
-
-/// The lists of the lease book, with their history.
-pub struct Register {
-    lists: Lists,
-    history: History,
-}
-
-impl Drop for Register {
-    fn drop(self) {
-        let Register {
-            lists: _,
-            history: _,
-        } = self;
-    }
-}
-
-impl Model for Register {
-    ghost use Rattle.lease_book.specs.Histories.{LeadsTo, RegisterView};
-
-    ghost Value = { RegisterView };
-
-    ghost view = { λ r. record { lists = r.lists; history = r.history } };
-
-    ghost invariant = { λ r. LeadsTo r.history r.lists };
-}
-
-impl Register {
-    /// A register of nobody and nothing, with all its room.
-    ///
-    /// `AllocError` where memory is refused.
-    pub fn new(alloc: Global, limits: Arc<Limits>) -> Result<Register, AllocError>
-        ensures kept { IfOk result (λ r. Kept r.lists) }
-        ensures lists { IfOk result (λ r. r.lists ≡ empty_book (arc_value limits)) }
-        ensures history { IfOk result (λ r. r.history ≡ record { base = empty_book (arc_value limits); kept = [] }) }
-    {
-        let lists = Lists::new(alloc, limits)?;
-        let history = History::new(alloc, &lists)?;
-        Ok(Register { lists, history })
-    }
-
-    /// The same, after so many decisions.
-    pub fn from_count(
-        alloc: Global,
-        limits: Arc<Limits>,
-        decisions: u64,
-    ) -> Result<Register, AllocError>
-        ensures kept { IfOk result (λ r. Kept r.lists) }
-        ensures lists { IfOk result (λ r. r.lists ≡ counted_book (arc_value limits) decisions) }
-        ensures history { IfOk result (λ r. r.history ≡ record { base = counted_book (arc_value limits) decisions; kept = [] }) }
-    {
-        let lists = Lists::from_count(alloc, limits, decisions)?;
-        let history = History::new(alloc, &lists)?;
-        Ok(Register { lists, history })
-    }
-
-    /// The lists.
-    pub fn lists(&self) -> &Lists
-        ensures { result.now ≡ self.now.lists }
-    {
-        &self.lists
-    }
-
-    /// How many decisions stand in the base, and how many are kept.
-    #[tactic(auto, using(crate::proofs::Kept::all_counted))]
-    pub fn kept(&self) -> (u64, usize)
-        ensures base { result.0 ≡ self.now.history.base.decisions }
-        ensures kept { result.1 ≡ length self.now.history.kept }
-        ensures all { result.0 + result.1 ≡ self.now.lists.decisions }
-    {
-        let kept = self.history.kept.len();
-        (self.lists.decisions() - kept as u64, kept)
-    }
-
-    /// What is shown of the kept decisions, from the oldest on.
-    ///
-    /// `AllocError` where memory is refused.
-    #[tactic(auto, using(crate::proofs::Kept::all_counted))]
-    pub fn shown(&self, alloc: Global) -> Result<Vec<DecisionSeen>, AllocError>
-        ensures leads { LeadsTo self.now.history self.now.lists }
-        ensures shown { IfOk result (λ v. map as_shown v.items ≡ decisions_shown self.now.history) }
-    {
-        let before = self.lists.decisions() - self.history.kept.len() as u64;
-        all_shown(alloc, before, &self.history.kept)
-    }
-
-    /// What a link that is given back makes of the lists, by what it was started as, and the reply. It needs no memory.
-    #[tactic(auto, using(crate::proofs::Returns::return_last, crate::proofs::Returns::return_strange, crate::proofs::Returns::return_own, crate::proofs::Returns::noted_none))]
-    pub fn give_back(&mut self, pass: u64, number: u64, key: &StartKey, born: u64) -> Reply
-        ensures kept { Kept self.old.lists → Kept self.new.lists }
-        ensures lists { self.new.lists ≡ (apply_return self.old.lists number key.now born).book }
-        ensures reply { result ≡ (apply_return self.old.lists number key.now born).reply }
-        ensures history { self.new.history ≡ cond (is_started_as key.now born (find (is_link number) self.old.lists.lent)) (noted_of self.old.lists pass (GiveBack number) self.old.history) self.old.history }
-    {
-        if self.lists.decisions() == u64::MAX {
-            return Reply::Refuse(Refusal::LastDecision);
-        }
-        if !self.lists.is_lent_as(number, key, born) {
-            return Reply::Stranger;
-        }
-        let event = Event::GiveBack { link: number };
-        self.apply(pass, event, Event::GiveBack { link: number })
-    }
-
-    /// What an event makes of the lists, and its reply. A decision is kept. It needs no memory, so the event comes twice: for
-    /// the lists, and for its decision.
-    #[tactic(auto, using(crate::proofs::Kept::leads_on, crate::proofs::Kept::leads_still, crate::proofs::Kept::noted_on, crate::proofs::Kept::noted_still))]
-    pub fn apply(&mut self, pass: u64, event: Event, again: Event) -> Reply
-        requires { event_of again ≡ event_of event }
-        ensures lists { self.new.lists ≡ (apply self.old.lists (event_of event)).book }
-        ensures kept { Kept self.new.lists }
-        ensures reply { result ≡ (apply self.old.lists (event_of event)).reply }
-        ensures history { self.new.history ≡ noted_of self.old.lists pass (event_of event) self.old.history }
-    {
-        let before = self.lists.decisions();
-        let reply = self.lists.apply(event);
-        if self.lists.decisions() > before {
-            self.history.note(Decision {
-                pass,
-                event: again,
-                reply,
-            });
-        } else {
-            drop(again);
-        }
-        reply
     }
 }

@@ -2,7 +2,7 @@
 use book_model::events::ClientState;
 use book_model::limits::Limits;
 use book_model::rows::{Row, Rows};
-use book_register::lists::Lists;
+use book_register::book_state::BookState;
 use book_register::view::BookView;
 use book_rows::clients::Client;
 use book_rows::links::Link;
@@ -79,7 +79,7 @@ fn link(alloc: Global, number: u64, user: &[u8]) -> Result<Link, AllocError> {
 
 /// Two links that ann's clients have, one that is idle, and a client of hers that has waited for three seconds. The pool is paused.
 pub(crate) fn view(alloc: Global) -> Result<BookView, AllocError> {
-    let mut view = Lists::new(alloc, limits(alloc)?)?.view(alloc)?;
+    let mut view = BookState::new(alloc, limits(alloc)?)?.view(alloc)?;
     let clients = [
         (1, ClientState::Active),
         (2, ClientState::Waiting),

@@ -97,16 +97,16 @@ pub fn view_of(
     book: &Book<GoneEnd>,
     out: &mut Vec<u8>,
 ) -> Result<BookView, AllocError> {
-    let decisions = book.decisions();
-    match book.view(alloc) {
+    let decisions = book.lists().decisions();
+    match book.lists().view(alloc) {
         Ok(view) => Ok(view),
         Err(_) => {
             put_unless(
-                book.decisions() == decisions,
+                book.lists().decisions() == decisions,
                 b"a view changes the book",
                 out,
             )?;
-            book.view(alloc)
+            book.lists().view(alloc)
         }
     }
 }

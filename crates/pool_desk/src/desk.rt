@@ -287,14 +287,15 @@ impl<R: Wait + Clock, S: Outside, K: Ledgers> Desk<R, S, K> {
         }
     }
 
-    /// An event that is always a decision, but for the last one.
+    /// An event that is always a decision, but for the last one, in one hold of the lock.
     fn change(&self, pass: &mut Pass<K>, event: Event<S::End>) -> Changed
         requires twice { IsTwice event }
         requires change { is_change event ≡ true }
         ensures told { pass.new.told ≡ after_change pass.old.told result }
         ensures holder { pass.new.holder ≡ record pass.old.holder { last = Some (call_of event) } }
     {
-        match self.hold(pass, event) {
+        let core = self.core.lock(&self.rt);
+        match self.decide(core, pass, event) {
             Reply::Done => Changed::Done,
             Reply::Refuse(..) => Changed::Last,
             _ => unreachable!(),

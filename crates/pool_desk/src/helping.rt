@@ -52,7 +52,7 @@ impl<S: Outside, K: Ledgers> Core<S, K> {
     pub fn helped_behind(&self, client: u64) -> Helps
         ensures { result ≡ helped_behind self.now.book.lists client }
     {
-        match self.book.waiting_behind(client) {
+        match self.book.lists().waiting_behind(client) {
             Some(next) => Helps::One(next),
             None => Helps::Nobody,
         }
@@ -62,10 +62,10 @@ impl<S: Outside, K: Ledgers> Core<S, K> {
     fn helped_by_link(&self, link: u64) -> Helps
         ensures { result ≡ helped_by_link self.now.book.lists link }
     {
-        if self.book.is_full() {
+        if self.book.lists().is_full() {
             return Helps::FirstOfEach;
         }
-        match self.book.waiting_for(link) {
+        match self.book.lists().waiting_for(link) {
             Some(next) => Helps::One(next),
             None => Helps::Nobody,
         }
@@ -75,7 +75,7 @@ impl<S: Outside, K: Ledgers> Core<S, K> {
     pub fn first_of_each(&self) -> Chosen
         ensures { ChoosesFirsts self.now.book.lists result }
     {
-        bells_of(self.book.firsts())
+        bells_of(self.book.lists().firsts())
     }
 }
 

@@ -3,7 +3,7 @@
 ghost use Rattle.std.specs.Prelude.{◌≡◌, ◌<◌, ◌≤◌, ◌^◌, ◌||◌, [], IfOk, IfErr, IfSome, IfNone, Some, map, vec_len, suc, ◌≢◌};
 ghost use Rattle.std.specs.Arc.{arc_value};
 ghost use Rattle.book_model.specs.Book.{empty_book};
-ghost use Rattle.book_model.specs.Kept.{FitsLimits, Kept, KeptLimits, total};
+ghost use Rattle.book_model.specs.Kept.{Kept, total};
 ghost use Rattle.book_model.specs.Outcomes.{apply};
 ghost use Rattle.book_model.specs.Outcomes.Event.{Take};
 ghost use Rattle.book_model.specs.Replay.{noted_of};
@@ -60,24 +60,6 @@ fn totals_of(decisions: u64, counts: Counts) -> Totals
     }
 }
 
-/// All settings fit.
-fn fits(limits: &Limits)
-    ensures { KeptLimits limits.now }
-{
-    // for the prover: a look into the limits, whose type keeps them within what a book can hold
-    let _ = &limits.max_links;
-}
-
-/// Those of an event, too.
-fn event_fits<E: ServerEnd>(event: &Event<E>)
-    ensures { FitsLimits (plain event.now) }
-{
-    match event {
-        Event::Limits(limits, _) => fits(limits),
-        _ => {}
-    }
-}
-
 /// Whether nothing more is promised of a pass after this reply.
 fn breaks<E: ServerEnd>(reply: &Reply<E>) -> bool
     ensures { result ≡ breaks (reply_of reply.now) }
@@ -122,7 +104,6 @@ impl<S: Outside, K: Ledgers> Core<S, K> {
         ensures lists { IfOk result (λ c. c.book.lists ≡ empty_book (arc_value limits)) }
         ensures given { IfOk result (λ c. c.given ≡ 0) }
     {
-        fits(&limits);
         let book = Book::new(alloc, limits)?;
         let (tallies, uncut) = Tallies::open(blanks);
         Ok(Core {
@@ -167,10 +148,10 @@ impl<S: Outside, K: Ledgers> Core<S, K> {
         ensures holder { pass.new.holder ≡ heard pass.old.holder (call_of event) result }
         ensures given { self.new.given ≡ self.old.given }
     {
-        event_fits(&event);
         let call = call_of(&event);
         let reply = self.book.apply(pass.number(), event);
-        let totals = totals_of(self.book.decisions(), self.book.counts());
+        let lists = self.book.lists();
+        let totals = totals_of(lists.decisions(), lists.counts());
         let holder = heard(pass.holder(), call, &reply);
         self.tallies.count(pass, totals, breaks(&reply), holder);
         reply
@@ -184,7 +165,7 @@ impl<S: Outside, K: Ledgers> Core<S, K> {
         match event {
             Event::GiveBack(link) => self.wants.call(link.key()),
             Event::Lost { number } => {
-                let key = self.book.lent_key(*number)?;
+                let key = self.book.lists().lent_key(*number)?;
                 self.wants.call(key)
             }
             Event::Leave { client } => self.wants.remove(*client),
@@ -202,7 +183,8 @@ impl<S: Outside, K: Ledgers> Core<S, K> {
         let Ok(pool) = Arc::try_clone(key) else {
             return Place::Nowhere;
         };
-        if self.book.is_shut() || self.book.lent_in_pool(&PoolKey::new(pool)) == 0 {
+        let lists = self.book.lists();
+        if lists.is_shut() || lists.lent_in_pool(&PoolKey::new(pool)) == 0 {
             return Place::Nowhere;
         }
         if !waits && self.wants.push(client, key).is_err() {
@@ -256,7 +238,7 @@ impl<S: Outside, K: Ledgers> Core<S, K> {
         ensures same { self.new ≡ self.old }
     {
         self.tallies.compare(pass);
-        self.book.view(alloc)
+        self.book.lists().view(alloc)
     }
 
     /// What is shown of the decisions that the book keeps.
@@ -272,14 +254,14 @@ impl<S: Outside, K: Ledgers> Core<S, K> {
 
     /// How many decisions there were.
     pub fn decisions(&self) -> u64 {
-        self.book.decisions()
+        self.book.lists().decisions()
     }
 
     /// Whether no client is let in any more.
     pub fn is_shut(&self) -> bool
         ensures { result ≡ self.now.book.lists.is_shut }
     {
-        self.book.is_shut()
+        self.book.lists().is_shut()
     }
 
     /// The book's decisions by class, which are those made through all passes together. `Err`: these are not as many passes as
@@ -300,6 +282,7 @@ impl<S: Outside, K: Ledgers> Core<S, K> {
             ..
         } = self;
         tallies.settle(uncut, passes);
-        Ok(totals_of(book.decisions(), book.counts()))
+        let lists = book.lists();
+        Ok(totals_of(lists.decisions(), lists.counts()))
     }
 }

@@ -25,7 +25,7 @@ use denote.Triple.Entry.{alive}
 use denote.Triple.Spec.{Meets, triple_of}
 use denote.Triple.Table.{entered}
 use denote.Triple.Walked.{says, Stays, stay_dropped, walk_of, ends_at, walk_Meets, Goes-dropped}
-use Rattle.book_register.specs.contracts.lists.Lists as Lists
+use Rattle.book_register.specs.contracts.book_state.BookState as Lists
 use Rattle.lease_book.specs.declared.base.Base.{Base}
 use Rattle.lease_book.specs.contracts.base.Base as T
 use Rattle.lease_book.specs.contracts.base.Base.of.Key.{name as #it}

@@ -1,23 +1,23 @@
 use Rattle.std.proofs.Common.{◌≡◌, ◌∙◌, sym, ap}
 use Rattle.std.specs.Prelude.{◌||◌}
+use Rattle.book_model.specs.Book.{Book}
 use Rattle.lease_book.specs.Links.{reply_of}
 use Rattle.desk_tallies.specs.Shares.{made_of}
 use Rattle.pool_desk.specs.Classes.{class_counts}
 use Rattle.pool_desk.proofs.Telling.{pass_tells, totals_rise}
 use Rattle.pool_desk.proofs.Homes.{comes_home, stay_home}
-use Rattle.pool_desk.proofs.Keeping.{stay_kept}
 use Rattle.pool_desk.proofs.inner.Core.apply.Goals as goal
 
 pub count-requires : goal.count-requires
 count-requires g c =
     let lists = c.apply-reply.new.self.lists in
-    let now : made_of c.totals_of-totals.result ≡ class_counts lists.counts = c.totals_of-totals.ensures ∙ ap class_counts c.counts.ensures.counts in
+    let now : made_of c.totals_of-totals.result ≡ class_counts lists.counts = c.totals_of-totals.ensures ∙ ap class_counts (c.counts.ensures ∙ ap (λ (b : Book). b.counts) c.lists-lists.ensures.lists) in
     record { more = totals_rise c.self.inside.book.lists c.args.event lists c.self.inside.tallies (made_of c.totals_of-totals.result) c.self.invariant.counted c.apply-reply.ensures.lists now }
 
 pub invariant_of-self : goal.invariant_of-self
 invariant_of-self g c = record {
-  kept = stay_kept c.self.inside.book.lists c.apply-reply.new.self.lists c.args.event c.event_fits.ensures c.self.invariant.kept c.apply-reply.ensures.lists;
-  counted = sym (c.count.ensures.count ∙ c.totals_of-totals.ensures ∙ ap class_counts c.counts.ensures.counts);
+  kept = c.apply-reply.ensures.kept;
+  counted = sym (c.count.ensures.count ∙ c.totals_of-totals.ensures ∙ ap class_counts (c.counts.ensures ∙ ap (λ (b : Book). b.counts) c.lists-lists.ensures.lists));
   at_home = stay_home g.S.Outside.home c.args.event _ c.self.inside.book.idle c.apply-reply.new.self.idle c.self.invariant.at_home c.requires.home c.apply-reply.ensures.idle;
   parts = c.self.invariant.parts;
   some_left = c.self.invariant.some_left;
@@ -30,6 +30,6 @@ returns-clause-home g c = comes_home g.S.Outside.home c.args.event _ c.self.insi
 pub returns-clause-told : goal.returns-clause-told
 returns-clause-told g c =
     let lists = c.apply-reply.new.self.lists in
-    let now : made_of c.totals_of-totals.result ≡ class_counts lists.counts = c.totals_of-totals.ensures ∙ ap class_counts c.counts.ensures.counts in
+    let now : made_of c.totals_of-totals.result ≡ class_counts lists.counts = c.totals_of-totals.ensures ∙ ap class_counts (c.counts.ensures ∙ ap (λ (b : Book). b.counts) c.lists-lists.ensures.lists) in
     pass_tells c.self.inside.book.lists c.args.event lists (reply_of c.apply-reply.result) c.self.inside.tallies (made_of c.totals_of-totals.result) c.args.pass.now.told c.count.new.pass.told
     c.self.invariant.counted c.apply-reply.ensures.lists c.apply-reply.ensures.reply now c.count.ensures.made (c.count.ensures.broken ∙ ap (λ b. b || c.args.pass.now.told.is_broken) c.breaks.ensures)

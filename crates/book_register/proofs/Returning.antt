@@ -1,0 +1,47 @@
+-- A link that is given back, by what it was started as: the three ways, and what is decided by them.
+use Rattle.std.proofs.Common.{◌≡◌, ℕ, Bool, true, false, cond, refl, sym, ap, ◌∙◌}
+use Rattle.std.specs.Prelude.{find, ◌==◌}
+use Rattle.message_view.specs.declared.refusal.Refusal.TheVariants.{LastDecision}
+use Rattle.session_values.specs.State.{StartKeyOf}
+use Rattle.book_model.specs.Book.{Book, is_link}
+use Rattle.book_model.specs.Outcomes.{Answer, Event, apply, apply_return, decided, is_started_as, is_strange, last_decision, outcome}
+use Rattle.book_model.specs.Outcomes.Event.{GiveBack}
+use Rattle.book_model.specs.declared.events.Reply.TheVariants.{Refuse, Stranger}
+
+pub return_last : (b : Book) (n : ℕ) (key : StartKeyOf) (born : ℕ) → (b.decisions == last_decision) ≡ true → apply_return b n key born ≡ record { book = b; reply = Refuse LastDecision }
+unfolding apply_return
+return_last b n key born e = ap (λ (x : Bool). cond {A = Answer} x (record { book = b; reply = Refuse LastDecision }) (cond (is_started_as key born (find (is_link n) b.lent)) (apply b (GiveBack n)) (record { book = b; reply = Stranger }))) e
+
+pub return_strange : (b : Book) (n : ℕ) (key : StartKeyOf) (born : ℕ) → (b.decisions == last_decision) ≡ false → is_started_as key born (find (is_link n) b.lent) ≡ false → apply_return b n key born ≡ record { book = b; reply = Stranger }
+unfolding apply_return
+return_strange b n key born e s =
+    ap (λ (x : Bool). cond {A = Answer} x (record { book = b; reply = Refuse LastDecision }) (cond (is_started_as key born (find (is_link n) b.lent)) (apply b (GiveBack n)) (record { book = b; reply = Stranger }))) e
+    ∙ ap (λ (x : Bool). cond {A = Answer} x (apply b (GiveBack n)) (record { book = b; reply = Stranger })) s
+
+pub return_own : (b : Book) (n : ℕ) (key : StartKeyOf) (born : ℕ) → (b.decisions == last_decision) ≡ false → is_started_as key born (find (is_link n) b.lent) ≡ true → apply_return b n key born ≡ apply b (GiveBack n)
+unfolding apply_return
+return_own b n key born e s =
+    ap (λ (x : Bool). cond {A = Answer} x (record { book = b; reply = Refuse LastDecision }) (cond (is_started_as key born (find (is_link n) b.lent)) (apply b (GiveBack n)) (record { book = b; reply = Stranger }))) e
+    ∙ ap (λ (x : Bool). cond {A = Answer} x (apply b (GiveBack n)) (record { book = b; reply = Stranger })) s
+
+-- ---- at the last decision and before it alike
+
+apply_last : (b : Book) (e : Event) → (b.decisions == last_decision) ≡ true → apply b e ≡ record { book = b; reply = Refuse LastDecision }
+unfolding apply
+apply_last b e last = ap (λ (x : Bool). cond {A = Answer} x (record { book = b; reply = Refuse LastDecision }) (cond (is_strange b e) (record { book = b; reply = Stranger }) (decided b e (outcome b e)))) last
+
+-- one that was started so is the event's own
+pub own_return : (b : Book) (n : ℕ) (key : StartKeyOf) (born : ℕ) → is_started_as key born (find (is_link n) b.lent) ≡ true → apply_return b n key born ≡ apply b (GiveBack n)
+own_return b n key born own = by_last (b.decisions == last_decision) refl
+  where
+    by_last : (last : Bool) → (b.decisions == last_decision) ≡ last → apply_return b n key born ≡ apply b (GiveBack n)
+    by_last true is = return_last b n key born is ∙ sym (apply_last b (GiveBack n) is)
+    by_last false is = return_own b n key born is own
+
+-- one that wasn't changes nothing
+pub stray_return : (b : Book) (n : ℕ) (key : StartKeyOf) (born : ℕ) → is_started_as key born (find (is_link n) b.lent) ≡ false → (apply_return b n key born).book ≡ b
+stray_return b n key born stray = by_last (b.decisions == last_decision) refl
+  where
+    by_last : (last : Bool) → (b.decisions == last_decision) ≡ last → (apply_return b n key born).book ≡ b
+    by_last true is = ap (λ (a : Answer). a.book) (return_last b n key born is)
+    by_last false is = ap (λ (a : Answer). a.book) (return_strange b n key born is stray)
