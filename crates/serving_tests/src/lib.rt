@@ -1,21 +1,5 @@
-//! What a worker tells its client, and what becomes of its link: a table of all ends that a client's time can have.
+//! What a worker gives a client that it serves, and what becomes of its link: rows of all such ends.
 #![tactic(auto)]
 
 #[cfg(test)]
-mod gates;
-#[cfg(test)]
-mod guests;
-#[cfg(test)]
-mod meanwhile;
-#[cfg(test)]
-mod places;
-#[cfg(test)]
-mod refused_rows;
-#[cfg(test)]
-mod rows;
-#[cfg(test)]
 mod served_rows;
-#[cfg(test)]
-mod servers;
-#[cfg(test)]
-mod serving;

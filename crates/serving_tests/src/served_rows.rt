@@ -1,110 +1,90 @@
 //! Clients that are served, and what becomes of their links.
-use crate::guests::Talk;
-use crate::meanwhile::{Act, Moment};
-use crate::rows::{Client, Last, NONE, QUIET, Row, Under};
-use crate::servers::Behind;
 use desk_tallies::passes::Totals;
+use serving_parts::{
+    ASKED, Act, Behind, Client, LEAVES, Last, Moment, NONE, QUIET, Row, SHOWS, STAYS, Talk,
+    UP_TO_KEY, Under, departure,
+};
+use std::test::Fail;
 
-/// A client leaves once it is welcomed, in second 5: the next has its link, which needs no reset.
-pub(crate) fn unused() -> Row {
+/// The second client comes and leaves once it is welcomed.
+const LEAVES_TOO: Client = Client {
+    last: Last::Welcome(2),
+    ..LEAVES
+};
+
+/// Of a client that is lent a link and gives it back: it asked for that, and its lease was keyed and ended.
+const LENT: Totals = Totals {
+    arrived: 1,
+    granted: 1,
+    given_back: 1,
+    left: 1,
+    others: 3,
+    ..NONE
+};
+
+/// Of two such clients.
+const LENT_TWICE: Totals = Totals {
+    arrived: 2,
+    granted: 2,
+    given_back: 2,
+    left: 2,
+    others: 6,
+    ..NONE
+};
+
+/// All of them.
+static ROWS: [Row; 12] = [
+    // a client leaves once it is welcomed, in second 5: the next has its link, which needs no reset
     Row {
+        name: "unused",
         first: Act::Tick(5),
-        served: &[
-            Client {
-                talk: Talk::Leaves,
-                under: Under::Trust,
-                before: 246,
-                last: Last::Welcome(1),
-            },
-            Client {
-                talk: Talk::Leaves,
-                under: Under::Trust,
-                before: 246,
-                last: Last::Welcome(2),
-            },
-        ],
+        served: &[LEAVES, LEAVES_TOO],
         idle: &[1],
-        sums: [1, 1, 0, 0, 0],
+        starts: 1,
+        reuses: 1,
         totals: Totals {
-            arrived: 2,
-            granted: 2,
-            given_back: 2,
-            left: 2,
             others: 7,
-            ..NONE
+            ..LENT_TWICE
         },
         ..QUIET
-    }
-}
-
-/// A link that was used is reset for the next client, by a server that takes and gives one byte at a turn.
-pub(crate) fn reset_byte_by_byte() -> Row {
+    },
+    // a link that was used is reset for the next client, by a server that takes and gives one byte at a turn
     Row {
+        name: "reset byte by byte",
         behind: Behind::Slow,
-        served: &[
-            Client {
-                talk: Talk::Shows,
-                under: Under::Trust,
-                before: 260,
-                last: Last::Name,
-            },
-            Client {
-                talk: Talk::Leaves,
-                under: Under::Trust,
-                before: 246,
-                last: Last::Welcome(2),
-            },
-        ],
+        served: &[SHOWS, LEAVES_TOO],
         idle: &[1],
-        sums: [1, 1, 0, 0, 0],
-        seen: [0, 1],
-        totals: Totals {
-            arrived: 2,
-            granted: 2,
-            given_back: 2,
-            left: 2,
-            others: 6,
-            ..NONE
-        },
+        starts: 1,
+        reuses: 1,
+        resets: 1,
+        totals: LENT_TWICE,
         ..QUIET
-    }
-}
-
-/// A client leaves as soon as it has asked: it was given its answer before, and its link is reset.
-pub(crate) fn left_at_once() -> Row {
+    },
+    // a client leaves as soon as it has asked: it was given its answer before, and its link is reset
     Row {
+        name: "left at once",
         served: &[Client {
             talk: Talk::ShowsAndLeaves,
-            under: Under::Trust,
-            before: 260,
-            last: Last::Name,
+            ..SHOWS
         }],
         idle: &[1],
-        sums: [1, 0, 0, 0, 0],
-        seen: [0, 1],
-        totals: Totals {
-            arrived: 1,
-            granted: 1,
-            given_back: 1,
-            left: 1,
-            others: 3,
-            ..NONE
-        },
+        starts: 1,
+        resets: 1,
+        totals: LENT,
         ..QUIET
-    }
-}
-
-/// A client leaves a block open: its link is closed, and its server is told so.
-pub(crate) fn left_in_a_block() -> Row {
+    },
+    // a client leaves a block open: its link is closed, and its server is told so
     Row {
+        name: "left in a block",
         served: &[Client {
             talk: Talk::Begins,
-            under: Under::Trust,
-            before: 260,
             last: Last::Begun,
+            ..SHOWS
         }],
-        sums: [1, 0, 0, 1, 0],
-        seen: [1, 0],
+        starts: 1,
+        losses: 1,
+        terminates: 1,
+        // it asked for a link, and its lease was keyed
         totals: Totals {
             arrived: 1,
             granted: 1,
@@ -114,248 +94,152 @@ pub(crate) fn left_in_a_block() -> Row {
             ..NONE
         },
         ..QUIET
-    }
-}
-
-/// A message of the greatest length is answered.
-pub(crate) fn longest_message() -> Row {
+    },
+    // a message of the greatest length is answered
     Row {
+        name: "longest message",
         served: &[Client {
             talk: Talk::Longest,
             under: Under::Short,
-            before: 260,
             last: Last::Empty,
+            ..SHOWS
         }],
         idle: &[1],
-        sums: [1, 0, 0, 0, 0],
-        seen: [0, 1],
-        totals: Totals {
-            arrived: 1,
-            granted: 1,
-            given_back: 1,
-            left: 1,
-            others: 3,
-            ..NONE
-        },
+        starts: 1,
+        resets: 1,
+        totals: LENT,
         ..QUIET
-    }
-}
-
-/// A client is asked for its password, and knows it.
-pub(crate) fn right_password() -> Row {
+    },
+    // a client is asked for its password, and knows it
     Row {
+        name: "right password",
         served: &[Client {
             talk: Talk::RightPassword,
             under: Under::Md5,
-            before: 259,
-            last: Last::Welcome(1),
+            before: ASKED + UP_TO_KEY,
+            ..LEAVES
         }],
         idle: &[1],
-        sums: [1, 0, 0, 0, 0],
-        totals: Totals {
-            arrived: 1,
-            granted: 1,
-            given_back: 1,
-            left: 1,
-            others: 3,
-            ..NONE
-        },
+        starts: 1,
+        totals: LENT,
         ..QUIET
-    }
-}
-
-/// Pools may have no link any more while a client has one: it is closed when it comes back.
-pub(crate) fn too_many_links() -> Row {
+    },
+    // pools may have no link any more while a client has one: it is closed when it comes back
     Row {
+        name: "too many links",
         act: Act::Pools(0),
         moment: Moment::AtTurn,
-        served: &[Client {
-            talk: Talk::Leaves,
-            under: Under::Trust,
-            before: 246,
-            last: Last::Welcome(1),
-        }],
-        sums: [1, 0, 0, 0, 0],
-        seen: [1, 0],
-        totals: Totals {
-            arrived: 1,
-            granted: 1,
-            given_back: 1,
-            left: 1,
-            others: 4,
-            ..NONE
-        },
+        served: &[LEAVES],
+        starts: 1,
+        terminates: 1,
+        totals: Totals { others: 4, ..LENT },
         ..QUIET
-    }
-}
-
-/// The shutdown comes while a client has a link: it is served to its end, and the link is closed when it comes back.
-pub(crate) fn shut_while_served() -> Row {
+    },
+    // the shutdown comes while a client has a link: it is served to its end, and the link is closed when it comes back
     Row {
+        name: "shut while served",
         act: Act::Shutdown,
         moment: Moment::AtTurn,
-        served: &[Client {
-            talk: Talk::Leaves,
-            under: Under::Trust,
-            before: 246,
-            last: Last::Welcome(1),
-        }],
-        sums: [1, 0, 0, 0, 0],
-        seen: [1, 0],
-        totals: Totals {
-            arrived: 1,
-            granted: 1,
-            given_back: 1,
-            left: 1,
-            others: 4,
-            ..NONE
-        },
+        served: &[LEAVES],
+        starts: 1,
+        terminates: 1,
+        totals: Totals { others: 4, ..LENT },
         ..QUIET
-    }
-}
-
-/// A pool of one link, and a client of another key: the first one's link is closed, and its server is told so.
-pub(crate) fn evicted() -> Row {
+    },
+    // a pool of one link, and a client of another key: the first one's link is closed, and its server is told so
     Row {
+        name: "evicted",
         pool: 1,
+        // the parameter's value is of one byte, and they are told it
         served: &[
             Client {
                 talk: Talk::LeavesAsA,
-                under: Under::Trust,
-                before: 247,
-                last: Last::Welcome(1),
+                before: UP_TO_KEY + 1,
+                ..LEAVES
             },
             Client {
                 talk: Talk::LeavesAsB,
-                under: Under::Trust,
-                before: 247,
-                last: Last::Welcome(2),
+                before: UP_TO_KEY + 1,
+                ..LEAVES_TOO
             },
         ],
         idle: &[2],
-        sums: [2, 0, 1, 0, 0],
-        seen: [1, 0],
-        totals: Totals {
-            arrived: 2,
-            granted: 2,
-            given_back: 2,
-            left: 2,
-            others: 6,
-            ..NONE
-        },
+        starts: 2,
+        evictions: 1,
+        terminates: 1,
+        totals: LENT_TWICE,
         ..QUIET
-    }
-}
-
-/// A cancel comes while a client has a link: that is closed at the end of its lease, and its server is told so. The next client has
-/// another link, which the first one's key word doesn't find: it is kept.
-pub(crate) fn cancelled() -> Row {
+    },
+    // a cancel comes while a client has a link: that is closed at the end of its lease, and its server is told so. The next client has
+    // another link, which the first one's key word doesn't find: it is kept
     Row {
+        name: "cancelled",
         pool: 1,
         act: Act::Cancel(1),
         moment: Moment::AtLease,
-        served: &[
-            Client {
-                talk: Talk::Shows,
-                under: Under::Trust,
-                before: 260,
-                last: Last::Name,
-            },
-            Client {
-                talk: Talk::Shows,
-                under: Under::Trust,
-                before: 260,
-                last: Last::Name,
-            },
-        ],
+        served: &[SHOWS, SHOWS],
         idle: &[2],
-        sums: [2, 0, 0, 1, 0],
-        seen: [1, 1],
+        starts: 2,
+        losses: 1,
+        terminates: 1,
+        resets: 1,
+        // two questions, two leases that are keyed, a cancel, two ends
         totals: Totals {
-            arrived: 2,
-            granted: 2,
             given_back: 1,
             lost: 1,
-            left: 2,
-            // two questions, two leases that are keyed, a cancel, two ends
             others: 7,
+            ..LENT_TWICE
         },
         ..QUIET
-    }
-}
-
-/// The same of a client that asks for nothing: its link, which needs no reset, isn't kept either.
-pub(crate) fn cancelled_unused() -> Row {
+    },
+    // the same of a client that asks for nothing: its link, which needs no reset, isn't kept either
     Row {
+        name: "cancelled unused",
         pool: 1,
         act: Act::Cancel(1),
         moment: Moment::AtLease,
-        served: &[
-            Client {
-                talk: Talk::Leaves,
-                under: Under::Trust,
-                before: 246,
-                last: Last::Welcome(1),
-            },
-            Client {
-                talk: Talk::Leaves,
-                under: Under::Trust,
-                before: 246,
-                last: Last::Welcome(2),
-            },
-        ],
+        served: &[LEAVES, LEAVES_TOO],
         idle: &[2],
-        sums: [2, 0, 0, 1, 0],
-        seen: [1, 0],
+        starts: 2,
+        losses: 1,
+        terminates: 1,
         totals: Totals {
-            arrived: 2,
-            granted: 2,
             given_back: 1,
             lost: 1,
-            left: 2,
             others: 7,
+            ..LENT_TWICE
         },
         ..QUIET
-    }
-}
-
-/// One client may be there. A CancelRequest comes once the client has gone whose key word it has: it is given no byte, takes no place
-/// and makes no decision, and the next client has the same link.
-pub(crate) fn cancelled_too_late() -> Row {
+    },
+    // one client may be there. A CancelRequest comes once the client has gone whose key word it has: it is given no byte, takes no place
+    // and makes no decision, and the next client has the same link
     Row {
+        name: "cancelled too late",
         clients: 1,
         pool: 1,
         served: &[
-            Client {
-                talk: Talk::Leaves,
-                under: Under::Trust,
-                before: 246,
-                last: Last::Welcome(1),
-            },
+            LEAVES,
             Client {
                 talk: Talk::Cancels,
-                under: Under::Trust,
-                before: 0,
-                last: Last::Nothing,
+                ..STAYS
             },
-            Client {
-                talk: Talk::Shows,
-                under: Under::Trust,
-                before: 260,
-                last: Last::Name,
-            },
+            SHOWS,
         ],
         idle: &[1],
-        sums: [1, 1, 0, 0, 0],
-        seen: [0, 1],
-        totals: Totals {
-            arrived: 2,
-            granted: 2,
-            given_back: 2,
-            left: 2,
-            others: 6,
-            ..NONE
-        },
+        starts: 1,
+        reuses: 1,
+        resets: 1,
+        totals: LENT_TWICE,
         ..QUIET
+    },
+];
+
+#[test]
+fn each_link_is_kept_or_closed(rt: HostRuntime) -> Result<(), Fail> {
+    for row in &ROWS {
+        let name = row.name;
+        let fault = departure(rt, rt.alloc(), row)?;
+        assert!(rt; fault.is_empty(), "{name}: {fault}");
     }
+    Ok(())
 }

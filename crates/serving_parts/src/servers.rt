@@ -1,7 +1,7 @@
 //! Servers of the tests, and how they are reached.
 ghost use Rattle.std.specs.Prelude.{◌≡◌, ◌<◌, ◌≤◌, [], length, true};
 ghost use Rattle.link_laws.specs.Standing.{Moves};
-ghost use Rattle.serving_tests.specs.Ends.{unfollowed};
+ghost use Rattle.serving_parts.specs.Ends.{unfollowed};
 ghost use Rattle.server_end.specs.Moves.{CountsRead, CountsWrite, IsWithin, moved};
 
 use credentials::Credential;
@@ -20,7 +20,7 @@ use std::sync::atomic::{AtomicU64, Ordering};
 
 /// What stands behind all addresses.
 #[derive(Clone, Copy, Drop)]
-pub(crate) enum Behind {
+pub enum Behind {
     /// Servers that answer.
     Sessions,
     /// The same, of whose bytes a call moves one.
@@ -100,7 +100,7 @@ impl TestServer {
 }
 
 impl ServerEnd for TestServer {
-    ghost use Rattle.serving_tests.specs.Ends.{unfollowed};
+    ghost use Rattle.serving_parts.specs.Ends.{unfollowed};
 
     ghost standing = { λ s. unfollowed s.server.standing s.given.bytes };
 

@@ -10,7 +10,7 @@ use std::alloc::{AllocError, Global};
 
 /// What a client says. Those that leave do so by a Terminate.
 #[derive(Clone, Copy, Drop)]
-pub(crate) enum Talk {
+pub enum Talk {
     /// Its StartupMessage alone: it stays.
     Stays,
     /// It leaves once it is welcomed.
@@ -167,7 +167,7 @@ impl Guest {
 }
 
 impl ClientEnd for Guest {
-    ghost use Rattle.serving_tests.specs.Ends.{untold};
+    ghost use Rattle.serving_parts.specs.Ends.{untold};
 
     ghost facts = { λ g. untold g.client.facts };
 

@@ -22,7 +22,7 @@ pub(crate) type TestDesk<R, K> = Desk<R, Servers, K>;
 
 /// What happens.
 #[derive(Clone, Copy, Drop)]
-pub(crate) enum Act {
+pub enum Act {
     Nothing,
     /// A client comes.
     Comes,
@@ -38,7 +38,7 @@ pub(crate) enum Act {
 
 /// When it happens.
 #[derive(Clone, Copy, Drop)]
-pub(crate) enum Moment {
+pub enum Moment {
     Never,
     /// At the first turn of a client's gate, which lasts until it has happened.
     AtTurn,

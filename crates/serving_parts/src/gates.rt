@@ -9,7 +9,7 @@ use std::sync::atomic::{AtomicBool, AtomicU64, Ordering};
 
 /// A clock that goes by turns.
 #[derive(Clone, Copy, Drop)]
-pub(crate) enum TurnClock {
+pub enum TurnClock {
     /// It stands still, so that nobody is ever late.
     Still,
     /// So many seconds are left of the time that a worker has; none where that has no end.

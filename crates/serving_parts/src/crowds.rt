@@ -3,9 +3,9 @@ ghost use Rattle.std.specs.Prelude.{◌≡◌};
 ghost use Rattle.desk_tallies.specs.declared.passes.TheConstants.{ALL_PARTS};
 ghost use Rattle.desk_tallies.specs.Shares.{names_of, of_each, parts_of};
 
-use crate::guests::{Guest, Talk};
+use crate::guests::Guest;
 use crate::meanwhile::TestDesk;
-use crate::rows::{Client, Last, Under};
+use crate::rows::Client;
 use crate::servers::{Behind, Servers};
 use crate::serving::is_told;
 use book_model::events::Beyond;
@@ -13,7 +13,6 @@ use desk_tallies::ledgers::Ledgers;
 use desk_tallies::passes::Pass;
 use desk_tallies::tallies::Blanks;
 use link_desk::desk::LinkDesk;
-use message_view::Refusal;
 use play_tests::files::catalogue;
 use pool_desk::desk::Desk;
 use pool_tests::worker_parts::{CUT, TestRuntime, limits, login_by, serve_from};
@@ -24,82 +23,11 @@ use std::test::Fail;
 
 /// So many clients are there; the next comes from this host, and says and is told this.
 #[derive(Clone, Copy, Drop)]
-struct Crowd {
-    count: u32,
-    host: &'static str,
-    next: Client,
+pub struct Crowd {
+    pub count: u32,
+    pub host: &'static str,
+    pub next: Client,
 }
-
-const OF_DATABASE: Client = Client {
-    talk: Talk::Stays,
-    under: Under::Trust,
-    before: 0,
-    last: Last::Refusal(Refusal::TooManyClients),
-};
-
-const AT_CONSOLE: Client = Client {
-    talk: Talk::ToConsole,
-    under: Under::Admin,
-    // AuthenticationOk, three reports, its key word and ReadyForQuery
-    before: 105,
-    last: Last::Version,
-};
-
-const SHUT_OUT: Client = Client {
-    last: Last::Refusal(Refusal::TooManyClients),
-    before: 0,
-    ..AT_CONSOLE
-};
-
-/// Ann isn't one of the console's users.
-const STRANGER: Client = Client {
-    talk: Talk::ToConsole,
-    ..OF_DATABASE
-};
-
-/// One client may be there: beyond that the console has 64 places, and 80 for clients that come over a Unix socket.
-const CROWDS: [Crowd; 8] = [
-    Crowd {
-        count: 1,
-        host: "127.0.0.1",
-        next: OF_DATABASE,
-    },
-    Crowd {
-        count: 1,
-        host: "unix",
-        next: OF_DATABASE,
-    },
-    Crowd {
-        count: 1,
-        host: "unix",
-        next: STRANGER,
-    },
-    Crowd {
-        count: 1,
-        host: "127.0.0.1",
-        next: AT_CONSOLE,
-    },
-    Crowd {
-        count: 64,
-        host: "127.0.0.1",
-        next: AT_CONSOLE,
-    },
-    Crowd {
-        count: 65,
-        host: "127.0.0.1",
-        next: SHUT_OUT,
-    },
-    Crowd {
-        count: 80,
-        host: "unix",
-        next: AT_CONSOLE,
-    },
-    Crowd {
-        count: 81,
-        host: "unix",
-        next: SHUT_OUT,
-    },
-];
 
 /// So many clients come, each by a pass of its own.
 fn come<R: TestRuntime, K: Ledgers>(
@@ -118,8 +46,8 @@ fn come<R: TestRuntime, K: Ledgers>(
     Ok(passes)
 }
 
-/// Whether the next client says and is told what it is to say and to be told.
-fn is_right<R: TestRuntime, K: Ledgers>(
+/// Whether the next client is told what it is to be told, by a desk over new ledgers.
+fn is_next_told_over<R: TestRuntime, K: Ledgers>(
     rt: R,
     alloc: Global,
     blanks: Blanks,
@@ -144,19 +72,7 @@ fn is_right<R: TestRuntime, K: Ledgers>(
     Ok(is_told(guest.given(), &client))
 }
 
-/// The same over new ledgers.
-fn goes_as_told<R: TestRuntime>(rt: R, alloc: Global, crowd: &Crowd) -> Result<bool, Fail> {
-    is_right::<R, Brand>(rt, alloc, Blanks::new(), crowd)
-}
-
-#[test]
-fn who_runs_the_pooler_is_let_in(rt: HostRuntime) -> Result<(), Fail> {
-    for crowd in CROWDS {
-        let Crowd { count, host, .. } = crowd;
-        assert!(rt;
-            goes_as_told(rt, rt.alloc(), &crowd)?,
-            "{count} from {host}"
-        );
-    }
-    Ok(())
+/// Whether the next client is told what it is to be told.
+pub fn is_next_told<R: TestRuntime>(rt: R, alloc: Global, crowd: &Crowd) -> Result<bool, Fail> {
+    is_next_told_over::<R, Brand>(rt, alloc, Blanks::new(), crowd)
 }

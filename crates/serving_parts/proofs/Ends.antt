@@ -6,7 +6,7 @@ use Rattle.server_end.specs.declared.Moved.{Moved}
 use Rattle.server_end.specs.declared.Moved.TheVariants.{Count, NotNow, Ended, Fault}
 use Rattle.server_end.specs.Moves.{CountsRead, CountsWrite, ClientReads, ClientWrites, moved}
 use Rattle.server_end.proofs.NoneMoved.{none_moved}
-use Rattle.serving_tests.specs.Ends.{untold, unfollowed}
+use Rattle.serving_parts.specs.Ends.{untold, unfollowed}
 
 -- ---- clients
 

@@ -1,4 +1,4 @@
-//! The table of the workers: who comes, what stands behind the desk, and what comes of it.
+//! Rows: who comes, what stands behind the desk, and what comes of it.
 use crate::gates::TurnClock;
 use crate::guests::{QUESTION, Talk};
 use crate::meanwhile::{Act, Moment};
@@ -6,10 +6,11 @@ use crate::servers::{Behind, START_ERROR};
 use desk_tallies::passes::Totals;
 use message_view::{Refusal, refusal_bytes};
 use play_tests::files::SHOP;
+use pool_tests::worker_parts::WELCOME;
 
 /// The settings that a client logs in under.
 #[derive(Clone, Copy, Drop)]
-pub(crate) enum Under {
+pub enum Under {
     /// No password is asked for.
     Trust,
     /// An MD5 password is.
@@ -44,7 +45,7 @@ impl Under {
 
 /// The last bytes that a client is given.
 #[derive(Clone, Copy, Drop)]
-pub(crate) enum Last {
+pub enum Last {
     Nothing,
     Refusal(Refusal),
     /// 28P01 and 3D000.
@@ -98,18 +99,62 @@ impl Last {
     }
 }
 
+/// So many bytes has the question for a password.
+pub const ASKED: usize = 13;
+
+/// AuthenticationOk.
+pub const LET_IN: usize = 9;
+
+/// A welcome.
+pub const WELCOMED: usize = WELCOME;
+
+/// A welcome but for its last fourteen, which are those of [`Last::Welcome`].
+pub const UP_TO_KEY: usize = WELCOME - 14;
+
+/// The console's welcome: AuthenticationOk, three reports, its key word and ReadyForQuery.
+pub const IN_CONSOLE: usize = 105;
+
+/// The answer to `SHOW application_name`, where it is empty.
+pub const NAMED: usize = 69;
+
 /// A client: what it says, and what it is given: so many bytes, and then these last ones.
 #[derive(Clone, Copy, Drop)]
-pub(crate) struct Client {
+pub struct Client {
     pub talk: Talk,
     pub under: Under,
     pub before: usize,
     pub last: Last,
 }
 
-/// A row of the table.
+/// The first client comes and leaves once it is welcomed.
+pub const LEAVES: Client = Client {
+    talk: Talk::Leaves,
+    under: Under::Trust,
+    before: UP_TO_KEY,
+    last: Last::Welcome(1),
+};
+
+/// A client comes, asks for its `application_name`, and leaves with the answer.
+pub const SHOWS: Client = Client {
+    talk: Talk::Shows,
+    under: Under::Trust,
+    before: WELCOMED,
+    last: Last::Name,
+};
+
+/// A client says who it is and no more, and is given no byte.
+pub const STAYS: Client = Client {
+    talk: Talk::Stays,
+    under: Under::Trust,
+    before: 0,
+    last: Last::Nothing,
+};
+
+/// A row.
 #[derive(Clone, Copy, Drop)]
-pub(crate) struct Row {
+pub struct Row {
+    /// What a failure calls it.
+    pub name: &'static str,
     /// So many clients may be there, and a pool may have so many links.
     pub clients: u32,
     pub pool: u32,
@@ -130,17 +175,25 @@ pub(crate) struct Row {
     pub lent: &'static [u64],
     pub idle: &'static [u64],
     /// How many links were started, lent again and evicted, were lost and could not be started.
-    pub sums: [u64; 5],
+    pub starts: u64,
+    pub reuses: u64,
+    pub evictions: u64,
+    pub losses: u64,
+    pub failed_starts: u64,
     /// How many Terminates and resets the servers saw.
-    pub seen: [u64; 2],
+    pub terminates: u64,
+    pub resets: u64,
     /// Of how many logins the log is told that they were late, of how many starts, and of how many lost links that their servers'
     /// connections had ended.
-    pub noted: [u64; 3],
+    pub late_logins: u64,
+    pub late_starts: u64,
+    pub ended_links: u64,
+    /// Others are each question for a link, each lease that is keyed, each that is ended, each refusal, and what happens besides.
     pub totals: Totals,
 }
 
 /// No decision.
-pub(crate) const NONE: Totals = Totals {
+pub const NONE: Totals = Totals {
     arrived: 0,
     granted: 0,
     given_back: 0,
@@ -150,7 +203,8 @@ pub(crate) const NONE: Totals = Totals {
 };
 
 /// A desk of a hundred clients and pools of two links, where nothing else happens and nobody comes.
-pub(crate) const QUIET: Row = Row {
+pub const QUIET: Row = Row {
+    name: "quiet",
     clients: 100,
     pool: 2,
     behind: Behind::Sessions,
@@ -164,8 +218,15 @@ pub(crate) const QUIET: Row = Row {
     there: (0, 0),
     lent: &[],
     idle: &[],
-    sums: [0; 5],
-    seen: [0; 2],
-    noted: [0; 3],
+    starts: 0,
+    reuses: 0,
+    evictions: 0,
+    losses: 0,
+    failed_starts: 0,
+    terminates: 0,
+    resets: 0,
+    late_logins: 0,
+    late_starts: 0,
+    ended_links: 0,
     totals: NONE,
 };

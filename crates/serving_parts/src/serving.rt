@@ -1,4 +1,4 @@
-//! What comes of each row of the table.
+//! How workers are held to a row.
 ghost use Rattle.std.specs.Prelude.{◌≡◌};
 ghost use Rattle.desk_tallies.specs.declared.passes.TheConstants.{ALL_PARTS};
 ghost use Rattle.desk_tallies.specs.Shares.{names_of, of_each, parts_of};
@@ -8,11 +8,10 @@ use crate::guests::{Guest, QUESTION, READY, Talk};
 use crate::meanwhile::{Moment, Notes, TestDesk};
 use crate::rows::{Client, Row};
 use crate::servers::{Seen, Servers};
-use crate::{refused_rows as refused, served_rows as served};
 use book_register::view::BookView;
 use book_rows::links::Link;
 use desk_tallies::ledgers::Ledgers;
-use desk_tallies::passes::{Pass, Totals};
+use desk_tallies::passes::Pass;
 use desk_tallies::tallies::Blanks;
 use link_desk::calls::Call;
 use link_desk::desk::LinkDesk;
@@ -26,18 +25,31 @@ use std::sync::atomic::Ordering;
 use std::test::Fail;
 use std::thread::join;
 
-/// Where the workers depart from a row.
+/// Where workers depart from a row.
 #[derive(Clone, Copy, Drop)]
 enum Departure {
-    /// What the client of this number is given.
-    Given(u32),
+    /// What a client is given, or what its gate is told of it.
+    Given,
     /// What the desk shows.
     Shown,
+    /// What the desk counted.
+    Totals,
     /// What the servers saw.
     Seen,
     /// What the log was told.
     Noted,
-    Totals(Totals),
+}
+
+impl Departure {
+    fn words(self) -> &'static str {
+        match self {
+            Departure::Given => "what a client is given",
+            Departure::Shown => "what the desk shows",
+            Departure::Totals => "what the desk counted",
+            Departure::Seen => "what the servers saw",
+            Departure::Noted => "what the log was told",
+        }
+    }
 }
 
 /// Whether so many bytes were given, and then the last of the client.
@@ -131,7 +143,7 @@ fn served_once<R: TestRuntime, K: Ledgers + Send + Sync>(
     Ok((pass, is_told && is_heard && happened))
 }
 
-/// Serves the row's clients one after the other: the pass, and the number of the first that wasn't given what it is to be given.
+/// Serves the row's clients one after the other: the pass, and whether each was given what it is to be given.
 fn served_all<R: TestRuntime, K: Ledgers + Send + Sync>(
     rt: R,
     alloc: Global,
@@ -139,21 +151,21 @@ fn served_all<R: TestRuntime, K: Ledgers + Send + Sync>(
     own: Pass<K>,
     other: &mut Pass<K>,
     row: &Row,
-) -> Result<(Pass<K>, Option<u32>), AllocError> {
+) -> Result<(Pass<K>, bool), AllocError> {
     let mut pass = own;
     let mut number: u32 = 0;
-    let mut first = None;
+    let mut are_told = true;
     for _ in 0..row.times {
         for client in row.served {
             number = number.saturating_add(1);
             let (next, is_told) = served_once(rt, alloc, desk, pass, other, row, client, number)?;
             pass = next;
-            if first.is_none() && !is_told {
-                first = Some(number);
+            if !is_told {
+                are_told = false;
             }
         }
     }
-    Ok((pass, first))
+    Ok((pass, are_told))
 }
 
 fn are_links(links: &[Link], numbers: &[u64]) -> bool {
@@ -173,23 +185,30 @@ fn shows(view: &BookView, row: &Row) -> bool {
         view.counts.lost,
         view.counts.starts_failed,
     ];
+    let wanted = [
+        row.starts,
+        row.reuses,
+        row.evictions,
+        row.losses,
+        row.failed_starts,
+    ];
     (view.clients.len(), view.tickets.len()) == row.there
         && are_links(&view.lent, row.lent)
         && are_links(&view.idle, row.idle)
-        && sums == row.sums
+        && sums == wanted
 }
 
 fn have_seen(seen: &Seen, row: &Row) -> bool {
     let terminates = seen.terminates.load(Ordering::SeqCst);
     let resets = seen.resets.load(Ordering::SeqCst);
-    [terminates, resets] == row.seen
+    [terminates, resets] == [row.terminates, row.resets]
 }
 
 fn are_noted(seen: &Seen, row: &Row) -> bool {
     let logins = seen.late_logins.load(Ordering::SeqCst);
     let starts = seen.late_starts.load(Ordering::SeqCst);
     let links = seen.ended_links.load(Ordering::SeqCst);
-    [logins, starts, links] == row.noted
+    [logins, starts, links] == [row.late_logins, row.late_starts, row.ended_links]
 }
 
 /// What happens at a desk by this row, and where it departs from it, but for the totals.
@@ -202,9 +221,9 @@ fn happens<R: TestRuntime, K: Ledgers + Send + Sync>(
     row: &Row,
 ) -> Result<(Pass<K>, Option<Departure>), AllocError> {
     row.first.happens(alloc, desk, other)?;
-    let (pass, first) = served_all(rt, alloc, desk, own, other, row)?;
-    if let Some(number) = first {
-        return Ok((pass, Some(Departure::Given(number))));
+    let (pass, are_told) = served_all(rt, alloc, desk, own, other, row)?;
+    if !are_told {
+        return Ok((pass, Some(Departure::Given)));
     }
     if !shows(&desk.view(alloc, other)?, row) {
         return Ok((pass, Some(Departure::Shown)));
@@ -237,7 +256,7 @@ fn departure_from<R: TestRuntime, K: Ledgers + Send + Sync>(
     let passes = Vec::from_array(alloc, [own, other])?;
     let totals = desk.gather(passes).ok().ok_or("other passes")?;
     if totals != row.totals {
-        return Ok(Some(Departure::Totals(totals)));
+        return Ok(Some(Departure::Totals));
     }
     if !have_seen(&seen, row) {
         return Ok(Some(Departure::Seen));
@@ -248,75 +267,10 @@ fn departure_from<R: TestRuntime, K: Ledgers + Send + Sync>(
     Ok(None)
 }
 
-/// The same, and whether it departs nowhere.
-fn goes_as_told<R: TestRuntime>(rt: R, alloc: Global, row: &Row) -> Result<bool, Fail> {
-    Ok(departure_from::<R, Brand>(rt, alloc, Blanks::new(), row)?.is_none())
-}
-
-/// The rows of those that aren't served.
-fn refused_at(at: usize) -> Option<Row> {
-    match at {
-        0 => Some(refused::before_arrival()),
-        1 => Some(refused::too_many()),
-        2 => Some(refused::shut_at_arrival()),
-        3 => Some(refused::not_let_in()),
-        4 => Some(refused::silent()),
-        5 => Some(refused::shut_at_asking()),
-        6 => Some(refused::waited_too_long()),
-        7 => Some(refused::shut_at_waiting()),
-        8 => Some(refused::unreached()),
-        9 => Some(refused::dead_in_its_start()),
-        10 => Some(refused::refused_by_its_server()),
-        11 => Some(refused::dead_at_a_border()),
-        12 => Some(refused::dead_in_a_message()),
-        13 => Some(refused::malformed_by_its_server()),
-        14 => Some(refused::malformed_or_too_long()),
-        15 => Some(refused::gone_while_waiting()),
-        16 => Some(refused::late_in_its_login()),
-        17 => Some(refused::late_at_the_console()),
-        18 => Some(refused::late_in_its_start()),
-        19 => Some(refused::dead_in_its_reset()),
-        _ => None,
+/// Where workers depart from a row first, in words; none where they don't.
+pub fn departure<R: TestRuntime>(rt: R, alloc: Global, row: &Row) -> Result<&'static str, Fail> {
+    match departure_from::<R, Brand>(rt, alloc, Blanks::new(), row)? {
+        Some(departure) => Ok(departure.words()),
+        None => Ok(""),
     }
-}
-
-/// The rows of those that are.
-fn served_at(at: usize) -> Option<Row> {
-    match at {
-        0 => Some(served::unused()),
-        1 => Some(served::reset_byte_by_byte()),
-        2 => Some(served::left_in_a_block()),
-        3 => Some(served::longest_message()),
-        4 => Some(served::right_password()),
-        5 => Some(served::too_many_links()),
-        6 => Some(served::shut_while_served()),
-        7 => Some(served::evicted()),
-        8 => Some(served::cancelled()),
-        9 => Some(served::cancelled_unused()),
-        10 => Some(served::cancelled_too_late()),
-        11 => Some(served::left_at_once()),
-        _ => None,
-    }
-}
-
-#[test]
-fn each_is_told_why_it_is_refused(rt: HostRuntime) -> Result<(), Fail> {
-    for at in 0..20usize {
-        let Some(row) = refused_at(at) else {
-            break;
-        };
-        assert!(rt; goes_as_told(rt, rt.alloc(), &row)?, "row {at}");
-    }
-    Ok(())
-}
-
-#[test]
-fn each_link_is_kept_or_closed(rt: HostRuntime) -> Result<(), Fail> {
-    for at in 0..12usize {
-        let Some(row) = served_at(at) else {
-            break;
-        };
-        assert!(rt; goes_as_told(rt, rt.alloc(), &row)?, "row {at}");
-    }
-    Ok(())
 }

@@ -1,0 +1,22 @@
+//! The ends that a client's time with a worker can have: rows of who comes, of what stands behind the desk and of what comes of it, and how
+//! workers are held to a row; and who is let in where many are there. The tests above have the rows.
+#![tactic(auto)]
+
+mod crowds;
+mod gates;
+mod guests;
+mod meanwhile;
+mod rows;
+mod servers;
+mod serving;
+
+pub use crowds::{Crowd, is_next_told};
+pub use gates::TurnClock;
+pub use guests::Talk;
+pub use meanwhile::{Act, Moment};
+pub use rows::{
+    ASKED, Client, IN_CONSOLE, LEAVES, LET_IN, Last, NAMED, NONE, QUIET, Row, SHOWS, STAYS,
+    UP_TO_KEY, Under, WELCOMED,
+};
+pub use servers::Behind;
+pub use serving::departure;
