@@ -1,7 +1,9 @@
 """The crates of crates.txt, and which stand on which."""
 import pathlib
+import re
 
 ROOT = pathlib.Path(__file__).resolve().parent.parent
+PARTS = ("src", "specs", "proofs")
 
 
 def listed():
@@ -9,6 +11,13 @@ def listed():
     lines = [it.partition("#")[0].strip() for it in (ROOT / "crates.txt").read_text().splitlines()]
     rows = {it.split(":")[0].split()[0]: it for it in lines if it}
     return {name: ([it for it in row.partition(":")[2].split() if it in rows], row) for name, row in rows.items()}
+
+
+def in_vain(name, crates):
+    """What a crate's line names, of the repository or of the kit, and none of its files does."""
+    files = [it for part in PARTS for it in (ROOT / "crates" / name / part).rglob("*.*") if it.suffix in (".rt", ".antt")]
+    named = set(re.findall(r"\w+", re.sub(r"(//|-- )[^\n]*", "", "\n".join(it.read_text() for it in files))))
+    return [it for it in crates[name][1].partition(":")[2].split() if it not in named]
 
 
 def below(name, crates):

@@ -1,5 +1,6 @@
 #!/usr/bin/env python3
-"""Tries all that can be tried before a proof: the layout of the files, the scripts by lint.sh, and every crate of tests by `rt try`.
+"""Tries all that can be tried before a proof: the layout of the files, the scripts by lint.sh, what crates.txt says that crates use, and
+every crate of tests by `rt try`.
 
 Usage: quick.py [CRATE..]      crates of tests; none: all of them
 
@@ -17,18 +18,24 @@ import time
 import crates
 
 SHOWN = 15
-PARTS = ("src", "specs", "proofs")
 
 
 def layout(names):
     """The files that `rt fmt` would change: it works on a copy."""
     with tempfile.TemporaryDirectory(prefix="pgsess-layout-") as folder:
         for name in names:
-            for part in PARTS:
+            for part in crates.PARTS:
                 if (crates.ROOT / "crates" / name / part).is_dir():
                     shutil.copytree(crates.ROOT / "crates" / name / part, pathlib.Path(folder) / part / name)
         ran = subprocess.run(["rt", "fmt"], cwd=folder, stdout=subprocess.PIPE, stderr=subprocess.STDOUT, text=True, errors="replace")
     return ran.returncode == 0 and "formatted" not in ran.stdout, ran.stdout
+
+
+def named(listed):
+    """Whether each crate's files name all that its line of crates.txt does."""
+    lacking = {name: crates.in_vain(name, listed) for name in listed if (crates.ROOT / "crates" / name).is_dir()}
+    said = [f"{name} lists {' '.join(names)}, which no file of it names" for name, names in lacking.items() if names]
+    return not said, "\n".join(said)
 
 
 def linted():
@@ -55,7 +62,7 @@ def main(names):
     print(f"the layout of {len(listed)} crates, the scripts, and {len(tests)} crates of tests UNPROVED, {jobs} at a time", flush=True)
     with concurrent.futures.ThreadPoolExecutor(jobs) as pool:
         runs = {pool.submit(layout, listed): "the layout (rt fmt)", pool.submit(linted): "the scripts (lint.sh)",
-                **{pool.submit(tested, it): it for it in tests}}
+                pool.submit(named, listed): "what crates use (crates.txt)", **{pool.submit(tested, it): it for it in tests}}
         for number, run in enumerate(concurrent.futures.as_completed(runs), 1):
             passed, said = run.result()
             print(f"{time.monotonic() - began:5.0f} s  {number} of {len(runs)}: {runs[run]} {'ok' if passed else 'FAILED'}", flush=True)

@@ -63,7 +63,7 @@ check "what the prover said is kept" grep -q "rt: frame_view proved" "$work/copy
 check "what isn't proved fails" refused stood_in env SAYS="NOT PROVED" "$work/copy/tools/prove.py" frame_view
 said "prove: NOT PROVED"
 check "make quick passes, a line for each crate" stood_in "$work/copy/tools/quick.py" message_view frame_view
-said "quick: 4 passed, 0 failed; nothing is proved"
+said "quick: 5 passed, 0 failed; nothing is proved"
 check "a test that fails is told" refused stood_in env SAYS=no "$work/copy/tools/quick.py" frame_view
 check "so is a file out of its layout" refused stood_in env LAYOUT="rt: formatted src/lib.rt" "$work/copy/tools/quick.py" frame_view
 # a prover that takes a second of processor time for a crate, and refuses it
