@@ -1,10 +1,10 @@
 //! Passes: who made which decisions.
-ghost use Rattle.std.specs.Prelude.{◌≡◌, ℕ, ◌+◌, ◌≤◌, length, vec_len, false};
+ghost use Rattle.std.specs.Prelude.{◌≡◌, ℕ, ◌+◌, ◌≤◌, IsSome, Some, length, vec_len, false};
 ghost use Rattle.link_desk.specs.Passes.{new_holder, new_pass, striking};
 ghost use Rattle.desk_tallies.specs.Shares.{AtMost, by_class, of_each, sum_of, sum_over};
 
 use crate::ledgers::{Arrived, GivenBack, Granted, Ledgers, Left, Lost, Others};
-use link_desk::calls::Holder;
+use link_desk::calls::{Holder, Lease};
 use std::marker::Model;
 use std::sync::ledger::Share;
 
@@ -106,6 +106,28 @@ impl<K: Ledgers> Pass<K> {
         ensures { result ≡ self.now.holder }
     {
         self.holder
+    }
+
+    /// The client that holds it.
+    pub fn client(&self) -> u64
+        requires here { IsSome self.now.holder.client }
+        ensures { self.now.holder.client ≡ Some result }
+    {
+        let Some(client) = self.holder.client else {
+            unreachable!()
+        };
+        client
+    }
+
+    /// The link that its client has.
+    pub fn lease(&self) -> Lease
+        requires here { IsSome self.now.holder.lease }
+        ensures { self.now.holder.lease ≡ Some result }
+    {
+        let Some(lease) = self.holder.lease else {
+            unreachable!()
+        };
+        lease
     }
 
     /// The cancel that was found through it was sent.

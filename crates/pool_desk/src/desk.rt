@@ -33,7 +33,6 @@ use credentials::Credential;
 use desk_tallies::answers::{
     Arrival, Asked, Back, Cancelled, Changed, Gone, Grant, Keying, Place, Release, Strike,
 };
-use desk_tallies::calls::Lease;
 use desk_tallies::desk::LinkDesk;
 use desk_tallies::ledgers::Ledgers;
 use desk_tallies::passes::{Pass, Totals};
@@ -323,9 +322,7 @@ impl<R: Wait + Clock, S: Outside, K: Ledgers> LinkDesk for Desk<R, S, K> {
     }
 
     fn ask(&self, pass: &mut Pass<K>, key: &Arc<StartKey>) -> Asked {
-        let Some(client) = pass.holder().client else {
-            unreachable!()
-        };
+        let client = pass.client();
         let (Ok(first), Ok(again)) = (Arc::try_clone(key), Arc::try_clone(key)) else {
             return Asked::Memory;
         };
@@ -343,9 +340,7 @@ impl<R: Wait + Clock, S: Outside, K: Ledgers> LinkDesk for Desk<R, S, K> {
     }
 
     fn take(&self, pass: &mut Pass<K>) -> Grant<S::End> {
-        let Some(client) = pass.holder().client else {
-            unreachable!()
-        };
+        let client = pass.client();
         let mut core = self.core.lock(&self.rt);
         let helps = core.helped_behind(client);
         match core.take(pass, client) {
@@ -361,9 +356,7 @@ impl<R: Wait + Clock, S: Outside, K: Ledgers> LinkDesk for Desk<R, S, K> {
     }
 
     fn keyed(&self, pass: &mut Pass<K>, client: KeyView, server: KeyView) -> Keying {
-        let Some(Lease { number, .. }) = pass.holder().lease else {
-            unreachable!()
-        };
+        let number = pass.lease().number;
         let event = Event::Keyed {
             number,
             client,
@@ -378,9 +371,7 @@ impl<R: Wait + Clock, S: Outside, K: Ledgers> LinkDesk for Desk<R, S, K> {
     }
 
     fn end_lease(&self, pass: &mut Pass<K>) -> Release {
-        let Some(Lease { number, .. }) = pass.holder().lease else {
-            unreachable!()
-        };
+        let number = pass.lease().number;
         match self.hold(pass, Event::EndLease { number }) {
             Reply::Reset => Release::Reset,
             Reply::Dispose => Release::Dispose,
@@ -438,9 +429,7 @@ impl<R: Wait + Clock, S: Outside, K: Ledgers> LinkDesk for Desk<R, S, K> {
     }
 
     fn lost(&self, pass: &mut Pass<K>) -> Gone {
-        let Some(Lease { number, .. }) = pass.holder().lease else {
-            unreachable!()
-        };
+        let number = pass.lease().number;
         match self.hold(pass, Event::Lost { number }) {
             Reply::Done => Gone::Done,
             Reply::Refuse(..) => Gone::Last,
@@ -450,9 +439,7 @@ impl<R: Wait + Clock, S: Outside, K: Ledgers> LinkDesk for Desk<R, S, K> {
     }
 
     fn start_failed(&self, pass: &mut Pass<K>) -> Gone {
-        let Some(Lease { number, .. }) = pass.holder().lease else {
-            unreachable!()
-        };
+        let number = pass.lease().number;
         match self.hold(pass, Event::StartFailed { number }) {
             Reply::Done => Gone::Done,
             Reply::Refuse(..) => Gone::Last,
@@ -468,9 +455,7 @@ impl<R: Wait + Clock, S: Outside, K: Ledgers> LinkDesk for Desk<R, S, K> {
         since: Option<Instant>,
         seconds: u32,
     ) -> Place {
-        let Some(client) = pass.holder().client else {
-            unreachable!()
-        };
+        let client = pass.client();
         if self.is_over(since, seconds) {
             return Place::Nowhere;
         }
@@ -483,9 +468,7 @@ impl<R: Wait + Clock, S: Outside, K: Ledgers> LinkDesk for Desk<R, S, K> {
     }
 
     fn leave(&self, pass: &mut Pass<K>) -> Gone {
-        let Some(client) = pass.holder().client else {
-            unreachable!()
-        };
+        let client = pass.client();
         match self.hold(pass, Event::Leave { client }) {
             Reply::Done => Gone::Done,
             Reply::Refuse(..) => Gone::Last,
