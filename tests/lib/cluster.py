@@ -313,8 +313,9 @@ class Pooler:
         return sum(file != POLL for file in files_of(self.process.pid))
 
     def has_its_polls(self):
-        """No thread has more than one poll."""
-        return files_of(self.process.pid).count(POLL) <= self.threads()
+        """No thread has more than one poll. Threads are counted first: one that ends meanwhile takes its poll along."""
+        threads = self.threads()
+        return files_of(self.process.pid).count(POLL) <= threads
 
     def threads(self):
         return len(os.listdir(f"/proc/{self.process.pid}/task"))
