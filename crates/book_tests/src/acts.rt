@@ -222,7 +222,7 @@ impl Story {
 
     /// How many clients, tickets, lent and idle links there are.
     pub(crate) fn sizes(&self) -> Result<[usize; 4], AllocError> {
-        let view = self.book.lists().view(self.alloc)?;
+        let view = self.book.view(self.alloc)?;
         Ok([
             view.clients.len(),
             view.tickets.len(),
@@ -233,13 +233,13 @@ impl Story {
 
     /// The state that the view shows of a client.
     pub(crate) fn state_of(&self, client: u64) -> Result<Option<ClientState>, AllocError> {
-        let view = self.book.lists().view(self.alloc)?;
+        let view = self.book.view(self.alloc)?;
         Ok(state_in(&view.clients, client))
     }
 
     /// The client and the second of the view's first ticket.
     pub(crate) fn first_ticket(&self) -> Result<Option<(u64, u64)>, AllocError> {
-        let view = self.book.lists().view(self.alloc)?;
+        let view = self.book.view(self.alloc)?;
         match view.tickets.first() {
             Some(ticket) => Ok(Some((ticket.client, ticket.since))),
             None => Ok(None),
@@ -248,7 +248,7 @@ impl Story {
 
     /// The number and the second of birth of the view's first lent link.
     pub(crate) fn first_lent(&self) -> Result<Option<(u64, u64)>, AllocError> {
-        let view = self.book.lists().view(self.alloc)?;
+        let view = self.book.view(self.alloc)?;
         match view.lent.first() {
             Some(link) => Ok(Some((link.number, link.born))),
             None => Ok(None),
@@ -257,7 +257,7 @@ impl Story {
 
     /// Decisions, starts, reuses, evictions and losses, as the view shows them.
     pub(crate) fn totals(&self) -> Result<[u64; 5], AllocError> {
-        let view = self.book.lists().view(self.alloc)?;
+        let view = self.book.view(self.alloc)?;
         Ok([
             view.decisions,
             view.starts,
@@ -269,7 +269,7 @@ impl Story {
 
     /// The clock, the decisions and how many of them are Ticks, as the view shows them.
     pub(crate) fn ticks(&self) -> Result<[u64; 3], AllocError> {
-        let view = self.book.lists().view(self.alloc)?;
+        let view = self.book.view(self.alloc)?;
         Ok([view.clock, view.decisions, view.counts.ticked])
     }
 
@@ -285,7 +285,7 @@ impl Story {
 
     /// Whether a link is there that isn't lent again, to this database, where one is named.
     pub(crate) fn has_stale(&self, database: Option<&[u8]>) -> Result<bool, AllocError> {
-        let view = self.book.lists().view(self.alloc)?;
+        let view = self.book.view(self.alloc)?;
         Ok(view.has_stale(database))
     }
 

@@ -10,6 +10,7 @@ ghost use Rattle.book_model.specs.declared.events.Reply.TheVariants.{Strike};
 ghost use Rattle.book_model.specs.Outcomes.Event.{GiveBack};
 ghost use Rattle.book_model.specs.Kept.{Kept};
 ghost use Rattle.book_register.specs.Counted.{counted_book};
+ghost use Rattle.book_register.specs.Views.{view_of};
 ghost use Rattle.book_model.specs.Replay.{noted_of};
 ghost use Rattle.lease_book.specs.Histories.{LeadsTo};
 ghost use Rattle.lease_book.specs.Shown.{as_shown, decisions_shown};
@@ -21,6 +22,7 @@ use crate::idle::IdleLinks;
 use book_model::events as lists;
 use book_model::limits::Limits;
 use book_register::book_state::BookState;
+use book_register::view::BookView;
 use link_run::links::CleanLink;
 use message_view::KeyView;
 use pool_figures::decisions::DecisionSeen;
@@ -245,6 +247,15 @@ impl<E: ServerEnd> Book<E> {
         ensures kept { Kept result.now }
     {
         &self.lists
+    }
+
+    /// The book as it is now, in rows of the caller's own.
+    ///
+    /// `AllocError` where memory is refused.
+    pub fn view(&self, alloc: Global) -> Result<BookView, AllocError>
+        ensures { IfOk result (λ v. v ≡ view_of self.now.lists) }
+    {
+        self.lists.view(alloc)
     }
 
     /// How many decisions stand in the base, and how many are kept.

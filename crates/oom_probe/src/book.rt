@@ -98,7 +98,7 @@ pub fn view_of(
     out: &mut Vec<u8>,
 ) -> Result<BookView, AllocError> {
     let decisions = book.lists().decisions();
-    match book.lists().view(alloc) {
+    match book.view(alloc) {
         Ok(view) => Ok(view),
         Err(_) => {
             put_unless(
@@ -106,7 +106,7 @@ pub fn view_of(
                 b"a view changes the book",
                 out,
             )?;
-            book.lists().view(alloc)
+            book.view(alloc)
         }
     }
 }

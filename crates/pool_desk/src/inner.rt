@@ -238,7 +238,7 @@ impl<S: Outside, K: Ledgers> Core<S, K> {
         ensures same { self.new ≡ self.old }
     {
         self.tallies.compare(pass);
-        self.book.lists().view(alloc)
+        self.book.view(alloc)
     }
 
     /// What is shown of the decisions that the book keeps.
