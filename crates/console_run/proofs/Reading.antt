@@ -32,6 +32,7 @@ own_in (Asks what) = None
 -- ---- a command of the console's own
 
 own_command : (c d : Option CommandOf) (x : Option Asked) → Own c ≡ request_in d x → d ≡ c
+unfolding own_in is_own
 own_command c d None e = sym (ap own_in e)
 own_command c d (Some what) e = absurd (true≢false (ap is_own e))
 
@@ -64,6 +65,7 @@ seen_so s text (answered.Refused r) p q h = h
 
 -- what is asked for is in the place of no action
 asked_for : (a : Asker) (text : Text) (what : Asked) (c : Option CommandOf) (x : Answered) (p q : Pass) → Asks what ≡ request_in c (asked_beside a.settings.console_style c text) → HasAnswered (IsSeen a.settings p text) ⊥ false x p q → HasAnswered (IsAnswer a p text c) (Waits a p c) false x p q
+unfolding is_own
 asked_for a text what None x p q e h = h
 asked_for a text what (Some (Show t)) x p q e h = h
 asked_for a text what (Some (Act action)) x p q e h = absurd (true≢false (sym (ap is_own e)))

@@ -302,7 +302,11 @@ impl<'a, D: LinkDesk> Console<'a, D> {
         match read_request(self.settings.console_style(), text) {
             Request::Own(Command::Act(action)) => self.act_if_allowed(pass, action),
             Request::Own(Command::Await(database)) => self.await_if_allowed(pass, database),
-            request => self.look(pass, request),
+            Request::Own(Command::Show(table)) => {
+                self.look(pass, Request::Own(Command::Show(table)))
+            }
+            Request::Asked(asked) => self.look(pass, Request::Asked(asked)),
+            Request::Unknown => self.look(pass, Request::Unknown),
         }
     }
 
