@@ -3,7 +3,7 @@ use desk_tallies::passes::Totals;
 use message_view::Refusal;
 use serving_parts::{
     ASKED, Act, Behind, Client, IN_CONSOLE, LEAVES, LET_IN, Last, Moment, NAMED, NONE, QUIET, Row,
-    SHOWS, STAYS, Talk, TurnClock, Under, WELCOMED, departure,
+    SHOWS, STAYS, Talk, TurnClock, Under, WELCOMED, first_departure,
 };
 use std::test::Fail;
 
@@ -459,7 +459,7 @@ static ROWS: [Row; 20] = [
 fn each_is_told_why_it_is_refused(rt: HostRuntime) -> Result<(), Fail> {
     for row in &ROWS {
         let name = row.name;
-        let fault = departure(rt, rt.alloc(), row)?;
+        let fault = first_departure(rt, rt.alloc(), row)?;
         assert!(rt; fault.is_empty(), "{name}: {fault}");
     }
     Ok(())

@@ -19,4 +19,4 @@ pub use rows::{
     UP_TO_KEY, Under, WELCOMED,
 };
 pub use servers::Behind;
-pub use serving::departure;
+pub use serving::first_departure;

@@ -268,7 +268,11 @@ fn departure_from<R: TestRuntime, K: Ledgers + Send + Sync>(
 }
 
 /// Where workers depart from a row first, in words; none where they don't.
-pub fn departure<R: TestRuntime>(rt: R, alloc: Global, row: &Row) -> Result<&'static str, Fail> {
+pub fn first_departure<R: TestRuntime>(
+    rt: R,
+    alloc: Global,
+    row: &Row,
+) -> Result<&'static str, Fail> {
     match departure_from::<R, Brand>(rt, alloc, Blanks::new(), row)? {
         Some(departure) => Ok(departure.words()),
         None => Ok(""),

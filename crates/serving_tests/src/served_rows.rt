@@ -2,7 +2,7 @@
 use desk_tallies::passes::Totals;
 use serving_parts::{
     ASKED, Act, Behind, Client, LEAVES, Last, Moment, NONE, QUIET, Row, SHOWS, STAYS, Talk,
-    UP_TO_KEY, Under, departure,
+    UP_TO_KEY, Under, first_departure,
 };
 use std::test::Fail;
 
@@ -238,7 +238,7 @@ static ROWS: [Row; 12] = [
 fn each_link_is_kept_or_closed(rt: HostRuntime) -> Result<(), Fail> {
     for row in &ROWS {
         let name = row.name;
-        let fault = departure(rt, rt.alloc(), row)?;
+        let fault = first_departure(rt, rt.alloc(), row)?;
         assert!(rt; fault.is_empty(), "{name}: {fault}");
     }
     Ok(())
