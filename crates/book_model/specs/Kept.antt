@@ -4,7 +4,8 @@ use Rattle.session_values.specs.State.{StartKeyOf}
 use Rattle.start_keys.specs.Keys.{same_key}
 use Rattle.book_model.specs.Book.{Book, Client, Lease, Limits, Link, Ticket, empty_book, find_last, is_client, is_fresh, is_link, is_number, is_of, is_of_link, lendable}
 use Rattle.book_model.specs.Outcomes.{Event, apply, apply_return}
-use Rattle.book_model.specs.Outcomes.Event.{NewLimits}
+use Rattle.book_model.specs.Outcomes.Change.{NewLimits}
+use Rattle.book_model.specs.Outcomes.Event.{Makes}
 use Rattle.book_model.specs.declared.counts.Counts.{Counts}
 use Rattle.book_model.specs.declared.limits.TheConstants.{MOST_CLIENTS, MOST_LINKS, MOST_PRESENT}
 
@@ -61,7 +62,7 @@ pub record KeptLimits (l : Limits) : Type 0 where
 
 -- new limits fit, too
 abbrev pub FitsLimits : Event → Type 0
-FitsLimits (NewLimits limits) = KeptLimits limits
+FitsLimits (Makes (NewLimits limits)) = KeptLimits limits
 FitsLimits _ = Unit {0}
 
 pub record Kept (b : Book) : Type 0 where

@@ -5,10 +5,10 @@ use Rattle.message_view.specs.declared.refusal.Refusal.{Refusal}
 use Rattle.message_view.specs.declared.views.KeyView.{KeyView}
 use Rattle.session_values.specs.State.{StartKeyOf}
 use Rattle.book_model.specs.Book.{Book, Lease, Limits, Link, Ticket, is_number}
-use Rattle.book_model.specs.Outcomes.{Event, apply, apply_return}
+use Rattle.book_model.specs.Outcomes.{Change, Event, apply, apply_return}
 use Rattle.book_model.specs.declared.events.Beyond.{Beyond}
 use Rattle.book_model.specs.declared.events.Reply.{Reply}
-use Rattle.book_model.specs.Outcomes.Event.{Arrive, Ask, Take, Lost, StartFailed, Leave, Tick, NewLimits, Pause, Resume, Shutdown, Reconnect, Keyed, Cancel, EndLease, HungUp}
+use Rattle.book_model.specs.Outcomes.Event.{Arrive, Ask, Take, Lost, StartFailed, Leave, Tick, Makes, Keyed, Cancel, EndLease, HungUp}
 use Rattle.book_model.specs.declared.events.Reply.TheVariants.{Arrived, Queued, Lend, Start, Close, Refuse, Done, Strike, Reset}
 
 -- a link of this number and key is among them
@@ -139,11 +139,7 @@ pub data IsPlain : Event → Reply → Type 0 where
   start_failed : {link : ℕ} {reply : Reply} → IsPlain (StartFailed link) reply
   leave : {client : ℕ} {reply : Reply} → IsPlain (Leave client) reply
   ticks : {now : ℕ} → IsPlain (Tick now) Done
-  new_limits : {limits : Limits} {reply : Reply} → IsPlain (NewLimits limits) reply
-  pause : {reply : Reply} → IsPlain Pause reply
-  resume : {reply : Reply} → IsPlain Resume reply
-  shutdown : {reply : Reply} → IsPlain Shutdown reply
-  reconnect : {reply : Reply} → IsPlain Reconnect reply
+  makes : {change : Change} {reply : Reply} → IsPlain (Makes change) reply
   -- a lease ends, whatever becomes of its link then
   lease_ends : {link : ℕ} {reply : Reply} → IsPlain (EndLease link) reply
 

@@ -16,6 +16,15 @@ use Rattle.book_model.specs.declared.events.ClientState.TheVariants.{LoggingIn, 
 use Rattle.book_model.specs.declared.events.Reply.{Reply}
 use Rattle.book_model.specs.declared.events.Reply.TheVariants.{Arrived, Queued, Lend, Start, Close, Refuse, Done, Stranger, Strike, Nobody, Reset, Dispose}
 
+-- what is changed for all
+pub data Change : Type 0 where
+  NewLimits : Limits → Change
+  Pause : Change
+  Resume : Change
+  Shutdown : Change
+  -- no link that is there now is lent again
+  Reconnect : Change
+
 -- an event, with clients and links by their numbers
 pub data Event : Type 0 where
   Arrive : (beyond : Beyond) → Event
@@ -26,12 +35,7 @@ pub data Event : Type 0 where
   StartFailed : (link : ℕ) → Event
   Leave : (client : ℕ) → Event
   Tick : (now : ℕ) → Event
-  NewLimits : Limits → Event
-  Pause : Event
-  Resume : Event
-  Shutdown : Event
-  -- no link that is there now is lent again
-  Reconnect : Event
+  Makes : (change : Change) → Event
   -- a lent link serves the client of this key word, and its server told that one
   Keyed : (link : ℕ) → (client server : KeyView) → Event
   -- what the client of this key word is at is to be cancelled
@@ -169,6 +173,15 @@ cancels b (Some lease) = strikes_at b lease (find (is_link lease.link) b.lent)
 abbrev pub ends_lease : Book → ℕ → Answer
 ends_lease b n = record { book = record b { keyed = without_lease n b.keyed; ended = with_number n b.ended }; reply = cond (list_any (is_number n) b.marked) Dispose Reset }
 
+-- ---- what is changed for all
+
+abbrev pub changed : Change → Book → Book
+changed (NewLimits limits) b = record b { limits = limits }
+changed Pause b = record b { is_paused = true }
+changed Resume b = record b { is_paused = false }
+changed Shutdown b = record b { is_shut = true }
+changed Reconnect b = record b { fresh_from = b.next_link }
+
 -- what an event gives whose client, ticket or link is there
 abbrev pub outcome : Book → Event → Answer
 outcome b (Arrive beyond) = arrives b beyond
@@ -179,11 +192,7 @@ outcome b (Lost n) = record { book = record (loses b n) { losses = suc b.losses 
 outcome b (StartFailed n) = record { book = record (loses b n) { losses = suc b.losses }; reply = Done }
 outcome b (Leave client) = leaves b client
 outcome b (Tick now) = closes (at_clock b now) (find (is_stale (at_clock b now)) b.idle)
-outcome b (NewLimits limits) = record { book = record b { limits = limits }; reply = Done }
-outcome b Pause = record { book = record b { is_paused = true }; reply = Done }
-outcome b Resume = record { book = record b { is_paused = false }; reply = Done }
-outcome b Shutdown = record { book = record b { is_shut = true }; reply = Done }
-outcome b Reconnect = record { book = record b { fresh_from = b.next_link }; reply = Done }
+outcome b (Makes change) = record { book = changed change b; reply = Done }
 outcome b (Keyed n client server) = keys b n client server
 outcome b (Cancel client) = cancels b (find (is_of_client client) b.keyed)
 outcome b (EndLease n) = ends_lease b n
@@ -205,6 +214,13 @@ is_strange b _ = false
 
 -- ---- decisions
 
+abbrev pub kind_of_change : Change → Kind
+kind_of_change (NewLimits limits) = Limiting
+kind_of_change Pause = Pausing
+kind_of_change Resume = Resuming
+kind_of_change Shutdown = Closing
+kind_of_change Reconnect = Reconnecting
+
 -- The kind of an event with this reply; none, where it changed nothing: a Take that waits on, a Tick that neither raised the clock
 -- nor closed a link, a Cancel that found nobody, and a HungUp of a link that isn't idle.
 abbrev pub kind_of : Book → Event → Reply → Option Kind
@@ -221,11 +237,7 @@ kind_of b (StartFailed n) _ = Some FailedStart
 kind_of b (Leave client) _ = Some Leaving
 kind_of b (Tick now) Done = cond (nat_lt b.clock now) (Some Ticking) None
 kind_of b (Tick now) _ = Some Ticking
-kind_of b (NewLimits limits) _ = Some Limiting
-kind_of b Pause _ = Some Pausing
-kind_of b Resume _ = Some Resuming
-kind_of b Shutdown _ = Some Closing
-kind_of b Reconnect _ = Some Reconnecting
+kind_of b (Makes change) _ = Some (kind_of_change change)
 kind_of b (Keyed n client server) _ = Some Keying
 kind_of b (Cancel client) Nobody = None
 kind_of b (Cancel client) _ = Some Cancelling

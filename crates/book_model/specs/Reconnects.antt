@@ -4,7 +4,8 @@ use Rattle.session_values.specs.State.{StartKeyOf}
 use Rattle.book_model.specs.Book.{Book}
 use Rattle.book_model.specs.Kept.{FitsLimits, Kept}
 use Rattle.book_model.specs.Outcomes.{Event, apply, apply_return}
-use Rattle.book_model.specs.Outcomes.Event.{Take, Reconnect}
+use Rattle.book_model.specs.Outcomes.Change.{Reconnect}
+use Rattle.book_model.specs.Outcomes.Event.{Take, Makes}
 use Rattle.book_model.specs.declared.events.Reply.TheVariants.{Lend, Done}
 
 -- the book after these events
@@ -19,8 +20,8 @@ AllFit (e ∷ es) = FitsLimits e × AllFit es
 
 -- No link that was there, lent or idle, is lent again: its number is below that of the next.
 abbrev pub NeverLentAgain : Type 0
-NeverLentAgain = (b : Book) (es : List Event) (client link : ℕ) → Kept b → AllFit es → (apply b Reconnect).reply ≡ Done → link < b.next_link → (apply (after (apply b Reconnect).book es) (Take client)).reply ≢ Lend link
+NeverLentAgain = (b : Book) (es : List Event) (client link : ℕ) → Kept b → AllFit es → (apply b (Makes Reconnect)).reply ≡ Done → link < b.next_link → (apply (after (apply b (Makes Reconnect)).book es) (Take client)).reply ≢ Lend link
 
 -- Nor is it kept where it comes back.
 abbrev pub NeverKeptAgain : Type 0
-NeverKeptAgain = (b : Book) (es : List Event) (link : ℕ) (key : StartKeyOf) (born : ℕ) → Kept b → AllFit es → (apply b Reconnect).reply ≡ Done → link < b.next_link → (apply_return (after (apply b Reconnect).book es) link key born).reply ≢ Done
+NeverKeptAgain = (b : Book) (es : List Event) (link : ℕ) (key : StartKeyOf) (born : ℕ) → Kept b → AllFit es → (apply b (Makes Reconnect)).reply ≡ Done → link < b.next_link → (apply_return (after (apply b (Makes Reconnect)).book es) link key born).reply ≢ Done

@@ -8,6 +8,20 @@ use message_view::{KeyView, Refusal};
 use start_keys::StartKey;
 use std::sync::Arc;
 
+/// What is changed for all from now on.
+#[derive(Drop)]
+pub enum Change {
+    /// These settings hold.
+    Limits(Arc<Limits>),
+    /// No link is lent until Resume.
+    Pause,
+    Resume,
+    /// No client is let in and no link lent any more.
+    Shutdown,
+    /// No link that is there now is lent again.
+    Reconnect,
+}
+
 /// What happens to the book, with clients and links by their numbers. Seconds are those of the pooler's clock.
 #[derive(Drop)]
 pub enum Event {
@@ -23,10 +37,6 @@ pub enum Event {
     /// A client that waits takes its link, if it may have one now.
     Take {
         client: u64,
-    },
-    /// A client has given its link back clean.
-    GiveBack {
-        link: u64,
     },
     /// A lent link has been closed.
     Lost {
@@ -44,15 +54,8 @@ pub enum Event {
     Tick {
         now: u64,
     },
-    /// These settings hold from now on.
-    Limits(Arc<Limits>),
-    /// No link is lent until Resume.
-    Pause,
-    Resume,
-    /// No client is let in and no link lent any more.
-    Shutdown,
-    /// No link that is there now is lent again.
-    Reconnect,
+    /// This is changed for all from now on.
+    Change(Change),
     /// This lent link serves the client of this key word, and its server told that one.
     Keyed {
         link: u64,
