@@ -7,7 +7,7 @@ use Rattle.session_values.specs.State.{StartKeyOf}
 use Rattle.book_model.specs.Book.{Book, Lease, Link, Ticket, in_pool, is_link, is_number, is_of, is_of_client, lendable, link_count, places_beyond, pool_count, pool_size, waiting_before}
 use Rattle.book_model.specs.Laws.{HasLink}
 use Rattle.book_model.specs.Outcomes.{Answer, Event, apply, at_clock, cancels, closes, counted, evicts, gives_back, grants, hangs_up, has_waited, is_crowded, is_old, is_stale, is_strange, kind_of, last_decision, outcome, strikes, strikes_at, takes}
-use Rattle.book_model.specs.Outcomes.Event.{Arrive, Ask, Take, GiveBack, Lost, StartFailed, Leave, Tick, NewLimits, Pause, Resume, Shutdown, Reconnect, Keyed, Cancel, EndLease, HungUp}
+use Rattle.book_model.specs.Outcomes.Event.{Arrive, Ask, Take, GiveBack, Lost, StartFailed, Leave, Tick, Makes, Keyed, Cancel, EndLease, HungUp}
 use Rattle.book_model.specs.Places.{IsPlaceOf}
 use Rattle.book_model.specs.declared.counts.Kind.{Kind}
 use Rattle.book_model.specs.declared.events.Reply.{Reply as ListsReply}
@@ -102,11 +102,7 @@ by_outcome b (Lost n) = tt
 by_outcome b (StartFailed n) = tt
 by_outcome b (Leave c) = tt
 by_outcome b (Tick now) = by_closes b now (find (is_stale (at_clock b now)) b.idle)
-by_outcome b (NewLimits l) = tt
-by_outcome b Pause = tt
-by_outcome b Resume = tt
-by_outcome b Shutdown = tt
-by_outcome b Reconnect = tt
+by_outcome b (Makes change) = tt
 by_outcome b (Keyed n client server) = tt
 by_outcome b (Cancel client) = by_cancels b (find (is_of_client client) b.keyed)
 by_outcome b (EndLease n) = by_end b (outcome b (EndLease n)).book (list_any (is_number n) b.marked)

@@ -1,12 +1,12 @@
 -- Events and replies that carry links, and what becomes of the links that are idle.
 use Rattle.std.specs.Prelude.{◌≡◌, ℕ, Bool, true, false, List, [], ◌∷◌, ◌++◌, Option, Some, None, not, cond, ◌==◌, map, filter, find, is_some}
-use Rattle.std.specs.Arc.{arc_value}
 use Rattle.session_values.specs.State.{StartKeyOf}
 use Rattle.link_run.specs.Links.{LinkView}
 use Rattle.book_model.specs.Book.{Book, Link, is_link}
+use Rattle.book_model.specs.Events.{event_of}
 use Rattle.book_model.specs.Outcomes.{Answer, apply, apply_return, is_started_as}
 use Rattle.book_model.specs.Outcomes.{Event as ListsEvent}
-use Rattle.book_model.specs.Outcomes.Event.{Arrive, Ask, Take, GiveBack, Lost, StartFailed, Leave, Tick, NewLimits, Pause, Resume, Shutdown, Reconnect, Keyed, Cancel, EndLease, HungUp}
+use Rattle.book_model.specs.Outcomes.Event.{GiveBack}
 use Rattle.book_model.specs.Places.{IsPlaceOf}
 use Rattle.book_model.specs.Replay.{History, noted_of}
 use Rattle.book_model.specs.declared.events.Reply.{Reply as ListsReply}
@@ -104,36 +104,8 @@ can_strike b _ = true
 
 module _ {E : Type 0} where
   abbrev pub plain : Event E → ListsEvent
-  plain (event.Arrive beyond) = Arrive beyond
-  plain (event.Ask client key again) = Ask client (arc_value key)
-  plain (event.Take client) = Take client
   plain (event.GiveBack link) = GiveBack link.number
-  plain (event.Lost n) = Lost n
-  plain (event.StartFailed n) = StartFailed n
-  plain (event.Leave client) = Leave client
-  plain (event.Tick now) = Tick now
-  plain (event.Limits limits again) = NewLimits (arc_value limits)
-  plain event.Pause = Pause
-  plain event.Resume = Resume
-  plain event.Shutdown = Shutdown
-  plain event.Reconnect = Reconnect
-  plain (event.Keyed n client server) = Keyed n client server
-  plain (event.Cancel client) = Cancel client
-  plain (event.EndLease n) = EndLease n
-  plain (event.HungUp n) = HungUp n
-
-  -- no link comes with it, nor a key, nor limits
-  abbrev pub brings_nothing : Event E → Bool
-  brings_nothing (event.Ask client key again) = false
-  brings_nothing (event.GiveBack link) = false
-  brings_nothing (event.Limits limits again) = false
-  brings_nothing _ = true
-
-  -- both copies of a key, or of limits, are of the same value
-  abbrev pub IsTwice : Event E → Type 0
-  IsTwice (event.Ask client key again) = arc_value again ≡ arc_value key
-  IsTwice (event.Limits limits again) = arc_value again ≡ arc_value limits
-  IsTwice _ = Unit {0}
+  plain (event.Plain e) = event_of e
 
   abbrev pub reply_of : Reply E → ListsReply
   reply_of (reply.Client n) = told.Arrived n
@@ -168,11 +140,11 @@ module _ {E : Type 0} where
   -- a link that is given back is one that was started as this
   abbrev pub is_own : Book → Event E → Bool
   is_own b (event.GiveBack l) = is_started_as l.key l.born (find (is_link l.number) b.lent)
-  is_own b _ = true
+  is_own b (event.Plain e) = true
 
   abbrev pub answered : Book → Event E → Answer
   answered b (event.GiveBack l) = apply_return b l.number l.key l.born
-  answered b e = apply b (plain e)
+  answered b (event.Plain e) = apply b (event_of e)
 
   abbrev pub history_after : Book → ℕ → Event E → History → History
   history_after b pass e h = cond (is_own b e) (noted_of b pass (plain e) h) h
@@ -180,8 +152,8 @@ module _ {E : Type 0} where
   -- the idle links after an event with this reply, and the link that comes with the reply
   abbrev pub idle_after : Event E → ListsReply → List LinkView → List LinkView
   idle_after (event.GiveBack l) r idle = idle_with l r idle
-  idle_after e r idle = left (goes_out r) idle
+  idle_after (event.Plain e) r idle = left (goes_out r) idle
 
   abbrev pub handed_after : Event E → ListsReply → List LinkView → Option LinkView
   handed_after (event.GiveBack l) r idle = handed_back l r
-  handed_after e r idle = found (goes_out r) idle
+  handed_after (event.Plain e) r idle = found (goes_out r) idle

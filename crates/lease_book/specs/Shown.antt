@@ -4,8 +4,9 @@ use Rattle.message_view.specs.declared.refusal.Refusal.{Refusal}
 use Rattle.message_view.specs.declared.refusal.Refusal.TheVariants.{TooManyClients, UnsupportedProtocol, MalformedClientMessage, UnsupportedParameter, WaitedTooLong, ServerFailed, ServerNotReached, ShuttingDown, OutOfMemory, ClientMessageTooLong, MalformedServerMessage, LastDecision}
 use Rattle.message_view.specs.declared.views.KeyView.{KeyView}
 use Rattle.book_model.specs.Book.{places_beyond}
-use Rattle.book_model.specs.Outcomes.{Event}
-use Rattle.book_model.specs.Outcomes.Event.{Arrive, Ask, Take, GiveBack, Lost, StartFailed, Leave, Tick, NewLimits, Pause, Resume, Shutdown, Reconnect, Keyed, Cancel, EndLease, HungUp}
+use Rattle.book_model.specs.Outcomes.{Change, Event}
+use Rattle.book_model.specs.Outcomes.Change.{NewLimits, Pause, Resume, Shutdown, Reconnect}
+use Rattle.book_model.specs.Outcomes.Event.{Arrive, Ask, Take, GiveBack, Lost, StartFailed, Leave, Tick, Makes, Keyed, Cancel, EndLease, HungUp}
 use Rattle.book_model.specs.Replay.{Decision, History}
 use Rattle.book_model.specs.declared.events.Reply.{Reply}
 use Rattle.book_model.specs.declared.events.Reply.TheVariants.{Arrived, Queued, Lend, Start, Close, Refuse, Done, Stranger, Strike, Nobody, Reset, Dispose}
@@ -24,6 +25,13 @@ pub record Shown : Type 0 where
 unfoldable pub as_shown : DecisionSeen → Shown
 as_shown d = record { number = d.number; pass = d.pass; event = d.event.now; names = d.of; reply = d.reply.now; answers = d.to }
 
+abbrev pub change_name : Change → List ℕ
+change_name (NewLimits limits) = codes "limits"
+change_name Pause = codes "pause"
+change_name Resume = codes "resume"
+change_name Shutdown = codes "shutdown"
+change_name Reconnect = codes "reconnect"
+
 abbrev pub event_name : Event → List ℕ
 event_name (Arrive beyond) = codes "arrive"
 event_name (Ask client key) = codes "ask"
@@ -33,11 +41,7 @@ event_name (Lost link) = codes "lost"
 event_name (StartFailed link) = codes "start_failed"
 event_name (Leave client) = codes "leave"
 event_name (Tick now) = codes "tick"
-event_name (NewLimits limits) = codes "limits"
-event_name Pause = codes "pause"
-event_name Resume = codes "resume"
-event_name Shutdown = codes "shutdown"
-event_name Reconnect = codes "reconnect"
+event_name (Makes change) = change_name change
 event_name (Keyed link client server) = codes "keyed"
 event_name (Cancel client) = codes "cancel"
 event_name (EndLease link) = codes "end_lease"

@@ -3,10 +3,9 @@
 ghost use Rattle.std.specs.Prelude.{◌≡◌};
 ghost use Rattle.std.specs.Borrow.{ftrue};
 ghost use Rattle.book_model.specs.Book.{Book};
-ghost use Rattle.book_model.specs.Events.{event_of};
 ghost use Rattle.book_model.specs.Outcomes.{apply};
 
-use book_model::events::Event;
+use crate::kept_event::KeptEvent;
 use book_register::book_state::BookState;
 use std::marker::{Model, PhantomData};
 
@@ -35,7 +34,7 @@ impl Base {
     }
 
     /// What this event made of them.
-    pub fn fold(&mut self, _event: &Event)
-        ensures { self.new.lists ≡ (apply self.old.lists (event_of _event.now)).book }
+    pub fn fold(&mut self, _event: &KeptEvent)
+        ensures { self.new.lists ≡ (apply self.old.lists _event.now).book }
     {}
 }

@@ -14,11 +14,12 @@ ghost use Rattle.book_register.specs.Views.{view_of};
 ghost use Rattle.book_model.specs.Replay.{noted_of};
 ghost use Rattle.lease_book.specs.Histories.{LeadsTo};
 ghost use Rattle.lease_book.specs.Shown.{as_shown, decisions_shown};
-ghost use Rattle.lease_book.specs.Links.{answered, brings_nothing, can_strike, found, goes_out, handed, handed_after, handed_back, has_place, history_after, idle_after, idle_with, is_done, is_return, IsTwice, StrikesInPlace, left, may_hand_back, number_of, plain, reply_of};
+ghost use Rattle.lease_book.specs.Links.{answered, can_strike, found, goes_out, handed, handed_after, handed_back, has_place, history_after, idle_after, idle_with, is_done, StrikesInPlace, may_hand_back, number_of, reply_of};
 
 use crate::events::{Event, Reply};
 use crate::history::{Decision, History};
 use crate::idle::IdleLinks;
+use crate::kept_event::KeptEvent;
 use book_model::events as lists;
 use book_model::limits::Limits;
 use book_register::book_state::BookState;
@@ -121,55 +122,6 @@ fn back_with<E: ServerEnd>(told: lists::Reply, link: CleanLink<E>) -> Reply<E>
         lists::Reply::Refuse(refusal) => Reply::Refuse(refusal, Some(link)),
         lists::Reply::Stranger => Reply::Stranger(Some(link)),
         _ => unreachable!(),
-    }
-}
-
-/// An event that brings no link, key or limits, as the lists have it.
-fn by_number<E: ServerEnd>(event: &Event<E>) -> lists::Event
-    requires { brings_nothing event.now ≡ true }
-    ensures { event_of result ≡ plain event.now }
-{
-    match event {
-        Event::Arrive { beyond } => lists::Event::Arrive { beyond: *beyond },
-        Event::Take { client } => lists::Event::Take { client: *client },
-        Event::Lost { number } => lists::Event::Lost { link: *number },
-        Event::StartFailed { number } => lists::Event::StartFailed { link: *number },
-        Event::Leave { client } => lists::Event::Leave { client: *client },
-        Event::Tick { now } => lists::Event::Tick { now: *now },
-        Event::Pause => lists::Event::Pause,
-        Event::Resume => lists::Event::Resume,
-        Event::Shutdown => lists::Event::Shutdown,
-        Event::Reconnect => lists::Event::Reconnect,
-        Event::Keyed {
-            number,
-            client,
-            server,
-        } => lists::Event::Keyed {
-            link: *number,
-            client: *client,
-            server: *server,
-        },
-        Event::Cancel { client } => lists::Event::Cancel { client: *client },
-        Event::EndLease { number } => lists::Event::EndLease { link: *number },
-        Event::HungUp { number } => lists::Event::HungUp { link: *number },
-        Event::Ask { .. } | Event::GiveBack(_) | Event::Limits(..) => unreachable!(),
-    }
-}
-
-/// What the lists are told of an event with no link, and what their history is.
-fn twice<E: ServerEnd>(event: Event<E>) -> (lists::Event, lists::Event)
-    requires same { IsTwice event }
-    requires brings_none { is_return (plain event) ≡ false }
-    ensures event { event_of result.0 ≡ plain event }
-    ensures again { event_of result.1 ≡ plain event }
-{
-    match event {
-        Event::Ask { client, key, again } => (
-            lists::Event::Ask { client, key },
-            lists::Event::Ask { client, key: again },
-        ),
-        Event::Limits(limits, again) => (lists::Event::Limits(limits), lists::Event::Limits(again)),
-        event => (by_number(&event), by_number(&event)),
     }
 }
 
@@ -304,7 +256,7 @@ impl<E: ServerEnd> Book<E> {
         let before = self.lists.decisions();
         let reply = self.lists.apply_return(number, link.key(), link.born());
         let is_decision = self.lists.decisions() > before;
-        let event = lists::Event::GiveBack { link: number };
+        let event = KeptEvent::returned(number);
         self.history
             .note(is_decision, Decision { pass, event, reply });
         if is_done(reply) {
@@ -316,7 +268,6 @@ impl<E: ServerEnd> Book<E> {
 
     /// What an event makes of the book, and its reply. A decision is kept. It needs no memory.
     pub fn apply(&mut self, pass: u64, event: Event<E>) -> Reply<E>
-        requires { IsTwice event }
         ensures kept { Kept self.new.lists }
         ensures lists { self.new.lists ≡ (answered self.old.lists event).book }
         ensures history { self.new.history ≡ history_after self.old.lists pass event self.old.history }
@@ -327,17 +278,13 @@ impl<E: ServerEnd> Book<E> {
     {
         match event {
             Event::GiveBack(link) => self.give_back(pass, link),
-            event => {
-                let (event, again) = twice(event);
+            Event::Plain(plain) => {
+                let event = KeptEvent::of(&plain);
                 let before = self.lists.decisions();
-                let reply = self.lists.apply(event);
+                let reply = self.lists.apply(plain);
                 let is_decision = self.lists.decisions() > before;
-                let decision = Decision {
-                    pass,
-                    event: again,
-                    reply,
-                };
-                self.history.note(is_decision, decision);
+                self.history
+                    .note(is_decision, Decision { pass, event, reply });
                 let link = self.idle.take(goes_out(reply));
                 reply_with(&self.lists, reply, link)
             }

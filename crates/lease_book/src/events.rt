@@ -1,74 +1,17 @@
 //! What can happen to the lease book, and what it answers, with the links themselves.
-use book_model::events::Beyond;
-use book_model::limits::Limits;
+use book_model::events as lists;
 use link_run::links::CleanLink;
 use message_view::{KeyView, Refusal};
 use server_end::ServerEnd;
-use start_keys::{Host, StartKey};
-use std::sync::Arc;
+use start_keys::Host;
 
-/// What happens to the book. Seconds are those of the pooler's clock. The book needs no memory, so what it keeps twice comes twice.
+/// What happens to the book.
 #[derive(Drop)]
 pub enum Event<E: ServerEnd> {
-    /// A client has come, which may use so many places beyond the limit.
-    Arrive {
-        beyond: Beyond,
-    },
-    /// A client that is through its login asks for a link of this key.
-    Ask {
-        client: u64,
-        key: Arc<StartKey>,
-        again: Arc<StartKey>,
-    },
-    /// A client that waits takes its link, if it may have one now.
-    Take {
-        client: u64,
-    },
     /// A client has given its link back clean.
     GiveBack(CleanLink<E>),
-    /// A lent link has been closed.
-    Lost {
-        number: u64,
-    },
-    /// A link that was to be started could not be.
-    StartFailed {
-        number: u64,
-    },
-    /// A client has gone.
-    Leave {
-        client: u64,
-    },
-    /// The clock has reached this second.
-    Tick {
-        now: u64,
-    },
-    /// These settings hold from now on.
-    Limits(Arc<Limits>, Arc<Limits>),
-    /// No link is lent until Resume.
-    Pause,
-    Resume,
-    /// No client is let in and no link lent any more.
-    Shutdown,
-    /// No link that is there now is lent again.
-    Reconnect,
-    /// This lent link serves the client of this key word, and its server told that one.
-    Keyed {
-        number: u64,
-        client: KeyView,
-        server: KeyView,
-    },
-    /// What the client of this key word is at is to be cancelled.
-    Cancel {
-        client: KeyView,
-    },
-    /// The lease of this link has ended.
-    EndLease {
-        number: u64,
-    },
-    /// The server of this idle link has hung up, or said something that nobody asked for.
-    HungUp {
-        number: u64,
-    },
+    /// Any other event: no link comes with it.
+    Plain(lists::Event),
 }
 
 /// What the book answers. A link that leaves the book, or isn't kept, comes with the reply.

@@ -6,8 +6,9 @@ ghost use Rattle.book_model.specs.Replay.{noted};
 ghost use Rattle.lease_book.specs.Shown.{as_shown, shown_from};
 
 use crate::base::Base;
+use crate::kept_event::KeptEvent;
 use crate::shown::all_shown;
-use book_model::events::{Event, Reply};
+use book_model::events::Reply;
 use book_register::book_state::BookState;
 use circular_buffer::HeapCircularBuffer;
 use pool_figures::decisions::DecisionSeen;
@@ -21,17 +22,16 @@ pub const MOST_KEPT: usize = 256;
 #[derive(Drop)]
 pub struct Decision {
     pub pass: u64,
-    pub event: Event,
+    pub event: KeptEvent,
     pub reply: Reply,
 }
 
 impl Model for Decision {
-    ghost use Rattle.book_model.specs.Events.{event_of};
     ghost use Rattle.book_model.specs.Replay.{Decision as DecisionOf};
 
     ghost Value = { DecisionOf };
 
-    ghost view = { λ d. record { pass = d.pass; event = event_of d.event; reply = d.reply } };
+    ghost view = { λ d. record { pass = d.pass; event = d.event; reply = d.reply } };
 }
 
 /// The last decisions, and the lists that they begin from.

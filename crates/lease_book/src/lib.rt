@@ -4,6 +4,8 @@
 mod base;
 pub mod book;
 pub mod events;
+mod ghost_event;
 pub mod history;
 mod idle;
+mod kept_event;
 pub mod shown;

@@ -1,11 +1,10 @@
 //! What is shown of the decisions that are kept: of a key its process id alone, never its secret.
 ghost use Rattle.std.specs.Prelude.{◌≡◌, ◌+◌, ◌≤◌, suc, IfOk, length, map};
-ghost use Rattle.book_model.specs.Events.{event_of};
 ghost use Rattle.book_model.specs.Outcomes.{last_decision};
-ghost use Rattle.lease_book.specs.Shown.{SecretsStayHidden, as_shown, event_name, event_number, refusal_number, reply_name, reply_number, shown_from, shown_of};
+ghost use Rattle.lease_book.specs.Shown.{SecretsStayHidden, as_shown, refusal_number, reply_name, reply_number, shown_from, shown_of};
 
 use crate::history::Decision;
-use book_model::events::{Event, Reply};
+use book_model::events::Reply;
 use circular_buffer::HeapCircularBuffer;
 use message_view::Refusal;
 use pool_figures::decisions::DecisionSeen;
@@ -15,52 +14,6 @@ use std::alloc::{AllocError, Global};
 pub fn secrets_stay_hidden()
     ensures { SecretsStayHidden }
 {}
-
-/// What an event is called.
-fn event_name(event: &Event) -> &'static str
-    ensures { result.now ≡ event_name (event_of event.now) }
-{
-    match event {
-        Event::Arrive { .. } => "arrive",
-        Event::Ask { .. } => "ask",
-        Event::Take { .. } => "take",
-        Event::GiveBack { .. } => "give_back",
-        Event::Lost { .. } => "lost",
-        Event::StartFailed { .. } => "start_failed",
-        Event::Leave { .. } => "leave",
-        Event::Tick { .. } => "tick",
-        Event::Limits(_) => "limits",
-        Event::Pause => "pause",
-        Event::Resume => "resume",
-        Event::Shutdown => "shutdown",
-        Event::Reconnect => "reconnect",
-        Event::Keyed { .. } => "keyed",
-        Event::Cancel { .. } => "cancel",
-        Event::EndLease { .. } => "end_lease",
-        Event::HungUp { .. } => "hung_up",
-    }
-}
-
-/// The number that it names: places, a client's, a link's, a second, or a process id; 0 for none.
-fn event_number(event: &Event) -> u64
-    ensures { result ≡ event_number (event_of event.now) }
-{
-    match event {
-        Event::Arrive { beyond } => u64::from(beyond.places()),
-        Event::Ask { client, .. } => *client,
-        Event::Take { client } => *client,
-        Event::GiveBack { link } => *link,
-        Event::Lost { link } => *link,
-        Event::StartFailed { link } => *link,
-        Event::Leave { client } => *client,
-        Event::Tick { now } => *now,
-        Event::Keyed { link, .. } => *link,
-        Event::Cancel { client } => u64::from(client.pid),
-        Event::EndLease { link } => *link,
-        Event::HungUp { link } => *link,
-        Event::Limits(_) | Event::Pause | Event::Resume | Event::Shutdown | Event::Reconnect => 0,
-    }
-}
 
 /// What a reply is called.
 fn reply_name(reply: Reply) -> &'static str
@@ -126,8 +79,8 @@ fn decision_seen(number: u64, decision: &Decision) -> DecisionSeen
     DecisionSeen {
         number,
         pass: decision.pass,
-        event: event_name(&decision.event),
-        of: event_number(&decision.event),
+        event: decision.event.name(),
+        of: decision.event.number(),
         reply: reply_name(decision.reply),
         to: reply_number(decision.reply),
     }

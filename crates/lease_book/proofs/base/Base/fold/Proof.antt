@@ -34,10 +34,8 @@ use Rattle.lease_book.proofs.base.Base.fold.Code as code
 use denote.Ref.{Bor}
 use denote.Exit.{yes}
 use denote.Triple.Walked.{stay_none_ref, Goes-none_ref}
-use Rattle.book_model.specs.Events.{event_of}
-use Rattle.book_model.specs.Outcomes.{apply}
-use Rattle.book_model.specs.declared.events.Event.{Event}
-use Rattle.book_model.specs.contracts.events.Event as E
+use Rattle.book_model.specs.Outcomes.{Event, apply}
+use Rattle.lease_book.specs.contracts.kept_event.KeptEvent as E
 
 abbrev Arg : Type 0
 Arg = MutBor Base × (Bor Event × Unit {0})
@@ -52,7 +50,7 @@ module _ {M : Type 1} {𝓤 : Ura M} (𝓛 : Logic 𝓤) (at_mem : Memory → SP
   x = (record { ref_ptr = (b, o); ghost_name = γ; now = h }, (e, tt))
 
   abbrev h' : Base
-  h' = record { marker = h.marker; lists = (apply h.lists (event_of e.now)).book }
+  h' = record { marker = h.marker; lists = (apply h.lists e.now).book }
 
   abbrev at : List Val × (List Val × Unit {0})
   at = (vptr b o ∷ [], (vptr e.ref_ptr.0 e.ref_ptr.1 ∷ [], tt))
