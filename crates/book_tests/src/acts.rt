@@ -1,11 +1,11 @@
 //! What happens to a book in a test, and what it answers, with links by their numbers.
-ghost use Rattle.lease_book.specs.Links.{IsTwice};
 
 use crate::book_parts::{Settings, Whose, elsewhere, key_of, limits, link};
-use book_model::events::{Beyond, ClientState};
+use book_model::events::{Beyond, Change, ClientState, Event};
 use book_rows::clients::Client;
 use lease_book::book::Book;
-use lease_book::events::{Event, Reply};
+use lease_book::events::Event::{GiveBack, Plain};
+use lease_book::events::{Event as BookEvent, Reply};
 use link_run::links::CleanLink;
 use memory_ends::gone_end::GoneEnd;
 use message_view::{KeyView, Refusal};
@@ -152,17 +152,18 @@ impl Story {
     }
 
     /// What the book answers, of which a proof knows nothing: so none of a test carries the book's definition along.
-    fn reply(&mut self, event: Event<GoneEnd>) -> Reply<GoneEnd>
-        requires { IsTwice event }
-    {
+    fn reply(&mut self, event: BookEvent<GoneEnd>) -> Reply<GoneEnd> {
         self.book.apply(7, event)
     }
 
     /// The same, with links by their numbers.
-    fn happens(&mut self, event: Event<GoneEnd>) -> Told
-        requires { IsTwice event }
-    {
-        by_numbers(self.reply(event))
+    fn happens(&mut self, event: Event) -> Told {
+        by_numbers(self.reply(Plain(event)))
+    }
+
+    /// The same, of what is changed for all.
+    fn changes(&mut self, change: Change) -> Told {
+        self.happens(Event::Change(change))
     }
 
     /// A client comes.
@@ -173,22 +174,20 @@ impl Story {
     /// A client asks.
     fn asks(&mut self, client: u64, whose: Whose) -> Result<Told, AllocError> {
         let key = key_of(self.alloc, whose)?;
-        let again = Arc::try_clone(&key)?;
-        Ok(self.happens(Event::Ask { client, key, again }))
+        Ok(self.happens(Event::Ask { client, key }))
     }
 
     /// A link comes back.
     fn takes_back(&mut self, number: u64, whose: Whose, born: u64) -> Result<Told, AllocError> {
         let key = key_of(self.alloc, whose)?;
         let link = link(self.alloc, key, number, born)?;
-        Ok(self.happens(Event::GiveBack(link)))
+        Ok(by_numbers(self.reply(GiveBack(link))))
     }
 
     /// Other settings hold.
     fn keeps_to(&mut self, settings: Settings) -> Result<Told, AllocError> {
         let limits = limits(self.alloc, settings)?;
-        let again = Arc::try_clone(&limits)?;
-        Ok(self.happens(Event::Limits(limits, again)))
+        Ok(self.changes(Change::Limits(limits)))
     }
 
     /// What the book answers.
@@ -200,23 +199,23 @@ impl Story {
             Act::Take(client) => Ok(self.happens(Event::Take { client })),
             Act::Back(number, whose) => self.takes_back(number, whose, 0),
             Act::BackFrom(number, whose, born) => self.takes_back(number, whose, born),
-            Act::Lost(number) => Ok(self.happens(Event::Lost { number })),
-            Act::StartFailed(number) => Ok(self.happens(Event::StartFailed { number })),
+            Act::Lost(number) => Ok(self.happens(Event::Lost { link: number })),
+            Act::StartFailed(number) => Ok(self.happens(Event::StartFailed { link: number })),
             Act::Leave(client) => Ok(self.happens(Event::Leave { client })),
             Act::Tick(now) => Ok(self.happens(Event::Tick { now })),
             Act::Limits(settings) => self.keeps_to(settings),
-            Act::Pause => Ok(self.happens(Event::Pause)),
-            Act::Resume => Ok(self.happens(Event::Resume)),
-            Act::Shutdown => Ok(self.happens(Event::Shutdown)),
-            Act::Reconnect => Ok(self.happens(Event::Reconnect)),
+            Act::Pause => Ok(self.changes(Change::Pause)),
+            Act::Resume => Ok(self.changes(Change::Resume)),
+            Act::Shutdown => Ok(self.changes(Change::Shutdown)),
+            Act::Reconnect => Ok(self.changes(Change::Reconnect)),
             Act::Keyed(number, client, server) => Ok(self.happens(Event::Keyed {
-                number,
+                link: number,
                 client,
                 server,
             })),
             Act::Cancel(client) => Ok(self.happens(Event::Cancel { client })),
-            Act::EndLease(number) => Ok(self.happens(Event::EndLease { number })),
-            Act::HungUp(number) => Ok(self.happens(Event::HungUp { number })),
+            Act::EndLease(number) => Ok(self.happens(Event::EndLease { link: number })),
+            Act::HungUp(number) => Ok(self.happens(Event::HungUp { link: number })),
         }
     }
 

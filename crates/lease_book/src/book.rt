@@ -1,5 +1,5 @@
 //! The lease book. What it adds to the lists: the decisions that led to them, and the idle links themselves, each the one of its number.
-ghost use Rattle.std.specs.Prelude.{find, ◌≡◌, ◌+◌, [], ◌∷◌, ◌++◌, IfOk, None, Some, cond, false, true, length, map, option_copied, option_map};
+ghost use Rattle.std.specs.Prelude.{find, ◌≡◌, ◌+◌, [], ◌∷◌, ◌++◌, IfOk, IfSome, IsSome, None, Some, cond, false, true, length, map, option_copied, option_map};
 ghost use Rattle.std.specs.Arc.{arc_value};
 ghost use Rattle.std.specs.List.{list_any};
 ghost use Rattle.start_keys.specs.Keys.{same_key};
@@ -9,6 +9,7 @@ ghost use Rattle.book_model.specs.Outcomes.{apply, apply_return, is_started_as};
 ghost use Rattle.book_model.specs.declared.events.Reply.TheVariants.{Strike};
 ghost use Rattle.book_model.specs.Outcomes.Event.{GiveBack};
 ghost use Rattle.book_model.specs.Kept.{Kept};
+ghost use Rattle.book_model.specs.Places.{IsPlaceOf};
 ghost use Rattle.book_register.specs.Counted.{counted_book};
 ghost use Rattle.book_register.specs.Views.{view_of};
 ghost use Rattle.book_model.specs.Replay.{noted_of};
@@ -28,7 +29,7 @@ use link_run::links::CleanLink;
 use message_view::KeyView;
 use pool_figures::decisions::DecisionSeen;
 use server_end::ServerEnd;
-use start_keys::StartKey;
+use start_keys::{Host, StartKey};
 use std::alloc::{AllocError, Global};
 use std::marker::Model;
 use std::sync::Arc;
@@ -45,8 +46,18 @@ fn goes_out(told: lists::Reply) -> Option<u64>
     }
 }
 
-/// The strike at the place of its link, which is lent.
+/// Where the server of a lent link is.
 #[tactic(auto, using(crate::proofs::Striking::in_place))]
+fn place_of(lists: &BookState, number: u64) -> Option<(Host, u16)>
+    requires kept { Kept lists.now }
+    ensures there { has_place (find (is_link number) lists.now.lent) ≡ true → IsSome result }
+    ensures place { IfSome result (λ p. IsPlaceOf lists.now number p.0 p.1) }
+{
+    let key = lists.lent_key(number)?;
+    Some((key.host?, key.port))
+}
+
+/// The strike at the place of its link, which is lent.
 fn strike<E: ServerEnd>(lists: &BookState, number: u64, server: KeyView) -> Reply<E>
     requires kept { Kept lists.now }
     requires place { has_place (find (is_link number) lists.now.lent) ≡ true }
@@ -54,15 +65,14 @@ fn strike<E: ServerEnd>(lists: &BookState, number: u64, server: KeyView) -> Repl
     ensures place { StrikesInPlace lists.now result }
     ensures link { handed result ≡ None }
 {
-    let Some(key) = lists.lent_key(number) else {
+    let Some((host, port)) = place_of(lists, number) else {
         unreachable!()
     };
-    let Some(host) = key.host else { unreachable!() };
     Reply::Strike {
         number,
         server,
         host,
-        port: key.port,
+        port,
     }
 }
 
@@ -283,8 +293,8 @@ impl<E: ServerEnd> Book<E> {
                 let before = self.lists.decisions();
                 let reply = self.lists.apply(plain);
                 let is_decision = self.lists.decisions() > before;
-                self.history
-                    .note(is_decision, Decision { pass, event, reply });
+                let decision = Decision { pass, event, reply };
+                self.history.note(is_decision, decision);
                 let link = self.idle.take(goes_out(reply));
                 reply_with(&self.lists, reply, link)
             }

@@ -35,41 +35,11 @@ one-back cat l false k = k
 module _ {E : Type 0} where
   pub stays_home : (cat : CatalogueOf) (e : Event E) (r : ListsReply) (idle : List LinkView) → IsBroughtHome cat e → AreAtHome cat idle → AreAtHome cat (idle_after e r idle)
   stays_home cat (event.GiveBack l) r idle k h = all-with cat l (is_done r) idle k h
-  stays_home cat (event.Arrive beyond) r idle k h = all-left cat (goes_out r) idle h
-  stays_home cat (event.Ask client key again) r idle k h = all-left cat (goes_out r) idle h
-  stays_home cat (event.Take client) r idle k h = all-left cat (goes_out r) idle h
-  stays_home cat (event.Lost n) r idle k h = all-left cat (goes_out r) idle h
-  stays_home cat (event.StartFailed n) r idle k h = all-left cat (goes_out r) idle h
-  stays_home cat (event.Leave client) r idle k h = all-left cat (goes_out r) idle h
-  stays_home cat (event.Tick now) r idle k h = all-left cat (goes_out r) idle h
-  stays_home cat (event.Limits limits again) r idle k h = all-left cat (goes_out r) idle h
-  stays_home cat event.Pause r idle k h = all-left cat (goes_out r) idle h
-  stays_home cat event.Resume r idle k h = all-left cat (goes_out r) idle h
-  stays_home cat event.Shutdown r idle k h = all-left cat (goes_out r) idle h
-  stays_home cat event.Reconnect r idle k h = all-left cat (goes_out r) idle h
-  stays_home cat (event.Keyed n client server) r idle k h = all-left cat (goes_out r) idle h
-  stays_home cat (event.Cancel client) r idle k h = all-left cat (goes_out r) idle h
-  stays_home cat (event.EndLease n) r idle k h = all-left cat (goes_out r) idle h
-  stays_home cat (event.HungUp n) r idle k h = all-left cat (goes_out r) idle h
+  stays_home cat (event.Plain e) r idle k h = all-left cat (goes_out r) idle h
 
   pub handed_home : (cat : CatalogueOf) (e : Event E) (r : ListsReply) (idle : List LinkView) → IsBroughtHome cat e → AreAtHome cat idle → IfSome (handed_after e r idle) (IsAtHome cat)
   handed_home cat (event.GiveBack l) r idle k h = one-back cat l (is_done r) k
-  handed_home cat (event.Arrive beyond) r idle k h = all-found cat (goes_out r) idle h
-  handed_home cat (event.Ask client key again) r idle k h = all-found cat (goes_out r) idle h
-  handed_home cat (event.Take client) r idle k h = all-found cat (goes_out r) idle h
-  handed_home cat (event.Lost n) r idle k h = all-found cat (goes_out r) idle h
-  handed_home cat (event.StartFailed n) r idle k h = all-found cat (goes_out r) idle h
-  handed_home cat (event.Leave client) r idle k h = all-found cat (goes_out r) idle h
-  handed_home cat (event.Tick now) r idle k h = all-found cat (goes_out r) idle h
-  handed_home cat (event.Limits limits again) r idle k h = all-found cat (goes_out r) idle h
-  handed_home cat event.Pause r idle k h = all-found cat (goes_out r) idle h
-  handed_home cat event.Resume r idle k h = all-found cat (goes_out r) idle h
-  handed_home cat event.Shutdown r idle k h = all-found cat (goes_out r) idle h
-  handed_home cat event.Reconnect r idle k h = all-found cat (goes_out r) idle h
-  handed_home cat (event.Keyed n client server) r idle k h = all-found cat (goes_out r) idle h
-  handed_home cat (event.Cancel client) r idle k h = all-found cat (goes_out r) idle h
-  handed_home cat (event.EndLease n) r idle k h = all-found cat (goes_out r) idle h
-  handed_home cat (event.HungUp n) r idle k h = all-found cat (goes_out r) idle h
+  handed_home cat (event.Plain e) r idle k h = all-found cat (goes_out r) idle h
 
 -- keys that the comparison finds the same are one key
 pub of_same_key : (a b : StartKeyOf) → same_key a b ≡ true → a ≡ b

@@ -58,7 +58,7 @@ pub record IsMemoryPool (h : MemoryPoolOf) (cut : ℕ) (idle : List LinkView) : 
 -- a link that comes back
 abbrev pub IsBroughtHome : {E : Type 0} → CatalogueOf → Event E → Type 0
 IsBroughtHome cat (event.GiveBack l) = IsAtHome cat l
-IsBroughtHome cat _ = Unit {0}
+IsBroughtHome cat (event.Plain e) = Unit {0}
 
 -- ---- what a client that takes its link is answered
 

@@ -3,19 +3,20 @@ ghost use Rattle.std.specs.Prelude.{◌≡◌, ◌<◌, ◌≤◌, [], false, If
 ghost use Rattle.std.specs.Arc.{arc_value};
 ghost use Rattle.frame_view.specs.declared.frames.TheConstants.{LONGEST_FRAME};
 ghost use Rattle.ini_config.specs.Bounds.{AreWithinBounds};
-ghost use Rattle.lease_book.specs.Links.{IsTwice, handed};
+ghost use Rattle.lease_book.specs.Links.{handed};
 ghost use Rattle.link_start.specs.Starts.{IsLinkKey};
 ghost use Rattle.login_core.specs.Dialogue.{AtFirst};
 ghost use Rattle.login_core.specs.Logins.{AwaitsPacket, login_view};
 ghost use Rattle.memory_pool.specs.MemoryPools.{IsAtHome, IsBroughtHome, IsNewServer, IsServerOf, IsTaken, IsUnstarted, IsStartRefusal, memory_pool_of};
 
 use crate::answers::{Answer, Taken};
-use book_model::events::Beyond;
+use book_model::events::{Beyond, Event};
 use book_model::settings::limits_of;
 use credentials::Credential;
 use ini_config::Settings;
 use lease_book::book::Book;
-use lease_book::events::{Event, Reply};
+use lease_book::events::Event::{GiveBack, Plain};
+use lease_book::events::{Event as BookEvent, Reply};
 use link_run::links::{CleanLink, UsedLink};
 use link_run::reset::reset_link;
 use link_start::close::close_link;
@@ -159,8 +160,7 @@ impl MemoryPool {
 
     /// What the book answers to an event.
     #[tactic(auto, using(crate::proofs::Homes::stays_home, crate::proofs::Homes::handed_home))]
-    fn tell(&mut self, event: Event<MemoryServer>) -> Reply<MemoryServer>
-        requires twice { IsTwice event }
+    fn tell(&mut self, event: BookEvent<MemoryServer>) -> Reply<MemoryServer>
         requires home { IsBroughtHome self.old.catalogue event }
         ensures same { self.new ≡ self.old }
         ensures home { IfSome (handed result) (IsAtHome self.old.catalogue) }
@@ -173,7 +173,7 @@ impl MemoryPool {
         ensures { self.new ≡ self.old }
     {
         let beyond = Beyond::Nothing;
-        match self.tell(Event::Arrive { beyond }) {
+        match self.tell(Plain(Event::Arrive { beyond })) {
             Reply::Client(number) => Answer::Number(number),
             Reply::Refuse(refusal, _) => Answer::Refused(refusal),
             _ => Answer::Strange,
@@ -185,14 +185,8 @@ impl MemoryPool {
     pub fn ask(&mut self, client: u64, key: &Arc<StartKey>) -> Result<Answer, AllocError>
         ensures { self.new ≡ self.old }
     {
-        let first = Arc::try_clone(key)?;
-        let again = Arc::try_clone(key)?;
-        let told = self.tell(Event::Ask {
-            client,
-            key: first,
-            again,
-        });
-        match told {
+        let key = Arc::try_clone(key)?;
+        match self.tell(Plain(Event::Ask { client, key })) {
             Reply::Queued(before) => Ok(Answer::Number(before)),
             Reply::Refuse(refusal, _) => Ok(Answer::Refused(refusal)),
             _ => Ok(Answer::Strange),
@@ -205,7 +199,7 @@ impl MemoryPool {
         ensures same { self.new ≡ self.old }
         ensures taken { IfOk result (IsTaken self.old.catalogue (arc_value key.now)) }
     {
-        match self.tell(Event::Take { client }) {
+        match self.tell(Plain(Event::Take { client })) {
             Reply::Lend(link) => Ok(self.lent(link, key)),
             Reply::Start {
                 number,
@@ -308,7 +302,7 @@ impl MemoryPool {
     fn fail_start(&mut self, number: u64)
         ensures { self.new ≡ self.old }
     {
-        self.tell(Event::StartFailed { number });
+        self.tell(Plain(Event::StartFailed { link: number }));
     }
 
     /// A link comes back that nobody used.
@@ -316,7 +310,7 @@ impl MemoryPool {
         requires { IsAtHome self.old.catalogue link }
         ensures { self.new ≡ self.old }
     {
-        match self.tell(Event::GiveBack(link)) {
+        match self.tell(GiveBack(link)) {
             Reply::Close(link) | Reply::Refuse(_, Some(link)) | Reply::Stranger(Some(link)) => {
                 close_link(link);
             }
@@ -341,14 +335,14 @@ impl MemoryPool {
     pub fn lose(&mut self, number: u64)
         ensures { self.new ≡ self.old }
     {
-        self.tell(Event::Lost { number });
+        self.tell(Plain(Event::Lost { link: number }));
     }
 
     /// The client of this number goes.
     pub fn leave(&mut self, client: u64)
         ensures { self.new ≡ self.old }
     {
-        self.tell(Event::Leave { client });
+        self.tell(Plain(Event::Leave { client }));
     }
 
     /// Each server that is started from here on dies once so many bytes were read from it.
@@ -363,7 +357,7 @@ impl MemoryPool {
         ensures { self.new ≡ self.old }
     {
         for _ in 0..u64::MAX {
-            match self.tell(Event::Tick { now }) {
+            match self.tell(Plain(Event::Tick { now })) {
                 Reply::Close(link) => {
                     close_link(link);
                 }

@@ -1,12 +1,12 @@
 //! A lease book. Its making and its view are asked again; its events take no memory.
-ghost use Rattle.lease_book.specs.Links.{IsTwice};
 
 use crate::making::{key, limits};
 use crate::told::{put_numbers, put_unless};
-use book_model::events::Beyond;
+use book_model::events::{Beyond, Event};
 use book_register::view::BookView;
 use lease_book::book::Book;
-use lease_book::events::{Event, Reply};
+use lease_book::events::Event::{GiveBack, Plain};
+use lease_book::events::Reply;
 use link_run::links::{CleanLink, LinkParts};
 use memory_ends::gone_end::GoneEnd;
 use memory_start_laws::unfollowed_starts_are_clean;
@@ -25,10 +25,8 @@ fn empty(alloc: Global) -> Result<Book<GoneEnd>, AllocError> {
     }
 }
 
-fn happens(book: &mut Book<GoneEnd>, event: Event<GoneEnd>) -> Reply<GoneEnd>
-    requires { IsTwice event }
-{
-    book.apply(0, event)
+fn happens(book: &mut Book<GoneEnd>, event: Event) -> Reply<GoneEnd> {
+    book.apply(0, Plain(event))
 }
 
 /// A client comes and asks for a link of this key; its number.
@@ -39,9 +37,8 @@ fn comes(book: &mut Book<GoneEnd>, key: &Arc<StartKey>) -> Result<u64, AllocErro
     let Reply::Client(client) = happens(book, arrival) else {
         return Err(AllocError);
     };
-    let again = Arc::try_clone(key)?;
     let key = Arc::try_clone(key)?;
-    drop(happens(book, Event::Ask { client, key, again }));
+    drop(happens(book, Event::Ask { client, key }));
     Ok(client)
 }
 
@@ -86,7 +83,7 @@ pub fn filled(alloc: Global) -> Result<Book<GoneEnd>, AllocError> {
     let of_first = started(alloc, &mut book, &key, first)?;
     let _ = started(alloc, &mut book, &key, second)?;
     comes(&mut book, &key)?;
-    drop(happens(&mut book, Event::GiveBack(of_first)));
+    drop(book.apply(0, GiveBack(of_first)));
     drop(happens(&mut book, Event::Leave { client: first }));
     Ok(book)
 }

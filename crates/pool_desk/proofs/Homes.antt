@@ -39,50 +39,20 @@ home_found home (Some n) links h = home_find home (is_numbered n) links h
 
 module _ {E : Type 0} where
   home_after : (home : HomeOf) (e : Event E) (r : ListsReply) (idle : List LinkView) → AreAtHome home idle → IfSome (brought e) (IsAtHome home) → AreAtHome home (idle_after e r idle)
-  home_after home (event.Arrive beyond) r idle h b = home_left home (goes_out r) idle h
-  home_after home (event.Ask client key again) r idle h b = home_left home (goes_out r) idle h
-  home_after home (event.Take client) r idle h b = home_left home (goes_out r) idle h
+  home_after home (event.Plain e) r idle h b = home_left home (goes_out r) idle h
   home_after home (event.GiveBack l) r idle h b = go (is_done r)
     where
       go : (done : Bool) → AreAtHome home (cond done (idle ++ l ∷ []) idle)
       go true = home_push home idle l h b
       go false = h
-  home_after home (event.Lost n) r idle h b = home_left home (goes_out r) idle h
-  home_after home (event.StartFailed n) r idle h b = home_left home (goes_out r) idle h
-  home_after home (event.Leave client) r idle h b = home_left home (goes_out r) idle h
-  home_after home (event.Tick now) r idle h b = home_left home (goes_out r) idle h
-  home_after home (event.Limits limits again) r idle h b = home_left home (goes_out r) idle h
-  home_after home event.Pause r idle h b = home_left home (goes_out r) idle h
-  home_after home event.Resume r idle h b = home_left home (goes_out r) idle h
-  home_after home event.Shutdown r idle h b = home_left home (goes_out r) idle h
-  home_after home event.Reconnect r idle h b = home_left home (goes_out r) idle h
-  home_after home (event.Keyed n client server) r idle h b = home_left home (goes_out r) idle h
-  home_after home (event.Cancel client) r idle h b = home_left home (goes_out r) idle h
-  home_after home (event.EndLease n) r idle h b = home_left home (goes_out r) idle h
-  home_after home (event.HungUp n) r idle h b = home_left home (goes_out r) idle h
 
   home_handed : (home : HomeOf) (e : Event E) (r : ListsReply) (idle : List LinkView) → AreAtHome home idle → IfSome (brought e) (IsAtHome home) → IfSome (handed_after e r idle) (IsAtHome home)
-  home_handed home (event.Arrive beyond) r idle h b = home_found home (goes_out r) idle h
-  home_handed home (event.Ask client key again) r idle h b = home_found home (goes_out r) idle h
-  home_handed home (event.Take client) r idle h b = home_found home (goes_out r) idle h
+  home_handed home (event.Plain e) r idle h b = home_found home (goes_out r) idle h
   home_handed home (event.GiveBack l) r idle h b = go (is_done r)
     where
       go : (done : Bool) → IfSome (cond done None (Some l)) (IsAtHome home)
       go true = tt
       go false = b
-  home_handed home (event.Lost n) r idle h b = home_found home (goes_out r) idle h
-  home_handed home (event.StartFailed n) r idle h b = home_found home (goes_out r) idle h
-  home_handed home (event.Leave client) r idle h b = home_found home (goes_out r) idle h
-  home_handed home (event.Tick now) r idle h b = home_found home (goes_out r) idle h
-  home_handed home (event.Limits limits again) r idle h b = home_found home (goes_out r) idle h
-  home_handed home event.Pause r idle h b = home_found home (goes_out r) idle h
-  home_handed home event.Resume r idle h b = home_found home (goes_out r) idle h
-  home_handed home event.Shutdown r idle h b = home_found home (goes_out r) idle h
-  home_handed home event.Reconnect r idle h b = home_found home (goes_out r) idle h
-  home_handed home (event.Keyed n client server) r idle h b = home_found home (goes_out r) idle h
-  home_handed home (event.Cancel client) r idle h b = home_found home (goes_out r) idle h
-  home_handed home (event.EndLease n) r idle h b = home_found home (goes_out r) idle h
-  home_handed home (event.HungUp n) r idle h b = home_found home (goes_out r) idle h
 
   pub stay_home : (home : HomeOf) (e : Event E) (r : ListsReply) (idle next : List LinkView) → AreAtHome home idle → IfSome (brought e) (IsAtHome home) → next ≡ idle_after e r idle → AreAtHome home next
   stay_home home e r idle next h b is = subst (AreAtHome home) (sym is) (home_after home e r idle h b)
@@ -92,23 +62,8 @@ module _ {E : Type 0} where
 
   -- a link that is given back comes back as its reply says
   pub handed_of_return : (e : Event E) (r : ListsReply) (idle : List LinkView) → IfSome (brought e) (λ l. handed_after e r idle ≡ handed_back l r)
-  handed_of_return (event.Arrive beyond) r idle = tt
-  handed_of_return (event.Ask client key again) r idle = tt
-  handed_of_return (event.Take client) r idle = tt
+  handed_of_return (event.Plain e) r idle = tt
   handed_of_return (event.GiveBack l) r idle = refl
-  handed_of_return (event.Lost n) r idle = tt
-  handed_of_return (event.StartFailed n) r idle = tt
-  handed_of_return (event.Leave client) r idle = tt
-  handed_of_return (event.Tick now) r idle = tt
-  handed_of_return (event.Limits limits again) r idle = tt
-  handed_of_return event.Pause r idle = tt
-  handed_of_return event.Resume r idle = tt
-  handed_of_return event.Shutdown r idle = tt
-  handed_of_return event.Reconnect r idle = tt
-  handed_of_return (event.Keyed n client server) r idle = tt
-  handed_of_return (event.Cancel client) r idle = tt
-  handed_of_return (event.EndLease n) r idle = tt
-  handed_of_return (event.HungUp n) r idle = tt
 
   pub comes_back : (e : Event E) (back : Option LinkView) (r told : ListsReply) (idle : List LinkView) → back ≡ handed_after e told idle → r ≡ told → IfSome (brought e) (λ l. back ≡ handed_back l r)
   comes_back e back r told idle is same =

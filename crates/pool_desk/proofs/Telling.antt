@@ -1,15 +1,15 @@
 -- What a pass tells follows the book's counts.
 use Rattle.std.proofs.Common.{◌≡◌, ℕ, suc, ◌+◌, Bool, true, false, cond, not, ◌||◌, ◌==◌, nat_lt, length, find, List, Option, None, Some, inl, inr, refl, sym, ap, ◌∙◌, subst, arith}
 use native.Mathlib.Numerals.{unary_clauses}
-use Rattle.std.specs.Arc.{arc_value}
 use Rattle.std.proofs.lemmas.Bool.{true≢false}
 use Rattle.message_view.specs.declared.refusal.Refusal.TheVariants.{LastDecision}
 use Rattle.message_view.specs.declared.views.KeyView.{KeyView}
 use Rattle.std.specs.List.{list_any}
 use Rattle.session_values.specs.State.{StartKeyOf}
 use Rattle.book_model.specs.Book.{Book, Lease, Link, Ticket, in_pool, is_link, is_number, is_of, is_of_client, lendable, link_count, places_beyond, pool_count, pool_size, waiting_before}
-use Rattle.book_model.specs.Outcomes.{Answer, Event, apply, apply_return, at_clock, cancels, closes, counted, decided, ends_lease, evicts, gives_back, grants, hangs_up, has_waited, is_crowded, is_old, is_stale, is_started_as, is_strange, kind_of, last_decision, outcome, raised, strikes, strikes_at, takes}
-use Rattle.book_model.specs.Outcomes.Event.{Arrive, Ask, Take, GiveBack, Lost, StartFailed, Leave, Tick, NewLimits, Pause, Resume, Shutdown, Reconnect, Keyed, Cancel, EndLease, HungUp}
+use Rattle.book_model.specs.Events.{event_of}
+use Rattle.book_model.specs.Outcomes.{Answer, Change, Event, apply, apply_return, at_clock, cancels, changed, closes, counted, decided, ends_lease, evicts, gives_back, grants, hangs_up, has_waited, is_crowded, is_old, is_stale, is_started_as, is_strange, kind_of, kind_of_change, last_decision, outcome, raised, strikes, strikes_at, takes}
+use Rattle.book_model.specs.Outcomes.Event.{Arrive, Ask, Take, GiveBack, Lost, StartFailed, Leave, Tick, Makes, Keyed, Cancel, EndLease, HungUp}
 use Rattle.book_model.specs.declared.counts.Counts.{Counts}
 use Rattle.book_model.specs.declared.counts.Kind.{Kind}
 use Rattle.book_model.specs.declared.counts.Kind.TheVariants.{Arrival, ArrivalRefused, Asking, AskRefused, Grant, TicketLost, Return, Loss, FailedStart, Leaving, Ticking, Limiting, Pausing, Resuming, Closing, Keying, Cancelling, LeaseEnding, HangUp, Reconnecting}
@@ -192,6 +192,12 @@ fits_ended : (b : Book) (n : ℕ) (marked : Bool) → Fits b (EndLease n) (recor
 fits_ended b n true = record { counts = refl; tells = λ p. refl }
 fits_ended b n false = record { counts = refl; tells = λ p. refl }
 
+changed_counts : (change : Change) (b : Book) → (changed change b).counts ≡ b.counts
+changed_counts change b = elim change as (λ c. (changed c b).counts ≡ b.counts) [ _ ↦ refl ]
+
+changed_tells : (change : Change) (p : PassOf) → Tells (Makes change) Done p (passed (Some (kind_of_change change)) Done p)
+changed_tells change p = elim change as (λ c. Tells (Makes c) Done p (passed (Some (kind_of_change c)) Done p)) [ _ ↦ refl ]
+
 fits : (b : Book) (e : Event) → is_strange b e ≡ false → Fits b e (outcome b e)
 fits b (Arrive beyond) known =
     both (Fits b (Arrive beyond)) b.is_shut _ _ (record { counts = refl; tells = λ p. (refl, tt) })
@@ -203,11 +209,7 @@ fits b (Lost n) known = record { counts = refl; tells = λ p. refl }
 fits b (StartFailed n) known = record { counts = refl; tells = λ p. refl }
 fits b (Leave c) known = record { counts = refl; tells = λ p. refl }
 fits b (Tick now) known = fits_closes b now (find (is_stale (at_clock b now)) b.idle)
-fits b (NewLimits l) known = record { counts = refl; tells = λ p. refl }
-fits b Pause known = record { counts = refl; tells = λ p. refl }
-fits b Resume known = record { counts = refl; tells = λ p. refl }
-fits b Shutdown known = record { counts = refl; tells = λ p. refl }
-fits b Reconnect known = record { counts = refl; tells = λ p. refl }
+fits b (Makes change) known = record { counts = changed_counts change b; tells = changed_tells change }
 fits b (Keyed n client server) known = record { counts = refl; tells = λ p. refl }
 fits b (Cancel client) known = fits_cancels b client (find (is_of_client client) b.keyed)
 fits b (EndLease n) known = fits_ended b n (list_any (is_number n) b.marked)
@@ -232,11 +234,7 @@ counted_last b e = record { kind = None; counts = refl; tells = last e }
     last (StartFailed n) p = refl
     last (Leave c) p = refl
     last (Tick now) p = refl
-    last (NewLimits l) p = refl
-    last Pause p = refl
-    last Resume p = refl
-    last Shutdown p = refl
-    last Reconnect p = refl
+    last (Makes change) p = refl
     last (Keyed n client server) p = refl
     last (Cancel client) p = refl
     last (EndLease n) p = refl
@@ -254,11 +252,7 @@ counted_strange b e is = record { kind = None; counts = refl; tells = strange e 
     strange (StartFailed n) is p = refl
     strange (Leave c) is p = refl
     strange (Tick now) is p = absurd (true≢false (sym is))
-    strange (NewLimits l) is p = absurd (true≢false (sym is))
-    strange Pause is p = absurd (true≢false (sym is))
-    strange Resume is p = absurd (true≢false (sym is))
-    strange Shutdown is p = absurd (true≢false (sym is))
-    strange Reconnect is p = absurd (true≢false (sym is))
+    strange (Makes change) is p = absurd (true≢false (sym is))
     strange (Keyed n client server) is p = refl
     strange (Cancel client) is p = absurd (true≢false (sym is))
     strange (EndLease n) is p = refl
@@ -295,23 +289,8 @@ counted_return b n key born = by_last (b.decisions == last_decision)
 
 module _ {E : Type 0} where
   counted_event : (b : Book) (e : LinkEvent E) → Counted b (plain e) (answered b e)
-  counted_event b (event.Arrive beyond) = counted_apply b (Arrive beyond)
-  counted_event b (event.Ask client key again) = counted_apply b (Ask client (arc_value key))
-  counted_event b (event.Take client) = counted_apply b (Take client)
   counted_event b (event.GiveBack l) = counted_return b l.number l.key l.born
-  counted_event b (event.Lost n) = counted_apply b (Lost n)
-  counted_event b (event.StartFailed n) = counted_apply b (StartFailed n)
-  counted_event b (event.Leave client) = counted_apply b (Leave client)
-  counted_event b (event.Tick now) = counted_apply b (Tick now)
-  counted_event b (event.Limits limits again) = counted_apply b (NewLimits (arc_value limits))
-  counted_event b event.Pause = counted_apply b Pause
-  counted_event b event.Resume = counted_apply b Resume
-  counted_event b event.Shutdown = counted_apply b Shutdown
-  counted_event b event.Reconnect = counted_apply b Reconnect
-  counted_event b (event.Keyed n client server) = counted_apply b (Keyed n client server)
-  counted_event b (event.Cancel client) = counted_apply b (Cancel client)
-  counted_event b (event.EndLease n) = counted_apply b (EndLease n)
-  counted_event b (event.HungUp n) = counted_apply b (HungUp n)
+  counted_event b (event.Plain e) = counted_apply b (event_of e)
 
   -- the counts after an event are those before, and one more
   counts_are : (b : Book) (e : LinkEvent E) (lists : Book) (old new : Made) → class_counts b.counts ≡ old → lists ≡ (answered b e).book → new ≡ class_counts lists.counts → new ≡ one_more (counted_event b e).kind old

@@ -1,9 +1,11 @@
 -- What the clock's calls and the console's make of their pass.
-use Rattle.std.specs.Prelude.{◌≡◌, ◌⊎◌, ℕ, Bool, true, false}
+use Rattle.std.specs.Prelude.{◌≡◌, ◌⊎◌, ℕ}
 use Rattle.desk_tallies.specs.Homes.{HomeOf, IsAtHome}
 use Rattle.desk_tallies.specs.Passes.{PassOf, broken, one_other}
-use Rattle.lease_book.specs.declared.events.Event.{Event}
-use Rattle.lease_book.specs.declared.events.Event.TheVariants as event
+use Rattle.book_model.specs.declared.events.Reply.{Reply}
+use Rattle.book_model.specs.declared.events.Reply.TheVariants.{Done}
+use Rattle.link_desk.specs.declared.answers.Changed.{Changed}
+use Rattle.link_desk.specs.declared.answers.Changed.TheVariants as changed
 use Rattle.pool_desk.specs.declared.answers.HungUp.{HungUp}
 use Rattle.pool_desk.specs.declared.answers.HungUp.TheVariants as hung_up
 use Rattle.pool_desk.specs.declared.answers.Ticked.{Ticked}
@@ -36,11 +38,7 @@ module _ {E : Type 0} where
   IsHangUpAtHome home (hung_up.Close link) = IsAtHome home link
   IsHangUpAtHome home _ = Unit {0}
 
-module _ {E : Type 0} where
-  abbrev pub is_change : Event E → Bool
-  is_change (event.Limits limits again) = true
-  is_change event.Pause = true
-  is_change event.Resume = true
-  is_change event.Shutdown = true
-  is_change event.Reconnect = true
-  is_change _ = false
+-- what is answered to a change, by the book's reply
+abbrev pub changed_by : Reply → Changed
+changed_by Done = changed.Done
+changed_by _ = changed.Last

@@ -1,7 +1,9 @@
 -- Who holds a pass after an event that was made through it.
 use Rattle.std.specs.Prelude.{Option, Some, None}
-use Rattle.lease_book.specs.declared.events.Event.{Event}
-use Rattle.lease_book.specs.declared.events.Event.TheVariants as event
+use Rattle.book_model.specs.Outcomes.{Change, Event}
+use Rattle.book_model.specs.Outcomes.Change.{NewLimits, Pause, Resume, Shutdown, Reconnect}
+use Rattle.book_model.specs.Outcomes.Event.{Arrive, Ask, Take, GiveBack, Lost, StartFailed, Leave, Tick, Makes, Cancel, EndLease, HungUp}
+use Rattle.book_model.specs.Outcomes.Event.{Keyed as IsKeyed}
 use Rattle.lease_book.specs.declared.events.Reply.{Reply}
 use Rattle.lease_book.specs.declared.events.Reply.TheVariants as reply
 use Rattle.link_desk.specs.Passes.{at_stage, granted_lease}
@@ -12,27 +14,31 @@ use Rattle.link_desk.specs.declared.calls.Call.TheVariants as call
 use Rattle.link_desk.specs.declared.calls.Holder.{Holder}
 use Rattle.link_desk.specs.declared.calls.Stage.TheVariants.{Granted, Keyed, Ended}
 
-module _ {E : Type 0} where
-  -- the call that an event is
-  abbrev pub call_of : Event E → Call
-  call_of (event.Arrive beyond) = call.Arrive beyond
-  call_of (event.Ask client key again) = call.Ask client
-  call_of (event.Take client) = call.Take client
-  call_of (event.GiveBack link) = call.GiveBack link.number
-  call_of (event.Lost n) = call.Lost n
-  call_of (event.StartFailed n) = call.StartFailed n
-  call_of (event.Leave client) = call.Leave client
-  call_of (event.Keyed n client server) = call.Keyed n client server
-  call_of (event.Cancel client) = call.Cancel client
-  call_of (event.EndLease n) = call.EndLease n
-  call_of (event.HungUp n) = call.HungUp n
-  call_of (event.Tick now) = call.Tick now
-  call_of (event.Limits limits again) = call.Limits
-  call_of event.Pause = call.Pause
-  call_of event.Resume = call.Resume
-  call_of event.Shutdown = call.Shutdown
-  call_of event.Reconnect = call.Reconnect
+-- the call that a change is
+abbrev pub call_of_change : Change → Call
+call_of_change (NewLimits limits) = call.Limits
+call_of_change Pause = call.Pause
+call_of_change Resume = call.Resume
+call_of_change Shutdown = call.Shutdown
+call_of_change Reconnect = call.Reconnect
 
+-- the call that an event is
+abbrev pub call_of : Event → Call
+call_of (Arrive beyond) = call.Arrive beyond
+call_of (Ask client key) = call.Ask client
+call_of (Take client) = call.Take client
+call_of (GiveBack n) = call.GiveBack n
+call_of (Lost n) = call.Lost n
+call_of (StartFailed n) = call.StartFailed n
+call_of (Leave client) = call.Leave client
+call_of (Tick now) = call.Tick now
+call_of (Makes change) = call_of_change change
+call_of (IsKeyed n client server) = call.Keyed n client server
+call_of (Cancel client) = call.Cancel client
+call_of (EndLease n) = call.EndLease n
+call_of (HungUp n) = call.HungUp n
+
+module _ {E : Type 0} where
   -- what a cancel is for that is to be sent by a reply
   abbrev pub target_in : Reply E → Option Target
   target_in (reply.Strike n server host port) = Some (record { link = n; server = server })

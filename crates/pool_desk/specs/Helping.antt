@@ -3,7 +3,8 @@ use Rattle.std.specs.Prelude.{◌≡◌, ◌%◌, ℕ, Bool, List, Option, Some,
 use Rattle.session_values.specs.State.{StartKeyOf}
 use Rattle.book_model.specs.Book.{Book}
 use Rattle.book_model.specs.Outcomes.{Event}
-use Rattle.book_model.specs.Outcomes.Event.{Arrive, Ask, Take, GiveBack, Lost, StartFailed, Leave, Reconnect, Keyed, Cancel, EndLease, HungUp}
+use Rattle.book_model.specs.Outcomes.Change.{Shutdown, Reconnect}
+use Rattle.book_model.specs.Outcomes.Event.{Arrive, Ask, Take, GiveBack, Lost, StartFailed, Leave, Tick, Makes, Keyed, Cancel, EndLease, HungUp}
 use Rattle.book_register.specs.Waking.{is_full, waiting_behind, waiting_for}
 use Rattle.book_rows.specs.Waiting.{longest_waiting}
 use Rattle.pool_desk.specs.declared.bells.TheConstants.{BELLS}
@@ -36,8 +37,12 @@ helped_by b (EndLease link) = helps.Nobody
 -- beside an idle link only those wait whose pools have no room without it either
 helped_by b (HungUp link) = helps.Nobody
 -- who waits had no idle link that it might be lent, and nothing else is changed for it
-helped_by b Reconnect = helps.Nobody
-helped_by b _ = helps.All
+helped_by b (Makes Reconnect) = helps.Nobody
+-- all who wait are refused
+helped_by b (Makes Shutdown) = helps.All
+-- where the first may go on, or has waited too long, the next is helped by what it is answered
+helped_by b (Makes change) = helps.FirstOfEach
+helped_by b (Tick now) = helps.FirstOfEach
 
 -- this client's bell is among the chosen
 abbrev pub IsChosen : List Bool → ℕ → Type 0

@@ -34,4 +34,4 @@ module _ {E : Type 0} where
   -- the link that comes with an event
   abbrev pub brought : Event E → Option LinkView
   brought (event.GiveBack link) = Some link
-  brought _ = None
+  brought (event.Plain e) = None

@@ -2,7 +2,7 @@
 use Rattle.std.specs.Prelude.{◌≡◌, ◌⊎◌, Bool, true, false}
 use Rattle.message_view.specs.declared.refusal.Refusal.TheVariants.{LastDecision}
 use Rattle.book_model.specs.Outcomes.{Event}
-use Rattle.book_model.specs.Outcomes.Event.{Arrive, Ask, Take, GiveBack, Lost, StartFailed, Leave, Tick, NewLimits, Pause, Resume, Shutdown, Reconnect, Keyed, Cancel, EndLease, HungUp}
+use Rattle.book_model.specs.Outcomes.Event.{Arrive, Ask, Take, GiveBack, Lost, StartFailed, Leave, Tick, Makes, Keyed, Cancel, EndLease, HungUp}
 use Rattle.book_model.specs.declared.events.Reply.{Reply}
 use Rattle.book_model.specs.declared.events.Reply.TheVariants.{Arrived, Queued, Lend, Start, Close, Refuse, Done, Stranger, Strike, Nobody, Reset, Dispose}
 use Rattle.desk_tallies.specs.Passes.{PassOf, after_refusal, broken, one_arrived, one_given_back, one_granted, one_left, one_lost, one_other}
@@ -44,16 +44,8 @@ Tells (Leave client) Stranger p q = q ≡ broken p
 Tells (Tick now) Done p q = (q ≡ p) ⊎ (q ≡ one_other p)
 Tells (Tick now) (Close link) p q = q ≡ one_other p
 Tells (Tick now) (Refuse LastDecision) p q = q ≡ broken p
-Tells (NewLimits limits) Done p q = q ≡ one_other p
-Tells (NewLimits limits) (Refuse LastDecision) p q = q ≡ broken p
-Tells Pause Done p q = q ≡ one_other p
-Tells Pause (Refuse LastDecision) p q = q ≡ broken p
-Tells Resume Done p q = q ≡ one_other p
-Tells Resume (Refuse LastDecision) p q = q ≡ broken p
-Tells Shutdown Done p q = q ≡ one_other p
-Tells Shutdown (Refuse LastDecision) p q = q ≡ broken p
-Tells Reconnect Done p q = q ≡ one_other p
-Tells Reconnect (Refuse LastDecision) p q = q ≡ broken p
+Tells (Makes change) Done p q = q ≡ one_other p
+Tells (Makes change) (Refuse LastDecision) p q = q ≡ broken p
 Tells (Keyed link client server) Done p q = q ≡ one_other p
 Tells (Keyed link client server) (Refuse LastDecision) p q = q ≡ broken p
 Tells (Keyed link client server) Stranger p q = q ≡ broken p

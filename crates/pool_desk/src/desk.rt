@@ -3,18 +3,16 @@ ghost use Rattle.std.specs.Prelude.{◌≡◌, IfOk, IfErr, IfSome, IsSome, OnEr
 ghost use Rattle.std.specs.Arc.{arc_value};
 ghost use Rattle.book_model.specs.Book.{Book};
 ghost use Rattle.book_model.specs.Kept.{Kept};
-ghost use Rattle.book_model.specs.Outcomes.{apply_return};
-ghost use Rattle.book_model.specs.Outcomes.Event.{GiveBack};
 ghost use Rattle.book_register.specs.Views.{view_of};
 ghost use Rattle.lease_book.specs.Histories.{LeadsTo};
 ghost use Rattle.lease_book.specs.Shown.{as_shown, decisions_shown};
-ghost use Rattle.lease_book.specs.Links.{BookOf, IsTwice, StrikesInPlace, answered, handed, handed_back, plain, reply_of};
+ghost use Rattle.lease_book.specs.Links.{BookOf, StrikesInPlace, answered, handed, handed_back, plain, reply_of};
 ghost use Rattle.link_desk.specs.declared.calls.Call.TheVariants as call;
 ghost use Rattle.desk_tallies.specs.Homes.{IsAtHome};
-ghost use Rattle.desk_tallies.specs.Passes.{after_change, new_holder, new_pass};
+ghost use Rattle.desk_tallies.specs.Passes.{new_holder, new_pass};
 ghost use Rattle.desk_tallies.specs.declared.passes.TheConstants.{ALL_PARTS};
 ghost use Rattle.desk_tallies.specs.Shares.{AtMost, made_of, names_of, of_each, parts_of, sum_over};
-ghost use Rattle.pool_desk.specs.Changes.{AfterHangUp, AfterTick, IsHangUpAtHome, IsHangUpOf, IsTickAtHome, is_change};
+ghost use Rattle.pool_desk.specs.Changes.{AfterHangUp, AfterTick, IsHangUpAtHome, IsHangUpOf, IsTickAtHome, changed_by};
 ghost use Rattle.pool_desk.specs.Classes.{class_counts};
 ghost use Rattle.pool_desk.specs.Hears.{call_of, heard};
 ghost use Rattle.pool_desk.specs.Joined.{brought};
@@ -24,9 +22,9 @@ use crate::answers::{HungUp, Ticked};
 use crate::bells::Bells;
 use crate::helping::Helps;
 use crate::inner::Core;
-use crate::minding::{granted, minded};
+use crate::minding::{granted, heeded};
 use crate::outside::Outside;
-use book_model::events::Beyond;
+use book_model::events::{Beyond, Change, Event};
 use book_model::limits::Limits;
 use book_register::view::BookView;
 use credentials::Credential;
@@ -37,7 +35,8 @@ use desk_tallies::desk::LinkDesk;
 use desk_tallies::ledgers::Ledgers;
 use desk_tallies::passes::{Pass, Totals};
 use desk_tallies::tallies::Blanks;
-use lease_book::events::{Event, Reply};
+use lease_book::events::Event::{GiveBack, Plain};
+use lease_book::events::{Event as BookEvent, Reply};
 use link_run::links::CleanLink;
 use log_lines::notes::{Client, Note};
 use message_view::KeyView;
@@ -182,54 +181,19 @@ impl<R: Wait + Clock, S: Outside, K: Ledgers> Desk<R, S, K> {
         }
     }
 
-    /// One event, in one hold of the lock.
-    fn hold(&self, pass: &mut Pass<K>, event: Event<S::End>) -> Reply<S::End>
-        requires twice { IsTwice event }
+    /// One event, in one hold of the lock. The end of a link that comes back is minded before the book has it, under the lock: what is heard
+    /// of it at once is told to the book behind its return.
+    fn hold(&self, pass: &mut Pass<K>, event: BookEvent<S::End>) -> Reply<S::End>
         requires home { IfSome (brought event) (λ l. IsAtHome S.home l) }
         ensures book { (b : Book) × (Kept b × ((reply_of result ≡ (answered b event).reply) × StrikesInPlace b result)) }
         ensures number { pass.new.number ≡ pass.old.number }
         ensures told { Tells (plain event) (reply_of result) pass.old.told pass.new.told }
-        ensures holder { pass.new.holder ≡ heard pass.old.holder (call_of event) result }
+        ensures holder { pass.new.holder ≡ heard pass.old.holder (call_of (plain event)) result }
         ensures home { IfSome (handed result) (λ l. IsAtHome S.home l) }
         ensures back { IfSome (brought event) (λ l. handed result ≡ handed_back l (reply_of result)) }
     {
-        let core = self.core.lock(&self.rt);
-        self.decide(core, pass, event)
-    }
-
-    /// A link comes back, in one hold of the lock. Its end is minded before the book has it, under the lock: what is heard of it at once is
-    /// told to the book behind its return.
-    fn hold_back(&self, pass: &mut Pass<K>, link: CleanLink<S::End>) -> Reply<S::End>
-        requires home { IsAtHome S.home link }
-        ensures book { (b : Book) × (Kept b × (reply_of result ≡ (apply_return b link.number link.key link.born).reply)) }
-        ensures number { pass.new.number ≡ pass.old.number }
-        ensures told { Tells (GiveBack link.number) (reply_of result) pass.old.told pass.new.told }
-        ensures holder { pass.new.holder ≡ heard pass.old.holder (call.GiveBack link.number) result }
-        ensures home { IfSome (handed result) (λ l. IsAtHome S.home l) }
-        ensures back { handed result ≡ handed_back link (reply_of result) }
-    {
-        let core = self.core.lock(&self.rt);
-        let event = Event::GiveBack(minded(&self.outside, link));
-        self.decide(core, pass, event)
-    }
-
-    /// One event, under the lock, which is let go.
-    fn decide(
-        &self,
-        core: MutexGuard<'_, Core<S, K>>,
-        pass: &mut Pass<K>,
-        event: Event<S::End>,
-    ) -> Reply<S::End>
-        requires twice { IsTwice event }
-        requires home { IfSome (brought event) (λ l. IsAtHome S.home l) }
-        ensures book { (b : Book) × (Kept b × ((reply_of result ≡ (answered b event).reply) × StrikesInPlace b result)) }
-        ensures number { pass.new.number ≡ pass.old.number }
-        ensures told { Tells (plain event) (reply_of result) pass.old.told pass.new.told }
-        ensures holder { pass.new.holder ≡ heard pass.old.holder (call_of event) result }
-        ensures home { IfSome (handed result) (λ l. IsAtHome S.home l) }
-        ensures back { IfSome (brought event) (λ l. handed result ≡ handed_back l (reply_of result)) }
-    {
-        let mut core = core;
+        let mut core = self.core.lock(&self.rt);
+        let event = heeded(&self.outside, event);
         let helps = core.helped_by(&event);
         let called = core.calls(&event);
         let before = core.decisions();
@@ -261,11 +225,10 @@ impl<R: Wait + Clock, S: Outside, K: Ledgers> Desk<R, S, K> {
         ensures holder { pass.new.holder ≡ record pass.old.holder { last = Some (call.Tick now) } }
         ensures home { IsTickAtHome S.home result }
     {
-        match self.hold(pass, Event::Tick { now }) {
+        match self.hold(pass, Plain(Event::Tick { now })) {
             Reply::Done => Ticked::Done,
             Reply::Close(link) => Ticked::Close(link),
-            Reply::Refuse(..) => Ticked::Last,
-            _ => unreachable!(),
+            _ => Ticked::Last,
         }
     }
 
@@ -278,27 +241,21 @@ impl<R: Wait + Clock, S: Outside, K: Ledgers> Desk<R, S, K> {
         ensures named { IsHangUpOf number result }
         ensures home { IsHangUpAtHome S.home result }
     {
-        match self.hold(pass, Event::HungUp { number }) {
+        match self.hold(pass, Plain(Event::HungUp { link: number })) {
             Reply::Close(link) => HungUp::Close(link),
             Reply::Nobody => HungUp::NotIdle,
-            Reply::Refuse(..) => HungUp::Last,
-            _ => unreachable!(),
+            _ => HungUp::Last,
         }
     }
+}
 
-    /// An event that is always a decision, but for the last one, in one hold of the lock.
-    fn change(&self, pass: &mut Pass<K>, event: Event<S::End>) -> Changed
-        requires twice { IsTwice event }
-        requires change { is_change event ≡ true }
-        ensures told { pass.new.told ≡ after_change pass.old.told result }
-        ensures holder { pass.new.holder ≡ record pass.old.holder { last = Some (call_of event) } }
-    {
-        let core = self.core.lock(&self.rt);
-        match self.decide(core, pass, event) {
-            Reply::Done => Changed::Done,
-            Reply::Refuse(..) => Changed::Last,
-            _ => unreachable!(),
-        }
+/// What is answered to a change, by the book's reply.
+fn changed<E: ServerEnd>(reply: Reply<E>) -> Changed
+    ensures { result ≡ changed_by (reply_of reply) }
+{
+    match reply {
+        Reply::Done => Changed::Done,
+        _ => Changed::Last,
     }
 }
 
@@ -314,7 +271,7 @@ impl<R: Wait + Clock, S: Outside, K: Ledgers> LinkDesk for Desk<R, S, K> {
     ghost holder = { λ p. p.holder };
 
     fn arrive(&self, pass: &mut Pass<K>, beyond: Beyond) -> Arrival {
-        match self.hold(pass, Event::Arrive { beyond }) {
+        match self.hold(pass, Plain(Event::Arrive { beyond })) {
             Reply::Client(client) => Arrival::Client(client),
             Reply::Refuse(refusal, _) => Arrival::Refused(refusal),
             _ => unreachable!(),
@@ -323,19 +280,13 @@ impl<R: Wait + Clock, S: Outside, K: Ledgers> LinkDesk for Desk<R, S, K> {
 
     fn ask(&self, pass: &mut Pass<K>, key: &Arc<StartKey>) -> Asked {
         let client = pass.client();
-        let (Ok(first), Ok(again)) = (Arc::try_clone(key), Arc::try_clone(key)) else {
+        let Ok(key) = Arc::try_clone(key) else {
             return Asked::Memory;
         };
-        let event = Event::Ask {
-            client,
-            key: first,
-            again,
-        };
-        match self.hold(pass, event) {
+        match self.hold(pass, Plain(Event::Ask { client, key })) {
             Reply::Queued(before) => Asked::Queued(before),
             Reply::Refuse(refusal, _) => Asked::Refused(refusal),
-            Reply::Stranger(_) => Asked::Stranger,
-            _ => unreachable!(),
+            _ => Asked::Stranger,
         }
     }
 
@@ -356,34 +307,31 @@ impl<R: Wait + Clock, S: Outside, K: Ledgers> LinkDesk for Desk<R, S, K> {
     }
 
     fn keyed(&self, pass: &mut Pass<K>, client: KeyView, server: KeyView) -> Keying {
-        let number = pass.lease().number;
         let event = Event::Keyed {
-            number,
+            link: pass.lease().number,
             client,
             server,
         };
-        match self.hold(pass, event) {
+        match self.hold(pass, Plain(event)) {
             Reply::Done => Keying::Done,
             Reply::Refuse(..) => Keying::Last,
-            Reply::Stranger(_) => Keying::Stranger,
-            _ => unreachable!(),
+            _ => Keying::Stranger,
         }
     }
 
     fn end_lease(&self, pass: &mut Pass<K>) -> Release {
-        let number = pass.lease().number;
-        match self.hold(pass, Event::EndLease { number }) {
+        let link = pass.lease().number;
+        match self.hold(pass, Plain(Event::EndLease { link })) {
             Reply::Reset => Release::Reset,
             Reply::Dispose => Release::Dispose,
             Reply::Refuse(..) => Release::Last,
-            Reply::Stranger(_) => Release::Stranger,
-            _ => unreachable!(),
+            _ => Release::Stranger,
         }
     }
 
     #[tactic(auto, using(crate::proofs::Answering::is_struck, crate::proofs::Answering::is_nobody, crate::proofs::Answering::is_last))]
     fn cancel(&self, pass: &mut Pass<K>, client: KeyView) -> Cancelled {
-        match self.hold(pass, Event::Cancel { client }) {
+        match self.hold(pass, Plain(Event::Cancel { client })) {
             Reply::Strike {
                 number,
                 server,
@@ -396,8 +344,7 @@ impl<R: Wait + Clock, S: Outside, K: Ledgers> LinkDesk for Desk<R, S, K> {
                 port,
             }),
             Reply::Nobody => Cancelled::Nobody,
-            Reply::Refuse(..) => Cancelled::Last,
-            _ => unreachable!(),
+            _ => Cancelled::Last,
         }
     }
 
@@ -410,7 +357,7 @@ impl<R: Wait + Clock, S: Outside, K: Ledgers> LinkDesk for Desk<R, S, K> {
         let Some(clean) = link.take() else {
             unreachable!()
         };
-        match self.hold_back(pass, clean) {
+        match self.hold(pass, GiveBack(clean)) {
             Reply::Done => Back::Done,
             Reply::Close(clean) => {
                 *link = Some(clean);
@@ -429,22 +376,20 @@ impl<R: Wait + Clock, S: Outside, K: Ledgers> LinkDesk for Desk<R, S, K> {
     }
 
     fn lost(&self, pass: &mut Pass<K>) -> Gone {
-        let number = pass.lease().number;
-        match self.hold(pass, Event::Lost { number }) {
+        let link = pass.lease().number;
+        match self.hold(pass, Plain(Event::Lost { link })) {
             Reply::Done => Gone::Done,
             Reply::Refuse(..) => Gone::Last,
-            Reply::Stranger(_) => Gone::Stranger,
-            _ => unreachable!(),
+            _ => Gone::Stranger,
         }
     }
 
     fn start_failed(&self, pass: &mut Pass<K>) -> Gone {
-        let number = pass.lease().number;
-        match self.hold(pass, Event::StartFailed { number }) {
+        let link = pass.lease().number;
+        match self.hold(pass, Plain(Event::StartFailed { link })) {
             Reply::Done => Gone::Done,
             Reply::Refuse(..) => Gone::Last,
-            Reply::Stranger(_) => Gone::Stranger,
-            _ => unreachable!(),
+            _ => Gone::Stranger,
         }
     }
 
@@ -469,11 +414,10 @@ impl<R: Wait + Clock, S: Outside, K: Ledgers> LinkDesk for Desk<R, S, K> {
 
     fn leave(&self, pass: &mut Pass<K>) -> Gone {
         let client = pass.client();
-        match self.hold(pass, Event::Leave { client }) {
+        match self.hold(pass, Plain(Event::Leave { client })) {
             Reply::Done => Gone::Done,
             Reply::Refuse(..) => Gone::Last,
-            Reply::Stranger(_) => Gone::Stranger,
-            _ => unreachable!(),
+            _ => Gone::Stranger,
         }
     }
 
@@ -495,27 +439,32 @@ impl<R: Wait + Clock, S: Outside, K: Ledgers> LinkDesk for Desk<R, S, K> {
         self.decisions_seen(alloc)
     }
 
+    #[tactic(auto, using(crate::proofs::Answering::change_told))]
     fn pause(&self, pass: &mut Pass<K>) -> Changed {
-        self.change(pass, Event::Pause)
+        changed(self.hold(pass, Plain(Event::Change(Change::Pause))))
     }
 
+    #[tactic(auto, using(crate::proofs::Answering::change_told))]
     fn resume(&self, pass: &mut Pass<K>) -> Changed {
-        self.change(pass, Event::Resume)
+        changed(self.hold(pass, Plain(Event::Change(Change::Resume))))
     }
 
+    #[tactic(auto, using(crate::proofs::Answering::change_told))]
     fn shutdown(&self, pass: &mut Pass<K>) -> Changed {
-        self.change(pass, Event::Shutdown)
+        changed(self.hold(pass, Plain(Event::Change(Change::Shutdown))))
     }
 
+    #[tactic(auto, using(crate::proofs::Answering::change_told))]
     fn reconnect(&self, pass: &mut Pass<K>) -> Changed {
-        self.change(pass, Event::Reconnect)
+        changed(self.hold(pass, Plain(Event::Change(Change::Reconnect))))
     }
 
-    fn limits(&self, pass: &mut Pass<K>, limits: Arc<Limits>, again: Arc<Limits>) -> Changed {
-        self.change(pass, Event::Limits(limits, again))
+    #[tactic(auto, using(crate::proofs::Answering::change_told))]
+    fn limits(&self, pass: &mut Pass<K>, limits: Arc<Limits>) -> Changed {
+        changed(self.hold(pass, Plain(Event::Change(Change::Limits(limits)))))
     }
 
-    fn reload(&self) -> Option<(Arc<Limits>, Arc<Limits>)> {
+    fn reload(&self) -> Option<Arc<Limits>> {
         self.outside.reload()
     }
 

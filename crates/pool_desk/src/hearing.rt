@@ -2,43 +2,64 @@
 ghost use Rattle.std.specs.Prelude.{◌≡◌};
 ghost use Rattle.desk_tallies.specs.Passes.{at_stage};
 ghost use Rattle.link_desk.specs.declared.calls.Stage.TheVariants.{Granted};
-ghost use Rattle.pool_desk.specs.Hears.{call_of, heard, target_in};
+ghost use Rattle.book_model.specs.Events.{change_of, event_of};
+ghost use Rattle.lease_book.specs.Links.{plain};
+ghost use Rattle.pool_desk.specs.Hears.{call_of, call_of_change, heard, target_in};
 
+use book_model::events::{Change, Event as ListsEvent};
 use desk_tallies::answers::{Release, Target};
 use desk_tallies::calls::{Call, Holder, Lease, Stage};
 use lease_book::events::{Event, Reply};
 use server_end::ServerEnd;
 
-/// The call that an event is.
-pub(crate) fn call_of<E: ServerEnd>(event: &Event<E>) -> Call
-    ensures { result ≡ call_of event.now }
+/// The call that a change is.
+fn call_of_change(change: &Change) -> Call
+    ensures { result ≡ call_of_change (change_of change.now) }
+{
+    match change {
+        Change::Limits(_) => Call::Limits,
+        Change::Pause => Call::Pause,
+        Change::Resume => Call::Resume,
+        Change::Shutdown => Call::Shutdown,
+        Change::Reconnect => Call::Reconnect,
+    }
+}
+
+/// The call that an event is with which no link comes.
+fn plain_call(event: &ListsEvent) -> Call
+    ensures { result ≡ call_of (event_of event.now) }
 {
     match event {
-        Event::Arrive { beyond } => Call::Arrive(*beyond),
-        Event::Ask { client, .. } => Call::Ask(*client),
-        Event::Take { client } => Call::Take(*client),
-        Event::GiveBack(link) => Call::GiveBack(link.number()),
-        Event::Lost { number } => Call::Lost(*number),
-        Event::StartFailed { number } => Call::StartFailed(*number),
-        Event::Leave { client } => Call::Leave(*client),
-        Event::Keyed {
-            number,
+        ListsEvent::Arrive { beyond } => Call::Arrive(*beyond),
+        ListsEvent::Ask { client, .. } => Call::Ask(*client),
+        ListsEvent::Take { client } => Call::Take(*client),
+        ListsEvent::Lost { link } => Call::Lost(*link),
+        ListsEvent::StartFailed { link } => Call::StartFailed(*link),
+        ListsEvent::Leave { client } => Call::Leave(*client),
+        ListsEvent::Tick { now } => Call::Tick(*now),
+        ListsEvent::Change(change) => call_of_change(change),
+        ListsEvent::Keyed {
+            link,
             client,
             server,
         } => Call::Keyed {
-            link: *number,
+            link: *link,
             client: *client,
             server: *server,
         },
-        Event::Cancel { client } => Call::Cancel(*client),
-        Event::EndLease { number } => Call::EndLease(*number),
-        Event::HungUp { number } => Call::HungUp(*number),
-        Event::Tick { now } => Call::Tick(*now),
-        Event::Limits(..) => Call::Limits,
-        Event::Pause => Call::Pause,
-        Event::Resume => Call::Resume,
-        Event::Shutdown => Call::Shutdown,
-        Event::Reconnect => Call::Reconnect,
+        ListsEvent::Cancel { client } => Call::Cancel(*client),
+        ListsEvent::EndLease { link } => Call::EndLease(*link),
+        ListsEvent::HungUp { link } => Call::HungUp(*link),
+    }
+}
+
+/// The call that an event is.
+pub(crate) fn call_of<E: ServerEnd>(event: &Event<E>) -> Call
+    ensures { result ≡ call_of (plain event.now) }
+{
+    match event {
+        Event::GiveBack(link) => Call::GiveBack(link.number()),
+        Event::Plain(event) => plain_call(event),
     }
 }
 

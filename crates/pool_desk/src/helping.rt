@@ -2,6 +2,7 @@
 ghost use Rattle.std.specs.Prelude.{◌≡◌, ℕ, true};
 ghost use Rattle.std.specs.List.{list_any};
 ghost use Rattle.book_model.specs.Book.{is_number};
+ghost use Rattle.book_model.specs.Events.{event_of};
 ghost use Rattle.book_register.specs.Waking.{waiting_behind};
 ghost use Rattle.pool_desk.specs.Helping.{ChoosesFirsts, IsChosen, helped_behind, helped_by, helped_by_link};
 ghost use Rattle.lease_book.specs.Links.{plain};
@@ -9,6 +10,7 @@ ghost use Rattle.lease_book.specs.Links.{plain};
 use crate::bells::{BELLS, Chosen, choose};
 use crate::inner::Core;
 use crate::outside::Outside;
+use book_model::events::{Change, Event as ListsEvent};
 use book_rows::firsts::Firsts;
 use desk_tallies::ledgers::Ledgers;
 use lease_book::events::Event;
@@ -30,21 +32,31 @@ impl<S: Outside, K: Ledgers> Core<S, K> {
         ensures { result ≡ helped_by self.now.book.lists (plain event.now) }
     {
         match event {
-            Event::Arrive { .. }
-            | Event::Ask { .. }
-            | Event::Keyed { .. }
-            | Event::Cancel { .. }
-            | Event::EndLease { .. }
-            | Event::HungUp { .. }
-            | Event::Reconnect => Helps::Nobody,
-            Event::Take { client } | Event::Leave { client } => self.helped_behind(*client),
             Event::GiveBack(link) => self.helped_by_link(link.number()),
-            Event::Lost { number } | Event::StartFailed { number } => self.helped_by_link(*number),
-            Event::Tick { .. }
-            | Event::Limits(..)
-            | Event::Pause
-            | Event::Resume
-            | Event::Shutdown => Helps::All,
+            Event::Plain(event) => self.helped_plainly(event),
+        }
+    }
+
+    /// The same, where no link comes with it.
+    fn helped_plainly(&self, event: &ListsEvent) -> Helps
+        ensures { result ≡ helped_by self.now.book.lists (event_of event.now) }
+    {
+        match event {
+            ListsEvent::Arrive { .. }
+            | ListsEvent::Ask { .. }
+            | ListsEvent::Keyed { .. }
+            | ListsEvent::Cancel { .. }
+            | ListsEvent::EndLease { .. }
+            | ListsEvent::HungUp { .. }
+            | ListsEvent::Change(Change::Reconnect) => Helps::Nobody,
+            ListsEvent::Take { client } | ListsEvent::Leave { client } => {
+                self.helped_behind(*client)
+            }
+            ListsEvent::Lost { link } | ListsEvent::StartFailed { link } => {
+                self.helped_by_link(*link)
+            }
+            ListsEvent::Change(Change::Shutdown) => Helps::All,
+            ListsEvent::Tick { .. } | ListsEvent::Change(_) => Helps::FirstOfEach,
         }
     }
 

@@ -10,7 +10,7 @@ ghost use Rattle.book_model.specs.Replay.{noted_of};
 ghost use Rattle.book_register.specs.Views.{view_of};
 ghost use Rattle.lease_book.specs.Histories.{LeadsTo};
 ghost use Rattle.lease_book.specs.Shown.{as_shown, decisions_shown};
-ghost use Rattle.lease_book.specs.Links.{IsTwice, StrikesInPlace, answered, found, goes_out, handed, handed_after, history_after, idle_after, left, plain, reply_of};
+ghost use Rattle.lease_book.specs.Links.{StrikesInPlace, answered, found, goes_out, handed, handed_after, history_after, idle_after, left, plain, reply_of};
 ghost use Rattle.desk_tallies.specs.Grants.{IsAnswerToTake, link_in};
 ghost use Rattle.desk_tallies.specs.Homes.{IsAtHome, IsGrantAtHome};
 ghost use Rattle.desk_tallies.specs.Passes.{after_grant, new_holder, new_pass, taken};
@@ -26,6 +26,7 @@ use crate::hearing::{call_of, heard};
 use crate::outside::Outside;
 use crate::wants::Wants;
 use book_model::counts::Counts;
+use book_model::events::Event as ListsEvent;
 use book_model::limits::Limits;
 use book_register::view::BookView;
 use book_rows::pools::PoolKey;
@@ -133,7 +134,6 @@ impl<S: Outside, K: Ledgers> Core<S, K> {
 
     /// One event, made through this pass, which hears the reply.
     pub fn apply(&mut self, pass: &mut Pass<K>, event: Event<S::End>) -> Reply<S::End>
-        requires twice { IsTwice event }
         requires home { IfSome (brought event) (λ l. IsAtHome S.home l) }
         ensures kept { Kept self.old.book.lists }
         ensures lists { self.new.book.lists ≡ (answered self.old.book.lists event).book }
@@ -145,7 +145,7 @@ impl<S: Outside, K: Ledgers> Core<S, K> {
         ensures home { IfSome (handed result) (λ l. IsAtHome S.home l) }
         ensures number { pass.new.number ≡ pass.old.number }
         ensures told { Tells (plain event) (reply_of result) pass.old.told pass.new.told }
-        ensures holder { pass.new.holder ≡ heard pass.old.holder (call_of event) result }
+        ensures holder { pass.new.holder ≡ heard pass.old.holder (call_of (plain event)) result }
         ensures given { self.new.given ≡ self.old.given }
     {
         let call = call_of(&event);
@@ -164,12 +164,12 @@ impl<S: Outside, K: Ledgers> Core<S, K> {
         }
         match event {
             Event::GiveBack(link) => self.wants.call(link.key()),
-            Event::Lost { number } => {
-                let key = self.book.lists().lent_key(*number)?;
+            Event::Plain(ListsEvent::Lost { link }) => {
+                let key = self.book.lists().lent_key(*link)?;
                 self.wants.call(key)
             }
-            Event::Leave { client } => self.wants.remove(*client),
-            _ => None,
+            Event::Plain(ListsEvent::Leave { client }) => self.wants.remove(*client),
+            Event::Plain(_) => None,
         }
     }
 
@@ -209,7 +209,7 @@ impl<S: Outside, K: Ledgers> Core<S, K> {
         ensures refused { MayTake result }
         ensures home { IsGrantAtHome S.home result }
     {
-        match self.apply(pass, Event::Take { client }) {
+        match self.apply(pass, Event::Plain(ListsEvent::Take { client })) {
             Reply::Queued(_before) => Grant::Queued,
             Reply::Lend(link) => Grant::Lend(link),
             Reply::Start {
@@ -222,8 +222,7 @@ impl<S: Outside, K: Ledgers> Core<S, K> {
                 evicted,
             },
             Reply::Refuse(refusal, _back) => Grant::Refused(refusal),
-            Reply::Stranger(_back) => Grant::Stranger,
-            _ => unreachable!(),
+            _ => Grant::Stranger,
         }
     }
 

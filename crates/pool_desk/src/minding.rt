@@ -3,15 +3,26 @@ ghost use Rattle.std.specs.Prelude.{◌≡◌};
 
 use crate::outside::Outside;
 use desk_tallies::answers::Grant;
+use lease_book::events::Event;
 use link_run::links::CleanLink;
 
 /// The same link, whose end is minded from now on.
-pub(crate) fn minded<S: Outside>(outside: &S, link: CleanLink<S::End>) -> CleanLink<S::End>
+fn minded<S: Outside>(outside: &S, link: CleanLink<S::End>) -> CleanLink<S::End>
     ensures { result ≡ link }
 {
     let mut parts = link.lend();
     outside.mind(parts.number, &mut parts.end);
     parts.clean()
+}
+
+/// The same event; the end of a link that comes back is minded from now on.
+pub(crate) fn heeded<S: Outside>(outside: &S, event: Event<S::End>) -> Event<S::End>
+    ensures { result ≡ event }
+{
+    match event {
+        Event::GiveBack(link) => Event::GiveBack(minded(outside, link)),
+        event => event,
+    }
 }
 
 /// The same link, whose end isn't minded any more.

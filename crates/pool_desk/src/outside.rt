@@ -1,6 +1,5 @@
 //! What a desk reaches outside: its servers, its files and its log.
-ghost use Rattle.std.specs.Prelude.{◌≡◌, IfSome, MatchOption, false};
-ghost use Rattle.std.specs.Arc.{arc_value};
+ghost use Rattle.std.specs.Prelude.{◌≡◌, MatchOption, false};
 ghost use Rattle.session_values.specs.State.{address_of};
 ghost use Rattle.desk_tallies.specs.Homes.{IsDialled};
 
@@ -52,11 +51,9 @@ pub trait Outside {
     /// waits until the server has closed that connection, or for some seconds.
     fn strike(&self, strike: &Strike);
 
-    /// Reads the files of settings and users again, and keeps them for later clients; the limits of the settings, twice. `None` where
-    /// a file has a fault or memory is refused: nothing is kept then. So it is where there are no files.
-    fn reload(&self) -> Option<(Arc<Limits>, Arc<Limits>)>
-        ensures { IfSome result (λ p. arc_value p.1 ≡ arc_value p.0) }
-    {
+    /// Reads the files of settings and users again, and keeps them for later clients; the limits of the settings. `None` where a file has a
+    /// fault or memory is refused: nothing is kept then. So it is where there are no files.
+    fn reload(&self) -> Option<Arc<Limits>> {
         None
     }
 

@@ -1,14 +1,14 @@
 //! `trials book`: clients that come to a lease book of 1,000 links and some pools, of one start key each, and go.
 ghost use Rattle.std.specs.Prelude.{◌<◌};
-ghost use Rattle.lease_book.specs.Links.{IsTwice};
 
 use crate::keys::{key, row};
 use crate::links::gone_link;
-use book_model::events::Beyond;
+use book_model::events::{Beyond, Event};
 use book_model::limits::Limits;
 use book_model::rows::Rows;
 use lease_book::book::Book;
-use lease_book::events::{Event, Reply};
+use lease_book::events::Event::{GiveBack, Plain};
+use lease_book::events::Reply;
 use link_run::links::CleanLink;
 use memory_ends::gone_end::GoneEnd;
 use start_keys::StartKey;
@@ -99,11 +99,15 @@ impl Bench {
     }
 
     /// What the book answers.
-    fn happens(&mut self, event: Event<GoneEnd>) -> Reply<GoneEnd>
-        requires { IsTwice event }
-    {
+    fn happens(&mut self, event: Event) -> Reply<GoneEnd> {
         self.events = self.events.saturating_add(1);
-        self.book.apply(0, event)
+        self.book.apply(0, Plain(event))
+    }
+
+    /// What it answers to a link that comes back.
+    fn comes_back(&mut self, link: CleanLink<GoneEnd>) -> Reply<GoneEnd> {
+        self.events = self.events.saturating_add(1);
+        self.book.apply(0, GiveBack(link))
     }
 
     /// The key of this pool.
@@ -175,11 +179,9 @@ impl Bench {
         let pool = drawn.checked_rem(self.keys.len() as u64).unwrap_or(0);
         self.waits(Client { number, pool })?;
         let key = self.key_of(pool)?;
-        let again = Arc::try_clone(&key)?;
         let ask = Event::Ask {
             client: number,
             key,
-            again,
         };
         drop(self.happens(ask));
         self.takes(pool)
@@ -201,7 +203,7 @@ impl Bench {
             return Err(AllocError);
         };
         let Lease { link, client } = lease;
-        drop(self.happens(Event::GiveBack(link)));
+        drop(self.comes_back(link));
         self.takes(client.pool)?;
         let leave = Event::Leave {
             client: client.number,

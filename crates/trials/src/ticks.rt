@@ -1,13 +1,13 @@
 //! `trials ticks`: seconds of a lease book in which links lie idle, under many database rows.
-ghost use Rattle.lease_book.specs.Links.{IsTwice};
 
 use crate::keys::{key, row};
 use crate::links::gone_link;
-use book_model::events::Beyond;
+use book_model::events::{Beyond, Event};
 use book_model::limits::Limits;
 use book_model::rows::Rows;
 use lease_book::book::Book;
-use lease_book::events::{Event, Reply};
+use lease_book::events::Event::{GiveBack, Plain};
+use lease_book::events::Reply;
 use memory_ends::gone_end::GoneEnd;
 use std::alloc::{AllocError, Global};
 use std::sync::Arc;
@@ -44,10 +44,8 @@ struct Bench {
 
 impl Bench {
     /// What the book answers.
-    fn happens(&mut self, event: Event<GoneEnd>) -> Reply<GoneEnd>
-        requires { IsTwice event }
-    {
-        self.book.apply(0, event)
+    fn happens(&mut self, event: Event) -> Reply<GoneEnd> {
+        self.book.apply(0, Plain(event))
     }
 
     /// A client of this database row comes, has a link for a key of its own, gives it back and goes.
@@ -59,14 +57,13 @@ impl Bench {
             return Err(AllocError);
         };
         let key = key(self.alloc, &row.to_be_bytes(), own, 0)?;
-        let again = Arc::try_clone(&key)?;
         let of_link = Arc::try_clone(&key)?;
-        drop(self.happens(Event::Ask { client, key, again }));
+        drop(self.happens(Event::Ask { client, key }));
         let Reply::Start { number, born, .. } = self.happens(Event::Take { client }) else {
             return Err(AllocError);
         };
         let link = gone_link(self.alloc, of_link, number, born)?;
-        drop(self.happens(Event::GiveBack(link)));
+        drop(self.book.apply(0, GiveBack(link)));
         drop(self.happens(Event::Leave { client }));
         Ok(())
     }

@@ -1,6 +1,6 @@
 use Rattle.lease_book.specs.Links.{handed, reply_of}
 use Rattle.pool_desk.proofs.Homes.{comes_back}
-use Rattle.pool_desk.proofs.desk.Desk.decide.Goals as goal
+use Rattle.pool_desk.proofs.desk.Desk.hold.Goals as goal
 
 pub returns-clause-back : goal.returns-clause-back
 returns-clause-back g c =
